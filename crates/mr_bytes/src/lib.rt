@@ -1,0 +1,91 @@
+//! Names, values and bytes that every other crate speaks of.
+#![tactic(auto)]
+
+ghost use Rattle.std.specs.Prelude.{◌≡◌, IfOk, OnOk, OnErr, ◌++◌};
+ghost use Rattle.mr_bytes.specs.Bytes.{is_upper, is_word_byte, fold_byte, folded};
+
+use std::alloc::{AllocError, Global};
+
+mod names;
+mod words;
+
+pub use names::{compare_keys, compare_names, compare_records, order_law};
+pub use words::{next_word, word_law};
+
+/// A part of a text, from the byte at `start` to before the byte at `end`.
+#[derive(Clone, Copy, PartialEq, Eq, Debug)]
+pub struct Span {
+    pub start: u32,
+    pub end: u32,
+}
+
+/// The place of an emitted pair in the input's order: its split, the number of its record there, and its place among
+/// the record's emissions, each from 0.
+#[derive(Clone, Copy, PartialEq, Eq, PartialOrd, Ord, Debug)]
+pub struct Name {
+    pub split: u32,
+    pub rec: u32,
+    pub place: u32,
+}
+
+/// A record, by its split and its number there, both from 0.
+#[derive(Clone, Copy, PartialEq, Eq, PartialOrd, Ord, Debug)]
+pub struct RecordName {
+    pub split: u32,
+    pub rec: u32,
+}
+
+/// What a pair carries beside its key.
+#[derive(Clone, Copy, PartialEq, Eq, Debug)]
+pub enum Value {
+    /// One occurrence.
+    One,
+    /// The place of a record: the number of its file, and the record's start there in bytes.
+    At { file: u32, offset: u64 },
+}
+
+/// A pair that a job emits, with its name.
+#[derive(Debug, PartialEq, Eq, Drop)]
+pub struct Pair {
+    pub key: Vec<u8>,
+    pub value: Value,
+    pub name: Name,
+}
+
+
+/// Whether the byte is an upper-case letter of ASCII, 0x41 to 0x5A.
+pub fn is_upper(b: u8) -> bool
+    ensures { result ≡ is_upper b }
+{
+    b.is_ascii_uppercase()
+}
+
+/// Whether the byte stands in words: a letter or a digit of ASCII, or a byte from 0x80 on.
+pub fn is_word_byte(b: u8) -> bool
+    ensures { result ≡ is_word_byte b }
+{
+    matches!(b, b'0'..=b'9' | b'A'..=b'Z' | b'a'..=b'z' | 0x80..=0xFF)
+}
+
+/// The byte with an upper-case letter of ASCII made its lower-case letter.
+pub fn fold_byte(b: u8) -> u8
+    ensures { result ≡ fold_byte b }
+{
+    if is_upper(b) { b + 32 } else { b }
+}
+
+/// A folded copy of the bytes.
+pub fn folded(alloc: Global, bytes: &[u8]) -> Result<Vec<u8>, AllocError>
+    ensures { IfOk result (λ v. v.items ≡ folded bytes.now) }
+{
+    bytes.iter().map(|b| fold_byte(*b)).collect(alloc)
+}
+
+/// Folds each byte where it stands.
+pub fn fold_in_place(bytes: &mut [u8])
+    ensures { bytes.new ≡ folded bytes.old }
+{
+    for b in bytes.iter_mut() {
+        *b = fold_byte(*b);
+    }
+}

@@ -1,0 +1,61 @@
+//! Words, found one after another.
+ghost use Rattle.std.specs.Prelude.{◌≡◌, ℕ, ◌+◌, ◌^◌, ◌≤◌, ◌<◌, length, drop, take, List, [], ◌∷◌, ◌++◌, MatchOption, IfSome, slice_index, IsTrue, false};
+ghost use Rattle.mr_bytes.specs.Bytes.{is_word_byte};
+ghost use Rattle.mr_bytes.specs.Words.{word_spans_from};
+ghost use Rattle.mr_bytes.specs.WordLaw.{WordsAreRuns, WordsRise};
+
+use crate::{Span, is_word_byte};
+
+/// The first place from `from` on that holds a word byte, or the end.
+fn skip_to_word(bytes: &[u8], from: usize) -> usize
+    requires { from ≤ length bytes.now }
+    ensures within { (from ≤ result) × (result ≤ length bytes.now) }
+    ensures same { word_spans_from from (drop from bytes.now) ≡ word_spans_from result (drop result bytes.now) }
+    ensures stops { result < length bytes.now → IsTrue (is_word_byte (slice_index bytes.now result)) }
+{
+    let mut at = from;
+    while at < bytes.len() && !is_word_byte(bytes[at]) {
+        at += 1;
+    }
+    at
+}
+
+/// The first place from `from` on that holds no word byte, or the end.
+fn skip_word(bytes: &[u8], from: usize) -> usize
+    requires { from ≤ length bytes.now }
+    ensures within { (from ≤ result) × (result ≤ length bytes.now) }
+    ensures all { (k : ℕ) → from ≤ k → k < result → IsTrue (is_word_byte (slice_index bytes.now k)) }
+    ensures stops { result < length bytes.now → is_word_byte (slice_index bytes.now result) ≡ false }
+{
+    let mut at = from;
+    while at < bytes.len() && is_word_byte(bytes[at]) {
+        at += 1;
+    }
+    at
+}
+
+/// The first word from `from` on.
+pub fn next_word(bytes: &[u8], from: usize) -> Option<Span>
+    requires start { from ≤ length bytes.now }
+    requires fits { length bytes.now < 2 ^ 32 }
+    ensures { MatchOption result (word_spans_from from (drop from bytes.now) ≡ [])
+        (λ w. (from ≤ w.start) × (w.start < w.end) × (w.end ≤ length bytes.now)
+        × (word_spans_from from (drop from bytes.now) ≡ w ∷ word_spans_from w.end (drop w.end bytes.now))) }
+{
+    let start = skip_to_word(bytes, from);
+    if start == bytes.len() {
+        return None;
+    }
+    let end = skip_word(bytes, start + 1);
+    Some(Span {
+        start: start as u32,
+        end: end as u32,
+    })
+}
+
+
+/// What `word_spans` means: the maximal runs of word bytes, in rising order.
+pub fn word_law()
+    ensures runs { WordsAreRuns }
+    ensures rise { WordsRise }
+{}

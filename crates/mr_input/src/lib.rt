@@ -1,0 +1,107 @@
+//! The files that a job reads.
+#![tactic(auto)]
+
+ghost use Rattle.std.specs.Prelude.{◌≡◌, ◌≤◌, ◌<◌, ◌^◌, ◌↔◌, IfOk, IsOk, length, IsTrue};
+ghost use Rattle.mr_input.specs.Files.{contents, total_size, nth};
+
+use std::marker::Model;
+use thiserror::Error;
+
+/// The most files of an input.
+pub const MAX_FILES: usize = 1024;
+/// The most bytes of an input, all files together: 1 GiB.
+pub const MAX_BYTES: usize = 0x4000_0000;
+
+/// Files, in order, each as its bytes.
+#[derive(Drop)]
+pub struct Input {
+    files: Vec<Vec<u8>>,
+}
+
+impl Model for Input {
+    ghost use Rattle.std.specs.Prelude.{ℕ, List, length, ◌≤◌, ◌^◌};
+    ghost use Rattle.mr_input.specs.Files.{contents, total_size};
+
+    ghost Value = { List (List ℕ) };
+
+    ghost view = { λ i. contents i.files.items };
+
+    ghost invariant = { λ i. record {
+      few : length (contents i.files.items) ≤ 1024;
+      small : total_size (contents i.files.items) ≤ 2 ^ 30;
+    } };
+}
+
+/// Why files are no input.
+#[derive(Clone, Copy, Debug, PartialEq, Eq, Drop, Error)]
+pub enum InputFault {
+    /// There are more than 1,024 files.
+    #[error("TooManyFiles")]
+    TooManyFiles,
+    /// The files have more than 1,073,741,824 bytes in all.
+    #[error("TooLarge")]
+    TooLarge,
+}
+
+/// Whether the files have at most `MAX_BYTES` bytes in all.
+fn is_small(files: &[Vec<u8>]) -> bool
+    ensures { IsTrue result ↔ (total_size (contents files.now) ≤ 2 ^ 30) }
+{
+    let mut room = MAX_BYTES;
+    for file in files {
+        if room < file.len() {
+            return false;
+        }
+        room -= file.len();
+    }
+    true
+}
+
+impl Input {
+    /// The files handed in, whatever they hold. Too many files are told before too many bytes.
+    pub fn of(files: Vec<Vec<u8>>) -> Result<Input, InputFault>
+        ensures files { IfOk result (λ r. r ≡ contents files.items) }
+        ensures succeeds { length files.items ≤ 1024 → total_size (contents files.items) ≤ 2 ^ 30 → IsOk result }
+        ensures too_many { (result ≡ Err InputFault.TooManyFiles) ↔ (1024 < length files.items) }
+        ensures too_large { (result ≡ Err InputFault.TooLarge)
+            ↔ ((length files.items ≤ 1024) × (2 ^ 30 < total_size (contents files.items))) }
+    {
+        if MAX_FILES < files.len() {
+            return Err(InputFault::TooManyFiles);
+        }
+        if !is_small(&files) {
+            return Err(InputFault::TooLarge);
+        }
+        Ok(Input { files })
+    }
+
+    /// How many files there are.
+    pub fn files(&self) -> usize
+        ensures count { result ≡ length self.now }
+        ensures few { result ≤ 1024 }
+        ensures small { total_size self.now ≤ 2 ^ 30 }
+    {
+        self.files.len()
+    }
+
+    /// The bytes of file `i`, from 0.
+    pub fn file(&self, i: usize) -> &[u8]
+        requires { i < length self.now }
+        ensures bytes { result.now ≡ nth self.now i }
+        ensures small { length result.now ≤ 2 ^ 30 }
+    {
+        &self.files[i]
+    }
+
+    /// How many bytes file `i` has.
+    pub fn len(&self, i: usize) -> usize
+        requires { i < length self.now }
+        ensures bytes { result ≡ length (nth self.now i) }
+        ensures small { result ≤ 2 ^ 30 }
+    {
+        self.file(i).len()
+    }
+}
+
+#[cfg(test)]
+mod tests;

@@ -1,0 +1,6 @@
+pub mod LiteralLemmas
+pub mod UrlLemmas
+pub mod EmitLemmas
+pub mod EntryLemmas
+pub mod CountLemmas
+pub mod SplitLemmas

@@ -1,0 +1,52 @@
+-- What a job emits for a record.
+use Rattle.std.specs.Prelude.{◌≡◌, ℕ, Bool, true, false, if◌then◌else◌, List, [], ◌∷◌, map, drop, slice_index_or, Option, None, Some}
+use Rattle.mr_bytes.specs.Bytes.{folded}
+use Rattle.mr_bytes.specs.Words.{word_spans, word_spans_from, bytes_of}
+use Rattle.mr_bytes.specs.declared.Span.{Span}
+use Rattle.mr_bytes.specs.declared.Value.{Value}
+use Rattle.mr_bytes.specs.declared.Value.TheVariants.{One, At}
+use Rattle.mr_jobs.specs.Task.{Task, WordCount, LinesWith, Resources}
+use Rattle.mr_jobs.specs.Literal.{holds}
+use Rattle.mr_jobs.specs.Url.{url_of}
+
+-- a key with its value
+abbrev pub Emission : Type 0
+Emission = List ℕ × Value
+
+-- a word's key
+abbrev pub word_key : Bool → List ℕ → List ℕ
+word_key keep_case word = if keep_case then word else folded word
+
+abbrev pub word_emission : Bool → List ℕ → Span → Emission
+word_emission keep_case line w = (word_key keep_case (bytes_of line w), One)
+
+-- one emission for the key, if there is one
+abbrev pub one_for : Option (List ℕ) → List Emission
+one_for None = []
+one_for (Some key) = (key, One) ∷ []
+
+-- what the record `line` emits, which begins at the place `start` of the file `file`
+abbrev pub emissions : Task → ℕ → ℕ → List ℕ → List Emission
+emissions (WordCount keep_case) file start line = map (word_emission keep_case line) (word_spans line)
+emissions (LinesWith literal fold) file start line = if holds fold line literal then (line, At file start) ∷ [] else []
+emissions Resources file start line = one_for (url_of line)
+
+-- the words of a text that was folded before, from the place `from` on
+abbrev pub words_from : List ℕ → ℕ → List Emission
+words_from text from = map (λ w. (bytes_of text w, One)) (word_spans_from from (drop from text))
+
+-- what is left of an emitter: one pair with the whole text, or the words from a place on
+abbrev pub left : List ℕ → ℕ → Option Value → List Emission
+left text from (Some value) = (text, value) ∷ []
+left text from None = words_from text from
+
+-- the buffer is as the job wants it for the line
+abbrev pub IsReady : Task → List ℕ → List ℕ → Type 0
+IsReady (WordCount true) line buffer = Unit {0}
+IsReady (WordCount false) line buffer = buffer ≡ folded line
+IsReady (LinesWith literal fold) line buffer = Unit {0}
+IsReady Resources line buffer = Unit {0}
+
+-- an emission by its number, and an empty key past the last
+abbrev pub nth_emission : List Emission → ℕ → Emission
+nth_emission es i = slice_index_or es i ([], One)

@@ -1,0 +1,30 @@
+-- What the computed definitions are, in the words of the subject.
+use Rattle.std.specs.Prelude.{◌≡◌, ◌↔◌, ℕ, ◌+◌, ◌≤◌, Bool, List, Some, IsTrue, All, length}
+use Rattle.mr_bytes.specs.declared.Value.TheVariants.{One}
+use Rattle.mr_jobs.specs.Task.{Task, counts}
+use Rattle.mr_jobs.specs.Emissions.{emissions}
+use Rattle.mr_jobs.specs.Literal.{Holds, holds}
+use Rattle.mr_jobs.specs.Url.{IsRequestFor, url_of}
+
+-- a line holds a literal exactly where the literal stands at some place of it
+abbrev pub HoldsByPlaces : Type 0
+HoldsByPlaces = (fold : Bool) (line literal : List ℕ) → IsTrue (holds fold line literal) ↔ Holds fold line literal
+
+-- the resource is the one key that fits the line
+abbrev pub UrlByParts : Type 0
+UrlByParts = (line key : List ℕ) → (url_of line ≡ Some key) ↔ IsRequestFor line key
+
+abbrev pub OneKeyFits : Type 0
+OneKeyFits = (line a b : List ℕ) → IsRequestFor line a → IsRequestFor line b → a ≡ b
+
+-- a record has at most one emission more than bytes
+abbrev pub FewEmissions : Type 0
+FewEmissions = (task : Task) (file start : ℕ) (line : List ℕ) → length (emissions task file start line) ≤ length line + 1
+
+-- no key is longer than its record
+abbrev pub ShortKeys : Type 0
+ShortKeys = (task : Task) (file start : ℕ) (line : List ℕ) → All (λ e. length e.0 ≤ length line) (emissions task file start line)
+
+-- a job that counts emits no other value than One
+abbrev pub CountersEmitOnes : Type 0
+CountersEmitOnes = (task : Task) (file start : ℕ) (line : List ℕ) → IsTrue (counts task) → All (λ e. e.1 ≡ One) (emissions task file start line)

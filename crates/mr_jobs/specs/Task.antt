@@ -1,0 +1,30 @@
+-- What a job does with a record.
+use Rattle.std.specs.Prelude.{ℕ, ◌≤◌, ◌^◌, Bool, true, false, List}
+
+pub data Task : Type 0 where
+  -- count words, by their exact bytes where the flag is true, and else by their folded bytes
+  WordCount : Bool → Task
+  -- the lines that hold a literal, compared folded where the flag is true
+  LinesWith : List ℕ → Bool → Task
+  -- count the resources that a log's lines request
+  Resources : Task
+
+-- a job with its number of partitions, its split size in bytes and how many records it may leave out
+pub record Order : Type 0 where
+  pub task : Task
+  pub parts : ℕ
+  pub split : ℕ
+  pub skips : ℕ
+
+-- the text of a group depends on the number of its values alone
+abbrev pub counts : Task → Bool
+counts (WordCount keep_case) = true
+counts (LinesWith literal fold) = false
+counts Resources = true
+
+-- the limits of a request
+abbrev pub PartsFit : ℕ → Type 0
+PartsFit parts = (1 ≤ parts) × (parts ≤ 1024)
+
+abbrev pub SplitFits : ℕ → Type 0
+SplitFits split = (1 ≤ split) × (split ≤ 2 ^ 26)

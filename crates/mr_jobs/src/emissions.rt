@@ -1,0 +1,163 @@
+//! What a job emits for a record.
+ghost use Rattle.std.specs.Prelude.{◌≡◌, ◌↔◌, IsTrue, ℕ, ◌+◌, ◌≤◌, ◌<◌, ◌^◌, ◌++◌, [], ◌∷◌, All, OnOk, OnErr, if◌then◌else◌, is_ok, length, take, vec_len};
+ghost use Rattle.mr_jobs.specs.Emissions.{emissions, nth_emission};
+ghost use Rattle.mr_jobs.specs.Laws.{FewEmissions, ShortKeys, CountersEmitOnes};
+ghost use Rattle.mr_jobs.specs.Views.{IsIn, seen, entry_for};
+
+use crate::emitter::Emitter;
+use crate::job::Job;
+use mr_bytes::Value;
+use std::alloc::{AllocError, Global};
+use std::marker::Model;
+
+/// Where a record begins: its file by number, from 0, and the place there of its first byte, or of its line feed where
+/// the record is empty.
+#[derive(Clone, Copy, PartialEq, Eq, Debug)]
+pub struct Origin {
+    pub file: u32,
+    pub start: u32,
+}
+
+/// The part of the key bytes that is one emission's key, and the emission's value.
+#[derive(Clone, Copy)]
+struct Entry {
+    start: usize,
+    end: usize,
+    value: Value,
+}
+
+/// Keys with their values, in the order in which they were emitted.
+#[derive(Drop)]
+pub struct Emissions {
+    // The bytes of all keys, one key after another, so that a key takes no allocation of its own.
+    keys: Vec<u8>,
+    entries: Vec<Entry>,
+}
+
+impl Model for Emissions {
+    ghost use Rattle.std.specs.Prelude.{List, All};
+    ghost use Rattle.mr_jobs.specs.Emissions.{Emission};
+
+    ghost Value = { List Emission };
+
+    ghost use Rattle.mr_jobs.specs.Views.{seen, IsIn};
+
+    ghost view = { λ e. seen e.keys.items e.entries.items };
+
+    ghost invariant = { λ e. All (IsIn e.keys.items) e.entries.items };
+}
+
+impl Emissions {
+    /// No emissions. It takes no memory.
+    pub fn new(alloc: Global) -> Emissions
+        ensures { result ≡ [] }
+    {
+        Emissions {
+            keys: Vec::new(alloc),
+            entries: Vec::new(alloc),
+        }
+    }
+
+    /// How many emissions there are.
+    pub fn len(&self) -> usize
+        ensures { result ≡ length self.now }
+    {
+        self.entries.len()
+    }
+
+    /// Whether there are none.
+    pub fn is_empty(&self) -> bool
+        ensures { IsTrue result ↔ (self.now ≡ []) }
+    {
+        self.entries.is_empty()
+    }
+
+    /// The key and the value of emission `i`, from 0.
+    pub fn get(&self, i: usize) -> (&[u8], Value)
+        requires { i < length self.now }
+        ensures { (result.0.now, result.1) ≡ nth_emission self.now i }
+    {
+        let entry = self.entries[i];
+        (&self.keys[entry.start..entry.end], entry.value)
+    }
+
+    /// Forgets all emissions, and keeps the memory for the next ones.
+    pub fn clear(&mut self)
+        ensures { self.new ≡ [] }
+    {
+        self.entries.clear();
+        self.keys.clear();
+    }
+}
+
+/// Appends one emission, or leaves both lists as they were.
+fn push_one(
+    keys: &mut Vec<u8>,
+    entries: &mut Vec<Entry>,
+    key: &[u8],
+    value: Value,
+) -> Result<(), AllocError>
+    ensures keys { keys.new.items ≡ (if is_ok result then keys.old.items ++ key.now else keys.old.items) }
+    ensures entries { entries.new.items ≡ (if is_ok result then entries.old.items ++ entry_for keys.old.items key.now value ∷ [] else entries.old.items) }
+{
+    let start = keys.len();
+    keys.extend_from_slice(key)?;
+    let end = keys.len();
+    if entries.push(Entry { start, end, value }).is_err() {
+        keys.truncate(start);
+        return Err(AllocError);
+    }
+    Ok(())
+}
+
+/// Appends all that an emitter has left. Where it fails, what stood before still stands in front.
+fn push_all(
+    mut emitter: Emitter<'_>,
+    keys: &mut Vec<u8>,
+    entries: &mut Vec<Entry>,
+) -> Result<(), AllocError>
+    requires { All (IsIn keys.old.items) entries.old.items }
+    ensures keys_kept { take (vec_len keys.old) keys.new.items ≡ keys.old.items }
+    ensures entries_kept { take (vec_len entries.old) entries.new.items ≡ entries.old.items }
+    ensures within { OnOk result (All (IsIn keys.new.items) entries.new.items) }
+    ensures ok { OnOk result (seen keys.new.items entries.new.items ≡ seen keys.old.items entries.old.items ++ emitter.entry) }
+{
+    while let Some((key, value)) = emitter.next() {
+        push_one(keys, entries, key, value)?;
+    }
+    Ok(())
+}
+
+/// Appends what the record `line` emits, of at most 1 GiB, which begins at `at`. It fails only for want of memory, and
+/// then leaves `out` as it was.
+pub fn map(
+    alloc: Global,
+    job: &Job,
+    at: Origin,
+    line: &[u8],
+    out: &mut Emissions,
+) -> Result<(), AllocError>
+    requires { length line.now ≤ 2 ^ 30 }
+    ensures ok { OnOk result (out.new ≡ out.old ++ emissions job.now at.file at.start line.now) }
+    ensures err { OnErr result (out.new ≡ out.old) }
+{
+    let mut buffer = Vec::new(alloc);
+    job.prepare(line, &mut buffer)?;
+    let emitter = job.emit(at.file, at.start, line, buffer.as_slice());
+    let bytes = out.keys.len();
+    let count = out.entries.len();
+    let done = push_all(emitter, &mut out.keys, &mut out.entries);
+    if done.is_err() {
+        out.keys.truncate(bytes);
+        out.entries.truncate(count);
+    }
+    done
+}
+
+/// What callers may rest on for every record: it has at most one emission more than bytes, no key is longer than the
+/// record, and a job that counts emits no other value than `One`.
+pub fn emission_law()
+    ensures few { FewEmissions }
+    ensures short { ShortKeys }
+    ensures ones { CountersEmitOnes }
+{}

@@ -1,0 +1,151 @@
+//! The emissions of a record, one after another.
+ghost use Rattle.std.specs.Prelude.{◌≡◌, ℕ, ◌≤◌, ◌<◌, ◌^◌, [], ◌∷◌, OnOk, MatchOption, IfSome, IfNone, length};
+ghost use Rattle.mr_jobs.specs.Emissions.{emissions, IsReady};
+
+use crate::job::{Job, Kind};
+use crate::literal::holds;
+use crate::url::url;
+use mr_bytes::{Value, fold_in_place, next_word};
+use std::alloc::AllocError;
+use std::marker::Model;
+
+/// What a record has still to emit: its text as one key with a value, or else the words of its text from a place on.
+#[derive(Drop)]
+pub struct Emitter<'a> {
+    text: &'a [u8],
+    from: usize,
+    whole: Option<Value>,
+}
+
+impl<'a> Model for Emitter<'a> {
+    ghost use Rattle.std.specs.Prelude.{List, length, ◌≤◌, ◌<◌, ◌^◌};
+    ghost use Rattle.mr_jobs.specs.Emissions.{Emission, left};
+
+    ghost Value = { List Emission };
+
+    ghost view = { λ e. left e.text.now e.from e.whole };
+
+    ghost invariant = { λ e. record {
+      within : e.from ≤ length e.text.now;
+      small : length e.text.now ≤ 2 ^ 30;
+    } };
+}
+
+impl<'a> Emitter<'a> {
+    /// The next key with its value, or `None` where nothing is left, and from then on.
+    pub fn next(&mut self) -> Option<(&'a [u8], Value)>
+        ensures next { MatchOption result (self.old ≡ []) (λ e. self.old ≡ (e.0.now, e.1) ∷ self.new) }
+        ensures ended { IfNone result (self.new ≡ []) }
+        ensures short { IfSome result (λ e. length e.0.now ≤ 2 ^ 30) }
+    {
+        if let Some(value) = self.whole {
+            self.whole = None;
+            self.from = self.text.len();
+            return Some((self.text, value));
+        }
+        let word = next_word(self.text, self.from)?;
+        self.from = word.end as usize;
+        Some((
+            &self.text[word.start as usize..word.end as usize],
+            Value::One,
+        ))
+    }
+}
+
+/// All words of a text.
+fn all_words(text: &[u8]) -> Emitter<'_>
+    requires { length text.now ≤ 2 ^ 30 }
+    ensures { result ≡ words_from text.entry.now 0 }
+{
+    Emitter {
+        text,
+        from: 0,
+        whole: None,
+    }
+}
+
+/// No emission.
+fn nothing(text: &[u8]) -> Emitter<'_>
+    requires { length text.now ≤ 2 ^ 30 }
+    ensures { result ≡ [] }
+{
+    Emitter {
+        text,
+        from: text.len(),
+        whole: None,
+    }
+}
+
+/// One emission.
+fn one_pair(key: &[u8], value: Value) -> Emitter<'_>
+    requires { length key.now ≤ 2 ^ 30 }
+    ensures { result ≡ (key.entry.now, value) ∷ [] }
+{
+    Emitter {
+        text: key,
+        from: 0,
+        whole: Some(value),
+    }
+}
+
+ghost use Rattle.mr_jobs.specs.Emissions.{words_from};
+
+impl Job {
+    /// Makes the buffer as `emit` wants it for `line`: for folded words, the folded bytes of the line. It fails only for
+    /// want of memory, and then the buffer's bytes are of no use. One buffer serves any number of lines.
+    pub fn prepare(&self, line: &[u8], buffer: &mut Vec<u8>) -> Result<(), AllocError>
+        ensures { OnOk result (IsReady self.now line.now buffer.new.items) }
+    {
+        if let Kind::Words { keep_case: false } = &self.kind {
+            fold_into(line, buffer)?;
+        }
+        Ok(())
+    }
+
+    /// What the record `line` emits, of at most 1 GiB, which begins at the place `start` of the file `file`: nothing is
+    /// copied and no memory is taken, since a key is a part of the line or of the buffer.
+    pub fn emit<'a>(&self, file: u32, start: u32, line: &'a [u8], buffer: &'a [u8]) -> Emitter<'a>
+        requires small { length line.now ≤ 2 ^ 30 }
+        requires ready { IsReady self.now line.now buffer.now }
+        ensures { result ≡ emissions self.now file start line.entry.now }
+    {
+        match &self.kind {
+            Kind::Words { keep_case } => {
+                if *keep_case {
+                    all_words(line)
+                } else {
+                    all_words(buffer)
+                }
+            }
+            Kind::Grep { literal, fold } => {
+                if holds(line, literal.as_slice(), *fold) {
+                    one_pair(
+                        line,
+                        Value::At {
+                            file,
+                            offset: start as u64,
+                        },
+                    )
+                } else {
+                    nothing(line)
+                }
+            }
+            Kind::Url => match url(line) {
+                Some(key) => one_pair(key, Value::One),
+                None => nothing(line),
+            },
+        }
+    }
+}
+
+ghost use Rattle.mr_bytes.specs.Bytes.{folded};
+
+/// Makes the buffer the folded bytes of the line.
+fn fold_into(line: &[u8], buffer: &mut Vec<u8>) -> Result<(), AllocError>
+    ensures { OnOk result (buffer.new.items ≡ folded line.now) }
+{
+    buffer.clear();
+    buffer.extend_from_slice(line)?;
+    fold_in_place(buffer.as_mut_slice());
+    Ok(())
+}

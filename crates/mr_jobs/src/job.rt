@@ -1,0 +1,105 @@
+//! What is done with each record.
+ghost use Rattle.std.specs.Prelude.{◌≡◌, ◌↔◌, ℕ, ◌≤◌, ◌<◌, IfOk, IsOkUnless, length, [], Contains};
+ghost use Rattle.mr_jobs.specs.Task.{WordCount, LinesWith, Resources, counts};
+
+use std::alloc::Global;
+use std::marker::Model;
+use thiserror::Error;
+
+/// The most bytes of a literal.
+pub const MAX_LITERAL: usize = 4096;
+
+#[derive(Drop)]
+pub(crate) enum Kind {
+    Words { keep_case: bool },
+    Grep { literal: Vec<u8>, fold: bool },
+    Url,
+}
+
+/// What is done with each record: one of the three jobs of OSDI 2004, sections 2.1 and 2.3, that this library brings.
+#[derive(Drop)]
+pub struct Job {
+    pub(crate) kind: Kind,
+}
+
+impl Model for Job {
+    ghost use Rattle.mr_jobs.specs.Task.{Task};
+
+    ghost Value = { Task };
+
+    ghost use Rattle.mr_jobs.specs.Views.{task_of};
+
+    ghost view = { λ j. task_of j.kind };
+}
+
+/// Why a literal makes no job.
+#[derive(Clone, Copy, Debug, PartialEq, Eq, Drop, Error)]
+pub enum JobFault {
+    /// The literal has no bytes.
+    #[error("EmptyLiteral")]
+    EmptyLiteral,
+    /// The literal has more than 4,096 bytes.
+    #[error("LongLiteral")]
+    LongLiteral,
+    /// The literal holds a line feed, which no record holds.
+    #[error("LineEndInLiteral")]
+    LineEndInLiteral,
+    /// There was no memory for a copy of the literal.
+    #[error("OutOfMemory")]
+    OutOfMemory,
+}
+
+impl Job {
+    /// The count of each word, by its exact bytes where `keep_case`, and else by its bytes with the letters of ASCII
+    /// made lower case.
+    pub fn words(keep_case: bool) -> Job
+        ensures { result ≡ WordCount keep_case }
+    {
+        Job {
+            kind: Kind::Words { keep_case },
+        }
+    }
+
+    /// The lines that hold `literal`, compared with the letters of ASCII made lower case where `fold`. A literal has 1
+    /// to 4,096 bytes and no line feed; of several faults the first of `JobFault` is told.
+    pub fn grep(alloc: Global, literal: &[u8], fold: bool) -> Result<Job, JobFault>
+        ensures ok { IfOk result (λ r. r ≡ LinesWith literal.now fold) }
+        ensures empty { (result ≡ Err JobFault.EmptyLiteral) ↔ (literal.now ≡ []) }
+        ensures long { (result ≡ Err JobFault.LongLiteral) ↔ (4096 < length literal.now) }
+        ensures line_end { (result ≡ Err JobFault.LineEndInLiteral) ↔ ((0 < length literal.now) × (length literal.now ≤ 4096) × Contains literal.now 10) }
+        ensures good { 0 < length literal.now → length literal.now ≤ 4096 → ¬ Contains literal.now 10 → IsOkUnless result JobFault.OutOfMemory }
+    {
+        if literal.is_empty() {
+            return Err(JobFault::EmptyLiteral);
+        }
+        if MAX_LITERAL < literal.len() {
+            return Err(JobFault::LongLiteral);
+        }
+        if literal.contains(&b'\n') {
+            return Err(JobFault::LineEndInLiteral);
+        }
+        match Vec::from_slice(alloc, literal) {
+            Ok(literal) => Ok(Job {
+                kind: Kind::Grep { literal, fold },
+            }),
+            Err(_) => Err(JobFault::OutOfMemory),
+        }
+    }
+
+    /// The count of each resource that a log's lines request.
+    pub fn url() -> Job
+        ensures { result ≡ Resources }
+    {
+        Job { kind: Kind::Url }
+    }
+
+    /// Whether reduce gives the number of a key's values, whatever the values are.
+    pub fn counts(&self) -> bool
+        ensures { result ≡ counts self.now }
+    {
+        match &self.kind {
+            Kind::Words { .. } | Kind::Url => true,
+            Kind::Grep { .. } => false,
+        }
+    }
+}

@@ -1,0 +1,137 @@
+//! A job with its numbers.
+ghost use Rattle.std.specs.Prelude.{◌≡◌, ◌↔◌, ℕ, ◌≤◌, ◌<◌, ◌^◌, ◌⊎◌, IfOk, IsOk, IsTrue};
+ghost use Rattle.mr_input.specs.Files.{split_total};
+ghost use Rattle.mr_jobs.specs.Task.{Order, PartsFit, SplitFits};
+
+use crate::job::Job;
+use mr_input::Input;
+use std::marker::Model;
+use thiserror::Error;
+
+/// The most partitions.
+pub const MAX_PARTS: u32 = 1024;
+/// The most bytes of a split: 64 MiB.
+pub const MAX_SPLIT_SIZE: u32 = 0x400_0000;
+/// The most records that a request may let be left out.
+pub const MAX_SKIPS: u32 = 1000;
+/// The most splits of an input.
+pub const MAX_SPLITS: usize = 0x10_0000;
+
+/// A job with its number of partitions, its split size in bytes, and how many records may be left out.
+#[derive(Drop)]
+pub struct Request {
+    job: Job,
+    parts: u32,
+    split: u32,
+    skips: u32,
+}
+
+impl Model for Request {
+    ghost use Rattle.std.specs.Prelude.{◌≤◌, ◌^◌};
+    ghost use Rattle.mr_jobs.specs.Task.{Order};
+
+    ghost Value = { Order };
+
+    ghost view = { λ r. record { task = r.job; parts = r.parts; split = r.split; skips = r.skips } };
+
+    ghost invariant = { λ r. record {
+      some_parts : 1 ≤ r.parts;
+      parts : r.parts ≤ 1024;
+      some_split : 1 ≤ r.split;
+      split : r.split ≤ 2 ^ 26;
+      skips : r.skips ≤ 1000;
+    } };
+}
+
+/// Why a job with these numbers is no request.
+#[derive(Clone, Copy, Debug, PartialEq, Eq, Drop, Error)]
+pub enum RequestFault {
+    /// There are no partitions, or more than 1,024.
+    #[error("BadParts")]
+    BadParts,
+    /// A split has no bytes, or more than 67,108,864.
+    #[error("BadSplitSize")]
+    BadSplitSize,
+    /// More than 1,000 records may be left out.
+    #[error("BadSkips")]
+    BadSkips,
+}
+
+impl Request {
+    /// A job with `parts` partitions, splits of `split` bytes, and at most `skips` records left out. Of several faults
+    /// the first of `RequestFault` is told.
+    pub fn new(job: Job, parts: u32, split: u32, skips: u32) -> Result<Request, RequestFault>
+        ensures value { IfOk result (λ r. r ≡ record { task = job; parts = parts; split = split; skips = skips }) }
+        ensures succeeds { PartsFit parts → SplitFits split → skips ≤ 1000 → IsOk result }
+        ensures bad_parts { (result ≡ Err RequestFault.BadParts) ↔ ((parts ≡ 0) ⊎ (1024 < parts)) }
+        ensures bad_split { (result ≡ Err RequestFault.BadSplitSize) ↔ (PartsFit parts × ((split ≡ 0) ⊎ (2 ^ 26 < split))) }
+        ensures bad_skips { (result ≡ Err RequestFault.BadSkips) ↔ (PartsFit parts × SplitFits split × (1000 < skips)) }
+    {
+        if parts == 0 || MAX_PARTS < parts {
+            return Err(RequestFault::BadParts);
+        }
+        if split == 0 || MAX_SPLIT_SIZE < split {
+            return Err(RequestFault::BadSplitSize);
+        }
+        if MAX_SKIPS < skips {
+            return Err(RequestFault::BadSkips);
+        }
+        Ok(Request {
+            job,
+            parts,
+            split,
+            skips,
+        })
+    }
+
+    /// What is done with each record.
+    pub fn job(&self) -> &Job
+        ensures { result.now ≡ self.now.task }
+    {
+        &self.job
+    }
+
+    /// The number of partitions.
+    pub fn parts(&self) -> u32
+        ensures same { result ≡ self.now.parts }
+        ensures within { (1 ≤ result) × (result ≤ 1024) }
+    {
+        self.parts
+    }
+
+    /// The bytes of a split, the last of a file aside.
+    pub fn split_size(&self) -> u32
+        ensures same { result ≡ self.now.split }
+        ensures within { (1 ≤ result) × (result ≤ 2 ^ 26) }
+    {
+        self.split
+    }
+
+    /// How many records may be left out.
+    pub fn max_skips(&self) -> u32
+        ensures same { result ≡ self.now.skips }
+        ensures within { result ≤ 1000 }
+    {
+        self.skips
+    }
+
+    /// Whether the input has at most 1,048,576 splits of this size.
+    pub fn fits(&self, input: &Input) -> bool
+        ensures { IsTrue result ↔ (split_total self.now.split input.now ≤ 2 ^ 20) }
+    {
+        splits_of(input, self.split as usize) <= MAX_SPLITS
+    }
+}
+
+/// How many splits of `size` bytes all files have together.
+fn splits_of(input: &Input, size: usize) -> usize
+    requires some { 1 ≤ size }
+    requires small { size ≤ 2 ^ 26 }
+    ensures { result ≡ split_total size input.now }
+{
+    let mut splits = 0;
+    for i in 0..input.files() {
+        splits += (input.len(i) + size - 1) / size;
+    }
+    splits
+}

@@ -1,0 +1,114 @@
+//! The records of a file.
+#![tactic(auto)]
+
+ghost use Rattle.std.specs.Prelude.{◌≡◌, ℕ, ◌+◌, ◌^◌, ◌≤◌, ◌<◌, ◌≢◌, length, List, [], ◌∷◌, IfOk, All, map, MatchOption, drop, slice_index};
+ghost use Rattle.mr_records.specs.Records.{Record, records, nth};
+
+use memchr::memchr;
+use mr_bytes::Span;
+use std::alloc::{AllocError, Global};
+use std::marker::Model;
+
+/// The records of a file, in their order: the bytes before each line feed, and the bytes after the last one where
+/// there are any. A carriage return stays in its record.
+#[derive(Drop)]
+pub struct Records<'a> {
+    bytes: &'a [u8],
+    spans: Vec<Span>,
+}
+
+impl<'a> Model for Records<'a> {
+    ghost use Rattle.std.specs.Prelude.{List, map, All, length, ◌≤◌, ◌^◌};
+    ghost use Rattle.mr_records.specs.Records.{Record, record_at, Within};
+
+    ghost Value = { List Record };
+
+    ghost view = { λ r. map (record_at r.bytes.now) r.spans.items };
+
+    ghost invariant = { λ r. record {
+        within : All (Within r.bytes.now) r.spans.items;
+        small : length r.bytes.now ≤ 2 ^ 30;
+    } };
+}
+
+impl<'a> Records<'a> {
+    /// Finds the records of a file of at most 1 GiB. It fails only for want of memory.
+    pub fn of(alloc: Global, bytes: &'a [u8]) -> Result<Records<'a>, AllocError>
+        requires { length bytes.now ≤ 2 ^ 30 }
+        ensures { IfOk result (λ r. r ≡ records bytes.entry.now) }
+    {
+        let spans = spans_of(alloc, bytes)?;
+        Ok(Records { bytes, spans })
+    }
+
+    /// How many records there are.
+    pub fn count(&self) -> usize
+        ensures { result ≡ length self.now }
+    {
+        self.spans.len()
+    }
+
+    /// The bytes of record `i`, from 0, without its line feed.
+    pub fn record(&self, i: usize) -> &'a [u8]
+        requires { i < length self.now }
+        ensures bytes { result.now ≡ (nth self.now i).bytes }
+        ensures small { length result.now ≤ 2 ^ 30 }
+    {
+        let span = self.spans[i];
+        &self.bytes[span.start as usize..span.end as usize]
+    }
+
+    /// The place in the file of the first byte of record `i`, or of its line feed where the record is empty.
+    pub fn start(&self, i: usize) -> u32
+        requires { i < length self.now }
+        ensures { result ≡ (nth self.now i).start }
+    {
+        self.spans[i].start
+    }
+}
+
+ghost use Rattle.mr_records.specs.Records.{record_at, records_from, Within};
+
+fn spans_of(alloc: Global, bytes: &[u8]) -> Result<Vec<Span>, AllocError>
+    requires { length bytes.now ≤ 2 ^ 30 }
+    ensures within { IfOk result (λ v. All (Within bytes.now) v.items) }
+    ensures all { IfOk result (λ v. map (record_at bytes.now) v.items ≡ records bytes.now) }
+{
+    let mut spans = Vec::new(alloc);
+    let mut from = 0;
+    while let Some(span) = next_record(bytes, from) {
+        spans.push(span)?;
+        from = span.end as usize + 1;
+    }
+    Ok(spans)
+}
+
+/// The place of the first line feed from `from` on, or the end.
+fn line_end(bytes: &[u8], from: usize) -> usize
+    requires { from ≤ length bytes.now }
+    ensures within { (from ≤ result) × (result ≤ length bytes.now) }
+    ensures clear { (k : ℕ) → from ≤ k → k < result → slice_index bytes.now k ≢ 10 }
+    ensures stops { result < length bytes.now → slice_index bytes.now result ≡ 10 }
+{
+    match memchr(b'\n', &bytes[from..]) {
+        Some(skipped) => from + skipped,
+        None => bytes.len(),
+    }
+}
+
+/// The record that begins at `from`, if a byte stands there.
+fn next_record(bytes: &[u8], from: usize) -> Option<Span>
+    requires { length bytes.now ≤ 2 ^ 30 }
+    ensures { MatchOption result (records_from from (drop from bytes.now) ≡ [])
+        (λ s. Within bytes.now s × (s.start ≡ from)
+            × (records_from from (drop from bytes.now) ≡ record_at bytes.now s ∷ records_from (s.end + 1) (drop (s.end + 1) bytes.now))) }
+{
+    if from >= bytes.len() {
+        return None;
+    }
+    let end = line_end(bytes, from);
+    Some(Span {
+        start: from as u32,
+        end: end as u32,
+    })
+}

@@ -1,0 +1,21 @@
+-- The text of a group: what reduce makes of a key with the list of all its values (OSDI 2004, sections 2.1 and 2.3).
+use Rattle.std.specs.Prelude.{ℕ, List, [], ◌∷◌, ◌++◌, length, decimal}
+use Rattle.std.specs.List.{flat_map}
+use Rattle.mr_bytes.specs.declared.Value.{Value}
+use Rattle.mr_bytes.specs.declared.Value.TheVariants.{One, At}
+use Rattle.mr_jobs.specs.Task.{Task, WordCount, LinesWith, Resources}
+
+-- the key, a tab, a number, and a line feed
+abbrev pub total_line : List ℕ → ℕ → List ℕ
+total_line key total = key ++ 9 ∷ decimal total ++ 10 ∷ []
+
+-- the key, a tab, the file's number, a colon, the place there, and a line feed; a value that has no place gives nothing
+abbrev pub place_line : List ℕ → Value → List ℕ
+place_line key One = []
+place_line key (At file offset) = key ++ 9 ∷ decimal file ++ 58 ∷ decimal offset ++ 10 ∷ []
+
+-- the text that a job gives for a key with its values
+abbrev pub text_of : Task → List ℕ → List Value → List ℕ
+text_of (WordCount keep_case) key values = total_line key (length values)
+text_of (LinesWith literal fold) key values = flat_map (place_line key) values
+text_of Resources key values = total_line key (length values)

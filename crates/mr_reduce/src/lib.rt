@@ -1,0 +1,101 @@
+//! What reduce makes of a key with its values: the text that goes into the output file of the key's partition.
+#![tactic(auto)]
+
+ghost use Rattle.std.specs.Prelude.{◌≡◌, ◌++◌, OnOk, OnErr, take, vec_len};
+ghost use Rattle.std.specs.List.{flat_map};
+ghost use Rattle.mr_reduce.specs.Text.{text_of, total_line, place_line};
+ghost use Rattle.mr_reduce.specs.Laws.{CountersTellTheNumber};
+
+use itoa::Buffer;
+use mr_bytes::Value;
+use mr_jobs::Job;
+use std::alloc::AllocError;
+
+/// Appends the text of a key with the list of all its values, in the order of the input: for a job that counts, the
+/// key with the number of values; for lines with a literal, a line for each value that tells a place. It fails only
+/// for want of memory, and then leaves `out` as it was.
+pub fn group_text(
+    job: &Job,
+    key: &[u8],
+    values: &[Value],
+    out: &mut Vec<u8>,
+) -> Result<(), AllocError>
+    ensures ok { OnOk result (out.new.items ≡ out.old.items ++ text_of job.now key.now values.now) }
+    ensures err { OnErr result (out.new.items ≡ out.old.items) }
+{
+    if job.counts() {
+        return total_text(key, values.len() as u64, out);
+    }
+    let before = out.len();
+    let done = put_places(key, values, out);
+    if done.is_err() {
+        out.truncate(before);
+    }
+    done
+}
+
+/// Appends the line of a key with a number: what `group_text` appends for a job that counts, where the number is that
+/// of the values. It fails only for want of memory, and then leaves `out` as it was.
+pub fn total_text(key: &[u8], total: u64, out: &mut Vec<u8>) -> Result<(), AllocError>
+    ensures ok { OnOk result (out.new.items ≡ out.old.items ++ total_line key.now total) }
+    ensures err { OnErr result (out.new.items ≡ out.old.items) }
+{
+    let before = out.len();
+    let done = put_total(key, total, out);
+    if done.is_err() {
+        out.truncate(before);
+    }
+    done
+}
+
+/// Appends the line of a key with a number. Where it fails, what stood before still stands in front.
+fn put_total(key: &[u8], total: u64, out: &mut Vec<u8>) -> Result<(), AllocError>
+    ensures kept { take (vec_len out.old) out.new.items ≡ out.old.items }
+    ensures ok { OnOk result (out.new.items ≡ out.old.items ++ total_line key.now total) }
+{
+    let mut digits = Buffer::new();
+    out.extend_from_slice(key)?;
+    out.push(b'\t')?;
+    out.extend_from_slice(digits.format(total).as_bytes())?;
+    out.push(b'\n')?;
+    Ok(())
+}
+
+/// Appends the line of a key with a place, or nothing where the value tells none. Where it fails, what stood before
+/// still stands in front.
+fn put_place(key: &[u8], value: Value, out: &mut Vec<u8>) -> Result<(), AllocError>
+    ensures kept { take (vec_len out.old) out.new.items ≡ out.old.items }
+    ensures ok { OnOk result (out.new.items ≡ out.old.items ++ place_line key.now value) }
+{
+    let Value::At { file, offset } = value else {
+        return Ok(());
+    };
+    let mut digits = Buffer::new();
+    out.extend_from_slice(key)?;
+    out.push(b'\t')?;
+    out.extend_from_slice(digits.format(file).as_bytes())?;
+    out.push(b':')?;
+    out.extend_from_slice(digits.format(offset).as_bytes())?;
+    out.push(b'\n')?;
+    Ok(())
+}
+
+/// Appends the lines of a key with its places. Where it fails, what stood before still stands in front.
+fn put_places(key: &[u8], values: &[Value], out: &mut Vec<u8>) -> Result<(), AllocError>
+    ensures kept { take (vec_len out.old) out.new.items ≡ out.old.items }
+    ensures ok { OnOk result (out.new.items ≡ out.old.items ++ flat_map (place_line key.now) values.now) }
+{
+    for value in values {
+        put_place(key, *value, out)?;
+    }
+    Ok(())
+}
+
+/// Where a job counts, the text of a group is that of the key with the number of its values, whatever they are: the
+/// number alone is enough for `total_text`.
+pub fn text_law()
+    ensures { CountersTellTheNumber }
+{}
+
+#[cfg(test)]
+mod tests;

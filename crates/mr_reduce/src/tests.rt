@@ -1,0 +1,44 @@
+use crate::{group_text, total_text};
+use mr_bytes::Value;
+use mr_jobs::Job;
+use std::test::Fail;
+
+#[test]
+fn totals(rt: HostRuntime) -> Result<(), Fail> {
+    let alloc = rt.alloc();
+    let mut out = Vec::new(alloc);
+    let ones = [Value::One, Value::One];
+    group_text(&Job::words(false), b"the", &ones, &mut out)?;
+    assert_eq!(rt; out.as_slice(), b"the\t2\n".as_slice());
+    // What is appended stands behind what was there.
+    group_text(&Job::url(), b"/a", &ones[..1], &mut out)?;
+    assert_eq!(rt; out.as_slice(), b"the\t2\n/a\t1\n".as_slice());
+    let mut text = Vec::new(alloc);
+    total_text(b"the", 2, &mut text)?;
+    assert_eq!(rt; text.as_slice(), b"the\t2\n".as_slice());
+    let mut large = Vec::new(alloc);
+    total_text(b"", 18446744073709551615, &mut large)?;
+    assert_eq!(rt; large.as_slice(), b"\t18446744073709551615\n".as_slice());
+    Ok(())
+}
+
+#[test]
+fn places(rt: HostRuntime) -> Result<(), Fail> {
+    let alloc = rt.alloc();
+    let job = Job::grep(alloc, b"b", false)?;
+    let mut out = Vec::new(alloc);
+    let values = [
+        Value::At { file: 0, offset: 0 },
+        Value::One,
+        Value::At {
+            file: 12,
+            offset: 4294967296,
+        },
+    ];
+    group_text(&job, b"abc", &values[..1], &mut out)?;
+    assert_eq!(rt; out.as_slice(), b"abc\t0:0\n".as_slice());
+    let mut all = Vec::new(alloc);
+    group_text(&job, b"abc", &values, &mut all)?;
+    assert_eq!(rt; all.as_slice(), b"abc\t0:0\nabc\t12:4294967296\n".as_slice());
+    Ok(())
+}

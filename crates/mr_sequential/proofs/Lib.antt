@@ -1,0 +1,10 @@
+pub mod BucketLemmas
+pub mod FillLemmas
+pub mod GatheredLemmas
+pub mod KeyLaws
+pub mod ListLaws
+pub mod OrderLemmas
+pub mod RankLemmas
+pub mod RowLemmas
+pub mod SourceLemmas
+pub mod TextLemmas

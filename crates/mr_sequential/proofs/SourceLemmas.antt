@@ -1,0 +1,185 @@
+-- Records one after another, and how many pairs they give.
+use Rattle.std.proofs.Common.{◌≡◌, ℕ, zero, suc, ◌+◌, ◌-◌, ◌/◌, ◌<◌, ◌≤◌, ◌^◌, cond, Bool, true, false, List, [], ◌∷◌, ◌++◌, length, drop, refl, sym, ◌∙◌, ap, arith, append_assoc, map, filter, subst, eqb}
+use Rattle.std.proofs.lemmas.List.{at_drop_more, map-append}
+use Rattle.std.proofs.lemmas.List.Sums.{sum_by-cons}
+use Rattle.std.specs.List.{flat_map, sum_by}
+use Rattle.std.specs.Str.{bytes_eq}
+use Rattle.mr_bytes.specs.declared.RecordName.{RecordName}
+use Rattle.mr_bytes.specs.declared.Value.{Value}
+use Rattle.mr_records.specs.Records.{Record, lengthen, records_from, records}
+use Rattle.mr_input.specs.Files.{split_count, total_size}
+use Rattle.mr_jobs.specs.Task.{Task, Order}
+use Rattle.mr_jobs.specs.Emissions.{Emission, emissions}
+use Rattle.mr_jobs.proofs.CountLemmas.{few_emissions}
+use Rattle.mr_splits.specs.Named.{NamedRecord, is_left_out, named_from, named_files, named_records, of_split}
+use Rattle.mr_splits.specs.Cut.{nth}
+use Rattle.mr_splits.specs.Laws.{joined}
+use Rattle.mr_splits.proofs.JoinedLemmas.{joined-suc, joined-zero}
+use Rattle.mr_sequential.specs.Emitted.{Triple, placed_from, record_triples, emitted}
+use Rattle.mr_sequential.specs.Pairs.{kept_pairs, values_in, texts_in}
+use Rattle.mr_sequential.specs.Sequential.{keys_of, texts_of, triples_with, values_of}
+use Rattle.mr_sequential.proofs.GatheredLemmas.{length-append}
+
+pub next_record : (f : NamedRecord → List Emission) (rs : List NamedRecord) (r : ℕ) → r < length rs
+    → flat_map f (drop r rs) ≡ f (nth rs r) ++ flat_map f (drop (r + 1) rs)
+next_record f rs r h = at_drop_more (flat_map f) rs r (record { name = record { split = 0; rec = 0 }; file = 0; start = 0; bytes = [] }) h
+
+-- one more of the pieces stands behind the gathered ones
+pub one_gathered : (f : NamedRecord → List Emission) (rs : List NamedRecord) (r : ℕ) (old now all : List Emission) → r < length rs
+    → now ≡ old ++ f (nth rs r) → old ++ flat_map f (drop r rs) ≡ all → now ++ flat_map f (drop (r + 1) rs) ≡ all
+one_gathered f rs r old now all h is before =
+    ap (λ l. l ++ flat_map f (drop (r + 1) rs)) is ∙ append_assoc old (f (nth rs r)) (flat_map f (drop (r + 1) rs))
+    ∙ ap (λ l. old ++ l) (sym (next_record f rs r h)) ∙ before
+
+pub flat_map-append : {X Y : Type 0} (f : X → List Y) (xs ys : List X) → flat_map f (xs ++ ys) ≡ flat_map f xs ++ flat_map f ys
+flat_map-append f [] ys = refl
+flat_map-append f (x ∷ xs) ys = ap (λ l. f x ++ l) (flat_map-append f xs ys) ∙ sym (append_assoc (f x) (flat_map f xs) (flat_map f ys))
+
+pub next_split : (f : NamedRecord → List Emission) (rs : List NamedRecord) (s m : ℕ) → s < m
+    → flat_map f (joined s (m - s) rs) ≡ flat_map f (of_split s rs) ++ flat_map f (joined (s + 1) (m - (s + 1)) rs)
+next_split f rs s m h =
+    let more : m - s ≡ suc (m - (s + 1)) = omega arith in
+    ap (λ n. flat_map f (joined s n rs)) more ∙ ap (flat_map f) (joined-suc s (m - (s + 1)) rs)
+    ∙ flat_map-append f (of_split s rs) (joined (s + 1) (m - (s + 1)) rs)
+
+pub split_gathered : (f : NamedRecord → List Emission) (rs : List NamedRecord) (s m : ℕ) (old now all : List Emission) → s < m
+    → now ≡ old ++ flat_map f (of_split s rs) → old ++ flat_map f (joined s (m - s) rs) ≡ all → now ++ flat_map f (joined (s + 1) (m - (s + 1)) rs) ≡ all
+split_gathered f rs s m old now all h is before =
+    ap (λ l. l ++ flat_map f (joined (s + 1) (m - (s + 1)) rs)) is ∙ append_assoc old (flat_map f (of_split s rs)) (flat_map f (joined (s + 1) (m - (s + 1)) rs))
+    ∙ ap (λ l. old ++ l) (sym (next_split f rs s m h)) ∙ before
+
+pub all_gathered : (f : NamedRecord → List Emission) (rs : List NamedRecord) (s m : ℕ) (old all : List Emission) → m ≤ s
+    → old ++ flat_map f (joined s (m - s) rs) ≡ all → old ≡ all
+all_gathered f rs s m old all h before =
+    let none : m - s ≡ 0 = omega arith in
+    sym (ap (λ n. old ++ flat_map f (joined s n rs)) none ∙ ap (λ l. old ++ flat_map f l) (joined-zero s rs) ∙ append_nil old) ∙ before
+  where
+    append_nil : (es : List Emission) → es ++ [] ≡ es
+    append_nil [] = refl
+    append_nil (e ∷ es) = ap (λ l. e ∷ l) (append_nil es)
+
+-- ---- how many pairs there can be: each record gives at most one more than it has bytes
+
+room : List NamedRecord → ℕ
+room [] = 0
+room (r ∷ rs) = length r.bytes + 1 + room rs
+
+plain_room : List Record → ℕ
+plain_room [] = 0
+plain_room (r ∷ rs) = length r.bytes + 1 + plain_room rs
+
+room-append : (xs ys : List NamedRecord) → room (xs ++ ys) ≡ room xs + room ys
+unfolding room
+room-append [] ys = omega arith
+room-append (x ∷ xs) ys = omega (arith, room-append xs ys)
+
+room-named : (size file first split next : ℕ) (rs : List Record) → room (named_from size file first split next rs) ≡ plain_room rs
+unfolding room plain_room named_from
+room-named size file first split next [] = refl
+room-named size file first split next (r ∷ rs) =
+    ap (λ n. length r.bytes + 1 + n)
+    (room-named size file first (first + r.start / size) (cond (eqb (first + r.start / size) split) next 0 + 1) rs)
+
+room-lengthen : (at b n : ℕ) (rs : List Record) → plain_room rs ≤ n + 1 → plain_room (lengthen at b rs) ≤ n + 2
+unfolding plain_room lengthen
+room-lengthen at b n [] h = omega arith
+room-lengthen at b n (r ∷ rs) h = omega (arith, h)
+
+room-records : (at : ℕ) (bs : List ℕ) → plain_room (records_from at bs) ≤ length bs + 1
+unfolding plain_room records_from
+room-records at [] = omega arith
+room-records at (b ∷ bs) =
+    let rest : List Record = records_from (at + 1) bs in
+    let later : plain_room rest ≤ length bs + 1 = room-records (at + 1) bs in
+    let longer : plain_room (lengthen at b rest) ≤ length bs + 2 = room-lengthen at b (length bs) rest later in
+    elim (eqb b 10) as (λ t. plain_room (cond t (record { start = at; bytes = [] } ∷ rest) (lengthen at b rest)) ≤ length (b ∷ bs) + 1) [
+      | true ↦ omega (arith, later)
+      | false ↦ omega (arith, longer)
+    ]
+
+room-files : (size file first : ℕ) (files : List (List ℕ)) → room (named_files size file first files) ≤ total_size files + length files
+unfolding room named_files
+room-files size file first [] = omega arith
+room-files size file first (f ∷ fs) =
+    let here = room-named size file first first 0 (records f) in
+    let later = room-files size (file + 1) (first + split_count size f) fs in
+    omega (arith, room-append (named_from size file first first 0 (records f)) (named_files size (file + 1) (first + split_count size f) fs), here, later,
+      room-records 0 f, sum_by-cons (length {A = ℕ}) f fs)
+
+kept-few : (task : Task) (skips : List RecordName) (r : NamedRecord) → length (kept_pairs task skips r) ≤ length r.bytes + 1
+kept-few task skips r =
+    elim (is_left_out skips r.name) as (λ t. length (cond t [] (emissions task r.file r.start r.bytes)) ≤ length r.bytes + 1) [
+      | true ↦ omega arith
+      | false ↦ few_emissions task r.file r.start r.bytes
+    ]
+
+kept-room : (task : Task) (skips : List RecordName) (rs : List NamedRecord) → length (flat_map (kept_pairs task skips) rs) ≤ room rs
+unfolding room
+kept-room task skips [] = omega arith
+kept-room task skips (r ∷ rs) =
+    omega (arith, length-append (kept_pairs task skips r) (flat_map (kept_pairs task skips) rs), kept-few task skips r, kept-room task skips rs)
+
+pub few_pairs : (task : Task) (skips : List RecordName) (size : ℕ) (files : List (List ℕ)) → length files ≤ 1024 → total_size files ≤ 2 ^ 30
+    → length (flat_map (kept_pairs task skips) (named_records size files)) ≤ 2 ^ 31
+few_pairs task skips size files few small =
+    omega (arith, kept-room task skips (named_records size files), room-files size 0 0 files, few, small)
+
+-- ---- pairs with names and without
+
+abbrev pub pair_of : Triple → Emission
+pair_of t = (t.key, t.value)
+
+placed-pairs : (name : RecordName) (place : ℕ) (es : List Emission) → map pair_of (placed_from name place es) ≡ es
+unfolding placed_from
+placed-pairs name place [] = refl
+placed-pairs name place (e ∷ es) = ap (λ l. e ∷ l) (placed-pairs name (place + 1) es)
+
+record-pairs : (task : Task) (skips : List RecordName) (r : NamedRecord) → map pair_of (record_triples task skips r) ≡ kept_pairs task skips r
+record-pairs task skips r =
+    let es : List Emission = emissions task r.file r.start r.bytes in
+    elim (is_left_out skips r.name) as (λ t. map pair_of (cond t [] (placed_from r.name 0 es)) ≡ cond t [] es) [
+      | true ↦ refl
+      | false ↦ placed-pairs r.name 0 es
+    ]
+
+all-pairs : (task : Task) (skips : List RecordName) (rs : List NamedRecord) → map pair_of (flat_map (record_triples task skips) rs) ≡ flat_map (kept_pairs task skips) rs
+all-pairs task skips [] = refl
+all-pairs task skips (r ∷ rs) =
+    map-append pair_of (record_triples task skips r) (flat_map (record_triples task skips) rs)
+    ∙ ap (λ l. l ++ map pair_of (flat_map (record_triples task skips) rs)) (record-pairs task skips r)
+    ∙ ap (λ l. kept_pairs task skips r ++ l) (all-pairs task skips rs)
+
+pub emitted-pairs : (order : Order) (files : List (List ℕ)) (skips : List RecordName)
+    → map pair_of (emitted order files skips) ≡ flat_map (kept_pairs order.task skips) (named_records order.split files)
+emitted-pairs order files skips = all-pairs order.task skips (named_records order.split files)
+
+same_length : (ts : List Triple) → length (map pair_of ts) ≡ length ts
+same_length [] = refl
+same_length (t ∷ ts) = ap suc (same_length ts)
+
+pub emitted-count : (order : Order) (files : List (List ℕ)) (skips : List RecordName)
+    → length (flat_map (kept_pairs order.task skips) (named_records order.split files)) ≡ length (emitted order files skips)
+emitted-count order files skips = ap length (sym (emitted-pairs order files skips)) ∙ same_length (emitted order files skips)
+
+triple-keys : (ts : List Triple) → map (λ (e : Emission). e.0) (map pair_of ts) ≡ map (λ (t : Triple). t.key) ts
+triple-keys [] = refl
+triple-keys (t ∷ ts) = ap (λ l. t.key ∷ l) (triple-keys ts)
+
+triple-values : (k : List ℕ) (ts : List Triple) → values_in (map pair_of ts) k ≡ values_of ts k
+triple-values k [] = refl
+triple-values k (t ∷ ts) =
+    elim (bytes_eq t.key k) as (λ b. map (λ (e : Emission). e.1) (cond b (pair_of t ∷ filter (λ (e : Emission). bytes_eq e.0 k) (map pair_of ts)) (filter (λ (e : Emission). bytes_eq e.0 k) (map pair_of ts)))
+      ≡ map (λ (x : Triple). x.value) (cond b (t ∷ filter (λ (x : Triple). bytes_eq x.key k) ts) (filter (λ (x : Triple). bytes_eq x.key k) ts))) [
+      | true ↦ ap (λ l. t.value ∷ l) (triple-values k ts)
+      | false ↦ triple-values k ts
+    ]
+
+flat_map-same : (f g : List ℕ → List ℕ) → ((k : List ℕ) → f k ≡ g k) → (ks : List (List ℕ)) → flat_map f ks ≡ flat_map g ks
+flat_map-same f g e [] = refl
+flat_map-same f g e (k ∷ ks) = ap (λ l. l ++ flat_map f ks) (e k) ∙ ap (λ l. g k ++ l) (flat_map-same f g e ks)
+
+-- texts by pairs are texts by triples
+pub texts-triples : (part : List ℕ → ℕ) (text : List ℕ → List Value → List ℕ) (ts : List Triple) (p : ℕ) → texts_in part text (map pair_of ts) p ≡ texts_of part text ts p
+texts-triples part text ts p =
+    ap (λ ks. flat_map (λ k. text k (values_in (map pair_of ts) k)) (keys_of part ks p)) (triple-keys ts)
+    ∙ flat_map-same (λ k. text k (values_in (map pair_of ts) k)) (λ k. text k (values_of ts k)) (λ k. ap (text k) (triple-values k ts)) (keys_of part (map (λ (t : Triple). t.key) ts) p)

@@ -1,0 +1,9 @@
+use Rattle.mr_sequential.proofs.OrderLemmas.{keys-from_sorted, sorted-keys}
+use Rattle.mr_sequential.proofs.KeyLaws.{keys_rise, keys_are_unique}
+use Rattle.mr_sequential.proofs.keys_law.Goals as goal
+
+pub returns-clause-rising : goal.returns-clause-rising
+returns-clause-rising c = keys_rise
+
+pub returns-clause-unique : goal.returns-clause-unique
+returns-clause-unique c = keys_are_unique

@@ -1,0 +1,116 @@
+use Rattle.std.proofs.Common.{◌≡◌, ℕ, ◌+◌, ◌<◌, ◌≤◌, ◌++◌, ◌==◌, Bool, false, List, [], ◌∷◌, length, get_or, take, drop, refl, sym, ap, ◌∙◌, arith, subst, All, IsPermutation, Vec, Global, map}
+use Rattle.std.proofs.lemmas.List.Sorted.{length_permutation}
+use Rattle.std.specs.List.{AllByRecursion, IsDistinct, range_with_len, zip}
+use Rattle.std.specs.Str.{bytes_eq}
+use Rattle.mr_bytes.specs.declared.Value.{Value}
+use Rattle.mr_bytes.specs.Lists.{Has}
+use Rattle.mr_input.specs.Files.{contents, nth}
+use Rattle.mr_jobs.specs.Emissions.{Emission}
+use Rattle.mr_partition.specs.Partition.{partition_of}
+use Rattle.mr_reduce.specs.Text.{text_of}
+use Rattle.mr_sequential.specs.declared.rows.Row.{Row}
+use Rattle.mr_sequential.specs.Pairs.{bytes_of, ones_then, paired, texts_in}
+use Rattle.mr_sequential.specs.Rows.{IsRanked, IsRowOf, bucket_text, row_key, row_number, row_texts}
+use Rattle.mr_sequential.proofs.BucketLemmas.{take_front}
+use Rattle.mr_sequential.proofs.GatheredLemmas.{length-paired, length-ones_then, same_length}
+use Rattle.mr_sequential.proofs.RankLemmas.{AreRows, texts-rows}
+use Rattle.mr_sequential.proofs.outputs.outputs.Goals as goal
+
+-- as many numbers as values
+same : (is : List ℕ) (ones : ℕ) (rest : List Value) → ones + length rest ≡ length is → length is ≡ length (ones_then ones rest)
+same is ones rest h = omega (arith, h, length-ones_then ones rest)
+
+-- there are few keys
+few_keys : (keys : List (Vec ℕ Global)) (is : List ℕ) (ones : ℕ) (rest : List Value) (seen : List Emission) → paired (bytes_of keys) is (ones_then ones rest) ≡ seen
+    → ones + length rest ≡ length is → length keys ≤ length is → length seen < 4294967296 → length keys < 4294967296
+few_keys keys is ones rest seen view even few small =
+    omega (arith, length-paired (bytes_of keys) is (ones_then ones rest) (same is ones rest even), ap length view, few, small)
+
+-- as many rows as keys
+row_count : (keys shown : List (Vec ℕ Global)) (rows : List Row) → shown ≡ keys → IsPermutation (bytes_of shown) (map row_key rows) → length rows ≡ length keys
+row_count keys shown rows is perm =
+    omega (arith, same_length row_key rows, length_permutation (bytes_of shown) (map row_key rows) perm, same_length (λ (k : Vec ℕ Global). k.items) shown, ap length is)
+
+pub sorted_rows-requires-clause-few : goal.sorted_rows-requires-clause-few
+sorted_rows-requires-clause-few c =
+    let g = c.gathered.inside in
+    let small = few_keys g.keys.keys g.numbers.items g.ones g.rest.items c.args.gathered c.gathered.view_is c.gathered.invariant.same c.gathered.invariant.few c.requires.few in
+    omega (arith, small, ap length c.as_slice.ensures.keys)
+
+pub rank_numbers-requires-clause-few : goal.rank_numbers-requires-clause-few
+rank_numbers-requires-clause-few c =
+    let g = c.gathered.inside in
+    let small = few_keys g.keys.keys g.numbers.items g.ones g.rest.items c.args.gathered c.gathered.view_is c.gathered.invariant.same c.gathered.invariant.few c.requires.few in
+    omega (arith, small, row_count g.keys.keys c.as_slice.result.now c.in_ok-rows.rows.items c.as_slice.ensures.keys c.in_ok-rows.ensures.keys, ap length c.as_slice-2.ensures.value)
+
+pub rank_numbers-requires-clause-all : goal.rank_numbers-requires-clause-all
+rank_numbers-requires-clause-all c =
+    let shown : List (Vec ℕ Global) = c.as_slice.result.now in
+    let rows : List Row = c.in_ok-rows.rows.items in
+    let count : length rows ≡ length shown = row_count shown shown rows refl c.in_ok-rows.ensures.keys in
+    subst (λ (l : List Row). IsPermutation (range_with_len 0 (length l)) (map row_number l)) (sym c.as_slice-2.ensures.value)
+    (subst (λ n. IsPermutation (range_with_len 0 n) (map row_number rows)) (sym count) c.in_ok-rows.ensures.numbers)
+
+pub rank_numbers-requires-clause-inside : goal.rank_numbers-requires-clause-inside
+rank_numbers-requires-clause-inside c =
+    let g = c.gathered.inside in
+    let count = row_count g.keys.keys c.as_slice.result.now c.in_ok-rows.rows.items c.as_slice.ensures.keys c.in_ok-rows.ensures.keys in
+    let n : ℕ = length c.as_slice-2.result.now in
+    subst (λ (l : List ℕ). All (λ i. i < n) l) (sym c.as_mut_slice.ensures.value)
+    (λ k d h. omega (arith, c.gathered.invariant.inside k d h, count, ap length c.as_slice-2.ensures.value))
+
+-- the numbers as they stand behind the ranking
+kept : (len : ℕ) (was now seen old : List ℕ) → seen ≡ take len (now ++ drop (length now) old) → length now ≡ length was → was ≡ old → len ≡ length old → seen ≡ now
+kept len was now seen old is count from all = is ∙ take_front len now (drop (length now) old) (omega (arith, count, ap length from, all))
+
+ranked_at : (shown : List Row) (rows : List Row) (was is rs seen : List ℕ) → IsRanked shown was rs → shown ≡ rows → was ≡ is → seen ≡ rs → IsRanked rows is seen
+ranked_at shown rows was is rs seen ranks a b d =
+    subst (λ (l : List ℕ). IsRanked rows is l) (sym d) (subst (λ (l : List ℕ). IsRanked rows l rs) b (subst (λ (l : List Row). IsRanked l was rs) a ranks))
+
+pub fill_texts-requires-clause-inside : goal.fill_texts-requires-clause-inside
+fill_texts-requires-clause-inside c =
+    let old : List ℕ = c.gathered.inside.numbers.items in
+    let seen : c.as_slice-4.result.now ≡ c.rank_numbers.new.numbers =
+    kept c.gathered.inside.numbers.len c.as_mut_slice.result.now c.rank_numbers.new.numbers c.as_slice-4.result.now old c.as_slice-4.ensures.value c.rank_numbers.auto.numbers c.as_mut_slice.ensures.value c.gathered.inside.numbers.ok.0 in
+    let ranks = ranked_at c.as_slice-2.result.now c.in_ok-rows.rows.items c.as_mut_slice.result.now old c.rank_numbers.new.numbers c.as_slice-4.result.now
+    c.in_ok-rank_numbers.ensures c.as_slice-2.ensures.value c.as_mut_slice.ensures.value seen in
+    subst (λ (l : List Row). All (λ i. i < length l) c.as_slice-4.result.now) (sym c.as_slice-3.ensures.value) ranks.inside
+
+distinct_bytes : (keys : List (Vec ℕ Global)) → IsDistinct (λ (a : Vec ℕ Global) b. bytes_eq a.items b.items) keys → IsDistinct bytes_eq (bytes_of keys)
+unfolding IsDistinct
+distinct_bytes [] d = tt
+distinct_bytes (k ∷ keys) d = (each keys d.0, distinct_bytes keys d.1)
+  where
+    each : (ls : List (Vec ℕ Global)) → AllByRecursion (λ (y : Vec ℕ Global). bytes_eq k.items y.items ≡ false) ls → AllByRecursion (λ y. bytes_eq k.items y ≡ false) (bytes_of ls)
+    each [] h = tt
+    each (y ∷ ls) h = (h.0, each ls h.1)
+
+pub returns-clause-texts : goal.returns-clause-texts
+returns-clause-texts c = λ p h.
+    let g = c.gathered.inside in
+    let keys : List (Vec ℕ Global) = g.keys.keys in
+    let ks : List (List ℕ) = bytes_of keys in
+    let old : List ℕ = g.numbers.items in
+    let vs : List Value = ones_then g.ones g.rest.items in
+    let rows : List Row = c.in_ok-rows.rows.items in
+    let rs : List ℕ = c.as_slice-4.result.now in
+    let task = c.args.job.now in
+    let shown = c.as_slice.ensures.keys in
+    let seen : rs ≡ c.rank_numbers.new.numbers =
+    kept g.numbers.len c.as_mut_slice.result.now c.rank_numbers.new.numbers rs old c.as_slice-4.ensures.value c.rank_numbers.auto.numbers c.as_mut_slice.ensures.value g.numbers.ok.0 in
+    let ranks = ranked_at c.as_slice-2.result.now rows c.as_mut_slice.result.now old c.rank_numbers.new.numbers rs
+    c.in_ok-rank_numbers.ensures c.as_slice-2.ensures.value c.as_mut_slice.ensures.value seen in
+    let count : length ks ≡ length keys = same_length (λ (k : Vec ℕ Global). k.items) keys in
+    let are : AreRows c.args.parts ks rows = record {
+      keys = subst (λ (l : List (Vec ℕ Global)). IsPermutation (bytes_of l) (map row_key rows)) shown c.in_ok-rows.ensures.keys;
+      rows_of = subst (λ (l : List (Vec ℕ Global)). All (IsRowOf (bytes_of l) c.args.parts) rows) shown c.in_ok-rows.ensures.rows;
+      sorted = c.in_ok-rows.ensures.sorted;
+      distinct = distinct_bytes keys c.as_slice.ensures.unique;
+    } in
+    c.in_ok-fill_texts.ensures.ok p (omega (arith, h, c.in_ok-texts.ensures.count))
+    ∙ ap (λ (l : List ℕ). l ++ row_texts (bucket_text task (zip rs vs)) p 0 c.as_slice-3.result.now) (c.in_ok-texts.ensures.empty p)
+    ∙ ap (λ (l : List Row). row_texts (bucket_text task (zip rs vs)) p 0 l) c.as_slice-3.ensures.value
+    ∙ texts-rows task c.args.parts p ks rows old rs vs are ranks (same old g.ones g.rest.items c.gathered.invariant.same)
+      (λ k d less. omega (arith, c.gathered.invariant.inside k d less, count))
+      (λ i less. c.gathered.invariant.used i (omega (arith, less, count)))
+    ∙ ap (λ (es : List Emission). texts_in (λ k. partition_of k c.args.parts) (text_of task) es p) c.gathered.view_is

@@ -1,0 +1,10 @@
+use Rattle.std.proofs.Common.{◌≡◌, ◌++◌, length}
+use Rattle.mr_jobs.specs.Emissions.{emissions}
+use Rattle.mr_sequential.proofs.source.gather_record.Given as goal
+
+abbrev pub invariant-loop-key : goal.invariant-loop-key
+invariant-loop-key l =
+    l.gathered ++ l.emitter ≡ l.fn.gathered ++ emissions l.fn.job l.fn.record.file l.fn.record.start l.fn.record.bytes.now
+
+abbrev pub decreases-loop-key : goal.decreases-loop-key
+decreases-loop-key l = length l.emitter

@@ -1,0 +1,30 @@
+-- All that a job emits over an input, each pair with its name (OSDI 2004, section 2).
+use Rattle.std.specs.Prelude.{ℕ, ◌+◌, if◌then◌else◌, List, [], ◌∷◌}
+use Rattle.std.specs.List.{flat_map}
+use Rattle.mr_bytes.specs.declared.Name.{Name}
+use Rattle.mr_bytes.specs.declared.RecordName.{RecordName}
+use Rattle.mr_bytes.specs.declared.Value.{Value}
+use Rattle.mr_jobs.specs.Task.{Task, Order}
+use Rattle.mr_jobs.specs.Emissions.{Emission, emissions}
+use Rattle.mr_splits.specs.Named.{NamedRecord, is_left_out, named_records}
+
+-- an emitted pair with its name
+pub record Triple : Type 0 where
+  pub key : List ℕ
+  pub value : Value
+  pub name : Name
+
+-- the emissions of a record with their places, from `place` on
+unfoldable pub placed_from : RecordName → ℕ → List Emission → List Triple
+placed_from name place [] = []
+placed_from name place (e ∷ es) =
+    record { key = e.0; value = e.1; name = record { split = name.split; rec = name.rec; place = place } } ∷ placed_from name (place + 1) es
+
+-- what a record gives, unless it is left out
+abbrev pub record_triples : Task → List RecordName → NamedRecord → List Triple
+record_triples task skips r =
+    if is_left_out skips r.name then [] else placed_from r.name 0 (emissions task r.file r.start r.bytes)
+
+-- all triples, in the order of their names; a record that is left out gives nothing, and the others keep their names
+abbrev pub emitted : Order → List (List ℕ) → List RecordName → List Triple
+emitted order files skips = flat_map (record_triples order.task skips) (named_records order.split files)

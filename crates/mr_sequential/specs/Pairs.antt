@@ -1,0 +1,47 @@
+-- Pairs without their names, and how they are gathered: distinct keys, and for each pair its key's number and its value.
+use Rattle.std.specs.Prelude.{ℕ, ◌==◌, if◌then◌else◌, List, [], map, filter, replicate, slice_index_or, ◌++◌, Vec}
+use Rattle.std.specs.Global.{Global}
+use Rattle.std.specs.List.{flat_map, zip}
+use Rattle.std.specs.Str.{bytes_eq}
+use Rattle.mr_bytes.specs.declared.Value.{Value}
+use Rattle.mr_bytes.specs.declared.Value.TheVariants.{One}
+use Rattle.mr_bytes.specs.declared.RecordName.{RecordName}
+use Rattle.mr_jobs.specs.Task.{Task}
+use Rattle.mr_jobs.specs.Emissions.{Emission, emissions}
+use Rattle.mr_splits.specs.Named.{NamedRecord, is_left_out}
+use Rattle.mr_sequential.specs.Sequential.{keys_of}
+
+-- keys as their bytes
+abbrev pub bytes_of : List (Vec ℕ Global) → List (List ℕ)
+bytes_of keys = map (λ k. k.items) keys
+
+-- a key by its number
+abbrev pub key_at : List (List ℕ) → ℕ → List ℕ
+key_at keys i = slice_index_or keys i []
+
+abbrev pub pair_at : List (List ℕ) → ℕ × Value → Emission
+pair_at keys e = (key_at keys e.0, e.1)
+
+-- the pairs that numbers of keys and values stand for
+abbrev pub paired : List (List ℕ) → List ℕ → List Value → List Emission
+paired keys numbers values = map (pair_at keys) (zip numbers values)
+
+-- values of which the first so many are One
+abbrev pub ones_then : ℕ → List Value → List Value
+ones_then ones rest = replicate ones One ++ rest
+
+-- of numbered items, those with the number, in their order
+abbrev pub bucket : {X : Type 0} → ℕ → List (ℕ × X) → List X
+bucket i es = map (λ e. e.1) (filter (λ e. e.0 == i) es)
+
+-- the values of a key, in their order
+abbrev pub values_in : List Emission → List ℕ → List Value
+values_in es k = map (λ e. e.1) (filter (λ e. bytes_eq e.0 k) es)
+
+-- the texts of the groups of a partition, by rising key
+abbrev pub texts_in : (List ℕ → ℕ) → (List ℕ → List Value → List ℕ) → List Emission → ℕ → List ℕ
+texts_in part text es p = flat_map (λ k. text k (values_in es k)) (keys_of part (map (λ e. e.0) es) p)
+
+-- what a record gives, without names, unless it is left out
+abbrev pub kept_pairs : Task → List RecordName → NamedRecord → List Emission
+kept_pairs task skips r = if is_left_out skips r.name then [] else emissions task r.file r.start r.bytes

@@ -1,0 +1,34 @@
+-- The faults of a list of left-out records, in the order in which they are tested.
+use Rattle.std.specs.Prelude.{◌≡◌, ◌↔◌, ℕ, ◌≤◌, nat_lt, Bool, true, if◌then◌else◌, Option, None, Some, List, [], ◌∷◌, length, IsTrue}
+use Rattle.std.specs.List.{AllByRecursion}
+use Rattle.std.specs.Ordering.{is_lt}
+use Rattle.mr_bytes.specs.declared.RecordName.{RecordName}
+use Rattle.mr_bytes.specs.Lists.{Rises}
+use Rattle.mr_bytes.specs.Order.{record_order}
+use Rattle.mr_jobs.specs.Task.{Order}
+use Rattle.mr_splits.specs.Named.{NamedRecord, named_records}
+use Rattle.mr_splits.specs.Cut.{is_record}
+use Rattle.mr_sequential.specs.declared.fault.RunFault.{RunFault}
+use Rattle.mr_sequential.specs.declared.fault.RunFault.TheVariants.{NoSuchRecord, SkipOrder, TooManySkips}
+
+-- the name is past the one before it
+abbrev pub is_past : Option RecordName → RecordName → Bool
+is_past None name = true
+is_past (Some before) name = is_lt (record_order before name)
+
+-- each name in turn: its order before its existence
+abbrev pub list_fault : List NamedRecord → Option RecordName → List RecordName → Option RunFault
+list_fault rs before [] = None
+list_fault rs before (name ∷ names) =
+    if is_past before name then (if is_record rs name then list_fault rs (Some name) names else Some NoSuchRecord) else Some SkipOrder
+
+-- how many there are is tested first
+abbrev pub skip_fault : Order → List (List ℕ) → List RecordName → Option RunFault
+skip_fault order files skips =
+    if nat_lt order.skips (length skips) then Some TooManySkips else list_fault (named_records order.split files) None skips
+
+-- there is no fault just where the list is no longer than allowed, rises strictly, and names records that exist
+abbrev pub GoodSkips : Type 0
+GoodSkips = (order : Order) (files : List (List ℕ)) (skips : List RecordName)
+    → (skip_fault order files skips ≡ None)
+    ↔ ((length skips ≤ order.skips) × Rises record_order skips × AllByRecursion (λ name. IsTrue (is_record (named_records order.split files) name)) skips)

@@ -1,0 +1,10 @@
+use Rattle.std.proofs.Common.{arith, ap, sym, ◌∙◌, ◌≡◌, List, Bool, ℕ, length}
+use Rattle.std.proofs.lemmas.Bool.{eqb-true}
+use Rattle.mr_splits.specs.Cut.{records_of}
+use Rattle.mr_splits.proofs.NameLemmas.{flags-none, flags-kept}
+use Rattle.mr_splits.proofs.plan.Plan.left_out.Goals as goal
+
+pub returns-then-is_empty : goal.returns-then-is_empty
+returns-then-is_empty c =
+    flags-none c.args.skips.now (records_of c.args.self.now) c.new.result.items c.count-count.result c.count-count.ensures
+    (eqb-true (length c.args.skips.now) 0 (sym c.is_empty.ensures ∙ c.if-is_empty.true)) c.new.ensures.items

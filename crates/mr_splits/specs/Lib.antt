@@ -1,0 +1,5 @@
+pub mod Named
+pub mod Laws
+pub mod Cut
+pub mod Places
+pub mod Table

@@ -1,0 +1,24 @@
+//! The splits of an input and their records (OSDI 2004, section 3.1).
+#![tactic(auto)]
+
+mod left_out;
+mod plan;
+mod scan;
+mod table;
+
+pub use left_out::LeftOut;
+pub use plan::{Located, MAX_SPLIT, MAX_SPLITS, Plan, PlanFault, SplitPlace};
+
+#[cfg(test)]
+mod tests;
+
+ghost use Rattle.mr_splits.specs.Laws.{NamedAreRecords, NamesOfRecordsRise, NumbersCount, SplitsJoin};
+
+/// The records of the splits, joined, are the records of the files, each in the split that has its start; they are
+/// numbered from 0 in each split, and their names rise.
+pub fn splits_law()
+    ensures joined { SplitsJoin }
+    ensures records { NamedAreRecords }
+    ensures numbers { NumbersCount }
+    ensures rise { NamesOfRecordsRise }
+{}

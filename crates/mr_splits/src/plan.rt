@@ -1,0 +1,202 @@
+//! The plan of an input: its splits with their records.
+ghost use Rattle.std.specs.Prelude.{◌≡◌, ◌↔◌, ℕ, ◌+◌, ◌^◌, ◌≤◌, ◌<◌, ◌⊎◌, length, IfOk, IsTrue};
+ghost use Rattle.std.specs.Option.{option_copied, option_map};
+ghost use Rattle.mr_bytes.specs.declared.RecordName.{RecordName};
+ghost use Rattle.mr_input.specs.Files.{split_total};
+ghost use Rattle.mr_splits.specs.Named.{of_split};
+ghost use Rattle.mr_splits.specs.Laws.{joined};
+ghost use Rattle.mr_splits.specs.Cut.{records_of, nth, record_named, is_record};
+ghost use Rattle.mr_splits.specs.Places.{IsSplit};
+
+use crate::table::{Table, count_splits, cut_files};
+use mr_bytes::RecordName;
+use mr_input::Input;
+use std::alloc::Global;
+use std::marker::Model;
+use thiserror::Error;
+
+/// The most bytes of a split: 64 MiB.
+pub const MAX_SPLIT: u32 = 0x400_0000;
+/// The most splits of an input.
+pub const MAX_SPLITS: u64 = 0x10_0000;
+
+/// Where a split lies: its file, its first place there in bytes, and the place after its last.
+#[derive(Clone, Copy, PartialEq, Eq, Debug)]
+pub struct SplitPlace {
+    pub file: u32,
+    pub start: u32,
+    pub end: u32,
+}
+
+/// A record: the number of its file, its start there in bytes, and its bytes without the line feed.
+#[derive(Clone, Copy)]
+pub struct Located<'a> {
+    pub file: u32,
+    pub start: u32,
+    pub bytes: &'a [u8],
+}
+
+/// Why an input has no plan.
+#[derive(Clone, Copy, Debug, PartialEq, Eq, Drop, Error)]
+pub enum PlanFault {
+    /// The split size is 0, or more than 67,108,864 bytes.
+    #[error("BadSplitSize")]
+    BadSplitSize,
+    /// There are more than 1,048,576 splits.
+    #[error("TooManySplits")]
+    TooManySplits,
+    /// The machine refused memory.
+    #[error("OutOfMemory")]
+    OutOfMemory,
+}
+
+/// An input cut into splits, each with its records. A record belongs to the split that has its start, even where it
+/// ends in a later one.
+#[derive(Drop)]
+pub struct Plan<'a> {
+    input: &'a Input,
+    size: u32,
+    table: Table,
+}
+
+impl<'a> Model for Plan<'a> {
+    ghost use Rattle.std.specs.Prelude.{◌≡◌, ◌<◌, ◌≤◌, ◌^◌, length};
+    ghost use Rattle.mr_input.specs.Files.{split_total};
+    ghost use Rattle.mr_splits.specs.Named.{named_records};
+    ghost use Rattle.mr_splits.specs.Cut.{Cut};
+
+    ghost Value = { Cut };
+
+    ghost use Rattle.mr_splits.specs.Table.{Stands, listed};
+
+    ghost view = { λ p. record { size = p.size; files = p.input.now } };
+
+    ghost invariant = { λ p. record {
+        some : 0 < p.size;
+        size : p.size ≤ 2 ^ 26;
+        few : split_total p.size p.input.now ≤ 2 ^ 20;
+        rows : length p.table.rows.items ≡ split_total p.size p.input.now;
+        stands : Stands p.size p.input.now p.table.spans.items p.table.rows.items;
+        all : listed p.input.now p.table.spans.items 0 p.table.rows.items ≡ named_records p.size p.input.now;
+    } };
+}
+
+impl<'a> Plan<'a> {
+    /// Cuts an input into splits of `size` bytes. A bad size is told first, then too many splits.
+    pub fn of(alloc: Global, input: &'a Input, size: u32) -> Result<Plan<'a>, PlanFault>
+        ensures ok { IfOk result (λ r. r ≡ record { size = size; files = input.entry.now }) }
+        ensures bad_size { (result ≡ Err PlanFault.BadSplitSize) ↔ ((size ≡ 0) ⊎ (67108864 < size)) }
+        ensures too_many { (result ≡ Err PlanFault.TooManySplits)
+            ↔ ((0 < size) × (size ≤ 67108864) × (1048576 < split_total size input.entry.now)) }
+    {
+        if size == 0 || MAX_SPLIT < size {
+            return Err(PlanFault::BadSplitSize);
+        }
+        if MAX_SPLITS < count_splits(input, size) {
+            return Err(PlanFault::TooManySplits);
+        }
+        match cut_files(alloc, input, size) {
+            Ok(table) => Ok(Plan { input, size, table }),
+            Err(_) => Err(PlanFault::OutOfMemory),
+        }
+    }
+
+    /// The files.
+    pub fn input(&self) -> &'a Input
+        ensures { result.now ≡ self.now.files }
+    {
+        self.input
+    }
+
+    /// How many bytes each split has at most.
+    pub fn size(&self) -> u32
+        ensures same { result ≡ self.now.size }
+        ensures within { (1 ≤ result) × (result ≤ 2 ^ 26) }
+    {
+        self.size
+    }
+
+    /// How many splits there are.
+    pub fn splits(&self) -> u32
+        ensures count { result ≡ split_total self.now.size self.now.files }
+        ensures few { result ≤ 2 ^ 20 }
+    {
+        self.table.rows.len() as u32
+    }
+
+    /// Where split `s` lies, from 0.
+    pub fn split(&self, s: u32) -> SplitPlace
+        requires { s < split_total self.now.size self.now.files }
+        ensures { IsSplit self.now.size self.now.files s result }
+    {
+        self.table.rows[s as usize].place
+    }
+
+    /// How many records split `s` has.
+    pub fn records_in(&self, s: u32) -> u32
+        requires { s < split_total self.now.size self.now.files }
+        ensures { result ≡ length (of_split s (records_of self.now)) }
+    {
+        self.table.rows[s as usize].count
+    }
+
+    /// How many records the whole input has.
+    pub fn count(&self) -> usize
+        ensures { result ≡ length (records_of self.now) }
+    {
+        self.table.spans.len()
+    }
+
+    /// Record `r` of split `s`, both from 0.
+    pub fn located(&self, s: u32, r: u32) -> Located<'a>
+        requires split { s < split_total self.now.size self.now.files }
+        requires record { r < length (of_split s (records_of self.now)) }
+        ensures record { nth (of_split s (records_of self.now)) r
+            ≡ record { name = record { split = s; rec = r }; file = result.file; start = result.start; bytes = result.bytes.now } }
+        ensures named { record_named (records_of self.now) (record { split = s; rec = r }) ≡ Some (nth (of_split s (records_of self.now)) r) }
+        ensures file { result.file < length self.now.files }
+        ensures small { length result.bytes.now ≤ 2 ^ 30 }
+    {
+        let row = self.table.rows[s as usize];
+        let span = self.table.spans[row.first + r as usize];
+        let bytes = self.input.file(row.place.file as usize);
+        Located {
+            file: row.place.file,
+            start: span.start,
+            bytes: &bytes[span.start as usize..span.end as usize],
+        }
+    }
+
+    /// The number in the whole input of record `r` of split `s`: all records are numbered from 0, in their order.
+    pub fn number_of(&self, s: u32, r: u32) -> usize
+        requires split { s < split_total self.now.size self.now.files }
+        requires record { r < length (of_split s (records_of self.now)) }
+        ensures number { result ≡ length (joined 0 s (records_of self.now)) + r }
+        ensures at { nth (records_of self.now) result ≡ nth (of_split s (records_of self.now)) r }
+        ensures within { result < length (records_of self.now) }
+        ensures name { (nth (records_of self.now) result).name ≡ record { split = s; rec = r } }
+        ensures only { (i : ℕ) → i < length (records_of self.now) → (nth (records_of self.now) i).name ≡ record { split = s; rec = r } → i ≡ result }
+    {
+        self.table.rows[s as usize].first + r as usize
+    }
+
+    /// Whether there is a record of that name.
+    pub fn has_record(&self, name: RecordName) -> bool
+        ensures same { result ≡ is_record (records_of self.now) name }
+        ensures split { IsTrue result → name.split < split_total self.now.size self.now.files }
+        ensures place { IsTrue result ↔ (name.rec < length (of_split name.split (records_of self.now))) }
+    {
+        (name.split as usize) < self.table.rows.len() && name.rec < self.records_in(name.split)
+    }
+
+    /// The bytes of record `r` of split `s`, or none where there is no such record.
+    pub fn record_of(&self, s: u32, r: u32) -> Option<&'a [u8]>
+        ensures { option_copied result
+            ≡ option_map (λ x. x.bytes) (record_named (records_of self.now) (record { split = s; rec = r })) }
+    {
+        if !self.has_record(RecordName { split: s, rec: r }) {
+            return None;
+        }
+        Some(self.located(s, r).bytes)
+    }
+}
