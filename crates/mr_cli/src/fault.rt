@@ -1,0 +1,94 @@
+//! Why the program ends with another status than 0, and what it says then.
+use mr_input::InputFault;
+use mr_jobs::{JobFault, RequestFault};
+use mr_sequential::RunFault;
+use std::alloc::AllocError;
+use std::fmt;
+
+/// Why the program ends with another status than 0.
+#[derive(Drop)]
+pub enum Fault {
+    /// The words of the command line, also where they ask for help.
+    Line(clap::Error),
+    /// An option of another job.
+    OtherJobsOption,
+    Job(JobFault),
+    Request(RequestFault),
+    BadSkipList,
+    Input(InputFault),
+    TooManySplits,
+    Run(RunFault),
+    CannotRead(String),
+    CannotWrite(String),
+    OutOfMemory,
+}
+
+impl From<AllocError> for Fault {
+    fn from(_error: AllocError) -> Fault {
+        Fault::OutOfMemory
+    }
+}
+
+impl From<JobFault> for Fault {
+    fn from(fault: JobFault) -> Fault {
+        match fault {
+            JobFault::OutOfMemory => Fault::OutOfMemory,
+            other => Fault::Job(other),
+        }
+    }
+}
+
+impl From<RunFault> for Fault {
+    fn from(fault: RunFault) -> Fault {
+        match fault {
+            RunFault::OutOfMemory => Fault::OutOfMemory,
+            other => Fault::Run(other),
+        }
+    }
+}
+
+impl Fault {
+    /// The exit status: 2 for usage or a limit, 3 for a file, 4 for want of memory; 0 where help was asked for.
+    pub fn status(&self) -> u8 {
+        match self {
+            Fault::Line(error) => {
+                if error.use_stderr() {
+                    2
+                } else {
+                    0
+                }
+            }
+            Fault::CannotRead(_) | Fault::CannotWrite(_) => 3,
+            Fault::OutOfMemory => 4,
+            _ => 2,
+        }
+    }
+
+    /// Whether the text is an answer that was asked for, and belongs on standard output.
+    pub fn is_answer(&self) -> bool {
+        match self {
+            Fault::Line(error) => !error.use_stderr(),
+            _ => false,
+        }
+    }
+}
+
+impl fmt::Display for Fault {
+    fn fmt<W: fmt::Write>(&self, f: &mut fmt::Formatter<W>) -> fmt::Result {
+        match self {
+            Fault::Line(error) => write!(f, "{error}"),
+            Fault::OtherJobsOption => {
+                write!(f, "mapred: option does not belong to this job\n")
+            }
+            Fault::Job(fault) => write!(f, "mapred: {fault}\n"),
+            Fault::Request(fault) => write!(f, "mapred: {fault}\n"),
+            Fault::BadSkipList => write!(f, "mapred: bad skip list\n"),
+            Fault::Input(fault) => write!(f, "mapred: {fault}\n"),
+            Fault::TooManySplits => write!(f, "mapred: TooManySplits\n"),
+            Fault::Run(fault) => write!(f, "mapred: {fault}\n"),
+            Fault::CannotRead(name) => write!(f, "mapred: cannot read {name}\n"),
+            Fault::CannotWrite(name) => write!(f, "mapred: cannot write {name}\n"),
+            Fault::OutOfMemory => write!(f, "mapred: out of memory\n"),
+        }
+    }
+}

@@ -1,0 +1,282 @@
+#!/usr/bin/env python3
+"""Checks the built program from outside: end_to_end.py PROGRAM
+
+Each check runs the program in a directory of its own and compares files, streams and status with what the rules of
+docs/FORMATS.md give, worked out here by plain Python or by GNU tools, never by the program itself. The last line is
+'N passed, M failed'."""
+import os
+import random
+import re
+import shutil
+import subprocess
+import sys
+import tempfile
+
+PROGRAM = os.path.abspath(sys.argv[1])
+TOP = os.path.dirname(os.path.dirname(os.path.abspath(__file__)))
+ROOM = tempfile.mkdtemp(prefix="mapred-tests-")
+results = []
+
+
+def check(name, good, note=""):
+    results.append(good)
+    if not good:
+        print(f"failed: {name} {note}"[:2000], flush=True)
+
+
+def run(words, files=None, cwd=None):
+    """(status, standard output, standard error, the directory) of one run in a fresh directory."""
+    where = cwd or tempfile.mkdtemp(dir=ROOM)
+    for name, data in (files or {}).items():
+        with open(os.path.join(where, name), "wb") as file:
+            file.write(data)
+    ran = subprocess.run([PROGRAM, *words], cwd=where, capture_output=True)
+    return ran.returncode, ran.stdout, ran.stderr, where
+
+
+def parts_of(where):
+    names = sorted(n for n in os.listdir(where) if n.startswith("part-"))
+    return [open(os.path.join(where, n), "rb").read() for n in names]
+
+
+def fnv(key):
+    h = 0xCBF29CE484222325
+    for byte in key:
+        h = ((h ^ byte) * 0x100000001B3) % 2**64
+    return h
+
+
+def records(data):
+    """(start, bytes) of each record."""
+    at, out = 0, []
+    while at < len(data):
+        end = data.find(b"\n", at)
+        end = len(data) if end < 0 else end
+        out.append((at, data[at:end]))
+        at = end + 1
+    return out
+
+
+WORD = re.compile(rb"[0-9A-Za-z\x80-\xff]+")
+FOLD = bytes(b + 32 if 0x41 <= b <= 0x5A else b for b in range(256))
+
+
+def url_key(line):
+    quote = line.find(b'"')
+    if quote < 0:
+        return None
+    at, end = quote + 1, None
+    while at < len(line):
+        if line[at : at + 1] == b"\\":
+            at += 2
+            continue
+        if line[at : at + 1] == b'"':
+            end = at
+            break
+        at += 1
+    if end is None:
+        return None
+    request = line[quote + 1 : end]
+    space = request.find(b" ")
+    if space < 0:
+        return None
+    key = request[space + 1 :].split(b" ")[0]
+    return key or None
+
+
+def plain(job, files, parts, split=67108864, keep=False, literal=b"", fold=False, skips=()):
+    """The outputs and the number of pairs, by the rules."""
+    groups, pairs, first = {}, 0, 0
+    for number, data in enumerate(files):
+        seen = {}
+        for start, line in records(data):
+            s = first + start // split
+            r = seen.get(s, 0)
+            seen[s] = r + 1
+            if (s, r) in skips:
+                continue
+            if job == "words":
+                emitted = [(w if keep else w.translate(FOLD), None) for w in WORD.findall(line)]
+            elif job == "grep":
+                hay, needle = (line.translate(FOLD), literal.translate(FOLD)) if fold else (line, literal)
+                emitted = [(line, (number, start))] if needle in hay else []
+            else:
+                key = url_key(line)
+                emitted = [(key, None)] if key is not None else []
+            for key, value in emitted:
+                groups.setdefault(key, []).append(value)
+                pairs += 1
+        first += (len(data) + split - 1) // split
+    outputs = [b""] * parts
+    for key in sorted(groups):
+        p = fnv(key) % parts
+        if job == "grep":
+            outputs[p] += b"".join(key + b"\t%d:%d\n" % value for value in groups[key])
+        else:
+            outputs[p] += key + b"\t%d\n" % len(groups[key])
+    return outputs, pairs
+
+
+def row(name, words, files, status=0, out=b"", err=b"", parts=None):
+    got = run([*words, "--out", ".", *files], files)
+    check(name, got[:3] == (status, out, err), f"status {got[0]} out {got[1]!r} err {got[2]!r}")
+    if parts is not None:
+        check(name + ", files", parts_of(got[3]) == parts, repr(parts_of(got[3])))
+
+
+def worked_rows():
+    words = ["seq", "--job", "words"]
+    row("two partitions", [*words, "--parts", "2"], {"a": b"the cat the dog\n"}, out=b"done: 2 files, 4 pairs, 0 left out\n", parts=[b"the\t2\n", b"cat\t1\ndog\t1\n"])
+    row("an empty file", [*words, "--parts", "2"], {"a": b""}, out=b"done: 2 files, 0 pairs, 0 left out\n", parts=[b"", b""])
+    row("a long word", words, {"a": b"a" * 65}, out=b"done: 1 files, 1 pairs, 0 left out\n", parts=[b"a" * 65 + b"\t1\n"])
+    row("a word of 64 bytes", words, {"a": b"a" * 64 + b"\n"}, out=b"done: 1 files, 1 pairs, 0 left out\n", parts=[b"a" * 64 + b"\t1\n"])
+    row("high bytes", words, {"a": bytes.fromhex("41 62 20 C3 84 42 0A")}, out=b"done: 1 files, 2 pairs, 0 left out\n", parts=[b"ab\t1\n" + bytes.fromhex("C3 84 62") + b"\t1\n"])
+    row("cases kept", [*words, "--keep-case"], {"a": b"A a A\n"}, out=b"done: 1 files, 3 pairs, 0 left out\n", parts=[b"A\t2\na\t1\n"])
+    grep = ["seq", "--job", "grep", "--literal"]
+    row("grep", [*grep, "b"], {"a": b"abc\nxbz\n"}, out=b"done: 1 files, 2 pairs, 0 left out\n", parts=[b"abc\t0:0\nxbz\t0:4\n"])
+    row("grep keeps a carriage return", [*grep, "a"], {"a": b"a\r\n"}, out=b"done: 1 files, 1 pairs, 0 left out\n", parts=[b"a\r\t0:0\n"])
+    row("grep folded", [*grep, "AB", "--fold"], {"a": b"xab\nb\naB\n"}, out=b"done: 1 files, 2 pairs, 0 left out\n", parts=[b"aB\t0:6\nxab\t0:0\n"])
+    row("grep in three files", [*grep, "x"], {"a": b"x", "b": b"", "c": b"x\n"}, out=b"done: 1 files, 2 pairs, 0 left out\n", parts=[b"x\t0:0\nx\t2:0\n"])
+    row("a literal with a hyphen", [*grep, "-x"], {"a": b"a-x\n"}, out=b"done: 1 files, 1 pairs, 0 left out\n", parts=[b"a-x\t0:0\n"])
+    url = ["seq", "--job", "url"]
+    log = b'1.2.3.4 - - [10/Oct/2000:13:55:36 -0700] "GET /a HTTP/1.0" 200 2326'
+    row("a log line", [*url, "--parts", "2"], {"a": log}, out=b"done: 2 files, 1 pairs, 0 left out\n", parts=[b"", b"/a\t1\n"])
+    row("no resource", url, {"a": b'h "-" 1\nh "GET  /a" 1\nh "GET /a 1\n'}, out=b"done: 1 files, 0 pairs, 0 left out\n", parts=[b""])
+    row("an escaped quote", url, {"a": b'h - - [t] "GET /a\\"b HTTP/1.0" 200 1\n'}, out=b"done: 1 files, 1 pairs, 0 left out\n", parts=[b'/a\\"b\t1\n'])
+    two = {"a": b"a b\nc\n"}
+    row("one record left out", [*words, "--skips", "0:0", "--max-skips", "1"], two, out=b"done: 1 files, 1 pairs, 1 left out\n", parts=[b"c\t1\n"])
+    for name, skips, most, said in [
+        ("the same record twice", "0:0,0:0", "2", b"SkipOrder"),
+        ("no such record", "0:2", "1", b"NoSuchRecord"),
+        ("too many left out", "0:0,0:1", "1", b"TooManySkips"),
+        ("a list that ends in a comma", "0:0,", "1", b"bad skip list"),
+        ("a limit above 1000", "", "1001", b"BadSkips"),
+    ]:
+        row(name, [*words, "--skips", skips, "--max-skips", most], two, status=2, err=b"mapred: " + said + b"\n", parts=[])
+    row("two splits", [*words, "--split", "4", "--skips", "1:0", "--max-skips", "1"], {"a": b"ab cd\ne\n"}, out=b"done: 1 files, 2 pairs, 1 left out\n", parts=[b"ab\t1\ncd\t1\n"])
+
+
+def faults():
+    words = ["seq", "--job", "words"]
+    one = {"a": b"a\n"}
+    row("no partitions", [*words, "--parts", "0"], one, status=2, err=b"mapred: BadParts\n", parts=[])
+    row("too many partitions", [*words, "--parts", "1025"], one, status=2, err=b"mapred: BadParts\n", parts=[])
+    row("a split of no bytes", [*words, "--split", "0"], one, status=2, err=b"mapred: BadSplitSize\n", parts=[])
+    row("a split too large", [*words, "--split", "67108865"], one, status=2, err=b"mapred: BadSplitSize\n", parts=[])
+    row("too many splits", [*words, "--split", "1"], {"a": b"a" * 1048577}, status=2, err=b"mapred: TooManySplits\n", parts=[])
+    row("as many splits as may be", [*words, "--split", "1"], {"a": b"a" * 1048576}, out=b"done: 1 files, 1 pairs, 0 left out\n")
+    other = b"mapred: option does not belong to this job\n"
+    row("keep-case with grep", ["seq", "--job", "grep", "--literal", "a", "--keep-case"], one, status=2, err=other, parts=[])
+    row("keep-case with url", ["seq", "--job", "url", "--keep-case"], one, status=2, err=other, parts=[])
+    row("fold with words", [*words, "--fold"], one, status=2, err=other, parts=[])
+    row("literal with words", [*words, "--literal", "a"], one, status=2, err=other, parts=[])
+    row("grep without a literal", ["seq", "--job", "grep"], one, status=2, err=b"mapred: EmptyLiteral\n", parts=[])
+    row("a long literal", ["seq", "--job", "grep", "--literal", "a" * 4097], one, status=2, err=b"mapred: LongLiteral\n", parts=[])
+    row("a literal of the longest", ["seq", "--job", "grep", "--literal", "a" * 4096], one, out=b"done: 1 files, 0 pairs, 0 left out\n", parts=[b""])
+    row("a line feed in a literal", ["seq", "--job", "grep", "--literal", "a\nb"], one, status=2, err=b"mapred: LineEndInLiteral\n", parts=[])
+    got = run([*words, "--out", ".", "none"])
+    check("a missing file", got[:3] == (3, b"", b"mapred: cannot read none\n") and parts_of(got[3]) == [], repr(got))
+    got = run([*words, "--out", "none", "a"], one)
+    check("a missing directory", got[:3] == (3, b"", b"mapred: cannot write none/part-00000\n"), repr(got))
+    got = run([*words, "--out", ".", *["a"] * 1025], one)
+    check("too many files", got[:3] == (2, b"", b"mapred: TooManyFiles\n"), repr(got))
+    full = tempfile.mkdtemp(dir=ROOM)
+    os.symlink("/dev/full", os.path.join(full, "part-00000"))
+    got = run([*words, "--out", ".", "a"], one, cwd=full)
+    check("a full disk", got[:3] == (3, b"", b"mapred: cannot write ./part-00000\n"), repr(got))
+    for line in (["seq", "--job", "words", "--bad", "--out", "."], ["seq", "--job", "sort", "--out", "."], ["seq", "--out", "."], ["seq", "--job", "words"], ["sort"], [], ["seq", "--job", "words", "--parts", "x", "--out", "."], ["seq", "--job", "words", "--parts", "4294967296", "--out", "."]):
+        got = run(line)
+        check(f"a bad line {line}", got[0] == 2 and got[1] == b"" and got[2] != b"", repr(got))
+    for line in (["--help"], ["seq", "--help"], ["--version"]):
+        got = run(line)
+        check(f"an answer {line}", got[0] == 0 and got[1] != b"" and got[2] == b"", repr(got))
+
+
+def text_of(rnd, size):
+    words = ["the", "The", "of", "it's", "Zürich", "x1", "--", "naïve", "a" * 70, "THE", "\t", "42"]
+    words += ["".join(rnd.choice("abcdefghij") for _ in range(rnd.randint(1, 9))) for _ in range(3000)]
+    out, length = [], 0
+    while length < size:
+        line = " ".join(rnd.choice(words) for _ in range(rnd.randint(0, 14)))
+        line += rnd.choice(["\n", "\n", "\n", "\r\n", "\n\n"])
+        out.append(line)
+        length += len(line)
+    return "".join(out).encode()
+
+
+def log_of(rnd, lines):
+    out = []
+    for _ in range(lines):
+        path = "/" + rnd.choice(["a", "b", "index.html", "x?y=1", 'q\\"uote', "", "z" * 20])
+        shape = rnd.choice(['h - - [t] "GET %s HTTP/1.0" 200 1', 'h - - [t] "POST %s" 200 1', 'h "-" %s', "no quotes %s", 'open "GET %s', '"GET  %s"', '" %s"'])
+        out.append(shape % path)
+    return "\n".join(out).encode()
+
+
+def compared(name, job, files, parts, options=(), **rules):
+    names = {f"f{i}": data for i, data in enumerate(files)}
+    got = run(["seq", "--job", job, "--parts", str(parts), *options, "--out", ".", *names], names)
+    outputs, pairs = plain(job, files, parts, **rules)
+    left = len(rules.get("skips", ()))
+    check(name, got[:3] == (0, b"done: %d files, %d pairs, %d left out\n" % (parts, pairs, left), b""), repr(got[:3]))
+    check(name + ", files", parts_of(got[3]) == outputs)
+
+
+def against_python():
+    rnd = random.Random(7)
+    for turn in range(30):
+        files = [text_of(rnd, rnd.choice([0, 1, 50, 3000])) for _ in range(rnd.randint(0, 4))]
+        parts, split = rnd.choice([1, 2, 3, 7]), rnd.choice([1, 3, 16, 100, 67108864])
+        compared(f"words {turn}", "words", files, parts, ["--split", str(split)], split=split)
+        compared(f"words kept {turn}", "words", files, parts, ["--keep-case"], keep=True)
+        literal = rnd.choice(["the", "a", "THE", "ü", " ", "42"])
+        compared(f"grep {turn}", "grep", files, parts, ["--literal", literal], literal=literal.encode())
+        compared(f"grep folded {turn}", "grep", files, parts, ["--literal", literal, "--fold"], literal=literal.encode(), fold=True)
+        logs = [log_of(rnd, rnd.randint(0, 60)) for _ in range(rnd.randint(0, 3))]
+        compared(f"url {turn}", "url", logs, parts)
+        names, first = [], 0
+        for data in files:
+            seen = {}
+            for start, _ in records(data):
+                s = first + start // split
+                names.append((s, seen.get(s, 0)))
+                seen[s] = seen.get(s, 0) + 1
+            first += (len(data) + split - 1) // split
+        skips = sorted(rnd.sample(names, min(len(names), rnd.randint(0, 5))))
+        listed = ",".join(f"{s}:{r}" for s, r in skips)
+        compared(f"left out {turn}", "words", files, parts, ["--split", str(split), "--skips", listed, "--max-skips", "5"], split=split, skips=skips)
+
+
+def shell(line, where):
+    return subprocess.run(["bash", "-c", line], cwd=where, capture_output=True, env={**os.environ, "LC_ALL": "C"}).stdout
+
+
+def against_tools():
+    rnd = random.Random(11)
+    text = text_of(rnd, 4_000_000)
+    own = b"".join(open(os.path.join(at, n), "rb").read() for at, _, ns in sorted(os.walk(os.path.join(TOP, "crates"))) if "/out" not in at for n in sorted(ns) if n.endswith((".rt", ".antt")))
+    count = r"""tr -c '0-9A-Za-z\200-\377' '\n' < input | tr A-Z a-z | grep -v '^$' | sort | uniq -c | awk '{ print $2 "\t" $1 }'"""
+    for name, data in (("a generated text", text), ("this repository's own files", own)):
+        got = run(["seq", "--job", "words", "--out", ".", "input"], {"input": data})
+        check(f"{name} against tr, sort and uniq", got[0] == 0 and parts_of(got[3])[0] == shell(count, got[3]))
+    got = run(["seq", "--job", "grep", "--literal", "the", "--out", ".", "input"], {"input": text})
+    found = shell("grep -F -b -a the input", got[3]).split(b"\n")[:-1]
+    want = sorted((line.split(b":", 1)[1], int(line.split(b":", 1)[0])) for line in found)
+    check("grep against grep -F -b", parts_of(got[3])[0] == b"".join(line + b"\t0:%d\n" % at for line, at in want))
+    log = "\n".join(f'10.0.0.{rnd.randint(1, 250)} - - [t] "GET /{rnd.choice("abc")}{rnd.randint(1, 500)} HTTP/1.1" 200 {rnd.randint(1, 9999)}' for _ in range(50_000)).encode() + b"\n"
+    got = run(["seq", "--job", "url", "--out", ".", "input"], {"input": log})
+    check("url against awk", parts_of(got[3])[0] == shell("""awk '{ n[$6]++ } END { for (k in n) print k "\\t" n[k] }' input | sort""", got[3]))
+
+
+def main():
+    try:
+        for part in (worked_rows, faults, against_python, against_tools):
+            part()
+    finally:
+        shutil.rmtree(ROOM, ignore_errors=True)
+    good = sum(results)
+    print(f"{good} passed, {len(results) - good} failed")
+    return 0 if good == len(results) else 1
+
+
+sys.exit(main())
