@@ -1,5 +1,5 @@
 -- Texts from counted sizes and from values put together are the texts of buckets.
-use Rattle.std.proofs.Common.{◌≡◌, ℕ, zero, suc, ◌+◌, ◌<◌, ◌≤◌, ◌==◌, List, [], length, get_or, refl, sym, ◌∙◌, ap, arith, slice_range, count_by, IsTrue}
+use Rattle.std.proofs.Common.{◌≡◌, ℕ, zero, suc, ◌+◌, ◌<◌, ◌≤◌, ◌==◌, List, length, get_or, sym, ◌∙◌, ap, arith, slice_range, count_by, IsTrue}
 use Rattle.std.specs.List.{zip}
 use Rattle.mr_bytes.specs.declared.Value.{Value}
 use Rattle.mr_jobs.specs.Task.{Task, counts}

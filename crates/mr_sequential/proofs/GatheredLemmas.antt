@@ -1,16 +1,15 @@
 -- Pairs as numbers of keys and values: one more pair.
-use Rattle.std.proofs.Common.{◌≡◌, ℕ, ◌+◌, ◌<◌, ◌≤◌, Bool, true, false, cond, List, [], ◌∷◌, ◌++◌, length, get_or, refl, sym, ◌∙◌, ap, arith, zero, suc, inl, inr, Vec, Global, Option, Some, None, subst, not, ltb, map, All, replicate, append_assoc}
+use Rattle.std.proofs.Common.{◌≡◌, ℕ, ◌+◌, ◌<◌, ◌≤◌, Bool, cond, List, [], ◌∷◌, ◌++◌, length, refl, sym, ◌∙◌, ap, arith, zero, suc, inl, inr, Vec, Global, Some, None, subst, not, ltb, map, All, replicate, append_assoc}
 use Rattle.std.proofs.lemmas.Bool.{cases_Bool, ltb-true, cases_lt}
 use Rattle.std.proofs.lemmas.Slice.Eq.{bytes_eq-Decides}
-use Rattle.std.proofs.lemmas.List.{map-append, get_or_push, length-map}
+use Rattle.std.proofs.lemmas.List.{map-append, get_or_push}
 use Rattle.std.proofs.lemmas.List.Elements.{All-head, All-tail, All-push}
 use Rattle.std.specs.Str.{bytes_eq}
-use Rattle.std.specs.List.{position_or_len, position, zip}
+use Rattle.std.specs.List.{position_or_len, position}
 use Rattle.mr_bytes.specs.declared.Value.{Value}
 use Rattle.mr_bytes.specs.declared.Value.TheVariants.{One}
 use Rattle.mr_bytes.specs.Lists.{Has}
-use Rattle.mr_jobs.specs.Emissions.{Emission}
-use Rattle.mr_sequential.specs.Pairs.{bytes_of, key_at, pair_at, paired, ones_then}
+use Rattle.mr_sequential.specs.Pairs.{bytes_of, key_at, paired, ones_then}
 
 pub position_found : {X : Type 0} (p : X → Bool) (xs : List X) (at : ℕ) → Some at ≡ position p xs
     → (position_or_len p xs ≡ at) × (at < length xs)

@@ -3,8 +3,10 @@ pub mod FillLemmas
 pub mod GatheredLemmas
 pub mod KeyLaws
 pub mod ListLaws
+pub mod NameLaws
 pub mod OrderLemmas
 pub mod RankLemmas
 pub mod RowLemmas
+pub mod SkipLaws
 pub mod SourceLemmas
 pub mod TextLemmas

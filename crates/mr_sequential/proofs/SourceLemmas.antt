@@ -1,8 +1,8 @@
 -- Records one after another, and how many pairs they give.
-use Rattle.std.proofs.Common.{◌≡◌, ℕ, zero, suc, ◌+◌, ◌-◌, ◌/◌, ◌<◌, ◌≤◌, ◌^◌, cond, Bool, true, false, List, [], ◌∷◌, ◌++◌, length, drop, refl, sym, ◌∙◌, ap, arith, append_assoc, map, filter, subst, eqb}
+use Rattle.std.proofs.Common.{◌≡◌, ℕ, suc, ◌+◌, ◌-◌, ◌/◌, ◌<◌, ◌≤◌, ◌^◌, cond, true, false, List, [], ◌∷◌, ◌++◌, length, drop, refl, sym, ◌∙◌, ap, arith, append_assoc, map, filter, eqb}
 use Rattle.std.proofs.lemmas.List.{at_drop_more, map-append}
 use Rattle.std.proofs.lemmas.List.Sums.{sum_by-cons}
-use Rattle.std.specs.List.{flat_map, sum_by}
+use Rattle.std.specs.List.{flat_map}
 use Rattle.std.specs.Str.{bytes_eq}
 use Rattle.mr_bytes.specs.declared.RecordName.{RecordName}
 use Rattle.mr_bytes.specs.declared.Value.{Value}
@@ -17,7 +17,7 @@ use Rattle.mr_splits.specs.Laws.{joined}
 use Rattle.mr_splits.proofs.JoinedLemmas.{joined-suc, joined-zero}
 use Rattle.mr_sequential.specs.Emitted.{Triple, placed_from, record_triples, emitted}
 use Rattle.mr_sequential.specs.Pairs.{kept_pairs, values_in, texts_in}
-use Rattle.mr_sequential.specs.Sequential.{keys_of, texts_of, triples_with, values_of}
+use Rattle.mr_sequential.specs.Sequential.{keys_of, texts_of, values_of}
 use Rattle.mr_sequential.proofs.GatheredLemmas.{length-append}
 
 pub next_record : (f : NamedRecord → List Emission) (rs : List NamedRecord) (r : ℕ) → r < length rs
@@ -103,8 +103,14 @@ room-files size file first [] = omega arith
 room-files size file first (f ∷ fs) =
     let here = room-named size file first first 0 (records f) in
     let later = room-files size (file + 1) (first + split_count size f) fs in
-    omega (arith, room-append (named_from size file first first 0 (records f)) (named_files size (file + 1) (first + split_count size f) fs), here, later,
-      room-records 0 f, sum_by-cons (length {A = ℕ}) f fs)
+    omega (
+      arith,
+      room-append (named_from size file first first 0 (records f)) (named_files size (file + 1) (first + split_count size f) fs),
+      here,
+      later,
+      room-records 0 f,
+      sum_by-cons (length {A = ℕ}) f fs,
+    )
 
 kept-few : (task : Task) (skips : List RecordName) (r : NamedRecord) → length (kept_pairs task skips r) ≤ length r.bytes + 1
 kept-few task skips r =
@@ -169,7 +175,7 @@ triple-values : (k : List ℕ) (ts : List Triple) → values_in (map pair_of ts)
 triple-values k [] = refl
 triple-values k (t ∷ ts) =
     elim (bytes_eq t.key k) as (λ b. map (λ (e : Emission). e.1) (cond b (pair_of t ∷ filter (λ (e : Emission). bytes_eq e.0 k) (map pair_of ts)) (filter (λ (e : Emission). bytes_eq e.0 k) (map pair_of ts)))
-      ≡ map (λ (x : Triple). x.value) (cond b (t ∷ filter (λ (x : Triple). bytes_eq x.key k) ts) (filter (λ (x : Triple). bytes_eq x.key k) ts))) [
+    ≡ map (λ (x : Triple). x.value) (cond b (t ∷ filter (λ (x : Triple). bytes_eq x.key k) ts) (filter (λ (x : Triple). bytes_eq x.key k) ts))) [
       | true ↦ ap (λ l. t.value ∷ l) (triple-values k ts)
       | false ↦ triple-values k ts
     ]

@@ -1,11 +1,10 @@
 -- Texts that grow, one row after another.
-use Rattle.std.proofs.Common.{◌≡◌, ◌≢◌, ℕ, zero, suc, ◌+◌, ◌<◌, ◌≤◌, Bool, true, false, cond, eqb, List, [], ◌∷◌, ◌++◌, length, get_or, set, drop, refl, sym, ◌∙◌, ap, arith, map, Vec, Global, append_assoc, inl, inr, subst}
+use Rattle.std.proofs.Common.{◌≡◌, ◌≢◌, ℕ, suc, ◌+◌, ◌<◌, ◌≤◌, cond, eqb, List, [], ◌∷◌, ◌++◌, length, get_or, set, drop, refl, sym, ◌∙◌, ap, arith, Vec, Global, append_assoc, inl, inr, subst}
 use Rattle.std.proofs.lemmas.Bool.{cases_eq, eq-eqb, ne_eqb}
-use Rattle.std.proofs.lemmas.List.{at_drop_more, at_drop_all, map-set, get_or-map, get_or-set_same, get_or-set_other, length-map}
+use Rattle.std.proofs.lemmas.List.{at_drop_more, at_drop_all, map-set, get_or-map, get_or-set_same, get_or-set_other}
 use Rattle.mr_input.specs.Files.{contents, nth}
 use Rattle.mr_sequential.specs.declared.rows.Row.{Row}
 use Rattle.mr_sequential.specs.Rows.{row_texts}
-use Rattle.mr_sequential.proofs.GatheredLemmas.{same_length}
 use Rattle.mr_sequential.proofs.OrderLemmas.{no_row}
 
 -- one text of many gets more bytes

@@ -96,11 +96,7 @@ fn put_value(ones: &mut usize, rest: &mut Vec<Value>, value: Value)
 }
 
 /// The number of `key`, which is added where it is not there.
-fn number_of(
-    alloc: Global,
-    keys: &mut IndexSet<Vec<u8>>,
-    key: &[u8],
-) -> Result<usize, AllocError>
+fn number_of(alloc: Global, keys: &mut IndexSet<Vec<u8>>, key: &[u8]) -> Result<usize, AllocError>
     ensures found { IfOk result (λ at. (at < length keys.new.keys) × (key_at (bytes_of keys.new.keys) at ≡ key.now)) }
     ensures grows { (length keys.old.keys ≤ length keys.new.keys) × (length keys.new.keys ≤ length keys.old.keys + 1) }
     ensures only_it { IfOk result (λ at. (i : ℕ) → i < length keys.new.keys → length keys.old.keys ≤ i → i ≡ at) }

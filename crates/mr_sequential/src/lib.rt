@@ -1,7 +1,8 @@
 //! The sequential execution of a job.
 #![tactic(auto)]
 
-ghost use Rattle.mr_sequential.specs.Laws.{KeysAreUnique, KeysRise};
+ghost use Rattle.mr_sequential.specs.Laws.{KeysAreUnique, KeysRise, NamesRise};
+ghost use Rattle.mr_sequential.specs.Skips.{GoodSkips};
 
 mod distribute;
 mod fault;
@@ -10,6 +11,8 @@ mod outputs;
 mod rows;
 mod sequence;
 mod source;
+#[cfg(test)]
+mod tests;
 mod texts;
 
 pub use fault::RunFault;
@@ -19,4 +22,15 @@ pub use sequence::run;
 pub fn keys_law()
     ensures rising { KeysRise }
     ensures unique { KeysAreUnique }
+{}
+
+/// The names of all that is emitted rise strictly, whichever records are left out.
+pub fn names_law()
+    ensures { NamesRise }
+{}
+
+/// A list of left-out records has no fault just where it is no longer than allowed, rises strictly, and names records
+/// that exist.
+pub fn skips_law()
+    ensures { GoodSkips }
 {}

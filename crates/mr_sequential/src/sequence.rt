@@ -6,8 +6,8 @@ ghost use Rattle.mr_sequential.specs.Emitted.{emitted};
 ghost use Rattle.mr_sequential.specs.Sequential.{sequential};
 ghost use Rattle.mr_sequential.specs.Skips.{list_fault, skip_fault};
 
-use crate::outputs::outputs;
 use crate::fault::RunFault;
+use crate::outputs::outputs;
 use crate::source::gather;
 use mr_bytes::{RecordName, compare_records};
 use mr_input::Input;
@@ -37,11 +37,7 @@ fn fault_of(plan: &Plan<'_>, skips: &[RecordName]) -> Option<RunFault>
 }
 
 /// The plan of an input under a request that fits it.
-fn plan_of<'a>(
-    alloc: Global,
-    request: &Request,
-    input: &'a Input,
-) -> Result<Plan<'a>, RunFault>
+fn plan_of<'a>(alloc: Global, request: &Request, input: &'a Input) -> Result<Plan<'a>, RunFault>
     requires { split_total request.now.split input.now ≤ 2 ^ 20 }
     ensures plan { IfOk result (λ r. r ≡ record { size = request.now.split; files = input.entry.now }) }
     ensures some { IfOk result (λ r. 0 < r.size) }

@@ -1,4 +1,3 @@
-use Rattle.mr_sequential.proofs.OrderLemmas.{keys-from_sorted, sorted-keys}
 use Rattle.mr_sequential.proofs.KeyLaws.{keys_rise, keys_are_unique}
 use Rattle.mr_sequential.proofs.keys_law.Goals as goal
 

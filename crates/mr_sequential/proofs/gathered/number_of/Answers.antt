@@ -1,4 +1,4 @@
-use Rattle.std.proofs.Common.{◌≡◌, ℕ, List, Vec, Global, Bool}
+use Rattle.std.proofs.Common.{ℕ, List, Vec, Global, Bool}
 use Rattle.std.specs.Str.{bytes_eq}
 use Rattle.mr_sequential.proofs.GatheredLemmas.{position_found, key_at-found}
 use Rattle.mr_sequential.proofs.gathered.number_of.Goals as goal

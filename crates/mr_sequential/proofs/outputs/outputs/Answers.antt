@@ -1,10 +1,8 @@
-use Rattle.std.proofs.Common.{◌≡◌, ℕ, ◌+◌, ◌<◌, ◌≤◌, ◌++◌, ◌==◌, Bool, false, List, [], ◌∷◌, length, get_or, take, drop, refl, sym, ap, ◌∙◌, arith, subst, All, IsPermutation, Vec, Global, map}
+use Rattle.std.proofs.Common.{◌≡◌, ℕ, ◌+◌, ◌<◌, ◌≤◌, ◌++◌, false, List, [], ◌∷◌, length, take, drop, refl, sym, ap, ◌∙◌, arith, subst, All, IsPermutation, Vec, Global, map}
 use Rattle.std.proofs.lemmas.List.Sorted.{length_permutation}
 use Rattle.std.specs.List.{AllByRecursion, IsDistinct, range_with_len, zip}
 use Rattle.std.specs.Str.{bytes_eq}
 use Rattle.mr_bytes.specs.declared.Value.{Value}
-use Rattle.mr_bytes.specs.Lists.{Has}
-use Rattle.mr_input.specs.Files.{contents, nth}
 use Rattle.mr_jobs.specs.Emissions.{Emission}
 use Rattle.mr_partition.specs.Partition.{partition_of}
 use Rattle.mr_reduce.specs.Text.{text_of}
@@ -111,6 +109,6 @@ returns-clause-texts c = λ p h.
     ∙ ap (λ (l : List ℕ). l ++ row_texts (bucket_text task (zip rs vs)) p 0 c.as_slice-3.result.now) (c.in_ok-texts.ensures.empty p)
     ∙ ap (λ (l : List Row). row_texts (bucket_text task (zip rs vs)) p 0 l) c.as_slice-3.ensures.value
     ∙ texts-rows task c.args.parts p ks rows old rs vs are ranks (same old g.ones g.rest.items c.gathered.invariant.same)
-      (λ k d less. omega (arith, c.gathered.invariant.inside k d less, count))
-      (λ i less. c.gathered.invariant.used i (omega (arith, less, count)))
+    (λ k d less. omega (arith, c.gathered.invariant.inside k d less, count))
+    (λ i less. c.gathered.invariant.used i (omega (arith, less, count)))
     ∙ ap (λ (es : List Emission). texts_in (λ k. partition_of k c.args.parts) (text_of task) es p) c.gathered.view_is

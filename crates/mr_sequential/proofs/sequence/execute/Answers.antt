@@ -1,6 +1,6 @@
-use Rattle.std.proofs.Common.{◌≡◌, ℕ, ◌<◌, ◌≤◌, ◌^◌, List, length, arith, ap, sym, ◌∙◌, subst, map}
+use Rattle.std.proofs.Common.{◌≡◌, ℕ, ◌≤◌, ◌^◌, List, length, arith, ap, sym, ◌∙◌, subst, map}
 use Rattle.std.specs.List.{flat_map}
-use Rattle.mr_input.specs.Files.{total_size, contents, nth}
+use Rattle.mr_input.specs.Files.{total_size}
 use Rattle.mr_jobs.specs.Emissions.{Emission}
 use Rattle.mr_jobs.specs.Task.{Task}
 use Rattle.mr_partition.specs.Partition.{partition_of}

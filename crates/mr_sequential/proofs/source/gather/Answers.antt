@@ -1,4 +1,4 @@
-use Rattle.std.proofs.Common.{◌≡◌, ℕ, ◌<◌, ◌≤◌, ◌+◌, ◌-◌, ◌++◌, List, [], length, ap, ◌∙◌, sym, arith}
+use Rattle.std.proofs.Common.{◌≡◌, ℕ, ◌<◌, ◌+◌, ◌-◌, ◌++◌, List, length, ap, ◌∙◌, arith}
 use Rattle.std.specs.List.{flat_map}
 use Rattle.mr_input.specs.Files.{split_total}
 use Rattle.mr_jobs.specs.Emissions.{Emission}
@@ -27,8 +27,14 @@ gather_split-requires-clause-few c =
     let m : ℕ = split_total c.args.plan.now.size c.args.plan.now.files in
     let s : ℕ = c.loop-s.s in
     let within : s < m = omega (arith, c.loop-s-test.true, c.splits-s-end.ensures.count) in
-    omega (arith, ap length c.loop-s.invariant, length-append c.loop-s.gathered (flat_map f (joined s (m - s) rs)), ap length (next_split f rs s m within),
-      length-append (flat_map f (of_split s rs)) (flat_map f (joined (s + 1) (m - (s + 1)) rs)), c.requires.few)
+    omega (
+      arith,
+      ap length c.loop-s.invariant,
+      length-append c.loop-s.gathered (flat_map f (joined s (m - s) rs)),
+      ap length (next_split f rs s m within),
+      length-append (flat_map f (of_split s rs)) (flat_map f (joined (s + 1) (m - (s + 1)) rs)),
+      c.requires.few,
+    )
 
 pub loop-s-preserved : goal.loop-s-preserved
 loop-s-preserved c =

@@ -1,6 +1,5 @@
-use Rattle.std.proofs.Common.{◌≡◌, ℕ, ◌++◌, cond, true, List, [], ◌∷◌, ap, sym, ◌∙◌, refl}
+use Rattle.std.proofs.Common.{◌≡◌, ◌++◌, cond, List, [], ◌∷◌, ap, sym, ◌∙◌, refl}
 use Rattle.mr_jobs.specs.Emissions.{Emission, emissions}
-use Rattle.mr_splits.specs.Named.{is_left_out}
 use Rattle.mr_sequential.specs.Pairs.{kept_pairs}
 use Rattle.mr_sequential.proofs.source.gather_one.Goals as goal
 

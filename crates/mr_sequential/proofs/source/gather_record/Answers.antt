@@ -1,4 +1,4 @@
-use Rattle.std.proofs.Common.{◌≡◌, ℕ, ◌+◌, ◌++◌, List, length, ap, arith}
+use Rattle.std.proofs.Common.{List, length, ap, arith}
 use Rattle.mr_jobs.specs.Emissions.{Emission, emissions}
 use Rattle.mr_sequential.proofs.GatheredLemmas.{length-append}
 use Rattle.mr_sequential.proofs.source.gather_record.Goals as goal

@@ -1,5 +1,4 @@
-use Rattle.std.proofs.Common.{◌≡◌, ℕ, ◌<◌, ◌+◌, ◌++◌, List, length, drop, get_or, ap, ◌∙◌, arith}
-use Rattle.std.proofs.lemmas.List.{at_drop_more}
+use Rattle.std.proofs.Common.{ℕ, ◌<◌, ◌+◌, List, length, drop, ap, arith}
 use Rattle.std.specs.List.{flat_map}
 use Rattle.mr_jobs.specs.Emissions.{Emission}
 use Rattle.mr_splits.specs.Named.{NamedRecord, of_split}
@@ -15,8 +14,15 @@ gather_one-requires-clause-few c =
     let r : ℕ = c.loop-r.r in
     let f : NamedRecord → List Emission = kept_pairs c.args.job.now c.args.kept.skips.now in
     let within : r < length rs = omega (arith, c.loop-r-test.true, c.records_in-r-end.ensures) in
-    omega (arith, ap length c.loop-r.invariant, length-append c.loop-r.gathered (flat_map f (drop r rs)), ap length (next_record f rs r within),
-      length-append (f (nth rs r)) (flat_map f (drop (r + 1) rs)), length-append c.args.gathered.now (flat_map f rs), c.requires.few)
+    omega (
+      arith,
+      ap length c.loop-r.invariant,
+      length-append c.loop-r.gathered (flat_map f (drop r rs)),
+      ap length (next_record f rs r within),
+      length-append (f (nth rs r)) (flat_map f (drop (r + 1) rs)),
+      length-append c.args.gathered.now (flat_map f rs),
+      c.requires.few,
+    )
 
 pub loop-r-preserved : goal.loop-r-preserved
 loop-r-preserved c =

@@ -1,6 +1,5 @@
-use Rattle.std.proofs.Common.{◌≡◌, ℕ, ◌<◌, List, ◌++◌, ap, ◌∙◌, sym, arith, Vec, Global, length, set}
+use Rattle.std.proofs.Common.{ℕ, List, Vec, Global}
 use Rattle.std.proofs.lemmas.Result.{on_ok_weaker}
-use Rattle.mr_input.specs.Files.{contents, nth}
 use Rattle.mr_reduce.specs.Text.{total_line}
 use Rattle.mr_sequential.proofs.TextLemmas.{contents-set}
 use Rattle.mr_sequential.proofs.texts.add_total.Goals as goal

@@ -1,4 +1,4 @@
-use Rattle.std.proofs.Common.{◌≡◌, ℕ, ◌<◌, ◌≤◌, List, length, get_or, ap, ◌∙◌, sym, arith, drop, slice_range, ◌+◌, ◌==◌, count_by}
+use Rattle.std.proofs.Common.{◌≡◌, ℕ, ◌<◌, ◌≤◌, List, length, get_or, ap, ◌∙◌, sym, arith, drop, ◌==◌, count_by}
 use Rattle.std.specs.List.{zip}
 use Rattle.mr_bytes.specs.declared.Value.{Value}
 use Rattle.mr_sequential.specs.Buckets.{size, before}

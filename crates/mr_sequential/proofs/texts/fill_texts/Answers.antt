@@ -1,11 +1,11 @@
-use Rattle.std.proofs.Common.{◌≡◌, ℕ, ◌<◌, ◌≤◌, ◌+◌, ◌++◌, List, length, get_or, sym, ap, ◌∙◌, arith, subst, slice_range}
+use Rattle.std.proofs.Common.{◌≡◌, ℕ, ◌<◌, ◌≤◌, ◌++◌, List, length, get_or, sym, ap, ◌∙◌, arith, subst}
 use Rattle.std.proofs.lemmas.Result.{on_ok_weaker}
 use Rattle.std.specs.List.{zip}
 use Rattle.mr_bytes.specs.declared.Value.{Value}
 use Rattle.mr_input.specs.Files.{contents, nth}
 use Rattle.mr_sequential.specs.declared.rows.Row.{Row}
-use Rattle.mr_sequential.specs.Buckets.{before, size}
-use Rattle.mr_sequential.specs.Pairs.{bucket, ones_then}
+use Rattle.mr_sequential.specs.Buckets.{size}
+use Rattle.mr_sequential.specs.Pairs.{ones_then}
 use Rattle.mr_sequential.specs.Rows.{bucket_text, count_line, row_texts, start_of, values_text}
 use Rattle.mr_sequential.proofs.FillLemmas.{ends-rise, ends-within, counted-texts, placed-texts}
 use Rattle.mr_sequential.proofs.GatheredLemmas.{length-ones_then}
@@ -49,8 +49,8 @@ returns-in_ok-values-2-clause-ok c =
     let ends : List ℕ = c.in_ok-values-2.ends.items in
     on_ok_weaker c.value_texts.result
     (λ told p h. told p h ∙ ap (λ (l : List ℕ). nth (contents c.args.texts.now.items) p ++ l)
-      (ap (λ (l : List Value). row_texts (values_text c.args.job.now l c.as_slice-else-counts-3.result.now) p 0 rows) c.as_slice-else-counts-2.ensures.value
-      ∙ ap (λ (l : List ℕ). row_texts (values_text c.args.job.now out l) p 0 rows) c.as_slice-else-counts-3.ensures.value
-      ∙ placed-texts c.args.job.now rows is ends c.as_slice-else-counts.result.now out p c.in_ok-values-2.ensures.ends c.in_ok-values-2.ensures.buckets
-      ∙ ap (λ (l : List Value). row_texts (bucket_text c.args.job.now (zip is l)) p 0 rows) same))
+    (ap (λ (l : List Value). row_texts (values_text c.args.job.now l c.as_slice-else-counts-3.result.now) p 0 rows) c.as_slice-else-counts-2.ensures.value
+    ∙ ap (λ (l : List ℕ). row_texts (values_text c.args.job.now out l) p 0 rows) c.as_slice-else-counts-3.ensures.value
+    ∙ placed-texts c.args.job.now rows is ends c.as_slice-else-counts.result.now out p c.in_ok-values-2.ensures.ends c.in_ok-values-2.ensures.buckets
+    ∙ ap (λ (l : List Value). row_texts (bucket_text c.args.job.now (zip is l)) p 0 rows) same))
     c.value_texts.ensures.ok

@@ -1,9 +1,9 @@
 use Rattle.std.proofs.Common.{◌≡◌, ℕ, ◌<◌, ◌+◌, ◌++◌, List, length, get_or, ap, ◌∙◌, sym, arith, Vec, Global, suc, set, slice_range}
-use Rattle.std.proofs.lemmas.List.{get_or_default, length-map}
+use Rattle.std.proofs.lemmas.List.{get_or_default}
 use Rattle.mr_reduce.specs.Text.{text_of}
 use Rattle.mr_input.specs.Files.{contents, nth}
 use Rattle.mr_sequential.specs.declared.rows.Row.{Row}
-use Rattle.mr_sequential.specs.Rows.{values_text, row_texts, start_of}
+use Rattle.mr_sequential.specs.Rows.{values_text, start_of}
 use Rattle.mr_sequential.proofs.GatheredLemmas.{same_length}
 use Rattle.mr_sequential.proofs.OrderLemmas.{no_row}
 use Rattle.mr_sequential.proofs.TextLemmas.{row_more, row_end}

@@ -1,4 +1,4 @@
-use Rattle.std.proofs.Common.{◌≡◌, ℕ, ◌+◌, List, length, arith, ap, sym, ◌∙◌}
+use Rattle.std.proofs.Common.{◌≡◌, ℕ, List, length, arith, ap}
 use Rattle.mr_sequential.specs.Pairs.{bytes_of, ones_then}
 use Rattle.mr_sequential.proofs.GatheredLemmas.{length-paired, length-ones_then}
 use Rattle.mr_sequential.proofs.gathered.Gathered.len.Goals as goal

@@ -1,4 +1,4 @@
-use Rattle.std.proofs.Common.{◌≡◌, ℕ, ◌+◌, ◌<◌, ◌≤◌, List, [], ◌∷◌, ◌++◌, length, arith, ap, sym, ◌∙◌, subst, All}
+use Rattle.std.proofs.Common.{◌≡◌, ℕ, ◌+◌, ◌<◌, List, [], ◌∷◌, ◌++◌, length, arith, ap, sym, ◌∙◌, subst, All}
 use Rattle.mr_bytes.specs.declared.Value.{Value}
 use Rattle.mr_bytes.specs.Lists.{Has}
 use Rattle.mr_jobs.specs.Emissions.{Emission}
@@ -59,5 +59,5 @@ returns-clause-ok c =
     ap (λ (l : List ℕ). paired ls l (ones_then c.put_value.new.ones c.put_value.new.rest.items)) numbers
     ∙ ap (paired ls (is ++ i ∷ [])) values
     ∙ pushed-view ks ls (length g.keys.keys) i is vs c.args.key.now v c.self.invariant.inside c.in_ok-number.ensures.stay
-      c.in_ok-number.ensures.found.1 (same is g.ones g.rest.items c.self.invariant.same)
+    c.in_ok-number.ensures.found.1 (same is g.ones g.rest.items c.self.invariant.same)
     ∙ ap (λ (l : List Emission). l ++ (c.args.key.now, v) ∷ []) c.self.view_is
