@@ -52,7 +52,6 @@ pub struct Pair {
     pub name: Name,
 }
 
-
 /// Whether the byte is an upper-case letter of ASCII, 0x41 to 0x5A.
 pub fn is_upper(b: u8) -> bool
     ensures { result ≡ is_upper b }
@@ -74,14 +73,14 @@ pub fn fold_byte(b: u8) -> u8
     if is_upper(b) { b + 32 } else { b }
 }
 
-/// A folded copy of the bytes.
+/// A folded copy of the bytes. It fails only for want of memory.
 pub fn folded(alloc: Global, bytes: &[u8]) -> Result<Vec<u8>, AllocError>
     ensures { IfOk result (λ v. v.items ≡ folded bytes.now) }
 {
     bytes.iter().map(|b| fold_byte(*b)).collect(alloc)
 }
 
-/// Folds each byte where it stands.
+/// Folds each byte where it stands. It takes no memory.
 pub fn fold_in_place(bytes: &mut [u8])
     ensures { bytes.new ≡ folded bytes.old }
 {
@@ -89,3 +88,6 @@ pub fn fold_in_place(bytes: &mut [u8])
         *b = fold_byte(*b);
     }
 }
+
+#[cfg(test)]
+mod tests;

@@ -20,11 +20,11 @@ pub fn compare_records(a: RecordName, b: RecordName) -> Ordering
     a.cmp(&b)
 }
 
-/// Names compare by split, then by the record's number, then by place.
-pub fn compare_names(a: Name, b: Name) -> Ordering
-    ensures { result ≡ name_order a b }
+/// Names compare by split, then by the record's number, then by place: this is the order of the input.
+pub fn compare_names(x: Name, y: Name) -> Ordering
+    ensures { result ≡ name_order x y }
 {
-    a.cmp(&b)
+    x.cmp(&y)
 }
 
 /// Each of the three orders is total.

@@ -34,7 +34,7 @@ fn skip_word(bytes: &[u8], from: usize) -> usize
     at
 }
 
-/// The first word from `from` on.
+/// The first word from `from` on, or `None` where no word byte is left. It takes no memory.
 pub fn next_word(bytes: &[u8], from: usize) -> Option<Span>
     requires start { from ≤ length bytes.now }
     requires fits { length bytes.now < 2 ^ 32 }
@@ -52,7 +52,6 @@ pub fn next_word(bytes: &[u8], from: usize) -> Option<Span>
         end: end as u32,
     })
 }
-
 
 /// What `word_spans` means: the maximal runs of word bytes, in rising order.
 pub fn word_law()

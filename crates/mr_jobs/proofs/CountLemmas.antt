@@ -1,16 +1,16 @@
 -- How many emissions a record has, and how long their keys are.
-use Rattle.std.proofs.Common.{◌≡◌, ℕ, ◌+◌, ◌-◌, ◌<◌, ◌≤◌, Bool, true, false, cond, eqb, List, [], ◌∷◌, ◌++◌, All, length, get_or, take, drop, map, refl, sym, ◌∙◌, ap, subst, arith, length-append, Option, None, Some, IsTrue}
+use Rattle.std.proofs.Common.{◌≡◌, ℕ, ◌+◌, ◌-◌, ◌≤◌, Bool, true, false, cond, eqb, List, [], ◌∷◌, ◌++◌, All, length, get_or, drop, refl, sym, ap, subst, arith, length-append, Option, None, Some}
 use Rattle.std.proofs.lemmas.List.{length-map, length-take, length-drop}
-use Rattle.std.proofs.lemmas.List.Elements.{All-nil, All-cons, All-map, All-from_get_or}
-use Rattle.mr_bytes.specs.Bytes.{is_word_byte, fold_byte, folded}
+use Rattle.std.proofs.lemmas.List.Elements.{All-nil, All-cons, All-map}
+use Rattle.mr_bytes.specs.Bytes.{is_word_byte, fold_byte}
 use Rattle.mr_bytes.specs.Words.{extend, word_spans, word_spans_from, bytes_of}
 use Rattle.mr_bytes.specs.declared.Span.{Span}
 use Rattle.mr_bytes.specs.declared.Value.TheVariants.{One, At}
 use Rattle.mr_bytes.proofs.WordLemmas.{word_spans_from-cons, word_spans_from-nil}
-use Rattle.mr_jobs.specs.Emissions.{Emission, emissions, one_for, word_key, word_emission}
+use Rattle.mr_jobs.specs.Emissions.{Emission, one_for, word_key, word_emission}
 use Rattle.mr_jobs.specs.Laws.{FewEmissions, ShortKeys, CountersEmitOnes}
 use Rattle.mr_jobs.specs.Literal.{holds}
-use Rattle.mr_jobs.specs.Task.{Task, WordCount, LinesWith, Resources, counts}
+use Rattle.mr_jobs.specs.Task.{WordCount, LinesWith, Resources}
 use Rattle.mr_jobs.specs.Url.{IsRequestFor, url_of, bytes_of as piece_bytes}
 use Rattle.mr_jobs.proofs.UrlLemmas.{parts_of-url}
 
@@ -61,8 +61,15 @@ short_word false line w =
 
 short_request : (line key : List ℕ) → IsRequestFor line key → length key ≤ length line
 short_request line key p =
-    omega (arith, ap length p.line_is, length-append p.front (0x22 ∷ (piece_bytes p.pieces ++ 0x22 ∷ p.rest)), length-append (piece_bytes p.pieces) (0x22 ∷ p.rest),
-    ap length p.request_is, length-append p.before (0x20 ∷ (key ++ p.after)), length-append key p.after)
+    omega (
+      arith,
+      ap length p.line_is,
+      length-append p.front (0x22 ∷ (piece_bytes p.pieces ++ 0x22 ∷ p.rest)),
+      length-append (piece_bytes p.pieces) (0x22 ∷ p.rest),
+      ap length p.request_is,
+      length-append p.before (0x20 ∷ (key ++ p.after)),
+      length-append key p.after,
+    )
 
 short_one : (line : List ℕ) (key : Option (List ℕ)) → url_of line ≡ key → All (Short line) (one_for key)
 short_one line None e = All-nil (Short line)

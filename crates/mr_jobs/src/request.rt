@@ -22,7 +22,7 @@ pub const MAX_SPLITS: usize = 0x10_0000;
 pub struct Request {
     job: Job,
     parts: u32,
-    split: u32,
+    size: u32,
     skips: u32,
 }
 
@@ -32,13 +32,13 @@ impl Model for Request {
 
     ghost Value = { Order };
 
-    ghost view = { λ r. record { task = r.job; parts = r.parts; split = r.split; skips = r.skips } };
+    ghost view = { λ r. record { task = r.job; parts = r.parts; split = r.size; skips = r.skips } };
 
     ghost invariant = { λ r. record {
       some_parts : 1 ≤ r.parts;
       parts : r.parts ≤ 1024;
-      some_split : 1 ≤ r.split;
-      split : r.split ≤ 2 ^ 26;
+      some_split : 1 ≤ r.size;
+      split : r.size ≤ 2 ^ 26;
       skips : r.skips ≤ 1000;
     } };
 }
@@ -79,7 +79,7 @@ impl Request {
         Ok(Request {
             job,
             parts,
-            split,
+            size: split,
             skips,
         })
     }
@@ -104,7 +104,7 @@ impl Request {
         ensures same { result ≡ self.now.split }
         ensures within { (1 ≤ result) × (result ≤ 2 ^ 26) }
     {
-        self.split
+        self.size
     }
 
     /// How many records may be left out.
@@ -119,7 +119,7 @@ impl Request {
     pub fn fits(&self, input: &Input) -> bool
         ensures { IsTrue result ↔ (split_total self.now.split input.now ≤ 2 ^ 20) }
     {
-        splits_of(input, self.split as usize) <= MAX_SPLITS
+        splits_of(input, self.split_size() as usize) <= MAX_SPLITS
     }
 }
 

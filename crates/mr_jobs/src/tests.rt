@@ -6,6 +6,7 @@ use std::process::Abort;
 use std::test::Fail;
 
 const AT: Origin = Origin { file: 1, start: 4 };
+
 const PLACE: Value = Value::At { file: 1, offset: 4 };
 
 /// Maps the line twice, and sees that each time just these keys came, each with this value.
@@ -42,10 +43,31 @@ fn words(rt: HostRuntime) -> Result<(), Fail> {
     let folded = Job::words(false);
     let exact = Job::words(true);
     let line = b"\x41\x62\x20\xc3\x84\x42";
-    emits(&rt, alloc, &folded, line, &[b"ab", b"\xc3\x84\x62"], Value::One)?;
-    emits(&rt, alloc, &exact, line, &[b"Ab", b"\xc3\x84\x42"], Value::One)?;
+    emits(
+        &rt,
+        alloc,
+        &folded,
+        line,
+        &[b"ab", b"\xc3\x84\x62"],
+        Value::One,
+    )?;
+    emits(
+        &rt,
+        alloc,
+        &exact,
+        line,
+        &[b"Ab", b"\xc3\x84\x42"],
+        Value::One,
+    )?;
     emits(&rt, alloc, &folded, &[b'a'; 65], &[&[b'a'; 65]], Value::One)?;
-    emits(&rt, alloc, &folded, b"a b,a", &[b"a", b"b", b"a"], Value::One)?;
+    emits(
+        &rt,
+        alloc,
+        &folded,
+        b"a b,a",
+        &[b"a", b"b", b"a"],
+        Value::One,
+    )?;
     emits(&rt, alloc, &folded, b" -\r", &[], Value::One)?;
     emits(&rt, alloc, &folded, b"", &[], Value::One)?;
     Ok(())

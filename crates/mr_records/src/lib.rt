@@ -3,6 +3,7 @@
 
 ghost use Rattle.std.specs.Prelude.{◌≡◌, ℕ, ◌+◌, ◌^◌, ◌≤◌, ◌<◌, ◌≢◌, length, List, [], ◌∷◌, IfOk, All, map, MatchOption, drop, slice_index};
 ghost use Rattle.mr_records.specs.Records.{Record, records, nth};
+ghost use Rattle.mr_records.specs.RecordLaw.{NoLineFeeds, GiveTheFileBack, StartInTurn, StartWhereLinesBegin, FewRecords};
 
 use memchr::memchr;
 use mr_bytes::Span;
@@ -26,13 +27,14 @@ impl<'a> Model for Records<'a> {
     ghost view = { λ r. map (record_at r.bytes.now) r.spans.items };
 
     ghost invariant = { λ r. record {
-        within : All (Within r.bytes.now) r.spans.items;
-        small : length r.bytes.now ≤ 2 ^ 30;
+      within : All (Within r.bytes.now) r.spans.items;
+      few : length r.spans.items ≤ length r.bytes.now;
+      small : length r.bytes.now ≤ 2 ^ 30;
     } };
 }
 
 impl<'a> Records<'a> {
-    /// Finds the records of a file of at most 1 GiB. It fails only for want of memory.
+    /// Finds the records of a file of at most 1 GiB, which is not copied. It fails only for want of memory.
     pub fn of(alloc: Global, bytes: &'a [u8]) -> Result<Records<'a>, AllocError>
         requires { length bytes.now ≤ 2 ^ 30 }
         ensures { IfOk result (λ r. r ≡ records bytes.entry.now) }
@@ -43,7 +45,8 @@ impl<'a> Records<'a> {
 
     /// How many records there are.
     pub fn count(&self) -> usize
-        ensures { result ≡ length self.now }
+        ensures number { result ≡ length self.now }
+        ensures few { result ≤ 2 ^ 30 }
     {
         self.spans.len()
     }
@@ -61,17 +64,31 @@ impl<'a> Records<'a> {
     /// The place in the file of the first byte of record `i`, or of its line feed where the record is empty.
     pub fn start(&self, i: usize) -> u32
         requires { i < length self.now }
-        ensures { result ≡ (nth self.now i).start }
+        ensures place { result ≡ (nth self.now i).start }
+        ensures small { result ≤ 2 ^ 30 }
     {
         self.spans[i].start
     }
 }
 
+/// What `records` means. No record holds a line feed, and joined, each with the line feed behind it, they give the
+/// file back, the last with or without its line feed. They start one behind the other's line feed, each where a line
+/// begins and a byte stands; so there are no more of them than bytes.
+pub fn record_law()
+    ensures clear { NoLineFeeds }
+    ensures joined { GiveTheFileBack }
+    ensures turn { StartInTurn }
+    ensures lines { StartWhereLinesBegin }
+    ensures few { FewRecords }
+{}
+
 ghost use Rattle.mr_records.specs.Records.{record_at, records_from, Within};
 
+/// Where the records stand, in their order.
 fn spans_of(alloc: Global, bytes: &[u8]) -> Result<Vec<Span>, AllocError>
     requires { length bytes.now ≤ 2 ^ 30 }
     ensures within { IfOk result (λ v. All (Within bytes.now) v.items) }
+    ensures few { IfOk result (λ v. length v.items ≤ length bytes.now) }
     ensures all { IfOk result (λ v. map (record_at bytes.now) v.items ≡ records bytes.now) }
 {
     let mut spans = Vec::new(alloc);
@@ -101,7 +118,7 @@ fn next_record(bytes: &[u8], from: usize) -> Option<Span>
     requires { length bytes.now ≤ 2 ^ 30 }
     ensures { MatchOption result (records_from from (drop from bytes.now) ≡ [])
         (λ s. Within bytes.now s × (s.start ≡ from)
-            × (records_from from (drop from bytes.now) ≡ record_at bytes.now s ∷ records_from (s.end + 1) (drop (s.end + 1) bytes.now))) }
+        × (records_from from (drop from bytes.now) ≡ record_at bytes.now s ∷ records_from (s.end + 1) (drop (s.end + 1) bytes.now))) }
 {
     if from >= bytes.len() {
         return None;
@@ -112,3 +129,6 @@ fn next_record(bytes: &[u8], from: usize) -> Option<Span>
         end: end as u32,
     })
 }
+
+#[cfg(test)]
+mod tests;

@@ -1,11 +1,8 @@
 -- The text of a group of a job that counts, and texts that grow.
-use Rattle.std.proofs.Common.{◌≡◌, ℕ, ◌++◌, ◌≤◌, Bool, true, false, List, [], ◌∷◌, length, take, drop, arith, length-append, refl, ap, ◌∙◌, sym, append_assoc}
-use Rattle.std.specs.List.{flat_map}
+use Rattle.std.proofs.Common.{◌≡◌, ℕ, ◌++◌, true, false, List, length, take, drop, arith, length-append, refl, ap, ◌∙◌, sym}
 use Rattle.std.proofs.lemmas.List.{take-append-le, take-append-drop, take_all}
-use Rattle.mr_bytes.specs.declared.Value.{Value}
-use Rattle.mr_jobs.specs.Task.{Task, WordCount, LinesWith, Resources, counts}
+use Rattle.mr_jobs.specs.Task.{WordCount, LinesWith, Resources}
 use Rattle.mr_reduce.specs.Laws.{CountersTellTheNumber}
-use Rattle.mr_reduce.specs.Text.{text_of, total_line, place_line}
 
 pub counters_tell_the_number : CountersTellTheNumber
 counters_tell_the_number (WordCount keep_case) key values is = refl

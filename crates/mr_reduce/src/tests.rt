@@ -39,6 +39,9 @@ fn places(rt: HostRuntime) -> Result<(), Fail> {
     assert_eq!(rt; out.as_slice(), b"abc\t0:0\n".as_slice());
     let mut all = Vec::new(alloc);
     group_text(&job, b"abc", &values, &mut all)?;
-    assert_eq!(rt; all.as_slice(), b"abc\t0:0\nabc\t12:4294967296\n".as_slice());
+    assert_eq!(rt;
+        all.as_slice(),
+        b"abc\t0:0\nabc\t12:4294967296\n".as_slice()
+    );
     Ok(())
 }

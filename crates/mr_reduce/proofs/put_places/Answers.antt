@@ -1,4 +1,4 @@
-use Rattle.std.proofs.Common.{ℕ, List, arith, take, length, vec_len, sym}
+use Rattle.std.proofs.Common.{arith, take, vec_len}
 use Rattle.std.specs.List.{flat_map}
 use Rattle.mr_reduce.specs.Text.{place_line}
 use Rattle.mr_reduce.proofs.TextLemmas.{front-kept}

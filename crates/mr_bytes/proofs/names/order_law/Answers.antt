@@ -1,4 +1,3 @@
-use Rattle.std.specs.Cmp.{IsTotalOrder}
 use Rattle.std.proofs.lemmas.Cmp.{nat_list_cmp_total, then_total, on_total, nat_cmp_total}
 use Rattle.mr_bytes.specs.declared.Name.{Name}
 use Rattle.mr_bytes.proofs.names.order_law.Goals as goal

@@ -1,5 +1,4 @@
-use Rattle.std.proofs.Common.{◌≡◌, ℕ, ◌++◌, [], ◌∷◌, List, arith, ap, length, vec_len, length-append}
-use Rattle.mr_jobs.specs.declared.emissions.Entry.{Entry}
+use Rattle.std.proofs.Common.{◌≡◌, ◌++◌, [], ◌∷◌, arith, ap, length, vec_len, length-append}
 use Rattle.mr_jobs.specs.Views.{seen, entry_for}
 use Rattle.mr_jobs.proofs.EntryLemmas.{take-kept, all-more, within-more}
 use Rattle.mr_jobs.proofs.emissions.push_all.Goals as goal

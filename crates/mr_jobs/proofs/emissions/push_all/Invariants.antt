@@ -1,4 +1,4 @@
-use Rattle.std.proofs.Common.{◌≡◌, ℕ, ◌≤◌, ◌++◌, List, All, length, take, vec_len}
+use Rattle.std.proofs.Common.{◌≡◌, ◌≤◌, ◌++◌, All, length, take, vec_len}
 use Rattle.mr_jobs.specs.Views.{IsIn, seen}
 use Rattle.mr_jobs.proofs.emissions.push_all.Given as goal
 

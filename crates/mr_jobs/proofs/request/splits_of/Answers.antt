@@ -1,5 +1,5 @@
-use Rattle.std.proofs.Common.{◌≡◌, ℕ, ◌+◌, ◌-◌, ◌*◌, ◌/◌, ◌<◌, ◌≤◌, ◌^◌, arith, sym, ◌∙◌, ap, length, drop}
-use Rattle.mr_input.specs.Files.{split_count, split_total, nth}
+use Rattle.std.proofs.Common.{◌≡◌, ℕ, ◌+◌, ◌-◌, ◌/◌, ◌≤◌, arith, ap}
+use Rattle.mr_input.specs.Files.{split_count, nth}
 use Rattle.mr_jobs.proofs.SplitLemmas.{split_total-more, split_total-end, few_splits}
 use Rattle.mr_jobs.proofs.request.splits_of.Goals as goal
 

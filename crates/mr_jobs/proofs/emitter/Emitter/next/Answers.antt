@@ -1,9 +1,5 @@
-use Rattle.std.proofs.Common.{ap, map, length, arith, sym, ◌∙◌, ℕ, List, ◌∷◌, ◌≡◌, Option, Some}
-use Rattle.mr_bytes.specs.Words.{bytes_of}
-use Rattle.mr_bytes.specs.declared.Value.{Value}
-use Rattle.mr_bytes.specs.declared.Value.TheVariants.{One}
-use Rattle.mr_bytes.proofs.WordLemmas.{word_spans_from-end}
-use Rattle.mr_jobs.specs.Emissions.{left, words_from}
+use Rattle.std.proofs.Common.{ap, sym, ◌∙◌, ℕ, List, ◌∷◌}
+use Rattle.mr_jobs.specs.Emissions.{left}
 use Rattle.mr_jobs.proofs.EmitLemmas.{words_from-end}
 use Rattle.mr_jobs.proofs.emitter.Emitter.next.Goals as goal
 
