@@ -51,13 +51,7 @@ impl Fault {
     /// The exit status: 2 for usage or a limit, 3 for a file, 4 for want of memory; 0 where help was asked for.
     pub fn status(&self) -> u8 {
         match self {
-            Fault::Line(error) => {
-                if error.use_stderr() {
-                    2
-                } else {
-                    0
-                }
-            }
+            Fault::Line(error) => { if error.use_stderr() { 2 } else { 0 } }
             Fault::CannotRead(_) | Fault::CannotWrite(_) => 3,
             Fault::OutOfMemory => 4,
             _ => 2,
@@ -77,9 +71,7 @@ impl fmt::Display for Fault {
     fn fmt<W: fmt::Write>(&self, f: &mut fmt::Formatter<W>) -> fmt::Result {
         match self {
             Fault::Line(error) => write!(f, "{error}"),
-            Fault::OtherJobsOption => {
-                write!(f, "mapred: option does not belong to this job\n")
-            }
+            Fault::OtherJobsOption => { write!(f, "mapred: option does not belong to this job\n") }
             Fault::Job(fault) => write!(f, "mapred: {fault}\n"),
             Fault::Request(fault) => write!(f, "mapred: {fault}\n"),
             Fault::BadSkipList => write!(f, "mapred: bad skip list\n"),

@@ -14,10 +14,7 @@ fn read_file<R: Files + AllocGlobal>(rt: &R, name: &str) -> Result<Vec<u8>, Faul
 }
 
 /// The bytes of the named files, in order.
-pub fn read_files<R: Files + AllocGlobal>(
-    rt: &R,
-    names: &[&str],
-) -> Result<Vec<Vec<u8>>, Fault> {
+pub fn read_files<R: Files + AllocGlobal>(rt: &R, names: &[&str]) -> Result<Vec<Vec<u8>>, Fault> {
     let mut files = Vec::new(rt.alloc());
     for name in names {
         files.push(read_file(rt, name)?).map_err(AllocError::from)?;

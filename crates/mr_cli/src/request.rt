@@ -40,7 +40,9 @@ fn number_of(text: &[u8]) -> Option<u32> {
         if !digit.is_ascii_digit() {
             return None;
         }
-        number = number.saturating_mul(10).saturating_add(u64::from(*digit - b'0'));
+        number = number
+            .saturating_mul(10)
+            .saturating_add(u64::from(*digit - b'0'));
     }
     u32::try_from(number).ok()
 }

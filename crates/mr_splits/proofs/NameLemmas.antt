@@ -1,15 +1,15 @@
 -- Records by their names.
-use Rattle.std.proofs.Common.{◌≡◌, ◌≢◌, ℕ, zero, suc, ◌+◌, ◌<◌, ◌≤◌, ◌⊎◌, Bool, true, false, cond, eqb, ltb, ◌&&◌, ◌||◌, Option, Some, None, List, [], ◌∷◌, ◌++◌, length, get_or, take, drop, set, refl, sym, ◌∙◌, ap, subst, arith, inl, inr, map, filter, replicate}
-use Rattle.std.proofs.lemmas.Bool.{cases_Bool, cases_eq, cases_lt, eq-eqb, ne_eqb, eqb-true, lt-ltb, le-ltb, and_parts, and_from, or_parts, or_right, or_left, false≢true}
-use Rattle.std.proofs.lemmas.List.{get_or-set_same, get_or-set_other, length-set, same_lists, get_or-map, length-map, get_or_default, nil_from_length}
+use Rattle.std.proofs.Common.{◌≡◌, ◌≢◌, ℕ, zero, suc, ◌+◌, ◌<◌, ◌≤◌, Bool, true, false, cond, eqb, ltb, ◌&&◌, ◌||◌, Option, Some, None, List, [], ◌∷◌, length, get_or, drop, set, refl, sym, ◌∙◌, ap, subst, arith, inl, inr, filter, replicate}
+use Rattle.std.proofs.lemmas.Bool.{cases_Bool, cases_eq, cases_lt, eq-eqb, ne_eqb, eqb-true, lt-ltb, le-ltb, and_parts, and_from, or_parts, false≢true}
+use Rattle.std.proofs.lemmas.List.{get_or-set_same, get_or-set_other, same_lists, get_or-map, length-map, get_or_default, nil_from_length}
 use Rattle.std.proofs.lemmas.List.Folds.{list_any_at}
-use Rattle.std.specs.List.{find, list_any, slice_get, range_with_len}
+use Rattle.std.specs.List.{find, list_any, slice_get}
 use Rattle.mr_bytes.specs.declared.RecordName.{RecordName}
 use Rattle.mr_input.specs.Files.{split_total}
 use Rattle.mr_splits.specs.Named.{NamedRecord, named_records, of_split, is_left_out}
 use Rattle.mr_splits.specs.Cut.{nth, is_named, is_record, record_named, left_out_flags, flags_of}
 use Rattle.mr_splits.proofs.JoinedLemmas.{splits-all}
-use Rattle.mr_splits.proofs.NumberLemmas.{CountFrom, numbers, of_split-before, numbers-count}
+use Rattle.mr_splits.proofs.NumberLemmas.{CountFrom, of_split-before, numbers-count}
 use Rattle.mr_splits.proofs.RisingLemmas.{AtLeast, RisesFrom, at_least-trans, files-rise}
 
 eqb-flip : (a b : ℕ) → eqb a b ≡ eqb b a
@@ -155,7 +155,7 @@ name-from-test name r h =
     let number : r.name.rec ≡ name.rec = sym (eqb-true name.rec r.name.rec parts.1) in
     ap (λ (s : ℕ). record { split = s; rec = r.name.rec }) split ∙ ap (λ (n : ℕ). record { split = name.split; rec = n }) number
 
-test-from-name : (name : RecordName) (r : NamedRecord) → r.name ≡ name → is_named name r ≡ true
+pub test-from-name : (name : RecordName) (r : NamedRecord) → r.name ≡ name → is_named name r ≡ true
 test-from-name name r e =
     and_from (eqb name.split r.name.split) (eqb name.rec r.name.rec)
     (eq-eqb name.split r.name.split (sym (ap (λ (n : RecordName). n.split) e)))
@@ -176,17 +176,17 @@ pub marked : (rs : List NamedRecord) (name : RecordName) (flags : List Bool) (at
 marked rs name flags at i count inside is only h =
     elim (cases_eq i at) [
       | inl e ↦
-        subst (λ (k : ℕ). get_or (set flags at true) k false ≡ (get_or flags k false || is_named name (nth rs k))) (sym e)
-        (get_or-set_same flags at true false (omega (arith, count, inside))
-        ∙ sym (ap (λ b. get_or flags at false || b) (test-from-name name (nth rs at) is) ∙ or-true (get_or flags at false)))
+          subst (λ (k : ℕ). get_or (set flags at true) k false ≡ (get_or flags k false || is_named name (nth rs k))) (sym e)
+          (get_or-set_same flags at true false (omega (arith, count, inside))
+          ∙ sym (ap (λ b. get_or flags at false || b) (test-from-name name (nth rs at) is) ∙ or-true (get_or flags at false)))
       | inr ne ↦
-        let other : is_named name (nth rs i) ≡ false =
-        elim (cases_Bool (is_named name (nth rs i))) [
-          | inl yes' ↦ absurd (ne (only i h (name-from-test name (nth rs i) yes')))
-          | inr no' ↦ no'
-        ] in
-        get_or-set_other flags at i true false ne
-        ∙ sym (ap (λ b. get_or flags i false || b) other ∙ or-false (get_or flags i false))
+          let other : is_named name (nth rs i) ≡ false =
+          elim (cases_Bool (is_named name (nth rs i))) [
+            | inl yes' ↦ absurd (ne (only i h (name-from-test name (nth rs i) yes')))
+            | inr no' ↦ no'
+          ] in
+          get_or-set_other flags at i true false ne
+          ∙ sym (ap (λ b. get_or flags i false || b) other ∙ or-false (get_or flags i false))
     ]
 
 -- no flag, where there is no record of that name
@@ -205,9 +205,9 @@ pub flags-are : (skips : List RecordName) (rs : List NamedRecord) (flags : List 
 flags-are skips rs flags count each =
     same_lists flags (left_out_flags skips rs) (count ∙ sym (length-map rs (λ (r : NamedRecord). is_left_out skips r.name)))
     (λ k d h.
-      let here : k < length rs = omega (arith, h, count) in
-      get_or_default flags k d false h ∙ each k here
-      ∙ sym (get_or-map (λ (r : NamedRecord). is_left_out skips r.name) rs k (record { name = record { split = 0; rec = 0 }; file = 0; start = 0; bytes = [] }) d here))
+    let here : k < length rs = omega (arith, h, count) in
+    get_or_default flags k d false h ∙ each k here
+    ∙ sym (get_or-map (λ (r : NamedRecord). is_left_out skips r.name) rs k (record { name = record { split = 0; rec = 0 }; file = 0; start = 0; bytes = [] }) d here))
 
 pub find-none : (p : NamedRecord → Bool) (xs : List NamedRecord) → list_any p xs ≡ false → find p xs ≡ None
 find-none p [] h = refl
@@ -229,8 +229,8 @@ find-passes p [] x h = cc
 find-passes p (y ∷ ys) x h =
     elim (cases_Bool (p y)) [
       | inl yes' ↦
-        let same : y ≡ x = some-same y x (sym (ap (λ b. cond b (Some y) (find p ys)) yes') ∙ h) in
-        ap p (sym same) ∙ yes'
+          let same : y ≡ x = some-same y x (sym (ap (λ b. cond b (Some y) (find p ys)) yes') ∙ h) in
+          ap p (sym same) ∙ yes'
       | inr no' ↦ find-passes p ys x (sym (ap (λ b. cond b (Some y) (find p ys)) no') ∙ h)
     ]
 

@@ -1,15 +1,14 @@
 -- The records of a split are numbered from 0.
-use Rattle.std.proofs.Common.{◌≡◌, ◌≢◌, ℕ, zero, suc, ◌+◌, ◌-◌, ◌/◌, ◌<◌, ◌≤◌, Bool, true, false, cond, eqb, List, [], ◌∷◌, ◌++◌, length, refl, sym, ◌∙◌, ap, subst, arith, inl, inr, map, filter, append_assoc}
+use Rattle.std.proofs.Common.{◌≡◌, ℕ, ◌+◌, ◌-◌, ◌/◌, ◌<◌, ◌≤◌, Bool, true, false, cond, eqb, List, [], ◌∷◌, ◌++◌, length, refl, sym, ◌∙◌, ap, subst, arith, inl, inr, map}
 use Rattle.std.proofs.lemmas.Bool.{cases_eq, cases_lt, eq-eqb, ne_eqb}
 use Rattle.std.proofs.lemmas.List.{append-nil}
 use Rattle.std.proofs.lemmas.List.Elements.{filter-append}
 use Rattle.std.specs.List.{range_with_len}
-use Rattle.mr_bytes.specs.declared.RecordName.{RecordName}
 use Rattle.mr_records.specs.Records.{Record, records}
 use Rattle.mr_input.specs.Files.{split_count, split_total}
-use Rattle.mr_splits.specs.Named.{NamedRecord, named_from, named_files, named_records, of_split}
+use Rattle.mr_splits.specs.Named.{NamedRecord, named_from, named_files, of_split}
 use Rattle.mr_splits.specs.Laws.{NumbersCount}
-use Rattle.mr_splits.proofs.StartLemmas.{StartsIn, starts-file, div-rises, div-within}
+use Rattle.mr_splits.proofs.StartLemmas.{StartsIn, starts-file, div-rises}
 use Rattle.mr_splits.proofs.JoinedLemmas.{SplitsIn, splits-lower, splits-named, splits-file, splits-all, of_split-same, of_split-other, of_split-past}
 
 -- the numbers of the records of a list
@@ -44,23 +43,23 @@ count-named size file first split next low high s (r ∷ rs) some starts order =
     count-named size file first here (number + 1) (r.start + 1) high s rs some starts.2 on in
     elim (cases_eq here s) [
       | inl same ↦
-        let next' : CountFrom (number + 1) (of_split s rest) =
-        subst (λ t. CountFrom (cond t (number + 1) 0) (of_split s rest)) (eq-eqb s here (sym same)) later in
-        let begin : number ≡ cond (eqb s split) next 0 = ap (λ k. cond (eqb k split) next 0) same in
-        subst (λ k. CountFrom k (of_split s (one ∷ rest))) begin
-        (subst (CountFrom number) (sym (of_split-same s one rest same)) (ap (λ l. number ∷ l) next'))
+          let next' : CountFrom (number + 1) (of_split s rest) =
+          subst (λ t. CountFrom (cond t (number + 1) 0) (of_split s rest)) (eq-eqb s here (sym same)) later in
+          let begin : number ≡ cond (eqb s split) next 0 = ap (λ k. cond (eqb k split) next 0) same in
+          subst (λ k. CountFrom k (of_split s (one ∷ rest))) begin
+          (subst (CountFrom number) (sym (of_split-same s one rest same)) (ap (λ l. number ∷ l) next'))
       | inr other ↦
-        let zeros : CountFrom 0 (of_split s rest) =
-        subst (λ t. CountFrom (cond t (number + 1) 0) (of_split s rest)) (ne_eqb s here (λ e. other (sym e))) later in
-        subst (CountFrom (cond (eqb s split) next 0)) (sym (of_split-other s one rest other))
-        (elim (cases_eq s split) [
-          | inl here' ↦
-            count-none (cond (eqb s split) next 0) (of_split s rest)
-            (of_split-past s here (first + (high + size - 1) / size) rest (omega (arith, up, other, here'))
-            (splits-lower here (first + (r.start + 1) / size) (first + (high + size - 1) / size) rest on
-            (splits-named size file first here (number + 1) (r.start + 1) high (first + (high + size - 1) / size) rs some starts.2 (omega arith))))
-          | inr ne ↦ subst (λ t. CountFrom (cond t next 0) (of_split s rest)) (sym (ne_eqb s split ne)) zeros
-        ])
+          let zeros : CountFrom 0 (of_split s rest) =
+          subst (λ t. CountFrom (cond t (number + 1) 0) (of_split s rest)) (ne_eqb s here (λ e. other (sym e))) later in
+          subst (CountFrom (cond (eqb s split) next 0)) (sym (of_split-other s one rest other))
+          (elim (cases_eq s split) [
+            | inl here' ↦
+                count-none (cond (eqb s split) next 0) (of_split s rest)
+                (of_split-past s here (first + (high + size - 1) / size) rest (omega (arith, up, other, here'))
+                (splits-lower here (first + (r.start + 1) / size) (first + (high + size - 1) / size) rest on
+                (splits-named size file first here (number + 1) (r.start + 1) high (first + (high + size - 1) / size) rs some starts.2 (omega arith))))
+            | inr ne ↦ subst (λ t. CountFrom (cond t next 0) (of_split s rest)) (sym (ne_eqb s split ne)) zeros
+          ])
     ]
 
 cond-same : (t : Bool) → ◌≡◌ {A = ℕ} (cond t 0 0) 0
@@ -83,11 +82,11 @@ count-files size file first s (f ∷ fs) some =
     subst (CountFrom 0) (sym parts)
     (elim (cases_lt s mid) [
       | inl before ↦
-        let none : of_split s rest ≡ [] = of_split-past s mid (mid + split_total size fs) rest before (splits-all size (file + 1) mid fs some) in
-        subst (CountFrom 0) (sym (ap (λ l. of_split s one ++ l) none ∙ append-nil (of_split s one))) (count-file size file first s f some)
+          let none : of_split s rest ≡ [] = of_split-past s mid (mid + split_total size fs) rest before (splits-all size (file + 1) mid fs some) in
+          subst (CountFrom 0) (sym (ap (λ l. of_split s one ++ l) none ∙ append-nil (of_split s one))) (count-file size file first s f some)
       | inr after ↦
-        let none : of_split s one ≡ [] = of_split-before s first mid one after (splits-file size file first f some) in
-        subst (CountFrom 0) (sym (ap (λ l. l ++ of_split s rest) none)) (count-files size (file + 1) mid s fs some)
+          let none : of_split s one ≡ [] = of_split-before s first mid one after (splits-file size file first f some) in
+          subst (CountFrom 0) (sym (ap (λ l. l ++ of_split s rest) none)) (count-files size (file + 1) mid s fs some)
     ])
 
 pub numbers-count : NumbersCount

@@ -1,6 +1,5 @@
 -- What the tables of a plan say of its splits and records.
-use Rattle.std.proofs.Common.{◌≡◌, ◌≢◌, ℕ, zero, suc, ◌+◌, ◌-◌, ◌<◌, ◌≤◌, cond, eqb, List, [], ◌∷◌, ◌++◌, length, get_or, take, drop, All, refl, sym, ◌∙◌, ap, subst, arith, inl, inr, map, append_assoc, slice_range, length-append, length-drop, length-take-le}
-use Rattle.std.proofs.lemmas.Bool.{cases_eq, cases_lt, eq-eqb, ne_eqb}
+use Rattle.std.proofs.Common.{◌≡◌, ◌≢◌, ℕ, zero, suc, ◌+◌, ◌-◌, ◌<◌, ◌≤◌, eqb, List, [], ◌∷◌, ◌++◌, length, get_or, drop, refl, sym, ◌∙◌, ap, subst, arith, map, append_assoc, slice_range, length-append, length-drop, length-take-le}
 use Rattle.std.proofs.lemmas.List.{append-nil, length-map, get_or_append_left, get_or-append-add, get_or-take, get_or-drop}
 use Rattle.std.proofs.lemmas.List.Elements.{filter-append}
 use Rattle.mr_bytes.specs.declared.Span.{Span}
@@ -92,7 +91,7 @@ records-in size files spans rows s d st all h =
 
 nth-numbered : (s file next i : ℕ) (bytes : List ℕ) (spans : List Span) (d : Span) → i < length spans
     → nth (numbered s file next (map (record_at bytes) spans)) i
-      ≡ record { name = record { split = s; rec = next + i }; file = file; start = (get_or spans i d).start; bytes = slice_range bytes (get_or spans i d).start (get_or spans i d).end }
+    ≡ record { name = record { split = s; rec = next + i }; file = file; start = (get_or spans i d).start; bytes = slice_range bytes (get_or spans i d).start (get_or spans i d).end }
 unfolding numbered
 nth-numbered s file next i bytes [] d h = absurd (omega arith)
 nth-numbered s file next zero bytes (p ∷ spans) d h =
@@ -178,8 +177,8 @@ joined-parts low (suc a) b rs =
 -- all records, before a split, in it and behind it
 pub around : (size : ℕ) (files : List (List ℕ)) (s : ℕ) → 0 < size → s < split_total size files
     → named_records size files
-      ≡ joined 0 s (named_records size files)
-        ++ (of_split s (named_records size files) ++ joined (s + 1) (split_total size files - s - 1) (named_records size files))
+    ≡ joined 0 s (named_records size files)
+    ++ (of_split s (named_records size files) ++ joined (s + 1) (split_total size files - s - 1) (named_records size files))
 around size files s some h =
     let rs : List NamedRecord = named_records size files in
     let n : ℕ = split_total size files - s - 1 in
@@ -216,9 +215,14 @@ length-listed files spans s at end [] t h = omega (arith, t)
 length-listed files spans s at end (row ∷ rows) t h =
     let later = length-listed files spans (s + 1) (at + row.count) end rows t.1 h in
     let within : row.first + row.count ≤ length spans = omega (arith, later, t.0, h) in
-    omega (arith, later, length-append (row_records files spans s row) (listed files spans (s + 1) rows),
+    omega (
+      arith,
+      later,
+      length-append (row_records files spans s row) (listed files spans (s + 1) rows),
       length-numbered s row.place.file 0 (map (record_at (input.nth files row.place.file)) (spans_of spans row)),
-      length-map (spans_of spans row) (record_at (input.nth files row.place.file)), length-spans_of spans row within)
+      length-map (spans_of spans row) (record_at (input.nth files row.place.file)),
+      length-spans_of spans row within,
+    )
 
 pub count-is : (size : ℕ) (files : List (List ℕ)) (spans : List Span) (rows : List Row) → Stands size files spans rows
     → listed files spans 0 rows ≡ named_records size files → length spans ≡ length (named_records size files)

@@ -1,9 +1,8 @@
 -- The names of records rise.
-use Rattle.std.proofs.Common.{◌≡◌, ◌≢◌, ℕ, ◌+◌, ◌-◌, ◌/◌, ◌<◌, ◌≤◌, ◌⊎◌, Bool, true, false, cond, eqb, List, [], ◌∷◌, ◌++◌, length, refl, sym, ◌∙◌, ap, subst, arith, inl, inr, map}
-use Rattle.std.proofs.lemmas.Bool.{cases_eq, eq-eqb, ne_eqb, lt-ltb, le-ltb}
+use Rattle.std.proofs.Common.{◌≡◌, ℕ, ◌+◌, ◌-◌, ◌/◌, ◌<◌, ◌≤◌, ◌⊎◌, cond, eqb, List, [], ◌∷◌, ◌++◌, length, refl, sym, ◌∙◌, ap, subst, arith, inl, inr, map}
+use Rattle.std.proofs.lemmas.Bool.{cases_eq, eq-eqb, lt-ltb, le-ltb}
 use Rattle.std.specs.List.{AllByRecursion}
 use Rattle.std.specs.Ordering.{nat_cmp, ordering_then}
-use Rattle.std.specs.declared.cmp.Ordering.{Ordering}
 use Rattle.std.specs.declared.cmp.Ordering.TheVariants.{Less, Equal, Greater}
 use Rattle.mr_bytes.specs.Lists.{Rises}
 use Rattle.mr_bytes.specs.Order.{record_order}
@@ -104,10 +103,11 @@ all-past : (m : RecordName) (s r : ℕ) (xs : List NamedRecord) → AtLeast m.sp
     → AllByRecursion (λ n. record_order m n ≡ Less) (map (λ (x : NamedRecord). x.name) xs)
 all-past m s r [] below h = tt
 all-past m s r (x ∷ xs) below h =
-    let here : AtLeast m.split (m.rec + 1) x.name = at_least-trans m.split (m.rec + 1) (name_at s r) x.name below h.0 in
-    (past-less m x.name here,
+    let here : AtLeast m.split (m.rec + 1) x.name = at_least-trans m.split (m.rec + 1) (name_at s r) x.name below h.0 in (
+      past-less m x.name here,
       all-past m x.name.split (x.name.rec + 1) xs
-      (at_least-trans m.split (m.rec + 1) x.name (name_at x.name.split (x.name.rec + 1)) here (inr (refl, omega arith))) h.1)
+          (at_least-trans m.split (m.rec + 1) x.name (name_at x.name.split (x.name.rec + 1)) here (inr (refl, omega arith))) h.1,
+    )
 
 rises : (s r : ℕ) (xs : List NamedRecord) → RisesFrom s r xs → Rises record_order (map (λ (x : NamedRecord). x.name) xs)
 rises s r [] h = tt

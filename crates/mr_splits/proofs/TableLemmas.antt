@@ -1,9 +1,9 @@
 -- The tables of a plan as they grow, and what they say.
-use Rattle.std.proofs.Common.{◌≡◌, ◌≢◌, ℕ, zero, suc, ◌+◌, ◌-◌, ◌*◌, ◌/◌, ◌<◌, ◌≤◌, min, Bool, true, false, cond, eqb, List, [], ◌∷◌, ◌++◌, length, get_or, take, drop, All, refl, sym, ◌∙◌, ap, subst, arith, inl, inr, map, filter, append_assoc, slice_range, length-append, length-drop, length-take-le}
-use Rattle.std.proofs.lemmas.Bool.{cases_eq, cases_lt, eq-eqb, ne_eqb}
+use Rattle.std.proofs.Common.{◌≡◌, ℕ, zero, suc, ◌+◌, ◌-◌, ◌*◌, ◌/◌, ◌<◌, ◌≤◌, min, Bool, true, false, cond, eqb, List, [], ◌∷◌, ◌++◌, length, get_or, take, drop, All, refl, sym, ◌∙◌, ap, subst, arith, inl, inr, map, append_assoc, slice_range, length-append, length-drop}
+use Rattle.std.proofs.lemmas.Bool.{cases_lt, eq-eqb, ne_eqb}
 use Rattle.std.proofs.lemmas.Nat.{le-div, div_below}
-use Rattle.std.proofs.lemmas.List.{append-nil, length-map, drop-append-le, take-append-le, drop_at, take_all, get_or_append_left, get_or_push, length_push, take_more, at_drop_more, at_drop_all, get_or-take, get_or-drop}
-use Rattle.std.proofs.lemmas.List.Elements.{recursion_from_All, All-weaker, filter-append}
+use Rattle.std.proofs.lemmas.List.{append-nil, drop-append-le, take-append-le, drop_at, take_all, get_or_append_left, get_or_push, length_push, take_more, at_drop_more, at_drop_all}
+use Rattle.std.proofs.lemmas.List.Elements.{recursion_from_All, All-weaker}
 use Rattle.std.specs.List.{AllByRecursion}
 use Rattle.mr_bytes.specs.declared.Span.{Span}
 use Rattle.mr_records.specs.Records.{Record, record_at, records_from, records, Within}
@@ -11,7 +11,7 @@ use Rattle.mr_records.proofs.RecordLemmas.{records_from-end}
 use Rattle.mr_input.specs.Files.{split_count, split_total, nth}
 use Rattle.mr_splits.specs.declared.plan.SplitPlace.{SplitPlace}
 use Rattle.mr_splits.specs.declared.table.Row.{Row}
-use Rattle.mr_splits.specs.Named.{NamedRecord, named_from, named_files, named_records, of_split}
+use Rattle.mr_splits.specs.Named.{NamedRecord, named_from, named_files, named_records}
 use Rattle.mr_splits.specs.Places.{IsSplit}
 use Rattle.mr_splits.specs.Table.{numbered, spans_of, row_records, listed, Tiles, RowStands, Stands, Takes}
 use Rattle.mr_splits.proofs.StartLemmas.{StartsIn, starts-records, div-rises}
@@ -20,7 +20,7 @@ use Rattle.mr_splits.proofs.StartLemmas.{StartsIn, starts-records, div-rises}
 pub named-here : (size file first s k : ℕ) (bytes : List ℕ) (more : List Span) (ys : List Record)
     → AllByRecursion (λ (p : Span). first + p.start / size ≡ s) more
     → named_from size file first s k (map (record_at bytes) more ++ ys)
-      ≡ numbered s file k (map (record_at bytes) more) ++ named_from size file first s (k + length more) ys
+    ≡ numbered s file k (map (record_at bytes) more) ++ named_from size file first s (k + length more) ys
 unfolding named_from numbered
 named-here size file first s k bytes [] ys h =
     ap (λ (n : ℕ). named_from size file first s n ys) (let e : ◌≡◌ {A = ℕ} k (k + 0) = omega arith in e)
@@ -28,8 +28,8 @@ named-here size file first s k bytes (p ∷ more) ys h =
     let here : ℕ = first + p.start / size in
     let rest : List Record = map (record_at bytes) more ++ ys in
     let one : ℕ → ℕ → List NamedRecord = λ a n.
-        record { name = record { split = a; rec = n }; file = file; start = p.start; bytes = slice_range bytes p.start p.end }
-        ∷ named_from size file first a (n + 1) rest in
+    record { name = record { split = a; rec = n }; file = file; start = p.start; bytes = slice_range bytes p.start p.end }
+    ∷ named_from size file first a (n + 1) rest in
     let number : cond (eqb here s) k 0 ≡ k = ap (λ t. cond t k 0) (eq-eqb here s h.0) in
     ap (one here) number ∙ ap (λ (a : ℕ). one a k) h.0
     ∙ ap (λ (l : List NamedRecord). record { name = record { split = s; rec = k }; file = file; start = p.start; bytes = slice_range bytes p.start p.end } ∷ l)
@@ -49,8 +49,8 @@ named-move size file first s next low high [] some starts past = refl
 named-move size file first s next low high (r ∷ rs) some starts past =
     let here : ℕ = first + r.start / size in
     let one : ℕ → List NamedRecord = λ n.
-        record { name = record { split = here; rec = n }; file = file; start = r.start; bytes = r.bytes }
-        ∷ named_from size file first here (n + 1) rs in
+    record { name = record { split = here; rec = n }; file = file; start = r.start; bytes = r.bytes }
+    ∷ named_from size file first here (n + 1) rs in
     let up : low / size ≤ r.start / size = div-rises size low r.start some starts.0 in
     let left : cond (eqb here s) next 0 ≡ 0 = ap (λ t. cond t next 0) (ne_eqb here s (λ e. omega (arith, e, past, up))) in
     ap one (left ∙ sym (cond-same (eqb here (s + 1))))
@@ -61,18 +61,18 @@ named-nil size file first s next = refl
 
 pub named-next : (size file first j next from : ℕ) (bytes : List ℕ) → 0 < size → min ((j + 1) * size) (length bytes) ≤ from
     → named_from size file first (first + j) next (records_from from (drop from bytes))
-      ≡ named_from size file first (first + (j + 1)) 0 (records_from from (drop from bytes))
+    ≡ named_from size file first (first + (j + 1)) 0 (records_from from (drop from bytes))
 named-next size file first j next from bytes some past =
     elim (cases_lt from (length bytes)) [
       | inl inside ↦
-        let up : j + 1 ≤ from / size = le-div (j + 1) from size some (omega arith) in
-        named-move size file first (first + j) next from (from + length (drop from bytes)) (records_from from (drop from bytes)) some
-        (starts-records from (drop from bytes)) (omega (arith, up))
-        ∙ ap (λ (n : ℕ). named_from size file first n 0 (records_from from (drop from bytes))) (let e : first + j + 1 ≡ first + (j + 1) = omega arith in e)
+          let up : j + 1 ≤ from / size = le-div (j + 1) from size some (omega arith) in
+          named-move size file first (first + j) next from (from + length (drop from bytes)) (records_from from (drop from bytes)) some
+          (starts-records from (drop from bytes)) (omega (arith, up))
+          ∙ ap (λ (n : ℕ). named_from size file first n 0 (records_from from (drop from bytes))) (let e : first + j + 1 ≡ first + (j + 1) = omega arith in e)
       | inr end ↦
-        let none : records_from from (drop from bytes) ≡ [] = records_from-end from bytes end in
-        ap (named_from size file first (first + j) next) none ∙ named-nil size file first (first + j) next
-        ∙ sym (ap (named_from size file first (first + (j + 1)) 0) none ∙ named-nil size file first (first + (j + 1)) 0)
+          let none : records_from from (drop from bytes) ≡ [] = records_from-end from bytes end in
+          ap (named_from size file first (first + j) next) none ∙ named-nil size file first (first + j) next
+          ∙ sym (ap (named_from size file first (first + (j + 1)) 0) none ∙ named-nil size file first (first + (j + 1)) 0)
     ]
 
 -- a part of a list that has grown behind it
@@ -145,7 +145,7 @@ listed-append files spans s (row ∷ rows) one =
 pub listed-push : (files : List (List ℕ)) (spans more : List Span) (rows : List Row) (one : Row) → Tiles 0 (length spans) rows
     → one.first ≡ length spans → one.count ≡ length more
     → listed files (spans ++ more) 0 (rows ++ one ∷ [])
-      ≡ listed files spans 0 rows ++ numbered (length rows) one.place.file 0 (map (record_at (nth files one.place.file)) more)
+    ≡ listed files spans 0 rows ++ numbered (length rows) one.place.file 0 (map (record_at (nth files one.place.file)) more)
 listed-push files spans more rows one t first count =
     let new : spans_of (spans ++ more) one ≡ more =
     ap (λ (a : ℕ). slice_range (spans ++ more) a (a + one.count)) first
@@ -177,12 +177,12 @@ stands-push size files spans more rows one st first count place within =
       rows_stand = λ s d h.
           elim (cases_lt s (length rows)) [
             | inl old ↦
-              subst (RowStands size files (spans ++ more) s) (sym (get_or_append_left rows (one ∷ []) d s old))
-              (stands-more size files spans more s (get_or rows s d) (tiles-within 0 (length spans) rows s d st.tiles old) (st.rows_stand s d old))
+                subst (RowStands size files (spans ++ more) s) (sym (get_or_append_left rows (one ∷ []) d s old))
+                (stands-more size files spans more s (get_or rows s d) (tiles-within 0 (length spans) rows s d st.tiles old) (st.rows_stand s d old))
             | inr late ↦
-              let here : length rows ≡ s = omega (arith, late, h, length_push rows one) in
-              subst (RowStands size files (spans ++ more) s) (sym (get_or_push rows one d s here))
-              (subst (λ (n : ℕ). RowStands size files (spans ++ more) n one) here last)
+                let here : length rows ≡ s = omega (arith, late, h, length_push rows one) in
+                subst (RowStands size files (spans ++ more) s) (sym (get_or_push rows one d s here))
+                (subst (λ (n : ℕ). RowStands size files (spans ++ more) n one) here last)
           ];
       tiles = subst (λ (n : ℕ). Tiles 0 n (rows ++ one ∷ []))
           (ap (λ (n : ℕ). length spans + n) count ∙ sym (length-append spans more)) (tiles-push 0 (length spans) rows one st.tiles first);
@@ -218,8 +218,8 @@ pub record Cutting (size : ℕ) (files : List (List ℕ)) (file : ℕ) (all : Li
 pub cutting-begun : (size : ℕ) (files : List (List ℕ)) (file : ℕ) (spans : List Span) (rows : List Row)
     → length rows ≡ split_total size (take file files) → Stands size files spans rows
     → Cutting size files file
-      (listed files spans 0 rows ++ named_from size file (split_total size (take file files)) (split_total size (take file files)) 0 (records (nth files file)))
-      0 0 spans rows 0
+    (listed files spans 0 rows ++ named_from size file (split_total size (take file files)) (split_total size (take file files)) 0 (records (nth files file)))
+    0 0 spans rows 0
 cutting-begun size files file spans rows count stands = record {
   rows_are = omega (arith, count);
   stands = stands;
@@ -268,7 +268,7 @@ cutting-more size files file all start from end next spans more rows one j some 
     (λ p b. in-split size before j p.start some (omega (arith, b.0, cut.past, begins)) (omega (arith, b.1, stops))) more taken.belong) in
     let rest : List Record = records_from next (drop next bytes) in
     let named : named_from size file before (before + j) 0 (records_from from (drop from bytes))
-      ≡ numbered (before + j) file 0 (map (record_at bytes) more) ++ named_from size file before (before + (j + 1)) 0 rest =
+    ≡ numbered (before + j) file 0 (map (record_at bytes) more) ++ named_from size file before (before + (j + 1)) 0 rest =
     ap (named_from size file before (before + j) 0) taken.records
     ∙ named-here size file before (before + j) 0 bytes more rest here
     ∙ ap (λ (l : List NamedRecord). numbered (before + j) file 0 (map (record_at bytes) more) ++ l)
@@ -313,12 +313,13 @@ cutting-done size files file all start from spans rows j some cut done =
     let before : ℕ = split_total size (take file files) in
     let whole : length bytes ≤ j * size = omega (arith, cut.start_is, done) in
     let last : (length bytes + size - 1) / size < j + 1 = div_below (length bytes + size - 1) size (j + 1) some (omega (arith, whole, some)) in
-    let none : records_from from (drop from bytes) ≡ [] = records_from-end from bytes (omega (arith, cut.past, done)) in
-    (omega (arith, cut.rows_are, cut.some_left, last),
+    let none : records_from from (drop from bytes) ≡ [] = records_from-end from bytes (omega (arith, cut.past, done)) in (
+      omega (arith, cut.rows_are, cut.some_left, last),
       sym (append-nil (listed files spans 0 rows))
-      ∙ ap (λ (l : List NamedRecord). listed files spans 0 rows ++ l)
-      (sym (ap (named_from size file before (before + j) 0) none ∙ named-nil size file before (before + j) 0))
-      ∙ cut.said)
+          ∙ ap (λ (l : List NamedRecord). listed files spans 0 rows ++ l)
+          (sym (ap (named_from size file before (before + j) 0) none ∙ named-nil size file before (before + j) 0))
+          ∙ cut.said,
+    )
 
 pub stands-none : (size : ℕ) (files : List (List ℕ)) → Stands size files [] []
 stands-none size files = record { rows_stand = λ s d h. absurd (omega (arith, h)); tiles = refl }

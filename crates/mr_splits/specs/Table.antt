@@ -3,7 +3,6 @@ use Rattle.std.specs.Prelude.{◌≡◌, ℕ, ◌+◌, ◌<◌, ◌≤◌, List,
 use Rattle.mr_bytes.specs.declared.Span.{Span}
 use Rattle.mr_records.specs.Records.{Record, record_at, records_from, Within}
 use Rattle.mr_input.specs.Files.{nth}
-use Rattle.mr_splits.specs.declared.plan.SplitPlace.{SplitPlace}
 use Rattle.mr_splits.specs.declared.table.Row.{Row}
 use Rattle.mr_splits.specs.Named.{NamedRecord}
 use Rattle.mr_splits.specs.Places.{IsSplit}

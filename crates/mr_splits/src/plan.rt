@@ -72,12 +72,12 @@ impl<'a> Model for Plan<'a> {
     ghost view = { λ p. record { size = p.size; files = p.input.now } };
 
     ghost invariant = { λ p. record {
-        some : 0 < p.size;
-        size : p.size ≤ 2 ^ 26;
-        few : split_total p.size p.input.now ≤ 2 ^ 20;
-        rows : length p.table.rows.items ≡ split_total p.size p.input.now;
-        stands : Stands p.size p.input.now p.table.spans.items p.table.rows.items;
-        all : listed p.input.now p.table.spans.items 0 p.table.rows.items ≡ named_records p.size p.input.now;
+      some : 0 < p.size;
+      size : p.size ≤ 2 ^ 26;
+      few : split_total p.size p.input.now ≤ 2 ^ 20;
+      rows : length p.table.rows.items ≡ split_total p.size p.input.now;
+      stands : Stands p.size p.input.now p.table.spans.items p.table.rows.items;
+      all : listed p.input.now p.table.spans.items 0 p.table.rows.items ≡ named_records p.size p.input.now;
     } };
 }
 

@@ -27,7 +27,7 @@ fn next_record(bytes: &[u8], from: usize, end: usize) -> Option<Span>
     requires end { end ≤ length bytes.now }
     ensures { MatchOption result (end ≤ from)
         (λ s. Within bytes.now s × (s.start ≡ from) × (from < end)
-            × (records_from from (drop from bytes.now) ≡ record_at bytes.now s ∷ records_from (s.end + 1) (drop (s.end + 1) bytes.now))) }
+        × (records_from from (drop from bytes.now) ≡ record_at bytes.now s ∷ records_from (s.end + 1) (drop (s.end + 1) bytes.now))) }
 {
     if from >= end {
         return None;

@@ -48,7 +48,7 @@ fn cut_file(input: &Input, i: usize, size: u32, table: &mut Table) -> Result<(),
     ensures stands { OnOk result (Stands size input.now table.new.spans.items table.new.rows.items) }
     ensures all { OnOk result (listed input.now table.new.spans.items 0 table.new.rows.items
         ≡ listed input.now table.old.spans.items 0 table.old.rows.items
-          ++ named_from size i (split_total size (take i input.now)) (split_total size (take i input.now)) 0 (records (nth input.now i))) }
+        ++ named_from size i (split_total size (take i input.now)) (split_total size (take i input.now)) 0 (records (nth input.now i))) }
 {
     let bytes = input.file(i);
     let mut start = 0;

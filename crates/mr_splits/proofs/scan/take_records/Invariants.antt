@@ -1,4 +1,4 @@
-use Rattle.std.proofs.Common.{◌≡◌, ℕ, ◌-◌, ◌+◌, ◌≤◌, length, ◌++◌, List}
+use Rattle.std.proofs.Common.{◌≡◌, ◌-◌, ◌+◌, ◌≤◌, length, ◌++◌, List}
 use Rattle.mr_bytes.specs.declared.Span.{Span}
 use Rattle.mr_splits.specs.Table.{Takes}
 use Rattle.mr_splits.proofs.scan.take_records.Given as goal

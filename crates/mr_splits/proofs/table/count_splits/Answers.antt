@@ -1,7 +1,7 @@
-use Rattle.std.proofs.Common.{arith, sym, ◌≡◌, ◌≤◌, ◌+◌, ◌-◌, ◌/◌, ◌^◌, ℕ, List, length, ap, ◌∙◌, take}
+use Rattle.std.proofs.Common.{arith, sym, ◌≡◌, ◌+◌, ◌-◌, ◌/◌, ℕ, length, ap, ◌∙◌, take}
 use Rattle.std.proofs.lemmas.List.{take_all}
 use Rattle.std.proofs.Math.Nat.{div-le_self}
-use Rattle.mr_input.specs.Files.{nth, split_total, split_count}
+use Rattle.mr_input.specs.Files.{nth, split_total}
 use Rattle.mr_splits.proofs.TableLemmas.{split_total-more, split_total-none}
 use Rattle.mr_splits.proofs.table.count_splits.Goals as goal
 

@@ -1,7 +1,6 @@
-use Rattle.std.proofs.Common.{arith, refl, subst, sym, ap, ◌∙◌, ◌≡◌, ◌≤◌, ◌+◌, ◌-◌, ◌++◌, ◌∷◌, [], ℕ, List, length, length-append, take}
+use Rattle.std.proofs.Common.{arith, ap, ◌≡◌, ◌+◌, ◌-◌, List, length, length-append}
 use Rattle.mr_bytes.specs.declared.Span.{Span}
-use Rattle.mr_input.specs.Files.{nth, split_total, split_count}
-use Rattle.mr_splits.proofs.TableLemmas.{Cutting, cutting-begun, cutting-step, cutting-done}
+use Rattle.mr_splits.proofs.TableLemmas.{cutting-begun, cutting-step, cutting-done}
 use Rattle.mr_splits.proofs.table.cut_file.Goals as goal
 
 pub loop-start-init : goal.loop-start-init
@@ -20,11 +19,13 @@ loop-start-preserved c =
     let count : c.len.result - c.len-first.result ≡ length t.0 =
     omega (arith, first, c.len.ensures, c.take_records.new.spans.ok.0, ap length t.1, length-append spans t.0) in
     record {
-      cut = (cut.0 + 1,
-          cutting-step c.args.size c.args.input.now c.args.i _ c.loop-start.start c.loop-start.next c.min-end.result c.in_ok-next.next
-          spans t.0 c.take_records.new.spans.items c.loop-start.table.rows.items c.push.new.self.items c.file-bytes.result.now
-          c.len-first.result (c.len.result - c.len-first.result) cut.0 c.requires.size.0 c.requires.file.0 cut.1 c.file-bytes.ensures.bytes
-          c.loop-start-test.true (omega arith) t.2 c.in_ok-next.ensures.next.1 first count t.1 c.in_ok-push.ensures.items);
+      cut = (
+        cut.0 + 1,
+        cutting-step c.args.size c.args.input.now c.args.i _ c.loop-start.start c.loop-start.next c.min-end.result c.in_ok-next.next
+            spans t.0 c.take_records.new.spans.items c.loop-start.table.rows.items c.push.new.self.items c.file-bytes.result.now
+            c.len-first.result (c.len.result - c.len-first.result) cut.0 c.requires.size.0 c.requires.file.0 cut.1 c.file-bytes.ensures.bytes
+            c.loop-start-test.true (omega arith) t.2 c.in_ok-next.ensures.next.1 first count t.1 c.in_ok-push.ensures.items,
+      );
       within = omega arith;
       inside = omega (arith, c.in_ok-next.ensures.next.2);
     }
@@ -33,8 +34,18 @@ pub overflow_cast-len : goal.overflow_cast-len
 overflow_cast-len c =
     let t = c.in_ok-next.ensures.taken in
     let spans : List Span = c.loop-start.table.spans.items in
-    omega (arith, c.len-first.ensures, c.loop-start.table.spans.ok.0, c.len.ensures, c.take_records.new.spans.ok.0, ap length t.1, length-append spans t.0,
-      t.2.few, c.in_ok-next.ensures.next.2, c.file-bytes.ensures.small)
+    omega (
+      arith,
+      c.len-first.ensures,
+      c.loop-start.table.spans.ok.0,
+      c.len.ensures,
+      c.take_records.new.spans.ok.0,
+      ap length t.1,
+      length-append spans t.0,
+      t.2.few,
+      c.in_ok-next.ensures.next.2,
+      c.file-bytes.ensures.small,
+    )
 
 pub returns-clause-all : goal.returns-clause-all
 returns-clause-all c =

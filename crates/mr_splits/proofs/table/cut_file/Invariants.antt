@@ -1,4 +1,4 @@
-use Rattle.std.proofs.Common.{length, ◌-◌, ◌+◌, ◌≡◌, ℕ, ◌++◌, ◌≤◌, take}
+use Rattle.std.proofs.Common.{length, ◌-◌, ◌+◌, ℕ, ◌++◌, ◌≤◌, take}
 use Rattle.mr_records.specs.Records.{records}
 use Rattle.mr_input.specs.Files.{split_total, nth}
 use Rattle.mr_splits.specs.Named.{named_from}

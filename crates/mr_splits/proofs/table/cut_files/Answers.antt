@@ -1,4 +1,4 @@
-use Rattle.std.proofs.Common.{arith, refl, subst, sym, ap, ◌∙◌, ◌≡◌, ◌≤◌, ◌<◌, ◌+◌, ◌++◌, [], ℕ, List, length, take, drop}
+use Rattle.std.proofs.Common.{arith, subst, sym, ap, ◌∙◌, ◌≤◌, ◌<◌, ◌++◌, [], ℕ, List, length, take, drop}
 use Rattle.std.proofs.lemmas.List.{take_all}
 use Rattle.mr_bytes.specs.declared.Span.{Span}
 use Rattle.mr_input.specs.Files.{split_total}

@@ -1,8 +1,8 @@
-use Rattle.std.proofs.Common.{arith, ap, subst, sym, ◌∙◌, ◌≡◌, ◌<◌, ◌≤◌, false, true, IsTrue, ltb, length, List, ℕ, []}
+use Rattle.std.proofs.Common.{arith, ap, subst, sym, ◌∙◌, ◌≡◌, ◌<◌, ◌≤◌, false, IsTrue, ltb, length, List, []}
 use Rattle.std.proofs.lemmas.Bool.{le-ltb, false≢true}
 use Rattle.mr_input.specs.Files.{split_total}
 use Rattle.mr_splits.specs.Named.{NamedRecord, of_split}
-use Rattle.mr_splits.specs.Cut.{Cut, records_of, is_record}
+use Rattle.mr_splits.specs.Cut.{Cut, records_of}
 use Rattle.mr_splits.proofs.NameLemmas.{is_record-is, none-past}
 use Rattle.mr_splits.proofs.plan.Plan.has_record.Goals as goal
 

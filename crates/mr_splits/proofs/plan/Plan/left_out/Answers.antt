@@ -1,7 +1,7 @@
-use Rattle.std.proofs.Common.{arith, ap, sym, ◌∙◌, ◌≡◌, List, Bool, ℕ, length}
+use Rattle.std.proofs.Common.{sym, ◌∙◌, length}
 use Rattle.std.proofs.lemmas.Bool.{eqb-true}
 use Rattle.mr_splits.specs.Cut.{records_of}
-use Rattle.mr_splits.proofs.NameLemmas.{flags-none, flags-kept}
+use Rattle.mr_splits.proofs.NameLemmas.{flags-none}
 use Rattle.mr_splits.proofs.plan.Plan.left_out.Goals as goal
 
 pub returns-then-is_empty : goal.returns-then-is_empty

@@ -1,11 +1,10 @@
-use Rattle.std.proofs.Common.{arith, ap, subst, sym, ◌∙◌, ◌≡◌, ◌<◌, ◌≤◌, ◌+◌, ℕ, List, length, slice_range, refl}
+use Rattle.std.proofs.Common.{arith, ap, subst, sym, ◌∙◌, ◌<◌, ℕ, List, length, slice_range}
 use Rattle.mr_bytes.specs.declared.Span.{Span}
 use Rattle.mr_input.specs.Files.{split_total}
 use Rattle.mr_splits.specs.declared.table.Row.{Row}
-use Rattle.mr_splits.specs.Named.{NamedRecord, of_split}
+use Rattle.mr_splits.specs.Named.{of_split}
 use Rattle.mr_splits.specs.Cut.{Cut, records_of, nth}
-use Rattle.mr_splits.specs.Table.{Stands, listed}
-use Rattle.mr_splits.proofs.ReadLemmas.{Found, found-row, found-at}
+use Rattle.mr_splits.proofs.ReadLemmas.{found-row, found-at}
 use Rattle.mr_splits.proofs.NameLemmas.{named-at}
 use Rattle.mr_splits.proofs.plan.Plan.located.Goals as goal
 
@@ -17,7 +16,7 @@ overflow_add-row c =
     let k : c.args.r < length (of_split c.args.s (records_of (record { size = p.size; files = p.input.now }))) =
     omega (arith, c.requires.«record», ap (λ (v : Cut). length (of_split c.args.s (records_of v))) c.self.view_is) in
     let among = found-row p.size p.input.now p.table.spans.items p.table.rows.items c.args.s c.args.r c.index-row.result.now
-        c.self.invariant.stands c.self.invariant.all h k c.index-row.ensures in
+    c.self.invariant.stands c.self.invariant.all h k c.index-row.ensures in
     omega (arith, among, p.table.spans.ok.0, p.table.spans.small)
 
 pub index-span-requires : goal.index-span-requires
@@ -28,7 +27,7 @@ index-span-requires c =
     let k : c.args.r < length (of_split c.args.s (records_of (record { size = p.size; files = p.input.now }))) =
     omega (arith, c.requires.«record», ap (λ (v : Cut). length (of_split c.args.s (records_of v))) c.self.view_is) in
     let among = found-row p.size p.input.now p.table.spans.items p.table.rows.items c.args.s c.args.r c.index-row.result.now
-        c.self.invariant.stands c.self.invariant.all h k c.index-row.ensures in
+    c.self.invariant.stands c.self.invariant.all h k c.index-row.ensures in
     omega (arith, among, p.table.spans.ok.0)
 
 pub slice_bounds-result-count : goal.slice_bounds-result-count
@@ -39,7 +38,7 @@ slice_bounds-result-count c =
     let k : c.args.r < length (of_split c.args.s (records_of (record { size = p.size; files = p.input.now }))) =
     omega (arith, c.requires.«record», ap (λ (v : Cut). length (of_split c.args.s (records_of v))) c.self.view_is) in
     let f = found-at p.size p.input.now p.table.spans.items p.table.rows.items c.args.s c.args.r c.index-row.result.now c.index-span.result.now
-        c.self.invariant.stands c.self.invariant.all h k c.index-row.ensures c.index-span.ensures in
+    c.self.invariant.stands c.self.invariant.all h k c.index-row.ensures c.index-span.ensures in
     omega (arith, f.within.0, f.within.1, ap length c.file-bytes.ensures.bytes)
 
 pub slice_bounds-result-start : goal.slice_bounds-result-start
@@ -50,7 +49,7 @@ slice_bounds-result-start c =
     let k : c.args.r < length (of_split c.args.s (records_of (record { size = p.size; files = p.input.now }))) =
     omega (arith, c.requires.«record», ap (λ (v : Cut). length (of_split c.args.s (records_of v))) c.self.view_is) in
     let f = found-at p.size p.input.now p.table.spans.items p.table.rows.items c.args.s c.args.r c.index-row.result.now c.index-span.result.now
-        c.self.invariant.stands c.self.invariant.all h k c.index-row.ensures c.index-span.ensures in
+    c.self.invariant.stands c.self.invariant.all h k c.index-row.ensures c.index-span.ensures in
     omega (arith, f.within.0, f.within.1, ap length c.file-bytes.ensures.bytes)
 
 pub slice_bounds-result-end : goal.slice_bounds-result-end
@@ -61,7 +60,7 @@ slice_bounds-result-end c =
     let k : c.args.r < length (of_split c.args.s (records_of (record { size = p.size; files = p.input.now }))) =
     omega (arith, c.requires.«record», ap (λ (v : Cut). length (of_split c.args.s (records_of v))) c.self.view_is) in
     let f = found-at p.size p.input.now p.table.spans.items p.table.rows.items c.args.s c.args.r c.index-row.result.now c.index-span.result.now
-        c.self.invariant.stands c.self.invariant.all h k c.index-row.ensures c.index-span.ensures in
+    c.self.invariant.stands c.self.invariant.all h k c.index-row.ensures c.index-span.ensures in
     omega (arith, f.within.0, f.within.1, ap length c.file-bytes.ensures.bytes)
 
 pub returns-clause-record : goal.returns-clause-record
@@ -74,7 +73,7 @@ returns-clause-record c =
     let row : Row = c.index-row.result.now in
     let span : Span = c.index-span.result.now in
     let f = found-at p.size p.input.now p.table.spans.items p.table.rows.items c.args.s c.args.r row span
-        c.self.invariant.stands c.self.invariant.all h k c.index-row.ensures c.index-span.ensures in
+    c.self.invariant.stands c.self.invariant.all h k c.index-row.ensures c.index-span.ensures in
     sym (ap (λ (v : Cut). nth (of_split c.args.s (records_of v)) c.args.r) c.self.view_is) ∙ f.is
     ∙ ap (λ (bs : List ℕ). record { name = record { split = c.args.s; rec = c.args.r }; file = row.place.file; start = span.start; bytes = slice_range bs span.start span.end })
     (sym c.file-bytes.ensures.bytes)

@@ -1,4 +1,4 @@
-use Rattle.std.proofs.Common.{arith, ap, sym, ◌∙◌, ◌≡◌, ◌||◌, List, Bool, ℕ, length, take, false, get_or}
+use Rattle.std.proofs.Common.{arith, ap, sym, ◌∙◌, ◌||◌, List, get_or}
 use Rattle.std.proofs.lemmas.List.{take_all}
 use Rattle.std.proofs.lemmas.List.Folds.{list_any_more}
 use Rattle.mr_bytes.specs.declared.RecordName.{RecordName}
@@ -19,4 +19,4 @@ pub returns : goal.returns
 returns c =
     flags-are c.args.skips.now (records_of c.args.self.now) c.loop-name.flags (omega (arith, c.loop-name.auto.flags, c.requires.count))
     (λ i h. c.loop-name.invariant i h
-      ∙ ap (λ (ss : List RecordName). is_left_out ss (nth (records_of c.args.self.now) i).name) (take_all c.loop-name.name-index c.args.skips.now c.loop-name-test.false))
+    ∙ ap (λ (ss : List RecordName). is_left_out ss (nth (records_of c.args.self.now) i).name) (take_all c.loop-name.name-index c.args.skips.now c.loop-name-test.false))

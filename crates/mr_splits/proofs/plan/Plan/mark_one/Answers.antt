@@ -1,4 +1,4 @@
-use Rattle.std.proofs.Common.{arith, sym, ◌∙◌, ◌≡◌, List, Bool}
+use Rattle.std.proofs.Common.{sym}
 use Rattle.mr_splits.specs.Cut.{records_of}
 use Rattle.mr_splits.proofs.NameLemmas.{marked, unmarked}
 use Rattle.mr_splits.proofs.plan.Plan.mark_one.Goals as goal

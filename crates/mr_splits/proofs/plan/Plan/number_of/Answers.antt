@@ -16,7 +16,7 @@ overflow_add-result c =
     let k : c.args.r < length (of_split c.args.s (records_of (record { size = p.size; files = p.input.now }))) =
     omega (arith, c.requires.«record», ap (λ (v : Cut). length (of_split c.args.s (records_of v))) c.self.view_is) in
     let among = found-row p.size p.input.now p.table.spans.items p.table.rows.items c.args.s c.args.r c.index.result.now
-        c.self.invariant.stands c.self.invariant.all h k c.index.ensures in
+    c.self.invariant.stands c.self.invariant.all h k c.index.ensures in
     omega (arith, among, p.table.spans.ok.0, p.table.spans.small)
 
 pub returns : goal.returns

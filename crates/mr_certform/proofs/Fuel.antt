@@ -1,0 +1,260 @@
+-- The items that stand come one by one.
+use Rattle.std.proofs.Common.{◌≡◌, ℕ, zero, suc, ◌+◌, ◌-◌, ◌<◌, ◌≤◌, Option, Some, None, List, [], ◌∷◌, length, take, drop, refl, ap, sym, ◌∙◌, subst, inl, inr, ◌⊎◌, arith, Bool, true, false, cond, leb, ltb, eqb, ◌&&◌}
+use Rattle.std.proofs.lemmas.Bool.{ltb-false}
+use Rattle.std.proofs.lemmas.List.{length-drop, length-take}
+use Rattle.std.specs.Cmp.Lexicographic.{bytes_decides, pointwise}
+use Rattle.std.specs.Int.{w32, w64, from_be_bytes}
+use Rattle.mr_bytes.specs.declared.Name.{Name}
+use Rattle.mr_certform.specs.declared.item.Item.{Item}
+use Rattle.mr_certform.specs.declared.item.Item.TheVariants.{Magic, Job, Flags, LiteralLength, LiteralByte, Parts, SplitSize, Files, FileLength, Skips, Skip, Groups, Entries, Entry, End}
+use Rattle.std.specs.Prelude.{Result, Ok, Err, MatchResult}
+use Rattle.mr_certform.specs.declared.item.Malformed.{Malformed}
+use Rattle.mr_certform.specs.declared.place.Place.{Place}
+use Rattle.mr_certform.specs.declared.place.Place.TheVariants.{AtMagic, AtJob, AtFlags, AtLiteralLength, AtLiteralByte, AtParts, AtSplitSize, AtFiles, AtFileLength, AtSkips, AtSkip, AtGroups, AtEntries, AtEntry, AtEnd, Behind}
+use Rattle.mr_certform.specs.Places.{behind, onward}
+use Rattle.mr_certform.specs.Spelling.{Front, magic, number, any, of_bytes, entry_at, skip_at, name_at, standing, walk, items_from, left_behind, unread_within, unread}
+
+-- ---- an option that was chosen by a test
+
+-- a test chose this front: it passed, and the front is its own
+pub chosen : {A : Type 0} (b : Bool) (x y : A) → cond b (Some x) None ≡ Some y → (b ≡ true) × (x ≡ y)
+chosen true x y e = (refl, cc e)
+chosen false x y e = absurd (cc e)
+
+pub not_chosen : {A : Type 0} (b : Bool) (o : Option A) (y : A) → cond b None o ≡ Some y → (b ≡ false) × (o ≡ Some y)
+not_chosen true o y e = absurd (cc e)
+not_chosen false o y e = (refl, e)
+
+-- ---- what stands has a byte, but for the end
+
+abbrev pub Shorter : List ℕ → List ℕ → Type 0
+Shorter rest bytes = length rest < length bytes
+
+abbrev pub Goes : List ℕ → Front → Type 0
+Goes bytes f = Shorter f.rest bytes × (f.item ≡ End → ⊥)
+
+sized : (size : ℕ) (item : Item) (bytes : List ℕ) (f : Front) → 1 ≤ size → (item ≡ End → ⊥) → of_bytes size item bytes ≡ Some f → Goes bytes f
+sized size item bytes f some other e =
+    let c = not_chosen (ltb (length bytes) size) (Some (record { item = item; rest = drop size bytes })) f e in
+    let same : record { item = item; rest = drop size bytes } ≡ f = cc (c.1) in
+    let long : size ≤ length bytes = ltb-false (length bytes) size (c.0) in
+    subst (Goes bytes) same (omega (arith, length-drop size bytes), other)
+
+numbered : (size : ℕ) (value : List ℕ → ℕ) (ok : ℕ → Bool) (item : ℕ → Item) (bytes : List ℕ) (f : Front) → 1 ≤ size → ((n : ℕ) → item n ≡ End → ⊥) → number size value ok item bytes ≡ Some f → Goes bytes f
+numbered size value ok item bytes f some other e =
+    let n = value (take size bytes) in
+    let c = not_chosen (ltb (length bytes) size) (cond (ok n) (Some (record { item = item n; rest = drop size bytes })) None) f e in
+    let d = chosen (ok n) (record { item = item n; rest = drop size bytes }) f (c.1) in
+    let long : size ≤ length bytes = ltb-false (length bytes) size (c.0) in
+    subst (Goes bytes) (d.1) (omega (arith, length-drop size bytes), other n)
+
+entry_shorter : (before : Name) (bytes : List ℕ) (f : Front) → entry_at before bytes ≡ Some f → Goes bytes f
+entry_shorter before bytes f e = sized 12 (Entry (name_at bytes)) bytes f (omega arith) (λ z. cc z) e
+
+magic_shorter : (bytes : List ℕ) (f : Front) → standing AtMagic bytes ≡ Some f → Goes bytes f
+magic_shorter bytes f e =
+    let c = chosen (pointwise eqb (take 8 bytes) magic) (record { item = Magic; rest = drop 8 bytes }) f e in
+    let eight : take 8 bytes ≡ magic = (bytes_decides (take 8 bytes) magic).0 (c.0) in
+    subst (Goes bytes) (c.1) (omega (arith, length-drop 8 bytes, length-take 8 bytes, ap length eight), λ z. cc z)
+
+pub shorter : (p : Place) (bytes : List ℕ) (f : Front) → standing p bytes ≡ Some f → Goes bytes f ⊎ ((f.item ≡ End) × (p ≡ AtEnd))
+shorter AtMagic bytes f e = inl (magic_shorter bytes f e)
+shorter AtJob bytes f e = inl (numbered 4 (from_be_bytes w32) any Job bytes f (omega arith) (λ n z. cc z) e)
+shorter AtFlags bytes f e = inl (numbered 4 (from_be_bytes w32) any Flags bytes f (omega arith) (λ n z. cc z) e)
+shorter AtLiteralLength bytes f e = inl (numbered 4 (from_be_bytes w32) (λ n. leb n 4096) LiteralLength bytes f (omega arith) (λ n z. cc z) e)
+shorter (AtLiteralByte m) [] f e = absurd (cc e)
+shorter (AtLiteralByte m) (b ∷ bytes) f e = let same : record { item = LiteralByte b; rest = bytes } ≡ f = cc e in inl (subst (Goes (b ∷ bytes)) same (omega arith, λ z. cc z))
+shorter AtParts bytes f e = inl (numbered 4 (from_be_bytes w32) (λ n. leb 1 n && leb n 1024) Parts bytes f (omega arith) (λ n z. cc z) e)
+shorter (AtSplitSize r) bytes f e = inl (numbered 4 (from_be_bytes w32) any SplitSize bytes f (omega arith) (λ n z. cc z) e)
+shorter (AtFiles r) bytes f e = inl (numbered 4 (from_be_bytes w32) (λ n. leb n 1024) Files bytes f (omega arith) (λ n z. cc z) e)
+shorter (AtFileLength r n) bytes f e = inl (numbered 8 (from_be_bytes w64) any FileLength bytes f (omega arith) (λ n z. cc z) e)
+shorter (AtSkips r) bytes f e = inl (numbered 4 (from_be_bytes w32) any Skips bytes f (omega arith) (λ n z. cc z) e)
+shorter (AtSkip r n) bytes f e = inl (sized 8 (Skip (skip_at bytes)) bytes f (omega arith) (λ z. cc z) e)
+shorter (AtGroups r) bytes f e = inl (numbered 4 (from_be_bytes w32) any Groups bytes f (omega arith) (λ n z. cc z) e)
+shorter (AtEntries r g) bytes f e = inl (numbered 4 (from_be_bytes w32) (λ n. leb 1 n) Entries bytes f (omega arith) (λ n z. cc z) e)
+shorter (AtEntry r g n before) bytes f e = inl (entry_shorter before bytes f e)
+shorter AtEnd [] f e = let same : record { item = End; rest = [] } ≡ f = cc e in inr (ap (λ (g : Front). g.item) (sym same), refl)
+shorter AtEnd (b ∷ bytes) f e = absurd (cc e)
+shorter Behind bytes f e = absurd (cc e)
+
+-- ---- one by one
+
+abbrev pub walk_from : ℕ → Place → Option Front → List Item
+walk_from k p None = []
+walk_from k p (Some f) = f.item ∷ walk k (behind p f.item) f.rest
+
+pub walk-suc : (k : ℕ) (p : Place) (bytes : List ℕ) → walk (suc k) p bytes ≡ walk_from k p (standing p bytes)
+walk-suc k p bytes = by (standing p bytes)
+  where
+    by : (o : Option Front) → (elim o [ None ↦ [] | Some f ↦ f.item ∷ walk k (behind p f.item) f.rest ]) ≡ walk_from k p o
+    by None = refl
+    by (Some f) = refl
+
+walk-behind : (k : ℕ) (bytes : List ℕ) → walk k Behind bytes ≡ []
+walk-behind zero bytes = refl
+walk-behind (suc k) bytes = refl
+
+behind_end : (p : Place) (i : Item) → i ≡ End → p ≡ AtEnd → behind p i ≡ Behind
+behind_end p i e d = ap (λ q. behind q i) d
+
+-- how far the walk may go doesn't matter, if it may go far enough
+enough : (k j : ℕ) (p : Place) (bytes : List ℕ) → length bytes < k → length bytes < j → walk k p bytes ≡ walk j p bytes
+enough zero j p bytes a b = absurd (omega arith)
+enough (suc k) zero p bytes a b = absurd (omega arith)
+enough (suc k) (suc j) p bytes a b = walk-suc k p bytes ∙ (by (standing p bytes) refl (λ q rest. enough k j q rest) ∙ sym (walk-suc j p bytes))
+  where
+    by : (o : Option Front) → standing p bytes ≡ o → ((q : Place) (rest : List ℕ) → length rest < k → length rest < j → walk k q rest ≡ walk j q rest) → walk_from k p o ≡ walk_from j p o
+    by None is more = refl
+    by (Some f) is more =
+        elim (shorter p bytes f is) [
+          | inl less ↦ (let l = less.0 in ap (λ js. f.item ∷ js) (more (behind p f.item) f.rest (omega arith) (omega arith)))
+          | inr last ↦ (let e = behind_end p f.item last.0 last.1 in ap (λ js. f.item ∷ js) (ap (λ q. walk k q f.rest) e ∙ (walk-behind k f.rest ∙ (sym (walk-behind j f.rest) ∙ ap (λ q. walk j q f.rest) (sym e)))))
+        ]
+
+pub items_here : (p : Place) (bytes : List ℕ) (f : Front) → standing p bytes ≡ Some f → items_from p bytes ≡ f.item ∷ items_from (behind p f.item) f.rest
+unfolding items_from
+items_here p bytes f is =
+    let far : walk (length bytes + 1) p bytes ≡ walk (suc (length bytes)) p bytes = enough (length bytes + 1) (suc (length bytes)) p bytes (omega arith) (omega arith) in
+    far ∙ (walk-suc (length bytes) p bytes ∙ (ap (walk_from (length bytes) p) is ∙
+    (elim (shorter p bytes f is) [
+      | inl less ↦ (let l = less.0 in ap (λ js. f.item ∷ js) (enough (length bytes) (length f.rest + 1) (behind p f.item) f.rest (omega arith) (omega arith)))
+      | inr last ↦ (let e = behind_end p f.item last.0 last.1 in ap (λ js. f.item ∷ js) (ap (λ q. walk (length bytes) q f.rest) e ∙ (walk-behind (length bytes) f.rest ∙ (sym (walk-behind (length f.rest + 1) f.rest) ∙ ap (λ q. walk (length f.rest + 1) q f.rest) (sym e)))))
+    ])))
+
+pub items_none : (p : Place) (bytes : List ℕ) → standing p bytes ≡ None → items_from p bytes ≡ []
+unfolding items_from
+items_none p bytes is =
+    let far : walk (length bytes + 1) p bytes ≡ walk (suc (length bytes)) p bytes = enough (length bytes + 1) (suc (length bytes)) p bytes (omega arith) (omega arith) in
+    far ∙ (walk-suc (length bytes) p bytes ∙ ap (walk_from (length bytes) p) is)
+
+-- behind the end nothing stands
+pub items_end : (p : Place) (bytes : List ℕ) (f : Front) → standing p bytes ≡ Some f → f.item ≡ End → items_from p bytes ≡ End ∷ []
+unfolding items_from
+items_end p bytes f is e =
+    elim (shorter p bytes f is) [
+      | inl less ↦ absurd (less.1 e)
+      | inr last ↦ items_here p bytes f is ∙ (ap (λ (i : Item). i ∷ items_from (behind p f.item) f.rest) e ∙ ap (λ js. End ∷ js) (ap (λ z. items_from z f.rest) (behind_end p f.item e last.1) ∙ walk-behind (length f.rest + 1) f.rest))
+    ]
+
+-- ---- the bytes that are left unread
+
+abbrev pub unread_from : ℕ → Place → List ℕ → Option Front → ℕ
+unread_from k p bytes None = length bytes
+unread_from k p bytes (Some f) = unread_within k (behind p f.item) f.rest
+
+pub unread-suc : (k : ℕ) (p : Place) (bytes : List ℕ) → unread_within (suc k) p bytes ≡ unread_from k p bytes (standing p bytes)
+unread-suc k p bytes = by (standing p bytes)
+  where
+    by : (o : Option Front) → (elim o [ None ↦ length bytes | Some f ↦ unread_within k (behind p f.item) f.rest ]) ≡ unread_from k p bytes o
+    by None = refl
+    by (Some f) = refl
+
+unread-behind : (k : ℕ) (bytes : List ℕ) → unread_within k Behind bytes ≡ length bytes
+unread-behind zero bytes = refl
+unread-behind (suc k) bytes = refl
+
+enough_unread : (k j : ℕ) (p : Place) (bytes : List ℕ) → length bytes < k → length bytes < j → unread_within k p bytes ≡ unread_within j p bytes
+enough_unread zero j p bytes a b = absurd (omega arith)
+enough_unread (suc k) zero p bytes a b = absurd (omega arith)
+enough_unread (suc k) (suc j) p bytes a b = unread-suc k p bytes ∙ (by (standing p bytes) refl (λ q rest. enough_unread k j q rest) ∙ sym (unread-suc j p bytes))
+  where
+    by : (o : Option Front) → standing p bytes ≡ o → ((q : Place) (rest : List ℕ) → length rest < k → length rest < j → unread_within k q rest ≡ unread_within j q rest) → unread_from k p bytes o ≡ unread_from j p bytes o
+    by None is more = refl
+    by (Some f) is more =
+        elim (shorter p bytes f is) [
+          | inl less ↦ (let l = less.0 in more (behind p f.item) f.rest (omega arith) (omega arith))
+          | inr last ↦ (let e = behind_end p f.item last.0 last.1 in ap (λ q. unread_within k q f.rest) e ∙ (unread-behind k f.rest ∙ (sym (unread-behind j f.rest) ∙ ap (λ q. unread_within j q f.rest) (sym e))))
+        ]
+
+pub unread_none : (p : Place) (bytes : List ℕ) → standing p bytes ≡ None → unread p bytes ≡ length bytes
+unfolding unread
+unread_none p bytes is = enough_unread (length bytes + 1) (suc (length bytes)) p bytes (omega arith) (omega arith) ∙ (unread-suc (length bytes) p bytes ∙ ap (unread_from (length bytes) p bytes) is)
+
+pub unread_here : (p : Place) (bytes : List ℕ) (f : Front) → standing p bytes ≡ Some f → unread p bytes ≡ unread (behind p f.item) f.rest
+unfolding unread
+unread_here p bytes f is =
+    enough_unread (length bytes + 1) (suc (length bytes)) p bytes (omega arith) (omega arith) ∙ (unread-suc (length bytes) p bytes ∙ (ap (unread_from (length bytes) p bytes) is ∙
+    (elim (shorter p bytes f is) [
+      | inl less ↦ (let l = less.0 in enough_unread (length bytes) (length f.rest + 1) (behind p f.item) f.rest (omega arith) (omega arith))
+      | inr last ↦ (let e = behind_end p f.item last.0 last.1 in ap (λ q. unread_within (length bytes) q f.rest) e ∙ (unread-behind (length bytes) f.rest ∙ (sym (unread-behind (length f.rest + 1) f.rest) ∙ ap (λ q. unread_within (length f.rest + 1) q f.rest) (sym e))))
+    ])))
+
+-- ---- a walker's step
+
+end_or_not : (i : Item) → (i ≡ End) ⊎ (((js : List Item) → left_behind i js ≡ js) × ((p : Place) → onward p i ≡ behind p i))
+end_or_not End = inl refl
+end_or_not i = inr (λ js. refl, λ p. refl)
+
+pub item_step : (p q : Place) (bytes rest : List ℕ) (i : Item) → standing p bytes ≡ Some (record { item = i; rest = rest }) → q ≡ onward p i → items_from p bytes ≡ i ∷ left_behind i (items_from q rest)
+item_step p q bytes rest i is e =
+    let f : Front = record { item = i; rest = rest } in
+    elim (end_or_not i) [
+      | inl last ↦ items_end p bytes f is last ∙ sym (ap (λ (j : Item). j ∷ left_behind j (items_from q rest)) last)
+      | inr more ↦ items_here p bytes f is ∙ ap (λ js. i ∷ js) (sym (more.0 (items_from q rest) ∙ ap (λ w. items_from w rest) (e ∙ more.1 p)))
+    ]
+
+at_end_rest : (bytes : List ℕ) (f : Front) → standing AtEnd bytes ≡ Some f → f.rest ≡ bytes
+at_end_rest [] f is = let same : record { item = End; rest = [] } ≡ f = cc is in ap (λ (g : Front). g.rest) (sym same)
+at_end_rest (b ∷ bytes) f is = absurd (cc is)
+
+-- behind the end the same is left
+pub end_step : (p q : Place) (bytes rest : List ℕ) (i : Item) → standing p bytes ≡ Some (record { item = i; rest = rest }) → q ≡ onward p i → i ≡ End → items_from q rest ≡ items_from p bytes
+end_step p q bytes rest i is e last =
+    elim (shorter p bytes (record { item = i; rest = rest }) is) [
+      | inl less ↦ absurd (less.1 last)
+      | inr z ↦ (
+          let f : Front = record { item = i; rest = rest } in
+          let at : standing AtEnd bytes ≡ Some f = subst (λ w. standing w bytes ≡ Some f) z.1 is in
+          let same : rest ≡ bytes = at_end_rest bytes f at in
+          let stays : q ≡ p = e ∙ ap (onward p) last in
+          ap (λ w. items_from w rest) stays ∙ ap (items_from p) same
+          )
+    ]
+
+pub unread_step : (p q : Place) (bytes rest : List ℕ) (i : Item) → standing p bytes ≡ Some (record { item = i; rest = rest }) → q ≡ onward p i → unread q rest ≡ unread p bytes
+unread_step p q bytes rest i is e =
+    let f : Front = record { item = i; rest = rest } in
+    elim (end_or_not i) [
+      | inl last ↦ (elim (shorter p bytes f is) [
+        | inl less ↦ absurd (less.1 last)
+        | inr z ↦ (
+            let at : standing AtEnd bytes ≡ Some f = subst (λ w. standing w bytes ≡ Some f) z.1 is in
+            let same : rest ≡ bytes = at_end_rest bytes f at in
+            let stays : q ≡ p = e ∙ ap (onward p) last in
+            ap (λ w. unread w rest) stays ∙ ap (unread p) same
+            )
+      ])
+      | inr more ↦ ap (λ w. unread w rest) (e ∙ more.1 p) ∙ sym (unread_here p bytes f is)
+    ]
+
+-- what the place of a fault is
+halt_at : (p : Place) (bytes : List ℕ) (whole at : ℕ) → standing p bytes ≡ None → at ≡ whole - length bytes → at ≡ whole - unread p bytes
+halt_at p bytes whole at is e = e ∙ ap (λ n. whole - n) (sym (unread_none p bytes is))
+
+abbrev pub Stepped : Place → List ℕ → ℕ → Place → List ℕ → Result Item Malformed → Type 0
+Stepped p bytes whole q rest r = MatchResult r (λ i. (standing p bytes ≡ Some (record { item = i; rest = rest })) × (q ≡ onward p i)) (λ e. (standing p bytes ≡ None) × (q ≡ p) × (rest ≡ bytes) × (e.at ≡ whole - length bytes))
+
+pub stepped_items : (p : Place) (bytes : List ℕ) (whole : ℕ) (q : Place) (rest : List ℕ) (r : Result Item Malformed) → Stepped p bytes whole q rest r → MatchResult r (λ i. items_from p bytes ≡ i ∷ left_behind i (items_from q rest)) (λ e. (items_from p bytes ≡ []) × (items_from q rest ≡ []) × (e.at ≡ whole - unread p bytes))
+stepped_items p bytes whole q rest (Ok i) h = item_step p q bytes rest i h.0 h.1
+stepped_items p bytes whole q rest (Err e) h = (items_none p bytes h.0, ap (λ w. items_from w rest) h.1 ∙ (ap (items_from p) h.2 ∙ items_none p bytes h.0), halt_at p bytes whole e.at h.0 h.3)
+
+pub stepped_unread : (p : Place) (bytes : List ℕ) (whole : ℕ) (q : Place) (rest : List ℕ) (r : Result Item Malformed) → Stepped p bytes whole q rest r → unread q rest ≡ unread p bytes
+stepped_unread p bytes whole q rest (Ok i) h = unread_step p q bytes rest i h.0 h.1
+stepped_unread p bytes whole q rest (Err e) h = ap (λ w. unread w rest) h.1 ∙ ap (unread p) h.2
+
+pub stepped_end : (p : Place) (bytes : List ℕ) (whole : ℕ) (q : Place) (rest : List ℕ) (r : Result Item Malformed) → Stepped p bytes whole q rest r → r ≡ Ok End → items_from q rest ≡ items_from p bytes
+stepped_end p bytes whole q rest (Ok i) h e = end_step p q bytes rest i h.0 h.1 (cc e)
+stepped_end p bytes whole q rest (Err f) h e = absurd (cc e)
+
+walk_few : (k : ℕ) (p : Place) (bytes : List ℕ) → length (walk k p bytes) ≤ k
+walk_few zero p bytes = omega arith
+walk_few (suc k) p bytes = subst (λ is. length is ≤ suc k) (sym (walk-suc k p bytes)) (by (standing p bytes) (λ q rest. walk_few k q rest))
+  where
+    by : (o : Option Front) → ((q : Place) (rest : List ℕ) → length (walk k q rest) ≤ k) → length (walk_from k p o) ≤ suc k
+    by None more = omega arith
+    by (Some f) more = omega (arith, more (behind p f.item) f.rest)
+
+-- each item but the last has a byte
+pub items_few : (p : Place) (bytes : List ℕ) → length (items_from p bytes) ≤ length bytes + 1
+unfolding items_from
+items_few p bytes = walk_few (length bytes + 1) p bytes

@@ -1,0 +1,9 @@
+pub mod Fuel
+pub mod ItemLaws
+pub mod Walks
+pub mod Tails
+pub mod Drafts
+pub mod Certificates
+pub mod Pieces
+pub mod Spelled
+pub mod Growth

@@ -1,0 +1,11 @@
+use Rattle.mr_certform.proofs.Certificates.{spelled_items, ended_items, one_certificate}
+use Rattle.mr_certform.proofs.laws.certificate_law.Goals as goal
+
+pub returns-clause-read : goal.returns-clause-read
+returns-clause-read c = spelled_items
+
+pub returns-clause-ended : goal.returns-clause-ended
+returns-clause-ended c = ended_items
+
+pub returns-clause-one : goal.returns-clause-one
+returns-clause-one c = one_certificate

@@ -1,0 +1,12 @@
+use Rattle.std.proofs.Common.{refl}
+use Rattle.mr_certform.specs.Spelling.{items_of, stop}
+use Rattle.mr_certform.specs.Walking.{left, halt}
+use Rattle.mr_certform.proofs.walker.Walker.new.Goals as goal
+
+pub returns-clause-items : goal.returns-clause-items
+unfolding left items_of
+returns-clause-items c = refl
+
+pub returns-clause-stop : goal.returns-clause-stop
+unfolding halt stop
+returns-clause-stop c = refl

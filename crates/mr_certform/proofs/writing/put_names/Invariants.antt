@@ -1,0 +1,12 @@
+use Rattle.std.proofs.Common.{◌≡◌, ◌++◌, drop}
+use Rattle.std.specs.List.{flat_map, AllByRecursion}
+use Rattle.mr_certform.specs.Places.{first_name}
+use Rattle.mr_certform.specs.Value.{NameFits}
+use Rattle.mr_certform.specs.Spelling.{name_bytes}
+use Rattle.mr_certform.proofs.writing.put_names.Given as goal
+
+abbrev pub invariant-loop-name : goal.invariant-loop-name
+invariant-loop-name l = record {
+  spelled : l.out.items ++ flat_map (name_bytes first_name) (drop l.name-index l.names) ≡ l.initial.out.items ++ flat_map (name_bytes first_name) l.names;
+  fits : AllByRecursion NameFits (drop l.name-index l.names) → AllByRecursion NameFits l.names;
+}

@@ -1,0 +1,9 @@
+pub mod Places
+pub mod Spelling
+pub mod Value
+pub mod Grammar
+pub mod Walking
+pub mod Flat
+pub mod Pieces
+pub mod Building
+pub mod Reading

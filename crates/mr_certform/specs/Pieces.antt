@@ -1,0 +1,33 @@
+-- The spelling of a certificate, said by its values and not by items.
+use Rattle.std.specs.Prelude.{List, [], ◌∷◌, ◌++◌, ℕ, length}
+use Rattle.std.specs.List.{flat_map}
+use Rattle.mr_bytes.specs.declared.Name.{Name}
+use Rattle.mr_certform.specs.Places.{first_name}
+use Rattle.mr_certform.specs.Spelling.{u32, u64, magic, name_bytes, skip_bytes}
+use Rattle.mr_certform.specs.Value.{Contents}
+
+-- the names of a group, each behind the one before
+abbrev pub names_bytes : Name → List Name → List ℕ
+names_bytes before [] = []
+names_bytes before (n ∷ ns) = name_bytes before n ++ names_bytes n ns
+
+abbrev pub group_bytes : List Name → List ℕ
+group_bytes ns = u32 (length ns) ++ names_bytes first_name ns
+
+abbrev pub part_bytes : List (List Name) → List ℕ
+part_bytes gs = u32 (length gs) ++ flat_map group_bytes gs
+
+abbrev pub job_bytes : Contents → List ℕ
+job_bytes c = magic ++ u32 c.job ++ u32 c.flags ++ u32 (length c.literal) ++ c.literal ++ u32 c.parts ++ u32 c.split_size
+
+abbrev pub input_bytes : Contents → List ℕ
+input_bytes c = u32 (length c.lengths) ++ flat_map u64 c.lengths
+
+abbrev pub skips_bytes : Contents → List ℕ
+skips_bytes c = u32 (length c.skips) ++ flat_map skip_bytes c.skips
+
+abbrev pub groups_bytes : Contents → List ℕ
+groups_bytes c = flat_map part_bytes c.groups
+
+abbrev pub all_bytes : Contents → List ℕ
+all_bytes c = job_bytes c ++ input_bytes c ++ skips_bytes c ++ groups_bytes c

@@ -1,0 +1,156 @@
+-- The bytes of an item at its place, the item that stands at the front of bytes, and the items of bytes.
+use Rattle.std.specs.Prelude.{ℕ, zero, suc, ◌+◌, ◌-◌, Bool, true, false, ◌&&◌, Option, Some, None, List, [], ◌∷◌, ◌++◌, length, take, drop, nat_lt, nat_le, nat_eq, if◌then◌else◌}
+use Rattle.std.specs.Int.{w32, w64, to_be_bytes, from_be_bytes}
+use Rattle.std.specs.Cmp.Lexicographic.{pointwise}
+use Rattle.mr_bytes.specs.declared.Name.{Name}
+use Rattle.mr_bytes.specs.declared.RecordName.{RecordName}
+use Rattle.mr_certform.specs.declared.item.Item.{Item}
+use Rattle.mr_certform.specs.declared.item.Item.TheVariants.{Magic, Job, Flags, LiteralLength, LiteralByte, Parts, SplitSize, Files, FileLength, Skips, Skip, Groups, Entries, Entry, End}
+use Rattle.mr_certform.specs.declared.place.Place.{Place}
+use Rattle.mr_certform.specs.declared.place.Place.TheVariants.{AtMagic, AtJob, AtFlags, AtLiteralLength, AtLiteralByte, AtParts, AtSplitSize, AtFiles, AtFileLength, AtSkips, AtSkip, AtGroups, AtEntries, AtEntry, AtEnd, Behind}
+use Rattle.mr_certform.specs.Places.{behind, first_name}
+
+-- ---- the bytes of an item at its place
+
+-- a number in four bytes, the highest first
+abbrev pub u32 : ℕ → List ℕ
+u32 n = to_be_bytes w32 n
+
+-- a number in eight bytes, the highest first
+abbrev pub u64 : ℕ → List ℕ
+u64 n = to_be_bytes w64 n
+
+-- `MRCERT1` and a line end
+abbrev pub magic : List ℕ
+magic = 0x4d ∷ 0x52 ∷ 0x43 ∷ 0x45 ∷ 0x52 ∷ 0x54 ∷ 0x31 ∷ 0x0a ∷ []
+
+-- a name, given the name before it in its group
+abbrev pub name_bytes : Name → Name → List ℕ
+name_bytes before n = u32 n.split ++ u32 n.rec ++ u32 n.place
+
+abbrev pub skip_bytes : RecordName → List ℕ
+skip_bytes s = u32 s.split ++ u32 s.rec
+
+-- the name before, in the place of an entry
+abbrev pub before_of : Place → Name
+before_of (AtEntry r g n before) = before
+before_of _ = first_name
+
+abbrev pub bytes_at : Place → Item → List ℕ
+bytes_at p Magic = magic
+bytes_at p (Job n) = u32 n
+bytes_at p (Flags n) = u32 n
+bytes_at p (LiteralLength n) = u32 n
+bytes_at p (LiteralByte b) = b ∷ []
+bytes_at p (Parts n) = u32 n
+bytes_at p (SplitSize n) = u32 n
+bytes_at p (Files n) = u32 n
+bytes_at p (FileLength n) = u64 n
+bytes_at p (Skips n) = u32 n
+bytes_at p (Skip s) = skip_bytes s
+bytes_at p (Groups n) = u32 n
+bytes_at p (Entries n) = u32 n
+bytes_at p (Entry n) = name_bytes (before_of p) n
+bytes_at p End = []
+
+-- ---- the item that stands at the front of bytes
+
+-- an item and the bytes behind it
+pub record Front : Type 0 where
+  pub item : Item
+  pub rest : List ℕ
+
+-- the number that the first bytes spell, where it passes the test
+abbrev pub number : ℕ → (List ℕ → ℕ) → (ℕ → Bool) → (ℕ → Item) → List ℕ → Option Front
+number size value ok item bytes =
+    if nat_lt (length bytes) size then None
+    else (let n = value (take size bytes) in if ok n then Some (record { item = item n; rest = drop size bytes }) else None)
+
+abbrev pub any : ℕ → Bool
+any n = true
+
+abbrev pub number32 : (ℕ → Bool) → (ℕ → Item) → List ℕ → Option Front
+number32 = number 4 (from_be_bytes w32)
+
+-- the number of four bytes behind i others
+abbrev pub at : List ℕ → ℕ → ℕ
+at bytes i = from_be_bytes w32 (take 4 (drop i bytes))
+
+abbrev pub skip_at : List ℕ → RecordName
+skip_at bytes = record { split = at bytes 0; rec = at bytes 4 }
+
+abbrev pub name_at : List ℕ → Name
+name_at bytes = record { split = at bytes 0; rec = at bytes 4; place = at bytes 8 }
+
+-- the item of so many bytes, if there are as many
+abbrev pub of_bytes : ℕ → Item → List ℕ → Option Front
+of_bytes size item bytes = if nat_lt (length bytes) size then None else Some (record { item = item; rest = drop size bytes })
+
+-- the entry behind this name
+abbrev pub entry_at : Name → List ℕ → Option Front
+entry_at before bytes = of_bytes 12 (Entry (name_at bytes)) bytes
+
+abbrev pub standing : Place → List ℕ → Option Front
+standing AtMagic bytes = if pointwise nat_eq (take 8 bytes) magic then Some (record { item = Magic; rest = drop 8 bytes }) else None
+standing AtJob bytes = number32 any Job bytes
+standing AtFlags bytes = number32 any Flags bytes
+standing AtLiteralLength bytes = number32 (λ n. nat_le n 4096) LiteralLength bytes
+standing (AtLiteralByte n) [] = None
+standing (AtLiteralByte n) (b ∷ bytes) = Some (record { item = LiteralByte b; rest = bytes })
+standing AtParts bytes = number32 (λ n. nat_le 1 n && nat_le n 1024) Parts bytes
+standing (AtSplitSize r) bytes = number32 any SplitSize bytes
+standing (AtFiles r) bytes = number32 (λ n. nat_le n 1024) Files bytes
+standing (AtFileLength r n) bytes = number 8 (from_be_bytes w64) any FileLength bytes
+standing (AtSkips r) bytes = number32 any Skips bytes
+standing (AtSkip r n) bytes = of_bytes 8 (Skip (skip_at bytes)) bytes
+standing (AtGroups r) bytes = number32 any Groups bytes
+standing (AtEntries r g) bytes = number32 (λ n. nat_le 1 n) Entries bytes
+standing (AtEntry r g n before) bytes = entry_at before bytes
+standing AtEnd [] = Some (record { item = End; rest = [] })
+standing AtEnd (b ∷ bytes) = None
+standing Behind bytes = None
+
+-- ---- the items of bytes
+
+-- the items that stand from this place on, at most so many
+abbrev pub walk : ℕ → Place → List ℕ → List Item
+walk zero p bytes = []
+walk (suc k) p bytes = elim (standing p bytes) [ None ↦ [] | Some f ↦ f.item ∷ walk k (behind p f.item) f.rest ]
+
+-- all items that stand from this place on; each but the last has a byte
+unfoldable pub items_from : Place → List ℕ → List Item
+items_from p bytes = walk (length bytes + 1) p bytes
+
+-- all items that stand, one behind another, from the front
+unfoldable pub items_of : List ℕ → List Item
+items_of bytes = items_from AtMagic bytes
+
+-- how many bytes are left where no item stands any more
+abbrev pub unread_within : ℕ → Place → List ℕ → ℕ
+unread_within zero p bytes = length bytes
+unread_within (suc k) p bytes = elim (standing p bytes) [ None ↦ length bytes | Some f ↦ unread_within k (behind p f.item) f.rest ]
+
+unfoldable pub unread : Place → List ℕ → ℕ
+unread p bytes = unread_within (length bytes + 1) p bytes
+
+-- the place in bytes after the last item that stands
+unfoldable pub stop : List ℕ → ℕ
+stop bytes = length bytes - unread AtMagic bytes
+
+-- ---- a list of items as such
+
+-- the bytes of items in a row, the first of them at this place
+abbrev pub bytes_from : Place → List Item → List ℕ
+bytes_from p [] = []
+bytes_from p (i ∷ is) = bytes_at p i ++ bytes_from (behind p i) is
+
+-- the last is the end
+abbrev pub is_ended : List Item → Bool
+is_ended [] = false
+is_ended (End ∷ []) = true
+is_ended (i ∷ is) = is_ended is
+
+-- what is left behind an item; the end stays
+abbrev pub left_behind : Item → List Item → List Item
+left_behind End is = []
+left_behind i is = is

@@ -1,0 +1,13 @@
+-- What a walker has before it.
+use Rattle.std.specs.Prelude.{ℕ, ◌-◌, List}
+use Rattle.mr_certform.specs.declared.item.Item.{Item}
+use Rattle.mr_certform.specs.declared.walker.Walker.{Walker}
+use Rattle.mr_certform.specs.Spelling.{items_from, unread}
+
+-- the items that are still to come
+unfoldable pub left : Walker → List Item
+left w = items_from w.place w.rest.now
+
+-- the place in bytes, from the front of them all, after the last of these items
+unfoldable pub halt : Walker → ℕ
+halt w = w.whole - unread w.place w.rest.now

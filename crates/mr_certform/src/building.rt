@@ -1,0 +1,114 @@
+ghost use Rattle.std.specs.Prelude.{◌≡◌, ◌≤◌, ◌<◌, ◌^◌, ◌+◌, ◌-◌, ◌++◌, ◌∷◌, [], OnOk, OnErr, length};
+ghost use Rattle.mr_certform.specs.Building.{with_partition};
+
+use crate::certificate::{Certificate, Flat};
+use mr_bytes::{Name, RecordName};
+use std::alloc::{AllocError, Global};
+use std::marker::Model;
+
+/// What stands in a certificate before its groups: the job's number and flags, its literal, the bytes of a split, the
+/// length of each file, the left-out records.
+#[derive(Drop)]
+pub struct Header {
+    pub job: u32,
+    pub flags: u32,
+    pub literal: Vec<u8>,
+    pub split_size: u32,
+    pub lengths: Vec<u64>,
+    pub skips: Vec<RecordName>,
+}
+
+/// A certificate that grows, group by group and partition by partition.
+#[derive(Drop)]
+pub struct Builder {
+    flat: Flat,
+    begun: u32,
+}
+
+impl Model for Builder {
+    ghost use Rattle.mr_certform.specs.Building.{Growing, growing_of, IsGrowing};
+
+    ghost Value = { Growing };
+
+    ghost view = { λ a. growing_of a.flat };
+
+    ghost invariant = { λ a. IsGrowing a.flat a.begun };
+}
+
+impl Builder {
+    /// Before the first partition. It takes no memory.
+    pub fn begin(alloc: Global, header: Header) -> Builder
+        requires literal { length header.literal.items ≤ 4096 }
+        requires files { length header.lengths.items ≤ 1024 }
+        requires skips { length header.skips.items < 2 ^ 32 }
+        ensures { result ≡ record {
+          ended = record {
+            job = header.job;
+            flags = header.flags;
+            literal = header.literal.items;
+            parts = 0;
+            split_size = header.split_size;
+            lengths = header.lengths.items;
+            skips = header.skips.items;
+            groups = [];
+          };
+          begun = [];
+        } }
+    {
+        let Header {
+            job,
+            flags,
+            literal,
+            split_size,
+            lengths,
+            skips,
+        } = header;
+        let flat = Flat {
+            job,
+            flags,
+            literal,
+            parts: 0,
+            split_size,
+            lengths,
+            skips,
+            group_counts: Vec::new(alloc),
+            entry_counts: Vec::new(alloc),
+            names: Vec::new(alloc),
+        };
+        Builder { flat, begun: 0 }
+    }
+
+    /// One more group of the partition that has not ended, by the names of its entries.
+    pub fn push_group(&mut self, names: &[Name]) -> Result<(), AllocError>
+        requires some { 1 ≤ length names.now }
+        requires entries { length names.now < 2 ^ 32 }
+        requires groups { length self.old.begun < 2 ^ 32 - 1 }
+        ensures ok { OnOk result (self.new ≡ record self.old { begun = self.old.begun ++ names.now ∷ [] }) }
+        ensures err { OnErr result (self.new ≡ self.old) }
+    {
+        self.flat.push_names(names)?;
+        self.begun += 1;
+        Ok(())
+    }
+
+    /// The partition ends with the groups pushed since the one before ended.
+    pub fn end_partition(&mut self) -> Result<(), AllocError>
+        requires { length self.old.ended.groups < 1024 }
+        ensures ok { OnOk result (self.new ≡ with_partition self.old) }
+        ensures err { OnErr result (self.new ≡ self.old) }
+    {
+        self.flat.close_part(self.begun)?;
+        self.begun = 0;
+        Ok(())
+    }
+
+    /// The certificate, each of its partitions having ended.
+    pub fn finish(self) -> Certificate
+        requires some { 1 ≤ length self.ended.groups }
+        requires ended { self.begun ≡ [] }
+        ensures { result ≡ self.ended }
+    {
+        let Builder { flat, begun: _ } = self;
+        Certificate { flat }
+    }
+}

@@ -1,0 +1,154 @@
+ghost use Rattle.std.specs.Prelude.{◌≡◌, ◌≤◌, ◌-◌, ◌<◌, Some, None, MatchOption, IfSome, length, take, drop};
+ghost use Rattle.std.specs.Int.{w32, w64, from_be_bytes};
+ghost use Rattle.mr_certform.specs.Spelling.{standing, entry_at, of_bytes, skip_at};
+
+use crate::item::Item;
+use crate::number::{number_of_eight, number_of_four};
+use crate::place::Place;
+use mr_bytes::{Name, RecordName};
+
+const MAGIC: [u8; 8] = *b"MRCERT1\n";
+
+/// The number of the first four bytes, and the bytes behind it.
+fn four(bytes: &[u8]) -> Option<(u32, &[u8])>
+    ensures { MatchOption result (length bytes.now < 4) (λ r. (4 ≤ length bytes.now) × (r.0 ≡ from_be_bytes w32 (take 4 bytes.now)) × (r.1.now ≡ drop 4 bytes.now)) }
+{
+    if bytes.len() < 4 {
+        None
+    } else {
+        Some((number_of_four(bytes), &bytes[4..]))
+    }
+}
+
+/// The number of the first eight bytes, and the bytes behind it.
+fn eight(bytes: &[u8]) -> Option<(u64, &[u8])>
+    ensures { MatchOption result (length bytes.now < 8) (λ r. (8 ≤ length bytes.now) × (r.0 ≡ from_be_bytes w64 (take 8 bytes.now)) × (r.1.now ≡ drop 8 bytes.now)) }
+{
+    if bytes.len() < 8 {
+        None
+    } else {
+        Some((number_of_eight(bytes), &bytes[8..]))
+    }
+}
+
+/// The magic, and the bytes behind it.
+fn magic_of(bytes: &[u8]) -> Option<(Item, &[u8])>
+    ensures read { MatchOption result (standing Place.AtMagic bytes.now ≡ None) (λ r. standing Place.AtMagic bytes.now ≡ Some (record { item = r.0; rest = r.1.now })) }
+    ensures shorter { IfSome result (λ r. length r.1.now ≤ length bytes.now) }
+{
+    if bytes.len() < 8 {
+        return None;
+    }
+    if bytes[..8] == MAGIC[..] {
+        Some((Item::Magic, &bytes[8..]))
+    } else {
+        None
+    }
+}
+
+/// One left-out record, and the bytes behind it.
+fn skip_of(bytes: &[u8]) -> Option<(Item, &[u8])>
+    ensures read { MatchOption result (of_bytes 8 (Item.Skip (skip_at bytes.now)) bytes.now ≡ None) (λ r. of_bytes 8 (Item.Skip (skip_at bytes.now)) bytes.now ≡ Some (record { item = r.0; rest = r.1.now })) }
+    ensures shorter { IfSome result (λ r. length r.1.now ≤ length bytes.now) }
+{
+    if bytes.len() < 8 {
+        return None;
+    }
+    let split = number_of_four(bytes);
+    let rec = number_of_four(&bytes[4..]);
+    Some((Item::Skip(RecordName { split, rec }), &bytes[8..]))
+}
+
+/// One entry behind the name before it, and the bytes behind it.
+fn entry_of(before: Name, bytes: &[u8]) -> Option<(Item, &[u8])>
+    ensures read { MatchOption result (entry_at before bytes.now ≡ None) (λ r. entry_at before bytes.now ≡ Some (record { item = r.0; rest = r.1.now })) }
+    ensures shorter { IfSome result (λ r. length r.1.now ≤ length bytes.now) }
+{
+    if bytes.len() < 12 {
+        return None;
+    }
+    let split = number_of_four(bytes);
+    let rec = number_of_four(&bytes[4..]);
+    let place = number_of_four(&bytes[8..]);
+    Some((Item::Entry(Name { split, rec, place }), &bytes[12..]))
+}
+
+/// The item that stands at the front of the bytes, and the bytes behind it.
+pub fn front_of(place: Place, bytes: &[u8]) -> Option<(Item, &[u8])>
+    ensures read { MatchOption result (standing place bytes.now ≡ None) (λ r. standing place bytes.now ≡ Some (record { item = r.0; rest = r.1.now })) }
+    ensures shorter { IfSome result (λ r. length r.1.now ≤ length bytes.now) }
+{
+    match place {
+        Place::AtMagic => magic_of(bytes),
+        Place::AtJob => {
+            let (n, rest) = four(bytes)?;
+            Some((Item::Job(n), rest))
+        }
+        Place::AtFlags => {
+            let (n, rest) = four(bytes)?;
+            Some((Item::Flags(n), rest))
+        }
+        Place::AtLiteralLength => {
+            let (n, rest) = four(bytes)?;
+            if n <= 4096 {
+                Some((Item::LiteralLength(n), rest))
+            } else {
+                None
+            }
+        }
+        Place::AtLiteralByte { .. } => {
+            let (byte, rest) = bytes.split_first()?;
+            Some((Item::LiteralByte(*byte), rest))
+        }
+        Place::AtParts => {
+            let (n, rest) = four(bytes)?;
+            if 1 <= n && n <= 1024 {
+                Some((Item::Parts(n), rest))
+            } else {
+                None
+            }
+        }
+        Place::AtSplitSize { .. } => {
+            let (n, rest) = four(bytes)?;
+            Some((Item::SplitSize(n), rest))
+        }
+        Place::AtFiles { .. } => {
+            let (n, rest) = four(bytes)?;
+            if n <= 1024 {
+                Some((Item::Files(n), rest))
+            } else {
+                None
+            }
+        }
+        Place::AtFileLength { .. } => {
+            let (n, rest) = eight(bytes)?;
+            Some((Item::FileLength(n), rest))
+        }
+        Place::AtSkips { .. } => {
+            let (n, rest) = four(bytes)?;
+            Some((Item::Skips(n), rest))
+        }
+        Place::AtSkip { .. } => skip_of(bytes),
+        Place::AtGroups { .. } => {
+            let (n, rest) = four(bytes)?;
+            Some((Item::Groups(n), rest))
+        }
+        Place::AtEntries { .. } => {
+            let (n, rest) = four(bytes)?;
+            if 1 <= n {
+                Some((Item::Entries(n), rest))
+            } else {
+                None
+            }
+        }
+        Place::AtEntry { before, .. } => entry_of(before, bytes),
+        Place::AtEnd => {
+            if bytes.is_empty() {
+                Some((Item::End, bytes))
+            } else {
+                None
+            }
+        }
+        Place::Behind => None,
+    }
+}

@@ -1,0 +1,30 @@
+ghost use Rattle.std.specs.Prelude.{◌≡◌, ℕ, List, [], ◌++◌, Some, true, length, take};
+ghost use Rattle.mr_certform.specs.declared.item.Item.{Item};
+ghost use Rattle.mr_certform.specs.declared.place.Place.{Place};
+ghost use Rattle.mr_certform.specs.Spelling.{Front, standing, bytes_at, bytes_from, items_of, is_ended, stop};
+ghost use Rattle.mr_certform.specs.Value.{Contents, certificate_items, Spells};
+ghost use Rattle.mr_certform.specs.Grammar.{MayStand, InOrder, AreBytes};
+ghost use Rattle.mr_certform.specs.declared.place.Place.TheVariants.{AtMagic};
+
+/// An item stands at the front of bytes exactly where they begin with its spelling, and the end where no byte is
+/// left. Before the end no item's spelling begins another's.
+pub fn item_law()
+    ensures read { (p : Place) (bytes : List ℕ) (f : Front) → AreBytes bytes → standing p bytes ≡ Some f → MayStand p f.item × (bytes ≡ bytes_at p f.item ++ f.rest) }
+    ensures spelled { (p : Place) (i : Item) (rest : List ℕ) → MayStand p i → (i ≡ Item.End → rest ≡ []) → standing p (bytes_at p i ++ rest) ≡ Some (record { item = i; rest = rest }) }
+    ensures apart { (p : Place) (i j : Item) (more : List ℕ) → MayStand p i → MayStand p j → (i ≡ Item.End → ⊥) → bytes_at p j ≡ bytes_at p i ++ more → i ≡ j }
+{}
+
+/// The items of bytes that spell a certificate are the certificate's; where the items of bytes end, the bytes spell a
+/// certificate; and no two certificates have one spelling.
+pub fn certificate_law()
+    ensures read { (bytes : List ℕ) (c : Contents) → Spells bytes c → items_of bytes ≡ certificate_items c }
+    ensures ended { (bytes : List ℕ) → AreBytes bytes → is_ended (items_of bytes) ≡ true → (c : Contents) × (items_of bytes ≡ certificate_items c) × Spells bytes c }
+    ensures one { (bytes : List ℕ) (c d : Contents) → Spells bytes c → Spells bytes d → c ≡ d }
+{}
+
+/// The items of bytes are the longest list of items that stand in their order, one behind another, from the front; and
+/// where they stop is the number of their bytes.
+pub fn items_law()
+    ensures stand { (bytes : List ℕ) → AreBytes bytes → InOrder AtMagic (items_of bytes) × (length (bytes_from AtMagic (items_of bytes)) ≡ stop bytes) × (take (stop bytes) bytes ≡ bytes_from AtMagic (items_of bytes)) }
+    ensures longest { (bytes : List ℕ) (is : List Item) (more : List ℕ) → InOrder AtMagic is → (is_ended is ≡ true → more ≡ []) → bytes ≡ bytes_from AtMagic is ++ more → (js : List Item) × (items_of bytes ≡ is ++ js) }
+{}

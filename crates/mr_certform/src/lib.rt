@@ -1,0 +1,26 @@
+//! The certificate of a result: its items, its walker, its value, its spelling.
+#![tactic(auto)]
+
+mod building;
+mod certificate;
+mod front;
+mod groups;
+mod item;
+mod laws;
+mod number;
+mod place;
+mod reading;
+#[cfg(test)]
+mod tests;
+mod walker;
+mod writing;
+
+pub use crate::building::{Builder, Header};
+pub use crate::certificate::Certificate;
+pub use crate::groups::{Groups, Partitions};
+pub use crate::item::{Item, Malformed};
+pub use crate::laws::{certificate_law, item_law, items_law};
+pub use crate::place::Place;
+pub use crate::reading::{ReadFault, read};
+pub use crate::walker::Walker;
+pub use crate::writing::write;

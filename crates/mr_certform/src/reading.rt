@@ -1,0 +1,76 @@
+ghost use Rattle.std.specs.Prelude.{◌≡◌, MatchResult, IfOk, IfErr, true, length};
+ghost use Rattle.mr_certform.specs.Spelling.{items_of, is_ended};
+ghost use Rattle.mr_certform.specs.Value.{Spells};
+ghost use Rattle.mr_certform.specs.Flat.{Told, told_by, nothing_told, contents_of, IsWhole};
+ghost use Rattle.mr_certform.specs.Reading.{IsReadFault, IsHalted};
+
+use crate::certificate::{Certificate, Flat};
+use crate::item::{Item, Malformed};
+use crate::walker::Walker;
+use std::alloc::{AllocError, Global};
+use thiserror::Error;
+
+/// Why bytes are no certificate.
+#[derive(Clone, Copy, Debug, PartialEq, Eq, Drop, Error)]
+pub enum ReadFault {
+    /// At this place, in bytes from the front, no item of the grammar stands.
+    #[error("Malformed at {at}")]
+    Malformed { at: u64 },
+    #[error("OutOfMemory")]
+    OutOfMemory,
+}
+
+impl From<Malformed> for ReadFault {
+    ghost use Rattle.mr_certform.specs.declared.reading.ReadFault.TheVariants.{Malformed as told_malformed};
+
+    ghost from_gives = { λ m f. f ≡ told_malformed m.at };
+
+    fn from(fault: Malformed) -> ReadFault {
+        ReadFault::Malformed { at: fault.at }
+    }
+}
+
+impl From<AllocError> for ReadFault {
+    ghost use Rattle.mr_certform.specs.declared.reading.ReadFault.TheVariants.{OutOfMemory as told_memory};
+
+    ghost from_gives = { λ _ f. f ≡ told_memory };
+
+    fn from(_fault: AllocError) -> ReadFault {
+        ReadFault::OutOfMemory
+    }
+}
+
+/// All that the items of the bytes tell.
+fn told_values(alloc: Global, bytes: &[u8]) -> Result<Flat, ReadFault>
+    ensures { MatchResult result
+        (λ t. (is_ended (items_of bytes.now) ≡ true) × (t ≡ told_by nothing_told (items_of bytes.now)))
+        (λ e. IsHalted bytes.now e) }
+{
+    let mut walker = Walker::new(bytes);
+    let mut flat = Flat::new(alloc);
+    loop {
+        let item = walker.next()?;
+        if let Item::End = item {
+            return Ok(flat);
+        }
+        flat.take(item)?;
+    }
+}
+
+/// The certificate whose values these are.
+fn of_values(flat: Flat) -> Certificate
+    requires { IsWhole flat }
+    ensures { result ≡ contents_of flat }
+{
+    Certificate { flat }
+}
+
+/// The certificate that the bytes spell; otherwise the place after the last item that stands. Memory is taken only
+/// for what was read.
+pub fn read(alloc: Global, bytes: &[u8]) -> Result<Certificate, ReadFault>
+    ensures spelled { IfOk result (λ c. Spells bytes.now c) }
+    ensures fault { IfErr result (λ e. IsReadFault bytes.now e) }
+{
+    let flat = told_values(alloc, bytes)?;
+    Ok(of_values(flat))
+}

@@ -1,0 +1,65 @@
+ghost use Rattle.std.specs.Prelude.{◌≡◌, ◌≤◌, ◌-◌, ◌+◌, ◌∷◌, [], Some, None, MatchResult, length};
+ghost use Rattle.mr_certform.specs.Places.{onward};
+ghost use Rattle.mr_certform.specs.Spelling.{standing, items_of, stop, left_behind};
+
+use crate::front::front_of;
+use crate::item::{Item, Malformed};
+use crate::place::Place;
+
+/// Walks the items of a certificate's bytes, from the front. It takes no memory.
+#[derive(Clone, Copy)]
+pub struct Walker<'a> {
+    place: Place,
+    whole: u64,
+    rest: &'a [u8],
+    ghost in_range: { length rest.now ≤ whole },
+}
+
+impl<'a> Walker<'a> {
+    ghost use Rattle.mr_certform.specs.Walking.{left, halt};
+
+    /// At the front of the bytes.
+    pub fn new(bytes: &'a [u8]) -> Walker<'a>
+        ensures items { left result ≡ items_of bytes.entry.now }
+        ensures stop { halt result ≡ stop bytes.entry.now }
+    {
+        Walker {
+            place: Place::AtMagic,
+            whole: bytes.len() as u64,
+            rest: bytes,
+        }
+    }
+
+    /// The item that stands here, seen by the rest of the bytes.
+    fn step(&mut self) -> Result<Item, Malformed>
+        ensures item { MatchResult result
+            (λ i. (standing self.old.place self.old.rest.now ≡ Some (record { item = i; rest = self.new.rest.now })) × (self.new.place ≡ onward self.old.place i))
+            (λ e. (standing self.old.place self.old.rest.now ≡ None) × (self.new.place ≡ self.old.place) × (self.new.rest.now ≡ self.old.rest.now) × (e.at ≡ self.old.whole - length self.old.rest.now)) }
+        ensures same { self.new.whole ≡ self.old.whole }
+    {
+        match front_of(self.place, self.rest) {
+            None => Err(Malformed {
+                at: self.whole - self.rest.len() as u64,
+            }),
+            Some((item, rest)) => {
+                self.rest = rest;
+                if let Item::End = item {} else {
+                    self.place = self.place.behind(item);
+                }
+                Ok(item)
+            }
+        }
+    }
+
+    /// The next of the items, the last being `End`; asked again after `End` it gives `End`. Malformed where no item
+    /// of the grammar stands, and the same answer from then on.
+    pub fn next(&mut self) -> Result<Item, Malformed>
+        ensures item { MatchResult result
+            (λ i. left self.old ≡ i ∷ left_behind i (left self.new))
+            (λ e. (left self.old ≡ []) × (left self.new ≡ []) × (e.at ≡ halt self.old)) }
+        ensures end { result ≡ Ok Item.End → left self.new ≡ left self.old }
+        ensures stop { halt self.new ≡ halt self.old }
+    {
+        self.step()
+    }
+}

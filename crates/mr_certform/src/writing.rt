@@ -1,0 +1,227 @@
+ghost use Rattle.std.specs.Prelude.{◌≡◌, ◌≤◌, ◌<◌, ◌^◌, ◌++◌, OnOk, IfOk, length, drop};
+ghost use Rattle.std.specs.List.{flat_map, AllByRecursion};
+ghost use Rattle.mr_certform.specs.Places.{first_name};
+ghost use Rattle.mr_certform.specs.Spelling.{u32 as four, u64 as eight, name_bytes, skip_bytes};
+ghost use Rattle.mr_certform.specs.Value.{NameFits, SkipFits, Spells};
+ghost use Rattle.mr_certform.specs.Flat.{total, chunks, contents_of, IsWhole, HasNumbers, HasNames};
+ghost use Rattle.mr_certform.specs.Pieces.{names_bytes, group_bytes, part_bytes, job_bytes, all_bytes};
+
+use crate::certificate::{Certificate, Flat};
+use byteorder::{BigEndian, ByteOrder};
+use mr_bytes::{Name, RecordName};
+use std::alloc::{AllocError, Global};
+
+/// The twelve bytes of a name.
+fn spelled_name(name: Name) -> [u8; 12]
+    ensures text { result ≡ name_bytes first_name name }
+    ensures fits { NameFits name }
+{
+    let mut bytes = [0u8; 12];
+    BigEndian::write_u32(&mut bytes, name.split);
+    BigEndian::write_u32(&mut bytes[4..], name.rec);
+    BigEndian::write_u32(&mut bytes[8..], name.place);
+    bytes
+}
+
+/// The eight bytes of a left-out record.
+fn spelled_skip(skip: RecordName) -> [u8; 8]
+    ensures text { result ≡ skip_bytes skip }
+    ensures fits { SkipFits skip }
+{
+    let mut bytes = [0u8; 8];
+    BigEndian::write_u32(&mut bytes, skip.split);
+    BigEndian::write_u32(&mut bytes[4..], skip.rec);
+    bytes
+}
+
+fn put_number(out: &mut Vec<u8>, n: u32) -> Result<(), AllocError>
+    ensures { OnOk result (out.new.items ≡ out.old.items ++ four n) }
+{
+    let mut bytes = [0u8; 4];
+    BigEndian::write_u32(&mut bytes, n);
+    out.extend_from_slice(&bytes)
+}
+
+fn put_long(out: &mut Vec<u8>, n: u64) -> Result<(), AllocError>
+    ensures { OnOk result (out.new.items ≡ out.old.items ++ eight n) }
+{
+    let mut bytes = [0u8; 8];
+    BigEndian::write_u64(&mut bytes, n);
+    out.extend_from_slice(&bytes)
+}
+
+fn put_names(out: &mut Vec<u8>, names: &[Name]) -> Result<(), AllocError>
+    ensures { OnOk result ((out.new.items ≡ out.old.items ++ flat_map (name_bytes first_name) names.now) × AllByRecursion NameFits names.now) }
+{
+    for name in names {
+        out.extend_from_slice(&spelled_name(*name))?;
+    }
+    Ok(())
+}
+
+/// The groups of these counts, from the front of the names; the names behind them are given back.
+fn put_groups<'a>(
+    out: &mut Vec<u8>,
+    counts: &[u32],
+    names: &'a [Name],
+) -> Result<&'a [Name], AllocError>
+    requires { total counts.now ≤ length names.now }
+    ensures { IfOk result (λ rest. (out.new.items ≡ out.old.items ++ flat_map group_bytes (chunks counts.now names.entry.now))
+        × (rest.now ≡ drop (total counts.now) names.entry.now)
+        × AllByRecursion (AllByRecursion NameFits) (chunks counts.now names.entry.now)) }
+{
+    let mut rest = names;
+    for count in counts {
+        let (here, more) = rest.split_at(*count as usize);
+        put_number(out, *count)?;
+        put_names(out, here)?;
+        rest = more;
+    }
+    Ok(rest)
+}
+
+fn put_parts(
+    out: &mut Vec<u8>,
+    group_counts: &[u32],
+    entry_counts: &[u32],
+    names: &[Name],
+) -> Result<(), AllocError>
+    requires groups { total group_counts.now ≡ length entry_counts.now }
+    requires room { total entry_counts.now ≤ length names.now }
+    ensures { OnOk result ((out.new.items ≡ out.old.items ++ flat_map part_bytes (chunks group_counts.now (chunks entry_counts.now names.now)))
+        × AllByRecursion (AllByRecursion NameFits) (chunks entry_counts.now names.now)) }
+{
+    let mut counts = entry_counts;
+    let mut rest = names;
+    for count in group_counts {
+        let (here, more) = counts.split_at(*count as usize);
+        put_number(out, *count)?;
+        rest = put_groups(out, here, rest)?;
+        counts = more;
+    }
+    Ok(())
+}
+
+fn put_lengths(out: &mut Vec<u8>, lengths: &[u64]) -> Result<(), AllocError>
+    ensures { OnOk result (out.new.items ≡ out.old.items ++ flat_map eight lengths.now) }
+{
+    for length in lengths {
+        put_long(out, *length)?;
+    }
+    Ok(())
+}
+
+fn put_skips(out: &mut Vec<u8>, skips: &[RecordName]) -> Result<(), AllocError>
+    ensures { OnOk result ((out.new.items ≡ out.old.items ++ flat_map skip_bytes skips.now) × AllByRecursion SkipFits skips.now) }
+{
+    for skip in skips {
+        out.extend_from_slice(&spelled_skip(*skip))?;
+    }
+    Ok(())
+}
+
+/// The magic and the job, up to the bytes of a split.
+fn put_job(out: &mut Vec<u8>, flat: &Flat) -> Result<(), AllocError>
+    requires { length flat.now.literal < 2 ^ 32 }
+    ensures { OnOk result (out.new.items ≡ out.old.items ++ job_bytes (contents_of flat.now)) }
+{
+    out.extend_from_slice(b"MRCERT1\n")?;
+    put_number(out, flat.job)?;
+    put_number(out, flat.flags)?;
+    put_number(out, flat.literal.len() as u32)?;
+    out.extend_from_slice(&flat.literal)?;
+    put_number(out, flat.parts)?;
+    put_number(out, flat.split_size)
+}
+
+/// The number of files, then the length of each.
+fn put_input(out: &mut Vec<u8>, lengths: &[u64]) -> Result<(), AllocError>
+    requires { length lengths.now < 2 ^ 32 }
+    ensures { OnOk result (out.new.items ≡ out.old.items ++ (four (length lengths.now) ++ flat_map eight lengths.now)) }
+{
+    put_number(out, lengths.len() as u32)?;
+    put_lengths(out, lengths)
+}
+
+/// The number of left-out records, then each of them.
+fn put_left_out(out: &mut Vec<u8>, skips: &[RecordName]) -> Result<(), AllocError>
+    requires { length skips.now < 2 ^ 32 }
+    ensures { OnOk result ((out.new.items ≡ out.old.items ++ (four (length skips.now) ++ flat_map skip_bytes skips.now)) × AllByRecursion SkipFits skips.now) }
+{
+    put_number(out, skips.len() as u32)?;
+    put_skips(out, skips)
+}
+
+/// How many bytes the spelling has; no more than can be counted.
+fn size_of(flat: &Flat) -> usize {
+    let names = flat.names.len().saturating_mul(12);
+    let counts = (flat
+        .entry_counts
+        .len()
+        .saturating_add(flat.group_counts.len()))
+    .saturating_mul(4);
+    let lists = (flat.lengths.len().saturating_add(flat.skips.len())).saturating_mul(8);
+    names
+        .saturating_add(counts)
+        .saturating_add(lists)
+        .saturating_add(flat.literal.len())
+        .saturating_add(36)
+}
+
+/// The spelling of these values.
+fn spelled_values(alloc: Global, flat: &Flat) -> Result<Vec<u8>, AllocError>
+    requires { IsWhole flat.now }
+    ensures { IfOk result (λ v. (v.items ≡ all_bytes (contents_of flat.now)) × HasNames flat.now) }
+{
+    let mut out = Vec::with_capacity(alloc, size_of(flat))?;
+    put_job(&mut out, flat)?;
+    put_input(&mut out, &flat.lengths)?;
+    put_left_out(&mut out, &flat.skips)?;
+    put_parts(
+        &mut out,
+        &flat.group_counts,
+        &flat.entry_counts,
+        &flat.names,
+    )?;
+    Ok(out)
+}
+
+fn bytes_fit(bytes: &[u8])
+    ensures { AllByRecursion (λ b. b < 256) bytes.now }
+{
+    let _ = bytes.len();
+}
+
+fn counts_fit(counts: &[u32])
+    ensures { AllByRecursion (λ n. n < 2 ^ 32) counts.now }
+{
+    let _ = counts.len();
+}
+
+fn lengths_fit(lengths: &[u64])
+    ensures { AllByRecursion (λ n. n < 2 ^ 64) lengths.now }
+{
+    let _ = lengths.len();
+}
+
+/// Each number fits the bytes of its type. This does nothing when it runs.
+fn numbers_fit(flat: &Flat)
+    ensures { HasNumbers flat.now }
+{
+    let _job = flat.job;
+    let _flags = flat.flags;
+    let _split_size = flat.split_size;
+    bytes_fit(&flat.literal);
+    lengths_fit(&flat.lengths);
+    counts_fit(&flat.group_counts);
+    counts_fit(&flat.entry_counts);
+}
+
+/// The bytes that spell the certificate, in version 1.
+pub fn write(alloc: Global, certificate: &Certificate) -> Result<Vec<u8>, AllocError>
+    ensures { IfOk result (λ v. Spells v.items certificate.now) }
+{
+    let flat = &certificate.flat;
+    numbers_fit(flat);
+    spelled_values(alloc, flat)
+}

@@ -1,0 +1,3 @@
+pub mod PairLemmas
+pub mod SpreadLemmas
+pub mod WorkLemmas

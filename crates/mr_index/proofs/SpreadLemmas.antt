@@ -1,0 +1,235 @@
+-- The triples that the tables show, as they grow and as they are looked up.
+use Rattle.std.proofs.Common.{◌≡◌, ℕ, zero, suc, ◌+◌, ◌-◌, ◌<◌, ◌≤◌, Bool, true, false, cond, eqb, ◌&&◌, not, Option, Some, None, List, [], ◌∷◌, ◌++◌, length, get_or, drop, filter, slice_range, refl, sym, ◌∙◌, ap, subst, arith, inl, inr, append_assoc, length-append, length-drop, length-take-le}
+use Rattle.std.proofs.lemmas.Bool.{cases_eq, eq-eqb, ne_eqb, false≢true}
+use Rattle.std.proofs.lemmas.List.{append-nil, length_push, flat_map_more, get_or-take, get_or-drop}
+use Rattle.std.proofs.lemmas.List.Elements.{filter-append}
+use Rattle.std.proofs.lemmas.List.Folds.{find-append, list_any_at}
+use Rattle.std.specs.Option.{option_map, option_or}
+use Rattle.std.specs.List.{find, slice_get, flat_map}
+use Rattle.mr_bytes.specs.declared.Name.{Name}
+use Rattle.mr_bytes.specs.declared.RecordName.{RecordName}
+use Rattle.mr_jobs.specs.Task.{Task}
+use Rattle.mr_jobs.specs.Emissions.{Emission, emissions}
+use Rattle.mr_splits.specs.Named.{NamedRecord, is_left_out}
+use Rattle.mr_splits.specs.Cut.{nth, is_record}
+use Rattle.mr_splits.specs.Cut as cut
+use Rattle.mr_splits.proofs.NameLemmas.{test-from-name}
+use Rattle.mr_sequential.specs.Emitted.{Triple, placed_from, record_triples}
+use Rattle.mr_index.specs.Index.{is_named, named, mapped_among}
+use Rattle.mr_index.specs.Pairs.{EndsRise}
+use Rattle.mr_index.specs.Building.{spread, kept_emissions, Shows}
+use Rattle.mr_index.proofs.PairLemmas.{range-more, range-end, rise-order, rise-push}
+
+-- one more record
+pub spread-more : (at : ℕ) (rs : List NamedRecord) (ends : List ℕ) (pairs more : List Emission) (r : NamedRecord) → EndsRise at (length pairs) ends
+    → length ends ≡ length rs
+    → spread at (rs ++ r ∷ []) (ends ++ length (pairs ++ more) ∷ []) (pairs ++ more) ≡ spread at rs ends pairs ++ placed_from r.name 0 more
+unfolding spread
+spread-more at [] [] pairs more r rise h =
+    append-nil (placed_from r.name 0 (slice_range (pairs ++ more) at (length (pairs ++ more))))
+    ∙ ap (placed_from r.name 0) (ap (λ (a : ℕ). slice_range (pairs ++ more) a (length (pairs ++ more))) rise ∙ range-end pairs more)
+spread-more at [] (e ∷ ends) pairs more r rise h = absurd (omega (arith, h))
+spread-more at (x ∷ rs) [] pairs more r rise h = absurd (omega (arith, h))
+spread-more at (x ∷ rs) (e ∷ ends) pairs more r rise h =
+    ap (λ (es : List Emission). placed_from x.name 0 es ++ spread e (rs ++ r ∷ []) (ends ++ length (pairs ++ more) ∷ []) (pairs ++ more))
+    (range-more pairs more at e rise.0 (rise-order e (length pairs) ends rise.1))
+    ∙ ap (λ (ts : List Triple). placed_from x.name 0 (slice_range pairs at e) ++ ts) (spread-more e rs ends pairs more r rise.1 (omega (arith, h)))
+    ∙ sym (append_assoc (placed_from x.name 0 (slice_range pairs at e)) (spread e rs ends pairs) (placed_from r.name 0 more))
+
+placed-kept : (task : Task) (skips : List RecordName) (r : NamedRecord) → placed_from r.name 0 (kept_emissions task skips r) ≡ record_triples task skips r
+unfolding placed_from
+placed-kept task skips r =
+    elim (is_left_out skips r.name) as (λ b. placed_from r.name 0 (cond b [] (emissions task r.file r.start r.bytes))
+    ≡ cond b [] (placed_from r.name 0 (emissions task r.file r.start r.bytes))) [
+      | true ↦ refl
+      | false ↦ refl
+    ]
+
+pub shows-more : (task : Task) (skips : List RecordName) (rs : List NamedRecord) (ends ends' : List ℕ) (pairs pairs' : List Emission) (r : NamedRecord)
+    → Shows task skips rs ends pairs → pairs' ≡ pairs ++ kept_emissions task skips r → ends' ≡ ends ++ length pairs' ∷ []
+    → Shows task skips (rs ++ r ∷ []) ends' pairs'
+shows-more task skips rs ends ends' pairs pairs' r s grown ended =
+    let more : List Emission = kept_emissions task skips r in
+    let ends-are : ends' ≡ ends ++ length (pairs ++ more) ∷ [] = ended ∙ ap (λ (es : List Emission). ends ++ length es ∷ []) grown in
+    let after : Shows task skips (rs ++ r ∷ []) (ends ++ length (pairs ++ more) ∷ []) (pairs ++ more) = record {
+      count = omega (arith, length_push ends (length (pairs ++ more)), length_push rs r, s.count);
+      rise = rise-push 0 (length pairs) (length (pairs ++ more)) ends s.rise (omega (arith, length-append pairs more));
+      same = spread-more 0 rs ends pairs more r s.rise s.count
+          ∙ ap (λ (ts : List Triple). ts ++ placed_from r.name 0 more) s.same
+          ∙ ap (λ (ts : List Triple). flat_map (record_triples task skips) rs ++ ts) (placed-kept task skips r)
+          ∙ flat_map_more (record_triples task skips) [] rs r;
+    } in
+    subst (λ (es : List ℕ). Shows task skips (rs ++ r ∷ []) es pairs') (sym ends-are)
+    (subst (λ (es : List Emission). Shows task skips (rs ++ r ∷ []) (ends ++ length (pairs ++ more) ∷ []) es) (sym grown) after)
+
+pub shows-none : (task : Task) (skips : List RecordName) (rs : List NamedRecord) (ends : List ℕ) (pairs : List Emission) → rs ≡ [] → ends ≡ [] → pairs ≡ []
+    → Shows task skips rs ends pairs
+unfolding spread
+shows-none task skips rs ends pairs a b d =
+    subst (λ (x : List NamedRecord). Shows task skips x ends pairs) (sym a)
+    (subst (λ (x : List ℕ). Shows task skips [] x pairs) (sym b)
+    (subst (λ (x : List Emission). Shows task skips [] [] x) (sym d) (record { count = refl; rise = refl; same = refl })))
+
+pub mapped-more : (skips : List RecordName) (rs : List NamedRecord) (r : NamedRecord)
+    → mapped_among skips (rs ++ r ∷ []) ≡ mapped_among skips rs + cond (is_left_out skips r.name) 0 1
+mapped-more skips rs r =
+    let p : NamedRecord → Bool = λ x. not (is_left_out skips x.name) in
+    ap length (filter-append p rs (r ∷ [])) ∙ length-append (filter p rs) (filter p (r ∷ []))
+    ∙ ap (λ (n : ℕ). mapped_among skips rs + n)
+    (elim (is_left_out skips r.name) as (λ b. length (cond (not b) (r ∷ []) []) ≡ cond b 0 1) [
+      | true ↦ refl
+      | false ↦ refl
+    ])
+
+pub mapped-append : (skips : List RecordName) (xs ys : List NamedRecord) → mapped_among skips (xs ++ ys) ≡ mapped_among skips xs + mapped_among skips ys
+mapped-append skips xs ys =
+    let p : NamedRecord → Bool = λ x. not (is_left_out skips x.name) in
+    ap length (filter-append p xs ys) ∙ length-append (filter p xs) (filter p ys)
+
+-- an emission with a name
+abbrev pub triple_for : Name → Emission → Triple
+triple_for n e = record { key = e.0; value = e.1; name = n }
+
+abbrev record_of : Name → RecordName
+record_of n = record { split = n.split; rec = n.rec }
+
+name-is : (m n : Name) → m.split ≡ n.split → m.rec ≡ n.rec → m.place ≡ n.place → m ≡ n
+name-is m n a b d =
+    ap (λ (s : ℕ). record { split = s; rec = m.rec; place = m.place }) a ∙ ap (λ (r : ℕ). record { split = n.split; rec = r; place = m.place }) b
+    ∙ ap (λ (p : ℕ). record { split = n.split; rec = n.rec; place = p }) d
+
+test-and : (a b : Bool) → b ≡ false → (a && b) ≡ false
+test-and true b h = h
+test-and false b h = refl
+
+test-false : (n : Name) (t : Triple) → (t.name ≡ n → ⊥) → is_named n t ≡ false
+test-false n t h =
+    elim (cases_eq t.name.split n.split) [
+      | inr ne ↦ ap (λ b. b && (eqb t.name.rec n.rec && eqb t.name.place n.place)) (ne_eqb t.name.split n.split ne)
+      | inl a ↦ test-and (eqb t.name.split n.split) (eqb t.name.rec n.rec && eqb t.name.place n.place)
+          (elim (cases_eq t.name.rec n.rec) [
+            | inr ne ↦ ap (λ b. b && eqb t.name.place n.place) (ne_eqb t.name.rec n.rec ne)
+            | inl b ↦ test-and (eqb t.name.rec n.rec) (eqb t.name.place n.place)
+                (elim (cases_eq t.name.place n.place) [
+                  | inr ne ↦ ne_eqb t.name.place n.place ne
+                  | inl d ↦ absurd (h (name-is t.name n a b d))
+                ])
+          ])
+    ]
+
+test-true : (n : Name) (t : Triple) → t.name ≡ n → is_named n t ≡ true
+test-true n t e =
+    ap (λ b. b && (eqb t.name.rec n.rec && eqb t.name.place n.place)) (eq-eqb t.name.split n.split (ap (λ (x : Name). x.split) e))
+    ∙ ap (λ b. b && eqb t.name.place n.place) (eq-eqb t.name.rec n.rec (ap (λ (x : Name). x.rec) e))
+    ∙ eq-eqb t.name.place n.place (ap (λ (x : Name). x.place) e)
+
+find-placed : (r : RecordName) (k j : ℕ) (es : List Emission) (n : Name) → r ≡ record_of n → n.place ≡ k + j
+    → find (is_named n) (placed_from r k es) ≡ option_map (triple_for n) (slice_get es j)
+unfolding placed_from
+find-placed r k j [] n same place = refl
+find-placed r k zero (e ∷ es) n same place =
+    let name : record { split = r.split; rec = r.rec; place = k } ≡ n =
+    name-is (record { split = r.split; rec = r.rec; place = k }) n (ap (λ (x : RecordName). x.split) same) (ap (λ (x : RecordName). x.rec) same) (omega (arith, place)) in
+    let t : Triple = record { key = e.0; value = e.1; name = record { split = r.split; rec = r.rec; place = k } } in
+    ap (λ b. cond b (Some t) (find (is_named n) (placed_from r (k + 1) es))) (test-true n t name)
+    ∙ ap (λ (m : Name). Some (triple_for m e)) name
+find-placed r k (suc j) (e ∷ es) n same place =
+    let t : Triple = record { key = e.0; value = e.1; name = record { split = r.split; rec = r.rec; place = k } } in
+    ap (λ b. cond b (Some t) (find (is_named n) (placed_from r (k + 1) es)))
+    (test-false n t (λ e. omega (arith, place, ap (λ (x : Name). x.place) e)))
+    ∙ find-placed r (k + 1) j es n same (omega (arith, place))
+
+find-other : (r : RecordName) (k : ℕ) (es : List Emission) (n : Name) → (r ≡ record_of n → ⊥) → find (is_named n) (placed_from r k es) ≡ None
+unfolding placed_from
+find-other r k [] n other = refl
+find-other r k (e ∷ es) n other =
+    let t : Triple = record { key = e.0; value = e.1; name = record { split = r.split; rec = r.rec; place = k } } in
+    ap (λ b. cond b (Some t) (find (is_named n) (placed_from r (k + 1) es)))
+    (test-false n t (λ e. other (ap (λ (x : Name). record { split = x.split; rec = x.rec }) e)))
+    ∙ find-other r (k + 1) es n other
+
+or-none : (o : Option Triple) → option_or o None ≡ o
+or-none None = refl
+or-none (Some t) = refl
+
+-- no triple, where no record has the name
+pub find-none : (at : ℕ) (rs : List NamedRecord) (ends : List ℕ) (pairs : List Emission) (n : Name)
+    → ((k : ℕ) → k < length rs → (nth rs k).name ≡ record_of n → ⊥) → named (spread at rs ends pairs) n ≡ None
+unfolding spread
+find-none at [] ends pairs n none = refl
+find-none at (r ∷ rs) [] pairs n none = refl
+find-none at (r ∷ rs) (e ∷ ends) pairs n none =
+    find-append (is_named n) (placed_from r.name 0 (slice_range pairs at e)) (spread e rs ends pairs)
+    ∙ ap (λ o. option_or o (named (spread e rs ends pairs) n)) (find-other r.name 0 (slice_range pairs at e) n (none 0 (omega arith)))
+    ∙ find-none e rs ends pairs n (λ k h. none (suc k) (omega (arith, h)))
+
+-- the triple, among the pairs of the one record that has the name
+pub find-there : (at : ℕ) (rs : List NamedRecord) (ends : List ℕ) (pairs : List Emission) (n : Name) (i : ℕ) → length ends ≡ length rs → i < length rs
+    → (nth rs i).name ≡ record_of n → ((k : ℕ) → k < length rs → (nth rs k).name ≡ record_of n → k ≡ i)
+    → named (spread at rs ends pairs) n ≡ option_map (triple_for n) (slice_get (slice_range pairs (get_or (at ∷ ends) i 0) (get_or ends i 0)) n.place)
+unfolding spread
+find-there at [] ends pairs n i count h is only = absurd (omega arith)
+find-there at (r ∷ rs) [] pairs n i count h is only = absurd (omega (arith, count))
+find-there at (r ∷ rs) (e ∷ ends) pairs n zero count h is only =
+    find-append (is_named n) (placed_from r.name 0 (slice_range pairs at e)) (spread e rs ends pairs)
+    ∙ ap (option_or (find (is_named n) (placed_from r.name 0 (slice_range pairs at e))))
+    (find-none e rs ends pairs n (λ k l m. omega (arith, only (suc k) (omega (arith, l)) m)))
+    ∙ or-none (find (is_named n) (placed_from r.name 0 (slice_range pairs at e)))
+    ∙ find-placed r.name 0 n.place (slice_range pairs at e) n is (omega arith)
+find-there at (r ∷ rs) (e ∷ ends) pairs n (suc i) count h is only =
+    find-append (is_named n) (placed_from r.name 0 (slice_range pairs at e)) (spread e rs ends pairs)
+    ∙ ap (λ o. option_or o (named (spread e rs ends pairs) n))
+    (find-other r.name 0 (slice_range pairs at e) n (λ m. omega (arith, only 0 (omega arith) m)))
+    ∙ find-there e rs ends pairs n i (omega (arith, count)) (omega arith) is (λ k l m. omega (arith, only (suc k) (omega (arith, l)) m))
+
+slice_get-in : (es : List Emission) (i : ℕ) (d : Emission) → i < length es → slice_get es i ≡ Some (get_or es i d)
+slice_get-in [] i d h = absurd (omega arith)
+slice_get-in (e ∷ es) zero d h = refl
+slice_get-in (e ∷ es) (suc i) d h = slice_get-in es i d (omega arith)
+
+slice_get-past : (es : List Emission) (i : ℕ) → length es ≤ i → slice_get es i ≡ None
+slice_get-past [] i h = refl
+slice_get-past (e ∷ es) zero h = absurd (omega arith)
+slice_get-past (e ∷ es) (suc i) h = slice_get-past es i (omega arith)
+
+length-range : (pairs : List Emission) (a b : ℕ) → a ≤ b → b ≤ length pairs → length (slice_range pairs a b) ≡ b - a
+length-range pairs a b order within = length-take-le (b - a) (drop a pairs) (omega (arith, length-drop a pairs))
+
+-- a pair of a part of the pairs
+pub part-in : (pairs : List Emission) (a b i : ℕ) (d : Emission) → a ≤ b → b ≤ length pairs → a + i < b
+    → slice_get (slice_range pairs a b) i ≡ Some (get_or pairs (a + i) d)
+part-in pairs a b i d order within h =
+    slice_get-in (slice_range pairs a b) i d (omega (arith, length-range pairs a b order within, h))
+    ∙ ap (λ (e : Emission). Some e) (get_or-take (b - a) (drop a pairs) i d (omega (arith, h)) ∙ get_or-drop a pairs i d)
+
+pub part-past : (pairs : List Emission) (a b i : ℕ) → a ≤ b → b ≤ length pairs → b ≤ a + i → slice_get (slice_range pairs a b) i ≡ None
+part-past pairs a b i order within h = slice_get-past (slice_range pairs a b) i (omega (arith, length-range pairs a b order within, h))
+
+-- where there is no record of a name, no record has it
+pub no-record : (rs : List NamedRecord) (n : Name) → is_record rs (record_of n) ≡ false → (k : ℕ) → k < length rs → (nth rs k).name ≡ record_of n → ⊥
+no-record rs n none k h is =
+    false≢true (sym none
+    ∙ list_any_at (cut.is_named (record_of n)) rs k (record { name = record { split = 0; rec = 0 }; file = 0; start = 0; bytes = [] }) h
+    (test-from-name (record_of n) (nth rs k) is))
+
+pub length-placed : (r : RecordName) (k : ℕ) (es : List Emission) → length (placed_from r k es) ≡ length es
+unfolding placed_from
+length-placed r k [] = refl
+length-placed r k (e ∷ es) = ap suc (length-placed r (k + 1) es)
+
+-- as many triples as pairs
+pub length-spread : (at : ℕ) (rs : List NamedRecord) (ends : List ℕ) (pairs : List Emission) → length ends ≡ length rs → EndsRise at (length pairs) ends
+    → at + length (spread at rs ends pairs) ≡ length pairs
+unfolding spread
+length-spread at [] [] pairs count rise = omega (arith, rise)
+length-spread at [] (e ∷ ends) pairs count rise = absurd (omega (arith, count))
+length-spread at (r ∷ rs) [] pairs count rise = absurd (omega (arith, count))
+length-spread at (r ∷ rs) (e ∷ ends) pairs count rise =
+    omega (
+      arith,
+      length-spread e rs ends pairs (omega (arith, count)) rise.1,
+      length-append (placed_from r.name 0 (slice_range pairs at e)) (spread e rs ends pairs),
+      length-placed r.name 0 (slice_range pairs at e),
+      length-range pairs at e rise.0 (rise-order e (length pairs) ends rise.1),
+      rise.0,
+    )

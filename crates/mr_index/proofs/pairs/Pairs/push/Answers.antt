@@ -1,0 +1,41 @@
+use Rattle.std.proofs.Common.{arith, ap, sym, ◌∙◌, ◌≡◌, ◌++◌, ◌∷◌, [], List, ℕ, length, length-append, subst}
+use Rattle.std.proofs.lemmas.List.{length_push}
+use Rattle.mr_bytes.specs.declared.Value.{Value}
+use Rattle.mr_index.specs.Pairs.{values_of, pairs_from, EndsRise}
+use Rattle.mr_index.proofs.PairLemmas.{pairs-more, rise-push, length-values}
+use Rattle.mr_index.proofs.pairs.Pairs.push.Goals as goal
+
+pub returns : goal.returns
+returns c =
+    let p = c.args.self.now in
+    let key : List ℕ = c.args.key.now in
+    let keys : c.extend_from_slice.new.self.items ≡ p.keys.items ++ key = c.in_ok-extend_from_slice.ensures.items in
+    let ends : c.push.new.self.items ≡ p.ends.items ++ c.len.result ∷ [] = c.in_ok-push.ensures.items in
+    let last : c.len.result ≡ length (p.keys.items ++ key) = c.len.ensures ∙ c.extend_from_slice.new.self.ok.0 ∙ ap length keys in
+    let ends-are : c.push.new.self.items ≡ p.ends.items ++ length (p.keys.items ++ key) ∷ [] = ends ∙ ap (λ (n : ℕ). p.ends.items ++ n ∷ []) last in
+    let values : List Value = values_of p.ones p.rest.items in
+    let values-are : values_of c.push_value.new.ones c.push_value.new.rest.items ≡ values ++ c.args.value ∷ [] = c.in_ok-push_value.ensures in
+    record {
+      sound = record {
+        rise = subst (λ (l : List ℕ). EndsRise 0 (length l) c.push.new.self.items) (sym keys)
+            (subst (λ (l : List ℕ). EndsRise 0 (length (p.keys.items ++ key)) l) (sym ends-are)
+            (rise-push 0 (length p.keys.items) (length (p.keys.items ++ key)) p.ends.items c.requires.rise (omega (arith, length-append p.keys.items key))));
+        values = omega (
+          arith,
+          ap length values-are,
+          ap length ends-are,
+          length_push values c.args.value,
+          length_push p.ends.items (length (p.keys.items ++ key)),
+          c.requires.values,
+        );
+      };
+      pairs = ap (λ (l : List ℕ). pairs_from 0 l c.push.new.self.items (values_of c.push_value.new.ones c.push_value.new.rest.items)) keys
+          ∙ ap (λ (l : List ℕ). pairs_from 0 (p.keys.items ++ key) l (values_of c.push_value.new.ones c.push_value.new.rest.items)) ends-are
+          ∙ ap (pairs_from 0 (p.keys.items ++ key) (p.ends.items ++ length (p.keys.items ++ key) ∷ [])) values-are
+          ∙ pairs-more 0 p.keys.items key p.ends.items values c.args.value c.requires.rise c.requires.values;
+    }
+
+pub push_value-requires : goal.push_value-requires
+push_value-requires c =
+    let p = c.args.self.now in
+    omega (arith, c.requires.values, length-values p.ones p.rest.items, p.ends.ok.0, p.ends.small)

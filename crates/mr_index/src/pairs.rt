@@ -1,0 +1,128 @@
+//! Keys with their values, in one buffer.
+ghost use Rattle.std.specs.Prelude.{◌≡◌, ℕ, ◌+◌, ◌≤◌, ◌<◌, ◌^◌, ◌++◌, [], ◌∷◌, OnOk, MatchOption, length, slice_index, slice_index_or};
+ghost use Rattle.mr_bytes.specs.declared.Value.TheVariants.{One};
+ghost use Rattle.mr_jobs.specs.Emissions.{emissions};
+ghost use Rattle.mr_index.specs.Pairs.{seen, values_of, Sound};
+
+use mr_bytes::Value;
+use mr_jobs::{Emitter, Job};
+use mr_splits::Located;
+use std::alloc::{AllocError, Global};
+
+/// Keys with their values, in the order in which they came: no key takes an allocation of its own.
+#[derive(Drop)]
+pub(crate) struct Pairs {
+    /// The bytes of all keys, one key after another.
+    pub keys: Vec<u8>,
+    /// Where each key ends.
+    pub ends: Vec<usize>,
+    /// How many values come before the first that is not One.
+    pub ones: usize,
+    /// The values from there on.
+    pub rest: Vec<Value>,
+}
+
+pub(crate) fn no_pairs(alloc: Global) -> Pairs
+    ensures none { seen result ≡ [] }
+    ensures sound { Sound result }
+{
+    Pairs {
+        keys: Vec::new(alloc),
+        ends: Vec::new(alloc),
+        ones: 0,
+        rest: Vec::new(alloc),
+    }
+}
+
+fn push_value(ones: &mut usize, rest: &mut Vec<Value>, value: Value) -> Result<(), AllocError>
+    requires { ones.old + 1 < 2 ^ 64 }
+    ensures { OnOk result (values_of ones.new rest.new.items ≡ values_of ones.old rest.old.items ++ value ∷ []) }
+{
+    if rest.is_empty() {
+        if let Value::One = value {
+            *ones += 1;
+            return Ok(());
+        }
+    }
+    rest.push(value)?;
+    Ok(())
+}
+
+/// Where item `i` starts, given where each ends.
+pub(crate) fn start_of(ends: &[usize], i: usize) -> usize
+    requires { i ≤ length ends.now }
+    ensures { result ≡ slice_index (0 ∷ ends.now) i }
+{
+    if i == 0 { 0 } else { ends[i - 1] }
+}
+
+fn value_of(ones: usize, rest: &[Value], i: usize) -> Value
+    requires { i < length (values_of ones rest.now) }
+    ensures { result ≡ slice_index_or (values_of ones rest.entry.now) i One }
+{
+    if i < ones { Value::One } else { rest[i - ones] }
+}
+
+impl Pairs {
+    pub(crate) fn len(&self) -> usize
+        requires { Sound self.now }
+        ensures { result ≡ length (seen self.now) }
+    {
+        self.ends.len()
+    }
+
+    /// The key and the value of pair `i`, from 0.
+    pub(crate) fn get(&self, i: usize) -> (&[u8], Value)
+        requires sound { Sound self.now }
+        requires within { i < length (seen self.now) }
+        ensures { (result.0.now, result.1) ≡ slice_index_or (seen self.now) i ([], One) }
+    {
+        let start = start_of(self.ends.as_slice(), i);
+        let value = value_of(self.ones, self.rest.as_slice(), i);
+        (&self.keys[start..self.ends[i]], value)
+    }
+
+    fn push(&mut self, key: &[u8], value: Value) -> Result<(), AllocError>
+        requires { Sound self.old }
+        ensures sound { OnOk result (Sound self.new) }
+        ensures pairs { OnOk result (seen self.new ≡ seen self.old ++ (key.now, value) ∷ []) }
+    {
+        self.keys.extend_from_slice(key)?;
+        self.ends.push(self.keys.len())?;
+        push_value(&mut self.ones, &mut self.rest, value)?;
+        Ok(())
+    }
+
+    fn push_all(&mut self, mut emitter: Emitter<'_>) -> Result<(), AllocError>
+        requires { Sound self.old }
+        ensures sound { OnOk result (Sound self.new) }
+        ensures pairs { OnOk result (seen self.new ≡ seen self.old ++ emitter.entry) }
+    {
+        while let Some((key, value)) = next_pair(&mut emitter) {
+            self.push(key, value)?;
+        }
+        Ok(())
+    }
+
+    /// Appends what a record emits.
+    pub(crate) fn map(
+        &mut self,
+        job: &Job,
+        line: Located<'_>,
+        buffer: &mut Vec<u8>,
+    ) -> Result<(), AllocError>
+        requires sound { Sound self.old }
+        requires small { length line.bytes.now ≤ 2 ^ 30 }
+        ensures sound { OnOk result (Sound self.new) }
+        ensures pairs { OnOk result (seen self.new ≡ seen self.old ++ emissions job.now line.entry.file line.entry.start line.entry.bytes.now) }
+    {
+        job.prepare(line.bytes, buffer)?;
+        self.push_all(job.emit(line.file, line.start, line.bytes, buffer.as_slice()))
+    }
+}
+
+fn next_pair<'a>(emitter: &mut Emitter<'a>) -> Option<(&'a [u8], Value)>
+    ensures { MatchOption result (emitter.old ≡ []) (λ e. emitter.old ≡ (e.0.now, e.1) ∷ emitter.new) }
+{
+    emitter.next()
+}

@@ -1,0 +1,93 @@
+//! Each job's pairs by name, on inputs mapped by hand.
+use crate::{EmissionIndex, Meter};
+use mr_bytes::{Name, RecordName, Value};
+use mr_input::Input;
+use mr_jobs::Job;
+use mr_splits::Plan;
+use std::alloc::{AllocError, Global};
+use std::test::Fail;
+
+const UNUSED: Meter = Meter {
+    lookups: 0,
+    mapped: 0,
+};
+
+fn two_files(alloc: Global, first: &[u8], second: &[u8]) -> Result<Vec<Vec<u8>>, AllocError> {
+    let mut files = Vec::new(alloc);
+    files.push(Vec::from_slice(alloc, first)?)?;
+    files.push(Vec::from_slice(alloc, second)?)?;
+    Ok(files)
+}
+
+fn name(split: u32, rec: u32, place: u32) -> Name {
+    Name { split, rec, place }
+}
+
+#[test]
+fn words(rt: HostRuntime) -> Result<(), Fail> {
+    let alloc = rt.alloc();
+    let input = Input::of(two_files(alloc, b"The cat\n\nthe dog\n", b"a\n")?)?;
+    let plan = Plan::of(alloc, &input, 9)?;
+    let mut meter = UNUSED;
+    let index = EmissionIndex::of(alloc, &plan, &Job::words(false), &[], &mut meter)?;
+    assert_eq!(rt; index.total(), 5);
+    assert_eq!(rt; meter.mapped, 4);
+    assert_eq!(rt; meter.lookups, 0);
+    let the = b"the".as_slice();
+    assert!(rt; index.pair(name(0, 0, 0), &mut meter) == Some((the, Value::One)));
+    assert!(rt; index.pair(name(0, 0, 1), &mut meter) == Some((b"cat".as_slice(), Value::One)));
+    assert!(rt; index.pair(name(0, 0, 2), &mut meter) == None);
+    assert!(rt; index.pair(name(0, 1, 0), &mut meter) == None);
+    assert!(rt; index.pair(name(1, 0, 0), &mut meter) == Some((the, Value::One)));
+    assert!(rt; index.pair(name(2, 0, 0), &mut meter) == Some((b"a".as_slice(), Value::One)));
+    assert!(rt; index.pair(name(3, 0, 0), &mut meter) == None);
+    assert_eq!(rt; meter.lookups, 7);
+    assert_eq!(rt; meter.mapped, 4);
+    Ok(())
+}
+
+#[test]
+fn lines_with_a_literal(rt: HostRuntime) -> Result<(), Fail> {
+    let alloc = rt.alloc();
+    let input = Input::of(two_files(alloc, b"no\n", b"ab\nc\nxb")?)?;
+    let plan = Plan::of(alloc, &input, 64)?;
+    let job = Job::grep(alloc, b"b", false)?;
+    let mut meter = UNUSED;
+    let index = EmissionIndex::of(alloc, &plan, &job, &[], &mut meter)?;
+    assert_eq!(rt; index.total(), 2);
+    let first = Value::At { file: 1, offset: 0 };
+    let last = Value::At { file: 1, offset: 5 };
+    assert!(rt; index.pair(name(1, 0, 0), &mut meter) == Some((b"ab".as_slice(), first)));
+    assert!(rt; index.pair(name(1, 1, 0), &mut meter) == None);
+    assert!(rt; index.pair(name(1, 2, 0), &mut meter) == Some((b"xb".as_slice(), last)));
+    Ok(())
+}
+
+#[test]
+fn resources(rt: HostRuntime) -> Result<(), Fail> {
+    let alloc = rt.alloc();
+    let input = Input::of(two_files(alloc, b"h \"GET /a HTTP/1.0\" 200\nh \"-\"\n", b"")?)?;
+    let plan = Plan::of(alloc, &input, 64)?;
+    let mut meter = UNUSED;
+    let index = EmissionIndex::of(alloc, &plan, &Job::url(), &[], &mut meter)?;
+    assert_eq!(rt; index.total(), 1);
+    assert!(rt; index.pair(name(0, 0, 0), &mut meter) == Some((b"/a".as_slice(), Value::One)));
+    Ok(())
+}
+
+#[test]
+fn without_a_left_out_record(rt: HostRuntime) -> Result<(), Fail> {
+    let alloc = rt.alloc();
+    let input = Input::of(two_files(alloc, b"a b\nC\n", b"")?)?;
+    let plan = Plan::of(alloc, &input, 64)?;
+    let absent = RecordName { split: 7, rec: 0 };
+    let first = RecordName { split: 0, rec: 0 };
+    let skips = [first, absent, first];
+    let mut meter = UNUSED;
+    let index = EmissionIndex::of(alloc, &plan, &Job::words(true), &skips, &mut meter)?;
+    assert_eq!(rt; index.total(), 1);
+    assert_eq!(rt; meter.mapped, 1);
+    assert!(rt; index.pair(name(0, 0, 0), &mut meter) == None);
+    assert!(rt; index.pair(name(0, 1, 0), &mut meter) == Some((b"C".as_slice(), Value::One)));
+    Ok(())
+}

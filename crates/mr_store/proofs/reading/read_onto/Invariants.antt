@@ -1,0 +1,12 @@
+use Rattle.std.proofs.Common.{◌≡◌, ◌-◌, ◌^◌, vec_len}
+use Rattle.mr_store.specs.Reads.{Grew}
+use Rattle.mr_store.proofs.reading.read_onto.Given as goal
+
+abbrev pub invariant-loop-count : goal.invariant-loop-count
+invariant-loop-count g l = record {
+  grew : Grew (g.R.CountedRead.remaining l.initial.reader) (g.R.CountedRead.remaining l.reader) l.initial.out.items l.out.items;
+  count : g.R.CountedRead.failed l.reader ≡ g.R.CountedRead.failed l.initial.reader;
+}
+
+abbrev pub decreases-loop-count : goal.decreases-loop-count
+decreases-loop-count g l = 2 ^ 64 - vec_len l.out

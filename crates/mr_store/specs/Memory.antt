@@ -1,0 +1,20 @@
+-- Readers and writers over memory.
+use Rattle.std.specs.Prelude.{ℕ, ◌-◌, ◌==◌, if◌then◌else◌, Bool, false, Option, Some, None, List}
+
+-- a device that holds these bytes, moves at most so many a call, fails at a later call, if at any, counted from 1 for
+-- the next, and has failed so often
+pub record Memory : Type 0 where
+  pub bytes : List ℕ
+  pub most : ℕ
+  pub failing : Option ℕ
+  pub failed : ℕ
+
+-- the next call fails
+abbrev pub fails_now : Option ℕ → Bool
+fails_now None = false
+fails_now (Some n) = n == 1
+
+-- when a call fails, behind this one
+abbrev pub behind_call : Option ℕ → Option ℕ
+behind_call None = None
+behind_call (Some n) = if n == 1 then None else Some (n - 1)

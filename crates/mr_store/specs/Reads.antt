@@ -1,0 +1,16 @@
+-- What it is to read onto a list.
+use Rattle.std.specs.Prelude.{◌≡◌, ℕ, List, ◌++◌, Option, Result, Ok, Err}
+use Rattle.std.specs.Io.KnownBytes.{Consumes, IsAtEnd}
+use Rattle.mr_store.specs.declared.reading.ReadFault.{ReadFault}
+use Rattle.mr_store.specs.declared.reading.ReadFault.TheVariants.{Device, OutOfMemory}
+use Rattle.mr_store.specs.Devices.{counted}
+
+-- the list grew by what was read
+abbrev pub Grew : Option (List ℕ) → Option (List ℕ) → List ℕ → List ℕ → Type 0
+Grew known left was is = (got : List ℕ) × (is ≡ was ++ got) × Consumes known left got
+
+-- to the end, or to a fault; where memory was wanting, what was read last is lost
+abbrev pub ReadOnto : Option (List ℕ) → Option (List ℕ) → ℕ → ℕ → List ℕ → List ℕ → Result (Unit {0}) ReadFault → Type 0
+ReadOnto known left failed failures was is (Ok _) = Grew known left was is × IsAtEnd left × (failures ≡ failed)
+ReadOnto known left failed failures was is (Err Device) = Grew known left was is × (failures ≡ counted failed)
+ReadOnto known left failed failures was is (Err OutOfMemory) = ((got : List ℕ) × (is ≡ was ++ got)) × (failures ≡ failed)

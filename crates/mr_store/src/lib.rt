@@ -1,0 +1,14 @@
+//! Readers and writers that count their failed calls, and how files are read and a result is written with them.
+#![tactic(auto)]
+
+mod device;
+mod memory;
+mod reading;
+#[cfg(test)]
+mod tests;
+mod writing;
+
+pub use crate::device::{CountedRead, CountedWrite, Device};
+pub use crate::memory::{MemoryReader, MemoryWriter};
+pub use crate::reading::{ReadFault, read_all};
+pub use crate::writing::{write_all, write_result};
