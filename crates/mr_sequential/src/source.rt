@@ -17,16 +17,16 @@ use std::alloc::{AllocError, Global};
 fn gather_record(
     alloc: Global,
     job: &Job,
-    record: Located<'_>,
+    line: Located<'_>,
     buffer: &mut Vec<u8>,
     gathered: &mut Gathered,
 ) -> Result<(), AllocError>
-    requires small { length record.bytes.now ≤ 2 ^ 30 }
-    requires few { length gathered.old + length (emissions job.now record.file record.start record.bytes.now) ≤ 2 ^ 32 }
-    ensures { OnOk result (gathered.new ≡ gathered.old ++ emissions job.now record.entry.file record.entry.start record.entry.bytes.now) }
+    requires small { length line.bytes.now ≤ 2 ^ 30 }
+    requires few { length gathered.old + length (emissions job.now line.file line.start line.bytes.now) ≤ 2 ^ 32 }
+    ensures { OnOk result (gathered.new ≡ gathered.old ++ emissions job.now line.entry.file line.entry.start line.entry.bytes.now) }
 {
-    job.prepare(record.bytes, buffer)?;
-    let mut emitter = job.emit(record.file, record.start, record.bytes, buffer.as_slice());
+    job.prepare(line.bytes, buffer)?;
+    let mut emitter = job.emit(line.file, line.start, line.bytes, buffer.as_slice());
     while let Some((key, value)) = emitter.next() {
         gathered.push(alloc, key, value)?;
     }

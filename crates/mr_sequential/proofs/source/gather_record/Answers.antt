@@ -5,7 +5,7 @@ use Rattle.mr_sequential.proofs.source.gather_record.Goals as goal
 
 pub push-requires : goal.push-requires
 push-requires c =
-    let r = c.args.record in
+    let r = c.args.line in
     let old : List Emission = c.args.gathered.now in
     let all : List Emission = emissions c.args.job.now r.file r.start r.bytes.now in
     omega (arith, ap length c.loop-key.invariant, length-append c.loop-key.gathered c.loop-key.emitter, length-append old all, ap length c.in-Some.ensures.next, c.requires.few)
