@@ -7,6 +7,7 @@ docs/FORMATS.md give, worked out here by plain Python or by GNU tools, never by 
 import os
 import random
 import re
+import resource
 import shutil
 import subprocess
 import sys
@@ -268,9 +269,50 @@ def against_tools():
     check("url against awk", parts_of(got[3])[0] == shell("""awk '{ n[$6]++ } END { for (k in n) print k "\\t" n[k] }' input | sort""", got[3]))
 
 
+def streams_and_disks():
+    """A disk that is full from the second part on, an input that is no file, and an output stream that takes nothing."""
+    words = ["seq", "--job", "words", "--parts", "2", "--out", "."]
+    data = {"a": b"the cat the dog\n"}
+    where = tempfile.mkdtemp(dir=ROOM)
+    os.symlink("/dev/full", os.path.join(where, "part-00001"))
+    got = run([*words, "a"], data, cwd=where)
+    first = open(os.path.join(where, "part-00000"), "rb").read()
+    check("a disk full at the second part", got[:3] == (3, b"", b"mapred: cannot write ./part-00001\n") and first == b"the\t2\n", repr(got))
+    got = run([*words, "a", "."], data)
+    check("a directory for a file", got[:3] == (3, b"", b"mapred: cannot read .\n") and parts_of(got[3]) == [], repr(got))
+    where = tempfile.mkdtemp(dir=ROOM)
+    with open(os.path.join(where, "a"), "wb") as file:
+        file.write(data["a"])
+    with open("/dev/full", "wb") as full:
+        ran = subprocess.run([PROGRAM, *words, "a"], cwd=where, stdout=full, stderr=subprocess.PIPE)
+    check("a stream that takes nothing", (ran.returncode, ran.stderr) == (0, b"") and parts_of(where) == [b"the\t2\n", b"cat\t1\ndog\t1\n"])
+
+
+def little_memory():
+    """With ever more memory the program says that it is out of memory and writes nothing, or does the whole work."""
+    data = b" ".join(b"w%d" % (i * 7919 % 40000) for i in range(200_000)) + b"\n"
+    outputs, pairs = plain("words", [data], 2)
+    short, done = 0, 0
+    for size in range(3000, 40000, 1000):
+        where = tempfile.mkdtemp(dir=ROOM)
+        with open(os.path.join(where, "input"), "wb") as file:
+            file.write(data)
+        limit = lambda: resource.setrlimit(resource.RLIMIT_AS, (size * 1024, size * 1024))
+        words = [PROGRAM, "seq", "--job", "words", "--parts", "2", "--out", ".", "input"]
+        ran = subprocess.run(words, cwd=where, capture_output=True, preexec_fn=limit)
+        if ran.returncode == 127:
+            continue  # too little for the system to load a program
+        got = (ran.returncode, ran.stdout, ran.stderr, parts_of(where))
+        refused = got == (4, b"", b"mapred: out of memory\n", [])
+        worked = got == (0, b"done: 2 files, %d pairs, 0 left out\n" % pairs, b"", outputs)
+        check(f"{size} KiB of memory", (refused and done == 0) or worked, repr(got)[:300])
+        short, done = short + refused, done + worked
+    check("memory that doesn't suffice, and memory that does", short > 0 and done > 0)
+
+
 def main():
     try:
-        for part in (worked_rows, faults, against_python, against_tools):
+        for part in (worked_rows, faults, streams_and_disks, little_memory, against_python, against_tools):
             part()
     finally:
         shutil.rmtree(ROOM, ignore_errors=True)
