@@ -9,6 +9,7 @@ import random
 import re
 import resource
 import shutil
+import struct
 import subprocess
 import sys
 import tempfile
@@ -38,6 +39,18 @@ def run(words, files=None, cwd=None):
 def parts_of(where):
     names = sorted(n for n in os.listdir(where) if n.startswith("part-"))
     return [open(os.path.join(where, n), "rb").read() for n in names]
+
+
+def result_of(where):
+    """The parts and the certificate, None where it isn't there."""
+    path = os.path.join(where, "certificate")
+    return parts_of(where), open(path, "rb").read() if os.path.exists(path) else None
+
+
+def write_result(where, parts, certificate):
+    for name, data in [*((f"part-{p:05}", text) for p, text in enumerate(parts)), ("certificate", certificate)]:
+        with open(os.path.join(where, name), "wb") as file:
+            file.write(data)
 
 
 def fnv(key):
@@ -85,8 +98,25 @@ def url_key(line):
     return key or None
 
 
+def u32s(*numbers):
+    return struct.pack(f">{len(numbers)}I", *numbers)
+
+
+def certificate_of(header, literal, shape, lengths, skips, partitions):
+    """The bytes of a certificate: job and flags, the literal, partitions and bytes of a split, the length of each
+    file, the left-out records, and for each partition its groups, each a list of names."""
+    out = [b"MRCERT1\n", u32s(*header, len(literal)), literal, u32s(*shape, len(lengths))]
+    out += [struct.pack(">Q", length) for length in lengths]
+    out += [u32s(len(skips)), *(u32s(*skip) for skip in skips)]
+    for groups in partitions:
+        out.append(u32s(len(groups)))
+        for names in groups:
+            out += [u32s(len(names)), *(u32s(*name) for name in names)]
+    return b"".join(out)
+
+
 def plain(job, files, parts, split=67108864, keep=False, literal=b"", fold=False, skips=()):
-    """The outputs and the number of pairs, by the rules."""
+    """The outputs, the number of pairs and the certificate, by the rules."""
     groups, pairs, first = {}, 0, 0
     for number, data in enumerate(files):
         seen = {}
@@ -104,25 +134,160 @@ def plain(job, files, parts, split=67108864, keep=False, literal=b"", fold=False
             else:
                 key = url_key(line)
                 emitted = [(key, None)] if key is not None else []
-            for key, value in emitted:
-                groups.setdefault(key, []).append(value)
+            for place, (key, value) in enumerate(emitted):
+                groups.setdefault(key, []).append(((s, r, place), value))
                 pairs += 1
         first += (len(data) + split - 1) // split
-    outputs = [b""] * parts
+    outputs, partitions = [b""] * parts, [[] for _ in range(parts)]
     for key in sorted(groups):
         p = fnv(key) % parts
+        partitions[p].append([name for name, _ in groups[key]])
         if job == "grep":
-            outputs[p] += b"".join(key + b"\t%d:%d\n" % value for value in groups[key])
+            outputs[p] += b"".join(key + b"\t%d:%d\n" % value for _, value in groups[key])
         else:
             outputs[p] += key + b"\t%d\n" % len(groups[key])
-    return outputs, pairs
+    header = {"words": 1, "grep": 2, "url": 3}[job], keep + 2 * fold
+    certificate = certificate_of(header, literal, (parts, split), [len(data) for data in files], skips, partitions)
+    return outputs, pairs, certificate
 
 
-def row(name, words, files, status=0, out=b"", err=b"", parts=None):
+def judged(words, files, where):
+    """What `check` answers to the options of `seq`, which may name left-out records."""
+    words = ["check", *words[1:]]
+    if "--skips" in words:
+        at = words.index("--skips")
+        del words[at : at + 2]
+    return run([*words, "--out", ".", *files], cwd=where)[:3]
+
+
+def yes_of(done, skips):
+    """What `check` says where `seq` said that it was done."""
+    lines = [b"yes: " + done.split(b"files, ")[1], *(b"left out %d %d\n" % skip for skip in skips)]
+    return 0, b"".join(lines), b""
+
+
+def skips_of(words):
+    listed = words[words.index("--skips") + 1] if "--skips" in words else ""
+    return [tuple(map(int, skip.split(":"))) for skip in listed.split(",") if skip]
+
+
+def row(name, words, files, status=0, out=b"", err=b"", parts=None, certificate=None):
     got = run([*words, "--out", ".", *files], files)
     check(name, got[:3] == (status, out, err), f"status {got[0]} out {got[1]!r} err {got[2]!r}")
+    stands = result_of(got[3])
     if parts is not None:
-        check(name + ", files", parts_of(got[3]) == parts, repr(parts_of(got[3])))
+        check(name + ", files", stands[0] == parts, repr(stands[0]))
+    if certificate is not None:
+        check(name + ", certificate", stands[1] == certificate, repr(stands[1]))
+    if status == 0:
+        answer = judged(words, files, got[3])
+        check(name + ", judged", answer == yes_of(out, skips_of(words)), repr(answer))
+        check(name + ", judged without a change", result_of(got[3]) == stands)
+    else:
+        check(name + ", no certificate", stands[1] is None)
+
+
+MAGIC = bytes.fromhex("4d 52 43 45 52 54 31 0a")
+
+# Words of `a b a` and a line end, one partition, splits of 64 bytes: 92 bytes.
+EXAMPLE = MAGIC + bytes.fromhex(
+    "00 00 00 01  00 00 00 00  00 00 00 00"  # job, flags, no literal
+    "00 00 00 01  00 00 00 40  00 00 00 01  00 00 00 00 00 00 00 06"  # partitions, bytes of a split, one file
+    "00 00 00 00  00 00 00 02"  # no left-out record, two groups
+    "00 00 00 02  00 00 00 00 00 00 00 00 00 00 00 00  00 00 00 00 00 00 00 00 00 00 00 02"
+    "00 00 00 01  00 00 00 00 00 00 00 00 00 00 00 01"
+)
+
+
+def certificates():
+    """Certificates written out by hand."""
+    words = ["seq", "--job", "words", "--split", "64"]
+    row("the example certified", words, {"a": b"a b a\n"}, out=b"done: 1 files, 3 pairs, 0 left out\n", parts=[b"a\t2\nb\t1\n"], certificate=EXAMPLE)
+    empty = MAGIC + bytes.fromhex("00000001 00000000 00000000 00000002 00000040 00000001 0000000000000000 00000000 00000000 00000000")
+    row("an empty file certified", [*words, "--parts", "2"], {"a": b""}, out=b"done: 2 files, 0 pairs, 0 left out\n", parts=[b"", b""], certificate=empty)
+    left_out = MAGIC + bytes.fromhex("00000001 00000000 00000000 00000001 00000040 00000001 0000000000000006 00000001 00000000 00000000 00000001 00000001 00000000 00000001 00000000")
+    row("a left-out record certified", [*words, "--skips", "0:0", "--max-skips", "1"], {"a": b"a b\nc\n"}, out=b"done: 1 files, 1 pairs, 1 left out\n", parts=[b"c\t1\n"], certificate=left_out)
+    lines = MAGIC + bytes.fromhex("00000002 00000000 00000001 78 00000001 00000040 00000003 0000000000000001 0000000000000000 0000000000000002 00000000 00000001 00000002 00000000 00000000 00000000 00000001 00000000 00000000")
+    grep = ["seq", "--job", "grep", "--literal", "x", "--split", "64"]
+    row("lines of three files certified", grep, {"a": b"x", "b": b"", "c": b"x\n"}, out=b"done: 1 files, 2 pairs, 0 left out\n", parts=[b"x\t0:0\nx\t2:0\n"], certificate=lines)
+    sizes = [len(c) for c in (EXAMPLE, empty, left_out, lines)]
+    check("the lengths of the certificates", sizes == [92, 52, 72, 93], repr(sizes))
+
+
+def refused(name, said, data, parts, certificate, options=(), split="64"):
+    """A result that the judge refuses with this fault."""
+    where = tempfile.mkdtemp(dir=ROOM)
+    write_result(where, parts, certificate)
+    words = ["check", "--job", "words", "--parts", str(len(parts)), "--split", split, *options, "--out", ".", "a"]
+    got = run(words, {"a": data}, cwd=where)
+    check("refused: " + name, got[:3] == (1, b"no: " + said + b"\n", b""), repr(got[:3]))
+
+
+def refusals():
+    """The judge's refusals, worked out by hand."""
+    data, good, entry = b"a b a\n", [b"a\t2\nb\t1\n"], b"partition 0 group %d entry %d"
+    changed = lambda at, new: EXAMPLE[:at] + new + EXAMPLE[at + len(new) :]
+    refused("an entry twice", b"EntryOrder " + entry % (0, 1), data, good, changed(64, u32s(0, 0, 0)))
+    refused("a group dropped", b"Unnamed emitted 3 named 2", data, [b"a\t2\n"], changed(44, u32s(1))[:76])
+    refused("the last byte dropped", b"Malformed at 80", data, good, EXAMPLE[:-1])
+    refused("a byte added", b"Malformed at 92", data, good, EXAMPLE + b"\0")
+    refused("nothing at all", b"Malformed at 0", data, good, b"")
+    refused("an output too long", b"OutputDiffers partition 0 at 8", data, [good[0] + b"x"], EXAMPLE)
+    refused("an output too short", b"OutputDiffers partition 0 at 7", data, [good[0][:-1]], EXAMPLE)
+    refused("a name that isn't there", b"NoSuchPair " + entry % (0, 0), data, good, changed(52, u32s(*[2**32 - 1] * 3)))
+    refused("another key", b"KeyDiffers " + entry % (0, 1), data, good, changed(64, u32s(0, 0, 1)))
+    names = [[(0, 0, 0)], [(0, 0, 2)], [(0, 0, 1)]]
+    header = (1, 0), b"", (1, 64), [6], []
+    refused("a key twice", b"KeyOrder " + entry % (1, 0), data, [b"a\t1\na\t1\nb\t1\n"], certificate_of(*header, [names]))
+    swapped = certificate_of(*header, [[[(0, 0, 1)], [(0, 0, 0), (0, 0, 2)]]])
+    refused("groups swapped", b"OutputDiffers partition 0 at 0", data, good, swapped)
+    refused("another input", b"OtherInput", b"a b aa\n", good, EXAMPLE)
+    refused("cases kept", b"OtherJob", data, good, EXAMPLE, ["--keep-case"])
+    refused("another size of split", b"OtherJob", data, good, EXAMPLE, split="63")
+    refused("other partitions", b"OtherJob", data, [*good, b""], EXAMPLE)
+    wrong = certificate_of((1, 0), b"", (3, 64), [2], [], [[[(0, 0, 0)]], [], []])
+    refused("a key in another's partition", b"WrongPartition " + entry % (0, 0), b"a\n", [b"a\t1\n", b"", b""], wrong)
+    listed = lambda *skips: certificate_of((1, 0), b"", (1, 64), [6], skips, [[[(0, 1, 0)]]])
+    two, most = (b"a b\nc\n", [b"c\t1\n"]), ["--max-skips", "2"]
+    refused("a left-out record too many", b"TooManySkips listed 1", *two, listed((0, 0)))
+    refused("a left-out record twice", b"SkipOrder skip 1", *two, listed((0, 0), (0, 0)), most)
+    refused("a left-out record that isn't there", b"NoSuchRecord skip 1", *two, listed((0, 0), (0, 2)), most)
+    refused("a pair of a left-out record", b"NoSuchPair " + entry % (0, 0), b"a b\nc\n", [b"c\t1\n"], listed((0, 0), (0, 1)), most)
+
+
+def changes():
+    """A result with one byte changed is never good. Given the left-out records, a good result is unique, byte for
+    byte, so none has an output or an entry changed alone. A change in the list of left-out records or in its length
+    needs more: each record of these texts emits, so that a record that joins the list or leaves it takes 12 bytes or
+    more of names out of the certificate or brings them in."""
+    rnd = random.Random(13)
+    text = b"the cat the dog\na b a\nthe dog\nx\n"
+    log = b"".join(b'h "GET /%s HTTP/1.0" 200 1\n' % rnd.choice([b"a", b"b", b"index.html"]) for _ in range(6))
+    for job, options, data in (
+        ("words", ["--parts", "2", "--split", "7"], text),
+        ("words", ["--parts", "3", "--split", "64", "--skips", "0:1", "--max-skips", "3"], text),
+        ("grep", ["--literal", "a"], b"a\nba\nac\n"),
+        ("url", ["--parts", "2", "--split", "16"], log),
+    ):
+        words = ["seq", "--job", job, *options]
+        where = run([*words, "--out", ".", "a"], {"a": data})[3]
+        parts, certificate = result_of(where)
+        files = [*parts, certificate]
+        wrong = []
+        for _ in range(100):
+            at, which = rnd.randrange(sum(map(len, files))), 0
+            while at >= len(files[which]):
+                at, which = at - len(files[which]), which + 1
+            byte = rnd.choice([files[which][at] ^ 1 << rnd.randrange(8), rnd.choice([b for b in range(256) if b != files[which][at]])])
+            changed = [*files]
+            changed[which] = files[which][:at] + bytes([byte]) + files[which][at + 1 :]
+            write_result(where, changed[:-1], changed[-1])
+            got = judged(words, ["a"], where)
+            if got[0] != 1 or not got[1].startswith(b"no: ") or got[2] != b"":
+                wrong.append((which, at, byte, got))
+        check(f"a byte changed, {job} {options}", wrong == [], repr(wrong))
+        write_result(where, parts, certificate)
+        check(f"and changed back, {job} {options}", judged(words, ["a"], where)[0] == 0)
 
 
 def worked_rows():
@@ -181,16 +346,46 @@ def faults():
     check("a missing directory", got[:3] == (3, b"", b"mapred: cannot write none/part-00000\n"), repr(got))
     got = run([*words, "--out", ".", *["a"] * 1025], one)
     check("too many files", got[:3] == (2, b"", b"mapred: TooManyFiles\n"), repr(got))
-    full = tempfile.mkdtemp(dir=ROOM)
-    os.symlink("/dev/full", os.path.join(full, "part-00000"))
-    got = run([*words, "--out", ".", "a"], one, cwd=full)
-    check("a full disk", got[:3] == (3, b"", b"mapred: cannot write ./part-00000\n"), repr(got))
-    for line in (["seq", "--job", "words", "--bad", "--out", "."], ["seq", "--job", "sort", "--out", "."], ["seq", "--out", "."], ["seq", "--job", "words"], ["sort"], [], ["seq", "--job", "words", "--parts", "x", "--out", "."], ["seq", "--job", "words", "--parts", "4294967296", "--out", "."]):
+    for name in ("part-00000", "certificate"):
+        full = tempfile.mkdtemp(dir=ROOM)
+        os.symlink("/dev/full", os.path.join(full, name))
+        got = run([*words, "--out", ".", "a"], one, cwd=full)
+        check(f"a full disk at {name}", got[:3] == (3, b"", b"mapred: cannot write ./%s\n" % name.encode()), repr(got))
+        stands = sorted(os.listdir(full))
+        check(f"the parts before {name}", stands == (["a", "part-00000"] if name == "part-00000" else ["a", "certificate", "part-00000"]), repr(stands))
+    for line in (["seq", "--job", "words", "--bad", "--out", "."], ["seq", "--job", "sort", "--out", "."], ["seq", "--out", "."], ["seq", "--job", "words"], ["sort"], [], ["seq", "--job", "words", "--parts", "x", "--out", "."], ["seq", "--job", "words", "--parts", "4294967296", "--out", "."], ["check", "--job", "words"], ["seq", "--job", "words", "--out", ""], ["check", "--job", "words", "--skips", "0:0", "--out", "."]):
         got = run(line)
         check(f"a bad line {line}", got[0] == 2 and got[1] == b"" and got[2] != b"", repr(got))
-    for line in (["--help"], ["seq", "--help"], ["--version"]):
+    for line in (["--help"], ["seq", "--help"], ["check", "--help"], ["--version"]):
         got = run(line)
         check(f"an answer {line}", got[0] == 0 and got[1] != b"" and got[2] == b"", repr(got))
+
+
+def check_faults():
+    """What `check` can't judge: the request is tested first, then the input, then the files of the result."""
+    words = ["check", "--job", "words", "--out", "."]
+    one = {"a": b"a\n"}
+    for name, options, files, status, said in [
+        ("no partitions", ["--parts", "0"], ["none"], 2, b"BadParts"),
+        ("a limit above 1000", ["--max-skips", "1001"], ["none"], 2, b"BadSkips"),
+        ("an option of another job", ["--fold"], ["none"], 2, b"option does not belong to this job"),
+        ("a missing input", [], ["a", "none"], 3, b"cannot read none"),
+        ("too many files", [], ["a"] * 1025, 2, b"TooManyFiles"),
+        ("a missing part", [], ["a"], 3, b"cannot read ./part-00000"),
+    ]:
+        got = run([*words, *options, *files], one)
+        check("judging " + name, got[:3] == (status, b"", b"mapred: " + said + b"\n"), repr(got[:3]))
+    got = run([*words, "--split", "1", "a"], {"a": b"a" * 1048577})
+    check("judging too many splits", got[:3] == (2, b"", b"mapred: TooManySplits\n"), repr(got[:3]))
+    where = run(["seq", *words[1:], "a"], one)[3]
+    os.mkdir(os.path.join(where, "part-00001"))
+    got = run([*words, "--parts", "2", "a"], cwd=where)
+    check("a part that is a directory", got[:3] == (3, b"", b"mapred: cannot read ./part-00001\n"), repr(got[:3]))
+    os.remove(os.path.join(where, "certificate"))
+    got = run([*words, "--parts", "2", "a"], cwd=where)
+    check("a missing certificate is told first", got[:3] == (3, b"", b"mapred: cannot read ./certificate\n"), repr(got[:3]))
+    got = run([*words, "a", "--parts", "3"], cwd=where)
+    check("a missing part is told before", got[:3] == (3, b"", b"mapred: cannot read ./part-00002\n"), repr(got[:3]))
 
 
 def text_of(rnd, size):
@@ -216,11 +411,16 @@ def log_of(rnd, lines):
 
 def compared(name, job, files, parts, options=(), **rules):
     names = {f"f{i}": data for i, data in enumerate(files)}
-    got = run(["seq", "--job", job, "--parts", str(parts), *options, "--out", ".", *names], names)
-    outputs, pairs = plain(job, files, parts, **rules)
-    left = len(rules.get("skips", ()))
-    check(name, got[:3] == (0, b"done: %d files, %d pairs, %d left out\n" % (parts, pairs, left), b""), repr(got[:3]))
+    words = ["seq", "--job", job, "--parts", str(parts), *options]
+    got = run([*words, "--out", ".", *names], names)
+    outputs, pairs, certificate = plain(job, files, parts, **rules)
+    skips = rules.get("skips", ())
+    done = b"done: %d files, %d pairs, %d left out\n" % (parts, pairs, len(skips))
+    check(name, got[:3] == (0, done, b""), repr(got[:3]))
     check(name + ", files", parts_of(got[3]) == outputs)
+    check(name + ", certificate", result_of(got[3])[1] == certificate)
+    answer = judged(words, names, got[3])
+    check(name + ", judged", answer == yes_of(done, skips), repr(answer))
 
 
 def against_python():
@@ -278,6 +478,12 @@ def streams_and_disks():
     got = run([*words, "a"], data, cwd=where)
     first = open(os.path.join(where, "part-00000"), "rb").read()
     check("a disk full at the second part", got[:3] == (3, b"", b"mapred: cannot write ./part-00001\n") and first == b"the\t2\n", repr(got))
+    check("no certificate behind it", not os.path.exists(os.path.join(where, "certificate")))
+    where = tempfile.mkdtemp(dir=ROOM)
+    write_result(where, [b"", b"older and longer"], b"older and longer than a certificate is by far" * 9)
+    got = run([*words, "a"], {"a": b"the\n"}, cwd=where)
+    stands = plain("words", [b"the\n"], 2)
+    check("older files are emptied", got[0] == 0 and result_of(where) == (stands[0], stands[2]), repr(result_of(where)))
     got = run([*words, "a", "."], data)
     check("a directory for a file", got[:3] == (3, b"", b"mapred: cannot read .\n") and parts_of(got[3]) == [], repr(got))
     where = tempfile.mkdtemp(dir=ROOM)
@@ -288,31 +494,58 @@ def streams_and_disks():
     check("a stream that takes nothing", (ran.returncode, ran.stderr) == (0, b"") and parts_of(where) == [b"the\t2\n", b"cat\t1\ndog\t1\n"])
 
 
+def few_open_files():
+    """More parts than files may be open."""
+    data = {"a": b"the cat the dog\n"}
+    where = tempfile.mkdtemp(dir=ROOM)
+    with open(os.path.join(where, "a"), "wb") as file:
+        file.write(data["a"])
+    limit = lambda: resource.setrlimit(resource.RLIMIT_NOFILE, (8, 8))
+    words = ["--job", "words", "--parts", "1024", "--out", ".", "a"]
+    for command, said in (("seq", b"done: 1024 files, 4 pairs, 0 left out\n"), ("check", b"yes: 4 pairs, 0 left out\n")):
+        ran = subprocess.run([PROGRAM, command, *words], cwd=where, capture_output=True, preexec_fn=limit)
+        check(f"{command} with few open files", (ran.returncode, ran.stdout, ran.stderr) == (0, said, b""), repr(ran))
+    stands = plain("words", [data["a"]], 1024)
+    check("the files of many parts", result_of(where) == (stands[0], stands[2]))
+
+
 def little_memory():
-    """With ever more memory the program says that it is out of memory and writes nothing, or does the whole work."""
+    """With ever more memory the program says that it is out of memory and writes nothing, or does the whole work; and
+    the judge says the same, or yes."""
     data = b" ".join(b"w%d" % (i * 7919 % 40000) for i in range(200_000)) + b"\n"
-    outputs, pairs = plain("words", [data], 2)
-    short, done = 0, 0
-    for size in range(3000, 40000, 1000):
+    outputs, pairs, certificate = plain("words", [data], 2)
+    judging = tempfile.mkdtemp(dir=ROOM)
+    write_result(judging, outputs, certificate)
+    with open(os.path.join(judging, "input"), "wb") as file:
+        file.write(data)
+    short, done, unjudged, yes = 0, 0, 0, 0
+    for size in [*range(3000, 40000, 1000), *range(40000, 240000, 20000)]:
         where = tempfile.mkdtemp(dir=ROOM)
         with open(os.path.join(where, "input"), "wb") as file:
             file.write(data)
         limit = lambda: resource.setrlimit(resource.RLIMIT_AS, (size * 1024, size * 1024))
-        words = [PROGRAM, "seq", "--job", "words", "--parts", "2", "--out", ".", "input"]
-        ran = subprocess.run(words, cwd=where, capture_output=True, preexec_fn=limit)
+        words = ["--job", "words", "--parts", "2", "--out", ".", "input"]
+        ran = subprocess.run([PROGRAM, "seq", *words], cwd=where, capture_output=True, preexec_fn=limit)
         if ran.returncode == 127:
             continue  # too little for the system to load a program
-        got = (ran.returncode, ran.stdout, ran.stderr, parts_of(where))
-        refused = got == (4, b"", b"mapred: out of memory\n", [])
-        worked = got == (0, b"done: 2 files, %d pairs, 0 left out\n" % pairs, b"", outputs)
+        got = (ran.returncode, ran.stdout, ran.stderr, *result_of(where))
+        refused = got == (4, b"", b"mapred: out of memory\n", [], None)
+        worked = got == (0, b"done: 2 files, %d pairs, 0 left out\n" % pairs, b"", outputs, certificate)
         check(f"{size} KiB of memory", (refused and done == 0) or worked, repr(got)[:300])
         short, done = short + refused, done + worked
+        ran = subprocess.run([PROGRAM, "check", *words], cwd=judging, capture_output=True, preexec_fn=limit)
+        got = (ran.returncode, ran.stdout, ran.stderr)
+        refused = got == (4, b"", b"mapred: out of memory\n")
+        good = got == (0, b"yes: %d pairs, 0 left out\n" % pairs, b"")
+        check(f"{size} KiB of memory for the judge", (refused and yes == 0) or good, repr(got)[:300])
+        unjudged, yes = unjudged + refused, yes + good
     check("memory that doesn't suffice, and memory that does", short > 0 and done > 0)
+    check("memory that doesn't suffice for the judge, and memory that does", unjudged > 0 and yes > 0)
 
 
 def main():
     try:
-        for part in (worked_rows, faults, streams_and_disks, little_memory, against_python, against_tools):
+        for part in (worked_rows, certificates, refusals, changes, faults, check_faults, streams_and_disks, few_open_files, little_memory, against_python, against_tools):
             part()
     finally:
         shutil.rmtree(ROOM, ignore_errors=True)

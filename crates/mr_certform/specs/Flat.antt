@@ -65,6 +65,12 @@ contents_of t = record {
   groups = chunks t.group_counts (chunks t.entry_counts t.names);
 }
 
+-- no group is empty, and the counts of groups and of entries add up to the groups and to the names
+pub record AreCounted (group_counts entry_counts : List ℕ) (names : List Name) : Type 0 where
+  pub some_entry : AllByRecursion (λ n. 1 ≤ n) entry_counts
+  pub groups : total group_counts ≡ length entry_counts
+  pub entries : total entry_counts ≡ length names
+
 -- the counts are those of the lists, and within their limits
 pub record IsWhole (t : Told) : Type 0 where
   pub literal : length t.literal ≤ 4096

@@ -1,5 +1,6 @@
 ghost use Rattle.std.specs.Prelude.{◌≡◌, ◌≤◌, ◌<◌, ◌^◌, ◌+◌, ◌-◌, ◌++◌, ◌∷◌, [], OnOk, OnErr, length};
 ghost use Rattle.mr_certform.specs.Building.{with_partition};
+ghost use Rattle.mr_certform.specs.Flat.{chunks, AreCounted};
 
 use crate::certificate::{Certificate, Flat};
 use mr_bytes::{Name, RecordName};
@@ -109,6 +110,63 @@ impl Builder {
         ensures { result ≡ self.ended }
     {
         let Builder { flat, begun: _ } = self;
+        Certificate { flat }
+    }
+}
+
+/// The groups of all partitions, flat: how many groups each partition has, how many entries each group has, and the
+/// names of all entries.
+#[derive(Drop)]
+pub struct FlatGroups {
+    pub group_counts: Vec<u32>,
+    pub entry_counts: Vec<u32>,
+    pub names: Vec<Name>,
+}
+
+impl Certificate {
+    /// The certificate of these groups. It takes no memory.
+    pub fn of(header: Header, groups: FlatGroups) -> Certificate
+        requires literal { length header.literal.items ≤ 4096 }
+        requires files { length header.lengths.items ≤ 1024 }
+        requires skips { length header.skips.items < 2 ^ 32 }
+        requires parts { (1 ≤ length groups.group_counts.items) × (length groups.group_counts.items ≤ 1024) }
+        requires counted { AreCounted groups.group_counts.items groups.entry_counts.items groups.names.items }
+        ensures { result ≡ record {
+          job = header.job;
+          flags = header.flags;
+          literal = header.literal.items;
+          parts = length groups.group_counts.items;
+          split_size = header.split_size;
+          lengths = header.lengths.items;
+          skips = header.skips.items;
+          groups = chunks groups.group_counts.items (chunks groups.entry_counts.items groups.names.items);
+        } }
+    {
+        let Header {
+            job,
+            flags,
+            literal,
+            split_size,
+            lengths,
+            skips,
+        } = header;
+        let FlatGroups {
+            group_counts,
+            entry_counts,
+            names,
+        } = groups;
+        let flat = Flat {
+            job,
+            flags,
+            literal,
+            parts: group_counts.len() as u32,
+            split_size,
+            lengths,
+            skips,
+            group_counts,
+            entry_counts,
+            names,
+        };
         Certificate { flat }
     }
 }

@@ -195,7 +195,7 @@ impl Certificate {
     pub fn names(&self) -> &[Name]
         ensures { result.now ≡ names_of self.now }
     {
-        &self.flat.names
+        self.flat.names.as_slice()
     }
 
     /// The groups of each partition, to be read in order.

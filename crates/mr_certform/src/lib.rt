@@ -15,7 +15,7 @@ mod tests;
 mod walker;
 mod writing;
 
-pub use crate::building::{Builder, Header};
+pub use crate::building::{Builder, FlatGroups, Header};
 pub use crate::certificate::Certificate;
 pub use crate::groups::{Groups, Partitions};
 pub use crate::item::{Item, Malformed};

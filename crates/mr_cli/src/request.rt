@@ -1,12 +1,12 @@
 //! From the options of the line to a job, a request and a list of left-out records.
 use crate::fault::Fault;
-use crate::options::SeqOptions;
+use crate::options::Options;
 use mr_bytes::RecordName;
 use mr_jobs::{Job, Request};
 use std::alloc::{AllocError, Global};
 
 /// The job that was asked for. An option of another job is told before a fault of the job itself.
-fn job_of(alloc: Global, options: &SeqOptions<'_>) -> Result<Job, Fault> {
+fn job_of(alloc: Global, options: &Options<'_>) -> Result<Job, Fault> {
     let is_words = options.job == "words";
     let is_grep = options.job == "grep";
     if (options.keep_case && !is_words)
@@ -25,7 +25,7 @@ fn job_of(alloc: Global, options: &SeqOptions<'_>) -> Result<Job, Fault> {
 }
 
 /// The request that was asked for.
-pub fn request_of(alloc: Global, options: &SeqOptions<'_>) -> Result<Request, Fault> {
+pub fn request_of(alloc: Global, options: &Options<'_>) -> Result<Request, Fault> {
     let job = job_of(alloc, options)?;
     Request::new(job, options.parts, options.split, options.max_skips).map_err(Fault::Request)
 }

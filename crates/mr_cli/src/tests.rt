@@ -1,5 +1,8 @@
 //! Worked rows of the program: status, streams and files.
+use crate::device::{FileReader, FileWriter};
 use crate::program::mapred;
+use mr_store::{CountedRead, CountedWrite, read_all, write_all};
+use std::alloc::Global;
 use std::fs;
 use std::io::{self, ErrorKind};
 use std::test::Fail;
@@ -23,6 +26,46 @@ fn mapred_line(rt: &HostRuntime, line: &str) -> Result<(u8, Vec<u8>, Vec<u8>), F
     let mut err = Vec::new(alloc);
     let status = mapred(rt, words.as_slice(), &mut out, &mut err);
     Ok((status, out, err))
+}
+
+// A certificate: numbers of 32 bits, then the bytes of a literal, then more numbers.
+fn certificate(
+    alloc: Global,
+    front: &[u32],
+    literal: &[u8],
+    rest: &[u32],
+) -> Result<Vec<u8>, Fail> {
+    let mut bytes = Vec::from_slice(alloc, b"MRCERT1\n")?;
+    for number in front {
+        bytes.extend_from_slice(&number.to_be_bytes())?;
+    }
+    bytes.extend_from_slice(literal)?;
+    for number in rest {
+        bytes.extend_from_slice(&number.to_be_bytes())?;
+    }
+    Ok(bytes)
+}
+
+// Runs `seq` with these options on the files, and then `check`; the certificate, what each says, and its status.
+fn certified(
+    rt: &HostRuntime,
+    dir: &str,
+    options: (&str, &str),
+    files: &str,
+) -> Result<(Vec<u8>, Vec<u8>, u8), Fail> {
+    let alloc = rt.alloc();
+    let (common, skips) = options;
+    let line = format!(in alloc; "mapred seq {common}{skips} --out {dir} {files}")?;
+    let (status, mut said, _) = mapred_line(rt, line.as_str())?;
+    if status != 0 {
+        return Err(Fail::from("seq ended with another status"));
+    }
+    let name = format!(in alloc; "{dir}/certificate")?;
+    let bytes = fs::read(rt, name.as_str())?;
+    let line = format!(in alloc; "mapred check {common} --out {dir} {files}")?;
+    let (status, answer, _) = mapred_line(rt, line.as_str())?;
+    said.extend_from_slice(answer.as_slice())?;
+    Ok((bytes, said, status))
 }
 
 fn starts(text: &[u8], start: &[u8]) -> bool {
@@ -109,6 +152,180 @@ fn leaves_records_out(rt: HostRuntime) -> Result<(), Fail> {
     Ok(())
 }
 
+#[test]
+fn an_empty_file_is_certified(rt: HostRuntime) -> Result<(), Fail> {
+    room(&rt, "empty.dir", b"")?;
+    let options = ("--job words --parts 2 --split 64", "");
+    let (bytes, said, status) = certified(&rt, "empty.dir", options, "empty.dir/input")?;
+    let want = certificate(rt.alloc(), &[1, 0, 0, 2, 64, 1, 0, 0, 0, 0, 0], b"", &[])?;
+    assert_eq!(rt; want.len(), 52);
+    assert_eq!(rt; bytes.as_slice(), want.as_slice());
+    let lines = b"done: 2 files, 0 pairs, 0 left out\nyes: 0 pairs, 0 left out\n";
+    assert_eq!(rt; said.as_slice(), lines.as_slice());
+    assert_eq!(rt; status, 0);
+    fs::remove_dir_all(&rt, "empty.dir")?;
+    Ok(())
+}
+
+#[test]
+fn words_are_certified(rt: HostRuntime) -> Result<(), Fail> {
+    room(&rt, "certified.dir", b"a b a\n")?;
+    let options = ("--job words --split 64", "");
+    let (bytes, said, status) = certified(&rt, "certified.dir", options, "certified.dir/input")?;
+    // The job, its flags and literal, partitions, bytes of a split, one file of 6 bytes, no left-out record, and two
+    // groups: of two entries and of one.
+    let front = [1, 0, 0, 1, 64, 1, 0, 6, 0, 2];
+    let groups = [2, 0, 0, 0, 0, 0, 2, 1, 0, 0, 1];
+    let want = certificate(rt.alloc(), &front, b"", &groups)?;
+    assert_eq!(rt; want.len(), 92);
+    assert_eq!(rt; bytes.as_slice(), want.as_slice());
+    let lines = b"done: 1 files, 3 pairs, 0 left out\nyes: 3 pairs, 0 left out\n";
+    assert_eq!(rt; said.as_slice(), lines.as_slice());
+    assert_eq!(rt; status, 0);
+    fs::remove_dir_all(&rt, "certified.dir")?;
+    Ok(())
+}
+
+#[test]
+fn a_left_out_record_is_certified(rt: HostRuntime) -> Result<(), Fail> {
+    room(&rt, "left_out.dir", b"a b\nc\n")?;
+    let options = ("--job words --split 64 --max-skips 1", " --skips 0:0");
+    let (bytes, said, status) = certified(&rt, "left_out.dir", options, "left_out.dir/input")?;
+    let front = [1, 0, 0, 1, 64, 1, 0, 6, 1, 0, 0, 1];
+    let want = certificate(rt.alloc(), &front, b"", &[1, 0, 1, 0])?;
+    assert_eq!(rt; want.len(), 72);
+    assert_eq!(rt; bytes.as_slice(), want.as_slice());
+    let lines = b"done: 1 files, 1 pairs, 1 left out\nyes: 1 pairs, 1 left out\nleft out 0 0\n";
+    assert_eq!(rt; said.as_slice(), lines.as_slice());
+    assert_eq!(rt; status, 0);
+    let (status, out, err) = mapred_line(
+        &rt,
+        "mapred check --job words --split 64 --out left_out.dir left_out.dir/input",
+    )?;
+    assert_eq!(rt; status, 1);
+    assert_eq!(rt; out.as_slice(), b"no: TooManySkips listed 1\n".as_slice());
+    assert_eq!(rt; err.len(), 0);
+    fs::remove_dir_all(&rt, "left_out.dir")?;
+    Ok(())
+}
+
+#[test]
+fn lines_of_three_files_are_certified(rt: HostRuntime) -> Result<(), Fail> {
+    room(&rt, "lines.dir", b"x")?;
+    fs::write(&rt, "lines.dir/second", b"".as_slice())?;
+    fs::write(&rt, "lines.dir/third", b"x\n".as_slice())?;
+    let options = ("--job grep --literal x --split 64", "");
+    let files = "lines.dir/input lines.dir/second lines.dir/third";
+    let (bytes, said, status) = certified(&rt, "lines.dir", options, files)?;
+    // One partition, and three files of 1, 0 and 2 bytes; then one group of two entries.
+    let rest = [1, 64, 3, 0, 1, 0, 0, 0, 2, 0, 1, 2, 0, 0, 0, 1, 0, 0];
+    let want = certificate(rt.alloc(), &[2, 0, 1], b"x", &rest)?;
+    assert_eq!(rt; want.len(), 93);
+    assert_eq!(rt; bytes.as_slice(), want.as_slice());
+    let lines = b"done: 1 files, 2 pairs, 0 left out\nyes: 2 pairs, 0 left out\n";
+    assert_eq!(rt; said.as_slice(), lines.as_slice());
+    assert_eq!(rt; status, 0);
+    fs::remove_dir_all(&rt, "lines.dir")?;
+    Ok(())
+}
+
+#[test]
+fn a_changed_result_is_a_no(rt: HostRuntime) -> Result<(), Fail> {
+    room(&rt, "changed.dir", b"a b a\n")?;
+    let options = ("--job words --split 64", "");
+    certified(&rt, "changed.dir", options, "changed.dir/input")?;
+    let line = "mapred check --job words --split 64 --out changed.dir changed.dir/input";
+    for (text, said) in [
+        (b"a\t2\nb\t1\n\n".as_slice(), "at 8"),
+        (b"a\t2\nb\t1".as_slice(), "at 7"),
+        (b"a\t3\nb\t1\n".as_slice(), "at 2"),
+    ] {
+        fs::write(&rt, "changed.dir/part-00000", text)?;
+        let (status, out, err) = mapred_line(&rt, line)?;
+        assert_eq!(rt; status, 1);
+        let want = format!(in rt.alloc(); "no: OutputDiffers partition 0 {said}\n")?;
+        assert_eq!(rt; out.as_slice(), want.as_bytes());
+        assert_eq!(rt; err.len(), 0);
+    }
+    fs::remove_dir_all(&rt, "changed.dir")?;
+    Ok(())
+}
+
+// A missing file is told before a part that can't be read, here a directory; a part before the certificate.
+#[test]
+fn a_result_that_cannot_be_read(rt: HostRuntime) -> Result<(), Fail> {
+    room(&rt, "unread.dir", b"a\n")?;
+    fs::create_dir_all(&rt, "unread.dir/part-00000")?;
+    let line = "mapred check --job words --parts 2 --out unread.dir unread.dir/input";
+    for (name, made) in [
+        ("part-00001", "part-00001"),
+        ("certificate", "certificate"),
+        ("part-00000", "more"),
+    ] {
+        let (status, out, err) = mapred_line(&rt, line)?;
+        assert_eq!(rt; status, 3);
+        assert_eq!(rt; out.len(), 0);
+        let want = format!(in rt.alloc(); "mapred: cannot read unread.dir/{name}\n")?;
+        assert_eq!(rt; err.as_slice(), want.as_bytes());
+        let path = format!(in rt.alloc(); "unread.dir/{made}")?;
+        fs::write(&rt, path.as_str(), b"x".as_slice())?;
+    }
+    fs::remove_dir_all(&rt, "unread.dir")?;
+    Ok(())
+}
+
+#[test]
+fn a_writer_makes_its_file_once(rt: HostRuntime) -> Result<(), Fail> {
+    room(&rt, "writer.dir", b"old")?;
+    let alloc = rt.alloc();
+    let name = String::from_str(alloc, "writer.dir/input")?;
+    let mut empty = FileWriter::new(&rt, name);
+    assert_eq!(rt; fs::read(&rt, "writer.dir/input")?.len(), 3);
+    assert!(rt; empty.flush().is_ok());
+    assert_eq!(rt; fs::read(&rt, "writer.dir/input")?.len(), 0);
+    assert!(rt; empty.write(b"x").is_err());
+    assert_eq!(rt; empty.failures(), 1);
+    let name = String::from_str(alloc, "writer.dir/new")?;
+    let mut writer = FileWriter::new(&rt, name);
+    write_all(&mut writer, b"ab")?;
+    write_all(&mut writer, b"c")?;
+    assert!(rt; writer.flush().is_ok());
+    assert_eq!(rt; writer.failures(), 0);
+    assert_eq!(rt;
+        fs::read(&rt, "writer.dir/new")?.as_slice(),
+        b"abc".as_slice()
+    );
+    assert!(rt; writer.flush().is_err());
+    assert_eq!(rt; writer.failures(), 1);
+    let name = String::from_str(alloc, "writer.dir/none/new")?;
+    let mut refused = FileWriter::new(&rt, name);
+    assert!(rt; refused.write(b"x").is_err());
+    assert!(rt; refused.flush().is_err());
+    assert_eq!(rt; refused.failures(), 2);
+    fs::remove_dir_all(&rt, "writer.dir")?;
+    Ok(())
+}
+
+#[test]
+fn a_reader_counts_its_failures(rt: HostRuntime) -> Result<(), Fail> {
+    room(&rt, "reader.dir", b"abc")?;
+    let mut bytes = Vec::from_slice(rt.alloc(), b"x")?;
+    let mut reader = FileReader::new(&rt, "reader.dir/input");
+    read_all(&mut reader, &mut bytes)?;
+    assert_eq!(rt; bytes.as_slice(), b"xabc".as_slice());
+    assert_eq!(rt; reader.failures(), 0);
+    for (name, calls) in [("reader.dir/none", 1), ("reader.dir", 2)] {
+        let mut reader = FileReader::new(&rt, name);
+        for count in 1..=calls {
+            assert!(rt; read_all(&mut reader, &mut bytes).is_err());
+            assert_eq!(rt; reader.failures(), count);
+        }
+        assert_eq!(rt; bytes.as_slice(), b"xabc".as_slice());
+    }
+    fs::remove_dir_all(&rt, "reader.dir")?;
+    Ok(())
+}
+
 // Each line is refused with its text on standard error alone, and writes no output.
 #[test]
 fn refuses_what_cannot_be_asked(rt: HostRuntime) -> Result<(), Fail> {
@@ -133,6 +350,7 @@ fn refuses_what_cannot_be_asked(rt: HostRuntime) -> Result<(), Fail> {
         let text = format!(in rt.alloc(); "mapred: {said}\n")?;
         assert_eq!(rt; err.as_slice(), text.as_bytes());
         assert!(rt; fs::read(&rt, "refuses.dir/part-00000").is_err());
+        assert!(rt; fs::read(&rt, "refuses.dir/certificate").is_err());
     }
     fs::remove_dir_all(&rt, "refuses.dir")?;
     Ok(())

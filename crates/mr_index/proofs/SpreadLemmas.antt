@@ -15,7 +15,8 @@ use Rattle.mr_splits.specs.Cut.{nth, is_record}
 use Rattle.mr_splits.specs.Cut as cut
 use Rattle.mr_splits.proofs.NameLemmas.{test-from-name}
 use Rattle.mr_sequential.specs.Emitted.{Triple, placed_from, record_triples}
-use Rattle.mr_index.specs.Index.{is_named, named, mapped_among}
+use Rattle.mr_index.specs.Index.{mapped_among}
+use Rattle.mr_sequential.specs.Good.{is_named, named}
 use Rattle.mr_index.specs.Pairs.{EndsRise}
 use Rattle.mr_index.specs.Building.{spread, kept_emissions, Shows}
 use Rattle.mr_index.proofs.PairLemmas.{range-more, range-end, rise-order, rise-push}

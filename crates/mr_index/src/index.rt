@@ -4,12 +4,14 @@ ghost use Rattle.mr_input.specs.Files.{split_total};
 ghost use Rattle.mr_splits.specs.Named.{of_split, is_left_out};
 ghost use Rattle.mr_splits.specs.Laws.{joined};
 ghost use Rattle.mr_splits.specs.Cut.{records_of, nth, left_out_flags};
-ghost use Rattle.mr_index.specs.Index.{triples_of, named, mapped_among};
+ghost use Rattle.mr_index.specs.Index.{triples_of, mapped_among};
+ghost use Rattle.mr_sequential.specs.Good.{named};
 ghost use Rattle.mr_index.specs.Pairs.{seen, Sound};
 ghost use Rattle.mr_index.specs.Building.{kept_emissions, Shows};
 
-use crate::pairs::{Pairs, no_pairs, start_of};
+use crate::pairs::{Pairs, room_for, start_of};
 use mr_bytes::{Name, RecordName, Value};
+use mr_input::Input;
 use mr_jobs::Job;
 use mr_splits::{LeftOut, Plan};
 use std::alloc::{AllocError, Global};
@@ -126,6 +128,15 @@ impl<'a> Model for EmissionIndex<'a> {
     } };
 }
 
+/// How many bytes the files have together.
+fn bytes_of(input: &Input) -> usize {
+    let mut bytes = 0usize;
+    for i in 0..input.files() {
+        bytes = bytes.saturating_add(input.len(i));
+    }
+    bytes
+}
+
 impl<'a> EmissionIndex<'a> {
     /// Maps each record of the plan that the list doesn't leave out. Names in the list may stand in any order, more than
     /// once, and need not be those of records. It fails only for want of memory; the meter then keeps what was counted.
@@ -153,8 +164,8 @@ impl<'a> EmissionIndex<'a> {
             left_out,
         };
         let mut tables = Tables {
-            pairs: no_pairs(alloc),
-            ends: Vec::new(alloc),
+            pairs: room_for(alloc, bytes_of(plan.input()))?,
+            ends: Vec::with_capacity(alloc, plan.count())?,
             mapped: 0,
             buffer: Vec::new(alloc),
         };

@@ -1,5 +1,5 @@
 //! Keys with their values, in one buffer.
-ghost use Rattle.std.specs.Prelude.{◌≡◌, ℕ, ◌+◌, ◌≤◌, ◌<◌, ◌^◌, ◌++◌, [], ◌∷◌, OnOk, MatchOption, length, slice_index, slice_index_or};
+ghost use Rattle.std.specs.Prelude.{◌≡◌, ℕ, ◌+◌, ◌≤◌, ◌<◌, ◌^◌, ◌++◌, [], ◌∷◌, IfOk, OnOk, MatchOption, length, slice_index, slice_index_or};
 ghost use Rattle.mr_bytes.specs.declared.Value.TheVariants.{One};
 ghost use Rattle.mr_jobs.specs.Emissions.{emissions};
 ghost use Rattle.mr_index.specs.Pairs.{seen, values_of, Sound};
@@ -22,16 +22,18 @@ pub(crate) struct Pairs {
     pub rest: Vec<Value>,
 }
 
-pub(crate) fn no_pairs(alloc: Global) -> Pairs
-    ensures none { seen result ≡ [] }
-    ensures sound { Sound result }
+/// No pairs, with room for the keys of files of so many bytes: at most as many bytes of keys, and one key for each
+/// eight. Room that is not used is not touched, and a list that has it need not move.
+pub(crate) fn room_for(alloc: Global, bytes: usize) -> Result<Pairs, AllocError>
+    ensures none { IfOk result (λ p. seen p ≡ []) }
+    ensures sound { IfOk result (λ p. Sound p) }
 {
-    Pairs {
-        keys: Vec::new(alloc),
-        ends: Vec::new(alloc),
+    Ok(Pairs {
+        keys: Vec::with_capacity(alloc, bytes)?,
+        ends: Vec::with_capacity(alloc, bytes / 8)?,
         ones: 0,
         rest: Vec::new(alloc),
-    }
+    })
 }
 
 fn push_value(ones: &mut usize, rest: &mut Vec<Value>, value: Value) -> Result<(), AllocError>

@@ -1,5 +1,5 @@
 -- What a job does with a record.
-use Rattle.std.specs.Prelude.{ℕ, ◌≤◌, ◌^◌, Bool, true, false, List}
+use Rattle.std.specs.Prelude.{ℕ, ◌≤◌, ◌^◌, Bool, true, false, if◌then◌else◌, List, []}
 
 pub data Task : Type 0 where
   -- count words, by their exact bytes where the flag is true, and else by their folded bytes
@@ -28,3 +28,21 @@ PartsFit parts = (1 ≤ parts) × (parts ≤ 1024)
 
 abbrev pub SplitFits : ℕ → Type 0
 SplitFits split = (1 ≤ split) × (split ≤ 2 ^ 26)
+
+-- how a certificate writes a job: its number
+abbrev pub job_number : Task → ℕ
+job_number (WordCount keep_case) = 1
+job_number (LinesWith literal fold) = 2
+job_number Resources = 3
+
+-- its flags: 1 keeps the case of words, 2 folds the case of lines
+abbrev pub job_flags : Task → ℕ
+job_flags (WordCount keep_case) = if keep_case then 1 else 0
+job_flags (LinesWith literal fold) = if fold then 2 else 0
+job_flags Resources = 0
+
+-- its literal
+abbrev pub job_literal : Task → List ℕ
+job_literal (WordCount keep_case) = []
+job_literal (LinesWith literal fold) = literal
+job_literal Resources = []

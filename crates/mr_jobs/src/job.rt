@@ -1,6 +1,6 @@
 //! What is done with each record.
 ghost use Rattle.std.specs.Prelude.{◌≡◌, ◌↔◌, ℕ, ◌≤◌, ◌<◌, IfOk, IsOkUnless, length, [], Contains};
-ghost use Rattle.mr_jobs.specs.Task.{WordCount, LinesWith, Resources, counts};
+ghost use Rattle.mr_jobs.specs.Task.{WordCount, LinesWith, Resources, counts, job_number, job_flags, job_literal};
 
 use std::alloc::Global;
 use std::marker::Model;
@@ -30,6 +30,11 @@ impl Model for Job {
     ghost use Rattle.mr_jobs.specs.Views.{task_of};
 
     ghost view = { λ j. task_of j.kind };
+
+    ghost use Rattle.std.specs.Prelude.{◌≤◌, length};
+    ghost use Rattle.mr_jobs.specs.Task.{job_literal};
+
+    ghost invariant = { λ j. length (job_literal (task_of j.kind)) ≤ 4096 };
 }
 
 /// Why a literal makes no job.
@@ -100,6 +105,39 @@ impl Job {
         match &self.kind {
             Kind::Words { .. } | Kind::Url => true,
             Kind::Grep { .. } => false,
+        }
+    }
+
+    /// The number by which a certificate tells the job: 1 words, 2 grep, 3 URL.
+    pub fn number(&self) -> u32
+        ensures { result ≡ job_number self.now }
+    {
+        match &self.kind {
+            Kind::Words { .. } => 1,
+            Kind::Grep { .. } => 2,
+            Kind::Url => 3,
+        }
+    }
+
+    /// The job's flags in a certificate: 1 keeps the case of words, 2 folds the case of lines.
+    pub fn flags(&self) -> u32
+        ensures { result ≡ job_flags self.now }
+    {
+        match &self.kind {
+            Kind::Words { keep_case } => if *keep_case { 1 } else { 0 },
+            Kind::Grep { literal: _, fold } => if *fold { 2 } else { 0 },
+            Kind::Url => 0,
+        }
+    }
+
+    /// The bytes of the literal, at most 4,096; a job that looks for none has no bytes here.
+    pub fn literal(&self) -> &[u8]
+        ensures bytes { result.now ≡ job_literal self.now }
+        ensures short { length result.now ≤ 4096 }
+    {
+        match &self.kind {
+            Kind::Grep { literal, fold: _ } => literal.as_slice(),
+            _ => b"",
         }
     }
 }

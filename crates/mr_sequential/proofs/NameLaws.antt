@@ -19,7 +19,7 @@ use Rattle.mr_sequential.specs.Emitted.{Triple, placed_from, record_triples}
 use Rattle.mr_sequential.specs.Laws.{NamesRise}
 use Rattle.mr_sequential.proofs.ListLaws.{Has-all, all_from_Has, Has-append_cases}
 
-less : (m n : ℕ) → m < n → nat_cmp m n ≡ Less
+pub less : (m n : ℕ) → m < n → nat_cmp m n ≡ Less
 less m n h = ap (λ t. cond t Less (cond (eqb m n) Equal Greater)) (lt-ltb m n h)
 
 then3 : (o q m : Ordering) → ordering_then o q ≡ Less → ordering_then o (ordering_then q m) ≡ Less

@@ -2,8 +2,9 @@
 use Rattle.std.proofs.Common.{◌≡◌, ℕ, suc, ◌+◌, ◌-◌, ◌/◌, ◌<◌, ◌≤◌, ◌^◌, cond, true, false, List, [], ◌∷◌, ◌++◌, length, drop, refl, sym, ◌∙◌, ap, arith, append_assoc, map, filter, eqb}
 use Rattle.std.proofs.lemmas.List.{at_drop_more, map-append}
 use Rattle.std.proofs.lemmas.List.Sums.{sum_by-cons}
-use Rattle.std.specs.List.{flat_map}
+use Rattle.std.specs.List.{flat_map, zip}
 use Rattle.std.specs.Str.{bytes_eq}
+use Rattle.mr_bytes.specs.declared.Name.{Name}
 use Rattle.mr_bytes.specs.declared.RecordName.{RecordName}
 use Rattle.mr_bytes.specs.declared.Value.{Value}
 use Rattle.mr_records.specs.Records.{Record, lengthen, records_from, records}
@@ -16,16 +17,18 @@ use Rattle.mr_splits.specs.Cut.{nth}
 use Rattle.mr_splits.specs.Laws.{joined}
 use Rattle.mr_splits.proofs.JoinedLemmas.{joined-suc, joined-zero}
 use Rattle.mr_sequential.specs.Emitted.{Triple, placed_from, record_triples, emitted}
-use Rattle.mr_sequential.specs.Pairs.{kept_pairs, values_in, texts_in}
+use Rattle.mr_sequential.specs.Names.{names_from, kept_names}
+use Rattle.mr_sequential.specs.Certified.{names_with, groups_of}
+use Rattle.mr_sequential.specs.Pairs.{kept_pairs, values_in, texts_in, names_under, groups_in}
 use Rattle.mr_sequential.specs.Sequential.{keys_of, texts_of, values_of}
 use Rattle.mr_sequential.proofs.GatheredLemmas.{length-append}
 
-pub next_record : (f : NamedRecord → List Emission) (rs : List NamedRecord) (r : ℕ) → r < length rs
+pub next_record : {Y : Type 0} (f : NamedRecord → List Y) (rs : List NamedRecord) (r : ℕ) → r < length rs
     → flat_map f (drop r rs) ≡ f (nth rs r) ++ flat_map f (drop (r + 1) rs)
 next_record f rs r h = at_drop_more (flat_map f) rs r (record { name = record { split = 0; rec = 0 }; file = 0; start = 0; bytes = [] }) h
 
 -- one more of the pieces stands behind the gathered ones
-pub one_gathered : (f : NamedRecord → List Emission) (rs : List NamedRecord) (r : ℕ) (old now all : List Emission) → r < length rs
+pub one_gathered : {Y : Type 0} (f : NamedRecord → List Y) (rs : List NamedRecord) (r : ℕ) (old now all : List Y) → r < length rs
     → now ≡ old ++ f (nth rs r) → old ++ flat_map f (drop r rs) ≡ all → now ++ flat_map f (drop (r + 1) rs) ≡ all
 one_gathered f rs r old now all h is before =
     ap (λ l. l ++ flat_map f (drop (r + 1) rs)) is ∙ append_assoc old (f (nth rs r)) (flat_map f (drop (r + 1) rs))
@@ -35,26 +38,26 @@ pub flat_map-append : {X Y : Type 0} (f : X → List Y) (xs ys : List X) → fla
 flat_map-append f [] ys = refl
 flat_map-append f (x ∷ xs) ys = ap (λ l. f x ++ l) (flat_map-append f xs ys) ∙ sym (append_assoc (f x) (flat_map f xs) (flat_map f ys))
 
-pub next_split : (f : NamedRecord → List Emission) (rs : List NamedRecord) (s m : ℕ) → s < m
+pub next_split : {Y : Type 0} (f : NamedRecord → List Y) (rs : List NamedRecord) (s m : ℕ) → s < m
     → flat_map f (joined s (m - s) rs) ≡ flat_map f (of_split s rs) ++ flat_map f (joined (s + 1) (m - (s + 1)) rs)
 next_split f rs s m h =
     let more : m - s ≡ suc (m - (s + 1)) = omega arith in
     ap (λ n. flat_map f (joined s n rs)) more ∙ ap (flat_map f) (joined-suc s (m - (s + 1)) rs)
     ∙ flat_map-append f (of_split s rs) (joined (s + 1) (m - (s + 1)) rs)
 
-pub split_gathered : (f : NamedRecord → List Emission) (rs : List NamedRecord) (s m : ℕ) (old now all : List Emission) → s < m
+pub split_gathered : {Y : Type 0} (f : NamedRecord → List Y) (rs : List NamedRecord) (s m : ℕ) (old now all : List Y) → s < m
     → now ≡ old ++ flat_map f (of_split s rs) → old ++ flat_map f (joined s (m - s) rs) ≡ all → now ++ flat_map f (joined (s + 1) (m - (s + 1)) rs) ≡ all
 split_gathered f rs s m old now all h is before =
     ap (λ l. l ++ flat_map f (joined (s + 1) (m - (s + 1)) rs)) is ∙ append_assoc old (flat_map f (of_split s rs)) (flat_map f (joined (s + 1) (m - (s + 1)) rs))
     ∙ ap (λ l. old ++ l) (sym (next_split f rs s m h)) ∙ before
 
-pub all_gathered : (f : NamedRecord → List Emission) (rs : List NamedRecord) (s m : ℕ) (old all : List Emission) → m ≤ s
+pub all_gathered : {Y : Type 0} (f : NamedRecord → List Y) (rs : List NamedRecord) (s m : ℕ) (old all : List Y) → m ≤ s
     → old ++ flat_map f (joined s (m - s) rs) ≡ all → old ≡ all
-all_gathered f rs s m old all h before =
+all_gathered {Y} f rs s m old all h before =
     let none : m - s ≡ 0 = omega arith in
     sym (ap (λ n. old ++ flat_map f (joined s n rs)) none ∙ ap (λ l. old ++ flat_map f l) (joined-zero s rs) ∙ append_nil old) ∙ before
   where
-    append_nil : (es : List Emission) → es ++ [] ≡ es
+    append_nil : (es : List Y) → es ++ [] ≡ es
     append_nil [] = refl
     append_nil (e ∷ es) = ap (λ l. e ∷ l) (append_nil es)
 
@@ -189,3 +192,50 @@ pub texts-triples : (part : List ℕ → ℕ) (text : List ℕ → List Value �
 texts-triples part text ts p =
     ap (λ ks. flat_map (λ k. text k (values_in (map pair_of ts) k)) (keys_of part ks p)) (triple-keys ts)
     ∙ flat_map-same (λ k. text k (values_in (map pair_of ts) k)) (λ k. text k (values_of ts k)) (λ k. ap (text k) (triple-values k ts)) (keys_of part (map (λ (t : Triple). t.key) ts) p)
+
+-- ---- the names of what records give
+
+pub placed-names : (name : RecordName) (place : ℕ) (es : List Emission) → map (λ (t : Triple). t.name) (placed_from name place es) ≡ names_from name place (length es)
+unfolding placed_from names_from
+placed-names name place [] = refl
+placed-names name place (e ∷ es) = ap (λ l. record { split = name.split; rec = name.rec; place = place } ∷ l) (placed-names name (place + 1) es)
+
+all-names : (task : Task) (skips : List RecordName) (rs : List NamedRecord)
+    → map (λ (t : Triple). t.name) (flat_map (record_triples task skips) rs) ≡ flat_map (kept_names task skips) rs
+all-names task skips [] = refl
+all-names task skips (r ∷ rs) =
+    map-append (λ (t : Triple). t.name) (record_triples task skips r) (flat_map (record_triples task skips) rs)
+    ∙ ap (λ l. kept_names task skips r ++ l) (all-names task skips rs)
+
+pub emitted-names : (order : Order) (files : List (List ℕ)) (skips : List RecordName)
+    → map (λ (t : Triple). t.name) (emitted order files skips) ≡ flat_map (kept_names order.task skips) (named_records order.split files)
+emitted-names order files skips = all-names order.task skips (named_records order.split files)
+
+-- the names of a key's pairs are those of its triples
+triple-names : (k : List ℕ) (ts : List Triple) → names_under (map pair_of ts) (map (λ (t : Triple). t.name) ts) k ≡ names_with ts k
+triple-names k [] = refl
+triple-names k (t ∷ ts) =
+    let es : List (List ℕ × Name) = filter (λ (e : List ℕ × Name). bytes_eq e.0 k) (zip (map (λ (e : Emission). e.0) (map pair_of ts)) (map (λ (x : Triple). x.name) ts)) in
+    let xs : List Triple = filter (λ (x : Triple). bytes_eq x.key k) ts in
+    elim (bytes_eq t.key k) as (λ b. map (λ (e : List ℕ × Name). e.1) (cond b ((t.key, t.name) ∷ es) es) ≡ map (λ (x : Triple). x.name) (cond b (t ∷ xs) xs)) [
+      | true ↦ ap (λ l. t.name ∷ l) (triple-names k ts)
+      | false ↦ triple-names k ts
+    ]
+
+map-same : {X Y : Type 0} (f g : X → Y) → ((x : X) → f x ≡ g x) → (xs : List X) → map f xs ≡ map g xs
+map-same f g e [] = refl
+map-same f g e (x ∷ xs) = ap (λ y. y ∷ map f xs) (e x) ∙ ap (λ l. g x ∷ l) (map-same f g e xs)
+
+-- groups by pairs and names are groups by triples
+pub groups-triples : (part : List ℕ → ℕ) (ts : List Triple) (ps : List ℕ)
+    → map (groups_in part (map pair_of ts) (map (λ (t : Triple). t.name) ts)) ps ≡ map (groups_of part ts) ps
+groups-triples part ts ps =
+    map-same (groups_in part (map pair_of ts) (map (λ (t : Triple). t.name) ts)) (groups_of part ts)
+    (λ p. ap (λ ks. map (names_under (map pair_of ts) (map (λ (t : Triple). t.name) ts)) (keys_of part ks p)) (triple-keys ts)
+    ∙ map-same (names_under (map pair_of ts) (map (λ (t : Triple). t.name) ts)) (names_with ts) (λ k. triple-names k ts) (keys_of part (map (λ (t : Triple). t.key) ts) p))
+    ps
+
+-- as many names as pairs
+pub even_lists : (ts : List Triple) → length (map (λ (t : Triple). t.name) ts) ≡ length (map pair_of ts)
+even_lists [] = refl
+even_lists (t ∷ ts) = ap suc (even_lists ts)

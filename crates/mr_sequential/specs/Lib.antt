@@ -5,3 +5,7 @@ pub mod Pairs
 pub mod Rows
 pub mod Sequential
 pub mod Skips
+pub mod Good
+pub mod Certified
+pub mod Names
+pub mod GoodLaws

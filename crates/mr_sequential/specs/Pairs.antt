@@ -1,10 +1,11 @@
 -- Pairs without their names, and how they are gathered: distinct keys, and for each pair its key's number and its value.
 use Rattle.std.specs.Prelude.{ℕ, ◌==◌, if◌then◌else◌, List, [], map, filter, replicate, slice_index_or, ◌++◌, Vec}
 use Rattle.std.specs.Global.{Global}
-use Rattle.std.specs.List.{flat_map, zip}
+use Rattle.std.specs.List.{flat_map, range_with_len, zip}
 use Rattle.std.specs.Str.{bytes_eq}
 use Rattle.mr_bytes.specs.declared.Value.{Value}
 use Rattle.mr_bytes.specs.declared.Value.TheVariants.{One}
+use Rattle.mr_bytes.specs.declared.Name.{Name}
 use Rattle.mr_bytes.specs.declared.RecordName.{RecordName}
 use Rattle.mr_jobs.specs.Task.{Task}
 use Rattle.mr_jobs.specs.Emissions.{Emission, emissions}
@@ -34,6 +35,10 @@ ones_then ones rest = replicate ones One ++ rest
 abbrev pub bucket : {X : Type 0} → ℕ → List (ℕ × X) → List X
 bucket i es = map (λ e. e.1) (filter (λ e. e.0 == i) es)
 
+-- the buckets of the numbers below n
+abbrev pub buckets : {X : Type 0} → ℕ → List (ℕ × X) → List (List X)
+buckets n es = map (λ i. bucket i es) (range_with_len 0 n)
+
 -- the values of a key, in their order
 abbrev pub values_in : List Emission → List ℕ → List Value
 values_in es k = map (λ e. e.1) (filter (λ e. bytes_eq e.0 k) es)
@@ -41,6 +46,14 @@ values_in es k = map (λ e. e.1) (filter (λ e. bytes_eq e.0 k) es)
 -- the texts of the groups of a partition, by rising key
 abbrev pub texts_in : (List ℕ → ℕ) → (List ℕ → List Value → List ℕ) → List Emission → ℕ → List ℕ
 texts_in part text es p = flat_map (λ k. text k (values_in es k)) (keys_of part (map (λ e. e.0) es) p)
+
+-- the names of a key's pairs, in their order, the pairs and the names being told apart
+abbrev pub names_under : List Emission → List Name → List ℕ → List Name
+names_under es names k = map (λ e. e.1) (filter (λ e. bytes_eq e.0 k) (zip (map (λ e. e.0) es) names))
+
+-- the groups of a partition, by rising key
+abbrev pub groups_in : (List ℕ → ℕ) → List Emission → List Name → ℕ → List (List Name)
+groups_in part es names p = map (names_under es names) (keys_of part (map (λ e. e.0) es) p)
 
 -- what a record gives, without names, unless it is left out
 abbrev pub kept_pairs : Task → List RecordName → NamedRecord → List Emission

@@ -1,4 +1,7 @@
 //! The refusals of a sequential execution.
+ghost use Rattle.std.specs.Prelude.{◌≡◌};
+
+use std::alloc::AllocError;
 use thiserror::Error;
 
 /// Why there is no sequential execution.
@@ -16,4 +19,14 @@ pub enum RunFault {
     /// The machine refused memory.
     #[error("OutOfMemory")]
     OutOfMemory,
+}
+
+impl From<AllocError> for RunFault {
+    ghost use Rattle.mr_sequential.specs.declared.fault.RunFault.TheVariants.{OutOfMemory as told_memory};
+
+    ghost from_gives = { λ _ f. f ≡ told_memory };
+
+    fn from(_fault: AllocError) -> RunFault {
+        RunFault::OutOfMemory
+    }
 }

@@ -7,6 +7,9 @@ ghost use Rattle.mr_sequential.specs.Skips.{GoodSkips};
 mod distribute;
 mod fault;
 mod gathered;
+mod good;
+mod groups;
+mod names;
 mod outputs;
 mod rows;
 mod sequence;
@@ -16,6 +19,7 @@ mod tests;
 mod texts;
 
 pub use fault::RunFault;
+pub use good::{certified_law, entries_law, good_law, unique_law};
 pub use sequence::run;
 
 /// The keys of a partition are the one list that rises strictly and has just the keys that belong to it.

@@ -1,19 +1,22 @@
 //! A sequential execution, from a request and an input to the outputs.
-ghost use Rattle.std.specs.Prelude.{◌≡◌, ◌↔◌, ℕ, ◌≤◌, ◌<◌, ◌^◌, ◌⊎◌, IfOk, OnOk, IfErr, IfSome, ◌≢◌, None, Some, length};
+ghost use Rattle.std.specs.Prelude.{◌≡◌, ◌↔◌, ℕ, ◌≤◌, ◌<◌, ◌^◌, ◌⊎◌, IfOk, OnOk, IfErr, IfSome, ◌≢◌, None, Some, length, map};
 ghost use Rattle.mr_input.specs.Files.{contents, nth, split_total};
+ghost use Rattle.mr_jobs.specs.Task.{job_number, job_flags, job_literal};
 ghost use Rattle.mr_splits.specs.Cut.{records_of};
-ghost use Rattle.mr_sequential.specs.Emitted.{emitted};
+ghost use Rattle.mr_sequential.specs.Certified.{certificate_of};
+ghost use Rattle.mr_sequential.specs.Good.{IsGood};
 ghost use Rattle.mr_sequential.specs.Sequential.{sequential};
 ghost use Rattle.mr_sequential.specs.Skips.{list_fault, skip_fault};
 
 use crate::fault::RunFault;
 use crate::outputs::outputs;
-use crate::source::gather;
+use crate::source::{Emitted, gather};
 use mr_bytes::{RecordName, compare_records};
+use mr_certform::{Certificate, Header};
 use mr_input::Input;
 use mr_jobs::Request;
 use mr_splits::{Plan, PlanFault};
-use std::alloc::Global;
+use std::alloc::{AllocError, Global};
 use std::cmp::Ordering;
 
 /// The first fault of a list of left-out records, each tested for its order before its existence.
@@ -50,19 +53,20 @@ fn plan_of<'a>(alloc: Global, request: &Request, input: &'a Input) -> Result<Pla
 }
 
 /// Executes the request's job over the input, one record after another, without the records of `skips`: the output of
-/// each partition, and how many pairs the job emitted. The splits of the input must fit (`Request::fits`). How many
+/// each partition, and the certificate, which lists the names of each group's pairs. The splits of the input must fit (`Request::fits`). How many
 /// records are left out is tested first, then each of them in turn, its order before its existence.
 pub fn run(
     alloc: Global,
     request: &Request,
     input: &Input,
     skips: &[RecordName],
-) -> Result<(Vec<Vec<u8>>, u64), RunFault>
+) -> Result<(Vec<Vec<u8>>, Certificate), RunFault>
     requires { split_total request.now.split input.now ≤ 2 ^ 20 }
     ensures count { IfOk result (λ r. length r.0.items ≡ request.now.parts) }
     ensures texts { IfOk result (λ r. (p : ℕ) → p < request.now.parts → nth (contents r.0.items) p ≡ sequential request.now input.now skips.now p) }
-    ensures pairs { IfOk result (λ r. r.1 ≡ length (emitted request.now input.now skips.now)) }
-    ensures good { OnOk result (skip_fault request.now input.now skips.now ≡ None) }
+    ensures certificate { IfOk result (λ r. r.1 ≡ certificate_of request.now input.now skips.now) }
+    ensures is_good { IfOk result (λ r. IsGood request.now input.now (contents r.0.items) r.1) }
+    ensures skips { OnOk result (skip_fault request.now input.now skips.now ≡ None) }
     ensures fault { IfErr result (λ e. (e ≡ RunFault.OutOfMemory) ⊎ (skip_fault request.now input.now skips.now ≡ Some e)) }
     ensures too_many { (result ≡ Err RunFault.TooManySkips) ↔ (request.now.skips < length skips.now) }
 {
@@ -76,29 +80,65 @@ pub fn run(
     execute(alloc, request, &plan, skips)
 }
 
+/// The bytes of each file.
+fn lengths_of(alloc: Global, input: &Input) -> Result<Vec<u64>, AllocError>
+    ensures { IfOk result (λ v. v.items ≡ map length input.now) }
+{
+    let mut lengths = Vec::new(alloc);
+    for i in 0..input.files() {
+        lengths.push(input.len(i) as u64)?;
+    }
+    Ok(lengths)
+}
+
+/// What stands in the certificate before its groups.
+fn header_of(
+    alloc: Global,
+    request: &Request,
+    input: &Input,
+    skips: &[RecordName],
+) -> Result<Header, AllocError>
+    ensures job { IfOk result (λ h. h.job ≡ job_number request.now.task) }
+    ensures flags { IfOk result (λ h. h.flags ≡ job_flags request.now.task) }
+    ensures literal { IfOk result (λ h. h.literal.items ≡ job_literal request.now.task) }
+    ensures short { IfOk result (λ h. length h.literal.items ≤ 4096) }
+    ensures split { IfOk result (λ h. h.split_size ≡ request.now.split) }
+    ensures lengths { IfOk result (λ h. h.lengths.items ≡ map length input.now) }
+    ensures skips { IfOk result (λ h. h.skips.items ≡ skips.now) }
+{
+    let job = request.job();
+    Ok(Header {
+        job: job.number(),
+        flags: job.flags(),
+        literal: Vec::from_slice(alloc, job.literal())?,
+        split_size: request.split_size(),
+        lengths: lengths_of(alloc, input)?,
+        skips: Vec::from_slice(alloc, skips)?,
+    })
+}
+
 /// Executes a job over a plan.
 fn execute(
     alloc: Global,
     request: &Request,
     plan: &Plan<'_>,
     skips: &[RecordName],
-) -> Result<(Vec<Vec<u8>>, u64), RunFault>
+) -> Result<(Vec<Vec<u8>>, Certificate), RunFault>
     requires some { 0 < plan.now.size }
     requires size { plan.now.size ≡ request.now.split }
+    requires few { length skips.now < 2 ^ 32 }
+    requires fault { skip_fault request.now plan.now.files skips.now ≡ None }
     ensures count { IfOk result (λ r. length r.0.items ≡ request.now.parts) }
     ensures texts { IfOk result (λ r. (p : ℕ) → p < request.now.parts → nth (contents r.0.items) p ≡ sequential request.now plan.now.files skips.now p) }
-    ensures pairs { IfOk result (λ r. r.1 ≡ length (emitted request.now plan.now.files skips.now)) }
+    ensures certificate { IfOk result (λ r. r.1 ≡ certificate_of request.now plan.now.files skips.now) }
+    ensures is_good { IfOk result (λ r. IsGood request.now plan.now.files (contents r.0.items) r.1) }
     ensures only { IfErr result (λ e. e ≡ RunFault.OutOfMemory) }
 {
     // Files within the limits of an input emit fewer pairs than a u32 numbers.
     let _files = plan.input().files();
     let job = request.job();
-    let Ok(gathered) = gather(alloc, job, plan, skips) else {
-        return Err(RunFault::OutOfMemory);
-    };
-    let pairs = gathered.len();
-    match outputs(alloc, job, gathered, request.parts()) {
-        Ok(texts) => Ok((texts, pairs)),
-        Err(_) => Err(RunFault::OutOfMemory),
-    }
+    let Emitted { pairs, names } = gather(alloc, job, plan, skips)?;
+    let (texts, groups) = outputs(alloc, job, pairs, names, request.parts())?;
+    let header = header_of(alloc, request, plan.input(), skips)?;
+    Ok((texts, Certificate::of(header, groups)))
 }

@@ -5,9 +5,11 @@ ghost use Rattle.mr_input.specs.Files.{split_total};
 ghost use Rattle.mr_jobs.specs.Emissions.{emissions};
 ghost use Rattle.mr_splits.specs.Named.{is_left_out, of_split};
 ghost use Rattle.mr_splits.specs.Cut.{left_out_flags, nth, records_of};
+ghost use Rattle.mr_sequential.specs.Names.{kept_names};
 ghost use Rattle.mr_sequential.specs.Pairs.{kept_pairs};
 
 use crate::gathered::Gathered;
+use crate::names::Names;
 use mr_bytes::RecordName;
 use mr_jobs::Job;
 use mr_splits::{LeftOut, Located, Plan};
@@ -22,7 +24,7 @@ fn gather_record(
     gathered: &mut Gathered,
 ) -> Result<(), AllocError>
     requires small { length line.bytes.now ≤ 2 ^ 30 }
-    requires few { length gathered.old + length (emissions job.now line.file line.start line.bytes.now) ≤ 2 ^ 32 }
+    requires few { length gathered.old + length (emissions job.now line.file line.start line.bytes.now) < 2 ^ 32 }
     ensures { OnOk result (gathered.new ≡ gathered.old ++ emissions job.now line.entry.file line.entry.start line.entry.bytes.now) }
 {
     job.prepare(line.bytes, buffer)?;
@@ -31,6 +33,13 @@ fn gather_record(
         gathered.push(alloc, key, value)?;
     }
     Ok(())
+}
+
+/// Pairs with their names, in order.
+#[derive(Drop)]
+pub(crate) struct Emitted {
+    pub pairs: Gathered,
+    pub names: Names,
 }
 
 /// A plan with the records that are left out, as a list of names and as flags.
@@ -58,19 +67,23 @@ fn gather_one(
     kept: Kept<'_>,
     name: RecordName,
     buffer: &mut Vec<u8>,
-    gathered: &mut Gathered,
+    emitted: &mut Emitted,
 ) -> Result<(), AllocError>
     requires split { name.split < split_total kept.plan.now.size kept.plan.now.files }
     requires record { name.rec < length (of_split name.split (records_of kept.plan.now)) }
     requires flags { kept.left_out.now ≡ left_out_flags kept.skips.now (records_of kept.plan.now) }
-    requires few { length gathered.old + length (kept_pairs job.now kept.skips.now (nth (of_split name.split (records_of kept.plan.now)) name.rec)) ≤ 2 ^ 32 }
-    ensures { OnOk result (gathered.new ≡ gathered.old ++ kept_pairs job.now kept.entry.skips.now (nth (of_split name.split (records_of kept.entry.plan.now)) name.rec)) }
+    requires few { length emitted.old.pairs + length (kept_pairs job.now kept.skips.now (nth (of_split name.split (records_of kept.plan.now)) name.rec)) < 2 ^ 32 }
+    ensures pairs { OnOk result (emitted.new.pairs ≡ emitted.old.pairs ++ kept_pairs job.now kept.entry.skips.now (nth (of_split name.split (records_of kept.entry.plan.now)) name.rec)) }
+    ensures names { OnOk result (emitted.new.names ≡ emitted.old.names ++ kept_names job.now kept.entry.skips.now (nth (of_split name.split (records_of kept.entry.plan.now)) name.rec)) }
 {
-    let record = kept.plan.located(name.split, name.rec);
+    let line = kept.plan.located(name.split, name.rec);
     if leaves_out(kept, name.split, name.rec) {
         return Ok(());
     }
-    gather_record(alloc, job, record, buffer, gathered)
+    let before = emitted.pairs.len();
+    gather_record(alloc, job, line, buffer, &mut emitted.pairs)?;
+    let count = emitted.pairs.len() - before;
+    emitted.names.add(name, count as u32)
 }
 
 /// Adds what a job emits for the records of split `s`.
@@ -79,17 +92,18 @@ fn gather_split(
     job: &Job,
     kept: Kept<'_>,
     s: u32,
-    gathered: &mut Gathered,
+    emitted: &mut Emitted,
 ) -> Result<(), AllocError>
     requires split { s < split_total kept.plan.now.size kept.plan.now.files }
     requires flags { kept.left_out.now ≡ left_out_flags kept.skips.now (records_of kept.plan.now) }
-    requires few { length gathered.old + length (flat_map (kept_pairs job.now kept.skips.now) (of_split s (records_of kept.plan.now))) ≤ 2 ^ 32 }
-    ensures { OnOk result (gathered.new ≡ gathered.old ++ flat_map (kept_pairs job.now kept.entry.skips.now) (of_split s (records_of kept.entry.plan.now))) }
+    requires few { length emitted.old.pairs + length (flat_map (kept_pairs job.now kept.skips.now) (of_split s (records_of kept.plan.now))) < 2 ^ 32 }
+    ensures pairs { OnOk result (emitted.new.pairs ≡ emitted.old.pairs ++ flat_map (kept_pairs job.now kept.entry.skips.now) (of_split s (records_of kept.entry.plan.now))) }
+    ensures names { OnOk result (emitted.new.names ≡ emitted.old.names ++ flat_map (kept_names job.now kept.entry.skips.now) (of_split s (records_of kept.entry.plan.now))) }
 {
     let mut buffer = Vec::new(alloc);
     for r in 0..kept.plan.records_in(s) {
         let name = RecordName { split: s, rec: r };
-        gather_one(alloc, job, kept, name, &mut buffer, gathered)?;
+        gather_one(alloc, job, kept, name, &mut buffer, emitted)?;
     }
     Ok(())
 }
@@ -100,10 +114,11 @@ pub(crate) fn gather(
     job: &Job,
     plan: &Plan<'_>,
     skips: &[RecordName],
-) -> Result<Gathered, AllocError>
+) -> Result<Emitted, AllocError>
     requires some { 0 < plan.now.size }
-    requires few { length (flat_map (kept_pairs job.now skips.now) (records_of plan.now)) ≤ 2 ^ 32 }
-    ensures { IfOk result (λ g. g ≡ flat_map (kept_pairs job.now skips.now) (records_of plan.now)) }
+    requires few { length (flat_map (kept_pairs job.now skips.now) (records_of plan.now)) < 2 ^ 32 }
+    ensures pairs { IfOk result (λ e. e.pairs ≡ flat_map (kept_pairs job.now skips.now) (records_of plan.now)) }
+    ensures names { IfOk result (λ e. e.names ≡ flat_map (kept_names job.now skips.now) (records_of plan.now)) }
 {
     let left_out = plan.left_out(alloc, skips)?;
     let kept = Kept {
@@ -111,9 +126,12 @@ pub(crate) fn gather(
         skips,
         left_out: &left_out,
     };
-    let mut gathered = Gathered::new(alloc);
+    let mut emitted = Emitted {
+        pairs: Gathered::new(alloc),
+        names: Names::new(alloc),
+    };
     for s in 0..plan.splits() {
-        gather_split(alloc, job, kept, s, &mut gathered)?;
+        gather_split(alloc, job, kept, s, &mut emitted)?;
     }
-    Ok(gathered)
+    Ok(emitted)
 }

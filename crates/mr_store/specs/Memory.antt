@@ -1,10 +1,18 @@
 -- Readers and writers over memory.
 use Rattle.std.specs.Prelude.{ℕ, ◌-◌, ◌==◌, if◌then◌else◌, Bool, false, Option, Some, None, List}
 
--- a device that holds these bytes, moves at most so many a call, fails at a later call, if at any, counted from 1 for
--- the next, and has failed so often
+-- a reader that has these bytes left, gives at most so many a call, fails at a later call, if at any, counted from 1
+-- for the next, and has failed so often
 pub record Memory : Type 0 where
   pub bytes : List ℕ
+  pub most : ℕ
+  pub failing : Option ℕ
+  pub failed : ℕ
+
+-- a writer that holds these bytes, of them handed on those that it held at its last flush, and is else as the reader
+pub record WrittenMemory : Type 0 where
+  pub bytes : List ℕ
+  pub handed_on : List ℕ
   pub most : ℕ
   pub failing : Option ℕ
   pub failed : ℕ

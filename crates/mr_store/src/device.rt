@@ -1,4 +1,4 @@
-ghost use Rattle.std.specs.Prelude.{◌≡◌, ℕ, ◌≤◌, ◌<◌, List, Option, None, IfOk, length};
+ghost use Rattle.std.specs.Prelude.{◌≡◌, ℕ, ◌≤◌, ◌<◌, List, Option, None, IfOk, OnOk, length};
 ghost use Rattle.std.specs.Io.KnownBytes.{ReadConsumes, WriteAppends, Keeps};
 ghost use Rattle.mr_store.specs.Devices.{Counts};
 
@@ -35,6 +35,9 @@ pub trait CountedWrite {
     // The bytes that the writer holds, where they are known.
     ghost contents: { Self → Option (List ℕ) } = { λ _. None };
 
+    // The bytes that it held at its last flush, and handed on there, where they are known.
+    ghost handed_on: { Self → Option (List ℕ) } = { λ _. None };
+
     // How many calls have failed; the count has 64 bits.
     ghost failed: { Self → ℕ };
 
@@ -43,11 +46,13 @@ pub trait CountedWrite {
         ensures bound { IfOk result (λ n. n ≤ length bytes.now) }
         ensures some { IfOk result (λ n. 0 < length bytes.now → 0 < n) }
         ensures bytes { WriteAppends (contents self.old) (contents self.new) result bytes.now }
+        ensures kept { handed_on self.new ≡ handed_on self.old }
         ensures count { Counts (failed self.old) (failed self.new) result };
 
     /// Hands on what was written.
     fn flush(&mut self) -> Result<(), Device>
         ensures bytes { Keeps (contents self.old) (contents self.new) }
+        ensures handed { OnOk result (handed_on self.new ≡ contents self.new) }
         ensures count { Counts (failed self.old) (failed self.new) result };
 
     /// How many calls have failed.

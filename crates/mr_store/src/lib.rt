@@ -2,13 +2,16 @@
 #![tactic(auto)]
 
 mod device;
-mod memory;
+mod failing;
+mod memory_reader;
+mod memory_writer;
 mod reading;
 #[cfg(test)]
 mod tests;
 mod writing;
 
 pub use crate::device::{CountedRead, CountedWrite, Device};
-pub use crate::memory::{MemoryReader, MemoryWriter};
+pub use crate::memory_reader::MemoryReader;
+pub use crate::memory_writer::MemoryWriter;
 pub use crate::reading::{ReadFault, read_all};
 pub use crate::writing::{write_all, write_result};

@@ -140,6 +140,7 @@ fn a_result_is_written_in_order(rt: HostRuntime) -> Result<(), Fail> {
     assert!(rt; done);
     for (writer, want) in writers.iter().zip(whole) {
         assert_eq!(rt; writer.bytes(), want);
+        assert_eq!(rt; writer.handed_on(), want);
     }
     for (stops, calls) in [(0, 3), (1, 1), (2, 3), (3, 3)] {
         for k in 1..=calls {
@@ -147,11 +148,12 @@ fn a_result_is_written_in_order(rt: HostRuntime) -> Result<(), Fail> {
             assert!(rt; !done);
             for (i, (writer, want)) in writers.iter().zip(whole).enumerate() {
                 if i < stops {
-                    assert_eq!(rt; writer.bytes(), want);
+                    assert_eq!(rt; writer.handed_on(), want);
                     assert_eq!(rt; writer.failures(), 0);
                 } else if i == stops {
                     assert!(rt; want.starts_with(writer.bytes()));
                     assert_eq!(rt; writer.bytes().len() as u64, k - 1);
+                    assert_eq!(rt; writer.handed_on().len(), 0);
                     assert_eq!(rt; writer.failures(), 1);
                 } else {
                     assert_eq!(rt; writer.bytes().len(), 0);

@@ -1,17 +1,21 @@
-use Rattle.std.proofs.Common.{◌≡◌, ℕ, ◌+◌, ◌<◌, ◌≤◌, ◌++◌, false, List, [], ◌∷◌, length, take, drop, refl, sym, ap, ◌∙◌, arith, subst, All, IsPermutation, Vec, Global, map}
+use Rattle.std.proofs.Common.{◌≡◌, ℕ, ◌+◌, ◌<◌, ◌≤◌, ◌++◌, false, List, [], ◌∷◌, length, take, drop, refl, sym, ap, ◌∙◌, arith, subst, All, IsPermutation, IsSorted, Vec, Global, map}
+use Rattle.std.proofs.lemmas.List.{get_or-map}
 use Rattle.std.proofs.lemmas.List.Sorted.{length_permutation}
 use Rattle.std.specs.List.{AllByRecursion, IsDistinct, range_with_len, zip}
 use Rattle.std.specs.Str.{bytes_eq}
+use Rattle.mr_bytes.specs.declared.Name.{Name}
 use Rattle.mr_bytes.specs.declared.Value.{Value}
 use Rattle.mr_jobs.specs.Emissions.{Emission}
 use Rattle.mr_partition.specs.Partition.{partition_of}
 use Rattle.mr_reduce.specs.Text.{text_of}
 use Rattle.mr_sequential.specs.declared.rows.Row.{Row}
-use Rattle.mr_sequential.specs.Pairs.{bytes_of, ones_then, paired, texts_in}
-use Rattle.mr_sequential.specs.Rows.{IsRanked, IsRowOf, bucket_text, row_key, row_number, row_texts}
+use Rattle.mr_sequential.specs.Pairs.{buckets, bytes_of, groups_in, ones_then, paired, texts_in}
+use Rattle.mr_sequential.specs.Rows.{IsRanked, IsRowOf, bucket_text, row_key, row_number, row_order, row_part, row_texts}
 use Rattle.mr_sequential.proofs.BucketLemmas.{take_front}
 use Rattle.mr_sequential.proofs.GatheredLemmas.{length-paired, length-ones_then, same_length}
-use Rattle.mr_sequential.proofs.RankLemmas.{AreRows, texts-rows}
+use Rattle.mr_sequential.proofs.OrderLemmas.{no_row}
+use Rattle.mr_sequential.proofs.RankLemmas.{AreRows, numbers-small, texts-rows}
+use Rattle.mr_sequential.proofs.RankedGroups.{groups-rows, ranks-used}
 use Rattle.mr_sequential.proofs.outputs.outputs.Goals as goal
 
 -- as many numbers as values
@@ -112,3 +116,101 @@ returns-clause-texts c = λ p h.
     (λ k d less. omega (arith, c.gathered.invariant.inside k d less, count))
     (λ i less. c.gathered.invariant.used i (omega (arith, less, count)))
     ∙ ap (λ (es : List Emission). texts_in (λ k. partition_of k c.args.parts) (text_of task) es p) c.gathered.view_is
+
+-- the rows of the keys as they are shown
+rows_are : (parts : ℕ) (keys shown : List (Vec ℕ Global)) (rows : List Row) → shown ≡ keys → IsPermutation (bytes_of shown) (map row_key rows) → All (IsRowOf (bytes_of shown) parts) rows
+    → IsSorted row_order rows → IsDistinct (λ (a : Vec ℕ Global) b. bytes_eq a.items b.items) keys → AreRows parts (bytes_of keys) rows
+rows_are parts keys shown rows is perm of order apart = record {
+  keys = subst (λ (l : List (Vec ℕ Global)). IsPermutation (bytes_of l) (map row_key rows)) is perm;
+  rows_of = subst (λ (l : List (Vec ℕ Global)). All (IsRowOf (bytes_of l) parts) rows) is of;
+  sorted = order;
+  distinct = distinct_bytes keys apart;
+}
+
+pub groups_of-requires-clause-used : goal.groups_of-requires-clause-used
+groups_of-requires-clause-used c = λ r h.
+    let g = c.gathered.inside in
+    let keys : List (Vec ℕ Global) = g.keys.keys in
+    let ks : List (List ℕ) = bytes_of keys in
+    let old : List ℕ = g.numbers.items in
+    let rows : List Row = c.in_ok-rows.rows.items in
+    let rs : List ℕ = c.as_slice-6.result.now in
+    let shown : List (Vec ℕ Global) = c.as_slice.result.now in
+    let seen : rs ≡ c.rank_numbers.new.numbers =
+    kept g.numbers.len c.as_mut_slice.result.now c.rank_numbers.new.numbers rs old c.as_slice-6.ensures.value c.rank_numbers.auto.numbers c.as_mut_slice.ensures.value g.numbers.ok.0 in
+    let ranks = ranked_at c.as_slice-2.result.now rows c.as_mut_slice.result.now old c.rank_numbers.new.numbers rs
+    c.in_ok-rank_numbers.ensures c.as_slice-2.ensures.value c.as_mut_slice.ensures.value seen in
+    let are = rows_are c.args.parts keys shown rows c.as_slice.ensures.keys c.in_ok-rows.ensures.keys c.in_ok-rows.ensures.rows c.in_ok-rows.ensures.sorted c.as_slice.ensures.unique in
+    let many : length rows ≡ length keys = row_count keys shown rows c.as_slice.ensures.keys c.in_ok-rows.ensures.keys in
+    let bytes : length ks ≡ length keys = same_length (λ (k : Vec ℕ Global). k.items) keys in
+    let perm : IsPermutation (range_with_len 0 (length rows)) (map row_number rows) =
+    subst (λ n. IsPermutation (range_with_len 0 n) (map row_number rows)) (let e : length shown ≡ length rows = omega (arith, many, ap length c.as_slice.ensures.keys) in e) c.in_ok-rows.ensures.numbers in
+    ranks-used c.args.parts ks rows old rs are ranks (omega (arith, many, bytes))
+    (λ i less. c.gathered.invariant.used i (omega (arith, less, bytes)))
+    (λ q less. omega (arith, get_or-map row_number rows q no_row 0 less, numbers-small rows perm q no_row less, many, bytes))
+    r (omega (arith, h, ap length c.as_slice-5.ensures.value))
+
+pub groups_of-requires-clause-all : goal.groups_of-requires-clause-all
+groups_of-requires-clause-all c =
+    let g = c.gathered.inside in
+    let old : List ℕ = g.numbers.items in
+    let rs : List ℕ = c.as_slice-6.result.now in
+    let seen : rs ≡ c.rank_numbers.new.numbers =
+    kept g.numbers.len c.as_mut_slice.result.now c.rank_numbers.new.numbers rs old c.as_slice-6.ensures.value c.rank_numbers.auto.numbers c.as_mut_slice.ensures.value g.numbers.ok.0 in
+    omega (
+      arith,
+      c.requires.all,
+      ap length seen,
+      c.rank_numbers.auto.numbers,
+      ap length c.as_mut_slice.ensures.value,
+      length-paired (bytes_of g.keys.keys) old (ones_then g.ones g.rest.items) (same old g.ones g.rest.items c.gathered.invariant.same),
+      ap length c.gathered.view_is,
+    )
+
+pub groups_of-requires-clause-few : goal.groups_of-requires-clause-few
+groups_of-requires-clause-few c =
+    let g = c.gathered.inside in
+    let old : List ℕ = g.numbers.items in
+    let rs : List ℕ = c.as_slice-6.result.now in
+    let seen : rs ≡ c.rank_numbers.new.numbers =
+    kept g.numbers.len c.as_mut_slice.result.now c.rank_numbers.new.numbers rs old c.as_slice-6.ensures.value c.rank_numbers.auto.numbers c.as_mut_slice.ensures.value g.numbers.ok.0 in
+    omega (
+      arith,
+      c.requires.few,
+      ap length seen,
+      c.rank_numbers.auto.numbers,
+      ap length c.as_mut_slice.ensures.value,
+      length-paired (bytes_of g.keys.keys) old (ones_then g.ones g.rest.items) (same old g.ones g.rest.items c.gathered.invariant.same),
+      ap length c.gathered.view_is,
+    )
+
+pub groups_of-requires-clause-rows : goal.groups_of-requires-clause-rows
+groups_of-requires-clause-rows c =
+    let g = c.gathered.inside in
+    let small = few_keys g.keys.keys g.numbers.items g.ones g.rest.items c.args.gathered c.gathered.view_is c.gathered.invariant.same c.gathered.invariant.few c.requires.few in
+    omega (arith, small, row_count g.keys.keys c.as_slice.result.now c.in_ok-rows.rows.items c.as_slice.ensures.keys c.in_ok-rows.ensures.keys, ap length c.as_slice-5.ensures.value)
+
+pub returns-clause-groups : goal.returns-clause-groups
+returns-clause-groups c =
+    let g = c.gathered.inside in
+    let keys : List (Vec ℕ Global) = g.keys.keys in
+    let ks : List (List ℕ) = bytes_of keys in
+    let old : List ℕ = g.numbers.items in
+    let vs : List Value = ones_then g.ones g.rest.items in
+    let rows : List Row = c.in_ok-rows.rows.items in
+    let rs : List ℕ = c.as_slice-6.result.now in
+    let names : List Name = c.args.names in
+    let m : ℕ = c.args.parts in
+    let shown : List (Vec ℕ Global) = c.as_slice.result.now in
+    let seen : rs ≡ c.rank_numbers.new.numbers =
+    kept g.numbers.len c.as_mut_slice.result.now c.rank_numbers.new.numbers rs old c.as_slice-6.ensures.value c.rank_numbers.auto.numbers c.as_mut_slice.ensures.value g.numbers.ok.0 in
+    let ranks = ranked_at c.as_slice-2.result.now rows c.as_mut_slice.result.now old c.rank_numbers.new.numbers rs
+    c.in_ok-rank_numbers.ensures c.as_slice-2.ensures.value c.as_mut_slice.ensures.value seen in
+    let are = rows_are m keys shown rows c.as_slice.ensures.keys c.in_ok-rows.ensures.keys c.in_ok-rows.ensures.rows c.in_ok-rows.ensures.sorted c.as_slice.ensures.unique in
+    let bytes : length ks ≡ length keys = same_length (λ (k : Vec ℕ Global). k.items) keys in
+    c.in_ok-groups.ensures.groups
+    ∙ ap (λ (l : List Row). buckets m (zip (map row_part l) (buckets (length l) (zip rs names)))) c.as_slice-5.ensures.value
+    ∙ groups-rows m m ks rows old rs vs names are ranks (same old g.ones g.rest.items c.gathered.invariant.same)
+    (λ k d less. omega (arith, c.gathered.invariant.inside k d less, bytes))
+    (λ i less. c.gathered.invariant.used i (omega (arith, less, bytes)))
+    ∙ ap (λ (es : List Emission). map (groups_in (λ k. partition_of k m) es names) (range_with_len 0 m)) c.gathered.view_is

@@ -1,8 +1,10 @@
 use Rattle.std.proofs.Common.{ℕ, ◌<◌, ◌+◌, List, length, drop, ap, arith}
 use Rattle.std.specs.List.{flat_map}
+use Rattle.mr_bytes.specs.declared.Name.{Name}
 use Rattle.mr_jobs.specs.Emissions.{Emission}
 use Rattle.mr_splits.specs.Named.{NamedRecord, of_split}
 use Rattle.mr_splits.specs.Cut.{nth, records_of}
+use Rattle.mr_sequential.specs.Names.{kept_names}
 use Rattle.mr_sequential.specs.Pairs.{kept_pairs}
 use Rattle.mr_sequential.proofs.GatheredLemmas.{length-append}
 use Rattle.mr_sequential.proofs.SourceLemmas.{next_record, one_gathered}
@@ -16,11 +18,11 @@ gather_one-requires-clause-few c =
     let within : r < length rs = omega (arith, c.loop-r-test.true, c.records_in-r-end.ensures) in
     omega (
       arith,
-      ap length c.loop-r.invariant,
-      length-append c.loop-r.gathered (flat_map f (drop r rs)),
+      ap length c.loop-r.invariant.0,
+      length-append c.loop-r.emitted.pairs (flat_map f (drop r rs)),
       ap length (next_record f rs r within),
       length-append (f (nth rs r)) (flat_map f (drop (r + 1) rs)),
-      length-append c.args.gathered.now (flat_map f rs),
+      length-append c.args.emitted.now.pairs (flat_map f rs),
       c.requires.few,
     )
 
@@ -28,5 +30,8 @@ pub loop-r-preserved : goal.loop-r-preserved
 loop-r-preserved c =
     let rs : List NamedRecord = of_split c.args.s (records_of c.args.kept.plan.now) in
     let f : NamedRecord → List Emission = kept_pairs c.args.job.now c.args.kept.skips.now in
-    let within : c.loop-r.r < length rs = omega (arith, c.loop-r-test.true, c.records_in-r-end.ensures) in
-    one_gathered f rs c.loop-r.r c.loop-r.gathered c.gather_one.new.gathered _ within c.in_ok-gather_one.ensures c.loop-r.invariant
+    let g : NamedRecord → List Name = kept_names c.args.job.now c.args.kept.skips.now in
+    let within : c.loop-r.r < length rs = omega (arith, c.loop-r-test.true, c.records_in-r-end.ensures) in (
+      one_gathered f rs c.loop-r.r c.loop-r.emitted.pairs c.gather_one.new.emitted.pairs _ within c.in_ok-gather_one.ensures.pairs c.loop-r.invariant.0,
+      one_gathered g rs c.loop-r.r c.loop-r.emitted.names c.gather_one.new.emitted.names _ within c.in_ok-gather_one.ensures.names c.loop-r.invariant.1,
+    )

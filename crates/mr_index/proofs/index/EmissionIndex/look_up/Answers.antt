@@ -7,7 +7,7 @@ use Rattle.mr_jobs.specs.Emissions.{Emission}
 use Rattle.mr_splits.specs.Named.{NamedRecord}
 use Rattle.mr_splits.specs.Cut.{records_of}
 use Rattle.mr_sequential.specs.Emitted.{Triple}
-use Rattle.mr_index.specs.Index.{named}
+use Rattle.mr_sequential.specs.Good.{named}
 use Rattle.mr_index.specs.Pairs.{seen}
 use Rattle.mr_index.proofs.PairLemmas.{rise-at, length-seen}
 use Rattle.mr_index.proofs.SpreadLemmas.{triple_for, find-none, find-there, no-record, part-in, part-past}

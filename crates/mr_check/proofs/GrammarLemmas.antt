@@ -1,0 +1,113 @@
+-- Behind the items of a request and of an input the number of left-out records comes next.
+use Rattle.std.proofs.Common.{◌≡◌, ℕ, zero, suc, Bool, true, false, cond, List, [], ◌∷◌, ◌++◌, length, map, refl, ap, subst}
+use Rattle.std.specs.Prelude.{Ok, Err}
+use Rattle.std.proofs.lemmas.Bool.{false≢true, eqb-true}
+use Rattle.mr_bytes.specs.declared.Name.{Name}
+use Rattle.mr_jobs.specs.Task.{Order, job_literal}
+use Rattle.mr_certform.specs.declared.item.Item.{Item}
+use Rattle.mr_certform.specs.declared.item.Item.TheVariants.{Magic, Job, Flags, LiteralLength, LiteralByte, Parts, SplitSize, Files, FileLength, Skips, Skip, Groups, Entries, Entry, End}
+use Rattle.mr_certform.specs.declared.place.Place.{Place}
+use Rattle.mr_certform.specs.declared.place.Place.TheVariants.{AtMagic, AtParts, AtFiles, AtSkips, AtGroups, AtEntries, AtEntry, AtEnd, Behind}
+use Rattle.mr_certform.specs.Places.{behind, literal_bytes, file_lengths, partitions, skips, groups, entries, first_name}
+use Rattle.mr_certform.specs.Grammar.{InOrder}
+use Rattle.mr_check.specs.declared.fault.No.{No}
+use Rattle.mr_check.specs.Verdict.{item_eq, job_wanted, input_wanted}
+use Rattle.mr_check.specs.Judging.{met, no_skip, skips_in_front, awaits_skips}
+
+-- the wanted item is the one that is met
+same_item : (i w : Item) → item_eq i w ≡ true → i ≡ w
+same_item Magic Magic e = refl
+same_item (Job m) (Job n) e = ap Job (eqb-true m n e)
+same_item (Flags m) (Flags n) e = ap Flags (eqb-true m n e)
+same_item (LiteralLength m) (LiteralLength n) e = ap LiteralLength (eqb-true m n e)
+same_item (LiteralByte m) (LiteralByte n) e = ap LiteralByte (eqb-true m n e)
+same_item (Parts m) (Parts n) e = ap Parts (eqb-true m n e)
+same_item (SplitSize m) (SplitSize n) e = ap SplitSize (eqb-true m n e)
+same_item (Files m) (Files n) e = ap Files (eqb-true m n e)
+same_item (FileLength m) (FileLength n) e = ap FileLength (eqb-true m n e)
+same_item i w e = absurd (false≢true e)
+
+-- the place behind items
+abbrev place_behind : Place → List Item → Place
+place_behind p [] = p
+place_behind p (w ∷ ws) = place_behind (behind p w) ws
+
+met_order : (at : ℕ) (ws : List Item) (f : No) (p : Place) (is js : List Item) → InOrder p is → met at ws f is ≡ Ok js → InOrder (place_behind p ws) js
+met_order at [] f p is js h e = let same : is ≡ js = cc e in subst (InOrder p) same h
+met_order at (w ∷ ws) f p [] js h e = absurd (cc e)
+met_order at (w ∷ ws) f p (i ∷ is) js h e = by (item_eq i w) refl e (λ q. met_order at ws f q is js)
+  where
+    by : (b : Bool) → item_eq i w ≡ b → cond b (met at ws f is) (Err f) ≡ Ok js → ((q : Place) → InOrder q is → met at ws f is ≡ Ok js → InOrder (place_behind q ws) js) → InOrder (place_behind (behind p w) ws) js
+    by true same d more = more (behind p w) (subst (λ k. InOrder (behind p k) is) (same_item i w same) h.1) d
+    by false same d more = absurd (cc d)
+
+behind_literal : (bs : List ℕ) (ws : List Item) → place_behind (literal_bytes (length bs)) (map LiteralByte bs ++ ws) ≡ place_behind AtParts ws
+behind_literal [] ws = refl
+behind_literal (b ∷ bs) ws = behind_literal bs ws
+
+behind_lengths : (r : ℕ) (files : List (List ℕ)) → place_behind (file_lengths r (length files)) (map (λ (f : List ℕ). FileLength (length f)) files) ≡ AtSkips r
+behind_lengths r [] = refl
+behind_lengths r (f ∷ files) = behind_lengths r files
+
+behind_job : (o : Order) → place_behind AtMagic (job_wanted o) ≡ AtFiles o.parts
+behind_job o = behind_literal (job_literal o.task) (Parts o.parts ∷ SplitSize o.split ∷ [])
+
+behind_input : (r : ℕ) (files : List (List ℕ)) → place_behind (AtFiles r) (input_wanted files) ≡ AtSkips r
+behind_input r files = behind_lengths r files
+
+-- ---- no left-out record comes once the partitions have begun
+
+abbrev Late : Place → Type 0
+Late (AtGroups r) = Unit {0}
+Late (AtEntries r g) = Unit {0}
+Late (AtEntry r g n before) = Unit {0}
+Late AtEnd = Unit {0}
+Late Behind = Unit {0}
+Late _ = ⊥
+
+late_partitions : (n : ℕ) → Late (partitions n)
+late_partitions zero = tt
+late_partitions (suc n) = tt
+
+late_groups : (r n : ℕ) → Late (groups r n)
+late_groups r zero = late_partitions r
+late_groups r (suc n) = tt
+
+late_entries : (r g n : ℕ) (before : Name) → Late (entries r g n before)
+late_entries r g zero before = late_groups r g
+late_entries r g (suc n) before = tt
+
+late : (p : Place) (is : List Item) → Late p → InOrder p is → no_skip is ≡ true
+late p [] l h = refl
+late (AtGroups r) (Groups n ∷ is) l h = late (groups r n) is (late_groups r n) h.1
+late (AtGroups r) (i ∷ is) l h = absurd (h.0)
+late (AtEntries r g) (Entries n ∷ is) l h = late (entries r g n first_name) is (late_entries r g n first_name) h.1
+late (AtEntries r g) (i ∷ is) l h = absurd (h.0)
+late (AtEntry r g n before) (Entry name ∷ is) l h = late (entries r g n name) is (late_entries r g n name) h.1
+late (AtEntry r g n before) (i ∷ is) l h = absurd (h.0)
+late AtEnd (End ∷ is) l h = late Behind is tt h.1
+late AtEnd (i ∷ is) l h = absurd (h.0)
+late Behind (i ∷ is) l h = absurd (h.0)
+late p (i ∷ is) l h = absurd l
+
+none_in_front : (is : List Item) → no_skip is ≡ true → skips_in_front is ≡ true
+none_in_front [] e = refl
+none_in_front (Skip s ∷ is) e = absurd (false≢true e)
+none_in_front (i ∷ is) e = e
+
+front : (r n : ℕ) (is : List Item) → InOrder (skips r n) is → skips_in_front is ≡ true
+front r zero is h = none_in_front is (late (partitions r) is (late_partitions r) h)
+front r (suc n) [] h = refl
+front r (suc n) (Skip s ∷ is) h = front r n is h.1
+front r (suc n) (i ∷ is) h = absurd (h.0)
+
+awaits : (r : ℕ) (is : List Item) → InOrder (AtSkips r) is → awaits_skips is ≡ true
+awaits r [] h = refl
+awaits r (Skips n ∷ is) h = front r n is h.1
+awaits r (i ∷ is) h = absurd (h.0)
+
+-- in a certificate of this order and these files
+pub skips_come : (o : Order) (files : List (List ℕ)) (a b : ℕ) (f g : No) (is js ks : List Item) → InOrder AtMagic is → met a (job_wanted o) f is ≡ Ok js → met b (input_wanted files) g js ≡ Ok ks → awaits_skips ks ≡ true
+skips_come o files a b f g is js ks h e d =
+    let one : InOrder (AtFiles o.parts) js = subst (λ p. InOrder p js) (behind_job o) (met_order a (job_wanted o) f AtMagic is js h e) in
+    awaits o.parts ks (subst (λ p. InOrder p ks) (behind_input o.parts files) (met_order b (input_wanted files) g (AtFiles o.parts) js ks one d))

@@ -1,0 +1,280 @@
+-- From what the judge's functions find to the verdict.
+use Rattle.std.proofs.Common.{◌≡◌, ℕ, ◌+◌, ◌≤◌, Bool, true, false, cond, Option, Some, None, List, [], ◌∷◌, ◌++◌, length, refl, ap, sym, ◌∙◌, arith, leb, eqb}
+use Rattle.std.specs.Prelude.{Result, Ok, Err}
+use Rattle.std.proofs.lemmas.Bool.{false≢true, eq-eqb, ne_eqb}
+use Rattle.std.specs.List.{flat_map}
+use Rattle.mr_bytes.specs.declared.RecordName.{RecordName}
+use Rattle.mr_jobs.specs.Task.{Task, Order}
+use Rattle.mr_splits.specs.Named.{NamedRecord, named_records}
+use Rattle.mr_splits.specs.Cut.{Cut, is_record, records_of}
+use Rattle.mr_certform.specs.declared.item.Item.{Item}
+use Rattle.mr_certform.specs.declared.item.Item.TheVariants.{Skips, Skip, Entry}
+use Rattle.mr_certform.specs.Spelling.{items_of, stop}
+use Rattle.mr_sequential.specs.Emitted.{Triple, record_triples}
+use Rattle.mr_sequential.specs.Skips.{is_past}
+use Rattle.mr_index.specs.Index.{triples_of}
+use Rattle.mr_check.specs.declared.fault.No.{No}
+use Rattle.mr_check.specs.declared.fault.No.TheVariants.{OtherJob, OtherInput, OutputCount, SkipOrder, NoSuchRecord, TooManySkips}
+use Rattle.mr_check.specs.Verdict.{Case, Accepted, item_eq, last_of, start, subject_of, part_faults, skip_faults, count_faults, wanted_faults, accepted_by, told_by, passes, job_wanted, input_wanted, verdict_of}
+use Rattle.mr_check.specs.Judging.{first, subject, met, met_behind, header_met, counted, skip_fault, unless, Listed, listed, entries_in, no_skip, skips_in_front, awaits_skips, case_at}
+
+-- ---- what is met
+
+pub met_faults : (c : Case) (ws : List Item) (f : No) (behind : List Item → List No) (is js : List Item) → met c.stop ws f is ≡ Ok js → wanted_faults c ws f behind is ≡ behind js
+met_faults c [] f behind is js e = ap behind (cc e)
+met_faults c (w ∷ ws) f behind [] js e = absurd (cc e)
+met_faults c (w ∷ ws) f behind (i ∷ is) js e = by (item_eq i w) e (met_faults c ws f behind is js)
+  where
+    by : (b : Bool) → cond b (met c.stop ws f is) (Err f) ≡ Ok js → (met c.stop ws f is ≡ Ok js → wanted_faults c ws f behind is ≡ behind js) → passes b f ++ wanted_faults c ws f behind is ≡ behind js
+    by true h more = more h
+    by false h more = absurd (cc h)
+
+pub met_fault : (c : Case) (ws : List Item) (f : No) (behind : List Item → List No) (is : List Item) (e : No) → met c.stop ws f is ≡ Err e → first (wanted_faults c ws f behind is) ≡ Some e
+met_fault c [] f behind is e d = absurd (cc d)
+met_fault c (w ∷ ws) f behind [] e d = cc d
+met_fault c (w ∷ ws) f behind (i ∷ is) e d = by (item_eq i w) d (met_fault c ws f behind is e)
+  where
+    by : (b : Bool) → cond b (met c.stop ws f is) (Err f) ≡ Err e → (met c.stop ws f is ≡ Err e → first (wanted_faults c ws f behind is) ≡ Some e) → first (passes b f ++ wanted_faults c ws f behind is) ≡ Some e
+    by true h more = more h
+    by false h more = cc h
+
+pub met_length : (at : ℕ) (ws : List Item) (f : No) (is js : List Item) → met at ws f is ≡ Ok js → length is ≡ length ws + length js
+met_length at [] f is js e = let same : is ≡ js = cc e in omega (arith, ap length same)
+met_length at (w ∷ ws) f [] js e = absurd (cc e)
+met_length at (w ∷ ws) f (i ∷ is) js e = by (item_eq i w) e (met_length at ws f is js)
+  where
+    by : (b : Bool) → cond b (met at ws f is) (Err f) ≡ Ok js → (met at ws f is ≡ Ok js → length is ≡ length ws + length js) → length (i ∷ is) ≡ length (w ∷ ws) + length js
+    by true h more = omega (arith, more h)
+    by false h more = absurd (cc h)
+
+-- what is met lists neither left-out records nor entries
+plain : (a : Accepted) (i w : Item) (is : List Item) → item_eq i w ≡ true → accepted_by a (i ∷ is) ≡ accepted_by a is
+plain a (Skip s) w is e = absurd (false≢true e)
+plain a (Entry n) w is e = absurd (false≢true e)
+plain a i w is e = refl
+
+pub met_accepted : (at : ℕ) (ws : List Item) (f : No) (a : Accepted) (is js : List Item) → met at ws f is ≡ Ok js → accepted_by a is ≡ accepted_by a js
+met_accepted at [] f a is js e = let same : is ≡ js = cc e in ap (accepted_by a) same
+met_accepted at (w ∷ ws) f a [] js e = absurd (cc e)
+met_accepted at (w ∷ ws) f a (i ∷ is) js e = by (item_eq i w) refl e (met_accepted at ws f a is js)
+  where
+    by : (b : Bool) → item_eq i w ≡ b → cond b (met at ws f is) (Err f) ≡ Ok js → (met at ws f is ≡ Ok js → accepted_by a is ≡ accepted_by a js) → accepted_by a (i ∷ is) ≡ accepted_by a js
+    by true same h more = plain a i w is same ∙ more h
+    by false same h more = absurd (cc h)
+
+-- ---- how many records are left out
+
+pub counted_is : (at most : ℕ) (is js : List Item) → counted at most is ≡ Ok js → (n : ℕ) × (is ≡ Skips n ∷ js) × (leb n most ≡ true)
+counted_is at most [] js e = absurd (cc e)
+counted_is at most (Skips n ∷ is) js e = by (leb n most) refl e
+  where
+    by : (b : Bool) → leb n most ≡ b → cond b (Ok is) (Err (TooManySkips n)) ≡ Ok js → (m : ℕ) × (Skips n ∷ is ≡ Skips m ∷ js) × (leb m most ≡ true)
+    by true same h = (n, ap (λ w. Skips n ∷ w) (cc h), same)
+    by false same h = absurd (cc h)
+counted_is at most (i ∷ is) js e = absurd (cc e)
+
+pub counted_faults : (c : Case) (most : ℕ) (is js : List Item) → most ≡ c.order.skips → counted c.stop most is ≡ Ok js → count_faults c is ≡ skip_faults c [] js
+counted_faults c most is js m e =
+    let h = counted_is c.stop most is js e in
+    ap (count_faults c) h.1 ∙ (ap (λ k. passes (leb h.0 k) (TooManySkips h.0) ++ skip_faults c [] js) (sym m) ∙ ap (λ b. passes b (TooManySkips h.0) ++ skip_faults c [] js) h.2)
+
+pub counted_fault : (c : Case) (is : List Item) (e : No) → counted c.stop c.order.skips is ≡ Err e → first (count_faults c is) ≡ Some e
+counted_fault c [] e d = cc d
+counted_fault c (Skips n ∷ is) e d = by (leb n c.order.skips) d
+  where
+    by : (b : Bool) → cond b (Ok is) (Err (TooManySkips n)) ≡ Err e → first (passes b (TooManySkips n) ++ skip_faults c [] is) ≡ Some e
+    by true h = absurd (cc h)
+    by false h = cc h
+counted_fault c (i ∷ is) e d = cc d
+
+-- ---- the left-out records
+
+pub listed_faults : (c : Case) (ss : List RecordName) (is : List Item) (r : Listed) → listed (named_records c.order.split c.files) c.stop ss is ≡ Ok r → skip_faults c ss is ≡ part_faults (subject_of c r.skips) c.stop start r.behind
+listed_faults c ss [] r e = absurd (cc e)
+listed_faults c ss (Skip s ∷ is) r e = by (is_past (last_of ss) s) (is_record (named_records c.order.split c.files) s) e (listed_faults c (ss ++ s ∷ []) is r)
+  where
+    by : (a b : Bool) → unless (cond a (cond b None (Some (NoSuchRecord (length ss)))) (Some (SkipOrder (length ss)))) (listed (named_records c.order.split c.files) c.stop (ss ++ s ∷ []) is) ≡ Ok r
+        → (listed (named_records c.order.split c.files) c.stop (ss ++ s ∷ []) is ≡ Ok r → skip_faults c (ss ++ s ∷ []) is ≡ part_faults (subject_of c r.skips) c.stop start r.behind)
+        → passes a (SkipOrder (length ss)) ++ passes b (NoSuchRecord (length ss)) ++ skip_faults c (ss ++ s ∷ []) is ≡ part_faults (subject_of c r.skips) c.stop start r.behind
+    by true true h more = more h
+    by true false h more = absurd (cc h)
+    by false b h more = absurd (cc h)
+listed_faults c ss (i ∷ is) r e = let same : record { skips = ss; behind = i ∷ is } ≡ r = cc e in ap (λ (w : Listed). part_faults (subject_of c w.skips) c.stop start w.behind) same
+
+pub listed_fault : (c : Case) (ss : List RecordName) (is : List Item) (e : No) → listed (named_records c.order.split c.files) c.stop ss is ≡ Err e → first (skip_faults c ss is) ≡ Some e
+listed_fault c ss [] e d = cc d
+listed_fault c ss (Skip s ∷ is) e d = by (is_past (last_of ss) s) (is_record (named_records c.order.split c.files) s) d (listed_fault c (ss ++ s ∷ []) is e)
+  where
+    by : (a b : Bool) → unless (cond a (cond b None (Some (NoSuchRecord (length ss)))) (Some (SkipOrder (length ss)))) (listed (named_records c.order.split c.files) c.stop (ss ++ s ∷ []) is) ≡ Err e
+        → (listed (named_records c.order.split c.files) c.stop (ss ++ s ∷ []) is ≡ Err e → first (skip_faults c (ss ++ s ∷ []) is) ≡ Some e)
+        → first (passes a (SkipOrder (length ss)) ++ passes b (NoSuchRecord (length ss)) ++ skip_faults c (ss ++ s ∷ []) is) ≡ Some e
+    by true true h more = more h
+    by true false h more = cc h
+    by false b h more = cc h
+listed_fault c ss (i ∷ is) e d = absurd (cc d)
+
+pub listed_accepted : (rs : List NamedRecord) (at : ℕ) (ss : List RecordName) (is : List Item) (r : Listed) → listed rs at ss is ≡ Ok r → accepted_by (record { skips = ss; pairs = 0 }) is ≡ accepted_by (record { skips = r.skips; pairs = 0 }) r.behind
+listed_accepted rs at ss [] r e = absurd (cc e)
+listed_accepted rs at ss (Skip s ∷ is) r e = by (skip_fault rs (last_of ss) s (length ss)) e (listed_accepted rs at (ss ++ s ∷ []) is r)
+  where
+    by : (o : Option No) → unless o (listed rs at (ss ++ s ∷ []) is) ≡ Ok r → (listed rs at (ss ++ s ∷ []) is ≡ Ok r → accepted_by (record { skips = ss ++ s ∷ []; pairs = 0 }) is ≡ accepted_by (record { skips = r.skips; pairs = 0 }) r.behind)
+        → accepted_by (record { skips = ss ++ s ∷ []; pairs = 0 }) is ≡ accepted_by (record { skips = r.skips; pairs = 0 }) r.behind
+    by None h more = more h
+    by (Some f) h more = absurd (cc h)
+listed_accepted rs at ss (i ∷ is) r e = let same : record { skips = ss; behind = i ∷ is } ≡ r = cc e in ap (λ (w : Listed). accepted_by (record { skips = w.skips; pairs = 0 }) w.behind) same
+
+pub listed_few : (rs : List NamedRecord) (at : ℕ) (ss : List RecordName) (is : List Item) (r : Listed) → listed rs at ss is ≡ Ok r → length r.behind ≤ length is
+listed_few rs at ss [] r e = absurd (cc e)
+listed_few rs at ss (Skip s ∷ is) r e = by (skip_fault rs (last_of ss) s (length ss)) e (listed_few rs at (ss ++ s ∷ []) is r)
+  where
+    by : (o : Option No) → unless o (listed rs at (ss ++ s ∷ []) is) ≡ Ok r → (listed rs at (ss ++ s ∷ []) is ≡ Ok r → length r.behind ≤ length is) → length r.behind ≤ length (Skip s ∷ is)
+    by None h more = omega (arith, more h)
+    by (Some f) h more = absurd (cc h)
+listed_few rs at ss (i ∷ is) r e = let same : record { skips = ss; behind = i ∷ is } ≡ r = cc e in omega (arith, ap (λ (w : Listed). length w.behind) same)
+
+pub listed_no_skip : (rs : List NamedRecord) (at : ℕ) (ss : List RecordName) (is : List Item) (r : Listed) → skips_in_front is ≡ true → listed rs at ss is ≡ Ok r → no_skip r.behind ≡ true
+listed_no_skip rs at ss [] r front e = absurd (cc e)
+listed_no_skip rs at ss (Skip s ∷ is) r front e = by (skip_fault rs (last_of ss) s (length ss)) e (listed_no_skip rs at (ss ++ s ∷ []) is r front)
+  where
+    by : (o : Option No) → unless o (listed rs at (ss ++ s ∷ []) is) ≡ Ok r → (listed rs at (ss ++ s ∷ []) is ≡ Ok r → no_skip r.behind ≡ true) → no_skip r.behind ≡ true
+    by None h more = more h
+    by (Some f) h more = absurd (cc h)
+listed_no_skip rs at ss (i ∷ is) r front e = let same : record { skips = ss; behind = i ∷ is } ≡ r = cc e in ap (λ (w : Listed). no_skip w.behind) (sym same) ∙ front
+
+-- ---- the partitions
+
+abbrev pub accepted : List RecordName → ℕ → Accepted
+accepted skips pairs = record { skips = skips; pairs = pairs }
+
+one_more : (a : Accepted) (n : ℕ) → accepted a.skips (a.pairs + 1 + n) ≡ accepted a.skips (a.pairs + (n + 1))
+one_more a n = let e : a.pairs + 1 + n ≡ a.pairs + (n + 1) = omega arith in ap (accepted a.skips) e
+
+pub parts_accepted : (a : Accepted) (is : List Item) → no_skip is ≡ true → accepted_by a is ≡ record { skips = a.skips; pairs = a.pairs + entries_in is }
+parts_accepted a [] e = let z : a.pairs ≡ a.pairs + 0 = omega arith in ap (accepted a.skips) z
+parts_accepted a (Skip s ∷ is) e = absurd (false≢true e)
+parts_accepted a (Entry n ∷ is) e = parts_accepted (record a { pairs = a.pairs + 1 }) is e ∙ one_more a (entries_in is)
+parts_accepted a (i ∷ is) e = parts_accepted a is e
+
+-- what is known of the partitions is what they are judged against
+pub known_subject : (c : Case) (skips : List RecordName) (task : Task) (cut : Cut) (ts : List Triple) → task ≡ c.order.task → cut.size ≡ c.order.split → cut.files ≡ c.files → ts ≡ triples_of task cut skips
+    → subject (record { order = c.order; triples = ts; outputs = c.outputs }) ≡ subject_of c skips
+known_subject c skips task cut ts t size files e =
+    ap (λ (ws : List Triple). subject (record { order = c.order; triples = ws; outputs = c.outputs }))
+    (e ∙ (ap (λ (w : Task). flat_map (record_triples w skips) (named_records cut.size cut.files)) t
+    ∙ (ap (λ n. flat_map (record_triples c.order.task skips) (named_records n cut.files)) size ∙ ap (λ fs. flat_map (record_triples c.order.task skips) (named_records c.order.split fs)) files)))
+
+-- ---- the verdict
+
+pub told_none : (fs : List No) (a : Accepted) → first fs ≡ None → told_by fs a ≡ Ok a
+told_none [] a e = refl
+told_none (f ∷ fs) a e = absurd (cc e)
+
+pub told_some : (fs : List No) (a : Accepted) (f : No) → first fs ≡ Some f → told_by fs a ≡ Err f
+told_some [] a f e = absurd (cc e)
+told_some (g ∷ fs) a f e = cc e
+
+-- ---- what stands behind the items of the request and of the input
+
+abbrev pub cut_of : Case → Cut
+cut_of c = record { size = c.order.split; files = c.files }
+
+listed_by : (c : Case) (at : ℕ) (cut : Cut) (js : List Item) (r : Result Listed No) → at ≡ c.stop → cut ≡ cut_of c → listed (records_of cut) at [] js ≡ r → listed (named_records c.order.split c.files) c.stop [] js ≡ r
+listed_by c at cut js r a e h = ap (λ n. listed (named_records c.order.split c.files) n [] js) (sym a) ∙ (ap (λ (w : Cut). listed (records_of w) at [] js) (sym e) ∙ h)
+
+pub rest_faults : (c : Case) (most at : ℕ) (cut : Cut) (is js : List Item) (r : Listed) → most ≡ c.order.skips → counted c.stop most is ≡ Ok js → at ≡ c.stop → cut ≡ cut_of c → listed (records_of cut) at [] js ≡ Ok r
+    → count_faults c is ≡ part_faults (subject_of c r.skips) c.stop start r.behind
+rest_faults c most at cut is js r m e a d h = counted_faults c most is js m e ∙ listed_faults c [] js r (listed_by c at cut js (Ok r) a d h)
+
+pub rest_fault : (c : Case) (most at : ℕ) (cut : Cut) (is js : List Item) (f : No) → most ≡ c.order.skips → counted c.stop most is ≡ Ok js → at ≡ c.stop → cut ≡ cut_of c → listed (records_of cut) at [] js ≡ Err f
+    → first (count_faults c is) ≡ Some f
+rest_fault c most at cut is js f m e a d h = ap first (counted_faults c most is js m e) ∙ listed_fault c [] js f (listed_by c at cut js (Err f) a d h)
+
+pub rest_few : (rs : List NamedRecord) (stop most at : ℕ) (is js : List Item) (r : Listed) → counted stop most is ≡ Ok js → listed rs at [] js ≡ Ok r → length r.behind ≤ length is
+rest_few rs stop most at is js r e h =
+    let k = counted_is stop most is js e in
+    omega (arith, ap length k.1, listed_few rs at [] js r h)
+
+pub rest_accepted : (rs : List NamedRecord) (stop most at : ℕ) (is js : List Item) (r : Listed) → awaits_skips is ≡ true → counted stop most is ≡ Ok js → listed rs at [] js ≡ Ok r
+    → accepted_by (accepted [] 0) is ≡ accepted r.skips (entries_in r.behind)
+rest_accepted rs stop most at is js r awaits e h =
+    let k = counted_is stop most is js e in
+    let front : skips_in_front js ≡ true = ap awaits_skips (sym k.1) ∙ awaits in
+    ap (accepted_by (accepted [] 0)) k.1
+    ∙ (listed_accepted rs at [] js r h
+    ∙ (parts_accepted (accepted r.skips 0) r.behind (listed_no_skip rs at [] js r front h)
+    ∙ (let z : 0 + entries_in r.behind ≡ entries_in r.behind = omega arith in ap (accepted r.skips) z)))
+
+pub case_same : (order : Order) (files others outputs : List (List ℕ)) (skips : List RecordName) (at to : ℕ) (is : List Item) → others ≡ files → to ≡ at
+    → part_faults (subject_of (case_at order others outputs to) skips) to start is ≡ part_faults (subject_of (case_at order files outputs at) skips) at start is
+case_same order files others outputs skips at to is e d = rw (e, d) refl
+
+-- ---- all of it
+
+pub header_ok : (at : ℕ) (o : Order) (files : List (List ℕ)) (is ks : List Item) → header_met at o files is ≡ Ok ks → (js : List Item) × (met at (job_wanted o) OtherJob is ≡ Ok js) × (met at (input_wanted files) OtherInput js ≡ Ok ks)
+header_ok at o files is ks e = by (met at (job_wanted o) OtherJob is) refl e
+  where
+    by : (r : Result (List Item) No) → met at (job_wanted o) OtherJob is ≡ r → met_behind at files r ≡ Ok ks → (js : List Item) × (met at (job_wanted o) OtherJob is ≡ Ok js) × (met at (input_wanted files) OtherInput js ≡ Ok ks)
+    by (Ok js) same d = (js, same, d)
+    by (Err f) same d = absurd (cc d)
+
+pub header_faults : (c : Case) (is ks : List Item) → header_met c.stop c.order c.files is ≡ Ok ks → wanted_faults c (job_wanted c.order) OtherJob (wanted_faults c (input_wanted c.files) OtherInput (count_faults c)) is ≡ count_faults c ks
+header_faults c is ks e =
+    let h = header_ok c.stop c.order c.files is ks e in
+    met_faults c (job_wanted c.order) OtherJob (wanted_faults c (input_wanted c.files) OtherInput (count_faults c)) is h.0 h.1 ∙ met_faults c (input_wanted c.files) OtherInput (count_faults c) h.0 ks h.2
+
+pub header_fault : (c : Case) (is : List Item) (f : No) → header_met c.stop c.order c.files is ≡ Err f → first (wanted_faults c (job_wanted c.order) OtherJob (wanted_faults c (input_wanted c.files) OtherInput (count_faults c)) is) ≡ Some f
+header_fault c is f e = by (met c.stop (job_wanted c.order) OtherJob is) refl e
+  where
+    by : (r : Result (List Item) No) → met c.stop (job_wanted c.order) OtherJob is ≡ r → met_behind c.stop c.files r ≡ Err f → first (wanted_faults c (job_wanted c.order) OtherJob (wanted_faults c (input_wanted c.files) OtherInput (count_faults c)) is) ≡ Some f
+    by (Ok js) same d = ap first (met_faults c (job_wanted c.order) OtherJob (wanted_faults c (input_wanted c.files) OtherInput (count_faults c)) is js same) ∙ met_fault c (input_wanted c.files) OtherInput (count_faults c) js f d
+    by (Err g) same d = met_fault c (job_wanted c.order) OtherJob (wanted_faults c (input_wanted c.files) OtherInput (count_faults c)) is f (same ∙ ap (λ (k : No). Err k) (cc d))
+
+pub header_accepted : (at : ℕ) (o : Order) (files : List (List ℕ)) (a : Accepted) (is ks : List Item) → header_met at o files is ≡ Ok ks → accepted_by a is ≡ accepted_by a ks
+header_accepted at o files a is ks e =
+    let h = header_ok at o files is ks e in
+    met_accepted at (job_wanted o) OtherJob a is h.0 h.1 ∙ met_accepted at (input_wanted files) OtherInput a h.0 ks h.2
+
+-- at least the first item is met
+pub header_few : (at : ℕ) (o : Order) (files : List (List ℕ)) (is ks : List Item) → header_met at o files is ≡ Ok ks → length ks + 1 ≤ length is
+header_few at o files is ks e =
+    let h = header_ok at o files is ks e in
+    let one = met_length at (job_wanted o) OtherJob is h.0 h.1 in
+    let two = met_length at (input_wanted files) OtherInput h.0 ks h.2 in
+    omega (arith, one, two)
+
+abbrev whole_case : Order → List (List ℕ) → List (List ℕ) → List ℕ → Case
+whole_case order files outputs bytes = case_at order files outputs (stop bytes)
+
+-- there are not as many outputs as partitions
+pub verdict_count : (o : Order) (files outputs : List (List ℕ)) (bytes : List ℕ) → (length outputs ≡ o.parts → ⊥) → verdict_of o files outputs bytes ≡ Err OutputCount
+unfolding verdict_of
+verdict_count o files outputs bytes h =
+    let all = wanted_faults (whole_case o files outputs bytes) (job_wanted o) OtherJob (wanted_faults (whole_case o files outputs bytes) (input_wanted files) OtherInput (count_faults (whole_case o files outputs bytes))) (items_of bytes) in
+    told_some (passes (eqb (length outputs) o.parts) OutputCount ++ all) (accepted_by (accepted [] 0) (items_of bytes)) OutputCount (ap (λ b. first (passes b OutputCount ++ all)) (ne_eqb (length outputs) o.parts h))
+
+-- the faults behind the number of outputs are those of the verdict
+verdict_told : (o : Order) (files outputs : List (List ℕ)) (bytes : List ℕ) → length outputs ≡ o.parts
+    → verdict_of o files outputs bytes ≡ told_by (wanted_faults (whole_case o files outputs bytes) (job_wanted o) OtherJob (wanted_faults (whole_case o files outputs bytes) (input_wanted files) OtherInput (count_faults (whole_case o files outputs bytes))) (items_of bytes)) (accepted_by (accepted [] 0) (items_of bytes))
+unfolding verdict_of
+verdict_told o files outputs bytes h =
+    let all = wanted_faults (whole_case o files outputs bytes) (job_wanted o) OtherJob (wanted_faults (whole_case o files outputs bytes) (input_wanted files) OtherInput (count_faults (whole_case o files outputs bytes))) (items_of bytes) in
+    ap (λ b. told_by (passes b OutputCount ++ all) (accepted_by (accepted [] 0) (items_of bytes))) (eq-eqb (length outputs) o.parts h)
+
+-- a fault of the items that the order and the files fix
+pub verdict_header : (o : Order) (files outputs : List (List ℕ)) (bytes : List ℕ) (f : No) → length outputs ≡ o.parts → header_met (stop bytes) o files (items_of bytes) ≡ Err f → verdict_of o files outputs bytes ≡ Err f
+verdict_header o files outputs bytes f h e = verdict_told o files outputs bytes h ∙ told_some _ (accepted_by (accepted [] 0) (items_of bytes)) f (header_fault (whole_case o files outputs bytes) (items_of bytes) f e)
+
+-- a fault behind these
+pub verdict_fault : (o : Order) (files outputs : List (List ℕ)) (bytes : List ℕ) (ks : List Item) (f : No) → length outputs ≡ o.parts → header_met (stop bytes) o files (items_of bytes) ≡ Ok ks → first (count_faults (case_at o files outputs (stop bytes)) ks) ≡ Some f
+    → verdict_of o files outputs bytes ≡ Err f
+verdict_fault o files outputs bytes ks f h e d =
+    verdict_told o files outputs bytes h
+    ∙ told_some _ (accepted_by (accepted [] 0) (items_of bytes)) f (ap first (header_faults (whole_case o files outputs bytes) (items_of bytes) ks e) ∙ d)
+
+-- and none
+pub verdict_ok : (o : Order) (files outputs : List (List ℕ)) (bytes : List ℕ) (ks : List Item) (a : Accepted) → length outputs ≡ o.parts → header_met (stop bytes) o files (items_of bytes) ≡ Ok ks → first (count_faults (case_at o files outputs (stop bytes)) ks) ≡ None → accepted_by (accepted [] 0) ks ≡ a
+    → verdict_of o files outputs bytes ≡ Ok a
+verdict_ok o files outputs bytes ks a h e d is =
+    verdict_told o files outputs bytes h
+    ∙ (told_none _ (accepted_by (accepted [] 0) (items_of bytes)) (ap first (header_faults (whole_case o files outputs bytes) (items_of bytes) ks e) ∙ d)
+    ∙ ap (λ (w : Accepted). Ok w) (header_accepted (stop bytes) o files (accepted [] 0) (items_of bytes) ks e ∙ is))

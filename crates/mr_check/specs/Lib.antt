@@ -1,0 +1,5 @@
+pub mod Verdict
+pub mod Judging
+pub mod VerdictRows
+pub mod VerdictLaws
+pub mod Headline

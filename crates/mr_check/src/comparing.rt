@@ -1,0 +1,64 @@
+//! What is compared with the outputs.
+ghost use Rattle.std.specs.Prelude.{◌≡◌, drop, nat_eq};
+ghost use Rattle.std.specs.List.{common_prefix_len};
+ghost use Rattle.std.specs.Ordering.{is_lt};
+ghost use Rattle.mr_bytes.specs.Order.{key_order, name_order};
+ghost use Rattle.mr_input.specs.Files.{contents, nth};
+
+use mr_bytes::{Name, compare_keys, compare_names};
+use std::cmp::Ordering;
+
+/// The output of partition `p`; past the last there is none.
+pub(crate) fn output_of(outputs: &[Vec<u8>], p: u64) -> &[u8]
+    ensures { result.now ≡ nth (contents outputs.now) p }
+{
+    match outputs.get(p as usize) {
+        Some(output) => output.as_slice(),
+        None => b"",
+    }
+}
+
+/// What stands in the output from this place on.
+pub(crate) fn from_place(output: &[u8], from: u64) -> &[u8]
+    ensures { result.now ≡ drop from output.now }
+{
+    match output.get(from as usize..) {
+        Some(rest) => rest,
+        None => b"",
+    }
+}
+
+/// Whether the key is past the one before it.
+pub(crate) fn is_key_less(before: &[u8], key: &[u8]) -> bool
+    ensures { result ≡ is_lt (key_order before.now key.now) }
+{
+    matches!(compare_keys(before, key), Ordering::Less)
+}
+
+/// Whether the name is past the one before it.
+pub(crate) fn is_name_less(before: Name, name: Name) -> bool
+    ensures { result ≡ is_lt (name_order before name) }
+{
+    matches!(compare_names(before, name), Ordering::Less)
+}
+
+/// How many bytes in front are the same in both.
+pub(crate) fn agreement(text: &[u8], output: &[u8]) -> u64
+    ensures { result ≡ common_prefix_len nat_eq text.now output.now }
+{
+    let mut rest = output;
+    let mut same = 0u64;
+    for byte in text {
+        match rest.split_first() {
+            Some((first, more)) => {
+                if *first != *byte {
+                    return same;
+                }
+                rest = more;
+                same += 1;
+            }
+            None => return same,
+        }
+    }
+    same
+}

@@ -1,0 +1,76 @@
+//! What the partitions are judged against.
+ghost use Rattle.std.specs.Prelude.{◌≡◌, ◌<◌, ◌+◌, ◌^◌, MatchOption, OnOk, length, None, Some};
+ghost use Rattle.mr_input.specs.Files.{nth};
+ghost use Rattle.mr_partition.specs.Partition.{partition_of};
+ghost use Rattle.mr_reduce.specs.Text.{text_of};
+ghost use Rattle.mr_sequential.specs.Good.{named};
+
+use crate::comparing::output_of;
+use crate::values::Values;
+use mr_bytes::{Name, Value};
+use mr_index::{EmissionIndex, Meter};
+use mr_jobs::Request;
+use mr_partition::partition;
+use std::alloc::AllocError;
+use std::marker::Model;
+
+/// What the partitions are judged against: all that is emitted, the request, and the outputs.
+#[derive(Drop)]
+pub(crate) struct Facts<'a> {
+    pub request: &'a Request,
+    pub index: &'a EmissionIndex<'a>,
+    pub outputs: &'a [Vec<u8>],
+}
+
+impl<'a> Model for Facts<'a> {
+    ghost use Rattle.mr_input.specs.Files.{contents};
+    ghost use Rattle.mr_check.specs.Judging.{Known};
+
+    ghost Value = { Known };
+
+    ghost view = { λ f. record { order = f.request.now; triples = f.index.now; outputs = contents f.outputs.now } };
+}
+
+impl<'a> Facts<'a> {
+    /// The output of partition `p`.
+    pub fn output(&self, p: u64) -> &[u8]
+        ensures { result.now ≡ nth self.now.outputs p }
+    {
+        output_of(self.outputs, p)
+    }
+
+    /// The partition of a key.
+    pub fn part(&self, key: &[u8]) -> u64
+        ensures { result ≡ partition_of key.now self.now.order.parts }
+    {
+        u64::from(partition(key, self.request.parts()))
+    }
+
+    /// The text of a group, in place of what the buffer held.
+    pub fn text(&self, key: &[u8], values: &Values, out: &mut Vec<u8>) -> Result<(), AllocError>
+        requires { length values.now < 2 ^ 64 }
+        ensures { OnOk result (out.new.items ≡ text_of self.now.order.task key.now values.now) }
+    {
+        out.clear();
+        values.put_text(self.request.job(), key, out)
+    }
+
+    /// The key and the value under a name.
+    pub fn pair(&self, name: Name, meter: &mut Meter) -> Option<(&'a [u8], Value)>
+        requires { meter.old.lookups + 1 < 2 ^ 64 }
+        ensures found { MatchOption result (named self.now.triples name ≡ None)
+            (λ p. named self.now.triples name ≡ Some (record { key = p.0.now; value = p.1; name = name })) }
+        ensures lookups { meter.new.lookups ≡ meter.old.lookups + 1 }
+        ensures mapped { meter.new.mapped ≡ meter.old.mapped }
+    {
+        let index = self.index;
+        index.pair(name, meter)
+    }
+
+    /// How many pairs are emitted.
+    pub fn emitted(&self) -> u64
+        ensures { result ≡ length self.now.triples }
+    {
+        self.index.total()
+    }
+}

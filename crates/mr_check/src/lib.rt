@@ -1,0 +1,20 @@
+//! The judge of a result.
+#![tactic(auto)]
+
+mod comparing;
+mod facts;
+mod fault;
+mod judge;
+mod judging;
+mod laws;
+mod parts;
+mod skips;
+mod testing;
+#[cfg(test)]
+mod tests;
+mod values;
+mod wanted;
+
+pub use fault::No;
+pub use judge::{Yes, check, check_metered};
+pub use laws::{locality_law, partition_law, place_law, worked_rows, yes_law};

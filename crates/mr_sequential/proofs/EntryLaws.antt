@@ -1,0 +1,98 @@
+-- All entries of a good result are distinct.
+use Rattle.std.proofs.Common.{◌≡◌, ℕ, suc, ◌+◌, ◌<◌, ◌≤◌, List, [], ◌∷◌, length, map, get_or, ap, sym, ◌∙◌, subst, inl, inr, arith}
+use Rattle.std.proofs.lemmas.Cmp.{nat_list_cmp_total, nat_cmp_total, on_total, then_total}
+use Rattle.std.proofs.lemmas.List.{length-map}
+use Rattle.std.specs.List.{AllByRecursion, flat_map}
+use Rattle.std.specs.Cmp.{IsTotalOrder}
+use Rattle.std.specs.declared.cmp.Ordering.TheVariants.{Less}
+use Rattle.mr_bytes.specs.declared.Name.{Name}
+use Rattle.mr_bytes.specs.Lists.{Has, Rises, Distinct}
+use Rattle.mr_bytes.specs.Order.{key_order, name_order}
+use Rattle.mr_sequential.specs.Emitted.{Triple}
+use Rattle.mr_sequential.specs.Good.{key_under, key_of, IsGoodGroup, entries_of}
+use Rattle.mr_sequential.specs.GoodLaws.{EntriesAreDistinct, NoneIsLeftOut}
+use Rattle.mr_sequential.proofs.ListLaws.{Has-all, Distinct-rises, Distinct-append, Has-append_cases, not_before_itself}
+use Rattle.mr_sequential.proofs.ListLaws as lists
+
+pub names_total : IsTotalOrder name_order
+names_total =
+    then_total (on_total (λ (n : Name). n.split) nat_cmp_total)
+    (then_total (on_total (λ (n : Name). n.rec) nat_cmp_total) (on_total (λ (n : Name). n.place) nat_cmp_total))
+
+-- P holds of each element at its place, the first one's being p
+abbrev pub EachFrom : {X : Type 0} → (ℕ → X → Type 0) → ℕ → List X → Type 0
+EachFrom P p [] = Unit {0}
+EachFrom P p (x ∷ xs) = P p x × EachFrom P (suc p) xs
+
+each_from : {X : Type 0} (P : ℕ → X → Type 0) (d : X) (p : ℕ) (xs : List X) → ((q : ℕ) → q < length xs → P (p + q) (get_or xs q d)) → EachFrom P p xs
+each_from P d p [] f = tt
+each_from P d p (x ∷ xs) f =
+    let here : p + 0 ≡ p = omega arith in (
+      subst (λ n. P n x) here (f 0 (omega arith)),
+      each_from P d (suc p) xs (λ q l. let there : p + suc q ≡ suc p + q = omega arith in subst (λ n. P n (get_or xs q d)) there (f (suc q) (omega arith))),
+    )
+
+module _ (part : List ℕ → ℕ) (ts : List Triple) where
+  -- the groups of a partition, each good, their keys rising
+  pub record AreGoodGroups (p : ℕ) (gs : List (List Name)) : Type 0 where
+    pub groups : AllByRecursion (IsGoodGroup part ts p) gs
+    pub keys_rise : Rises key_order (map (key_of ts) gs)
+
+  pub key_in_group : (p : ℕ) (g : List Name) (n : Name) → IsGoodGroup part ts p g → Has g n → key_under ts n ≡ key_of ts g
+  key_in_group p g n good h = Has-all (λ m. key_under ts m ≡ key_of ts g) g n good.one_key h
+
+  pub part_in_group : (p : ℕ) (g : List Name) (n : Name) → IsGoodGroup part ts p g → Has g n → part (key_under ts n) ≡ p
+  part_in_group p g n good h = ap part (key_in_group p g n good h) ∙ good.partition
+
+  part_in_groups : (p : ℕ) (gs : List (List Name)) (n : Name) → AllByRecursion (IsGoodGroup part ts p) gs → Has (flat_map (λ g. g) gs) n
+      → part (key_under ts n) ≡ p
+  part_in_groups p [] n good h = absurd h
+  part_in_groups p (g ∷ gs) n good h =
+      elim (Has-append_cases g (flat_map (λ x. x) gs) n h) [ inl a ↦ part_in_group p g n good.0 a | inr b ↦ part_in_groups p gs n good.1 b ]
+
+  -- later groups have later keys
+  key_after : (p : ℕ) (k : List ℕ) (gs : List (List Name)) (n : Name) → AllByRecursion (IsGoodGroup part ts p) gs
+      → AllByRecursion (λ j. key_order k j ≡ Less) (map (key_of ts) gs) → Has (flat_map (λ g. g) gs) n → key_order k (key_under ts n) ≡ Less
+  key_after p k [] n good after h = absurd h
+  key_after p k (g ∷ gs) n good after h =
+      elim (Has-append_cases g (flat_map (λ x. x) gs) n h) [
+        | inl a ↦ subst (λ j. key_order k j ≡ Less) (sym (key_in_group p g n good.0 a)) after.0
+        | inr b ↦ key_after p k gs n good.1 after.1 b
+      ]
+
+  distinct_in_part : (p : ℕ) (gs : List (List Name)) → AllByRecursion (IsGoodGroup part ts p) gs → Rises key_order (map (key_of ts) gs)
+      → Distinct (flat_map (λ g. g) gs)
+  distinct_in_part p [] good rise = tt
+  distinct_in_part p (g ∷ gs) good rise =
+      Distinct-append g (flat_map (λ x. x) gs) (Distinct-rises names_total g good.0.names_rise) (distinct_in_part p gs good.1 rise.1)
+      (λ n a b.
+      not_before_itself nat_list_cmp_total (key_of ts g) (key_under ts n) (key_after p (key_of ts g) gs n good.1 rise.0 b) (sym (key_in_group p g n good.0 a)))
+
+  -- later partitions have later numbers
+  part_after : (p : ℕ) (parts : List (List (List Name))) (n : Name) → EachFrom AreGoodGroups p parts → Has (entries_of parts) n → p ≤ part (key_under ts n)
+  part_after p [] n good h = absurd h
+  part_after p (gs ∷ parts) n good h =
+      elim (Has-append_cases (flat_map (λ g. g) gs) (entries_of parts) n h) [
+        | inl a ↦ (let e : part (key_under ts n) ≡ p = part_in_groups p gs n good.0.groups a in omega arith)
+        | inr b ↦ (let le : suc p ≤ part (key_under ts n) = part_after (suc p) parts n good.1 b in omega arith)
+      ]
+
+  pub distinct_entries : (p : ℕ) (parts : List (List (List Name))) → EachFrom AreGoodGroups p parts → Distinct (entries_of parts)
+  distinct_entries p [] good = tt
+  distinct_entries p (gs ∷ parts) good =
+      Distinct-append (flat_map (λ g. g) gs) (entries_of parts) (distinct_in_part p gs good.0.groups good.0.keys_rise) (distinct_entries (suc p) parts good.1)
+      (λ n a b.
+      let e : part (key_under ts n) ≡ p = part_in_groups p gs n good.0.groups a in
+      let le : suc p ≤ part (key_under ts n) = part_after (suc p) parts n good.1 b in
+      omega arith)
+
+pub entries_are_distinct : EntriesAreDistinct
+entries_are_distinct part text ts parts outputs good =
+    distinct_entries part ts 0 parts
+    (each_from (AreGoodGroups part ts) [] 0 parts (λ q l.
+    let same : q ≡ 0 + q = omega arith in
+    subst (λ n. AreGoodGroups part ts n (get_or parts q [])) same (record { groups = (good.each q l).groups; keys_rise = (good.each q l).keys_rise })))
+
+pub none_is_left_out : NoneIsLeftOut
+none_is_left_out ts entries distinct names same n h =
+    lists.none_left_out entries (map (λ (t : Triple). t.name) ts) distinct names (omega (arith, same, length-map ts (λ (t : Triple). t.name))) n h

@@ -1,0 +1,8 @@
+use Rattle.mr_sequential.proofs.EntryLaws.{entries_are_distinct, none_is_left_out}
+use Rattle.mr_sequential.proofs.good.entries_law.Goals as goal
+
+pub returns-clause-distinct : goal.returns-clause-distinct
+returns-clause-distinct c = entries_are_distinct
+
+pub returns-clause-all : goal.returns-clause-all
+returns-clause-all c = none_is_left_out

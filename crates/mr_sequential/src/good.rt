@@ -1,0 +1,29 @@
+//! What good results are worth: laws about the definitions alone.
+
+ghost use Rattle.mr_sequential.specs.GoodLaws.{EntriesAreDistinct, NoneIsLeftOut, GoodPartsAreSequential, GoodIsSequential, SequentialIsGood, CertificateIsSequential, CertificateIsUnique, WorkedGroups, WorkedOutput};
+
+/// The entries of a good result are distinct; and distinct entries that name triples, as many as there are triples,
+/// leave none out.
+pub fn entries_law()
+    ensures distinct { EntriesAreDistinct }
+    ensures all { NoneIsLeftOut }
+{}
+
+/// A good result is the sequential execution's, without the records that its certificate leaves out.
+pub fn good_law()
+    ensures parts { GoodPartsAreSequential }
+    ensures whole { GoodIsSequential }
+{}
+
+/// The sequential execution's own result is good, with the groups of its keys as the certificate.
+pub fn certified_law()
+    ensures good { SequentialIsGood }
+    ensures worked_groups { WorkedGroups }
+    ensures worked_output { WorkedOutput }
+{}
+
+/// Good results that leave out the same records have one certificate: that of the sequential execution.
+pub fn unique_law()
+    ensures sequential { CertificateIsSequential }
+    ensures one { CertificateIsUnique }
+{}
