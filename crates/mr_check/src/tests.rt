@@ -215,41 +215,40 @@ fn lines_of_three_files(rt: HostRuntime) -> Result<(), Fail> {
     Ok(())
 }
 
+/// The judge's answer on `a b a`, where the first group has these entries.
+fn verdict_on_first(alloc: Global, first: &[Entry]) -> Result<Result<Yes, No>, Fail> {
+    let mut certificate = words_head(alloc, 1, 6)?;
+    let groups = [first, [(0, 0, 1)].as_slice()];
+    put_part(&mut certificate, groups.as_slice())?;
+    verdict_on_aba(alloc, &[TEXT], &certificate)
+}
+
 #[test]
 fn entries(rt: HostRuntime) -> Result<(), Fail> {
     let alloc = rt.alloc();
-    let b: &[Entry] = &[(0, 0, 1)];
-    let last = u32::MAX;
     let (partition, group) = (0, 0);
-    for (first, fault) in [
-        (
-            [(0, 0, 0), (0, 0, 0)],
-            No::EntryOrder {
-                partition,
-                group,
-                entry: 1,
-            },
-        ),
-        (
-            [(last, last, last), (0, 0, 2)],
-            No::NoSuchPair {
-                partition,
-                group,
-                entry: 0,
-            },
-        ),
-        (
-            [(0, 0, 0), (0, 0, 1)],
-            No::KeyDiffers {
-                partition,
-                group,
-                entry: 1,
-            },
-        ),
-    ] {
-        let certificate = aba(alloc, &[&first, b])?;
-        assert_eq!(rt; verdict_on_aba(alloc, &[TEXT], &certificate)?, Err(fault));
-    }
+    let again = verdict_on_first(alloc, &[(0, 0, 0), (0, 0, 0)])?;
+    let order = No::EntryOrder {
+        partition,
+        group,
+        entry: 1,
+    };
+    assert_eq!(rt; again, Err(order));
+    let last = u32::MAX;
+    let past = verdict_on_first(alloc, &[(last, last, last), (0, 0, 2)])?;
+    let none = No::NoSuchPair {
+        partition,
+        group,
+        entry: 0,
+    };
+    assert_eq!(rt; past, Err(none));
+    let other = verdict_on_first(alloc, &[(0, 0, 0), (0, 0, 1)])?;
+    let differs = No::KeyDiffers {
+        partition,
+        group,
+        entry: 1,
+    };
+    assert_eq!(rt; other, Err(differs));
     Ok(())
 }
 
@@ -374,15 +373,25 @@ fn left_out_records(rt: HostRuntime) -> Result<(), Fail> {
     skips.push(RecordName { split: 0, rec: 0 })?;
     let told = verdict(alloc, &words(1, 1)?, text, &outputs, &certificate)?;
     assert_eq!(rt; told, Ok(Yes { skips, pairs: 1 }));
-    for (listed, fault) in [
-        ([(0, 0), (0, 0)], No::SkipOrder { skip: 1 }),
-        ([(0, 0), (0, 2)], No::NoSuchRecord { skip: 1 }),
-        ([(0, 2), (0, 2)], No::NoSuchRecord { skip: 0 }),
-    ] {
-        let certificate = without(alloc, &listed)?;
-        let told = verdict(alloc, &words(1, 2)?, text, &outputs, &certificate)?;
-        assert_eq!(rt; told, Err(fault));
-    }
+    Ok(())
+}
+
+/// The judge's answer on the same result, where these records are left out, of which there may be two.
+fn verdict_without(alloc: Global, skips: &[(u32, u32)]) -> Result<Result<Yes, No>, Fail> {
+    let certificate = without(alloc, skips)?;
+    let text = b"a b\nc\n".as_slice();
+    verdict(alloc, &words(1, 2)?, text, &[b"c\t1\n"], &certificate)
+}
+
+#[test]
+fn bad_left_out_records(rt: HostRuntime) -> Result<(), Fail> {
+    let alloc = rt.alloc();
+    let again = verdict_without(alloc, &[(0, 0), (0, 0)])?;
+    assert_eq!(rt; again, Err(No::SkipOrder { skip: 1 }));
+    let none = verdict_without(alloc, &[(0, 0), (0, 2)])?;
+    assert_eq!(rt; none, Err(No::NoSuchRecord { skip: 1 }));
+    let first = verdict_without(alloc, &[(0, 2), (0, 2)])?;
+    assert_eq!(rt; first, Err(No::NoSuchRecord { skip: 0 }));
     Ok(())
 }
 

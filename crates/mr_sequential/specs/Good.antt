@@ -3,9 +3,8 @@ use Rattle.std.specs.Prelude.{◌≡◌, ℕ, ◌<◌, ◌≤◌, ◌==◌, Bool
 use Rattle.std.specs.Option.{option_map_or}
 use Rattle.std.specs.List.{AllByRecursion, filter_map, flat_map, find}
 use Rattle.mr_bytes.specs.declared.Name.{Name}
-use Rattle.mr_bytes.specs.declared.RecordName.{RecordName}
 use Rattle.mr_bytes.specs.declared.Value.{Value}
-use Rattle.mr_bytes.specs.Lists.{Has, Rises}
+use Rattle.mr_bytes.specs.Lists.{Rises}
 use Rattle.mr_bytes.specs.Order.{key_order, name_order, record_order}
 use Rattle.mr_jobs.specs.Task.{Order, job_number, job_flags, job_literal}
 use Rattle.mr_input.specs.Files.{nth}
@@ -13,7 +12,7 @@ use Rattle.mr_partition.specs.Partition.{partition_of}
 use Rattle.mr_reduce.specs.Text.{text_of}
 use Rattle.mr_splits.specs.Named.{named_records}
 use Rattle.mr_splits.specs.Cut.{is_record}
-use Rattle.mr_certform.specs.Value.{Contents, Spells}
+use Rattle.mr_certform.specs.Value.{Contents}
 use Rattle.mr_sequential.specs.Emitted.{Triple, emitted}
 
 abbrev pub is_named : Name → Triple → Bool

@@ -1,4 +1,4 @@
-use Rattle.std.proofs.Common.{◌≡◌, ℕ, ◌+◌, ◌-◌, ◌%◌, ◌<◌, ◌++◌, cond, List, [], ◌∷◌, ap, sym, ◌∙◌, refl, map, length, arith, Result, Ok, Err, OnOk}
+use Rattle.std.proofs.Common.{◌≡◌, ℕ, ◌+◌, ◌-◌, ◌++◌, cond, List, [], ◌∷◌, ap, sym, ◌∙◌, refl, map, length, arith, Result, Ok, Err, OnOk}
 use Rattle.mr_bytes.specs.declared.Name.{Name}
 use Rattle.mr_jobs.specs.Emissions.{Emission, emissions}
 use Rattle.mr_sequential.specs.Emitted.{Triple, placed_from}
