@@ -1,0 +1,63 @@
+-- What a worker is answered that asks.
+use Rattle.std.proofs.Common.{◌≡◌, ℕ, ◌<◌, ◌≤◌, ◌^◌, Some, None, Option, List, [], ◌∷◌, ◌++◌, length, slice_get, refl, ap, sym, ◌∙◌, subst, Bool, true, false, cond, not, ◌&&◌, ◌||◌, ◌==◌, nat_lt, arith}
+use Rattle.std.specs.Option.{option_map_or}
+use Rattle.std.specs.List.{list_any}
+use Rattle.std.proofs.lemmas.Bool.{and_parts, ltb-true}
+use Rattle.mr_core.specs.declared.event.Task.{Task}
+use Rattle.mr_core.specs.declared.event.Task.TheVariants.{Map as MapTask}
+use Rattle.mr_core.specs.declared.event.Reply.{Reply}
+use Rattle.mr_core.specs.declared.event.Reply.TheVariants.{Map, Wait, Stop}
+use Rattle.mr_core.specs.declared.event.End.TheVariants.{Dismissed}
+use Rattle.mr_core.specs.declared.event.Shape.{Shape}
+use Rattle.mr_core.specs.declared.entries.Split.{Split}
+use Rattle.mr_core.specs.Master.{State, Attempt, may_give, given, asked, issue, same_list, tasks, is_active, is_task, has_live, may_newly, may_backup, opening}
+use Rattle.mr_core.specs.Core.{InLimits, IsReached}
+use Rattle.std.specs.Prelude.{Result, Ok, Err, IfOk, MatchOption}
+use Rattle.mr_core.specs.declared.tables.Query.TheVariants.{Backup}
+use Rattle.mr_core.specs.Queries.{answers}
+use Rattle.mr_core.proofs.Finds.{none_newly_or_backup, backup_may}
+use Rattle.mr_core.proofs.Moves.{same_number, same_set, both}
+use Rattle.mr_core.proofs.Progress.{run_going, going_at_opening}
+
+there : (xs : List Split) (s : ℕ) → s < length xs → (sp : Split) × (slice_get xs s ≡ Some sp)
+there [] s h = absurd (omega arith)
+there (x ∷ xs) Rattle.std.proofs.Common.zero h = (x, refl)
+there (x ∷ xs) (Rattle.std.proofs.Common.suc s) h = there xs s (omega arith)
+
+pub given_map : (sh : Shape) (st : State) (w a s : ℕ) (k : List ℕ) (at : Attempt) (new : State) → a ≡ length st.attempts → may_give sh st w (MapTask s) ≡ true → s < length st.splits → ((sp : Split) → slice_get st.splits s ≡ Some sp → k ≡ sp.skips)
+    → at ≡ record { worker = w; task = MapTask s; skips = k; fetched = []; live = true } → new ≡ record st { attempts = st.attempts ++ at ∷ [] } → given sh st w (Map a s k) ≡ Some new
+given_map sh st w a s k at new number may h is e n =
+    let sp = there st.splits s h in
+    let listed : option_map_or (λ (sp : Split). same_list sp.skips k) (slice_get st.splits s) false ≡ true =
+    ap (λ x. option_map_or (λ (sp : Split). same_list sp.skips k) x false) sp.1 ∙ ap (λ (l : List ℕ). same_list l k) (sym (is sp.0 sp.1)) ∙ same_set k in
+    let first : (a == length st.attempts) ≡ true = ap (λ (n : ℕ). a == n) (sym number) ∙ same_number a in
+    ap (λ (b : Bool). cond b (Some (issue w (MapTask s) k sh st)) None) (both _ _ first (both _ _ may listed))
+    ∙ ap Some (sym (n ∙ ap (λ (x : Attempt). let after : State = record st { attempts = st.attempts ++ x ∷ [] } in after) e))
+
+pub splits_long : (sh : Shape) (st : State) → InLimits sh → IsReached sh st → length st.splits ≡ sh.maps
+splits_long sh st limits h = (run_going sh (opening sh) h.0 st (going_at_opening sh limits.parts.0 limits.attempts.0) h.1).0.sound.splits_long
+
+pub split_there : (sh : Shape) (st : State) (w s : ℕ) → length st.splits ≡ sh.maps → may_give sh st w (MapTask s) ≡ true → s < length st.splits
+split_there sh st w s long may =
+    let is = ltb-true s sh.maps ((and_parts (is_task sh (MapTask s)) (not (has_live st w) && (may_newly sh st (MapTask s) || may_backup sh st (MapTask s))) may).0) in
+    omega (arith, is, long)
+
+pub asked_lost : (sh : Shape) (st : State) (w : ℕ) → is_active st w ≡ false → asked sh st w (Stop Dismissed) ≡ Some st
+asked_lost sh st w e = ap (λ (b : Bool). cond b (given sh st w (Stop Dismissed)) (Some st)) e
+
+pub asked_active : (sh : Shape) (st : State) (w : ℕ) (r : Reply) (new : State) → is_active st w ≡ true → given sh st w r ≡ Some new → asked sh st w r ≡ Some new
+asked_active sh st w r new e g = rw e g
+
+pub given_wait : (sh : Shape) (st : State) (w : ℕ) → list_any (may_give sh st w) (tasks sh) ≡ false → given sh st w Wait ≡ Some st
+given_wait sh st w e = ap (λ (b : Bool). cond b None (Some st)) e
+
+-- ---- answers of the calls that look
+
+pub backup_given : (sh : Shape) (st : State) (w : ℕ) (r : Option Task) → MatchOption r (list_any (answers Backup sh st) (tasks sh) ≡ false) (λ t. (answers Backup sh st t ≡ true) × (is_task sh t ≡ true)) → has_live st w ≡ false → list_any (may_newly sh st) (tasks sh) ≡ false
+    → MatchOption r (list_any (may_give sh st w) (tasks sh) ≡ false) (λ t. may_give sh st w t ≡ true)
+backup_given sh st w None h free none = none_newly_or_backup sh st w none h
+backup_given sh st w (Some t) h free none = backup_may sh st w t free h.1 none h.0
+
+pub ok_weaker : {X E : Type 0} (r : Result X E) (P Q : X → Type 0) → ((x : X) → P x → Q x) → IfOk r P → IfOk r Q
+ok_weaker (Ok x) P Q f h = f x h
+ok_weaker (Err e) P Q f h = tt

@@ -1,0 +1,69 @@
+-- A list changed at one place, and written through.
+use Rattle.std.proofs.Common.{◌≡◌, ℕ, zero, suc, ◌<◌, ◌≤◌, ◌+◌, Some, None, Option, Bool, true, false, List, [], ◌∷◌, ◌++◌, length, slice_get, slice_index_or, map, take, drop, refl, ap, sym, ◌∙◌, subst, arith}
+use Rattle.std.specs.Prelude.{slice_set}
+use Rattle.mr_core.specs.declared.entries.Split.{Split}
+use Rattle.mr_core.specs.Master.{Attempt, update_at, takes, only_live}
+
+pub set_is_update : {X : Type 0} (xs : List X) (i : ℕ) (x : X) → slice_set xs i x ≡ update_at (λ y. x) i xs
+set_is_update [] i x = refl
+set_is_update (y ∷ ys) zero x = refl
+set_is_update (y ∷ ys) (suc i) x = ap (λ zs. y ∷ zs) (set_is_update ys i x)
+
+pub update_past : {X : Type 0} (f : X → X) (xs : List X) (i : ℕ) → length xs ≤ i → update_at f i xs ≡ xs
+update_past f [] i h = refl
+update_past f (y ∷ ys) zero h = absurd (omega arith)
+update_past f (y ∷ ys) (suc i) h = ap (λ zs. y ∷ zs) (update_past f ys i (omega arith))
+
+-- where the new element is that of the old one
+pub update_is_set : {X : Type 0} (f : X → X) (xs : List X) (i : ℕ) (d x : X) → i < length xs → x ≡ f (slice_index_or xs i d) → slice_set xs i x ≡ update_at f i xs
+update_is_set f [] i d x h e = absurd (omega arith)
+update_is_set f (y ∷ ys) zero d x h e = ap (λ z. z ∷ ys) e
+update_is_set f (y ∷ ys) (suc i) d x h e = ap (λ zs. y ∷ zs) (update_is_set f ys i d x (omega arith) e)
+
+-- one more element of a list that is changed from the front
+pub map_one_more : {X : Type 0} (f : X → X) (xs ys : List X) (i : ℕ) (d x : X) → i < length xs → ys ≡ map f (take i xs) ++ drop i xs → x ≡ f (slice_index_or ys i d)
+    → slice_set ys i x ≡ map f (take (i + 1) xs) ++ drop (i + 1) xs
+map_one_more {X = X} f xs ys i d x h is e =
+    let next : i + 1 ≡ suc i = omega arith in
+    subst (λ (n : ℕ). slice_set ys i x ≡ map f (take n xs) ++ drop n xs) (sym next)
+    (subst (λ (w : List X). x ≡ f (slice_index_or w i d) → slice_set w i x ≡ map f (take (suc i) xs) ++ drop (suc i) xs) (sym is) (go f xs i d x h) e)
+  where
+    go : {X : Type 0} (f : X → X) (xs : List X) (i : ℕ) (d x : X) → i < length xs → x ≡ f (slice_index_or (map f (take i xs) ++ drop i xs) i d) → slice_set (map f (take i xs) ++ drop i xs) i x ≡ map f (take (suc i) xs) ++ drop (suc i) xs
+    go f [] i d x h e = absurd (omega arith)
+    go f (y ∷ ys) zero d x h e = ap (λ z. z ∷ ys) e
+    go f (y ∷ ys) (suc i) d x h e = ap (λ zs. f y ∷ zs) (go f ys i d x (omega arith) e)
+
+pub map_none_yet : {X : Type 0} (f : X → X) (xs : List X) → xs ≡ map f (take 0 xs) ++ drop 0 xs
+map_none_yet f xs = refl
+
+pub map_all : {X : Type 0} (f : X → X) (xs ys : List X) (i : ℕ) → length xs ≤ i → ys ≡ map f (take i xs) ++ drop i xs → ys ≡ map f xs
+map_all f xs ys i h is = is ∙ all f xs i h
+  where
+    all : {X : Type 0} (f : X → X) (xs : List X) (i : ℕ) → length xs ≤ i → map f (take i xs) ++ drop i xs ≡ map f xs
+    all f [] zero h = refl
+    all f [] (suc i) h = refl
+    all f (x ∷ xs) zero h = absurd (omega arith)
+    all f (x ∷ xs) (suc i) h = ap (λ zs. f x ∷ zs) (all f xs i (omega arith))
+
+-- the element at a place, in two ways
+pub get_at : {X : Type 0} (xs : List X) (i : ℕ) (x d : X) → slice_get xs i ≡ Some x → (i < length xs) × (slice_index_or xs i d ≡ x)
+get_at [] i x d e = absurd (cc e)
+get_at (y ∷ ys) zero x d e = let same : y ≡ x = cc e in (omega arith, same)
+get_at (y ∷ ys) (suc i) x d e = let r = get_at ys i x d e in (omega (arith, r.0), r.1)
+
+pub live_there : (x : Option Attempt) (at : Attempt) → only_live x ≡ Some at → x ≡ Some at
+live_there None at e = absurd (cc e)
+live_there (Some a) at e = by a.live refl e
+  where
+    by : (b : Bool) → a.live ≡ b → (let c : Option Attempt = Rattle.std.proofs.Common.cond b (Some a) None in c) ≡ Some at → Some a ≡ Some at
+    by true l e = e
+    by false l e = absurd (cc e)
+
+pub taken_there : (k : List ℕ) (x : Option Split) → takes k x ≡ true → (sp : Split) × (x ≡ Some sp)
+taken_there k None e = absurd (cc e)
+taken_there k (Some sp) e = (sp, refl)
+
+pub set_same : {X : Type 0} (xs : List X) (i : ℕ) (d x : X) → i < length xs → x ≡ slice_index_or xs i d → slice_set xs i x ≡ xs
+set_same [] i d x h e = refl
+set_same (y ∷ ys) zero d x h e = ap (λ z. z ∷ ys) e
+set_same (y ∷ ys) (suc i) d x h e = ap (λ zs. y ∷ zs) (set_same ys i d x (omega arith) e)

@@ -1,0 +1,17 @@
+use Rattle.std.proofs.Common.{◌≡◌, refl, subst, false, None, rules}
+use Rattle.mr_core.specs.declared.event.Event.TheVariants.{Lose}
+use Rattle.mr_core.specs.Core.{CoreView, IsStep}
+use Rattle.mr_core.proofs.Moves.{report_step, reach_more}
+use Rattle.mr_core.proofs.master.Core.lose.Goals as goal
+
+pub invariant_of-self : goal.invariant_of-self
+invariant_of-self c =
+    let none : c.self.inside.tables.end ≡ None = search rules in
+    let step = report_step c.self.inside.shape c.self.inside.tables (Lose c.args.worker) c.lose-reply.result c.lose-reply.new.self false c.settle.new.self tt none (c.lose-reply.ensures c.self.inside.shape) c.settle.ensures in
+    (c.self.invariant.0, reach_more c.self.inside.shape c.self.inside.tables (Lose c.args.worker) c.lose-reply.result c.settle.new.self c.self.invariant.1 step)
+
+pub returns : goal.returns
+returns c =
+    let none : c.self.inside.tables.end ≡ None = search rules in
+    let step = report_step c.self.inside.shape c.self.inside.tables (Lose c.args.worker) c.lose-reply.result c.lose-reply.new.self false c.settle.new.self tt none (c.lose-reply.ensures c.self.inside.shape) c.settle.ensures in
+    subst (λ (old : CoreView). IsStep old (Lose c.args.worker) c.lose-reply.result (record { shape = c.self.inside.shape; state = c.settle.new.self })) c.self.view_is (refl, step)

@@ -1,0 +1,370 @@
+//! The entries of a master's lists: its splits, and the attempts that it has issued.
+ghost use Rattle.std.specs.Prelude.{◌≡◌, ℕ, Bool, true, false, Option, Some, None, List, [], ◌∷◌, ◌==◌, ◌&&◌, map, is_some, nat_lt, length, slice_get, OnOk, OnErr, IfOk, replicate};
+ghost use Rattle.std.specs.List.{list_any, list_all, count_by, sum_by};
+ghost use Rattle.mr_core.specs.Master.{Attempt, update_at, left_by, gone_with, held_by, task_eq, only_live, takes, with_number};
+
+use crate::event::Task;
+use crate::skips::Skips;
+use std::alloc::{AllocError, Global};
+use std::marker::Model;
+
+/// A split: the records left out of it so far, whether they are fixed, and the number of its output with the worker that
+/// has it.
+#[derive(Drop)]
+pub(crate) struct Split {
+    pub skips: Skips,
+    pub fixed: bool,
+    pub output: Option<(u64, u32)>,
+}
+
+/// For each split the output of the latest fetch.
+#[derive(Drop)]
+pub(crate) struct Fetched {
+    items: Vec<Option<u64>>,
+}
+
+impl Model for Fetched {
+    ghost use Rattle.std.specs.Prelude.{List, ℕ, Option};
+
+    ghost Value = { List (Option ℕ) };
+
+    ghost view = { λ f. f.items.items };
+}
+
+/// An execution of a task. What a map attempt leaves out is held twice, so that its split can take it over without memory.
+#[derive(Drop)]
+pub(crate) struct Attempt {
+    worker: u32,
+    task: Task,
+    skips: Skips,
+    spare: Skips,
+    fetched: Fetched,
+    live: bool,
+}
+
+impl Model for Attempt {
+    ghost use Rattle.std.specs.Prelude.{◌≡◌, true};
+    ghost use Rattle.mr_core.specs.Master.{Attempt};
+
+    ghost Value = { Attempt };
+
+    ghost view = { λ a. record { worker = a.worker; task = a.task; skips = a.skips; fetched = a.fetched; live = a.live } };
+
+    ghost invariant = { λ a. a.live ≡ true → a.spare ≡ a.skips };
+}
+
+impl Attempt {
+    /// A live attempt; `spare` is a copy of `skips`.
+    pub(crate) fn of(
+        worker: u32,
+        task: Task,
+        skips: Skips,
+        spare: Skips,
+        fetched: Fetched,
+    ) -> Attempt
+        requires { spare ≡ skips }
+        ensures { result ≡ record { worker = worker; task = task; skips = skips; fetched = fetched; live = true } }
+    {
+        Attempt {
+            worker,
+            task,
+            skips,
+            spare,
+            fetched,
+            live: true,
+        }
+    }
+
+    pub(crate) fn worker(&self) -> u32
+        ensures { result ≡ self.now.worker }
+    {
+        self.worker
+    }
+
+    pub(crate) fn task(&self) -> Task
+        ensures { result ≡ self.now.task }
+    {
+        self.task
+    }
+
+    pub(crate) fn is_live(&self) -> bool
+        ensures { result ≡ self.now.live }
+    {
+        self.live
+    }
+
+    pub(crate) fn skips(&self) -> &Skips
+        ensures { result.now ≡ self.now.skips }
+    {
+        &self.skips
+    }
+
+    pub(crate) fn fetched(&self) -> &[Option<u64>]
+        ensures { result.now ≡ self.now.fetched }
+    {
+        self.fetched.items.as_slice()
+    }
+
+    /// The attempt ends.
+    pub(crate) fn end(&mut self)
+        ensures { self.new ≡ record self.old { live = false } }
+    {
+        self.live = false;
+    }
+
+    /// The attempt ends, where it is the worker's.
+    pub(crate) fn leave(&mut self, worker: u32)
+        ensures { self.new ≡ left_by worker self.old }
+    {
+        if self.worker == worker {
+            self.live = false;
+        }
+    }
+
+    /// The attempt ends, and the split is complete with its output, without the records that it left out.
+    pub(crate) fn complete(&mut self, split: &mut Split, output: u64)
+        requires { self.old.live ≡ true }
+        ensures ended { self.new ≡ record self.old { live = false } }
+        ensures split { split.new ≡ record { skips = self.old.skips; fixed = true; output = Some (output, self.old.worker) } }
+    {
+        std::mem::swap(&mut self.spare, &mut split.skips);
+        self.live = false;
+        split.fixed = true;
+        split.output = Some((output, self.worker));
+    }
+
+    /// The latest fetch of the split gave this output.
+    pub(crate) fn note_fetch(&mut self, map: u32, output: u64)
+        ensures { self.new ≡ record self.old { fetched = update_at (λ x. Some output) map self.old.fetched } }
+    {
+        put(self.fetched.items.as_mut_slice(), map, Some(output));
+    }
+}
+
+/// Puts the value at the place, where there is such a place.
+#[tactic(auto, using(crate::proofs::Updates::set_is_update, crate::proofs::Updates::update_past))]
+pub(crate) fn put<T: Copy>(items: &mut [T], at: u32, value: T)
+    ensures { items.new ≡ update_at (λ x. value) at items.old }
+{
+    let at = at as usize;
+    if at < items.len() {
+        items[at] = value;
+    }
+}
+
+/// The attempt of this number ends, where there is one.
+#[tactic(auto, using(crate::proofs::Updates::update_is_set, crate::proofs::Updates::update_past))]
+pub(crate) fn end_attempt(attempts: &mut [Attempt], at: u32)
+    ensures { attempts.new ≡ update_at (λ t. record t { live = false }) at attempts.old }
+{
+    let at = at as usize;
+    if at < attempts.len() {
+        attempts[at].end();
+    }
+}
+
+/// The attempt of this number fetched the output of a split, where there is such an attempt.
+#[tactic(auto, using(crate::proofs::Updates::update_is_set, crate::proofs::Updates::update_past))]
+pub(crate) fn note_fetch(attempts: &mut [Attempt], at: u32, map: u32, output: u64)
+    ensures { attempts.new ≡ update_at (λ t. record t { fetched = update_at (λ x. Some output) map t.fetched }) at attempts.old }
+{
+    let at = at as usize;
+    if at < attempts.len() {
+        attempts[at].note_fetch(map, output);
+    }
+}
+
+/// The live attempt at `at` ends, and completes the split at `split`.
+#[tactic(auto, using(crate::proofs::Updates::update_is_set))]
+pub(crate) fn complete_split(
+    attempts: &mut [Attempt],
+    at: u32,
+    splits: &mut [Split],
+    split: u32,
+    output: u64,
+)
+    requires { (x : Attempt) × (only_live (slice_get attempts.now at) ≡ Some x) × (takes x.skips (slice_get splits.now split) ≡ true) }
+    ensures attempts { attempts.new ≡ update_at (λ t. record t { live = false }) at attempts.old }
+    ensures splits { (x : Attempt) → only_live (slice_get attempts.old at) ≡ Some x → splits.new ≡ update_at (λ sp. record { skips = x.skips; fixed = true; output = Some (output, x.worker) }) split splits.old }
+{
+    attempts[at as usize].complete(&mut splits[split as usize], output);
+}
+
+/// Ends the live attempts of a worker.
+#[tactic(auto, using(crate::proofs::Updates::map_one_more, crate::proofs::Updates::map_none_yet, crate::proofs::Updates::map_all))]
+pub(crate) fn leave_attempts(attempts: &mut [Attempt], worker: u32)
+    ensures { attempts.new ≡ map (left_by worker) attempts.old }
+{
+    for i in 0..attempts.len() {
+        attempts[i].leave(worker);
+    }
+}
+
+/// Takes away the outputs that a worker has.
+#[tactic(auto, using(crate::proofs::Updates::map_one_more, crate::proofs::Updates::map_none_yet, crate::proofs::Updates::map_all))]
+pub(crate) fn leave_outputs(splits: &mut [Split], worker: u32)
+    ensures { splits.new ≡ map (gone_with worker) splits.old }
+{
+    for i in 0..splits.len() {
+        leave_output(&mut splits[i], worker);
+    }
+}
+
+/// Takes away the split's output, where the worker has it.
+fn leave_output(split: &mut Split, worker: u32)
+    ensures { split.new ≡ gone_with worker split.old }
+{
+    if is_held_by(split.output, worker) {
+        split.output = None;
+    }
+}
+
+/// Whether the worker has the output.
+fn is_held_by(output: Option<(u64, u32)>, worker: u32) -> bool
+    ensures { result ≡ held_by worker output }
+{
+    match output {
+        Some((_, holder)) => holder == worker,
+        None => false,
+    }
+}
+
+/// Whether an attempt of the worker is live.
+pub(crate) fn has_live(attempts: &[Attempt], worker: u32) -> bool
+    ensures { result ≡ list_any (λ a. (a.worker == worker) && a.live) attempts.now }
+{
+    attempts.iter().any(|a| a.worker() == worker && a.is_live())
+}
+
+/// Whether every split has an output.
+pub(crate) fn all_outputs(splits: &[Split]) -> bool
+    ensures { result ≡ list_all (λ sp. is_some sp.output) splits.now }
+{
+    splits.iter().all(|s| s.output.is_some())
+}
+
+/// Whether all are there.
+pub(crate) fn all_some(items: &[Option<u64>]) -> bool
+    ensures { result ≡ list_all is_some items.now }
+{
+    items.iter().all(|x| x.is_some())
+}
+
+/// Whether all are true.
+pub(crate) fn all_true(items: &[bool]) -> bool
+    ensures { result ≡ list_all (λ x. x) items.now }
+{
+    items.iter().all(|x| *x)
+}
+
+/// How many attempts of the task were issued.
+pub(crate) fn count_issued(attempts: &[Attempt], task: Task) -> usize
+    ensures { result ≡ count_by (λ a. task_eq a.task task) attempts.now }
+{
+    let mut count = 0;
+    for attempt in attempts {
+        if attempt.task() == task {
+            count += 1;
+        }
+    }
+    count
+}
+
+/// How many attempts of the task are live.
+pub(crate) fn count_live(attempts: &[Attempt], task: Task) -> usize
+    ensures { result ≡ count_by (λ a. task_eq a.task task && a.live) attempts.now }
+{
+    let mut count = 0;
+    for attempt in attempts {
+        if attempt.task() == task && attempt.is_live() {
+            count += 1;
+        }
+    }
+    count
+}
+
+/// Whether fewer records than the limit are left out.
+pub(crate) fn has_room(splits: &[Split], limit: u32) -> bool
+    ensures { result ≡ nat_lt (sum_by (λ sp. length sp.skips) splits.now) limit }
+{
+    let mut room = limit as usize;
+    for split in splits {
+        let count = split.skips.as_slice().len();
+        if count >= room {
+            return false;
+        }
+        room -= count;
+    }
+    room > 0
+}
+
+/// Whether the record of the split has failed.
+pub(crate) fn has_failed(failures: &[(u32, u32)], split: u32, number: u32) -> bool
+    ensures { result ≡ list_any (λ f. (f.0 == split) && (f.1 == number)) failures.now }
+{
+    failures.iter().any(|f| f.0 == split && f.1 == number)
+}
+
+/// Adds a record to those left out of the split; without memory nothing changes.
+fn add_to_split(split: &mut Split, number: u32) -> Result<(), AllocError>
+    ensures ok { OnOk result (split.new ≡ record split.old { skips = with_number number split.old.skips }) }
+    ensures err { OnErr result (split.new ≡ split.old) }
+{
+    split.skips.add(number)
+}
+
+/// Adds a record to those left out of the split at `at`; without memory nothing changes.
+#[tactic(auto, using(crate::proofs::Updates::update_is_set, crate::proofs::Updates::update_past, crate::proofs::Updates::set_same))]
+pub(crate) fn leave_out(splits: &mut [Split], at: u32, number: u32) -> Result<(), AllocError>
+    ensures ok { OnOk result (splits.new ≡ update_at (λ sp. record sp { skips = with_number number sp.skips }) at splits.old) }
+    ensures err { OnErr result (splits.new ≡ splits.old) }
+{
+    let at = at as usize;
+    if at >= splits.len() {
+        return Ok(());
+    }
+    add_to_split(&mut splits[at], number)
+}
+
+/// As many of the same as `count` says.
+pub(crate) fn copies<T: Copy>(alloc: Global, value: T, count: u32) -> Result<Vec<T>, AllocError>
+    ensures { IfOk result (λ v. v.items ≡ replicate count value) }
+{
+    let mut items = Vec::new(alloc);
+    for _i in 0..count {
+        items.push(value)?;
+    }
+    Ok(items)
+}
+
+/// As many splits as `count` says, with no output, and nothing left out.
+pub(crate) fn new_splits(alloc: Global, count: u32) -> Result<Vec<Split>, AllocError>
+    ensures { IfOk result (λ v. v.items ≡ replicate count (record { skips = []; fixed = false; output = None })) }
+{
+    let mut splits = Vec::new(alloc);
+    for _i in 0..count {
+        splits.push(new_split(alloc))?;
+    }
+    Ok(splits)
+}
+
+fn new_split(alloc: Global) -> Split
+    ensures { result ≡ record { skips = []; fixed = false; output = None } }
+{
+    Split {
+        skips: Skips::none(alloc),
+        fixed: false,
+        output: None,
+    }
+}
+
+impl Fetched {
+    /// Nothing is fetched, from as many splits; none takes no memory.
+    pub(crate) fn none(alloc: Global, count: u32) -> Result<Fetched, AllocError>
+        ensures { IfOk result (λ f. f ≡ replicate count None) }
+    {
+        Ok(Fetched {
+            items: copies(alloc, None, count)?,
+        })
+    }
+}

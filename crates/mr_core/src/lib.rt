@@ -1,0 +1,16 @@
+//! The master of a job, as a pure machine: events in, replies out.
+#![tactic(auto)]
+
+mod entries;
+mod event;
+mod laws;
+mod master;
+mod skips;
+mod tables;
+#[cfg(test)]
+mod tests;
+
+pub use event::{End, Event, JobFault, Limits, Reply, Shape, Task};
+pub use laws::{every_run, fetched, goes_on, left_out_sets, runs, worked_runs};
+pub use master::Core;
+pub use skips::Skips;

@@ -1,0 +1,284 @@
+use crate::{Core, End, Event, JobFault, Limits, Reply, Task};
+use std::alloc::Global;
+use std::test::Fail;
+
+/// A reply; of a map task's left-out records the first.
+#[derive(Clone, Copy, Debug, PartialEq, Eq)]
+enum Said {
+    Map(u32, u32, Option<u32>),
+    Reduce(u32, u32),
+    Wait,
+    Stop(End),
+    Region(u64),
+    Gone,
+    Accepted,
+    Ignored,
+}
+
+fn answer(core: &mut Core, alloc: Global, event: Event) -> Result<Said, Fail> {
+    Ok(match core.apply(alloc, event)? {
+        Reply::Map {
+            attempt,
+            split,
+            skips,
+        } => Said::Map(attempt, split, skips.as_slice().first().copied()),
+        Reply::Reduce { attempt, partition } => Said::Reduce(attempt, partition),
+        Reply::Wait => Said::Wait,
+        Reply::Stop(end) => Said::Stop(end),
+        Reply::Region { output } => Said::Region(output),
+        Reply::Gone => Said::Gone,
+        Reply::Accepted => Said::Accepted,
+        Reply::Ignored => Said::Ignored,
+    })
+}
+
+/// The first record left out of split 0.
+fn first_left_out(core: &Core) -> Option<u32> {
+    if core.shape().maps > 0 {
+        core.set(0).first().copied()
+    } else {
+        None
+    }
+}
+
+/// The outputs of split 0 and of partition 0.
+fn outputs(core: &Core) -> (Option<u64>, Option<u64>) {
+    let shape = core.shape();
+    if shape.maps > 0 && shape.parts > 0 {
+        (core.output(0), core.committed(0))
+    } else {
+        (None, None)
+    }
+}
+
+#[test]
+fn a_repeated_and_a_late_completion(rt: HostRuntime) -> Result<(), Fail> {
+    let alloc = rt.alloc();
+    let limits = Limits {
+        attempts: 8,
+        skips: 0,
+    };
+    let mut core = Core::new(alloc, 1, 1, 2, limits)?;
+    assert_eq!(rt;
+        answer(&mut core, alloc, Event::Ask(0))?,
+        Said::Map(0, 0, None)
+    );
+    assert_eq!(rt;
+        answer(&mut core, alloc, Event::Ask(1))?,
+        Said::Map(1, 0, None)
+    );
+    assert_eq!(rt;
+        answer(&mut core, alloc, Event::MapDone(1, 10))?,
+        Said::Accepted
+    );
+    assert_eq!(rt;
+        answer(&mut core, alloc, Event::MapDone(0, 11))?,
+        Said::Ignored
+    );
+    assert_eq!(rt; answer(&mut core, alloc, Event::Lose(1))?, Said::Accepted);
+    assert_eq!(rt;
+        answer(&mut core, alloc, Event::MapDone(1, 13))?,
+        Said::Ignored
+    );
+    assert_eq!(rt;
+        answer(&mut core, alloc, Event::Ask(1))?,
+        Said::Stop(End::Dismissed)
+    );
+    assert_eq!(rt;
+        answer(&mut core, alloc, Event::Ask(0))?,
+        Said::Map(2, 0, None)
+    );
+    assert_eq!(rt;
+        answer(&mut core, alloc, Event::MapDone(2, 12))?,
+        Said::Accepted
+    );
+    assert_eq!(rt;
+        answer(&mut core, alloc, Event::Ask(0))?,
+        Said::Reduce(3, 0)
+    );
+    assert_eq!(rt;
+        answer(&mut core, alloc, Event::Fetch(3, 0))?,
+        Said::Region(12)
+    );
+    assert_eq!(rt;
+        answer(&mut core, alloc, Event::ReduceDone(3, 20))?,
+        Said::Accepted
+    );
+    assert_eq!(rt;
+        answer(&mut core, alloc, Event::Ask(0))?,
+        Said::Stop(End::Done)
+    );
+    assert_eq!(rt; core.end(), Some(End::Done));
+    assert_eq!(rt; core.shape().workers, 2);
+    assert!(rt; core.complete(Task::Map(0)));
+    assert_eq!(rt; outputs(&core), (Some(12), Some(20)));
+    Ok(())
+}
+
+#[test]
+fn a_reduce_whose_map_output_is_lost(rt: HostRuntime) -> Result<(), Fail> {
+    let alloc = rt.alloc();
+    let limits = Limits {
+        attempts: 8,
+        skips: 0,
+    };
+    let mut core = Core::new(alloc, 1, 1, 2, limits)?;
+    assert_eq!(rt;
+        answer(&mut core, alloc, Event::Ask(0))?,
+        Said::Map(0, 0, None)
+    );
+    assert_eq!(rt;
+        answer(&mut core, alloc, Event::MapDone(0, 10))?,
+        Said::Accepted
+    );
+    assert_eq!(rt;
+        answer(&mut core, alloc, Event::Ask(1))?,
+        Said::Reduce(1, 0)
+    );
+    assert_eq!(rt; answer(&mut core, alloc, Event::Lose(0))?, Said::Accepted);
+    assert_eq!(rt; answer(&mut core, alloc, Event::Fetch(1, 0))?, Said::Gone);
+    assert_eq!(rt;
+        answer(&mut core, alloc, Event::Ask(1))?,
+        Said::Map(2, 0, None)
+    );
+    Ok(())
+}
+
+#[test]
+fn a_set_fixed_without_a_failed_record(rt: HostRuntime) -> Result<(), Fail> {
+    let alloc = rt.alloc();
+    let limits = Limits {
+        attempts: 8,
+        skips: 1,
+    };
+    let mut core = Core::new(alloc, 1, 1, 2, limits)?;
+    assert_eq!(rt;
+        answer(&mut core, alloc, Event::Ask(0))?,
+        Said::Map(0, 0, None)
+    );
+    assert_eq!(rt;
+        answer(&mut core, alloc, Event::Ask(1))?,
+        Said::Map(1, 0, None)
+    );
+    assert_eq!(rt;
+        answer(&mut core, alloc, Event::MapFailed(0, 5))?,
+        Said::Accepted
+    );
+    assert_eq!(rt;
+        answer(&mut core, alloc, Event::Ask(0))?,
+        Said::Map(2, 0, None)
+    );
+    assert_eq!(rt;
+        answer(&mut core, alloc, Event::MapFailed(2, 5))?,
+        Said::Accepted
+    );
+    assert_eq!(rt;
+        answer(&mut core, alloc, Event::Ask(0))?,
+        Said::Map(3, 0, Some(5))
+    );
+    assert_eq!(rt; first_left_out(&core), Some(5));
+    assert_eq!(rt;
+        answer(&mut core, alloc, Event::MapDone(1, 10))?,
+        Said::Accepted
+    );
+    assert_eq!(rt; first_left_out(&core), None);
+    assert_eq!(rt; answer(&mut core, alloc, Event::Lose(1))?, Said::Accepted);
+    assert_eq!(rt;
+        answer(&mut core, alloc, Event::MapDone(3, 11))?,
+        Said::Ignored
+    );
+    assert_eq!(rt;
+        answer(&mut core, alloc, Event::Ask(0))?,
+        Said::Map(4, 0, None)
+    );
+    Ok(())
+}
+
+#[test]
+fn too_many_attempts(rt: HostRuntime) -> Result<(), Fail> {
+    let alloc = rt.alloc();
+    let limits = Limits {
+        attempts: 1,
+        skips: 0,
+    };
+    let mut core = Core::new(alloc, 1, 1, 1, limits)?;
+    assert_eq!(rt;
+        answer(&mut core, alloc, Event::Ask(0))?,
+        Said::Map(0, 0, None)
+    );
+    assert_eq!(rt;
+        answer(&mut core, alloc, Event::MapFailed(0, 3))?,
+        Said::Accepted
+    );
+    assert_eq!(rt;
+        answer(&mut core, alloc, Event::Ask(0))?,
+        Said::Stop(End::Failed(JobFault::TooManyAttempts))
+    );
+    assert_eq!(rt;
+        answer(&mut core, alloc, Event::MapDone(0, 9))?,
+        Said::Ignored
+    );
+    Ok(())
+}
+
+#[test]
+fn no_maps(rt: HostRuntime) -> Result<(), Fail> {
+    let alloc = rt.alloc();
+    let limits = Limits {
+        attempts: 8,
+        skips: 0,
+    };
+    let mut core = Core::new(alloc, 0, 1, 2, limits)?;
+    assert_eq!(rt;
+        answer(&mut core, alloc, Event::Ask(0))?,
+        Said::Reduce(0, 0)
+    );
+    assert_eq!(rt;
+        answer(&mut core, alloc, Event::Ask(1))?,
+        Said::Reduce(1, 0)
+    );
+    assert_eq!(rt; answer(&mut core, alloc, Event::Ask(0))?, Said::Wait);
+    assert_eq!(rt;
+        answer(&mut core, alloc, Event::ReduceDone(1, 7))?,
+        Said::Accepted
+    );
+    assert_eq!(rt;
+        answer(&mut core, alloc, Event::ReduceDone(0, 8))?,
+        Said::Ignored
+    );
+    assert_eq!(rt; answer(&mut core, alloc, Event::Lose(0))?, Said::Ignored);
+    assert_eq!(rt;
+        answer(&mut core, alloc, Event::Ask(0))?,
+        Said::Stop(End::Done)
+    );
+    Ok(())
+}
+
+#[test]
+fn no_workers(rt: HostRuntime) -> Result<(), Fail> {
+    let alloc = rt.alloc();
+    let limits = Limits {
+        attempts: 8,
+        skips: 0,
+    };
+    let mut core = Core::new(alloc, 1, 1, 1, limits)?;
+    assert_eq!(rt;
+        answer(&mut core, alloc, Event::Ask(5))?,
+        Said::Stop(End::Dismissed)
+    );
+    assert_eq!(rt;
+        answer(&mut core, alloc, Event::Ask(0))?,
+        Said::Map(0, 0, None)
+    );
+    assert_eq!(rt;
+        answer(&mut core, alloc, Event::Fetch(0, 0))?,
+        Said::Ignored
+    );
+    assert_eq!(rt; answer(&mut core, alloc, Event::Lose(0))?, Said::Accepted);
+    assert_eq!(rt; answer(&mut core, alloc, Event::Lose(0))?, Said::Ignored);
+    assert_eq!(rt;
+        answer(&mut core, alloc, Event::Ask(0))?,
+        Said::Stop(End::Failed(JobFault::NoWorkers))
+    );
+    Ok(())
+}

@@ -1,0 +1,4 @@
+pub mod Lines
+pub mod Scripts
+pub mod Meaning
+pub mod Laws
