@@ -359,6 +359,8 @@ def faults():
     for line in (["--help"], ["seq", "--help"], ["check", "--help"], ["--version"]):
         got = run(line)
         check(f"an answer {line}", got[0] == 0 and got[1] != b"" and got[2] == b"", repr(got))
+    got = run(["--version"])
+    check("the version tells the kit", b"rattle-kit-13b logic dac8208d650f15bf" in got[1], repr(got))
 
 
 def check_faults():

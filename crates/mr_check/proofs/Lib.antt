@@ -2,6 +2,7 @@ pub mod Faults
 pub mod GrammarLemmas
 pub mod HeadlineLemmas
 pub mod MetLemmas
+pub mod MeterLemmas
 pub mod PartLemmas
 pub mod SkipLemmas
 pub mod ValueLemmas

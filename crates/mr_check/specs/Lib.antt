@@ -3,3 +3,4 @@ pub mod Judging
 pub mod VerdictRows
 pub mod VerdictLaws
 pub mod Headline
+pub mod Metered

@@ -6,6 +6,7 @@ ghost use Rattle.mr_certform.specs.Spelling.{items_of, stop};
 ghost use Rattle.mr_check.specs.declared.fault.No.TheVariants.{OutOfMemory};
 ghost use Rattle.mr_check.specs.Verdict.{start, subject_of, part_faults, count_faults, accepted_by, verdict_of};
 ghost use Rattle.mr_check.specs.Headline.{IsCertified};
+ghost use Rattle.mr_check.specs.Metered.{IsBounded, IsExact, cut_by};
 ghost use Rattle.mr_check.specs.Judging.{first, Told, header_met, awaits_skips, case_at, entries_in};
 
 use crate::facts::Facts;
@@ -56,7 +57,8 @@ fn check_with(
     ensures faults { let s = subject_of (case_at request.now plan.now.files (contents outputs.now) (halt walker.old)) skips.now in
         let fs = part_faults s (halt walker.old) start (left walker.old) in
         MatchResult result (λ n. (first fs ≡ None) × (n ≡ entries_in (left walker.old))) (λ e. Told fs e) }
-    ensures raised { (meter.old.lookups ≤ meter.new.lookups) × (meter.old.mapped ≤ meter.new.mapped) }
+    ensures bounded { IsBounded plan.now (left walker.old) meter.old meter.new }
+    ensures exact { IfOk result (λ n. IsExact plan.now skips.now n meter.old meter.new) }
 {
     let index = EmissionIndex::of(alloc, plan, request.job(), skips, meter)?;
     let facts = Facts {
@@ -84,7 +86,8 @@ fn check_rest(
         MatchResult result
         (λ y. (first fs ≡ None) × (accepted_by (record { skips = []; pairs = 0 }) (left walker.old) ≡ record { skips = y.skips.items; pairs = y.pairs }))
         (λ e. Told fs e) }
-    ensures raised { (meter.old.lookups ≤ meter.new.lookups) × (meter.old.mapped ≤ meter.new.mapped) }
+    ensures bounded { IsBounded (cut_by request.now input.now) (left walker.old) meter.old meter.new }
+    ensures exact { IfOk result (λ y. IsExact (cut_by request.now input.now) y.skips.items y.pairs meter.old meter.new) }
 {
     expect_count(walker, request.max_skips())?;
     let plan = plan_of(alloc, request, input)?;
@@ -126,7 +129,8 @@ fn judge_all(
     requires count { (meter.old.lookups ≤ 2 ^ 63) × (meter.old.mapped ≤ 2 ^ 63) }
     ensures verdict { let v = verdict_of request.now input.now (contents outputs.now) certificate.now in
         MatchResult result (λ y. v ≡ Ok (record { skips = y.skips.items; pairs = y.pairs })) (λ e. (e ≡ OutOfMemory) ⊎ (v ≡ Err e)) }
-    ensures raised { (meter.old.lookups ≤ meter.new.lookups) × (meter.old.mapped ≤ meter.new.mapped) }
+    ensures bounded { IsBounded (cut_by request.now input.now) (items_of certificate.now) meter.old meter.new }
+    ensures exact { IfOk result (λ y. IsExact (cut_by request.now input.now) y.skips.items y.pairs meter.old meter.new) }
 {
     if outputs.len() != request.parts() as usize {
         return Err(No::OutputCount);
@@ -160,7 +164,9 @@ pub fn check(
     check_metered(alloc, request, input, outputs, certificate, &mut meter)
 }
 
-/// The same as `check`, adding to the meter what is looked up and mapped; each of its counts is at most 2^63 before.
+/// The same as `check`, adding to the meter what is looked up and mapped; each of its counts is at most 2^63 before. Each
+/// entry of the certificate is looked up at most once, and each record mapped at most once; on a yes there is a look-up
+/// for each pair, and just the records that aren't left out are mapped.
 pub fn check_metered(
     alloc: Global,
     request: &Request,
@@ -174,7 +180,8 @@ pub fn check_metered(
     ensures headline { IfOk result (λ y. IsCertified request.now input.now (contents outputs.now) certificate.now y.skips.items y.pairs) }
     ensures yes { IfOk result (λ y. verdict_of request.now input.now (contents outputs.now) certificate.now ≡ Ok (record { skips = y.skips.items; pairs = y.pairs })) }
     ensures no { IfErr result (λ e. (e ≡ OutOfMemory) ⊎ (verdict_of request.now input.now (contents outputs.now) certificate.now ≡ Err e)) }
-    ensures raised { (meter.old.lookups ≤ meter.new.lookups) × (meter.old.mapped ≤ meter.new.mapped) }
+    ensures bounded { IsBounded (cut_by request.now input.now) (items_of certificate.now) meter.old meter.new }
+    ensures exact { IfOk result (λ y. IsExact (cut_by request.now input.now) y.skips.items y.pairs meter.old meter.new) }
 {
     // A request's splits have at least one byte.
     let _size = request.split_size();

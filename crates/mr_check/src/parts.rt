@@ -1,5 +1,5 @@
 //! The partitions of a certificate, with the outputs.
-ghost use Rattle.std.specs.Prelude.{◌≡◌, ◌<◌, ◌≤◌, ◌+◌, ◌^◌, MatchResult, None, length};
+ghost use Rattle.std.specs.Prelude.{◌≡◌, ◌<◌, ◌≤◌, ◌+◌, ◌^◌, MatchResult, IfOk, None, length};
 ghost use Rattle.mr_certform.specs.Walking.{left, halt};
 ghost use Rattle.mr_check.specs.Verdict.{start, part_faults};
 ghost use Rattle.mr_check.specs.Judging.{subject, first, Told, entries_in};
@@ -24,6 +24,7 @@ pub(crate) fn check_parts(
     ensures faults { let fs = part_faults (subject facts.now) (halt walker.old) start (left walker.old) in
         MatchResult result (λ n. (first fs ≡ None) × (n ≡ entries_in (left walker.old))) (λ e. Told fs e) }
     ensures lookups { (meter.old.lookups ≤ meter.new.lookups) × (meter.new.lookups ≤ meter.old.lookups + entries_in (left walker.old)) }
+    ensures all { IfOk result (λ n. meter.new.lookups ≡ meter.old.lookups + n) }
     ensures mapped { meter.new.mapped ≡ meter.old.mapped }
 {
     let mut judging = Judging::new(alloc);

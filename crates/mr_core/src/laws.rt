@@ -11,7 +11,7 @@ ghost use Rattle.mr_core.specs.declared.entries.Split.{Split};
 ghost use Rattle.mr_core.specs.Master.{Attempt, State, Step, Run, opening, issued, is_active, left_out, may_give, replay, tasks};
 ghost use Rattle.mr_bytes.specs.Lists.{Has, Rises};
 ghost use Rattle.std.specs.Ordering.{nat_cmp};
-ghost use Rattle.mr_core.specs.Laws.{HasFetched, IsMapOf, IsAccepted};
+ghost use Rattle.mr_core.specs.Laws.{HasFetched, GoesOnWith, IsMapOf, IsAccepted, IsOutputOf, IsPartOf};
 ghost use Rattle.mr_core.specs.Worked.{shape, repeated, lost_output, left_out_late, too_many_attempts, no_maps, no_workers};
 
 /// The worked runs are runs.
@@ -49,13 +49,20 @@ pub fn runs()
     ensures replayed { (sh : Shape) (h : List (Event × Reply)) (st : State) → (replay sh h ≡ Some st) ↔ Run sh (opening sh) h st }
 {}
 
-/// Each committed reduce attempt has fetched, from each split, an output that was accepted for it.
+/// Before its completion was accepted, each committed reduce attempt fetched from each split an output that had been
+/// accepted for it before the fetch.
 pub fn fetched()
-    ensures { (sh : Shape) (h : List (Event × Reply)) (st : State) → Run sh (opening sh) h st → (a o : ℕ) → Has h (Event.ReduceDone a o, Reply.Accepted) → HasFetched h st sh.maps a }
+    ensures { (sh : Shape) (h : List (Event × Reply)) (st : State) → Run sh (opening sh) h st → (before : List (Event × Reply)) (a o : ℕ) → GoesOnWith before (Event.ReduceDone a o, Reply.Accepted) h → HasFetched before st sh.maps a }
 {}
 
 /// The records left out of a split rise, and each of them was reported by an accepted failure in it.
 pub fn left_out_sets()
     ensures rise { (sh : Shape) (h : List (Event × Reply)) (st : State) → Run sh (opening sh) h st → (s : ℕ) (sp : Split) → slice_get st.splits s ≡ Some sp → Rises nat_cmp sp.skips }
     ensures failed { (sh : Shape) (h : List (Event × Reply)) (st : State) → Run sh (opening sh) h st → (s r : ℕ) (sp : Split) → slice_get st.splits s ≡ Some sp → Has sp.skips r → (a : ℕ) × Has h (Event.MapFailed a r, Reply.Accepted) × (k : List ℕ) × IsMapOf st a s k }
+{}
+
+/// Each output that a split has, and each that is committed, was accepted for it.
+pub fn accepted_outputs()
+    ensures splits { (sh : Shape) (h : List (Event × Reply)) (st : State) → Run sh (opening sh) h st → (s : ℕ) (sp : Split) (x w : ℕ) → slice_get st.splits s ≡ Some sp → sp.output ≡ Some (x, w) → IsOutputOf h st s x }
+    ensures parts { (sh : Shape) (h : List (Event × Reply)) (st : State) → Run sh (opening sh) h st → (p o : ℕ) → slice_get st.committed p ≡ Some (Some o) → IsPartOf h st p o }
 {}

@@ -3,6 +3,8 @@
 
 mod entries;
 mod event;
+#[cfg(test)]
+mod histories;
 mod laws;
 mod master;
 mod skips;
@@ -11,6 +13,6 @@ mod tables;
 mod tests;
 
 pub use event::{End, Event, JobFault, Limits, Reply, Shape, Task};
-pub use laws::{every_run, fetched, goes_on, left_out_sets, runs, worked_runs};
+pub use laws::{accepted_outputs, every_run, fetched, goes_on, left_out_sets, runs, worked_runs};
 pub use master::Core;
 pub use skips::Skips;

@@ -1,3 +1,5 @@
+ghost use Rattle.std.specs.Prelude.{◌≤◌};
+
 use crate::{Core, End, Event, JobFault, Limits, Reply, Task};
 use std::alloc::Global;
 use std::test::Fail;
@@ -15,21 +17,43 @@ enum Said {
     Ignored,
 }
 
-fn answer(core: &mut Core, alloc: Global, event: Event) -> Result<Said, Fail> {
-    Ok(match core.apply(alloc, event)? {
+fn told(reply: &Reply) -> Said {
+    match reply {
         Reply::Map {
             attempt,
             split,
             skips,
-        } => Said::Map(attempt, split, skips.as_slice().first().copied()),
-        Reply::Reduce { attempt, partition } => Said::Reduce(attempt, partition),
+        } => Said::Map(*attempt, *split, skips.as_slice().first().copied()),
+        Reply::Reduce { attempt, partition } => Said::Reduce(*attempt, *partition),
         Reply::Wait => Said::Wait,
-        Reply::Stop(end) => Said::Stop(end),
-        Reply::Region { output } => Said::Region(output),
+        Reply::Stop(end) => Said::Stop(*end),
+        Reply::Region { output } => Said::Region(*output),
         Reply::Gone => Said::Gone,
         Reply::Accepted => Said::Accepted,
         Reply::Ignored => Said::Ignored,
-    })
+    }
+}
+
+/// The first event, by its place in the list, that is answered otherwise than the list says.
+fn first_surprise(
+    core: &mut Core,
+    alloc: Global,
+    history: &[(Event, Said)],
+) -> Result<Option<usize>, Fail> {
+    for (at, (event, expected)) in history.iter().enumerate() {
+        let reply = core.apply(alloc, *event)?;
+        if told(&reply) != *expected {
+            return Ok(Some(at));
+        }
+    }
+    Ok(None)
+}
+
+/// A master of one partition, with no map task or one.
+fn master(alloc: Global, maps: u32, workers: u32, attempts: u32, skips: u32) -> Result<Core, Fail>
+    requires { (maps ≤ 1) × (1 ≤ workers) × (workers ≤ 2) × (1 ≤ attempts) × (attempts ≤ 8) × (skips ≤ 1) }
+{
+    Ok(Core::new(alloc, maps, 1, workers, Limits { attempts, skips })?)
 }
 
 /// The first record left out of split 0.
@@ -54,60 +78,23 @@ fn outputs(core: &Core) -> (Option<u64>, Option<u64>) {
 #[test]
 fn a_repeated_and_a_late_completion(rt: HostRuntime) -> Result<(), Fail> {
     let alloc = rt.alloc();
-    let limits = Limits {
-        attempts: 8,
-        skips: 0,
-    };
-    let mut core = Core::new(alloc, 1, 1, 2, limits)?;
-    assert_eq!(rt;
-        answer(&mut core, alloc, Event::Ask(0))?,
-        Said::Map(0, 0, None)
-    );
-    assert_eq!(rt;
-        answer(&mut core, alloc, Event::Ask(1))?,
-        Said::Map(1, 0, None)
-    );
-    assert_eq!(rt;
-        answer(&mut core, alloc, Event::MapDone(1, 10))?,
-        Said::Accepted
-    );
-    assert_eq!(rt;
-        answer(&mut core, alloc, Event::MapDone(0, 11))?,
-        Said::Ignored
-    );
-    assert_eq!(rt; answer(&mut core, alloc, Event::Lose(1))?, Said::Accepted);
-    assert_eq!(rt;
-        answer(&mut core, alloc, Event::MapDone(1, 13))?,
-        Said::Ignored
-    );
-    assert_eq!(rt;
-        answer(&mut core, alloc, Event::Ask(1))?,
-        Said::Stop(End::Dismissed)
-    );
-    assert_eq!(rt;
-        answer(&mut core, alloc, Event::Ask(0))?,
-        Said::Map(2, 0, None)
-    );
-    assert_eq!(rt;
-        answer(&mut core, alloc, Event::MapDone(2, 12))?,
-        Said::Accepted
-    );
-    assert_eq!(rt;
-        answer(&mut core, alloc, Event::Ask(0))?,
-        Said::Reduce(3, 0)
-    );
-    assert_eq!(rt;
-        answer(&mut core, alloc, Event::Fetch(3, 0))?,
-        Said::Region(12)
-    );
-    assert_eq!(rt;
-        answer(&mut core, alloc, Event::ReduceDone(3, 20))?,
-        Said::Accepted
-    );
-    assert_eq!(rt;
-        answer(&mut core, alloc, Event::Ask(0))?,
-        Said::Stop(End::Done)
-    );
+    let mut core = master(alloc, 1, 2, 8, 0)?;
+    let history = [
+        (Event::Ask(0), Said::Map(0, 0, None)),
+        (Event::Ask(1), Said::Map(1, 0, None)),
+        (Event::MapDone(1, 10), Said::Accepted),
+        (Event::MapDone(0, 11), Said::Ignored),
+        (Event::Lose(1), Said::Accepted),
+        (Event::MapDone(1, 13), Said::Ignored),
+        (Event::Ask(1), Said::Stop(End::Dismissed)),
+        (Event::Ask(0), Said::Map(2, 0, None)),
+        (Event::MapDone(2, 12), Said::Accepted),
+        (Event::Ask(0), Said::Reduce(3, 0)),
+        (Event::Fetch(3, 0), Said::Region(12)),
+        (Event::ReduceDone(3, 20), Said::Accepted),
+        (Event::Ask(0), Said::Stop(End::Done)),
+    ];
+    assert_eq!(rt; first_surprise(&mut core, alloc, &history)?, None);
     assert_eq!(rt; core.end(), Some(End::Done));
     assert_eq!(rt; core.shape().workers, 2);
     assert!(rt; core.complete(Task::Map(0)));
@@ -118,167 +105,91 @@ fn a_repeated_and_a_late_completion(rt: HostRuntime) -> Result<(), Fail> {
 #[test]
 fn a_reduce_whose_map_output_is_lost(rt: HostRuntime) -> Result<(), Fail> {
     let alloc = rt.alloc();
-    let limits = Limits {
-        attempts: 8,
-        skips: 0,
-    };
-    let mut core = Core::new(alloc, 1, 1, 2, limits)?;
-    assert_eq!(rt;
-        answer(&mut core, alloc, Event::Ask(0))?,
-        Said::Map(0, 0, None)
-    );
-    assert_eq!(rt;
-        answer(&mut core, alloc, Event::MapDone(0, 10))?,
-        Said::Accepted
-    );
-    assert_eq!(rt;
-        answer(&mut core, alloc, Event::Ask(1))?,
-        Said::Reduce(1, 0)
-    );
-    assert_eq!(rt; answer(&mut core, alloc, Event::Lose(0))?, Said::Accepted);
-    assert_eq!(rt; answer(&mut core, alloc, Event::Fetch(1, 0))?, Said::Gone);
-    assert_eq!(rt;
-        answer(&mut core, alloc, Event::Ask(1))?,
-        Said::Map(2, 0, None)
-    );
+    let mut core = master(alloc, 1, 2, 8, 0)?;
+    let history = [
+        (Event::Ask(0), Said::Map(0, 0, None)),
+        (Event::MapDone(0, 10), Said::Accepted),
+        (Event::Ask(1), Said::Reduce(1, 0)),
+        (Event::Lose(0), Said::Accepted),
+        (Event::Fetch(1, 0), Said::Gone),
+        (Event::Ask(1), Said::Map(2, 0, None)),
+    ];
+    assert_eq!(rt; first_surprise(&mut core, alloc, &history)?, None);
     Ok(())
 }
 
 #[test]
 fn a_set_fixed_without_a_failed_record(rt: HostRuntime) -> Result<(), Fail> {
     let alloc = rt.alloc();
-    let limits = Limits {
-        attempts: 8,
-        skips: 1,
-    };
-    let mut core = Core::new(alloc, 1, 1, 2, limits)?;
-    assert_eq!(rt;
-        answer(&mut core, alloc, Event::Ask(0))?,
-        Said::Map(0, 0, None)
-    );
-    assert_eq!(rt;
-        answer(&mut core, alloc, Event::Ask(1))?,
-        Said::Map(1, 0, None)
-    );
-    assert_eq!(rt;
-        answer(&mut core, alloc, Event::MapFailed(0, 5))?,
-        Said::Accepted
-    );
-    assert_eq!(rt;
-        answer(&mut core, alloc, Event::Ask(0))?,
-        Said::Map(2, 0, None)
-    );
-    assert_eq!(rt;
-        answer(&mut core, alloc, Event::MapFailed(2, 5))?,
-        Said::Accepted
-    );
-    assert_eq!(rt;
-        answer(&mut core, alloc, Event::Ask(0))?,
-        Said::Map(3, 0, Some(5))
-    );
+    let mut core = master(alloc, 1, 2, 8, 1)?;
+    let failures = [
+        (Event::Ask(0), Said::Map(0, 0, None)),
+        (Event::Ask(1), Said::Map(1, 0, None)),
+        (Event::MapFailed(0, 5), Said::Accepted),
+        (Event::Ask(0), Said::Map(2, 0, None)),
+        (Event::MapFailed(2, 5), Said::Accepted),
+        (Event::Ask(0), Said::Map(3, 0, Some(5))),
+    ];
+    assert_eq!(rt; first_surprise(&mut core, alloc, &failures)?, None);
     assert_eq!(rt; first_left_out(&core), Some(5));
-    assert_eq!(rt;
-        answer(&mut core, alloc, Event::MapDone(1, 10))?,
-        Said::Accepted
-    );
+    let fixed = [(Event::MapDone(1, 10), Said::Accepted)];
+    assert_eq!(rt; first_surprise(&mut core, alloc, &fixed)?, None);
     assert_eq!(rt; first_left_out(&core), None);
-    assert_eq!(rt; answer(&mut core, alloc, Event::Lose(1))?, Said::Accepted);
-    assert_eq!(rt;
-        answer(&mut core, alloc, Event::MapDone(3, 11))?,
-        Said::Ignored
-    );
-    assert_eq!(rt;
-        answer(&mut core, alloc, Event::Ask(0))?,
-        Said::Map(4, 0, None)
-    );
+    let again = [
+        (Event::Lose(1), Said::Accepted),
+        (Event::MapDone(3, 11), Said::Ignored),
+        (Event::Ask(0), Said::Map(4, 0, None)),
+    ];
+    assert_eq!(rt; first_surprise(&mut core, alloc, &again)?, None);
     Ok(())
 }
 
 #[test]
 fn too_many_attempts(rt: HostRuntime) -> Result<(), Fail> {
     let alloc = rt.alloc();
-    let limits = Limits {
-        attempts: 1,
-        skips: 0,
-    };
-    let mut core = Core::new(alloc, 1, 1, 1, limits)?;
-    assert_eq!(rt;
-        answer(&mut core, alloc, Event::Ask(0))?,
-        Said::Map(0, 0, None)
-    );
-    assert_eq!(rt;
-        answer(&mut core, alloc, Event::MapFailed(0, 3))?,
-        Said::Accepted
-    );
-    assert_eq!(rt;
-        answer(&mut core, alloc, Event::Ask(0))?,
-        Said::Stop(End::Failed(JobFault::TooManyAttempts))
-    );
-    assert_eq!(rt;
-        answer(&mut core, alloc, Event::MapDone(0, 9))?,
-        Said::Ignored
-    );
+    let mut core = master(alloc, 1, 1, 1, 0)?;
+    let history = [
+        (Event::Ask(0), Said::Map(0, 0, None)),
+        (Event::MapFailed(0, 3), Said::Accepted),
+        (
+            Event::Ask(0),
+            Said::Stop(End::Failed(JobFault::TooManyAttempts)),
+        ),
+        (Event::MapDone(0, 9), Said::Ignored),
+    ];
+    assert_eq!(rt; first_surprise(&mut core, alloc, &history)?, None);
     Ok(())
 }
 
 #[test]
 fn no_maps(rt: HostRuntime) -> Result<(), Fail> {
     let alloc = rt.alloc();
-    let limits = Limits {
-        attempts: 8,
-        skips: 0,
-    };
-    let mut core = Core::new(alloc, 0, 1, 2, limits)?;
-    assert_eq!(rt;
-        answer(&mut core, alloc, Event::Ask(0))?,
-        Said::Reduce(0, 0)
-    );
-    assert_eq!(rt;
-        answer(&mut core, alloc, Event::Ask(1))?,
-        Said::Reduce(1, 0)
-    );
-    assert_eq!(rt; answer(&mut core, alloc, Event::Ask(0))?, Said::Wait);
-    assert_eq!(rt;
-        answer(&mut core, alloc, Event::ReduceDone(1, 7))?,
-        Said::Accepted
-    );
-    assert_eq!(rt;
-        answer(&mut core, alloc, Event::ReduceDone(0, 8))?,
-        Said::Ignored
-    );
-    assert_eq!(rt; answer(&mut core, alloc, Event::Lose(0))?, Said::Ignored);
-    assert_eq!(rt;
-        answer(&mut core, alloc, Event::Ask(0))?,
-        Said::Stop(End::Done)
-    );
+    let mut core = master(alloc, 0, 2, 8, 0)?;
+    let history = [
+        (Event::Ask(0), Said::Reduce(0, 0)),
+        (Event::Ask(1), Said::Reduce(1, 0)),
+        (Event::Ask(0), Said::Wait),
+        (Event::ReduceDone(1, 7), Said::Accepted),
+        (Event::ReduceDone(0, 8), Said::Ignored),
+        (Event::Lose(0), Said::Ignored),
+        (Event::Ask(0), Said::Stop(End::Done)),
+    ];
+    assert_eq!(rt; first_surprise(&mut core, alloc, &history)?, None);
     Ok(())
 }
 
 #[test]
 fn no_workers(rt: HostRuntime) -> Result<(), Fail> {
     let alloc = rt.alloc();
-    let limits = Limits {
-        attempts: 8,
-        skips: 0,
-    };
-    let mut core = Core::new(alloc, 1, 1, 1, limits)?;
-    assert_eq!(rt;
-        answer(&mut core, alloc, Event::Ask(5))?,
-        Said::Stop(End::Dismissed)
-    );
-    assert_eq!(rt;
-        answer(&mut core, alloc, Event::Ask(0))?,
-        Said::Map(0, 0, None)
-    );
-    assert_eq!(rt;
-        answer(&mut core, alloc, Event::Fetch(0, 0))?,
-        Said::Ignored
-    );
-    assert_eq!(rt; answer(&mut core, alloc, Event::Lose(0))?, Said::Accepted);
-    assert_eq!(rt; answer(&mut core, alloc, Event::Lose(0))?, Said::Ignored);
-    assert_eq!(rt;
-        answer(&mut core, alloc, Event::Ask(0))?,
-        Said::Stop(End::Failed(JobFault::NoWorkers))
-    );
+    let mut core = master(alloc, 1, 1, 8, 0)?;
+    let history = [
+        (Event::Ask(5), Said::Stop(End::Dismissed)),
+        (Event::Ask(0), Said::Map(0, 0, None)),
+        (Event::Fetch(0, 0), Said::Ignored),
+        (Event::Lose(0), Said::Accepted),
+        (Event::Lose(0), Said::Ignored),
+        (Event::Ask(0), Said::Stop(End::Failed(JobFault::NoWorkers))),
+    ];
+    assert_eq!(rt; first_surprise(&mut core, alloc, &history)?, None);
     Ok(())
 }

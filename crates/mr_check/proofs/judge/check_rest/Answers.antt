@@ -9,6 +9,8 @@ use Rattle.mr_check.specs.declared.fault.No.TheVariants.{OutOfMemory}
 use Rattle.mr_check.specs.Verdict.{Case, start, subject_of, part_faults, count_faults}
 use Rattle.mr_check.specs.Judging.{first, Told, Listed, case_at}
 use Rattle.mr_check.proofs.Faults.{told_is}
+use Rattle.mr_check.proofs.MeterLemmas.{bounded_wider, rest_entries}
+use Rattle.mr_check.specs.Metered.{cut_by}
 use Rattle.mr_check.proofs.VerdictLemmas.{rest_faults, rest_fault, rest_few, rest_accepted, case_same, accepted}
 use Rattle.mr_check.proofs.judge.check_rest.Goals as goal
 
@@ -62,3 +64,17 @@ returns-clause-verdict c =
     let same = ap (λ (ss : List RecordName). part_faults (subject_of (case_at o others outputs (halt c.take_skips.new.walker)) ss) (halt c.take_skips.new.walker) start (left c.take_skips.new.walker)) c.deref.ensures.value
     ∙ case_same o c.args.input.now others outputs skips (halt w) (halt c.take_skips.new.walker) (left c.take_skips.new.walker) (ap (λ (k : Cut). k.files) c.in_ok-plan.ensures.plan) at in
     (ap first (faults ∙ sym same) ∙ c.in_ok-pairs.ensures.faults.0, rest_accepted (records_of c.in_ok-plan.plan) (halt w) c.max_skips.result (halt c.expect_count.new.walker) (left w) (left c.expect_count.new.walker) r c.requires.awaits c.in_ok-expect_count.ensures.counted c.in_ok-skips.ensures.listed ∙ ap (accepted skips) (sym c.in_ok-pairs.ensures.faults.1))
+
+pub returns-in_err-pairs-clause-bounded : goal.returns-in_err-pairs-clause-bounded
+returns-in_err-pairs-clause-bounded c =
+    let w = c.args.walker.now in
+    let r : Listed = record { skips = c.in_ok-skips.skips.items; behind = left c.take_skips.new.walker } in
+    let same = rest_entries (records_of c.in_ok-plan.plan) (halt w) c.max_skips.result (halt c.expect_count.new.walker) (left w) (left c.expect_count.new.walker) r c.in_ok-expect_count.ensures.counted c.in_ok-skips.ensures.listed in
+    bounded_wider (cut_by c.args.request.now c.args.input.now) c.in_ok-plan.plan (left w) (left c.take_skips.new.walker) c.args.meter.now c.check_with.new.meter c.in_ok-plan.ensures.plan same c.check_with.ensures.bounded
+
+pub returns-clause-bounded : goal.returns-clause-bounded
+returns-clause-bounded c =
+    let w = c.args.walker.now in
+    let r : Listed = record { skips = c.in_ok-skips.skips.items; behind = left c.take_skips.new.walker } in
+    let same = rest_entries (records_of c.in_ok-plan.plan) (halt w) c.max_skips.result (halt c.expect_count.new.walker) (left w) (left c.expect_count.new.walker) r c.in_ok-expect_count.ensures.counted c.in_ok-skips.ensures.listed in
+    bounded_wider (cut_by c.args.request.now c.args.input.now) c.in_ok-plan.plan (left w) (left c.take_skips.new.walker) c.args.meter.now c.check_with.new.meter c.in_ok-plan.ensures.plan same c.check_with.ensures.bounded

@@ -1,8 +1,10 @@
-use Rattle.std.proofs.Common.{◌≡◌, None, MatchResult, refl, subst}
+use Rattle.std.proofs.Common.{◌≡◌, None, MatchResult, refl, subst, arith}
 use Rattle.mr_input.specs.Files.{contents}
 use Rattle.mr_certform.specs.Walking.{left, halt}
 use Rattle.mr_check.specs.Verdict.{Subject, start, part_faults}
 use Rattle.mr_check.specs.Judging.{first, Told, case_at, entries_in}
+use Rattle.mr_splits.specs.Cut.{records_of}
+use Rattle.mr_index.proofs.WorkLemmas.{mapped-few}
 use Rattle.mr_check.proofs.VerdictLemmas.{known_subject}
 use Rattle.mr_check.proofs.judge.check_with.Goals as goal
 
@@ -12,3 +14,21 @@ returns-clause-faults c =
     let case = case_at c.args.request.now c.args.plan.now.files (contents c.args.outputs.now) (halt w) in
     let same = known_subject case c.args.skips.now c.job.result.now c.args.plan.now c.in_ok-index.index c.job.ensures c.requires.same refl c.in_ok-index.ensures.ok in
     subst (λ (s : Subject). MatchResult c.check_parts.result (λ n. (first (part_faults s (halt w) start (left w)) ≡ None) × (n ≡ entries_in (left w))) (λ e. Told (part_faults s (halt w) start (left w)) e)) same c.check_parts.ensures.faults
+
+pub returns-in_err-index-clause-bounded : goal.returns-in_err-index-clause-bounded
+returns-in_err-index-clause-bounded c =
+    let e = c.in_err-index.ensures.err in
+    record {
+      lookups = (omega (arith, c.of.ensures.lookups), omega (arith, c.of.ensures.lookups));
+      mapped = (e.0, omega (arith, e.1, mapped-few c.args.skips.now (records_of c.args.plan.now)));
+    }
+
+pub returns-clause-bounded : goal.returns-clause-bounded
+returns-clause-bounded c =
+    let l = c.check_parts.ensures.lookups in
+    let m = c.check_parts.ensures.mapped in
+    let o = c.in_ok-index.ensures.counted in
+    record {
+      lookups = (omega (arith, l.0, c.of.ensures.lookups), omega (arith, l.1, c.of.ensures.lookups));
+      mapped = (omega (arith, m, o), omega (arith, m, o, mapped-few c.args.skips.now (records_of c.args.plan.now)));
+    }

@@ -1,4 +1,4 @@
-use Rattle.std.proofs.Common.{◌≡◌, ◌⊎◌, ℕ, None, List, [], MatchResult, length, inl, inr, arith, ap, sym, ◌∙◌}
+use Rattle.std.proofs.Common.{◌≡◌, ◌⊎◌, ℕ, None, List, [], MatchResult, length, refl, inl, inr, arith, ap, sym, ◌∙◌}
 use Rattle.std.specs.Prelude.{Result, Ok, Err, Vec}
 use Rattle.std.specs.Global.{Global}
 use Rattle.std.proofs.lemmas.List.{length-map}
@@ -17,6 +17,8 @@ use Rattle.mr_check.specs.declared.fault.No.TheVariants.{OutOfMemory, OtherJob, 
 use Rattle.mr_check.specs.Verdict.{count_faults, accepted_by, verdict_of}
 use Rattle.mr_check.specs.Judging.{first, Told, header_met, case_at}
 use Rattle.mr_check.proofs.GrammarLemmas.{skips_come}
+use Rattle.mr_check.proofs.MeterLemmas.{bounded_wider, header_entries}
+use Rattle.mr_check.specs.Metered.{cut_by}
 use Rattle.mr_check.proofs.VerdictLemmas.{header_ok, header_few, accepted, verdict_count, verdict_header, verdict_fault, verdict_ok}
 use Rattle.mr_check.proofs.judge.judge_all.Goals as goal
 
@@ -75,3 +77,12 @@ returns-clause-verdict c =
     let ks : List Item = left c.expect_header.new.walker in
     let met = header_is o files bytes (halt c.walk-walker.result) (left c.walk-walker.result) (Ok ks) c.walk-walker.ensures.stop c.walk-walker.ensures.items c.in_ok-expect_header.ensures.met in
     rest_verdict o files outputs bytes ks (halt c.expect_header.new.walker) c.check_rest.result (as_many c.args.outputs.now c.parts.result o.parts c.if-outputs-parts.false c.parts.ensures.same) met (c.expect_header.ensures.stop ∙ c.walk-walker.ensures.stop) c.check_rest.ensures.verdict
+
+pub returns-clause-bounded : goal.returns-clause-bounded
+returns-clause-bounded c =
+    let o = c.args.request.now in
+    let files = c.args.input.now in
+    let bytes = c.args.certificate.now in
+    let ks : List Item = left c.expect_header.new.walker in
+    let met = header_is o files bytes (halt c.walk-walker.result) (left c.walk-walker.result) (Ok ks) c.walk-walker.ensures.stop c.walk-walker.ensures.items c.in_ok-expect_header.ensures.met in
+    bounded_wider (cut_by o files) (cut_by o files) (items_of bytes) ks c.args.meter.now c.check_rest.new.meter refl (sym (header_entries (stop bytes) o files (items_of bytes) ks met)) c.check_rest.ensures.bounded
