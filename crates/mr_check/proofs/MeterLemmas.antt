@@ -1,14 +1,12 @@
 -- What the judge's meter counts, from item to item.
 use Rattle.std.proofs.Common.{◌≡◌, ℕ, ◌+◌, List, [], ◌∷◌, ◌++◌, length, ap, arith}
-use Rattle.std.specs.Prelude.{Result, Ok, Err}
-use Rattle.mr_bytes.specs.declared.RecordName.{RecordName}
+use Rattle.std.specs.Prelude.{Ok}
 use Rattle.mr_jobs.specs.Task.{Order}
 use Rattle.mr_splits.specs.Named.{NamedRecord}
 use Rattle.mr_splits.specs.Cut.{Cut, records_of}
 use Rattle.mr_certform.specs.declared.item.Item.{Item}
 use Rattle.mr_certform.specs.declared.item.Item.TheVariants.{Skip, Entry}
 use Rattle.mr_index.specs.declared.index.Meter.{Meter}
-use Rattle.mr_check.specs.declared.fault.No.{No}
 use Rattle.mr_check.specs.Verdict.{Accepted, accepted_by}
 use Rattle.mr_check.specs.Judging.{header_met, counted, Listed, listed, entries_in}
 use Rattle.mr_check.specs.Metered.{IsBounded}

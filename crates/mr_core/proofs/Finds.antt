@@ -3,7 +3,7 @@ use Rattle.std.proofs.Common.{◌≡◌, ℕ, zero, suc, ◌<◌, ◌+◌, List,
 use Rattle.std.specs.List.{list_any, range_with_len}
 use Rattle.std.proofs.lemmas.List.FromFn.{map-range_with_len_more}
 use Rattle.std.proofs.lemmas.List.Folds.{list_any-append}
-use Rattle.std.proofs.lemmas.Bool.{and_parts, or_cases, ltb-true, false≢true, true≢false}
+use Rattle.std.proofs.lemmas.Bool.{and_parts, or_cases, ltb-true, lt-ltb, false≢true, true≢false}
 use Rattle.mr_core.specs.declared.event.Task.{Task}
 use Rattle.mr_core.specs.declared.event.Shape.{Shape}
 use Rattle.mr_core.specs.declared.event.Task.TheVariants.{Map as MapTask, Reduce as ReduceTask}
@@ -45,6 +45,12 @@ from_zero p f i e = let same : i ≡ 0 + i = omega arith in subst (λ (k : ℕ).
 pub one_of_all : (p : Task → Bool) (sh : Shape) (t : Task) → is_task sh t ≡ true → p t ≡ true → list_any p (tasks sh) ≡ true
 one_of_all p sh (MapTask s) is e = list_any-append p (map MapTask (range_with_len 0 sh.maps)) (map ReduceTask (range_with_len 0 sh.parts)) ∙ left _ _ (one_in_range p MapTask 0 sh.maps s (ltb-true s sh.maps is) (from_zero p MapTask s e))
 one_of_all p sh (ReduceTask q) is e = list_any-append p (map MapTask (range_with_len 0 sh.maps)) (map ReduceTask (range_with_len 0 sh.parts)) ∙ right _ _ (one_in_range p ReduceTask 0 sh.parts q (ltb-true q sh.parts is) (from_zero p ReduceTask q e))
+
+pub one_map : (p : Task → Bool) (sh : Shape) (s : ℕ) → s < sh.maps → p (MapTask s) ≡ true → list_any p (tasks sh) ≡ true
+one_map p sh s h e = one_of_all p sh (MapTask s) (lt-ltb s sh.maps h) e
+
+pub one_part : (p : Task → Bool) (sh : Shape) (q : ℕ) → q < sh.parts → p (ReduceTask q) ≡ true → list_any p (tasks sh) ≡ true
+one_part p sh q h e = one_of_all p sh (ReduceTask q) (lt-ltb q sh.parts h) e
 
 -- what holds where the other does
 pub none_weaker : {X : Type 0} (p q : X → Bool) (xs : List X) → ((x : X) → p x ≡ true → q x ≡ true) → list_any q xs ≡ false → list_any p xs ≡ false

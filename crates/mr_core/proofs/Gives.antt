@@ -1,5 +1,5 @@
 -- What a worker is answered that asks.
-use Rattle.std.proofs.Common.{◌≡◌, ℕ, ◌<◌, ◌≤◌, ◌^◌, Some, None, Option, List, [], ◌∷◌, ◌++◌, length, slice_get, refl, ap, sym, ◌∙◌, subst, Bool, true, false, cond, not, ◌&&◌, ◌||◌, ◌==◌, nat_lt, arith}
+use Rattle.std.proofs.Common.{◌≡◌, ℕ, ◌<◌, ◌≤◌, ◌^◌, Some, None, Option, List, [], ◌∷◌, ◌++◌, length, slice_get, refl, ap, sym, ◌∙◌, subst, Bool, true, false, cond, not, ◌&&◌, ◌||◌, ◌==◌, nat_lt, is_some, arith}
 use Rattle.std.specs.Option.{option_map_or}
 use Rattle.std.specs.List.{list_any}
 use Rattle.std.proofs.lemmas.Bool.{and_parts, ltb-true}
@@ -13,8 +13,9 @@ use Rattle.mr_core.specs.declared.entries.Split.{Split}
 use Rattle.mr_core.specs.Master.{State, Attempt, may_give, given, asked, issue, same_list, tasks, is_active, is_task, has_live, may_newly, may_backup, opening}
 use Rattle.mr_core.specs.Core.{InLimits, IsReached}
 use Rattle.std.specs.Prelude.{Result, Ok, Err, IfOk, MatchOption}
-use Rattle.mr_core.specs.declared.tables.Query.TheVariants.{Backup}
-use Rattle.mr_core.specs.Queries.{answers}
+use Rattle.mr_core.specs.Queries.{is_lone}
+use Rattle.mr_core.specs.Index.{IsGoing, IsBelow, IsCurrent}
+use Rattle.mr_core.proofs.Indexed.{none_at}
 use Rattle.mr_core.proofs.Finds.{none_newly_or_backup, backup_may}
 use Rattle.mr_core.proofs.Moves.{same_number, same_set, both}
 use Rattle.mr_core.proofs.Progress.{run_going, going_at_opening}
@@ -53,7 +54,7 @@ given_wait sh st w e = ap (λ (b : Bool). cond b None (Some st)) e
 
 -- ---- answers of the calls that look
 
-pub backup_given : (sh : Shape) (st : State) (w : ℕ) (r : Option Task) → MatchOption r (list_any (answers Backup sh st) (tasks sh) ≡ false) (λ t. (answers Backup sh st t ≡ true) × (is_task sh t ≡ true)) → has_live st w ≡ false → list_any (may_newly sh st) (tasks sh) ≡ false
+pub backup_given : (sh : Shape) (st : State) (w : ℕ) (r : Option Task) → MatchOption r (list_any (is_lone sh st) (tasks sh) ≡ false) (λ t. (is_lone sh st t ≡ true) × (is_task sh t ≡ true)) → has_live st w ≡ false → list_any (may_newly sh st) (tasks sh) ≡ false
     → MatchOption r (list_any (may_give sh st w) (tasks sh) ≡ false) (λ t. may_give sh st w t ≡ true)
 backup_given sh st w None h free none = none_newly_or_backup sh st w none h
 backup_given sh st w (Some t) h free none = backup_may sh st w t free h.1 none h.0
@@ -61,3 +62,30 @@ backup_given sh st w (Some t) h free none = backup_may sh st w t free h.1 none h
 pub ok_weaker : {X E : Type 0} (r : Result X E) (P Q : X → Type 0) → ((x : X) → P x → Q x) → IfOk r P → IfOk r Q
 ok_weaker (Ok x) P Q f h = f x h
 ok_weaker (Err e) P Q f h = tt
+
+-- as the calls find it
+pub busy_is : (xs : List Attempt) (w : ℕ) (r : Option ℕ) → MatchOption r (list_any (λ (a : Attempt). (a.worker == w) && a.live) xs ≡ false) (λ a. IsCurrent xs w a) → is_some r ≡ list_any (λ (a : Attempt). (a.worker == w) && a.live) xs
+busy_is xs w None h = sym h
+busy_is xs w (Some a) h = by (list_any (λ (a : Attempt). (a.worker == w) && a.live) xs) refl
+  where
+    by : (b : Bool) → list_any (λ (a : Attempt). (a.worker == w) && a.live) xs ≡ b → true ≡ b
+    by true e = refl
+    by false e = absurd (Rattle.std.proofs.lemmas.Bool.false≢true (sym (none_at (λ (b : Attempt). (b.worker == w) && b.live) xs a h.0 e h.1) ∙ both _ _ (Rattle.std.proofs.Common.eq-eqb h.0.worker w h.3) h.2))
+
+pub active_below : (st : State) (w : ℕ) → is_active st w ≡ true → w < length st.lost
+active_below st w e = by st.lost w e
+  where
+    by : (xs : List Bool) (i : ℕ) → option_map_or not (slice_get xs i) false ≡ true → i < length xs
+    by [] i e = absurd (Rattle.std.proofs.lemmas.Bool.false≢true e)
+    by (x ∷ xs) Rattle.std.proofs.Common.zero e = omega arith
+    by (x ∷ xs) (Rattle.std.proofs.Common.suc i) e = omega (arith, by xs i e)
+
+pub task_below : (sh : Shape) (st : State) (w : ℕ) (t : Task) → IsGoing sh st → may_give sh st w t ≡ true → IsBelow (length st.splits) (length st.committed) t
+task_below sh st w t going may = by t ((and_parts (is_task sh t) (not (has_live st w) && (may_newly sh st t || may_backup sh st t)) may).0)
+  where
+    by : (t : Task) → is_task sh t ≡ true → IsBelow (length st.splits) (length st.committed) t
+    by (MapTask s) e = let h = ltb-true s sh.maps e in omega (arith, h, going.splits)
+    by (Rattle.mr_core.specs.declared.event.Task.TheVariants.Reduce p) e = let h = ltb-true p sh.parts e in omega (arith, h, going.parts)
+
+pub free_of_may : (sh : Shape) (st : State) (w : ℕ) (t : Task) → may_give sh st w t ≡ true → has_live st w ≡ false
+free_of_may sh st w t may = Rattle.std.proofs.lemmas.Bool.not-true (has_live st w) ((and_parts (not (has_live st w)) (may_newly sh st t || may_backup sh st t) ((and_parts (is_task sh t) (not (has_live st w) && (may_newly sh st t || may_backup sh st t)) may).1)).0)

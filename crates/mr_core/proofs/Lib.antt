@@ -14,5 +14,13 @@ pub mod Finds
 pub mod Moves
 pub mod Inserts
 pub mod Gives
-pub mod Counts
+pub mod Few
 pub mod Promised
+pub mod Indexed
+pub mod Missing
+pub mod Tabled
+pub mod Touched
+pub mod Newly
+pub mod Lone
+pub mod Calm
+pub mod Twice

@@ -2,6 +2,7 @@
 use Rattle.std.proofs.Common.{◌≡◌, ℕ, zero, suc, ◌<◌, ◌≤◌, ◌+◌, Some, None, Option, Bool, true, false, List, [], ◌∷◌, ◌++◌, length, slice_get, slice_index_or, map, take, drop, refl, ap, sym, ◌∙◌, subst, arith}
 use Rattle.std.specs.Prelude.{slice_set}
 use Rattle.mr_core.specs.declared.entries.Split.{Split}
+use Rattle.mr_core.specs.Index.{IsLonger}
 use Rattle.mr_core.specs.Master.{Attempt, update_at, takes, only_live}
 
 pub set_is_update : {X : Type 0} (xs : List X) (i : ℕ) (x : X) → slice_set xs i x ≡ update_at (λ y. x) i xs
@@ -67,3 +68,18 @@ pub set_same : {X : Type 0} (xs : List X) (i : ℕ) (d x : X) → i < length xs 
 set_same [] i d x h e = refl
 set_same (y ∷ ys) zero d x h e = ap (λ z. z ∷ ys) e
 set_same (y ∷ ys) (suc i) d x h e = ap (λ zs. y ∷ zs) (set_same ys i d x (omega arith) e)
+
+-- ---- a list made longer at its place
+
+pub longer_set : (xs : List (List ℕ)) (i n : ℕ) (l : List ℕ) → IsLonger (Some l) (slice_get xs i) n → slice_set xs i l ≡ update_at (λ f. f ++ n ∷ []) i xs
+longer_set [] i n l h = refl
+longer_set (x ∷ xs) zero n l h = let same : x ≡ h.0 = cc h.1 in ap (λ (z : List ℕ). z ∷ xs) (h.2 ∙ ap (λ (k : List ℕ). k ++ n ∷ []) (sym same))
+longer_set (x ∷ xs) (suc i) n l h = ap (λ zs. x ∷ zs) (longer_set xs i n l h)
+
+pub longer_none : (xs : List (List ℕ)) (i n : ℕ) → slice_get xs i ≡ None → xs ≡ update_at (λ f. f ++ n ∷ []) i xs
+longer_none [] i n h = refl
+longer_none (x ∷ xs) zero n h = absurd (cc h)
+longer_none (x ∷ xs) (suc i) n h = ap (λ zs. x ∷ zs) (longer_none xs i n h)
+
+pub longer_past : (xs : List (List ℕ)) (i n : ℕ) → length xs ≤ i → xs ≡ update_at (λ f. f ++ n ∷ []) i xs
+longer_past xs i n h = sym (update_past (λ f. f ++ n ∷ []) xs i h)

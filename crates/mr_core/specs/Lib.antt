@@ -5,3 +5,4 @@ pub mod Queries
 pub mod Core
 pub mod Looks
 pub mod Promises
+pub mod Index

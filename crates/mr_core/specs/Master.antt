@@ -27,13 +27,13 @@ pub record Attempt : Type 0 where
   pub fetched : List (Option ℕ)
   pub live : Bool
 
--- failures: each accepted one, as (split, record)
+-- failures: for each split the records of its accepted ones
 pub record State : Type 0 where
   pub lost : List Bool
   pub splits : List Split
   pub committed : List (Option ℕ)
   pub attempts : List Attempt
-  pub failures : List (ℕ × ℕ)
+  pub failures : List (List ℕ)
   pub end : Option End
 
 abbrev pub opening : Shape → State
@@ -43,7 +43,7 @@ opening sh =
       splits = replicate sh.maps (record { skips = []; fixed = false; output = None });
       committed = replicate sh.parts None;
       attempts = [];
-      failures = [];
+      failures = replicate sh.maps [];
       end = None;
     }
 
@@ -146,7 +146,7 @@ abbrev pub leave_out : ℕ → ℕ → State → State
 leave_out s r st = record st { splits = update_at (λ sp. record sp { skips = with_number r sp.skips }) s st.splits }
 
 abbrev pub note_failure : ℕ → ℕ → State → State
-note_failure s r st = record st { failures = st.failures ++ (s, r) ∷ [] }
+note_failure s r st = record st { failures = update_at (λ f. f ++ r ∷ []) s st.failures }
 
 abbrev pub commit : ℕ → ℕ → State → State
 commit p o st = record st { committed = update_at (λ x. Some o) p st.committed }
@@ -232,7 +232,7 @@ may_leave_out r None = false
 may_leave_out r (Some sp) = not sp.fixed && not (list_any (λ x. x == r) sp.skips)
 
 abbrev pub failed_before : State → ℕ → ℕ → Bool
-failed_before st s r = list_any (λ f. (f.0 == s) && (f.1 == r)) st.failures
+failed_before st s r = option_map_or (λ f. list_any (λ x. x == r) f) (slice_get st.failures s) false
 
 abbrev pub map_failed_by : Shape → State → ℕ → ℕ → Task → Outcome
 map_failed_by sh st a r (ReduceTask p) = replies Ignored st

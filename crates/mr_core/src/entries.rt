@@ -1,10 +1,11 @@
 //! The entries of a master's lists: its splits, and the attempts that it has issued.
-ghost use Rattle.std.specs.Prelude.{◌≡◌, ℕ, Bool, true, false, Option, Some, None, List, [], ◌∷◌, ◌==◌, ◌&&◌, map, is_some, nat_lt, length, slice_get, OnOk, OnErr, IfOk, replicate};
+ghost use Rattle.std.specs.Prelude.{◌≡◌, ℕ, Bool, true, false, Option, Some, None, List, [], ◌∷◌, ◌==◌, ◌&&◌, map, is_some, is_none, nat_lt, length, slice_get, OnOk, OnErr, IfOk, replicate};
 ghost use Rattle.std.specs.List.{list_any, list_all, count_by, sum_by};
 ghost use Rattle.mr_core.specs.Master.{Attempt, update_at, left_by, gone_with, held_by, task_eq, only_live, takes, with_number};
 
 use crate::event::Task;
 use crate::skips::Skips;
+use crate::splits::Splits;
 use std::alloc::{AllocError, Global};
 use std::marker::Model;
 
@@ -112,25 +113,14 @@ impl Attempt {
         self.live = false;
     }
 
-    /// The attempt ends, where it is the worker's.
-    pub(crate) fn leave(&mut self, worker: u32)
-        ensures { self.new ≡ left_by worker self.old }
-    {
-        if self.worker == worker {
-            self.live = false;
-        }
-    }
-
     /// The attempt ends, and the split is complete with its output, without the records that it left out.
-    pub(crate) fn complete(&mut self, split: &mut Split, output: u64)
+    pub(crate) fn give(&mut self, splits: &mut Splits, split: u32, output: u64)
         requires { self.old.live ≡ true }
         ensures ended { self.new ≡ record self.old { live = false } }
-        ensures split { split.new ≡ record { skips = self.old.skips; fixed = true; output = Some (output, self.old.worker) } }
+        ensures splits { splits.new ≡ update_at (λ sp. record { skips = self.old.skips; fixed = true; output = Some (output, self.old.worker) }) split splits.old }
     {
-        std::mem::swap(&mut self.spare, &mut split.skips);
+        splits.complete(split, &mut self.spare, output, self.worker);
         self.live = false;
-        split.fixed = true;
-        split.output = Some((output, self.worker));
     }
 
     /// The latest fetch of the split gave this output.
@@ -149,54 +139,6 @@ pub(crate) fn put<T: Copy>(items: &mut [T], at: u32, value: T)
     let at = at as usize;
     if at < items.len() {
         items[at] = value;
-    }
-}
-
-/// The attempt of this number ends, where there is one.
-#[tactic(auto, using(crate::proofs::Updates::update_is_set, crate::proofs::Updates::update_past))]
-pub(crate) fn end_attempt(attempts: &mut [Attempt], at: u32)
-    ensures { attempts.new ≡ update_at (λ t. record t { live = false }) at attempts.old }
-{
-    let at = at as usize;
-    if at < attempts.len() {
-        attempts[at].end();
-    }
-}
-
-/// The attempt of this number fetched the output of a split, where there is such an attempt.
-#[tactic(auto, using(crate::proofs::Updates::update_is_set, crate::proofs::Updates::update_past))]
-pub(crate) fn note_fetch(attempts: &mut [Attempt], at: u32, map: u32, output: u64)
-    ensures { attempts.new ≡ update_at (λ t. record t { fetched = update_at (λ x. Some output) map t.fetched }) at attempts.old }
-{
-    let at = at as usize;
-    if at < attempts.len() {
-        attempts[at].note_fetch(map, output);
-    }
-}
-
-/// The live attempt at `at` ends, and completes the split at `split`.
-#[tactic(auto, using(crate::proofs::Updates::update_is_set))]
-pub(crate) fn complete_split(
-    attempts: &mut [Attempt],
-    at: u32,
-    splits: &mut [Split],
-    split: u32,
-    output: u64,
-)
-    requires { (x : Attempt) × (only_live (slice_get attempts.now at) ≡ Some x) × (takes x.skips (slice_get splits.now split) ≡ true) }
-    ensures attempts { attempts.new ≡ update_at (λ t. record t { live = false }) at attempts.old }
-    ensures splits { (x : Attempt) → only_live (slice_get attempts.old at) ≡ Some x → splits.new ≡ update_at (λ sp. record { skips = x.skips; fixed = true; output = Some (output, x.worker) }) split splits.old }
-{
-    attempts[at as usize].complete(&mut splits[split as usize], output);
-}
-
-/// Ends the live attempts of a worker.
-#[tactic(auto, using(crate::proofs::Updates::map_one_more, crate::proofs::Updates::map_none_yet, crate::proofs::Updates::map_all))]
-pub(crate) fn leave_attempts(attempts: &mut [Attempt], worker: u32)
-    ensures { attempts.new ≡ map (left_by worker) attempts.old }
-{
-    for i in 0..attempts.len() {
-        attempts[i].leave(worker);
     }
 }
 
@@ -229,18 +171,11 @@ fn is_held_by(output: Option<(u64, u32)>, worker: u32) -> bool
     }
 }
 
-/// Whether an attempt of the worker is live.
-pub(crate) fn has_live(attempts: &[Attempt], worker: u32) -> bool
-    ensures { result ≡ list_any (λ a. (a.worker == worker) && a.live) attempts.now }
+/// How many splits have no output.
+pub(crate) fn count_missing(splits: &[Split]) -> usize
+    ensures { result ≡ count_by (λ sp. is_none sp.output) splits.now }
 {
-    attempts.iter().any(|a| a.worker() == worker && a.is_live())
-}
-
-/// Whether every split has an output.
-pub(crate) fn all_outputs(splits: &[Split]) -> bool
-    ensures { result ≡ list_all (λ sp. is_some sp.output) splits.now }
-{
-    splits.iter().all(|s| s.output.is_some())
+    splits.iter().filter(|split| split.output.is_none()).count()
 }
 
 /// Whether all are there.
@@ -255,32 +190,6 @@ pub(crate) fn all_true(items: &[bool]) -> bool
     ensures { result ≡ list_all (λ x. x) items.now }
 {
     items.iter().all(|x| *x)
-}
-
-/// How many attempts of the task were issued.
-pub(crate) fn count_issued(attempts: &[Attempt], task: Task) -> usize
-    ensures { result ≡ count_by (λ a. task_eq a.task task) attempts.now }
-{
-    let mut count = 0;
-    for attempt in attempts {
-        if attempt.task() == task {
-            count += 1;
-        }
-    }
-    count
-}
-
-/// How many attempts of the task are live.
-pub(crate) fn count_live(attempts: &[Attempt], task: Task) -> usize
-    ensures { result ≡ count_by (λ a. task_eq a.task task && a.live) attempts.now }
-{
-    let mut count = 0;
-    for attempt in attempts {
-        if attempt.task() == task && attempt.is_live() {
-            count += 1;
-        }
-    }
-    count
 }
 
 /// Whether fewer records than the limit are left out.
@@ -298,25 +207,20 @@ pub(crate) fn has_room(splits: &[Split], limit: u32) -> bool
     room > 0
 }
 
-/// Whether the record of the split has failed.
-pub(crate) fn has_failed(failures: &[(u32, u32)], split: u32, number: u32) -> bool
-    ensures { result ≡ list_any (λ f. (f.0 == split) && (f.1 == number)) failures.now }
-{
-    failures.iter().any(|f| f.0 == split && f.1 == number)
-}
-
 /// Adds a record to those left out of the split; without memory nothing changes.
 fn add_to_split(split: &mut Split, number: u32) -> Result<(), AllocError>
     ensures ok { OnOk result (split.new ≡ record split.old { skips = with_number number split.old.skips }) }
+    ensures output { split.new.output ≡ split.old.output }
     ensures err { OnErr result (split.new ≡ split.old) }
 {
     split.skips.add(number)
 }
 
 /// Adds a record to those left out of the split at `at`; without memory nothing changes.
-#[tactic(auto, using(crate::proofs::Updates::update_is_set, crate::proofs::Updates::update_past, crate::proofs::Updates::set_same))]
+#[tactic(auto, using(crate::proofs::Updates::update_is_set, crate::proofs::Updates::update_past, crate::proofs::Updates::set_same, crate::proofs::Missing::count_set))]
 pub(crate) fn leave_out(splits: &mut [Split], at: u32, number: u32) -> Result<(), AllocError>
     ensures ok { OnOk result (splits.new ≡ update_at (λ sp. record sp { skips = with_number number sp.skips }) at splits.old) }
+    ensures missing { count_by (λ sp. is_none sp.output) splits.new ≡ count_by (λ sp. is_none sp.output) splits.old }
     ensures err { OnErr result (splits.new ≡ splits.old) }
 {
     let at = at as usize;

@@ -1,13 +1,19 @@
 //! The master of a job, as a pure machine: events in, replies out.
 #![tactic(auto)]
 
+mod attempts;
+mod counts;
+mod current;
 mod entries;
 mod event;
+mod failed;
 #[cfg(test)]
 mod histories;
 mod laws;
 mod master;
+mod outputs;
 mod skips;
+mod splits;
 mod tables;
 #[cfg(test)]
 mod tests;

@@ -3,6 +3,7 @@ ghost use Rattle.std.specs.Prelude.{◌≡◌, OnOk, OnErr, IfOk, []};
 ghost use Rattle.mr_core.specs.declared.event.Event.{Event};
 ghost use Rattle.mr_core.specs.Core.{IsStep, InLimits, IsRun, GoesOn};
 ghost use Rattle.mr_core.specs.Master.{opening};
+ghost use Rattle.mr_core.specs.Index.{IsPlain};
 
 use crate::event::{Event, Limits, Reply, Shape};
 use crate::tables::Tables;
@@ -36,8 +37,9 @@ impl Core {
         if self.tables.end().is_some() {
             return Reply::Ignored;
         }
+        let task = self.tables.task_at(attempt);
         let reply = self.tables.fetch(attempt, map);
-        self.tables.settle(self.shape, false);
+        self.tables.settle_at(self.shape, task, false);
         reply
     }
 
@@ -48,8 +50,9 @@ impl Core {
         if self.tables.end().is_some() {
             return Reply::Ignored;
         }
+        let task = self.tables.task_at(attempt);
         let reply = self.tables.map_done(attempt, output);
-        self.tables.settle(self.shape, false);
+        self.tables.settle_at(self.shape, task, false);
         reply
     }
 
@@ -60,8 +63,9 @@ impl Core {
         if self.tables.end().is_some() {
             return Reply::Ignored;
         }
+        let task = self.tables.task_at(attempt);
         let reply = self.tables.reduce_done(attempt, output);
-        self.tables.settle(self.shape, false);
+        self.tables.settle_at(self.shape, task, false);
         reply
     }
 
@@ -73,7 +77,7 @@ impl Core {
             return Reply::Ignored;
         }
         let reply = self.tables.lose(worker);
-        self.tables.settle(self.shape, false);
+        self.tables.settle(self.shape);
         reply
     }
 
@@ -85,8 +89,9 @@ impl Core {
         if self.tables.end().is_some() {
             return Ok(Reply::Ignored);
         }
+        let task = self.tables.task_at(attempt);
         let (reply, over) = self.tables.map_failed(self.shape, attempt, number)?;
-        self.tables.settle(self.shape, over);
+        self.tables.settle_at(self.shape, task, over);
         Ok(reply)
     }
 
@@ -119,12 +124,22 @@ impl Core {
         ensures ok { IfOk result (λ r. IsStep self.old (Event.Ask worker) r self.new) }
         ensures err { OnErr result (self.new ≡ self.old) }
     {
-        if let Some(end) = self.tables.end() {
-            return Ok(Reply::Stop(end));
-        }
-        let reply = self.tables.ask(alloc, self.shape, worker)?;
-        self.tables.settle(self.shape, false);
+        let (reply, _again) = self.ask_twice(alloc, worker)?;
         Ok(reply)
+    }
+
+    /// A worker asks for a task. Answers two equal replies.
+    fn ask_twice(&mut self, alloc: Global, worker: u32) -> Result<(Reply, Reply), AllocError>
+        ensures ok { IfOk result (λ r. IsStep self.old (Event.Ask worker) r.0 self.new) }
+        ensures twice { IfOk result (λ r. r.0 ≡ r.1) }
+        ensures err { OnErr result (self.new ≡ self.old) }
+    {
+        if let Some(end) = self.tables.end() {
+            return Ok((Reply::Stop(end), Reply::Stop(end)));
+        }
+        // the ends aren't tested: a task that is given has an attempt that goes on
+        let (reply, again) = self.tables.ask(alloc, self.shape, worker)?;
+        Ok((reply, again))
     }
 
     fn step(&mut self, alloc: Global, event: Event) -> Result<Reply, AllocError>
@@ -150,5 +165,54 @@ impl Core {
         // shows the invariant: the shape is within the limits
         let _ = &self.shape;
         self.step(alloc, event)
+    }
+
+    fn step_twice(&mut self, alloc: Global, event: Event) -> Result<(Reply, Reply), AllocError>
+        ensures ok { IfOk result (λ r. IsStep self.old event r.0 self.new) }
+        ensures twice { IfOk result (λ r. r.0 ≡ r.1) }
+        ensures err { OnErr result (self.new ≡ self.old) }
+    {
+        match event {
+            Event::Ask(worker) => self.ask_twice(alloc, worker),
+            Event::Fetch(attempt, map) => Ok(twice(self.fetch(attempt, map))),
+            Event::MapDone(attempt, output) => Ok(twice(self.map_done(attempt, output))),
+            Event::MapFailed(attempt, number) => Ok(twice(self.map_failed(attempt, number)?)),
+            Event::ReduceDone(attempt, output) => Ok(twice(self.reduce_done(attempt, output))),
+            Event::Lose(worker) => Ok(twice(self.lose(worker))),
+        }
+    }
+
+    /// One event, with the reply made twice: one to keep, and one to answer. Without memory the master stays as it was.
+    pub fn apply_twice(&mut self, alloc: Global, event: Event) -> Result<(Reply, Reply), AllocError>
+        ensures ok { IfOk result (λ r. IsStep self.old event r.0 self.new) }
+        ensures run { IfOk result (λ r. GoesOn self.old event r.0 self.new) }
+        ensures twice { IfOk result (λ r. r.0 ≡ r.1) }
+        ensures err { OnErr result (self.new ≡ self.old) }
+    {
+        // shows the invariant: the shape is within the limits
+        let _ = &self.shape;
+        self.step_twice(alloc, event)
+    }
+}
+
+/// The reply, which holds no list, and the same once more.
+fn twice(reply: Reply) -> (Reply, Reply)
+    requires { IsPlain reply }
+    ensures reply { result.0 ≡ reply }
+    ensures same { result.0 ≡ result.1 }
+{
+    match reply {
+        Reply::Reduce { attempt, partition } => (
+            Reply::Reduce { attempt, partition },
+            Reply::Reduce { attempt, partition },
+        ),
+        Reply::Wait => (Reply::Wait, Reply::Wait),
+        Reply::Stop(end) => (Reply::Stop(end), Reply::Stop(end)),
+        Reply::Region { output } => (Reply::Region { output }, Reply::Region { output }),
+        Reply::Gone => (Reply::Gone, Reply::Gone),
+        Reply::Accepted => (Reply::Accepted, Reply::Accepted),
+        Reply::Ignored => (Reply::Ignored, Reply::Ignored),
+        // ruled out
+        Reply::Map { .. } => (Reply::Wait, Reply::Wait),
     }
 }

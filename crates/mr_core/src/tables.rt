@@ -1,54 +1,53 @@
-//! The master's state, and each event's change of it.
-ghost use Rattle.std.specs.Prelude.{◌≡◌, ℕ, Bool, true, false, Option, Some, None, List, [], ◌∷◌, ◌++◌, length, not, ◌&&◌, ◌<◌, ◌^◌, nat_lt, MatchOption, OnOk, OnErr, IfOk, IfSome, slice_get, is_some};
-ghost use Rattle.std.specs.Option.{option_map_or};
-ghost use Rattle.std.specs.List.{list_all, list_any};
+//! The master's state: its lists, and the ends of the job.
+ghost use Rattle.std.specs.Prelude.{◌≡◌, ℕ, true, false, Option, Some, None, ◌==◌, ◌<◌, nat_lt, MatchOption, IfOk, slice_get};
+ghost use Rattle.std.specs.List.{list_any};
 ghost use Rattle.mr_core.specs.declared.event.Shape.{Shape};
 ghost use Rattle.mr_core.specs.declared.event.Task.{Task};
-ghost use Rattle.mr_core.specs.declared.event.Event.{Event};
-ghost use Rattle.mr_core.specs.declared.event.Reply.{Reply};
 ghost use Rattle.mr_core.specs.declared.entries.Split.{Split};
-ghost use Rattle.mr_core.specs.Queries.{IsLive, answers};
+ghost use Rattle.mr_core.specs.Queries.{IsLive};
 ghost use Rattle.mr_core.specs.Looks.{output_of, committed_of, number_of, set_of};
-ghost use Rattle.mr_core.specs.Master.{State, Attempt, finish, fetch, commit, complete, lose, tasks, is_task, is_active, is_complete, maps_complete, issued, live, is_open, may_newly, is_stuck, live_attempt, outcome, replies, Outcome, end_of, settled, takes, may_leave_out, failed_before, left_out, leave_out, note_failure, opening, may_give, given, asked, has_live};
+ghost use Rattle.mr_core.specs.Master.{State, tasks, is_active, is_complete, maps_complete, issued, live, is_stuck, live_attempt, end_of, settled, opening};
+ghost use Rattle.mr_core.specs.Index.{counted, task_at, IsTouched};
 
-use crate::entries::{
-    Attempt, Fetched, Split, all_outputs, all_some, all_true, complete_split, copies, count_issued,
-    count_live, end_attempt, has_failed, has_live, has_room, leave_attempts, leave_out,
-    leave_outputs, new_splits, note_fetch, put,
-};
-use crate::event::{End, Event, JobFault, Reply, Shape, Task};
-use crate::skips::Skips;
+use crate::attempts::Attempts;
+use crate::counts::Count;
+use crate::entries::{all_true, copies};
+use crate::event::{End, JobFault, Shape, Task};
+use crate::failed::{Failed, none_failed};
+use crate::outputs::Outputs;
+use crate::splits::Splits;
 use std::alloc::{AllocError, Global};
 use std::marker::Model;
 
-/// A question that is asked of all tasks.
-#[derive(Clone, Copy, Debug, PartialEq, Eq)]
-pub(crate) enum Query {
-    /// It is idle, and may be executed.
-    Newly,
-    /// It may be executed once more beside its only live attempt.
-    Backup,
-    /// It can't be finished any more.
-    Stuck,
-}
+mod asks;
+mod reports;
 
-/// The lists of a master's state.
+/// A master's state. Each event costs a few steps, whatever the number of attempts and of tasks: counts stand beside the
+/// lists, and what was asked once isn't searched again. Below the two cursors no task is idle (not complete, with nobody
+/// at it): a worker that asks goes on from there, and an attempt that ends without completing its task moves the cursor
+/// back to it. A job is stuck in no task before an event, so that the ends are tested for the one task that it touched.
+/// Only the loss of a worker goes over all tasks, once, and lets both cursors begin anew.
 #[derive(Drop)]
 pub(crate) struct Tables {
     lost: Vec<bool>,
-    splits: Vec<Split>,
-    committed: Vec<Option<u64>>,
-    attempts: Vec<Attempt>,
-    failures: Vec<(u32, u32)>,
+    splits: Splits,
+    committed: Outputs,
+    attempts: Attempts,
+    failures: Vec<Failed>,
     end: Option<End>,
+    next_map: u32,
+    next_part: u32,
 }
 
 impl Model for Tables {
     ghost use Rattle.mr_core.specs.Master.{State};
+    ghost use Rattle.mr_core.specs.Index.{IsTabled};
 
     ghost Value = { State };
 
-    ghost view = { λ t. record { lost = t.lost.items; splits = t.splits.items; committed = t.committed.items; attempts = t.attempts.items; failures = t.failures.items; end = t.end } };
+    ghost view = { λ t. record { lost = t.lost.items; splits = t.splits; committed = t.committed; attempts = t.attempts.items; failures = t.failures.items; end = t.end } };
+
+    ghost invariant = { λ t. IsTabled (record { lost = t.lost.items; splits = t.splits; committed = t.committed; attempts = t.attempts.items; failures = t.failures.items; end = t.end }) t.attempts t.next_map t.next_part };
 }
 
 impl Tables {
@@ -84,39 +83,39 @@ impl Tables {
         }
     }
 
-    /// Whether the task may be executed once more.
-    fn is_open(&self, shape: Shape, task: Task) -> bool
-        ensures { result ≡ is_open shape self.now task }
+    /// How many attempts of the task were issued, and how many of them are live.
+    fn count(&self, task: Task) -> Count
+        ensures { result ≡ counted self.now.attempts task }
     {
-        let waits = !self.is_complete(task);
-        let few = self.has_few(shape, task);
-        match task {
-            Task::Map(_) => waits && few,
-            Task::Reduce(_) => waits && (few && self.maps_complete()),
-        }
+        self.attempts.count(task)
     }
 
     /// Whether the task has had fewer attempts than it may have.
     fn has_few(&self, shape: Shape, task: Task) -> bool
         ensures { result ≡ nat_lt (issued self.now task) shape.limits.attempts }
     {
-        count_issued(self.attempts.as_slice(), task) < shape.limits.attempts as usize
+        self.count(task).issued < shape.limits.attempts
+    }
+
+    /// Whether as many attempts of the task are live.
+    fn has_live(&self, task: Task, number: u32) -> bool
+        ensures { result ≡ (live self.now task == number) }
+    {
+        self.count(task).live == number
     }
 
     /// Whether every split has an output.
     fn maps_complete(&self) -> bool
         ensures { result ≡ maps_complete self.now }
     {
-        all_outputs(self.splits.as_slice())
+        self.splits.is_whole()
     }
 
     /// Whether the task can't be finished any more.
     fn is_stuck(&self, shape: Shape, task: Task) -> bool
         ensures { result ≡ is_stuck shape self.now task }
     {
-        !self.is_complete(task)
-            && count_live(self.attempts.as_slice(), task) == 0
-            && count_issued(self.attempts.as_slice(), task) >= shape.limits.attempts as usize
+        !self.is_complete(task) && self.has_live(task, 0) && !self.has_few(shape, task)
     }
 
     /// The task of a live attempt.
@@ -131,12 +130,14 @@ impl Tables {
         }
     }
 
-    /// The output of a split, with the worker that has it; None where there is no such split.
-    fn split_output(&self, map: u32) -> Option<Option<(u64, u32)>>
-        ensures { MatchOption result (slice_get self.now.splits map ≡ None) (λ o. (sp : Split) × (slice_get self.now.splits map ≡ Some sp) × (sp.output ≡ o)) }
+    /// The task of the attempt of this number.
+    pub(crate) fn task_at(&self, attempt: u32) -> Option<Task>
+        ensures { result ≡ task_at self.now attempt }
     {
-        let split = self.splits.as_slice().get(map as usize)?;
-        Some(split.output)
+        match self.attempts.as_slice().get(attempt as usize) {
+            Some(attempt) => Some(attempt.task()),
+            None => None,
+        }
     }
 
     /// The output of a split.
@@ -169,188 +170,32 @@ impl Tables {
         }
     }
 
-    fn finish(&mut self, attempt: u32)
-        ensures { self.new ≡ finish attempt self.old }
-    {
-        end_attempt(self.attempts.as_mut_slice(), attempt);
-    }
-
-    fn note(&mut self, attempt: u32, map: u32, output: u64)
-        ensures { self.new ≡ fetch attempt map output self.old }
-    {
-        note_fetch(self.attempts.as_mut_slice(), attempt, map, output);
-    }
-
-    fn commit(&mut self, partition: u32, output: u64)
-        ensures { self.new ≡ commit partition output self.old }
-    {
-        put(self.committed.as_mut_slice(), partition, Some(output));
-    }
-
-    /// A reduce attempt fetches the output of a split.
-    pub(crate) fn fetch(&mut self, attempt: u32, map: u32) -> Reply
-        ensures { (sh : Shape) → outcome sh self.old (Event.Fetch attempt map) ≡ replies result self.new }
-    {
-        let Some(task) = self.live_task(attempt) else {
-            return Reply::Ignored;
-        };
-        let Task::Reduce(_) = task else {
-            return Reply::Ignored;
-        };
-        let Some(output) = self.split_output(map) else {
-            return Reply::Ignored;
-        };
-        let Some((output, _)) = output else {
-            self.finish(attempt);
-            return Reply::Gone;
-        };
-        self.note(attempt, map, output);
-        Reply::Region { output }
-    }
-
-    /// Whether the attempt has fetched the output of every split.
-    fn has_all(&self, attempt: u32) -> bool
-        ensures { (at : Attempt) → live_attempt self.now attempt ≡ Some at → result ≡ list_all is_some at.fetched }
-    {
-        match self.attempts.as_slice().get(attempt as usize) {
-            Some(attempt) => all_some(attempt.fetched()),
-            None => false,
-        }
-    }
-
-    /// A reduce attempt is done.
-    pub(crate) fn reduce_done(&mut self, attempt: u32, output: u64) -> Reply
-        ensures { (sh : Shape) → outcome sh self.old (Event.ReduceDone attempt output) ≡ replies result self.new }
-    {
-        let Some(task) = self.live_task(attempt) else {
-            return Reply::Ignored;
-        };
-        let Task::Reduce(partition) = task else {
-            return Reply::Ignored;
-        };
-        let wanted = !self.is_complete(Task::Reduce(partition)) && self.has_all(attempt);
-        self.finish(attempt);
-        if !wanted {
-            return Reply::Ignored;
-        }
-        self.commit(partition, output);
-        Reply::Accepted
-    }
-
-    /// Whether the split takes an output under what the attempt leaves out.
-    fn takes(&self, attempt: u32, split: u32) -> bool
-        ensures { (at : Attempt) → live_attempt self.now attempt ≡ Some at → result ≡ takes at.skips (slice_get self.now.splits split) }
-    {
-        let Some(attempt) = self.attempts.as_slice().get(attempt as usize) else {
-            return false;
-        };
-        match self.splits.as_slice().get(split as usize) {
-            Some(split) => split.output.is_none()
-                && (!split.fixed || split.skips.is_same(attempt.skips())),
-            None => false,
-        }
-    }
-
-    /// The split is complete, with what a live attempt gave.
-    fn complete(&mut self, attempt: u32, split: u32, output: u64)
-        requires { (at : Attempt) × (live_attempt self.old attempt ≡ Some at) × (takes at.skips (slice_get self.old.splits split) ≡ true) }
-        ensures { (at : Attempt) → live_attempt self.old attempt ≡ Some at → self.new ≡ complete split at.skips output at.worker (finish attempt self.old) }
-    {
-        complete_split(
-            self.attempts.as_mut_slice(),
-            attempt,
-            self.splits.as_mut_slice(),
-            split,
-            output,
-        );
-    }
-
-    /// A map attempt is done.
-    pub(crate) fn map_done(&mut self, attempt: u32, output: u64) -> Reply
-        ensures { (sh : Shape) → outcome sh self.old (Event.MapDone attempt output) ≡ replies result self.new }
-    {
-        let Some(task) = self.live_task(attempt) else {
-            return Reply::Ignored;
-        };
-        let Task::Map(split) = task else {
-            return Reply::Ignored;
-        };
-        if !self.takes(attempt, split) {
-            self.finish(attempt);
-            return Reply::Ignored;
-        }
-        self.complete(attempt, split, output);
-        Reply::Accepted
-    }
-
-    fn leave(&mut self, worker: u32)
-        ensures { self.new ≡ lose worker self.old }
-    {
-        put(self.lost.as_mut_slice(), worker, true);
-        leave_attempts(self.attempts.as_mut_slice(), worker);
-        leave_outputs(self.splits.as_mut_slice(), worker);
-    }
-
-    /// A worker is lost.
-    pub(crate) fn lose(&mut self, worker: u32) -> Reply
-        ensures { (sh : Shape) → outcome sh self.old (Event.Lose worker) ≡ replies result self.new }
-    {
-        if !self.is_active(worker) {
-            return Reply::Ignored;
-        }
-        self.leave(worker);
-        Reply::Accepted
-    }
-
-    /// Whether the task is one that is asked for.
-    fn answers(&self, query: Query, shape: Shape, task: Task) -> bool
-        ensures { result ≡ answers query shape self.now task }
-    {
-        match query {
-            Query::Newly => self.is_open(shape, task)
-                && count_live(self.attempts.as_slice(), task) == 0,
-            Query::Backup => self.is_open(shape, task)
-                && count_live(self.attempts.as_slice(), task) == 1,
-            Query::Stuck => self.is_stuck(shape, task),
-        }
-    }
-
-    /// The first task that is asked for.
-    #[tactic(auto, using(crate::proofs::Finds::none_more, crate::proofs::Finds::none_of_all))]
-    fn find(&self, query: Query, shape: Shape) -> Option<Task>
-        ensures { MatchOption result (list_any (answers query shape self.now) (tasks shape) ≡ false) (λ t. (answers query shape self.now t ≡ true) × (is_task shape t ≡ true)) }
-    {
-        for split in 0..shape.maps {
-            if self.answers(query, shape, Task::Map(split)) {
-                return Some(Task::Map(split));
-            }
-        }
-        for partition in 0..shape.parts {
-            if self.answers(query, shape, Task::Reduce(partition)) {
-                return Some(Task::Reduce(partition));
-            }
-        }
-        None
-    }
-
-    /// Whether some task can't be finished any more.
-    #[tactic(auto, using(crate::proofs::Finds::one_of_all))]
+    /// Whether some task can't be finished any more: goes over all tasks.
+    #[tactic(auto, using(crate::proofs::Finds::none_more, crate::proofs::Finds::none_of_all, crate::proofs::Finds::one_map, crate::proofs::Finds::one_part))]
     fn has_stuck(&self, shape: Shape) -> bool
         ensures { result ≡ list_any (is_stuck shape self.now) (tasks shape) }
     {
-        self.find(Query::Stuck, shape).is_some()
+        for split in 0..shape.maps {
+            if self.is_stuck(shape, Task::Map(split)) {
+                return true;
+            }
+        }
+        for partition in 0..shape.parts {
+            if self.is_stuck(shape, Task::Reduce(partition)) {
+                return true;
+            }
+        }
+        false
     }
 
-    /// The end that the job has reached; `over`: one record too many was to be left out.
-    fn end_of(&self, shape: Shape, over: bool) -> Option<End>
-        ensures { result ≡ end_of shape self.now over }
+    /// The end that the job has reached: goes over all tasks.
+    fn end_of(&self, shape: Shape) -> Option<End>
+        ensures { result ≡ end_of shape self.now false }
     {
-        if all_some(self.committed.as_slice()) {
+        if self.committed.is_whole() {
             Some(End::Done)
         } else if all_true(self.lost.as_slice()) {
             Some(End::Failed(JobFault::NoWorkers))
-        } else if over {
-            Some(End::Failed(JobFault::TooManySkips))
         } else if self.has_stuck(shape) {
             Some(End::Failed(JobFault::TooManyAttempts))
         } else {
@@ -358,11 +203,48 @@ impl Tables {
         }
     }
 
-    /// Tests the ends, after an event.
-    pub(crate) fn settle(&mut self, shape: Shape, over: bool)
+    /// Tests the ends, after the loss of a worker: goes over all tasks.
+    pub(crate) fn settle(&mut self, shape: Shape)
+        ensures { self.new ≡ settled shape self.old false }
+    {
+        self.end = self.end_of(shape);
+    }
+
+    /// Whether the task, which is the only one that may be, can't be finished any more.
+    #[tactic(auto, using(crate::proofs::Touched::stuck_here, crate::proofs::Touched::stuck_nowhere))]
+    fn is_stuck_at(&self, shape: Shape, task: Option<Task>) -> bool
+        requires { IsTouched shape self.now task }
+        ensures { result ≡ list_any (is_stuck shape self.now) (tasks shape) }
+    {
+        match task {
+            Some(task) => self.is_stuck(shape, task),
+            None => false,
+        }
+    }
+
+    /// The end that the job has reached by an event that touched only this task.
+    #[tactic(auto, using(crate::proofs::Touched::end_left))]
+    fn end_after(&self, shape: Shape, task: Option<Task>, over: bool) -> Option<End>
+        requires { IsTouched shape self.now task }
+        ensures { result ≡ end_of shape self.now over }
+    {
+        if self.committed.is_whole() {
+            Some(End::Done)
+        } else if over {
+            Some(End::Failed(JobFault::TooManySkips))
+        } else if self.is_stuck_at(shape, task) {
+            Some(End::Failed(JobFault::TooManyAttempts))
+        } else {
+            None
+        }
+    }
+
+    /// Tests the ends, after an event that touched only this task.
+    pub(crate) fn settle_at(&mut self, shape: Shape, task: Option<Task>, over: bool)
+        requires { IsTouched shape self.old task }
         ensures { self.new ≡ settled shape self.old over }
     {
-        self.end = self.end_of(shape, over);
+        self.end = self.end_after(shape, task, over);
     }
 
     /// The lists at the opening.
@@ -371,186 +253,14 @@ impl Tables {
     {
         Ok(Tables {
             lost: copies(alloc, false, shape.workers)?,
-            splits: new_splits(alloc, shape.maps)?,
-            committed: copies(alloc, None, shape.parts)?,
-            attempts: Vec::new(alloc),
-            failures: Vec::new(alloc),
+            splits: Splits::new(alloc, shape.maps)?,
+            committed: Outputs::new(alloc, shape.parts)?,
+            attempts: Attempts::new(alloc, shape.maps, shape.parts, shape.workers)?,
+            failures: none_failed(alloc, shape.maps)?,
             end: None,
+            next_map: 0,
+            next_part: 0,
         })
-    }
-
-    /// Whether the record of the split has failed before, and may yet be left out.
-    fn may_leave_out(&self, split: u32, number: u32) -> bool
-        ensures { result ≡ (failed_before self.now split number && may_leave_out number (slice_get self.now.splits split)) }
-    {
-        let before = has_failed(self.failures.as_slice(), split, number);
-        match self.splits.as_slice().get(split as usize) {
-            Some(split) => before && (!split.fixed && !split.skips.has(number)),
-            None => false,
-        }
-    }
-
-    /// Whether one record more may be left out.
-    fn has_room(&self, limit: u32) -> bool
-        ensures { result ≡ nat_lt (left_out self.now) limit }
-    {
-        has_room(self.splits.as_slice(), limit)
-    }
-
-    /// A failure of an attempt on a record of its split, which is left out from now on where `adds` says so.
-    fn note_failure(
-        &mut self,
-        attempt: u32,
-        split: u32,
-        number: u32,
-        adds: bool,
-    ) -> Result<(), AllocError>
-        ensures noted { OnOk result (adds ≡ false → self.new ≡ note_failure split number (finish attempt self.old)) }
-        ensures added { OnOk result (adds ≡ true → self.new ≡ leave_out split number (note_failure split number (finish attempt self.old))) }
-        ensures err { OnErr result (self.new ≡ self.old) }
-    {
-        self.failures.reserve(1)?;
-        if adds {
-            leave_out(self.splits.as_mut_slice(), split, number)?;
-        }
-        self.failures.push_reserved((split, number));
-        end_attempt(self.attempts.as_mut_slice(), attempt);
-        Ok(())
-    }
-
-    /// A map attempt failed on a record of its split. With the reply: whether one record too many was to be left out.
-    #[tactic(auto, using(crate::proofs::Outcomes::failed_noted, crate::proofs::Outcomes::failed_over, crate::proofs::Outcomes::failed_left_out, crate::proofs::Outcomes::failed_dead, crate::proofs::Outcomes::failed_of_reduce))]
-    pub(crate) fn map_failed(
-        &mut self,
-        shape: Shape,
-        attempt: u32,
-        number: u32,
-    ) -> Result<(Reply, bool), AllocError>
-        ensures ok { IfOk result (λ r. outcome shape self.old (Event.MapFailed attempt number) ≡ record { reply = r.0; state = self.new; over = r.1 }) }
-        ensures err { OnErr result (self.new ≡ self.old) }
-    {
-        let Some(task) = self.live_task(attempt) else {
-            return Ok((Reply::Ignored, false));
-        };
-        let Task::Map(split) = task else {
-            return Ok((Reply::Ignored, false));
-        };
-        let again = self.may_leave_out(split, number);
-        let room = self.has_room(shape.limits.skips);
-        self.note_failure(attempt, split, number, again && room)?;
-        Ok((Reply::Accepted, again && !room))
-    }
-
-    /// Whether the worker has a live attempt.
-    fn is_busy(&self, worker: u32) -> bool
-        ensures { result ≡ has_live self.now worker }
-    {
-        has_live(self.attempts.as_slice(), worker)
-    }
-
-    /// How many attempts were issued.
-    fn count(&self) -> u32
-        requires { length self.now.attempts < 2 ^ 32 }
-        ensures { result ≡ length self.now.attempts }
-    {
-        self.attempts.len() as u32
-    }
-
-    /// A task that may be given to the worker.
-    fn task_for(&self, shape: Shape, worker: u32) -> Option<Task>
-        ensures { MatchOption result (list_any (may_give shape self.now worker) (tasks shape) ≡ false) (λ t. may_give shape self.now worker t ≡ true) }
-    {
-        if self.is_busy(worker) {
-            return None;
-        }
-        if let Some(task) = self.find(Query::Newly, shape) {
-            return Some(task);
-        }
-        self.find(Query::Backup, shape)
-    }
-
-    /// Issues an attempt of a map task.
-    fn issue_map(&mut self, alloc: Global, worker: u32, split: u32) -> Result<Reply, AllocError>
-        requires few { length self.old.attempts < 2 ^ 32 }
-        requires there { split < length self.old.splits }
-        ensures ok { IfOk result (λ r. (sh : Shape) → may_give sh self.old worker (Task.Map split) ≡ true → given sh self.old worker r ≡ Some self.new) }
-        ensures err { OnErr result (self.new ≡ self.old) }
-    {
-        let attempt = self.count();
-        let skips = self.set_of(alloc, split)?;
-        let issued = map_attempt(alloc, worker, split, &skips)?;
-        self.push_attempt(issued)?;
-        Ok(Reply::Map {
-            attempt,
-            split,
-            skips,
-        })
-    }
-
-    /// The records left out of a split.
-    fn set_of(&self, alloc: Global, split: u32) -> Result<Skips, AllocError>
-        ensures { IfOk result (λ k. (sp : Split) → slice_get self.now.splits split ≡ Some sp → k ≡ sp.skips) }
-    {
-        match self.splits.as_slice().get(split as usize) {
-            Some(split) => Skips::copy_of(alloc, split.skips.as_slice()),
-            None => Ok(Skips::none(alloc)),
-        }
-    }
-
-    fn push_attempt(&mut self, attempt: Attempt) -> Result<(), AllocError>
-        ensures ok { OnOk result (self.new ≡ record self.old { attempts = self.old.attempts ++ attempt ∷ [] }) }
-        ensures err { OnErr result (self.new ≡ self.old) }
-    {
-        self.attempts.push(attempt)?;
-        Ok(())
-    }
-
-    /// Issues an attempt of a reduce task.
-    fn issue_reduce(
-        &mut self,
-        alloc: Global,
-        shape: Shape,
-        worker: u32,
-        partition: u32,
-    ) -> Result<Reply, AllocError>
-        requires few { length self.old.attempts < 2 ^ 32 }
-        ensures ok { IfOk result (λ r. may_give shape self.old worker (Task.Reduce partition) ≡ true → given shape self.old worker r ≡ Some self.new) }
-        ensures err { OnErr result (self.new ≡ self.old) }
-    {
-        let attempt = self.attempts.len() as u32;
-        let fetched = Fetched::none(alloc, shape.maps)?;
-        let issued = Attempt::of(
-            worker,
-            Task::Reduce(partition),
-            Skips::none(alloc),
-            Skips::none(alloc),
-            fetched,
-        );
-        self.attempts.push(issued)?;
-        Ok(Reply::Reduce { attempt, partition })
-    }
-
-    /// A worker asks for a task.
-    #[tactic(auto, using(crate::proofs::Gives::asked_lost, crate::proofs::Gives::asked_active, crate::proofs::Gives::given_wait, crate::proofs::Gives::split_there))]
-    pub(crate) fn ask(
-        &mut self,
-        alloc: Global,
-        shape: Shape,
-        worker: u32,
-    ) -> Result<Reply, AllocError>
-        requires few { length self.old.attempts < 2 ^ 32 }
-        requires long { length self.old.splits ≡ shape.maps }
-        ensures ok { IfOk result (λ r. asked shape self.old worker r ≡ Some self.new) }
-        ensures err { OnErr result (self.new ≡ self.old) }
-    {
-        if !self.is_active(worker) {
-            return Ok(Reply::Stop(End::Dismissed));
-        }
-        match self.task_for(shape, worker) {
-            None => Ok(Reply::Wait),
-            Some(Task::Map(split)) => self.issue_map(alloc, worker, split),
-            Some(Task::Reduce(partition)) => self.issue_reduce(alloc, shape, worker, partition),
-        }
     }
 }
 
@@ -561,14 +271,4 @@ fn first_of(output: Option<(u64, u32)>) -> Option<u64>
         Some((number, _)) => Some(number),
         None => None,
     }
-}
-
-/// A live attempt of a map task that leaves out these records.
-fn map_attempt(alloc: Global, worker: u32, split: u32, skips: &Skips) -> Result<Attempt, AllocError>
-    ensures { IfOk result (λ a. a ≡ record { worker = worker; task = Task.Map split; skips = skips.now; fetched = []; live = true }) }
-{
-    let own = Skips::copy_of(alloc, skips.as_slice())?;
-    let spare = Skips::copy_of(alloc, skips.as_slice())?;
-    let fetched = Fetched::none(alloc, 0)?;
-    Ok(Attempt::of(worker, Task::Map(split), own, spare, fetched))
 }

@@ -193,3 +193,80 @@ fn no_workers(rt: HostRuntime) -> Result<(), Fail> {
     assert_eq!(rt; first_surprise(&mut core, alloc, &history)?, None);
     Ok(())
 }
+
+/// Gives a worker a map task, which is done at once. Whether it was given one, and its output accepted.
+fn executes_a_map(core: &mut Core, alloc: Global, worker: u32) -> Result<bool, Fail> {
+    match core.apply(alloc, Event::Ask(worker))? {
+        Reply::Map { attempt, .. } => {
+            let done = [(Event::MapDone(attempt, 7), Said::Accepted)];
+            Ok(first_surprise(core, alloc, &done)?.is_none())
+        },
+        _ => Ok(false),
+    }
+}
+
+/// Gives a worker a reduce task, which fetches from each split and is then done. Whether it was given one, and its
+/// output accepted.
+fn executes_a_reduce(core: &mut Core, alloc: Global, worker: u32) -> Result<bool, Fail> {
+    match core.apply(alloc, Event::Ask(worker))? {
+        Reply::Reduce { attempt, .. } => {
+            for split in 0..MANY_MAPS {
+                let fetched = [(Event::Fetch(attempt, split), Said::Region(7))];
+                if first_surprise(core, alloc, &fetched)?.is_some() {
+                    return Ok(false);
+                }
+            }
+            let done = [(Event::ReduceDone(attempt, 9), Said::Accepted)];
+            Ok(first_surprise(core, alloc, &done)?.is_none())
+        },
+        _ => Ok(false),
+    }
+}
+
+const MANY_MAPS: u32 = 64;
+
+const MANY_PARTS: u32 = 4;
+
+const MANY_WORKERS: u32 = 8;
+
+/// Each map task asked for and done, then each reduce task asked for, its fetches, and done.
+#[test]
+fn a_run_of_all_events(rt: HostRuntime) -> Result<(), Fail> {
+    let alloc = rt.alloc();
+    let limits = Limits {
+        attempts: 2,
+        skips: 0,
+    };
+    let mut core = Core::new(alloc, MANY_MAPS, MANY_PARTS, MANY_WORKERS, limits)?;
+    for number in 0..MANY_MAPS {
+        assert!(rt; executes_a_map(&mut core, alloc, number % MANY_WORKERS)?);
+    }
+    for number in 0..MANY_PARTS {
+        assert!(rt; executes_a_reduce(&mut core, alloc, number % MANY_WORKERS)?);
+    }
+    assert_eq!(rt; core.end(), Some(End::Done));
+    Ok(())
+}
+
+/// The reply to an event, twice.
+fn told_twice(core: &mut Core, alloc: Global, event: Event) -> Result<(Said, Said), Fail> {
+    let (reply, again) = core.apply_twice(alloc, event)?;
+    Ok((told(&reply), told(&again)))
+}
+
+#[test]
+fn replies_made_twice(rt: HostRuntime) -> Result<(), Fail> {
+    let alloc = rt.alloc();
+    let mut core = master(alloc, 1, 1, 8, 1)?;
+    let first = [
+        (Event::Ask(0), Said::Map(0, 0, None)),
+        (Event::MapFailed(0, 5), Said::Accepted),
+        (Event::Ask(0), Said::Map(1, 0, None)),
+    ];
+    assert_eq!(rt; first_surprise(&mut core, alloc, &first)?, None);
+    let failed = told_twice(&mut core, alloc, Event::MapFailed(1, 5))?;
+    assert_eq!(rt; failed, (Said::Accepted, Said::Accepted));
+    let asked = told_twice(&mut core, alloc, Event::Ask(0))?;
+    assert_eq!(rt; asked, (Said::Map(2, 0, Some(5)), Said::Map(2, 0, Some(5))));
+    Ok(())
+}

@@ -6,3 +6,4 @@ pub mod ScanLemmas
 pub mod TableLemmas
 pub mod ReadLemmas
 pub mod NameLemmas
+pub mod BelongLemmas

@@ -3,3 +3,4 @@ pub mod Laws
 pub mod Cut
 pub mod Places
 pub mod Table
+pub mod Belongs

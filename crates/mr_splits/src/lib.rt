@@ -12,6 +12,7 @@ pub use plan::{Located, MAX_SPLIT, MAX_SPLITS, Plan, PlanFault, SplitPlace};
 #[cfg(test)]
 mod tests;
 
+ghost use Rattle.mr_splits.specs.Belongs.{RecordsBelong};
 ghost use Rattle.mr_splits.specs.Laws.{NamedAreRecords, NamesOfRecordsRise, NumbersCount, SplitsJoin};
 
 /// The records of the splits, joined, are the records of the files, each in the split that has its start; they are
@@ -19,6 +20,7 @@ ghost use Rattle.mr_splits.specs.Laws.{NamedAreRecords, NamesOfRecordsRise, Numb
 pub fn splits_law()
     ensures joined { SplitsJoin }
     ensures records { NamedAreRecords }
+    ensures belong { RecordsBelong }
     ensures numbers { NumbersCount }
     ensures rise { NamesOfRecordsRise }
 {}

@@ -1,3 +1,4 @@
+use Rattle.mr_splits.proofs.BelongLemmas.{records-belong}
 use Rattle.mr_splits.proofs.JoinedLemmas.{splits-join, named-are-records}
 use Rattle.mr_splits.proofs.NumberLemmas.{numbers-count}
 use Rattle.mr_splits.proofs.RisingLemmas.{names-rise}
@@ -8,6 +9,9 @@ returns-clause-joined c = splits-join
 
 pub returns-clause-records : goal.returns-clause-records
 returns-clause-records c = named-are-records
+
+pub returns-clause-belong : goal.returns-clause-belong
+returns-clause-belong c = records-belong
 
 pub returns-clause-numbers : goal.returns-clause-numbers
 returns-clause-numbers c = numbers-count

@@ -1,0 +1,151 @@
+//! The attempts that a master has issued, with an index.
+ghost use Rattle.std.specs.Prelude.{◌≡◌, ℕ, ◌<◌, ◌^◌, true, false, Some, [], ◌∷◌, ◌++◌, ◌&&◌, ◌==◌, map, length, slice_get, MatchOption, OnOk, OnErr, IfOk};
+ghost use Rattle.std.specs.List.{list_any};
+ghost use Rattle.mr_core.specs.declared.event.Task.{Task};
+ghost use Rattle.mr_core.specs.Master.{Attempt, update_at, left_by};
+ghost use Rattle.mr_core.specs.Index.{counted, IsCurrent, IsBelow};
+
+use crate::counts::{Count, Counts};
+use crate::current::Current;
+use crate::entries::Attempt;
+use crate::event::Task;
+use crate::splits::Splits;
+use std::alloc::{AllocError, Global};
+use std::marker::Model;
+
+/// All attempts, in the order in which they were issued. Beside them stand, for each task, how many attempts it has had,
+/// and for each worker its live attempt (a worker has one at most). So no question goes over all attempts, and each
+/// change is one step.
+#[derive(Drop)]
+pub(crate) struct Attempts {
+    items: Vec<Attempt>,
+    counts: Counts,
+    current: Current,
+}
+
+impl Model for Attempts {
+    ghost use Rattle.std.specs.Prelude.{length};
+    ghost use Rattle.mr_core.specs.Index.{Issued, IsIndexed};
+
+    ghost Value = { Issued };
+
+    ghost view = { λ a. record { items = a.items.items; maps = length a.counts.maps; parts = length a.counts.parts; workers = length a.current } };
+
+    ghost invariant = { λ a. IsIndexed a.items.items a.counts a.current };
+}
+
+impl Attempts {
+    /// No attempts yet, of as many tasks by as many workers.
+    pub(crate) fn new(
+        alloc: Global,
+        maps: u32,
+        parts: u32,
+        workers: u32,
+    ) -> Result<Attempts, AllocError>
+        ensures { IfOk result (λ a. a ≡ record { items = []; maps = maps; parts = parts; workers = workers }) }
+    {
+        Ok(Attempts {
+            items: Vec::new(alloc),
+            counts: Counts::new(alloc, maps, parts)?,
+            current: Current::none(alloc, workers)?,
+        })
+    }
+
+    pub(crate) fn as_slice(&self) -> &[Attempt]
+        ensures { result.now ≡ self.now.items }
+    {
+        self.items.as_slice()
+    }
+
+    /// How many attempts of the task were issued, and how many of them are live.
+    pub(crate) fn count(&self, task: Task) -> Count
+        ensures { result ≡ counted self.now.items task }
+    {
+        self.counts.of(task)
+    }
+
+    /// The worker's live attempt.
+    pub(crate) fn current(&self, worker: usize) -> Option<u32>
+        ensures current { MatchOption result (list_any (λ a. (a.worker == worker) && a.live) self.now.items ≡ false) (λ a. IsCurrent self.now.items worker a) }
+        ensures only { (a : ℕ) (x : Attempt) → slice_get self.now.items a ≡ Some x → x.live ≡ true → x.worker ≡ worker → result ≡ Some a }
+        ensures left { MatchOption result (map (left_by worker) self.now.items ≡ self.now.items) (λ a. map (left_by worker) self.now.items ≡ update_at (λ t. record t { live = false }) a self.now.items) }
+    {
+        self.current.of(worker)
+    }
+
+    /// How many workers there are.
+    pub(crate) fn workers(&self) -> usize
+        ensures count { result ≡ self.now.workers }
+        ensures all { (a : ℕ) (x : Attempt) → slice_get self.now.items a ≡ Some x → x.live ≡ true → x.worker < self.now.workers }
+    {
+        self.current.len()
+    }
+
+    /// The live attempt ends.
+    pub(crate) fn end(&mut self, at: u32)
+        requires { (x : Attempt) × (slice_get self.old.items at ≡ Some x) × (x.live ≡ true) }
+        ensures ended { self.new ≡ record self.old { items = update_at (λ t. record t { live = false }) at self.old.items } }
+        ensures below { (x : Attempt) → slice_get self.old.items at ≡ Some x → IsBelow self.old.maps self.old.parts x.task }
+    {
+        let attempt = &mut self.items[at as usize];
+        let task = attempt.task();
+        let worker = attempt.worker();
+        attempt.end();
+        self.counts.end(task);
+        self.current.set(worker, None);
+    }
+
+    /// The latest fetch that the attempt made of the split gave this output, where there is such an attempt.
+    pub(crate) fn note_fetch(&mut self, at: u32, map: u32, output: u64)
+        ensures { self.new ≡ record self.old { items = update_at (λ t. record t { fetched = update_at (λ x. Some output) map t.fetched }) at self.old.items } }
+    {
+        let at = at as usize;
+        if at >= self.items.len() {
+            return;
+        }
+        self.items[at].note_fetch(map, output);
+    }
+
+    /// The live attempt ends, and its split is complete with its output, without the records that it left out.
+    pub(crate) fn complete(&mut self, at: u32, splits: &mut Splits, split: u32, output: u64)
+        requires { (x : Attempt) × (slice_get self.old.items at ≡ Some x) × (x.live ≡ true) }
+        ensures ended { self.new ≡ record self.old { items = update_at (λ t. record t { live = false }) at self.old.items } }
+        ensures below { (x : Attempt) → slice_get self.old.items at ≡ Some x → IsBelow self.old.maps self.old.parts x.task }
+        ensures splits { (x : Attempt) → slice_get self.old.items at ≡ Some x → splits.new ≡ update_at (λ sp. record { skips = x.skips; fixed = true; output = Some (output, x.worker) }) split splits.old }
+    {
+        let attempt = &mut self.items[at as usize];
+        let task = attempt.task();
+        let worker = attempt.worker();
+        attempt.give(splits, split, output);
+        self.counts.end(task);
+        self.current.set(worker, None);
+    }
+
+    /// The worker's live attempt ends, where it has one.
+    pub(crate) fn lose(&mut self, worker: u32)
+        ensures { self.new ≡ record self.old { items = map (left_by worker) self.old.items } }
+    {
+        if let Some(attempt) = self.current(worker as usize) {
+            self.end(attempt);
+        }
+    }
+
+    /// One attempt more, which is live.
+    pub(crate) fn push(&mut self, attempt: Attempt) -> Result<(), AllocError>
+        requires few { length self.old.items < 2 ^ 31 }
+        requires live { attempt.live ≡ true }
+        requires free { list_any (λ a. (a.worker == attempt.worker) && a.live) self.old.items ≡ false }
+        requires worker { attempt.worker < self.old.workers }
+        requires task { IsBelow self.old.maps self.old.parts attempt.task }
+        ensures ok { OnOk result (self.new ≡ record self.old { items = self.old.items ++ attempt ∷ [] }) }
+        ensures err { OnErr result (self.new ≡ self.old) }
+    {
+        let number = self.items.len() as u32;
+        let task = attempt.task();
+        let worker = attempt.worker();
+        self.items.push(attempt)?;
+        self.counts.begin(task);
+        self.current.set(worker, Some(number));
+        Ok(())
+    }
+}

@@ -1,0 +1,311 @@
+//! A worker asks for a task: what may be given to it, and its issue.
+ghost use Rattle.std.specs.Prelude.{◌≡◌, ℕ, ◌<◌, ◌≤◌, ◌^◌, true, false, Option, Some, None, List, [], ◌∷◌, ◌++◌, ◌==◌, ◌&&◌, length, replicate, slice_get, MatchOption, OnOk, OnErr, IfOk};
+ghost use Rattle.std.specs.List.{list_any};
+ghost use Rattle.mr_core.specs.declared.event.Shape.{Shape};
+ghost use Rattle.mr_core.specs.declared.event.Task.{Task};
+ghost use Rattle.mr_core.specs.declared.entries.Split.{Split};
+ghost use Rattle.mr_core.specs.Queries.{is_lone, is_ready};
+ghost use Rattle.mr_core.specs.Master.{Attempt, tasks, is_task, may_newly, may_give, given, asked, has_live};
+ghost use Rattle.mr_core.specs.Index.{is_idle, IsGoing, IsCurrent, IsBelow};
+
+use super::Tables;
+use crate::entries::{Attempt, Fetched};
+use crate::event::{End, Reply, Shape, Task};
+use crate::skips::Skips;
+use std::alloc::{AllocError, Global};
+
+impl Tables {
+    /// Whether the task isn't complete, and nobody works at it.
+    fn is_idle(&self, task: Task) -> bool
+        ensures { result ≡ is_idle self.now task }
+    {
+        !self.is_complete(task) && self.has_live(task, 0)
+    }
+
+    /// The first idle map task from here on, or the number of all.
+    fn idle_map_from(&self, from: u32, maps: u32) -> u32
+        ensures passed { (s : ℕ) → from ≤ s → s < result → is_idle self.now (Task.Map s) ≡ false }
+        ensures there { result < maps → is_idle self.now (Task.Map result) ≡ true }
+    {
+        for split in from..maps {
+            if self.is_idle(Task::Map(split)) {
+                return split;
+            }
+        }
+        maps
+    }
+
+    /// The first idle reduce task from here on, or the number of all.
+    fn idle_part_from(&self, from: u32, parts: u32) -> u32
+        ensures passed { (p : ℕ) → from ≤ p → p < result → is_idle self.now (Task.Reduce p) ≡ false }
+        ensures there { result < parts → is_idle self.now (Task.Reduce result) ≡ true }
+    {
+        for partition in from..parts {
+            if self.is_idle(Task::Reduce(partition)) {
+                return partition;
+            }
+        }
+        parts
+    }
+
+    /// The first idle map task, or the number of all: goes on from the cursor, which moves to it.
+    fn next_map(&mut self, maps: u32) -> u32
+        ensures same { self.new ≡ self.old }
+        ensures passed { (s : ℕ) → s < result → is_idle self.old (Task.Map s) ≡ false }
+        ensures there { result < maps → is_idle self.old (Task.Map result) ≡ true }
+    {
+        let next = self.idle_map_from(self.next_map, maps);
+        self.next_map = next;
+        next
+    }
+
+    /// The first idle reduce task, or the number of all: goes on from the cursor, which moves to it.
+    fn next_part(&mut self, parts: u32) -> u32
+        ensures same { self.new ≡ self.old }
+        ensures passed { (p : ℕ) → p < result → is_idle self.old (Task.Reduce p) ≡ false }
+        ensures there { result < parts → is_idle self.old (Task.Reduce result) ≡ true }
+    {
+        let next = self.idle_part_from(self.next_part, parts);
+        self.next_part = next;
+        next
+    }
+
+    /// An idle task that may be executed.
+    #[tactic(auto, using(crate::proofs::Newly::newly_map, crate::proofs::Newly::newly_part, crate::proofs::Newly::none_waiting, crate::proofs::Newly::none_at_all))]
+    fn find_newly(&mut self, shape: Shape) -> Option<Task>
+        requires { IsGoing shape self.old }
+        ensures same { self.new ≡ self.old }
+        ensures found { MatchOption result (list_any (may_newly shape self.old) (tasks shape) ≡ false) (λ t. (may_newly shape self.old t ≡ true) × (is_task shape t ≡ true)) }
+    {
+        let split = self.next_map(shape.maps);
+        if split < shape.maps {
+            return Some(Task::Map(split));
+        }
+        if !self.maps_complete() {
+            return None;
+        }
+        let partition = self.next_part(shape.parts);
+        if partition < shape.parts {
+            Some(Task::Reduce(partition))
+        } else {
+            None
+        }
+    }
+
+    /// Whether the task waits for no map.
+    fn is_ready(&self, task: Task) -> bool
+        ensures { result ≡ is_ready self.now task }
+    {
+        match task {
+            Task::Map(_) => true,
+            Task::Reduce(_) => self.maps_complete(),
+        }
+    }
+
+    /// Whether the task may be executed once more beside its only live attempt.
+    #[tactic(auto, using(crate::proofs::Lone::lone_yes, crate::proofs::Lone::lone_no))]
+    fn is_lone(&self, shape: Shape, task: Task) -> bool
+        ensures { result ≡ is_lone shape self.now task }
+    {
+        if self.is_complete(task) {
+            return false;
+        }
+        if !self.has_few(shape, task) {
+            return false;
+        }
+        if !self.has_live(task, 1) {
+            return false;
+        }
+        self.is_ready(task)
+    }
+
+    /// The task of the worker's live attempt.
+    fn current_task(&self, worker: usize) -> Option<Task>
+        ensures there { (t : Task) → result ≡ Some t → (a : ℕ) × (x : Attempt) × (slice_get self.now.attempts a ≡ Some x) × (x.task ≡ t) }
+        ensures only { (a : ℕ) (x : Attempt) → slice_get self.now.attempts a ≡ Some x → x.live ≡ true → x.worker ≡ worker → result ≡ Some x.task }
+    {
+        match self.attempts.current(worker) {
+            Some(attempt) => self.task_at(attempt),
+            None => None,
+        }
+    }
+
+    /// A task that another worker executes alone: one of those that workers execute now.
+    fn find_lone(&self, shape: Shape) -> Option<Task>
+        requires { IsGoing shape self.now }
+        ensures { MatchOption result (list_any (is_lone shape self.now) (tasks shape) ≡ false) (λ t. (is_lone shape self.now t ≡ true) × (is_task shape t ≡ true)) }
+    {
+        for worker in 0..self.attempts.workers() {
+            if let Some(task) = self.current_task(worker) {
+                if self.is_lone(shape, task) {
+                    return Some(task);
+                }
+            }
+        }
+        None
+    }
+
+    /// Whether the worker has a live attempt.
+    fn is_busy(&self, worker: u32) -> bool
+        ensures { result ≡ has_live self.now worker }
+    {
+        self.attempts.current(worker as usize).is_some()
+    }
+
+    /// A task that may be given to the worker.
+    fn task_for(&mut self, shape: Shape, worker: u32) -> Option<Task>
+        requires { IsGoing shape self.old }
+        ensures same { self.new ≡ self.old }
+        ensures found { MatchOption result (list_any (may_give shape self.old worker) (tasks shape) ≡ false) (λ t. may_give shape self.old worker t ≡ true) }
+    {
+        if self.is_busy(worker) {
+            return None;
+        }
+        if let Some(task) = self.find_newly(shape) {
+            return Some(task);
+        }
+        self.find_lone(shape)
+    }
+
+    /// How many attempts were issued.
+    fn issued(&self) -> u32
+        requires { length self.now.attempts < 2 ^ 31 }
+        ensures { result ≡ length self.now.attempts }
+    {
+        self.attempts.as_slice().len() as u32
+    }
+
+    /// Issues an attempt of a map task. Answers two equal replies.
+    fn issue_map(
+        &mut self,
+        alloc: Global,
+        shape: Shape,
+        worker: u32,
+        split: u32,
+    ) -> Result<(Reply, Reply), AllocError>
+        requires going { IsGoing shape self.old }
+        requires may { may_give shape self.old worker (Task.Map split) ≡ true }
+        requires active { worker < length self.old.lost }
+        ensures ok { IfOk result (λ r. given shape self.old worker r.0 ≡ Some self.new) }
+        ensures twice { IfOk result (λ r. r.0 ≡ r.1) }
+        ensures err { OnErr result (self.new ≡ self.old) }
+    {
+        let attempt = self.issued();
+        let skips = self.set_of(alloc, split)?;
+        let again = Skips::copy_of(alloc, skips.as_slice())?;
+        let issued = map_attempt(alloc, worker, split, &skips)?;
+        self.push(issued)?;
+        Ok((
+            Reply::Map {
+                attempt,
+                split,
+                skips,
+            },
+            Reply::Map {
+                attempt,
+                split,
+                skips: again,
+            },
+        ))
+    }
+
+    /// The records left out of a split.
+    fn set_of(&self, alloc: Global, split: u32) -> Result<Skips, AllocError>
+        ensures { IfOk result (λ k. (sp : Split) → slice_get self.now.splits split ≡ Some sp → k ≡ sp.skips) }
+    {
+        match self.splits.as_slice().get(split as usize) {
+            Some(split) => Skips::copy_of(alloc, split.skips.as_slice()),
+            None => Ok(Skips::none(alloc)),
+        }
+    }
+
+    /// One attempt more.
+    fn push(&mut self, attempt: Attempt) -> Result<(), AllocError>
+        requires few { length self.old.attempts < 2 ^ 31 }
+        requires live { attempt.live ≡ true }
+        requires free { has_live self.old attempt.worker ≡ false }
+        requires worker { attempt.worker < length self.old.lost }
+        requires task { IsBelow (length self.old.splits) (length self.old.committed) attempt.task }
+        ensures ok { OnOk result (self.new ≡ record self.old { attempts = self.old.attempts ++ attempt ∷ [] }) }
+        ensures err { OnErr result (self.new ≡ self.old) }
+    {
+        self.attempts.push(attempt)?;
+        Ok(())
+    }
+
+    /// Issues an attempt of a reduce task. Answers two equal replies.
+    fn issue_reduce(
+        &mut self,
+        alloc: Global,
+        shape: Shape,
+        worker: u32,
+        partition: u32,
+    ) -> Result<(Reply, Reply), AllocError>
+        requires going { IsGoing shape self.old }
+        requires may { may_give shape self.old worker (Task.Reduce partition) ≡ true }
+        requires active { worker < length self.old.lost }
+        ensures ok { IfOk result (λ r. given shape self.old worker r.0 ≡ Some self.new) }
+        ensures twice { IfOk result (λ r. r.0 ≡ r.1) }
+        ensures err { OnErr result (self.new ≡ self.old) }
+    {
+        let attempt = self.issued();
+        let issued = reduce_attempt(alloc, shape, worker, partition)?;
+        self.push(issued)?;
+        Ok((
+            Reply::Reduce { attempt, partition },
+            Reply::Reduce { attempt, partition },
+        ))
+    }
+
+    /// A worker asks for a task. Answers two equal replies.
+    #[tactic(auto, using(crate::proofs::Gives::asked_lost, crate::proofs::Gives::asked_active, crate::proofs::Gives::given_wait))]
+    pub(crate) fn ask(
+        &mut self,
+        alloc: Global,
+        shape: Shape,
+        worker: u32,
+    ) -> Result<(Reply, Reply), AllocError>
+        requires { IsGoing shape self.old }
+        ensures ok { IfOk result (λ r. asked shape self.old worker r.0 ≡ Some self.new) }
+        ensures twice { IfOk result (λ r. r.0 ≡ r.1) }
+        ensures err { OnErr result (self.new ≡ self.old) }
+    {
+        if !self.is_active(worker) {
+            return Ok((Reply::Stop(End::Dismissed), Reply::Stop(End::Dismissed)));
+        }
+        match self.task_for(shape, worker) {
+            None => Ok((Reply::Wait, Reply::Wait)),
+            Some(Task::Map(split)) => self.issue_map(alloc, shape, worker, split),
+            Some(Task::Reduce(partition)) => self.issue_reduce(alloc, shape, worker, partition),
+        }
+    }
+}
+
+/// A live attempt of a map task that leaves out these records.
+fn map_attempt(alloc: Global, worker: u32, split: u32, skips: &Skips) -> Result<Attempt, AllocError>
+    ensures { IfOk result (λ a. a ≡ record { worker = worker; task = Task.Map split; skips = skips.now; fetched = []; live = true }) }
+{
+    let own = Skips::copy_of(alloc, skips.as_slice())?;
+    let spare = Skips::copy_of(alloc, skips.as_slice())?;
+    let fetched = Fetched::none(alloc, 0)?;
+    Ok(Attempt::of(worker, Task::Map(split), own, spare, fetched))
+}
+
+/// A live attempt of a reduce task.
+fn reduce_attempt(
+    alloc: Global,
+    shape: Shape,
+    worker: u32,
+    partition: u32,
+) -> Result<Attempt, AllocError>
+    ensures { IfOk result (λ a. a ≡ record { worker = worker; task = Task.Reduce partition; skips = []; fetched = replicate shape.maps None; live = true }) }
+{
+    let fetched = Fetched::none(alloc, shape.maps)?;
+    Ok(Attempt::of(
+        worker,
+        Task::Reduce(partition),
+        Skips::none(alloc),
+        Skips::none(alloc),
+        fetched,
+    ))
+}

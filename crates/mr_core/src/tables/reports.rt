@@ -1,0 +1,256 @@
+//! The events but `Ask`: each has one reply.
+ghost use Rattle.std.specs.Prelude.{◌≡◌, ℕ, ◌≤◌, ◌<◌, true, false, Some, None, ◌&&◌, nat_lt, MatchOption, OnOk, OnErr, IfOk, slice_get, is_some, length};
+ghost use Rattle.std.specs.List.{list_all};
+ghost use Rattle.mr_core.specs.declared.event.Shape.{Shape};
+ghost use Rattle.mr_core.specs.declared.event.Task.{Task};
+ghost use Rattle.mr_core.specs.declared.event.Event.{Event};
+ghost use Rattle.mr_core.specs.declared.entries.Split.{Split};
+ghost use Rattle.mr_core.specs.Queries.{IsLive};
+ghost use Rattle.mr_core.specs.Master.{Attempt, finish, fetch, commit, complete, lose, live_attempt, outcome, replies, takes, may_leave_out, failed_before, left_out, leave_out, note_failure};
+
+use super::Tables;
+use crate::entries::{all_some, put};
+use crate::event::{Reply, Shape, Task};
+use crate::failed::{longer_list, put_longer};
+use std::alloc::AllocError;
+
+impl Tables {
+    /// The output of a split, with the worker that has it; None where there is no such split.
+    fn split_output(&self, map: u32) -> Option<Option<(u64, u32)>>
+        ensures { MatchOption result (slice_get self.now.splits map ≡ None) (λ o. (sp : Split) × (slice_get self.now.splits map ≡ Some sp) × (sp.output ≡ o)) }
+    {
+        let split = self.splits.as_slice().get(map as usize)?;
+        Some(split.output)
+    }
+
+    /// The live attempt, which is one of the task, ends: the cursors move back to the task.
+    fn finish(&mut self, attempt: u32, task: Task)
+        requires { IsLive self.old attempt task }
+        ensures { self.new ≡ finish attempt self.old }
+    {
+        self.next_map = map_cursor(self.next_map, task);
+        self.next_part = part_cursor(self.next_part, task);
+        self.attempts.end(attempt);
+    }
+
+    fn note(&mut self, attempt: u32, map: u32, output: u64)
+        ensures { self.new ≡ fetch attempt map output self.old }
+    {
+        self.attempts.note_fetch(attempt, map, output);
+    }
+
+    /// The live attempt of the partition ends, and its output is committed.
+    fn commit(&mut self, attempt: u32, partition: u32, output: u64)
+        requires { IsLive self.old attempt (Task.Reduce partition) }
+        ensures { self.new ≡ commit partition output (finish attempt self.old) }
+    {
+        self.attempts.end(attempt);
+        self.committed.commit(partition, output);
+    }
+
+    /// A reduce attempt fetches the output of a split.
+    pub(crate) fn fetch(&mut self, attempt: u32, map: u32) -> Reply
+        ensures { (sh : Shape) → outcome sh self.old (Event.Fetch attempt map) ≡ replies result self.new }
+    {
+        let Some(task) = self.live_task(attempt) else {
+            return Reply::Ignored;
+        };
+        let Task::Reduce(_) = task else {
+            return Reply::Ignored;
+        };
+        let Some(output) = self.split_output(map) else {
+            return Reply::Ignored;
+        };
+        let Some((output, _)) = output else {
+            self.finish(attempt, task);
+            return Reply::Gone;
+        };
+        self.note(attempt, map, output);
+        Reply::Region { output }
+    }
+
+    /// Whether the attempt has fetched the output of every split.
+    fn has_all(&self, attempt: u32) -> bool
+        ensures { (at : Attempt) → live_attempt self.now attempt ≡ Some at → result ≡ list_all is_some at.fetched }
+    {
+        match self.attempts.as_slice().get(attempt as usize) {
+            Some(attempt) => all_some(attempt.fetched()),
+            None => false,
+        }
+    }
+
+    /// A reduce attempt is done.
+    pub(crate) fn reduce_done(&mut self, attempt: u32, output: u64) -> Reply
+        ensures { (sh : Shape) → outcome sh self.old (Event.ReduceDone attempt output) ≡ replies result self.new }
+    {
+        let Some(task) = self.live_task(attempt) else {
+            return Reply::Ignored;
+        };
+        let Task::Reduce(partition) = task else {
+            return Reply::Ignored;
+        };
+        let wanted = !self.is_complete(Task::Reduce(partition)) && self.has_all(attempt);
+        if !wanted {
+            self.finish(attempt, task);
+            return Reply::Ignored;
+        }
+        self.commit(attempt, partition, output);
+        Reply::Accepted
+    }
+
+    /// Whether the split takes an output under what the attempt leaves out.
+    fn takes(&self, attempt: u32, split: u32) -> bool
+        ensures { (at : Attempt) → live_attempt self.now attempt ≡ Some at → result ≡ takes at.skips (slice_get self.now.splits split) }
+    {
+        let Some(attempt) = self.attempts.as_slice().get(attempt as usize) else {
+            return false;
+        };
+        match self.splits.as_slice().get(split as usize) {
+            Some(split) => split.output.is_none()
+                && (!split.fixed || split.skips.is_same(attempt.skips())),
+            None => false,
+        }
+    }
+
+    /// The split is complete, with what a live attempt gave.
+    fn complete(&mut self, attempt: u32, split: u32, output: u64)
+        requires { IsLive self.old attempt (Task.Map split) }
+        ensures { (at : Attempt) → live_attempt self.old attempt ≡ Some at → self.new ≡ complete split at.skips output at.worker (finish attempt self.old) }
+    {
+        self.attempts
+            .complete(attempt, &mut self.splits, split, output);
+    }
+
+    /// A map attempt is done.
+    pub(crate) fn map_done(&mut self, attempt: u32, output: u64) -> Reply
+        ensures { (sh : Shape) → outcome sh self.old (Event.MapDone attempt output) ≡ replies result self.new }
+    {
+        let Some(task) = self.live_task(attempt) else {
+            return Reply::Ignored;
+        };
+        let Task::Map(split) = task else {
+            return Reply::Ignored;
+        };
+        if !self.takes(attempt, split) {
+            self.finish(attempt, task);
+            return Reply::Ignored;
+        }
+        self.complete(attempt, split, output);
+        Reply::Accepted
+    }
+
+    fn leave(&mut self, worker: u32)
+        ensures { self.new ≡ lose worker self.old }
+    {
+        put(self.lost.as_mut_slice(), worker, true);
+        self.attempts.lose(worker);
+        self.splits.leave(worker);
+        self.next_map = 0;
+        self.next_part = 0;
+    }
+
+    /// A worker is lost.
+    pub(crate) fn lose(&mut self, worker: u32) -> Reply
+        ensures { (sh : Shape) → outcome sh self.old (Event.Lose worker) ≡ replies result self.new }
+    {
+        if !self.is_active(worker) {
+            return Reply::Ignored;
+        }
+        self.leave(worker);
+        Reply::Accepted
+    }
+
+    /// Whether an attempt of the split has failed on the record.
+    fn has_failed(&self, split: u32, number: u32) -> bool
+        ensures { result ≡ failed_before self.now split number }
+    {
+        match self.failures.as_slice().get(split as usize) {
+            Some(failed) => failed.has(number),
+            None => false,
+        }
+    }
+
+    /// Whether the record of the split has failed before, and may yet be left out.
+    fn may_leave_out(&self, split: u32, number: u32) -> bool
+        ensures { result ≡ (failed_before self.now split number && may_leave_out number (slice_get self.now.splits split)) }
+    {
+        let before = self.has_failed(split, number);
+        match self.splits.as_slice().get(split as usize) {
+            Some(split) => before && (!split.fixed && !split.skips.has(number)),
+            None => false,
+        }
+    }
+
+    /// Whether one record more may be left out.
+    fn has_room(&self, limit: u32) -> bool
+        ensures { result ≡ nat_lt (left_out self.now) limit }
+    {
+        self.splits.has_room(limit)
+    }
+
+    /// A failure of an attempt on a record of its split, which is left out from now on where `adds` says so.
+    fn note_failure(
+        &mut self,
+        attempt: u32,
+        split: u32,
+        number: u32,
+        adds: bool,
+    ) -> Result<(), AllocError>
+        requires { IsLive self.old attempt (Task.Map split) }
+        ensures noted { OnOk result (adds ≡ false → self.new ≡ note_failure split number (finish attempt self.old)) }
+        ensures added { OnOk result (adds ≡ true → self.new ≡ leave_out split number (note_failure split number (finish attempt self.old))) }
+        ensures err { OnErr result (self.new ≡ self.old) }
+    {
+        let longer = longer_list(self.failures.as_slice(), split, number)?;
+        self.splits.leave_out(split, number, adds)?;
+        put_longer(self.failures.as_mut_slice(), split, number, longer);
+        self.next_map = map_cursor(self.next_map, Task::Map(split));
+        self.attempts.end(attempt);
+        Ok(())
+    }
+
+    /// A map attempt failed on a record of its split. With the reply: whether one record too many was to be left out.
+    #[tactic(auto, using(crate::proofs::Outcomes::failed_noted, crate::proofs::Outcomes::failed_over, crate::proofs::Outcomes::failed_left_out, crate::proofs::Outcomes::failed_dead, crate::proofs::Outcomes::failed_of_reduce))]
+    pub(crate) fn map_failed(
+        &mut self,
+        shape: Shape,
+        attempt: u32,
+        number: u32,
+    ) -> Result<(Reply, bool), AllocError>
+        ensures ok { IfOk result (λ r. outcome shape self.old (Event.MapFailed attempt number) ≡ record { reply = r.0; state = self.new; over = r.1 }) }
+        ensures err { OnErr result (self.new ≡ self.old) }
+    {
+        let Some(task) = self.live_task(attempt) else {
+            return Ok((Reply::Ignored, false));
+        };
+        let Task::Map(split) = task else {
+            return Ok((Reply::Ignored, false));
+        };
+        let again = self.may_leave_out(split, number);
+        let room = again && self.has_room(shape.limits.skips);
+        self.note_failure(attempt, split, number, room)?;
+        Ok((Reply::Accepted, again && !room))
+    }
+}
+
+/// The cursor of the map tasks, not past the task.
+fn map_cursor(next: u32, task: Task) -> u32
+    ensures back { result ≤ next }
+    ensures here { (s : ℕ) → task ≡ Task.Map s → result ≤ s }
+{
+    match task {
+        Task::Map(split) => next.min(split),
+        Task::Reduce(_) => next,
+    }
+}
+
+/// The cursor of the reduce tasks, not past the task.
+fn part_cursor(next: u32, task: Task) -> u32
+    ensures back { result ≤ next }
+    ensures here { (p : ℕ) → task ≡ Task.Reduce p → result ≤ p }
+{
+    match task {
+        Task::Map(_) => next,
+        Task::Reduce(partition) => next.min(partition),
+    }
+}
