@@ -58,7 +58,7 @@ promised sh limits h st run = record {
 }
 
 -- a step goes on with each run
-step_goes_on : (old : CoreView) (e : Event) (r : Reply) (new : CoreView) → InLimits old.shape → IsStep old e r new → GoesOn old e r new
+pub step_goes_on : (old : CoreView) (e : Event) (r : Reply) (new : CoreView) → InLimits old.shape → IsStep old e r new → GoesOn old e r new
 step_goes_on old e r new limits step h run =
     let longer = run_push old.shape (opening old.shape) h old.state e r new.state run step.1 in
     subst (λ (sh : Shape). Run sh (opening sh) (h ++ (e, r) ∷ []) new.state × Promises sh (h ++ (e, r) ∷ []) new.state) (sym step.0) (longer, promised old.shape limits (h ++ (e, r) ∷ []) new.state longer)

@@ -142,20 +142,6 @@ impl Core {
         Ok((reply, again))
     }
 
-    fn step(&mut self, alloc: Global, event: Event) -> Result<Reply, AllocError>
-        ensures ok { IfOk result (λ r. IsStep self.old event r self.new) }
-        ensures err { OnErr result (self.new ≡ self.old) }
-    {
-        match event {
-            Event::Ask(worker) => self.ask(alloc, worker),
-            Event::Fetch(attempt, map) => Ok(self.fetch(attempt, map)),
-            Event::MapDone(attempt, output) => Ok(self.map_done(attempt, output)),
-            Event::MapFailed(attempt, number) => self.map_failed(attempt, number),
-            Event::ReduceDone(attempt, output) => Ok(self.reduce_done(attempt, output)),
-            Event::Lose(worker) => Ok(self.lose(worker)),
-        }
-    }
-
     /// One event. Without memory the master stays as it was; only `Ask` and `MapFailed` take memory.
     pub fn apply(&mut self, alloc: Global, event: Event) -> Result<Reply, AllocError>
         ensures ok { IfOk result (λ r. IsStep self.old event r self.new) }
@@ -164,10 +150,12 @@ impl Core {
     {
         // shows the invariant: the shape is within the limits
         let _ = &self.shape;
-        self.step(alloc, event)
+        let (reply, _again) = self.step(alloc, event)?;
+        Ok(reply)
     }
 
-    fn step_twice(&mut self, alloc: Global, event: Event) -> Result<(Reply, Reply), AllocError>
+    /// One event, by its kind. Answers two equal replies.
+    fn step(&mut self, alloc: Global, event: Event) -> Result<(Reply, Reply), AllocError>
         ensures ok { IfOk result (λ r. IsStep self.old event r.0 self.new) }
         ensures twice { IfOk result (λ r. r.0 ≡ r.1) }
         ensures err { OnErr result (self.new ≡ self.old) }
@@ -191,7 +179,7 @@ impl Core {
     {
         // shows the invariant: the shape is within the limits
         let _ = &self.shape;
-        self.step_twice(alloc, event)
+        self.step(alloc, event)
     }
 }
 
@@ -212,7 +200,6 @@ fn twice(reply: Reply) -> (Reply, Reply)
         Reply::Gone => (Reply::Gone, Reply::Gone),
         Reply::Accepted => (Reply::Accepted, Reply::Accepted),
         Reply::Ignored => (Reply::Ignored, Reply::Ignored),
-        // ruled out
-        Reply::Map { .. } => (Reply::Wait, Reply::Wait),
+        Reply::Map { .. } => unreachable!(),
     }
 }

@@ -2,6 +2,7 @@
 ghost use Rattle.std.specs.Prelude.{◌≡◌, ℕ, ◌+◌, ◌≤◌, ◌<◌, ◌^◌, [], ◌∷◌, ◌++◌, length, vec_len, vec_capacity, IfOk, OnOk, OnErr, false, is_ok, if◌then◌else◌};
 ghost use Rattle.std.specs.List.{list_any};
 ghost use Rattle.std.specs.Str.{bytes_eq};
+ghost use Rattle.mr_bytes.specs.declared.Value.TheVariants.{One};
 ghost use Rattle.mr_sequential.specs.Pairs.{bytes_of, key_at, ones_then};
 
 use indexmap::IndexSet;
@@ -87,6 +88,7 @@ fn put_value(ones: &mut usize, rest: &mut Vec<Value>, value: Value)
     requires room { vec_len rest.old < vec_capacity rest.old }
     ensures value { ones_then ones.new rest.new.items ≡ ones_then ones.old rest.old.items ++ value ∷ [] }
     ensures count { ones.new + length rest.new.items ≡ ones.old + length rest.old.items + 1 }
+    ensures counted { rest.old.items ≡ [] → value ≡ One → rest.new.items ≡ [] }
 {
     if rest.is_empty() && matches!(value, Value::One) {
         *ones += 1;

@@ -4,4 +4,4 @@ use Rattle.mr_core.proofs.Twice.{pair_goes_on}
 use Rattle.mr_core.proofs.master.Core.apply_twice.Goals as goal
 
 pub returns-clause-run : goal.returns-clause-run
-returns-clause-run c = pair_goes_on c.args.self.now c.args.event c.step_twice.result c.step_twice.new.self (subst (λ (v : CoreView). InLimits v.shape) c.self.view_is c.self.invariant.0) c.step_twice.ensures.ok
+returns-clause-run c = pair_goes_on c.args.self.now c.args.event c.step.result c.step.new.self (subst (λ (v : CoreView). InLimits v.shape) c.self.view_is c.self.invariant.0) c.step.ensures.ok
