@@ -30,7 +30,7 @@ def run(words, files=None, cwd=None):
     """(status, standard output, standard error, the directory) of one run in a fresh directory."""
     where = cwd or tempfile.mkdtemp(dir=ROOM)
     for name, data in (files or {}).items():
-        with open(os.path.join(where, name), "wb") as file:
+        with open(os.path.join(os.fsencode(where), os.fsencode(name)), "wb") as file:
             file.write(data)
     ran = subprocess.run([PROGRAM, *words], cwd=where, capture_output=True)
     return ran.returncode, ran.stdout, ran.stderr, where
@@ -359,6 +359,8 @@ def faults():
     for line in (["--help"], ["seq", "--help"], ["check", "--help"], ["--version"]):
         got = run(line)
         check(f"an answer {line}", got[0] == 0 and got[1] != b"" and got[2] == b"", repr(got))
+    got = run(["seq", "--job", "words", "--out", ".", b"\xff"], {b"\xff": b"a\n"})
+    check("a word that is not UTF-8", got[:3] == (2, b"", b"mapred: a word of the command line is not UTF-8\n") and parts_of(got[3]) == [], repr(got))
     got = run(["--version"])
     check("the version tells the kit", b"rattle-kit-13b logic dac8208d650f15bf" in got[1], repr(got))
 
@@ -545,9 +547,84 @@ def little_memory():
     check("memory that doesn't suffice for the judge, and memory that does", unjudged > 0 and yes > 0)
 
 
+def shim():
+    """The library that lets calls fail, built by the C compiler of the machine; none where it has no compiler."""
+    made = os.path.join(ROOM, "failing_calls.so")
+    source = os.path.join(os.path.dirname(os.path.abspath(__file__)), "failing_calls.c")
+    for compiler in ("cc", "gcc", "clang"):
+        if shutil.which(compiler):
+            built = subprocess.run([compiler, "-O1", "-shared", "-fPIC", "-o", made, source, "-ldl"], capture_output=True)
+            check("the library that lets calls fail is built", built.returncode == 0, repr(built.stderr))
+            return made if built.returncode == 0 else None
+    return None
+
+
+def with_failing(library, which, words, files):
+    """A run in a fresh directory in which that call fails, and whether it came to that call."""
+    where = tempfile.mkdtemp(dir=ROOM)
+    for name, data in files.items():
+        with open(os.path.join(where, name), "wb") as file:
+            file.write(data)
+    mark = where + ".mark"
+    ran = subprocess.run([PROGRAM, *words], cwd=where, capture_output=True, env={"LD_PRELOAD": library, "FAIL": which, "FAIL_MARK": mark})
+    return (ran.returncode, ran.stdout, ran.stderr, {name: open(os.path.join(where, name), "rb").read() for name in sorted(os.listdir(where))}), os.path.exists(mark)
+
+
+def is_beginning(stands, whole, given):
+    """Whether of the files that a whole run writes, the parts in order and then the certificate, those up to some file stand, the last
+    of them perhaps in part, and all else is as it was."""
+    written = sorted((name for name in whole if name not in given), key=lambda name: (name == "certificate", name))
+    made = [name for name in written if name in stands]
+    return (made == written[:len(made)] and sorted(stands) == sorted([*given, *made]) and all(stands[name] == given[name] for name in given)
+            and all(stands[name] == whole[name] for name in made[:-1]) and all(whole[name].startswith(stands[name]) for name in made[-1:]))
+
+
+def failing_calls():
+    """Each allocation, opening, read and write fails in turn: the answer is the refusal's own, and nothing else changes."""
+    library = shim()
+    if library is None:
+        return
+    text = {"a": b"The cat saw the dog.\n\nThe dog saw nothing.\n", "b": b"a cat\n"}
+    log = {"a": b'h - - [t] "GET /index.html HTTP/1.0" 200 1\nh - - [t] "GET /a HTTP/1.0" 200 1\n'}
+    for name, options, files in [
+        ("words", ["--job", "words", "--parts", "2", "--max-skips", "1"], text),
+        ("grep", ["--job", "grep", "--literal", "THE", "--fold"], text),
+        ("url", ["--job", "url", "--parts", "2"], log),
+    ]:
+        seq = ["seq", *options, *(["--skips", "0:1"] if name == "words" else []), "--out", ".", *files]
+        whole, _ = with_failing(library, "none", seq, files)
+        check(f"{name} without a failing call", whole[0] == 0 and b"done: " in whole[1], repr(whole))
+        judged_files = whole[3]
+        for words, given in ((seq, files), (["check", *options, "--out", ".", *files], judged_files)):
+            whole, _ = with_failing(library, "none", words, given)
+            short, _ = with_failing(library, "short 0", words, given)
+            check(f"{words[0]} {name} a byte a call", short == whole and whole[0] == 0, repr(short))
+            for kind, status, said in (("malloc", 4, b"mapred: out of memory\n"), ("open", 3, b"mapred: cannot "), ("read", 3, b"mapred: cannot read "), ("write", 3, b"mapred: cannot write ")):
+                number, spared, marked = 0, 0, True
+                while marked:
+                    number += 1
+                    got, marked = with_failing(library, f"{kind} {number}", words, given)
+                    refused = got[:2] == (status, b"") and got[2].startswith(said) and got[2].count(b"\n") == 1 and is_beginning(got[3], whole[3], given)
+                    unprinted = kind == "write" and got == (0, b"", b"", whole[3])
+                    spared += kind == "malloc" and marked and got == whole
+                    check(f"{words[0]} {name}, {kind} {number} fails", refused or unprinted or (got == whole and (kind == "malloc" or not marked)), repr(got))
+                check(f"{words[0]} {name} comes to some {kind}", number > 1)
+                # asking for a word behind the last one needs no memory
+                check(f"{words[0]} {name} needs all memory but once", spared <= 1, str(spared))
+    for words in (["--help"], ["seq", "--help"], ["check", "--help"], ["--version"], ["seq", "--job", "words", "--parts", "x", "--out", "."], []):
+        whole, marked = with_failing(library, "none", words, {})
+        number, spared, marked = 0, 0, True
+        while marked:
+            number += 1
+            got, marked = with_failing(library, f"malloc {number}", words, {})
+            spared += marked and got == whole
+            check(f"{words}, malloc {number} fails", got == whole or (marked and got == (4, b"", b"mapred: out of memory\n", {})), repr(got))
+        check(f"{words} needs all memory but once", number > 1 and spared <= 1, str(spared))
+
+
 def main():
     try:
-        for part in (worked_rows, certificates, refusals, changes, faults, check_faults, streams_and_disks, few_open_files, little_memory, against_python, against_tools):
+        for part in (worked_rows, certificates, refusals, changes, faults, check_faults, streams_and_disks, few_open_files, failing_calls, little_memory, against_python, against_tools):
             part()
     finally:
         shutil.rmtree(ROOM, ignore_errors=True)

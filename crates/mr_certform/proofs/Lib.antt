@@ -5,5 +5,6 @@ pub mod Tails
 pub mod Drafts
 pub mod Certificates
 pub mod Pieces
+pub mod Chunks
 pub mod Spelled
 pub mod Growth

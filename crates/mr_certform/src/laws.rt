@@ -1,7 +1,10 @@
-ghost use Rattle.std.specs.Prelude.{◌≡◌, ℕ, List, [], ◌++◌, Some, true, length, take};
+ghost use Rattle.std.specs.Prelude.{◌≡◌, ℕ, List, [], ◌++◌, Some, true, length, take, map};
+ghost use Rattle.std.specs.List.{flat_map};
+ghost use Rattle.mr_bytes.specs.declared.Name.{Name};
 ghost use Rattle.mr_certform.specs.declared.item.Item.{Item};
 ghost use Rattle.mr_certform.specs.declared.place.Place.{Place};
 ghost use Rattle.mr_certform.specs.Spelling.{Front, standing, bytes_at, bytes_from, items_of, is_ended, stop};
+ghost use Rattle.mr_certform.specs.Flat.{total, chunks};
 ghost use Rattle.mr_certform.specs.Value.{Contents, certificate_items, Spells};
 ghost use Rattle.mr_certform.specs.Grammar.{MayStand, InOrder, AreBytes};
 ghost use Rattle.mr_certform.specs.declared.place.Place.TheVariants.{AtMagic};
@@ -27,4 +30,11 @@ pub fn certificate_law()
 pub fn items_law()
     ensures stand { (bytes : List ℕ) → AreBytes bytes → InOrder AtMagic (items_of bytes) × (length (bytes_from AtMagic (items_of bytes)) ≡ stop bytes) × (take (stop bytes) bytes ≡ bytes_from AtMagic (items_of bytes)) }
     ensures longest { (bytes : List ℕ) (is : List Item) (more : List ℕ) → InOrder AtMagic is → (is_ended is ≡ true → more ≡ []) → bytes ≡ bytes_from AtMagic is ++ more → (js : List Item) × (items_of bytes ≡ is ++ js) }
+{}
+
+/// Cut by counts that add up to its length, a list gives pieces of just these lengths, which one behind another are
+/// the list again: names cut into groups, and groups cut into partitions.
+pub fn chunks_law()
+    ensures names { (counts : List ℕ) (names : List Name) → total counts ≡ length names → (map length (chunks counts names) ≡ counts) × (flat_map (λ group. group) (chunks counts names) ≡ names) }
+    ensures groups { (counts : List ℕ) (groups : List (List Name)) → total counts ≡ length groups → (map length (chunks counts groups) ≡ counts) × (flat_map (λ part. part) (chunks counts groups) ≡ groups) }
 {}

@@ -19,7 +19,7 @@ pub use crate::building::{Builder, FlatGroups, Header};
 pub use crate::certificate::Certificate;
 pub use crate::groups::{Groups, Partitions};
 pub use crate::item::{Item, Malformed};
-pub use crate::laws::{certificate_law, item_law, items_law};
+pub use crate::laws::{certificate_law, chunks_law, item_law, items_law};
 pub use crate::place::Place;
 pub use crate::reading::{ReadFault, read};
 pub use crate::walker::Walker;

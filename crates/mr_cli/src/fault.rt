@@ -4,12 +4,15 @@ use mr_jobs::{JobFault, RequestFault};
 use mr_sequential::RunFault;
 use std::alloc::AllocError;
 use std::fmt;
+use std::io::{self, ErrorKind};
 
 /// Why the program ends with another status than 0.
 #[derive(Drop)]
 pub enum Fault {
     /// The words of the command line, also where they ask for help.
     Line(clap::Error),
+    /// A word of the command line that is not UTF-8.
+    NotUtf8,
     /// An option of another job.
     OtherJobsOption,
     Job(JobFault),
@@ -26,6 +29,15 @@ pub enum Fault {
 impl From<AllocError> for Fault {
     fn from(_error: AllocError) -> Fault {
         Fault::OutOfMemory
+    }
+}
+
+impl From<clap::Error> for Fault {
+    fn from(error: clap::Error) -> Fault {
+        match error.kind() {
+            clap::error::ErrorKind::OutOfMemory => Fault::OutOfMemory,
+            _ => Fault::Line(error),
+        }
     }
 }
 
@@ -48,6 +60,14 @@ impl From<RunFault> for Fault {
 }
 
 impl Fault {
+    /// Why the words of the command line can't be had.
+    pub fn of_words(error: io::Error) -> Fault {
+        match error.kind() {
+            ErrorKind::OutOfMemory => Fault::OutOfMemory,
+            _ => Fault::NotUtf8,
+        }
+    }
+
     /// The exit status: 2 for usage or a limit, 3 for a file, 4 for want of memory; 0 where help was asked for.
     pub fn status(&self) -> u8 {
         match self {
@@ -71,6 +91,7 @@ impl fmt::Display for Fault {
     fn fmt<W: fmt::Write>(&self, f: &mut fmt::Formatter<W>) -> fmt::Result {
         match self {
             Fault::Line(error) => write!(f, "{error}"),
+            Fault::NotUtf8 => write!(f, "mapred: a word of the command line is not UTF-8\n"),
             Fault::OtherJobsOption => { write!(f, "mapred: option does not belong to this job\n") }
             Fault::Job(fault) => write!(f, "mapred: {fault}\n"),
             Fault::Request(fault) => write!(f, "mapred: {fault}\n"),

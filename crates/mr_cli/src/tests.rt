@@ -1,8 +1,9 @@
 //! Worked rows of the program: status, streams and files.
 use crate::device::{FileReader, FileWriter};
-use crate::program::mapred;
+use crate::fault::Fault;
+use crate::program::{mapred, told};
 use mr_store::{CountedRead, CountedWrite, read_all, write_all};
-use std::alloc::Global;
+use std::alloc::{AllocError, Global};
 use std::fs;
 use std::io::{self, ErrorKind};
 use std::test::Fail;
@@ -394,6 +395,37 @@ fn helps_and_refuses_unknown_words(rt: HostRuntime) -> Result<(), Fail> {
     assert_eq!(rt; status, 2);
     assert_eq!(rt; out.len(), 0);
     assert!(rt; starts(err.as_slice(), b"error: "));
+    Ok(())
+}
+
+#[test]
+fn want_of_memory_while_words_are_read(rt: HostRuntime) -> Result<(), Fail> {
+    let alloc = rt.alloc();
+    for fault in [
+        Fault::from(clap::Error::from(AllocError)),
+        Fault::of_words(io::Error::from(ErrorKind::OutOfMemory)),
+    ] {
+        let mut out = Vec::new(alloc);
+        let mut err = Vec::new(alloc);
+        assert_eq!(rt; told(&fault, &mut out, &mut err), 4);
+        assert_eq!(rt; out.len(), 0);
+        assert_eq!(rt; err.as_slice(), b"mapred: out of memory\n".as_slice());
+    }
+    Ok(())
+}
+
+#[test]
+fn a_word_that_is_not_text(rt: HostRuntime) -> Result<(), Fail> {
+    let alloc = rt.alloc();
+    let mut out = Vec::new(alloc);
+    let mut err = Vec::new(alloc);
+    let fault = Fault::of_words(io::Error::from(ErrorKind::InvalidData));
+    assert_eq!(rt; told(&fault, &mut out, &mut err), 2);
+    assert_eq!(rt; out.len(), 0);
+    assert_eq!(rt;
+        err.as_slice(),
+        b"mapred: a word of the command line is not UTF-8\n".as_slice()
+    );
     Ok(())
 }
 

@@ -1,0 +1,69 @@
+/* Preloaded before the program, lets calls of the system fail. FAIL says which: "malloc 3" the third allocation (growing
+   one counts too), "read 3", "write 3" or "open 3" the third call of that kind, from 1; "short 0" lets each read and
+   write move one byte. The file that FAIL_MARK names is made when a call was let fail. */
+#define _GNU_SOURCE
+#include <dlfcn.h>
+#include <errno.h>
+#include <fcntl.h>
+#include <stdarg.h>
+#include <stdlib.h>
+#include <string.h>
+#include <sys/syscall.h>
+#include <unistd.h>
+
+static const char *kind = "";
+static long at, seen;
+
+__attribute__((constructor)) static void choose(void) {
+    const char *fail = getenv("FAIL");
+    if (!fail)
+        return;
+    for (const char *const *name = (const char *const[]){"malloc", "read", "write", "open", "short", 0}; *name; name++)
+        if (!strncmp(fail, *name, strlen(*name))) {
+            kind = *name;
+            at = atol(fail + strlen(*name));
+        }
+}
+
+static int fails(const char *what) {
+    if (strcmp(kind, what) || ++seen != at)
+        return 0;
+    const char *mark = getenv("FAIL_MARK");
+    if (mark)
+        syscall(SYS_close, syscall(SYS_open, mark, O_WRONLY | O_CREAT, 0600));
+    return 1;
+}
+
+static size_t length(size_t size) { return size && !strcmp(kind, "short") ? 1 : size; }
+
+static void *next(const char *name) { return dlsym(RTLD_NEXT, name); }
+
+void *malloc(size_t size) {
+    static void *(*real)(size_t);
+    if (!real)
+        real = next("malloc");
+    return fails("malloc") ? (errno = ENOMEM, NULL) : real(size);
+}
+
+void *realloc(void *old, size_t size) {
+    static void *(*real)(void *, size_t);
+    if (!real)
+        real = next("realloc");
+    return fails("malloc") ? (errno = ENOMEM, NULL) : real(old, size);
+}
+
+ssize_t read(int file, void *to, size_t size) {
+    return fails("read") ? (errno = EIO, -1) : syscall(SYS_read, file, to, length(size));
+}
+
+ssize_t write(int file, const void *from, size_t size) {
+    return fails("write") ? (errno = ENOSPC, -1) : syscall(SYS_write, file, from, length(size));
+}
+
+int open(const char *name, int flags, ...) {
+    va_list more;
+    va_start(more, flags);
+    int mode = va_arg(more, int);
+    va_end(more);
+    return fails("open") ? (errno = EACCES, -1) : (int)syscall(SYS_open, name, flags, mode);
+}
