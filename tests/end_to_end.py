@@ -559,14 +559,14 @@ def shim():
     return None
 
 
-def with_failing(library, which, words, files):
+def with_failing(library, which, words, files, **more):
     """A run in a fresh directory in which that call fails, and whether it came to that call."""
     where = tempfile.mkdtemp(dir=ROOM)
     for name, data in files.items():
         with open(os.path.join(where, name), "wb") as file:
             file.write(data)
     mark = where + ".mark"
-    ran = subprocess.run([PROGRAM, *words], cwd=where, capture_output=True, env={"LD_PRELOAD": library, "FAIL": which, "FAIL_MARK": mark})
+    ran = subprocess.run([PROGRAM, *words], cwd=where, capture_output=True, env={"LD_PRELOAD": library, "FAIL": which, "FAIL_MARK": mark, **more})
     return (ran.returncode, ran.stdout, ran.stderr, {name: open(os.path.join(where, name), "rb").read() for name in sorted(os.listdir(where))}), os.path.exists(mark)
 
 
@@ -608,6 +608,9 @@ def failing_calls():
                     unprinted = kind == "write" and got == (0, b"", b"", whole[3])
                     spared += kind == "malloc" and marked and got == whole
                     check(f"{words[0]} {name}, {kind} {number} fails", refused or unprinted or (got == whole and (kind == "malloc" or not marked)), repr(got))
+                    if kind != "malloc" and marked and not unprinted:
+                        got, _ = with_failing(library, f"{kind} {number}", words, given, FAIL_MEMORY="1")
+                        check(f"{words[0]} {name}, {kind} {number} wants memory", got[:3] == (4, b"", b"mapred: out of memory\n") and is_beginning(got[3], whole[3], given), repr(got))
                 check(f"{words[0]} {name} comes to some {kind}", number > 1)
                 # asking for a word behind the last one needs no memory
                 check(f"{words[0]} {name} needs all memory but once", spared <= 1, str(spared))

@@ -1,6 +1,7 @@
 /* Preloaded before the program, lets calls of the system fail. FAIL says which: "malloc 3" the third allocation (growing
-   one counts too), "read 3", "write 3" or "open 3" the third call of that kind, from 1; "short 0" lets each read and
-   write move one byte. The file that FAIL_MARK names is made when a call was let fail. */
+   one counts too), "read 3", "write 3" or "open 3" the third call of that kind, from 1, for want of memory where
+   FAIL_MEMORY is set; "short 0" lets each read and write move one byte. The file that FAIL_MARK names is made when a
+   call was let fail. */
 #define _GNU_SOURCE
 #include <dlfcn.h>
 #include <errno.h>
@@ -34,6 +35,12 @@ static int fails(const char *what) {
     return 1;
 }
 
+/* The failure of a call on a file. */
+static int failed(int cause) {
+    errno = getenv("FAIL_MEMORY") ? ENOMEM : cause;
+    return -1;
+}
+
 static size_t length(size_t size) { return size && !strcmp(kind, "short") ? 1 : size; }
 
 static void *next(const char *name) { return dlsym(RTLD_NEXT, name); }
@@ -53,11 +60,11 @@ void *realloc(void *old, size_t size) {
 }
 
 ssize_t read(int file, void *to, size_t size) {
-    return fails("read") ? (errno = EIO, -1) : syscall(SYS_read, file, to, length(size));
+    return fails("read") ? failed(EIO) : syscall(SYS_read, file, to, length(size));
 }
 
 ssize_t write(int file, const void *from, size_t size) {
-    return fails("write") ? (errno = ENOSPC, -1) : syscall(SYS_write, file, from, length(size));
+    return fails("write") ? failed(ENOSPC) : syscall(SYS_write, file, from, length(size));
 }
 
 int open(const char *name, int flags, ...) {
@@ -65,5 +72,5 @@ int open(const char *name, int flags, ...) {
     va_start(more, flags);
     int mode = va_arg(more, int);
     va_end(more);
-    return fails("open") ? (errno = EACCES, -1) : (int)syscall(SYS_open, name, flags, mode);
+    return fails("open") ? failed(EACCES) : (int)syscall(SYS_open, name, flags, mode);
 }
