@@ -323,6 +323,11 @@ fn a_reader_counts_its_failures(rt: HostRuntime) -> Result<(), Fail> {
         }
         assert_eq!(rt; bytes.as_slice(), b"xabc".as_slice());
     }
+    let mut late = FileReader::new(&rt, "reader.dir/late");
+    assert!(rt; read_all(&mut late, &mut bytes).is_err());
+    fs::write(&rt, "reader.dir/late", b"abc")?;
+    assert!(rt; read_all(&mut late, &mut bytes).is_err());
+    assert_eq!(rt; late.failures(), 2);
     fs::remove_dir_all(&rt, "reader.dir")?;
     Ok(())
 }
