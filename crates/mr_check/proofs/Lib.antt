@@ -1,3 +1,4 @@
+pub mod AheadLemmas
 pub mod Faults
 pub mod GrammarLemmas
 pub mod HeadlineLemmas

@@ -9,7 +9,7 @@ use Rattle.mr_sequential.specs.Good.{named}
 use Rattle.mr_check.specs.declared.fault.No.{No}
 use Rattle.mr_check.specs.declared.fault.No.TheVariants.{Malformed}
 use Rattle.mr_check.specs.Verdict.{State, Subject, with_entry, behind_group, entry_tests, after_entry, tests, after, part_faults}
-use Rattle.mr_check.specs.Judging.{first, Told, HasRoom, entries_in}
+use Rattle.mr_check.specs.Judging.{first, Told, HasRoom, Room, entries_in}
 use Rattle.mr_check.proofs.Faults.{first_more, told_left, told_is}
 
 -- the faults from an item on that isn't the end
@@ -79,14 +79,6 @@ named_after s st (Entry n) none = entry_named s (st.next - 1) st n (named s.trip
 named_after s st i none = omega arith
 
 -- ---- counters
-
--- each counter plus what is to come is at most so many
-pub record Room (st : State) (more : ℕ) (all : ℕ) : Type 0 where
-  pub next : st.next + more ≤ all
-  pub group : st.group + more ≤ all
-  pub entry : st.entry + more ≤ all
-  pub named : st.named + more ≤ all
-  pub values : length st.values + more ≤ all
 
 -- the same, but for the counters of entries, which come one later
 record Roomy (st : State) (more : ℕ) (all : ℕ) : Type 0 where

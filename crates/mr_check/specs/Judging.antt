@@ -1,5 +1,5 @@
 -- What the judge's functions say of the tests: the first of the faults, and how far the items were walked.
-use Rattle.std.specs.Prelude.{◌≡◌, ◌⊎◌, ◌<◌, ◌^◌, ℕ, ◌+◌, Bool, true, false, if◌then◌else◌, nat_le, Option, Some, None, Result, Ok, Err, List, [], ◌∷◌, ◌++◌, length}
+use Rattle.std.specs.Prelude.{◌≡◌, ◌⊎◌, ◌<◌, ◌≤◌, ◌^◌, ℕ, ◌+◌, Bool, true, false, if◌then◌else◌, nat_le, Option, Some, None, Result, Ok, Err, List, [], ◌∷◌, ◌++◌, length}
 use Rattle.mr_bytes.specs.declared.RecordName.{RecordName}
 use Rattle.mr_jobs.specs.Task.{Order}
 use Rattle.mr_splits.specs.Named.{NamedRecord}
@@ -44,6 +44,14 @@ pub record HasRoom (st : State) : Type 0 where
   pub entry : st.entry + 1 < 2 ^ 64
   pub named : st.named + 1 < 2 ^ 64
   pub values : length st.values + 1 < 2 ^ 64
+
+-- each counter plus what is to come is at most so many
+pub record Room (st : State) (more : ℕ) (all : ℕ) : Type 0 where
+  pub next : st.next + more ≤ all
+  pub group : st.group + more ≤ all
+  pub entry : st.entry + more ≤ all
+  pub named : st.named + more ≤ all
+  pub values : length st.values + more ≤ all
 
 -- the items begin with the wanted ones: those behind them, or the fault
 abbrev pub met : ℕ → List Item → No → List Item → Result (List Item) No

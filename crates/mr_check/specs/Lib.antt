@@ -1,5 +1,6 @@
 pub mod Verdict
 pub mod Judging
+pub mod Ahead
 pub mod VerdictRows
 pub mod VerdictLaws
 pub mod Headline

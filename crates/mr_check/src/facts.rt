@@ -4,6 +4,8 @@ ghost use Rattle.mr_input.specs.Files.{nth};
 ghost use Rattle.mr_partition.specs.Partition.{partition_of};
 ghost use Rattle.mr_reduce.specs.Text.{text_of};
 ghost use Rattle.mr_sequential.specs.Good.{named};
+ghost use Rattle.mr_index.specs.Index.{pair_at};
+ghost use Rattle.mr_check.specs.Ahead.{triple_at};
 
 use crate::comparing::output_of;
 use crate::values::Values;
@@ -55,16 +57,24 @@ impl<'a> Facts<'a> {
         values.put_text(self.request.job(), key, out)
     }
 
-    /// The key and the value under a name.
-    pub fn pair(&self, name: Name, meter: &mut Meter) -> Option<(&'a [u8], Value)>
+    /// Where the pair of that name stands among all that is emitted, or none where there is no such pair.
+    pub fn find(&self, name: Name, meter: &mut Meter) -> Option<usize>
         requires { meter.old.lookups + 1 < 2 ^ 64 }
-        ensures found { MatchOption result (named self.now.triples name ≡ None)
-            (λ p. named self.now.triples name ≡ Some (record { key = p.0.now; value = p.1; name = name })) }
+        ensures found { MatchOption result (named self.now.triples name ≡ None) (λ at. (at < length self.now.triples) × (named self.now.triples name ≡ Some (triple_at self.now.triples name at))) }
         ensures lookups { meter.new.lookups ≡ meter.old.lookups + 1 }
         ensures mapped { meter.new.mapped ≡ meter.old.mapped }
     {
         let index = self.index;
-        index.pair(name, meter)
+        index.find(name, meter)
+    }
+
+    /// The key and the value of the pair that stands at this place.
+    pub fn at(&self, at: usize) -> (&'a [u8], Value)
+        requires { at < length self.now.triples }
+        ensures { (result.0.now, result.1) ≡ pair_at self.now.triples at }
+    {
+        let index = self.index;
+        index.at(at)
     }
 
     /// How many pairs are emitted.

@@ -1,16 +1,17 @@
 //! How far the judge has come in the partitions, item by item.
-ghost use Rattle.std.specs.Prelude.{◌≡◌, ◌<◌, ◌≤◌, ◌+◌, ◌-◌, ◌^◌, ◌++◌, ◌∷◌, [], MatchResult, OnOk, None, Some, length};
+ghost use Rattle.std.specs.Prelude.{◌≡◌, ◌<◌, ◌≤◌, ◌+◌, ◌-◌, ◌^◌, ◌++◌, ◌∷◌, [], MatchOption, MatchResult, OnOk, None, Some, length};
 ghost use Rattle.mr_sequential.specs.Good.{named};
 ghost use Rattle.mr_check.specs.Verdict.{start, first_tests, later_tests, order_tests, with_entry, group_tests, behind_group, entry_tests, after_entry, tests, after};
-ghost use Rattle.mr_check.specs.Judging.{subject, Told, HasRoom, entries_in};
+ghost use Rattle.mr_check.specs.Judging.{subject, Told, HasRoom};
+ghost use Rattle.mr_check.specs.Ahead.{IsFound};
 
+use crate::ahead::Row;
 use crate::facts::Facts;
 use crate::fault::No;
 use crate::testing::{test_end, test_first, test_later, test_named, test_text};
 use crate::values::Values;
 use mr_bytes::{Name, Value};
 use mr_certform::Item;
-use mr_index::Meter;
 use std::alloc::{AllocError, Global};
 use std::marker::Model;
 
@@ -217,16 +218,20 @@ impl<'a> Judging<'a> {
         }
     }
 
-    /// An entry, with all its tests.
-    fn entry(&mut self, facts: &Facts<'a>, p: u64, name: Name, meter: &mut Meter) -> Result<(), No>
+    /// An entry, with all its tests, given what is emitted under its name.
+    fn entry(
+        &mut self,
+        facts: &Facts<'_>,
+        p: u64,
+        name: Name,
+        found: Option<(&'a [u8], Value)>,
+    ) -> Result<(), No>
         requires room { HasRoom self.old }
-        requires count { meter.old.lookups + 1 < 2 ^ 64 }
+        requires found { let t = named facts.now.triples name in MatchOption found (t ≡ None) (λ p. t ≡ Some (record { key = p.0.now; value = p.1; name = name })) }
         ensures tests { let s = subject facts.now in let t = named s.triples name in let fs = entry_tests s p self.old name t in
             MatchResult result (λ _. (fs ≡ []) × (self.new ≡ after_entry s self.old t)) (λ e. Told fs e) }
-        ensures lookups { meter.new.lookups ≡ meter.old.lookups + 1 }
-        ensures mapped { meter.new.mapped ≡ meter.old.mapped }
     {
-        match facts.pair(name, meter) {
+        match found {
             None => Err(No::NoSuchPair {
                 partition: p,
                 group: self.group,
@@ -239,16 +244,14 @@ impl<'a> Judging<'a> {
         }
     }
 
-    /// All tests of an item, in their order.
-    pub fn step(&mut self, facts: &Facts<'a>, item: Item, meter: &mut Meter) -> Result<(), No>
+    /// All tests of a row's item, in their order.
+    pub fn step(&mut self, facts: &Facts<'_>, row: &Row<'a>) -> Result<(), No>
         requires room { HasRoom self.old }
-        requires count { meter.old.lookups + 1 < 2 ^ 64 }
-        ensures tests { let s = subject facts.now in
-            MatchResult result (λ _. (tests s self.old item ≡ []) × (self.new ≡ after s self.old item)) (λ e. Told (tests s self.old item) e) }
-        ensures lookups { meter.new.lookups ≡ meter.old.lookups + entries_in (item ∷ []) }
-        ensures mapped { meter.new.mapped ≡ meter.old.mapped }
+        requires found { IsFound facts.now.triples row.now }
+        ensures { let s = subject facts.now in
+            MatchResult result (λ _. (tests s self.old row.now.item ≡ []) × (self.new ≡ after s self.old row.now.item)) (λ e. Told (tests s self.old row.now.item) e) }
     {
-        match item {
+        match row.item {
             Item::Groups(groups) => {
                 let groups = u64::from(groups);
                 test_end(facts.output(self.next), self.next, groups, 0)?;
@@ -261,7 +264,7 @@ impl<'a> Judging<'a> {
             }
             Item::Entry(name) => {
                 let p = self.next.saturating_sub(1);
-                self.entry(facts, p, name, meter)
+                self.entry(facts, p, name, row.found)
             }
             Item::End => test_named(facts.emitted(), self.named),
             _ => Ok(()),

@@ -1,6 +1,7 @@
 //! The judge of a result.
 #![tactic(auto)]
 
+mod ahead;
 mod comparing;
 mod facts;
 mod fault;

@@ -1,9 +1,13 @@
 //! The partitions of a certificate, with the outputs.
-ghost use Rattle.std.specs.Prelude.{◌≡◌, ◌<◌, ◌≤◌, ◌+◌, ◌^◌, MatchResult, IfOk, None, length};
+ghost use Rattle.std.specs.Prelude.{◌≡◌, ℕ, ◌<◌, ◌≤◌, ◌+◌, ◌-◌, ◌^◌, List, MatchResult, IfOk, None, length};
+ghost use Rattle.std.specs.List.{AllByRecursion};
+ghost use Rattle.mr_certform.specs.declared.item.Item.{Item as Read};
 ghost use Rattle.mr_certform.specs.Walking.{left, halt};
 ghost use Rattle.mr_check.specs.Verdict.{start, part_faults};
-ghost use Rattle.mr_check.specs.Judging.{subject, first, Told, entries_in};
+ghost use Rattle.mr_check.specs.Judging.{subject, first, Told, Room, entries_in};
+ghost use Rattle.mr_check.specs.Ahead.{items_in, IsFound, Judged};
 
+use crate::ahead::{BLOCK, Row, fetch_all, read_block, seek_all, touch};
 use crate::facts::Facts;
 use crate::fault::No;
 use crate::judging::Judging;
@@ -11,8 +15,28 @@ use mr_certform::{Item, Walker};
 use mr_index::Meter;
 use std::alloc::Global;
 
+/// Judges rows in turn: whether they end the certificate, or the first fault.
+#[inline(never)]
+fn judge_rows<'a>(
+    judging: &mut Judging<'a>,
+    facts: &Facts<'a>,
+    rows: &[Row<'a>],
+) -> Result<bool, No>
+    requires room { Room judging.old (length rows.now) (2 ^ 64 - 2) }
+    requires found { AllByRecursion (IsFound facts.now.triples) rows.now }
+    ensures { (at : ℕ) (js : List Read) → Judged (subject facts.now) at judging.old judging.new (items_in rows.now) js result }
+{
+    for row in rows {
+        judging.step(facts, row)?;
+        if let Item::End = row.item {
+            return Ok(true);
+        }
+    }
+    Ok(false)
+}
+
 /// Judges all partitions, and the certificate's end: how many entries there are, or the first fault. Each entry is
-/// looked up once at most.
+/// looked up once at most, a block of them ahead of the tests.
 pub(crate) fn check_parts(
     alloc: Global,
     facts: &Facts<'_>,
@@ -28,10 +52,16 @@ pub(crate) fn check_parts(
     ensures mapped { meter.new.mapped ≡ meter.old.mapped }
 {
     let mut judging = Judging::new(alloc);
+    let mut items = Vec::with_capacity(alloc, BLOCK)?;
+    let mut sought = Vec::with_capacity(alloc, BLOCK)?;
+    let mut rows = Vec::with_capacity(alloc, BLOCK)?;
+    let mut touched = Vec::with_capacity(alloc, BLOCK)?;
     loop {
-        let item = walker.next()?;
-        judging.step(facts, item, meter)?;
-        if let Item::End = item {
+        read_block(walker, &mut items)?;
+        seek_all(facts, &items, &mut sought, meter)?;
+        fetch_all(facts, &sought, &mut rows)?;
+        touch(&rows, &mut touched)?;
+        if judge_rows(&mut judging, facts, &rows)? {
             return Ok(judging.named());
         }
     }

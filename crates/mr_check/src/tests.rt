@@ -408,3 +408,77 @@ fn another_job_or_input(rt: HostRuntime) -> Result<(), Fail> {
     assert_eq!(rt; told, Err(No::OutputCount));
     Ok(())
 }
+
+/// How many words there are in the file of many: more than two blocks of items.
+const MANY: u32 = 130;
+
+fn many_words(alloc: Global) -> Result<Vec<u8>, Fail> {
+    let mut text = Vec::new(alloc);
+    for _ in 0..MANY {
+        text.extend_from_slice(b"a ")?;
+    }
+    Ok(text)
+}
+
+/// The certificate of the many words, where entry `at` has this place.
+fn many(alloc: Global, at: u32, place: u32) -> Result<Vec<u8>, Fail> {
+    let mut bytes = words_head(alloc, 1, 2 * u64::from(MANY))?;
+    put(&mut bytes, 1)?;
+    put(&mut bytes, MANY)?;
+    for entry in 0..MANY {
+        put(&mut bytes, 0)?;
+        put(&mut bytes, 0)?;
+        put(&mut bytes, if entry == at { place } else { entry })?;
+    }
+    Ok(bytes)
+}
+
+fn verdict_on_many(alloc: Global, certificate: &[u8]) -> Result<Result<Yes, No>, Fail> {
+    let text = many_words(alloc)?;
+    verdict(alloc, &words(1, 0)?, &text, &[b"a\t130\n"], certificate)
+}
+
+#[test]
+fn many_entries(rt: HostRuntime) -> Result<(), Fail> {
+    let alloc = rt.alloc();
+    let certificate = many(alloc, MANY, 0)?;
+    assert_eq!(rt; verdict_on_many(alloc, &certificate)?, yes(alloc, 130));
+    Ok(())
+}
+
+#[test]
+fn faults_at_the_border_of_a_block(rt: HostRuntime) -> Result<(), Fail> {
+    let alloc = rt.alloc();
+    let (partition, group) = (0, 0);
+    for at in [61u32, 62, 63, 64, 65, 125, 126, 127, 128] {
+        let entry = u64::from(at);
+        let again = many(alloc, at, at.saturating_sub(1))?;
+        let order = No::EntryOrder {
+            partition,
+            group,
+            entry,
+        };
+        assert_eq!(rt; verdict_on_many(alloc, &again)?, Err(order));
+        let past = many(alloc, at, MANY)?;
+        let none = No::NoSuchPair {
+            partition,
+            group,
+            entry,
+        };
+        assert_eq!(rt; verdict_on_many(alloc, &past)?, Err(none));
+    }
+    Ok(())
+}
+
+#[test]
+fn a_certificate_ends_at_the_border_of_a_block(rt: HostRuntime) -> Result<(), Fail> {
+    let alloc = rt.alloc();
+    let certificate = many(alloc, MANY, 0)?;
+    for entries in [61usize, 62, 63, 64, 65, 125, 126, 127, 128] {
+        let kept = certificate.len().saturating_sub(12 * (130 - entries));
+        let front = certificate.get(..kept).unwrap_or(b"");
+        let cut = No::Malformed { at: kept as u64 };
+        assert_eq!(rt; verdict_on_many(alloc, front)?, Err(cut));
+    }
+    Ok(())
+}

@@ -1,7 +1,7 @@
 -- The triples that the tables show, as they grow and as they are looked up.
-use Rattle.std.proofs.Common.{◌≡◌, ℕ, zero, suc, ◌+◌, ◌-◌, ◌<◌, ◌≤◌, Bool, true, false, cond, eqb, ◌&&◌, not, Option, Some, None, List, [], ◌∷◌, ◌++◌, length, get_or, drop, filter, slice_range, refl, sym, ◌∙◌, ap, subst, arith, inl, inr, append_assoc, length-append, length-drop, length-take-le}
+use Rattle.std.proofs.Common.{◌≡◌, ℕ, zero, suc, ◌+◌, ◌-◌, ◌<◌, ◌≤◌, Bool, true, false, cond, eqb, ◌&&◌, not, Option, Some, None, List, [], ◌∷◌, ◌++◌, length, get_or, drop, filter, map, slice_range, refl, sym, ◌∙◌, ap, subst, arith, inl, inr, append_assoc, length-append, length-drop, length-take-le}
 use Rattle.std.proofs.lemmas.Bool.{cases_eq, eq-eqb, ne_eqb, false≢true}
-use Rattle.std.proofs.lemmas.List.{append-nil, length_push, flat_map_more, get_or-take, get_or-drop}
+use Rattle.std.proofs.lemmas.List.{drop_all, drop-drop, map-append, take-append-drop, append-nil, length_push, flat_map_more, get_or-take, get_or-drop}
 use Rattle.std.proofs.lemmas.List.Elements.{filter-append}
 use Rattle.std.proofs.lemmas.List.Folds.{find-append, list_any_at}
 use Rattle.std.specs.Option.{option_map, option_or}
@@ -234,3 +234,30 @@ length-spread at (r ∷ rs) (e ∷ ends) pairs count rise =
       length-range pairs at e rise.0 (rise-order e (length pairs) ends rise.1),
       rise.0,
     )
+
+-- an emission without its name
+abbrev pub unnamed : Triple → Emission
+unnamed t = (t.key, t.value)
+
+unnamed-placed : (r : RecordName) (k : ℕ) (es : List Emission) → map unnamed (placed_from r k es) ≡ es
+unfolding placed_from
+unnamed-placed r k [] = refl
+unnamed-placed r k (e ∷ es) = ap (λ (w : List Emission). e ∷ w) (unnamed-placed r (k + 1) es)
+
+range-rest : (pairs : List Emission) (a b : ℕ) → a ≤ b → slice_range pairs a b ++ drop b pairs ≡ drop a pairs
+range-rest pairs a b h =
+    let on : a + (b - a) ≡ b = omega arith in
+    ap (λ (w : List Emission). slice_range pairs a b ++ w) (sym (drop-drop (b - a) a pairs ∙ ap (λ n. drop n pairs) on)) ∙ take-append-drop (b - a) (drop a pairs)
+
+-- the triples are the pairs, with names
+pub unnamed-spread : (at : ℕ) (rs : List NamedRecord) (ends : List ℕ) (pairs : List Emission) → length ends ≡ length rs → EndsRise at (length pairs) ends
+    → map unnamed (spread at rs ends pairs) ≡ drop at pairs
+unfolding spread
+unnamed-spread at [] [] pairs count rise = sym (drop_all at pairs (omega (arith, rise)))
+unnamed-spread at [] (e ∷ ends) pairs count rise = absurd (omega (arith, count))
+unnamed-spread at (r ∷ rs) [] pairs count rise = absurd (omega (arith, count))
+unnamed-spread at (r ∷ rs) (e ∷ ends) pairs count rise =
+    map-append unnamed (placed_from r.name 0 (slice_range pairs at e)) (spread e rs ends pairs)
+    ∙ (ap (λ (w : List Emission). w ++ map unnamed (spread e rs ends pairs)) (unnamed-placed r.name 0 (slice_range pairs at e))
+    ∙ (ap (λ (w : List Emission). slice_range pairs at e ++ w) (unnamed-spread e rs ends pairs (omega (arith, count)) rise.1)
+    ∙ range-rest pairs at e rise.0))

@@ -1,6 +1,8 @@
 -- All that a job emits over files that are cut.
-use Rattle.std.specs.Prelude.{ℕ, not, List, length, filter}
+use Rattle.std.specs.Prelude.{ℕ, not, List, [], length, filter, map, slice_index_or}
 use Rattle.mr_bytes.specs.declared.RecordName.{RecordName}
+use Rattle.mr_bytes.specs.declared.Value.{Value}
+use Rattle.mr_bytes.specs.declared.Value.TheVariants.{One}
 use Rattle.mr_jobs.specs.Task.{Task}
 use Rattle.mr_splits.specs.Named.{NamedRecord, is_left_out}
 use Rattle.mr_splits.specs.Cut.{Cut}
@@ -13,3 +15,7 @@ triples_of task cut skips = emitted (record { task = task; parts = 1; split = cu
 -- how many of the records are mapped
 abbrev pub mapped_among : List RecordName → List NamedRecord → ℕ
 mapped_among skips rs = length (filter (λ r. not (is_left_out skips r.name)) rs)
+
+-- the key and the value at this place
+abbrev pub pair_at : List Triple → ℕ → List ℕ × Value
+pair_at ts i = slice_index_or (map (λ t. (t.key, t.value)) ts) i ([], One)

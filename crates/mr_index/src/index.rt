@@ -4,7 +4,7 @@ ghost use Rattle.mr_input.specs.Files.{split_total};
 ghost use Rattle.mr_splits.specs.Named.{of_split, is_left_out};
 ghost use Rattle.mr_splits.specs.Laws.{joined};
 ghost use Rattle.mr_splits.specs.Cut.{records_of, nth, left_out_flags};
-ghost use Rattle.mr_index.specs.Index.{triples_of, mapped_among};
+ghost use Rattle.mr_index.specs.Index.{triples_of, mapped_among, pair_at};
 ghost use Rattle.mr_sequential.specs.Good.{named};
 ghost use Rattle.mr_index.specs.Pairs.{seen, Sound};
 ghost use Rattle.mr_index.specs.Building.{kept_emissions, Shows};
@@ -188,6 +188,26 @@ impl<'a> EmissionIndex<'a> {
         self.pairs.len() as u64
     }
 
+    /// Where the pair of that name stands, or none where there is no such pair. It takes no memory.
+    pub fn find(&self, name: Name, meter: &mut Meter) -> Option<usize>
+        requires { meter.old.lookups + 1 < 2 ^ 64 }
+        ensures found { MatchOption result (named self.now name ≡ None)
+            (λ at. (at < length self.now) × (named self.now name ≡ Some (record { key = (pair_at self.now at).0; value = (pair_at self.now at).1; name = name }))) }
+        ensures lookups { meter.new.lookups ≡ meter.old.lookups + 1 }
+        ensures mapped { meter.new.mapped ≡ meter.old.mapped }
+    {
+        meter.lookups += 1;
+        self.look_up(name)
+    }
+
+    /// The key and the value of the pair that stands at this place, from 0.
+    pub fn at(&self, at: usize) -> (&[u8], Value)
+        requires { at < length self.now }
+        ensures { (result.0.now, result.1) ≡ pair_at self.now at }
+    {
+        self.pairs.get(at)
+    }
+
     /// The key and the value of the pair of that name, or none where there is no such pair. It takes no memory.
     pub fn pair(&self, name: Name, meter: &mut Meter) -> Option<(&[u8], Value)>
         requires { meter.old.lookups + 1 < 2 ^ 64 }
@@ -196,13 +216,15 @@ impl<'a> EmissionIndex<'a> {
         ensures lookups { meter.new.lookups ≡ meter.old.lookups + 1 }
         ensures mapped { meter.new.mapped ≡ meter.old.mapped }
     {
-        meter.lookups += 1;
-        self.look_up(name)
+        match self.find(name, meter) {
+            None => None,
+            Some(place) => Some(self.at(place)),
+        }
     }
 
-    fn look_up(&self, name: Name) -> Option<(&[u8], Value)>
+    fn look_up(&self, name: Name) -> Option<usize>
         ensures { MatchOption result (named self.now name ≡ None)
-            (λ p. named self.now name ≡ Some (record { key = p.0.now; value = p.1; name = name })) }
+            (λ at. (at < length self.now) × (named self.now name ≡ Some (record { key = (pair_at self.now at).0; value = (pair_at self.now at).1; name = name }))) }
     {
         let Name { split, rec, place } = name;
         if !self.plan.has_record(RecordName { split, rec }) {
@@ -213,6 +235,6 @@ impl<'a> EmissionIndex<'a> {
         if self.ends[number] <= at {
             return None;
         }
-        Some(self.pairs.get(at))
+        Some(at)
     }
 }

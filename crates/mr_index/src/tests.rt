@@ -91,3 +91,32 @@ fn without_a_left_out_record(rt: HostRuntime) -> Result<(), Fail> {
     assert!(rt; index.pair(name(0, 1, 0), &mut meter) == Some((b"C".as_slice(), Value::One)));
     Ok(())
 }
+
+#[test]
+fn places(rt: HostRuntime) -> Result<(), Fail> {
+    let alloc = rt.alloc();
+    let input = Input::of(two_files(alloc, b"The cat\n\nthe dog\n", b"a\n")?)?;
+    let plan = Plan::of(alloc, &input, 9)?;
+    let mut meter = UNUSED;
+    let index = EmissionIndex::of(alloc, &plan, &Job::words(false), &[], &mut meter)?;
+    let names = [
+        name(0, 0, 0),
+        name(0, 0, 1),
+        name(1, 0, 0),
+        name(1, 0, 1),
+        name(2, 0, 0),
+    ];
+    let keys = [b"the".as_slice(), b"cat", b"the", b"dog", b"a"];
+    for (i, key) in keys.iter().enumerate() {
+        let mut meter = UNUSED;
+        let Some(at) = index.find(names[i], &mut meter) else {
+            return Err(Fail::from("no such pair"));
+        };
+        assert_eq!(rt; at, i);
+        assert_eq!(rt; meter.lookups, 1);
+        assert!(rt; index.at(at) == (*key, Value::One));
+    }
+    assert!(rt; index.find(name(0, 0, 2), &mut meter) == None);
+    assert_eq!(rt; meter.lookups, 1);
+    Ok(())
+}

@@ -1,12 +1,11 @@
-use Rattle.std.proofs.Common.{◌≡◌, ◌+◌, ◌≤◌, length}
+use Rattle.std.proofs.Common.{◌≡◌, ◌+◌, length}
 use Rattle.mr_certform.specs.Walking.{left, halt}
 use Rattle.mr_check.specs.Verdict.{start, part_faults}
-use Rattle.mr_check.specs.Judging.{subject, first, entries_in}
-use Rattle.mr_check.proofs.PartLemmas.{Room}
+use Rattle.mr_check.specs.Judging.{subject, first, Room, entries_in}
 use Rattle.mr_check.proofs.parts.check_parts.Given as goal
 
-abbrev pub invariant-loop-judging : goal.invariant-loop-judging
-invariant-loop-judging l =
+abbrev pub invariant-loop-touched : goal.invariant-loop-touched
+invariant-loop-touched l =
     let s = subject l.facts in
     let at = halt l.initial.walker in
     let all = left l.initial.walker in
@@ -17,9 +16,8 @@ invariant-loop-judging l =
       room : Room l.judging (length now) (length all);
       named : l.judging.named + entries_in now ≡ entries_in all;
       lookups : l.meter.lookups + entries_in now ≡ l.initial.meter.lookups + entries_in all;
-      bound : l.meter.lookups + length now ≤ l.initial.meter.lookups + length all;
       mapped : l.meter.mapped ≡ l.initial.meter.mapped;
     }
 
-abbrev pub decreases-loop-judging : goal.decreases-loop-judging
-decreases-loop-judging l = length (left l.walker)
+abbrev pub decreases-loop-touched : goal.decreases-loop-touched
+decreases-loop-touched l = length (left l.walker)

@@ -1,5 +1,5 @@
-use Rattle.std.proofs.Common.{arith, ap, sym, ◌∙◌, ◌≡◌, ◌<◌, ◌+◌, ◌∷◌, [], List, ℕ, length, get_or, Some, slice_range}
-use Rattle.std.proofs.lemmas.List.{get_or_default}
+use Rattle.std.proofs.Common.{arith, ap, sym, ◌∙◌, ◌≡◌, ◌<◌, ◌+◌, ◌∷◌, [], List, ℕ, length, map, get_or, Some, slice_range}
+use Rattle.std.proofs.lemmas.List.{get_or_default, length-map}
 use Rattle.std.specs.Option.{option_map}
 use Rattle.std.specs.List.{slice_get}
 use Rattle.mr_bytes.specs.declared.Value.TheVariants.{One}
@@ -10,7 +10,7 @@ use Rattle.mr_sequential.specs.Emitted.{Triple}
 use Rattle.mr_sequential.specs.Good.{named}
 use Rattle.mr_index.specs.Pairs.{seen}
 use Rattle.mr_index.proofs.PairLemmas.{rise-at, length-seen}
-use Rattle.mr_index.proofs.SpreadLemmas.{triple_for, find-none, find-there, no-record, part-in, part-past}
+use Rattle.mr_index.proofs.SpreadLemmas.{triple_for, find-none, find-there, unnamed, unnamed-spread, no-record, part-in, part-past}
 use Rattle.mr_index.proofs.index.EmissionIndex.look_up.Goals as goal
 
 pub returns-then-not-has_record : goal.returns-then-not-has_record
@@ -50,18 +50,6 @@ returns-then-index-at c =
     (part-past (seen p.pairs) (get_or (0 ∷ p.ends.items) number 0) (get_or p.ends.items number 0) c.args.name.place order.0 order.1
     (omega (arith, start, end, c.if-index-at.true)))
 
-pub get-requires-clause-within : goal.get-requires-clause-within
-get-requires-clause-within c =
-    let p = c.self.inside in
-    let rs : List NamedRecord = records_of p.plan.now in
-    let number : ℕ = c.number_of-number.result in
-    let within : number < length p.ends.items = omega (arith, c.number_of-number.ensures.within, c.self.invariant.count) in
-    let start : c.start_of.result ≡ get_or (0 ∷ p.ends.items) number 0 =
-    c.start_of.ensures ∙ ap (λ (l : List ℕ). get_or (0 ∷ l) number 0) c.as_slice.ensures.value in
-    let order = rise-at 0 (length (seen p.pairs)) number p.ends.items c.self.invariant.rise within in
-    let end : c.index.result.now ≡ get_or p.ends.items number 0 = c.index.ensures ∙ get_or_default p.ends.items number c.index.result.now 0 within in
-    omega (arith, start, end, order.0, order.1, c.if-index-at.false)
-
 pub returns : goal.returns
 returns c =
     let p = c.self.inside in
@@ -78,7 +66,12 @@ returns c =
     ∙ find-there 0 rs p.ends.items (seen p.pairs) c.args.name number c.self.invariant.count c.number_of-number.ensures.within
     c.number_of-number.ensures.name c.number_of-number.ensures.only in
     let at : c.start_of.result + c.args.name.place ≡ get_or (0 ∷ p.ends.items) number 0 + c.args.name.place = ap (λ (n : ℕ). n + c.args.name.place) start in
-    there ∙ ap (option_map (triple_for c.args.name))
-    (part-in (seen p.pairs) (get_or (0 ∷ p.ends.items) number 0) (get_or p.ends.items number 0) c.args.name.place ([], One) order.0 order.1
-    (omega (arith, start, end, c.if-index-at.false)))
-    ∙ ap (λ (e : Emission). Some (triple_for c.args.name e)) (sym (c.get.ensures ∙ ap (λ (n : ℕ). get_or (seen p.pairs) n ([], One)) at))
+    let here : map unnamed c.args.self.now ≡ seen p.pairs = sym (ap (map unnamed) c.self.view_is) ∙ unnamed-spread 0 rs p.ends.items (seen p.pairs) c.self.invariant.count c.self.invariant.rise in
+    let long : length c.args.self.now ≡ length (seen p.pairs) = sym (length-map c.args.self.now unnamed) ∙ ap length here in (
+      omega (arith, long, start, end, order.0, order.1, c.if-index-at.false),
+      there ∙ (ap (option_map (triple_for c.args.name))
+          (part-in (seen p.pairs) (get_or (0 ∷ p.ends.items) number 0) (get_or p.ends.items number 0) c.args.name.place ([], One) order.0 order.1
+          (omega (arith, start, end, c.if-index-at.false)))
+          ∙ (ap (λ (n : ℕ). Some (triple_for c.args.name (get_or (seen p.pairs) n ([], One)))) (sym at)
+          ∙ ap (λ (es : List Emission). Some (triple_for c.args.name (get_or es (c.start_of.result + c.args.name.place) ([], One)))) (sym here))),
+    )
