@@ -1,7 +1,7 @@
 -- The triples that the tables show, as they grow and as they are looked up.
 use Rattle.std.proofs.Common.{◌≡◌, ℕ, zero, suc, ◌+◌, ◌-◌, ◌<◌, ◌≤◌, Bool, true, false, cond, eqb, ◌&&◌, not, Option, Some, None, List, [], ◌∷◌, ◌++◌, length, get_or, drop, filter, map, slice_range, refl, sym, ◌∙◌, ap, subst, arith, inl, inr, append_assoc, length-append, length-drop, length-take-le}
 use Rattle.std.proofs.lemmas.Bool.{cases_eq, eq-eqb, ne_eqb, false≢true}
-use Rattle.std.proofs.lemmas.List.{drop_all, drop-drop, map-append, take-append-drop, append-nil, length_push, flat_map_more, get_or-take, get_or-drop}
+use Rattle.std.proofs.lemmas.List.{drop_all, drop-drop, map-append, take-append-drop, append-nil, length_push, flat_map_more, get_or-take, get_or-drop, length-map}
 use Rattle.std.proofs.lemmas.List.Elements.{filter-append}
 use Rattle.std.proofs.lemmas.List.Folds.{find-append, list_any_at}
 use Rattle.std.specs.Option.{option_map, option_or}
@@ -261,3 +261,55 @@ unnamed-spread at (r ∷ rs) (e ∷ ends) pairs count rise =
     ∙ (ap (λ (w : List Emission). w ++ map unnamed (spread e rs ends pairs)) (unnamed-placed r.name 0 (slice_range pairs at e))
     ∙ (ap (λ (w : List Emission). slice_range pairs at e ++ w) (unnamed-spread e rs ends pairs (omega (arith, count)) rise.1)
     ∙ range-rest pairs at e rise.0))
+
+-- the names among the triples: of the record whose pairs stand there, with the place among them
+names-placed : (r : RecordName) (k : ℕ) (es : List Emission) (j : ℕ) (d : Name) → j < length es
+    → get_or (map (λ (t : Triple). t.name) (placed_from r k es)) j d ≡ record { split = r.split; rec = r.rec; place = k + j }
+unfolding placed_from
+names-placed r k [] j d h = absurd (omega arith)
+names-placed r k (e ∷ es) zero d h = ap (λ (p : ℕ). record { split = r.split; rec = r.rec; place = p }) (omega arith)
+names-placed r k (e ∷ es) (suc j) d h = names-placed r (k + 1) es j d (omega (arith, h)) ∙ ap (λ (p : ℕ). record { split = r.split; rec = r.rec; place = p }) (omega arith)
+
+get_or-front : (xs ys : List Name) (j : ℕ) (d : Name) → j < length xs → get_or (xs ++ ys) j d ≡ get_or xs j d
+get_or-front [] ys j d h = absurd (omega arith)
+get_or-front (x ∷ xs) ys zero d h = refl
+get_or-front (x ∷ xs) ys (suc j) d h = get_or-front xs ys j d (omega (arith, h))
+
+get_or-behind : (xs ys : List Name) (j : ℕ) (d : Name) → get_or (xs ++ ys) (length xs + j) d ≡ get_or ys j d
+get_or-behind [] ys j d = ap (λ (n : ℕ). get_or ys n d) (omega arith)
+get_or-behind (x ∷ xs) ys j d =
+    let next : length (x ∷ xs) + j ≡ suc (length xs + j) = omega arith in
+    ap (λ (n : ℕ). get_or (x ∷ (xs ++ ys)) n d) next ∙ get_or-behind xs ys j d
+
+rise-from : (at last i : ℕ) (ends : List ℕ) → EndsRise at last ends → i ≤ length ends → at ≤ get_or (at ∷ ends) i 0
+rise-from at last zero ends r h = omega arith
+rise-from at last (suc i) [] r h = absurd (omega (arith, h))
+rise-from at last (suc i) (e ∷ ends) r h = omega (arith, r.0, rise-from e last i ends r.1 (omega (arith, h)))
+
+pub names-spread : (at : ℕ) (rs : List NamedRecord) (ends : List ℕ) (pairs : List Emission) (i j k : ℕ) (d : Name) → length ends ≡ length rs → EndsRise at (length pairs) ends
+    → i < length rs → get_or (at ∷ ends) i 0 + j < get_or ends i 0 → at + k ≡ get_or (at ∷ ends) i 0 + j
+    → get_or (map (λ (t : Triple). t.name) (spread at rs ends pairs)) k d ≡ record { split = (nth rs i).name.split; rec = (nth rs i).name.rec; place = j }
+unfolding spread
+names-spread at [] ends pairs i j k d count rise h within is = absurd (omega arith)
+names-spread at (r ∷ rs) [] pairs i j k d count rise h within is = absurd (omega (arith, count))
+names-spread at (r ∷ rs) (e ∷ ends) pairs zero j k d count rise h within is =
+    let es : List Emission = slice_range pairs at e in
+    let long : length es ≡ e - at = length-range pairs at e rise.0 (rise-order e (length pairs) ends rise.1) in
+    let size : length (map (λ (t : Triple). t.name) (placed_from r.name 0 es)) ≡ length es = length-map (placed_from r.name 0 es) (λ (t : Triple). t.name) ∙ length-placed r.name 0 es in
+    let same : k ≡ j = omega (arith, is) in
+    ap (λ (n : ℕ). get_or (map (λ (t : Triple). t.name) (placed_from r.name 0 es ++ spread e rs ends pairs)) n d) same
+    ∙ (ap (λ (w : List Name). get_or w j d) (map-append (λ (t : Triple). t.name) (placed_from r.name 0 es) (spread e rs ends pairs))
+    ∙ (get_or-front (map (λ (t : Triple). t.name) (placed_from r.name 0 es)) (map (λ (t : Triple). t.name) (spread e rs ends pairs)) j d (omega (arith, size, long, within))
+    ∙ (names-placed r.name 0 es j d (omega (arith, long, within))
+    ∙ ap (λ (p : ℕ). record { split = r.name.split; rec = r.name.rec; place = p }) (omega arith))))
+names-spread at (r ∷ rs) (e ∷ ends) pairs (suc i) j k d count rise h within is =
+    let es : List Emission = slice_range pairs at e in
+    let long : length es ≡ e - at = length-range pairs at e rise.0 (rise-order e (length pairs) ends rise.1) in
+    let size : length (map (λ (t : Triple). t.name) (placed_from r.name 0 es)) ≡ length es = length-map (placed_from r.name 0 es) (λ (t : Triple). t.name) ∙ length-placed r.name 0 es in
+    let from : e ≤ get_or (e ∷ ends) i 0 = rise-from e (length pairs) i ends rise.1 (omega (arith, count, h)) in
+    let rest : ℕ = k - (e - at) in
+    let split : k ≡ length (map (λ (t : Triple). t.name) (placed_from r.name 0 es)) + rest = omega (arith, size, long, is, from, rise.0) in
+    ap (λ (n : ℕ). get_or (map (λ (t : Triple). t.name) (placed_from r.name 0 es ++ spread e rs ends pairs)) n d) split
+    ∙ (ap (λ (w : List Name). get_or w (length (map (λ (t : Triple). t.name) (placed_from r.name 0 es)) + rest) d) (map-append (λ (t : Triple). t.name) (placed_from r.name 0 es) (spread e rs ends pairs))
+    ∙ (get_or-behind (map (λ (t : Triple). t.name) (placed_from r.name 0 es)) (map (λ (t : Triple). t.name) (spread e rs ends pairs)) rest d
+    ∙ names-spread e rs ends pairs i j rest d (omega (arith, count)) rise.1 (omega (arith, h)) within (omega (arith, is, from, rise.0))))

@@ -1,10 +1,10 @@
 //! The index of all emitted pairs.
-ghost use Rattle.std.specs.Prelude.{◌≡◌, ◌≢◌, ℕ, ◌+◌, ◌≤◌, ◌<◌, ◌^◌, ◌++◌, [], ◌∷◌, if◌then◌else◌, IfOk, OnOk, OnErr, MatchOption, Some, None, length};
+ghost use Rattle.std.specs.Prelude.{◌≡◌, ◌≢◌, ℕ, ◌+◌, ◌≤◌, ◌<◌, ◌^◌, ◌++◌, [], ◌∷◌, if◌then◌else◌, IfOk, IfSome, OnOk, OnErr, MatchOption, Some, None, length};
 ghost use Rattle.mr_input.specs.Files.{split_total};
 ghost use Rattle.mr_splits.specs.Named.{of_split, is_left_out};
 ghost use Rattle.mr_splits.specs.Laws.{joined};
 ghost use Rattle.mr_splits.specs.Cut.{records_of, nth, left_out_flags};
-ghost use Rattle.mr_index.specs.Index.{triples_of, mapped_among, pair_at};
+ghost use Rattle.mr_index.specs.Index.{triples_of, mapped_among, pair_at, name_at};
 ghost use Rattle.mr_sequential.specs.Good.{named};
 ghost use Rattle.mr_index.specs.Pairs.{seen, Sound};
 ghost use Rattle.mr_index.specs.Building.{kept_emissions, Shows};
@@ -193,6 +193,7 @@ impl<'a> EmissionIndex<'a> {
         requires { meter.old.lookups + 1 < 2 ^ 64 }
         ensures found { MatchOption result (named self.now name ≡ None)
             (λ at. (at < length self.now) × (named self.now name ≡ Some (record { key = (pair_at self.now at).0; value = (pair_at self.now at).1; name = name }))) }
+        ensures place { IfSome result (λ at. name_at self.now at ≡ name) }
         ensures lookups { meter.new.lookups ≡ meter.old.lookups + 1 }
         ensures mapped { meter.new.mapped ≡ meter.old.mapped }
     {
@@ -223,7 +224,8 @@ impl<'a> EmissionIndex<'a> {
     }
 
     fn look_up(&self, name: Name) -> Option<usize>
-        ensures { MatchOption result (named self.now name ≡ None)
+        ensures place { IfSome result (λ at. name_at self.now at ≡ name) }
+        ensures found { MatchOption result (named self.now name ≡ None)
             (λ at. (at < length self.now) × (named self.now name ≡ Some (record { key = (pair_at self.now at).0; value = (pair_at self.now at).1; name = name }))) }
     {
         let Name { split, rec, place } = name;

@@ -2,19 +2,21 @@ use Rattle.std.proofs.Common.{arith, ap, sym, ◌∙◌, ◌≡◌, ◌<◌, ◌
 use Rattle.std.proofs.lemmas.List.{get_or_default, length-map}
 use Rattle.std.specs.Option.{option_map}
 use Rattle.std.specs.List.{slice_get}
+use Rattle.mr_bytes.specs.declared.RecordName.{RecordName}
 use Rattle.mr_bytes.specs.declared.Value.TheVariants.{One}
 use Rattle.mr_jobs.specs.Emissions.{Emission}
 use Rattle.mr_splits.specs.Named.{NamedRecord}
 use Rattle.mr_splits.specs.Cut.{records_of}
 use Rattle.mr_sequential.specs.Emitted.{Triple}
 use Rattle.mr_sequential.specs.Good.{named}
+use Rattle.mr_index.specs.Index.{name_at}
 use Rattle.mr_index.specs.Pairs.{seen}
 use Rattle.mr_index.proofs.PairLemmas.{rise-at, length-seen}
-use Rattle.mr_index.proofs.SpreadLemmas.{triple_for, find-none, find-there, unnamed, unnamed-spread, no-record, part-in, part-past}
+use Rattle.mr_index.proofs.SpreadLemmas.{triple_for, find-none, find-there, unnamed, unnamed-spread, no-record, names-spread, part-in, part-past}
 use Rattle.mr_index.proofs.index.EmissionIndex.look_up.Goals as goal
 
-pub returns-then-not-has_record : goal.returns-then-not-has_record
-returns-then-not-has_record c =
+pub returns-then-not-has_record-clause-found : goal.returns-then-not-has_record-clause-found
+returns-then-not-has_record-clause-found c =
     let p = c.self.inside in
     let rs : List NamedRecord = records_of p.plan.now in
     sym (ap (λ (ts : List Triple). named ts c.args.name) c.self.view_is)
@@ -31,8 +33,8 @@ overflow_add-at c =
     let order = rise-at 0 (length (seen p.pairs)) number p.ends.items c.self.invariant.rise within in
     omega (arith, start, order.0, order.1, length-seen p.pairs c.self.invariant.sound, p.pairs.ends.ok.0, p.pairs.ends.small)
 
-pub returns-then-index-at : goal.returns-then-index-at
-returns-then-index-at c =
+pub returns-then-index-at-clause-found : goal.returns-then-index-at-clause-found
+returns-then-index-at-clause-found c =
     let p = c.self.inside in
     let rs : List NamedRecord = records_of p.plan.now in
     let number : ℕ = c.number_of-number.result in
@@ -50,8 +52,8 @@ returns-then-index-at c =
     (part-past (seen p.pairs) (get_or (0 ∷ p.ends.items) number 0) (get_or p.ends.items number 0) c.args.name.place order.0 order.1
     (omega (arith, start, end, c.if-index-at.true)))
 
-pub returns : goal.returns
-returns c =
+pub returns-clause-found : goal.returns-clause-found
+returns-clause-found c =
     let p = c.self.inside in
     let rs : List NamedRecord = records_of p.plan.now in
     let number : ℕ = c.number_of-number.result in
@@ -75,3 +77,18 @@ returns c =
           ∙ (ap (λ (n : ℕ). Some (triple_for c.args.name (get_or (seen p.pairs) n ([], One)))) (sym at)
           ∙ ap (λ (es : List Emission). Some (triple_for c.args.name (get_or es (c.start_of.result + c.args.name.place) ([], One)))) (sym here))),
     )
+
+pub returns-clause-place : goal.returns-clause-place
+returns-clause-place c =
+    let p = c.self.inside in
+    let rs : List NamedRecord = records_of p.plan.now in
+    let number : ℕ = c.number_of-number.result in
+    let within : number < length p.ends.items = omega (arith, c.number_of-number.ensures.within, c.self.invariant.count) in
+    let start : c.start_of.result ≡ get_or (0 ∷ p.ends.items) number 0 =
+    c.start_of.ensures ∙ ap (λ (l : List ℕ). get_or (0 ∷ l) number 0) c.as_slice.ensures.value in
+    let end : c.index.result.now ≡ get_or p.ends.items number 0 = c.index.ensures ∙ get_or_default p.ends.items number c.index.result.now 0 within in
+    let at : ℕ = c.start_of.result + c.args.name.place in
+    sym (ap (λ (ts : List Triple). name_at ts at) c.self.view_is)
+    ∙ (names-spread 0 rs p.ends.items (seen p.pairs) number c.args.name.place at (record { split = 0; rec = 0; place = 0 }) c.self.invariant.count c.self.invariant.rise c.number_of-number.ensures.within
+    (omega (arith, start, end, c.if-index-at.false)) (omega (arith, start))
+    ∙ ap (λ (r : RecordName). record { split = r.split; rec = r.rec; place = c.args.name.place }) c.number_of-number.ensures.name)
