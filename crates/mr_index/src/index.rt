@@ -9,7 +9,7 @@ ghost use Rattle.mr_sequential.specs.Good.{named};
 ghost use Rattle.mr_index.specs.Pairs.{seen, Sound};
 ghost use Rattle.mr_index.specs.Building.{kept_emissions, Shows};
 
-use crate::pairs::{Pairs, room_for, start_of};
+use crate::pairs::{Pairs, push_end, room_for, start_of};
 use mr_bytes::{Name, RecordName, Value};
 use mr_input::Input;
 use mr_jobs::Job;
@@ -28,7 +28,7 @@ pub struct Meter {
 #[derive(Drop)]
 struct Tables {
     pairs: Pairs,
-    ends: Vec<usize>,
+    ends: Vec<u32>,
     mapped: u64,
     buffer: Vec<u8>,
 }
@@ -63,7 +63,7 @@ impl<'p, 'j, 's> Work<'p, 'j, 's> {
             let line = self.plan.located(s, r);
             tables.pairs.map(self.job, line, &mut tables.buffer)?;
         }
-        tables.ends.push(tables.pairs.len())?;
+        push_end(&mut tables.ends, tables.pairs.len())?;
         tables.mapped += !left_out as u64;
         Ok(())
     }
@@ -106,7 +106,7 @@ impl<'p, 'j, 's> Work<'p, 'j, 's> {
 #[derive(Drop)]
 pub struct EmissionIndex<'a> {
     plan: &'a Plan<'a>,
-    ends: Vec<usize>,
+    ends: Vec<u32>,
     pairs: Pairs,
 }
 
@@ -234,7 +234,7 @@ impl<'a> EmissionIndex<'a> {
         }
         let number = self.plan.number_of(split, rec);
         let at = start_of(self.ends.as_slice(), number) + place as usize;
-        if self.ends[number] <= at {
+        if self.ends[number] as usize <= at {
             return None;
         }
         Some(at)

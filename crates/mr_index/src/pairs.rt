@@ -14,8 +14,9 @@ use std::alloc::{AllocError, Global};
 pub(crate) struct Pairs {
     /// The bytes of all keys, one key after another.
     pub keys: Vec<u8>,
-    /// Where each key ends.
-    pub ends: Vec<usize>,
+    /// Where each key ends. Four bytes serve: an input has at most 1 GiB, and a record's keys are parts of it that
+    /// don't overlap.
+    pub ends: Vec<u32>,
     /// How many values come before the first that is not One.
     pub ones: usize,
     /// The values from there on.
@@ -36,6 +37,17 @@ pub(crate) fn room_for(alloc: Global, bytes: usize) -> Result<Pairs, AllocError>
     })
 }
 
+/// Adds an end; one that doesn't fit its four bytes is answered as want of memory.
+pub(crate) fn push_end(ends: &mut Vec<u32>, end: usize) -> Result<(), AllocError>
+    ensures { OnOk result (ends.new.items ≡ ends.old.items ++ end ∷ []) }
+{
+    let Ok(end) = u32::try_from(end) else {
+        return Err(AllocError);
+    };
+    ends.push(end)?;
+    Ok(())
+}
+
 fn push_value(ones: &mut usize, rest: &mut Vec<Value>, value: Value) -> Result<(), AllocError>
     requires { ones.old + 1 < 2 ^ 64 }
     ensures { OnOk result (values_of ones.new rest.new.items ≡ values_of ones.old rest.old.items ++ value ∷ []) }
@@ -51,11 +63,11 @@ fn push_value(ones: &mut usize, rest: &mut Vec<Value>, value: Value) -> Result<(
 }
 
 /// Where item `i` starts, given where each ends.
-pub(crate) fn start_of(ends: &[usize], i: usize) -> usize
+pub(crate) fn start_of(ends: &[u32], i: usize) -> usize
     requires { i ≤ length ends.now }
     ensures { result ≡ slice_index (0 ∷ ends.now) i }
 {
-    if i == 0 { 0 } else { ends[i - 1] }
+    if i == 0 { 0 } else { ends[i - 1] as usize }
 }
 
 fn value_of(ones: usize, rest: &[Value], i: usize) -> Value
@@ -81,7 +93,7 @@ impl Pairs {
     {
         let start = start_of(self.ends.as_slice(), i);
         let value = value_of(self.ones, self.rest.as_slice(), i);
-        (&self.keys[start..self.ends[i]], value)
+        (&self.keys[start..self.ends[i] as usize], value)
     }
 
     fn push(&mut self, key: &[u8], value: Value) -> Result<(), AllocError>
@@ -90,7 +102,7 @@ impl Pairs {
         ensures pairs { OnOk result (seen self.new ≡ seen self.old ++ (key.now, value) ∷ []) }
     {
         self.keys.extend_from_slice(key)?;
-        self.ends.push(self.keys.len())?;
+        push_end(&mut self.ends, self.keys.len())?;
         push_value(&mut self.ones, &mut self.rest, value)?;
         Ok(())
     }

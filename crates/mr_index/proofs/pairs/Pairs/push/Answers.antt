@@ -10,14 +10,14 @@ returns c =
     let p = c.args.self.now in
     let key : List ℕ = c.args.key.now in
     let keys : c.extend_from_slice.new.self.items ≡ p.keys.items ++ key = c.in_ok-extend_from_slice.ensures.items in
-    let ends : c.push.new.self.items ≡ p.ends.items ++ c.len.result ∷ [] = c.in_ok-push.ensures.items in
+    let ends : c.push_end.new.ends.items ≡ p.ends.items ++ c.len.result ∷ [] = c.in_ok-push_end.ensures in
     let last : c.len.result ≡ length (p.keys.items ++ key) = c.len.ensures ∙ c.extend_from_slice.new.self.ok.0 ∙ ap length keys in
-    let ends-are : c.push.new.self.items ≡ p.ends.items ++ length (p.keys.items ++ key) ∷ [] = ends ∙ ap (λ (n : ℕ). p.ends.items ++ n ∷ []) last in
+    let ends-are : c.push_end.new.ends.items ≡ p.ends.items ++ length (p.keys.items ++ key) ∷ [] = ends ∙ ap (λ (n : ℕ). p.ends.items ++ n ∷ []) last in
     let values : List Value = values_of p.ones p.rest.items in
     let values-are : values_of c.push_value.new.ones c.push_value.new.rest.items ≡ values ++ c.args.value ∷ [] = c.in_ok-push_value.ensures in
     record {
       sound = record {
-        rise = subst (λ (l : List ℕ). EndsRise 0 (length l) c.push.new.self.items) (sym keys)
+        rise = subst (λ (l : List ℕ). EndsRise 0 (length l) c.push_end.new.ends.items) (sym keys)
             (subst (λ (l : List ℕ). EndsRise 0 (length (p.keys.items ++ key)) l) (sym ends-are)
             (rise-push 0 (length p.keys.items) (length (p.keys.items ++ key)) p.ends.items c.requires.rise (omega (arith, length-append p.keys.items key))));
         values = omega (
@@ -29,7 +29,7 @@ returns c =
           c.requires.values,
         );
       };
-      pairs = ap (λ (l : List ℕ). pairs_from 0 l c.push.new.self.items (values_of c.push_value.new.ones c.push_value.new.rest.items)) keys
+      pairs = ap (λ (l : List ℕ). pairs_from 0 l c.push_end.new.ends.items (values_of c.push_value.new.ones c.push_value.new.rest.items)) keys
           ∙ ap (λ (l : List ℕ). pairs_from 0 (p.keys.items ++ key) l (values_of c.push_value.new.ones c.push_value.new.rest.items)) ends-are
           ∙ ap (pairs_from 0 (p.keys.items ++ key) (p.ends.items ++ length (p.keys.items ++ key) ∷ [])) values-are
           ∙ pairs-more 0 p.keys.items key p.ends.items values c.args.value c.requires.rise c.requires.values;
