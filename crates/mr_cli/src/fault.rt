@@ -1,4 +1,8 @@
 //! Why the program ends with another status than 0, and what it says then.
+ghost use Rattle.std.specs.Prelude.{◌≡◌, ◌↔◌, IsTrue};
+ghost use Rattle.std.specs.IoError.{error_kind};
+ghost use Rattle.mr_cli.specs.Statuses.{IsAnswer, IsStatus, TellsWords};
+
 use mr_input::InputFault;
 use mr_jobs::{JobFault, RequestFault};
 use mr_sequential::RunFault;
@@ -27,12 +31,20 @@ pub enum Fault {
 }
 
 impl From<AllocError> for Fault {
+    ghost use Rattle.mr_cli.specs.declared.fault.Fault.TheVariants.{OutOfMemory as told_memory};
+
+    ghost from_gives = { λ _ f. f ≡ told_memory };
+
     fn from(_error: AllocError) -> Fault {
         Fault::OutOfMemory
     }
 }
 
 impl From<clap::Error> for Fault {
+    ghost use Rattle.mr_cli.specs.Statuses.{TellsLine};
+
+    ghost from_gives = { λ e f. TellsLine e f };
+
     fn from(error: clap::Error) -> Fault {
         match error.kind() {
             clap::error::ErrorKind::OutOfMemory => Fault::OutOfMemory,
@@ -42,6 +54,10 @@ impl From<clap::Error> for Fault {
 }
 
 impl From<JobFault> for Fault {
+    ghost use Rattle.mr_cli.specs.Statuses.{TellsJob};
+
+    ghost from_gives = { λ e f. TellsJob e f };
+
     fn from(fault: JobFault) -> Fault {
         match fault {
             JobFault::OutOfMemory => Fault::OutOfMemory,
@@ -51,6 +67,10 @@ impl From<JobFault> for Fault {
 }
 
 impl From<RunFault> for Fault {
+    ghost use Rattle.mr_cli.specs.Statuses.{TellsRun};
+
+    ghost from_gives = { λ e f. TellsRun e f };
+
     fn from(fault: RunFault) -> Fault {
         match fault {
             RunFault::OutOfMemory => Fault::OutOfMemory,
@@ -61,7 +81,9 @@ impl From<RunFault> for Fault {
 
 impl Fault {
     /// Why the words of the command line can't be had.
-    pub fn of_words(error: io::Error) -> Fault {
+    pub fn of_words(error: io::Error) -> Fault
+        ensures { TellsWords (error_kind error) result }
+    {
         match error.kind() {
             ErrorKind::OutOfMemory => Fault::OutOfMemory,
             _ => Fault::NotUtf8,
@@ -69,7 +91,9 @@ impl Fault {
     }
 
     /// The exit status: 2 for usage or a limit, 3 for a file, 4 for want of memory; 0 where help was asked for.
-    pub fn status(&self) -> u8 {
+    pub fn status(&self) -> u8
+        ensures { IsStatus self.now result }
+    {
         match self {
             Fault::Line(error) => { if error.use_stderr() { 2 } else { 0 } }
             Fault::CannotRead(_) | Fault::CannotWrite(_) => 3,
@@ -79,7 +103,9 @@ impl Fault {
     }
 
     /// Whether the text is an answer that was asked for, and belongs on standard output.
-    pub fn is_answer(&self) -> bool {
+    pub fn is_answer(&self) -> bool
+        ensures { IsTrue result ↔ IsAnswer self.now }
+    {
         match self {
             Fault::Line(error) => !error.use_stderr(),
             _ => false,

@@ -1,7 +1,9 @@
 -- Words that are numbers.
-use Rattle.std.proofs.Common.{◌≡◌, ℕ, ◌^◌, ◌<◌, ◌≤◌, Bool, true, false, cond, ◌&&◌, Some, None, Result, Ok, Err, List, [], ◌∷◌, length, get_or, refl, ap, sym, ◌∙◌, ltb, leb, arith}
+use Rattle.std.proofs.Common.{◌≡◌, ℕ, ◌^◌, ◌<◌, ◌≤◌, Bool, true, false, cond, ◌&&◌, Option, Some, None, Result, Ok, Err, List, [], ◌∷◌, length, get_or, refl, ap, sym, ◌∙◌, ltb, leb, arith}
 use Rattle.std.proofs.lemmas.Bool.{ltb-true, leb-true, lt-ltb, le-leb}
 use Rattle.std.proofs.lemmas.Str.Parse.{IsNumeralModel, numerals_by_value, tells_all_ascii_digits, tells_by_index, digit_from_value}
+use Rattle.std.specs.Prelude.{MatchOption}
+use Rattle.std.proofs.lemmas.Option.{none-some}
 use Rattle.std.specs.Int.{IsInRange}
 use Rattle.std.specs.Result.{OkIff, result_ok}
 use Rattle.std.specs.Str.{all_ascii_digits}
@@ -73,6 +75,15 @@ number_is word n e = by (is_number word) refl
 pub number_spelled : (word : List ℕ) (n : ℕ) → SpellsNumber word n → number_of word ≡ Some n
 number_spelled word n h =
     number_yes word (record { some = h.digits.0; few = h.few; digits = h.digits.1; small = omega (arith, h.small, h.value) }) ∙ ap (λ (m : ℕ). Some m) h.value
+
+-- the number of a word is what it spells, and where there is none it spells none
+pub number_tells : (word : List ℕ) (o : Option ℕ) → o ≡ number_of word → MatchOption o ((n : ℕ) → SpellsNumber word n → ⊥) (SpellsNumber word)
+number_tells word None e = λ n h. none-some n (e ∙ number_spelled word n h)
+number_tells word (Some n) e = number_is word n (sym e)
+
+-- it has 1 to 10 digits
+pub number_short : (word : List ℕ) (n : ℕ) → SpellsNumber word n → (0 < length word) × (length word ≤ 10)
+number_short word n h = (h.digits.0, h.few)
 
 digits_no_space : (ds : List ℕ) → AllDigits 10 ds → NoSpace ds
 digits_no_space [] h = tt

@@ -10,4 +10,5 @@ mod tests;
 
 pub use crate::directive::Directive;
 pub use crate::laws::{line_law, script_law};
+pub use crate::line::number_of;
 pub use crate::script::{Script, ScriptFault};

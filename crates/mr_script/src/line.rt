@@ -1,7 +1,7 @@
 //! One line of a script.
-ghost use Rattle.std.specs.Prelude.{◌≡◌, ◌≤◌, ◌↔◌, IsTrue, Some, None, MatchOption, length};
+ghost use Rattle.std.specs.Prelude.{◌≡◌, ◌≤◌, ◌↔◌, ℕ, IsTrue, Some, None, MatchOption, length};
 ghost use Rattle.std.specs.Str.Parse.{AllDigits, digits_value};
-ghost use Rattle.mr_script.specs.Lines.{SaysNothing};
+ghost use Rattle.mr_script.specs.Lines.{SaysNothing, SpellsNumber};
 ghost use Rattle.mr_script.specs.Meaning.{cut, number_of, number_and_rest, number_and_number, number_after_number, three_numbers, keyword_of, directive_of};
 
 use crate::directive::Directive;
@@ -51,10 +51,11 @@ fn value_of(digits: &[u8]) -> Option<u64>
     Some(value)
 }
 
-/// The number of 1 to 10 decimal digits, if it fits in 32 bits.
-#[tactic(auto, unfolding(crate::specs::Meaning::number_of))]
-fn number_of(word: &[u8]) -> Option<u32>
-    ensures { result ≡ number_of word.now }
+/// The number that 1 to 10 decimal digits spell, leading zeros allowed, if it fits in 32 bits.
+#[tactic(auto, using(crate::proofs::Numbers::number_short), unfolding(crate::specs::Meaning::number_of))]
+pub fn number_of(word: &[u8]) -> Option<u32>
+    ensures meaning { result ≡ number_of word.now }
+    ensures spelled { MatchOption result ((n : ℕ) → ¬ SpellsNumber word.now n) (λ n. SpellsNumber word.now n) }
 {
     if word.is_empty() || 10 < word.len() {
         return None;

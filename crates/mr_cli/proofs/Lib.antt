@@ -1,0 +1,2 @@
+pub mod SkipLists
+pub mod Judged

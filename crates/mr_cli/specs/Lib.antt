@@ -1,0 +1,5 @@
+pub mod SkipList
+pub mod Asked
+pub mod Parsed
+pub mod Statuses
+pub mod Outcomes

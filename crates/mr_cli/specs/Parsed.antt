@@ -1,0 +1,33 @@
+-- The options, as the parsed line has them.
+use Rattle.std.specs.Prelude.{◌≡◌, ℕ, ◌<◌, ◌^◌, Bool, true, false, Option, None, Some, List, [], map, option_map, unwrap_or, codes}
+use Rattle.std.specs.Option.{option_map_or}
+use Rattle.std.specs.Str.Parse.{IsNumeral, digits_value, without_leading_plus}
+use Rattle.clap.specs.Matches.{matched_of, raw_values, first_value, one_text}
+use Rattle.clap.specs.declared.parser.matches.Found.{Found}
+use Rattle.mr_cli.specs.declared.options.Options.{Options}
+use Rattle.mr_cli.specs.Asked.{Names}
+
+-- decimal digits, a plus allowed in front, whose number fits in 32 bits
+abbrev pub WritesNumber : List ℕ → Type 0
+WritesNumber text = IsNumeral 10 (without_leading_plus text) × (digits_value 10 (without_leading_plus text) < 2 ^ 32)
+
+-- the number that the text writes; without one, the number that stands for none
+abbrev pub IsNumberOf : Option (List ℕ) → ℕ → ℕ → Type 0
+IsNumberOf None none n = n ≡ none
+IsNumberOf (Some text) none n = (WritesNumber text → n ≡ digits_value 10 (without_leading_plus text)) × (¬ WritesNumber text → n ≡ none)
+
+abbrev pub IsFlagOf : Option (List ℕ) → Bool → Type 0
+IsFlagOf None flag = flag ≡ false
+IsFlagOf (Some text) flag = (text ≡ codes "true" → flag ≡ true) × (text ≡ codes "false" → flag ≡ false)
+
+-- each option is that of its own name, and where the line doesn't have it, what the program takes for it
+pub record AreOptionsOf (found : Found) (o : Options) : Type 0 where
+  pub job : Names (unwrap_or (first_value found (codes "job")) (codes "words")) o.job
+  pub parts : IsNumberOf (one_text found (codes "parts")) 1 o.parts
+  pub split : IsNumberOf (one_text found (codes "split")) (2 ^ 26) o.split
+  pub max_skips : IsNumberOf (one_text found (codes "max-skips")) 0 o.max_skips
+  pub keep_case : IsFlagOf (one_text found (codes "keep-case")) o.keep_case
+  pub fold : IsFlagOf (one_text found (codes "fold")) o.fold
+  pub literal : option_map (λ s. s.now) o.literal ≡ first_value found (codes "literal")
+  pub out : o.out.now ≡ unwrap_or (first_value found (codes "out")) (codes ".")
+  pub files : map (λ s. s.now) o.files.items ≡ option_map_or raw_values (matched_of found (codes "files")) []
