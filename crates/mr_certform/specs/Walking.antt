@@ -5,8 +5,8 @@ use Rattle.mr_certform.specs.declared.walker.Walker.{Walker}
 use Rattle.mr_certform.specs.Spelling.{items_from, unread}
 
 -- the items that are still to come
-unfoldable pub left : Walker → List Item
-left w = items_from w.place w.rest.now
+unfoldable pub items_left : Walker → List Item
+items_left w = items_from w.place w.rest.now
 
 -- the place in bytes, from the front of them all, after the last of these items
 unfoldable pub halt : Walker → ℕ

@@ -16,11 +16,11 @@ pub struct Walker<'a> {
 }
 
 impl<'a> Walker<'a> {
-    ghost use Rattle.mr_certform.specs.Walking.{left, halt};
+    ghost use Rattle.mr_certform.specs.Walking.{items_left, halt};
 
     /// At the front of the bytes.
     pub fn new(bytes: &'a [u8]) -> Walker<'a>
-        ensures items { left result ≡ items_of bytes.entry.now }
+        ensures items { items_left result ≡ items_of bytes.entry.now }
         ensures stop { halt result ≡ stop bytes.entry.now }
     {
         Walker {
@@ -55,9 +55,9 @@ impl<'a> Walker<'a> {
     /// of the grammar stands, and the same answer from then on.
     pub fn next(&mut self) -> Result<Item, Malformed>
         ensures item { MatchResult result
-            (λ i. left self.old ≡ i ∷ left_behind i (left self.new))
-            (λ e. (left self.old ≡ []) × (left self.new ≡ []) × (e.at ≡ halt self.old)) }
-        ensures end { result ≡ Ok Item.End → left self.new ≡ left self.old }
+            (λ i. items_left self.old ≡ i ∷ left_behind i (items_left self.new))
+            (λ e. (items_left self.old ≡ []) × (items_left self.new ≡ []) × (e.at ≡ halt self.old)) }
+        ensures end { result ≡ Ok Item.End → items_left self.new ≡ items_left self.old }
         ensures stop { halt self.new ≡ halt self.old }
     {
         self.step()

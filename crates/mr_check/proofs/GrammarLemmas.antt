@@ -3,7 +3,7 @@ use Rattle.std.proofs.Common.{◌≡◌, ℕ, zero, suc, Bool, true, false, cond
 use Rattle.std.specs.Prelude.{Ok, Err}
 use Rattle.std.proofs.lemmas.Bool.{false≢true, eqb-true}
 use Rattle.mr_bytes.specs.declared.Name.{Name}
-use Rattle.mr_jobs.specs.Task.{Order, job_literal}
+use Rattle.mr_jobs.specs.JobSpec.{RequestSpec, job_literal}
 use Rattle.mr_certform.specs.declared.item.Item.{Item}
 use Rattle.mr_certform.specs.declared.item.Item.TheVariants.{Magic, Job, Flags, LiteralLength, LiteralByte, Parts, SplitSize, Files, FileLength, Skips, Skip, Groups, Entries, Entry, End}
 use Rattle.mr_certform.specs.declared.place.Place.{Place}
@@ -49,8 +49,8 @@ behind_lengths : (r : ℕ) (files : List (List ℕ)) → place_behind (file_leng
 behind_lengths r [] = refl
 behind_lengths r (f ∷ files) = behind_lengths r files
 
-behind_job : (o : Order) → place_behind AtMagic (job_wanted o) ≡ AtFiles o.parts
-behind_job o = behind_literal (job_literal o.task) (Parts o.parts ∷ SplitSize o.split ∷ [])
+behind_job : (o : RequestSpec) → place_behind AtMagic (job_wanted o) ≡ AtFiles o.parts
+behind_job o = behind_literal (job_literal o.job) (Parts o.parts ∷ SplitSize o.split ∷ [])
 
 behind_input : (r : ℕ) (files : List (List ℕ)) → place_behind (AtFiles r) (input_wanted files) ≡ AtSkips r
 behind_input r files = behind_lengths r files
@@ -107,7 +107,7 @@ awaits r (Skips n ∷ is) h = front r n is h.1
 awaits r (i ∷ is) h = absurd (h.0)
 
 -- in a certificate of this order and these files
-pub skips_come : (o : Order) (files : List (List ℕ)) (a b : ℕ) (f g : No) (is js ks : List Item) → InOrder AtMagic is → met a (job_wanted o) f is ≡ Ok js → met b (input_wanted files) g js ≡ Ok ks → awaits_skips ks ≡ true
+pub skips_come : (o : RequestSpec) (files : List (List ℕ)) (a b : ℕ) (f g : No) (is js ks : List Item) → InOrder AtMagic is → met a (job_wanted o) f is ≡ Ok js → met b (input_wanted files) g js ≡ Ok ks → awaits_skips ks ≡ true
 skips_come o files a b f g is js ks h e d =
     let one : InOrder (AtFiles o.parts) js = subst (λ p. InOrder p js) (behind_job o) (met_order a (job_wanted o) f AtMagic is js h e) in
     awaits o.parts ks (subst (λ p. InOrder p ks) (behind_input o.parts files) (met_order b (input_wanted files) g (AtFiles o.parts) js ks one d))

@@ -1,7 +1,7 @@
 -- A yes is a good result, and a good result is the sequential execution's.
 use Rattle.std.proofs.Common.{◌≡◌, ◌⊎◌, ℕ, ◌<◌, List, length, Result, Ok, Err, MatchResult, IfOk, ap, sym, ◌∙◌, subst, refl}
 use Rattle.mr_bytes.specs.declared.RecordName.{RecordName}
-use Rattle.mr_jobs.specs.Task.{Order}
+use Rattle.mr_jobs.specs.JobSpec.{RequestSpec}
 use Rattle.mr_certform.specs.Grammar.{AreBytes}
 use Rattle.mr_certform.specs.Value.{Contents}
 use Rattle.mr_sequential.specs.Emitted.{emitted}
@@ -13,16 +13,16 @@ use Rattle.mr_check.specs.Verdict.{Accepted, verdict_of}
 use Rattle.mr_check.proofs.VerdictYes.{yes_is_good}
 
 -- of a certificate that is known, with the records that it lists
-listed : (order : Order) (files outs : List (List ℕ)) (bytes : List ℕ) (told : Accepted) → AreBytes bytes → 0 < order.split
-    → verdict_of order files outs bytes ≡ Ok told → IsCertified order files outs bytes told.skips told.pairs
-listed order files outs bytes told are split accepted =
-    let good = yes_is_good order files outs bytes told are accepted in
+listed : (request : RequestSpec) (files outs : List (List ℕ)) (bytes : List ℕ) (told : Accepted) → AreBytes bytes → 0 < request.split
+    → verdict_of request files outs bytes ≡ Ok told → IsCertified request files outs bytes told.skips told.pairs
+listed request files outs bytes told are split accepted =
+    let good = yes_is_good request files outs bytes told are accepted in
     let c : Contents = good.0 in
     let g = good.2 in
     let same = good.3 in
     let skips : told.skips ≡ c.skips = ap (λ (a : Accepted). a.skips) same in
-    let pairs : told.pairs ≡ length (emitted order files c.skips) = ap (λ (a : Accepted). a.pairs) same in
-    subst (λ (l : List RecordName). IsCertified order files outs bytes l told.pairs) (sym skips)
+    let pairs : told.pairs ≡ length (emitted request files c.skips) = ap (λ (a : Accepted). a.pairs) same in
+    subst (λ (l : List RecordName). IsCertified request files outs bytes l told.pairs) (sym skips)
     (record {
       certificate = c;
       spelled = good.1;
@@ -31,13 +31,13 @@ listed order files outs bytes told are split accepted =
       exist = g.skips_exist;
       allowed = g.skips_few;
       count = g.result.one_each ∙ g.one_each;
-      sequential_is = good_is_sequential order files outs c split g;
+      sequential_is = good_is_sequential request files outs c split g;
       all = pairs;
     })
 
-pub certified : (order : Order) (files outs : List (List ℕ)) (bytes : List ℕ) (r : Result Yes No) → AreBytes bytes → 0 < order.split
-    → (let v = verdict_of order files outs bytes in
+pub certified : (request : RequestSpec) (files outs : List (List ℕ)) (bytes : List ℕ) (r : Result Yes No) → AreBytes bytes → 0 < request.split
+    → (let v = verdict_of request files outs bytes in
     MatchResult r (λ y. v ≡ Ok (record { skips = y.skips.items; pairs = y.pairs })) (λ e. (e ≡ No.OutOfMemory) ⊎ (v ≡ Err e)))
-    → IfOk r (λ y. IsCertified order files outs bytes y.skips.items y.pairs)
-certified order files outs bytes (Ok y) are split h = listed order files outs bytes (record { skips = y.skips.items; pairs = y.pairs }) are split h
-certified order files outs bytes (Err e) are split h = tt
+    → IfOk r (λ y. IsCertified request files outs bytes y.skips.items y.pairs)
+certified request files outs bytes (Ok y) are split h = listed request files outs bytes (record { skips = y.skips.items; pairs = y.pairs }) are split h
+certified request files outs bytes (Err e) are split h = tt

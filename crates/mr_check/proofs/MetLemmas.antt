@@ -1,7 +1,7 @@
 -- Items that are met, one list of wanted items after another.
 use Rattle.std.proofs.Common.{◌≡◌, ℕ, Bool, true, false, cond, List, [], ◌∷◌, ◌++◌, length, map, refl, ap, sym, ◌∙◌}
 use Rattle.std.specs.Prelude.{Ok, Err}
-use Rattle.mr_jobs.specs.Task.{Task, Order, job_number, job_flags, job_literal}
+use Rattle.mr_jobs.specs.JobSpec.{JobSpec, RequestSpec, job_number, job_flags, job_literal}
 use Rattle.mr_certform.specs.declared.item.Item.{Item}
 use Rattle.mr_certform.specs.declared.item.Item.TheVariants.{Magic, Job, Flags, LiteralLength, LiteralByte, Parts, SplitSize}
 use Rattle.mr_check.specs.declared.fault.No.{No}
@@ -38,9 +38,9 @@ met_not a at f w all ws is e d same h = ap (λ k. met at k f is) d ∙ (ap (λ n
 -- ---- the items of a job
 
 -- from the numbers that the code reads
-pub job_is : (o : Order) (task : Task) (lits : List ℕ) (number flags parts split : ℕ) → task ≡ o.task → lits ≡ job_literal task → number ≡ job_number task → flags ≡ job_flags task → parts ≡ o.parts → split ≡ o.split
+pub job_is : (o : RequestSpec) (job : JobSpec) (lits : List ℕ) (number flags parts split : ℕ) → job ≡ o.job → lits ≡ job_literal job → number ≡ job_number job → flags ≡ job_flags job → parts ≡ o.parts → split ≡ o.split
     → job_wanted o ≡ (Magic ∷ Job number ∷ Flags flags ∷ LiteralLength (length lits) ∷ []) ++ (map LiteralByte lits ++ (Parts parts ∷ SplitSize split ∷ []))
-job_is o task lits number flags parts split t l n g p s = rw (l, n, g, p, s, t) refl
+job_is o job lits number flags parts split t l n g p s = rw (l, n, g, p, s, t) refl
 
 -- three lists of items, one after another
 pub met_three : (at b d : ℕ) (f : No) (us ws vs is js ks : List Item) → b ≡ at → d ≡ at → met at us f is ≡ Ok js → met b ws f js ≡ Ok ks → met at (us ++ (ws ++ vs)) f is ≡ met d vs f ks

@@ -1,7 +1,7 @@
 -- What the judge's meter counts, from item to item.
 use Rattle.std.proofs.Common.{◌≡◌, ℕ, ◌+◌, List, [], ◌∷◌, ◌++◌, length, ap, arith}
 use Rattle.std.specs.Prelude.{Ok}
-use Rattle.mr_jobs.specs.Task.{Order}
+use Rattle.mr_jobs.specs.JobSpec.{RequestSpec}
 use Rattle.mr_splits.specs.Named.{NamedRecord}
 use Rattle.mr_splits.specs.Cut.{Cut, records_of}
 use Rattle.mr_certform.specs.declared.item.Item.{Item}
@@ -19,7 +19,7 @@ accepted_pairs a (Skip s ∷ is) = accepted_pairs (record a { skips = a.skips ++
 accepted_pairs a (Entry n ∷ is) = omega (arith, accepted_pairs (record a { pairs = a.pairs + 1 }) is)
 accepted_pairs a (i ∷ is) = accepted_pairs a is
 
-pub header_entries : (at : ℕ) (o : Order) (files : List (List ℕ)) (is ks : List Item) → header_met at o files is ≡ Ok ks → entries_in is ≡ entries_in ks
+pub header_entries : (at : ℕ) (o : RequestSpec) (files : List (List ℕ)) (is ks : List Item) → header_met at o files is ≡ Ok ks → entries_in is ≡ entries_in ks
 header_entries at o files is ks e =
     let a : Accepted = record { skips = []; pairs = 0 } in
     omega (arith, accepted_pairs a is, accepted_pairs a ks, ap (λ (b : Accepted). b.pairs) (header_accepted at o files a is ks e))

@@ -8,7 +8,7 @@ use Rattle.mr_bytes.specs.declared.Name.{Name}
 use Rattle.mr_bytes.specs.declared.Value.{Value}
 use Rattle.mr_bytes.specs.Lists.{Has, Rises, Distinct}
 use Rattle.mr_bytes.specs.Order.{key_order}
-use Rattle.mr_input.specs.Files.{nth}
+use Rattle.mr_input.specs.Files.{nth_file}
 use Rattle.mr_sequential.proofs.ListLaws.{Has-all, Has-map, Has-flat_map_from, Has-append_cases, Distinct-rises, Distinct-append, not_before_itself, without, length-without, in_without}
 use Rattle.mr_sequential.specs.Emitted.{Triple}
 use Rattle.mr_sequential.specs.Good.{named, key_under, key_of, IsGoodGroup, IsGoodPart, entries_of}
@@ -39,7 +39,7 @@ few (x ∷ xs) ys d f =
 
 module _ (part : List ℕ → ℕ) (text : List ℕ → List Value → List ℕ) (ts : List Triple) (outputs : List (List ℕ)) where
   abbrev Part : ℕ → List (List Name) → Type 0
-  Part p gs = IsGoodPart part text ts p gs (nth outputs p)
+  Part p gs = IsGoodPart part text ts p gs (nth_file outputs p)
 
   key_in_group : (p : ℕ) (g : List Name) (n : Name) → IsGoodGroup part ts p g → Has g n → key_under ts n ≡ key_of ts g
   key_in_group p g n good h = Has-all (λ m. key_under ts m ≡ key_of ts g) g n good.one_key h

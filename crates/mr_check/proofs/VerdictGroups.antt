@@ -11,12 +11,12 @@ use Rattle.mr_bytes.specs.declared.Name.{Name}
 use Rattle.mr_bytes.specs.declared.Value.{Value}
 use Rattle.mr_bytes.specs.Lists.{Rises}
 use Rattle.mr_bytes.specs.Order.{name_order}
-use Rattle.mr_input.specs.Files.{nth}
+use Rattle.mr_input.specs.Files.{nth_file}
 use Rattle.mr_certform.specs.declared.item.Item.TheVariants.{Entry}
 use Rattle.mr_certform.specs.Value.{group_items}
 use Rattle.mr_sequential.proofs.KeyLaws.{bytes_eq-is, bytes_eq-same}
 use Rattle.mr_sequential.specs.Emitted.{Triple}
-use Rattle.mr_sequential.specs.Good.{named, key_under, key_of, values_under, group_text, IsGoodGroup}
+use Rattle.mr_sequential.specs.Good.{named, key_under, key_of, values_under, text_under, IsGoodGroup}
 use Rattle.mr_check.specs.declared.fault.No.{No}
 use Rattle.mr_check.specs.declared.fault.No.TheVariants.{EntryOrder, KeyDiffers, WrongPartition, KeyOrder}
 use Rattle.mr_check.specs.Verdict.{State, Subject, tests, after, passes, text_tests, end_tests, is_key_past, first_tests, later_tests, order_tests, with_entry, entry_tests, group_tests, behind_group, after_entry}
@@ -44,8 +44,8 @@ module _ (s : Subject) where
   -- a group's text, and where it is the last group the partition's end
   abbrev pub text_told : State → List ℕ → List No
   text_told st text =
-      text_tests (nth s.outputs (st.next - 1)) (st.next - 1) st.from text
-      ++ end_tests (nth s.outputs (st.next - 1)) (st.next - 1) (st.groups - 1) (st.from + length text)
+      text_tests (nth_file s.outputs (st.next - 1)) (st.next - 1) st.from text
+      ++ end_tests (nth_file s.outputs (st.next - 1)) (st.next - 1) (st.groups - 1) (st.from + length text)
 
   -- behind a group's first entry, m entries being still to come
   abbrev first : State → Triple → ℕ → State
@@ -237,8 +237,8 @@ module _ (s : Subject) where
 
   -- where it is good, its text alone is told of, and what is behind it
   pub group_told : (st : State) (ns : List Name) → IsGoodGroup s.part s.triples (st.next - 1) ns → is_key_past st.key_before (key_of s.triples ns) ≡ true
-      → (told s st (group_items ns) ≡ text_told st (group_text s.text s.triples ns))
-      × IsBehind st (behind s st (group_items ns)) (key_of s.triples ns) (group_text s.text s.triples ns) (length ns)
+      → (told s st (group_items ns) ≡ text_told st (text_under s.text s.triples ns))
+      × IsBehind st (behind s st (group_items ns)) (key_of s.triples ns) (text_under s.text s.triples ns) (length ns)
   group_told st [] good past = absurd (omega (arith, good.some_entry))
   group_told st (n ∷ ns) good past =
       let f = some_is (named s.triples n) good.entries.0 in
@@ -255,12 +255,12 @@ module _ (s : Subject) where
       let key_passes = passes-true (is_key_past st.key_before t.key) (KeyOrder (st.next - 1) st.group 0) (ap (is_key_past st.key_before) (sym key) ∙ past) in
       let here : first_tests s.part (st.next - 1) st.group st.key_before t.key ≡ [] = none_both _ _ part_passes key_passes in
       let b = later_behind ns (first st t (length ns)) 0 refl refl later in
-      let text : s.text t.key (t.value ∷ values_under s.triples ns) ≡ group_text s.text s.triples (n ∷ ns) =
+      let text : s.text t.key (t.value ∷ values_under s.triples ns) ≡ text_under s.text s.triples (n ∷ ns) =
       ap (λ vs. s.text t.key vs) (sym (values_found n ns t f.1)) ∙ ap (λ k. s.text k (values_under s.triples (n ∷ ns))) (sym key) in (
         first_told st n ns t f.1
             ∙ (ap (λ w. w ++ entries_told (first st t (length ns)) ns) here
             ∙ (later_told ns (first st t (length ns)) 0 refl refl later ∙ ap (text_told st) text)),
-        subst (λ (w : State). IsBehind st w (key_of s.triples (n ∷ ns)) (group_text s.text s.triples (n ∷ ns)) (length (n ∷ ns))) (sym (first_behind st n ns t f.1)) (record {
+        subst (λ (w : State). IsBehind st w (key_of s.triples (n ∷ ns)) (text_under s.text s.triples (n ∷ ns)) (length (n ∷ ns))) (sym (first_behind st n ns t f.1)) (record {
           next = b.next;
           groups = b.groups;
           group = b.group;

@@ -6,7 +6,7 @@ use Rattle.std.specs.List.{AllByRecursion, flat_map}
 use Rattle.mr_bytes.specs.declared.Name.{Name}
 use Rattle.mr_bytes.specs.declared.RecordName.{RecordName}
 use Rattle.mr_bytes.specs.Lists.{Has}
-use Rattle.mr_jobs.specs.Task.{Order, job_number, job_flags, job_literal}
+use Rattle.mr_jobs.specs.JobSpec.{RequestSpec, job_number, job_flags, job_literal}
 use Rattle.mr_splits.specs.Named.{NamedRecord, named_records}
 use Rattle.mr_splits.specs.Cut.{is_record}
 use Rattle.mr_certform.specs.declared.item.Item.{Item}
@@ -61,11 +61,11 @@ equal_literal : (bs : List ℕ) (ws : List Item) → AreEqual ws → AreEqual (m
 equal_literal [] ws h = h
 equal_literal (b ∷ bs) ws h = (eq-eqb b b refl, equal_literal bs ws h)
 
-pub equal_job : (o : Order) → AreEqual (job_wanted o)
+pub equal_job : (o : RequestSpec) → AreEqual (job_wanted o)
 equal_job o =
-    let literal = equal_literal (job_literal o.task) (Parts o.parts ∷ SplitSize o.split ∷ []) (eq-eqb o.parts o.parts refl, (eq-eqb o.split o.split refl, tt)) in
-    let long = eq-eqb (length (job_literal o.task)) (length (job_literal o.task)) refl in
-    (refl, (eq-eqb (job_number o.task) (job_number o.task) refl, (eq-eqb (job_flags o.task) (job_flags o.task) refl, (long, literal))))
+    let literal = equal_literal (job_literal o.job) (Parts o.parts ∷ SplitSize o.split ∷ []) (eq-eqb o.parts o.parts refl, (eq-eqb o.split o.split refl, tt)) in
+    let long = eq-eqb (length (job_literal o.job)) (length (job_literal o.job)) refl in
+    (refl, (eq-eqb (job_number o.job) (job_number o.job) refl, (eq-eqb (job_flags o.job) (job_flags o.job) refl, (long, literal))))
 
 equal_lengths : (files : List (List ℕ)) → AreEqual (map (λ (f : List ℕ). FileLength (length f)) files)
 equal_lengths [] = tt
@@ -74,8 +74,8 @@ equal_lengths (f ∷ files) = (eq-eqb (length f) (length f) refl, equal_lengths 
 pub equal_input : (files : List (List ℕ)) → AreEqual (input_wanted files)
 equal_input files = (eq-eqb (length files) (length files) refl, equal_lengths files)
 
-pub job_pass : (c : Case) (behind : List Item → List No) (rest : List Item) → wanted_faults c (job_wanted c.order) Fault.OtherJob behind (job_wanted c.order ++ rest) ≡ behind rest
-job_pass c behind rest = wanted_pass c (job_wanted c.order) Fault.OtherJob behind rest (equal_job c.order)
+pub job_pass : (c : Case) (behind : List Item → List No) (rest : List Item) → wanted_faults c (job_wanted c.request) Fault.OtherJob behind (job_wanted c.request ++ rest) ≡ behind rest
+job_pass c behind rest = wanted_pass c (job_wanted c.request) Fault.OtherJob behind rest (equal_job c.request)
 
 pub input_pass : (c : Case) (behind : List Item → List No) (rest : List Item) → wanted_faults c (input_wanted c.files) Fault.OtherInput behind (input_wanted c.files ++ rest) ≡ behind rest
 input_pass c behind rest = wanted_pass c (input_wanted c.files) Fault.OtherInput behind rest (equal_input c.files)
@@ -102,26 +102,26 @@ one_length m n e = cc
 abbrev job_of : ℕ → ℕ → List ℕ → ℕ → ℕ → List Item
 job_of job flags literal parts size = Magic ∷ (Job job ∷ Flags flags ∷ LiteralLength (length literal) ∷ (map LiteralByte literal ++ (Parts parts ∷ SplitSize size ∷ [])))
 
-pub record SameJob (c : Contents) (o : Order) : Type 0 where
-  pub job : c.job ≡ job_number o.task
-  pub flags : c.flags ≡ job_flags o.task
-  pub literal : c.literal ≡ job_literal o.task
+pub record SameJob (c : Contents) (o : RequestSpec) : Type 0 where
+  pub job : c.job ≡ job_number o.job
+  pub flags : c.flags ≡ job_flags o.job
+  pub literal : c.literal ≡ job_literal o.job
   pub parts : c.parts ≡ o.parts
   pub size : c.split_size ≡ o.split
 
-pub job_is : (c : Contents) (o : Order) → SameJob c o → Magic ∷ job_items c ≡ job_wanted o
+pub job_is : (c : Contents) (o : RequestSpec) → SameJob c o → Magic ∷ job_items c ≡ job_wanted o
 job_is c o h = λ i. job_of (h.job i) (h.flags i) (h.literal i) (h.parts i) (h.size i)
 
-pub job_same : (c : Contents) (o : Order) (is js : List Item) → Magic ∷ (job_items c ++ is) ≡ job_wanted o ++ js → SameJob c o × (is ≡ js)
+pub job_same : (c : Contents) (o : RequestSpec) (is js : List Item) → Magic ∷ (job_items c ++ is) ≡ job_wanted o ++ js → SameJob c o × (is ≡ js)
 job_same c o is js e =
-    let job : Job c.job ≡ Job (job_number o.task) = cc in
-    let flags : Flags c.flags ≡ Flags (job_flags o.task) = cc in
-    let long : LiteralLength (length c.literal) ≡ LiteralLength (length (job_literal o.task)) = cc in
-    let tail : (map LiteralByte c.literal ++ (Parts c.parts ∷ SplitSize c.split_size ∷ [])) ++ is ≡ (map LiteralByte (job_literal o.task) ++ (Parts o.parts ∷ SplitSize o.split ∷ [])) ++ js = cc in
-    let whole : map LiteralByte c.literal ++ (Parts c.parts ∷ SplitSize c.split_size ∷ is) ≡ map LiteralByte (job_literal o.task) ++ (Parts o.parts ∷ SplitSize o.split ∷ js) =
+    let job : Job c.job ≡ Job (job_number o.job) = cc in
+    let flags : Flags c.flags ≡ Flags (job_flags o.job) = cc in
+    let long : LiteralLength (length c.literal) ≡ LiteralLength (length (job_literal o.job)) = cc in
+    let tail : (map LiteralByte c.literal ++ (Parts c.parts ∷ SplitSize c.split_size ∷ [])) ++ is ≡ (map LiteralByte (job_literal o.job) ++ (Parts o.parts ∷ SplitSize o.split ∷ [])) ++ js = cc in
+    let whole : map LiteralByte c.literal ++ (Parts c.parts ∷ SplitSize c.split_size ∷ is) ≡ map LiteralByte (job_literal o.job) ++ (Parts o.parts ∷ SplitSize o.split ∷ js) =
     sym (append_assoc (map LiteralByte c.literal) (Parts c.parts ∷ SplitSize c.split_size ∷ []) is)
-    ∙ (tail ∙ append_assoc (map LiteralByte (job_literal o.task)) (Parts o.parts ∷ SplitSize o.split ∷ []) js) in
-    let r = same_front LiteralByte one_byte c.literal (job_literal o.task) (Parts c.parts ∷ SplitSize c.split_size ∷ is) (Parts o.parts ∷ SplitSize o.split ∷ js) (cc) whole in
+    ∙ (tail ∙ append_assoc (map LiteralByte (job_literal o.job)) (Parts o.parts ∷ SplitSize o.split ∷ []) js) in
+    let r = same_front LiteralByte one_byte c.literal (job_literal o.job) (Parts c.parts ∷ SplitSize c.split_size ∷ is) (Parts o.parts ∷ SplitSize o.split ∷ js) (cc) whole in
     let rest : Parts c.parts ∷ SplitSize c.split_size ∷ is ≡ Parts o.parts ∷ SplitSize o.split ∷ js = r.1 in
     (record { job = cc; flags = cc; literal = r.0; parts = cc; size = cc }, cc)
 
@@ -161,7 +161,7 @@ behind_skips c done [] = refl
 behind_skips c done (gs ∷ parts) = refl
 
 abbrev records_in : Case → List NamedRecord
-records_in c = named_records c.order.split c.files
+records_in c = named_records c.request.split c.files
 
 abbrev NoFault : Option RunFault → Type 0
 NoFault o = ◌≡◌ {A = Option RunFault} o None
@@ -224,9 +224,9 @@ skip_ends c done (Skip s ∷ is) h =
 skip_ends c done (i ∷ is) h = part_ends (subject_of c done) c.stop start (i ∷ is) h
 
 -- the number of left-out records, and what is behind it
-pub count_none : (c : Case) (is : List Item) → count_faults c is ≡ [] → (n : ℕ) × (rest : List Item) × (is ≡ Skips n ∷ rest) × (n ≤ c.order.skips) × (skip_faults c [] rest ≡ [])
+pub count_none : (c : Case) (is : List Item) → count_faults c is ≡ [] → (n : ℕ) × (rest : List Item) × (is ≡ Skips n ∷ rest) × (n ≤ c.request.skips) × (skip_faults c [] rest ≡ [])
 count_none c (Skips n ∷ is) h =
-    let test : List No = passes (nat_le n c.order.skips) (Fault.TooManySkips n) in
+    let test : List No = passes (nat_le n c.request.skips) (Fault.TooManySkips n) in
     (n, is, refl, leb-true _ _ (passed _ _ (none_left test _ h)), none_right test _ h)
 count_none c [] h = absurd (cc)
 count_none c (i ∷ is) h = absurd (cc)

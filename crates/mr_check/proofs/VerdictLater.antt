@@ -5,7 +5,7 @@ use Rattle.std.specs.Ordering.{is_lt}
 use Rattle.std.specs.Str.{bytes_eq}
 use Rattle.mr_bytes.specs.declared.Name.{Name}
 use Rattle.mr_bytes.specs.Order.{name_order}
-use Rattle.mr_input.specs.Files.{nth}
+use Rattle.mr_input.specs.Files.{nth_file}
 use Rattle.mr_certform.specs.declared.item.Item.{Item}
 use Rattle.mr_certform.specs.declared.item.Item.TheVariants.{Groups, Entries, Entry, End}
 use Rattle.mr_certform.specs.Spelling.{items_of, is_ended, stop}
@@ -44,7 +44,7 @@ module _ (s : Subject) where
   group_all : (p : ℕ) (st : State) (m : ℕ) → AllOf p (group_tests s p st m)
   group_all p st zero =
       let text : List ℕ = s.text st.key st.values in
-      let output : List ℕ = nth s.outputs p in
+      let output : List ℕ = nth_file s.outputs p in
       all_append p (text_tests output p st.from text) (end_tests output p (st.groups - 1) (st.from + length text))
       (all_passes p (common_prefix_len nat_eq text (drop st.from output) == length text) (Fault.OutputDiffers p (st.from + common_prefix_len nat_eq text (drop st.from output))) refl)
       (end_all output p (st.groups - 1) (st.from + length text))
@@ -77,8 +77,8 @@ module _ (s : Subject) where
   part_names : (p n : ℕ) (is : List Item) (fault : No) → part_fault s p (Groups n ∷ piece is) ≡ Some fault → partition_named fault ≡ Some p
   part_names p n is fault e =
       let here : p + 1 - 1 ≡ p = omega arith in
-      all_first p (end_tests (nth s.outputs p) p n 0 ++ told s (after s (record start { next = p }) (Groups n)) (piece is)) fault
-      (all_append p (end_tests (nth s.outputs p) p n 0) (told s (after s (record start { next = p }) (Groups n)) (piece is)) (end_all (nth s.outputs p) p n 0)
+      all_first p (end_tests (nth_file s.outputs p) p n 0 ++ told s (after s (record start { next = p }) (Groups n)) (piece is)) fault
+      (all_append p (end_tests (nth_file s.outputs p) p n 0) (told s (after s (record start { next = p }) (Groups n)) (piece is)) (end_all (nth_file s.outputs p) p n 0)
       (subst (λ k. AllOf k (told s (after s (record start { next = p }) (Groups n)) (piece is))) here (told_all is (after s (record start { next = p }) (Groups n))))) e
 
   -- what is told behind the partitions names none
@@ -106,39 +106,39 @@ module _ (s : Subject) where
   same_for (Fault.OutputDiffers p at) st output other e = e
   same_for _ st output other e = whole_by st.groups st.from output other e
 
-  module _ (others : List (List ℕ)) (fault : No) (p : ℕ) (names : partition_named fault ≡ Some p) (before : (q : ℕ) → q < p → nth others q ≡ nth s.outputs q) (here : SameTo fault (nth s.outputs p) (nth others p)) where
+  module _ (others : List (List ℕ)) (fault : No) (p : ℕ) (names : partition_named fault ≡ Some p) (before : (q : ℕ) → q < p → nth_file others q ≡ nth_file s.outputs q) (here : SameTo fault (nth_file s.outputs p) (nth_file others p)) where
     same_from : (is : List Item) (k : ℕ) (back : Option No) → (back ≡ Some fault → ⊥) → or_else (least_fault s k (parts_in is)) back ≡ Some fault → (k ≤ p) × SameFrom s k (parts_in is) others
     same_from [] k back none e = absurd (none e)
     same_from (Groups n ∷ is) k back none e = by (part_fault s k (Groups n ∷ piece is)) refl e (same_from is (k + 1) back none)
       where
         by : (o : Option No) → part_fault s k (Groups n ∷ piece is) ≡ o → or_else (or_else o (least_fault s (k + 1) (parts_in is))) back ≡ Some fault
             → (or_else (least_fault s (k + 1) (parts_in is)) back ≡ Some fault → (k + 1 ≤ p) × SameFrom s (k + 1) (parts_in is) others)
-            → (k ≤ p) × SameInPart o (before_fault s (record start { next = k }) (Groups n ∷ piece is)) (nth s.outputs k) (nth others k) (SameFrom s (k + 1) (parts_in is) others)
+            → (k ≤ p) × SameInPart o (before_fault s (record start { next = k }) (Groups n ∷ piece is)) (nth_file s.outputs k) (nth_file others k) (SameFrom s (k + 1) (parts_in is) others)
         by (Some f) is_ e rest =
             let same : f ≡ fault = cc in
             let named_ : partition_named fault ≡ Some k = subst (λ w. partition_named w ≡ Some k) same (part_names k n is f is_) in
             let both : Some p ≡ Some k = sym names ∙ named_ in
             let place : p ≡ k = cc in
             let last : State = before_fault s (record start { next = k }) (Groups n ∷ piece is) in
-            let there : SameTo f (nth s.outputs k) (nth others k) = subst (λ w. SameTo w (nth s.outputs k) (nth others k)) (sym same) (subst (λ w. SameTo fault (nth s.outputs w) (nth others w)) place here) in
-            (omega arith, same_for f last (nth s.outputs k) (nth others k) there)
+            let there : SameTo f (nth_file s.outputs k) (nth_file others k) = subst (λ w. SameTo w (nth_file s.outputs k) (nth_file others k)) (sym same) (subst (λ w. SameTo fault (nth_file s.outputs w) (nth_file others w)) place here) in
+            (omega arith, same_for f last (nth_file s.outputs k) (nth_file others k) there)
         by None is_ e rest =
             let r = rest e in
             let last : State = before_fault s (record start { next = k }) (Groups n ∷ piece is) in
             let less : k < p = omega (arith, r.0) in
-            (omega arith, (whole_by last.groups last.from (nth s.outputs k) (nth others k) (before k less), r.1))
+            (omega arith, (whole_by last.groups last.from (nth_file s.outputs k) (nth_file others k) (before k less), r.1))
     same_from (i ∷ is) k back none e = same_from is k back none e
 
 pub later_outputs_dont_matter : LaterOutputsDontMatter
-later_outputs_dont_matter order files outputs others bytes fault p are_bytes long says names before here =
+later_outputs_dont_matter request files outputs others bytes fault p are_bytes long says names before here =
     let is : List Item = items_of bytes in
-    let s : Subject = subject_of (case_of order files outputs bytes) (skips_in (items_of bytes)) in
-    let told_ : ◌≡◌ {A = Option No} (fault_of (verdict_of order files outputs bytes)) (Some fault) = ap (λ (v : Result Accepted No). fault_of v) says in
+    let s : Subject = subject_of (case_of request files outputs bytes) (skips_in (items_of bytes)) in
+    let told_ : ◌≡◌ {A = Option No} (fault_of (verdict_of request files outputs bytes)) (Some fault) = ap (λ (v : Result Accepted No). fault_of v) says in
     let parts : ◌≡◌ {A = Option No}
-    (or_else (first (front_faults (case_of order files outputs bytes) (items_of bytes))) (or_else (least_fault s 0 (parts_in is)) (back_fault s (stop bytes) (entries_in is) (is_ended is)))) (Some fault) =
-    sym (fault_by_place order files outputs bytes are_bytes) ∙ told_ in
-    only_compared_matters order files outputs others bytes are_bytes long
-    (behind_front (first (front_faults (case_of order files outputs bytes) (items_of bytes))) (or_else (least_fault s 0 (parts_in is)) (back_fault s (stop bytes) (entries_in is) (is_ended is))) (SameFrom s 0 (parts_in is) others)
+    (or_else (first (front_faults (case_of request files outputs bytes) (items_of bytes))) (or_else (least_fault s 0 (parts_in is)) (back_fault s (stop bytes) (entries_in is) (is_ended is)))) (Some fault) =
+    sym (fault_by_place request files outputs bytes are_bytes) ∙ told_ in
+    only_compared_matters request files outputs others bytes are_bytes long
+    (behind_front (first (front_faults (case_of request files outputs bytes) (items_of bytes))) (or_else (least_fault s 0 (parts_in is)) (back_fault s (stop bytes) (entries_in is) (is_ended is))) (SameFrom s 0 (parts_in is) others)
     (λ e. (same_from s others fault p names before here (items_of bytes) 0 (back_fault s (stop bytes) (entries_in is) (is_ended is)) (λ f. back_names s (stop bytes) (entries_in is) (is_ended is) fault p f names) e).1) parts)
     ∙ says
   where

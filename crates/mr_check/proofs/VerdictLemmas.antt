@@ -4,7 +4,7 @@ use Rattle.std.specs.Prelude.{Result, Ok, Err}
 use Rattle.std.proofs.lemmas.Bool.{false≢true, eq-eqb, ne_eqb}
 use Rattle.std.specs.List.{flat_map}
 use Rattle.mr_bytes.specs.declared.RecordName.{RecordName}
-use Rattle.mr_jobs.specs.Task.{Task, Order}
+use Rattle.mr_jobs.specs.JobSpec.{JobSpec, RequestSpec}
 use Rattle.mr_splits.specs.Named.{NamedRecord, named_records}
 use Rattle.mr_splits.specs.Cut.{Cut, is_record, records_of}
 use Rattle.mr_certform.specs.declared.item.Item.{Item}
@@ -73,14 +73,14 @@ counted_is at most (Skips n ∷ is) js e = by (leb n most) refl e
     by false same h = absurd (cc h)
 counted_is at most (i ∷ is) js e = absurd (cc e)
 
-pub counted_faults : (c : Case) (most : ℕ) (is js : List Item) → most ≡ c.order.skips → counted c.stop most is ≡ Ok js → count_faults c is ≡ skip_faults c [] js
+pub counted_faults : (c : Case) (most : ℕ) (is js : List Item) → most ≡ c.request.skips → counted c.stop most is ≡ Ok js → count_faults c is ≡ skip_faults c [] js
 counted_faults c most is js m e =
     let h = counted_is c.stop most is js e in
     ap (count_faults c) h.1 ∙ (ap (λ k. passes (leb h.0 k) (TooManySkips h.0) ++ skip_faults c [] js) (sym m) ∙ ap (λ b. passes b (TooManySkips h.0) ++ skip_faults c [] js) h.2)
 
-pub counted_fault : (c : Case) (is : List Item) (e : No) → counted c.stop c.order.skips is ≡ Err e → first (count_faults c is) ≡ Some e
+pub counted_fault : (c : Case) (is : List Item) (e : No) → counted c.stop c.request.skips is ≡ Err e → first (count_faults c is) ≡ Some e
 counted_fault c [] e d = cc d
-counted_fault c (Skips n ∷ is) e d = by (leb n c.order.skips) d
+counted_fault c (Skips n ∷ is) e d = by (leb n c.request.skips) d
   where
     by : (b : Bool) → cond b (Ok is) (Err (TooManySkips n)) ≡ Err e → first (passes b (TooManySkips n) ++ skip_faults c [] is) ≡ Some e
     by true h = absurd (cc h)
@@ -89,24 +89,24 @@ counted_fault c (i ∷ is) e d = cc d
 
 -- ---- the left-out records
 
-pub listed_faults : (c : Case) (ss : List RecordName) (is : List Item) (r : Listed) → listed (named_records c.order.split c.files) c.stop ss is ≡ Ok r → skip_faults c ss is ≡ part_faults (subject_of c r.skips) c.stop start r.behind
+pub listed_faults : (c : Case) (ss : List RecordName) (is : List Item) (r : Listed) → listed (named_records c.request.split c.files) c.stop ss is ≡ Ok r → skip_faults c ss is ≡ part_faults (subject_of c r.skips) c.stop start r.behind
 listed_faults c ss [] r e = absurd (cc e)
-listed_faults c ss (Skip s ∷ is) r e = by (is_past (last_of ss) s) (is_record (named_records c.order.split c.files) s) e (listed_faults c (ss ++ s ∷ []) is r)
+listed_faults c ss (Skip s ∷ is) r e = by (is_past (last_of ss) s) (is_record (named_records c.request.split c.files) s) e (listed_faults c (ss ++ s ∷ []) is r)
   where
-    by : (a b : Bool) → unless (cond a (cond b None (Some (NoSuchRecord (length ss)))) (Some (SkipOrder (length ss)))) (listed (named_records c.order.split c.files) c.stop (ss ++ s ∷ []) is) ≡ Ok r
-        → (listed (named_records c.order.split c.files) c.stop (ss ++ s ∷ []) is ≡ Ok r → skip_faults c (ss ++ s ∷ []) is ≡ part_faults (subject_of c r.skips) c.stop start r.behind)
+    by : (a b : Bool) → unless (cond a (cond b None (Some (NoSuchRecord (length ss)))) (Some (SkipOrder (length ss)))) (listed (named_records c.request.split c.files) c.stop (ss ++ s ∷ []) is) ≡ Ok r
+        → (listed (named_records c.request.split c.files) c.stop (ss ++ s ∷ []) is ≡ Ok r → skip_faults c (ss ++ s ∷ []) is ≡ part_faults (subject_of c r.skips) c.stop start r.behind)
         → passes a (SkipOrder (length ss)) ++ passes b (NoSuchRecord (length ss)) ++ skip_faults c (ss ++ s ∷ []) is ≡ part_faults (subject_of c r.skips) c.stop start r.behind
     by true true h more = more h
     by true false h more = absurd (cc h)
     by false b h more = absurd (cc h)
 listed_faults c ss (i ∷ is) r e = let same : record { skips = ss; behind = i ∷ is } ≡ r = cc e in ap (λ (w : Listed). part_faults (subject_of c w.skips) c.stop start w.behind) same
 
-pub listed_fault : (c : Case) (ss : List RecordName) (is : List Item) (e : No) → listed (named_records c.order.split c.files) c.stop ss is ≡ Err e → first (skip_faults c ss is) ≡ Some e
+pub listed_fault : (c : Case) (ss : List RecordName) (is : List Item) (e : No) → listed (named_records c.request.split c.files) c.stop ss is ≡ Err e → first (skip_faults c ss is) ≡ Some e
 listed_fault c ss [] e d = cc d
-listed_fault c ss (Skip s ∷ is) e d = by (is_past (last_of ss) s) (is_record (named_records c.order.split c.files) s) d (listed_fault c (ss ++ s ∷ []) is e)
+listed_fault c ss (Skip s ∷ is) e d = by (is_past (last_of ss) s) (is_record (named_records c.request.split c.files) s) d (listed_fault c (ss ++ s ∷ []) is e)
   where
-    by : (a b : Bool) → unless (cond a (cond b None (Some (NoSuchRecord (length ss)))) (Some (SkipOrder (length ss)))) (listed (named_records c.order.split c.files) c.stop (ss ++ s ∷ []) is) ≡ Err e
-        → (listed (named_records c.order.split c.files) c.stop (ss ++ s ∷ []) is ≡ Err e → first (skip_faults c (ss ++ s ∷ []) is) ≡ Some e)
+    by : (a b : Bool) → unless (cond a (cond b None (Some (NoSuchRecord (length ss)))) (Some (SkipOrder (length ss)))) (listed (named_records c.request.split c.files) c.stop (ss ++ s ∷ []) is) ≡ Err e
+        → (listed (named_records c.request.split c.files) c.stop (ss ++ s ∷ []) is ≡ Err e → first (skip_faults c (ss ++ s ∷ []) is) ≡ Some e)
         → first (passes a (SkipOrder (length ss)) ++ passes b (NoSuchRecord (length ss)) ++ skip_faults c (ss ++ s ∷ []) is) ≡ Some e
     by true true h more = more h
     by true false h more = cc h
@@ -156,12 +156,12 @@ parts_accepted a (Entry n ∷ is) e = parts_accepted (record a { pairs = a.pairs
 parts_accepted a (i ∷ is) e = parts_accepted a is e
 
 -- what is known of the partitions is what they are judged against
-pub known_subject : (c : Case) (skips : List RecordName) (task : Task) (cut : Cut) (ts : List Triple) → task ≡ c.order.task → cut.size ≡ c.order.split → cut.files ≡ c.files → ts ≡ triples_of task cut skips
-    → subject (record { order = c.order; triples = ts; outputs = c.outputs }) ≡ subject_of c skips
-known_subject c skips task cut ts t size files e =
-    ap (λ (ws : List Triple). subject (record { order = c.order; triples = ws; outputs = c.outputs }))
-    (e ∙ (ap (λ (w : Task). flat_map (record_triples w skips) (named_records cut.size cut.files)) t
-    ∙ (ap (λ n. flat_map (record_triples c.order.task skips) (named_records n cut.files)) size ∙ ap (λ fs. flat_map (record_triples c.order.task skips) (named_records c.order.split fs)) files)))
+pub known_subject : (c : Case) (skips : List RecordName) (job : JobSpec) (cut : Cut) (ts : List Triple) → job ≡ c.request.job → cut.size ≡ c.request.split → cut.files ≡ c.files → ts ≡ triples_of job cut skips
+    → subject (record { request = c.request; triples = ts; outputs = c.outputs }) ≡ subject_of c skips
+known_subject c skips job cut ts t size files e =
+    ap (λ (ws : List Triple). subject (record { request = c.request; triples = ws; outputs = c.outputs }))
+    (e ∙ (ap (λ (w : JobSpec). flat_map (record_triples w skips) (named_records cut.size cut.files)) t
+    ∙ (ap (λ n. flat_map (record_triples c.request.job skips) (named_records n cut.files)) size ∙ ap (λ fs. flat_map (record_triples c.request.job skips) (named_records c.request.split fs)) files)))
 
 -- ---- the verdict
 
@@ -176,16 +176,16 @@ told_some (g ∷ fs) a f e = cc e
 -- ---- what stands behind the items of the request and of the input
 
 abbrev pub cut_of : Case → Cut
-cut_of c = record { size = c.order.split; files = c.files }
+cut_of c = record { size = c.request.split; files = c.files }
 
-listed_by : (c : Case) (at : ℕ) (cut : Cut) (js : List Item) (r : Result Listed No) → at ≡ c.stop → cut ≡ cut_of c → listed (records_of cut) at [] js ≡ r → listed (named_records c.order.split c.files) c.stop [] js ≡ r
-listed_by c at cut js r a e h = ap (λ n. listed (named_records c.order.split c.files) n [] js) (sym a) ∙ (ap (λ (w : Cut). listed (records_of w) at [] js) (sym e) ∙ h)
+listed_by : (c : Case) (at : ℕ) (cut : Cut) (js : List Item) (r : Result Listed No) → at ≡ c.stop → cut ≡ cut_of c → listed (records_of cut) at [] js ≡ r → listed (named_records c.request.split c.files) c.stop [] js ≡ r
+listed_by c at cut js r a e h = ap (λ n. listed (named_records c.request.split c.files) n [] js) (sym a) ∙ (ap (λ (w : Cut). listed (records_of w) at [] js) (sym e) ∙ h)
 
-pub rest_faults : (c : Case) (most at : ℕ) (cut : Cut) (is js : List Item) (r : Listed) → most ≡ c.order.skips → counted c.stop most is ≡ Ok js → at ≡ c.stop → cut ≡ cut_of c → listed (records_of cut) at [] js ≡ Ok r
+pub rest_faults : (c : Case) (most at : ℕ) (cut : Cut) (is js : List Item) (r : Listed) → most ≡ c.request.skips → counted c.stop most is ≡ Ok js → at ≡ c.stop → cut ≡ cut_of c → listed (records_of cut) at [] js ≡ Ok r
     → count_faults c is ≡ part_faults (subject_of c r.skips) c.stop start r.behind
 rest_faults c most at cut is js r m e a d h = counted_faults c most is js m e ∙ listed_faults c [] js r (listed_by c at cut js (Ok r) a d h)
 
-pub rest_fault : (c : Case) (most at : ℕ) (cut : Cut) (is js : List Item) (f : No) → most ≡ c.order.skips → counted c.stop most is ≡ Ok js → at ≡ c.stop → cut ≡ cut_of c → listed (records_of cut) at [] js ≡ Err f
+pub rest_fault : (c : Case) (most at : ℕ) (cut : Cut) (is js : List Item) (f : No) → most ≡ c.request.skips → counted c.stop most is ≡ Ok js → at ≡ c.stop → cut ≡ cut_of c → listed (records_of cut) at [] js ≡ Err f
     → first (count_faults c is) ≡ Some f
 rest_fault c most at cut is js f m e a d h = ap first (counted_faults c most is js m e) ∙ listed_fault c [] js f (listed_by c at cut js (Err f) a d h)
 
@@ -204,56 +204,56 @@ rest_accepted rs stop most at is js r awaits e h =
     ∙ (parts_accepted (accepted r.skips 0) r.behind (listed_no_skip rs at [] js r front h)
     ∙ (let z : 0 + entries_in r.behind ≡ entries_in r.behind = omega arith in ap (accepted r.skips) z)))
 
-pub case_same : (order : Order) (files others outputs : List (List ℕ)) (skips : List RecordName) (at to : ℕ) (is : List Item) → others ≡ files → to ≡ at
-    → part_faults (subject_of (case_at order others outputs to) skips) to start is ≡ part_faults (subject_of (case_at order files outputs at) skips) at start is
-case_same order files others outputs skips at to is e d = rw (e, d) refl
+pub case_same : (request : RequestSpec) (files others outputs : List (List ℕ)) (skips : List RecordName) (at to : ℕ) (is : List Item) → others ≡ files → to ≡ at
+    → part_faults (subject_of (case_at request others outputs to) skips) to start is ≡ part_faults (subject_of (case_at request files outputs at) skips) at start is
+case_same request files others outputs skips at to is e d = rw (e, d) refl
 
 -- ---- all of it
 
-pub header_ok : (at : ℕ) (o : Order) (files : List (List ℕ)) (is ks : List Item) → header_met at o files is ≡ Ok ks → (js : List Item) × (met at (job_wanted o) OtherJob is ≡ Ok js) × (met at (input_wanted files) OtherInput js ≡ Ok ks)
+pub header_ok : (at : ℕ) (o : RequestSpec) (files : List (List ℕ)) (is ks : List Item) → header_met at o files is ≡ Ok ks → (js : List Item) × (met at (job_wanted o) OtherJob is ≡ Ok js) × (met at (input_wanted files) OtherInput js ≡ Ok ks)
 header_ok at o files is ks e = by (met at (job_wanted o) OtherJob is) refl e
   where
     by : (r : Result (List Item) No) → met at (job_wanted o) OtherJob is ≡ r → met_behind at files r ≡ Ok ks → (js : List Item) × (met at (job_wanted o) OtherJob is ≡ Ok js) × (met at (input_wanted files) OtherInput js ≡ Ok ks)
     by (Ok js) same d = (js, same, d)
     by (Err f) same d = absurd (cc d)
 
-pub header_faults : (c : Case) (is ks : List Item) → header_met c.stop c.order c.files is ≡ Ok ks → wanted_faults c (job_wanted c.order) OtherJob (wanted_faults c (input_wanted c.files) OtherInput (count_faults c)) is ≡ count_faults c ks
+pub header_faults : (c : Case) (is ks : List Item) → header_met c.stop c.request c.files is ≡ Ok ks → wanted_faults c (job_wanted c.request) OtherJob (wanted_faults c (input_wanted c.files) OtherInput (count_faults c)) is ≡ count_faults c ks
 header_faults c is ks e =
-    let h = header_ok c.stop c.order c.files is ks e in
-    met_faults c (job_wanted c.order) OtherJob (wanted_faults c (input_wanted c.files) OtherInput (count_faults c)) is h.0 h.1 ∙ met_faults c (input_wanted c.files) OtherInput (count_faults c) h.0 ks h.2
+    let h = header_ok c.stop c.request c.files is ks e in
+    met_faults c (job_wanted c.request) OtherJob (wanted_faults c (input_wanted c.files) OtherInput (count_faults c)) is h.0 h.1 ∙ met_faults c (input_wanted c.files) OtherInput (count_faults c) h.0 ks h.2
 
-pub header_fault : (c : Case) (is : List Item) (f : No) → header_met c.stop c.order c.files is ≡ Err f → first (wanted_faults c (job_wanted c.order) OtherJob (wanted_faults c (input_wanted c.files) OtherInput (count_faults c)) is) ≡ Some f
-header_fault c is f e = by (met c.stop (job_wanted c.order) OtherJob is) refl e
+pub header_fault : (c : Case) (is : List Item) (f : No) → header_met c.stop c.request c.files is ≡ Err f → first (wanted_faults c (job_wanted c.request) OtherJob (wanted_faults c (input_wanted c.files) OtherInput (count_faults c)) is) ≡ Some f
+header_fault c is f e = by (met c.stop (job_wanted c.request) OtherJob is) refl e
   where
-    by : (r : Result (List Item) No) → met c.stop (job_wanted c.order) OtherJob is ≡ r → met_behind c.stop c.files r ≡ Err f → first (wanted_faults c (job_wanted c.order) OtherJob (wanted_faults c (input_wanted c.files) OtherInput (count_faults c)) is) ≡ Some f
-    by (Ok js) same d = ap first (met_faults c (job_wanted c.order) OtherJob (wanted_faults c (input_wanted c.files) OtherInput (count_faults c)) is js same) ∙ met_fault c (input_wanted c.files) OtherInput (count_faults c) js f d
-    by (Err g) same d = met_fault c (job_wanted c.order) OtherJob (wanted_faults c (input_wanted c.files) OtherInput (count_faults c)) is f (same ∙ ap (λ (k : No). Err k) (cc d))
+    by : (r : Result (List Item) No) → met c.stop (job_wanted c.request) OtherJob is ≡ r → met_behind c.stop c.files r ≡ Err f → first (wanted_faults c (job_wanted c.request) OtherJob (wanted_faults c (input_wanted c.files) OtherInput (count_faults c)) is) ≡ Some f
+    by (Ok js) same d = ap first (met_faults c (job_wanted c.request) OtherJob (wanted_faults c (input_wanted c.files) OtherInput (count_faults c)) is js same) ∙ met_fault c (input_wanted c.files) OtherInput (count_faults c) js f d
+    by (Err g) same d = met_fault c (job_wanted c.request) OtherJob (wanted_faults c (input_wanted c.files) OtherInput (count_faults c)) is f (same ∙ ap (λ (k : No). Err k) (cc d))
 
-pub header_accepted : (at : ℕ) (o : Order) (files : List (List ℕ)) (a : Accepted) (is ks : List Item) → header_met at o files is ≡ Ok ks → accepted_by a is ≡ accepted_by a ks
+pub header_accepted : (at : ℕ) (o : RequestSpec) (files : List (List ℕ)) (a : Accepted) (is ks : List Item) → header_met at o files is ≡ Ok ks → accepted_by a is ≡ accepted_by a ks
 header_accepted at o files a is ks e =
     let h = header_ok at o files is ks e in
     met_accepted at (job_wanted o) OtherJob a is h.0 h.1 ∙ met_accepted at (input_wanted files) OtherInput a h.0 ks h.2
 
 -- at least the first item is met
-pub header_few : (at : ℕ) (o : Order) (files : List (List ℕ)) (is ks : List Item) → header_met at o files is ≡ Ok ks → length ks + 1 ≤ length is
+pub header_few : (at : ℕ) (o : RequestSpec) (files : List (List ℕ)) (is ks : List Item) → header_met at o files is ≡ Ok ks → length ks + 1 ≤ length is
 header_few at o files is ks e =
     let h = header_ok at o files is ks e in
     let one = met_length at (job_wanted o) OtherJob is h.0 h.1 in
     let two = met_length at (input_wanted files) OtherInput h.0 ks h.2 in
     omega (arith, one, two)
 
-abbrev whole_case : Order → List (List ℕ) → List (List ℕ) → List ℕ → Case
-whole_case order files outputs bytes = case_at order files outputs (stop bytes)
+abbrev whole_case : RequestSpec → List (List ℕ) → List (List ℕ) → List ℕ → Case
+whole_case request files outputs bytes = case_at request files outputs (stop bytes)
 
 -- there are not as many outputs as partitions
-pub verdict_count : (o : Order) (files outputs : List (List ℕ)) (bytes : List ℕ) → (length outputs ≡ o.parts → ⊥) → verdict_of o files outputs bytes ≡ Err OutputCount
+pub verdict_count : (o : RequestSpec) (files outputs : List (List ℕ)) (bytes : List ℕ) → (length outputs ≡ o.parts → ⊥) → verdict_of o files outputs bytes ≡ Err OutputCount
 unfolding verdict_of
 verdict_count o files outputs bytes h =
     let all = wanted_faults (whole_case o files outputs bytes) (job_wanted o) OtherJob (wanted_faults (whole_case o files outputs bytes) (input_wanted files) OtherInput (count_faults (whole_case o files outputs bytes))) (items_of bytes) in
     told_some (passes (eqb (length outputs) o.parts) OutputCount ++ all) (accepted_by (accepted [] 0) (items_of bytes)) OutputCount (ap (λ b. first (passes b OutputCount ++ all)) (ne_eqb (length outputs) o.parts h))
 
 -- the faults behind the number of outputs are those of the verdict
-verdict_told : (o : Order) (files outputs : List (List ℕ)) (bytes : List ℕ) → length outputs ≡ o.parts
+verdict_told : (o : RequestSpec) (files outputs : List (List ℕ)) (bytes : List ℕ) → length outputs ≡ o.parts
     → verdict_of o files outputs bytes ≡ told_by (wanted_faults (whole_case o files outputs bytes) (job_wanted o) OtherJob (wanted_faults (whole_case o files outputs bytes) (input_wanted files) OtherInput (count_faults (whole_case o files outputs bytes))) (items_of bytes)) (accepted_by (accepted [] 0) (items_of bytes))
 unfolding verdict_of
 verdict_told o files outputs bytes h =
@@ -261,18 +261,18 @@ verdict_told o files outputs bytes h =
     ap (λ b. told_by (passes b OutputCount ++ all) (accepted_by (accepted [] 0) (items_of bytes))) (eq-eqb (length outputs) o.parts h)
 
 -- a fault of the items that the order and the files fix
-pub verdict_header : (o : Order) (files outputs : List (List ℕ)) (bytes : List ℕ) (f : No) → length outputs ≡ o.parts → header_met (stop bytes) o files (items_of bytes) ≡ Err f → verdict_of o files outputs bytes ≡ Err f
+pub verdict_header : (o : RequestSpec) (files outputs : List (List ℕ)) (bytes : List ℕ) (f : No) → length outputs ≡ o.parts → header_met (stop bytes) o files (items_of bytes) ≡ Err f → verdict_of o files outputs bytes ≡ Err f
 verdict_header o files outputs bytes f h e = verdict_told o files outputs bytes h ∙ told_some _ (accepted_by (accepted [] 0) (items_of bytes)) f (header_fault (whole_case o files outputs bytes) (items_of bytes) f e)
 
 -- a fault behind these
-pub verdict_fault : (o : Order) (files outputs : List (List ℕ)) (bytes : List ℕ) (ks : List Item) (f : No) → length outputs ≡ o.parts → header_met (stop bytes) o files (items_of bytes) ≡ Ok ks → first (count_faults (case_at o files outputs (stop bytes)) ks) ≡ Some f
+pub verdict_fault : (o : RequestSpec) (files outputs : List (List ℕ)) (bytes : List ℕ) (ks : List Item) (f : No) → length outputs ≡ o.parts → header_met (stop bytes) o files (items_of bytes) ≡ Ok ks → first (count_faults (case_at o files outputs (stop bytes)) ks) ≡ Some f
     → verdict_of o files outputs bytes ≡ Err f
 verdict_fault o files outputs bytes ks f h e d =
     verdict_told o files outputs bytes h
     ∙ told_some _ (accepted_by (accepted [] 0) (items_of bytes)) f (ap first (header_faults (whole_case o files outputs bytes) (items_of bytes) ks e) ∙ d)
 
 -- and none
-pub verdict_ok : (o : Order) (files outputs : List (List ℕ)) (bytes : List ℕ) (ks : List Item) (a : Accepted) → length outputs ≡ o.parts → header_met (stop bytes) o files (items_of bytes) ≡ Ok ks → first (count_faults (case_at o files outputs (stop bytes)) ks) ≡ None → accepted_by (accepted [] 0) ks ≡ a
+pub verdict_ok : (o : RequestSpec) (files outputs : List (List ℕ)) (bytes : List ℕ) (ks : List Item) (a : Accepted) → length outputs ≡ o.parts → header_met (stop bytes) o files (items_of bytes) ≡ Ok ks → first (count_faults (case_at o files outputs (stop bytes)) ks) ≡ None → accepted_by (accepted [] 0) ks ≡ a
     → verdict_of o files outputs bytes ≡ Ok a
 verdict_ok o files outputs bytes ks a h e d is =
     verdict_told o files outputs bytes h

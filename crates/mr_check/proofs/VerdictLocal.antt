@@ -44,13 +44,13 @@ module _ (fault : No) (tested : IsTested fault) where
     skips_tell : (skips : List RecordName) (is js : List Item) → Tells (skip_faults c skips is) → Tells (skip_faults other skips (is ++ js))
     skips_tell skips [] js h = absurd (unstopped c.stop h)
     skips_tell skips (Skip s ∷ is) js h =
-        same_tests (passes (is_past (last_of skips) s) (Fault.SkipOrder (length skips)) ++ passes (is_record (named_records c.order.split c.files) s) (Fault.NoSuchRecord (length skips)))
+        same_tests (passes (is_past (last_of skips) s) (Fault.SkipOrder (length skips)) ++ passes (is_record (named_records c.request.split c.files) s) (Fault.NoSuchRecord (length skips)))
         (skip_faults c (skips ++ s ∷ []) is) (skip_faults other (skips ++ s ∷ []) (is ++ js)) (skips_tell (skips ++ s ∷ []) is js) h
     skips_tell skips (i ∷ is) js h = parts_tell (subject_of c skips) c.stop n start (i ∷ is) js h
 
     count_tells : (is js : List Item) → Tells (count_faults c is) → Tells (count_faults other (is ++ js))
     count_tells [] js h = absurd (unstopped c.stop h)
-    count_tells (Skips k ∷ is) js h = same_tests (passes (nat_le k c.order.skips) (Fault.TooManySkips k)) (skip_faults c [] is) (skip_faults other [] (is ++ js)) (skips_tell [] is js) h
+    count_tells (Skips k ∷ is) js h = same_tests (passes (nat_le k c.request.skips) (Fault.TooManySkips k)) (skip_faults c [] is) (skip_faults other [] (is ++ js)) (skips_tell [] is js) h
     count_tells (i ∷ is) js h = absurd (unstopped c.stop h)
 
     wanted_tell : (wanted : List Item) (f : No) (b d : List Item → List No) → ((is js : List Item) → Tells (b is) → Tells (d (is ++ js)))
@@ -62,10 +62,10 @@ module _ (fault : No) (tested : IsTested fault) where
 
     all_tell : (is js : List Item) → Tells (faults c is) → Tells (faults other (is ++ js))
     all_tell is js h =
-        same_tests (passes (length c.outputs == c.order.parts) Fault.OutputCount)
-        (wanted_faults c (job_wanted c.order) Fault.OtherJob (wanted_faults c (input_wanted c.files) Fault.OtherInput (count_faults c)) is)
-        (wanted_faults other (job_wanted c.order) Fault.OtherJob (wanted_faults other (input_wanted c.files) Fault.OtherInput (count_faults other)) (is ++ js))
-        (wanted_tell (job_wanted c.order) Fault.OtherJob (wanted_faults c (input_wanted c.files) Fault.OtherInput (count_faults c)) (wanted_faults other (input_wanted c.files) Fault.OtherInput (count_faults other))
+        same_tests (passes (length c.outputs == c.request.parts) Fault.OutputCount)
+        (wanted_faults c (job_wanted c.request) Fault.OtherJob (wanted_faults c (input_wanted c.files) Fault.OtherInput (count_faults c)) is)
+        (wanted_faults other (job_wanted c.request) Fault.OtherJob (wanted_faults other (input_wanted c.files) Fault.OtherInput (count_faults other)) (is ++ js))
+        (wanted_tell (job_wanted c.request) Fault.OtherJob (wanted_faults c (input_wanted c.files) Fault.OtherInput (count_faults c)) (wanted_faults other (input_wanted c.files) Fault.OtherInput (count_faults other))
         (wanted_tell (input_wanted c.files) Fault.OtherInput (count_faults c) (count_faults other) count_tells) is js) h
 
 told_first : (faults : List No) (a : Accepted) (fault : No) → ◌≡◌ {A = Option No} (first faults) (Some fault) → ◌≡◌ {A = Result Accepted No} (told_by faults a) (Err fault)
@@ -77,4 +77,4 @@ unfolding verdict_of
 later_items_dont_matter c is more fault order end tells tested =
     let found = longest_items (bytes_from AtMagic is ++ more) is more order end refl in
     let here = all_tell fault tested c (stop (bytes_from AtMagic is ++ more)) is found.0 tells in
-    told_first _ _ fault (ap (λ (w : List Item). first (faults (case_of c.order c.files c.outputs (bytes_from AtMagic is ++ more)) w)) found.1 ∙ here)
+    told_first _ _ fault (ap (λ (w : List Item). first (faults (case_of c.request c.files c.outputs (bytes_from AtMagic is ++ more)) w)) found.1 ∙ here)

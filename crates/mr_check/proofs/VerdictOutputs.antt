@@ -2,7 +2,7 @@
 use Rattle.std.proofs.Common.{◌≡◌, ℕ, zero, suc, ◌+◌, ◌-◌, ◌≤◌, Bool, true, false, Option, Some, None, Result, Err, List, [], ◌∷◌, ◌++◌, length, drop, refl, ap, sym, ◌∙◌, subst, inl, inr, ◌⊎◌, arith, nat_eq, nat_le, ◌==◌}
 use Rattle.std.specs.List.{common_prefix_len}
 use Rattle.mr_bytes.specs.declared.Name.{Name}
-use Rattle.mr_input.specs.Files.{nth}
+use Rattle.mr_input.specs.Files.{nth_file}
 use Rattle.mr_certform.specs.declared.item.Item.{Item}
 use Rattle.mr_certform.specs.declared.item.Item.TheVariants.{Skips, Skip, Groups, Entries, Entry, End}
 use Rattle.mr_certform.specs.Spelling.{items_of, is_ended, stop}
@@ -34,12 +34,12 @@ module _ (s : Subject) (others : List (List ℕ)) where
   entry_after st None = refl
   entry_after st (Some t) = group_behind (with_entry st t st.entry) (st.entries - 1)
 
-  group_same : (p : ℕ) (st : State) (m : ℕ) → nth others p ≡ nth s.outputs p → group_tests (with s others) p st m ≡ group_tests s p st m
+  group_same : (p : ℕ) (st : State) (m : ℕ) → nth_file others p ≡ nth_file s.outputs p → group_tests (with s others) p st m ≡ group_tests s p st m
   group_same p st zero e =
       ap (λ out. text_tests out p st.from (s.text st.key st.values) ++ end_tests out p (st.groups - 1) (st.from + length (s.text st.key st.values))) e
   group_same p st (suc m) e = refl
 
-  entry_same : (p : ℕ) (st : State) (n : Name) (o : Option Triple) → nth others p ≡ nth s.outputs p → entry_tests (with s others) p st n o ≡ entry_tests s p st n o
+  entry_same : (p : ℕ) (st : State) (n : Name) (o : Option Triple) → nth_file others p ≡ nth_file s.outputs p → entry_tests (with s others) p st n o ≡ entry_tests s p st n o
   entry_same p st n None e = refl
   entry_same p st n (Some t) e = ap (λ w. order_tests s.part p st n t.key st.entry ++ w) (group_same p (with_entry st t st.entry) (st.entries - 1) e)
 
@@ -55,7 +55,7 @@ module _ (s : Subject) (others : List (List ℕ)) where
   next_entry st None = refl
   next_entry st (Some t) = next_group (with_entry st t st.entry) (st.entries - 1) ∙ next_with st t st.entry
 
-  told_same : (is : List Item) (st : State) → nth others (st.next - 1) ≡ nth s.outputs (st.next - 1) → told (with s others) st (piece is) ≡ told s st (piece is)
+  told_same : (is : List Item) (st : State) → nth_file others (st.next - 1) ≡ nth_file s.outputs (st.next - 1) → told (with s others) st (piece is) ≡ told s st (piece is)
   told_same [] st e = refl
   told_same (Groups n ∷ is) st e = refl
   told_same (End ∷ is) st e = refl
@@ -65,7 +65,7 @@ module _ (s : Subject) (others : List (List ℕ)) where
       ap (λ w. w ++ told (with s others) (after (with s others) st (Entry n)) (piece is)) (entry_same (st.next - 1) st n (named s.triples n) e)
       ∙ ap (λ w. tests s st (Entry n) ++ w)
       (ap (λ (w : State). told (with s others) w (piece is)) (entry_after st (named s.triples n))
-      ∙ told_same is (after s st (Entry n)) (subst (λ k. nth others (k - 1) ≡ nth s.outputs (k - 1)) (sym next) e))
+      ∙ told_same is (after s st (Entry n)) (subst (λ k. nth_file others (k - 1) ≡ nth_file s.outputs (k - 1)) (sym next) e))
   told_same (Entries n ∷ is) st e = told_same is (after s st (Entries n)) e
   told_same (i ∷ is) st e = told_same is st e
 
@@ -73,7 +73,7 @@ pub other_outputs_dont_matter : OtherOutputsDontMatter
 other_outputs_dont_matter s others p n is e =
     let here : p ≡ p + 1 - 1 = omega arith in
     ap (λ out. first (end_tests out p n 0 ++ told (with s others) (after s (record start { next = p }) (Groups n)) (piece is))) e
-    ∙ ap (λ w. first (end_tests (nth s.outputs p) p n 0 ++ w)) (told_same s others is (after s (record start { next = p }) (Groups n)) (subst (λ k. nth others k ≡ nth s.outputs k) here e))
+    ∙ ap (λ w. first (end_tests (nth_file s.outputs p) p n 0 ++ w)) (told_same s others is (after s (record start { next = p }) (Groups n)) (subst (λ k. nth_file others k ≡ nth_file s.outputs k) here e))
 
 -- ---- no byte behind the place of the fault
 
@@ -127,16 +127,16 @@ module _ (s : Subject) (others : List (List ℕ)) where
   text_at st = s.text st.key st.values
 
   abbrev texts : ℕ → State → List No
-  texts p st = text_tests (nth s.outputs p) p st.from (text_at st)
+  texts p st = text_tests (nth_file s.outputs p) p st.from (text_at st)
 
   abbrev ends : ℕ → State → List No
-  ends p st = end_tests (nth s.outputs p) p (st.groups - 1) (st.from + length (text_at st))
+  ends p st = end_tests (nth_file s.outputs p) p (st.groups - 1) (st.from + length (text_at st))
 
   group_fault : (p : ℕ) (st : State) (m : ℕ) (fault : No) → NotOfOutput fault → Tells fault (group_tests s p st m) → ⊥
   group_fault p st zero fault n e =
       elim (either fault (texts p st) (ends p st) e) [
-        | inl a ↦ one_fault (common_prefix_len nat_eq (text_at st) (drop st.from (nth s.outputs p)) == length (text_at st)) p (st.from + common_prefix_len nat_eq (text_at st) (drop st.from (nth s.outputs p))) fault n a
-        | inr b ↦ end_fault (nth s.outputs p) p (st.groups - 1) (st.from + length (text_at st)) fault n b.1
+        | inl a ↦ one_fault (common_prefix_len nat_eq (text_at st) (drop st.from (nth_file s.outputs p)) == length (text_at st)) p (st.from + common_prefix_len nat_eq (text_at st) (drop st.from (nth_file s.outputs p))) fault n a
+        | inr b ↦ end_fault (nth_file s.outputs p) p (st.groups - 1) (st.from + length (text_at st)) fault n b.1
       ]
   group_fault p st (suc m) fault n e = cc
 
@@ -149,31 +149,31 @@ module _ (s : Subject) (others : List (List ℕ)) where
     group_place : (p : ℕ) (st : State) (m : ℕ) → Differs (group_tests s p st m) → st.from ≤ at
     group_place p st zero e =
         elim (either (Fault.OutputDiffers q at) (texts p st) (ends p st) e) [
-          | inl a ↦ text_place (nth s.outputs p) p st.from (text_at st) q at a
-          | inr b ↦ (let place : st.from + length (text_at st) ≡ at = end_place (nth s.outputs p) p (st.groups - 1) (st.from + length (text_at st)) q at b.1 in omega arith)
+          | inl a ↦ text_place (nth_file s.outputs p) p st.from (text_at st) q at a
+          | inr b ↦ (let place : st.from + length (text_at st) ≡ at = end_place (nth_file s.outputs p) p (st.groups - 1) (st.from + length (text_at st)) q at b.1 in omega arith)
         ]
     group_place p st (suc m) e = absurd (cc)
 
-    group_fails : (p : ℕ) (st : State) (m : ℕ) → SameUpTo (at + 1) (nth s.outputs p) (nth others p) → Differs (group_tests s p st m) → Differs (group_tests (with s others) p st m)
+    group_fails : (p : ℕ) (st : State) (m : ℕ) → SameUpTo (at + 1) (nth_file s.outputs p) (nth_file others p) → Differs (group_tests s p st m) → Differs (group_tests (with s others) p st m)
     group_fails p st zero same e =
         elim (either (Fault.OutputDiffers q at) (texts p st) (ends p st) e) [
           | inl a ↦
-              (let again : text_tests (nth others p) p st.from (text_at st) ≡ texts p st = text_fails (nth s.outputs p) (nth others p) p st.from (text_at st) q at a same in
-              subst (λ w. Differs (w ++ end_tests (nth others p) p (st.groups - 1) (st.from + length (text_at st)))) (sym again)
-              (front (Fault.OutputDiffers q at) (texts p st) (end_tests (nth others p) p (st.groups - 1) (st.from + length (text_at st))) a))
+              (let again : text_tests (nth_file others p) p st.from (text_at st) ≡ texts p st = text_fails (nth_file s.outputs p) (nth_file others p) p st.from (text_at st) q at a same in
+              subst (λ w. Differs (w ++ end_tests (nth_file others p) p (st.groups - 1) (st.from + length (text_at st)))) (sym again)
+              (front (Fault.OutputDiffers q at) (texts p st) (end_tests (nth_file others p) p (st.groups - 1) (st.from + length (text_at st))) a))
           | inr b ↦
-              (let place : st.from + length (text_at st) ≡ at = end_place (nth s.outputs p) p (st.groups - 1) (st.from + length (text_at st)) q at b.1 in
-              let again : text_tests (nth others p) p st.from (text_at st) ≡ [] = text_again (nth s.outputs p) (nth others p) p st.from (at + 1) (text_at st) (omega arith) same b.0 in
-              let ended : end_tests (nth others p) p (st.groups - 1) (st.from + length (text_at st)) ≡ ends p st = end_fails (nth s.outputs p) (nth others p) p (st.groups - 1) (st.from + length (text_at st)) q at b.1 same in
-              subst (λ w. Differs (w ++ end_tests (nth others p) p (st.groups - 1) (st.from + length (text_at st)))) (sym again) (subst Differs (sym ended) b.1))
+              (let place : st.from + length (text_at st) ≡ at = end_place (nth_file s.outputs p) p (st.groups - 1) (st.from + length (text_at st)) q at b.1 in
+              let again : text_tests (nth_file others p) p st.from (text_at st) ≡ [] = text_again (nth_file s.outputs p) (nth_file others p) p st.from (at + 1) (text_at st) (omega arith) same b.0 in
+              let ended : end_tests (nth_file others p) p (st.groups - 1) (st.from + length (text_at st)) ≡ ends p st = end_fails (nth_file s.outputs p) (nth_file others p) p (st.groups - 1) (st.from + length (text_at st)) q at b.1 same in
+              subst (λ w. Differs (w ++ end_tests (nth_file others p) p (st.groups - 1) (st.from + length (text_at st)))) (sym again) (subst Differs (sym ended) b.1))
         ]
     group_fails p st (suc m) same e = absurd (cc)
 
-    group_passes : (p : ℕ) (st : State) (m : ℕ) → SameUpTo (at + 1) (nth s.outputs p) (nth others p) → (behind_group s st m).from ≤ at → group_tests s p st m ≡ [] → group_tests (with s others) p st m ≡ []
+    group_passes : (p : ℕ) (st : State) (m : ℕ) → SameUpTo (at + 1) (nth_file s.outputs p) (nth_file others p) → (behind_group s st m).from ≤ at → group_tests s p st m ≡ [] → group_tests (with s others) p st m ≡ []
     group_passes p st zero same h e =
-        none_both (text_tests (nth others p) p st.from (text_at st)) (end_tests (nth others p) p (st.groups - 1) (st.from + length (text_at st)))
-        (text_again (nth s.outputs p) (nth others p) p st.from (at + 1) (text_at st) (omega (arith, h)) same (none_left (texts p st) (ends p st) e))
-        (end_again (nth s.outputs p) (nth others p) p (st.groups - 1) (st.from + length (text_at st)) at h same (none_right (texts p st) (ends p st) e))
+        none_both (text_tests (nth_file others p) p st.from (text_at st)) (end_tests (nth_file others p) p (st.groups - 1) (st.from + length (text_at st)))
+        (text_again (nth_file s.outputs p) (nth_file others p) p st.from (at + 1) (text_at st) (omega (arith, h)) same (none_left (texts p st) (ends p st) e))
+        (end_again (nth_file s.outputs p) (nth_file others p) p (st.groups - 1) (st.from + length (text_at st)) at h same (none_right (texts p st) (ends p st) e))
     group_passes p st (suc m) same h e = refl
 
     from_with : (st : State) (t : Triple) (e : ℕ) → (with_entry st t e).from ≡ st.from
@@ -200,13 +200,13 @@ module _ (s : Subject) (others : List (List ℕ)) where
           | inr b ↦ omega (arith, group_place p (with_entry st t st.entry) (st.entries - 1) b.1, from_with st t st.entry)
         ]
 
-    entry_fails : (p : ℕ) (st : State) (n : Name) (o : Option Triple) → SameUpTo (at + 1) (nth s.outputs p) (nth others p) → Differs (entry_tests s p st n o) → Differs (entry_tests (with s others) p st n o)
+    entry_fails : (p : ℕ) (st : State) (n : Name) (o : Option Triple) → SameUpTo (at + 1) (nth_file s.outputs p) (nth_file others p) → Differs (entry_tests s p st n o) → Differs (entry_tests (with s others) p st n o)
     entry_fails p st n None same e = e
     entry_fails p st n (Some t) same e =
         same_tests (Fault.OutputDiffers q at) (order_tests s.part p st n t.key st.entry) (group_tests s p (with_entry st t st.entry) (st.entries - 1)) (group_tests (with s others) p (with_entry st t st.entry) (st.entries - 1))
         (group_fails p (with_entry st t st.entry) (st.entries - 1) same) e
 
-    entry_passes : (p : ℕ) (st : State) (n : Name) (o : Option Triple) → SameUpTo (at + 1) (nth s.outputs p) (nth others p) → (after_entry s st o).from ≤ at → entry_tests s p st n o ≡ [] → entry_tests (with s others) p st n o ≡ []
+    entry_passes : (p : ℕ) (st : State) (n : Name) (o : Option Triple) → SameUpTo (at + 1) (nth_file s.outputs p) (nth_file others p) → (after_entry s st o).from ≤ at → entry_tests s p st n o ≡ [] → entry_tests (with s others) p st n o ≡ []
     entry_passes p st n None same h e = e
     entry_passes p st n (Some t) same h e =
         none_both (order_tests s.part p st n t.key st.entry) (group_tests (with s others) p (with_entry st t st.entry) (st.entries - 1))
@@ -226,7 +226,7 @@ module _ (s : Subject) (others : List (List ℕ)) where
     told_place (Entries n ∷ is) st e = told_place is (after s st (Entries n)) e
     told_place (i ∷ is) st e = told_place is st e
 
-    told_fails : (is : List Item) (st : State) → SameUpTo (at + 1) (nth s.outputs (st.next - 1)) (nth others (st.next - 1)) → Differs (told s st (piece is)) → Differs (told (with s others) st (piece is))
+    told_fails : (is : List Item) (st : State) → SameUpTo (at + 1) (nth_file s.outputs (st.next - 1)) (nth_file others (st.next - 1)) → Differs (told s st (piece is)) → Differs (told (with s others) st (piece is))
     told_fails [] st same e = e
     told_fails (Groups n ∷ is) st same e = e
     told_fails (End ∷ is) st same e = e
@@ -237,7 +237,7 @@ module _ (s : Subject) (others : List (List ℕ)) where
           | inl a ↦ front (Fault.OutputDiffers q at) (tests (with s others) st (Entry n)) (told (with s others) (after (with s others) st (Entry n)) (piece is)) (entry_fails (st.next - 1) st n (named s.triples n) same a)
           | inr b ↦
               (let passes_ = entry_passes (st.next - 1) st n (named s.triples n) same (told_place is (after s st (Entry n)) b.1) b.0 in
-              let rest = told_fails is (after s st (Entry n)) (subst (λ k. SameUpTo (at + 1) (nth s.outputs (k - 1)) (nth others (k - 1))) (sym next) same) b.1 in
+              let rest = told_fails is (after s st (Entry n)) (subst (λ k. SameUpTo (at + 1) (nth_file s.outputs (k - 1)) (nth_file others (k - 1))) (sym next) same) b.1 in
               subst (λ w. Differs (w ++ told (with s others) (after (with s others) st (Entry n)) (piece is))) (sym passes_)
               (subst (λ (w : State). Differs (told (with s others) w (piece is))) (sym moved) rest))
         ]
@@ -287,20 +287,20 @@ module _ (s : Subject) (others : List (List ℕ)) where
   fault_later (Entries n ∷ is) st = let h = fault_later is (after s st (Entries n)) in record { from = h.from; groups = h.groups }
   fault_later (i ∷ is) st = fault_later is st
 
-  none_by : (p : ℕ) (st : State) (m groups from : ℕ) → SameBy groups from (nth s.outputs p) (nth others p) → (behind_group s st m).from ≤ from → ((behind_group s st m).groups ≡ 0 → groups ≡ 0)
+  none_by : (p : ℕ) (st : State) (m groups from : ℕ) → SameBy groups from (nth_file s.outputs p) (nth_file others p) → (behind_group s st m).from ≤ from → ((behind_group s st m).groups ≡ 0 → groups ≡ 0)
       → group_tests s p st m ≡ [] → group_tests (with s others) p st m ≡ []
   none_by p st m zero from same h g e = group_same s others p st m same ∙ e
   none_by p st (suc m) (suc groups) from same h g e = refl
   none_by p st zero (suc groups) from same h g e =
-      none_both (text_tests (nth others p) p st.from (text_at st)) (end_tests (nth others p) p (st.groups - 1) (st.from + length (text_at st)))
-      (text_again (nth s.outputs p) (nth others p) p st.from from (text_at st) h same (none_left (texts p st) (ends p st) e))
+      none_both (text_tests (nth_file others p) p st.from (text_at st)) (end_tests (nth_file others p) p (st.groups - 1) (st.from + length (text_at st)))
+      (text_again (nth_file s.outputs p) (nth_file others p) p st.from from (text_at st) h same (none_left (texts p st) (ends p st) e))
       (more (st.groups - 1) refl)
     where
-      more : (k : ℕ) → st.groups - 1 ≡ k → end_tests (nth others p) p k (st.from + length (text_at st)) ≡ []
+      more : (k : ℕ) → st.groups - 1 ≡ k → end_tests (nth_file others p) p k (st.from + length (text_at st)) ≡ []
       more zero is = let none : suc groups ≡ 0 = g is in absurd (omega arith)
       more (suc k) is = refl
 
-  entry_by : (p : ℕ) (st : State) (n : Name) (o : Option Triple) (groups from : ℕ) → SameBy groups from (nth s.outputs p) (nth others p) → (after_entry s st o).from ≤ from → ((after_entry s st o).groups ≡ 0 → groups ≡ 0)
+  entry_by : (p : ℕ) (st : State) (n : Name) (o : Option Triple) (groups from : ℕ) → SameBy groups from (nth_file s.outputs p) (nth_file others p) → (after_entry s st o).from ≤ from → ((after_entry s st o).groups ≡ 0 → groups ≡ 0)
       → entry_tests s p st n o ≡ [] → entry_tests (with s others) p st n o ≡ []
   entry_by p st n None groups from same h g e = e
   entry_by p st n (Some t) groups from same h g e =
@@ -318,7 +318,7 @@ module _ (s : Subject) (others : List (List ℕ)) where
         ]
 
     abbrev SameAt : State → State → Type 0
-    SameAt st last = SameBy last.groups last.from (nth s.outputs (st.next - 1)) (nth others (st.next - 1))
+    SameAt st last = SameBy last.groups last.from (nth_file s.outputs (st.next - 1)) (nth_file others (st.next - 1))
 
     told_other : (is : List Item) (st : State) → SameAt st (before_fault s st (piece is)) → Tells fault (told s st (piece is)) → Tells fault (told (with s others) st (piece is))
     told_other [] st same e = e
@@ -334,7 +334,7 @@ module _ (s : Subject) (others : List (List ℕ)) where
               (let here : SameAt st (before_fault s (after s st (Entry n)) (piece is)) = subst (λ ts. SameAt st (unless ts st (before_fault s (after s st (Entry n)) (piece is)))) b.0 same in
               let later = fault_later is (after s st (Entry n)) in
               let none = entry_by (st.next - 1) st n (named s.triples n) last.groups last.from here later.from later.groups b.0 in
-              let there : SameAt (after s st (Entry n)) (before_fault s (after s st (Entry n)) (piece is)) = subst (λ k. SameBy last.groups last.from (nth s.outputs (k - 1)) (nth others (k - 1))) (sym next) here in
+              let there : SameAt (after s st (Entry n)) (before_fault s (after s st (Entry n)) (piece is)) = subst (λ k. SameBy last.groups last.from (nth_file s.outputs (k - 1)) (nth_file others (k - 1))) (sym next) here in
               let rest = told_other is (after s st (Entry n)) there b.1 in
               subst (λ w. Tells fault (w ++ told (with s others) (after (with s others) st (Entry n)) (piece is))) (sym none)
               (subst (λ (w : State). Tells fault (told (with s others) w (piece is))) (sym moved) rest))
@@ -343,7 +343,7 @@ module _ (s : Subject) (others : List (List ℕ)) where
     told_other (i ∷ is) st same e = told_other is st same e
 
   abbrev SameBehind : State → State → Type 0
-  SameBehind st last = SameBy last.groups last.from (nth s.outputs (st.next - 1)) (nth others (st.next - 1))
+  SameBehind st last = SameBy last.groups last.from (nth_file s.outputs (st.next - 1)) (nth_file others (st.next - 1))
 
   -- where nothing is told
   told_none : (is : List Item) (st : State) → SameBehind st (before_fault s st (piece is)) → told s st (piece is) ≡ [] → told (with s others) st (piece is) ≡ []
@@ -358,7 +358,7 @@ module _ (s : Subject) (others : List (List ℕ)) where
       let here : SameBehind st (before_fault s (after s st (Entry n)) (piece is)) = subst (λ ts. SameBehind st (unless ts st (before_fault s (after s st (Entry n)) (piece is)))) tested same in
       let later = fault_later is (after s st (Entry n)) in
       let none = entry_by (st.next - 1) st n (named s.triples n) last.groups last.from here later.from later.groups tested in
-      let there : SameBehind (after s st (Entry n)) (before_fault s (after s st (Entry n)) (piece is)) = subst (λ k. SameBy last.groups last.from (nth s.outputs (k - 1)) (nth others (k - 1))) (sym next) here in
+      let there : SameBehind (after s st (Entry n)) (before_fault s (after s st (Entry n)) (piece is)) = subst (λ k. SameBy last.groups last.from (nth_file s.outputs (k - 1)) (nth_file others (k - 1))) (sym next) here in
       let rest = told_none is (after s st (Entry n)) there (none_right (tests s st (Entry n)) (told s (after s st (Entry n)) (piece is)) e) in
       none_both (tests (with s others) st (Entry n)) (told (with s others) (after (with s others) st (Entry n)) (piece is)) none (ap (λ (w : State). told (with s others) w (piece is)) moved ∙ rest)
   told_none (Entries n ∷ is) st same e = told_none is (after s st (Entries n)) same e
@@ -372,74 +372,74 @@ opened p n = record start { next = p + 1; groups = n; group = 0; key_before = No
 here_is : (p : ℕ) → p ≡ p + 1 - 1
 here_is p = omega arith
 
-part_differs : (s : Subject) (others : List (List ℕ)) (p n : ℕ) (is : List Item) (q at : ℕ) → SameUpTo (at + 1) (nth s.outputs p) (nth others p)
-    → Tells (Fault.OutputDiffers q at) (end_tests (nth s.outputs p) p n 0 ++ told s (opened p n) (piece is))
-    → Tells (Fault.OutputDiffers q at) (end_tests (nth others p) p n 0 ++ told (with s others) (opened p n) (piece is))
+part_differs : (s : Subject) (others : List (List ℕ)) (p n : ℕ) (is : List Item) (q at : ℕ) → SameUpTo (at + 1) (nth_file s.outputs p) (nth_file others p)
+    → Tells (Fault.OutputDiffers q at) (end_tests (nth_file s.outputs p) p n 0 ++ told s (opened p n) (piece is))
+    → Tells (Fault.OutputDiffers q at) (end_tests (nth_file others p) p n 0 ++ told (with s others) (opened p n) (piece is))
 part_differs s others p n is q at same e =
-    elim (either (Fault.OutputDiffers q at) (end_tests (nth s.outputs p) p n 0) (told s (opened p n) (piece is)) e) [
+    elim (either (Fault.OutputDiffers q at) (end_tests (nth_file s.outputs p) p n 0) (told s (opened p n) (piece is)) e) [
       | inl a ↦
-          (let again : end_tests (nth others p) p n 0 ≡ end_tests (nth s.outputs p) p n 0 = end_fails (nth s.outputs p) (nth others p) p n 0 q at a same in
+          (let again : end_tests (nth_file others p) p n 0 ≡ end_tests (nth_file s.outputs p) p n 0 = end_fails (nth_file s.outputs p) (nth_file others p) p n 0 q at a same in
           subst (λ w. Tells (Fault.OutputDiffers q at) (w ++ told (with s others) (opened p n) (piece is))) (sym again)
-          (front (Fault.OutputDiffers q at) (end_tests (nth s.outputs p) p n 0) (told (with s others) (opened p n) (piece is)) a))
+          (front (Fault.OutputDiffers q at) (end_tests (nth_file s.outputs p) p n 0) (told (with s others) (opened p n) (piece is)) a))
       | inr b ↦
-          (let none : end_tests (nth others p) p n 0 ≡ [] = end_again (nth s.outputs p) (nth others p) p n 0 at (omega arith) same b.0 in
-          let rest = told_fails s others q at is (opened p n) (subst (λ k. SameUpTo (at + 1) (nth s.outputs k) (nth others k)) (here_is p) same) b.1 in
+          (let none : end_tests (nth_file others p) p n 0 ≡ [] = end_again (nth_file s.outputs p) (nth_file others p) p n 0 at (omega arith) same b.0 in
+          let rest = told_fails s others q at is (opened p n) (subst (λ k. SameUpTo (at + 1) (nth_file s.outputs k) (nth_file others k)) (here_is p) same) b.1 in
           subst (λ w. Tells (Fault.OutputDiffers q at) (w ++ told (with s others) (opened p n) (piece is))) (sym none) rest)
     ]
 
 -- the state in which the first fault of a partition is told
 abbrev last_of_part : Subject → ℕ → ℕ → List Item → State
-last_of_part s p n is = unless (end_tests (nth s.outputs p) p n 0) (record start { next = p }) (before_fault s (opened p n) (piece is))
+last_of_part s p n is = unless (end_tests (nth_file s.outputs p) p n 0) (record start { next = p }) (before_fault s (opened p n) (piece is))
 
 -- a partition of no group ends where it did
-ended : (s : Subject) (others : List (List ℕ)) (p n groups from : ℕ) → (n ≡ 0 → groups ≡ 0) → SameBy groups from (nth s.outputs p) (nth others p)
-    → end_tests (nth s.outputs p) p n 0 ≡ [] → end_tests (nth others p) p n 0 ≡ []
+ended : (s : Subject) (others : List (List ℕ)) (p n groups from : ℕ) → (n ≡ 0 → groups ≡ 0) → SameBy groups from (nth_file s.outputs p) (nth_file others p)
+    → end_tests (nth_file s.outputs p) p n 0 ≡ [] → end_tests (nth_file others p) p n 0 ≡ []
 ended s others p (suc n) groups from g same e = refl
 ended s others p zero groups from g same e =
-    let whole : nth others p ≡ nth s.outputs p = subst (λ w. SameBy w from (nth s.outputs p) (nth others p)) (g refl) same in
+    let whole : nth_file others p ≡ nth_file s.outputs p = subst (λ w. SameBy w from (nth_file s.outputs p) (nth_file others p)) (g refl) same in
     ap (λ out. end_tests out p zero 0) whole ∙ e
 
 -- where nothing is told before its items
 record IsOpened (s : Subject) (others : List (List ℕ)) (p n : ℕ) (is : List Item) : Type 0 where
-  none : end_tests (nth others p) p n 0 ≡ []
-  same : (let last = before_fault s (opened p n) (piece is) in SameBy last.groups last.from (nth s.outputs (p + 1 - 1)) (nth others (p + 1 - 1)))
+  none : end_tests (nth_file others p) p n 0 ≡ []
+  same : (let last = before_fault s (opened p n) (piece is) in SameBy last.groups last.from (nth_file s.outputs (p + 1 - 1)) (nth_file others (p + 1 - 1)))
 
-is_opened : (s : Subject) (others : List (List ℕ)) (p n : ℕ) (is : List Item) → (let last = last_of_part s p n is in SameBy last.groups last.from (nth s.outputs p) (nth others p))
-    → end_tests (nth s.outputs p) p n 0 ≡ [] → IsOpened s others p n is
+is_opened : (s : Subject) (others : List (List ℕ)) (p n : ℕ) (is : List Item) → (let last = last_of_part s p n is in SameBy last.groups last.from (nth_file s.outputs p) (nth_file others p))
+    → end_tests (nth_file s.outputs p) p n 0 ≡ [] → IsOpened s others p n is
 is_opened s others p n is same e =
     let last : State = before_fault s (opened p n) (piece is) in
-    let here : SameBy last.groups last.from (nth s.outputs p) (nth others p) =
-    subst (λ ts. (let w = unless ts (record start { next = p }) (before_fault s (opened p n) (piece is)) in SameBy w.groups w.from (nth s.outputs p) (nth others p))) e same in
+    let here : SameBy last.groups last.from (nth_file s.outputs p) (nth_file others p) =
+    subst (λ ts. (let w = unless ts (record start { next = p }) (before_fault s (opened p n) (piece is)) in SameBy w.groups w.from (nth_file s.outputs p) (nth_file others p))) e same in
     record {
       none = ended s others p n last.groups last.from (fault_later s others is (opened p n)).groups here e;
-      same = subst (λ k. SameBy last.groups last.from (nth s.outputs k) (nth others k)) (here_is p) here;
+      same = subst (λ k. SameBy last.groups last.from (nth_file s.outputs k) (nth_file others k)) (here_is p) here;
     }
 
 part_other : (s : Subject) (others : List (List ℕ)) (p n : ℕ) (is : List Item) (fault : No) → NotOfOutput fault
-    → (let last = last_of_part s p n is in SameBy last.groups last.from (nth s.outputs p) (nth others p))
-    → Tells fault (end_tests (nth s.outputs p) p n 0 ++ told s (opened p n) (piece is))
-    → Tells fault (end_tests (nth others p) p n 0 ++ told (with s others) (opened p n) (piece is))
+    → (let last = last_of_part s p n is in SameBy last.groups last.from (nth_file s.outputs p) (nth_file others p))
+    → Tells fault (end_tests (nth_file s.outputs p) p n 0 ++ told s (opened p n) (piece is))
+    → Tells fault (end_tests (nth_file others p) p n 0 ++ told (with s others) (opened p n) (piece is))
 part_other s others p n is fault not_output same e =
-    elim (either fault (end_tests (nth s.outputs p) p n 0) (told s (opened p n) (piece is)) e) [
-      | inl a ↦ absurd (end_fault (nth s.outputs p) p n 0 fault not_output a)
+    elim (either fault (end_tests (nth_file s.outputs p) p n 0) (told s (opened p n) (piece is)) e) [
+      | inl a ↦ absurd (end_fault (nth_file s.outputs p) p n 0 fault not_output a)
       | inr b ↦
           (let open_ = is_opened s others p n is same b.0 in
           subst (λ w. Tells fault (w ++ told (with s others) (opened p n) (piece is))) (sym open_.none) (told_other s others fault not_output is (opened p n) open_.same b.1))
     ]
 
 part_none : (s : Subject) (others : List (List ℕ)) (p n : ℕ) (is : List Item)
-    → (let last = last_of_part s p n is in SameBy last.groups last.from (nth s.outputs p) (nth others p))
-    → end_tests (nth s.outputs p) p n 0 ++ told s (opened p n) (piece is) ≡ []
-    → end_tests (nth others p) p n 0 ++ told (with s others) (opened p n) (piece is) ≡ []
+    → (let last = last_of_part s p n is in SameBy last.groups last.from (nth_file s.outputs p) (nth_file others p))
+    → end_tests (nth_file s.outputs p) p n 0 ++ told s (opened p n) (piece is) ≡ []
+    → end_tests (nth_file others p) p n 0 ++ told (with s others) (opened p n) (piece is) ≡ []
 part_none s others p n is same e =
-    let open_ = is_opened s others p n is same (none_left (end_tests (nth s.outputs p) p n 0) (told s (opened p n) (piece is)) e) in
-    none_both (end_tests (nth others p) p n 0) (told (with s others) (opened p n) (piece is)) open_.none
-    (told_none s others is (opened p n) open_.same (none_right (end_tests (nth s.outputs p) p n 0) (told s (opened p n) (piece is)) e))
+    let open_ = is_opened s others p n is same (none_left (end_tests (nth_file s.outputs p) p n 0) (told s (opened p n) (piece is)) e) in
+    none_both (end_tests (nth_file others p) p n 0) (told (with s others) (opened p n) (piece is)) open_.none
+    (told_none s others is (opened p n) open_.same (none_right (end_tests (nth_file s.outputs p) p n 0) (told s (opened p n) (piece is)) e))
 
 pub bytes_behind_dont_matter : BytesBehindDontMatter
 bytes_behind_dont_matter s others p n is fault e same = by fault same e
   where
-    by : (fault : No) → SameFor fault (before_fault s (record start { next = p }) (Groups n ∷ piece is)) (nth s.outputs p) (nth others p)
+    by : (fault : No) → SameFor fault (before_fault s (record start { next = p }) (Groups n ∷ piece is)) (nth_file s.outputs p) (nth_file others p)
         → part_fault s p (Groups n ∷ piece is) ≡ Some fault → part_fault (with s others) p (Groups n ∷ piece is) ≡ Some fault
     by (Fault.OutputDiffers q at) same e = part_differs s others p n is q at same e
     by fault same e = part_other s others p n is fault tt same e
@@ -455,14 +455,14 @@ least_same s others [] p same = refl
 least_same s others (Groups n ∷ is) p same = by (part_fault s p (Groups n ∷ piece is)) refl same (least_same s others is (p + 1))
   where
     by : (o : Option No) → part_fault s p (Groups n ∷ piece is) ≡ o
-        → SameInPart o (before_fault s (record start { next = p }) (Groups n ∷ piece is)) (nth s.outputs p) (nth others p) (SameFrom s (p + 1) (parts_in is) others)
+        → SameInPart o (before_fault s (record start { next = p }) (Groups n ∷ piece is)) (nth_file s.outputs p) (nth_file others p) (SameFrom s (p + 1) (parts_in is) others)
         → (SameFrom s (p + 1) (parts_in is) others → least_fault (with s others) (p + 1) (parts_in is) ≡ least_fault s (p + 1) (parts_in is))
         → or_else (part_fault (with s others) p (Groups n ∷ piece is)) (least_fault (with s others) (p + 1) (parts_in is)) ≡ or_else (part_fault s p (Groups n ∷ piece is)) (least_fault s (p + 1) (parts_in is))
     by (Some fault) e same rest =
         let there = bytes_behind_dont_matter s others p n is fault e same in
         ap (λ o. or_else o (least_fault (with s others) (p + 1) (parts_in is))) there ∙ ap (λ o. or_else o (least_fault s (p + 1) (parts_in is))) (sym e)
     by None e same rest =
-        let none : end_tests (nth s.outputs p) p n 0 ++ told s (opened p n) (piece is) ≡ [] = first_none _ e in
+        let none : end_tests (nth_file s.outputs p) p n 0 ++ told s (opened p n) (piece is) ≡ [] = first_none _ e in
         let there = part_none s others p n is same.0 none in
         ap (λ w. or_else (first w) (least_fault (with s others) (p + 1) (parts_in is))) there
         ∙ (rest same.1 ∙ ap (λ o. or_else o (least_fault s (p + 1) (parts_in is))) (sym e))
@@ -477,20 +477,20 @@ one_verdict (x ∷ xs) (y ∷ ys) a e = let same : x ≡ y = cc in ap (λ (w : N
 
 front_same : (c : Case) (others : List (List ℕ)) (is : List Item) → length others ≡ length c.outputs → front_faults (record c { outputs = others }) is ≡ front_faults c is
 front_same c others is e =
-    ap (λ (n : ℕ). passes (n == c.order.parts) Fault.OutputCount ++ wanted_faults (record c { outputs = others }) (job_wanted c.order) Fault.OtherJob (wanted_faults (record c { outputs = others }) (input_wanted c.files) Fault.OtherInput (front_count (record c { outputs = others }))) is) e
-    ∙ ap (λ w. passes (length c.outputs == c.order.parts) Fault.OutputCount ++ w)
-    (wanted_same (job_wanted c.order) Fault.OtherJob (wanted_faults (record c { outputs = others }) (input_wanted c.files) Fault.OtherInput (front_count (record c { outputs = others }))) (wanted_faults c (input_wanted c.files) Fault.OtherInput (front_count c))
+    ap (λ (n : ℕ). passes (n == c.request.parts) Fault.OutputCount ++ wanted_faults (record c { outputs = others }) (job_wanted c.request) Fault.OtherJob (wanted_faults (record c { outputs = others }) (input_wanted c.files) Fault.OtherInput (front_count (record c { outputs = others }))) is) e
+    ∙ ap (λ w. passes (length c.outputs == c.request.parts) Fault.OutputCount ++ w)
+    (wanted_same (job_wanted c.request) Fault.OtherJob (wanted_faults (record c { outputs = others }) (input_wanted c.files) Fault.OtherInput (front_count (record c { outputs = others }))) (wanted_faults c (input_wanted c.files) Fault.OtherInput (front_count c))
     (wanted_same (input_wanted c.files) Fault.OtherInput (front_count (record c { outputs = others })) (front_count c) count_same) is)
   where
     skips_same : (done : List RecordName) (is : List Item) → front_skips (record c { outputs = others }) done is ≡ front_skips c done is
     skips_same done [] = refl
     skips_same done (Skip s ∷ is) =
-        ap (λ w. (passes (is_past (last_of done) s) (Fault.SkipOrder (length done)) ++ passes (is_record (named_records c.order.split c.files) s) (Fault.NoSuchRecord (length done))) ++ w) (skips_same (done ++ s ∷ []) is)
+        ap (λ w. (passes (is_past (last_of done) s) (Fault.SkipOrder (length done)) ++ passes (is_record (named_records c.request.split c.files) s) (Fault.NoSuchRecord (length done))) ++ w) (skips_same (done ++ s ∷ []) is)
     skips_same done (i ∷ is) = refl
 
     count_same : (is : List Item) → front_count (record c { outputs = others }) is ≡ front_count c is
     count_same [] = refl
-    count_same (Skips n ∷ is) = ap (λ w. passes (nat_le n c.order.skips) (Fault.TooManySkips n) ++ w) (skips_same [] is)
+    count_same (Skips n ∷ is) = ap (λ w. passes (nat_le n c.request.skips) (Fault.TooManySkips n) ++ w) (skips_same [] is)
     count_same (i ∷ is) = refl
 
     wanted_same : (wanted : List Item) (fault : No) (a b : List Item → List No) → ((is : List Item) → a is ≡ b is) → (is : List Item)
@@ -505,15 +505,15 @@ back_same s others at n false = refl
 
 pub only_compared_matters : OnlyComparedMatters
 unfolding verdict_of
-only_compared_matters order files outputs others bytes are_bytes long same =
+only_compared_matters request files outputs others bytes are_bytes long same =
     let is : List Item = items_of bytes in
-    let s : Subject = subject_of (case_of order files outputs bytes) (skips_in (items_of bytes)) in
-    one_verdict (faults (case_of order files others bytes) (items_of bytes)) (faults (case_of order files outputs bytes) (items_of bytes)) (accepted_by (record { skips = []; pairs = 0 }) (items_of bytes))
-    (fault_by_place order files others bytes are_bytes
-    ∙ (ap (λ w. or_else (first w) (or_else (least_fault (with s others) 0 (parts_in is)) (back_fault (with s others) (stop bytes) (entries_in is) (is_ended is)))) (front_same (case_of order files outputs bytes) others (items_of bytes) long)
-    ∙ (behind_front (first (front_faults (case_of order files outputs bytes) (items_of bytes))) (least_fault (with s others) 0 (parts_in is)) (least_fault s 0 (parts_in is)) (back_fault (with s others) (stop bytes) (entries_in is) (is_ended is)) (back_fault s (stop bytes) (entries_in is) (is_ended is))
+    let s : Subject = subject_of (case_of request files outputs bytes) (skips_in (items_of bytes)) in
+    one_verdict (faults (case_of request files others bytes) (items_of bytes)) (faults (case_of request files outputs bytes) (items_of bytes)) (accepted_by (record { skips = []; pairs = 0 }) (items_of bytes))
+    (fault_by_place request files others bytes are_bytes
+    ∙ (ap (λ w. or_else (first w) (or_else (least_fault (with s others) 0 (parts_in is)) (back_fault (with s others) (stop bytes) (entries_in is) (is_ended is)))) (front_same (case_of request files outputs bytes) others (items_of bytes) long)
+    ∙ (behind_front (first (front_faults (case_of request files outputs bytes) (items_of bytes))) (least_fault (with s others) 0 (parts_in is)) (least_fault s 0 (parts_in is)) (back_fault (with s others) (stop bytes) (entries_in is) (is_ended is)) (back_fault s (stop bytes) (entries_in is) (is_ended is))
     (SameFrom s 0 (parts_in is) others) (least_same s others (items_of bytes) 0) (back_same s others (stop bytes) (entries_in is) (is_ended is)) same
-    ∙ sym (fault_by_place order files outputs bytes are_bytes))))
+    ∙ sym (fault_by_place request files outputs bytes are_bytes))))
   where
     behind_front : (o a b d e : Option No) (Same : Type 0) → (Same → a ≡ b) → d ≡ e → SameUnless o Same → or_else o (or_else a d) ≡ or_else o (or_else b e)
     behind_front (Some fault) a b d e Same f g same = refl

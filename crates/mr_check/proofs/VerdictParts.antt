@@ -7,11 +7,11 @@ use Rattle.std.specs.declared.cmp.Ordering.TheVariants.{Less}
 use Rattle.mr_bytes.specs.declared.Name.{Name}
 use Rattle.mr_bytes.specs.Lists.{Rises}
 use Rattle.mr_bytes.specs.Order.{key_order}
-use Rattle.mr_input.specs.Files.{nth}
+use Rattle.mr_input.specs.Files.{nth_file}
 use Rattle.mr_certform.specs.declared.item.Item.{Item}
 use Rattle.mr_certform.specs.declared.item.Item.TheVariants.{Entry, End}
 use Rattle.mr_certform.specs.Value.{group_items, part_items}
-use Rattle.mr_sequential.specs.Good.{key_of, group_text, IsGoodGroup, IsGoodPart, entries_of}
+use Rattle.mr_sequential.specs.Good.{key_of, text_under, IsGoodGroup, IsGoodPart, entries_of}
 use Rattle.mr_check.specs.declared.fault.No.{No}
 use Rattle.mr_check.specs.Verdict.{State, Subject, tests, after, text_tests, end_tests, is_key_past, part_faults}
 use Rattle.mr_check.specs.VerdictLaws.{told, behind}
@@ -39,17 +39,17 @@ module _ (s : Subject) where
     groups : AllByRecursion (IsGoodGroup s.part s.triples p) gs
     keys_rise : Rises key_order (map (key_of s.triples) gs)
     past : AllByRecursion (λ k. is_key_past before k ≡ true) (map (key_of s.triples) gs)
-    output_is : rest ≡ flat_map (group_text s.text s.triples) gs
+    output_is : rest ≡ flat_map (text_under s.text s.triples) gs
 
   -- the test of the output's end where no group follows, and then what is told of the groups
   abbrev end_told : ℕ → ℕ → ℕ → List No
-  end_told next groups from = end_tests (nth s.outputs (next - 1)) (next - 1) groups from
+  end_told next groups from = end_tests (nth_file s.outputs (next - 1)) (next - 1) groups from
 
   abbrev groups_told : State → List (List Name) → List No
   groups_told st gs = end_told st.next (length gs) st.from ++ told s st (flat_map group_items gs)
 
   abbrev Rest : List (List Name) → ℕ → Option (List ℕ) → ℕ → Type 0
-  Rest gs next before from = AreGroups (next - 1) before gs (drop from (nth s.outputs (next - 1)))
+  Rest gs next before from = AreGroups (next - 1) before gs (drop from (nth_file s.outputs (next - 1)))
 
   past_later : (before : Option (List ℕ)) (k j : List ℕ) → is_key_past before k ≡ true → key_order k j ≡ Less → is_key_past before j ≡ true
   past_later None k j h l = refl
@@ -77,12 +77,12 @@ module _ (s : Subject) where
 
   groups_good : (gs : List (List Name)) (st : State) → HaveEntries gs → st.groups ≡ length gs → groups_told st gs ≡ [] → Rest gs st.next st.key_before st.from
   groups_good [] st some h none =
-      record { groups = tt; keys_rise = tt; past = tt; output_is = end_stands (nth s.outputs (st.next - 1)) (st.next - 1) st.from (none_left (end_told st.next zero st.from) [] none) }
+      record { groups = tt; keys_rise = tt; past = tt; output_is = end_stands (nth_file s.outputs (st.next - 1)) (st.next - 1) st.from (none_left (end_told st.next zero st.from) [] none) }
   groups_good (ns ∷ gs) st some h none =
-      let text : List ℕ = group_text s.text s.triples ns in
+      let text : List ℕ = text_under s.text s.triples ns in
       let k : List ℕ = key_of s.triples ns in
       let new : State = behind s st (group_items ns) in
-      let output : List ℕ = nth s.outputs (st.next - 1) in
+      let output : List ℕ = nth_file s.outputs (st.next - 1) in
       let both : told s st (group_items ns) ++ told s new (flat_map group_items gs) ≡ [] = sym (told_append s st (group_items ns) (flat_map group_items gs)) ∙ none in
       let here = none_left (told s st (group_items ns)) _ both in
       let good = group_good s st ns some.0 here in
@@ -110,23 +110,23 @@ module _ (s : Subject) where
 
   groups_pass : (gs : List (List Name)) (st : State) → st.groups ≡ length gs → Rest gs st.next st.key_before st.from → ArePassed st gs
   groups_pass [] st h are = record {
-    none = none_both (end_told st.next zero st.from) [] (end_passes (nth s.outputs (st.next - 1)) (st.next - 1) st.from are.output_is) refl;
+    none = none_both (end_told st.next zero st.from) [] (end_passes (nth_file s.outputs (st.next - 1)) (st.next - 1) st.from are.output_is) refl;
     next = refl;
     named = omega arith;
   }
   groups_pass (ns ∷ gs) st h are =
-      let text : List ℕ = group_text s.text s.triples ns in
+      let text : List ℕ = text_under s.text s.triples ns in
       let k : List ℕ = key_of s.triples ns in
       let new : State = behind s st (group_items ns) in
-      let output : List ℕ = nth s.outputs (st.next - 1) in
+      let output : List ℕ = nth_file s.outputs (st.next - 1) in
       let told_is = group_told s st ns are.groups.0 are.past.0 in
       let b = told_is.1 in
       let fewer : new.groups ≡ length gs = omega (arith, b.groups, h) in
       let rest : Rest gs st.next (Some k) (st.from + length text) =
-      record { groups = are.groups.1; keys_rise = are.keys_rise.1; past = less_past k (map (key_of s.triples) gs) are.keys_rise.0; output_is = text_behind output st.from text (flat_map (group_text s.text s.triples) gs) are.output_is } in
+      record { groups = are.groups.1; keys_rise = are.keys_rise.1; past = less_past k (map (key_of s.triples) gs) are.keys_rise.0; output_is = text_behind output st.from text (flat_map (text_under s.text s.triples) gs) are.output_is } in
       let later = groups_pass gs new fewer (subst3 (Rest gs) (sym b.next) (sym b.key_before) (sym b.from) rest) in
       let ends : end_told st.next (st.groups - 1) (st.from + length text) ≡ [] = sym (end_behind st new k text (length ns) (length gs) b h) ∙ none_left (end_told new.next (length gs) new.from) _ later.none in
-      let texts : text_told s st text ≡ [] = none_both (text_tests output (st.next - 1) st.from text) _ (text_passes output (st.next - 1) st.from text (flat_map (group_text s.text s.triples) gs) are.output_is) ends in
+      let texts : text_told s st text ≡ [] = none_both (text_tests output (st.next - 1) st.from text) _ (text_passes output (st.next - 1) st.from text (flat_map (text_under s.text s.triples) gs) are.output_is) ends in
       let moved : behind s st (flat_map group_items (ns ∷ gs)) ≡ behind s new (flat_map group_items gs) = behind_append s st (group_items ns) (flat_map group_items gs) in
       record {
         none = told_append s st (group_items ns) (flat_map group_items gs) ∙ none_both (told s st (group_items ns)) _ (told_is.0 ∙ texts) (none_right (end_told new.next (length gs) new.from) _ later.none);
@@ -143,10 +143,10 @@ module _ (s : Subject) where
   next_is n = omega arith
 
   part_told_is : (st : State) (gs : List (List Name)) → told s st (part_items gs) ≡ groups_told (opened st (length gs)) gs
-  part_told_is st gs = ap (λ n. end_tests (nth s.outputs n) n (length gs) 0 ++ told s (opened st (length gs)) (flat_map group_items gs)) (sym (next_is st.next))
+  part_told_is st gs = ap (λ n. end_tests (nth_file s.outputs n) n (length gs) 0 ++ told s (opened st (length gs)) (flat_map group_items gs)) (sym (next_is st.next))
 
   abbrev Part : ℕ → List (List Name) → Type 0
-  Part p gs = IsGoodPart s.part s.text s.triples p gs (nth s.outputs p)
+  Part p gs = IsGoodPart s.part s.text s.triples p gs (nth_file s.outputs p)
 
   part_good : (st : State) (gs : List (List Name)) → HaveEntries gs → told s st (part_items gs) ≡ [] → Part st.next gs
   part_good st gs some none =
@@ -161,7 +161,7 @@ module _ (s : Subject) where
   -- ---- all partitions
 
   pub parts_good : (parts : List (List (List Name))) (st : State) → AllByRecursion HaveEntries parts → told s st (flat_map part_items parts) ≡ []
-      → EachFrom (λ p gs. IsGoodPart s.part s.text s.triples p gs (nth s.outputs p)) st.next parts
+      → EachFrom (λ p gs. IsGoodPart s.part s.text s.triples p gs (nth_file s.outputs p)) st.next parts
   parts_good [] st some none = tt
   parts_good (gs ∷ parts) st some none =
       let new : State = behind s st (part_items gs) in
@@ -176,7 +176,7 @@ module _ (s : Subject) where
     pub none : told s st (flat_map part_items parts) ≡ []
     pub named : (behind s st (flat_map part_items parts)).named ≡ st.named + length (entries_of parts)
 
-  pub parts_pass : (parts : List (List (List Name))) (st : State) → EachFrom (λ p gs. IsGoodPart s.part s.text s.triples p gs (nth s.outputs p)) st.next parts → PartsPassed st parts
+  pub parts_pass : (parts : List (List (List Name))) (st : State) → EachFrom (λ p gs. IsGoodPart s.part s.text s.triples p gs (nth_file s.outputs p)) st.next parts → PartsPassed st parts
   parts_pass [] st each = record { none = refl; named = omega arith }
   parts_pass (gs ∷ parts) st each =
       let new : State = behind s st (part_items gs) in

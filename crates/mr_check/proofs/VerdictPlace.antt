@@ -287,7 +287,7 @@ skips_split c (suc r) zero done (i ∷ is) h = opens i is h
     opens (Groups n) is h = from_start c (AtGroups r) done (Groups n ∷ is) h refl refl
     opens _ is h = absurd h.0
 skips_split c r (suc n) done (Skip s ∷ is) h =
-    first_same (passes (is_past (last_of done) s) (Fault.SkipOrder (length done)) ++ passes (is_record (named_records c.order.split c.files) s) (Fault.NoSuchRecord (length done)))
+    first_same (passes (is_past (last_of done) s) (Fault.SkipOrder (length done)) ++ passes (is_record (named_records c.request.split c.files) s) (Fault.NoSuchRecord (length done)))
     (skip_faults c (done ++ s ∷ []) is) (front_skips c (done ++ s ∷ []) is) (rest_of c (done ++ s ∷ skips_in is) is)
     (skips_split c r n (done ++ s ∷ []) is h.1 ∙ ap (λ w. or_else (first (front_skips c (done ++ s ∷ []) is)) (rest_of c w is)) (append_assoc done (s ∷ []) (skips_in is)))
 skips_split c r (suc n) done (i ∷ is) h = absurd h.0
@@ -301,7 +301,7 @@ count_splits c p (Skips n ∷ is) h = at p h
   where
     at : (p : Place) → InOrder p (Skips n ∷ is) → CountSplits c (Skips n ∷ is)
     at (AtSkips r) h =
-        first_same (passes (nat_le n c.order.skips) (Fault.TooManySkips n)) (skip_faults c [] is) (front_skips c [] is) (rest_of c (skips_in is) is) (skips_split c r n [] is h.1)
+        first_same (passes (nat_le n c.request.skips) (Fault.TooManySkips n)) (skip_faults c [] is) (front_skips c [] is) (rest_of c (skips_in is) is) (skips_split c r n [] is h.1)
     at _ h = absurd h.0
 count_splits c p (i ∷ is) h = refl
 
@@ -338,19 +338,19 @@ order_behind p (i ∷ is) js h = order_behind (Places.behind p i) is js h.1
 
 all_split : (c : Case) (is : List Item) → InOrder AtMagic is → first (faults c is) ≡ or_else (first (front_faults c is)) (rest_of c (skips_in is) is)
 all_split c is h =
-    first_same (passes (length c.outputs == c.order.parts) Fault.OutputCount)
-    (wanted_faults c (job_wanted c.order) Fault.OtherJob (wanted_faults c (input_wanted c.files) Fault.OtherInput (count_faults c)) is)
-    (wanted_faults c (job_wanted c.order) Fault.OtherJob (wanted_faults c (input_wanted c.files) Fault.OtherInput (front_count c)) is)
+    first_same (passes (length c.outputs == c.request.parts) Fault.OutputCount)
+    (wanted_faults c (job_wanted c.request) Fault.OtherJob (wanted_faults c (input_wanted c.files) Fault.OtherInput (count_faults c)) is)
+    (wanted_faults c (job_wanted c.request) Fault.OtherJob (wanted_faults c (input_wanted c.files) Fault.OtherInput (front_count c)) is)
     (rest_of c (skips_in is) is)
-    (wanted_split c (job_wanted c.order) Fault.OtherJob (wanted_faults c (input_wanted c.files) Fault.OtherInput (count_faults c)) (wanted_faults c (input_wanted c.files) Fault.OtherInput (front_count c)) is (rest_of c (skips_in is) is)
+    (wanted_split c (job_wanted c.request) Fault.OtherJob (wanted_faults c (input_wanted c.files) Fault.OtherInput (count_faults c)) (wanted_faults c (input_wanted c.files) Fault.OtherInput (front_count c)) is (rest_of c (skips_in is) is)
     (λ job same.
     wanted_split c (input_wanted c.files) Fault.OtherInput (count_faults c) (front_count c) job (rest_of c (skips_in is) is)
     (λ input again.
-    let whole : is ≡ job_wanted c.order ++ (input_wanted c.files ++ input) = same ∙ ap (λ w. job_wanted c.order ++ w) again in
-    let behind_job = order_behind AtMagic (job_wanted c.order) (input_wanted c.files ++ input) (subst (InOrder AtMagic) whole h) in
+    let whole : is ≡ job_wanted c.request ++ (input_wanted c.files ++ input) = same ∙ ap (λ w. job_wanted c.request ++ w) again in
+    let behind_job = order_behind AtMagic (job_wanted c.request) (input_wanted c.files ++ input) (subst (InOrder AtMagic) whole h) in
     let behind_input = order_behind behind_job.0 (input_wanted c.files) input behind_job.1 in
     let rest : rest_of c (skips_in is) is ≡ rest_of c (skips_in input) input =
-    ap (λ w. rest_of c (skips_in w) w) whole ∙ (through c (job_wanted c.order) (input_wanted c.files ++ input) (equal_job c.order) ∙ through c (input_wanted c.files) input (equal_input c.files)) in
+    ap (λ w. rest_of c (skips_in w) w) whole ∙ (through c (job_wanted c.request) (input_wanted c.files ++ input) (equal_job c.request) ∙ through c (input_wanted c.files) input (equal_input c.files)) in
     count_splits c behind_input.0 input behind_input.1 ∙ ap (or_else (first (front_count c input))) (sym rest))))
 
 fault_told : (faults : List No) (a : Accepted) → fault_of (told_by faults a) ≡ first faults
@@ -359,6 +359,6 @@ fault_told (f ∷ faults) a = refl
 
 pub fault_by_place : FaultByPlace
 unfolding verdict_of
-fault_by_place order files outputs bytes are_bytes =
-    fault_told (faults (case_of order files outputs bytes) (items_of bytes)) (accepted_by (record { skips = []; pairs = 0 }) (items_of bytes))
-    ∙ all_split (case_of order files outputs bytes) (items_of bytes) ((read_front bytes are_bytes).0)
+fault_by_place request files outputs bytes are_bytes =
+    fault_told (faults (case_of request files outputs bytes) (items_of bytes)) (accepted_by (record { skips = []; pairs = 0 }) (items_of bytes))
+    ∙ all_split (case_of request files outputs bytes) (items_of bytes) ((read_front bytes are_bytes).0)

@@ -4,7 +4,7 @@ use Rattle.std.proofs.lemmas.Fmt.{decimal_digit}
 use Rattle.mr_bytes.specs.Words.{extend, word_spans_from}
 use Rattle.mr_certform.specs.Spelling.{items_from, items_of, unread, stop}
 use Rattle.mr_certform.specs.Value.{certificate_items, spelling}
-use Rattle.mr_jobs.specs.Task.{WordCount}
+use Rattle.mr_jobs.specs.JobSpec.{WordCount}
 use Rattle.mr_partition.specs.Partition.{fnv_from}
 use Rattle.mr_records.specs.Records.{lengthen, records_from}
 use Rattle.mr_sequential.specs.Emitted.{placed_from}
@@ -94,7 +94,7 @@ pub row_other_input : verdict_of (words 1 0) (a_b_aa ∷ []) (counted ∷ []) go
 unfolding computing
 row_other_input = refl
 
-pub row_other_job : verdict_of (record (words 1 0) { task = WordCount true }) (a_b_a ∷ []) (counted ∷ []) good_bytes ≡ Err No.OtherJob
+pub row_other_job : verdict_of (record (words 1 0) { job = WordCount true }) (a_b_a ∷ []) (counted ∷ []) good_bytes ≡ Err No.OtherJob
 unfolding computing
 row_other_job = refl
 

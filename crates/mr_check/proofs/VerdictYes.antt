@@ -5,8 +5,8 @@ use Rattle.std.specs.List.{AllByRecursion, flat_map}
 use Rattle.mr_bytes.specs.declared.Name.{Name}
 use Rattle.mr_bytes.specs.declared.RecordName.{RecordName}
 use Rattle.mr_bytes.specs.Lists.{Has}
-use Rattle.mr_input.specs.Files.{nth}
-use Rattle.mr_jobs.specs.Task.{Order}
+use Rattle.mr_input.specs.Files.{nth_file}
+use Rattle.mr_jobs.specs.JobSpec.{RequestSpec}
 use Rattle.mr_splits.specs.Named.{named_records}
 use Rattle.mr_certform.specs.declared.item.Item.{Item}
 use Rattle.mr_certform.specs.declared.item.Item.TheVariants.{Skips, Skip, End}
@@ -69,26 +69,26 @@ parts_have (gs ∷ parts) h = (have_entries gs (h.0).groups, parts_have parts h.
 
 -- a certificate whose items tell no fault
 record Untold (K : Case) (c : Contents) : Type 0 where
-  job : SameJob c K.order
+  job : SameJob c K.request
   lengths : c.lengths ≡ map length K.files
-  few : length c.skips ≤ K.order.skips
-  listed : ◌≡◌ {A = Option RunFault} (list_fault (named_records K.order.split K.files) None c.skips) None
+  few : length c.skips ≤ K.request.skips
+  listed : ◌≡◌ {A = Option RunFault} (list_fault (named_records K.request.split K.files) None c.skips) None
   parts : part_faults (subject_of K c.skips) K.stop start (to_end c.groups) ≡ []
 
 -- what stands behind the wanted items
 record Front (K : Case) (is : List Item) : Type 0 where
-  outputs : length K.outputs ≡ K.order.parts
+  outputs : length K.outputs ≡ K.request.parts
   behind_job : List Item
   behind_input : List Item
-  job : is ≡ job_wanted K.order ++ behind_job
+  job : is ≡ job_wanted K.request ++ behind_job
   input : behind_job ≡ input_wanted K.files ++ behind_input
   count : count_faults K behind_input ≡ []
 
 front_of : (K : Case) (is : List Item) → faults K is ≡ [] → Front K is
 front_of K is h =
-    let test : List No = passes (length K.outputs == K.order.parts) Fault.OutputCount in
+    let test : List No = passes (length K.outputs == K.request.parts) Fault.OutputCount in
     let outputs = passed _ _ (none_left test _ h) in
-    let job = wanted_none K (job_wanted K.order) Fault.OtherJob (wanted_faults K (input_wanted K.files) Fault.OtherInput (count_faults K)) is (none_right test _ h) in
+    let job = wanted_none K (job_wanted K.request) Fault.OtherJob (wanted_faults K (input_wanted K.files) Fault.OtherInput (count_faults K)) is (none_right test _ h) in
     let input = wanted_none K (input_wanted K.files) Fault.OtherInput (count_faults K) job.0 job.2 in
     record { outputs = eqb-true _ _ outputs; behind_job = job.0; behind_input = input.0; job = job.1; input = input.1; count = input.2 }
 
@@ -96,12 +96,12 @@ front_ends : (K : Case) (is : List Item) → Front K is → Has is End
 front_ends K is f =
     let ends = count_ends K f.behind_input f.count in
     let input : Has f.behind_job End = subst (λ w. Has w End) (sym f.input) (Has-append_right (input_wanted K.files) f.behind_input End ends) in
-    subst (λ w. Has w End) (sym f.job) (Has-append_right (job_wanted K.order) f.behind_job End input)
+    subst (λ w. Has w End) (sym f.job) (Has-append_right (job_wanted K.request) f.behind_job End input)
 
 untold : (K : Case) (is : List Item) (c : Contents) → Front K is → is ≡ certificate_items c → Untold K c
 unfolding certificate_items
 untold K is c f same =
-    let job = job_same c K.order (input_items c ++ (skip_items c ++ to_end c.groups)) f.behind_job (sym same ∙ f.job) in
+    let job = job_same c K.request (input_items c ++ (skip_items c ++ to_end c.groups)) f.behind_job (sym same ∙ f.job) in
     let input = input_same c K.files (skip_items c ++ to_end c.groups) f.behind_input (job.1 ∙ f.input) in
     let n = count_none K f.behind_input f.count in
     let items : Skips (length c.skips) ∷ (map Skip c.skips ++ to_end c.groups) ≡ Skips n.0 ∷ n.1 = input.1 ∙ n.2 in
@@ -112,15 +112,15 @@ untold K is c f same =
 
 pub yes_is_good : YesIsGood
 unfolding verdict_of certificate_items
-yes_is_good order files outputs bytes a are_bytes says =
-    let none = told_none (faults (case_of order files outputs bytes) (items_of bytes)) (accepted_by nothing (items_of bytes)) a says in
-    let front = front_of (case_of order files outputs bytes) (items_of bytes) none.0 in
-    let ended = ends_at AtMagic (items_of bytes) ((read_front bytes are_bytes).0) (front_ends (case_of order files outputs bytes) (items_of bytes) front) in
+yes_is_good request files outputs bytes a are_bytes says =
+    let none = told_none (faults (case_of request files outputs bytes) (items_of bytes)) (accepted_by nothing (items_of bytes)) a says in
+    let front = front_of (case_of request files outputs bytes) (items_of bytes) none.0 in
+    let ended = ends_at AtMagic (items_of bytes) ((read_front bytes are_bytes).0) (front_ends (case_of request files outputs bytes) (items_of bytes) front) in
     let found = ended_items bytes are_bytes ended in
     let c : Contents = found.0 in
-    let u = untold (case_of order files outputs bytes) (items_of bytes) c front found.1 in
-    let s : Subject = subject_of (case_of order files outputs bytes) c.skips in
-    let ts : List Triple = emitted order files c.skips in
+    let u = untold (case_of request files outputs bytes) (items_of bytes) c front found.1 in
+    let s : Subject = subject_of (case_of request files outputs bytes) c.skips in
+    let ts : List Triple = emitted request files c.skips in
     let whole = sym (parts_faults s (stop bytes) start c.groups) ∙ u.parts in
     let fits = found.2.fits in
     let each = parts_good s c.groups start (parts_have c.groups fits.groups) (none_left (told s start (flat_map part_items c.groups)) _ whole) in
@@ -128,8 +128,8 @@ yes_is_good order files outputs bytes a are_bytes says =
     let enough : length ts ≤ (behind s start (flat_map part_items c.groups)).named = leb-true _ _ (passed _ _ (none_right (told s start (flat_map part_items c.groups)) _ whole)) in
     let most = no_more_entries s.part s.text ts outputs 0 c.groups each in
     let all : length (entries_of c.groups) ≡ length ts = omega (arith, enough, pass.named, most) in
-    let skips = (good_skips order files c.skips).0 (listed order files c.skips u.few u.listed) in
-    let parts : length c.groups ≡ order.parts = fits.one_each ∙ u.job.parts in
+    let skips = (good_skips request files c.skips).0 (listed request files c.skips u.few u.listed) in
+    let parts : length c.groups ≡ request.parts = fits.one_each ∙ u.job.parts in
     let told_is : accepted_by nothing (items_of bytes) ≡ record { skips = c.skips; pairs = length (entries_of c.groups) } = ap (accepted_by nothing) found.1 ∙ accepted_all c in (
       c,
       found.2,
@@ -147,21 +147,21 @@ yes_is_good order files outputs bytes a are_bytes says =
         result = record {
           one_each = front.outputs ∙ sym parts;
           each = λ p l. (let here : 0 + p ≡ p = omega arith in
-              subst (λ n. IsGoodPart s.part s.text ts n (groups_at c.groups p) (nth outputs n)) here (from_each (λ n gs. IsGoodPart s.part s.text ts n gs (nth outputs n)) [] 0 c.groups each p l));
+              subst (λ n. IsGoodPart s.part s.text ts n (groups_at c.groups p) (nth_file outputs n)) here (from_each (λ n gs. IsGoodPart s.part s.text ts n gs (nth_file outputs n)) [] 0 c.groups each p l));
           none_left_out = all;
         };
       },
       sym none.1 ∙ (told_is ∙ ap (λ (n : ℕ). let it : Accepted = record { skips = c.skips; pairs = n } in it) all),
     )
   where
-    listed : (order : Order) (files : List (List ℕ)) (skips : List RecordName) → length skips ≤ order.skips → ◌≡◌ {A = Option RunFault} (list_fault (named_records order.split files) None skips) None
-        → ◌≡◌ {A = Option RunFault} (cond (nat_lt order.skips (length skips)) (Some TooManySkips) (list_fault (named_records order.split files) None skips)) None
-    listed order files skips few h = ap (λ b. cond b (Some TooManySkips) (list_fault (named_records order.split files) None skips)) (le-ltb order.skips (length skips) few) ∙ h
+    listed : (request : RequestSpec) (files : List (List ℕ)) (skips : List RecordName) → length skips ≤ request.skips → ◌≡◌ {A = Option RunFault} (list_fault (named_records request.split files) None skips) None
+        → ◌≡◌ {A = Option RunFault} (cond (nat_lt request.skips (length skips)) (Some TooManySkips) (list_fault (named_records request.split files) None skips)) None
+    listed request files skips few h = ap (λ b. cond b (Some TooManySkips) (list_fault (named_records request.split files) None skips)) (le-ltb request.skips (length skips) few) ∙ h
 
 -- ---- good means yes
 
 -- the items of a certificate are those of the job, of the input, of the left-out records and of the partitions
-items_are : (o : Order) (files : List (List ℕ)) (c : Contents) → SameJob c o → c.lengths ≡ map length files
+items_are : (o : RequestSpec) (files : List (List ℕ)) (c : Contents) → SameJob c o → c.lengths ≡ map length files
     → certificate_items c ≡ job_wanted o ++ (input_wanted files ++ (skip_items c ++ to_end c.groups))
 unfolding certificate_items
 items_are o files c job lengths =
@@ -169,10 +169,10 @@ items_are o files c job lengths =
     ∙ ap (λ w. job_wanted o ++ (w ++ (skip_items c ++ to_end c.groups))) (input_is c files lengths)
 
 -- a list of left-out records that is as it should be has no fault
-unlisted : (order : Order) (files : List (List ℕ)) (skips : List RecordName) → length skips ≤ order.skips
-    → ◌≡◌ {A = Option RunFault} (cond (nat_lt order.skips (length skips)) (Some TooManySkips) (list_fault (named_records order.split files) None skips)) None
-    → ◌≡◌ {A = Option RunFault} (list_fault (named_records order.split files) None skips) None
-unlisted order files skips few h = ap (λ b. cond b (Some TooManySkips) (list_fault (named_records order.split files) None skips)) (sym (le-ltb order.skips (length skips) few)) ∙ h
+unlisted : (request : RequestSpec) (files : List (List ℕ)) (skips : List RecordName) → length skips ≤ request.skips
+    → ◌≡◌ {A = Option RunFault} (cond (nat_lt request.skips (length skips)) (Some TooManySkips) (list_fault (named_records request.split files) None skips)) None
+    → ◌≡◌ {A = Option RunFault} (list_fault (named_records request.split files) None skips) None
+unlisted request files skips few h = ap (λ b. cond b (Some TooManySkips) (list_fault (named_records request.split files) None skips)) (sym (le-ltb request.skips (length skips) few)) ∙ h
 
 -- what the items of a certificate tell of a good result
 told_items : (bytes : List ℕ) (c : Contents) → Spells bytes c → accepted_by nothing (items_of bytes) ≡ record { skips = c.skips; pairs = length (entries_of c.groups) }
@@ -181,29 +181,29 @@ told_items bytes c spells = ap (accepted_by nothing) (spelled_items bytes c spel
 
 pub good_is_yes : GoodIsYes
 unfolding verdict_of
-good_is_yes order files outputs bytes c spells good =
-    let s : Subject = subject_of (case_of order files outputs bytes) c.skips in
-    let ts : List Triple = emitted order files c.skips in
-    let job : SameJob c order = record { job = good.job; flags = good.flags; literal = good.literal; parts = good.parts; size = good.split_size } in
-    let items : items_of bytes ≡ job_wanted order ++ (input_wanted files ++ (skip_items c ++ to_end c.groups)) = spelled_items bytes c spells ∙ items_are order files c job good.lengths in
-    let outputs_are : length outputs ≡ order.parts = good.result.one_each ∙ good.one_each in
-    let each : EachFrom (λ p gs. IsGoodPart s.part s.text ts p gs (nth outputs p)) 0 c.groups =
-    each_from (λ p gs. IsGoodPart s.part s.text ts p gs (nth outputs p)) [] 0 c.groups
-    (λ p l. (let here : p ≡ 0 + p = omega arith in subst (λ n. IsGoodPart s.part s.text ts n (groups_at c.groups p) (nth outputs n)) here (good.result.each p l))) in
+good_is_yes request files outputs bytes c spells good =
+    let s : Subject = subject_of (case_of request files outputs bytes) c.skips in
+    let ts : List Triple = emitted request files c.skips in
+    let job : SameJob c request = record { job = good.job; flags = good.flags; literal = good.literal; parts = good.parts; size = good.split_size } in
+    let items : items_of bytes ≡ job_wanted request ++ (input_wanted files ++ (skip_items c ++ to_end c.groups)) = spelled_items bytes c spells ∙ items_are order files c job good.lengths in
+    let outputs_are : length outputs ≡ request.parts = good.result.one_each ∙ good.one_each in
+    let each : EachFrom (λ p gs. IsGoodPart s.part s.text ts p gs (nth_file outputs p)) 0 c.groups =
+    each_from (λ p gs. IsGoodPart s.part s.text ts p gs (nth_file outputs p)) [] 0 c.groups
+    (λ p l. (let here : p ≡ 0 + p = omega arith in subst (λ n. IsGoodPart s.part s.text ts n (groups_at c.groups p) (nth_file outputs n)) here (good.result.each p l))) in
     let pass = parts_pass s c.groups start each in
     let all : length ts ≤ (behind s start (flat_map part_items c.groups)).named = omega (arith, pass.named, good.result.none_left_out) in
     let parts : part_faults s (stop bytes) start (to_end c.groups) ≡ [] =
     parts_faults s (stop bytes) start c.groups
     ∙ none_both (told s start (flat_map part_items c.groups)) _ pass.none (passes-true _ (Fault.Unnamed (length ts) (behind s start (flat_map part_items c.groups)).named) (le-leb _ _ all)) in
-    let listed = unlisted order files c.skips good.skips_few ((good_skips order files c.skips).1 (good.skips_few, good.skips_rise, good.skips_exist)) in
-    let skips : skip_faults (case_of order files outputs bytes) [] (map Skip c.skips ++ to_end c.groups) ≡ [] = skips_pass (case_of order files outputs bytes) c.skips [] c.groups listed ∙ parts in
-    let count : count_faults (case_of order files outputs bytes) (skip_items c ++ to_end c.groups) ≡ [] =
-    none_both (passes (nat_le (length c.skips) order.skips) (Fault.TooManySkips (length c.skips))) _ (passes-true _ _ (le-leb _ _ good.skips_few)) skips in
-    let input = input_pass (case_of order files outputs bytes) (count_faults (case_of order files outputs bytes)) (skip_items c ++ to_end c.groups) ∙ count in
-    let wanted = job_pass (case_of order files outputs bytes) (wanted_faults (case_of order files outputs bytes) (input_wanted files) Fault.OtherInput (count_faults (case_of order files outputs bytes))) (input_wanted files ++ (skip_items c ++ to_end c.groups)) ∙ input in
-    let none : faults (case_of order files outputs bytes) (items_of bytes) ≡ [] =
-    ap (faults (case_of order files outputs bytes)) items
-    ∙ none_both (passes (length outputs == order.parts) Fault.OutputCount) _ (passes-true _ _ (eq-eqb _ _ outputs_are)) wanted in
+    let listed = unlisted request files c.skips good.skips_few ((good_skips request files c.skips).1 (good.skips_few, good.skips_rise, good.skips_exist)) in
+    let skips : skip_faults (case_of request files outputs bytes) [] (map Skip c.skips ++ to_end c.groups) ≡ [] = skips_pass (case_of request files outputs bytes) c.skips [] c.groups listed ∙ parts in
+    let count : count_faults (case_of request files outputs bytes) (skip_items c ++ to_end c.groups) ≡ [] =
+    none_both (passes (nat_le (length c.skips) request.skips) (Fault.TooManySkips (length c.skips))) _ (passes-true _ _ (le-leb _ _ good.skips_few)) skips in
+    let input = input_pass (case_of request files outputs bytes) (count_faults (case_of request files outputs bytes)) (skip_items c ++ to_end c.groups) ∙ count in
+    let wanted = job_pass (case_of request files outputs bytes) (wanted_faults (case_of request files outputs bytes) (input_wanted files) Fault.OtherInput (count_faults (case_of request files outputs bytes))) (input_wanted files ++ (skip_items c ++ to_end c.groups)) ∙ input in
+    let none : faults (case_of request files outputs bytes) (items_of bytes) ≡ [] =
+    ap (faults (case_of request files outputs bytes)) items
+    ∙ none_both (passes (length outputs == request.parts) Fault.OutputCount) _ (passes-true _ _ (eq-eqb _ _ outputs_are)) wanted in
     let told_is : accepted_by nothing (items_of bytes) ≡ record { skips = c.skips; pairs = length (entries_of c.groups) } = told_items bytes c spells in
     ap (λ w. told_by w (accepted_by nothing (items_of bytes))) none
     ∙ ap (λ (a : Accepted). let it : Result Accepted No = Ok a in it) (told_is ∙ ap (λ (n : ℕ). let it : Accepted = record { skips = c.skips; pairs = n } in it) good.result.none_left_out)

@@ -4,8 +4,8 @@ use Rattle.std.specs.List.{AllByRecursion}
 use Rattle.mr_bytes.specs.declared.RecordName.{RecordName}
 use Rattle.mr_bytes.specs.Lists.{Rises}
 use Rattle.mr_bytes.specs.Order.{record_order}
-use Rattle.mr_input.specs.Files.{nth}
-use Rattle.mr_jobs.specs.Task.{Order}
+use Rattle.mr_input.specs.Files.{nth_file}
+use Rattle.mr_jobs.specs.JobSpec.{RequestSpec}
 use Rattle.mr_splits.specs.Named.{named_records}
 use Rattle.mr_splits.specs.Cut.{is_record}
 use Rattle.mr_certform.specs.Value.{Contents, Spells}
@@ -15,13 +15,13 @@ use Rattle.mr_sequential.specs.Sequential.{sequential}
 -- the bytes spell a certificate that lists just these left-out records; they rise, exist, and are no more than the
 -- order allows; there are as many outputs as partitions, each byte for byte that of the sequential execution without
 -- those records; and so many pairs are emitted without them
-pub record IsCertified (order : Order) (files outputs : List (List ℕ)) (bytes : List ℕ) (skips : List RecordName) (pairs : ℕ) : Type 0 where
+pub record IsCertified (request : RequestSpec) (files outputs : List (List ℕ)) (bytes : List ℕ) (skips : List RecordName) (pairs : ℕ) : Type 0 where
   pub certificate : Contents
   pub spelled : Spells bytes certificate
   pub listed : certificate.skips ≡ skips
   pub rise : Rises record_order skips
-  pub exist : AllByRecursion (λ name. IsTrue (is_record (named_records order.split files) name)) skips
-  pub allowed : length skips ≤ order.skips
-  pub count : length outputs ≡ order.parts
-  pub sequential_is : (p : ℕ) → p < order.parts → nth outputs p ≡ sequential order files skips p
-  pub all : pairs ≡ length (emitted order files skips)
+  pub exist : AllByRecursion (λ name. IsTrue (is_record (named_records request.split files) name)) skips
+  pub allowed : length skips ≤ request.skips
+  pub count : length outputs ≡ request.parts
+  pub sequential_is : (p : ℕ) → p < request.parts → nth_file outputs p ≡ sequential request files skips p
+  pub all : pairs ≡ length (emitted request files skips)

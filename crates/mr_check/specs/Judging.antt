@@ -1,7 +1,7 @@
 -- What the judge's functions say of the tests: the first of the faults, and how far the items were walked.
 use Rattle.std.specs.Prelude.{◌≡◌, ◌⊎◌, ◌<◌, ◌≤◌, ◌^◌, ℕ, ◌+◌, Bool, true, false, if◌then◌else◌, nat_le, Option, Some, None, Result, Ok, Err, List, [], ◌∷◌, ◌++◌, length}
 use Rattle.mr_bytes.specs.declared.RecordName.{RecordName}
-use Rattle.mr_jobs.specs.Task.{Order}
+use Rattle.mr_jobs.specs.JobSpec.{RequestSpec}
 use Rattle.mr_splits.specs.Named.{NamedRecord}
 use Rattle.mr_splits.specs.Cut.{is_record}
 use Rattle.mr_certform.specs.declared.item.Item.{Item}
@@ -25,15 +25,15 @@ Told fs e = (e ≡ OutOfMemory) ⊎ (first fs ≡ Some e)
 
 -- what is known when the partitions are judged: the order, all that is emitted, and the outputs
 pub record Known : Type 0 where
-  pub order : Order
+  pub request : RequestSpec
   pub triples : List Triple
   pub outputs : List (List ℕ)
 
 abbrev pub subject : Known → Subject
 subject k = record {
   triples = k.triples;
-  part = λ key. partition_of key k.order.parts;
-  text = text_of k.order.task;
+  part = λ key. partition_of key k.request.parts;
+  text = text_of k.request.job;
   outputs = k.outputs;
 }
 
@@ -64,8 +64,8 @@ abbrev pub met_behind : ℕ → List (List ℕ) → Result (List Item) No → Re
 met_behind at files (Ok is) = met at (input_wanted files) OtherInput is
 met_behind at files (Err e) = Err e
 
-abbrev pub header_met : ℕ → Order → List (List ℕ) → List Item → Result (List Item) No
-header_met at order files is = met_behind at files (met at (job_wanted order) OtherJob is)
+abbrev pub header_met : ℕ → RequestSpec → List (List ℕ) → List Item → Result (List Item) No
+header_met at request files is = met_behind at files (met at (job_wanted request) OtherJob is)
 
 -- the items begin with how many records are left out, at most so many: those behind it, or the fault
 abbrev pub counted : ℕ → ℕ → List Item → Result (List Item) No
@@ -125,5 +125,5 @@ awaits_skips (Skips n ∷ is) = skips_in_front is
 awaits_skips is = false
 
 -- what is judged, by where the items stop
-abbrev pub case_at : Order → List (List ℕ) → List (List ℕ) → ℕ → Case
-case_at order files outputs at = record { order = order; files = files; outputs = outputs; stop = at }
+abbrev pub case_at : RequestSpec → List (List ℕ) → List (List ℕ) → ℕ → Case
+case_at request files outputs at = record { request = request; files = files; outputs = outputs; stop = at }

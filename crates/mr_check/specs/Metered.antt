@@ -1,15 +1,15 @@
 -- What the meter of a judge counts.
 use Rattle.std.specs.Prelude.{◌≡◌, ℕ, ◌+◌, ◌≤◌, List, length}
 use Rattle.mr_bytes.specs.declared.RecordName.{RecordName}
-use Rattle.mr_jobs.specs.Task.{Order}
+use Rattle.mr_jobs.specs.JobSpec.{RequestSpec}
 use Rattle.mr_splits.specs.Cut.{Cut, records_of}
 use Rattle.mr_certform.specs.declared.item.Item.{Item}
 use Rattle.mr_index.specs.declared.index.Meter.{Meter}
 use Rattle.mr_index.specs.Index.{mapped_among}
 use Rattle.mr_check.specs.Judging.{entries_in}
 
-abbrev pub cut_by : Order → List (List ℕ) → Cut
-cut_by order files = record { size = order.split; files = files }
+abbrev pub cut_by : RequestSpec → List (List ℕ) → Cut
+cut_by request files = record { size = request.split; files = files }
 
 -- each entry among the items is looked up at most once, and each record of the cut files mapped at most once
 pub record IsBounded (cut : Cut) (items : List Item) (old new : Meter) : Type 0 where

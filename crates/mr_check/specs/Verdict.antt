@@ -8,8 +8,8 @@ use Rattle.mr_bytes.specs.declared.Name.{Name}
 use Rattle.mr_bytes.specs.declared.RecordName.{RecordName}
 use Rattle.mr_bytes.specs.declared.Value.{Value}
 use Rattle.mr_bytes.specs.Order.{key_order, name_order}
-use Rattle.mr_input.specs.Files.{nth}
-use Rattle.mr_jobs.specs.Task.{Order, job_number, job_flags, job_literal}
+use Rattle.mr_input.specs.Files.{nth_file}
+use Rattle.mr_jobs.specs.JobSpec.{RequestSpec, job_number, job_flags, job_literal}
 use Rattle.mr_partition.specs.Partition.{partition_of}
 use Rattle.mr_reduce.specs.Text.{text_of}
 use Rattle.mr_splits.specs.Named.{named_records}
@@ -26,7 +26,7 @@ use Rattle.mr_check.specs.declared.fault.No.TheVariants.{OutputCount, Malformed,
 
 -- what is judged: the order and the files, the outputs, and where the items of the certificate's bytes stop
 pub record Case : Type 0 where
-  pub order : Order
+  pub request : RequestSpec
   pub files : List (List ℕ)
   pub outputs : List (List ℕ)
   pub stop : ℕ
@@ -101,7 +101,7 @@ pub record Subject : Type 0 where
 abbrev pub group_tests : Subject → ℕ → State → ℕ → List No
 group_tests s p st zero =
     let text = s.text st.key st.values in
-    text_tests (nth s.outputs p) p st.from text ++ end_tests (nth s.outputs p) p (st.groups - 1) (st.from + length text)
+    text_tests (nth_file s.outputs p) p st.from text ++ end_tests (nth_file s.outputs p) p (st.groups - 1) (st.from + length text)
 group_tests s p st (suc n) = []
 
 abbrev pub behind_group : Subject → State → ℕ → State
@@ -118,7 +118,7 @@ after_entry s st (Some t) = behind_group s (with_entry st t st.entry) (st.entrie
 
 -- what an item is tested for; at the end, that no emitted pair is without a name
 abbrev pub tests : Subject → State → Item → List No
-tests s st (Groups n) = end_tests (nth s.outputs st.next) st.next n 0
+tests s st (Groups n) = end_tests (nth_file s.outputs st.next) st.next n 0
 tests s st (Entry name) = entry_tests s (st.next - 1) st name (named s.triples name)
 tests s st End = passes (nat_le (length s.triples) st.named) (Unnamed (length s.triples) st.named)
 tests s st i = []
@@ -141,9 +141,9 @@ part_faults s at st (i ∷ is) = tests s st i ++ part_faults s at (after s st i)
 -- the subject, with what is emitted without these records
 abbrev pub subject_of : Case → List RecordName → Subject
 subject_of c skips = record {
-  triples = emitted c.order c.files skips;
-  part = λ k. partition_of k c.order.parts;
-  text = text_of c.order.task;
+  triples = emitted c.request c.files skips;
+  part = λ k. partition_of k c.request.parts;
+  text = text_of c.request.job;
   outputs = c.outputs;
 }
 
@@ -156,13 +156,13 @@ last_of (s ∷ t ∷ ss) = last_of (t ∷ ss)
 abbrev pub skip_faults : Case → List RecordName → List Item → List No
 skip_faults c skips (Skip s ∷ is) =
     passes (is_past (last_of skips) s) (SkipOrder (length skips))
-    ++ passes (is_record (named_records c.order.split c.files) s) (NoSuchRecord (length skips))
+    ++ passes (is_record (named_records c.request.split c.files) s) (NoSuchRecord (length skips))
     ++ skip_faults c (skips ++ s ∷ []) is
 skip_faults c skips is = part_faults (subject_of c skips) c.stop start is
 
 -- how many there are is tested first
 abbrev pub count_faults : Case → List Item → List No
-count_faults c (Skips n ∷ is) = passes (nat_le n c.order.skips) (TooManySkips n) ++ skip_faults c [] is
+count_faults c (Skips n ∷ is) = passes (nat_le n c.request.skips) (TooManySkips n) ++ skip_faults c [] is
 count_faults c is = Malformed c.stop ∷ []
 
 -- ---- what the order and the files fix
@@ -180,10 +180,10 @@ item_eq (FileLength m) (FileLength n) = m == n
 item_eq _ _ = false
 
 -- the items that are wanted of the job, and of the input
-abbrev pub job_wanted : Order → List Item
+abbrev pub job_wanted : RequestSpec → List Item
 job_wanted o =
-    Magic ∷ Job (job_number o.task) ∷ Flags (job_flags o.task) ∷ LiteralLength (length (job_literal o.task))
-    ∷ (map LiteralByte (job_literal o.task) ++ (Parts o.parts ∷ SplitSize o.split ∷ []))
+    Magic ∷ Job (job_number o.job) ∷ Flags (job_flags o.job) ∷ LiteralLength (length (job_literal o.job))
+    ∷ (map LiteralByte (job_literal o.job) ++ (Parts o.parts ∷ SplitSize o.split ∷ []))
 
 abbrev pub input_wanted : List (List ℕ) → List Item
 input_wanted files = Files (length files) ∷ map (λ f. FileLength (length f)) files
@@ -199,8 +199,8 @@ wanted_faults c (w ∷ wanted) fault behind (i ∷ is) = passes (item_eq i w) fa
 -- all faults in the order of the tests
 abbrev pub faults : Case → List Item → List No
 faults c is =
-    passes (length c.outputs == c.order.parts) OutputCount
-    ++ wanted_faults c (job_wanted c.order) OtherJob (wanted_faults c (input_wanted c.files) OtherInput (count_faults c)) is
+    passes (length c.outputs == c.request.parts) OutputCount
+    ++ wanted_faults c (job_wanted c.request) OtherJob (wanted_faults c (input_wanted c.files) OtherInput (count_faults c)) is
 
 -- a result that is judged good: the left-out records, and how many pairs there are
 pub record Accepted : Type 0 where
@@ -219,10 +219,10 @@ abbrev pub told_by : List No → Accepted → Result Accepted No
 told_by [] accepted = Ok accepted
 told_by (fault ∷ faults) accepted = Err fault
 
-abbrev pub case_of : Order → List (List ℕ) → List (List ℕ) → List ℕ → Case
-case_of order files outputs bytes = record { order = order; files = files; outputs = outputs; stop = stop bytes }
+abbrev pub case_of : RequestSpec → List (List ℕ) → List (List ℕ) → List ℕ → Case
+case_of request files outputs bytes = record { request = request; files = files; outputs = outputs; stop = stop bytes }
 
 -- the verdict on outputs and the bytes of a certificate
-unfoldable pub verdict_of : Order → List (List ℕ) → List (List ℕ) → List ℕ → Result Accepted No
-verdict_of order files outputs bytes =
-    told_by (faults (case_of order files outputs bytes) (items_of bytes)) (accepted_by (record { skips = []; pairs = 0 }) (items_of bytes))
+unfoldable pub verdict_of : RequestSpec → List (List ℕ) → List (List ℕ) → List ℕ → Result Accepted No
+verdict_of request files outputs bytes =
+    told_by (faults (case_of request files outputs bytes) (items_of bytes)) (accepted_by (record { skips = []; pairs = 0 }) (items_of bytes))

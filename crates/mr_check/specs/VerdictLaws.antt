@@ -1,8 +1,8 @@
 -- What the verdict is, in the words of the subject.
 use Rattle.std.specs.Prelude.{◌≡◌, ℕ, zero, suc, ◌+◌, ◌<◌, take, Bool, true, false, Option, Some, None, Result, Ok, Err, List, [], ◌∷◌, ◌++◌, length, nat_le, ◌==◌}
 use Rattle.mr_bytes.specs.declared.RecordName.{RecordName}
-use Rattle.mr_input.specs.Files.{nth}
-use Rattle.mr_jobs.specs.Task.{Order}
+use Rattle.mr_input.specs.Files.{nth_file}
+use Rattle.mr_jobs.specs.JobSpec.{RequestSpec}
 use Rattle.mr_splits.specs.Named.{named_records}
 use Rattle.mr_splits.specs.Cut.{is_record}
 use Rattle.mr_certform.specs.declared.item.Item.{Item}
@@ -22,15 +22,15 @@ use Rattle.mr_check.specs.Verdict.{Case, Accepted, State, Subject, passes, start
 
 -- a result that is judged good is good, and what is told of it are its left-out records and the number of its pairs
 abbrev pub YesIsGood : Type 0
-YesIsGood = (order : Order) (files outputs : List (List ℕ)) (bytes : List ℕ) (accepted : Accepted)
-    → AreBytes bytes → verdict_of order files outputs bytes ≡ Ok accepted
-    → (c : Contents) × Spells bytes c × IsGood order files outputs c × (accepted ≡ record { skips = c.skips; pairs = length (emitted order files c.skips) })
+YesIsGood = (request : RequestSpec) (files outputs : List (List ℕ)) (bytes : List ℕ) (accepted : Accepted)
+    → AreBytes bytes → verdict_of request files outputs bytes ≡ Ok accepted
+    → (c : Contents) × Spells bytes c × IsGood request files outputs c × (accepted ≡ record { skips = c.skips; pairs = length (emitted request files c.skips) })
 
 -- a good result is judged good
 abbrev pub GoodIsYes : Type 0
-GoodIsYes = (order : Order) (files outputs : List (List ℕ)) (bytes : List ℕ) (c : Contents)
-    → Spells bytes c → IsGood order files outputs c
-    → verdict_of order files outputs bytes ≡ Ok (record { skips = c.skips; pairs = length (emitted order files c.skips) })
+GoodIsYes = (request : RequestSpec) (files outputs : List (List ℕ)) (bytes : List ℕ) (c : Contents)
+    → Spells bytes c → IsGood request files outputs c
+    → verdict_of request files outputs bytes ≡ Ok (record { skips = c.skips; pairs = length (emitted request files c.skips) })
 
 -- ---- items in turn
 
@@ -89,18 +89,18 @@ entries_in (i ∷ is) = entries_in is
 abbrev pub front_skips : Case → List RecordName → List Item → List No
 front_skips c skips (Skip s ∷ is) =
     passes (is_past (last_of skips) s) (SkipOrder (length skips))
-    ++ passes (is_record (named_records c.order.split c.files) s) (NoSuchRecord (length skips))
+    ++ passes (is_record (named_records c.request.split c.files) s) (NoSuchRecord (length skips))
     ++ front_skips c (skips ++ s ∷ []) is
 front_skips c skips is = []
 
 abbrev pub front_count : Case → List Item → List No
-front_count c (Skips n ∷ is) = passes (nat_le n c.order.skips) (TooManySkips n) ++ front_skips c [] is
+front_count c (Skips n ∷ is) = passes (nat_le n c.request.skips) (TooManySkips n) ++ front_skips c [] is
 front_count c is = Malformed c.stop ∷ []
 
 abbrev pub front_faults : Case → List Item → List No
 front_faults c is =
-    passes (length c.outputs == c.order.parts) OutputCount
-    ++ wanted_faults c (job_wanted c.order) OtherJob (wanted_faults c (input_wanted c.files) OtherInput (front_count c)) is
+    passes (length c.outputs == c.request.parts) OutputCount
+    ++ wanted_faults c (job_wanted c.request) OtherJob (wanted_faults c (input_wanted c.files) OtherInput (front_count c)) is
 
 -- the fault of partition p by its own items, whatever comes before it
 abbrev pub part_fault : Subject → ℕ → List Item → Option No
@@ -119,11 +119,11 @@ back_fault s at n false = Some (Malformed at)
 -- the verdict is the fault of what stands before the partitions, else that of the least partition that has one, else
 -- that of what stands behind them
 abbrev pub FaultByPlace : Type 0
-FaultByPlace = (order : Order) (files outputs : List (List ℕ)) (bytes : List ℕ) → AreBytes bytes
-    → (let c = case_of order files outputs bytes in
+FaultByPlace = (request : RequestSpec) (files outputs : List (List ℕ)) (bytes : List ℕ) → AreBytes bytes
+    → (let c = case_of request files outputs bytes in
     let is = items_of bytes in
     let s = subject_of c (skips_in is) in
-    fault_of (verdict_of order files outputs bytes)
+    fault_of (verdict_of request files outputs bytes)
     ≡ or_else (first (front_faults c is)) (or_else (least_fault s 0 (parts_in is)) (back_fault s c.stop (entries_in is) (is_ended is))))
 
 -- ---- what bears on a fault
@@ -137,7 +137,7 @@ IsTested fault = Unit {0}
 abbrev pub LaterItemsDontMatter : Type 0
 LaterItemsDontMatter = (c : Case) (is : List Item) (more : List ℕ) (fault : No)
     → InOrder AtMagic is → (is_ended is ≡ true → more ≡ []) → first (faults c is) ≡ Some fault → IsTested fault
-    → verdict_of c.order c.files c.outputs (bytes_from AtMagic is ++ more) ≡ Err fault
+    → verdict_of c.request c.files c.outputs (bytes_from AtMagic is ++ more) ≡ Err fault
 
 -- the partition that a fault names
 abbrev pub partition_named : No → Option ℕ
@@ -156,11 +156,11 @@ SameTo fault output other = other ≡ output
 
 -- a fault of a partition stays, whatever the later outputs are, and the later bytes of its own
 abbrev pub LaterOutputsDontMatter : Type 0
-LaterOutputsDontMatter = (order : Order) (files outputs others : List (List ℕ)) (bytes : List ℕ) (fault : No) (p : ℕ)
+LaterOutputsDontMatter = (request : RequestSpec) (files outputs others : List (List ℕ)) (bytes : List ℕ) (fault : No) (p : ℕ)
     → AreBytes bytes → length others ≡ length outputs
-    → verdict_of order files outputs bytes ≡ Err fault → partition_named fault ≡ Some p
-    → ((q : ℕ) → q < p → nth others q ≡ nth outputs q) → SameTo fault (nth outputs p) (nth others p)
-    → verdict_of order files others bytes ≡ Err fault
+    → verdict_of request files outputs bytes ≡ Err fault → partition_named fault ≡ Some p
+    → ((q : ℕ) → q < p → nth_file others q ≡ nth_file outputs q) → SameTo fault (nth_file outputs p) (nth_file others p)
+    → verdict_of request files others bytes ≡ Err fault
 
 -- ---- how far outputs are compared
 
@@ -187,14 +187,14 @@ SameFor fault st output other = SameBy st.groups st.from output other
 -- a partition's fault is told by its own output alone
 abbrev pub OtherOutputsDontMatter : Type 0
 OtherOutputsDontMatter = (s : Subject) (others : List (List ℕ)) (p n : ℕ) (is : List Item)
-    → nth others p ≡ nth s.outputs p
+    → nth_file others p ≡ nth_file s.outputs p
     → part_fault (record s { outputs = others }) p (Groups n ∷ piece is) ≡ part_fault s p (Groups n ∷ piece is)
 
 -- and it stays where as much of that is the same as was compared
 abbrev pub BytesBehindDontMatter : Type 0
 BytesBehindDontMatter = (s : Subject) (others : List (List ℕ)) (p n : ℕ) (is : List Item) (fault : No)
     → part_fault s p (Groups n ∷ piece is) ≡ Some fault
-    → SameFor fault (before_fault s (record start { next = p }) (Groups n ∷ piece is)) (nth s.outputs p) (nth others p)
+    → SameFor fault (before_fault s (record start { next = p }) (Groups n ∷ piece is)) (nth_file s.outputs p) (nth_file others p)
     → part_fault (record s { outputs = others }) p (Groups n ∷ piece is) ≡ Some fault
 
 -- of each output, up to that of the first partition that has a fault, as much is the same as was compared
@@ -205,7 +205,7 @@ SameInPart None st output other Behind = SameBy st.groups st.from output other �
 abbrev pub SameFrom : Subject → ℕ → List (List Item) → List (List ℕ) → Type 0
 SameFrom s p [] others = Unit {0}
 SameFrom s p (is ∷ parts) others =
-    SameInPart (part_fault s p is) (before_fault s (record start { next = p }) is) (nth s.outputs p) (nth others p) (SameFrom s (p + 1) parts others)
+    SameInPart (part_fault s p is) (before_fault s (record start { next = p }) is) (nth_file s.outputs p) (nth_file others p) (SameFrom s (p + 1) parts others)
 
 -- none is compared where a fault is told before the partitions
 abbrev pub SameUnless : Option No → Type 0 → Type 0
@@ -214,9 +214,9 @@ SameUnless None Parts = Parts
 
 -- outputs that are as many, and of which as much is the same as was compared, get the same verdict
 abbrev pub OnlyComparedMatters : Type 0
-OnlyComparedMatters = (order : Order) (files outputs others : List (List ℕ)) (bytes : List ℕ)
+OnlyComparedMatters = (request : RequestSpec) (files outputs others : List (List ℕ)) (bytes : List ℕ)
     → AreBytes bytes → length others ≡ length outputs
-    → (let c = case_of order files outputs bytes in
+    → (let c = case_of request files outputs bytes in
     let is = items_of bytes in
     SameUnless (first (front_faults c is)) (SameFrom (subject_of c (skips_in is)) 0 (parts_in is) others))
-    → verdict_of order files others bytes ≡ verdict_of order files outputs bytes
+    → verdict_of request files others bytes ≡ verdict_of request files outputs bytes

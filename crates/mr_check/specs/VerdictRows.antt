@@ -2,14 +2,14 @@
 use Rattle.std.specs.Prelude.{ℕ, false, List, [], ◌∷◌, ◌++◌, Result}
 use Rattle.mr_bytes.specs.declared.Name.{Name}
 use Rattle.mr_bytes.specs.declared.RecordName.{RecordName}
-use Rattle.mr_jobs.specs.Task.{Order, WordCount}
+use Rattle.mr_jobs.specs.JobSpec.{RequestSpec, WordCount}
 use Rattle.mr_certform.specs.Value.{spelling}
 use Rattle.mr_check.specs.declared.fault.No.{No}
 use Rattle.mr_check.specs.Verdict.{Accepted, verdict_of}
 
 -- count words, folded: so many partitions, splits of 64 bytes, at most so many records left out
-abbrev pub words : ℕ → ℕ → Order
-words parts skips = record { task = WordCount false; parts = parts; split = 64; skips = skips }
+abbrev pub words : ℕ → ℕ → RequestSpec
+words parts skips = record { job = WordCount false; parts = parts; split = 64; skips = skips }
 
 -- `a b a`
 abbrev pub a_b_a : List ℕ

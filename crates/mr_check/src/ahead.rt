@@ -2,7 +2,7 @@
 //! not inlined, in which no turn waits for the one before: so the waits for memory of many names overlap.
 ghost use Rattle.std.specs.Prelude.{◌≡◌, ◌⊎◌, ◌<◌, ◌≤◌, ◌+◌, ◌^◌, [], ◌∷◌, ◌++◌, MatchResult, OnOk, length};
 ghost use Rattle.std.specs.List.{AllByRecursion};
-ghost use Rattle.mr_certform.specs.Walking.{left, halt};
+ghost use Rattle.mr_certform.specs.Walking.{items_left, halt};
 ghost use Rattle.mr_check.specs.declared.fault.No.TheVariants.{Malformed, OutOfMemory};
 ghost use Rattle.mr_check.specs.Judging.{entries_in};
 ghost use Rattle.mr_check.specs.Ahead.{onto, items_sought, items_in, IsPlaced, IsFound};
@@ -74,8 +74,8 @@ fn keep<T: Drop>(list: &mut Vec<T>, one: T) -> Result<(), AllocError>
 #[inline(never)]
 pub(crate) fn read_block(walker: &mut Walker<'_>, items: &mut Vec<Item>) -> Result<(), No>
     ensures items { MatchResult result
-        (λ _. (left walker.old ≡ onto items.new.items (left walker.new)) × (entries_in (left walker.old) ≡ entries_in items.new.items + entries_in (left walker.new)))
-        (λ e. (e ≡ OutOfMemory) ⊎ ((left walker.old ≡ []) × (e ≡ Malformed (halt walker.old)))) }
+        (λ _. (items_left walker.old ≡ onto items.new.items (items_left walker.new)) × (entries_in (items_left walker.old) ≡ entries_in items.new.items + entries_in (items_left walker.new)))
+        (λ e. (e ≡ OutOfMemory) ⊎ ((items_left walker.old ≡ []) × (e ≡ Malformed (halt walker.old)))) }
     ensures some { OnOk result ((1 ≤ length items.new.items) × (length items.new.items ≤ 64)) }
     ensures stop { halt walker.new ≡ halt walker.old }
 {

@@ -3,14 +3,14 @@ ghost use Rattle.std.specs.Prelude.{◌≡◌, drop, nat_eq};
 ghost use Rattle.std.specs.List.{common_prefix_len};
 ghost use Rattle.std.specs.Ordering.{is_lt};
 ghost use Rattle.mr_bytes.specs.Order.{key_order, name_order};
-ghost use Rattle.mr_input.specs.Files.{contents, nth};
+ghost use Rattle.mr_input.specs.Files.{contents, nth_file};
 
 use mr_bytes::{Name, compare_keys, compare_names};
 use std::cmp::Ordering;
 
 /// The output of partition `p`; past the last there is none.
 pub(crate) fn output_of(outputs: &[Vec<u8>], p: u64) -> &[u8]
-    ensures { result.now ≡ nth (contents outputs.now) p }
+    ensures { result.now ≡ nth_file (contents outputs.now) p }
 {
     match outputs.get(p as usize) {
         Some(output) => output.as_slice(),

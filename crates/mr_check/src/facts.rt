@@ -1,6 +1,6 @@
 //! What the partitions are judged against.
 ghost use Rattle.std.specs.Prelude.{◌≡◌, ◌<◌, ◌+◌, ◌^◌, MatchOption, OnOk, length, None, Some};
-ghost use Rattle.mr_input.specs.Files.{nth};
+ghost use Rattle.mr_input.specs.Files.{nth_file};
 ghost use Rattle.mr_partition.specs.Partition.{partition_of};
 ghost use Rattle.mr_reduce.specs.Text.{text_of};
 ghost use Rattle.mr_sequential.specs.Good.{named};
@@ -30,20 +30,20 @@ impl<'a> Model for Facts<'a> {
 
     ghost Value = { Known };
 
-    ghost view = { λ f. record { order = f.request.now; triples = f.index.now; outputs = contents f.outputs.now } };
+    ghost view = { λ f. record { request = f.request.now; triples = f.index.now; outputs = contents f.outputs.now } };
 }
 
 impl<'a> Facts<'a> {
     /// The output of partition `p`.
     pub fn output(&self, p: u64) -> &[u8]
-        ensures { result.now ≡ nth self.now.outputs p }
+        ensures { result.now ≡ nth_file self.now.outputs p }
     {
         output_of(self.outputs, p)
     }
 
     /// The partition of a key.
     pub fn part(&self, key: &[u8]) -> u64
-        ensures { result ≡ partition_of key.now self.now.order.parts }
+        ensures { result ≡ partition_of key.now self.now.request.parts }
     {
         u64::from(partition(key, self.request.parts()))
     }
@@ -51,7 +51,7 @@ impl<'a> Facts<'a> {
     /// The text of a group, in place of what the buffer held.
     pub fn text(&self, key: &[u8], values: &Values, out: &mut Vec<u8>) -> Result<(), AllocError>
         requires { length values.now < 2 ^ 64 }
-        ensures { OnOk result (out.new.items ≡ text_of self.now.order.task key.now values.now) }
+        ensures { OnOk result (out.new.items ≡ text_of self.now.request.job key.now values.now) }
     {
         out.clear();
         values.put_text(self.request.job(), key, out)

@@ -1,7 +1,7 @@
 //! The judge, from the bytes of a certificate to the verdict.
 ghost use Rattle.std.specs.Prelude.{◌≡◌, ◌⊎◌, ◌<◌, ◌≤◌, ◌+◌, ◌^◌, [], IfOk, IfErr, MatchResult, IsTrue, None, length};
 ghost use Rattle.mr_input.specs.Files.{contents, split_total};
-ghost use Rattle.mr_certform.specs.Walking.{left, halt};
+ghost use Rattle.mr_certform.specs.Walking.{items_left, halt};
 ghost use Rattle.mr_certform.specs.Spelling.{items_of, stop};
 ghost use Rattle.mr_check.specs.declared.fault.No.TheVariants.{OutOfMemory};
 ghost use Rattle.mr_check.specs.Verdict.{start, subject_of, part_faults, count_faults, accepted_by, verdict_of};
@@ -52,12 +52,12 @@ fn check_with(
     meter: &mut Meter,
 ) -> Result<u64, No>
     requires same { plan.now.size ≡ request.now.split }
-    requires few { length (left walker.old) < 2 ^ 63 }
+    requires few { length (items_left walker.old) < 2 ^ 63 }
     requires count { (meter.old.lookups ≤ 2 ^ 63) × (meter.old.mapped ≤ 2 ^ 63) }
     ensures faults { let s = subject_of (case_at request.now plan.now.files (contents outputs.now) (halt walker.old)) skips.now in
-        let fs = part_faults s (halt walker.old) start (left walker.old) in
-        MatchResult result (λ n. (first fs ≡ None) × (n ≡ entries_in (left walker.old))) (λ e. Told fs e) }
-    ensures bounded { IsBounded plan.now (left walker.old) meter.old meter.new }
+        let fs = part_faults s (halt walker.old) start (items_left walker.old) in
+        MatchResult result (λ n. (first fs ≡ None) × (n ≡ entries_in (items_left walker.old))) (λ e. Told fs e) }
+    ensures bounded { IsBounded plan.now (items_left walker.old) meter.old meter.new }
     ensures exact { IfOk result (λ n. IsExact plan.now skips.now n meter.old meter.new) }
 {
     let index = EmissionIndex::of(alloc, plan, request.job(), skips, meter)?;
@@ -79,14 +79,14 @@ fn check_rest(
     meter: &mut Meter,
 ) -> Result<Yes, No>
     requires fits { split_total request.now.split input.now ≤ 2 ^ 20 }
-    requires awaits { IsTrue (awaits_skips (left walker.old)) }
-    requires few { length (left walker.old) < 2 ^ 63 }
+    requires awaits { IsTrue (awaits_skips (items_left walker.old)) }
+    requires few { length (items_left walker.old) < 2 ^ 63 }
     requires count { (meter.old.lookups ≤ 2 ^ 63) × (meter.old.mapped ≤ 2 ^ 63) }
-    ensures verdict { let fs = count_faults (case_at request.now input.now (contents outputs.now) (halt walker.old)) (left walker.old) in
+    ensures verdict { let fs = count_faults (case_at request.now input.now (contents outputs.now) (halt walker.old)) (items_left walker.old) in
         MatchResult result
-        (λ y. (first fs ≡ None) × (accepted_by (record { skips = []; pairs = 0 }) (left walker.old) ≡ record { skips = y.skips.items; pairs = y.pairs }))
+        (λ y. (first fs ≡ None) × (accepted_by (record { skips = []; pairs = 0 }) (items_left walker.old) ≡ record { skips = y.skips.items; pairs = y.pairs }))
         (λ e. Told fs e) }
-    ensures bounded { IsBounded (cut_by request.now input.now) (left walker.old) meter.old meter.new }
+    ensures bounded { IsBounded (cut_by request.now input.now) (items_left walker.old) meter.old meter.new }
     ensures exact { IfOk result (λ y. IsExact (cut_by request.now input.now) y.skips.items y.pairs meter.old meter.new) }
 {
     expect_count(walker, request.max_skips())?;
@@ -98,9 +98,9 @@ fn check_rest(
 
 /// A walker at the front of a certificate's bytes.
 fn walk(certificate: &[u8]) -> Walker<'_>
-    ensures items { left result ≡ items_of certificate.entry.now }
+    ensures items { items_left result ≡ items_of certificate.entry.now }
     ensures stop { halt result ≡ stop certificate.entry.now }
-    ensures few { length (left result) ≤ 2 ^ 63 }
+    ensures few { length (items_left result) ≤ 2 ^ 63 }
 {
     Walker::new(certificate)
 }
@@ -108,8 +108,8 @@ fn walk(certificate: &[u8]) -> Walker<'_>
 /// The items that the request and the input fix come next.
 fn expect_header(walker: &mut Walker<'_>, request: &Request, input: &Input) -> Result<(), No>
     ensures met { MatchResult result
-        (λ _. header_met (halt walker.old) request.now input.now (left walker.old) ≡ Ok (left walker.new))
-        (λ e. header_met (halt walker.old) request.now input.now (left walker.old) ≡ Err e) }
+        (λ _. header_met (halt walker.old) request.now input.now (items_left walker.old) ≡ Ok (items_left walker.new))
+        (λ e. header_met (halt walker.old) request.now input.now (items_left walker.old) ≡ Err e) }
     ensures stop { halt walker.new ≡ halt walker.old }
 {
     expect_job(walker, request)?;

@@ -1,5 +1,5 @@
 ghost use Rattle.std.specs.Prelude.{◌≡◌, ◌∷◌, [], ◌++◌, take, true, Ok, Err};
-ghost use Rattle.mr_jobs.specs.Task.{WordCount};
+ghost use Rattle.mr_jobs.specs.JobSpec.{WordCount};
 ghost use Rattle.mr_check.specs.declared.fault.No.{No};
 ghost use Rattle.mr_check.specs.Verdict.{verdict_of};
 ghost use Rattle.mr_check.specs.VerdictLaws.{YesIsGood, GoodIsYes, FaultByPlace, LaterItemsDontMatter, LaterOutputsDontMatter, OnlyComparedMatters, OtherOutputsDontMatter, BytesBehindDontMatter};
@@ -52,6 +52,6 @@ pub fn worked_rows()
     ensures key_order { of_groups (line 97 49 ++ line 97 49 ++ line 98 49) ((name 0 0 0 ∷ []) ∷ (name 0 0 2 ∷ []) ∷ (name 0 0 1 ∷ []) ∷ []) ≡ Err (No.KeyOrder 0 1 0) }
     ensures swapped { of_groups counted ((name 0 0 1 ∷ []) ∷ (name 0 0 0 ∷ name 0 0 2 ∷ []) ∷ []) ≡ Err (No.OutputDiffers 0 0) }
     ensures other_input { verdict_of (words 1 0) (a_b_aa ∷ []) (counted ∷ []) good_bytes ≡ Err No.OtherInput }
-    ensures other_job { verdict_of (record (words 1 0) { task = WordCount true }) (a_b_a ∷ []) (counted ∷ []) good_bytes ≡ Err No.OtherJob }
+    ensures other_job { verdict_of (record (words 1 0) { job = WordCount true }) (a_b_a ∷ []) (counted ∷ []) good_bytes ≡ Err No.OtherJob }
     ensures two_outputs { verdict_of (words 1 0) (a_b_a ∷ []) (counted ∷ counted ∷ []) good_bytes ≡ Err No.OutputCount }
 {}

@@ -2,7 +2,7 @@
 ghost use Rattle.std.specs.Prelude.{◌≡◌, ℕ, ◌<◌, ◌≤◌, ◌+◌, ◌-◌, ◌^◌, List, MatchResult, IfOk, None, length};
 ghost use Rattle.std.specs.List.{AllByRecursion};
 ghost use Rattle.mr_certform.specs.declared.item.Item.{Item as Read};
-ghost use Rattle.mr_certform.specs.Walking.{left, halt};
+ghost use Rattle.mr_certform.specs.Walking.{items_left, halt};
 ghost use Rattle.mr_check.specs.Verdict.{start, part_faults};
 ghost use Rattle.mr_check.specs.Judging.{subject, first, Told, Room, entries_in};
 ghost use Rattle.mr_check.specs.Ahead.{items_in, IsFound, Judged};
@@ -43,11 +43,11 @@ pub(crate) fn check_parts(
     walker: &mut Walker<'_>,
     meter: &mut Meter,
 ) -> Result<u64, No>
-    requires few { length (left walker.old) < 2 ^ 63 }
+    requires few { length (items_left walker.old) < 2 ^ 63 }
     requires count { meter.old.lookups ≤ 2 ^ 63 }
-    ensures faults { let fs = part_faults (subject facts.now) (halt walker.old) start (left walker.old) in
-        MatchResult result (λ n. (first fs ≡ None) × (n ≡ entries_in (left walker.old))) (λ e. Told fs e) }
-    ensures lookups { (meter.old.lookups ≤ meter.new.lookups) × (meter.new.lookups ≤ meter.old.lookups + entries_in (left walker.old)) }
+    ensures faults { let fs = part_faults (subject facts.now) (halt walker.old) start (items_left walker.old) in
+        MatchResult result (λ n. (first fs ≡ None) × (n ≡ entries_in (items_left walker.old))) (λ e. Told fs e) }
+    ensures lookups { (meter.old.lookups ≤ meter.new.lookups) × (meter.new.lookups ≤ meter.old.lookups + entries_in (items_left walker.old)) }
     ensures all { IfOk result (λ n. meter.new.lookups ≡ meter.old.lookups + n) }
     ensures mapped { meter.new.mapped ≡ meter.old.mapped }
 {

@@ -1,7 +1,7 @@
 //! The left-out records that a certificate lists.
 ghost use Rattle.std.specs.Prelude.{◌≡◌, ◌⊎◌, ◌≤◌, ◌++◌, ◌∷◌, [], MatchResult, OnOk, IsTrue, length};
 ghost use Rattle.mr_splits.specs.Cut.{records_of};
-ghost use Rattle.mr_certform.specs.Walking.{left, halt};
+ghost use Rattle.mr_certform.specs.Walking.{items_left, halt};
 ghost use Rattle.mr_check.specs.declared.fault.No.TheVariants.{OutOfMemory, Malformed};
 ghost use Rattle.mr_check.specs.Judging.{awaits_skips, counted, skip_front, behind_skip, skip_fault, listed};
 
@@ -14,10 +14,10 @@ use std::cmp::Ordering;
 
 /// How many records are left out comes next, which is at most so many.
 pub(crate) fn expect_count(walker: &mut Walker<'_>, most: u32) -> Result<(), No>
-    requires { IsTrue (awaits_skips (left walker.old)) }
+    requires { IsTrue (awaits_skips (items_left walker.old)) }
     ensures counted { MatchResult result
-        (λ _. counted (halt walker.old) most (left walker.old) ≡ Ok (left walker.new))
-        (λ e. counted (halt walker.old) most (left walker.old) ≡ Err e) }
+        (λ _. counted (halt walker.old) most (items_left walker.old) ≡ Ok (items_left walker.new))
+        (λ e. counted (halt walker.old) most (items_left walker.old) ≡ Err e) }
     ensures stop { halt walker.new ≡ halt walker.old }
 {
     let Item::Skips(listed) = walker.next()? else {
@@ -34,8 +34,8 @@ pub(crate) fn expect_count(walker: &mut Walker<'_>, most: u32) -> Result<(), No>
 /// The left-out record that comes next; another item is left where it stands.
 fn next_skip(walker: &mut Walker<'_>) -> Result<Option<RecordName>, No>
     ensures item { MatchResult result
-        (λ o. (o ≡ skip_front (left walker.old)) × (left walker.new ≡ behind_skip (left walker.old)) × (1 ≤ length (left walker.old)))
-        (λ e. (left walker.old ≡ []) × (e ≡ Malformed (halt walker.old))) }
+        (λ o. (o ≡ skip_front (items_left walker.old)) × (items_left walker.new ≡ behind_skip (items_left walker.old)) × (1 ≤ length (items_left walker.old)))
+        (λ e. (items_left walker.old ≡ []) × (e ≡ Malformed (halt walker.old))) }
     ensures stop { halt walker.new ≡ halt walker.old }
 {
     let here = *walker;
@@ -76,8 +76,8 @@ pub(crate) fn take_skips(
     plan: &Plan<'_>,
 ) -> Result<Vec<RecordName>, No>
     ensures listed { MatchResult result
-        (λ v. listed (records_of plan.now) (halt walker.old) [] (left walker.old) ≡ Ok (record { skips = v.items; behind = left walker.new }))
-        (λ e. (e ≡ OutOfMemory) ⊎ (listed (records_of plan.now) (halt walker.old) [] (left walker.old) ≡ Err e)) }
+        (λ v. listed (records_of plan.now) (halt walker.old) [] (items_left walker.old) ≡ Ok (record { skips = v.items; behind = items_left walker.new }))
+        (λ e. (e ≡ OutOfMemory) ⊎ (listed (records_of plan.now) (halt walker.old) [] (items_left walker.old) ≡ Err e)) }
     ensures stop { halt walker.new ≡ halt walker.old }
 {
     let mut skips = Vec::new(alloc);

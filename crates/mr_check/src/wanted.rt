@@ -1,7 +1,7 @@
 //! The items that the request and the input fix.
 ghost use Rattle.std.specs.Prelude.{◌≡◌, ◌∷◌, ◌++◌, [], MatchResult, map, length, nat_le};
 ghost use Rattle.mr_certform.specs.declared.item.Item.TheVariants.{LiteralByte, FileLength};
-ghost use Rattle.mr_certform.specs.Walking.{left, halt};
+ghost use Rattle.mr_certform.specs.Walking.{items_left, halt};
 ghost use Rattle.mr_check.specs.Verdict.{item_eq, job_wanted, input_wanted};
 ghost use Rattle.mr_check.specs.Judging.{met};
 
@@ -31,8 +31,8 @@ fn is_wanted(item: Item, wanted: Item) -> bool
 /// The next item is the wanted one, or else the certificate has this fault.
 fn expect(walker: &mut Walker<'_>, wanted: Item, fault: No) -> Result<(), No>
     ensures met { MatchResult result
-        (λ _. met (halt walker.old) (wanted ∷ []) fault (left walker.old) ≡ Ok (left walker.new))
-        (λ e. met (halt walker.old) (wanted ∷ []) fault (left walker.old) ≡ Err e) }
+        (λ _. met (halt walker.old) (wanted ∷ []) fault (items_left walker.old) ≡ Ok (items_left walker.new))
+        (λ e. met (halt walker.old) (wanted ∷ []) fault (items_left walker.old) ≡ Err e) }
     ensures stop { halt walker.new ≡ halt walker.old }
 {
     let item = walker.next()?;
@@ -45,8 +45,8 @@ fn expect(walker: &mut Walker<'_>, wanted: Item, fault: No) -> Result<(), No>
 /// The next items are the wanted ones, or else the certificate has this fault.
 fn expect_all(walker: &mut Walker<'_>, wanted: &[Item], fault: No) -> Result<(), No>
     ensures met { MatchResult result
-        (λ _. met (halt walker.old) wanted.now fault (left walker.old) ≡ Ok (left walker.new))
-        (λ e. met (halt walker.old) wanted.now fault (left walker.old) ≡ Err e) }
+        (λ _. met (halt walker.old) wanted.now fault (items_left walker.old) ≡ Ok (items_left walker.new))
+        (λ e. met (halt walker.old) wanted.now fault (items_left walker.old) ≡ Err e) }
     ensures stop { halt walker.new ≡ halt walker.old }
 {
     for item in wanted {
@@ -58,8 +58,8 @@ fn expect_all(walker: &mut Walker<'_>, wanted: &[Item], fault: No) -> Result<(),
 /// The bytes of the job's literal come next.
 fn expect_literal(walker: &mut Walker<'_>, literal: &[u8]) -> Result<(), No>
     ensures met { MatchResult result
-        (λ _. met (halt walker.old) (map LiteralByte literal.now) No.OtherJob (left walker.old) ≡ Ok (left walker.new))
-        (λ e. met (halt walker.old) (map LiteralByte literal.now) No.OtherJob (left walker.old) ≡ Err e) }
+        (λ _. met (halt walker.old) (map LiteralByte literal.now) No.OtherJob (items_left walker.old) ≡ Ok (items_left walker.new))
+        (λ e. met (halt walker.old) (map LiteralByte literal.now) No.OtherJob (items_left walker.old) ≡ Err e) }
     ensures stop { halt walker.new ≡ halt walker.old }
 {
     for byte in literal {
@@ -71,8 +71,8 @@ fn expect_literal(walker: &mut Walker<'_>, literal: &[u8]) -> Result<(), No>
 /// The length of each file comes next.
 fn expect_lengths(walker: &mut Walker<'_>, input: &Input) -> Result<(), No>
     ensures met { MatchResult result
-        (λ _. met (halt walker.old) (map (λ f. FileLength (length f)) input.now) No.OtherInput (left walker.old) ≡ Ok (left walker.new))
-        (λ e. met (halt walker.old) (map (λ f. FileLength (length f)) input.now) No.OtherInput (left walker.old) ≡ Err e) }
+        (λ _. met (halt walker.old) (map (λ f. FileLength (length f)) input.now) No.OtherInput (items_left walker.old) ≡ Ok (items_left walker.new))
+        (λ e. met (halt walker.old) (map (λ f. FileLength (length f)) input.now) No.OtherInput (items_left walker.old) ≡ Err e) }
     ensures stop { halt walker.new ≡ halt walker.old }
 {
     for i in 0..input.files() {
@@ -88,8 +88,8 @@ fn expect_lengths(walker: &mut Walker<'_>, input: &Input) -> Result<(), No>
 /// The items that the request fixes come next.
 pub(crate) fn expect_job(walker: &mut Walker<'_>, request: &Request) -> Result<(), No>
     ensures met { MatchResult result
-        (λ _. met (halt walker.old) (job_wanted request.now) No.OtherJob (left walker.old) ≡ Ok (left walker.new))
-        (λ e. met (halt walker.old) (job_wanted request.now) No.OtherJob (left walker.old) ≡ Err e) }
+        (λ _. met (halt walker.old) (job_wanted request.now) No.OtherJob (items_left walker.old) ≡ Ok (items_left walker.new))
+        (λ e. met (halt walker.old) (job_wanted request.now) No.OtherJob (items_left walker.old) ≡ Err e) }
     ensures stop { halt walker.new ≡ halt walker.old }
 {
     let job = request.job();
@@ -112,8 +112,8 @@ pub(crate) fn expect_job(walker: &mut Walker<'_>, request: &Request) -> Result<(
 /// The items that the input fixes come next.
 pub(crate) fn expect_input(walker: &mut Walker<'_>, input: &Input) -> Result<(), No>
     ensures met { MatchResult result
-        (λ _. met (halt walker.old) (input_wanted input.now) No.OtherInput (left walker.old) ≡ Ok (left walker.new))
-        (λ e. met (halt walker.old) (input_wanted input.now) No.OtherInput (left walker.old) ≡ Err e) }
+        (λ _. met (halt walker.old) (input_wanted input.now) No.OtherInput (items_left walker.old) ≡ Ok (items_left walker.new))
+        (λ e. met (halt walker.old) (input_wanted input.now) No.OtherInput (items_left walker.old) ≡ Err e) }
     ensures stop { halt walker.new ≡ halt walker.old }
 {
     expect(walker, Item::Files(input.files() as u32), No::OtherInput)?;

@@ -2,8 +2,8 @@
 use Rattle.std.specs.Prelude.{◌≡◌, ◌≢◌, ◌⊎◌, ℕ, ◌<◌, None, Result, Ok, Err, List, ◌++◌, length, codes, decimal}
 use Rattle.std.specs.List.{flat_map}
 use Rattle.mr_bytes.specs.declared.RecordName.{RecordName}
-use Rattle.mr_input.specs.Files.{nth}
-use Rattle.mr_jobs.specs.Task.{Order}
+use Rattle.mr_input.specs.Files.{nth_file}
+use Rattle.mr_jobs.specs.JobSpec.{RequestSpec}
 use Rattle.mr_certform.specs.Value.{Spells}
 use Rattle.mr_sequential.specs.Certified.{certificate_of}
 use Rattle.mr_sequential.specs.Emitted.{emitted}
@@ -37,24 +37,24 @@ TellsVerdict (Err told) text status = (told ≢ no.OutOfMemory) × (status ≡ 1
 
 -- 0 says that the result is certified under the order, with the pairs and the left-out records that are told, and 1
 -- that the judge refuses it
-abbrev pub IsJudged : Order → List (List ℕ) → List (List ℕ) → List ℕ → List ℕ → ℕ → Type 0
-IsJudged order files outputs bytes text status =
-    ((status ≡ 0) × (skips : List RecordName) × (pairs : ℕ) × (text ≡ yes_text pairs skips) × IsCertified order files outputs bytes skips pairs)
-    ⊎ ((status ≡ 1) × (fault : No) × (verdict_of order files outputs bytes ≡ Err fault))
+abbrev pub IsJudged : RequestSpec → List (List ℕ) → List (List ℕ) → List ℕ → List ℕ → ℕ → Type 0
+IsJudged request files outputs bytes text status =
+    ((status ≡ 0) × (skips : List RecordName) × (pairs : ℕ) × (text ≡ yes_text pairs skips) × IsCertified request files outputs bytes skips pairs)
+    ⊎ ((status ≡ 1) × (fault : No) × (verdict_of request files outputs bytes ≡ Err fault))
 
 -- the same of a result that is read, against files that are
-abbrev pub SaysJudged : Order → List ℕ → ℕ → Type 0
-SaysJudged order text status = (files : List (List ℕ)) × (outputs : List (List ℕ)) × (bytes : List ℕ) × IsJudged order files outputs bytes text status
+abbrev pub SaysJudged : RequestSpec → List ℕ → ℕ → Type 0
+SaysJudged request text status = (files : List (List ℕ)) × (outputs : List (List ℕ)) × (bytes : List ℕ) × IsJudged request files outputs bytes text status
 
 -- the outputs of the sequential execution without these records, which it may leave out, and bytes of its certificate
-pub record IsSequentialResult (order : Order) (files : List (List ℕ)) (skips : List RecordName) (outputs : List (List ℕ)) (bytes : List ℕ) : Type 0 where
-  pub allowed : skip_fault order files skips ≡ None
-  pub count : length outputs ≡ order.parts
-  pub texts : (p : ℕ) → p < order.parts → nth outputs p ≡ sequential order files skips p
-  pub spelled : Spells bytes (certificate_of order files skips)
+pub record IsSequentialResult (request : RequestSpec) (files : List (List ℕ)) (skips : List RecordName) (outputs : List (List ℕ)) (bytes : List ℕ) : Type 0 where
+  pub allowed : skip_fault request files skips ≡ None
+  pub count : length outputs ≡ request.parts
+  pub texts : (p : ℕ) → p < request.parts → nth_file outputs p ≡ sequential request files skips p
+  pub spelled : Spells bytes (certificate_of request files skips)
 
 -- the text says how many files are written, how many pairs are emitted and how many records are left out: those that
 -- the list spells
-abbrev pub SaysDone : Order → List ℕ → List ℕ → Type 0
-SaysDone order list text = (files : List (List ℕ)) × (skips : List RecordName) × SpellsNames list skips × (skip_fault order files skips ≡ None)
-    × (text ≡ done_line order.parts (length (emitted order files skips)) (length skips))
+abbrev pub SaysDone : RequestSpec → List ℕ → List ℕ → Type 0
+SaysDone request list text = (files : List (List ℕ)) × (skips : List RecordName) × SpellsNames list skips × (skip_fault request files skips ≡ None)
+    × (text ≡ done_line request.parts (length (emitted request files skips)) (length skips))

@@ -4,12 +4,12 @@ use Rattle.std.proofs.lemmas.List.{drop-append-le, take-append-le, drop_at, take
 use Rattle.mr_bytes.specs.declared.Value.{Value}
 use Rattle.mr_bytes.specs.declared.Value.TheVariants.{One}
 use Rattle.mr_jobs.specs.Emissions.{Emission}
-use Rattle.mr_index.specs.Pairs.{values_of, pairs_from, EndsRise, seen, Sound}
+use Rattle.mr_index.specs.Pairs.{stored_values, pairs_from, EndsRise, pairs_seen, Sound}
 use Rattle.mr_index.specs.declared.pairs.Pairs.{Pairs}
 
 -- a part of a list that has grown behind it
 pub range-more : {X : Type 0} (xs ys : List X) (a b : ℕ) → a ≤ b → b ≤ length xs → slice_range (xs ++ ys) a b ≡ slice_range xs a b
-range-more xs ys a b order within =
+range-more xs ys a b request within =
     ap (take (b - a)) (drop-append-le a xs ys (omega arith))
     ∙ take-append-le (b - a) (drop a xs) ys (omega (arith, length-drop a xs))
 
@@ -18,9 +18,9 @@ range-end xs ys =
     ap (take (length (xs ++ ys) - length xs)) (drop_at xs ys (length xs) refl)
     ∙ take_all (length (xs ++ ys) - length xs) ys (omega (arith, length-append xs ys))
 
-pub rise-order : (at last : ℕ) (ends : List ℕ) → EndsRise at last ends → at ≤ last
-rise-order at last [] r = omega (arith, r)
-rise-order at last (e ∷ ends) r = omega (arith, r.0, rise-order e last ends r.1)
+pub rise-request : (at last : ℕ) (ends : List ℕ) → EndsRise at last ends → at ≤ last
+rise-request at last [] r = omega (arith, r)
+rise-request at last (e ∷ ends) r = omega (arith, r.0, rise-request e last ends r.1)
 
 pub rise-push : (at last new : ℕ) (ends : List ℕ) → EndsRise at last ends → last ≤ new → EndsRise at new (ends ++ new ∷ [])
 rise-push at last new [] r h = (omega (arith, r, h), refl)
@@ -30,7 +30,7 @@ rise-push at last new (e ∷ ends) r h = (r.0, rise-push e last new ends r.1 h)
 pub rise-at : (at last i : ℕ) (ends : List ℕ) → EndsRise at last ends → i < length ends
     → (get_or (at ∷ ends) i 0 ≤ get_or ends i 0) × (get_or ends i 0 ≤ last)
 rise-at at last i [] r h = absurd (omega arith)
-rise-at at last zero (e ∷ ends) r h = (r.0, rise-order e last ends r.1)
+rise-at at last zero (e ∷ ends) r h = (r.0, rise-request e last ends r.1)
 rise-at at last (suc i) (e ∷ ends) r h = rise-at e last i ends r.1 (omega arith)
 
 pub length-pairs : (at : ℕ) (keys ends : List ℕ) (values : List Value) → length values ≡ length ends → length (pairs_from at keys ends values) ≡ length ends
@@ -53,11 +53,11 @@ pairs-more at keys key [] (w ∷ values) v r h = absurd (omega (arith, h))
 pairs-more at keys key (e ∷ ends) [] v r h = absurd (omega (arith, h))
 pairs-more at keys key (e ∷ ends) (w ∷ values) v r h =
     ap (λ (k : List ℕ). (k, w) ∷ pairs_from e (keys ++ key) (ends ++ length (keys ++ key) ∷ []) (values ++ v ∷ []))
-    (range-more keys key at e r.0 (rise-order e (length keys) ends r.1))
+    (range-more keys key at e r.0 (rise-request e (length keys) ends r.1))
     ∙ ap (λ (l : List Emission). (slice_range keys at e, w) ∷ l) (pairs-more e keys key ends values v r.1 (omega (arith, h)))
 
-pub length-values : (ones : ℕ) (rest : List Value) → length (values_of ones rest) ≡ ones + length rest
+pub length-values : (ones : ℕ) (rest : List Value) → length (stored_values ones rest) ≡ ones + length rest
 length-values ones rest = length-append (replicate ones One) rest ∙ ap (λ (n : ℕ). n + length rest) (length-replicate ones One)
 
-pub length-seen : (p : Pairs) → Sound p → length (seen p) ≡ length p.ends.items
-length-seen p s = length-pairs 0 p.keys.items p.ends.items (values_of p.ones p.rest.items) s.values
+pub length-seen : (p : Pairs) → Sound p → length (pairs_seen p) ≡ length p.ends.items
+length-seen p s = length-pairs 0 p.keys.items p.ends.items (stored_values p.ones p.rest.items) s.values

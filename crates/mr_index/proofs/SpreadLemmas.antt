@@ -8,18 +8,18 @@ use Rattle.std.specs.Option.{option_map, option_or}
 use Rattle.std.specs.List.{find, slice_get, flat_map}
 use Rattle.mr_bytes.specs.declared.Name.{Name}
 use Rattle.mr_bytes.specs.declared.RecordName.{RecordName}
-use Rattle.mr_jobs.specs.Task.{Task}
+use Rattle.mr_jobs.specs.JobSpec.{JobSpec}
 use Rattle.mr_jobs.specs.Emissions.{Emission, emissions}
 use Rattle.mr_splits.specs.Named.{NamedRecord, is_left_out}
-use Rattle.mr_splits.specs.Cut.{nth, is_record}
+use Rattle.mr_splits.specs.Cut.{nth_named, is_record}
 use Rattle.mr_splits.specs.Cut as cut
 use Rattle.mr_splits.proofs.NameLemmas.{test-from-name}
 use Rattle.mr_sequential.specs.Emitted.{Triple, placed_from, record_triples}
 use Rattle.mr_index.specs.Index.{mapped_among}
-use Rattle.mr_sequential.specs.Good.{is_named, named}
+use Rattle.mr_sequential.specs.Good.{has_name, named}
 use Rattle.mr_index.specs.Pairs.{EndsRise}
 use Rattle.mr_index.specs.Building.{spread, kept_emissions, Shows}
-use Rattle.mr_index.proofs.PairLemmas.{range-more, range-end, rise-order, rise-push}
+use Rattle.mr_index.proofs.PairLemmas.{range-more, range-end, rise-request, rise-push}
 
 -- one more record
 pub spread-more : (at : ℕ) (rs : List NamedRecord) (ends : List ℕ) (pairs more : List Emission) (r : NamedRecord) → EndsRise at (length pairs) ends
@@ -33,43 +33,43 @@ spread-more at [] (e ∷ ends) pairs more r rise h = absurd (omega (arith, h))
 spread-more at (x ∷ rs) [] pairs more r rise h = absurd (omega (arith, h))
 spread-more at (x ∷ rs) (e ∷ ends) pairs more r rise h =
     ap (λ (es : List Emission). placed_from x.name 0 es ++ spread e (rs ++ r ∷ []) (ends ++ length (pairs ++ more) ∷ []) (pairs ++ more))
-    (range-more pairs more at e rise.0 (rise-order e (length pairs) ends rise.1))
+    (range-more pairs more at e rise.0 (rise-request e (length pairs) ends rise.1))
     ∙ ap (λ (ts : List Triple). placed_from x.name 0 (slice_range pairs at e) ++ ts) (spread-more e rs ends pairs more r rise.1 (omega (arith, h)))
     ∙ sym (append_assoc (placed_from x.name 0 (slice_range pairs at e)) (spread e rs ends pairs) (placed_from r.name 0 more))
 
-placed-kept : (task : Task) (skips : List RecordName) (r : NamedRecord) → placed_from r.name 0 (kept_emissions task skips r) ≡ record_triples task skips r
+placed-kept : (job : JobSpec) (skips : List RecordName) (r : NamedRecord) → placed_from r.name 0 (kept_emissions job skips r) ≡ record_triples job skips r
 unfolding placed_from
-placed-kept task skips r =
-    elim (is_left_out skips r.name) as (λ b. placed_from r.name 0 (cond b [] (emissions task r.file r.start r.bytes))
-    ≡ cond b [] (placed_from r.name 0 (emissions task r.file r.start r.bytes))) [
+placed-kept job skips r =
+    elim (is_left_out skips r.name) as (λ b. placed_from r.name 0 (cond b [] (emissions job r.file r.start r.bytes))
+    ≡ cond b [] (placed_from r.name 0 (emissions job r.file r.start r.bytes))) [
       | true ↦ refl
       | false ↦ refl
     ]
 
-pub shows-more : (task : Task) (skips : List RecordName) (rs : List NamedRecord) (ends ends' : List ℕ) (pairs pairs' : List Emission) (r : NamedRecord)
-    → Shows task skips rs ends pairs → pairs' ≡ pairs ++ kept_emissions task skips r → ends' ≡ ends ++ length pairs' ∷ []
-    → Shows task skips (rs ++ r ∷ []) ends' pairs'
-shows-more task skips rs ends ends' pairs pairs' r s grown ended =
-    let more : List Emission = kept_emissions task skips r in
+pub shows-more : (job : JobSpec) (skips : List RecordName) (rs : List NamedRecord) (ends ends' : List ℕ) (pairs pairs' : List Emission) (r : NamedRecord)
+    → Shows job skips rs ends pairs → pairs' ≡ pairs ++ kept_emissions job skips r → ends' ≡ ends ++ length pairs' ∷ []
+    → Shows job skips (rs ++ r ∷ []) ends' pairs'
+shows-more job skips rs ends ends' pairs pairs' r s grown ended =
+    let more : List Emission = kept_emissions job skips r in
     let ends-are : ends' ≡ ends ++ length (pairs ++ more) ∷ [] = ended ∙ ap (λ (es : List Emission). ends ++ length es ∷ []) grown in
-    let after : Shows task skips (rs ++ r ∷ []) (ends ++ length (pairs ++ more) ∷ []) (pairs ++ more) = record {
+    let after : Shows job skips (rs ++ r ∷ []) (ends ++ length (pairs ++ more) ∷ []) (pairs ++ more) = record {
       count = omega (arith, length_push ends (length (pairs ++ more)), length_push rs r, s.count);
       rise = rise-push 0 (length pairs) (length (pairs ++ more)) ends s.rise (omega (arith, length-append pairs more));
       same = spread-more 0 rs ends pairs more r s.rise s.count
           ∙ ap (λ (ts : List Triple). ts ++ placed_from r.name 0 more) s.same
-          ∙ ap (λ (ts : List Triple). flat_map (record_triples task skips) rs ++ ts) (placed-kept task skips r)
-          ∙ flat_map_more (record_triples task skips) [] rs r;
+          ∙ ap (λ (ts : List Triple). flat_map (record_triples job skips) rs ++ ts) (placed-kept job skips r)
+          ∙ flat_map_more (record_triples job skips) [] rs r;
     } in
-    subst (λ (es : List ℕ). Shows task skips (rs ++ r ∷ []) es pairs') (sym ends-are)
-    (subst (λ (es : List Emission). Shows task skips (rs ++ r ∷ []) (ends ++ length (pairs ++ more) ∷ []) es) (sym grown) after)
+    subst (λ (es : List ℕ). Shows job skips (rs ++ r ∷ []) es pairs') (sym ends-are)
+    (subst (λ (es : List Emission). Shows job skips (rs ++ r ∷ []) (ends ++ length (pairs ++ more) ∷ []) es) (sym grown) after)
 
-pub shows-none : (task : Task) (skips : List RecordName) (rs : List NamedRecord) (ends : List ℕ) (pairs : List Emission) → rs ≡ [] → ends ≡ [] → pairs ≡ []
-    → Shows task skips rs ends pairs
+pub shows-none : (job : JobSpec) (skips : List RecordName) (rs : List NamedRecord) (ends : List ℕ) (pairs : List Emission) → rs ≡ [] → ends ≡ [] → pairs ≡ []
+    → Shows job skips rs ends pairs
 unfolding spread
-shows-none task skips rs ends pairs a b d =
-    subst (λ (x : List NamedRecord). Shows task skips x ends pairs) (sym a)
-    (subst (λ (x : List ℕ). Shows task skips [] x pairs) (sym b)
-    (subst (λ (x : List Emission). Shows task skips [] [] x) (sym d) (record { count = refl; rise = refl; same = refl })))
+shows-none job skips rs ends pairs a b d =
+    subst (λ (x : List NamedRecord). Shows job skips x ends pairs) (sym a)
+    (subst (λ (x : List ℕ). Shows job skips [] x pairs) (sym b)
+    (subst (λ (x : List Emission). Shows job skips [] [] x) (sym d) (record { count = refl; rise = refl; same = refl })))
 
 pub mapped-more : (skips : List RecordName) (rs : List NamedRecord) (r : NamedRecord)
     → mapped_among skips (rs ++ r ∷ []) ≡ mapped_among skips rs + cond (is_left_out skips r.name) 0 1
@@ -103,7 +103,7 @@ test-and : (a b : Bool) → b ≡ false → (a && b) ≡ false
 test-and true b h = h
 test-and false b h = refl
 
-test-false : (n : Name) (t : Triple) → (t.name ≡ n → ⊥) → is_named n t ≡ false
+test-false : (n : Name) (t : Triple) → (t.name ≡ n → ⊥) → has_name n t ≡ false
 test-false n t h =
     elim (cases_eq t.name.split n.split) [
       | inr ne ↦ ap (λ b. b && (eqb t.name.rec n.rec && eqb t.name.place n.place)) (ne_eqb t.name.split n.split ne)
@@ -118,34 +118,34 @@ test-false n t h =
           ])
     ]
 
-test-true : (n : Name) (t : Triple) → t.name ≡ n → is_named n t ≡ true
+test-true : (n : Name) (t : Triple) → t.name ≡ n → has_name n t ≡ true
 test-true n t e =
     ap (λ b. b && (eqb t.name.rec n.rec && eqb t.name.place n.place)) (eq-eqb t.name.split n.split (ap (λ (x : Name). x.split) e))
     ∙ ap (λ b. b && eqb t.name.place n.place) (eq-eqb t.name.rec n.rec (ap (λ (x : Name). x.rec) e))
     ∙ eq-eqb t.name.place n.place (ap (λ (x : Name). x.place) e)
 
 find-placed : (r : RecordName) (k j : ℕ) (es : List Emission) (n : Name) → r ≡ record_of n → n.place ≡ k + j
-    → find (is_named n) (placed_from r k es) ≡ option_map (triple_for n) (slice_get es j)
+    → find (has_name n) (placed_from r k es) ≡ option_map (triple_for n) (slice_get es j)
 unfolding placed_from
 find-placed r k j [] n same place = refl
 find-placed r k zero (e ∷ es) n same place =
     let name : record { split = r.split; rec = r.rec; place = k } ≡ n =
     name-is (record { split = r.split; rec = r.rec; place = k }) n (ap (λ (x : RecordName). x.split) same) (ap (λ (x : RecordName). x.rec) same) (omega (arith, place)) in
     let t : Triple = record { key = e.0; value = e.1; name = record { split = r.split; rec = r.rec; place = k } } in
-    ap (λ b. cond b (Some t) (find (is_named n) (placed_from r (k + 1) es))) (test-true n t name)
+    ap (λ b. cond b (Some t) (find (has_name n) (placed_from r (k + 1) es))) (test-true n t name)
     ∙ ap (λ (m : Name). Some (triple_for m e)) name
 find-placed r k (suc j) (e ∷ es) n same place =
     let t : Triple = record { key = e.0; value = e.1; name = record { split = r.split; rec = r.rec; place = k } } in
-    ap (λ b. cond b (Some t) (find (is_named n) (placed_from r (k + 1) es)))
+    ap (λ b. cond b (Some t) (find (has_name n) (placed_from r (k + 1) es)))
     (test-false n t (λ e. omega (arith, place, ap (λ (x : Name). x.place) e)))
     ∙ find-placed r (k + 1) j es n same (omega (arith, place))
 
-find-other : (r : RecordName) (k : ℕ) (es : List Emission) (n : Name) → (r ≡ record_of n → ⊥) → find (is_named n) (placed_from r k es) ≡ None
+find-other : (r : RecordName) (k : ℕ) (es : List Emission) (n : Name) → (r ≡ record_of n → ⊥) → find (has_name n) (placed_from r k es) ≡ None
 unfolding placed_from
 find-other r k [] n other = refl
 find-other r k (e ∷ es) n other =
     let t : Triple = record { key = e.0; value = e.1; name = record { split = r.split; rec = r.rec; place = k } } in
-    ap (λ b. cond b (Some t) (find (is_named n) (placed_from r (k + 1) es)))
+    ap (λ b. cond b (Some t) (find (has_name n) (placed_from r (k + 1) es)))
     (test-false n t (λ e. other (ap (λ (x : Name). record { split = x.split; rec = x.rec }) e)))
     ∙ find-other r (k + 1) es n other
 
@@ -155,30 +155,30 @@ or-none (Some t) = refl
 
 -- no triple, where no record has the name
 pub find-none : (at : ℕ) (rs : List NamedRecord) (ends : List ℕ) (pairs : List Emission) (n : Name)
-    → ((k : ℕ) → k < length rs → (nth rs k).name ≡ record_of n → ⊥) → named (spread at rs ends pairs) n ≡ None
+    → ((k : ℕ) → k < length rs → (nth_named rs k).name ≡ record_of n → ⊥) → named (spread at rs ends pairs) n ≡ None
 unfolding spread
 find-none at [] ends pairs n none = refl
 find-none at (r ∷ rs) [] pairs n none = refl
 find-none at (r ∷ rs) (e ∷ ends) pairs n none =
-    find-append (is_named n) (placed_from r.name 0 (slice_range pairs at e)) (spread e rs ends pairs)
+    find-append (has_name n) (placed_from r.name 0 (slice_range pairs at e)) (spread e rs ends pairs)
     ∙ ap (λ o. option_or o (named (spread e rs ends pairs) n)) (find-other r.name 0 (slice_range pairs at e) n (none 0 (omega arith)))
     ∙ find-none e rs ends pairs n (λ k h. none (suc k) (omega (arith, h)))
 
 -- the triple, among the pairs of the one record that has the name
 pub find-there : (at : ℕ) (rs : List NamedRecord) (ends : List ℕ) (pairs : List Emission) (n : Name) (i : ℕ) → length ends ≡ length rs → i < length rs
-    → (nth rs i).name ≡ record_of n → ((k : ℕ) → k < length rs → (nth rs k).name ≡ record_of n → k ≡ i)
+    → (nth_named rs i).name ≡ record_of n → ((k : ℕ) → k < length rs → (nth_named rs k).name ≡ record_of n → k ≡ i)
     → named (spread at rs ends pairs) n ≡ option_map (triple_for n) (slice_get (slice_range pairs (get_or (at ∷ ends) i 0) (get_or ends i 0)) n.place)
 unfolding spread
 find-there at [] ends pairs n i count h is only = absurd (omega arith)
 find-there at (r ∷ rs) [] pairs n i count h is only = absurd (omega (arith, count))
 find-there at (r ∷ rs) (e ∷ ends) pairs n zero count h is only =
-    find-append (is_named n) (placed_from r.name 0 (slice_range pairs at e)) (spread e rs ends pairs)
-    ∙ ap (option_or (find (is_named n) (placed_from r.name 0 (slice_range pairs at e))))
+    find-append (has_name n) (placed_from r.name 0 (slice_range pairs at e)) (spread e rs ends pairs)
+    ∙ ap (option_or (find (has_name n) (placed_from r.name 0 (slice_range pairs at e))))
     (find-none e rs ends pairs n (λ k l m. omega (arith, only (suc k) (omega (arith, l)) m)))
-    ∙ or-none (find (is_named n) (placed_from r.name 0 (slice_range pairs at e)))
+    ∙ or-none (find (has_name n) (placed_from r.name 0 (slice_range pairs at e)))
     ∙ find-placed r.name 0 n.place (slice_range pairs at e) n is (omega arith)
 find-there at (r ∷ rs) (e ∷ ends) pairs n (suc i) count h is only =
-    find-append (is_named n) (placed_from r.name 0 (slice_range pairs at e)) (spread e rs ends pairs)
+    find-append (has_name n) (placed_from r.name 0 (slice_range pairs at e)) (spread e rs ends pairs)
     ∙ ap (λ o. option_or o (named (spread e rs ends pairs) n))
     (find-other r.name 0 (slice_range pairs at e) n (λ m. omega (arith, only 0 (omega arith) m)))
     ∙ find-there e rs ends pairs n i (omega (arith, count)) (omega arith) is (λ k l m. omega (arith, only (suc k) (omega (arith, l)) m))
@@ -194,24 +194,24 @@ slice_get-past (e ∷ es) zero h = absurd (omega arith)
 slice_get-past (e ∷ es) (suc i) h = slice_get-past es i (omega arith)
 
 length-range : (pairs : List Emission) (a b : ℕ) → a ≤ b → b ≤ length pairs → length (slice_range pairs a b) ≡ b - a
-length-range pairs a b order within = length-take-le (b - a) (drop a pairs) (omega (arith, length-drop a pairs))
+length-range pairs a b request within = length-take-le (b - a) (drop a pairs) (omega (arith, length-drop a pairs))
 
 -- a pair of a part of the pairs
 pub part-in : (pairs : List Emission) (a b i : ℕ) (d : Emission) → a ≤ b → b ≤ length pairs → a + i < b
     → slice_get (slice_range pairs a b) i ≡ Some (get_or pairs (a + i) d)
-part-in pairs a b i d order within h =
-    slice_get-in (slice_range pairs a b) i d (omega (arith, length-range pairs a b order within, h))
+part-in pairs a b i d request within h =
+    slice_get-in (slice_range pairs a b) i d (omega (arith, length-range pairs a b request within, h))
     ∙ ap (λ (e : Emission). Some e) (get_or-take (b - a) (drop a pairs) i d (omega (arith, h)) ∙ get_or-drop a pairs i d)
 
 pub part-past : (pairs : List Emission) (a b i : ℕ) → a ≤ b → b ≤ length pairs → b ≤ a + i → slice_get (slice_range pairs a b) i ≡ None
-part-past pairs a b i order within h = slice_get-past (slice_range pairs a b) i (omega (arith, length-range pairs a b order within, h))
+part-past pairs a b i request within h = slice_get-past (slice_range pairs a b) i (omega (arith, length-range pairs a b request within, h))
 
 -- where there is no record of a name, no record has it
-pub no-record : (rs : List NamedRecord) (n : Name) → is_record rs (record_of n) ≡ false → (k : ℕ) → k < length rs → (nth rs k).name ≡ record_of n → ⊥
+pub no-record : (rs : List NamedRecord) (n : Name) → is_record rs (record_of n) ≡ false → (k : ℕ) → k < length rs → (nth_named rs k).name ≡ record_of n → ⊥
 no-record rs n none k h is =
     false≢true (sym none
-    ∙ list_any_at (cut.is_named (record_of n)) rs k (record { name = record { split = 0; rec = 0 }; file = 0; start = 0; bytes = [] }) h
-    (test-from-name (record_of n) (nth rs k) is))
+    ∙ list_any_at (cut.has_record_name (record_of n)) rs k (record { name = record { split = 0; rec = 0 }; file = 0; start = 0; bytes = [] }) h
+    (test-from-name (record_of n) (nth_named rs k) is))
 
 pub length-placed : (r : RecordName) (k : ℕ) (es : List Emission) → length (placed_from r k es) ≡ length es
 unfolding placed_from
@@ -231,7 +231,7 @@ length-spread at (r ∷ rs) (e ∷ ends) pairs count rise =
       length-spread e rs ends pairs (omega (arith, count)) rise.1,
       length-append (placed_from r.name 0 (slice_range pairs at e)) (spread e rs ends pairs),
       length-placed r.name 0 (slice_range pairs at e),
-      length-range pairs at e rise.0 (rise-order e (length pairs) ends rise.1),
+      length-range pairs at e rise.0 (rise-request e (length pairs) ends rise.1),
       rise.0,
     )
 
@@ -288,13 +288,13 @@ rise-from at last (suc i) (e ∷ ends) r h = omega (arith, r.0, rise-from e last
 
 pub names-spread : (at : ℕ) (rs : List NamedRecord) (ends : List ℕ) (pairs : List Emission) (i j k : ℕ) (d : Name) → length ends ≡ length rs → EndsRise at (length pairs) ends
     → i < length rs → get_or (at ∷ ends) i 0 + j < get_or ends i 0 → at + k ≡ get_or (at ∷ ends) i 0 + j
-    → get_or (map (λ (t : Triple). t.name) (spread at rs ends pairs)) k d ≡ record { split = (nth rs i).name.split; rec = (nth rs i).name.rec; place = j }
+    → get_or (map (λ (t : Triple). t.name) (spread at rs ends pairs)) k d ≡ record { split = (nth_named rs i).name.split; rec = (nth_named rs i).name.rec; place = j }
 unfolding spread
 names-spread at [] ends pairs i j k d count rise h within is = absurd (omega arith)
 names-spread at (r ∷ rs) [] pairs i j k d count rise h within is = absurd (omega (arith, count))
 names-spread at (r ∷ rs) (e ∷ ends) pairs zero j k d count rise h within is =
     let es : List Emission = slice_range pairs at e in
-    let long : length es ≡ e - at = length-range pairs at e rise.0 (rise-order e (length pairs) ends rise.1) in
+    let long : length es ≡ e - at = length-range pairs at e rise.0 (rise-request e (length pairs) ends rise.1) in
     let size : length (map (λ (t : Triple). t.name) (placed_from r.name 0 es)) ≡ length es = length-map (placed_from r.name 0 es) (λ (t : Triple). t.name) ∙ length-placed r.name 0 es in
     let same : k ≡ j = omega (arith, is) in
     ap (λ (n : ℕ). get_or (map (λ (t : Triple). t.name) (placed_from r.name 0 es ++ spread e rs ends pairs)) n d) same
@@ -304,7 +304,7 @@ names-spread at (r ∷ rs) (e ∷ ends) pairs zero j k d count rise h within is 
     ∙ ap (λ (p : ℕ). record { split = r.name.split; rec = r.name.rec; place = p }) (omega arith))))
 names-spread at (r ∷ rs) (e ∷ ends) pairs (suc i) j k d count rise h within is =
     let es : List Emission = slice_range pairs at e in
-    let long : length es ≡ e - at = length-range pairs at e rise.0 (rise-order e (length pairs) ends rise.1) in
+    let long : length es ≡ e - at = length-range pairs at e rise.0 (rise-request e (length pairs) ends rise.1) in
     let size : length (map (λ (t : Triple). t.name) (placed_from r.name 0 es)) ≡ length es = length-map (placed_from r.name 0 es) (λ (t : Triple). t.name) ∙ length-placed r.name 0 es in
     let from : e ≤ get_or (e ∷ ends) i 0 = rise-from e (length pairs) i ends rise.1 (omega (arith, count, h)) in
     let rest : ℕ = k - (e - at) in

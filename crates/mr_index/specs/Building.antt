@@ -2,7 +2,7 @@
 use Rattle.std.specs.Prelude.{◌≡◌, ℕ, if◌then◌else◌, List, [], ◌∷◌, ◌++◌, length, slice_range}
 use Rattle.std.specs.List.{flat_map}
 use Rattle.mr_bytes.specs.declared.RecordName.{RecordName}
-use Rattle.mr_jobs.specs.Task.{Task}
+use Rattle.mr_jobs.specs.JobSpec.{JobSpec}
 use Rattle.mr_jobs.specs.Emissions.{Emission, emissions}
 use Rattle.mr_splits.specs.Named.{NamedRecord, is_left_out}
 use Rattle.mr_sequential.specs.Emitted.{Triple, placed_from, record_triples}
@@ -15,11 +15,11 @@ spread at (r ∷ rs) [] pairs = []
 spread at (r ∷ rs) (e ∷ ends) pairs = placed_from r.name 0 (slice_range pairs at e) ++ spread e rs ends pairs
 
 -- what a record emits, unless it is left out
-abbrev pub kept_emissions : Task → List RecordName → NamedRecord → List Emission
-kept_emissions task skips r = if is_left_out skips r.name then [] else emissions task r.file r.start r.bytes
+abbrev pub kept_emissions : JobSpec → List RecordName → NamedRecord → List Emission
+kept_emissions job skips r = if is_left_out skips r.name then [] else emissions job r.file r.start r.bytes
 
 -- the tables show just the triples of the records
-pub record Shows (task : Task) (skips : List RecordName) (rs : List NamedRecord) (ends : List ℕ) (pairs : List Emission) : Type 0 where
+pub record Shows (job : JobSpec) (skips : List RecordName) (rs : List NamedRecord) (ends : List ℕ) (pairs : List Emission) : Type 0 where
   pub count : length ends ≡ length rs
   pub rise : EndsRise 0 (length pairs) ends
-  pub same : spread 0 rs ends pairs ≡ flat_map (record_triples task skips) rs
+  pub same : spread 0 rs ends pairs ≡ flat_map (record_triples job skips) rs

@@ -4,14 +4,14 @@ use Rattle.mr_bytes.specs.declared.Name.{Name}
 use Rattle.mr_bytes.specs.declared.RecordName.{RecordName}
 use Rattle.mr_bytes.specs.declared.Value.{Value}
 use Rattle.mr_bytes.specs.declared.Value.TheVariants.{One}
-use Rattle.mr_jobs.specs.Task.{Task}
+use Rattle.mr_jobs.specs.JobSpec.{JobSpec}
 use Rattle.mr_splits.specs.Named.{NamedRecord, is_left_out}
 use Rattle.mr_splits.specs.Cut.{Cut}
 use Rattle.mr_sequential.specs.Emitted.{Triple, emitted}
 
 -- all triples of a job over files that are cut, without the left-out records; the other numbers of an order don't matter
-abbrev pub triples_of : Task → Cut → List RecordName → List Triple
-triples_of task cut skips = emitted (record { task = task; parts = 1; split = cut.size; skips = 0 }) cut.files skips
+abbrev pub triples_of : JobSpec → Cut → List RecordName → List Triple
+triples_of job cut skips = emitted (record { job = job; parts = 1; split = cut.size; skips = 0 }) cut.files skips
 
 -- how many of the records are mapped
 abbrev pub mapped_among : List RecordName → List NamedRecord → ℕ

@@ -6,8 +6,8 @@ use Rattle.mr_jobs.specs.Emissions.{Emission}
 use Rattle.mr_index.specs.declared.pairs.Pairs.{Pairs}
 
 -- values of which the first so many are One
-abbrev pub values_of : ℕ → List Value → List Value
-values_of ones rest = replicate ones One ++ rest
+abbrev pub stored_values : ℕ → List Value → List Value
+stored_values ones rest = replicate ones One ++ rest
 
 -- the keys, each from the end of the one before, with their values
 abbrev pub pairs_from : ℕ → List ℕ → List ℕ → List Value → List Emission
@@ -21,10 +21,10 @@ EndsRise at last [] = at ≡ last
 EndsRise at last (e ∷ ends) = (at ≤ e) × EndsRise e last ends
 
 -- the pairs that are kept
-abbrev pub seen : Pairs → List Emission
-seen p = pairs_from 0 p.keys.items p.ends.items (values_of p.ones p.rest.items)
+abbrev pub pairs_seen : Pairs → List Emission
+pairs_seen p = pairs_from 0 p.keys.items p.ends.items (stored_values p.ones p.rest.items)
 
 -- the last key ends with the bytes, and each key has a value
 pub record Sound (p : Pairs) : Type 0 where
   pub rise : EndsRise 0 (length p.keys.items) p.ends.items
-  pub values : length (values_of p.ones p.rest.items) ≡ length p.ends.items
+  pub values : length (stored_values p.ones p.rest.items) ≡ length p.ends.items

@@ -2,11 +2,11 @@
 ghost use Rattle.std.specs.Prelude.{◌≡◌, ◌≢◌, ℕ, ◌+◌, ◌≤◌, ◌<◌, ◌^◌, ◌++◌, [], ◌∷◌, if◌then◌else◌, IfOk, IfSome, OnOk, OnErr, MatchOption, Some, None, length};
 ghost use Rattle.mr_input.specs.Files.{split_total};
 ghost use Rattle.mr_splits.specs.Named.{of_split, is_left_out};
-ghost use Rattle.mr_splits.specs.Laws.{joined};
-ghost use Rattle.mr_splits.specs.Cut.{records_of, nth, left_out_flags};
+ghost use Rattle.mr_splits.specs.Laws.{joined_splits};
+ghost use Rattle.mr_splits.specs.Cut.{records_of, nth_named, left_out_flags};
 ghost use Rattle.mr_index.specs.Index.{triples_of, mapped_among, pair_at, name_at};
 ghost use Rattle.mr_sequential.specs.Good.{named};
-ghost use Rattle.mr_index.specs.Pairs.{seen, Sound};
+ghost use Rattle.mr_index.specs.Pairs.{pairs_seen, Sound};
 ghost use Rattle.mr_index.specs.Building.{kept_emissions, Shows};
 
 use crate::pairs::{Pairs, push_end, room_for, start_of};
@@ -51,11 +51,11 @@ impl<'p, 'j, 's> Work<'p, 'j, 's> {
         requires sound { Sound tables.old.pairs }
         requires room { tables.old.mapped ≤ length tables.old.ends.items }
         ensures sound { OnOk result (Sound tables.new.pairs) }
-        ensures pairs { OnOk result (seen tables.new.pairs
-            ≡ seen tables.old.pairs ++ kept_emissions self.now.job.now self.now.skips.now (nth (of_split s (records_of self.now.plan.now)) r)) }
-        ensures ends { OnOk result (tables.new.ends.items ≡ tables.old.ends.items ++ length (seen tables.new.pairs) ∷ []) }
+        ensures pairs { OnOk result (pairs_seen tables.new.pairs
+            ≡ pairs_seen tables.old.pairs ++ kept_emissions self.now.job.now self.now.skips.now (nth_named (of_split s (records_of self.now.plan.now)) r)) }
+        ensures ends { OnOk result (tables.new.ends.items ≡ tables.old.ends.items ++ length (pairs_seen tables.new.pairs) ∷ []) }
         ensures counted { OnOk result (tables.new.mapped
-            ≡ tables.old.mapped + (if is_left_out self.now.skips.now (nth (of_split s (records_of self.now.plan.now)) r).name then 0 else 1)) }
+            ≡ tables.old.mapped + (if is_left_out self.now.skips.now (nth_named (of_split s (records_of self.now.plan.now)) r).name then 0 else 1)) }
         ensures err { OnErr result (tables.new.mapped ≡ tables.old.mapped) }
     {
         let left_out = self.left_out.has(self.plan.number_of(s, r));
@@ -72,12 +72,12 @@ impl<'p, 'j, 's> Work<'p, 'j, 's> {
     fn map_split(&self, s: u32, tables: &mut Tables) -> Result<(), AllocError>
         requires split { s < split_total self.now.plan.now.size self.now.plan.now.files }
         requires sound { Sound tables.old.pairs }
-        requires shows { Shows self.now.job.now self.now.skips.now (joined 0 s (records_of self.now.plan.now)) tables.old.ends.items (seen tables.old.pairs) }
-        requires counted { tables.old.mapped ≡ mapped_among self.now.skips.now (joined 0 s (records_of self.now.plan.now)) }
+        requires shows { Shows self.now.job.now self.now.skips.now (joined_splits 0 s (records_of self.now.plan.now)) tables.old.ends.items (pairs_seen tables.old.pairs) }
+        requires counted { tables.old.mapped ≡ mapped_among self.now.skips.now (joined_splits 0 s (records_of self.now.plan.now)) }
         ensures sound { OnOk result (Sound tables.new.pairs) }
-        ensures shows { OnOk result (Shows self.now.job.now self.now.skips.now (joined 0 (s + 1) (records_of self.now.plan.now)) tables.new.ends.items (seen tables.new.pairs)) }
-        ensures counted { OnOk result (tables.new.mapped ≡ mapped_among self.now.skips.now (joined 0 (s + 1) (records_of self.now.plan.now))) }
-        ensures err { OnErr result ((tables.new.mapped ≤ mapped_among self.now.skips.now (joined 0 (s + 1) (records_of self.now.plan.now))) × (tables.new.mapped < 2 ^ 63)) }
+        ensures shows { OnOk result (Shows self.now.job.now self.now.skips.now (joined_splits 0 (s + 1) (records_of self.now.plan.now)) tables.new.ends.items (pairs_seen tables.new.pairs)) }
+        ensures counted { OnOk result (tables.new.mapped ≡ mapped_among self.now.skips.now (joined_splits 0 (s + 1) (records_of self.now.plan.now))) }
+        ensures err { OnErr result ((tables.new.mapped ≤ mapped_among self.now.skips.now (joined_splits 0 (s + 1) (records_of self.now.plan.now))) × (tables.new.mapped < 2 ^ 63)) }
     {
         for r in 0..self.plan.records_in(s) {
             self.map_record(s, r, tables)?;
@@ -88,10 +88,10 @@ impl<'p, 'j, 's> Work<'p, 'j, 's> {
     /// Appends what all records emit.
     fn map_all(&self, tables: &mut Tables) -> Result<(), AllocError>
         requires sound { Sound tables.old.pairs }
-        requires none { (seen tables.old.pairs ≡ []) × (tables.old.ends.items ≡ []) × (tables.old.mapped ≡ 0) }
+        requires none { (pairs_seen tables.old.pairs ≡ []) × (tables.old.ends.items ≡ []) × (tables.old.mapped ≡ 0) }
         requires size { 0 < self.now.plan.now.size }
         ensures sound { OnOk result (Sound tables.new.pairs) }
-        ensures shows { OnOk result (Shows self.now.job.now self.now.skips.now (records_of self.now.plan.now) tables.new.ends.items (seen tables.new.pairs)) }
+        ensures shows { OnOk result (Shows self.now.job.now self.now.skips.now (records_of self.now.plan.now) tables.new.ends.items (pairs_seen tables.new.pairs)) }
         ensures counted { OnOk result ((tables.new.mapped ≡ mapped_among self.now.skips.now (records_of self.now.plan.now)) × (tables.new.mapped < 2 ^ 63)) }
         ensures err { OnErr result ((tables.new.mapped ≤ mapped_among self.now.skips.now (records_of self.now.plan.now)) × (tables.new.mapped < 2 ^ 63)) }
     {
@@ -114,16 +114,16 @@ impl<'a> Model for EmissionIndex<'a> {
     ghost use Rattle.std.specs.Prelude.{◌≡◌, List, length};
     ghost use Rattle.mr_splits.specs.Cut.{records_of};
     ghost use Rattle.mr_sequential.specs.Emitted.{Triple};
-    ghost use Rattle.mr_index.specs.Pairs.{seen, EndsRise, Sound};
+    ghost use Rattle.mr_index.specs.Pairs.{pairs_seen, EndsRise, Sound};
     ghost use Rattle.mr_index.specs.Building.{spread};
 
     ghost Value = { List Triple };
 
-    ghost view = { λ i. spread 0 (records_of i.plan.now) i.ends.items (seen i.pairs) };
+    ghost view = { λ i. spread 0 (records_of i.plan.now) i.ends.items (pairs_seen i.pairs) };
 
     ghost invariant = { λ i. record {
       count : length i.ends.items ≡ length (records_of i.plan.now);
-      rise : EndsRise 0 (length (seen i.pairs)) i.ends.items;
+      rise : EndsRise 0 (length (pairs_seen i.pairs)) i.ends.items;
       sound : Sound i.pairs;
     } };
 }

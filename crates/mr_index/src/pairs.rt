@@ -2,7 +2,7 @@
 ghost use Rattle.std.specs.Prelude.{◌≡◌, ℕ, ◌+◌, ◌≤◌, ◌<◌, ◌^◌, ◌++◌, [], ◌∷◌, IfOk, OnOk, MatchOption, length, slice_index, slice_index_or};
 ghost use Rattle.mr_bytes.specs.declared.Value.TheVariants.{One};
 ghost use Rattle.mr_jobs.specs.Emissions.{emissions};
-ghost use Rattle.mr_index.specs.Pairs.{seen, values_of, Sound};
+ghost use Rattle.mr_index.specs.Pairs.{pairs_seen, stored_values, Sound};
 
 use mr_bytes::Value;
 use mr_jobs::{Emitter, Job};
@@ -26,7 +26,7 @@ pub(crate) struct Pairs {
 /// No pairs, with room for the keys of files of so many bytes: at most as many bytes of keys, and one key for each
 /// eight. Room that is not used is not touched, and a list that has it need not move.
 pub(crate) fn room_for(alloc: Global, bytes: usize) -> Result<Pairs, AllocError>
-    ensures none { IfOk result (λ p. seen p ≡ []) }
+    ensures none { IfOk result (λ p. pairs_seen p ≡ []) }
     ensures sound { IfOk result (λ p. Sound p) }
 {
     Ok(Pairs {
@@ -50,7 +50,7 @@ pub(crate) fn push_end(ends: &mut Vec<u32>, end: usize) -> Result<(), AllocError
 
 fn push_value(ones: &mut usize, rest: &mut Vec<Value>, value: Value) -> Result<(), AllocError>
     requires { ones.old + 1 < 2 ^ 64 }
-    ensures { OnOk result (values_of ones.new rest.new.items ≡ values_of ones.old rest.old.items ++ value ∷ []) }
+    ensures { OnOk result (stored_values ones.new rest.new.items ≡ stored_values ones.old rest.old.items ++ value ∷ []) }
 {
     if rest.is_empty() {
         if let Value::One = value {
@@ -71,8 +71,8 @@ pub(crate) fn start_of(ends: &[u32], i: usize) -> usize
 }
 
 fn value_of(ones: usize, rest: &[Value], i: usize) -> Value
-    requires { i < length (values_of ones rest.now) }
-    ensures { result ≡ slice_index_or (values_of ones rest.entry.now) i One }
+    requires { i < length (stored_values ones rest.now) }
+    ensures { result ≡ slice_index_or (stored_values ones rest.entry.now) i One }
 {
     if i < ones { Value::One } else { rest[i - ones] }
 }
@@ -80,7 +80,7 @@ fn value_of(ones: usize, rest: &[Value], i: usize) -> Value
 impl Pairs {
     pub(crate) fn len(&self) -> usize
         requires { Sound self.now }
-        ensures { result ≡ length (seen self.now) }
+        ensures { result ≡ length (pairs_seen self.now) }
     {
         self.ends.len()
     }
@@ -88,8 +88,8 @@ impl Pairs {
     /// The key and the value of pair `i`, from 0.
     pub(crate) fn get(&self, i: usize) -> (&[u8], Value)
         requires sound { Sound self.now }
-        requires within { i < length (seen self.now) }
-        ensures { (result.0.now, result.1) ≡ slice_index_or (seen self.now) i ([], One) }
+        requires within { i < length (pairs_seen self.now) }
+        ensures { (result.0.now, result.1) ≡ slice_index_or (pairs_seen self.now) i ([], One) }
     {
         let start = start_of(self.ends.as_slice(), i);
         let value = value_of(self.ones, self.rest.as_slice(), i);
@@ -99,7 +99,7 @@ impl Pairs {
     fn push(&mut self, key: &[u8], value: Value) -> Result<(), AllocError>
         requires { Sound self.old }
         ensures sound { OnOk result (Sound self.new) }
-        ensures pairs { OnOk result (seen self.new ≡ seen self.old ++ (key.now, value) ∷ []) }
+        ensures pairs { OnOk result (pairs_seen self.new ≡ pairs_seen self.old ++ (key.now, value) ∷ []) }
     {
         self.keys.extend_from_slice(key)?;
         push_end(&mut self.ends, self.keys.len())?;
@@ -110,7 +110,7 @@ impl Pairs {
     fn push_all(&mut self, mut emitter: Emitter<'_>) -> Result<(), AllocError>
         requires { Sound self.old }
         ensures sound { OnOk result (Sound self.new) }
-        ensures pairs { OnOk result (seen self.new ≡ seen self.old ++ emitter.entry) }
+        ensures pairs { OnOk result (pairs_seen self.new ≡ pairs_seen self.old ++ emitter.entry) }
     {
         while let Some((key, value)) = next_pair(&mut emitter) {
             self.push(key, value)?;
@@ -128,7 +128,7 @@ impl Pairs {
         requires sound { Sound self.old }
         requires small { length line.bytes.now ≤ 2 ^ 30 }
         ensures sound { OnOk result (Sound self.new) }
-        ensures pairs { OnOk result (seen self.new ≡ seen self.old ++ emissions job.now line.entry.file line.entry.start line.entry.bytes.now) }
+        ensures pairs { OnOk result (pairs_seen self.new ≡ pairs_seen self.old ++ emissions job.now line.entry.file line.entry.start line.entry.bytes.now) }
     {
         job.prepare(line.bytes, buffer)?;
         self.push_all(job.emit(line.file, line.start, line.bytes, buffer.as_slice()))

@@ -11,8 +11,8 @@ abbrev pub total_size : List (List ℕ) → ℕ
 total_size files = sum_by length files
 
 -- a file by its number, and an empty one past the last
-abbrev pub nth : List (List ℕ) → ℕ → List ℕ
-nth files i = slice_index_or files i []
+abbrev pub nth_file : List (List ℕ) → ℕ → List ℕ
+nth_file files i = slice_index_or files i []
 
 -- a file of n bytes is cut into as many splits of `size` bytes as hold them all; the last may be shorter
 abbrev pub split_count : ℕ → List ℕ → ℕ

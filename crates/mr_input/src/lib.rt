@@ -2,7 +2,7 @@
 #![tactic(auto)]
 
 ghost use Rattle.std.specs.Prelude.{◌≡◌, ◌≤◌, ◌<◌, ◌^◌, ◌↔◌, IfOk, IsOk, length, IsTrue};
-ghost use Rattle.mr_input.specs.Files.{contents, total_size, nth};
+ghost use Rattle.mr_input.specs.Files.{contents, total_size, nth_file};
 
 use std::marker::Model;
 use thiserror::Error;
@@ -87,7 +87,7 @@ impl Input {
     /// The bytes of file `i`, from 0.
     pub fn file(&self, i: usize) -> &[u8]
         requires { i < length self.now }
-        ensures bytes { result.now ≡ nth self.now i }
+        ensures bytes { result.now ≡ nth_file self.now i }
         ensures small { length result.now ≤ 2 ^ 30 }
     {
         &self.files[i]
@@ -96,7 +96,7 @@ impl Input {
     /// How many bytes file `i` has.
     pub fn len(&self, i: usize) -> usize
         requires { i < length self.now }
-        ensures bytes { result ≡ length (nth self.now i) }
+        ensures bytes { result ≡ length (nth_file self.now i) }
         ensures small { result ≤ 2 ^ 30 }
     {
         self.file(i).len()

@@ -3,15 +3,15 @@ use Rattle.std.proofs.Common.{◌≡◌, ℕ, ◌+◌, ◌-◌, ◌≤◌, Bool,
 use Rattle.std.proofs.lemmas.List.{length-map, length-take, length-drop}
 use Rattle.std.proofs.lemmas.List.Elements.{All-nil, All-cons, All-map}
 use Rattle.mr_bytes.specs.Bytes.{is_word_byte, fold_byte}
-use Rattle.mr_bytes.specs.Words.{extend, word_spans, word_spans_from, bytes_of}
+use Rattle.mr_bytes.specs.Words.{extend, word_spans, word_spans_from, span_bytes}
 use Rattle.mr_bytes.specs.declared.Span.{Span}
 use Rattle.mr_bytes.specs.declared.Value.TheVariants.{One, At}
 use Rattle.mr_bytes.proofs.WordLemmas.{word_spans_from-cons, word_spans_from-nil}
 use Rattle.mr_jobs.specs.Emissions.{Emission, one_for, word_key, word_emission}
 use Rattle.mr_jobs.specs.Laws.{FewEmissions, ShortKeys, CountersEmitOnes}
 use Rattle.mr_jobs.specs.Literal.{holds}
-use Rattle.mr_jobs.specs.Task.{WordCount, LinesWith, Resources}
-use Rattle.mr_jobs.specs.Url.{IsRequestFor, url_of, bytes_of as piece_bytes}
+use Rattle.mr_jobs.specs.JobSpec.{WordCount, LinesWith, Resources}
+use Rattle.mr_jobs.specs.Url.{IsRequestFor, url_of, piece_bytes}
 use Rattle.mr_jobs.proofs.UrlLemmas.{parts_of-url}
 
 length-extend : (at : ℕ) (ws : List Span) → length (extend at ws) ≤ length ws + 1
@@ -54,10 +54,10 @@ few_emissions Resources file start line = omega (arith, few_one (url_of line))
 abbrev Short : List ℕ → Emission → Type 0
 Short line e = length e.0 ≤ length line
 
-short_word : (keep_case : Bool) (line : List ℕ) (w : Span) → length (word_key keep_case (bytes_of line w)) ≤ length line
+short_word : (keep_case : Bool) (line : List ℕ) (w : Span) → length (word_key keep_case (span_bytes line w)) ≤ length line
 short_word true line w = omega (arith, length-take (w.end - w.start) (drop w.start line), length-drop w.start line)
 short_word false line w =
-    omega (arith, length-map (bytes_of line w) fold_byte, length-take (w.end - w.start) (drop w.start line), length-drop w.start line)
+    omega (arith, length-map (span_bytes line w) fold_byte, length-take (w.end - w.start) (drop w.start line), length-drop w.start line)
 
 short_request : (line key : List ℕ) → IsRequestFor line key → length key ≤ length line
 short_request line key p =

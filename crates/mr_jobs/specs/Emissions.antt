@@ -1,11 +1,11 @@
 -- What a job emits for a record.
 use Rattle.std.specs.Prelude.{◌≡◌, ℕ, Bool, true, false, if◌then◌else◌, List, [], ◌∷◌, map, drop, slice_index_or, Option, None, Some}
 use Rattle.mr_bytes.specs.Bytes.{folded}
-use Rattle.mr_bytes.specs.Words.{word_spans, word_spans_from, bytes_of}
+use Rattle.mr_bytes.specs.Words.{word_spans, word_spans_from, span_bytes}
 use Rattle.mr_bytes.specs.declared.Span.{Span}
 use Rattle.mr_bytes.specs.declared.Value.{Value}
 use Rattle.mr_bytes.specs.declared.Value.TheVariants.{One, At}
-use Rattle.mr_jobs.specs.Task.{Task, WordCount, LinesWith, Resources}
+use Rattle.mr_jobs.specs.JobSpec.{JobSpec, WordCount, LinesWith, Resources}
 use Rattle.mr_jobs.specs.Literal.{holds}
 use Rattle.mr_jobs.specs.Url.{url_of}
 
@@ -18,7 +18,7 @@ abbrev pub word_key : Bool → List ℕ → List ℕ
 word_key keep_case word = if keep_case then word else folded word
 
 abbrev pub word_emission : Bool → List ℕ → Span → Emission
-word_emission keep_case line w = (word_key keep_case (bytes_of line w), One)
+word_emission keep_case line w = (word_key keep_case (span_bytes line w), One)
 
 -- one emission for the key, if there is one
 abbrev pub one_for : Option (List ℕ) → List Emission
@@ -26,22 +26,22 @@ one_for None = []
 one_for (Some key) = (key, One) ∷ []
 
 -- what the record `line` emits, which begins at the place `start` of the file `file`
-abbrev pub emissions : Task → ℕ → ℕ → List ℕ → List Emission
+abbrev pub emissions : JobSpec → ℕ → ℕ → List ℕ → List Emission
 emissions (WordCount keep_case) file start line = map (word_emission keep_case line) (word_spans line)
 emissions (LinesWith literal fold) file start line = if holds fold line literal then (line, At file start) ∷ [] else []
 emissions Resources file start line = one_for (url_of line)
 
 -- the words of a text that was folded before, from the place `from` on
 abbrev pub words_from : List ℕ → ℕ → List Emission
-words_from text from = map (λ w. (bytes_of text w, One)) (word_spans_from from (drop from text))
+words_from text from = map (λ w. (span_bytes text w, One)) (word_spans_from from (drop from text))
 
 -- what is left of an emitter: one pair with the whole text, or the words from a place on
-abbrev pub left : List ℕ → ℕ → Option Value → List Emission
-left text from (Some value) = (text, value) ∷ []
-left text from None = words_from text from
+abbrev pub still_emitted : List ℕ → ℕ → Option Value → List Emission
+still_emitted text from (Some value) = (text, value) ∷ []
+still_emitted text from None = words_from text from
 
 -- the buffer is as the job wants it for the line
-abbrev pub IsReady : Task → List ℕ → List ℕ → Type 0
+abbrev pub IsReady : JobSpec → List ℕ → List ℕ → Type 0
 IsReady (WordCount true) line buffer = Unit {0}
 IsReady (WordCount false) line buffer = buffer ≡ folded line
 IsReady (LinesWith literal fold) line buffer = Unit {0}

@@ -1,7 +1,7 @@
 -- What the computed definitions are, in the words of the subject.
 use Rattle.std.specs.Prelude.{◌≡◌, ◌↔◌, ℕ, ◌+◌, ◌≤◌, Bool, List, Some, IsTrue, All, length}
 use Rattle.mr_bytes.specs.declared.Value.TheVariants.{One}
-use Rattle.mr_jobs.specs.Task.{Task, counts}
+use Rattle.mr_jobs.specs.JobSpec.{JobSpec, counts}
 use Rattle.mr_jobs.specs.Emissions.{emissions}
 use Rattle.mr_jobs.specs.Literal.{Holds, holds}
 use Rattle.mr_jobs.specs.Url.{IsRequestFor, url_of}
@@ -19,12 +19,12 @@ OneKeyFits = (line a b : List ℕ) → IsRequestFor line a → IsRequestFor line
 
 -- a record has at most one emission more than bytes
 abbrev pub FewEmissions : Type 0
-FewEmissions = (task : Task) (file start : ℕ) (line : List ℕ) → length (emissions task file start line) ≤ length line + 1
+FewEmissions = (job : JobSpec) (file start : ℕ) (line : List ℕ) → length (emissions job file start line) ≤ length line + 1
 
 -- no key is longer than its record
 abbrev pub ShortKeys : Type 0
-ShortKeys = (task : Task) (file start : ℕ) (line : List ℕ) → All (λ e. length e.0 ≤ length line) (emissions task file start line)
+ShortKeys = (job : JobSpec) (file start : ℕ) (line : List ℕ) → All (λ e. length e.0 ≤ length line) (emissions job file start line)
 
 -- a job that counts emits no other value than One
 abbrev pub CountersEmitOnes : Type 0
-CountersEmitOnes = (task : Task) (file start : ℕ) (line : List ℕ) → IsTrue (counts task) → All (λ e. e.1 ≡ One) (emissions task file start line)
+CountersEmitOnes = (job : JobSpec) (file start : ℕ) (line : List ℕ) → IsTrue (counts job) → All (λ e. e.1 ≡ One) (emissions job file start line)

@@ -4,20 +4,20 @@ use Rattle.mr_bytes.specs.declared.Value.{Value}
 use Rattle.mr_jobs.specs.declared.job.Kind.{Kind}
 use Rattle.mr_jobs.specs.declared.job.Kind.TheVariants.{Words, Grep, Url}
 use Rattle.mr_jobs.specs.declared.emissions.Entry.{Entry}
-use Rattle.mr_jobs.specs.Task.{Task, WordCount, LinesWith, Resources}
+use Rattle.mr_jobs.specs.JobSpec.{JobSpec, WordCount, LinesWith, Resources}
 use Rattle.mr_jobs.specs.Emissions.{Emission}
 
-abbrev pub task_of : Kind → Task
-task_of (Words keep_case) = WordCount keep_case
-task_of (Grep literal fold) = LinesWith literal.items fold
-task_of Url = Resources
+abbrev pub spec_of : Kind → JobSpec
+spec_of (Words keep_case) = WordCount keep_case
+spec_of (Grep literal fold) = LinesWith literal.items fold
+spec_of Url = Resources
 
 -- the emission that an entry shows, by the bytes of all keys
 abbrev pub emission_at : List ℕ → Entry → Emission
 emission_at keys e = (slice_range keys e.start e.end, e.value)
 
-abbrev pub seen : List ℕ → List Entry → List Emission
-seen keys es = map (emission_at keys) es
+abbrev pub entries_seen : List ℕ → List Entry → List Emission
+entries_seen keys es = map (emission_at keys) es
 
 -- the entry's key stands among the bytes of all keys
 abbrev pub IsIn : List ℕ → Entry → Type 0

@@ -2,7 +2,7 @@
 ghost use Rattle.std.specs.Prelude.{◌≡◌, ◌↔◌, IsTrue, ℕ, ◌+◌, ◌≤◌, ◌<◌, ◌^◌, ◌++◌, [], ◌∷◌, All, OnOk, OnErr, if◌then◌else◌, is_ok, length, take, vec_len};
 ghost use Rattle.mr_jobs.specs.Emissions.{emissions, nth_emission};
 ghost use Rattle.mr_jobs.specs.Laws.{FewEmissions, ShortKeys, CountersEmitOnes};
-ghost use Rattle.mr_jobs.specs.Views.{IsIn, seen, entry_for};
+ghost use Rattle.mr_jobs.specs.Views.{IsIn, entries_seen, entry_for};
 
 use crate::emitter::Emitter;
 use crate::job::Job;
@@ -40,9 +40,9 @@ impl Model for Emissions {
 
     ghost Value = { List Emission };
 
-    ghost use Rattle.mr_jobs.specs.Views.{seen, IsIn};
+    ghost use Rattle.mr_jobs.specs.Views.{entries_seen, IsIn};
 
-    ghost view = { λ e. seen e.keys.items e.entries.items };
+    ghost view = { λ e. entries_seen e.keys.items e.entries.items };
 
     ghost invariant = { λ e. All (IsIn e.keys.items) e.entries.items };
 }
@@ -120,7 +120,7 @@ fn push_all(
     ensures keys_kept { take (vec_len keys.old) keys.new.items ≡ keys.old.items }
     ensures entries_kept { take (vec_len entries.old) entries.new.items ≡ entries.old.items }
     ensures within { OnOk result (All (IsIn keys.new.items) entries.new.items) }
-    ensures ok { OnOk result (seen keys.new.items entries.new.items ≡ seen keys.old.items entries.old.items ++ emitter.entry) }
+    ensures ok { OnOk result (entries_seen keys.new.items entries.new.items ≡ entries_seen keys.old.items entries.old.items ++ emitter.entry) }
 {
     while let Some((key, value)) = emitter.next() {
         push_one(keys, entries, key, value)?;

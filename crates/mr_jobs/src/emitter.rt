@@ -19,11 +19,11 @@ pub struct Emitter<'a> {
 
 impl<'a> Model for Emitter<'a> {
     ghost use Rattle.std.specs.Prelude.{List, length, ◌≤◌, ◌<◌, ◌^◌};
-    ghost use Rattle.mr_jobs.specs.Emissions.{Emission, left};
+    ghost use Rattle.mr_jobs.specs.Emissions.{Emission, still_emitted};
 
     ghost Value = { List Emission };
 
-    ghost view = { λ e. left e.text.now e.from e.whole };
+    ghost view = { λ e. still_emitted e.text.now e.from e.whole };
 
     ghost invariant = { λ e. record {
       within : e.from ≤ length e.text.now;

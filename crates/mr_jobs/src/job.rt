@@ -1,6 +1,6 @@
 //! What is done with each record.
 ghost use Rattle.std.specs.Prelude.{◌≡◌, ◌↔◌, ℕ, ◌≤◌, ◌<◌, IfOk, IsOkUnless, length, [], Contains};
-ghost use Rattle.mr_jobs.specs.Task.{WordCount, LinesWith, Resources, counts, job_number, job_flags, job_literal};
+ghost use Rattle.mr_jobs.specs.JobSpec.{WordCount, LinesWith, Resources, counts, job_number, job_flags, job_literal};
 
 use std::alloc::Global;
 use std::marker::Model;
@@ -23,18 +23,18 @@ pub struct Job {
 }
 
 impl Model for Job {
-    ghost use Rattle.mr_jobs.specs.Task.{Task};
+    ghost use Rattle.mr_jobs.specs.JobSpec.{JobSpec};
 
-    ghost Value = { Task };
+    ghost Value = { JobSpec };
 
-    ghost use Rattle.mr_jobs.specs.Views.{task_of};
+    ghost use Rattle.mr_jobs.specs.Views.{spec_of};
 
-    ghost view = { λ j. task_of j.kind };
+    ghost view = { λ j. spec_of j.kind };
 
     ghost use Rattle.std.specs.Prelude.{◌≤◌, length};
-    ghost use Rattle.mr_jobs.specs.Task.{job_literal};
+    ghost use Rattle.mr_jobs.specs.JobSpec.{job_literal};
 
-    ghost invariant = { λ j. length (job_literal (task_of j.kind)) ≤ 4096 };
+    ghost invariant = { λ j. length (job_literal (spec_of j.kind)) ≤ 4096 };
 }
 
 /// Why a literal makes no job.

@@ -1,7 +1,7 @@
 //! A job with its numbers.
 ghost use Rattle.std.specs.Prelude.{◌≡◌, ◌↔◌, ℕ, ◌≤◌, ◌<◌, ◌^◌, ◌⊎◌, IfOk, IsOk, IsTrue};
 ghost use Rattle.mr_input.specs.Files.{split_total};
-ghost use Rattle.mr_jobs.specs.Task.{Order, PartsFit, SplitFits};
+ghost use Rattle.mr_jobs.specs.JobSpec.{RequestSpec, PartsFit, SplitFits};
 
 use crate::job::Job;
 use mr_input::Input;
@@ -28,11 +28,11 @@ pub struct Request {
 
 impl Model for Request {
     ghost use Rattle.std.specs.Prelude.{◌≤◌, ◌^◌};
-    ghost use Rattle.mr_jobs.specs.Task.{Order};
+    ghost use Rattle.mr_jobs.specs.JobSpec.{RequestSpec};
 
-    ghost Value = { Order };
+    ghost Value = { RequestSpec };
 
-    ghost view = { λ r. record { task = r.job; parts = r.parts; split = r.size; skips = r.skips } };
+    ghost view = { λ r. record { job = r.job; parts = r.parts; split = r.size; skips = r.skips } };
 
     ghost invariant = { λ r. record {
       some_parts : 1 ≤ r.parts;
@@ -61,7 +61,7 @@ impl Request {
     /// A job with `parts` partitions, splits of `split` bytes, and at most `skips` records left out. Of several faults
     /// the first of `RequestFault` is told.
     pub fn new(job: Job, parts: u32, split: u32, skips: u32) -> Result<Request, RequestFault>
-        ensures value { IfOk result (λ r. r ≡ record { task = job; parts = parts; split = split; skips = skips }) }
+        ensures value { IfOk result (λ r. r ≡ record { job = job; parts = parts; split = split; skips = skips }) }
         ensures succeeds { PartsFit parts → SplitFits split → skips ≤ 1000 → IsOk result }
         ensures bad_parts { (result ≡ Err RequestFault.BadParts) ↔ ((parts ≡ 0) ⊎ (1024 < parts)) }
         ensures bad_split { (result ≡ Err RequestFault.BadSplitSize) ↔ (PartsFit parts × ((split ≡ 0) ⊎ (2 ^ 26 < split))) }
@@ -86,7 +86,7 @@ impl Request {
 
     /// What is done with each record.
     pub fn job(&self) -> &Job
-        ensures { result.now ≡ self.now.task }
+        ensures { result.now ≡ self.now.job }
     {
         &self.job
     }

@@ -5,7 +5,7 @@ use Rattle.std.proofs.lemmas.Bool.{cases_lt, cases_eq, ne_eqb, eq-eqb}
 use Rattle.std.proofs.lemmas.List.{drop_more, length-drop}
 use Rattle.std.proofs.lemmas.List.Elements.{All-from_recursion, All-cons, All-nil}
 use Rattle.mr_records.specs.Records.{Record, lengthen, records_from, records}
-use Rattle.mr_records.specs.RecordLaw.{NoLineFeeds, joined, ended, GiveTheFileBack, StartFrom, StartInTurn, BeginsALine, StartWhereLinesBegin, FewRecords}
+use Rattle.mr_records.specs.RecordLaw.{NoLineFeeds, with_line_feeds, ended, GiveTheFileBack, StartFrom, StartInTurn, BeginsALine, StartWhereLinesBegin, FewRecords}
 use Rattle.mr_records.proofs.RecordLemmas.{cons_case, nil_case, lengthen-cons, lengthen-nil}
 
 -- what holds of the records of no bytes, of an empty record before others, and of one lengthened by a byte, holds
@@ -61,21 +61,21 @@ ended-some : (c : ℕ) (cs : List ℕ) → (t : List ℕ) × (ended (c ∷ cs) �
 ended-some c [] = elim (eqb c 10) as (λ t. (l : List ℕ) × (cond t (c ∷ []) (c ∷ 10 ∷ []) ≡ c ∷ l)) [ true ↦ ([], refl) | false ↦ (10 ∷ [], refl) ]
 ended-some c (d ∷ ds) = (ended (d ∷ ds), refl)
 
-joined-longer : (at b c : ℕ) (t : List ℕ) (rs : List Record) → joined rs ≡ c ∷ t → joined (lengthen at b rs) ≡ b ∷ c ∷ t
+joined-longer : (at b c : ℕ) (t : List ℕ) (rs : List Record) → with_line_feeds rs ≡ c ∷ t → with_line_feeds (lengthen at b rs) ≡ b ∷ c ∷ t
 joined-longer at b c t [] e = absurd (let no : [] ≡ c ∷ t = e in cc)
-joined-longer at b c t (r ∷ rs) e = ap joined (lengthen-cons at b r.start r.bytes rs) ∙ ap (λ l. b ∷ l) e
+joined-longer at b c t (r ∷ rs) e = ap with_line_feeds (lengthen-cons at b r.start r.bytes rs) ∙ ap (λ l. b ∷ l) e
 
 abbrev GivesBack : Family
-GivesBack at bs rs = joined rs ≡ ended bs
+GivesBack at bs rs = with_line_feeds rs ≡ ended bs
 
-back-ended : (at b : ℕ) (bs : List ℕ) (rs : List Record) → b ≡ 10 → joined rs ≡ ended bs → 10 ∷ joined rs ≡ ended (b ∷ bs)
+back-ended : (at b : ℕ) (bs : List ℕ) (rs : List Record) → b ≡ 10 → with_line_feeds rs ≡ ended bs → 10 ∷ with_line_feeds rs ≡ ended (b ∷ bs)
 back-ended at b [] rs lf h =
     ap (λ l. 10 ∷ l) h ∙ sym (ap (λ t. cond t (b ∷ []) (b ∷ 10 ∷ [])) (eq-eqb b 10 lf) ∙ ap (λ x. x ∷ []) lf)
 back-ended at b (c ∷ cs) rs lf h = ap (λ l. 10 ∷ l) h ∙ ap (λ x. x ∷ ended (c ∷ cs)) (sym lf)
 
-back-longer : (at b : ℕ) (bs : List ℕ) (rs : List Record) → (b ≢ 10) → joined rs ≡ ended bs → (bs ≡ [] → rs ≡ []) → joined (lengthen at b rs) ≡ ended (b ∷ bs)
+back-longer : (at b : ℕ) (bs : List ℕ) (rs : List Record) → (b ≢ 10) → with_line_feeds rs ≡ ended bs → (bs ≡ [] → rs ≡ []) → with_line_feeds (lengthen at b rs) ≡ ended (b ∷ bs)
 back-longer at b [] rs plain h none =
-    ap (λ l. joined (lengthen at b l)) (none refl) ∙ ap joined (lengthen-nil at b) ∙ sym (ap (λ t. cond t (b ∷ []) (b ∷ 10 ∷ [])) (ne_eqb b 10 plain))
+    ap (λ l. with_line_feeds (lengthen at b l)) (none refl) ∙ ap with_line_feeds (lengthen-nil at b) ∙ sym (ap (λ t. cond t (b ∷ []) (b ∷ 10 ∷ [])) (ne_eqb b 10 plain))
 back-longer at b (c ∷ cs) rs plain h none =
     let some = ended-some c cs in
     joined-longer at b c some.0 rs (h ∙ some.1) ∙ ap (λ l. b ∷ l) (sym some.1)
@@ -84,7 +84,7 @@ none-longer : (at b : ℕ) (bs : List ℕ) → b ∷ bs ≡ [] → ⊥
 none-longer at b bs e = cc
 
 abbrev Back : Family
-Back at bs rs = (joined rs ≡ ended bs) × (bs ≡ [] → rs ≡ [])
+Back at bs rs = (with_line_feeds rs ≡ ended bs) × (bs ≡ [] → rs ≡ [])
 
 gives_back : (at : ℕ) (bs : List ℕ) → Back at bs (records_from at bs)
 gives_back =

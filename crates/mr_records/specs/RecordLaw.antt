@@ -8,8 +8,8 @@ abbrev pub NoLineFeeds : Type 0
 NoLineFeeds = (file : List ℕ) → All (λ r. All (λ b. b ≢ 0x0A) r.bytes) (records file)
 
 -- each record, with the line feed behind it
-abbrev pub joined : List Record → List ℕ
-joined rs = flat_map (λ r. r.bytes ++ 0x0A ∷ []) rs
+abbrev pub with_line_feeds : List Record → List ℕ
+with_line_feeds rs = flat_map (λ r. r.bytes ++ 0x0A ∷ []) rs
 
 -- the file, with a line feed behind its last byte where that is none
 abbrev pub ended : List ℕ → List ℕ
@@ -19,7 +19,7 @@ ended (b ∷ c ∷ bs) = b ∷ ended (c ∷ bs)
 
 -- joined, the records give the file back, the last with or without its line feed
 abbrev pub GiveTheFileBack : Type 0
-GiveTheFileBack = (file : List ℕ) → joined (records file) ≡ ended file
+GiveTheFileBack = (file : List ℕ) → with_line_feeds (records file) ≡ ended file
 
 -- the first record starts at the place `at`, and each other one behind the line feed of the one before
 abbrev pub StartFrom : ℕ → List Record → Type 0

@@ -2,7 +2,7 @@
 #![tactic(auto)]
 
 ghost use Rattle.std.specs.Prelude.{◌≡◌, ℕ, ◌+◌, ◌^◌, ◌≤◌, ◌<◌, ◌≢◌, length, List, [], ◌∷◌, IfOk, All, map, MatchOption, drop, slice_index};
-ghost use Rattle.mr_records.specs.Records.{Record, records, nth};
+ghost use Rattle.mr_records.specs.Records.{Record, records, nth_record};
 ghost use Rattle.mr_records.specs.RecordLaw.{NoLineFeeds, GiveTheFileBack, StartInTurn, StartWhereLinesBegin, FewRecords};
 
 use memchr::memchr;
@@ -54,7 +54,7 @@ impl<'a> Records<'a> {
     /// The bytes of record `i`, from 0, without its line feed.
     pub fn record(&self, i: usize) -> &'a [u8]
         requires { i < length self.now }
-        ensures bytes { result.now ≡ (nth self.now i).bytes }
+        ensures bytes { result.now ≡ (nth_record self.now i).bytes }
         ensures small { length result.now ≤ 2 ^ 30 }
     {
         let span = self.spans[i];
@@ -64,7 +64,7 @@ impl<'a> Records<'a> {
     /// The place in the file of the first byte of record `i`, or of its line feed where the record is empty.
     pub fn start(&self, i: usize) -> u32
         requires { i < length self.now }
-        ensures place { result ≡ (nth self.now i).start }
+        ensures place { result ≡ (nth_record self.now i).start }
         ensures small { result ≤ 2 ^ 30 }
     {
         self.spans[i].start

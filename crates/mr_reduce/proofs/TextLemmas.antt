@@ -1,7 +1,7 @@
 -- The text of a group of a job that counts, and texts that grow.
 use Rattle.std.proofs.Common.{◌≡◌, ℕ, ◌++◌, true, false, List, length, take, drop, arith, length-append, refl, ap, ◌∙◌, sym}
 use Rattle.std.proofs.lemmas.List.{take-append-le, take-append-drop, take_all}
-use Rattle.mr_jobs.specs.Task.{WordCount, LinesWith, Resources}
+use Rattle.mr_jobs.specs.JobSpec.{WordCount, LinesWith, Resources}
 use Rattle.mr_reduce.specs.Laws.{CountersTellTheNumber}
 
 pub counters_tell_the_number : CountersTellTheNumber

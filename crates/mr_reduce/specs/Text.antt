@@ -3,7 +3,7 @@ use Rattle.std.specs.Prelude.{ℕ, List, [], ◌∷◌, ◌++◌, length, decima
 use Rattle.std.specs.List.{flat_map}
 use Rattle.mr_bytes.specs.declared.Value.{Value}
 use Rattle.mr_bytes.specs.declared.Value.TheVariants.{One, At}
-use Rattle.mr_jobs.specs.Task.{Task, WordCount, LinesWith, Resources}
+use Rattle.mr_jobs.specs.JobSpec.{JobSpec, WordCount, LinesWith, Resources}
 
 -- the key, a tab, a number, and a line feed
 abbrev pub total_line : List ℕ → ℕ → List ℕ
@@ -15,7 +15,7 @@ place_line key One = []
 place_line key (At file offset) = key ++ 9 ∷ decimal file ++ 58 ∷ decimal offset ++ 10 ∷ []
 
 -- the text that a job gives for a key with its values
-abbrev pub text_of : Task → List ℕ → List Value → List ℕ
+abbrev pub text_of : JobSpec → List ℕ → List Value → List ℕ
 text_of (WordCount keep_case) key values = total_line key (length values)
 text_of (LinesWith literal fold) key values = flat_map (place_line key) values
 text_of Resources key values = total_line key (length values)

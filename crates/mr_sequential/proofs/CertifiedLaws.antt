@@ -11,12 +11,12 @@ use Rattle.mr_bytes.specs.declared.Name.{Name}
 use Rattle.mr_bytes.specs.declared.Value.{Value}
 use Rattle.mr_bytes.specs.Lists.{Has, Rises, Distinct}
 use Rattle.mr_bytes.specs.Order.{key_order, name_order}
-use Rattle.mr_input.specs.Files.{nth}
+use Rattle.mr_input.specs.Files.{nth_file}
 use Rattle.mr_partition.specs.Partition.{partition_of}
 use Rattle.mr_reduce.specs.Text.{text_of}
 use Rattle.mr_sequential.specs.Emitted.{Triple, emitted}
 use Rattle.mr_sequential.specs.Sequential.{keys_of, triples_with, values_of, texts_of}
-use Rattle.mr_sequential.specs.Good.{named, key_under, key_of, values_under, group_text, IsGoodGroup, IsGoodPart, groups_at, entries_of, AreGood}
+use Rattle.mr_sequential.specs.Good.{named, key_under, key_of, values_under, text_under, IsGoodGroup, IsGoodPart, groups_at, entries_of, AreGood}
 use Rattle.mr_sequential.specs.Certified.{names_with, groups_of}
 use Rattle.mr_sequential.specs.GoodLaws.{SequentialIsGood}
 use Rattle.mr_sequential.proofs.ListLaws.{Has-all, all_from_Has, Has-map, Has-map_from, Has-flat_map, Has-flat_map_from, Distinct-rises, without, in_without, length-without}
@@ -121,7 +121,7 @@ module _ (part : List ℕ → ℕ) (text : List ℕ → List Value → List ℕ)
     keys_back (k ∷ ks) f =
         let here = key_here k (f k (inl refl)) in let rest = keys_back ks (λ j h. f j (inr h)) in λ i. here i ∷ rest i
 
-    same_text : (k : List ℕ) → Has (keys_at p) k → text k (values_of ts k) ≡ group_text text ts (names_with ts k)
+    same_text : (k : List ℕ) → Has (keys_at p) k → text k (values_of ts k) ≡ text_under text ts (names_with ts k)
     same_text k h =
         let values : values_under ts (names_with ts k) ≡ values_of ts k =
         ap (map (λ (t : Triple). t.value)) (back ts rise (triples_with ts k) (λ u g. (Has-filter_from (λ (t : Triple). bytes_eq t.key k) ts u g).0)) in
@@ -140,8 +140,8 @@ module _ (part : List ℕ → ℕ) (text : List ℕ → List Value → List ℕ)
       groups = good_groups_here.groups;
       keys_rise = good_groups_here.keys_rise;
       output_is = is
-          ∙ (flat_map-agree (λ k. text k (values_of ts k)) (λ k. group_text text ts (names_with ts k)) (keys_at p) same_text
-          ∙ sym (flat_map-map (group_text text ts) (names_with ts) (keys_at p)));
+          ∙ (flat_map-agree (λ k. text k (values_of ts k)) (λ k. text_under text ts (names_with ts k)) (keys_at p) same_text
+          ∙ sym (flat_map-map (text_under text ts) (names_with ts) (keys_at p)));
     }
 
   -- the groups of so many partitions
@@ -189,14 +189,14 @@ module _ (part : List ℕ → ℕ) (text : List ℕ → List Value → List ℕ)
 
   -- the groups of all partitions, with the texts as outputs, are good
   pub parts_are_good : (n : ℕ) (outputs : List (List ℕ)) → ((t : Triple) → Has ts t → part t.key < n) → length outputs ≡ n
-      → ((p : ℕ) → p < n → nth outputs p ≡ texts_of part text ts p) → AreGood part text ts (map (groups_of part ts) (range_with_len 0 n)) outputs
+      → ((p : ℕ) → p < n → nth_file outputs p ≡ texts_of part text ts p) → AreGood part text ts (map (groups_of part ts) (range_with_len 0 n)) outputs
   unfolding names parts_of
   parts_are_good n outputs fits count same = record {
     one_each = count ∙ sym (length-map-range_with_len (groups_of part ts) 0 n);
     each = λ p l.
         let less : p < n = omega (arith, l, length-map-range_with_len (groups_of part ts) 0 n) in
         let there : groups_at (parts_of n) p ≡ groups_of part ts p = get_or-map-range_with_len (groups_of part ts) 0 n p p [] less (omega arith) in
-        subst (λ gs. IsGoodPart part text ts p gs (nth outputs p)) (sym there) (good_part_here p (nth outputs p) (same p less));
+        subst (λ gs. IsGoodPart part text ts p gs (nth_file outputs p)) (sym there) (good_part_here p (nth_file outputs p) (same p less));
     none_left_out =
         let distinct : Distinct (entries_of (parts_of n)) = distinct_entries part ts 0 (parts_of n) (each_good 0 n) in
         let up : length (entries_of (parts_of n)) ≤ length names = no_longer (entries_of (parts_of n)) names distinct (only_names n) in
@@ -209,8 +209,8 @@ partition_below : (k : List ℕ) (parts : ℕ) → 1 ≤ parts → partition_of 
 partition_below k parts some = omega arith
 
 pub sequential_is_good : SequentialIsGood
-sequential_is_good order files outputs skips split some none count same =
-    let facts = (good_skips order files skips).0 none in
+sequential_is_good request files outputs skips split some none count same =
+    let facts = (good_skips request files skips).0 none in
     record {
       job = refl;
       flags = refl;
@@ -221,7 +221,7 @@ sequential_is_good order files outputs skips split some none count same =
       skips_rise = facts.1;
       skips_exist = facts.2;
       skips_few = facts.0;
-      one_each = length-map-range_with_len (groups_of (λ k. partition_of k order.parts) (emitted order files skips)) 0 order.parts;
-      result = parts_are_good (λ k. partition_of k order.parts) (text_of order.task) (emitted order files skips) (names_rise order files skips split) order.parts outputs
-          (λ t h. partition_below t.key order.parts some) count same;
+      one_each = length-map-range_with_len (groups_of (λ k. partition_of k request.parts) (emitted request files skips)) 0 request.parts;
+      result = parts_are_good (λ k. partition_of k request.parts) (text_of request.job) (emitted request files skips) (names_rise request files skips split) request.parts outputs
+          (λ t h. partition_below t.key request.parts some) count same;
     }

@@ -2,7 +2,7 @@
 use Rattle.std.proofs.Common.{◌≡◌, ℕ, zero, suc, ◌+◌, ◌<◌, ◌≤◌, ◌==◌, List, length, get_or, sym, ◌∙◌, ap, arith, slice_range, count_by, IsTrue}
 use Rattle.std.specs.List.{zip}
 use Rattle.mr_bytes.specs.declared.Value.{Value}
-use Rattle.mr_jobs.specs.Task.{Task, counts}
+use Rattle.mr_jobs.specs.JobSpec.{JobSpec, counts}
 use Rattle.mr_reduce.specs.Text.{text_of, total_line}
 use Rattle.mr_reduce.proofs.TextLemmas.{counters_tell_the_number}
 use Rattle.mr_sequential.specs.declared.rows.Row.{Row}
@@ -25,30 +25,30 @@ pub ends-within : (f : ℕ → ℕ) (m n : ℕ) (ends : List ℕ) → ((i : ℕ)
 ends-within f m n ends all room r h = omega (arith, all r h, before-rises f (r + 1) m (omega (arith, h)), room)
 
 -- the lines of a job that counts
-pub counted-texts : (task : Task) (rows : List Row) (is sizes : List ℕ) (vs : List Value) (p : ℕ) → IsTrue (counts task) → length vs ≡ length is
+pub counted-texts : (job : JobSpec) (rows : List Row) (is sizes : List ℕ) (vs : List Value) (p : ℕ) → IsTrue (counts job) → length vs ≡ length is
     → ((i : ℕ) → i < length rows → get_or sizes i 0 ≡ count_by (λ j. j == i) is)
-    → row_texts (count_line sizes) p 0 rows ≡ row_texts (bucket_text task (zip is vs)) p 0 rows
-counted-texts task rows is sizes vs p counting same all =
-    row_texts-congr (count_line sizes) (bucket_text task (zip is vs)) p 0 rows
+    → row_texts (count_line sizes) p 0 rows ≡ row_texts (bucket_text job (zip is vs)) p 0 rows
+counted-texts job rows is sizes vs p counting same all =
+    row_texts-congr (count_line sizes) (bucket_text job (zip is vs)) p 0 rows
     (λ j h.
     (let here : 0 + j ≡ j = omega arith in
     let key : List ℕ = (get_or rows j no_row).key.now in
     let count : get_or sizes (0 + j) 0 ≡ length (bucket (0 + j) (zip is vs)) =
     ap (λ n. get_or sizes n 0) here ∙ all j h ∙ sym (size-count is vs j same) ∙ ap (size (zip is vs)) (sym here) in
-    ap (total_line key) count ∙ sym (counters_tell_the_number task key (bucket (0 + j) (zip is vs)) counting)))
+    ap (total_line key) count ∙ sym (counters_tell_the_number job key (bucket (0 + j) (zip is vs)) counting)))
 
 -- the texts of values that stand in their buckets
-pub placed-texts : (task : Task) (rows : List Row) (is ends : List ℕ) (vs out : List Value) (p : ℕ)
+pub placed-texts : (job : JobSpec) (rows : List Row) (is ends : List ℕ) (vs out : List Value) (p : ℕ)
     → ((i : ℕ) → i < length rows → get_or ends i 0 ≡ before (size (zip is vs)) (i + 1))
     → ((i : ℕ) → i < length rows → slice_range out (before (size (zip is vs)) i) (before (size (zip is vs)) (i + 1)) ≡ bucket i (zip is vs))
-    → row_texts (values_text task out ends) p 0 rows ≡ row_texts (bucket_text task (zip is vs)) p 0 rows
-placed-texts task rows is ends vs out p all buckets =
-    row_texts-congr (values_text task out ends) (bucket_text task (zip is vs)) p 0 rows
+    → row_texts (values_text job out ends) p 0 rows ≡ row_texts (bucket_text job (zip is vs)) p 0 rows
+placed-texts job rows is ends vs out p all buckets =
+    row_texts-congr (values_text job out ends) (bucket_text job (zip is vs)) p 0 rows
     (λ j h.
     (let here : 0 + j ≡ j = omega arith in
     let key : List ℕ = (get_or rows j no_row).key.now in
     let f : ℕ → ℕ = before (size (zip is vs)) in
-    ap (λ n. text_of task key (slice_range out (start_of ends n) (get_or ends n 0))) here
-    ∙ ap (λ n. text_of task key (slice_range out n (get_or ends j 0))) (starts (size (zip is vs)) (length rows) ends all j h)
-    ∙ ap (λ n. text_of task key (slice_range out (f j) n)) (all j h)
-    ∙ ap (text_of task key) (buckets j h) ∙ ap (λ n. text_of task key (bucket n (zip is vs))) (sym here)))
+    ap (λ n. text_of job key (slice_range out (start_of ends n) (get_or ends n 0))) here
+    ∙ ap (λ n. text_of job key (slice_range out n (get_or ends j 0))) (starts (size (zip is vs)) (length rows) ends all j h)
+    ∙ ap (λ n. text_of job key (slice_range out (f j) n)) (all j h)
+    ∙ ap (text_of job key) (buckets j h) ∙ ap (λ n. text_of job key (bucket n (zip is vs))) (sym here)))

@@ -9,7 +9,7 @@ use Rattle.std.specs.List.{position_or_len, position}
 use Rattle.mr_bytes.specs.declared.Value.{Value}
 use Rattle.mr_bytes.specs.declared.Value.TheVariants.{One}
 use Rattle.mr_bytes.specs.Lists.{Has}
-use Rattle.mr_sequential.specs.Pairs.{bytes_of, key_at, paired, ones_then}
+use Rattle.mr_sequential.specs.Pairs.{key_bytes, key_at, paired, ones_then}
 
 pub position_found : {X : Type 0} (p : X → Bool) (xs : List X) (at : ℕ) → Some at ≡ position p xs
     → (position_or_len p xs ≡ at) × (at < length xs)
@@ -25,28 +25,28 @@ position_found p xs at h =
     ]
 
 pub key_at-found : (q : List ℕ) (ks : List (Vec ℕ Global)) (at : ℕ) → position_or_len (λ (k : Vec ℕ Global). bytes_eq q k.items) ks ≡ at → at < length ks
-    → key_at (bytes_of ks) at ≡ q
+    → key_at (key_bytes ks) at ≡ q
 key_at-found q [] at place within = absurd (omega arith)
 key_at-found q (k ∷ ks) at place within =
     let rest : ℕ = position_or_len (λ (x : Vec ℕ Global). bytes_eq q x.items) ks in
     elim (cases_Bool (bytes_eq q k.items)) [
       | inl found ↦
           let here : zero ≡ at = ap (λ t. cond (not t) (1 + rest) 0) (sym found) ∙ place in
-          subst (λ n. key_at (bytes_of (k ∷ ks)) n ≡ q) here (sym ((bytes_eq-Decides q k.items).0 found))
+          subst (λ n. key_at (key_bytes (k ∷ ks)) n ≡ q) here (sym ((bytes_eq-Decides q k.items).0 found))
       | inr differs ↦
           let later : 1 + rest ≡ at = ap (λ t. cond (not t) (1 + rest) 0) (sym differs) ∙ place in
           let there : suc rest ≡ at = omega (arith, later) in
-          subst (λ n. key_at (bytes_of (k ∷ ks)) n ≡ q) there (key_at-found q ks rest refl (omega (arith, within)))
+          subst (λ n. key_at (key_bytes (k ∷ ks)) n ≡ q) there (key_at-found q ks rest refl (omega (arith, within)))
     ]
 
 pub same_length : {X Y : Type 0} (f : X → Y) (xs : List X) → length (map f xs) ≡ length xs
 same_length f [] = refl
 same_length f (x ∷ xs) = ap suc (same_length f xs)
 
-pub key_at-added : (ks : List (Vec ℕ Global)) (k : Vec ℕ Global) → key_at (bytes_of (ks ++ k ∷ [])) (length ks) ≡ k.items
+pub key_at-added : (ks : List (Vec ℕ Global)) (k : Vec ℕ Global) → key_at (key_bytes (ks ++ k ∷ [])) (length ks) ≡ k.items
 key_at-added ks k =
     ap (λ l. key_at l (length ks)) (map-append (λ (x : Vec ℕ Global). x.items) ks (k ∷ []))
-    ∙ get_or_push (bytes_of ks) k.items [] (length ks) (same_length (λ (x : Vec ℕ Global). x.items) ks)
+    ∙ get_or_push (key_bytes ks) k.items [] (length ks) (same_length (λ (x : Vec ℕ Global). x.items) ks)
 
 -- pairs read as before where their keys stay
 paired-stay : (ks ls : List (List ℕ)) (n : ℕ) (is : List ℕ) (vs : List Value) → All (λ i. i < n) is → ((j : ℕ) → j < n → key_at ls j ≡ key_at ks j)

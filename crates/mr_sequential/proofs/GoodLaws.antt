@@ -10,12 +10,12 @@ use Rattle.mr_bytes.specs.declared.Name.{Name}
 use Rattle.mr_bytes.specs.declared.Value.{Value}
 use Rattle.mr_bytes.specs.Lists.{Has, Rises, Distinct}
 use Rattle.mr_bytes.specs.Order.{name_order}
-use Rattle.mr_input.specs.Files.{nth}
+use Rattle.mr_input.specs.Files.{nth_file}
 use Rattle.mr_partition.specs.Partition.{partition_of}
 use Rattle.mr_reduce.specs.Text.{text_of}
 use Rattle.mr_sequential.specs.Emitted.{Triple, emitted}
 use Rattle.mr_sequential.specs.Sequential.{keys_of, triples_with, values_of, texts_of}
-use Rattle.mr_sequential.specs.Good.{named, key_under, key_of, group_text, IsGoodGroup, groups_at, entries_of, AreGood}
+use Rattle.mr_sequential.specs.Good.{named, key_under, key_of, text_under, IsGoodGroup, groups_at, entries_of, AreGood}
 use Rattle.mr_sequential.specs.GoodLaws.{GoodPartsAreSequential, GoodIsSequential}
 use Rattle.mr_sequential.proofs.ListLaws.{Has-all, Has-map, Has-map_from, Has-flat_map_from, Distinct-rises, same_rising}
 use Rattle.mr_sequential.proofs.KeyLaws.{bytes_eq-is, bytes_eq-same, keys_rise}
@@ -151,10 +151,10 @@ module _ (part : List ℕ → ℕ) (text : List ℕ → List Value → List ℕ)
         (subst (λ v. Has (groups_at parts v) s.1) q s.2.here) h (w.1 ∙ k) in
         Has-filter_map (named ts) g t.name t (subst (λ v. Has v t.name) same s.2.entry) (named-of ts t (Distinct-rises names_total _ rise) r.0))
 
-    pub is_sequential : nth outputs p ≡ texts_of part text ts p
+    pub is_sequential : nth_file outputs p ≡ texts_of part text ts p
     is_sequential =
         (good.each p lt).output_is
-        ∙ (flat_map-agree (group_text text ts) (λ g. text (key_of ts g) (values_of ts (key_of ts g))) (groups_at parts p)
+        ∙ (flat_map-agree (text_under text ts) (λ g. text (key_of ts g) (values_of ts (key_of ts g))) (groups_at parts p)
         (λ g h. ap (λ (us : List Triple). text (key_of ts g) (map (λ (u : Triple). u.value) us)) (triples_are g h))
         ∙ (sym (flat_map-map (λ k. text k (values_of ts k)) (key_of ts) (groups_at parts p)) ∙ ap (flat_map (λ k. text k (values_of ts k))) keys_are))
 
@@ -162,6 +162,6 @@ pub good_parts_are_sequential : GoodPartsAreSequential
 good_parts_are_sequential part text ts parts outputs rise good p lt = is_sequential part text ts parts outputs rise good p lt
 
 pub good_is_sequential : GoodIsSequential
-good_is_sequential order files outputs c some good p lt =
-    is_sequential (λ k. partition_of k order.parts) (text_of order.task) (emitted order files c.skips) c.groups outputs (names_rise order files c.skips some) good.result p
+good_is_sequential request files outputs c some good p lt =
+    is_sequential (λ k. partition_of k request.parts) (text_of request.job) (emitted request files c.skips) c.groups outputs (names_rise request files c.skips some) good.result p
     (omega (arith, lt, good.one_each))

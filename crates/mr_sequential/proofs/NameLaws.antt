@@ -11,7 +11,7 @@ use Rattle.mr_bytes.specs.declared.Name.{Name}
 use Rattle.mr_bytes.specs.declared.RecordName.{RecordName}
 use Rattle.mr_bytes.specs.Lists.{Has, Rises}
 use Rattle.mr_bytes.specs.Order.{name_order, record_order}
-use Rattle.mr_jobs.specs.Task.{Task}
+use Rattle.mr_jobs.specs.JobSpec.{JobSpec}
 use Rattle.mr_jobs.specs.Emissions.{Emission, emissions}
 use Rattle.mr_splits.specs.Named.{NamedRecord, is_left_out, named_records}
 use Rattle.mr_splits.proofs.RisingLemmas.{names-rise}
@@ -67,18 +67,18 @@ placed-rises a p (e ∷ es) =
       placed-rises a (p + 1) es,
     )
 
-record-Has : (task : Task) (skips : List RecordName) (r : NamedRecord) (n : Name) → Has (map (λ (t : Triple). t.name) (record_triples task skips r)) n → IsOf r.name n
-record-Has task skips r n h = by (is_left_out skips r.name) h
+record-Has : (job : JobSpec) (skips : List RecordName) (r : NamedRecord) (n : Name) → Has (map (λ (t : Triple). t.name) (record_triples job skips r)) n → IsOf r.name n
+record-Has job skips r n h = by (is_left_out skips r.name) h
   where
-    by : (b : Bool) → Has (map (λ (t : Triple). t.name) (cond b [] (placed_from r.name 0 (emissions task r.file r.start r.bytes)))) n → IsOf r.name n
+    by : (b : Bool) → Has (map (λ (t : Triple). t.name) (cond b [] (placed_from r.name 0 (emissions job r.file r.start r.bytes)))) n → IsOf r.name n
     by true h = absurd h
-    by false h = (placed-Has r.name 0 (emissions task r.file r.start r.bytes) n h).0
+    by false h = (placed-Has r.name 0 (emissions job r.file r.start r.bytes) n h).0
 
-record-rises : (task : Task) (skips : List RecordName) (r : NamedRecord) → Rises name_order (map (λ (t : Triple). t.name) (record_triples task skips r))
-record-rises task skips r =
-    elim (is_left_out skips r.name) as (λ b. Rises name_order (map (λ (t : Triple). t.name) (cond b [] (placed_from r.name 0 (emissions task r.file r.start r.bytes))))) [
+record-rises : (job : JobSpec) (skips : List RecordName) (r : NamedRecord) → Rises name_order (map (λ (t : Triple). t.name) (record_triples job skips r))
+record-rises job skips r =
+    elim (is_left_out skips r.name) as (λ b. Rises name_order (map (λ (t : Triple). t.name) (cond b [] (placed_from r.name 0 (emissions job r.file r.start r.bytes))))) [
       | true ↦ tt
-      | false ↦ placed-rises r.name 0 (emissions task r.file r.start r.bytes)
+      | false ↦ placed-rises r.name 0 (emissions job r.file r.start r.bytes)
     ]
 
 rises-append : (xs ys : List Name) → Rises name_order xs → Rises name_order ys → ((x y : Name) → Has xs x → Has ys y → name_order x y ≡ Less) → Rises name_order (xs ++ ys)
@@ -92,26 +92,26 @@ rises-append (x ∷ xs) ys r s f = (
   rises-append xs ys r.1 s (λ a b h g. f a b (inr h) g),
 )
 
-all-Has : (task : Task) (skips : List RecordName) (rs : List NamedRecord) (n : Name) → Has (map (λ (t : Triple). t.name) (flat_map (record_triples task skips) rs)) n
+all-Has : (job : JobSpec) (skips : List RecordName) (rs : List NamedRecord) (n : Name) → Has (map (λ (t : Triple). t.name) (flat_map (record_triples job skips) rs)) n
     → (a : RecordName) × Has (map (λ (r : NamedRecord). r.name) rs) a × IsOf a n
-all-Has task skips [] n h = absurd h
-all-Has task skips (r ∷ rs) n h =
-    elim (Has-append_cases (map (λ (t : Triple). t.name) (record_triples task skips r)) (map (λ (t : Triple). t.name) (flat_map (record_triples task skips) rs)) n
-    (subst (λ (l : List Name). Has l n) (map-append (λ (t : Triple). t.name) (record_triples task skips r) (flat_map (record_triples task skips) rs)) h)) [
-      | inl here ↦ (r.name, inl refl, record-Has task skips r n here)
-      | inr later ↦ (let w = all-Has task skips rs n later in (w.0, inr (w.1), w.2))
+all-Has job skips [] n h = absurd h
+all-Has job skips (r ∷ rs) n h =
+    elim (Has-append_cases (map (λ (t : Triple). t.name) (record_triples job skips r)) (map (λ (t : Triple). t.name) (flat_map (record_triples job skips) rs)) n
+    (subst (λ (l : List Name). Has l n) (map-append (λ (t : Triple). t.name) (record_triples job skips r) (flat_map (record_triples job skips) rs)) h)) [
+      | inl here ↦ (r.name, inl refl, record-Has job skips r n here)
+      | inr later ↦ (let w = all-Has job skips rs n later in (w.0, inr (w.1), w.2))
     ]
 
-all-rise : (task : Task) (skips : List RecordName) (rs : List NamedRecord) → Rises record_order (map (λ (r : NamedRecord). r.name) rs)
-    → Rises name_order (map (λ (t : Triple). t.name) (flat_map (record_triples task skips) rs))
-all-rise task skips [] rises = tt
-all-rise task skips (r ∷ rs) rises =
-    let here : List Name = map (λ (t : Triple). t.name) (record_triples task skips r) in
-    let later : List Name = map (λ (t : Triple). t.name) (flat_map (record_triples task skips) rs) in
-    subst (Rises name_order) (sym (map-append (λ (t : Triple). t.name) (record_triples task skips r) (flat_map (record_triples task skips) rs)))
-    (rises-append here later (record-rises task skips r) (all-rise task skips rs rises.1)
-    (λ x y h g. (let w = all-Has task skips rs y g in
-    apart r.name w.0 x y (Has-all (λ b. record_order r.name b ≡ Less) (map (λ (q : NamedRecord). q.name) rs) w.0 rises.0 w.1) (record-Has task skips r x h) w.2)))
+all-rise : (job : JobSpec) (skips : List RecordName) (rs : List NamedRecord) → Rises record_order (map (λ (r : NamedRecord). r.name) rs)
+    → Rises name_order (map (λ (t : Triple). t.name) (flat_map (record_triples job skips) rs))
+all-rise job skips [] rises = tt
+all-rise job skips (r ∷ rs) rises =
+    let here : List Name = map (λ (t : Triple). t.name) (record_triples job skips r) in
+    let later : List Name = map (λ (t : Triple). t.name) (flat_map (record_triples job skips) rs) in
+    subst (Rises name_order) (sym (map-append (λ (t : Triple). t.name) (record_triples job skips r) (flat_map (record_triples job skips) rs)))
+    (rises-append here later (record-rises job skips r) (all-rise job skips rs rises.1)
+    (λ x y h g. (let w = all-Has job skips rs y g in
+    apart r.name w.0 x y (Has-all (λ b. record_order r.name b ≡ Less) (map (λ (q : NamedRecord). q.name) rs) w.0 rises.0 w.1) (record-Has job skips r x h) w.2)))
 
 pub names_rise : NamesRise
-names_rise order files skips some = all-rise order.task skips (named_records order.split files) (names-rise order.split files some)
+names_rise request files skips some = all-rise request.job skips (named_records request.split files) (names-rise request.split files some)

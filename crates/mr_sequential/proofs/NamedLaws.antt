@@ -8,14 +8,14 @@ use Rattle.mr_bytes.specs.declared.Name.{Name}
 use Rattle.mr_bytes.specs.Lists.{Has, Rises, Distinct}
 use Rattle.mr_bytes.specs.Order.{name_order}
 use Rattle.mr_sequential.specs.Emitted.{Triple}
-use Rattle.mr_sequential.specs.Good.{is_named, named}
+use Rattle.mr_sequential.specs.Good.{has_name, named}
 use Rattle.mr_sequential.proofs.ListLaws.{Has-all, all_from_Has, Has-map}
 
 -- the triples under these names
 abbrev pub triples_under : List Triple → List Name → List Triple
 triples_under ts ns = filter_map (named ts) ns
 
-named-is : (n : Name) (t : Triple) → is_named n t ≡ true → t.name ≡ n
+named-is : (n : Name) (t : Triple) → has_name n t ≡ true → t.name ≡ n
 named-is n t e =
     let first = and_parts (eqb t.name.split n.split) _ e in
     let second = and_parts (eqb t.name.rec n.rec) _ first.1 in
@@ -25,7 +25,7 @@ named-is n t e =
       place = eqb-true t.name.place n.place second.1 i;
     }
 
-named-same : (t : Triple) → is_named t.name t ≡ true
+named-same : (t : Triple) → has_name t.name t ≡ true
 named-same t =
     and_from _ _ (eq-eqb t.name.split t.name.split refl) (and_from _ _ (eq-eqb t.name.rec t.name.rec refl) (eq-eqb t.name.place t.name.place refl))
 
@@ -36,9 +36,9 @@ some_is (Some x) h = (x, refl)
 -- the triple under a name is one of them, and has this name
 pub named-Has : (ts : List Triple) (n : Name) (t : Triple) → named ts n ≡ Some t → Has ts t × (t.name ≡ n)
 named-Has [] n t e = absurd cc
-named-Has (u ∷ ts) n t e = by (is_named n u) refl (named-Has ts n t)
+named-Has (u ∷ ts) n t e = by (has_name n u) refl (named-Has ts n t)
   where
-    by : (b : Bool) → is_named n u ≡ b → (named ts n ≡ Some t → Has ts t × (t.name ≡ n)) → ((u ≡ t) ⊎ Has ts t) × (t.name ≡ n)
+    by : (b : Bool) → has_name n u ≡ b → (named ts n ≡ Some t → Has ts t × (t.name ≡ n)) → ((u ≡ t) ⊎ Has ts t) × (t.name ≡ n)
     by true is rest =
         let found : Some u ≡ Some t = rw is at e in
         let same : u ≡ t = cc found in
@@ -48,9 +48,9 @@ named-Has (u ∷ ts) n t e = by (is_named n u) refl (named-Has ts n t)
 -- where no name stands twice, each triple is the one under its name
 pub named-of : (ts : List Triple) (t : Triple) → Distinct (map (λ (u : Triple). u.name) ts) → Has ts t → named ts t.name ≡ Some t
 named-of [] t d h = absurd h
-named-of (u ∷ ts) t d (inl e) = rw (subst (λ (w : Triple). is_named w.name u ≡ true) e (named-same u)) (ap Some e)
+named-of (u ∷ ts) t d (inl e) = rw (subst (λ (w : Triple). has_name w.name u ≡ true) e (named-same u)) (ap Some e)
 named-of (u ∷ ts) t d (inr h) =
-    let other : is_named t.name u ≡ false =
+    let other : has_name t.name u ≡ false =
     false_from_ne_true _ (λ e. d.0 (subst (Has (map (λ (w : Triple). w.name) ts)) (sym (named-is t.name u e)) (Has-map (λ (w : Triple). w.name) ts t h))) in
     rw other (named-of ts t d.1 h)
 

@@ -72,11 +72,11 @@ all_past [] = tt
 all_past (n ∷ names) = (refl, all_past names)
 
 pub good_skips : GoodSkips
-good_skips order files skips =
-    let rs : List NamedRecord = named_records order.split files in (
-      λ h. by (nat_lt order.skips (length skips)) refl h,
+good_skips request files skips =
+    let rs : List NamedRecord = named_records request.split files in (
+      λ h. by (nat_lt request.skips (length skips)) refl h,
       λ g.
-          (let few : nat_lt order.skips (length skips) ≡ false = not_less (length skips) order.skips g.0 in
+          (let few : nat_lt request.skips (length skips) ≡ false = not_less (length skips) request.skips g.0 in
           ap (λ t. cond t (Some TooManySkips) (list_fault rs None skips)) few
           ∙ none_wrong rs None skips (record { past = all_past skips; rises = g.1; exist = g.2 })),
     )
@@ -84,12 +84,12 @@ good_skips order files skips =
     not_less : (n k : ℕ) → n ≤ k → nat_lt k n ≡ false
     not_less n k h = elim (cases_Bool (nat_lt k n)) [ inl t ↦ absurd (omega (arith, h, ltb-true k n t)) | inr f ↦ f ]
 
-    by : (t : Bool) → nat_lt order.skips (length skips) ≡ t → ◌≡◌ {A = Option RunFault} (cond t (Some TooManySkips) (list_fault (named_records order.split files) None skips)) None
-        → (length skips ≤ order.skips) × Rises record_order skips × AllByRecursion (λ name. IsTrue (is_record (named_records order.split files) name)) skips
+    by : (t : Bool) → nat_lt request.skips (length skips) ≡ t → ◌≡◌ {A = Option RunFault} (cond t (Some TooManySkips) (list_fault (named_records request.split files) None skips)) None
+        → (length skips ≤ request.skips) × Rises record_order skips × AllByRecursion (λ name. IsTrue (is_record (named_records request.split files) name)) skips
     by true is none = absurd (cc)
     by false is none =
-        let g = good (named_records order.split files) None skips none in
-        (at_most (length skips) order.skips is, g.rises, g.exist)
+        let g = good (named_records request.split files) None skips none in
+        (at_most (length skips) request.skips is, g.rises, g.exist)
       where
         at_most : (n k : ℕ) → nat_lt k n ≡ false → n ≤ k
         at_most n k f = elim (cases_lt k n) [ inl lt ↦ absurd (true≢false (sym (lt-ltb k n lt) ∙ f)) | inr le ↦ le ]

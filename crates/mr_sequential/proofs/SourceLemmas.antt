@@ -9,12 +9,12 @@ use Rattle.mr_bytes.specs.declared.RecordName.{RecordName}
 use Rattle.mr_bytes.specs.declared.Value.{Value}
 use Rattle.mr_records.specs.Records.{Record, lengthen, records_from, records}
 use Rattle.mr_input.specs.Files.{split_count, total_size}
-use Rattle.mr_jobs.specs.Task.{Task, Order}
+use Rattle.mr_jobs.specs.JobSpec.{JobSpec, RequestSpec}
 use Rattle.mr_jobs.specs.Emissions.{Emission, emissions}
 use Rattle.mr_jobs.proofs.CountLemmas.{few_emissions}
 use Rattle.mr_splits.specs.Named.{NamedRecord, is_left_out, named_from, named_files, named_records, of_split}
-use Rattle.mr_splits.specs.Cut.{nth}
-use Rattle.mr_splits.specs.Laws.{joined}
+use Rattle.mr_splits.specs.Cut.{nth_named}
+use Rattle.mr_splits.specs.Laws.{joined_splits}
 use Rattle.mr_splits.proofs.JoinedLemmas.{joined-suc, joined-zero}
 use Rattle.mr_sequential.specs.Emitted.{Triple, placed_from, record_triples, emitted}
 use Rattle.mr_sequential.specs.Names.{names_from, kept_names}
@@ -24,14 +24,14 @@ use Rattle.mr_sequential.specs.Sequential.{keys_of, texts_of, values_of}
 use Rattle.mr_sequential.proofs.GatheredLemmas.{length-append}
 
 pub next_record : {Y : Type 0} (f : NamedRecord → List Y) (rs : List NamedRecord) (r : ℕ) → r < length rs
-    → flat_map f (drop r rs) ≡ f (nth rs r) ++ flat_map f (drop (r + 1) rs)
+    → flat_map f (drop r rs) ≡ f (nth_named rs r) ++ flat_map f (drop (r + 1) rs)
 next_record f rs r h = at_drop_more (flat_map f) rs r (record { name = record { split = 0; rec = 0 }; file = 0; start = 0; bytes = [] }) h
 
 -- one more of the pieces stands behind the gathered ones
 pub one_gathered : {Y : Type 0} (f : NamedRecord → List Y) (rs : List NamedRecord) (r : ℕ) (old now all : List Y) → r < length rs
-    → now ≡ old ++ f (nth rs r) → old ++ flat_map f (drop r rs) ≡ all → now ++ flat_map f (drop (r + 1) rs) ≡ all
+    → now ≡ old ++ f (nth_named rs r) → old ++ flat_map f (drop r rs) ≡ all → now ++ flat_map f (drop (r + 1) rs) ≡ all
 one_gathered f rs r old now all h is before =
-    ap (λ l. l ++ flat_map f (drop (r + 1) rs)) is ∙ append_assoc old (f (nth rs r)) (flat_map f (drop (r + 1) rs))
+    ap (λ l. l ++ flat_map f (drop (r + 1) rs)) is ∙ append_assoc old (f (nth_named rs r)) (flat_map f (drop (r + 1) rs))
     ∙ ap (λ l. old ++ l) (sym (next_record f rs r h)) ∙ before
 
 pub flat_map-append : {X Y : Type 0} (f : X → List Y) (xs ys : List X) → flat_map f (xs ++ ys) ≡ flat_map f xs ++ flat_map f ys
@@ -39,23 +39,23 @@ flat_map-append f [] ys = refl
 flat_map-append f (x ∷ xs) ys = ap (λ l. f x ++ l) (flat_map-append f xs ys) ∙ sym (append_assoc (f x) (flat_map f xs) (flat_map f ys))
 
 pub next_split : {Y : Type 0} (f : NamedRecord → List Y) (rs : List NamedRecord) (s m : ℕ) → s < m
-    → flat_map f (joined s (m - s) rs) ≡ flat_map f (of_split s rs) ++ flat_map f (joined (s + 1) (m - (s + 1)) rs)
+    → flat_map f (joined_splits s (m - s) rs) ≡ flat_map f (of_split s rs) ++ flat_map f (joined_splits (s + 1) (m - (s + 1)) rs)
 next_split f rs s m h =
     let more : m - s ≡ suc (m - (s + 1)) = omega arith in
-    ap (λ n. flat_map f (joined s n rs)) more ∙ ap (flat_map f) (joined-suc s (m - (s + 1)) rs)
-    ∙ flat_map-append f (of_split s rs) (joined (s + 1) (m - (s + 1)) rs)
+    ap (λ n. flat_map f (joined_splits s n rs)) more ∙ ap (flat_map f) (joined-suc s (m - (s + 1)) rs)
+    ∙ flat_map-append f (of_split s rs) (joined_splits (s + 1) (m - (s + 1)) rs)
 
 pub split_gathered : {Y : Type 0} (f : NamedRecord → List Y) (rs : List NamedRecord) (s m : ℕ) (old now all : List Y) → s < m
-    → now ≡ old ++ flat_map f (of_split s rs) → old ++ flat_map f (joined s (m - s) rs) ≡ all → now ++ flat_map f (joined (s + 1) (m - (s + 1)) rs) ≡ all
+    → now ≡ old ++ flat_map f (of_split s rs) → old ++ flat_map f (joined_splits s (m - s) rs) ≡ all → now ++ flat_map f (joined_splits (s + 1) (m - (s + 1)) rs) ≡ all
 split_gathered f rs s m old now all h is before =
-    ap (λ l. l ++ flat_map f (joined (s + 1) (m - (s + 1)) rs)) is ∙ append_assoc old (flat_map f (of_split s rs)) (flat_map f (joined (s + 1) (m - (s + 1)) rs))
+    ap (λ l. l ++ flat_map f (joined_splits (s + 1) (m - (s + 1)) rs)) is ∙ append_assoc old (flat_map f (of_split s rs)) (flat_map f (joined_splits (s + 1) (m - (s + 1)) rs))
     ∙ ap (λ l. old ++ l) (sym (next_split f rs s m h)) ∙ before
 
 pub all_gathered : {Y : Type 0} (f : NamedRecord → List Y) (rs : List NamedRecord) (s m : ℕ) (old all : List Y) → m ≤ s
-    → old ++ flat_map f (joined s (m - s) rs) ≡ all → old ≡ all
+    → old ++ flat_map f (joined_splits s (m - s) rs) ≡ all → old ≡ all
 all_gathered {Y} f rs s m old all h before =
     let none : m - s ≡ 0 = omega arith in
-    sym (ap (λ n. old ++ flat_map f (joined s n rs)) none ∙ ap (λ l. old ++ flat_map f l) (joined-zero s rs) ∙ append_nil old) ∙ before
+    sym (ap (λ n. old ++ flat_map f (joined_splits s n rs)) none ∙ ap (λ l. old ++ flat_map f l) (joined-zero s rs) ∙ append_nil old) ∙ before
   where
     append_nil : (es : List Y) → es ++ [] ≡ es
     append_nil [] = refl
@@ -115,23 +115,23 @@ room-files size file first (f ∷ fs) =
       sum_by-cons (length {A = ℕ}) f fs,
     )
 
-kept-few : (task : Task) (skips : List RecordName) (r : NamedRecord) → length (kept_pairs task skips r) ≤ length r.bytes + 1
-kept-few task skips r =
-    elim (is_left_out skips r.name) as (λ t. length (cond t [] (emissions task r.file r.start r.bytes)) ≤ length r.bytes + 1) [
+kept-few : (job : JobSpec) (skips : List RecordName) (r : NamedRecord) → length (kept_pairs job skips r) ≤ length r.bytes + 1
+kept-few job skips r =
+    elim (is_left_out skips r.name) as (λ t. length (cond t [] (emissions job r.file r.start r.bytes)) ≤ length r.bytes + 1) [
       | true ↦ omega arith
-      | false ↦ few_emissions task r.file r.start r.bytes
+      | false ↦ few_emissions job r.file r.start r.bytes
     ]
 
-kept-room : (task : Task) (skips : List RecordName) (rs : List NamedRecord) → length (flat_map (kept_pairs task skips) rs) ≤ room rs
+kept-room : (job : JobSpec) (skips : List RecordName) (rs : List NamedRecord) → length (flat_map (kept_pairs job skips) rs) ≤ room rs
 unfolding room
-kept-room task skips [] = omega arith
-kept-room task skips (r ∷ rs) =
-    omega (arith, length-append (kept_pairs task skips r) (flat_map (kept_pairs task skips) rs), kept-few task skips r, kept-room task skips rs)
+kept-room job skips [] = omega arith
+kept-room job skips (r ∷ rs) =
+    omega (arith, length-append (kept_pairs job skips r) (flat_map (kept_pairs job skips) rs), kept-few job skips r, kept-room job skips rs)
 
-pub few_pairs : (task : Task) (skips : List RecordName) (size : ℕ) (files : List (List ℕ)) → length files ≤ 1024 → total_size files ≤ 2 ^ 30
-    → length (flat_map (kept_pairs task skips) (named_records size files)) ≤ 2 ^ 31
-few_pairs task skips size files few small =
-    omega (arith, kept-room task skips (named_records size files), room-files size 0 0 files, few, small)
+pub few_pairs : (job : JobSpec) (skips : List RecordName) (size : ℕ) (files : List (List ℕ)) → length files ≤ 1024 → total_size files ≤ 2 ^ 30
+    → length (flat_map (kept_pairs job skips) (named_records size files)) ≤ 2 ^ 31
+few_pairs job skips size files few small =
+    omega (arith, kept-room job skips (named_records size files), room-files size 0 0 files, few, small)
 
 -- ---- pairs with names and without
 
@@ -143,32 +143,32 @@ unfolding placed_from
 placed-pairs name place [] = refl
 placed-pairs name place (e ∷ es) = ap (λ l. e ∷ l) (placed-pairs name (place + 1) es)
 
-record-pairs : (task : Task) (skips : List RecordName) (r : NamedRecord) → map pair_of (record_triples task skips r) ≡ kept_pairs task skips r
-record-pairs task skips r =
-    let es : List Emission = emissions task r.file r.start r.bytes in
+record-pairs : (job : JobSpec) (skips : List RecordName) (r : NamedRecord) → map pair_of (record_triples job skips r) ≡ kept_pairs job skips r
+record-pairs job skips r =
+    let es : List Emission = emissions job r.file r.start r.bytes in
     elim (is_left_out skips r.name) as (λ t. map pair_of (cond t [] (placed_from r.name 0 es)) ≡ cond t [] es) [
       | true ↦ refl
       | false ↦ placed-pairs r.name 0 es
     ]
 
-all-pairs : (task : Task) (skips : List RecordName) (rs : List NamedRecord) → map pair_of (flat_map (record_triples task skips) rs) ≡ flat_map (kept_pairs task skips) rs
-all-pairs task skips [] = refl
-all-pairs task skips (r ∷ rs) =
-    map-append pair_of (record_triples task skips r) (flat_map (record_triples task skips) rs)
-    ∙ ap (λ l. l ++ map pair_of (flat_map (record_triples task skips) rs)) (record-pairs task skips r)
-    ∙ ap (λ l. kept_pairs task skips r ++ l) (all-pairs task skips rs)
+all-pairs : (job : JobSpec) (skips : List RecordName) (rs : List NamedRecord) → map pair_of (flat_map (record_triples job skips) rs) ≡ flat_map (kept_pairs job skips) rs
+all-pairs job skips [] = refl
+all-pairs job skips (r ∷ rs) =
+    map-append pair_of (record_triples job skips r) (flat_map (record_triples job skips) rs)
+    ∙ ap (λ l. l ++ map pair_of (flat_map (record_triples job skips) rs)) (record-pairs job skips r)
+    ∙ ap (λ l. kept_pairs job skips r ++ l) (all-pairs job skips rs)
 
-pub emitted-pairs : (order : Order) (files : List (List ℕ)) (skips : List RecordName)
-    → map pair_of (emitted order files skips) ≡ flat_map (kept_pairs order.task skips) (named_records order.split files)
-emitted-pairs order files skips = all-pairs order.task skips (named_records order.split files)
+pub emitted-pairs : (request : RequestSpec) (files : List (List ℕ)) (skips : List RecordName)
+    → map pair_of (emitted request files skips) ≡ flat_map (kept_pairs request.job skips) (named_records request.split files)
+emitted-pairs request files skips = all-pairs request.job skips (named_records request.split files)
 
 same_length : (ts : List Triple) → length (map pair_of ts) ≡ length ts
 same_length [] = refl
 same_length (t ∷ ts) = ap suc (same_length ts)
 
-pub emitted-count : (order : Order) (files : List (List ℕ)) (skips : List RecordName)
-    → length (flat_map (kept_pairs order.task skips) (named_records order.split files)) ≡ length (emitted order files skips)
-emitted-count order files skips = ap length (sym (emitted-pairs order files skips)) ∙ same_length (emitted order files skips)
+pub emitted-count : (request : RequestSpec) (files : List (List ℕ)) (skips : List RecordName)
+    → length (flat_map (kept_pairs request.job skips) (named_records request.split files)) ≡ length (emitted request files skips)
+emitted-count request files skips = ap length (sym (emitted-pairs request files skips)) ∙ same_length (emitted request files skips)
 
 triple-keys : (ts : List Triple) → map (λ (e : Emission). e.0) (map pair_of ts) ≡ map (λ (t : Triple). t.key) ts
 triple-keys [] = refl
@@ -200,16 +200,16 @@ unfolding placed_from names_from
 placed-names name place [] = refl
 placed-names name place (e ∷ es) = ap (λ l. record { split = name.split; rec = name.rec; place = place } ∷ l) (placed-names name (place + 1) es)
 
-all-names : (task : Task) (skips : List RecordName) (rs : List NamedRecord)
-    → map (λ (t : Triple). t.name) (flat_map (record_triples task skips) rs) ≡ flat_map (kept_names task skips) rs
-all-names task skips [] = refl
-all-names task skips (r ∷ rs) =
-    map-append (λ (t : Triple). t.name) (record_triples task skips r) (flat_map (record_triples task skips) rs)
-    ∙ ap (λ l. kept_names task skips r ++ l) (all-names task skips rs)
+all-names : (job : JobSpec) (skips : List RecordName) (rs : List NamedRecord)
+    → map (λ (t : Triple). t.name) (flat_map (record_triples job skips) rs) ≡ flat_map (kept_names job skips) rs
+all-names job skips [] = refl
+all-names job skips (r ∷ rs) =
+    map-append (λ (t : Triple). t.name) (record_triples job skips r) (flat_map (record_triples job skips) rs)
+    ∙ ap (λ l. kept_names job skips r ++ l) (all-names job skips rs)
 
-pub emitted-names : (order : Order) (files : List (List ℕ)) (skips : List RecordName)
-    → map (λ (t : Triple). t.name) (emitted order files skips) ≡ flat_map (kept_names order.task skips) (named_records order.split files)
-emitted-names order files skips = all-names order.task skips (named_records order.split files)
+pub emitted-names : (request : RequestSpec) (files : List (List ℕ)) (skips : List RecordName)
+    → map (λ (t : Triple). t.name) (emitted request files skips) ≡ flat_map (kept_names request.job skips) (named_records request.split files)
+emitted-names request files skips = all-names request.job skips (named_records request.split files)
 
 -- the names of a key's pairs are those of its triples
 triple-names : (k : List ℕ) (ts : List Triple) → names_under (map pair_of ts) (map (λ (t : Triple). t.name) ts) k ≡ names_with ts k

@@ -2,7 +2,7 @@
 use Rattle.std.proofs.Common.{◌≡◌, ◌≢◌, ℕ, suc, ◌+◌, ◌<◌, ◌≤◌, cond, eqb, List, [], ◌∷◌, ◌++◌, length, get_or, set, drop, refl, sym, ◌∙◌, ap, arith, Vec, Global, append_assoc, inl, inr, subst}
 use Rattle.std.proofs.lemmas.Bool.{cases_eq, eq-eqb, ne_eqb}
 use Rattle.std.proofs.lemmas.List.{at_drop_more, at_drop_all, map-set, get_or-map, get_or-set_same, get_or-set_other}
-use Rattle.mr_input.specs.Files.{contents, nth}
+use Rattle.mr_input.specs.Files.{contents, nth_file}
 use Rattle.mr_sequential.specs.declared.rows.Row.{Row}
 use Rattle.mr_sequential.specs.Rows.{row_texts}
 use Rattle.mr_sequential.proofs.OrderLemmas.{no_row}
@@ -10,9 +10,9 @@ use Rattle.mr_sequential.proofs.OrderLemmas.{no_row}
 -- one text of many gets more bytes
 pub contents-set : (ts : List (Vec ℕ Global)) (i : ℕ) (was now : Vec ℕ Global) (more : List ℕ) → i < length ts
     → was ≡ get_or ts i was → now.items ≡ was.items ++ more
-    → contents (set ts i now) ≡ set (contents ts) i (nth (contents ts) i ++ more)
+    → contents (set ts i now) ≡ set (contents ts) i (nth_file (contents ts) i ++ more)
 contents-set ts i was now more h is grown =
-    let old : nth (contents ts) i ≡ was.items =
+    let old : nth_file (contents ts) i ≡ was.items =
     get_or-map (λ (f : Vec ℕ Global). f.items) ts i was [] h ∙ ap (λ (f : Vec ℕ Global). f.items) (sym is) in
     map-set (λ (f : Vec ℕ Global). f.items) ts i now
     ∙ ap (λ bytes. set (contents ts) i bytes) (grown ∙ ap (λ bytes. bytes ++ more) (sym old))
@@ -40,21 +40,21 @@ append_nil (x ∷ xs) = ap (λ l. x ∷ l) (append_nil xs)
 
 -- the text of one more row stands at the end of its partition's text
 pub row_more : (text : ℕ → Row → List ℕ) (rows : List Row) (r : ℕ) (x : Row) (ts ts' : List (List ℕ)) (p : ℕ) → r < length rows → x ≡ get_or rows r x
-    → x.part < length ts → ts' ≡ set ts x.part (nth ts x.part ++ text r x)
-    → nth ts' p ++ row_texts text p (r + 1) (drop (r + 1) rows) ≡ nth ts p ++ row_texts text p r (drop r rows)
+    → x.part < length ts → ts' ≡ set ts x.part (nth_file ts x.part ++ text r x)
+    → nth_file ts' p ++ row_texts text p (r + 1) (drop (r + 1) rows) ≡ nth_file ts p ++ row_texts text p r (drop r rows)
 row_more text rows r x ts ts' p h is within grown =
     let rest : List ℕ = row_texts text p (r + 1) (drop (r + 1) rows) in
     let next : row_texts text p r (drop r rows) ≡ row_texts text p r (x ∷ drop (r + 1) rows) =
     at_drop_more (row_texts text p r) rows r x h ∙ ap (λ (y : Row). row_texts text p r (y ∷ drop (r + 1) rows)) (sym is) in
     elim (cases_eq x.part p) [
       | inl e ↦
-          let now : nth ts' p ≡ nth ts p ++ text r x =
-          ap (λ l. nth l p) grown ∙ ap (λ q. nth (set ts q (nth ts q ++ text r x)) p) e ∙ get_or-set_same ts p (nth ts p ++ text r x) [] (subst (λ q. q < length ts) e within) in
-          ap (λ l. l ++ rest) now ∙ append_assoc (nth ts p) (text r x) rest
-          ∙ ap (λ l. nth ts p ++ l) (sym (next ∙ row_texts-same text p r x (drop (r + 1) rows) e))
+          let now : nth_file ts' p ≡ nth_file ts p ++ text r x =
+          ap (λ l. nth_file l p) grown ∙ ap (λ q. nth_file (set ts q (nth_file ts q ++ text r x)) p) e ∙ get_or-set_same ts p (nth_file ts p ++ text r x) [] (subst (λ q. q < length ts) e within) in
+          ap (λ l. l ++ rest) now ∙ append_assoc (nth_file ts p) (text r x) rest
+          ∙ ap (λ l. nth_file ts p ++ l) (sym (next ∙ row_texts-same text p r x (drop (r + 1) rows) e))
       | inr ne ↦
-          let now : nth ts' p ≡ nth ts p = ap (λ l. nth l p) grown ∙ get_or-set_other ts x.part p (nth ts x.part ++ text r x) [] (λ e. ne (sym e)) in
-          ap (λ l. l ++ rest) now ∙ ap (λ l. nth ts p ++ l) (sym (next ∙ row_texts-other text p r x (drop (r + 1) rows) ne))
+          let now : nth_file ts' p ≡ nth_file ts p = ap (λ l. nth_file l p) grown ∙ get_or-set_other ts x.part p (nth_file ts x.part ++ text r x) [] (λ e. ne (sym e)) in
+          ap (λ l. l ++ rest) now ∙ ap (λ l. nth_file ts p ++ l) (sym (next ∙ row_texts-other text p r x (drop (r + 1) rows) ne))
     ]
 
 pub row_end : (text : ℕ → Row → List ℕ) (rows : List Row) (r p : ℕ) (t : List ℕ) → length rows ≤ r → t ++ row_texts text p r (drop r rows) ≡ t

@@ -52,11 +52,11 @@ module _ (part : List ℕ → ℕ) (text : List ℕ → List Value → List ℕ)
   parts_are = by_places (groups_of part ts) [] 0 parts (λ q l. let same : q ≡ 0 + q = omega arith in part_is q l ∙ ap (groups_of part ts) same)
 
 pub certificate_is_sequential : CertificateIsSequential
-certificate_is_sequential order files outputs c some good =
-    let part : List ℕ → ℕ = λ k. partition_of k order.parts in
-    let ts : List Triple = emitted order files c.skips in
-    let groups : c.groups ≡ map (groups_of part ts) (range_with_len 0 order.parts) =
-    parts_are part (text_of order.task) ts c.groups outputs (names_rise order files c.skips some) good.result
+certificate_is_sequential request files outputs c some good =
+    let part : List ℕ → ℕ = λ k. partition_of k request.parts in
+    let ts : List Triple = emitted request files c.skips in
+    let groups : c.groups ≡ map (groups_of part ts) (range_with_len 0 request.parts) =
+    parts_are part (text_of request.job) ts c.groups outputs (names_rise request files c.skips some) good.result
     ∙ ap (λ n. map (groups_of part ts) (range_with_len 0 n)) good.one_each in
     λ i. record {
       job = good.job i;
@@ -70,5 +70,5 @@ certificate_is_sequential order files outputs c some good =
     }
 
 pub certificate_is_unique : CertificateIsUnique
-certificate_is_unique order files outputs outputs' c c' some good good' same =
-    certificate_is_sequential order files outputs c some good ∙ ap (certificate_of order files) same ∙ sym (certificate_is_sequential order files outputs' c' some good')
+certificate_is_unique request files outputs outputs' c c' some good good' same =
+    certificate_is_sequential request files outputs c some good ∙ ap (certificate_of request files) same ∙ sym (certificate_is_sequential request files outputs' c' some good')

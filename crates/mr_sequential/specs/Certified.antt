@@ -3,7 +3,7 @@ use Rattle.std.specs.Prelude.{ℕ, List, map, length}
 use Rattle.std.specs.List.{range_with_len}
 use Rattle.mr_bytes.specs.declared.Name.{Name}
 use Rattle.mr_bytes.specs.declared.RecordName.{RecordName}
-use Rattle.mr_jobs.specs.Task.{Order, job_number, job_flags, job_literal}
+use Rattle.mr_jobs.specs.JobSpec.{RequestSpec, job_number, job_flags, job_literal}
 use Rattle.mr_partition.specs.Partition.{partition_of}
 use Rattle.mr_certform.specs.Value.{Contents}
 use Rattle.mr_sequential.specs.Emitted.{Triple, emitted}
@@ -18,14 +18,14 @@ abbrev pub groups_of : (List ℕ → ℕ) → List Triple → ℕ → List (List
 groups_of part ts p = map (names_with ts) (keys_of part (map (λ t. t.key) ts) p)
 
 -- the certificate of the sequential execution of a job over an input, without the left-out records
-abbrev pub certificate_of : Order → List (List ℕ) → List RecordName → Contents
-certificate_of order files skips = record {
-  job = job_number order.task;
-  flags = job_flags order.task;
-  literal = job_literal order.task;
-  parts = order.parts;
-  split_size = order.split;
+abbrev pub certificate_of : RequestSpec → List (List ℕ) → List RecordName → Contents
+certificate_of request files skips = record {
+  job = job_number request.job;
+  flags = job_flags request.job;
+  literal = job_literal request.job;
+  parts = request.parts;
+  split_size = request.split;
   lengths = map length files;
   skips = skips;
-  groups = map (groups_of (λ k. partition_of k order.parts) (emitted order files skips)) (range_with_len 0 order.parts);
+  groups = map (groups_of (λ k. partition_of k request.parts) (emitted request files skips)) (range_with_len 0 request.parts);
 }

@@ -4,7 +4,7 @@ use Rattle.std.specs.List.{flat_map}
 use Rattle.mr_bytes.specs.declared.Name.{Name}
 use Rattle.mr_bytes.specs.declared.RecordName.{RecordName}
 use Rattle.mr_bytes.specs.declared.Value.{Value}
-use Rattle.mr_jobs.specs.Task.{Task, Order}
+use Rattle.mr_jobs.specs.JobSpec.{JobSpec, RequestSpec}
 use Rattle.mr_jobs.specs.Emissions.{Emission, emissions}
 use Rattle.mr_splits.specs.Named.{NamedRecord, is_left_out, named_records}
 
@@ -21,10 +21,10 @@ placed_from name place (e ∷ es) =
     record { key = e.0; value = e.1; name = record { split = name.split; rec = name.rec; place = place } } ∷ placed_from name (place + 1) es
 
 -- what a record gives, unless it is left out
-abbrev pub record_triples : Task → List RecordName → NamedRecord → List Triple
-record_triples task skips r =
-    if is_left_out skips r.name then [] else placed_from r.name 0 (emissions task r.file r.start r.bytes)
+abbrev pub record_triples : JobSpec → List RecordName → NamedRecord → List Triple
+record_triples job skips r =
+    if is_left_out skips r.name then [] else placed_from r.name 0 (emissions job r.file r.start r.bytes)
 
 -- all triples, in the order of their names; a record that is left out gives nothing, and the others keep their names
-abbrev pub emitted : Order → List (List ℕ) → List RecordName → List Triple
-emitted order files skips = flat_map (record_triples order.task skips) (named_records order.split files)
+abbrev pub emitted : RequestSpec → List (List ℕ) → List RecordName → List Triple
+emitted request files skips = flat_map (record_triples request.job skips) (named_records request.split files)

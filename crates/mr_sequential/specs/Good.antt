@@ -6,8 +6,8 @@ use Rattle.mr_bytes.specs.declared.Name.{Name}
 use Rattle.mr_bytes.specs.declared.Value.{Value}
 use Rattle.mr_bytes.specs.Lists.{Rises}
 use Rattle.mr_bytes.specs.Order.{key_order, name_order, record_order}
-use Rattle.mr_jobs.specs.Task.{Order, job_number, job_flags, job_literal}
-use Rattle.mr_input.specs.Files.{nth}
+use Rattle.mr_jobs.specs.JobSpec.{RequestSpec, job_number, job_flags, job_literal}
+use Rattle.mr_input.specs.Files.{nth_file}
 use Rattle.mr_partition.specs.Partition.{partition_of}
 use Rattle.mr_reduce.specs.Text.{text_of}
 use Rattle.mr_splits.specs.Named.{named_records}
@@ -15,12 +15,12 @@ use Rattle.mr_splits.specs.Cut.{is_record}
 use Rattle.mr_certform.specs.Value.{Contents}
 use Rattle.mr_sequential.specs.Emitted.{Triple, emitted}
 
-abbrev pub is_named : Name → Triple → Bool
-is_named n t = (t.name.split == n.split) && ((t.name.rec == n.rec) && (t.name.place == n.place))
+abbrev pub has_name : Name → Triple → Bool
+has_name n t = (t.name.split == n.split) && ((t.name.rec == n.rec) && (t.name.place == n.place))
 
 -- the triple of that name
 abbrev pub named : List Triple → Name → Option Triple
-named ts n = find (is_named n) ts
+named ts n = find (has_name n) ts
 
 -- the key under that name; where there is none, no bytes
 abbrev pub key_under : List Triple → Name → List ℕ
@@ -36,8 +36,8 @@ abbrev pub values_under : List Triple → List Name → List Value
 values_under ts ns = map (λ t. t.value) (filter_map (named ts) ns)
 
 -- the text of the group of these names
-abbrev pub group_text : (List ℕ → List Value → List ℕ) → List Triple → List Name → List ℕ
-group_text text ts ns = text (key_of ts ns) (values_under ts ns)
+abbrev pub text_under : (List ℕ → List Value → List ℕ) → List Triple → List Name → List ℕ
+text_under text ts ns = text (key_of ts ns) (values_under ts ns)
 
 -- there is an entry, each names a triple, names rise, all entries have one key, and its partition is p
 pub record IsGoodGroup (part : List ℕ → ℕ) (ts : List Triple) (p : ℕ) (ns : List Name) : Type 0 where
@@ -51,7 +51,7 @@ pub record IsGoodGroup (part : List ℕ → ℕ) (ts : List Triple) (p : ℕ) (n
 pub record IsGoodPart (part : List ℕ → ℕ) (text : List ℕ → List Value → List ℕ) (ts : List Triple) (p : ℕ) (gs : List (List Name)) (output : List ℕ) : Type 0 where
   pub groups : AllByRecursion (IsGoodGroup part ts p) gs
   pub keys_rise : Rises key_order (map (key_of ts) gs)
-  pub output_is : output ≡ flat_map (group_text text ts) gs
+  pub output_is : output ≡ flat_map (text_under text ts) gs
 
 -- the groups of a partition, and none past the last
 abbrev pub groups_at : List (List (List Name)) → ℕ → List (List Name)
@@ -64,20 +64,20 @@ entries_of parts = flat_map (λ groups. flat_map (λ ns. ns) groups) parts
 -- one output for each partition, each partition good, and as many entries as triples
 pub record AreGood (part : List ℕ → ℕ) (text : List ℕ → List Value → List ℕ) (ts : List Triple) (parts : List (List (List Name))) (outputs : List (List ℕ)) : Type 0 where
   pub one_each : length outputs ≡ length parts
-  pub each : (p : ℕ) → p < length parts → IsGoodPart part text ts p (groups_at parts p) (nth outputs p)
+  pub each : (p : ℕ) → p < length parts → IsGoodPart part text ts p (groups_at parts p) (nth_file outputs p)
   pub none_left_out : length (entries_of parts) ≡ length ts
 
 -- the certificate is of this order and these files, what it leaves out is allowed, and its groups with the outputs are
 -- good against all that is emitted without that
-pub record IsGood (order : Order) (files outputs : List (List ℕ)) (c : Contents) : Type 0 where
-  pub job : c.job ≡ job_number order.task
-  pub flags : c.flags ≡ job_flags order.task
-  pub literal : c.literal ≡ job_literal order.task
-  pub parts : c.parts ≡ order.parts
-  pub split_size : c.split_size ≡ order.split
+pub record IsGood (request : RequestSpec) (files outputs : List (List ℕ)) (c : Contents) : Type 0 where
+  pub job : c.job ≡ job_number request.job
+  pub flags : c.flags ≡ job_flags request.job
+  pub literal : c.literal ≡ job_literal request.job
+  pub parts : c.parts ≡ request.parts
+  pub split_size : c.split_size ≡ request.split
   pub lengths : c.lengths ≡ map length files
   pub skips_rise : Rises record_order c.skips
-  pub skips_exist : AllByRecursion (λ name. IsTrue (is_record (named_records order.split files) name)) c.skips
-  pub skips_few : length c.skips ≤ order.skips
-  pub one_each : length c.groups ≡ order.parts
-  pub result : AreGood (λ k. partition_of k order.parts) (text_of order.task) (emitted order files c.skips) c.groups outputs
+  pub skips_exist : AllByRecursion (λ name. IsTrue (is_record (named_records request.split files) name)) c.skips
+  pub skips_few : length c.skips ≤ request.skips
+  pub one_each : length c.groups ≡ request.parts
+  pub result : AreGood (λ k. partition_of k request.parts) (text_of request.job) (emitted request files c.skips) c.groups outputs

@@ -5,8 +5,8 @@ use Rattle.mr_bytes.specs.declared.RecordName.{RecordName}
 use Rattle.mr_bytes.specs.declared.Value.{Value}
 use Rattle.mr_bytes.specs.Lists.{Has, Rises, Distinct}
 use Rattle.mr_bytes.specs.Order.{name_order}
-use Rattle.mr_jobs.specs.Task.{Order, WordCount}
-use Rattle.mr_input.specs.Files.{nth}
+use Rattle.mr_jobs.specs.JobSpec.{RequestSpec, WordCount}
+use Rattle.mr_input.specs.Files.{nth_file}
 use Rattle.mr_certform.specs.Value.{Contents}
 use Rattle.mr_sequential.specs.Emitted.{Triple}
 use Rattle.mr_sequential.specs.Sequential.{texts_of, sequential}
@@ -27,32 +27,32 @@ NoneIsLeftOut = (ts : List Triple) (entries : List Name) → Distinct entries �
 -- where the names of all triples rise, each output of a good result is that of the sequential execution
 abbrev pub GoodPartsAreSequential : Type 0
 GoodPartsAreSequential = (part : List ℕ → ℕ) (text : List ℕ → List Value → List ℕ) (ts : List Triple) (parts : List (List (List Name))) (outputs : List (List ℕ))
-    → Rises name_order (map (λ t. t.name) ts) → AreGood part text ts parts outputs → (p : ℕ) → p < length parts → nth outputs p ≡ texts_of part text ts p
+    → Rises name_order (map (λ t. t.name) ts) → AreGood part text ts parts outputs → (p : ℕ) → p < length parts → nth_file outputs p ≡ texts_of part text ts p
 
 -- each output of a good result is that of the sequential execution without the records that the certificate leaves out
 abbrev pub GoodIsSequential : Type 0
-GoodIsSequential = (order : Order) (files outputs : List (List ℕ)) (c : Contents) → 0 < order.split → IsGood order files outputs c
-    → (p : ℕ) → p < order.parts → nth outputs p ≡ sequential order files c.skips p
+GoodIsSequential = (request : RequestSpec) (files outputs : List (List ℕ)) (c : Contents) → 0 < request.split → IsGood request files outputs c
+    → (p : ℕ) → p < request.parts → nth_file outputs p ≡ sequential request files c.skips p
 
 -- the outputs of the sequential execution are good with its certificate, where what it leaves out has no fault
 abbrev pub SequentialIsGood : Type 0
-SequentialIsGood = (order : Order) (files outputs : List (List ℕ)) (skips : List RecordName) → 0 < order.split → 1 ≤ order.parts
-    → skip_fault order files skips ≡ None → length outputs ≡ order.parts → ((p : ℕ) → p < order.parts → nth outputs p ≡ sequential order files skips p)
-    → IsGood order files outputs (certificate_of order files skips)
+SequentialIsGood = (request : RequestSpec) (files outputs : List (List ℕ)) (skips : List RecordName) → 0 < request.split → 1 ≤ request.parts
+    → skip_fault request files skips ≡ None → length outputs ≡ request.parts → ((p : ℕ) → p < request.parts → nth_file outputs p ≡ sequential request files skips p)
+    → IsGood request files outputs (certificate_of request files skips)
 
 -- the certificate of a good result is that of the sequential execution without the same records
 abbrev pub CertificateIsSequential : Type 0
-CertificateIsSequential = (order : Order) (files outputs : List (List ℕ)) (c : Contents) → 0 < order.split → IsGood order files outputs c
-    → c ≡ certificate_of order files c.skips
+CertificateIsSequential = (request : RequestSpec) (files outputs : List (List ℕ)) (c : Contents) → 0 < request.split → IsGood request files outputs c
+    → c ≡ certificate_of request files c.skips
 
 -- good results that leave out the same records have one certificate
 abbrev pub CertificateIsUnique : Type 0
-CertificateIsUnique = (order : Order) (files outputs outputs' : List (List ℕ)) (c c' : Contents) → 0 < order.split
-    → IsGood order files outputs c → IsGood order files outputs' c' → c.skips ≡ c'.skips → c ≡ c'
+CertificateIsUnique = (request : RequestSpec) (files outputs outputs' : List (List ℕ)) (c c' : Contents) → 0 < request.split
+    → IsGood request files outputs c → IsGood request files outputs' c' → c.skips ≡ c'.skips → c ≡ c'
 
 -- a worked row: the words of one line `a b a`, in one partition
-abbrev pub one_line : Order
-one_line = record { task = WordCount false; parts = 1; split = 64; skips = 0 }
+abbrev pub one_line : RequestSpec
+one_line = record { job = WordCount false; parts = 1; split = 64; skips = 0 }
 
 abbrev pub a_b_a : List (List ℕ)
 a_b_a = (97 ∷ 32 ∷ 98 ∷ 32 ∷ 97 ∷ 10 ∷ []) ∷ []

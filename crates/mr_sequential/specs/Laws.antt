@@ -3,7 +3,7 @@ use Rattle.std.specs.Prelude.{◌≡◌, ◌↔◌, ℕ, ◌<◌, List, map}
 use Rattle.mr_bytes.specs.declared.RecordName.{RecordName}
 use Rattle.mr_bytes.specs.Lists.{Has, Rises}
 use Rattle.mr_bytes.specs.Order.{key_order, name_order}
-use Rattle.mr_jobs.specs.Task.{Order}
+use Rattle.mr_jobs.specs.JobSpec.{RequestSpec}
 use Rattle.mr_sequential.specs.Emitted.{emitted}
 use Rattle.mr_sequential.specs.Sequential.{keys_of}
 
@@ -22,5 +22,5 @@ KeysAreUnique = (part : List ℕ → ℕ) (all : List (List ℕ)) (p : ℕ) (key
 
 -- the names of all triples rise strictly, whichever records are left out
 abbrev pub NamesRise : Type 0
-NamesRise = (order : Order) (files : List (List ℕ)) (skips : List RecordName) → 0 < order.split
-    → Rises name_order (map (λ t. t.name) (emitted order files skips))
+NamesRise = (request : RequestSpec) (files : List (List ℕ)) (skips : List RecordName) → 0 < request.split
+    → Rises name_order (map (λ t. t.name) (emitted request files skips))

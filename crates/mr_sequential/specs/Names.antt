@@ -3,7 +3,7 @@ use Rattle.std.specs.Prelude.{ℕ, zero, suc, ◌+◌, ◌-◌, List, [], ◌∷
 use Rattle.std.specs.List.{flat_map}
 use Rattle.mr_bytes.specs.declared.Name.{Name}
 use Rattle.mr_bytes.specs.declared.RecordName.{RecordName}
-use Rattle.mr_jobs.specs.Task.{Task}
+use Rattle.mr_jobs.specs.JobSpec.{JobSpec}
 use Rattle.mr_splits.specs.Named.{NamedRecord}
 use Rattle.mr_sequential.specs.declared.names.Run.{Run}
 use Rattle.mr_sequential.specs.Emitted.{record_triples}
@@ -23,5 +23,5 @@ names_left place [] = []
 names_left place (r ∷ rs) = names_from r.name place (r.count - place) ++ names_in rs
 
 -- the names of what a record gives, unless it is left out
-abbrev pub kept_names : Task → List RecordName → NamedRecord → List Name
-kept_names task skips r = map (λ t. t.name) (record_triples task skips r)
+abbrev pub kept_names : JobSpec → List RecordName → NamedRecord → List Name
+kept_names job skips r = map (λ t. t.name) (record_triples job skips r)

@@ -7,14 +7,14 @@ use Rattle.mr_bytes.specs.declared.Value.{Value}
 use Rattle.mr_bytes.specs.declared.Value.TheVariants.{One}
 use Rattle.mr_bytes.specs.declared.Name.{Name}
 use Rattle.mr_bytes.specs.declared.RecordName.{RecordName}
-use Rattle.mr_jobs.specs.Task.{Task}
+use Rattle.mr_jobs.specs.JobSpec.{JobSpec}
 use Rattle.mr_jobs.specs.Emissions.{Emission, emissions}
 use Rattle.mr_splits.specs.Named.{NamedRecord, is_left_out}
 use Rattle.mr_sequential.specs.Sequential.{keys_of}
 
 -- keys as their bytes
-abbrev pub bytes_of : List (Vec ℕ Global) → List (List ℕ)
-bytes_of keys = map (λ k. k.items) keys
+abbrev pub key_bytes : List (Vec ℕ Global) → List (List ℕ)
+key_bytes keys = map (λ k. k.items) keys
 
 -- a key by its number
 abbrev pub key_at : List (List ℕ) → ℕ → List ℕ
@@ -56,5 +56,5 @@ abbrev pub groups_in : (List ℕ → ℕ) → List Emission → List Name → �
 groups_in part es names p = map (names_under es names) (keys_of part (map (λ e. e.0) es) p)
 
 -- what a record gives, without names, unless it is left out
-abbrev pub kept_pairs : Task → List RecordName → NamedRecord → List Emission
-kept_pairs task skips r = if is_left_out skips r.name then [] else emissions task r.file r.start r.bytes
+abbrev pub kept_pairs : JobSpec → List RecordName → NamedRecord → List Emission
+kept_pairs job skips r = if is_left_out skips r.name then [] else emissions job r.file r.start r.bytes

@@ -6,7 +6,7 @@ use Rattle.std.specs.Ordering.{match_ordering}
 use Rattle.mr_bytes.specs.declared.RecordName.{RecordName}
 use Rattle.mr_bytes.specs.declared.Value.{Value}
 use Rattle.mr_bytes.specs.Order.{key_order}
-use Rattle.mr_jobs.specs.Task.{Order}
+use Rattle.mr_jobs.specs.JobSpec.{RequestSpec}
 use Rattle.mr_partition.specs.Partition.{partition_of}
 use Rattle.mr_reduce.specs.Text.{text_of}
 use Rattle.mr_sequential.specs.Emitted.{Triple, emitted}
@@ -34,6 +34,6 @@ abbrev pub texts_of : (List ℕ → ℕ) → (List ℕ → List Value → List �
 texts_of part text ts p = flat_map (λ k. text k (values_of ts k)) (keys_of part (map (λ t. t.key) ts) p)
 
 -- output p of the sequential execution of a job over an input, without the left-out records
-abbrev pub sequential : Order → List (List ℕ) → List RecordName → ℕ → List ℕ
-sequential order files skips p =
-    texts_of (λ k. partition_of k order.parts) (text_of order.task) (emitted order files skips) p
+abbrev pub sequential : RequestSpec → List (List ℕ) → List RecordName → ℕ → List ℕ
+sequential request files skips p =
+    texts_of (λ k. partition_of k request.parts) (text_of request.job) (emitted request files skips) p

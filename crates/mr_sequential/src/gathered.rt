@@ -3,7 +3,7 @@ ghost use Rattle.std.specs.Prelude.{◌≡◌, ℕ, ◌+◌, ◌≤◌, ◌<◌,
 ghost use Rattle.std.specs.List.{list_any};
 ghost use Rattle.std.specs.Str.{bytes_eq};
 ghost use Rattle.mr_bytes.specs.declared.Value.TheVariants.{One};
-ghost use Rattle.mr_sequential.specs.Pairs.{bytes_of, key_at, ones_then};
+ghost use Rattle.mr_sequential.specs.Pairs.{key_bytes, key_at, ones_then};
 
 use indexmap::IndexSet;
 use mr_bytes::Value;
@@ -28,9 +28,9 @@ impl Model for Gathered {
 
     ghost Value = { List Emission };
 
-    ghost use Rattle.mr_sequential.specs.Pairs.{bytes_of, ones_then, paired};
+    ghost use Rattle.mr_sequential.specs.Pairs.{key_bytes, ones_then, paired};
 
-    ghost view = { λ g. paired (bytes_of g.keys.keys) g.numbers.items (ones_then g.ones g.rest.items) };
+    ghost view = { λ g. paired (key_bytes g.keys.keys) g.numbers.items (ones_then g.ones g.rest.items) };
 
     ghost invariant = { λ g. record {
       inside : All (λ i. i < length g.keys.keys) g.numbers.items;
@@ -99,10 +99,10 @@ fn put_value(ones: &mut usize, rest: &mut Vec<Value>, value: Value)
 
 /// The number of `key`, which is added where it is not there.
 fn number_of(alloc: Global, keys: &mut IndexSet<Vec<u8>>, key: &[u8]) -> Result<usize, AllocError>
-    ensures found { IfOk result (λ at. (at < length keys.new.keys) × (key_at (bytes_of keys.new.keys) at ≡ key.now)) }
+    ensures found { IfOk result (λ at. (at < length keys.new.keys) × (key_at (key_bytes keys.new.keys) at ≡ key.now)) }
     ensures grows { (length keys.old.keys ≤ length keys.new.keys) × (length keys.new.keys ≤ length keys.old.keys + 1) }
     ensures only_it { IfOk result (λ at. (i : ℕ) → i < length keys.new.keys → length keys.old.keys ≤ i → i ≡ at) }
-    ensures stay { (i : ℕ) → i < length keys.old.keys → key_at (bytes_of keys.new.keys) i ≡ key_at (bytes_of keys.old.keys) i }
+    ensures stay { (i : ℕ) → i < length keys.old.keys → key_at (key_bytes keys.new.keys) i ≡ key_at (key_bytes keys.old.keys) i }
     ensures err { OnErr result (keys.new.keys ≡ keys.old.keys) }
 {
     if let Some(at) = keys.get_index_of(key) {

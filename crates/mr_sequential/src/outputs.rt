@@ -2,7 +2,7 @@
 ghost use Rattle.std.specs.Prelude.{◌≡◌, ℕ, ◌<◌, ◌^◌, IfOk, length, map};
 ghost use Rattle.std.specs.List.{range_with_len};
 ghost use Rattle.mr_certform.specs.Flat.{AreCounted, chunks};
-ghost use Rattle.mr_input.specs.Files.{contents, nth};
+ghost use Rattle.mr_input.specs.Files.{contents, nth_file};
 ghost use Rattle.mr_partition.specs.Partition.{partition_of};
 ghost use Rattle.mr_reduce.specs.Text.{text_of};
 ghost use Rattle.mr_sequential.specs.Pairs.{groups_in, texts_in};
@@ -29,7 +29,7 @@ pub(crate) fn outputs(
     requires all { length names ≡ length gathered }
     ensures count { IfOk result (λ r. length r.0.items ≡ parts) }
     ensures texts { IfOk result (λ r. (p : ℕ) → p < parts
-        → nth (contents r.0.items) p ≡ texts_in (λ k. partition_of k parts) (text_of job.now) gathered p) }
+        → nth_file (contents r.0.items) p ≡ texts_in (λ k. partition_of k parts) (text_of job.now) gathered p) }
     ensures parts { IfOk result (λ r. length r.1.group_counts.items ≡ parts) }
     ensures counted { IfOk result (λ r. AreCounted r.1.group_counts.items r.1.entry_counts.items r.1.names.items) }
     ensures groups { IfOk result (λ r. chunks r.1.group_counts.items (chunks r.1.entry_counts.items r.1.names.items)

@@ -1,7 +1,7 @@
 //! A sequential execution, from a request and an input to the outputs.
 ghost use Rattle.std.specs.Prelude.{◌≡◌, ◌↔◌, ℕ, ◌≤◌, ◌<◌, ◌^◌, ◌⊎◌, IfOk, OnOk, IfErr, IfSome, ◌≢◌, None, Some, length, map};
-ghost use Rattle.mr_input.specs.Files.{contents, nth, split_total};
-ghost use Rattle.mr_jobs.specs.Task.{job_number, job_flags, job_literal};
+ghost use Rattle.mr_input.specs.Files.{contents, nth_file, split_total};
+ghost use Rattle.mr_jobs.specs.JobSpec.{job_number, job_flags, job_literal};
 ghost use Rattle.mr_splits.specs.Cut.{records_of};
 ghost use Rattle.mr_sequential.specs.Certified.{certificate_of};
 ghost use Rattle.mr_sequential.specs.Good.{IsGood};
@@ -63,7 +63,7 @@ pub fn run(
 ) -> Result<(Vec<Vec<u8>>, Certificate), RunFault>
     requires { split_total request.now.split input.now ≤ 2 ^ 20 }
     ensures count { IfOk result (λ r. length r.0.items ≡ request.now.parts) }
-    ensures texts { IfOk result (λ r. (p : ℕ) → p < request.now.parts → nth (contents r.0.items) p ≡ sequential request.now input.now skips.now p) }
+    ensures texts { IfOk result (λ r. (p : ℕ) → p < request.now.parts → nth_file (contents r.0.items) p ≡ sequential request.now input.now skips.now p) }
     ensures certificate { IfOk result (λ r. r.1 ≡ certificate_of request.now input.now skips.now) }
     ensures is_good { IfOk result (λ r. IsGood request.now input.now (contents r.0.items) r.1) }
     ensures skips { OnOk result (skip_fault request.now input.now skips.now ≡ None) }
@@ -98,9 +98,9 @@ fn header_of(
     input: &Input,
     skips: &[RecordName],
 ) -> Result<Header, AllocError>
-    ensures job { IfOk result (λ h. h.job ≡ job_number request.now.task) }
-    ensures flags { IfOk result (λ h. h.flags ≡ job_flags request.now.task) }
-    ensures literal { IfOk result (λ h. h.literal.items ≡ job_literal request.now.task) }
+    ensures job { IfOk result (λ h. h.job ≡ job_number request.now.job) }
+    ensures flags { IfOk result (λ h. h.flags ≡ job_flags request.now.job) }
+    ensures literal { IfOk result (λ h. h.literal.items ≡ job_literal request.now.job) }
     ensures short { IfOk result (λ h. length h.literal.items ≤ 4096) }
     ensures split { IfOk result (λ h. h.split_size ≡ request.now.split) }
     ensures lengths { IfOk result (λ h. h.lengths.items ≡ map length input.now) }
@@ -129,7 +129,7 @@ fn execute(
     requires few { length skips.now < 2 ^ 32 }
     requires fault { skip_fault request.now plan.now.files skips.now ≡ None }
     ensures count { IfOk result (λ r. length r.0.items ≡ request.now.parts) }
-    ensures texts { IfOk result (λ r. (p : ℕ) → p < request.now.parts → nth (contents r.0.items) p ≡ sequential request.now plan.now.files skips.now p) }
+    ensures texts { IfOk result (λ r. (p : ℕ) → p < request.now.parts → nth_file (contents r.0.items) p ≡ sequential request.now plan.now.files skips.now p) }
     ensures certificate { IfOk result (λ r. r.1 ≡ certificate_of request.now plan.now.files skips.now) }
     ensures is_good { IfOk result (λ r. IsGood request.now plan.now.files (contents r.0.items) r.1) }
     ensures only { IfErr result (λ e. e ≡ RunFault.OutOfMemory) }

@@ -4,7 +4,7 @@ ghost use Rattle.std.specs.List.{flat_map};
 ghost use Rattle.mr_input.specs.Files.{split_total};
 ghost use Rattle.mr_jobs.specs.Emissions.{emissions};
 ghost use Rattle.mr_splits.specs.Named.{is_left_out, of_split};
-ghost use Rattle.mr_splits.specs.Cut.{left_out_flags, nth, records_of};
+ghost use Rattle.mr_splits.specs.Cut.{left_out_flags, nth_named, records_of};
 ghost use Rattle.mr_sequential.specs.Names.{kept_names};
 ghost use Rattle.mr_sequential.specs.Pairs.{kept_pairs};
 
@@ -72,9 +72,9 @@ fn gather_one(
     requires split { name.split < split_total kept.plan.now.size kept.plan.now.files }
     requires record { name.rec < length (of_split name.split (records_of kept.plan.now)) }
     requires flags { kept.left_out.now ≡ left_out_flags kept.skips.now (records_of kept.plan.now) }
-    requires few { length emitted.old.pairs + length (kept_pairs job.now kept.skips.now (nth (of_split name.split (records_of kept.plan.now)) name.rec)) < 2 ^ 32 }
-    ensures pairs { OnOk result (emitted.new.pairs ≡ emitted.old.pairs ++ kept_pairs job.now kept.entry.skips.now (nth (of_split name.split (records_of kept.entry.plan.now)) name.rec)) }
-    ensures names { OnOk result (emitted.new.names ≡ emitted.old.names ++ kept_names job.now kept.entry.skips.now (nth (of_split name.split (records_of kept.entry.plan.now)) name.rec)) }
+    requires few { length emitted.old.pairs + length (kept_pairs job.now kept.skips.now (nth_named (of_split name.split (records_of kept.plan.now)) name.rec)) < 2 ^ 32 }
+    ensures pairs { OnOk result (emitted.new.pairs ≡ emitted.old.pairs ++ kept_pairs job.now kept.entry.skips.now (nth_named (of_split name.split (records_of kept.entry.plan.now)) name.rec)) }
+    ensures names { OnOk result (emitted.new.names ≡ emitted.old.names ++ kept_names job.now kept.entry.skips.now (nth_named (of_split name.split (records_of kept.entry.plan.now)) name.rec)) }
 {
     let line = kept.plan.located(name.split, name.rec);
     if leaves_out(kept, name.split, name.rec) {

@@ -2,7 +2,7 @@
 ghost use Rattle.std.specs.Prelude.{◌≡◌, ℕ, ◌+◌, ◌≤◌, ◌<◌, ◌^◌, [], ◌++◌, IfOk, OnOk, All, length, vec_len, slice_index, slice_range, slice_set, OnErr};
 ghost use Rattle.std.specs.List.{zip};
 ghost use Rattle.mr_bytes.specs.declared.Value.TheVariants.{One};
-ghost use Rattle.mr_input.specs.Files.{contents, nth};
+ghost use Rattle.mr_input.specs.Files.{contents, nth_file};
 ghost use Rattle.mr_reduce.specs.Text.{text_of, total_line};
 ghost use Rattle.mr_sequential.specs.Buckets.{before, size};
 ghost use Rattle.mr_sequential.specs.Pairs.{bucket, ones_then};
@@ -18,7 +18,7 @@ use std::alloc::{AllocError, Global};
 /// As many empty texts as there are partitions.
 pub(crate) fn empty_texts(alloc: Global, parts: u32) -> Result<Vec<Vec<u8>>, AllocError>
     ensures count { IfOk result (λ r. length r.items ≡ parts) }
-    ensures empty { IfOk result (λ r. (p : ℕ) → nth (contents r.items) p ≡ []) }
+    ensures empty { IfOk result (λ r. (p : ℕ) → nth_file (contents r.items) p ≡ []) }
 {
     let mut texts = Vec::new(alloc);
     for _ in 0..parts {
@@ -32,7 +32,7 @@ fn add_total(texts: &mut Vec<Vec<u8>>, row: Row<'_>, total: usize) -> Result<(),
     requires { row.part < length texts.old.items }
     ensures count { length texts.new.items ≡ length texts.old.items }
     ensures ok { OnOk result (contents texts.new.items
-        ≡ slice_set (contents texts.old.items) row.entry.part (nth (contents texts.old.items) row.entry.part ++ total_line row.entry.key.now total)) }
+        ≡ slice_set (contents texts.old.items) row.entry.part (nth_file (contents texts.old.items) row.entry.part ++ total_line row.entry.key.now total)) }
 {
     let text = &mut texts[row.part as usize];
     total_text(row.key, total as u64, text)
@@ -48,7 +48,7 @@ fn add_values(
     requires { row.part < length texts.old.items }
     ensures count { length texts.new.items ≡ length texts.old.items }
     ensures ok { OnOk result (contents texts.new.items
-        ≡ slice_set (contents texts.old.items) row.entry.part (nth (contents texts.old.items) row.entry.part ++ text_of job.now row.entry.key.now values.now)) }
+        ≡ slice_set (contents texts.old.items) row.entry.part (nth_file (contents texts.old.items) row.entry.part ++ text_of job.now row.entry.key.now values.now)) }
 {
     let text = &mut texts[row.part as usize];
     group_text(job, row.key, values, text)
@@ -63,8 +63,8 @@ pub(crate) fn count_texts(
     requires parts { All (λ r. r.part < length texts.old.items) rows.now }
     requires sizes { length sizes.now ≡ length rows.now }
     ensures count { length texts.new.items ≡ length texts.old.items }
-    ensures ok { OnOk result ((p : ℕ) → p < length texts.old.items → nth (contents texts.new.items) p
-        ≡ nth (contents texts.old.items) p ++ row_texts (count_line sizes.now) p 0 rows.now) }
+    ensures ok { OnOk result ((p : ℕ) → p < length texts.old.items → nth_file (contents texts.new.items) p
+        ≡ nth_file (contents texts.old.items) p ++ row_texts (count_line sizes.now) p 0 rows.now) }
 {
     for (rank, row) in rows.iter().enumerate() {
         add_total(texts, *row, sizes[rank])?;
@@ -85,8 +85,8 @@ pub(crate) fn value_texts(
     requires rising { (r : ℕ) → r < length ends.now → start_of ends.now r ≤ slice_index ends.now r }
     requires within { (r : ℕ) → r < length ends.now → slice_index ends.now r ≤ length values.now }
     ensures count { length texts.new.items ≡ length texts.old.items }
-    ensures ok { OnOk result ((p : ℕ) → p < length texts.old.items → nth (contents texts.new.items) p
-        ≡ nth (contents texts.old.items) p ++ row_texts (values_text job.now values.now ends.now) p 0 rows.now) }
+    ensures ok { OnOk result ((p : ℕ) → p < length texts.old.items → nth_file (contents texts.new.items) p
+        ≡ nth_file (contents texts.old.items) p ++ row_texts (values_text job.now values.now ends.now) p 0 rows.now) }
 {
     let mut start = 0;
     for (rank, row) in rows.iter().enumerate() {
@@ -149,8 +149,8 @@ pub(crate) fn fill_texts(
     requires inside { All (λ i. i < length rows.now) numbers.now }
     requires all { values.0 + length values.1.items ≡ length numbers.now }
     ensures count { length texts.new.items ≡ length texts.old.items }
-    ensures ok { OnOk result ((p : ℕ) → p < length texts.old.items → nth (contents texts.new.items) p
-        ≡ nth (contents texts.old.items) p ++ row_texts (bucket_text job.now (zip numbers.now (ones_then values.0 values.1.items))) p 0 rows.now) }
+    ensures ok { OnOk result ((p : ℕ) → p < length texts.old.items → nth_file (contents texts.new.items) p
+        ≡ nth_file (contents texts.old.items) p ++ row_texts (bucket_text job.now (zip numbers.now (ones_then values.0 values.1.items))) p 0 rows.now) }
 {
     let (ones, rest) = values;
     if job.counts() {

@@ -4,7 +4,7 @@ use Rattle.std.proofs.lemmas.List.{drop-drop, get_or-drop, get_or_default}
 use Rattle.std.proofs.lemmas.List.Elements.{All-nil, All-cons, All-head, All-tail, All-append}
 use Rattle.std.proofs.Math.Nat.{div-mul-le_self, lt-div-mul-add}
 use Rattle.mr_records.specs.Records.{Record, records}
-use Rattle.mr_input.specs.Files.{split_count, split_total, nth}
+use Rattle.mr_input.specs.Files.{split_count, split_total, nth_file}
 use Rattle.mr_splits.specs.Named.{NamedRecord, named_from, named_files}
 use Rattle.mr_splits.specs.Belongs.{Belongs, RecordsBelong}
 use Rattle.mr_splits.proofs.StartLemmas.{StartsIn, starts-file, div-within}
@@ -14,15 +14,15 @@ all-among : (xs : List Record) → All (Contains xs) xs
 all-among xs i d h = (i, h, get_or_default xs i (get_or xs i d) d h)
 
 belongs-one : (size file first number : ℕ) (files : List (List ℕ)) (r : Record) → 0 < size → file < length files → first ≡ split_total size (take file files)
-    → r.start < length (nth files file) → Contains (records (nth files file)) r
+    → r.start < length (nth_file files file) → Contains (records (nth_file files file)) r
     → Belongs size files (record { name = record { split = first + r.start / size; rec = number }; file = file; start = r.start; bytes = r.bytes })
 belongs-one size file first number files r some inside is h among =
     let j : ℕ = r.start / size in
     let low : j * size ≤ r.start = div-mul-le_self r.start size in
     let high : r.start < j * size + size = lt-div-mul-add some in
     record {
-      place = record { file = file; start = j * size; end = min ((j + 1) * size) (length (nth files file)) };
-      split = record { in_file = j; file = inside; exists = div-within size r.start (length (nth files file)) some h; number = ap (λ k. k + j) is; start = refl; end = refl };
+      place = record { file = file; start = j * size; end = min ((j + 1) * size) (length (nth_file files file)) };
+      split = record { in_file = j; file = inside; exists = div-within size r.start (length (nth_file files file)) some h; number = ap (λ k. k + j) is; start = refl; end = refl };
       file = refl;
       from = low;
       before = omega (arith, high, h);
@@ -30,7 +30,7 @@ belongs-one size file first number files r some inside is h among =
     }
 
 belongs-named : (size file first split next low : ℕ) (files : List (List ℕ)) (rs : List Record) → 0 < size → file < length files
-    → first ≡ split_total size (take file files) → StartsIn low (length (nth files file)) rs → All (Contains (records (nth files file))) rs
+    → first ≡ split_total size (take file files) → StartsIn low (length (nth_file files file)) rs → All (Contains (records (nth_file files file))) rs
     → All (Belongs size files) (named_from size file first split next rs)
 unfolding named_from
 belongs-named size file first split next low files [] some inside is starts among = All-nil (Belongs size files)
@@ -39,8 +39,8 @@ belongs-named size file first split next low files (r ∷ rs) some inside is sta
     let number : ℕ = cond (eqb here split) next 0 in
     All-cons (Belongs size files) (record { name = record { split = here; rec = number }; file = file; start = r.start; bytes = r.bytes })
     (named_from size file first here (number + 1) rs)
-    (belongs-one size file first number files r some inside is starts.1 (All-head (Contains (records (nth files file))) r rs among))
-    (belongs-named size file first here (number + 1) (r.start + 1) files rs some inside is starts.2 (All-tail (Contains (records (nth files file))) r rs among))
+    (belongs-one size file first number files r some inside is starts.1 (All-head (Contains (records (nth_file files file))) r rs among))
+    (belongs-named size file first here (number + 1) (r.start + 1) files rs some inside is starts.2 (All-tail (Contains (records (nth_file files file))) r rs among))
 
 belongs-files : (size file : ℕ) (files fs : List (List ℕ)) → 0 < size → fs ≡ drop file files
     → All (Belongs size files) (named_files size file (split_total size (take file files)) fs)
@@ -49,14 +49,14 @@ belongs-files size file files [] some is = All-nil (Belongs size files)
 belongs-files size file files (f ∷ fs) some is =
     let P : NamedRecord → Type 0 = Belongs size files in
     let inside : file < length files = omega (arith, ap length is, length-drop file files) in
-    let here : f ≡ nth files file =
+    let here : f ≡ nth_file files file =
     ap (λ (l : List (List ℕ)). get_or l 0 []) is ∙ get_or-drop file files 0 [] ∙ ap (λ (i : ℕ). get_or files i []) (let e : file + 0 ≡ file = omega arith in e) in
     let first : ℕ = split_total size (take file files) in
     let next : split_total size (take (file + 1) files) ≡ first + split_count size f =
     split_total-more size files file inside ∙ ap (λ (g : List ℕ). first + split_count size g) (sym here) in
     let one : All P (named_from size file first first 0 (records f)) =
     subst (λ (g : List ℕ). All P (named_from size file first first 0 (records g))) (sym here)
-    (belongs-named size file first first 0 0 files (records (nth files file)) some inside refl (starts-file (nth files file)) (all-among (records (nth files file)))) in
+    (belongs-named size file first first 0 0 files (records (nth_file files file)) some inside refl (starts-file (nth_file files file)) (all-among (records (nth_file files file)))) in
     let rest : All P (named_files size (file + 1) (first + split_count size f) fs) =
     subst (λ (n : ℕ). All P (named_files size (file + 1) n fs)) next
     (belongs-files size (file + 1) files fs some (ap (drop 1) is ∙ drop-drop 1 file files)) in

@@ -6,7 +6,7 @@ use Rattle.std.specs.List.{flat_map}
 use Rattle.mr_records.specs.Records.{Record, records}
 use Rattle.mr_input.specs.Files.{split_count, split_total}
 use Rattle.mr_splits.specs.Named.{NamedRecord, named_from, named_files, named_records, of_split}
-use Rattle.mr_splits.specs.Laws.{joined, record_of, SplitsJoin, NamedAreRecords}
+use Rattle.mr_splits.specs.Laws.{joined_splits, record_of, SplitsJoin, NamedAreRecords}
 use Rattle.mr_splits.proofs.StartLemmas.{StartsIn, starts-file, div-rises, div-within}
 
 -- splits do not fall, and lie within bounds
@@ -29,40 +29,40 @@ of_split-past s low high [] h i = refl
 of_split-past s low high (r ∷ rs) h i =
     of_split-other s r rs (λ e. omega (arith, e, h, i.0)) ∙ of_split-past s r.name.split high rs (omega (arith, h, i.0)) i.2
 
-pub joined-zero : (low : ℕ) (rs : List NamedRecord) → joined low 0 rs ≡ []
-unfolding joined
+pub joined-zero : (low : ℕ) (rs : List NamedRecord) → joined_splits low 0 rs ≡ []
+unfolding joined_splits
 joined-zero low rs = refl
 
-pub joined-suc : (low n : ℕ) (rs : List NamedRecord) → joined low (suc n) rs ≡ of_split low rs ++ joined (low + 1) n rs
-unfolding joined
+pub joined-suc : (low n : ℕ) (rs : List NamedRecord) → joined_splits low (suc n) rs ≡ of_split low rs ++ joined_splits (low + 1) n rs
+unfolding joined_splits
 joined-suc low n rs = refl
 
 -- a record of an earlier split
-joined-skip : (n low : ℕ) (r : NamedRecord) (rs : List NamedRecord) → r.name.split < low → joined low n (r ∷ rs) ≡ joined low n rs
+joined-skip : (n low : ℕ) (r : NamedRecord) (rs : List NamedRecord) → r.name.split < low → joined_splits low n (r ∷ rs) ≡ joined_splits low n rs
 joined-skip zero low r rs h = joined-zero low (r ∷ rs) ∙ sym (joined-zero low rs)
 joined-skip (suc n) low r rs h =
     joined-suc low n (r ∷ rs)
-    ∙ ap (λ l. l ++ joined (low + 1) n (r ∷ rs)) (of_split-other low r rs (λ e. omega (arith, e, h)))
+    ∙ ap (λ l. l ++ joined_splits (low + 1) n (r ∷ rs)) (of_split-other low r rs (λ e. omega (arith, e, h)))
     ∙ ap (λ l. of_split low rs ++ l) (joined-skip n (low + 1) r rs (omega (arith, h))) ∙ sym (joined-suc low n rs)
 
-joined-more : (n low : ℕ) → ((rs : List NamedRecord) → SplitsIn (low + 1) (low + 1 + n) rs → joined (low + 1) n rs ≡ rs)
-    → (rs : List NamedRecord) → SplitsIn low (low + suc n) rs → joined low (suc n) rs ≡ rs
+joined-more : (n low : ℕ) → ((rs : List NamedRecord) → SplitsIn (low + 1) (low + 1 + n) rs → joined_splits (low + 1) n rs ≡ rs)
+    → (rs : List NamedRecord) → SplitsIn low (low + suc n) rs → joined_splits low (suc n) rs ≡ rs
 joined-more n low later [] i = joined-suc low n [] ∙ later [] tt
 joined-more n low later (r ∷ rs) i =
     elim (cases_eq r.name.split low) [
       | inl e ↦
-          joined-suc low n (r ∷ rs) ∙ ap (λ l. l ++ joined (low + 1) n (r ∷ rs)) (of_split-same low r rs e)
+          joined-suc low n (r ∷ rs) ∙ ap (λ l. l ++ joined_splits (low + 1) n (r ∷ rs)) (of_split-same low r rs e)
           ∙ ap (λ l. r ∷ (of_split low rs ++ l)) (joined-skip n (low + 1) r rs (omega (arith, e)))
           ∙ ap (λ l. r ∷ l) (sym (joined-suc low n rs) ∙ joined-more n low later rs (splits-lower low r.name.split (low + suc n) rs i.0 i.2))
       | inr ne ↦
           let past : SplitsIn (low + 1) (low + suc n) (r ∷ rs) = (omega (arith, ne, i.0), i.1, i.2) in
           let moved : SplitsIn (low + 1) (low + 1 + n) (r ∷ rs) =
           subst (λ k. SplitsIn (low + 1) k (r ∷ rs)) (let e : low + suc n ≡ low + 1 + n = omega arith in e) past in
-          joined-suc low n (r ∷ rs) ∙ ap (λ l. l ++ joined (low + 1) n (r ∷ rs)) (of_split-past low (low + 1) (low + suc n) (r ∷ rs) (omega arith) past)
+          joined-suc low n (r ∷ rs) ∙ ap (λ l. l ++ joined_splits (low + 1) n (r ∷ rs)) (of_split-past low (low + 1) (low + suc n) (r ∷ rs) (omega arith) past)
           ∙ later (r ∷ rs) moved
     ]
 
-joined-all : (n low : ℕ) (rs : List NamedRecord) → SplitsIn low (low + n) rs → joined low n rs ≡ rs
+joined-all : (n low : ℕ) (rs : List NamedRecord) → SplitsIn low (low + n) rs → joined_splits low n rs ≡ rs
 joined-all zero low [] i = joined-zero low []
 joined-all zero low (r ∷ rs) i = absurd (omega (arith, i.0, i.1))
 joined-all (suc n) low rs i = joined-more n low (joined-all n (low + 1)) rs i

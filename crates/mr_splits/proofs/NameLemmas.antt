@@ -7,7 +7,7 @@ use Rattle.std.specs.List.{find, list_any, slice_get}
 use Rattle.mr_bytes.specs.declared.RecordName.{RecordName}
 use Rattle.mr_input.specs.Files.{split_total}
 use Rattle.mr_splits.specs.Named.{NamedRecord, named_records, of_split, is_left_out}
-use Rattle.mr_splits.specs.Cut.{nth, is_named, is_record, record_named, left_out_flags, flags_of}
+use Rattle.mr_splits.specs.Cut.{nth_named, has_record_name, is_record, record_named, left_out_flags, flags_of}
 use Rattle.mr_splits.proofs.JoinedLemmas.{splits-all}
 use Rattle.mr_splits.proofs.NumberLemmas.{CountFrom, of_split-before, numbers-count}
 use Rattle.mr_splits.proofs.RisingLemmas.{AtLeast, RisesFrom, at_least-trans, files-rise}
@@ -44,7 +44,7 @@ any-filter p q t h (x ∷ xs) =
     ]
 
 -- the names of a split, then the number there
-named-test : (name : RecordName) (r : NamedRecord) → is_named name r ≡ (eqb r.name.split name.split && eqb name.rec r.name.rec)
+named-test : (name : RecordName) (r : NamedRecord) → has_record_name name r ≡ (eqb r.name.split name.split && eqb name.rec r.name.rec)
 named-test name r = ap (λ b. b && eqb name.rec r.name.rec) (eqb-flip name.split r.name.split)
 
 count-head : (low : ℕ) (x : NamedRecord) (xs : List NamedRecord) → CountFrom low (x ∷ xs) → x.name.rec ≡ low
@@ -85,7 +85,7 @@ pub record_named-is : (size : ℕ) (files : List (List ℕ)) (name : RecordName)
     → record_named (named_records size files) name ≡ slice_get (of_split name.split (named_records size files)) name.rec
 record_named-is size files name some =
     let rs : List NamedRecord = named_records size files in
-    find-filter (is_named name) (λ (r : NamedRecord). eqb r.name.split name.split) (λ (r : NamedRecord). eqb name.rec r.name.rec) (named-test name) rs
+    find-filter (has_record_name name) (λ (r : NamedRecord). eqb r.name.split name.split) (λ (r : NamedRecord). eqb name.rec r.name.rec) (named-test name) rs
     ∙ subst (λ (n : ℕ). find (λ (r : NamedRecord). eqb n r.name.rec) (of_split name.split rs) ≡ slice_get (of_split name.split rs) name.rec)
     (let e : 0 + name.rec ≡ name.rec = omega arith in e) (find-count 0 name.rec (of_split name.split rs) (numbers-count size files name.split some))
 
@@ -93,7 +93,7 @@ pub is_record-is : (size : ℕ) (files : List (List ℕ)) (name : RecordName) �
     → is_record (named_records size files) name ≡ ltb name.rec (length (of_split name.split (named_records size files)))
 is_record-is size files name some =
     let rs : List NamedRecord = named_records size files in
-    any-filter (is_named name) (λ (r : NamedRecord). eqb r.name.split name.split) (λ (r : NamedRecord). eqb name.rec r.name.rec) (named-test name) rs
+    any-filter (has_record_name name) (λ (r : NamedRecord). eqb r.name.split name.split) (λ (r : NamedRecord). eqb name.rec r.name.rec) (named-test name) rs
     ∙ subst (λ (n : ℕ). list_any (λ (r : NamedRecord). eqb n r.name.rec) (of_split name.split rs) ≡ ltb name.rec (length (of_split name.split rs)))
     (let e : 0 + name.rec ≡ name.rec = omega arith in e) (any-count 0 name.rec (of_split name.split rs) (numbers-count size files name.split some))
 
@@ -102,7 +102,7 @@ pub none-past : (size : ℕ) (files : List (List ℕ)) (s : ℕ) → 0 < size �
 none-past size files s some h =
     of_split-before s 0 (0 + split_total size files) (named_records size files) (omega (arith, h)) (splits-all size 0 0 files some)
 
-pub slice_get-at : (xs : List NamedRecord) (i : ℕ) → i < length xs → slice_get xs i ≡ Some (nth xs i)
+pub slice_get-at : (xs : List NamedRecord) (i : ℕ) → i < length xs → slice_get xs i ≡ Some (nth_named xs i)
 slice_get-at [] i h = absurd (omega arith)
 slice_get-at (x ∷ xs) zero h = refl
 slice_get-at (x ∷ xs) (suc i) h = slice_get-at xs i (omega arith)
@@ -112,22 +112,22 @@ slice_get-past [] i h = refl
 slice_get-past (x ∷ xs) zero h = absurd (omega arith)
 slice_get-past (x ∷ xs) (suc i) h = slice_get-past xs i (omega arith)
 
-at-least : (s r j : ℕ) (xs : List NamedRecord) → RisesFrom s r xs → j < length xs → AtLeast s r (nth xs j).name
+at-least : (s r j : ℕ) (xs : List NamedRecord) → RisesFrom s r xs → j < length xs → AtLeast s r (nth_named xs j).name
 at-least s r j [] h k = absurd (omega arith)
 at-least s r zero (x ∷ xs) h k = h.0
 at-least s r (suc j) (x ∷ xs) h k =
-    at_least-trans s r x.name (nth xs j).name h.0
+    at_least-trans s r x.name (nth_named xs j).name h.0
     (elim (at-least x.name.split (x.name.rec + 1) j xs h.1 (omega arith)) [
       | inl lt ↦ inl lt
       | inr e ↦ inr (e.0, omega (arith, e.1))
     ])
 
-apart : (s r i j : ℕ) (xs : List NamedRecord) → RisesFrom s r xs → i < j → j < length xs → (nth xs i).name ≢ (nth xs j).name
+apart : (s r i j : ℕ) (xs : List NamedRecord) → RisesFrom s r xs → i < j → j < length xs → (nth_named xs i).name ≢ (nth_named xs j).name
 apart s r i j [] h k l e = absurd (omega arith)
 apart s r zero zero (x ∷ xs) h k l e = absurd (omega arith)
 apart s r zero (suc j) (x ∷ xs) h k l e =
-    let split : x.name.split ≡ (nth xs j).name.split = ap (λ (n : RecordName). n.split) e in
-    let number : x.name.rec ≡ (nth xs j).name.rec = ap (λ (n : RecordName). n.rec) e in
+    let split : x.name.split ≡ (nth_named xs j).name.split = ap (λ (n : RecordName). n.split) e in
+    let number : x.name.rec ≡ (nth_named xs j).name.rec = ap (λ (n : RecordName). n.rec) e in
     elim (at-least x.name.split (x.name.rec + 1) j xs h.1 (omega arith)) [
       | inl lt ↦ omega (arith, lt, split)
       | inr past ↦ omega (arith, past.1, number)
@@ -137,7 +137,7 @@ apart s r (suc i) (suc j) (x ∷ xs) h k l e = apart x.name.split (x.name.rec + 
 
 -- two records of one name are one
 pub one-name : (size : ℕ) (files : List (List ℕ)) (i j : ℕ) → 0 < size → i < length (named_records size files) → j < length (named_records size files)
-    → (nth (named_records size files) i).name ≡ (nth (named_records size files) j).name → i ≡ j
+    → (nth_named (named_records size files) i).name ≡ (nth_named (named_records size files) j).name → i ≡ j
 one-name size files i j some hi hj e =
     let rises : RisesFrom 0 0 (named_records size files) = files-rise size 0 0 files some in
     elim (cases_lt i j) [
@@ -148,14 +148,14 @@ one-name size files i j some hi hj e =
       ]
     ]
 
-name-from-test : (name : RecordName) (r : NamedRecord) → is_named name r ≡ true → r.name ≡ name
+name-from-test : (name : RecordName) (r : NamedRecord) → has_record_name name r ≡ true → r.name ≡ name
 name-from-test name r h =
     let parts = and_parts (eqb name.split r.name.split) (eqb name.rec r.name.rec) h in
     let split : r.name.split ≡ name.split = sym (eqb-true name.split r.name.split parts.0) in
     let number : r.name.rec ≡ name.rec = sym (eqb-true name.rec r.name.rec parts.1) in
     ap (λ (s : ℕ). record { split = s; rec = r.name.rec }) split ∙ ap (λ (n : ℕ). record { split = name.split; rec = n }) number
 
-pub test-from-name : (name : RecordName) (r : NamedRecord) → r.name ≡ name → is_named name r ≡ true
+pub test-from-name : (name : RecordName) (r : NamedRecord) → r.name ≡ name → has_record_name name r ≡ true
 test-from-name name r e =
     and_from (eqb name.split r.name.split) (eqb name.rec r.name.rec)
     (eq-eqb name.split r.name.split (sym (ap (λ (n : RecordName). n.split) e)))
@@ -171,18 +171,18 @@ or-false false = refl
 
 -- the flag of the one record of that name
 pub marked : (rs : List NamedRecord) (name : RecordName) (flags : List Bool) (at i : ℕ) → length flags ≡ length rs → at < length rs
-    → (nth rs at).name ≡ name → ((k : ℕ) → k < length rs → (nth rs k).name ≡ name → k ≡ at) → i < length rs
-    → get_or (set flags at true) i false ≡ (get_or flags i false || is_named name (nth rs i))
+    → (nth_named rs at).name ≡ name → ((k : ℕ) → k < length rs → (nth_named rs k).name ≡ name → k ≡ at) → i < length rs
+    → get_or (set flags at true) i false ≡ (get_or flags i false || has_record_name name (nth_named rs i))
 marked rs name flags at i count inside is only h =
     elim (cases_eq i at) [
       | inl e ↦
-          subst (λ (k : ℕ). get_or (set flags at true) k false ≡ (get_or flags k false || is_named name (nth rs k))) (sym e)
+          subst (λ (k : ℕ). get_or (set flags at true) k false ≡ (get_or flags k false || has_record_name name (nth_named rs k))) (sym e)
           (get_or-set_same flags at true false (omega (arith, count, inside))
-          ∙ sym (ap (λ b. get_or flags at false || b) (test-from-name name (nth rs at) is) ∙ or-true (get_or flags at false)))
+          ∙ sym (ap (λ b. get_or flags at false || b) (test-from-name name (nth_named rs at) is) ∙ or-true (get_or flags at false)))
       | inr ne ↦
-          let other : is_named name (nth rs i) ≡ false =
-          elim (cases_Bool (is_named name (nth rs i))) [
-            | inl yes' ↦ absurd (ne (only i h (name-from-test name (nth rs i) yes')))
+          let other : has_record_name name (nth_named rs i) ≡ false =
+          elim (cases_Bool (has_record_name name (nth_named rs i))) [
+            | inl yes' ↦ absurd (ne (only i h (name-from-test name (nth_named rs i) yes')))
             | inr no' ↦ no'
           ] in
           get_or-set_other flags at i true false ne
@@ -191,17 +191,17 @@ marked rs name flags at i count inside is only h =
 
 -- no flag, where there is no record of that name
 pub unmarked : (rs : List NamedRecord) (name : RecordName) (flags : List Bool) (i : ℕ) → is_record rs name ≡ false → i < length rs
-    → get_or flags i false ≡ (get_or flags i false || is_named name (nth rs i))
+    → get_or flags i false ≡ (get_or flags i false || has_record_name name (nth_named rs i))
 unmarked rs name flags i none h =
-    let other : is_named name (nth rs i) ≡ false =
-    elim (cases_Bool (is_named name (nth rs i))) [
-      | inl yes' ↦ absurd (false≢true (sym none ∙ list_any_at (is_named name) rs i (record { name = record { split = 0; rec = 0 }; file = 0; start = 0; bytes = [] }) h yes'))
+    let other : has_record_name name (nth_named rs i) ≡ false =
+    elim (cases_Bool (has_record_name name (nth_named rs i))) [
+      | inl yes' ↦ absurd (false≢true (sym none ∙ list_any_at (has_record_name name) rs i (record { name = record { split = 0; rec = 0 }; file = 0; start = 0; bytes = [] }) h yes'))
       | inr no' ↦ no'
     ] in
     sym (ap (λ b. get_or flags i false || b) other ∙ or-false (get_or flags i false))
 
 pub flags-are : (skips : List RecordName) (rs : List NamedRecord) (flags : List Bool) → length flags ≡ length rs
-    → ((i : ℕ) → i < length rs → get_or flags i false ≡ is_left_out skips (nth rs i).name) → flags ≡ left_out_flags skips rs
+    → ((i : ℕ) → i < length rs → get_or flags i false ≡ is_left_out skips (nth_named rs i).name) → flags ≡ left_out_flags skips rs
 flags-are skips rs flags count each =
     same_lists flags (left_out_flags skips rs) (count ∙ sym (length-map rs (λ (r : NamedRecord). is_left_out skips r.name)))
     (λ k d h.
@@ -217,7 +217,7 @@ find-none p (x ∷ xs) h =
 
 -- the record `r` of the split `s` is the one of that name
 pub named-at : (size : ℕ) (files : List (List ℕ)) (s r : ℕ) → 0 < size → r < length (of_split s (named_records size files))
-    → record_named (named_records size files) (record { split = s; rec = r }) ≡ Some (nth (of_split s (named_records size files)) r)
+    → record_named (named_records size files) (record { split = s; rec = r }) ≡ Some (nth_named (of_split s (named_records size files)) r)
 named-at size files s r some h =
     record_named-is size files (record { split = s; rec = r }) some ∙ slice_get-at (of_split s (named_records size files)) r h
 
@@ -236,11 +236,11 @@ find-passes p (y ∷ ys) x h =
 
 -- it has that name
 pub name-at : (size : ℕ) (files : List (List ℕ)) (s r : ℕ) → 0 < size → r < length (of_split s (named_records size files))
-    → (nth (of_split s (named_records size files)) r).name ≡ record { split = s; rec = r }
+    → (nth_named (of_split s (named_records size files)) r).name ≡ record { split = s; rec = r }
 name-at size files s r some h =
-    let x : NamedRecord = nth (of_split s (named_records size files)) r in
+    let x : NamedRecord = nth_named (of_split s (named_records size files)) r in
     name-from-test (record { split = s; rec = r }) x
-    (find-passes (is_named (record { split = s; rec = r })) (named_records size files) x (named-at size files s r some h))
+    (find-passes (has_record_name (record { split = s; rec = r })) (named_records size files) x (named-at size files s r some h))
 
 -- an empty list leaves none out
 pub none-left-out : (rs : List NamedRecord) → left_out_flags [] rs ≡ replicate (length rs) false
@@ -261,7 +261,7 @@ flags-kept (b ∷ bs) count e = refl
 
 -- the flag of a record tells whether the list leaves out its name
 pub left_out-at : (skips : List RecordName) (rs : List NamedRecord) (flags : List Bool) (number : ℕ) (name : RecordName) → flags ≡ left_out_flags skips rs
-    → number < length rs → (nth rs number).name ≡ name → get_or flags number false ≡ is_left_out skips name
+    → number < length rs → (nth_named rs number).name ≡ name → get_or flags number false ≡ is_left_out skips name
 left_out-at skips rs flags number name is h named =
     ap (λ (l : List Bool). get_or l number false) is
     ∙ get_or-map (λ (r : NamedRecord). is_left_out skips r.name) rs number (record { name = record { split = 0; rec = 0 }; file = 0; start = 0; bytes = [] }) false h

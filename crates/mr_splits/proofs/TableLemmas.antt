@@ -8,7 +8,7 @@ use Rattle.std.specs.List.{AllByRecursion}
 use Rattle.mr_bytes.specs.declared.Span.{Span}
 use Rattle.mr_records.specs.Records.{Record, record_at, records_from, records, Within}
 use Rattle.mr_records.proofs.RecordLemmas.{records_from-end}
-use Rattle.mr_input.specs.Files.{split_count, split_total, nth}
+use Rattle.mr_input.specs.Files.{split_count, split_total, nth_file}
 use Rattle.mr_splits.specs.declared.plan.SplitPlace.{SplitPlace}
 use Rattle.mr_splits.specs.declared.table.Row.{Row}
 use Rattle.mr_splits.specs.Named.{NamedRecord, named_from, named_files, named_records}
@@ -125,7 +125,7 @@ unfolding listed
 listed-more files spans more s at end [] t h = refl
 listed-more files spans more s at end (row ∷ rows) t h =
     let within : row.first + row.count ≤ length spans = omega (arith, tiles-order (at + row.count) end rows t.1, t.0, h) in
-    ap (λ (ss : List Span). numbered s row.place.file 0 (map (record_at (nth files row.place.file)) ss) ++ listed files (spans ++ more) (s + 1) rows)
+    ap (λ (ss : List Span). numbered s row.place.file 0 (map (record_at (nth_file files row.place.file)) ss) ++ listed files (spans ++ more) (s + 1) rows)
     (spans-more spans more row within)
     ∙ ap (λ (l : List NamedRecord). row_records files spans s row ++ l) (listed-more files spans more (s + 1) (at + row.count) end rows t.1 h)
 
@@ -145,34 +145,34 @@ listed-append files spans s (row ∷ rows) one =
 pub listed-push : (files : List (List ℕ)) (spans more : List Span) (rows : List Row) (one : Row) → Tiles 0 (length spans) rows
     → one.first ≡ length spans → one.count ≡ length more
     → listed files (spans ++ more) 0 (rows ++ one ∷ [])
-    ≡ listed files spans 0 rows ++ numbered (length rows) one.place.file 0 (map (record_at (nth files one.place.file)) more)
+    ≡ listed files spans 0 rows ++ numbered (length rows) one.place.file 0 (map (record_at (nth_file files one.place.file)) more)
 listed-push files spans more rows one t first count =
     let new : spans_of (spans ++ more) one ≡ more =
     ap (λ (a : ℕ). slice_range (spans ++ more) a (a + one.count)) first
     ∙ ap (λ (n : ℕ). slice_range (spans ++ more) (length spans) (length spans + n)) count ∙ range-end spans more in
     listed-append files (spans ++ more) 0 rows one
     ∙ ap (λ (l : List NamedRecord). l ++ row_records files (spans ++ more) (0 + length rows) one) (listed-more files spans more 0 0 (length spans) rows t (omega arith))
-    ∙ ap (λ (ss : List Span). listed files spans 0 rows ++ numbered (0 + length rows) one.place.file 0 (map (record_at (nth files one.place.file)) ss)) new
-    ∙ ap (λ (n : ℕ). listed files spans 0 rows ++ numbered n one.place.file 0 (map (record_at (nth files one.place.file)) more))
+    ∙ ap (λ (ss : List Span). listed files spans 0 rows ++ numbered (0 + length rows) one.place.file 0 (map (record_at (nth_file files one.place.file)) ss)) new
+    ∙ ap (λ (n : ℕ). listed files spans 0 rows ++ numbered n one.place.file 0 (map (record_at (nth_file files one.place.file)) more))
     (let e : 0 + length rows ≡ length rows = omega arith in e)
 
 stands-more : (size : ℕ) (files : List (List ℕ)) (spans more : List Span) (s : ℕ) (row : Row) → row.first + row.count ≤ length spans
     → RowStands size files spans s row → RowStands size files (spans ++ more) s row
 stands-more size files spans more s row h r = record {
   place = r.place;
-  within = subst (λ (ss : List Span). All (Within (nth files row.place.file)) ss) (sym (spans-more spans more row h)) r.within;
+  within = subst (λ (ss : List Span). All (Within (nth_file files row.place.file)) ss) (sym (spans-more spans more row h)) r.within;
 }
 
 pub stands-push : (size : ℕ) (files : List (List ℕ)) (spans more : List Span) (rows : List Row) (one : Row) → Stands size files spans rows
     → one.first ≡ length spans → one.count ≡ length more → IsSplit size files (length rows) one.place
-    → All (Within (nth files one.place.file)) more
+    → All (Within (nth_file files one.place.file)) more
     → Stands size files (spans ++ more) (rows ++ one ∷ [])
 stands-push size files spans more rows one st first count place within =
     let new : spans_of (spans ++ more) one ≡ more =
     ap (λ (a : ℕ). slice_range (spans ++ more) a (a + one.count)) first
     ∙ ap (λ (n : ℕ). slice_range (spans ++ more) (length spans) (length spans + n)) count ∙ range-end spans more in
     let last : RowStands size files (spans ++ more) (length rows) one =
-    record { place = place; within = subst (λ (ss : List Span). All (Within (nth files one.place.file)) ss) (sym new) within } in
+    record { place = place; within = subst (λ (ss : List Span). All (Within (nth_file files one.place.file)) ss) (sym new) within } in
     record {
       rows_stand = λ s d h.
           elim (cases_lt s (length rows)) [
@@ -198,8 +198,8 @@ split_total-push size [] f = omega arith
 split_total-push size (g ∷ files) f = omega (arith, split_total-push size files f)
 
 pub split_total-more : (size : ℕ) (files : List (List ℕ)) (i : ℕ) → i < length files
-    → split_total size (take (i + 1) files) ≡ split_total size (take i files) + split_count size (nth files i)
-split_total-more size files i h = ap (split_total size) (take_more files i [] h) ∙ split_total-push size (take i files) (nth files i)
+    → split_total size (take (i + 1) files) ≡ split_total size (take i files) + split_count size (nth_file files i)
+split_total-more size files i h = ap (split_total size) (take_more files i [] h) ∙ split_total-push size (take i files) (nth_file files i)
 
 pub split_total-none : (size : ℕ) (files : List (List ℕ)) → split_total size (take 0 files) ≡ 0
 split_total-none size files = split_total-nil size
@@ -209,21 +209,21 @@ pub record Cutting (size : ℕ) (files : List (List ℕ)) (file : ℕ) (all : Li
   pub rows_are : length rows ≡ split_total size (take file files) + j
   pub stands : Stands size files spans rows
   pub said : listed files spans 0 rows
-      ++ named_from size file (split_total size (take file files)) (split_total size (take file files) + j) 0 (records_from from (drop from (nth files file)))
+      ++ named_from size file (split_total size (take file files)) (split_total size (take file files) + j) 0 (records_from from (drop from (nth_file files file)))
       ≡ all
-  pub start_is : start ≡ min (j * size) (length (nth files file))
+  pub start_is : start ≡ min (j * size) (length (nth_file files file))
   pub past : start ≤ from
-  pub some_left : j ≤ split_count size (nth files file)
+  pub some_left : j ≤ split_count size (nth_file files file)
 
 pub cutting-begun : (size : ℕ) (files : List (List ℕ)) (file : ℕ) (spans : List Span) (rows : List Row)
     → length rows ≡ split_total size (take file files) → Stands size files spans rows
     → Cutting size files file
-    (listed files spans 0 rows ++ named_from size file (split_total size (take file files)) (split_total size (take file files)) 0 (records (nth files file)))
+    (listed files spans 0 rows ++ named_from size file (split_total size (take file files)) (split_total size (take file files)) 0 (records (nth_file files file)))
     0 0 spans rows 0
 cutting-begun size files file spans rows count stands = record {
   rows_are = omega (arith, count);
   stands = stands;
-  said = ap (λ (n : ℕ). listed files spans 0 rows ++ named_from size file (split_total size (take file files)) n 0 (records (nth files file)))
+  said = ap (λ (n : ℕ). listed files spans 0 rows ++ named_from size file (split_total size (take file files)) n 0 (records (nth_file files file)))
       (let e : split_total size (take file files) + 0 ≡ split_total size (take file files) = omega arith in e);
   start_is = omega arith;
   past = omega arith;
@@ -244,12 +244,12 @@ in-split size before j start some low high =
 
 pub cutting-more : (size : ℕ) (files : List (List ℕ)) (file : ℕ) (all : List NamedRecord) (start from end next : ℕ) (spans more : List Span)
     (rows : List Row) (one : Row) (j : ℕ) → 0 < size → file < length files → Cutting size files file all start from spans rows j
-    → start < length (nth files file) → end ≡ min (length (nth files file)) (start + size)
-    → Takes (nth files file) from end next more → end ≤ next
+    → start < length (nth_file files file) → end ≡ min (length (nth_file files file)) (start + size)
+    → Takes (nth_file files file) from end next more → end ≤ next
     → one.place ≡ record { file = file; start = start; end = end } → one.first ≡ length spans → one.count ≡ length more
     → Cutting size files file all end next (spans ++ more) (rows ++ one ∷ []) (j + 1)
 cutting-more size files file all start from end next spans more rows one j some inside cut left end-is taken past place first count =
-    let bytes : List ℕ = nth files file in
+    let bytes : List ℕ = nth_file files file in
     let before : ℕ = split_total size (take file files) in
     let begins : start ≡ j * size = omega (arith, cut.start_is, left) in
     let stops : end ≡ min ((j + 1) * size) (length bytes) = omega (arith, begins, end-is) in
@@ -275,12 +275,12 @@ cutting-more size files file all start from end next spans more rows one j some 
     (named-next size file before j (0 + length more) next bytes some (omega (arith, stops, past))) in
     let pushed : listed files (spans ++ more) 0 (rows ++ one ∷ []) ≡ listed files spans 0 rows ++ numbered (before + j) file 0 (map (record_at bytes) more) =
     listed-push files spans more rows one cut.stands.tiles first count
-    ∙ ap (λ (f : ℕ). listed files spans 0 rows ++ numbered (length rows) f 0 (map (record_at (nth files f)) more)) file-is
+    ∙ ap (λ (f : ℕ). listed files spans 0 rows ++ numbered (length rows) f 0 (map (record_at (nth_file files f)) more)) file-is
     ∙ ap (λ (n : ℕ). listed files spans 0 rows ++ numbered n file 0 (map (record_at bytes) more)) cut.rows_are in
     record {
       rows_are = omega (arith, length_push rows one, cut.rows_are);
       stands = stands-push size files spans more rows one cut.stands first count (subst (IsSplit size files (length rows)) (sym place) is)
-          (subst (λ (f : ℕ). All (Within (nth files f)) more) (sym file-is) taken.within);
+          (subst (λ (f : ℕ). All (Within (nth_file files f)) more) (sym file-is) taken.within);
       said = ap (λ (l : List NamedRecord). l ++ named_from size file before (before + (j + 1)) 0 rest) pushed
           ∙ append_assoc (listed files spans 0 rows) (numbered (before + j) file 0 (map (record_at bytes) more)) (named_from size file before (before + (j + 1)) 0 rest)
           ∙ ap (λ (l : List NamedRecord). listed files spans 0 rows ++ l) (sym named) ∙ cut.said;
@@ -292,7 +292,7 @@ cutting-more size files file all start from end next spans more rows one j some 
 -- the same, for the tables as the calls leave them
 pub cutting-step : (size : ℕ) (files : List (List ℕ)) (file : ℕ) (all : List NamedRecord) (start from end next : ℕ) (spans more spans' : List Span)
     (rows rows' : List Row) (bytes : List ℕ) (first count j : ℕ) → 0 < size → file < length files → Cutting size files file all start from spans rows j
-    → bytes ≡ nth files file → start < length bytes → end ≡ min (length bytes) (start + size)
+    → bytes ≡ nth_file files file → start < length bytes → end ≡ min (length bytes) (start + size)
     → Takes bytes from end next more → end ≤ next → first ≡ length spans → count ≡ length more
     → spans' ≡ spans ++ more
     → rows' ≡ rows ++ record { place = record { file = file; start = start; end = end }; count = count; first = first } ∷ []
@@ -300,16 +300,16 @@ pub cutting-step : (size : ℕ) (files : List (List ℕ)) (file : ℕ) (all : Li
 cutting-step size files file all start from end next spans more spans' rows rows' bytes first count j some inside cut is left end-is taken past first-is count-is grown pushed =
     let one : Row = record { place = record { file = file; start = start; end = end }; count = count; first = first } in
     let P : List ℕ → Type 0 = λ b. (start < length b) × (end ≡ min (length b) (start + size)) × Takes b from end next more in
-    let all-is : P (nth files file) = subst P is (left, end-is, taken) in
+    let all-is : P (nth_file files file) = subst P is (left, end-is, taken) in
     subst (λ (rs : List Row). Cutting size files file all end next spans' rs (j + 1)) (sym pushed)
     (subst (λ (ss : List Span). Cutting size files file all end next ss (rows ++ one ∷ []) (j + 1)) (sym grown)
     (cutting-more size files file all start from end next spans more rows one j some inside cut all-is.0 all-is.1 all-is.2 past refl first-is count-is))
 
 pub cutting-done : (size : ℕ) (files : List (List ℕ)) (file : ℕ) (all : List NamedRecord) (start from : ℕ) (spans : List Span) (rows : List Row) (j : ℕ)
-    → 0 < size → Cutting size files file all start from spans rows j → length (nth files file) ≤ start
-    → (length rows ≡ split_total size (take file files) + split_count size (nth files file)) × (listed files spans 0 rows ≡ all)
+    → 0 < size → Cutting size files file all start from spans rows j → length (nth_file files file) ≤ start
+    → (length rows ≡ split_total size (take file files) + split_count size (nth_file files file)) × (listed files spans 0 rows ≡ all)
 cutting-done size files file all start from spans rows j some cut done =
-    let bytes : List ℕ = nth files file in
+    let bytes : List ℕ = nth_file files file in
     let before : ℕ = split_total size (take file files) in
     let whole : length bytes ≤ j * size = omega (arith, cut.start_is, done) in
     let last : (length bytes + size - 1) / size < j + 1 = div_below (length bytes + size - 1) size (j + 1) some (omega (arith, whole, some)) in
@@ -340,18 +340,18 @@ named_files-nil size file first = refl
 
 -- one more file
 pub said-more : (size : ℕ) (files : List (List ℕ)) (i : ℕ) (before after all : List NamedRecord) → i < length files
-    → after ≡ before ++ named_from size i (split_total size (take i files)) (split_total size (take i files)) 0 (records (nth files i))
+    → after ≡ before ++ named_from size i (split_total size (take i files)) (split_total size (take i files)) 0 (records (nth_file files i))
     → before ++ named_files size i (split_total size (take i files)) (drop i files) ≡ all
     → after ++ named_files size (i + 1) (split_total size (take (i + 1) files)) (drop (i + 1) files) ≡ all
 said-more size files i before after all h new said =
     let first : ℕ = split_total size (take i files) in
-    let one : List NamedRecord = named_from size i first first 0 (records (nth files i)) in
+    let one : List NamedRecord = named_from size i first first 0 (records (nth_file files i)) in
     let rest : ℕ → List NamedRecord = λ n. named_files size (i + 1) n (drop (i + 1) files) in
     ap (λ (l : List NamedRecord). l ++ rest (split_total size (take (i + 1) files))) new
     ∙ append_assoc before one (rest (split_total size (take (i + 1) files)))
     ∙ ap (λ (n : ℕ). before ++ (one ++ rest n)) (split_total-more size files i h)
     ∙ ap (λ (l : List NamedRecord). before ++ l)
-    (sym (at_drop_more (named_files size i first) files i [] h ∙ named_files-cons size i first (nth files i) (drop (i + 1) files)))
+    (sym (at_drop_more (named_files size i first) files i [] h ∙ named_files-cons size i first (nth_file files i) (drop (i + 1) files)))
     ∙ said
 
 pub said-all : (size : ℕ) (files : List (List ℕ)) (i : ℕ) (before all : List NamedRecord) → length files ≤ i

@@ -1,7 +1,7 @@
 -- Which split a record belongs to.
 use Rattle.std.specs.Prelude.{◌≡◌, ℕ, ◌<◌, ◌≤◌, List, All, Contains}
 use Rattle.mr_records.specs.Records.{records}
-use Rattle.mr_input.specs.Files.{nth}
+use Rattle.mr_input.specs.Files.{nth_file}
 use Rattle.mr_splits.specs.declared.plan.SplitPlace.{SplitPlace}
 use Rattle.mr_splits.specs.Named.{NamedRecord, named_records}
 use Rattle.mr_splits.specs.Laws.{record_of}
@@ -14,7 +14,7 @@ pub record Belongs (size : ℕ) (files : List (List ℕ)) (r : NamedRecord) : Ty
   pub file : place.file ≡ r.file
   pub from : place.start ≤ r.start
   pub before : r.start < place.end
-  pub is_record : Contains (records (nth files r.file)) (record_of r)
+  pub is_record : Contains (records (nth_file files r.file)) (record_of r)
 
 -- each record belongs to the split that has its start
 abbrev pub RecordsBelong : Type 0

@@ -14,19 +14,19 @@ abbrev pub records_of : Cut → List NamedRecord
 records_of cut = named_records cut.size cut.files
 
 -- the record of the given number, and an empty one past the last
-abbrev pub nth : List NamedRecord → ℕ → NamedRecord
-nth rs i = slice_index_or rs i (record { name = record { split = 0; rec = 0 }; file = 0; start = 0; bytes = [] })
+abbrev pub nth_named : List NamedRecord → ℕ → NamedRecord
+nth_named rs i = slice_index_or rs i (record { name = record { split = 0; rec = 0 }; file = 0; start = 0; bytes = [] })
 
-abbrev pub is_named : RecordName → NamedRecord → Bool
-is_named name r = (name.split == r.name.split) && (name.rec == r.name.rec)
+abbrev pub has_record_name : RecordName → NamedRecord → Bool
+has_record_name name r = (name.split == r.name.split) && (name.rec == r.name.rec)
 
 -- the record of that name
 abbrev pub record_named : List NamedRecord → RecordName → Option NamedRecord
-record_named rs name = find (is_named name) rs
+record_named rs name = find (has_record_name name) rs
 
 -- whether there is a record of that name
 abbrev pub is_record : List NamedRecord → RecordName → Bool
-is_record rs name = list_any (is_named name) rs
+is_record rs name = list_any (has_record_name name) rs
 
 -- for each record, whether the list leaves it out
 abbrev pub left_out_flags : List RecordName → List NamedRecord → List Bool

@@ -8,13 +8,13 @@ use Rattle.mr_input.specs.Files.{split_total}
 use Rattle.mr_splits.specs.Named.{NamedRecord, named_records, of_split}
 
 -- the records of `count` splits from `low` on, joined
-unfoldable pub joined : ℕ → ℕ → List NamedRecord → List NamedRecord
-joined low zero rs = []
-joined low (suc count) rs = of_split low rs ++ joined (low + 1) count rs
+unfoldable pub joined_splits : ℕ → ℕ → List NamedRecord → List NamedRecord
+joined_splits low zero rs = []
+joined_splits low (suc count) rs = of_split low rs ++ joined_splits (low + 1) count rs
 
 -- the records of the splits, joined, are all records
 abbrev pub SplitsJoin : Type 0
-SplitsJoin = (size : ℕ) (files : List (List ℕ)) → 0 < size → joined 0 (split_total size files) (named_records size files) ≡ named_records size files
+SplitsJoin = (size : ℕ) (files : List (List ℕ)) → 0 < size → joined_splits 0 (split_total size files) (named_records size files) ≡ named_records size files
 
 abbrev pub record_of : NamedRecord → Record
 record_of r = record { start = r.start; bytes = r.bytes }

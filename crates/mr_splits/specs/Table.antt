@@ -2,7 +2,7 @@
 use Rattle.std.specs.Prelude.{◌≡◌, ℕ, ◌+◌, ◌<◌, ◌≤◌, List, [], ◌∷◌, ◌++◌, map, drop, length, All, slice_range, slice_index_or}
 use Rattle.mr_bytes.specs.declared.Span.{Span}
 use Rattle.mr_records.specs.Records.{Record, record_at, records_from, Within}
-use Rattle.mr_input.specs.Files.{nth}
+use Rattle.mr_input.specs.Files.{nth_file}
 use Rattle.mr_splits.specs.declared.table.Row.{Row}
 use Rattle.mr_splits.specs.Named.{NamedRecord}
 use Rattle.mr_splits.specs.Places.{IsSplit}
@@ -18,7 +18,7 @@ spans_of spans row = slice_range spans row.first (row.first + row.count)
 
 -- the records that a row gives the split `s`
 abbrev pub row_records : List (List ℕ) → List Span → ℕ → Row → List NamedRecord
-row_records files spans s row = numbered s row.place.file 0 (map (record_at (nth files row.place.file)) (spans_of spans row))
+row_records files spans s row = numbered s row.place.file 0 (map (record_at (nth_file files row.place.file)) (spans_of spans row))
 
 -- the records that the rows give the splits from `s` on
 unfoldable pub listed : List (List ℕ) → List Span → ℕ → List Row → List NamedRecord
@@ -33,7 +33,7 @@ Tiles at end (row ∷ rows) = (row.first ≡ at) × Tiles (at + row.count) end r
 -- a row's place is that of its split, and its spans lie in its file
 pub record RowStands (size : ℕ) (files : List (List ℕ)) (spans : List Span) (s : ℕ) (row : Row) : Type 0 where
   pub place : IsSplit size files s row.place
-  pub within : All (Within (nth files row.place.file)) (spans_of spans row)
+  pub within : All (Within (nth_file files row.place.file)) (spans_of spans row)
 
 pub record Stands (size : ℕ) (files : List (List ℕ)) (spans : List Span) (rows : List Row) : Type 0 where
   pub rows_stand : (s : ℕ) (d : Row) → s < length rows → RowStands size files spans s (slice_index_or rows s d)

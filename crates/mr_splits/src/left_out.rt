@@ -1,7 +1,7 @@
 //! Records that are left out, as flags.
 ghost use Rattle.std.specs.Prelude.{◌≡◌, ℕ, ◌<◌, ◌||◌, Bool, false, length, IfOk, slice_index_or};
 ghost use Rattle.mr_splits.specs.Named.{is_left_out};
-ghost use Rattle.mr_splits.specs.Cut.{records_of, nth, is_named, left_out_flags};
+ghost use Rattle.mr_splits.specs.Cut.{records_of, nth_named, has_record_name, left_out_flags};
 
 use crate::plan::Plan;
 use mr_bytes::RecordName;
@@ -68,7 +68,7 @@ impl<'a> Plan<'a> {
     fn mark_one(&self, name: RecordName, flags: &mut [bool])
         requires { length flags.old ≡ length (records_of self.now) }
         ensures { (i : ℕ) → i < length (records_of self.now)
-            → slice_index_or flags.new i false ≡ (slice_index_or flags.old i false || is_named name (nth (records_of self.now) i)) }
+            → slice_index_or flags.new i false ≡ (slice_index_or flags.old i false || has_record_name name (nth_named (records_of self.now) i)) }
     {
         if self.has_record(name) {
             flags[self.number_of(name.split, name.rec)] = true;

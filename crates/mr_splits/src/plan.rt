@@ -4,8 +4,8 @@ ghost use Rattle.std.specs.Option.{option_copied, option_map};
 ghost use Rattle.mr_bytes.specs.declared.RecordName.{RecordName};
 ghost use Rattle.mr_input.specs.Files.{split_total};
 ghost use Rattle.mr_splits.specs.Named.{of_split};
-ghost use Rattle.mr_splits.specs.Laws.{joined};
-ghost use Rattle.mr_splits.specs.Cut.{records_of, nth, record_named, is_record};
+ghost use Rattle.mr_splits.specs.Laws.{joined_splits};
+ghost use Rattle.mr_splits.specs.Cut.{records_of, nth_named, record_named, is_record};
 ghost use Rattle.mr_splits.specs.Places.{IsSplit};
 
 use crate::table::{Table, count_splits, cut_files};
@@ -151,9 +151,9 @@ impl<'a> Plan<'a> {
     pub fn located(&self, s: u32, r: u32) -> Located<'a>
         requires split { s < split_total self.now.size self.now.files }
         requires record { r < length (of_split s (records_of self.now)) }
-        ensures record { nth (of_split s (records_of self.now)) r
+        ensures record { nth_named (of_split s (records_of self.now)) r
             ≡ record { name = record { split = s; rec = r }; file = result.file; start = result.start; bytes = result.bytes.now } }
-        ensures named { record_named (records_of self.now) (record { split = s; rec = r }) ≡ Some (nth (of_split s (records_of self.now)) r) }
+        ensures named { record_named (records_of self.now) (record { split = s; rec = r }) ≡ Some (nth_named (of_split s (records_of self.now)) r) }
         ensures file { result.file < length self.now.files }
         ensures small { length result.bytes.now ≤ 2 ^ 30 }
     {
@@ -171,11 +171,11 @@ impl<'a> Plan<'a> {
     pub fn number_of(&self, s: u32, r: u32) -> usize
         requires split { s < split_total self.now.size self.now.files }
         requires record { r < length (of_split s (records_of self.now)) }
-        ensures number { result ≡ length (joined 0 s (records_of self.now)) + r }
-        ensures at { nth (records_of self.now) result ≡ nth (of_split s (records_of self.now)) r }
+        ensures number { result ≡ length (joined_splits 0 s (records_of self.now)) + r }
+        ensures at { nth_named (records_of self.now) result ≡ nth_named (of_split s (records_of self.now)) r }
         ensures within { result < length (records_of self.now) }
-        ensures name { (nth (records_of self.now) result).name ≡ record { split = s; rec = r } }
-        ensures only { (i : ℕ) → i < length (records_of self.now) → (nth (records_of self.now) i).name ≡ record { split = s; rec = r } → i ≡ result }
+        ensures name { (nth_named (records_of self.now) result).name ≡ record { split = s; rec = r } }
+        ensures only { (i : ℕ) → i < length (records_of self.now) → (nth_named (records_of self.now) i).name ≡ record { split = s; rec = r } → i ≡ result }
     {
         self.table.rows[s as usize].first + r as usize
     }

@@ -1,7 +1,7 @@
 //! The table of an input's splits and records.
 ghost use Rattle.std.specs.Prelude.{◌≡◌, ℕ, ◌+◌, ◌++◌, ◌^◌, ◌≤◌, ◌<◌, length, List, IfOk, OnOk, take};
 ghost use Rattle.mr_records.specs.Records.{records};
-ghost use Rattle.mr_input.specs.Files.{split_count, split_total, nth};
+ghost use Rattle.mr_input.specs.Files.{split_count, split_total, nth_file};
 ghost use Rattle.mr_splits.specs.Named.{named_from, named_records};
 ghost use Rattle.mr_splits.specs.Table.{Stands, listed};
 
@@ -44,11 +44,11 @@ fn cut_file(input: &Input, i: usize, size: u32, table: &mut Table) -> Result<(),
     requires file { (i < length input.now) × (length input.now ≤ 1024) }
     requires rows { length table.old.rows.items ≡ split_total size (take i input.now) }
     requires stands { Stands size input.now table.old.spans.items table.old.rows.items }
-    ensures rows { OnOk result (length table.new.rows.items ≡ split_total size (take i input.now) + split_count size (nth input.now i)) }
+    ensures rows { OnOk result (length table.new.rows.items ≡ split_total size (take i input.now) + split_count size (nth_file input.now i)) }
     ensures stands { OnOk result (Stands size input.now table.new.spans.items table.new.rows.items) }
     ensures all { OnOk result (listed input.now table.new.spans.items 0 table.new.rows.items
         ≡ listed input.now table.old.spans.items 0 table.old.rows.items
-        ++ named_from size i (split_total size (take i input.now)) (split_total size (take i input.now)) 0 (records (nth input.now i))) }
+        ++ named_from size i (split_total size (take i input.now)) (split_total size (take i input.now)) 0 (records (nth_file input.now i))) }
 {
     let bytes = input.file(i);
     let mut start = 0;

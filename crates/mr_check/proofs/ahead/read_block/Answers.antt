@@ -1,16 +1,16 @@
 use Rattle.std.proofs.Common.{◌∷◌, [], Ok, List, length, ap, ◌∙◌, arith, length-append}
 use Rattle.mr_certform.specs.declared.item.Item.{Item}
-use Rattle.mr_certform.specs.Walking.{left}
+use Rattle.mr_certform.specs.Walking.{items_left}
 use Rattle.mr_check.specs.Judging.{entries_in}
 use Rattle.mr_check.proofs.AheadLemmas.{read_more, counts_more}
 use Rattle.mr_check.proofs.ahead.read_block.Goals as goal
 
 pub returns-in-End-clause-items : goal.returns-in-End-clause-items
 returns-in-End-clause-items c =
-    let all : List Item = left c.args.walker.now in
+    let all : List Item = items_left c.args.walker.now in
     let is : List Item = c.loop-walker.items.items in
-    let ks : List Item = left c.loop-walker.walker in
-    let js : List Item = left c.next-in-loop-walker.new.self in
+    let ks : List Item = items_left c.loop-walker.walker in
+    let js : List Item = items_left c.next-in-loop-walker.new.self in
     let item = c.in-Ok.item in
     let more = c.keep-in-loop-walker.new.list.items in
     let told = c.in-Ok.ensures in
@@ -21,10 +21,10 @@ returns-in-End-clause-items c =
 
 pub loop-walker-preserved : goal.loop-walker-preserved
 loop-walker-preserved c =
-    let all : List Item = left c.args.walker.now in
+    let all : List Item = items_left c.args.walker.now in
     let is : List Item = c.loop-walker.items.items in
-    let ks : List Item = left c.loop-walker.walker in
-    let js : List Item = left c.next-in-loop-walker.new.self in
+    let ks : List Item = items_left c.loop-walker.walker in
+    let js : List Item = items_left c.next-in-loop-walker.new.self in
     let item = c.in-Ok.item in
     let more = c.keep-in-loop-walker.new.list.items in
     let told = c.in-Ok.ensures in

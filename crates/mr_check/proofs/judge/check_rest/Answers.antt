@@ -3,7 +3,7 @@ use Rattle.std.proofs.lemmas.Result.{err_from_is_err_and}
 use Rattle.mr_bytes.specs.declared.RecordName.{RecordName}
 use Rattle.mr_input.specs.Files.{contents}
 use Rattle.mr_splits.specs.Cut.{Cut, records_of}
-use Rattle.mr_certform.specs.Walking.{left, halt}
+use Rattle.mr_certform.specs.Walking.{items_left, halt}
 use Rattle.mr_check.specs.declared.fault.No.{No}
 use Rattle.mr_check.specs.declared.fault.No.TheVariants.{OutOfMemory}
 use Rattle.mr_check.specs.Verdict.{Case, start, subject_of, part_faults, count_faults}
@@ -24,13 +24,13 @@ returns-in_err-skips-clause-verdict c =
     let case : Case = case_at c.args.request.now c.args.input.now (contents c.args.outputs.now) (halt w) in
     let p = err_from_is_err_and c.from_residual-in_err-skips.result c.from_residual-in_err-skips.ensures.1 in
     let e : No = c.in_err-skips.field-0.0 in
-    rw (p.1, p.2) (told_fault (count_faults case (left w)) e _ (λ h. rest_fault case c.max_skips.result (halt c.expect_count.new.walker) c.in_ok-plan.plan (left w) (left c.expect_count.new.walker) e c.max_skips.ensures.same c.in_ok-expect_count.ensures.counted c.expect_count.ensures.stop c.in_ok-plan.ensures.plan h) c.in_err-skips.ensures.listed)
+    rw (p.1, p.2) (told_fault (count_faults case (items_left w)) e _ (λ h. rest_fault case c.max_skips.result (halt c.expect_count.new.walker) c.in_ok-plan.plan (items_left w) (items_left c.expect_count.new.walker) e c.max_skips.ensures.same c.in_ok-expect_count.ensures.counted c.expect_count.ensures.stop c.in_ok-plan.ensures.plan h) c.in_err-skips.ensures.listed)
 
 pub check_with-requires-clause-few : goal.check_with-requires-clause-few
 check_with-requires-clause-few c =
     let w = c.args.walker.now in
-    let r : Listed = record { skips = c.in_ok-skips.skips.items; behind = left c.take_skips.new.walker } in
-    let few : length (left c.take_skips.new.walker) ≤ length (left w) = rest_few (records_of c.in_ok-plan.plan) (halt w) c.max_skips.result (halt c.expect_count.new.walker) (left w) (left c.expect_count.new.walker) r c.in_ok-expect_count.ensures.counted c.in_ok-skips.ensures.listed in
+    let r : Listed = record { skips = c.in_ok-skips.skips.items; behind = items_left c.take_skips.new.walker } in
+    let few : length (items_left c.take_skips.new.walker) ≤ length (items_left w) = rest_few (records_of c.in_ok-plan.plan) (halt w) c.max_skips.result (halt c.expect_count.new.walker) (items_left w) (items_left c.expect_count.new.walker) r c.in_ok-expect_count.ensures.counted c.in_ok-skips.ensures.listed in
     omega (arith, few, c.requires.few)
 
 pub returns-in_err-pairs-clause-verdict : goal.returns-in_err-pairs-clause-verdict
@@ -42,13 +42,13 @@ returns-in_err-pairs-clause-verdict c =
     let case : Case = case_at o c.args.input.now outputs (halt w) in
     let p = err_from_is_err_and c.from_residual-in_err-pairs.result c.from_residual-in_err-pairs.ensures.1 in
     let e : No = c.in_err-pairs.field-0.0 in
-    let r : Listed = record { skips = skips; behind = left c.take_skips.new.walker } in
-    let faults = rest_faults case c.max_skips.result (halt c.expect_count.new.walker) c.in_ok-plan.plan (left w) (left c.expect_count.new.walker) r c.max_skips.ensures.same c.in_ok-expect_count.ensures.counted c.expect_count.ensures.stop c.in_ok-plan.ensures.plan c.in_ok-skips.ensures.listed in
+    let r : Listed = record { skips = skips; behind = items_left c.take_skips.new.walker } in
+    let faults = rest_faults case c.max_skips.result (halt c.expect_count.new.walker) c.in_ok-plan.plan (items_left w) (items_left c.expect_count.new.walker) r c.max_skips.ensures.same c.in_ok-expect_count.ensures.counted c.expect_count.ensures.stop c.in_ok-plan.ensures.plan c.in_ok-skips.ensures.listed in
     let at : halt c.take_skips.new.walker ≡ halt w = c.take_skips.ensures.stop ∙ c.expect_count.ensures.stop in
     let others : List (List ℕ) = c.in_ok-plan.plan.files in
-    let same = ap (λ (ss : List RecordName). part_faults (subject_of (case_at o others outputs (halt c.take_skips.new.walker)) ss) (halt c.take_skips.new.walker) start (left c.take_skips.new.walker)) c.deref.ensures.value
-    ∙ case_same o c.args.input.now others outputs skips (halt w) (halt c.take_skips.new.walker) (left c.take_skips.new.walker) (ap (λ (k : Cut). k.files) c.in_ok-plan.ensures.plan) at in
-    rw (p.1, p.2) (told_is _ (count_faults case (left w)) e (ap first (faults ∙ sym same)) c.in_err-pairs.ensures.faults)
+    let same = ap (λ (ss : List RecordName). part_faults (subject_of (case_at o others outputs (halt c.take_skips.new.walker)) ss) (halt c.take_skips.new.walker) start (items_left c.take_skips.new.walker)) c.deref.ensures.value
+    ∙ case_same o c.args.input.now others outputs skips (halt w) (halt c.take_skips.new.walker) (items_left c.take_skips.new.walker) (ap (λ (k : Cut). k.files) c.in_ok-plan.ensures.plan) at in
+    rw (p.1, p.2) (told_is _ (count_faults case (items_left w)) e (ap first (faults ∙ sym same)) c.in_err-pairs.ensures.faults)
 
 pub returns-clause-verdict : goal.returns-clause-verdict
 returns-clause-verdict c =
@@ -57,24 +57,24 @@ returns-clause-verdict c =
     let outputs : List (List ℕ) = contents c.args.outputs.now in
     let skips : List RecordName = c.in_ok-skips.skips.items in
     let case : Case = case_at o c.args.input.now outputs (halt w) in
-    let r : Listed = record { skips = skips; behind = left c.take_skips.new.walker } in
-    let faults = rest_faults case c.max_skips.result (halt c.expect_count.new.walker) c.in_ok-plan.plan (left w) (left c.expect_count.new.walker) r c.max_skips.ensures.same c.in_ok-expect_count.ensures.counted c.expect_count.ensures.stop c.in_ok-plan.ensures.plan c.in_ok-skips.ensures.listed in
+    let r : Listed = record { skips = skips; behind = items_left c.take_skips.new.walker } in
+    let faults = rest_faults case c.max_skips.result (halt c.expect_count.new.walker) c.in_ok-plan.plan (items_left w) (items_left c.expect_count.new.walker) r c.max_skips.ensures.same c.in_ok-expect_count.ensures.counted c.expect_count.ensures.stop c.in_ok-plan.ensures.plan c.in_ok-skips.ensures.listed in
     let at : halt c.take_skips.new.walker ≡ halt w = c.take_skips.ensures.stop ∙ c.expect_count.ensures.stop in
     let others : List (List ℕ) = c.in_ok-plan.plan.files in
-    let same = ap (λ (ss : List RecordName). part_faults (subject_of (case_at o others outputs (halt c.take_skips.new.walker)) ss) (halt c.take_skips.new.walker) start (left c.take_skips.new.walker)) c.deref.ensures.value
-    ∙ case_same o c.args.input.now others outputs skips (halt w) (halt c.take_skips.new.walker) (left c.take_skips.new.walker) (ap (λ (k : Cut). k.files) c.in_ok-plan.ensures.plan) at in
-    (ap first (faults ∙ sym same) ∙ c.in_ok-pairs.ensures.faults.0, rest_accepted (records_of c.in_ok-plan.plan) (halt w) c.max_skips.result (halt c.expect_count.new.walker) (left w) (left c.expect_count.new.walker) r c.requires.awaits c.in_ok-expect_count.ensures.counted c.in_ok-skips.ensures.listed ∙ ap (accepted skips) (sym c.in_ok-pairs.ensures.faults.1))
+    let same = ap (λ (ss : List RecordName). part_faults (subject_of (case_at o others outputs (halt c.take_skips.new.walker)) ss) (halt c.take_skips.new.walker) start (items_left c.take_skips.new.walker)) c.deref.ensures.value
+    ∙ case_same o c.args.input.now others outputs skips (halt w) (halt c.take_skips.new.walker) (items_left c.take_skips.new.walker) (ap (λ (k : Cut). k.files) c.in_ok-plan.ensures.plan) at in
+    (ap first (faults ∙ sym same) ∙ c.in_ok-pairs.ensures.faults.0, rest_accepted (records_of c.in_ok-plan.plan) (halt w) c.max_skips.result (halt c.expect_count.new.walker) (items_left w) (items_left c.expect_count.new.walker) r c.requires.awaits c.in_ok-expect_count.ensures.counted c.in_ok-skips.ensures.listed ∙ ap (accepted skips) (sym c.in_ok-pairs.ensures.faults.1))
 
 pub returns-in_err-pairs-clause-bounded : goal.returns-in_err-pairs-clause-bounded
 returns-in_err-pairs-clause-bounded c =
     let w = c.args.walker.now in
-    let r : Listed = record { skips = c.in_ok-skips.skips.items; behind = left c.take_skips.new.walker } in
-    let same = rest_entries (records_of c.in_ok-plan.plan) (halt w) c.max_skips.result (halt c.expect_count.new.walker) (left w) (left c.expect_count.new.walker) r c.in_ok-expect_count.ensures.counted c.in_ok-skips.ensures.listed in
-    bounded_wider (cut_by c.args.request.now c.args.input.now) c.in_ok-plan.plan (left w) (left c.take_skips.new.walker) c.args.meter.now c.check_with.new.meter c.in_ok-plan.ensures.plan same c.check_with.ensures.bounded
+    let r : Listed = record { skips = c.in_ok-skips.skips.items; behind = items_left c.take_skips.new.walker } in
+    let same = rest_entries (records_of c.in_ok-plan.plan) (halt w) c.max_skips.result (halt c.expect_count.new.walker) (items_left w) (items_left c.expect_count.new.walker) r c.in_ok-expect_count.ensures.counted c.in_ok-skips.ensures.listed in
+    bounded_wider (cut_by c.args.request.now c.args.input.now) c.in_ok-plan.plan (items_left w) (items_left c.take_skips.new.walker) c.args.meter.now c.check_with.new.meter c.in_ok-plan.ensures.plan same c.check_with.ensures.bounded
 
 pub returns-clause-bounded : goal.returns-clause-bounded
 returns-clause-bounded c =
     let w = c.args.walker.now in
-    let r : Listed = record { skips = c.in_ok-skips.skips.items; behind = left c.take_skips.new.walker } in
-    let same = rest_entries (records_of c.in_ok-plan.plan) (halt w) c.max_skips.result (halt c.expect_count.new.walker) (left w) (left c.expect_count.new.walker) r c.in_ok-expect_count.ensures.counted c.in_ok-skips.ensures.listed in
-    bounded_wider (cut_by c.args.request.now c.args.input.now) c.in_ok-plan.plan (left w) (left c.take_skips.new.walker) c.args.meter.now c.check_with.new.meter c.in_ok-plan.ensures.plan same c.check_with.ensures.bounded
+    let r : Listed = record { skips = c.in_ok-skips.skips.items; behind = items_left c.take_skips.new.walker } in
+    let same = rest_entries (records_of c.in_ok-plan.plan) (halt w) c.max_skips.result (halt c.expect_count.new.walker) (items_left w) (items_left c.expect_count.new.walker) r c.in_ok-expect_count.ensures.counted c.in_ok-skips.ensures.listed in
+    bounded_wider (cut_by c.args.request.now c.args.input.now) c.in_ok-plan.plan (items_left w) (items_left c.take_skips.new.walker) c.args.meter.now c.check_with.new.meter c.in_ok-plan.ensures.plan same c.check_with.ensures.bounded

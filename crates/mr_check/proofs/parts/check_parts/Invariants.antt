@@ -1,5 +1,5 @@
 use Rattle.std.proofs.Common.{◌≡◌, ◌+◌, length}
-use Rattle.mr_certform.specs.Walking.{left, halt}
+use Rattle.mr_certform.specs.Walking.{items_left, halt}
 use Rattle.mr_check.specs.Verdict.{start, part_faults}
 use Rattle.mr_check.specs.Judging.{subject, first, Room, entries_in}
 use Rattle.mr_check.proofs.parts.check_parts.Given as goal
@@ -8,8 +8,8 @@ abbrev pub invariant-loop-touched : goal.invariant-loop-touched
 invariant-loop-touched l =
     let s = subject l.facts in
     let at = halt l.initial.walker in
-    let all = left l.initial.walker in
-    let now = left l.walker in
+    let all = items_left l.initial.walker in
+    let now = items_left l.walker in
     record {
       same : first (part_faults s at l.judging now) ≡ first (part_faults s at start all);
       stop : halt l.walker ≡ at;
@@ -20,4 +20,4 @@ invariant-loop-touched l =
     }
 
 abbrev pub decreases-loop-touched : goal.decreases-loop-touched
-decreases-loop-touched l = length (left l.walker)
+decreases-loop-touched l = length (items_left l.walker)

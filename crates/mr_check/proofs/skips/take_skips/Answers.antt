@@ -1,7 +1,7 @@
 use Rattle.std.proofs.Common.{◌≡◌, Option, Some, None, List, ◌++◌, ◌∷◌, [], length, refl, ap, sym, ◌∙◌}
 use Rattle.mr_bytes.specs.declared.RecordName.{RecordName}
 use Rattle.mr_splits.specs.Cut.{records_of}
-use Rattle.mr_certform.specs.Walking.{left, halt}
+use Rattle.mr_certform.specs.Walking.{items_left, halt}
 use Rattle.mr_check.specs.declared.fault.No.{No}
 use Rattle.mr_check.specs.Verdict.{last_of}
 use Rattle.mr_check.specs.Judging.{skip_front, listed}
@@ -18,8 +18,8 @@ loop-skips-preserved c =
     let at = halt c.args.walker.now in
     let ss : List RecordName = c.loop-skips.skips.items in
     let name = c.in-Some.name in
-    let is = left c.loop-skips.walker in
-    let js = left c.next_skip.new.walker in
+    let is = items_left c.loop-skips.walker in
+    let js = items_left c.next_skip.new.walker in
     let pushed : c.keep.new.skips.items ≡ ss ++ name ∷ [] = c.in_ok-keep.ensures in
     let h = c.in_ok-name.ensures.item in
     let few : c.len.result ≡ length ss = c.len.ensures ∙ c.loop-skips.skips.ok.0 in

@@ -1,5 +1,5 @@
 use Rattle.std.proofs.Common.{◌≡◌, ◌++◌, [], ◌∷◌, arith, ap, length, vec_len, length-append}
-use Rattle.mr_jobs.specs.Views.{seen, entry_for}
+use Rattle.mr_jobs.specs.Views.{entries_seen, entry_for}
 use Rattle.mr_jobs.proofs.EntryLemmas.{take-kept, all-more, within-more}
 use Rattle.mr_jobs.proofs.emissions.push_all.Goals as goal
 
@@ -18,5 +18,5 @@ loop-key-preserved c =
       entries_kept = take-kept (vec_len c.args.entries.now) c.args.entries.now.items es.items (entry_for keys.items key c.in-Some.value ∷ []) c.push_one.new.entries.items es_is (omega (arith, before.more_entries, es.ok.0)) before.entries_kept;
       within = within-more keys.items key c.push_one.new.keys.items c.in-Some.value es.items c.push_one.new.entries.items before.within keys_is es_is;
       all = all-more keys.items key c.push_one.new.keys.items c.in-Some.value es.items c.push_one.new.entries.items c.loop-key.emitter c.next.new.self
-          (seen c.args.keys.now.items c.args.entries.now.items ++ c.args.emitter) before.within keys_is es_is c.in-Some.ensures.next before.all;
+          (entries_seen c.args.keys.now.items c.args.entries.now.items ++ c.args.emitter) before.within keys_is es_is c.in-Some.ensures.next before.all;
     }

@@ -1,5 +1,5 @@
 use Rattle.std.proofs.Common.{◌≡◌, ◌≤◌, ◌++◌, All, length, take, vec_len}
-use Rattle.mr_jobs.specs.Views.{IsIn, seen}
+use Rattle.mr_jobs.specs.Views.{IsIn, entries_seen}
 use Rattle.mr_jobs.proofs.emissions.push_all.Given as goal
 
 abbrev pub invariant-loop-key : goal.invariant-loop-key
@@ -9,7 +9,7 @@ invariant-loop-key l = record {
   keys_kept : take (vec_len l.fn.keys) l.keys.items ≡ l.fn.keys.items;
   entries_kept : take (vec_len l.fn.entries) l.entries.items ≡ l.fn.entries.items;
   within : All (IsIn l.keys.items) l.entries.items;
-  all : seen l.keys.items l.entries.items ++ l.emitter ≡ seen l.fn.keys.items l.fn.entries.items ++ l.initial.emitter;
+  all : entries_seen l.keys.items l.entries.items ++ l.emitter ≡ entries_seen l.fn.keys.items l.fn.entries.items ++ l.initial.emitter;
 }
 
 abbrev pub decreases-loop-key : goal.decreases-loop-key

@@ -1,5 +1,5 @@
 use Rattle.std.proofs.Common.{◌≡◌, ℕ, ◌+◌, ◌-◌, ◌/◌, ◌≤◌, arith, ap}
-use Rattle.mr_input.specs.Files.{split_count, nth}
+use Rattle.mr_input.specs.Files.{split_count, nth_file}
 use Rattle.mr_jobs.proofs.SplitLemmas.{split_total-more, split_total-end, few_splits}
 use Rattle.mr_jobs.proofs.request.splits_of.Goals as goal
 
@@ -9,7 +9,7 @@ loop-i-preserved c =
     let fs = c.args.input.now in
     let i = c.loop-i.i in
     let count : ℕ = (c.len.result + size - 1) / size in
-    let here : count ≡ split_count size (nth fs i) = ap (λ n. (n + size - 1) / size) c.len.ensures.bytes in
+    let here : count ≡ split_count size (nth_file fs i) = ap (λ n. (n + size - 1) / size) c.len.ensures.bytes in
     let more = split_total-more size fs i (omega arith) in
     let few : count ≤ c.len.result + size = few_splits size c.len.result in
     record {

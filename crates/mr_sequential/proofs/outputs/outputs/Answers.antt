@@ -9,7 +9,7 @@ use Rattle.mr_jobs.specs.Emissions.{Emission}
 use Rattle.mr_partition.specs.Partition.{partition_of}
 use Rattle.mr_reduce.specs.Text.{text_of}
 use Rattle.mr_sequential.specs.declared.rows.Row.{Row}
-use Rattle.mr_sequential.specs.Pairs.{buckets, bytes_of, groups_in, ones_then, paired, texts_in}
+use Rattle.mr_sequential.specs.Pairs.{buckets, key_bytes, groups_in, ones_then, paired, texts_in}
 use Rattle.mr_sequential.specs.Rows.{IsRanked, IsRowOf, bucket_text, row_key, row_number, row_order, row_part, row_texts}
 use Rattle.mr_sequential.proofs.BucketLemmas.{take_front}
 use Rattle.mr_sequential.proofs.GatheredLemmas.{length-paired, length-ones_then, same_length}
@@ -23,15 +23,15 @@ same : (is : List ℕ) (ones : ℕ) (rest : List Value) → ones + length rest �
 same is ones rest h = omega (arith, h, length-ones_then ones rest)
 
 -- there are few keys
-few_keys : (keys : List (Vec ℕ Global)) (is : List ℕ) (ones : ℕ) (rest : List Value) (seen : List Emission) → paired (bytes_of keys) is (ones_then ones rest) ≡ seen
+few_keys : (keys : List (Vec ℕ Global)) (is : List ℕ) (ones : ℕ) (rest : List Value) (seen : List Emission) → paired (key_bytes keys) is (ones_then ones rest) ≡ seen
     → ones + length rest ≡ length is → length keys ≤ length is → length seen < 4294967296 → length keys < 4294967296
 few_keys keys is ones rest seen view even few small =
-    omega (arith, length-paired (bytes_of keys) is (ones_then ones rest) (same is ones rest even), ap length view, few, small)
+    omega (arith, length-paired (key_bytes keys) is (ones_then ones rest) (same is ones rest even), ap length view, few, small)
 
 -- as many rows as keys
-row_count : (keys shown : List (Vec ℕ Global)) (rows : List Row) → shown ≡ keys → IsPermutation (bytes_of shown) (map row_key rows) → length rows ≡ length keys
+row_count : (keys shown : List (Vec ℕ Global)) (rows : List Row) → shown ≡ keys → IsPermutation (key_bytes shown) (map row_key rows) → length rows ≡ length keys
 row_count keys shown rows is perm =
-    omega (arith, same_length row_key rows, length_permutation (bytes_of shown) (map row_key rows) perm, same_length (λ (k : Vec ℕ Global). k.items) shown, ap length is)
+    omega (arith, same_length row_key rows, length_permutation (key_bytes shown) (map row_key rows) perm, same_length (λ (k : Vec ℕ Global). k.items) shown, ap length is)
 
 pub sorted_rows-requires-clause-few : goal.sorted_rows-requires-clause-few
 sorted_rows-requires-clause-few c =
@@ -78,12 +78,12 @@ fill_texts-requires-clause-inside c =
     c.in_ok-rank_numbers.ensures c.as_slice-2.ensures.value c.as_mut_slice.ensures.value seen in
     subst (λ (l : List Row). All (λ i. i < length l) c.as_slice-4.result.now) (sym c.as_slice-3.ensures.value) ranks.inside
 
-distinct_bytes : (keys : List (Vec ℕ Global)) → IsDistinct (λ (a : Vec ℕ Global) b. bytes_eq a.items b.items) keys → IsDistinct bytes_eq (bytes_of keys)
+distinct_bytes : (keys : List (Vec ℕ Global)) → IsDistinct (λ (a : Vec ℕ Global) b. bytes_eq a.items b.items) keys → IsDistinct bytes_eq (key_bytes keys)
 unfolding IsDistinct
 distinct_bytes [] d = tt
 distinct_bytes (k ∷ keys) d = (each keys d.0, distinct_bytes keys d.1)
   where
-    each : (ls : List (Vec ℕ Global)) → AllByRecursion (λ (y : Vec ℕ Global). bytes_eq k.items y.items ≡ false) ls → AllByRecursion (λ y. bytes_eq k.items y ≡ false) (bytes_of ls)
+    each : (ls : List (Vec ℕ Global)) → AllByRecursion (λ (y : Vec ℕ Global). bytes_eq k.items y.items ≡ false) ls → AllByRecursion (λ y. bytes_eq k.items y ≡ false) (key_bytes ls)
     each [] h = tt
     each (y ∷ ls) h = (h.0, each ls h.1)
 
@@ -91,12 +91,12 @@ pub returns-clause-texts : goal.returns-clause-texts
 returns-clause-texts c = λ p h.
     let g = c.gathered.inside in
     let keys : List (Vec ℕ Global) = g.keys.keys in
-    let ks : List (List ℕ) = bytes_of keys in
+    let ks : List (List ℕ) = key_bytes keys in
     let old : List ℕ = g.numbers.items in
     let vs : List Value = ones_then g.ones g.rest.items in
     let rows : List Row = c.in_ok-rows.rows.items in
     let rs : List ℕ = c.as_slice-4.result.now in
-    let task = c.args.job.now in
+    let job = c.args.job.now in
     let shown = c.as_slice.ensures.keys in
     let seen : rs ≡ c.rank_numbers.new.numbers =
     kept g.numbers.len c.as_mut_slice.result.now c.rank_numbers.new.numbers rs old c.as_slice-4.ensures.value c.rank_numbers.auto.numbers c.as_mut_slice.ensures.value g.numbers.ok.0 in
@@ -104,25 +104,25 @@ returns-clause-texts c = λ p h.
     c.in_ok-rank_numbers.ensures c.as_slice-2.ensures.value c.as_mut_slice.ensures.value seen in
     let count : length ks ≡ length keys = same_length (λ (k : Vec ℕ Global). k.items) keys in
     let are : AreRows c.args.parts ks rows = record {
-      keys = subst (λ (l : List (Vec ℕ Global)). IsPermutation (bytes_of l) (map row_key rows)) shown c.in_ok-rows.ensures.keys;
-      rows_of = subst (λ (l : List (Vec ℕ Global)). All (IsRowOf (bytes_of l) c.args.parts) rows) shown c.in_ok-rows.ensures.rows;
+      keys = subst (λ (l : List (Vec ℕ Global)). IsPermutation (key_bytes l) (map row_key rows)) shown c.in_ok-rows.ensures.keys;
+      rows_of = subst (λ (l : List (Vec ℕ Global)). All (IsRowOf (key_bytes l) c.args.parts) rows) shown c.in_ok-rows.ensures.rows;
       sorted = c.in_ok-rows.ensures.sorted;
       distinct = distinct_bytes keys c.as_slice.ensures.unique;
     } in
     c.in_ok-fill_texts.ensures.ok p (omega (arith, h, c.in_ok-texts.ensures.count))
-    ∙ ap (λ (l : List ℕ). l ++ row_texts (bucket_text task (zip rs vs)) p 0 c.as_slice-3.result.now) (c.in_ok-texts.ensures.empty p)
-    ∙ ap (λ (l : List Row). row_texts (bucket_text task (zip rs vs)) p 0 l) c.as_slice-3.ensures.value
-    ∙ texts-rows task c.args.parts p ks rows old rs vs are ranks (same old g.ones g.rest.items c.gathered.invariant.same)
+    ∙ ap (λ (l : List ℕ). l ++ row_texts (bucket_text job (zip rs vs)) p 0 c.as_slice-3.result.now) (c.in_ok-texts.ensures.empty p)
+    ∙ ap (λ (l : List Row). row_texts (bucket_text job (zip rs vs)) p 0 l) c.as_slice-3.ensures.value
+    ∙ texts-rows job c.args.parts p ks rows old rs vs are ranks (same old g.ones g.rest.items c.gathered.invariant.same)
     (λ k d less. omega (arith, c.gathered.invariant.inside k d less, count))
     (λ i less. c.gathered.invariant.used i (omega (arith, less, count)))
-    ∙ ap (λ (es : List Emission). texts_in (λ k. partition_of k c.args.parts) (text_of task) es p) c.gathered.view_is
+    ∙ ap (λ (es : List Emission). texts_in (λ k. partition_of k c.args.parts) (text_of job) es p) c.gathered.view_is
 
 -- the rows of the keys as they are shown
-rows_are : (parts : ℕ) (keys shown : List (Vec ℕ Global)) (rows : List Row) → shown ≡ keys → IsPermutation (bytes_of shown) (map row_key rows) → All (IsRowOf (bytes_of shown) parts) rows
-    → IsSorted row_order rows → IsDistinct (λ (a : Vec ℕ Global) b. bytes_eq a.items b.items) keys → AreRows parts (bytes_of keys) rows
+rows_are : (parts : ℕ) (keys shown : List (Vec ℕ Global)) (rows : List Row) → shown ≡ keys → IsPermutation (key_bytes shown) (map row_key rows) → All (IsRowOf (key_bytes shown) parts) rows
+    → IsSorted row_order rows → IsDistinct (λ (a : Vec ℕ Global) b. bytes_eq a.items b.items) keys → AreRows parts (key_bytes keys) rows
 rows_are parts keys shown rows is perm of order apart = record {
-  keys = subst (λ (l : List (Vec ℕ Global)). IsPermutation (bytes_of l) (map row_key rows)) is perm;
-  rows_of = subst (λ (l : List (Vec ℕ Global)). All (IsRowOf (bytes_of l) parts) rows) is of;
+  keys = subst (λ (l : List (Vec ℕ Global)). IsPermutation (key_bytes l) (map row_key rows)) is perm;
+  rows_of = subst (λ (l : List (Vec ℕ Global)). All (IsRowOf (key_bytes l) parts) rows) is of;
   sorted = order;
   distinct = distinct_bytes keys apart;
 }
@@ -131,7 +131,7 @@ pub groups_of-requires-clause-used : goal.groups_of-requires-clause-used
 groups_of-requires-clause-used c = λ r h.
     let g = c.gathered.inside in
     let keys : List (Vec ℕ Global) = g.keys.keys in
-    let ks : List (List ℕ) = bytes_of keys in
+    let ks : List (List ℕ) = key_bytes keys in
     let old : List ℕ = g.numbers.items in
     let rows : List Row = c.in_ok-rows.rows.items in
     let rs : List ℕ = c.as_slice-6.result.now in
@@ -163,7 +163,7 @@ groups_of-requires-clause-all c =
       ap length seen,
       c.rank_numbers.auto.numbers,
       ap length c.as_mut_slice.ensures.value,
-      length-paired (bytes_of g.keys.keys) old (ones_then g.ones g.rest.items) (same old g.ones g.rest.items c.gathered.invariant.same),
+      length-paired (key_bytes g.keys.keys) old (ones_then g.ones g.rest.items) (same old g.ones g.rest.items c.gathered.invariant.same),
       ap length c.gathered.view_is,
     )
 
@@ -180,7 +180,7 @@ groups_of-requires-clause-few c =
       ap length seen,
       c.rank_numbers.auto.numbers,
       ap length c.as_mut_slice.ensures.value,
-      length-paired (bytes_of g.keys.keys) old (ones_then g.ones g.rest.items) (same old g.ones g.rest.items c.gathered.invariant.same),
+      length-paired (key_bytes g.keys.keys) old (ones_then g.ones g.rest.items) (same old g.ones g.rest.items c.gathered.invariant.same),
       ap length c.gathered.view_is,
     )
 
@@ -194,7 +194,7 @@ pub returns-clause-groups : goal.returns-clause-groups
 returns-clause-groups c =
     let g = c.gathered.inside in
     let keys : List (Vec ℕ Global) = g.keys.keys in
-    let ks : List (List ℕ) = bytes_of keys in
+    let ks : List (List ℕ) = key_bytes keys in
     let old : List ℕ = g.numbers.items in
     let vs : List Value = ones_then g.ones g.rest.items in
     let rows : List Row = c.in_ok-rows.rows.items in

@@ -4,7 +4,7 @@ use Rattle.mr_bytes.specs.declared.Name.{Name}
 use Rattle.mr_input.specs.Files.{split_total}
 use Rattle.mr_jobs.specs.Emissions.{Emission}
 use Rattle.mr_splits.specs.Named.{NamedRecord, of_split}
-use Rattle.mr_splits.specs.Laws.{joined}
+use Rattle.mr_splits.specs.Laws.{joined_splits}
 use Rattle.mr_splits.specs.Cut.{records_of}
 use Rattle.mr_splits.proofs.JoinedLemmas.{splits-join}
 use Rattle.mr_sequential.specs.Names.{kept_names}
@@ -21,10 +21,10 @@ loop-s-init c =
     let m : ℕ = split_total c.args.plan.now.size c.args.plan.now.files in
     let whole : m - 0 ≡ m = omega arith in
     let joins = splits-join c.args.plan.now.size c.args.plan.now.files c.requires.some in (
-      ap (λ (l : List Emission). l ++ flat_map f (joined 0 (m - 0) rs)) c.new.ensures
-          ∙ ap (λ n. flat_map f (joined 0 n rs)) whole ∙ ap (flat_map f) joins,
-      ap (λ (l : List Name). l ++ flat_map g (joined 0 (m - 0) rs)) c.new-2.ensures
-          ∙ ap (λ n. flat_map g (joined 0 n rs)) whole ∙ ap (flat_map g) joins,
+      ap (λ (l : List Emission). l ++ flat_map f (joined_splits 0 (m - 0) rs)) c.new.ensures
+          ∙ ap (λ n. flat_map f (joined_splits 0 n rs)) whole ∙ ap (flat_map f) joins,
+      ap (λ (l : List Name). l ++ flat_map g (joined_splits 0 (m - 0) rs)) c.new-2.ensures
+          ∙ ap (λ n. flat_map g (joined_splits 0 n rs)) whole ∙ ap (flat_map g) joins,
     )
 
 pub gather_split-requires-clause-few : goal.gather_split-requires-clause-few
@@ -37,9 +37,9 @@ gather_split-requires-clause-few c =
     omega (
       arith,
       ap length c.loop-s.invariant.0,
-      length-append c.loop-s.emitted.pairs (flat_map f (joined s (m - s) rs)),
+      length-append c.loop-s.emitted.pairs (flat_map f (joined_splits s (m - s) rs)),
       ap length (next_split f rs s m within),
-      length-append (flat_map f (of_split s rs)) (flat_map f (joined (s + 1) (m - (s + 1)) rs)),
+      length-append (flat_map f (of_split s rs)) (flat_map f (joined_splits (s + 1) (m - (s + 1)) rs)),
       c.requires.few,
     )
 

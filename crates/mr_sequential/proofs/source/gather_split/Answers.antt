@@ -3,7 +3,7 @@ use Rattle.std.specs.List.{flat_map}
 use Rattle.mr_bytes.specs.declared.Name.{Name}
 use Rattle.mr_jobs.specs.Emissions.{Emission}
 use Rattle.mr_splits.specs.Named.{NamedRecord, of_split}
-use Rattle.mr_splits.specs.Cut.{nth, records_of}
+use Rattle.mr_splits.specs.Cut.{nth_named, records_of}
 use Rattle.mr_sequential.specs.Names.{kept_names}
 use Rattle.mr_sequential.specs.Pairs.{kept_pairs}
 use Rattle.mr_sequential.proofs.GatheredLemmas.{length-append}
@@ -21,7 +21,7 @@ gather_one-requires-clause-few c =
       ap length c.loop-r.invariant.0,
       length-append c.loop-r.emitted.pairs (flat_map f (drop r rs)),
       ap length (next_record f rs r within),
-      length-append (f (nth rs r)) (flat_map f (drop (r + 1) rs)),
+      length-append (f (nth_named rs r)) (flat_map f (drop (r + 1) rs)),
       length-append c.args.emitted.now.pairs (flat_map f rs),
       c.requires.few,
     )

@@ -1,6 +1,6 @@
 use Rattle.std.proofs.Common.{◌≡◌, ℕ, ◌<◌, List, length, get_or, ◌∙◌, sym, arith, Vec, Global}
 use Rattle.std.proofs.lemmas.List.{get_or_default}
-use Rattle.mr_input.specs.Files.{contents, nth}
+use Rattle.mr_input.specs.Files.{contents, nth_file}
 use Rattle.mr_sequential.specs.declared.rows.Row.{Row}
 use Rattle.mr_sequential.specs.Rows.{count_line}
 use Rattle.mr_sequential.proofs.GatheredLemmas.{same_length}
@@ -26,5 +26,5 @@ loop-rank-preserved c =
 
 pub returns-clause-ok : goal.returns-clause-ok
 returns-clause-ok c = λ p h.
-    sym (row_end (count_line c.args.sizes.now) c.args.rows.now c.loop-rank.rank p (nth (contents c.loop-rank.texts.items) p) c.loop-rank-test.false)
+    sym (row_end (count_line c.args.sizes.now) c.args.rows.now c.loop-rank.rank p (nth_file (contents c.loop-rank.texts.items) p) c.loop-rank-test.false)
     ∙ c.loop-rank.invariant.texts p h

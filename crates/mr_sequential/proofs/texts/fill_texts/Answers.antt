@@ -2,7 +2,7 @@ use Rattle.std.proofs.Common.{◌≡◌, ℕ, ◌<◌, ◌≤◌, ◌++◌, List
 use Rattle.std.proofs.lemmas.Result.{on_ok_weaker}
 use Rattle.std.specs.List.{zip}
 use Rattle.mr_bytes.specs.declared.Value.{Value}
-use Rattle.mr_input.specs.Files.{contents, nth}
+use Rattle.mr_input.specs.Files.{contents, nth_file}
 use Rattle.mr_sequential.specs.declared.rows.Row.{Row}
 use Rattle.mr_sequential.specs.Buckets.{size}
 use Rattle.mr_sequential.specs.Pairs.{ones_then}
@@ -36,7 +36,7 @@ returns-in_ok-sizes-clause-ok c =
     (sym c.as_slice.ensures.value)
     (λ p. counted-texts c.args.job.now c.args.rows.now c.args.numbers.now c.in_ok-sizes.sizes.items vs p (sym c.counts.ensures ∙ c.if-counts.true) same c.in_ok-sizes.ensures.sizes) in
     on_ok_weaker c.count_texts.result
-    (λ told p h. told p h ∙ ap (λ (l : List ℕ). nth (contents c.args.texts.now.items) p ++ l) (sizes p))
+    (λ told p h. told p h ∙ ap (λ (l : List ℕ). nth_file (contents c.args.texts.now.items) p ++ l) (sizes p))
     c.count_texts.ensures.ok
 
 pub returns-in_ok-values-2-clause-ok : goal.returns-in_ok-values-2-clause-ok
@@ -48,7 +48,7 @@ returns-in_ok-values-2-clause-ok c =
     let out : List Value = c.in_ok-values-2.values.items in
     let ends : List ℕ = c.in_ok-values-2.ends.items in
     on_ok_weaker c.value_texts.result
-    (λ told p h. told p h ∙ ap (λ (l : List ℕ). nth (contents c.args.texts.now.items) p ++ l)
+    (λ told p h. told p h ∙ ap (λ (l : List ℕ). nth_file (contents c.args.texts.now.items) p ++ l)
     (ap (λ (l : List Value). row_texts (values_text c.args.job.now l c.as_slice-else-counts-3.result.now) p 0 rows) c.as_slice-else-counts-2.ensures.value
     ∙ ap (λ (l : List ℕ). row_texts (values_text c.args.job.now out l) p 0 rows) c.as_slice-else-counts-3.ensures.value
     ∙ placed-texts c.args.job.now rows is ends c.as_slice-else-counts.result.now out p c.in_ok-values-2.ensures.ends c.in_ok-values-2.ensures.buckets

@@ -1,7 +1,7 @@
 use Rattle.std.proofs.Common.{arith, sym, ◌≡◌, ◌+◌, ◌-◌, ◌/◌, ℕ, length, ap, ◌∙◌, take}
 use Rattle.std.proofs.lemmas.List.{take_all}
 use Rattle.std.proofs.Math.Nat.{div-le_self}
-use Rattle.mr_input.specs.Files.{nth, split_total}
+use Rattle.mr_input.specs.Files.{nth_file, split_total}
 use Rattle.mr_splits.proofs.TableLemmas.{split_total-more, split_total-none}
 use Rattle.mr_splits.proofs.table.count_splits.Goals as goal
 
@@ -11,7 +11,7 @@ loop-i-init c = record { total = sym (split_total-none c.args.size c.args.input.
 pub loop-i-preserved : goal.loop-i-preserved
 loop-i-preserved c =
     let n : ℕ = c.len.result in
-    let same : n ≡ length (nth c.args.input.now c.loop-i.i) = c.len.ensures.bytes in
+    let same : n ≡ length (nth_file c.args.input.now c.loop-i.i) = c.len.ensures.bytes in
     let few = div-le_self (n + c.args.size - 1) c.args.size in
     record {
       total = ap (λ (t : ℕ). t + (n + c.args.size - 1) / c.args.size) c.loop-i.invariant.total

@@ -1,10 +1,10 @@
 use Rattle.std.proofs.Common.{refl}
 use Rattle.mr_certform.specs.Spelling.{items_of, stop}
-use Rattle.mr_certform.specs.Walking.{left, halt}
+use Rattle.mr_certform.specs.Walking.{items_left, halt}
 use Rattle.mr_certform.proofs.walker.Walker.new.Goals as goal
 
 pub returns-clause-items : goal.returns-clause-items
-unfolding left items_of
+unfolding items_left items_of
 returns-clause-items c = refl
 
 pub returns-clause-stop : goal.returns-clause-stop

@@ -1,10 +1,10 @@
 use Rattle.std.proofs.Common.{refl}
-use Rattle.mr_certform.specs.Walking.{left, halt}
+use Rattle.mr_certform.specs.Walking.{items_left, halt}
 use Rattle.mr_certform.proofs.Fuel.{stepped_items, stepped_end, stepped_unread}
 use Rattle.mr_certform.proofs.walker.Walker.next.Goals as goal
 
 pub returns-clause-item : goal.returns-clause-item
-unfolding left halt
+unfolding items_left halt
 returns-clause-item c = let v = c.args.self.now in stepped_items v.place v.rest.now v.whole c.step.new.self.place c.step.new.self.rest.now c.step.result c.step.ensures.item
 
 pub returns-clause-stop : goal.returns-clause-stop
@@ -12,5 +12,5 @@ unfolding halt
 returns-clause-stop c = let v = c.args.self.now in rw (c.step.ensures.same, stepped_unread v.place v.rest.now v.whole c.step.new.self.place c.step.new.self.rest.now c.step.result c.step.ensures.item) refl
 
 pub returns-clause-end : goal.returns-clause-end
-unfolding left
+unfolding items_left
 returns-clause-end c = let v = c.args.self.now in stepped_end v.place v.rest.now v.whole c.step.new.self.place c.step.new.self.rest.now c.step.result c.step.ensures.item

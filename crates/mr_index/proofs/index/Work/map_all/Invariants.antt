@@ -1,14 +1,14 @@
 use Rattle.std.proofs.Common.{◌≡◌}
-use Rattle.mr_splits.specs.Laws.{joined}
+use Rattle.mr_splits.specs.Laws.{joined_splits}
 use Rattle.mr_splits.specs.Cut.{records_of}
 use Rattle.mr_index.specs.Index.{mapped_among}
-use Rattle.mr_index.specs.Pairs.{seen, Sound}
+use Rattle.mr_index.specs.Pairs.{pairs_seen, Sound}
 use Rattle.mr_index.specs.Building.{Shows}
 use Rattle.mr_index.proofs.index.Work.map_all.Given as goal
 
 abbrev pub invariant-loop-s : goal.invariant-loop-s
 invariant-loop-s l = record {
   sound : Sound l.tables.pairs;
-  shows : Shows l.self.job.now l.self.skips.now (joined 0 l.s (records_of l.self.plan.now)) l.tables.ends.items (seen l.tables.pairs);
-  counted : l.tables.mapped ≡ mapped_among l.self.skips.now (joined 0 l.s (records_of l.self.plan.now));
+  shows : Shows l.self.job.now l.self.skips.now (joined_splits 0 l.s (records_of l.self.plan.now)) l.tables.ends.items (pairs_seen l.tables.pairs);
+  counted : l.tables.mapped ≡ mapped_among l.self.skips.now (joined_splits 0 l.s (records_of l.self.plan.now));
 }

@@ -1,9 +1,9 @@
 use Rattle.std.proofs.Common.{arith, ap, sym, subst, ◌∙◌, ◌≡◌, ◌+◌, ◌++◌, ◌∷◌, [], cond, List, ℕ}
 use Rattle.mr_splits.specs.Named.{NamedRecord, of_split, is_left_out}
-use Rattle.mr_splits.specs.Laws.{joined}
-use Rattle.mr_splits.specs.Cut.{records_of, nth}
+use Rattle.mr_splits.specs.Laws.{joined_splits}
+use Rattle.mr_splits.specs.Cut.{records_of, nth_named}
 use Rattle.mr_index.specs.Index.{mapped_among}
-use Rattle.mr_index.specs.Pairs.{seen}
+use Rattle.mr_index.specs.Pairs.{pairs_seen}
 use Rattle.mr_index.specs.Building.{Shows}
 use Rattle.mr_index.proofs.SpreadLemmas.{shows-more, mapped-more}
 use Rattle.mr_index.proofs.WorkLemmas.{before, before-none, before-more, before-all, mapped-few, mapped-before, on-err}
@@ -12,10 +12,10 @@ use Rattle.mr_index.proofs.index.Work.map_split.Goals as goal
 pub loop-r-init : goal.loop-r-init
 loop-r-init c =
     let rs : List NamedRecord = records_of c.args.self.now.plan.now in
-    let same : joined 0 c.args.s rs ≡ before c.args.s 0 rs = sym (before-none c.args.s rs) in
+    let same : joined_splits 0 c.args.s rs ≡ before c.args.s 0 rs = sym (before-none c.args.s rs) in
     record {
       sound = c.requires.sound;
-      shows = subst (λ (l : List NamedRecord). Shows c.args.self.now.job.now c.args.self.now.skips.now l c.args.tables.now.ends.items (seen c.args.tables.now.pairs)) same c.requires.shows;
+      shows = subst (λ (l : List NamedRecord). Shows c.args.self.now.job.now c.args.self.now.skips.now l c.args.tables.now.ends.items (pairs_seen c.args.tables.now.pairs)) same c.requires.shows;
       counted = c.requires.counted ∙ ap (mapped_among c.args.self.now.skips.now) same;
     }
 
@@ -24,14 +24,14 @@ loop-r-preserved c =
     let rs : List NamedRecord = records_of c.args.self.now.plan.now in
     let s : ℕ = c.args.s in
     let r : ℕ = c.loop-r.r in
-    let one : NamedRecord = nth (of_split s rs) r in
+    let one : NamedRecord = nth_named (of_split s rs) r in
     let skips = c.args.self.now.skips.now in
     let same : before s r rs ++ one ∷ [] ≡ before s (r + 1) rs = sym (before-more s r rs (omega (arith, c.loop-r-test.true, c.records_in-r-end.ensures))) in
     record {
       sound = c.in_ok-map_record.ensures.sound;
-      shows = subst (λ (l : List NamedRecord). Shows c.args.self.now.job.now skips l c.map_record.new.tables.ends.items (seen c.map_record.new.tables.pairs)) same
+      shows = subst (λ (l : List NamedRecord). Shows c.args.self.now.job.now skips l c.map_record.new.tables.ends.items (pairs_seen c.map_record.new.tables.pairs)) same
           (shows-more c.args.self.now.job.now skips (before s r rs) c.loop-r.tables.ends.items c.map_record.new.tables.ends.items
-          (seen c.loop-r.tables.pairs) (seen c.map_record.new.tables.pairs) one c.loop-r.invariant.shows c.in_ok-map_record.ensures.pairs c.in_ok-map_record.ensures.ends);
+          (pairs_seen c.loop-r.tables.pairs) (pairs_seen c.map_record.new.tables.pairs) one c.loop-r.invariant.shows c.in_ok-map_record.ensures.pairs c.in_ok-map_record.ensures.ends);
       counted = c.in_ok-map_record.ensures.counted
           ∙ ap (λ (n : ℕ). n + cond (is_left_out skips one.name) 0 1) c.loop-r.invariant.counted
           ∙ sym (mapped-more skips (before s r rs) one)
@@ -63,7 +63,7 @@ returns-in_err-map_record-clause-err c =
 pub returns-clause-shows : goal.returns-clause-shows
 returns-clause-shows c =
     let rs : List NamedRecord = records_of c.args.self.now.plan.now in
-    subst (λ (l : List NamedRecord). Shows c.args.self.now.job.now c.args.self.now.skips.now l c.loop-r.tables.ends.items (seen c.loop-r.tables.pairs))
+    subst (λ (l : List NamedRecord). Shows c.args.self.now.job.now c.args.self.now.skips.now l c.loop-r.tables.ends.items (pairs_seen c.loop-r.tables.pairs))
     (before-all c.args.s c.loop-r.r rs (omega (arith, c.loop-r-test.false, c.records_in-r-end.ensures))) c.loop-r.invariant.shows
 
 pub returns-clause-counted : goal.returns-clause-counted

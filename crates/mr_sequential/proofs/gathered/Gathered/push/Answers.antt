@@ -2,7 +2,7 @@ use Rattle.std.proofs.Common.{◌≡◌, ℕ, ◌+◌, ◌<◌, List, [], ◌∷
 use Rattle.mr_bytes.specs.declared.Value.{Value}
 use Rattle.mr_bytes.specs.Lists.{Has}
 use Rattle.mr_jobs.specs.Emissions.{Emission}
-use Rattle.mr_sequential.specs.Pairs.{bytes_of, ones_then, paired}
+use Rattle.mr_sequential.specs.Pairs.{key_bytes, ones_then, paired}
 use Rattle.mr_sequential.proofs.GatheredLemmas.{length-paired, length-ones_then, pushed-view, used-push, inside-push, length-append}
 use Rattle.mr_sequential.proofs.gathered.Gathered.push.Goals as goal
 
@@ -14,7 +14,7 @@ pub overflow_cast-number : goal.overflow_cast-number
 overflow_cast-number c =
     let g = c.self.inside in
     let is : List ℕ = g.numbers.items in
-    let all = length-paired (bytes_of g.keys.keys) is (ones_then g.ones g.rest.items) (same is g.ones g.rest.items c.self.invariant.same) in
+    let all = length-paired (key_bytes g.keys.keys) is (ones_then g.ones g.rest.items) (same is g.ones g.rest.items c.self.invariant.same) in
     let seen : length c.args.self.now ≡ length is = ap length (sym c.self.view_is) ∙ all in
     omega (arith, seen, c.requires, c.self.invariant.few, c.in_ok-number.ensures.found.0, c.in_ok-number.ensures.grows.1)
 
@@ -22,7 +22,7 @@ pub put_value-requires-clause-few : goal.put_value-requires-clause-few
 put_value-requires-clause-few c =
     let g = c.self.inside in
     let is : List ℕ = g.numbers.items in
-    let all = length-paired (bytes_of g.keys.keys) is (ones_then g.ones g.rest.items) (same is g.ones g.rest.items c.self.invariant.same) in
+    let all = length-paired (key_bytes g.keys.keys) is (ones_then g.ones g.rest.items) (same is g.ones g.rest.items c.self.invariant.same) in
     let seen : length c.args.self.now ≡ length is = ap length (sym c.self.view_is) ∙ all in
     omega (arith, seen, c.requires, c.self.invariant.same)
 
@@ -49,8 +49,8 @@ returns-clause-ok c =
     let g = c.self.inside in
     let is : List ℕ = g.numbers.items in
     let i : ℕ = c.in_ok-number.field-0 in
-    let ks : List (List ℕ) = bytes_of g.keys.keys in
-    let ls : List (List ℕ) = bytes_of c.number_of.new.keys.keys in
+    let ks : List (List ℕ) = key_bytes g.keys.keys in
+    let ls : List (List ℕ) = key_bytes c.number_of.new.keys.keys in
     let vs : List Value = ones_then g.ones g.rest.items in
     let v : Value = c.args.value in
     let numbers : c.put.new.items.items ≡ is ++ i ∷ [] = c.put.ensures ∙ ap (λ (l : List ℕ). l ++ i ∷ []) c.in_ok-reserve.ensures.items in

@@ -3,7 +3,7 @@ use Rattle.mr_bytes.specs.declared.Span.{Span}
 use Rattle.mr_input.specs.Files.{split_total}
 use Rattle.mr_splits.specs.declared.table.Row.{Row}
 use Rattle.mr_splits.specs.Named.{of_split}
-use Rattle.mr_splits.specs.Cut.{Cut, records_of, nth}
+use Rattle.mr_splits.specs.Cut.{Cut, records_of, nth_named}
 use Rattle.mr_splits.proofs.ReadLemmas.{found-row, found-at}
 use Rattle.mr_splits.proofs.NameLemmas.{named-at}
 use Rattle.mr_splits.proofs.plan.Plan.located.Goals as goal
@@ -74,7 +74,7 @@ returns-clause-record c =
     let span : Span = c.index-span.result.now in
     let f = found-at p.size p.input.now p.table.spans.items p.table.rows.items c.args.s c.args.r row span
     c.self.invariant.stands c.self.invariant.all h k c.index-row.ensures c.index-span.ensures in
-    sym (ap (λ (v : Cut). nth (of_split c.args.s (records_of v)) c.args.r) c.self.view_is) ∙ f.is
+    sym (ap (λ (v : Cut). nth_named (of_split c.args.s (records_of v)) c.args.r) c.self.view_is) ∙ f.is
     ∙ ap (λ (bs : List ℕ). record { name = record { split = c.args.s; rec = c.args.r }; file = row.place.file; start = span.start; bytes = slice_range bs span.start span.end })
     (sym c.file-bytes.ensures.bytes)
 

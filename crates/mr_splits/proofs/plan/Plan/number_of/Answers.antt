@@ -2,8 +2,8 @@ use Rattle.std.proofs.Common.{arith, ap, subst, sym, ◌∙◌, ◌≡◌, ◌<�
 use Rattle.mr_input.specs.Files.{split_total}
 use Rattle.mr_splits.specs.declared.table.Row.{Row}
 use Rattle.mr_splits.specs.Named.{NamedRecord, of_split}
-use Rattle.mr_splits.specs.Laws.{joined}
-use Rattle.mr_splits.specs.Cut.{Cut, records_of, nth}
+use Rattle.mr_splits.specs.Laws.{joined_splits}
+use Rattle.mr_splits.specs.Cut.{Cut, records_of, nth_named}
 use Rattle.mr_splits.proofs.ReadLemmas.{found-row, first-is, number-at, number-within}
 use Rattle.mr_splits.proofs.NameLemmas.{name-at, one-name}
 use Rattle.mr_splits.proofs.plan.Plan.number_of.Goals as goal
@@ -26,17 +26,17 @@ returns c =
     let all : ℕ = split_total p.size p.input.now in
     let same : all ≡ split_total c.args.self.now.size c.args.self.now.files = ap (λ (v : Cut). split_total v.size v.files) v in
     let h : c.args.s < length p.table.rows.items = omega (arith, c.requires.split, c.self.invariant.rows, same) in
-    let first : c.index.result.now.first ≡ length (joined 0 c.args.s (records_of c.args.self.now)) =
+    let first : c.index.result.now.first ≡ length (joined_splits 0 c.args.s (records_of c.args.self.now)) =
     ap (λ (r : Row). r.first) c.index.ensures
     ∙ first-is p.size p.input.now p.table.spans.items p.table.rows.items c.args.s c.index.result.now c.self.invariant.stands c.self.invariant.all h
-    ∙ ap (λ (v : Cut). length (joined 0 c.args.s (records_of v))) v in
+    ∙ ap (λ (v : Cut). length (joined_splits 0 c.args.s (records_of v))) v in
     let some : 0 < c.args.self.now.size = subst (λ (v : Cut). 0 < v.size) v c.self.invariant.some in
     let within : c.index.result.now.first + c.args.r < length (records_of c.args.self.now) =
     omega (arith, first, number-within c.args.self.now.size c.args.self.now.files c.args.s c.args.r some c.requires.split c.requires.«record») in
-    let at : nth (records_of c.args.self.now) (c.index.result.now.first + c.args.r) ≡ nth (of_split c.args.s (records_of c.args.self.now)) c.args.r =
-    ap (λ (n : ℕ). nth (records_of c.args.self.now) (n + c.args.r)) first
+    let at : nth_named (records_of c.args.self.now) (c.index.result.now.first + c.args.r) ≡ nth_named (of_split c.args.s (records_of c.args.self.now)) c.args.r =
+    ap (λ (n : ℕ). nth_named (records_of c.args.self.now) (n + c.args.r)) first
     ∙ number-at c.args.self.now.size c.args.self.now.files c.args.s c.args.r some c.requires.split c.requires.«record» in
-    let name : (nth (of_split c.args.s (records_of c.args.self.now)) c.args.r).name ≡ record { split = c.args.s; rec = c.args.r } =
+    let name : (nth_named (of_split c.args.s (records_of c.args.self.now)) c.args.r).name ≡ record { split = c.args.s; rec = c.args.r } =
     name-at c.args.self.now.size c.args.self.now.files c.args.s c.args.r some c.requires.«record» in
     record {
       number = ap (λ (n : ℕ). n + c.args.r) first;

@@ -1,23 +1,23 @@
 -- What a job does with a record.
 use Rattle.std.specs.Prelude.{ℕ, ◌≤◌, ◌^◌, Bool, true, false, if◌then◌else◌, List, []}
 
-pub data Task : Type 0 where
+pub data JobSpec : Type 0 where
   -- count words, by their exact bytes where the flag is true, and else by their folded bytes
-  WordCount : Bool → Task
+  WordCount : Bool → JobSpec
   -- the lines that hold a literal, compared folded where the flag is true
-  LinesWith : List ℕ → Bool → Task
+  LinesWith : List ℕ → Bool → JobSpec
   -- count the resources that a log's lines request
-  Resources : Task
+  Resources : JobSpec
 
 -- a job with its number of partitions, its split size in bytes and how many records it may leave out
-pub record Order : Type 0 where
-  pub task : Task
+pub record RequestSpec : Type 0 where
+  pub job : JobSpec
   pub parts : ℕ
   pub split : ℕ
   pub skips : ℕ
 
 -- the text of a group depends on the number of its values alone
-abbrev pub counts : Task → Bool
+abbrev pub counts : JobSpec → Bool
 counts (WordCount keep_case) = true
 counts (LinesWith literal fold) = false
 counts Resources = true
@@ -30,19 +30,19 @@ abbrev pub SplitFits : ℕ → Type 0
 SplitFits split = (1 ≤ split) × (split ≤ 2 ^ 26)
 
 -- how a certificate writes a job: its number
-abbrev pub job_number : Task → ℕ
+abbrev pub job_number : JobSpec → ℕ
 job_number (WordCount keep_case) = 1
 job_number (LinesWith literal fold) = 2
 job_number Resources = 3
 
 -- its flags: 1 keeps the case of words, 2 folds the case of lines
-abbrev pub job_flags : Task → ℕ
+abbrev pub job_flags : JobSpec → ℕ
 job_flags (WordCount keep_case) = if keep_case then 1 else 0
 job_flags (LinesWith literal fold) = if fold then 2 else 0
 job_flags Resources = 0
 
 -- its literal
-abbrev pub job_literal : Task → List ℕ
+abbrev pub job_literal : JobSpec → List ℕ
 job_literal (WordCount keep_case) = []
 job_literal (LinesWith literal fold) = literal
 job_literal Resources = []
