@@ -185,7 +185,7 @@ good_is_yes request files outputs bytes c spells good =
     let s : Subject = subject_of (case_of request files outputs bytes) c.skips in
     let ts : List Triple = emitted request files c.skips in
     let job : SameJob c request = record { job = good.job; flags = good.flags; literal = good.literal; parts = good.parts; size = good.split_size } in
-    let items : items_of bytes ≡ job_wanted request ++ (input_wanted files ++ (skip_items c ++ to_end c.groups)) = spelled_items bytes c spells ∙ items_are order files c job good.lengths in
+    let items : items_of bytes ≡ job_wanted request ++ (input_wanted files ++ (skip_items c ++ to_end c.groups)) = spelled_items bytes c spells ∙ items_are request files c job good.lengths in
     let outputs_are : length outputs ≡ request.parts = good.result.one_each ∙ good.one_each in
     let each : EachFrom (λ p gs. IsGoodPart s.part s.text ts p gs (nth_file outputs p)) 0 c.groups =
     each_from (λ p gs. IsGoodPart s.part s.text ts p gs (nth_file outputs p)) [] 0 c.groups
