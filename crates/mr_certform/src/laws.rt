@@ -1,3 +1,4 @@
+//! What the definitions of certificates mean: functions without a body, whose clauses are the laws.
 ghost use Rattle.std.specs.Prelude.{◌≡◌, ℕ, List, [], ◌++◌, Some, true, length, take, map};
 ghost use Rattle.std.specs.List.{flat_map};
 ghost use Rattle.mr_bytes.specs.declared.Name.{Name};
