@@ -1,11 +1,13 @@
 //! The splits of an input and their records (OSDI 2004, section 3.1).
 #![tactic(auto)]
 
+mod kept;
 mod left_out;
 mod plan;
 mod scan;
 mod table;
 
+pub use kept::{Kept, KeptRecords, SkipFault};
 pub use left_out::LeftOut;
 pub use plan::{Located, MAX_SPLIT, MAX_SPLITS, Plan, PlanFault, SplitPlace};
 
