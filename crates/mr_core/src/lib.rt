@@ -7,16 +7,12 @@ mod current;
 mod entries;
 mod event;
 mod failed;
-#[cfg(test)]
-mod histories;
 mod laws;
 mod master;
 mod outputs;
 mod skips;
 mod splits;
 mod tables;
-#[cfg(test)]
-mod tests;
 
 pub use event::{End, Event, JobFault, Limits, Reply, Shape, Task};
 pub use laws::{accepted_outputs, every_run, fetched, goes_on, left_out_sets, runs, worked_runs};

@@ -8,7 +8,8 @@ use Rattle.mr_script.specs.declared.directive.Directive.TheVariants.{Lose, Zombi
 use Rattle.mr_script.specs.declared.line.Keyword.{Keyword}
 use Rattle.mr_script.specs.declared.line.Keyword.TheVariants as key
 use Rattle.mr_script.specs.Lines.{Word, Fixed, Number, SpellsWords, SpellsNumber, SpellsLine}
-use Rattle.mr_script.specs.Meaning.{◌>>=◌, cut, number_of, number_and_rest, number_and_number, number_after_number, three_numbers, keyword_of, directive_with, directive_of}
+use Rattle.mr_bytes.specs.Cut.{cut}
+use Rattle.mr_script.specs.Meaning.{◌>>=◌, number_of, number_and_rest, number_and_number, number_after_number, three_numbers, keyword_of, directive_with, directive_of}
 use Rattle.mr_script.proofs.Lines.{cut_is}
 use Rattle.mr_script.proofs.Numbers.{number_is}
 
@@ -29,7 +30,7 @@ number_before : (text rest : List ℕ) (n : ℕ) (v : Word) (ws : List Word) →
 unfolding number_and_rest
 number_before text rest n v ws e h =
     let F : (List ℕ × List ℕ) → Option (ℕ × List ℕ) = λ c. number_of c.0 >>= λ m. Some (m, c.1) in
-    let a = bind_some F (cut text) (n, rest) e in
+    let a = bind_some F (cut 0x20 text) (n, rest) e in
     let G : ℕ → Option (ℕ × List ℕ) = λ m. Some (m, a.0.1) in
     let b = bind_some G (number_of a.0.0) (n, rest) a.2 in
     let p = some_pair_parts b.0 n a.0.1 rest b.2 in
@@ -56,9 +57,9 @@ after_between : (text : List ℕ) (x y : ℕ) → number_after_number text ≡ S
 unfolding number_after_number
 after_between text x y e =
     let H : (ℕ × List ℕ) → (List ℕ × List ℕ) → Option (ℕ × ℕ) = λ a c. cond (pointwise eqb c.0 (codes "after")) (number_of c.1 >>= λ b. Some (a.0, b)) None in
-    let F : (ℕ × List ℕ) → Option (ℕ × ℕ) = λ a. cut a.1 >>= H a in
+    let F : (ℕ × List ℕ) → Option (ℕ × ℕ) = λ a. cut 0x20 a.1 >>= H a in
     let a = bind_some F (number_and_rest text) (x, y) e in
-    let c = bind_some (H a.0) (cut a.0.1) (x, y) a.2 in
+    let c = bind_some (H a.0) (cut 0x20 a.0.1) (x, y) a.2 in
     let t = chosen (pointwise eqb c.0.0 (codes "after")) (number_of c.0.1 >>= λ b. Some (a.0.0, b)) (x, y) c.2 in
     let G : ℕ → Option (ℕ × ℕ) = λ b. Some (a.0.0, b) in
     let b = bind_some G (number_of c.0.1) (x, y) t.1 in
@@ -137,7 +138,7 @@ pub meant_is_spelled : (line : List ℕ) (d : Directive) → directive_of line �
 unfolding directive_of
 meant_is_spelled line d e =
     let F : (List ℕ × List ℕ) → Option Directive = λ c. keyword_of c.0 >>= λ k. directive_with k c.1 in
-    let a = bind_some F (cut line) d e in
+    let a = bind_some F (cut 0x20 line) d e in
     let G : Keyword → Option Directive = λ k. directive_with k a.0.1 in
     let b = bind_some G (keyword_of a.0.0) d a.2 in
     behind_keyword line a.0.0 a.0.1 b.0 d (cut_is line a.0.0 a.0.1 a.1) (keyword_is a.0.0 b.0 b.1) b.2

@@ -10,7 +10,7 @@ use Rattle.std.specs.Str.{all_ascii_digits}
 use Rattle.std.specs.Str.Parse.{AllDigits, digits_value}
 use Rattle.mr_script.specs.Lines.{SpellsNumber}
 use Rattle.mr_script.specs.Meaning.{is_number, number_of}
-use Rattle.mr_script.proofs.Lines.{NoSpace}
+use Rattle.mr_bytes.specs.Cut.{Lacks}
 
 pub by_test : IsNumeralModel (λ ds. all_ascii_digits ds ≡ true) (digits_value 10)
 by_test = numerals_by_value _ tells_all_ascii_digits
@@ -85,11 +85,11 @@ number_tells word (Some n) e = number_is word n (sym e)
 pub number_short : (word : List ℕ) (n : ℕ) → SpellsNumber word n → (0 < length word) × (length word ≤ 10)
 number_short word n h = (h.digits.0, h.few)
 
-digits_no_space : (ds : List ℕ) → AllDigits 10 ds → NoSpace ds
+digits_no_space : (ds : List ℕ) → AllDigits 10 ds → Lacks 0x20 ds
 digits_no_space [] h = tt
 digits_no_space (d ∷ ds) h = (λ e. let r = digit_from_value d h.0 in omega (arith, r.0, e), digits_no_space ds h.1)
 
-pub number_no_space : (word : List ℕ) (n : ℕ) → SpellsNumber word n → NoSpace word
+pub number_no_space : (word : List ℕ) (n : ℕ) → SpellsNumber word n → Lacks 0x20 word
 number_no_space word n h = digits_no_space word h.digits.1
 
 -- a number of few digits, where it was seen whether it fits

@@ -12,22 +12,23 @@ use Rattle.mr_script.specs.declared.line.Keyword.TheVariants as key
 use Rattle.mr_script.specs.Lines.{Fixed, Number, SpellsWords, SpellsNumber, SpellsLine, SaysNothing, Stands}
 use Rattle.mr_script.specs.Scripts.{SpellsLines, SpellsScript, IsFirstBad}
 use Rattle.mr_script.proofs.Walks.{all_stand}
-use Rattle.mr_script.specs.Meaning.{◌>>=◌, cut, number_of, number_and_rest, number_and_number, number_after_number, three_numbers, keyword_of, directive_with, directive_of}
-use Rattle.mr_script.proofs.Lines.{NoSpace, cut_word}
+use Rattle.mr_bytes.specs.Cut.{Lacks, cut}
+use Rattle.mr_script.specs.Meaning.{◌>>=◌, number_of, number_and_rest, number_and_number, number_after_number, three_numbers, keyword_of, directive_with, directive_of}
+use Rattle.mr_script.proofs.Lines.{cut_word}
 use Rattle.mr_script.proofs.Numbers.{number_spelled, number_no_space}
 
 bind_to : {A B : Type 0} (f : A → Option B) (o : Option A) (x : A) (r : Option B) → o ≡ Some x → f x ≡ r → (o >>= f) ≡ r
 bind_to f o x r e h = ap (λ (p : Option _). p >>= f) e ∙ h
 
-cut_first : (text first rest : List ℕ) → text ≡ first ++ 0x20 ∷ rest → NoSpace first → cut text ≡ Some (first, rest)
-cut_first text first rest e h = ap cut e ∙ cut_word first rest h
+cut_first : (text first rest : List ℕ) → text ≡ first ++ 0x20 ∷ rest → Lacks 0x20 first → cut 0x20 text ≡ Some (first, rest)
+cut_first text first rest e h = ap (cut 0x20) e ∙ cut_word first rest h
 
 front : (text first rest : List ℕ) (n : ℕ) → text ≡ first ++ 0x20 ∷ rest → SpellsNumber first n → number_and_rest text ≡ Some (n, rest)
 unfolding number_and_rest
 front text first rest n e h =
     let F : (List ℕ × List ℕ) → Option (ℕ × List ℕ) = λ c. number_of c.0 >>= λ m. Some (m, c.1) in
     let G : ℕ → Option (ℕ × List ℕ) = λ m. Some (m, rest) in
-    bind_to F (cut text) (first, rest) (Some (n, rest)) (cut_first text first rest e (number_no_space first n h))
+    bind_to F (cut 0x20 text) (first, rest) (Some (n, rest)) (cut_first text first rest e (number_no_space first n h))
     (bind_to G (number_of first) n (Some (n, rest)) (number_spelled first n h) refl)
 
 two : (text : List ℕ) (x y : ℕ) → SpellsWords text (Number x ∷ Number y ∷ []) → number_and_number text ≡ Some (x, y)
@@ -38,18 +39,18 @@ two text x y (first, rest, e, h, k) =
     bind_to F (number_and_rest text) (x, rest) (Some (x, y)) (front text first rest x e h)
     (bind_to G (number_of rest) y (Some (x, y)) (number_spelled rest y k) refl)
 
-after_no_space : NoSpace (codes "after")
+after_no_space : Lacks 0x20 (codes "after")
 after_no_space = (λ e. cc e, (λ e. cc e, (λ e. cc e, (λ e. cc e, (λ e. cc e, tt)))))
 
 after_between : (text : List ℕ) (x y : ℕ) → SpellsWords text (Number x ∷ Fixed (codes "after") ∷ Number y ∷ []) → number_after_number text ≡ Some (x, y)
 unfolding number_after_number
 after_between text x y (first, rest, e, h, (word, last, f, w, k)) =
     let H : (ℕ × List ℕ) → (List ℕ × List ℕ) → Option (ℕ × ℕ) = λ a c. cond (pointwise eqb c.0 (codes "after")) (number_of c.1 >>= λ b. Some (a.0, b)) None in
-    let F : (ℕ × List ℕ) → Option (ℕ × ℕ) = λ a. cut a.1 >>= H a in
+    let F : (ℕ × List ℕ) → Option (ℕ × ℕ) = λ a. cut 0x20 a.1 >>= H a in
     let G : ℕ → Option (ℕ × ℕ) = λ b. Some (x, b) in
     let there : rest ≡ codes "after" ++ 0x20 ∷ last = f ∙ ap (λ (v : List ℕ). v ++ 0x20 ∷ last) w in
     bind_to F (number_and_rest text) (x, rest) (Some (x, y)) (front text first rest x e h)
-    (bind_to (H (x, rest)) (cut rest) (codes "after", last) (Some (x, y)) (cut_first rest (codes "after") last there after_no_space)
+    (bind_to (H (x, rest)) (cut 0x20 rest) (codes "after", last) (Some (x, y)) (cut_first rest (codes "after") last there after_no_space)
     (bind_to G (number_of last) y (Some (x, y)) (number_spelled last y k) refl))
 
 three : (text : List ℕ) (x y z : ℕ) → SpellsWords text (Number x ∷ Number y ∷ Number z ∷ []) → three_numbers text ≡ Some (x, y, z)
@@ -61,12 +62,12 @@ three text x y z (first, rest, e, h, k) =
     (bind_to G (number_and_number rest) (y, z) (Some (x, y, z)) (two rest y z k) refl)
 
 -- the line begins with a keyword and a space
-at_keyword : (line w text rest : List ℕ) (k : Keyword) (d : Directive) → line ≡ w ++ 0x20 ∷ rest → w ≡ text → NoSpace text → keyword_of text ≡ Some k → directive_with k rest ≡ Some d → directive_of line ≡ Some d
+at_keyword : (line w text rest : List ℕ) (k : Keyword) (d : Directive) → line ≡ w ++ 0x20 ∷ rest → w ≡ text → Lacks 0x20 text → keyword_of text ≡ Some k → directive_with k rest ≡ Some d → directive_of line ≡ Some d
 unfolding directive_of
 at_keyword line w text rest k d e t free key with_rest =
     let F : (List ℕ × List ℕ) → Option Directive = λ c. keyword_of c.0 >>= λ k. directive_with k c.1 in
     let G : Keyword → Option Directive = λ k. directive_with k rest in
-    bind_to F (cut line) (text, rest) (Some d) (cut_first line text rest (e ∙ ap (λ (v : List ℕ). v ++ 0x20 ∷ rest) t) free)
+    bind_to F (cut 0x20 line) (text, rest) (Some d) (cut_first line text rest (e ∙ ap (λ (v : List ℕ). v ++ 0x20 ∷ rest) t) free)
     (bind_to G (keyword_of text) k (Some d) key with_rest)
 
 begins : (line w rest : List ℕ) (b : ℕ) (bs : List ℕ) → line ≡ w ++ 0x20 ∷ rest → w ≡ b ∷ bs → (b ≡ 0x23 → ⊥) → SaysNothing line → ⊥
@@ -77,7 +78,7 @@ begins line w rest b bs e t other says =
       | inr hash ↦ other (sym (ap (λ (v : List ℕ). get_or v 0 0) whole) ∙ hash)
     ]
 
-lose_no_space : NoSpace (codes "lose")
+lose_no_space : Lacks 0x20 (codes "lose")
 lose_no_space = (λ e. cc e, (λ e. cc e, (λ e. cc e, (λ e. cc e, tt))))
 
 lose_keyword : keyword_of (codes "lose") ≡ Some key.Lose
@@ -94,7 +95,7 @@ lose_meant line x y h = at_keyword line h.0 (codes "lose") h.1 key.Lose (Lose x 
 lose_speaks : (line : List ℕ) (x y : ℕ) → SaysNothing line → SpellsLine line (Lose x y) → ⊥
 lose_speaks line x y says h = begins line h.0 h.1 108 (codes "ose") h.2 h.3 (λ z. cc z) says
 
-zombie_no_space : NoSpace (codes "zombie")
+zombie_no_space : Lacks 0x20 (codes "zombie")
 zombie_no_space = (λ e. cc e, (λ e. cc e, (λ e. cc e, (λ e. cc e, (λ e. cc e, (λ e. cc e, tt))))))
 
 zombie_keyword : keyword_of (codes "zombie") ≡ Some key.Zombie
@@ -111,7 +112,7 @@ zombie_meant line x y h = at_keyword line h.0 (codes "zombie") h.1 key.Zombie (Z
 zombie_speaks : (line : List ℕ) (x y : ℕ) → SaysNothing line → SpellsLine line (Zombie x y) → ⊥
 zombie_speaks line x y says h = begins line h.0 h.1 122 (codes "ombie") h.2 h.3 (λ z. cc z) says
 
-bad_no_space : NoSpace (codes "bad")
+bad_no_space : Lacks 0x20 (codes "bad")
 bad_no_space = (λ e. cc e, (λ e. cc e, (λ e. cc e, tt)))
 
 bad_keyword : keyword_of (codes "bad") ≡ Some key.Bad
@@ -128,7 +129,7 @@ bad_meant line x y h = at_keyword line h.0 (codes "bad") h.1 key.Bad (Bad x y) h
 bad_speaks : (line : List ℕ) (x y : ℕ) → SaysNothing line → SpellsLine line (Bad x y) → ⊥
 bad_speaks line x y says h = begins line h.0 h.1 98 (codes "ad") h.2 h.3 (λ z. cc z) says
 
-flaky_no_space : NoSpace (codes "flaky")
+flaky_no_space : Lacks 0x20 (codes "flaky")
 flaky_no_space = (λ e. cc e, (λ e. cc e, (λ e. cc e, (λ e. cc e, (λ e. cc e, tt)))))
 
 flaky_keyword : keyword_of (codes "flaky") ≡ Some key.Flaky
@@ -145,7 +146,7 @@ flaky_meant line x y z h = at_keyword line h.0 (codes "flaky") h.1 key.Flaky (Fl
 flaky_speaks : (line : List ℕ) (x y z : ℕ) → SaysNothing line → SpellsLine line (Flaky x y z) → ⊥
 flaky_speaks line x y z says h = begins line h.0 h.1 102 (codes "laky") h.2 h.3 (λ z. cc z) says
 
-hold_no_space : NoSpace (codes "hold")
+hold_no_space : Lacks 0x20 (codes "hold")
 hold_no_space = (λ e. cc e, (λ e. cc e, (λ e. cc e, (λ e. cc e, tt))))
 
 hold_keyword : keyword_of (codes "hold") ≡ Some key.Hold
@@ -162,7 +163,7 @@ hold_meant line x h = at_keyword line h.0 (codes "hold") h.1 key.Hold (Hold x) h
 hold_speaks : (line : List ℕ) (x : ℕ) → SaysNothing line → SpellsLine line (Hold x) → ⊥
 hold_speaks line x says h = begins line h.0 h.1 104 (codes "old") h.2 h.3 (λ z. cc z) says
 
-spoil_no_space : NoSpace (codes "spoil")
+spoil_no_space : Lacks 0x20 (codes "spoil")
 spoil_no_space = (λ e. cc e, (λ e. cc e, (λ e. cc e, (λ e. cc e, (λ e. cc e, tt)))))
 
 spoil_keyword : keyword_of (codes "spoil") ≡ Some key.Spoil

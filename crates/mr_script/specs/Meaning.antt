@@ -3,6 +3,7 @@ use Rattle.std.specs.Prelude.{ℕ, ◌^◌, Bool, ◌&&◌, Option, Some, None, 
 use Rattle.std.specs.Str.{all_ascii_digits}
 use Rattle.std.specs.Str.Parse.{digits_value}
 use Rattle.std.specs.Cmp.Lexicographic.{pointwise}
+use Rattle.mr_bytes.specs.Cut.{cut}
 use Rattle.mr_script.specs.declared.directive.Directive.{Directive}
 use Rattle.mr_script.specs.declared.directive.Directive.TheVariants.{Lose, Zombie, Bad, Flaky, Hold, Spoil}
 use Rattle.mr_script.specs.declared.line.Keyword.{Keyword}
@@ -14,15 +15,6 @@ abbrev pub ◌>>=◌ : {A B : Type 0} → Option A → (A → Option B) → Opti
 None >>= f = None
 (Some x) >>= f = f x
 
-abbrev pub with_front : ℕ → Option (List ℕ × List ℕ) → Option (List ℕ × List ℕ)
-with_front b None = None
-with_front b (Some c) = Some (b ∷ c.0, c.1)
-
--- the bytes before the first space, and those behind it
-unfoldable pub cut : List ℕ → Option (List ℕ × List ℕ)
-cut [] = None
-cut (b ∷ bs) = if b == 0x20 then Some ([], bs) else with_front b (cut bs)
-
 -- one to ten decimal digits, whose number fits in 32 bits
 abbrev pub is_number : List ℕ → Bool
 is_number word = nat_lt 0 (length word) && nat_le (length word) 10 && all_ascii_digits word && nat_lt (digits_value 10 word) (2 ^ 32)
@@ -31,14 +23,14 @@ unfoldable pub number_of : List ℕ → Option ℕ
 number_of word = if is_number word then Some (digits_value 10 word) else None
 
 unfoldable pub number_and_rest : List ℕ → Option (ℕ × List ℕ)
-number_and_rest text = cut text >>= λ c. number_of c.0 >>= λ n. Some (n, c.1)
+number_and_rest text = cut 0x20 text >>= λ c. number_of c.0 >>= λ n. Some (n, c.1)
 
 unfoldable pub number_and_number : List ℕ → Option (ℕ × ℕ)
 number_and_number text = number_and_rest text >>= λ a. number_of a.1 >>= λ b. Some (a.0, b)
 
 unfoldable pub number_after_number : List ℕ → Option (ℕ × ℕ)
 number_after_number text =
-    number_and_rest text >>= λ a. cut a.1 >>= λ c. if pointwise nat_eq c.0 (codes "after") then (number_of c.1 >>= λ b. Some (a.0, b)) else None
+    number_and_rest text >>= λ a. cut 0x20 a.1 >>= λ c. if pointwise nat_eq c.0 (codes "after") then (number_of c.1 >>= λ b. Some (a.0, b)) else None
 
 unfoldable pub three_numbers : List ℕ → Option (ℕ × ℕ × ℕ)
 three_numbers text = number_and_rest text >>= λ a. number_and_number a.1 >>= λ b. Some (a.0, b.0, b.1)
@@ -62,4 +54,4 @@ directive_with key.Hold rest = number_of rest >>= λ a. Some (Hold a)
 directive_with key.Spoil rest = number_and_number rest >>= λ a. Some (Spoil a.0 a.1)
 
 unfoldable pub directive_of : List ℕ → Option Directive
-directive_of line = cut line >>= λ c. keyword_of c.0 >>= λ k. directive_with k c.1
+directive_of line = cut 0x20 line >>= λ c. keyword_of c.0 >>= λ k. directive_with k c.1

@@ -1,3 +1,5 @@
+//! The directives of a script.
+
 /// One thing that shall go wrong in a run, with the numbers of its line in their order.
 #[derive(Clone, Copy, Debug, PartialEq, Eq)]
 pub enum Directive {

@@ -5,8 +5,6 @@ mod directive;
 mod laws;
 mod line;
 mod script;
-#[cfg(test)]
-mod tests;
 
 pub use crate::directive::Directive;
 pub use crate::laws::{line_law, script_law};

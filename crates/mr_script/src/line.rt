@@ -2,9 +2,10 @@
 ghost use Rattle.std.specs.Prelude.{◌≡◌, ◌≤◌, ◌↔◌, ℕ, IsTrue, Some, None, MatchOption, length};
 ghost use Rattle.std.specs.Str.Parse.{AllDigits, digits_value};
 ghost use Rattle.mr_script.specs.Lines.{SaysNothing, SpellsNumber};
-ghost use Rattle.mr_script.specs.Meaning.{cut, number_of, number_and_rest, number_and_number, number_after_number, three_numbers, keyword_of, directive_of};
+ghost use Rattle.mr_script.specs.Meaning.{number_of, number_and_rest, number_and_number, number_after_number, three_numbers, keyword_of, directive_of};
 
 use crate::directive::Directive;
+use mr_bytes::cut;
 
 /// The first word of a line.
 #[derive(Clone, Copy)]
@@ -22,18 +23,6 @@ pub(crate) fn says_nothing(line: &[u8]) -> bool
     ensures { IsTrue result ↔ SaysNothing line.now }
 {
     line.is_empty() || line[0] == b'#'
-}
-
-/// The bytes before the first space, and those behind it.
-fn cut(text: &[u8]) -> Option<(&[u8], &[u8])>
-    ensures { MatchOption result (cut text.now ≡ None) (λ r. cut text.now ≡ Some (r.0.now, r.1.now)) }
-{
-    for (at, byte) in text.iter().enumerate() {
-        if *byte == b' ' {
-            return Some((&text[..at], &text[at + 1..]));
-        }
-    }
-    None
 }
 
 /// The number that at most ten decimal digits write.
@@ -69,7 +58,7 @@ pub fn number_of(word: &[u8]) -> Option<u32>
 fn number_and_rest(text: &[u8]) -> Option<(u32, &[u8])>
     ensures { MatchOption result (number_and_rest text.now ≡ None) (λ r. number_and_rest text.now ≡ Some (r.0, r.1.now)) }
 {
-    let (word, rest) = cut(text)?;
+    let (word, rest) = cut(text, b' ')?;
     let number = number_of(word)?;
     Some((number, rest))
 }
@@ -90,7 +79,7 @@ fn number_after_number(text: &[u8]) -> Option<(u32, u32)>
     ensures { result ≡ number_after_number text.now }
 {
     let (first, rest) = number_and_rest(text)?;
-    let (word, rest) = cut(rest)?;
+    let (word, rest) = cut(rest, b' ')?;
     if word != b"after".as_slice() {
         return None;
     }
@@ -139,7 +128,7 @@ fn keyword_of(word: &[u8]) -> Option<Keyword>
 pub(crate) fn directive_of(line: &[u8]) -> Option<Directive>
     ensures { result ≡ directive_of line.now }
 {
-    let (word, rest) = cut(line)?;
+    let (word, rest) = cut(line, b' ')?;
     match keyword_of(word)? {
         Keyword::Lose => {
             let (worker, after) = number_after_number(rest)?;

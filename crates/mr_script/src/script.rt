@@ -1,9 +1,12 @@
+//! A script read: enter bytes, leaves the list of directives that its lines spell, or the number of the first bad line.
+//! One pass; memory grows with the directives.
 ghost use Rattle.std.specs.Prelude.{◌≡◌, ◌≢◌, ℕ, ◌+◌, ◌<◌, ◌≤◌, [], ◌∷◌, IfOk, IfErr, MatchOption, MatchResult, length, drop, slice_index};
 ghost use Rattle.mr_records.specs.Records.{Record, records_from};
 ghost use Rattle.mr_script.specs.Scripts.{SpellsScript, Adds, IsLineFault, IsScriptFault};
 
 use crate::directive::Directive;
 use crate::line::{directive_of, says_nothing};
+use mr_records::record_end;
 use std::alloc::{AllocFailed, Global};
 use std::marker::Model;
 use thiserror::Error;
@@ -43,30 +46,13 @@ impl<T: Drop> From<AllocFailed<T>> for ScriptFault {
     }
 }
 
-/// The place of the first line feed from `from` on, or the end.
-fn line_end(bytes: &[u8], from: usize) -> usize
-    requires { from ≤ length bytes.now }
-    ensures within { (from ≤ result) × (result ≤ length bytes.now) }
-    ensures clear { (k : ℕ) → from ≤ k → k < result → slice_index bytes.now k ≢ 10 }
-    ensures stops { result < length bytes.now → slice_index bytes.now result ≡ 10 }
-{
-    let mut end = from;
-    while end < bytes.len() && bytes[end] != b'\n' {
-        end += 1;
-    }
-    end
-}
-
 /// The line that begins at `from`, without its line feed, if a byte stands there.
 fn next_line(bytes: &[u8], from: usize) -> Option<&[u8]>
     ensures { MatchOption result (records_from from (drop from bytes.now) ≡ [])
         (λ l. (from + length l.now ≤ length bytes.now) × (from < length bytes.now)
         × (records_from from (drop from bytes.now) ≡ record { start = from; bytes = l.now } ∷ records_from (from + length l.now + 1) (drop (from + length l.now + 1) bytes.now))) }
 {
-    if from >= bytes.len() {
-        return None;
-    }
-    let end = line_end(bytes, from);
+    let end = record_end(bytes, from)?;
     Some(&bytes[from..end])
 }
 

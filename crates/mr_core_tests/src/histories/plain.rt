@@ -1,6 +1,6 @@
 //! A plain master: the table of events once more, over lists that are looked through from the front.
 
-use crate::{Core, End, Event, JobFault, Reply, Shape, Task};
+use mr_core::{Core, End, Event, JobFault, Reply, Shape, Task};
 use std::alloc::{AllocError, Global};
 
 /// An attempt.

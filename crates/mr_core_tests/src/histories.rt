@@ -3,7 +3,7 @@ ghost use Rattle.std.specs.Prelude.{◌≤◌};
 ghost use Rattle.mr_core.specs.Core.{InLimits};
 
 use self::plain::Plain;
-use crate::{Core, End, Event, JobFault, Limits, Reply, Shape, Task};
+use mr_core::{Core, End, Event, JobFault, Limits, Reply, Shape, Task};
 use std::alloc::{AllocError, Global};
 use std::test::Fail;
 
