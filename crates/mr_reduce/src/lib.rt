@@ -47,10 +47,11 @@ pub fn column_text(
     ensures err { OnErr result (out.new.items ≡ out.old.items) }
     ensures full { OnErr result (vec_capacity out.old < vec_len out.old + length (text_of job.now key.now values.now)) }
 {
-    if job.counts() {
-        return total_text(key, values.len() as u64, out);
+    if !job.counts() {
+        return group_text(job, key, values.stored(), out);
     }
-    group_text(job, key, values.stored(), out)
+    let total = values.len();
+    total_text(key, total as u64, out)
 }
 
 /// Appends the line of a key with a number: what `group_text` appends for a job that counts, where the number is that
