@@ -1,5 +1,5 @@
 -- All entries of a good result are distinct.
-use Rattle.std.proofs.Common.{◌≡◌, ℕ, suc, ◌+◌, ◌<◌, ◌≤◌, List, [], ◌∷◌, length, map, get_or, ap, sym, ◌∙◌, subst, inl, inr, arith, IsSome}
+use Rattle.std.proofs.Common.{◌≡◌, ℕ, zero, suc, ◌+◌, ◌<◌, ◌≤◌, List, [], ◌∷◌, length, map, get_or, ap, sym, ◌∙◌, subst, inl, inr, arith, IsSome}
 use Rattle.std.proofs.lemmas.Cmp.{nat_list_cmp_total, nat_cmp_total, on_total, then_total}
 use Rattle.std.proofs.lemmas.List.{length-map}
 use Rattle.std.specs.List.{AllByRecursion, flat_map}
@@ -25,13 +25,19 @@ abbrev pub EachFrom : {X : Type 0} → (ℕ → X → Type 0) → ℕ → List X
 EachFrom P p [] = Unit {0}
 EachFrom P p (x ∷ xs) = P p x × EachFrom P (suc p) xs
 
-each_from : {X : Type 0} (P : ℕ → X → Type 0) (d : X) (p : ℕ) (xs : List X) → ((q : ℕ) → q < length xs → P (p + q) (get_or xs q d)) → EachFrom P p xs
+pub each_from : {X : Type 0} (P : ℕ → X → Type 0) (d : X) (p : ℕ) (xs : List X) → ((q : ℕ) → q < length xs → P (p + q) (get_or xs q d)) → EachFrom P p xs
 each_from P d p [] f = tt
 each_from P d p (x ∷ xs) f =
     let here : p + 0 ≡ p = omega arith in (
       subst (λ n. P n x) here (f 0 (omega arith)),
       each_from P d (suc p) xs (λ q l. let there : p + suc q ≡ suc p + q = omega arith in subst (λ n. P n (get_or xs q d)) there (f (suc q) (omega arith))),
     )
+
+pub from_each : {X : Type 0} (P : ℕ → X → Type 0) (d : X) (p : ℕ) (xs : List X) → EachFrom P p xs → (q : ℕ) → q < length xs → P (p + q) (get_or xs q d)
+from_each P d p [] each q l = absurd (omega arith)
+from_each P d p (x ∷ xs) each zero l = let here : p ≡ p + 0 = omega arith in subst (λ n. P n x) here each.0
+from_each P d p (x ∷ xs) each (suc q) l =
+    let there : suc p + q ≡ p + suc q = omega arith in subst (λ n. P n (get_or xs q d)) there (from_each P d (suc p) xs each.1 q (omega arith))
 
 module _ (part : List ℕ → ℕ) (ts : List Triple) where
   pub key_in_group : (p : ℕ) (g : List Name) (n : Name) → IsGoodGroup part ts p g → Has g n → key_under ts n ≡ key_of ts g
