@@ -1,4 +1,6 @@
 pub mod AheadLemmas
+pub mod FaultPart
+pub mod FaultTruth
 pub mod Faults
 pub mod GrammarLemmas
 pub mod HeadlineLemmas

@@ -2,6 +2,7 @@ ghost use Rattle.std.specs.Prelude.{◌≡◌, ◌∷◌, [], ◌++◌, take, tr
 ghost use Rattle.mr_jobs.specs.JobSpec.{WordCount};
 ghost use Rattle.mr_check.specs.declared.fault.No.{No};
 ghost use Rattle.mr_check.specs.Verdict.{verdict_of};
+ghost use Rattle.mr_check.specs.FaultLaws.{FaultsAreTrue};
 ghost use Rattle.mr_check.specs.VerdictLaws.{YesIsGood, GoodIsYes, FaultByPlace, LaterItemsDontMatter, LaterOutputsDontMatter, OnlyComparedMatters, OtherOutputsDontMatter, BytesBehindDontMatter};
 ghost use Rattle.mr_check.specs.VerdictRows.{words, a_b_a, a_b_aa, line, a2_b1, name, certificate, of_groups, good_bytes, says, says_without, first_record};
 
@@ -29,6 +30,12 @@ pub fn locality_law()
 pub fn partition_law()
     ensures own { OtherOutputsDontMatter }
     ensures compared { BytesBehindDontMatter }
+{}
+
+/// What each fault means: it is true of the certificate that was read, as far as its items stand, in the partition, the
+/// group and the entry that it names.
+pub fn fault_law()
+    ensures { FaultsAreTrue }
 {}
 
 /// Worked verdicts.
