@@ -3,3 +3,5 @@ pub mod Lists
 pub mod Order
 pub mod Words
 pub mod WordLaw
+pub mod Cut
+pub mod Values

@@ -6,10 +6,19 @@ ghost use Rattle.mr_bytes.specs.Bytes.{is_upper, is_word_byte, fold_byte, folded
 
 use std::alloc::{AllocError, Global};
 
+mod marks;
 mod names;
+mod same;
+mod values;
 mod words;
 
+pub use marks::cut;
 pub use names::{compare_keys, compare_names, compare_records, order_law};
+pub use same::{
+    clone_of_name, clone_of_record, clone_of_span, clone_of_value, is_same_name, is_same_record,
+    is_same_span, is_same_value,
+};
+pub use values::Values;
 pub use words::{next_word, word_law};
 
 /// A part of a text, from the byte at `start` to before the byte at `end`.

@@ -2,7 +2,7 @@
 use Rattle.std.proofs.Common.{◌≡◌, ℕ, refl, [], ◌∷◌, ◌++◌, take, Ok, Err, true, arith}
 use Rattle.std.proofs.lemmas.Fmt.{decimal_digit}
 use Rattle.mr_bytes.specs.Words.{extend, word_spans_from}
-use Rattle.mr_certform.specs.Spelling.{items_from, items_of, unread, stop}
+use Rattle.mr_certform.specs.Spelling.{items_from, items_of, stop}
 use Rattle.mr_certform.specs.Value.{certificate_items, spelling}
 use Rattle.mr_jobs.specs.JobSpec.{WordCount}
 use Rattle.mr_partition.specs.Partition.{fnv_from}
@@ -15,7 +15,7 @@ use Rattle.mr_check.specs.VerdictRows.{words, a_b_a, a_b_aa, line, a2_b1, name, 
 
 -- all that the rows compute with
 computing : ℕ
-unfolding verdict_of certificate_items spelling items_of items_from unread stop fnv_from lengthen records_from placed_from named_from named_files extend word_spans_from
+unfolding verdict_of certificate_items spelling items_of items_from stop fnv_from lengthen records_from placed_from named_from named_files extend word_spans_from
 computing = 0
 
 pub row_spelled : certificate 1 6 [] (((name 0 0 0 ∷ name 0 0 2 ∷ []) ∷ (name 0 0 1 ∷ []) ∷ []) ∷ []) ≡ good_bytes

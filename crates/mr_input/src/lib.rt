@@ -2,7 +2,7 @@
 #![tactic(auto)]
 
 ghost use Rattle.std.specs.Prelude.{◌≡◌, ◌≤◌, ◌<◌, ◌^◌, ◌↔◌, IfOk, IsOk, length, IsTrue};
-ghost use Rattle.mr_input.specs.Files.{contents, total_size, nth_file};
+ghost use Rattle.mr_input.specs.Files.{contents, total_size, nth_file, split_total};
 
 use std::marker::Model;
 use thiserror::Error;
@@ -11,6 +11,14 @@ use thiserror::Error;
 pub const MAX_FILES: usize = 1024;
 /// The most bytes of an input, all files together: 1 GiB.
 pub const MAX_BYTES: usize = 0x4000_0000;
+/// The most bytes of a split: 64 MiB.
+pub const MAX_SPLIT_SIZE: u32 = 0x400_0000;
+/// The most splits of an input.
+pub const MAX_SPLITS: usize = 0x10_0000;
+
+// The numbers that the clauses give.
+const _: () = prove!(MAX_FILES == 1024 && MAX_BYTES == 1_073_741_824);
+const _: () = prove!(MAX_SPLIT_SIZE == 67_108_864 && MAX_SPLITS == 1_048_576);
 
 /// Files, in order, each as its bytes.
 #[derive(Drop)]
@@ -101,6 +109,26 @@ impl Input {
     {
         self.file(i).len()
     }
+
+    /// How many splits of `size` bytes the files have.
+    pub fn splits(&self, size: u32) -> usize
+        requires { 0 < size }
+        ensures { result ≡ split_total size self.now }
+    {
+        splits_of(self, size)
+    }
+}
+
+fn splits_of(input: &Input, size: u32) -> usize
+    requires { 0 < size }
+    ensures { result ≡ split_total size input.now }
+{
+    let size = size as usize;
+    let mut splits = 0;
+    for i in 0..input.files() {
+        splits += (input.len(i) + size - 1) / size;
+    }
+    splits
 }
 
 #[cfg(test)]

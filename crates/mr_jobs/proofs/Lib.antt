@@ -3,4 +3,3 @@ pub mod UrlLemmas
 pub mod EmitLemmas
 pub mod EntryLemmas
 pub mod CountLemmas
-pub mod SplitLemmas

@@ -12,7 +12,7 @@ pub use emissions::{Emissions, Origin, emission_law, map};
 pub use emitter::Emitter;
 pub use job::{Job, JobFault, MAX_LITERAL};
 pub use literal::literal_law;
-pub use request::{MAX_PARTS, MAX_SKIPS, MAX_SPLIT_SIZE, MAX_SPLITS, Request, RequestFault};
+pub use request::{MAX_PARTS, MAX_SKIPS, Request, RequestFault};
 pub use url::url_law;
 
 #[cfg(test)]

@@ -4,18 +4,17 @@ ghost use Rattle.mr_input.specs.Files.{split_total};
 ghost use Rattle.mr_jobs.specs.JobSpec.{RequestSpec, PartsFit, SplitFits};
 
 use crate::job::Job;
-use mr_input::Input;
+use mr_input::{Input, MAX_SPLIT_SIZE, MAX_SPLITS};
 use std::marker::Model;
 use thiserror::Error;
 
 /// The most partitions.
 pub const MAX_PARTS: u32 = 1024;
-/// The most bytes of a split: 64 MiB.
-pub const MAX_SPLIT_SIZE: u32 = 0x400_0000;
 /// The most records that a request may let be left out.
 pub const MAX_SKIPS: u32 = 1000;
-/// The most splits of an input.
-pub const MAX_SPLITS: usize = 0x10_0000;
+
+// The numbers that the clauses give.
+const _: () = prove!(MAX_PARTS == 1024 && MAX_SKIPS == 1000);
 
 /// A job with its number of partitions, its split size in bytes, and how many records may be left out.
 #[derive(Drop)]
@@ -119,19 +118,6 @@ impl Request {
     pub fn fits(&self, input: &Input) -> bool
         ensures { IsTrue result ↔ (split_total self.now.split input.now ≤ 2 ^ 20) }
     {
-        splits_of(input, self.split_size() as usize) <= MAX_SPLITS
+        input.splits(self.split_size()) <= MAX_SPLITS
     }
-}
-
-/// How many splits of `size` bytes all files have together.
-fn splits_of(input: &Input, size: usize) -> usize
-    requires some { 1 ≤ size }
-    requires small { size ≤ 2 ^ 26 }
-    ensures { result ≡ split_total size input.now }
-{
-    let mut splits = 0;
-    for i in 0..input.files() {
-        splits += (input.len(i) + size - 1) / size;
-    }
-    splits
 }

@@ -1,7 +1,7 @@
 //! The records of a file.
 #![tactic(auto)]
 
-ghost use Rattle.std.specs.Prelude.{◌≡◌, ℕ, ◌+◌, ◌^◌, ◌≤◌, ◌<◌, ◌≢◌, length, List, [], ◌∷◌, IfOk, All, map, MatchOption, drop, slice_index};
+ghost use Rattle.std.specs.Prelude.{◌≡◌, ℕ, ◌+◌, ◌^◌, ◌≤◌, ◌<◌, ◌≢◌, length, List, [], ◌∷◌, ◌++◌, IfOk, OnOk, All, map, MatchOption, drop, slice_index};
 ghost use Rattle.mr_records.specs.Records.{Record, records, nth_record};
 ghost use Rattle.mr_records.specs.RecordLaw.{NoLineFeeds, GiveTheFileBack, StartInTurn, StartWhereLinesBegin, FewRecords};
 
@@ -82,7 +82,19 @@ pub fn record_law()
     ensures few { FewRecords }
 {}
 
-ghost use Rattle.mr_records.specs.Records.{record_at, records_from, Within};
+ghost use Rattle.mr_records.specs.Records.{record_at, Within, IsBehindAll, IsRecordOf};
+
+/// Adds the span from `start` to before `end`.
+fn push_span(spans: &mut Vec<Span>, start: usize, end: usize) -> Result<(), AllocError>
+    requires { (start ≤ 2 ^ 30) × (end ≤ 2 ^ 30) }
+    ensures { OnOk result (spans.new.items ≡ spans.old.items ++ record { start = start; end = end } ∷ []) }
+{
+    spans.push(Span {
+        start: start as u32,
+        end: end as u32,
+    })?;
+    Ok(())
+}
 
 /// Where the records stand, in their order.
 fn spans_of(alloc: Global, bytes: &[u8]) -> Result<Vec<Span>, AllocError>
@@ -93,9 +105,9 @@ fn spans_of(alloc: Global, bytes: &[u8]) -> Result<Vec<Span>, AllocError>
 {
     let mut spans = Vec::new(alloc);
     let mut from = 0;
-    while let Some(span) = next_record(bytes, from) {
-        spans.push(span)?;
-        from = span.end as usize + 1;
+    while let Some(end) = record_end(bytes, from) {
+        push_span(&mut spans, from, end)?;
+        from = end + 1;
     }
     Ok(spans)
 }
@@ -113,21 +125,15 @@ fn line_end(bytes: &[u8], from: usize) -> usize
     }
 }
 
-/// The record that begins at `from`, if a byte stands there.
-fn next_record(bytes: &[u8], from: usize) -> Option<Span>
-    requires { length bytes.now ≤ 2 ^ 30 }
-    ensures { MatchOption result (records_from from (drop from bytes.now) ≡ [])
-        (λ s. Within bytes.now s × (s.start ≡ from)
-        × (records_from from (drop from bytes.now) ≡ record_at bytes.now s ∷ records_from (s.end + 1) (drop (s.end + 1) bytes.now))) }
+/// Where the record that begins at `from` ends: at its line feed, or at the end of the file. The next one begins one
+/// place behind. None where no byte stands at `from`. It takes no memory, and files of any size.
+pub fn record_end(bytes: &[u8], from: usize) -> Option<usize>
+    ensures { MatchOption result (IsBehindAll bytes.now from) (λ end. IsRecordOf bytes.now from end) }
 {
     if from >= bytes.len() {
         return None;
     }
-    let end = line_end(bytes, from);
-    Some(Span {
-        start: from as u32,
-        end: end as u32,
-    })
+    Some(line_end(bytes, from))
 }
 
 #[cfg(test)]

@@ -109,7 +109,7 @@ splits-join size files some =
     joined-all (split_total size files) 0 (named_records size files)
     (subst (λ n. SplitsIn 0 n (named_records size files)) refl (splits-all size 0 0 files some))
 
-named-of : (size file first split next : ℕ) (rs : List Record) → map record_of (named_from size file first split next rs) ≡ rs
+pub named-of : (size file first split next : ℕ) (rs : List Record) → map record_of (named_from size file first split next rs) ≡ rs
 unfolding named_from
 named-of size file first split next [] = refl
 named-of size file first split next (r ∷ rs) =

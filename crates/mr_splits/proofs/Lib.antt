@@ -7,3 +7,4 @@ pub mod TableLemmas
 pub mod ReadLemmas
 pub mod NameLemmas
 pub mod BelongLemmas
+pub mod KeptLemmas

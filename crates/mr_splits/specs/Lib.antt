@@ -4,3 +4,4 @@ pub mod Cut
 pub mod Places
 pub mod Table
 pub mod Belongs
+pub mod Kept

@@ -1,5 +1,5 @@
 //! Records that are left out, as flags.
-ghost use Rattle.std.specs.Prelude.{◌≡◌, ℕ, ◌<◌, ◌||◌, Bool, false, length, IfOk, slice_index_or};
+ghost use Rattle.std.specs.Prelude.{◌≡◌, ℕ, ◌<◌, ◌||◌, Bool, false, length, [], IfOk, IsOk, slice_index_or};
 ghost use Rattle.mr_splits.specs.Named.{is_left_out};
 ghost use Rattle.mr_splits.specs.Cut.{records_of, nth_named, has_record_name, left_out_flags};
 
@@ -40,7 +40,8 @@ impl<'a> Plan<'a> {
     /// The records that a list of names leaves out. Names may stand in any order, more than once, and need not be those
     /// of records. An empty list takes no memory.
     pub fn left_out(&self, alloc: Global, skips: &[RecordName]) -> Result<LeftOut, AllocError>
-        ensures { IfOk result (λ l. l ≡ left_out_flags skips.now (records_of self.now)) }
+        ensures ok { IfOk result (λ l. l ≡ left_out_flags skips.now (records_of self.now)) }
+        ensures none { skips.now ≡ [] → IsOk result }
     {
         let count = self.count();
         if skips.is_empty() {

@@ -1,26 +1,29 @@
 //! The splits of an input and their records (OSDI 2004, section 3.1).
 #![tactic(auto)]
 
+mod kept;
 mod left_out;
 mod plan;
 mod scan;
 mod table;
 
+pub use kept::{Kept, KeptRecords, SkipFault};
 pub use left_out::LeftOut;
-pub use plan::{Located, MAX_SPLIT, MAX_SPLITS, Plan, PlanFault, SplitPlace};
+pub use plan::{Located, Plan, PlanFault, SplitPlace};
 
 #[cfg(test)]
 mod tests;
 
-ghost use Rattle.mr_splits.specs.Belongs.{RecordsBelong};
+ghost use Rattle.mr_splits.specs.Belongs.{RecordsAreByFile, RecordsBelong};
 ghost use Rattle.mr_splits.specs.Laws.{NamedAreRecords, NamesOfRecordsRise, NumbersCount, SplitsJoin};
 
-/// The records of the splits, joined, are the records of the files, each in the split that has its start; they are
-/// numbered from 0 in each split, and their names rise.
+/// The records of the splits, joined, are the records of the files, each told with its own file and in the split that
+/// has its start; they are numbered from 0 in each split, and their names rise.
 pub fn splits_law()
     ensures joined { SplitsJoin }
     ensures records { NamedAreRecords }
     ensures belong { RecordsBelong }
+    ensures files { RecordsAreByFile }
     ensures numbers { NumbersCount }
     ensures rise { NamesOfRecordsRise }
 {}

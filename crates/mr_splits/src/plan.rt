@@ -8,17 +8,12 @@ ghost use Rattle.mr_splits.specs.Laws.{joined_splits};
 ghost use Rattle.mr_splits.specs.Cut.{records_of, nth_named, record_named, is_record};
 ghost use Rattle.mr_splits.specs.Places.{IsSplit};
 
-use crate::table::{Table, count_splits, cut_files};
+use crate::table::{Table, cut_files};
 use mr_bytes::RecordName;
-use mr_input::Input;
+use mr_input::{Input, MAX_SPLIT_SIZE, MAX_SPLITS};
 use std::alloc::Global;
 use std::marker::Model;
 use thiserror::Error;
-
-/// The most bytes of a split: 64 MiB.
-pub const MAX_SPLIT: u32 = 0x400_0000;
-/// The most splits of an input.
-pub const MAX_SPLITS: u64 = 0x10_0000;
 
 /// Where a split lies: its file, its first place there in bytes, and the place after its last.
 #[derive(Clone, Copy, PartialEq, Eq, Debug)]
@@ -89,10 +84,10 @@ impl<'a> Plan<'a> {
         ensures too_many { (result ≡ Err PlanFault.TooManySplits)
             ↔ ((0 < size) × (size ≤ 67108864) × (1048576 < split_total size input.entry.now)) }
     {
-        if size == 0 || MAX_SPLIT < size {
+        if size == 0 || MAX_SPLIT_SIZE < size {
             return Err(PlanFault::BadSplitSize);
         }
-        if MAX_SPLITS < count_splits(input, size) {
+        if MAX_SPLITS < input.splits(size) {
             return Err(PlanFault::TooManySplits);
         }
         match cut_files(alloc, input, size) {

@@ -4,22 +4,9 @@ ghost use Rattle.mr_bytes.specs.declared.Span.{Span};
 ghost use Rattle.mr_records.specs.Records.{record_at, records_from, Within};
 ghost use Rattle.mr_splits.specs.Table.{Takes};
 
-use memchr::memchr;
 use mr_bytes::Span;
+use mr_records::record_end;
 use std::alloc::AllocError;
-
-/// The place of the first line feed from `from` on, or the end.
-fn line_end(bytes: &[u8], from: usize) -> usize
-    requires { from ≤ length bytes.now }
-    ensures within { (from ≤ result) × (result ≤ length bytes.now) }
-    ensures clear { (k : ℕ) → from ≤ k → k < result → slice_index bytes.now k ≢ 10 }
-    ensures stops { result < length bytes.now → slice_index bytes.now result ≡ 10 }
-{
-    match memchr(b'\n', &bytes[from..]) {
-        Some(skipped) => from + skipped,
-        None => bytes.len(),
-    }
-}
 
 /// The record that begins at `from`, if that is before `end`.
 fn next_record(bytes: &[u8], from: usize, end: usize) -> Option<Span>
@@ -32,7 +19,7 @@ fn next_record(bytes: &[u8], from: usize, end: usize) -> Option<Span>
     if from >= end {
         return None;
     }
-    let stop = line_end(bytes, from);
+    let stop = record_end(bytes, from)?;
     Some(Span {
         start: from as u32,
         end: stop as u32,

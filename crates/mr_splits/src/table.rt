@@ -26,18 +26,6 @@ pub(crate) struct Table {
     pub rows: Vec<Row>,
 }
 
-/// How many splits of `size` bytes all files have.
-pub(crate) fn count_splits(input: &Input, size: u32) -> u64
-    requires { 0 < size }
-    ensures { result ≡ split_total size input.now }
-{
-    let mut total = 0;
-    for i in 0..input.files() {
-        total += (input.len(i) as u64 + size as u64 - 1) / size as u64;
-    }
-    total
-}
-
 /// Appends the records and the splits of file `i`.
 fn cut_file(input: &Input, i: usize, size: u32, table: &mut Table) -> Result<(), AllocError>
     requires size { (0 < size) × (size ≤ 2 ^ 26) }

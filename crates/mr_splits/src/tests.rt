@@ -1,7 +1,7 @@
 //! Worked inputs, cut by hand.
-use crate::{MAX_SPLIT, Plan, PlanFault, splits_law};
+use crate::{Plan, PlanFault, splits_law};
 use mr_bytes::RecordName;
-use mr_input::Input;
+use mr_input::{Input, MAX_SPLIT_SIZE};
 use std::alloc::{AllocError, Global};
 use std::test::Fail;
 
@@ -61,7 +61,7 @@ fn sizes(rt: HostRuntime) -> Result<(), Fail> {
     let alloc = rt.alloc();
     let input = Input::of(one_file(alloc, b"")?)?;
     assert!(rt; Plan::of(alloc, &input, 0).err() == Some(PlanFault::BadSplitSize));
-    assert!(rt; Plan::of(alloc, &input, MAX_SPLIT + 1).err() == Some(PlanFault::BadSplitSize));
+    assert!(rt; Plan::of(alloc, &input, MAX_SPLIT_SIZE + 1).err() == Some(PlanFault::BadSplitSize));
     let plan = Plan::of(alloc, &input, 67_108_864)?;
     assert_eq!(rt; plan.splits(), 0);
     assert_eq!(rt; plan.count(), 0);

@@ -1,4 +1,4 @@
-use Rattle.mr_splits.proofs.BelongLemmas.{records-belong}
+use Rattle.mr_splits.proofs.BelongLemmas.{records-belong, records-by-file}
 use Rattle.mr_splits.proofs.JoinedLemmas.{splits-join, named-are-records}
 use Rattle.mr_splits.proofs.NumberLemmas.{numbers-count}
 use Rattle.mr_splits.proofs.RisingLemmas.{names-rise}
@@ -18,3 +18,6 @@ returns-clause-numbers c = numbers-count
 
 pub returns-clause-rise : goal.returns-clause-rise
 returns-clause-rise c = names-rise
+
+pub returns-clause-files : goal.returns-clause-files
+returns-clause-files c = records-by-file

@@ -1,7 +1,7 @@
 use Rattle.std.proofs.Common.{◌≡◌, ℕ, ◌+◌, ◌-◌, ◌/◌, ◌≤◌, arith, ap}
 use Rattle.mr_input.specs.Files.{split_count, nth_file}
-use Rattle.mr_jobs.proofs.SplitLemmas.{split_total-more, split_total-end, few_splits}
-use Rattle.mr_jobs.proofs.request.splits_of.Goals as goal
+use Rattle.mr_input.proofs.SplitLemmas.{split_total-more, split_total-end, few_splits}
+use Rattle.mr_input.proofs.splits_of.Goals as goal
 
 pub loop-i-preserved : goal.loop-i-preserved
 loop-i-preserved c =
@@ -14,7 +14,7 @@ loop-i-preserved c =
     let few : count ≤ c.len.result + size = few_splits size c.len.result in
     record {
       all = omega (arith, here, more, c.loop-i.invariant.all);
-      few = omega (arith, few, c.loop-i.invariant.few, c.len.ensures.small, c.requires.small);
+      few = omega (arith, few, c.loop-i.invariant.few, c.len.ensures.small, c.ranges.size.fits);
     }
 
 pub returns : goal.returns
