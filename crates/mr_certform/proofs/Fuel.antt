@@ -1,5 +1,5 @@
 -- The items that stand come one by one.
-use Rattle.std.proofs.Common.{◌≡◌, ℕ, zero, suc, ◌+◌, ◌-◌, ◌<◌, ◌≤◌, Option, Some, None, List, [], ◌∷◌, length, take, drop, refl, ap, sym, ◌∙◌, subst, inl, inr, ◌⊎◌, arith, Bool, true, false, cond, leb, ltb, eqb, ◌&&◌}
+use Rattle.std.proofs.Common.{◌≡◌, ℕ, zero, suc, ◌+◌, ◌-◌, ◌<◌, ◌≤◌, Option, Some, None, List, [], ◌∷◌, length, take, drop, refl, ap, sym, ◌∙◌, subst, inl, inr, ◌⊎◌, arith, Bool, true, false, cond, leb, ltb, eqb, ◌&&◌, length-append}
 use Rattle.std.proofs.lemmas.Bool.{ltb-false}
 use Rattle.std.proofs.lemmas.List.{length-drop, length-take}
 use Rattle.std.specs.Cmp.Lexicographic.{bytes_decides, pointwise}
@@ -12,7 +12,7 @@ use Rattle.mr_certform.specs.declared.item.Malformed.{Malformed}
 use Rattle.mr_certform.specs.declared.place.Place.{Place}
 use Rattle.mr_certform.specs.declared.place.Place.TheVariants.{AtMagic, AtJob, AtFlags, AtLiteralLength, AtLiteralByte, AtParts, AtSplitSize, AtFiles, AtFileLength, AtSkips, AtSkip, AtGroups, AtEntries, AtEntry, AtEnd, Behind}
 use Rattle.mr_certform.specs.Places.{behind, onward}
-use Rattle.mr_certform.specs.Spelling.{Front, magic, number, any, of_bytes, entry_at, skip_at, name_at, standing, walk, items_from, left_behind, unread_within, unread}
+use Rattle.mr_certform.specs.Spelling.{Front, magic, number, any, of_bytes, entry_at, skip_at, name_at, standing, walk, items_from, left_behind, bytes_at, bytes_from}
 
 -- ---- an option that was chosen by a test
 
@@ -136,48 +136,64 @@ items_end p bytes f is e =
       | inr last ↦ items_here p bytes f is ∙ (ap (λ (i : Item). i ∷ items_from (behind p f.item) f.rest) e ∙ ap (λ js. End ∷ js) (ap (λ z. items_from z f.rest) (behind_end p f.item e last.1) ∙ walk-behind (length f.rest + 1) f.rest))
     ]
 
--- ---- the bytes that are left unread
+-- ---- the bytes that items take
 
-abbrev pub unread_from : ℕ → Place → List ℕ → Option Front → ℕ
-unread_from k p bytes None = length bytes
-unread_from k p bytes (Some f) = unread_within k (behind p f.item) f.rest
+-- the item and what is behind it are as long as the bytes
+abbrev pub Sized : Place → List ℕ → Front → Type 0
+Sized p bytes f = length (bytes_at p f.item) + length f.rest ≡ length bytes
 
-pub unread-suc : (k : ℕ) (p : Place) (bytes : List ℕ) → unread_within (suc k) p bytes ≡ unread_from k p bytes (standing p bytes)
-unread-suc k p bytes = by (standing p bytes)
-  where
-    by : (o : Option Front) → (elim o [ None ↦ length bytes | Some f ↦ unread_within k (behind p f.item) f.rest ]) ≡ unread_from k p bytes o
-    by None = refl
-    by (Some f) = refl
+sized_bytes : (p : Place) (size : ℕ) (item : Item) (bytes : List ℕ) (f : Front) → length (bytes_at p item) ≡ size → of_bytes size item bytes ≡ Some f → Sized p bytes f
+sized_bytes p size item bytes f long e =
+    let c = not_chosen (ltb (length bytes) size) (Some (record { item = item; rest = drop size bytes })) f e in
+    let same : record { item = item; rest = drop size bytes } ≡ f = cc (c.1) in
+    let enough : size ≤ length bytes = ltb-false (length bytes) size (c.0) in
+    subst (Sized p bytes) same (omega (arith, long, length-drop size bytes))
 
-unread-behind : (k : ℕ) (bytes : List ℕ) → unread_within k Behind bytes ≡ length bytes
-unread-behind zero bytes = refl
-unread-behind (suc k) bytes = refl
+sized_number : (p : Place) (size : ℕ) (value : List ℕ → ℕ) (ok : ℕ → Bool) (item : ℕ → Item) (bytes : List ℕ) (f : Front) → ((n : ℕ) → length (bytes_at p (item n)) ≡ size) → number size value ok item bytes ≡ Some f → Sized p bytes f
+sized_number p size value ok item bytes f long e =
+    let n = value (take size bytes) in
+    let c = not_chosen (ltb (length bytes) size) (cond (ok n) (Some (record { item = item n; rest = drop size bytes })) None) f e in
+    let d = chosen (ok n) (record { item = item n; rest = drop size bytes }) f (c.1) in
+    let enough : size ≤ length bytes = ltb-false (length bytes) size (c.0) in
+    subst (Sized p bytes) (d.1) (omega (arith, long n, length-drop size bytes))
 
-enough_unread : (k j : ℕ) (p : Place) (bytes : List ℕ) → length bytes < k → length bytes < j → unread_within k p bytes ≡ unread_within j p bytes
-enough_unread zero j p bytes a b = absurd (omega arith)
-enough_unread (suc k) zero p bytes a b = absurd (omega arith)
-enough_unread (suc k) (suc j) p bytes a b = unread-suc k p bytes ∙ (by (standing p bytes) refl (λ q rest. enough_unread k j q rest) ∙ sym (unread-suc j p bytes))
-  where
-    by : (o : Option Front) → standing p bytes ≡ o → ((q : Place) (rest : List ℕ) → length rest < k → length rest < j → unread_within k q rest ≡ unread_within j q rest) → unread_from k p bytes o ≡ unread_from j p bytes o
-    by None is more = refl
-    by (Some f) is more =
-        elim (shorter p bytes f is) [
-          | inl less ↦ (let l = less.0 in more (behind p f.item) f.rest (omega arith) (omega arith))
-          | inr last ↦ (let e = behind_end p f.item last.0 last.1 in ap (λ q. unread_within k q f.rest) e ∙ (unread-behind k f.rest ∙ (sym (unread-behind j f.rest) ∙ ap (λ q. unread_within j q f.rest) (sym e))))
-        ]
+sized_magic : (bytes : List ℕ) (f : Front) → standing AtMagic bytes ≡ Some f → Sized AtMagic bytes f
+sized_magic bytes f e =
+    let c = chosen (pointwise eqb (take 8 bytes) magic) (record { item = Magic; rest = drop 8 bytes }) f e in
+    let eight : take 8 bytes ≡ magic = (bytes_decides (take 8 bytes) magic).0 (c.0) in
+    subst (Sized AtMagic bytes) (c.1) (omega (arith, length-drop 8 bytes, length-take 8 bytes, ap length eight))
 
-pub unread_none : (p : Place) (bytes : List ℕ) → standing p bytes ≡ None → unread p bytes ≡ length bytes
-unfolding unread
-unread_none p bytes is = enough_unread (length bytes + 1) (suc (length bytes)) p bytes (omega arith) (omega arith) ∙ (unread-suc (length bytes) p bytes ∙ ap (unread_from (length bytes) p bytes) is)
+pub sized_here : (p : Place) (bytes : List ℕ) (f : Front) → standing p bytes ≡ Some f → Sized p bytes f
+sized_here AtMagic bytes f e = sized_magic bytes f e
+sized_here AtJob bytes f e = sized_number AtJob 4 (from_be_bytes w32) any Job bytes f (λ n. refl) e
+sized_here AtFlags bytes f e = sized_number AtFlags 4 (from_be_bytes w32) any Flags bytes f (λ n. refl) e
+sized_here AtLiteralLength bytes f e = sized_number AtLiteralLength 4 (from_be_bytes w32) (λ n. leb n 4096) LiteralLength bytes f (λ n. refl) e
+sized_here (AtLiteralByte m) [] f e = absurd (cc e)
+sized_here (AtLiteralByte m) (b ∷ bytes) f e = let same : record { item = LiteralByte b; rest = bytes } ≡ f = cc e in subst (Sized (AtLiteralByte m) (b ∷ bytes)) same (omega arith)
+sized_here AtParts bytes f e = sized_number AtParts 4 (from_be_bytes w32) (λ n. leb 1 n && leb n 1024) Parts bytes f (λ n. refl) e
+sized_here (AtSplitSize r) bytes f e = sized_number (AtSplitSize r) 4 (from_be_bytes w32) any SplitSize bytes f (λ n. refl) e
+sized_here (AtFiles r) bytes f e = sized_number (AtFiles r) 4 (from_be_bytes w32) (λ n. leb n 1024) Files bytes f (λ n. refl) e
+sized_here (AtFileLength r n) bytes f e = sized_number (AtFileLength r n) 8 (from_be_bytes w64) any FileLength bytes f (λ n. refl) e
+sized_here (AtSkips r) bytes f e = sized_number (AtSkips r) 4 (from_be_bytes w32) any Skips bytes f (λ n. refl) e
+sized_here (AtSkip r n) bytes f e = sized_bytes (AtSkip r n) 8 (Skip (skip_at bytes)) bytes f refl e
+sized_here (AtGroups r) bytes f e = sized_number (AtGroups r) 4 (from_be_bytes w32) any Groups bytes f (λ n. refl) e
+sized_here (AtEntries r g) bytes f e = sized_number (AtEntries r g) 4 (from_be_bytes w32) (λ n. leb 1 n) Entries bytes f (λ n. refl) e
+sized_here (AtEntry r g n before) bytes f e = sized_bytes (AtEntry r g n before) 12 (Entry (name_at bytes)) bytes f refl e
+sized_here AtEnd [] f e = let same : record { item = End; rest = [] } ≡ f = cc e in subst (Sized AtEnd []) same refl
+sized_here AtEnd (b ∷ bytes) f e = absurd (cc e)
+sized_here Behind bytes f e = absurd (cc e)
 
-pub unread_here : (p : Place) (bytes : List ℕ) (f : Front) → standing p bytes ≡ Some f → unread p bytes ≡ unread (behind p f.item) f.rest
-unfolding unread
-unread_here p bytes f is =
-    enough_unread (length bytes + 1) (suc (length bytes)) p bytes (omega arith) (omega arith) ∙ (unread-suc (length bytes) p bytes ∙ (ap (unread_from (length bytes) p bytes) is ∙
-    (elim (shorter p bytes f is) [
-      | inl less ↦ (let l = less.0 in enough_unread (length bytes) (length f.rest + 1) (behind p f.item) f.rest (omega arith) (omega arith))
-      | inr last ↦ (let e = behind_end p f.item last.0 last.1 in ap (λ q. unread_within (length bytes) q f.rest) e ∙ (unread-behind (length bytes) f.rest ∙ (sym (unread-behind (length f.rest + 1) f.rest) ∙ ap (λ q. unread_within (length f.rest + 1) q f.rest) (sym e))))
-    ])))
+-- how many bytes the items from here on take
+abbrev pub taken : Place → List ℕ → ℕ
+taken p bytes = length (bytes_from p (items_from p bytes))
+
+taken_none : (p : Place) (bytes : List ℕ) → standing p bytes ≡ None → taken p bytes ≡ 0
+taken_none p bytes is = ap (λ w. length (bytes_from p w)) (items_none p bytes is)
+
+taken_here : (p : Place) (bytes : List ℕ) (f : Front) → standing p bytes ≡ Some f → taken p bytes + length f.rest ≡ length bytes + taken (behind p f.item) f.rest
+taken_here p bytes f is =
+    omega (arith, ap (λ w. length (bytes_from p w)) (items_here p bytes f is),
+      length-append (bytes_at p f.item) (bytes_from (behind p f.item) (items_from (behind p f.item) f.rest)), sized_here p bytes f is)
 
 -- ---- a walker's step
 
@@ -211,8 +227,9 @@ end_step p q bytes rest i is e last =
           )
     ]
 
-pub unread_step : (p q : Place) (bytes rest : List ℕ) (i : Item) → standing p bytes ≡ Some (record { item = i; rest = rest }) → q ≡ onward p i → unread q rest ≡ unread p bytes
-unread_step p q bytes rest i is e =
+-- the place where the items end is the same from behind an item
+taken_step : (p q : Place) (bytes rest : List ℕ) (i : Item) → standing p bytes ≡ Some (record { item = i; rest = rest }) → q ≡ onward p i → taken p bytes + length rest ≡ length bytes + taken q rest
+taken_step p q bytes rest i is e =
     let f : Front = record { item = i; rest = rest } in
     elim (end_or_not i) [
       | inl last ↦ (elim (shorter p bytes f is) [
@@ -221,26 +238,24 @@ unread_step p q bytes rest i is e =
             let at : standing AtEnd bytes ≡ Some f = subst (λ w. standing w bytes ≡ Some f) z.1 is in
             let same : rest ≡ bytes = at_end_rest bytes f at in
             let stays : q ≡ p = e ∙ ap (onward p) last in
-            ap (λ w. unread w rest) stays ∙ ap (unread p) same
+            omega (arith, ap length same, ap (λ w. taken w rest) stays, ap (taken p) same)
             )
       ])
-      | inr more ↦ ap (λ w. unread w rest) (e ∙ more.1 p) ∙ sym (unread_here p bytes f is)
+      | inr more ↦ omega (arith, taken_here p bytes f is, ap (λ w. taken w rest) (e ∙ more.1 p))
     ]
-
--- what the place of a fault is
-halt_at : (p : Place) (bytes : List ℕ) (whole at : ℕ) → standing p bytes ≡ None → at ≡ whole - length bytes → at ≡ whole - unread p bytes
-halt_at p bytes whole at is e = e ∙ ap (λ n. whole - n) (sym (unread_none p bytes is))
 
 abbrev pub Stepped : Place → List ℕ → ℕ → Place → List ℕ → Result Item Malformed → Type 0
 Stepped p bytes whole q rest r = MatchResult r (λ i. (standing p bytes ≡ Some (record { item = i; rest = rest })) × (q ≡ onward p i)) (λ e. (standing p bytes ≡ None) × (q ≡ p) × (rest ≡ bytes) × (e.at ≡ whole - length bytes))
 
-pub stepped_items : (p : Place) (bytes : List ℕ) (whole : ℕ) (q : Place) (rest : List ℕ) (r : Result Item Malformed) → Stepped p bytes whole q rest r → MatchResult r (λ i. items_from p bytes ≡ i ∷ left_behind i (items_from q rest)) (λ e. (items_from p bytes ≡ []) × (items_from q rest ≡ []) × (e.at ≡ whole - unread p bytes))
+pub stepped_items : (p : Place) (bytes : List ℕ) (whole : ℕ) (q : Place) (rest : List ℕ) (r : Result Item Malformed) → Stepped p bytes whole q rest r → MatchResult r (λ i. items_from p bytes ≡ i ∷ left_behind i (items_from q rest)) (λ e. (items_from p bytes ≡ []) × (items_from q rest ≡ []) × (e.at ≡ whole - length bytes + taken p bytes))
 stepped_items p bytes whole q rest (Ok i) h = item_step p q bytes rest i h.0 h.1
-stepped_items p bytes whole q rest (Err e) h = (items_none p bytes h.0, ap (λ w. items_from w rest) h.1 ∙ (ap (items_from p) h.2 ∙ items_none p bytes h.0), halt_at p bytes whole e.at h.0 h.3)
+stepped_items p bytes whole q rest (Err e) h =
+    (items_none p bytes h.0, ap (λ w. items_from w rest) h.1 ∙ (ap (items_from p) h.2 ∙ items_none p bytes h.0), omega (arith, h.3, taken_none p bytes h.0))
 
-pub stepped_unread : (p : Place) (bytes : List ℕ) (whole : ℕ) (q : Place) (rest : List ℕ) (r : Result Item Malformed) → Stepped p bytes whole q rest r → unread q rest ≡ unread p bytes
-stepped_unread p bytes whole q rest (Ok i) h = unread_step p q bytes rest i h.0 h.1
-stepped_unread p bytes whole q rest (Err e) h = ap (λ w. unread w rest) h.1 ∙ ap (unread p) h.2
+pub stepped_halt : (p : Place) (bytes : List ℕ) (whole : ℕ) (q : Place) (rest : List ℕ) (r : Result Item Malformed) → length bytes ≤ whole → length rest ≤ whole → Stepped p bytes whole q rest r
+    → whole - length rest + taken q rest ≡ whole - length bytes + taken p bytes
+stepped_halt p bytes whole q rest (Ok i) fits fit h = omega (arith, fits, fit, taken_step p q bytes rest i h.0 h.1)
+stepped_halt p bytes whole q rest (Err e) fits fit h = ap (λ w. whole - length rest + taken w rest) h.1 ∙ ap (λ b. whole - length b + taken p b) h.2
 
 pub stepped_end : (p : Place) (bytes : List ℕ) (whole : ℕ) (q : Place) (rest : List ℕ) (r : Result Item Malformed) → Stepped p bytes whole q rest r → r ≡ Ok End → items_from q rest ≡ items_from p bytes
 stepped_end p bytes whole q rest (Ok i) h e = end_step p q bytes rest i h.0 h.1 (cc e)

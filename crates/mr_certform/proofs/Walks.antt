@@ -7,9 +7,9 @@ use Rattle.mr_certform.specs.declared.item.Item.TheVariants.{End}
 use Rattle.mr_certform.specs.declared.place.Place.{Place}
 use Rattle.mr_certform.specs.declared.place.Place.TheVariants.{AtMagic, AtEnd, Behind}
 use Rattle.mr_certform.specs.Places.{behind}
-use Rattle.mr_certform.specs.Spelling.{Front, standing, walk, items_from, items_of, bytes_at, bytes_from, is_ended, unread, unread_within, stop}
+use Rattle.mr_certform.specs.Spelling.{Front, standing, walk, items_from, items_of, bytes_at, bytes_from, is_ended, stop}
 use Rattle.mr_certform.specs.Grammar.{MayStand, InOrder, Follow, AreBytes}
-use Rattle.mr_certform.proofs.Fuel.{walk_from, walk-suc, items_here, items_none, unread-suc, unread_from}
+use Rattle.mr_certform.proofs.Fuel.{walk_from, walk-suc, items_here, items_none}
 use Rattle.mr_certform.proofs.ItemLaws.{is_front, again, end_at}
 
 -- behind the end nothing follows
@@ -96,27 +96,26 @@ longest p (i ∷ is) more h e =
 
 -- ---- the bytes that are read, and those that are left
 
-abbrev Read : ℕ → Place → List ℕ → List Item → Type 0
-Read left p bytes is = (rest : List ℕ) × InOrder p is × (bytes ≡ bytes_from p is ++ rest) × (length rest ≡ left)
+abbrev Read : Place → List ℕ → List Item → Type 0
+Read p bytes is = (rest : List ℕ) × InOrder p is × (bytes ≡ bytes_from p is ++ rest)
 
-read_within : (k : ℕ) (p : Place) (bytes : List ℕ) → AreBytes bytes → Read (unread_within k p bytes) p bytes (walk k p bytes)
-read_within zero p bytes fits = (bytes, tt, refl, refl)
+read_within : (k : ℕ) (p : Place) (bytes : List ℕ) → AreBytes bytes → Read p bytes (walk k p bytes)
+read_within zero p bytes fits = (bytes, tt, refl)
 read_within (suc k) p bytes fits =
-    subst (λ n. Read n p bytes (walk (suc k) p bytes)) (sym (unread-suc k p bytes)) (subst (Read (unread_from k p bytes (standing p bytes)) p bytes) (sym (walk-suc k p bytes)) (by (standing p bytes) refl (λ q rest. read_within k q rest)))
+    subst (Read p bytes) (sym (walk-suc k p bytes)) (by (standing p bytes) refl (λ q rest. read_within k q rest))
   where
-    by : (o : Option Front) → standing p bytes ≡ o → ((q : Place) (rest : List ℕ) → AreBytes rest → Read (unread_within k q rest) q rest (walk k q rest)) → Read (unread_from k p bytes o) p bytes (walk_from k p o)
-    by None is more = (bytes, tt, refl, refl)
+    by : (o : Option Front) → standing p bytes ≡ o → ((q : Place) (rest : List ℕ) → AreBytes rest → Read q rest (walk k q rest)) → Read p bytes (walk_from k p o)
+    by None is more = (bytes, tt, refl)
     by (Some f) is more =
         let h = is_front bytes fits p f is in
         let ih = more (behind p f.item) f.rest h.rest in
-        (ih.0, (h.may, ih.1), h.spelled ∙ (ap (λ r. bytes_at p f.item ++ r) ih.2 ∙ sym (append_assoc (bytes_at p f.item) (bytes_from (behind p f.item) (walk k (behind p f.item) f.rest)) ih.0)), ih.3)
+        (ih.0, (h.may, ih.1), h.spelled ∙ (ap (λ r. bytes_at p f.item ++ r) ih.2 ∙ sym (append_assoc (bytes_at p f.item) (bytes_from (behind p f.item) (walk k (behind p f.item) f.rest)) ih.0)))
 
-pub read_front : (bytes : List ℕ) → AreBytes bytes → InOrder AtMagic (items_of bytes) × (length (bytes_from AtMagic (items_of bytes)) ≡ stop bytes) × (take (stop bytes) bytes ≡ bytes_from AtMagic (items_of bytes))
-unfolding items_of items_from stop unread
+pub read_front : (bytes : List ℕ) → AreBytes bytes → InOrder AtMagic (items_of bytes) × (take (stop bytes) bytes ≡ bytes_from AtMagic (items_of bytes))
+unfolding items_of items_from stop
 read_front bytes fits =
     let r = read_within (length bytes + 1) AtMagic bytes fits in
-    let size : length (bytes_from AtMagic (walk (length bytes + 1) AtMagic bytes)) ≡ length bytes - unread_within (length bytes + 1) AtMagic bytes = omega (arith, ap length r.2, length-append (bytes_from AtMagic (walk (length bytes + 1) AtMagic bytes)) r.0, r.3) in
-    (r.1, size, ap (λ n. take n bytes) (sym size) ∙ (ap (take (length (bytes_from AtMagic (walk (length bytes + 1) AtMagic bytes)))) r.2 ∙ take-append_seam (bytes_from AtMagic (walk (length bytes + 1) AtMagic bytes)) r.0))
+    (r.1, ap (take (length (bytes_from AtMagic (walk (length bytes + 1) AtMagic bytes)))) r.2 ∙ take-append_seam (bytes_from AtMagic (walk (length bytes + 1) AtMagic bytes)) r.0)
 
 pub longest_items : (bytes : List ℕ) (is : List Item) (more : List ℕ) → InOrder AtMagic is → (is_ended is ≡ true → more ≡ []) → bytes ≡ bytes_from AtMagic is ++ more → (js : List Item) × (items_of bytes ≡ is ++ js)
 unfolding items_of

@@ -1,4 +1,4 @@
--- The spelling of a certificate, said by its values and not by items.
+-- The bytes of a certificate, part by part: its job, its input, its left-out records, its groups.
 use Rattle.std.specs.Prelude.{List, [], ◌∷◌, ◌++◌, ℕ, length}
 use Rattle.std.specs.List.{flat_map}
 use Rattle.mr_bytes.specs.declared.Name.{Name}
@@ -6,7 +6,7 @@ use Rattle.mr_certform.specs.Places.{first_name}
 use Rattle.mr_certform.specs.Spelling.{u32, u64, magic, name_bytes, skip_bytes}
 use Rattle.mr_certform.specs.Value.{Contents}
 
--- the names of a group, each behind the one before
+-- the names of a group, one behind another
 abbrev pub names_bytes : Name → List Name → List ℕ
 names_bytes before [] = []
 names_bytes before (n ∷ ns) = name_bytes before n ++ names_bytes n ns

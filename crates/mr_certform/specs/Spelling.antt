@@ -60,11 +60,11 @@ pub record Front : Type 0 where
   pub item : Item
   pub rest : List ℕ
 
--- the number that the first bytes spell, where it passes the test
+-- the item of the number that the first `size` bytes spell; none where they are fewer, or the number isn't allowed
 abbrev pub number : ℕ → (List ℕ → ℕ) → (ℕ → Bool) → (ℕ → Item) → List ℕ → Option Front
-number size value ok item bytes =
+number size value allowed item bytes =
     if nat_lt (length bytes) size then None
-    else (let n = value (take size bytes) in if ok n then Some (record { item = item n; rest = drop size bytes }) else None)
+    else (let n = value (take size bytes) in if allowed n then Some (record { item = item n; rest = drop size bytes }) else None)
 
 abbrev pub any : ℕ → Bool
 any n = true
@@ -125,24 +125,16 @@ items_from p bytes = walk (length bytes + 1) p bytes
 unfoldable pub items_of : List ℕ → List Item
 items_of bytes = items_from AtMagic bytes
 
--- how many bytes are left where no item stands any more
-abbrev pub unread_within : ℕ → Place → List ℕ → ℕ
-unread_within zero p bytes = length bytes
-unread_within (suc k) p bytes = elim (standing p bytes) [ None ↦ length bytes | Some f ↦ unread_within k (behind p f.item) f.rest ]
-
-unfoldable pub unread : Place → List ℕ → ℕ
-unread p bytes = unread_within (length bytes + 1) p bytes
-
--- the place in bytes after the last item that stands
-unfoldable pub stop : List ℕ → ℕ
-stop bytes = length bytes - unread AtMagic bytes
-
 -- ---- a list of items as such
 
 -- the bytes of items in a row, the first of them at this place
 abbrev pub bytes_from : Place → List Item → List ℕ
 bytes_from p [] = []
 bytes_from p (i ∷ is) = bytes_at p i ++ bytes_from (behind p i) is
+
+-- the place in bytes behind the last item that stands: the length of all items that do
+unfoldable pub stop : List ℕ → ℕ
+stop bytes = length (bytes_from AtMagic (items_of bytes))
 
 -- the last is the end
 abbrev pub is_ended : List Item → Bool

@@ -1,3 +1,4 @@
+//! A certificate made group by group, or of flat lists. Each name is copied once; memory is taken for the lists alone.
 ghost use Rattle.std.specs.Prelude.{◌≡◌, ◌≤◌, ◌<◌, ◌^◌, ◌+◌, ◌-◌, ◌++◌, ◌∷◌, [], OnOk, OnErr, length};
 ghost use Rattle.mr_certform.specs.Building.{with_partition};
 ghost use Rattle.mr_certform.specs.Flat.{chunks, AreCounted};

@@ -1,3 +1,4 @@
+//! A certificate as flat lists: names, entries of each group, groups of each partition. Its looks take no memory.
 ghost use Rattle.std.specs.Prelude.{◌≡◌, ◌≤◌, ◌<◌, ◌^◌, ◌+◌, ◌++◌, ◌∷◌, [], OnOk, OnErr, IfOk, length};
 ghost use Rattle.mr_certform.specs.Flat.{told, nothing_told};
 ghost use Rattle.mr_certform.specs.Value.{names_of};

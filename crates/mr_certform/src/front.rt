@@ -1,3 +1,4 @@
+//! The item that stands at the front of bytes, at a place of the grammar. One look at a few bytes; no memory.
 ghost use Rattle.std.specs.Prelude.{◌≡◌, ◌≤◌, ◌-◌, ◌<◌, Some, None, MatchOption, IfSome, length, take, drop};
 ghost use Rattle.std.specs.Int.{w32, w64, from_be_bytes};
 ghost use Rattle.mr_certform.specs.Spelling.{standing, entry_at, of_bytes, skip_at};

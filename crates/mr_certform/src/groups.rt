@@ -1,3 +1,4 @@
+//! The groups of a certificate, read partition by partition and group by group, as slices of its names.
 ghost use Rattle.std.specs.Prelude.{◌≡◌, ◌≤◌, ◌∷◌, [], MatchOption, length};
 ghost use Rattle.mr_certform.specs.Flat.{total};
 

@@ -1,3 +1,4 @@
+//! The items of a certificate, one for each line of its table.
 use mr_bytes::{Name, RecordName};
 use thiserror::Error;
 

@@ -1,3 +1,4 @@
+//! What the definitions of certificates mean: functions without a body, whose clauses are the laws.
 ghost use Rattle.std.specs.Prelude.{◌≡◌, ℕ, List, [], ◌++◌, Some, true, length, take, map};
 ghost use Rattle.std.specs.List.{flat_map};
 ghost use Rattle.mr_bytes.specs.declared.Name.{Name};
@@ -6,6 +7,7 @@ ghost use Rattle.mr_certform.specs.declared.place.Place.{Place};
 ghost use Rattle.mr_certform.specs.Spelling.{Front, standing, bytes_at, bytes_from, items_of, is_ended, stop};
 ghost use Rattle.mr_certform.specs.Flat.{total, chunks};
 ghost use Rattle.mr_certform.specs.Value.{Contents, certificate_items, Spells};
+ghost use Rattle.mr_certform.specs.Pieces.{all_bytes};
 ghost use Rattle.mr_certform.specs.Grammar.{MayStand, InOrder, AreBytes};
 ghost use Rattle.mr_certform.specs.declared.place.Place.TheVariants.{AtMagic};
 
@@ -18,17 +20,19 @@ pub fn item_law()
 {}
 
 /// The items of bytes that spell a certificate are the certificate's; where the items of bytes end, the bytes spell a
-/// certificate; and no two certificates have one spelling.
+/// certificate; no two certificates have one spelling; and the bytes are those of the certificate's parts, one behind
+/// another: its job, its input, its left-out records, and its groups.
 pub fn certificate_law()
     ensures read { (bytes : List ℕ) (c : Contents) → Spells bytes c → items_of bytes ≡ certificate_items c }
     ensures ended { (bytes : List ℕ) → AreBytes bytes → is_ended (items_of bytes) ≡ true → (c : Contents) × (items_of bytes ≡ certificate_items c) × Spells bytes c }
     ensures one { (bytes : List ℕ) (c d : Contents) → Spells bytes c → Spells bytes d → c ≡ d }
+    ensures parts { (bytes : List ℕ) (c : Contents) → Spells bytes c → bytes ≡ all_bytes c }
 {}
 
-/// The items of bytes are the longest list of items that stand in their order, one behind another, from the front; and
-/// where they stop is the number of their bytes.
+/// The items of bytes are the longest list of items that stand in their order, one behind another, from the front; up to
+/// where they stop the bytes are theirs.
 pub fn items_law()
-    ensures stand { (bytes : List ℕ) → AreBytes bytes → InOrder AtMagic (items_of bytes) × (length (bytes_from AtMagic (items_of bytes)) ≡ stop bytes) × (take (stop bytes) bytes ≡ bytes_from AtMagic (items_of bytes)) }
+    ensures stand { (bytes : List ℕ) → AreBytes bytes → InOrder AtMagic (items_of bytes) × (take (stop bytes) bytes ≡ bytes_from AtMagic (items_of bytes)) }
     ensures longest { (bytes : List ℕ) (is : List Item) (more : List ℕ) → InOrder AtMagic is → (is_ended is ≡ true → more ≡ []) → bytes ≡ bytes_from AtMagic is ++ more → (js : List Item) × (items_of bytes ≡ is ++ js) }
 {}
 

@@ -10,8 +10,6 @@ mod laws;
 mod number;
 mod place;
 mod reading;
-#[cfg(test)]
-mod tests;
 mod walker;
 mod writing;
 

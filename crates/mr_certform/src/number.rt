@@ -1,3 +1,4 @@
+//! Numbers of four and of eight bytes, the highest first.
 ghost use Rattle.std.specs.Prelude.{◌≡◌, ◌≤◌, length, take};
 ghost use Rattle.std.specs.Int.{w32, w64, from_be_bytes};
 

@@ -1,3 +1,4 @@
+//! The places of the grammar: what may stand where, and which place comes behind an item. A place is a few numbers.
 ghost use Rattle.std.specs.Prelude.{◌≡◌};
 ghost use Rattle.mr_certform.specs.Places.{behind as place_behind, literal_bytes, file_lengths, partitions, skips, groups as groups_from, entries};
 

@@ -1,3 +1,4 @@
+//! A walk over the items of bytes, front to back. It takes no memory, and each item costs a look at its own bytes.
 ghost use Rattle.std.specs.Prelude.{◌≡◌, ◌≤◌, ◌-◌, ◌+◌, ◌∷◌, [], Some, None, MatchResult, length};
 ghost use Rattle.mr_certform.specs.Places.{onward};
 ghost use Rattle.mr_certform.specs.Spelling.{standing, items_of, stop, left_behind};

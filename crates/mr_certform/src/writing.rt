@@ -1,3 +1,4 @@
+//! A certificate spelled in one buffer, which is made at its whole size at once; each number is written once.
 ghost use Rattle.std.specs.Prelude.{◌≡◌, ◌≤◌, ◌<◌, ◌^◌, ◌++◌, OnOk, IfOk, length, drop};
 ghost use Rattle.std.specs.List.{flat_map, AllByRecursion};
 ghost use Rattle.mr_certform.specs.Places.{first_name};

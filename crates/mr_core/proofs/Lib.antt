@@ -15,6 +15,7 @@ pub mod Moves
 pub mod Inserts
 pub mod Gives
 pub mod Few
+pub mod FixedSets
 pub mod Promised
 pub mod Indexed
 pub mod Missing

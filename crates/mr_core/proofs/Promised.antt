@@ -14,6 +14,7 @@ use Rattle.mr_core.specs.Core.{CoreView, InLimits, IsStep, GoesOn}
 use Rattle.mr_core.proofs.Steps.{run_goes, run_accepts, kept_at_opening, fixed_to, issued-is, left_out-is}
 use Rattle.mr_core.proofs.Progress.{run_going, going_at_opening, may_be_given}
 use Rattle.mr_core.proofs.FetchLaws.{committed_fetched}
+use Rattle.mr_core.proofs.FixedSets.{fixed_stays}
 use Rattle.mr_core.proofs.RunLaws.{run_push}
 
 at_place : (P : Attempt → Type 0) (xs : List Attempt) (i : ℕ) (x : Attempt) → AllByRecursion P xs → slice_get xs i ≡ Some x → P x
@@ -51,6 +52,7 @@ promised sh limits h st run = record {
   one_set = one_set sh h st run;
   fetched = committed_fetched sh h st run;
   stays = λ before later mid is first rest. stays_committed sh before mid first limits.parts.0 limits.attempts.0 later st rest;
+  fixed = λ before later mid is first rest. fixed_stays sh mid st later rest;
   skips = skips_few sh h st run;
   attempts = attempts_few sh h st run;
   live = live_active sh h st run limits.parts.0 limits.attempts.0;

@@ -2,6 +2,7 @@
 use Rattle.std.specs.Prelude.{◌≡◌, ◌≤◌, ◌^◌, List, [], ◌∷◌, ◌++◌}
 use Rattle.mr_core.specs.declared.event.Shape.{Shape}
 use Rattle.mr_core.specs.declared.event.Event.{Event}
+use Rattle.mr_core.specs.declared.event.Event.TheVariants.{Ask, MapFailed}
 use Rattle.mr_core.specs.declared.event.Reply.{Reply}
 use Rattle.mr_core.specs.Master.{State, Step, Run, opening}
 use Rattle.mr_core.specs.Promises.{Promises}
@@ -26,6 +27,12 @@ IsReached sh st = (h : List (Event × Reply)) × Run sh (opening sh) h st
 -- the event with this reply is a step of the master, from the state before to the state after
 abbrev pub IsStep : CoreView → Event → Reply → CoreView → Type 0
 IsStep old event reply new = (new.shape ≡ old.shape) × Step old.shape old.state event reply new.state
+
+-- the events that take memory: a worker asks, or an attempt tells a failure
+abbrev pub TakesMemory : Event → Type 0
+TakesMemory (Ask w) = Unit {0}
+TakesMemory (MapFailed a r) = Unit {0}
+TakesMemory event = ⊥
 
 -- this history is a run that leads to the state, and what is promised of runs holds of it
 abbrev pub IsRun : CoreView → List (Event × Reply) → Type 0

@@ -1,7 +1,8 @@
 -- What holds of every run of the master.
-use Rattle.std.specs.Prelude.{◌≡◌, ℕ, ◌<◌, Some, List, ◌∷◌, ◌++◌, slice_get}
+use Rattle.std.specs.Prelude.{◌≡◌, ℕ, ◌<◌, true, Some, List, ◌∷◌, ◌++◌, slice_get}
 use Rattle.mr_bytes.specs.Lists.{Has}
 use Rattle.mr_core.specs.declared.event.Task.{Task}
+use Rattle.mr_core.specs.declared.entries.Split.{Split}
 use Rattle.mr_core.specs.declared.event.Event.{Event}
 use Rattle.mr_core.specs.declared.event.Reply.{Reply}
 use Rattle.mr_core.specs.Master.{State, Attempt}
@@ -38,3 +39,7 @@ HasFetched h st splits a = (s : ℕ) → s < splits → (x : ℕ) × IsFetched h
 -- in this history the output was accepted for the partition
 abbrev pub IsPartOf : List (Event × Reply) → State → ℕ → ℕ → Type 0
 IsPartOf h st p o = (a : ℕ) × Has h (ReduceDone a o, Reply.Accepted) × IsReduceOf st a p
+
+-- the split's left-out records are fixed, as these
+abbrev pub IsFixedTo : State → ℕ → List ℕ → Type 0
+IsFixedTo st s k = (sp : Split) × (slice_get st.splits s ≡ Some sp) × (sp.fixed ≡ true) × (sp.skips ≡ k)

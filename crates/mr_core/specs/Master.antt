@@ -251,6 +251,7 @@ abbrev pub on_live : State → Option Attempt → (Attempt → Outcome) → Outc
 on_live st None f = replies Ignored st
 on_live st (Some at) f = f at
 
+-- an ask has no outcome of this kind: `next_going` doesn't come here with it, and the line stands only to cover every event
 abbrev pub outcome : Shape → State → Event → Outcome
 outcome sh st (Ask w) = replies Ignored st
 outcome sh st (Fetch a m) = on_live st (live_attempt st a) (λ at. fetch_by st a m at.task (slice_get st.splits m))
@@ -280,12 +281,16 @@ reply_eq Accepted Accepted = true
 reply_eq Ignored Ignored = true
 reply_eq _ _ = false
 
--- what an active worker may be answered: any task that may be given, or Wait where there is none
+-- what an active worker may be answered
 abbrev pub given : Shape → State → ℕ → Reply → Option State
+-- a map task that may be given, as the next attempt, with the split's left-out records as they are now
 given sh st w (Map a s skips) =
     if (a == length st.attempts) && (may_give sh st w (MapTask s) && option_map_or (λ sp. same_list sp.skips skips) (slice_get st.splits s) false) then Some (issue w (MapTask s) skips sh st) else None
+-- a reduce task that may be given, as the next attempt
 given sh st w (Reduce a p) = if (a == length st.attempts) && may_give sh st w (ReduceTask p) then Some (issue w (ReduceTask p) [] sh st) else None
+-- where no task may be given, that there is none now
 given sh st w Wait = if list_any (may_give sh st w) (tasks sh) then None else Some st
+-- and nothing else
 given sh st w _ = None
 
 abbrev pub then_settled : Shape → Option State → Option State

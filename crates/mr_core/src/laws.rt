@@ -1,17 +1,15 @@
 //! What holds of every run of the master, and runs worked out by hand.
 
-ghost use Rattle.std.specs.Prelude.{◌≡◌, ℕ, ◌≤◌, Bool, true, false, Option, Some, None, List, [], ◌∷◌, ◌++◌, is_some, is_none};
-ghost use Rattle.std.specs.Prelude.{◌+◌, ◌↔◌, slice_get};
-ghost use Rattle.std.specs.List.{list_any};
+ghost use Rattle.std.specs.Prelude.{◌≡◌, ℕ, true, Some, None, List, [], ◌∷◌, ◌++◌, ◌↔◌, is_some, slice_get};
 ghost use Rattle.mr_core.specs.declared.event.Shape.{Shape};
 ghost use Rattle.mr_core.specs.declared.event.Event.{Event};
 ghost use Rattle.mr_core.specs.declared.event.Reply.{Reply};
-ghost use Rattle.mr_core.specs.declared.event.Task.{Task};
 ghost use Rattle.mr_core.specs.declared.entries.Split.{Split};
-ghost use Rattle.mr_core.specs.Master.{Attempt, State, Step, Run, opening, issued, is_active, left_out, may_give, replay, tasks};
+ghost use Rattle.mr_core.specs.Master.{State, Step, Run, opening, replay};
+ghost use Rattle.mr_core.specs.Promises.{OneSet, CommittedHaveFetched, CommitsStay, FixedSetsStay, FewAreLeftOut, FewAttempts, LiveAreActive, SomeTaskMayBeGiven, OfEveryRun, OfEveryJob, OfEveryLaterState};
 ghost use Rattle.mr_bytes.specs.Lists.{Has, Rises};
 ghost use Rattle.std.specs.Ordering.{nat_cmp};
-ghost use Rattle.mr_core.specs.Laws.{HasFetched, GoesOnWith, IsMapOf, IsAccepted, IsOutputOf, IsPartOf};
+ghost use Rattle.mr_core.specs.Laws.{IsMapOf, IsOutputOf, IsPartOf};
 ghost use Rattle.mr_core.specs.Worked.{shape, repeated, lost_output, left_out_late, too_many_attempts, no_maps, no_workers};
 
 /// The worked runs are runs.
@@ -29,17 +27,18 @@ pub fn worked_runs()
 /// All outputs ever accepted for a split were made under one left-out set, all sets together have no more
 /// records than they may, and no task has more attempts than it may.
 pub fn every_run()
-    ensures one_set { (sh : Shape) (h : List (Event × Reply)) (st : State) → Run sh (opening sh) h st → (a b s : ℕ) (k l : List ℕ) → IsAccepted h a → IsAccepted h b → IsMapOf st a s k → IsMapOf st b s l → k ≡ l }
-    ensures skips { (sh : Shape) (h : List (Event × Reply)) (st : State) → Run sh (opening sh) h st → left_out st ≤ sh.limits.skips }
-    ensures attempts { (sh : Shape) (h : List (Event × Reply)) (st : State) → Run sh (opening sh) h st → (t : Task) → issued st t ≤ sh.limits.attempts }
+    ensures one_set { OfEveryRun (λ sh h st. OneSet h st) }
+    ensures skips { OfEveryRun (λ sh h st. FewAreLeftOut sh st) }
+    ensures attempts { OfEveryRun (λ sh h st. FewAttempts sh st) }
 {}
 
-/// A committed output stays. While a job goes on, live attempts are of workers that aren't lost, and where
-/// none is live a task may be given to each of these.
+/// A committed output stays, and so does a left-out set that is fixed. While a job goes on, live attempts are of workers
+/// that aren't lost, and where none is live a task may be given to each of these.
 pub fn goes_on()
-    ensures stays { (sh : Shape) (h later : List (Event × Reply)) (st new : State) → 1 ≤ sh.parts → 1 ≤ sh.limits.attempts → Run sh (opening sh) h st → Run sh st later new → (p o : ℕ) → slice_get st.committed p ≡ Some (Some o) → slice_get new.committed p ≡ Some (Some o) }
-    ensures live { (sh : Shape) (h : List (Event × Reply)) (st : State) → 1 ≤ sh.parts → 1 ≤ sh.limits.attempts → Run sh (opening sh) h st → (a : ℕ) (at : Attempt) → slice_get st.attempts a ≡ Some at → at.live ≡ true → slice_get st.lost at.worker ≡ Some false }
-    ensures given { (sh : Shape) (h : List (Event × Reply)) (st : State) → 1 ≤ sh.parts → 1 ≤ sh.limits.attempts → Run sh (opening sh) h st → st.end ≡ None → list_any (λ at. at.live) st.attempts ≡ false → (w : ℕ) → is_active st w ≡ true → list_any (may_give sh st w) (tasks sh) ≡ true }
+    ensures stays { OfEveryJob (OfEveryLaterState CommitsStay) }
+    ensures fixed { OfEveryRun (OfEveryLaterState FixedSetsStay) }
+    ensures live { OfEveryJob (λ sh h st. LiveAreActive st) }
+    ensures given { OfEveryJob (λ sh h st. SomeTaskMayBeGiven sh st) }
 {}
 
 /// The state after is one, a run goes on by a step, and runs are what the replay gives.
@@ -52,7 +51,7 @@ pub fn runs()
 /// Before its completion was accepted, each committed reduce attempt fetched from each split an output that had been
 /// accepted for it before the fetch.
 pub fn fetched()
-    ensures { (sh : Shape) (h : List (Event × Reply)) (st : State) → Run sh (opening sh) h st → (before : List (Event × Reply)) (a o : ℕ) → GoesOnWith before (Event.ReduceDone a o, Reply.Accepted) h → HasFetched before st sh.maps a }
+    ensures { OfEveryRun CommittedHaveFetched }
 {}
 
 /// The records left out of a split rise, and each of them was reported by an accepted failure in it.

@@ -1,7 +1,7 @@
 //! The master: one call for each event.
 ghost use Rattle.std.specs.Prelude.{◌≡◌, OnOk, OnErr, IfOk, []};
 ghost use Rattle.mr_core.specs.declared.event.Event.{Event};
-ghost use Rattle.mr_core.specs.Core.{IsStep, InLimits, IsRun, GoesOn};
+ghost use Rattle.mr_core.specs.Core.{IsStep, InLimits, IsRun, GoesOn, TakesMemory};
 ghost use Rattle.mr_core.specs.Master.{opening};
 ghost use Rattle.mr_core.specs.Index.{IsPlain};
 
@@ -146,6 +146,7 @@ impl Core {
     pub fn apply(&mut self, alloc: Global, event: Event) -> Result<Reply, AllocError>
         ensures ok { IfOk result (λ r. IsStep self.old event r self.new) }
         ensures run { IfOk result (λ r. GoesOn self.old event r self.new) }
+        ensures memory { OnErr result (TakesMemory event) }
         ensures err { OnErr result (self.new ≡ self.old) }
     {
         // shows the invariant: the shape is within the limits
@@ -158,6 +159,7 @@ impl Core {
     fn step(&mut self, alloc: Global, event: Event) -> Result<(Reply, Reply), AllocError>
         ensures ok { IfOk result (λ r. IsStep self.old event r.0 self.new) }
         ensures twice { IfOk result (λ r. r.0 ≡ r.1) }
+        ensures memory { OnErr result (TakesMemory event) }
         ensures err { OnErr result (self.new ≡ self.old) }
     {
         match event {
@@ -175,6 +177,7 @@ impl Core {
         ensures ok { IfOk result (λ r. IsStep self.old event r.0 self.new) }
         ensures run { IfOk result (λ r. GoesOn self.old event r.0 self.new) }
         ensures twice { IfOk result (λ r. r.0 ≡ r.1) }
+        ensures memory { OnErr result (TakesMemory event) }
         ensures err { OnErr result (self.new ≡ self.old) }
     {
         // shows the invariant: the shape is within the limits

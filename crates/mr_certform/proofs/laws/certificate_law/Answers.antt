@@ -1,3 +1,5 @@
+use Rattle.std.proofs.Common.{◌∙◌, sym}
+use Rattle.mr_certform.proofs.Spelled.{all_spelled}
 use Rattle.mr_certform.proofs.Certificates.{spelled_items, ended_items, one_certificate}
 use Rattle.mr_certform.proofs.laws.certificate_law.Goals as goal
 
@@ -9,3 +11,6 @@ returns-clause-ended c = ended_items
 
 pub returns-clause-one : goal.returns-clause-one
 returns-clause-one c = one_certificate
+
+pub returns-clause-parts : goal.returns-clause-parts
+returns-clause-parts c bytes d spells = spells.spelled ∙ sym (all_spelled d spells.fits.one_each)

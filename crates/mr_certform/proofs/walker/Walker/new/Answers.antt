@@ -1,4 +1,4 @@
-use Rattle.std.proofs.Common.{refl}
+use Rattle.std.proofs.Common.{refl, arith}
 use Rattle.mr_certform.specs.Spelling.{items_of, stop}
 use Rattle.mr_certform.specs.Walking.{items_left, halt}
 use Rattle.mr_certform.proofs.walker.Walker.new.Goals as goal
@@ -8,5 +8,5 @@ unfolding items_left items_of
 returns-clause-items c = refl
 
 pub returns-clause-stop : goal.returns-clause-stop
-unfolding halt stop
-returns-clause-stop c = refl
+unfolding halt stop items_left items_of
+returns-clause-stop c = omega arith
