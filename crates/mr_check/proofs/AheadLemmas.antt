@@ -8,8 +8,8 @@ use Rattle.mr_certform.specs.Spelling.{left_behind}
 use Rattle.mr_check.specs.declared.ahead.Row.{Row}
 use Rattle.mr_check.specs.declared.ahead.Sought.{Sought}
 use Rattle.mr_check.specs.declared.fault.No.{No}
-use Rattle.mr_check.specs.Verdict.{State, Subject, start, tests, after, part_faults}
-use Rattle.mr_check.specs.Judging.{first, Told, HasRoom, Room, entries_in}
+use Rattle.mr_check.specs.Verdict.{State, Subject, start, tests, after, part_faults, first, entries_in}
+use Rattle.mr_check.specs.Judging.{Told, HasRoom, Room}
 use Rattle.mr_check.specs.Ahead.{onto, items_in, items_sought, GoesOn, Judged}
 use Rattle.mr_check.proofs.Faults.{told_is}
 use Rattle.mr_check.proofs.PartLemmas.{end_or_not, loop_more, loop_end, loop_fault, entries_more, entries_end, named_after, room_after}

@@ -7,8 +7,8 @@ use Rattle.std.proofs.lemmas.Bool.{false≢true}
 use Rattle.mr_check.specs.declared.fault.No.{No}
 use Rattle.mr_bytes.specs.declared.Name.{Name}
 use Rattle.mr_sequential.specs.Emitted.{Triple}
-use Rattle.mr_check.specs.Verdict.{State, Subject, passes, first_tests, later_tests, order_tests, with_entry, group_tests, behind_group}
-use Rattle.mr_check.specs.Judging.{first, Told}
+use Rattle.mr_check.specs.Verdict.{State, Subject, passes, first_tests, later_tests, order_tests, with_entry, group_tests, behind_group, first}
+use Rattle.mr_check.specs.Judging.{Told}
 
 pub prefix_nil : (xs : List ℕ) → common_prefix_len nat_eq xs [] ≡ 0
 prefix_nil [] = refl

@@ -1,4 +1,6 @@
 pub mod AheadLemmas
+pub mod FaultPart
+pub mod FaultTruth
 pub mod Faults
 pub mod GrammarLemmas
 pub mod HeadlineLemmas
@@ -8,13 +10,11 @@ pub mod PartLemmas
 pub mod SkipLemmas
 pub mod ValueLemmas
 pub mod VerdictCompared
-pub mod VerdictEntries
 pub mod VerdictGroups
 pub mod VerdictHeader
 pub mod VerdictLater
 pub mod VerdictLemmas
 pub mod VerdictLocal
-pub mod VerdictNamed
 pub mod VerdictOutputs
 pub mod VerdictParts
 pub mod VerdictPlace

@@ -8,8 +8,8 @@ use Rattle.mr_sequential.specs.Emitted.{Triple}
 use Rattle.mr_sequential.specs.Good.{named}
 use Rattle.mr_check.specs.declared.fault.No.{No}
 use Rattle.mr_check.specs.declared.fault.No.TheVariants.{Malformed}
-use Rattle.mr_check.specs.Verdict.{State, Subject, with_entry, behind_group, entry_tests, after_entry, tests, after, part_faults}
-use Rattle.mr_check.specs.Judging.{first, Told, HasRoom, Room, entries_in}
+use Rattle.mr_check.specs.Verdict.{State, Subject, with_entry, behind_group, entry_tests, after_entry, tests, after, part_faults, first, entries_in}
+use Rattle.mr_check.specs.Judging.{Told, HasRoom, Room}
 use Rattle.mr_check.proofs.Faults.{first_more, told_left, told_is}
 
 -- the faults from an item on that isn't the end

@@ -6,8 +6,7 @@ use Rattle.std.proofs.Math.Seq.{take-append_seam}
 use Rattle.std.specs.List.{common_prefix_len}
 use Rattle.mr_check.specs.declared.fault.No.{No}
 use Rattle.mr_check.specs.declared.fault.No.TheVariants as Fault
-use Rattle.mr_check.specs.Verdict.{passes, text_tests, end_tests}
-use Rattle.mr_check.specs.VerdictLaws.{first}
+use Rattle.mr_check.specs.Verdict.{passes, text_tests, end_tests, first}
 use Rattle.mr_check.proofs.VerdictTests.{passed, text_stands, text_passes}
 
 -- this is the first of the faults

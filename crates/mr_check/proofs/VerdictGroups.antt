@@ -21,8 +21,9 @@ use Rattle.mr_check.specs.declared.fault.No.{No}
 use Rattle.mr_check.specs.declared.fault.No.TheVariants.{EntryOrder, KeyDiffers, WrongPartition, KeyOrder}
 use Rattle.mr_check.specs.Verdict.{State, Subject, tests, after, passes, text_tests, end_tests, is_key_past, first_tests, later_tests, order_tests, with_entry, entry_tests, group_tests, behind_group, after_entry}
 use Rattle.mr_check.specs.VerdictLaws.{told, behind}
-use Rattle.mr_check.proofs.VerdictNamed.{named-Has, some_is}
-use Rattle.mr_check.proofs.VerdictTests.{none_left, none_right, none_both, passed, passes-true, lt-less, names_total}
+use Rattle.mr_sequential.proofs.EntryLaws.{names_total}
+use Rattle.mr_sequential.proofs.NamedLaws.{named-Has, some_is}
+use Rattle.mr_check.proofs.VerdictTests.{none_left, none_right, none_both, passed, passes-true, lt-less}
 
 module _ (s : Subject) where
   -- the entries behind an entry: each names a triple, names rise from the one before, and all have this key
@@ -77,7 +78,7 @@ module _ (s : Subject) where
       → tests s st (Entry n) ≡ later_tests (st.next - 1) st.group (suc e) st.before n st.key t.key ++ group_tests s (st.next - 1) (more st t e m) m
   more_tests st n t e m he hm is =
       ap (entry_tests s (st.next - 1) st n) is
-      ∙ (ap (λ x. order_tests s.part (st.next - 1) st n t.key x ++ group_tests s (st.next - 1) (with_entry st t st.entry) (st.entries - 1)) he
+      ∙ (ap (λ x. order_tests s.rules.part (st.next - 1) st n t.key x ++ group_tests s (st.next - 1) (with_entry st t st.entry) (st.entries - 1)) he
       ∙ (ap (λ w. later_tests (st.next - 1) st.group (suc e) st.before n st.key t.key ++ group_tests s (st.next - 1) w (st.entries - 1)) (with_more st t e m he hm)
       ∙ ap (λ x. later_tests (st.next - 1) st.group (suc e) st.before n st.key t.key ++ group_tests s (st.next - 1) (more st t e m) x) (one_less st.entries m hm)))
 
@@ -149,9 +150,9 @@ module _ (s : Subject) where
 
   -- where the entries are as they should, the text alone is told of
   later_told : (ns : List Name) (st : State) (e : ℕ) → st.entry ≡ suc e → st.entries ≡ length ns → AreLater st.key st.before ns
-      → entries_told st ns ≡ text_told st (s.text st.key (st.values ++ values_under s.triples ns))
+      → entries_told st ns ≡ text_told st (s.rules.text st.key (st.values ++ values_under s.triples ns))
   later_told [] st e he hm g =
-      append-nil (group_tests s (st.next - 1) st zero) ∙ ap (λ vs. text_told st (s.text st.key vs)) (sym (append-nil st.values))
+      append-nil (group_tests s (st.next - 1) st zero) ∙ ap (λ vs. text_told st (s.rules.text st.key vs)) (sym (append-nil st.values))
   later_told (n ∷ ns) st e he hm g =
       let f = some_is (named s.triples n) g.entries.0 in
       let t : Triple = f.0 in
@@ -162,16 +163,16 @@ module _ (s : Subject) where
       more_told st n ns t e he hm f.1
       ∙ (ap (λ w. w ++ entries_told (more st t e (length ns)) ns) here
       ∙ (later_told ns (more st t e (length ns)) (suc e) refl refl (fewer st.key st.before n ns t f.1 g)
-      ∙ ap (λ vs. text_told st (s.text st.key vs)) (one_more st.values t.value (values_under s.triples ns) ∙ ap (λ vs. st.values ++ vs) (sym (values_found n ns t f.1)))))
+      ∙ ap (λ vs. text_told st (s.rules.text st.key vs)) (one_more st.values t.value (values_under s.triples ns) ∙ ap (λ vs. st.values ++ vs) (sym (values_found n ns t f.1)))))
 
   later_behind : (ns : List Name) (st : State) (e : ℕ) → st.entry ≡ suc e → st.entries ≡ length ns → AreLater st.key st.before ns
-      → IsBehind st (entries_behind st ns) st.key (s.text st.key (st.values ++ values_under s.triples ns)) (length ns)
+      → IsBehind st (entries_behind st ns) st.key (s.rules.text st.key (st.values ++ values_under s.triples ns)) (length ns)
   later_behind [] st e he hm g = record {
     next = refl;
     groups = refl;
     group = refl;
     key_before = refl;
-    from = ap (λ vs. st.from + length (s.text st.key vs)) (sym (append-nil st.values));
+    from = ap (λ vs. st.from + length (s.rules.text st.key vs)) (sym (append-nil st.values));
     named = omega arith;
   }
   later_behind (n ∷ ns) st e he hm g =
@@ -181,23 +182,23 @@ module _ (s : Subject) where
       let values : (st.values ++ t.value ∷ []) ++ values_under s.triples ns ≡ st.values ++ values_under s.triples (n ∷ ns) =
       one_more st.values t.value (values_under s.triples ns) ∙ ap (λ vs. st.values ++ vs) (sym (values_found n ns t f.1)) in
       let moved : entries_behind st (n ∷ ns) ≡ entries_behind (more st t e (length ns)) ns = ap (λ w. behind s w (map Entry ns)) (more_after st n t e (length ns) he hm f.1) in
-      subst (λ (w : State). IsBehind st w st.key (s.text st.key (st.values ++ values_under s.triples (n ∷ ns))) (length (n ∷ ns))) (sym moved) (record {
+      subst (λ (w : State). IsBehind st w st.key (s.rules.text st.key (st.values ++ values_under s.triples (n ∷ ns))) (length (n ∷ ns))) (sym moved) (record {
         next = b.next;
         groups = b.groups;
         group = b.group;
         key_before = b.key_before;
-        from = b.from ∙ ap (λ vs. st.from + length (s.text st.key vs)) values;
+        from = b.from ∙ ap (λ vs. st.from + length (s.rules.text st.key vs)) values;
         named = omega (arith, b.named);
       })
 
   -- ---- a group
 
   first_told : (st : State) (n : Name) (ns : List Name) (t : Triple) → named s.triples n ≡ Some t
-      → told s st (group_items (n ∷ ns)) ≡ first_tests s.part (st.next - 1) st.group st.key_before t.key ++ entries_told (first st t (length ns)) ns
+      → told s st (group_items (n ∷ ns)) ≡ first_tests s.rules.part (st.next - 1) st.group st.key_before t.key ++ entries_told (first st t (length ns)) ns
   first_told st n ns t is =
       let u : State = record st { entries = suc (length ns); entry = 0 } in
       let left : suc (length ns) - 1 ≡ length ns = omega arith in
-      let tested : List No = first_tests s.part (st.next - 1) st.group st.key_before t.key in
+      let tested : List No = first_tests s.rules.part (st.next - 1) st.group st.key_before t.key in
       ap (λ o. entry_tests s (st.next - 1) u n o ++ told s (after_entry s u o) (map Entry ns)) is
       ∙ (ap (λ (x : ℕ). (tested ++ group_tests s (st.next - 1) (first st t x) x) ++ told s (behind_group s (first st t x) x) (map Entry ns)) left
       ∙ append_assoc tested (group_tests s (st.next - 1) (first st t (length ns)) (length ns)) (told s (behind_group s (first st t (length ns)) (length ns)) (map Entry ns)))
@@ -212,16 +213,16 @@ module _ (s : Subject) where
 
   -- where nothing is told of a group it is good, and its key is past the one before
   pub group_good : (st : State) (ns : List Name) → 1 ≤ length ns → told s st (group_items ns) ≡ []
-      → IsGoodGroup s.part s.triples (st.next - 1) ns × (is_key_past st.key_before (key_of s.triples ns) ≡ true)
+      → IsGoodGroup s.rules.part s.triples (st.next - 1) ns × (is_key_past st.key_before (key_of s.triples ns) ≡ true)
   group_good st [] some none = absurd (omega arith)
   group_good st (n ∷ ns) some none =
       let f = found (record st { entries = suc (length ns); entry = 0 }) n (none_left (tests s (record st { entries = suc (length ns); entry = 0 }) (Entry n)) _ none) in
       let t : Triple = f.0 in
-      let whole : first_tests s.part (st.next - 1) st.group st.key_before t.key ++ entries_told (first st t (length ns)) ns ≡ [] = sym (first_told st n ns t f.1) ∙ none in
-      let here = none_left (first_tests s.part (st.next - 1) st.group st.key_before t.key) _ whole in
-      let rest = none_right (first_tests s.part (st.next - 1) st.group st.key_before t.key) _ whole in
-      let part = none_left (passes (s.part t.key == (st.next - 1)) (WrongPartition (st.next - 1) st.group 0)) _ here in
-      let past = none_right (passes (s.part t.key == (st.next - 1)) (WrongPartition (st.next - 1) st.group 0)) _ here in
+      let whole : first_tests s.rules.part (st.next - 1) st.group st.key_before t.key ++ entries_told (first st t (length ns)) ns ≡ [] = sym (first_told st n ns t f.1) ∙ none in
+      let here = none_left (first_tests s.rules.part (st.next - 1) st.group st.key_before t.key) _ whole in
+      let rest = none_right (first_tests s.rules.part (st.next - 1) st.group st.key_before t.key) _ whole in
+      let part = none_left (passes (s.rules.part t.key == (st.next - 1)) (WrongPartition (st.next - 1) st.group 0)) _ here in
+      let past = none_right (passes (s.rules.part t.key == (st.next - 1)) (WrongPartition (st.next - 1) st.group 0)) _ here in
       let g = later_good ns (first st t (length ns)) 0 refl refl rest in
       let name : t.name ≡ n = (named-Has s.triples n t f.1).1 in
       let key : key_under s.triples n ≡ t.key = key_found n t f.1 in (
@@ -230,15 +231,15 @@ module _ (s : Subject) where
           entries = (is_some n t f.1, g.entries);
           names_rise = (subst (λ w. AllByRecursion (λ m. name_order w m ≡ Less) ns) name g.past, g.rises);
           one_key = (refl, subst (λ k. AllByRecursion (λ m. key_under s.triples m ≡ k) ns) (sym key) g.one_key);
-          partition = ap s.part key ∙ eqb-true _ _ (passed _ _ part);
+          partition = ap s.rules.part key ∙ eqb-true _ _ (passed _ _ part);
         },
         ap (is_key_past st.key_before) key ∙ passed _ _ past,
       )
 
   -- where it is good, its text alone is told of, and what is behind it
-  pub group_told : (st : State) (ns : List Name) → IsGoodGroup s.part s.triples (st.next - 1) ns → is_key_past st.key_before (key_of s.triples ns) ≡ true
-      → (told s st (group_items ns) ≡ text_told st (text_under s.text s.triples ns))
-      × IsBehind st (behind s st (group_items ns)) (key_of s.triples ns) (text_under s.text s.triples ns) (length ns)
+  pub group_told : (st : State) (ns : List Name) → IsGoodGroup s.rules.part s.triples (st.next - 1) ns → is_key_past st.key_before (key_of s.triples ns) ≡ true
+      → (told s st (group_items ns) ≡ text_told st (text_under s.rules.text s.triples ns))
+      × IsBehind st (behind s st (group_items ns)) (key_of s.triples ns) (text_under s.rules.text s.triples ns) (length ns)
   group_told st [] good past = absurd (omega (arith, good.some_entry))
   group_told st (n ∷ ns) good past =
       let f = some_is (named s.triples n) good.entries.0 in
@@ -251,16 +252,16 @@ module _ (s : Subject) where
         rises = good.names_rise.1;
         one_key = subst (λ k. AllByRecursion (λ m. key_under s.triples m ≡ k) ns) key good.one_key.1;
       } in
-      let part_passes = passes-true (s.part t.key == (st.next - 1)) (WrongPartition (st.next - 1) st.group 0) (eq-eqb _ _ (ap s.part (sym key) ∙ good.partition)) in
+      let part_passes = passes-true (s.rules.part t.key == (st.next - 1)) (WrongPartition (st.next - 1) st.group 0) (eq-eqb _ _ (ap s.rules.part (sym key) ∙ good.partition)) in
       let key_passes = passes-true (is_key_past st.key_before t.key) (KeyOrder (st.next - 1) st.group 0) (ap (is_key_past st.key_before) (sym key) ∙ past) in
-      let here : first_tests s.part (st.next - 1) st.group st.key_before t.key ≡ [] = none_both _ _ part_passes key_passes in
+      let here : first_tests s.rules.part (st.next - 1) st.group st.key_before t.key ≡ [] = none_both _ _ part_passes key_passes in
       let b = later_behind ns (first st t (length ns)) 0 refl refl later in
-      let text : s.text t.key (t.value ∷ values_under s.triples ns) ≡ text_under s.text s.triples (n ∷ ns) =
-      ap (λ vs. s.text t.key vs) (sym (values_found n ns t f.1)) ∙ ap (λ k. s.text k (values_under s.triples (n ∷ ns))) (sym key) in (
+      let text : s.rules.text t.key (t.value ∷ values_under s.triples ns) ≡ text_under s.rules.text s.triples (n ∷ ns) =
+      ap (λ vs. s.rules.text t.key vs) (sym (values_found n ns t f.1)) ∙ ap (λ k. s.rules.text k (values_under s.triples (n ∷ ns))) (sym key) in (
         first_told st n ns t f.1
             ∙ (ap (λ w. w ++ entries_told (first st t (length ns)) ns) here
             ∙ (later_told ns (first st t (length ns)) 0 refl refl later ∙ ap (text_told st) text)),
-        subst (λ (w : State). IsBehind st w (key_of s.triples (n ∷ ns)) (text_under s.text s.triples (n ∷ ns)) (length (n ∷ ns))) (sym (first_behind st n ns t f.1)) (record {
+        subst (λ (w : State). IsBehind st w (key_of s.triples (n ∷ ns)) (text_under s.rules.text s.triples (n ∷ ns)) (length (n ∷ ns))) (sym (first_behind st n ns t f.1)) (record {
           next = b.next;
           groups = b.groups;
           group = b.group;

@@ -13,8 +13,8 @@ use Rattle.mr_sequential.specs.Emitted.{Triple}
 use Rattle.mr_sequential.specs.Good.{named}
 use Rattle.mr_check.specs.declared.fault.No.{No}
 use Rattle.mr_check.specs.declared.fault.No.TheVariants as Fault
-use Rattle.mr_check.specs.Verdict.{Accepted, State, Subject, passes, start, tests, after, text_tests, end_tests, is_key_past, order_tests, with_entry, entry_tests, group_tests, subject_of, case_of, verdict_of}
-use Rattle.mr_check.specs.VerdictLaws.{told, first, or_else, fault_of, skips_in, piece, parts_in, entries_in, front_faults, part_fault, least_fault, back_fault, before_fault, SameBy, SameFor, SameTo, SameInPart, SameFrom, SameUnless, partition_named, LaterOutputsDontMatter}
+use Rattle.mr_check.specs.Verdict.{Accepted, State, Subject, passes, start, tests, after, text_tests, end_tests, is_key_past, order_tests, with_entry, entry_tests, group_tests, subject_of, case_of, verdict_of, first, entries_in}
+use Rattle.mr_check.specs.VerdictLaws.{told, or_else, fault_of, skips_in, piece, parts_in, front_faults, part_fault, least_fault, back_fault, before_fault, SameBy, SameFor, SameTo, SameInPart, SameFrom, SameUnless, partition_named, LaterOutputsDontMatter}
 use Rattle.mr_check.proofs.VerdictOutputs.{next_entry, only_compared_matters}
 use Rattle.mr_check.proofs.VerdictPlace.{fault_by_place}
 
@@ -43,16 +43,16 @@ module _ (s : Subject) where
 
   group_all : (p : ℕ) (st : State) (m : ℕ) → AllOf p (group_tests s p st m)
   group_all p st zero =
-      let text : List ℕ = s.text st.key st.values in
+      let text : List ℕ = s.rules.text st.key st.values in
       let output : List ℕ = nth_file s.outputs p in
       all_append p (text_tests output p st.from text) (end_tests output p (st.groups - 1) (st.from + length text))
       (all_passes p (common_prefix_len nat_eq text (drop st.from output) == length text) (Fault.OutputDiffers p (st.from + common_prefix_len nat_eq text (drop st.from output))) refl)
       (end_all output p (st.groups - 1) (st.from + length text))
   group_all p st (suc m) = tt
 
-  order_all : (p : ℕ) (st : State) (n : Name) (key : List ℕ) (e : ℕ) → AllOf p (order_tests s.part p st n key e)
+  order_all : (p : ℕ) (st : State) (n : Name) (key : List ℕ) (e : ℕ) → AllOf p (order_tests s.rules.part p st n key e)
   order_all p st n key zero =
-      all_append p (passes (s.part key == p) (Fault.WrongPartition p st.group 0)) (passes (is_key_past st.key_before key) (Fault.KeyOrder p st.group 0)) (all_passes p _ (Fault.WrongPartition p st.group 0) refl)
+      all_append p (passes (s.rules.part key == p) (Fault.WrongPartition p st.group 0)) (passes (is_key_past st.key_before key) (Fault.KeyOrder p st.group 0)) (all_passes p _ (Fault.WrongPartition p st.group 0) refl)
       (all_passes p _ (Fault.KeyOrder p st.group 0) refl)
   order_all p st n key (suc e) =
       all_append p (passes (is_lt (name_order st.before n)) (Fault.EntryOrder p st.group (suc e))) (passes (bytes_eq key st.key) (Fault.KeyDiffers p st.group (suc e))) (all_passes p _ (Fault.EntryOrder p st.group (suc e)) refl)
@@ -61,7 +61,7 @@ module _ (s : Subject) where
   entry_all : (p : ℕ) (st : State) (n : Name) (o : Option Triple) → AllOf p (entry_tests s p st n o)
   entry_all p st n None = (refl, tt)
   entry_all p st n (Some t) =
-      all_append p (order_tests s.part p st n t.key st.entry) (group_tests s p (with_entry st t st.entry) (st.entries - 1)) (order_all p st n t.key st.entry) (group_all p (with_entry st t st.entry) (st.entries - 1))
+      all_append p (order_tests s.rules.part p st n t.key st.entry) (group_tests s p (with_entry st t st.entry) (st.entries - 1)) (order_all p st n t.key st.entry) (group_all p (with_entry st t st.entry) (st.entries - 1))
 
   told_all : (is : List Item) (st : State) → AllOf (st.next - 1) (told s st (piece is))
   told_all [] st = tt

@@ -11,8 +11,8 @@ use Rattle.mr_certform.proofs.Walks.{longest_items}
 use Rattle.mr_sequential.specs.Skips.{is_past}
 use Rattle.mr_check.specs.declared.fault.No.{No}
 use Rattle.mr_check.specs.declared.fault.No.TheVariants as Fault
-use Rattle.mr_check.specs.Verdict.{Case, State, Subject, passes, start, tests, after, part_faults, subject_of, last_of, skip_faults, count_faults, item_eq, job_wanted, input_wanted, wanted_faults, faults, Accepted, told_by, case_of, verdict_of}
-use Rattle.mr_check.specs.VerdictLaws.{first, IsTested, LaterItemsDontMatter}
+use Rattle.mr_check.specs.Verdict.{Case, State, Subject, passes, start, tests, after, part_faults, subject_of, last_of, skip_faults, count_faults, item_eq, job_wanted, input_wanted, wanted_faults, faults, Accepted, told_by, case_of, verdict_of, first}
+use Rattle.mr_check.specs.VerdictLaws.{IsTested, LaterItemsDontMatter}
 
 module _ (fault : No) (tested : IsTested fault) where
   -- this is the first of the faults

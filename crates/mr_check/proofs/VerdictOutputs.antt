@@ -14,8 +14,8 @@ use Rattle.mr_sequential.specs.Emitted.{Triple}
 use Rattle.mr_sequential.specs.Good.{named}
 use Rattle.mr_check.specs.declared.fault.No.{No}
 use Rattle.mr_check.specs.declared.fault.No.TheVariants as Fault
-use Rattle.mr_check.specs.Verdict.{Case, State, Subject, Accepted, passes, start, tests, after, last_of, item_eq, job_wanted, input_wanted, wanted_faults, faults, told_by, accepted_by, case_of, subject_of, verdict_of, text_tests, end_tests, order_tests, with_entry, entry_tests, group_tests, behind_group, after_entry}
-use Rattle.mr_check.specs.VerdictLaws.{told, first, piece, part_fault, before_fault, unless, SameBy, SameFor, fault_of, or_else, skips_in, parts_in, entries_in, front_skips, front_count, front_faults, least_fault, back_fault, SameInPart, SameFrom, SameUnless, OtherOutputsDontMatter, BytesBehindDontMatter, OnlyComparedMatters}
+use Rattle.mr_check.specs.Verdict.{Case, State, Subject, Accepted, passes, start, tests, after, last_of, item_eq, job_wanted, input_wanted, wanted_faults, faults, told_by, accepted_by, case_of, subject_of, verdict_of, text_tests, end_tests, order_tests, with_entry, entry_tests, group_tests, behind_group, after_entry, first, entries_in}
+use Rattle.mr_check.specs.VerdictLaws.{told, piece, part_fault, before_fault, last_before, SameBy, SameFor, fault_of, or_else, skips_in, parts_in, front_skips, front_count, front_faults, least_fault, back_fault, SameInPart, SameFrom, SameUnless, OtherOutputsDontMatter, BytesBehindDontMatter, OnlyComparedMatters}
 use Rattle.mr_check.proofs.VerdictPlace.{fault_by_place}
 use Rattle.mr_check.proofs.VerdictTests.{none_left, none_right, none_both}
 use Rattle.mr_check.proofs.VerdictCompared.{Tells, SameUpTo, text_again, text_fails, text_place, end_again, end_place, end_fails}
@@ -36,12 +36,12 @@ module _ (s : Subject) (others : List (List ℕ)) where
 
   group_same : (p : ℕ) (st : State) (m : ℕ) → nth_file others p ≡ nth_file s.outputs p → group_tests (with s others) p st m ≡ group_tests s p st m
   group_same p st zero e =
-      ap (λ out. text_tests out p st.from (s.text st.key st.values) ++ end_tests out p (st.groups - 1) (st.from + length (s.text st.key st.values))) e
+      ap (λ out. text_tests out p st.from (s.rules.text st.key st.values) ++ end_tests out p (st.groups - 1) (st.from + length (s.rules.text st.key st.values))) e
   group_same p st (suc m) e = refl
 
   entry_same : (p : ℕ) (st : State) (n : Name) (o : Option Triple) → nth_file others p ≡ nth_file s.outputs p → entry_tests (with s others) p st n o ≡ entry_tests s p st n o
   entry_same p st n None e = refl
-  entry_same p st n (Some t) e = ap (λ w. order_tests s.part p st n t.key st.entry ++ w) (group_same p (with_entry st t st.entry) (st.entries - 1) e)
+  entry_same p st n (Some t) e = ap (λ w. order_tests s.rules.part p st n t.key st.entry ++ w) (group_same p (with_entry st t st.entry) (st.entries - 1) e)
 
   next_group : (st : State) (m : ℕ) → (behind_group s st m).next ≡ st.next
   next_group st zero = refl
@@ -124,7 +124,7 @@ either fault (x ∷ xs) ys e = inl e
 
 module _ (s : Subject) (others : List (List ℕ)) where
   abbrev text_at : State → List ℕ
-  text_at st = s.text st.key st.values
+  text_at st = s.rules.text st.key st.values
 
   abbrev texts : ℕ → State → List No
   texts p st = text_tests (nth_file s.outputs p) p st.from (text_at st)
@@ -188,14 +188,14 @@ module _ (s : Subject) (others : List (List ℕ)) where
     from_entry st None = omega arith
     from_entry st (Some t) = omega (arith, from_group (with_entry st t st.entry) (st.entries - 1), from_with st t st.entry)
 
-    order_fault : (p : ℕ) (st : State) (n : Name) (key : List ℕ) (e : ℕ) → Differs (order_tests s.part p st n key e) → ⊥
+    order_fault : (p : ℕ) (st : State) (n : Name) (key : List ℕ) (e : ℕ) → Differs (order_tests s.rules.part p st n key e) → ⊥
     order_fault p st n key zero d = two_faults q at _ _ _ _ tt tt d
     order_fault p st n key (suc e) d = two_faults q at _ _ _ _ tt tt d
 
     entry_place : (p : ℕ) (st : State) (n : Name) (o : Option Triple) → Differs (entry_tests s p st n o) → st.from ≤ at
     entry_place p st n None e = absurd (cc)
     entry_place p st n (Some t) e =
-        elim (either (Fault.OutputDiffers q at) (order_tests s.part p st n t.key st.entry) (group_tests s p (with_entry st t st.entry) (st.entries - 1)) e) [
+        elim (either (Fault.OutputDiffers q at) (order_tests s.rules.part p st n t.key st.entry) (group_tests s p (with_entry st t st.entry) (st.entries - 1)) e) [
           | inl a ↦ absurd (order_fault p st n t.key st.entry a)
           | inr b ↦ omega (arith, group_place p (with_entry st t st.entry) (st.entries - 1) b.1, from_with st t st.entry)
         ]
@@ -203,15 +203,15 @@ module _ (s : Subject) (others : List (List ℕ)) where
     entry_fails : (p : ℕ) (st : State) (n : Name) (o : Option Triple) → SameUpTo (at + 1) (nth_file s.outputs p) (nth_file others p) → Differs (entry_tests s p st n o) → Differs (entry_tests (with s others) p st n o)
     entry_fails p st n None same e = e
     entry_fails p st n (Some t) same e =
-        same_tests (Fault.OutputDiffers q at) (order_tests s.part p st n t.key st.entry) (group_tests s p (with_entry st t st.entry) (st.entries - 1)) (group_tests (with s others) p (with_entry st t st.entry) (st.entries - 1))
+        same_tests (Fault.OutputDiffers q at) (order_tests s.rules.part p st n t.key st.entry) (group_tests s p (with_entry st t st.entry) (st.entries - 1)) (group_tests (with s others) p (with_entry st t st.entry) (st.entries - 1))
         (group_fails p (with_entry st t st.entry) (st.entries - 1) same) e
 
     entry_passes : (p : ℕ) (st : State) (n : Name) (o : Option Triple) → SameUpTo (at + 1) (nth_file s.outputs p) (nth_file others p) → (after_entry s st o).from ≤ at → entry_tests s p st n o ≡ [] → entry_tests (with s others) p st n o ≡ []
     entry_passes p st n None same h e = e
     entry_passes p st n (Some t) same h e =
-        none_both (order_tests s.part p st n t.key st.entry) (group_tests (with s others) p (with_entry st t st.entry) (st.entries - 1))
-        (none_left (order_tests s.part p st n t.key st.entry) (group_tests s p (with_entry st t st.entry) (st.entries - 1)) e)
-        (group_passes p (with_entry st t st.entry) (st.entries - 1) same h (none_right (order_tests s.part p st n t.key st.entry) (group_tests s p (with_entry st t st.entry) (st.entries - 1)) e))
+        none_both (order_tests s.rules.part p st n t.key st.entry) (group_tests (with s others) p (with_entry st t st.entry) (st.entries - 1))
+        (none_left (order_tests s.rules.part p st n t.key st.entry) (group_tests s p (with_entry st t st.entry) (st.entries - 1)) e)
+        (group_passes p (with_entry st t st.entry) (st.entries - 1) same h (none_right (order_tests s.rules.part p st n t.key st.entry) (group_tests s p (with_entry st t st.entry) (st.entries - 1)) e))
 
     -- what was compared lies before the place
     told_place : (is : List Item) (st : State) → Differs (told s st (piece is)) → st.from ≤ at
@@ -281,7 +281,7 @@ module _ (s : Subject) (others : List (List ℕ)) where
   fault_later (End ∷ is) st = record { from = omega arith; groups = λ h. h }
   fault_later (Entry n ∷ is) st = by (tests s st (Entry n)) (fault_later is (after s st (Entry n)))
     where
-      by : (ts : List No) → IsLater (after s st (Entry n)) (before_fault s (after s st (Entry n)) (piece is)) → IsLater st (unless ts st (before_fault s (after s st (Entry n)) (piece is)))
+      by : (ts : List No) → IsLater (after s st (Entry n)) (before_fault s (after s st (Entry n)) (piece is)) → IsLater st (last_before ts st (before_fault s (after s st (Entry n)) (piece is)))
       by [] h = record { from = omega (arith, h.from, from_of_entry st (named s.triples n)); groups = λ g. h.groups (groups_of_entry st (named s.triples n) g) }
       by (t ∷ ts) h = record { from = omega arith; groups = λ g. g }
   fault_later (Entries n ∷ is) st = let h = fault_later is (after s st (Entries n)) in record { from = h.from; groups = h.groups }
@@ -304,16 +304,16 @@ module _ (s : Subject) (others : List (List ℕ)) where
       → entry_tests s p st n o ≡ [] → entry_tests (with s others) p st n o ≡ []
   entry_by p st n None groups from same h g e = e
   entry_by p st n (Some t) groups from same h g e =
-      none_both (order_tests s.part p st n t.key st.entry) (group_tests (with s others) p (with_entry st t st.entry) (st.entries - 1))
-      (none_left (order_tests s.part p st n t.key st.entry) (group_tests s p (with_entry st t st.entry) (st.entries - 1)) e)
-      (none_by p (with_entry st t st.entry) (st.entries - 1) groups from same h g (none_right (order_tests s.part p st n t.key st.entry) (group_tests s p (with_entry st t st.entry) (st.entries - 1)) e))
+      none_both (order_tests s.rules.part p st n t.key st.entry) (group_tests (with s others) p (with_entry st t st.entry) (st.entries - 1))
+      (none_left (order_tests s.rules.part p st n t.key st.entry) (group_tests s p (with_entry st t st.entry) (st.entries - 1)) e)
+      (none_by p (with_entry st t st.entry) (st.entries - 1) groups from same h g (none_right (order_tests s.rules.part p st n t.key st.entry) (group_tests s p (with_entry st t st.entry) (st.entries - 1)) e))
 
   module _ (fault : No) (not_output : NotOfOutput fault) where
     entry_other : (p : ℕ) (st : State) (n : Name) (o : Option Triple) → Tells fault (entry_tests s p st n o) → Tells fault (entry_tests (with s others) p st n o)
     entry_other p st n None e = e
     entry_other p st n (Some t) e =
-        elim (either fault (order_tests s.part p st n t.key st.entry) (group_tests s p (with_entry st t st.entry) (st.entries - 1)) e) [
-          | inl a ↦ front fault (order_tests s.part p st n t.key st.entry) (group_tests (with s others) p (with_entry st t st.entry) (st.entries - 1)) a
+        elim (either fault (order_tests s.rules.part p st n t.key st.entry) (group_tests s p (with_entry st t st.entry) (st.entries - 1)) e) [
+          | inl a ↦ front fault (order_tests s.rules.part p st n t.key st.entry) (group_tests (with s others) p (with_entry st t st.entry) (st.entries - 1)) a
           | inr b ↦ absurd (group_fault p (with_entry st t st.entry) (st.entries - 1) fault not_output b.1)
         ]
 
@@ -331,7 +331,7 @@ module _ (s : Subject) (others : List (List ℕ)) where
         elim (either fault (tests s st (Entry n)) (told s (after s st (Entry n)) (piece is)) e) [
           | inl a ↦ front fault (tests (with s others) st (Entry n)) (told (with s others) (after (with s others) st (Entry n)) (piece is)) (entry_other (st.next - 1) st n (named s.triples n) a)
           | inr b ↦
-              (let here : SameAt st (before_fault s (after s st (Entry n)) (piece is)) = subst (λ ts. SameAt st (unless ts st (before_fault s (after s st (Entry n)) (piece is)))) b.0 same in
+              (let here : SameAt st (before_fault s (after s st (Entry n)) (piece is)) = subst (λ ts. SameAt st (last_before ts st (before_fault s (after s st (Entry n)) (piece is)))) b.0 same in
               let later = fault_later is (after s st (Entry n)) in
               let none = entry_by (st.next - 1) st n (named s.triples n) last.groups last.from here later.from later.groups b.0 in
               let there : SameAt (after s st (Entry n)) (before_fault s (after s st (Entry n)) (piece is)) = subst (λ k. SameBy last.groups last.from (nth_file s.outputs (k - 1)) (nth_file others (k - 1))) (sym next) here in
@@ -355,7 +355,7 @@ module _ (s : Subject) (others : List (List ℕ)) where
       let moved : after (with s others) st (Entry n) ≡ after s st (Entry n) = entry_after s others st (named s.triples n) in
       let next : (after s st (Entry n)).next ≡ st.next = next_entry s others st (named s.triples n) in
       let tested = none_left (tests s st (Entry n)) (told s (after s st (Entry n)) (piece is)) e in
-      let here : SameBehind st (before_fault s (after s st (Entry n)) (piece is)) = subst (λ ts. SameBehind st (unless ts st (before_fault s (after s st (Entry n)) (piece is)))) tested same in
+      let here : SameBehind st (before_fault s (after s st (Entry n)) (piece is)) = subst (λ ts. SameBehind st (last_before ts st (before_fault s (after s st (Entry n)) (piece is)))) tested same in
       let later = fault_later is (after s st (Entry n)) in
       let none = entry_by (st.next - 1) st n (named s.triples n) last.groups last.from here later.from later.groups tested in
       let there : SameBehind (after s st (Entry n)) (before_fault s (after s st (Entry n)) (piece is)) = subst (λ k. SameBy last.groups last.from (nth_file s.outputs (k - 1)) (nth_file others (k - 1))) (sym next) here in
@@ -389,7 +389,7 @@ part_differs s others p n is q at same e =
 
 -- the state in which the first fault of a partition is told
 abbrev last_of_part : Subject → ℕ → ℕ → List Item → State
-last_of_part s p n is = unless (end_tests (nth_file s.outputs p) p n 0) (record start { next = p }) (before_fault s (opened p n) (piece is))
+last_of_part s p n is = last_before (end_tests (nth_file s.outputs p) p n 0) (record start { next = p }) (before_fault s (opened p n) (piece is))
 
 -- a partition of no group ends where it did
 ended : (s : Subject) (others : List (List ℕ)) (p n groups from : ℕ) → (n ≡ 0 → groups ≡ 0) → SameBy groups from (nth_file s.outputs p) (nth_file others p)
@@ -409,7 +409,7 @@ is_opened : (s : Subject) (others : List (List ℕ)) (p n : ℕ) (is : List Item
 is_opened s others p n is same e =
     let last : State = before_fault s (opened p n) (piece is) in
     let here : SameBy last.groups last.from (nth_file s.outputs p) (nth_file others p) =
-    subst (λ ts. (let w = unless ts (record start { next = p }) (before_fault s (opened p n) (piece is)) in SameBy w.groups w.from (nth_file s.outputs p) (nth_file others p))) e same in
+    subst (λ ts. (let w = last_before ts (record start { next = p }) (before_fault s (opened p n) (piece is)) in SameBy w.groups w.from (nth_file s.outputs p) (nth_file others p))) e same in
     record {
       none = ended s others p n last.groups last.from (fault_later s others is (opened p n)).groups here e;
       same = subst (λ k. SameBy last.groups last.from (nth_file s.outputs k) (nth_file others k)) (here_is p) here;

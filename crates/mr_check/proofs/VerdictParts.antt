@@ -12,16 +12,12 @@ use Rattle.mr_certform.specs.declared.item.Item.{Item}
 use Rattle.mr_certform.specs.declared.item.Item.TheVariants.{Entry, End}
 use Rattle.mr_certform.specs.Value.{group_items, part_items}
 use Rattle.mr_sequential.specs.Good.{key_of, text_under, IsGoodGroup, IsGoodPart, entries_of}
+use Rattle.mr_sequential.proofs.EntryLaws.{EachFrom}
 use Rattle.mr_check.specs.declared.fault.No.{No}
 use Rattle.mr_check.specs.Verdict.{State, Subject, tests, after, text_tests, end_tests, is_key_past, part_faults}
 use Rattle.mr_check.specs.VerdictLaws.{told, behind}
 use Rattle.mr_check.proofs.VerdictGroups.{IsBehind, text_told, group_good, group_told}
 use Rattle.mr_check.proofs.VerdictTests.{none_left, none_right, none_both, lt-less, text_stands, text_passes, text_behind, end_stands, end_passes, told_append, behind_append}
-
--- P holds of each element at its place, the first one's being p
-abbrev pub EachFrom : {X : Type 0} → (ℕ → X → Type 0) → ℕ → List X → Type 0
-EachFrom P p [] = Unit {0}
-EachFrom P p (x ∷ xs) = P p x × EachFrom P (suc p) xs
 
 subst3 : {A B C : Type 0} (P : A → B → C → Type 0) {a d : A} {b e : B} {c f : C} → a ≡ d → b ≡ e → c ≡ f → P a b c → P d e f
 subst3 {A} {B} {C} P {a} {d} {b} {e} {c} {f} p q r h = subst (λ (z : C). P d e z) r (subst (λ (y : B). P d y c) q (subst (λ (x : A). P x b c) p h))
@@ -36,10 +32,10 @@ HaveEntries gs = AllByRecursion (λ ns. 1 ≤ length ns) gs
 module _ (s : Subject) where
   -- groups that may follow one of this key, and whose texts are all that is left of the output
   record AreGroups (p : ℕ) (before : Option (List ℕ)) (gs : List (List Name)) (rest : List ℕ) : Type 0 where
-    groups : AllByRecursion (IsGoodGroup s.part s.triples p) gs
+    groups : AllByRecursion (IsGoodGroup s.rules.part s.triples p) gs
     keys_rise : Rises key_order (map (key_of s.triples) gs)
     past : AllByRecursion (λ k. is_key_past before k ≡ true) (map (key_of s.triples) gs)
-    output_is : rest ≡ flat_map (text_under s.text s.triples) gs
+    output_is : rest ≡ flat_map (text_under s.rules.text s.triples) gs
 
   -- the test of the output's end where no group follows, and then what is told of the groups
   abbrev end_told : ℕ → ℕ → ℕ → List No
@@ -79,7 +75,7 @@ module _ (s : Subject) where
   groups_good [] st some h none =
       record { groups = tt; keys_rise = tt; past = tt; output_is = end_stands (nth_file s.outputs (st.next - 1)) (st.next - 1) st.from (none_left (end_told st.next zero st.from) [] none) }
   groups_good (ns ∷ gs) st some h none =
-      let text : List ℕ = text_under s.text s.triples ns in
+      let text : List ℕ = text_under s.rules.text s.triples ns in
       let k : List ℕ = key_of s.triples ns in
       let new : State = behind s st (group_items ns) in
       let output : List ℕ = nth_file s.outputs (st.next - 1) in
@@ -115,7 +111,7 @@ module _ (s : Subject) where
     named = omega arith;
   }
   groups_pass (ns ∷ gs) st h are =
-      let text : List ℕ = text_under s.text s.triples ns in
+      let text : List ℕ = text_under s.rules.text s.triples ns in
       let k : List ℕ = key_of s.triples ns in
       let new : State = behind s st (group_items ns) in
       let output : List ℕ = nth_file s.outputs (st.next - 1) in
@@ -123,10 +119,10 @@ module _ (s : Subject) where
       let b = told_is.1 in
       let fewer : new.groups ≡ length gs = omega (arith, b.groups, h) in
       let rest : Rest gs st.next (Some k) (st.from + length text) =
-      record { groups = are.groups.1; keys_rise = are.keys_rise.1; past = less_past k (map (key_of s.triples) gs) are.keys_rise.0; output_is = text_behind output st.from text (flat_map (text_under s.text s.triples) gs) are.output_is } in
+      record { groups = are.groups.1; keys_rise = are.keys_rise.1; past = less_past k (map (key_of s.triples) gs) are.keys_rise.0; output_is = text_behind output st.from text (flat_map (text_under s.rules.text s.triples) gs) are.output_is } in
       let later = groups_pass gs new fewer (subst3 (Rest gs) (sym b.next) (sym b.key_before) (sym b.from) rest) in
       let ends : end_told st.next (st.groups - 1) (st.from + length text) ≡ [] = sym (end_behind st new k text (length ns) (length gs) b h) ∙ none_left (end_told new.next (length gs) new.from) _ later.none in
-      let texts : text_told s st text ≡ [] = none_both (text_tests output (st.next - 1) st.from text) _ (text_passes output (st.next - 1) st.from text (flat_map (text_under s.text s.triples) gs) are.output_is) ends in
+      let texts : text_told s st text ≡ [] = none_both (text_tests output (st.next - 1) st.from text) _ (text_passes output (st.next - 1) st.from text (flat_map (text_under s.rules.text s.triples) gs) are.output_is) ends in
       let moved : behind s st (flat_map group_items (ns ∷ gs)) ≡ behind s new (flat_map group_items gs) = behind_append s st (group_items ns) (flat_map group_items gs) in
       record {
         none = told_append s st (group_items ns) (flat_map group_items gs) ∙ none_both (told s st (group_items ns)) _ (told_is.0 ∙ texts) (none_right (end_told new.next (length gs) new.from) _ later.none);
@@ -146,22 +142,22 @@ module _ (s : Subject) where
   part_told_is st gs = ap (λ n. end_tests (nth_file s.outputs n) n (length gs) 0 ++ told s (opened st (length gs)) (flat_map group_items gs)) (sym (next_is st.next))
 
   abbrev Part : ℕ → List (List Name) → Type 0
-  Part p gs = IsGoodPart s.part s.text s.triples p gs (nth_file s.outputs p)
+  Part p gs = IsGoodPart s.rules s.triples p gs (nth_file s.outputs p)
 
   part_good : (st : State) (gs : List (List Name)) → HaveEntries gs → told s st (part_items gs) ≡ [] → Part st.next gs
   part_good st gs some none =
       let g = groups_good gs (opened st (length gs)) some refl (sym (part_told_is st gs) ∙ none) in
-      subst (λ n. Part n gs) (next_is st.next) (record { groups = g.groups; keys_rise = g.keys_rise; output_is = g.output_is })
+      subst (λ n. Part n gs) (next_is st.next) (record { groups = record { each = g.groups; keys_rise = g.keys_rise }; output_is = g.output_is })
 
   part_pass : (st : State) (gs : List (List Name)) → Part st.next gs → ArePassed (opened st (length gs)) gs
   part_pass st gs good =
       let g : Part (st.next + 1 - 1) gs = subst (λ n. Part n gs) (sym (next_is st.next)) good in
-      groups_pass gs (opened st (length gs)) refl (record { groups = g.groups; keys_rise = g.keys_rise; past = all_none (map (key_of s.triples) gs); output_is = g.output_is })
+      groups_pass gs (opened st (length gs)) refl (record { groups = g.groups.each; keys_rise = g.groups.keys_rise; past = all_none (map (key_of s.triples) gs); output_is = g.output_is })
 
   -- ---- all partitions
 
   pub parts_good : (parts : List (List (List Name))) (st : State) → AllByRecursion HaveEntries parts → told s st (flat_map part_items parts) ≡ []
-      → EachFrom (λ p gs. IsGoodPart s.part s.text s.triples p gs (nth_file s.outputs p)) st.next parts
+      → EachFrom (λ p gs. IsGoodPart s.rules s.triples p gs (nth_file s.outputs p)) st.next parts
   parts_good [] st some none = tt
   parts_good (gs ∷ parts) st some none =
       let new : State = behind s st (part_items gs) in
@@ -176,7 +172,7 @@ module _ (s : Subject) where
     pub none : told s st (flat_map part_items parts) ≡ []
     pub named : (behind s st (flat_map part_items parts)).named ≡ st.named + length (entries_of parts)
 
-  pub parts_pass : (parts : List (List (List Name))) (st : State) → EachFrom (λ p gs. IsGoodPart s.part s.text s.triples p gs (nth_file s.outputs p)) st.next parts → PartsPassed st parts
+  pub parts_pass : (parts : List (List (List Name))) (st : State) → EachFrom (λ p gs. IsGoodPart s.rules s.triples p gs (nth_file s.outputs p)) st.next parts → PartsPassed st parts
   parts_pass [] st each = record { none = refl; named = omega arith }
   parts_pass (gs ∷ parts) st each =
       let new : State = behind s st (part_items gs) in

@@ -20,8 +20,8 @@ use Rattle.mr_sequential.specs.Good.{named}
 use Rattle.mr_sequential.specs.Skips.{is_past}
 use Rattle.mr_check.specs.declared.fault.No.{No}
 use Rattle.mr_check.specs.declared.fault.No.TheVariants as Fault
-use Rattle.mr_check.specs.Verdict.{Case, State, Subject, passes, start, tests, after, part_faults, subject_of, last_of, skip_faults, count_faults, item_eq, job_wanted, input_wanted, wanted_faults, faults, Accepted, accepted_by, told_by, case_of, verdict_of, order_tests, with_entry, entry_tests, group_tests, behind_group, after_entry}
-use Rattle.mr_check.specs.VerdictLaws.{told, first, or_else, fault_of, skips_in, piece, parts_in, entries_in, front_skips, front_count, front_faults, part_fault, least_fault, back_fault, FaultByPlace}
+use Rattle.mr_check.specs.Verdict.{Case, State, Subject, passes, start, tests, after, part_faults, subject_of, last_of, skip_faults, count_faults, item_eq, job_wanted, input_wanted, wanted_faults, faults, Accepted, accepted_by, told_by, case_of, verdict_of, order_tests, with_entry, entry_tests, group_tests, behind_group, after_entry, first, entries_in}
+use Rattle.mr_check.specs.VerdictLaws.{told, or_else, fault_of, skips_in, piece, parts_in, front_skips, front_count, front_faults, part_fault, least_fault, back_fault, FaultByPlace}
 use Rattle.mr_check.proofs.VerdictHeader.{AreEqual, eq_is, equal_job, equal_input}
 
 -- ---- first of all
@@ -58,7 +58,7 @@ module _ (s : Subject) where
   with_counting st t k zero = refl
   with_counting st t k (suc e) = refl
 
-  order_counting : (p : ℕ) (st : State) (n : Name) (key : List ℕ) (k e : ℕ) → order_tests s.part p (counting st k) n key e ≡ order_tests s.part p st n key e
+  order_counting : (p : ℕ) (st : State) (n : Name) (key : List ℕ) (k e : ℕ) → order_tests s.rules.part p (counting st k) n key e ≡ order_tests s.rules.part p st n key e
   order_counting p st n key k zero = refl
   order_counting p st n key k (suc e) = refl
 
@@ -66,7 +66,7 @@ module _ (s : Subject) where
   entry_counting p st n None k = refl
   entry_counting p st n (Some t) k =
       ap (λ w. w ++ group_tests s p (with_entry (counting st k) t st.entry) (st.entries - 1)) (order_counting p st n t.key k st.entry)
-      ∙ ap (λ w. order_tests s.part p st n t.key st.entry ++ w)
+      ∙ ap (λ w. order_tests s.rules.part p st n t.key st.entry ++ w)
       (ap (λ (w : State). group_tests s p w (st.entries - 1)) (with_counting st t k st.entry) ∙ group_counting p (with_entry st t st.entry) (k + 1) (st.entries - 1))
 
   after_counting : (st : State) (o : Option Triple) (k : ℕ) → (j : ℕ) × (after_entry s (counting st k) o ≡ counting (after_entry s st o) j)
@@ -93,9 +93,9 @@ module _ (s : Subject) where
       → entry_tests s p (other st key before values k) n o ≡ entry_tests s p st n o
   first_entry p st n key before values k None h = refl
   first_entry p st n key before values k (Some t) h =
-      ap (λ e. order_tests s.part p (other st key before values k) n t.key e ++ group_tests s p (with_entry (other st key before values k) t e) (st.entries - 1)) h
-      ∙ (ap (λ w. order_tests s.part p st n t.key 0 ++ w) (group_counting p (with_entry st t 0) (k + 1) (st.entries - 1))
-      ∙ ap (λ e. order_tests s.part p st n t.key e ++ group_tests s p (with_entry st t e) (st.entries - 1)) (sym h))
+      ap (λ e. order_tests s.rules.part p (other st key before values k) n t.key e ++ group_tests s p (with_entry (other st key before values k) t e) (st.entries - 1)) h
+      ∙ (ap (λ w. order_tests s.rules.part p st n t.key 0 ++ w) (group_counting p (with_entry st t 0) (k + 1) (st.entries - 1))
+      ∙ ap (λ e. order_tests s.rules.part p st n t.key e ++ group_tests s p (with_entry st t e) (st.entries - 1)) (sym h))
 
   -- behind a first entry nothing is left of it; where there is no such pair a fault was told
   first_after : (st : State) (key : List ℕ) (before : Name) (values : List Value) (k : ℕ) (t : Triple) → st.entry ≡ 0
@@ -217,7 +217,7 @@ module _ (s : Subject) where
       by [] e =
           let next : (after s st (Entry n)).next ≡ st.next = next_of_entry st (named s.triples n) in
           let one : (after s st (Entry n)).named ≡ st.named + 1 = named_of_entry (st.next - 1) st n (named s.triples n) e in
-          let count : (after s st (Entry n)).named + entries_in is ≡ st.named + (1 + entries_in is) = omega (arith, one) in
+          let count : (after s st (Entry n)).named + entries_in is ≡ st.named + (entries_in is + 1) = omega (arith, one) in
           h ∙ ap (or_else (first (told s (after s st (Entry n)) (piece is))))
           (ap (λ k. or_else (least_fault s k (parts_in is)) (back_fault s at ((after s st (Entry n)).named + entries_in is) (is_ended is))) next
           ∙ ap (λ k. or_else (least_fault s st.next (parts_in is)) (back_fault s at k (is_ended is))) count)

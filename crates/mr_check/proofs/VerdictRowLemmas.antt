@@ -11,7 +11,7 @@ use Rattle.mr_sequential.specs.Emitted.{placed_from}
 use Rattle.mr_splits.specs.Named.{named_from, named_files}
 use Rattle.mr_check.specs.declared.fault.No.{No}
 use Rattle.mr_check.specs.Verdict.{verdict_of}
-use Rattle.mr_check.specs.VerdictRows.{words, a_b_a, a_b_aa, line, counted, name, certificate, of_groups, good_bytes, says, says_without, first_record}
+use Rattle.mr_check.specs.VerdictRows.{words, a_b_a, a_b_aa, line, a2_b1, name, certificate, of_groups, good_bytes, says, says_without, first_record}
 
 -- all that the rows compute with
 computing : ℕ
@@ -22,11 +22,11 @@ pub row_spelled : certificate 1 6 [] (((name 0 0 0 ∷ name 0 0 2 ∷ []) ∷ (n
 unfolding computing
 row_spelled = refl
 
-pub row_yes : says counted good_bytes ≡ Ok (record { skips = []; pairs = 3 })
+pub row_yes : says a2_b1 good_bytes ≡ Ok (record { skips = []; pairs = 3 })
 unfolding computing
 row_yes = rw (decimal_digit 2 (omega arith), decimal_digit 1 (omega arith))
 
-pub row_entry_order : of_groups counted ((name 0 0 0 ∷ name 0 0 0 ∷ []) ∷ (name 0 0 1 ∷ []) ∷ []) ≡ Err (No.EntryOrder 0 0 1)
+pub row_entry_order : of_groups a2_b1 ((name 0 0 0 ∷ name 0 0 0 ∷ []) ∷ (name 0 0 1 ∷ []) ∷ []) ≡ Err (No.EntryOrder 0 0 1)
 unfolding computing
 row_entry_order = refl
 
@@ -34,19 +34,19 @@ pub row_unnamed : of_groups (line 97 50) ((name 0 0 0 ∷ name 0 0 2 ∷ []) ∷
 unfolding computing
 row_unnamed = rw (decimal_digit 2 (omega arith))
 
-pub row_cut : says counted (take 91 good_bytes) ≡ Err (No.Malformed 80)
+pub row_cut : says a2_b1 (take 91 good_bytes) ≡ Err (No.Malformed 80)
 unfolding computing
 row_cut = rw (decimal_digit 2 (omega arith))
 
-pub row_longer : says counted (good_bytes ++ 0 ∷ []) ≡ Err (No.Malformed 92)
+pub row_longer : says a2_b1 (good_bytes ++ 0 ∷ []) ≡ Err (No.Malformed 92)
 unfolding computing
 row_longer = rw (decimal_digit 2 (omega arith), decimal_digit 1 (omega arith))
 
-pub row_output_longer : says (counted ++ 0 ∷ []) good_bytes ≡ Err (No.OutputDiffers 0 8)
+pub row_output_longer : says (a2_b1 ++ 0 ∷ []) good_bytes ≡ Err (No.OutputDiffers 0 8)
 unfolding computing
 row_output_longer = rw (decimal_digit 2 (omega arith), decimal_digit 1 (omega arith))
 
-pub row_output_cut : says (take 7 counted) good_bytes ≡ Err (No.OutputDiffers 0 7)
+pub row_output_cut : says (take 7 a2_b1) good_bytes ≡ Err (No.OutputDiffers 0 7)
 unfolding computing
 row_output_cut = rw (decimal_digit 2 (omega arith), decimal_digit 1 (omega arith))
 
@@ -74,11 +74,11 @@ pub row_right_partition : verdict_of (words 3 0) ((97 ∷ 10 ∷ []) ∷ []) ([]
 unfolding computing
 row_right_partition = rw (decimal_digit 1 (omega arith))
 
-pub row_no_pair : of_groups counted ((name 4294967295 4294967295 4294967295 ∷ name 0 0 2 ∷ []) ∷ (name 0 0 1 ∷ []) ∷ []) ≡ Err (No.NoSuchPair 0 0 0)
+pub row_no_pair : of_groups a2_b1 ((name 4294967295 4294967295 4294967295 ∷ name 0 0 2 ∷ []) ∷ (name 0 0 1 ∷ []) ∷ []) ≡ Err (No.NoSuchPair 0 0 0)
 unfolding computing
 row_no_pair = refl
 
-pub row_key_differs : of_groups counted ((name 0 0 0 ∷ name 0 0 1 ∷ []) ∷ (name 0 0 1 ∷ []) ∷ []) ≡ Err (No.KeyDiffers 0 0 1)
+pub row_key_differs : of_groups a2_b1 ((name 0 0 0 ∷ name 0 0 1 ∷ []) ∷ (name 0 0 1 ∷ []) ∷ []) ≡ Err (No.KeyDiffers 0 0 1)
 unfolding computing
 row_key_differs = refl
 
@@ -86,18 +86,18 @@ pub row_key_order : of_groups (line 97 49 ++ line 97 49 ++ line 98 49) ((name 0 
 unfolding computing
 row_key_order = rw (decimal_digit 1 (omega arith))
 
-pub row_swapped : of_groups counted ((name 0 0 1 ∷ []) ∷ (name 0 0 0 ∷ name 0 0 2 ∷ []) ∷ []) ≡ Err (No.OutputDiffers 0 0)
+pub row_swapped : of_groups a2_b1 ((name 0 0 1 ∷ []) ∷ (name 0 0 0 ∷ name 0 0 2 ∷ []) ∷ []) ≡ Err (No.OutputDiffers 0 0)
 unfolding computing
 row_swapped = rw (decimal_digit 1 (omega arith))
 
-pub row_other_input : verdict_of (words 1 0) (a_b_aa ∷ []) (counted ∷ []) good_bytes ≡ Err No.OtherInput
+pub row_other_input : verdict_of (words 1 0) (a_b_aa ∷ []) (a2_b1 ∷ []) good_bytes ≡ Err No.OtherInput
 unfolding computing
 row_other_input = refl
 
-pub row_other_job : verdict_of (record (words 1 0) { job = WordCount true }) (a_b_a ∷ []) (counted ∷ []) good_bytes ≡ Err No.OtherJob
+pub row_other_job : verdict_of (record (words 1 0) { job = WordCount true }) (a_b_a ∷ []) (a2_b1 ∷ []) good_bytes ≡ Err No.OtherJob
 unfolding computing
 row_other_job = refl
 
-pub row_two_outputs : verdict_of (words 1 0) (a_b_a ∷ []) (counted ∷ counted ∷ []) good_bytes ≡ Err No.OutputCount
+pub row_two_outputs : verdict_of (words 1 0) (a_b_a ∷ []) (a2_b1 ∷ a2_b1 ∷ []) good_bytes ≡ Err No.OutputCount
 unfolding computing
 row_two_outputs = refl

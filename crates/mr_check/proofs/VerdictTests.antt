@@ -39,9 +39,6 @@ passes-true b fault e = ap (λ t. passes t fault) e
 
 -- ---- orders
 
-pub names_total : IsTotalOrder name_order
-names_total = then_total (on_total (λ (n : Name). n.split) nat_cmp_total) (then_total (on_total (λ (n : Name). n.rec) nat_cmp_total) (on_total (λ (n : Name). n.place) nat_cmp_total))
-
 pub lt-less : (o : Ordering) → is_lt o ≡ true → o ≡ Less
 lt-less Less h = refl
 lt-less Equal h = absurd (cc)

@@ -1,5 +1,5 @@
 -- The verdict is yes exactly where the result is good.
-use Rattle.std.proofs.Common.{◌≡◌, ℕ, ◌+◌, ◌≤◌, true, cond, Option, Some, None, Result, Ok, List, [], ◌∷◌, ◌++◌, length, map, refl, ap, sym, ◌∙◌, subst, inl, inr, arith, ◌==◌, nat_le, nat_lt}
+use Rattle.std.proofs.Common.{◌≡◌, ℕ, ◌+◌, ◌<◌, ◌≤◌, true, cond, Option, Some, None, Result, Ok, List, [], ◌∷◌, ◌++◌, length, map, refl, ap, sym, ◌∙◌, subst, inl, inr, arith, ◌==◌, nat_le, nat_lt}
 use Rattle.std.proofs.lemmas.Bool.{eqb-true, eq-eqb, leb-true, le-leb, le-ltb}
 use Rattle.std.specs.List.{AllByRecursion, flat_map}
 use Rattle.mr_bytes.specs.declared.Name.{Name}
@@ -30,8 +30,8 @@ use Rattle.mr_check.specs.declared.fault.No.TheVariants as Fault
 use Rattle.mr_check.specs.Verdict.{Case, Subject, passes, start, part_faults, subject_of, skip_faults, count_faults, job_wanted, input_wanted, wanted_faults, faults, Accepted, accepted_by, told_by, case_of, verdict_of}
 use Rattle.mr_check.specs.VerdictLaws.{told, behind, YesIsGood, GoodIsYes}
 use Rattle.mr_check.proofs.VerdictTests.{none_left, none_right, none_both, passed, passes-true}
-use Rattle.mr_check.proofs.VerdictParts.{EachFrom, HaveEntries, parts_good, parts_pass, parts_faults}
-use Rattle.mr_check.proofs.VerdictEntries.{each_from, from_each, no_more_entries}
+use Rattle.mr_sequential.proofs.EntryLaws.{EachFrom, each_from, from_each, no_more_entries}
+use Rattle.mr_check.proofs.VerdictParts.{HaveEntries, parts_good, parts_pass, parts_faults}
 use Rattle.mr_check.proofs.VerdictHeader.{told_none, wanted_none, job_pass, input_pass, SameJob, job_is, job_same, input_is, input_same, to_end, skips_none, skips_pass, count_none, count_ends, nothing, accepted_all}
 
 -- ---- the items end
@@ -120,20 +120,21 @@ yes_is_good request files outputs bytes a are_bytes says =
     let c : Contents = found.0 in
     let u = untold (case_of request files outputs bytes) (items_of bytes) c front found.1 in
     let s : Subject = subject_of (case_of request files outputs bytes) c.skips in
-    let ts : List Triple = emitted request files c.skips in
+    let ts : List Triple = emitted request.job request.split files c.skips in
     let whole = sym (parts_faults s (stop bytes) start c.groups) ∙ u.parts in
     let fits = found.2.fits in
     let each = parts_good s c.groups start (parts_have c.groups fits.groups) (none_left (told s start (flat_map part_items c.groups)) _ whole) in
     let pass = parts_pass s c.groups start each in
     let enough : length ts ≤ (behind s start (flat_map part_items c.groups)).named = leb-true _ _ (passed _ _ (none_right (told s start (flat_map part_items c.groups)) _ whole)) in
-    let most = no_more_entries s.part s.text ts outputs 0 c.groups each in
+    let goods : (p : ℕ) → p < length c.groups → IsGoodPart s.rules ts p (groups_at c.groups p) (nth_file outputs p) =
+    λ p l. (let here : 0 + p ≡ p = omega arith in
+    subst (λ n. IsGoodPart s.rules ts n (groups_at c.groups p) (nth_file outputs n)) here (from_each (λ n gs. IsGoodPart s.rules ts n gs (nth_file outputs n)) [] 0 c.groups each p l)) in
+    let most = no_more_entries s.rules.part ts c.groups (λ p l. (goods p l).groups) in
     let all : length (entries_of c.groups) ≡ length ts = omega (arith, enough, pass.named, most) in
     let skips = (good_skips request files c.skips).0 (listed request files c.skips u.few u.listed) in
     let parts : length c.groups ≡ request.parts = fits.one_each ∙ u.job.parts in
     let told_is : accepted_by nothing (items_of bytes) ≡ record { skips = c.skips; pairs = length (entries_of c.groups) } = ap (accepted_by nothing) found.1 ∙ accepted_all c in (
-      c,
-      found.2,
-      record {
+      record { certificate = c; spelled = found.2; good = record {
         job = u.job.job;
         flags = u.job.flags;
         literal = u.job.literal;
@@ -146,11 +147,10 @@ yes_is_good request files outputs bytes a are_bytes says =
         one_each = parts;
         result = record {
           one_each = front.outputs ∙ sym parts;
-          each = λ p l. (let here : 0 + p ≡ p = omega arith in
-              subst (λ n. IsGoodPart s.part s.text ts n (groups_at c.groups p) (nth_file outputs n)) here (from_each (λ n gs. IsGoodPart s.part s.text ts n gs (nth_file outputs n)) [] 0 c.groups each p l));
+          each = goods;
           none_left_out = all;
         };
-      },
+      } },
       sym none.1 ∙ (told_is ∙ ap (λ (n : ℕ). let it : Accepted = record { skips = c.skips; pairs = n } in it) all),
     )
   where
@@ -181,15 +181,18 @@ told_items bytes c spells = ap (accepted_by nothing) (spelled_items bytes c spel
 
 pub good_is_yes : GoodIsYes
 unfolding verdict_of
-good_is_yes request files outputs bytes c spells good =
+good_is_yes request files outputs bytes it =
+    let c : Contents = it.certificate in
+    let spells = it.spelled in
+    let good = it.good in
     let s : Subject = subject_of (case_of request files outputs bytes) c.skips in
-    let ts : List Triple = emitted request files c.skips in
+    let ts : List Triple = emitted request.job request.split files c.skips in
     let job : SameJob c request = record { job = good.job; flags = good.flags; literal = good.literal; parts = good.parts; size = good.split_size } in
     let items : items_of bytes ≡ job_wanted request ++ (input_wanted files ++ (skip_items c ++ to_end c.groups)) = spelled_items bytes c spells ∙ items_are request files c job good.lengths in
     let outputs_are : length outputs ≡ request.parts = good.result.one_each ∙ good.one_each in
-    let each : EachFrom (λ p gs. IsGoodPart s.part s.text ts p gs (nth_file outputs p)) 0 c.groups =
-    each_from (λ p gs. IsGoodPart s.part s.text ts p gs (nth_file outputs p)) [] 0 c.groups
-    (λ p l. (let here : p ≡ 0 + p = omega arith in subst (λ n. IsGoodPart s.part s.text ts n (groups_at c.groups p) (nth_file outputs n)) here (good.result.each p l))) in
+    let each : EachFrom (λ p gs. IsGoodPart s.rules ts p gs (nth_file outputs p)) 0 c.groups =
+    each_from (λ p gs. IsGoodPart s.rules ts p gs (nth_file outputs p)) [] 0 c.groups
+    (λ p l. (let here : p ≡ 0 + p = omega arith in subst (λ n. IsGoodPart s.rules ts n (groups_at c.groups p) (nth_file outputs n)) here (good.result.each p l))) in
     let pass = parts_pass s c.groups start each in
     let all : length ts ≤ (behind s start (flat_map part_items c.groups)).named = omega (arith, pass.named, good.result.none_left_out) in
     let parts : part_faults s (stop bytes) start (to_end c.groups) ≡ [] =

@@ -9,8 +9,8 @@ use Rattle.mr_check.specs.declared.fault.No.{No}
 use Rattle.mr_index.specs.Index.{pair_at}
 use Rattle.mr_check.specs.declared.ahead.Sought.{Sought}
 use Rattle.mr_check.specs.declared.ahead.Row.{Row}
-use Rattle.mr_check.specs.Verdict.{State, Subject, part_faults}
-use Rattle.mr_check.specs.Judging.{first, Told, Room, entries_in}
+use Rattle.mr_check.specs.Verdict.{State, Subject, part_faults, first, entries_in}
+use Rattle.mr_check.specs.Judging.{Told, Room}
 
 -- items with others behind them; behind an end nothing is left
 abbrev pub onto : List Item → List Item → List Item

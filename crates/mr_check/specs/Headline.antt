@@ -10,11 +10,13 @@ use Rattle.mr_splits.specs.Named.{named_records}
 use Rattle.mr_splits.specs.Cut.{is_record}
 use Rattle.mr_certform.specs.Value.{Contents, Spells}
 use Rattle.mr_sequential.specs.Emitted.{emitted}
+use Rattle.mr_sequential.specs.Rules.{rules_of}
+use Rattle.mr_sequential.specs.Laws.{IsInKeyOrder}
 use Rattle.mr_sequential.specs.Sequential.{sequential}
 
 -- the bytes spell a certificate that lists just these left-out records; they rise, exist, and are no more than the
--- order allows; there are as many outputs as partitions, each byte for byte that of the sequential execution without
--- those records; and so many pairs are emitted without them
+-- request allows; there are as many outputs as partitions, each byte for byte that of the sequential execution without
+-- those records, its keys rising strictly; and so many pairs are emitted without them
 pub record IsCertified (request : RequestSpec) (files outputs : List (List ℕ)) (bytes : List ℕ) (skips : List RecordName) (pairs : ℕ) : Type 0 where
   pub certificate : Contents
   pub spelled : Spells bytes certificate
@@ -24,4 +26,5 @@ pub record IsCertified (request : RequestSpec) (files outputs : List (List ℕ))
   pub allowed : length skips ≤ request.skips
   pub count : length outputs ≡ request.parts
   pub sequential_is : (p : ℕ) → p < request.parts → nth_file outputs p ≡ sequential request files skips p
-  pub all : pairs ≡ length (emitted request files skips)
+  pub by_key : (p : ℕ) → p < request.parts → IsInKeyOrder (rules_of request) (emitted request.job request.split files skips) p (nth_file outputs p)
+  pub all : pairs ≡ length (emitted request.job request.split files skips)

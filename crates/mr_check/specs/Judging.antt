@@ -6,18 +6,12 @@ use Rattle.mr_splits.specs.Named.{NamedRecord}
 use Rattle.mr_splits.specs.Cut.{is_record}
 use Rattle.mr_certform.specs.declared.item.Item.{Item}
 use Rattle.mr_certform.specs.declared.item.Item.TheVariants.{Skips, Skip, Entry}
-use Rattle.mr_partition.specs.Partition.{partition_of}
-use Rattle.mr_reduce.specs.Text.{text_of}
 use Rattle.mr_sequential.specs.Emitted.{Triple}
+use Rattle.mr_sequential.specs.Rules.{rules_of}
 use Rattle.mr_sequential.specs.Skips.{is_past}
 use Rattle.mr_check.specs.declared.fault.No.{No}
 use Rattle.mr_check.specs.declared.fault.No.TheVariants.{OtherJob, OtherInput, Malformed, SkipOrder, NoSuchRecord, TooManySkips, OutOfMemory}
-use Rattle.mr_check.specs.Verdict.{Case, State, Subject, item_eq, last_of, job_wanted, input_wanted}
-
--- the first fault, if there is one
-abbrev pub first : List No → Option No
-first [] = None
-first (f ∷ fs) = Some f
+use Rattle.mr_check.specs.Verdict.{first, Case, State, Subject, item_eq, last_of, job_wanted, input_wanted}
 
 -- an answer for these faults: the first of them, or want of memory
 abbrev pub Told : List No → No → Type 0
@@ -32,8 +26,7 @@ pub record Known : Type 0 where
 abbrev pub subject : Known → Subject
 subject k = record {
   triples = k.triples;
-  part = λ key. partition_of key k.request.parts;
-  text = text_of k.request.job;
+  rules = rules_of k.request;
   outputs = k.outputs;
 }
 
@@ -100,12 +93,6 @@ abbrev pub listed : List NamedRecord → ℕ → List RecordName → List Item �
 listed rs at skips [] = Err (Malformed at)
 listed rs at skips (Skip s ∷ is) = unless (skip_fault rs (last_of skips) s (length skips)) (listed rs at (skips ++ s ∷ []) is)
 listed rs at skips is = Ok (record { skips = skips; behind = is })
-
--- how many entries there are
-abbrev pub entries_in : List Item → ℕ
-entries_in [] = 0
-entries_in (Entry name ∷ is) = entries_in is + 1
-entries_in (i ∷ is) = entries_in is
 
 -- no left-out record is listed
 abbrev pub no_skip : List Item → Bool

@@ -3,5 +3,6 @@ pub mod Judging
 pub mod Ahead
 pub mod VerdictRows
 pub mod VerdictLaws
+pub mod FaultLaws
 pub mod Headline
 pub mod Metered

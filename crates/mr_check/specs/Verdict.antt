@@ -10,8 +10,6 @@ use Rattle.mr_bytes.specs.declared.Value.{Value}
 use Rattle.mr_bytes.specs.Order.{key_order, name_order}
 use Rattle.mr_input.specs.Files.{nth_file}
 use Rattle.mr_jobs.specs.JobSpec.{RequestSpec, job_number, job_flags, job_literal}
-use Rattle.mr_partition.specs.Partition.{partition_of}
-use Rattle.mr_reduce.specs.Text.{text_of}
 use Rattle.mr_splits.specs.Named.{named_records}
 use Rattle.mr_splits.specs.Cut.{is_record}
 use Rattle.mr_certform.specs.declared.item.Item.{Item}
@@ -19,6 +17,7 @@ use Rattle.mr_certform.specs.declared.item.Item.TheVariants.{Magic, Job, Flags, 
 use Rattle.mr_certform.specs.Spelling.{items_of, stop}
 use Rattle.mr_certform.specs.Places.{first_name}
 use Rattle.mr_sequential.specs.Emitted.{Triple, emitted}
+use Rattle.mr_sequential.specs.Rules.{Rules, rules_of}
 use Rattle.mr_sequential.specs.Good.{named}
 use Rattle.mr_sequential.specs.Skips.{is_past}
 use Rattle.mr_check.specs.declared.fault.No.{No}
@@ -90,27 +89,26 @@ abbrev pub with_entry : State → Triple → ℕ → State
 with_entry st t zero = record st { entry = 1; entries = st.entries - 1; key = t.key; before = t.name; values = t.value ∷ []; named = st.named + 1 }
 with_entry st t (suc e) = record st { entry = suc e + 1; entries = st.entries - 1; before = t.name; values = st.values ++ t.value ∷ []; named = st.named + 1 }
 
--- what is judged against in the partitions: all that is emitted, the partition of a key, the text of a group
+-- what is judged against in the partitions: all that is emitted, the partition of a key and the text of a group, the outputs
 pub record Subject : Type 0 where
   pub triples : List Triple
-  pub part : List ℕ → ℕ
-  pub text : List ℕ → List Value → List ℕ
+  pub rules : Rules
   pub outputs : List (List ℕ)
 
 -- behind the last entry of a group its text is compared, and where it is the last group its partition ends
 abbrev pub group_tests : Subject → ℕ → State → ℕ → List No
 group_tests s p st zero =
-    let text = s.text st.key st.values in
+    let text = s.rules.text st.key st.values in
     text_tests (nth_file s.outputs p) p st.from text ++ end_tests (nth_file s.outputs p) p (st.groups - 1) (st.from + length text)
 group_tests s p st (suc n) = []
 
 abbrev pub behind_group : Subject → State → ℕ → State
-behind_group s st zero = record st { groups = st.groups - 1; group = st.group + 1; key_before = Some st.key; from = st.from + length (s.text st.key st.values) }
+behind_group s st zero = record st { groups = st.groups - 1; group = st.group + 1; key_before = Some st.key; from = st.from + length (s.rules.text st.key st.values) }
 behind_group s st (suc n) = st
 
 abbrev pub entry_tests : Subject → ℕ → State → Name → Option Triple → List No
 entry_tests s p st name None = NoSuchPair p st.group st.entry ∷ []
-entry_tests s p st name (Some t) = order_tests s.part p st name t.key st.entry ++ group_tests s p (with_entry st t st.entry) (st.entries - 1)
+entry_tests s p st name (Some t) = order_tests s.rules.part p st name t.key st.entry ++ group_tests s p (with_entry st t st.entry) (st.entries - 1)
 
 abbrev pub after_entry : Subject → State → Option Triple → State
 after_entry s st None = st
@@ -141,9 +139,8 @@ part_faults s at st (i ∷ is) = tests s st i ++ part_faults s at (after s st i)
 -- the subject, with what is emitted without these records
 abbrev pub subject_of : Case → List RecordName → Subject
 subject_of c skips = record {
-  triples = emitted c.request c.files skips;
-  part = λ k. partition_of k c.request.parts;
-  text = text_of c.request.job;
+  triples = emitted c.request.job c.request.split c.files skips;
+  rules = rules_of c.request;
   outputs = c.outputs;
 }
 
@@ -214,7 +211,18 @@ accepted_by a (Skip s ∷ is) = accepted_by (record a { skips = a.skips ++ s ∷
 accepted_by a (Entry name ∷ is) = accepted_by (record a { pairs = a.pairs + 1 }) is
 accepted_by a (i ∷ is) = accepted_by a is
 
--- the first fault, if there is one
+-- how many entries there are
+abbrev pub entries_in : List Item → ℕ
+entries_in [] = 0
+entries_in (Entry name ∷ is) = entries_in is + 1
+entries_in (i ∷ is) = entries_in is
+
+-- the first of the faults
+abbrev pub first : List No → Option No
+first [] = None
+first (fault ∷ faults) = Some fault
+
+-- a yes, unless there is a fault
 abbrev pub told_by : List No → Accepted → Result Accepted No
 told_by [] accepted = Ok accepted
 told_by (fault ∷ faults) accepted = Err fault

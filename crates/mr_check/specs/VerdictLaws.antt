@@ -12,25 +12,29 @@ use Rattle.mr_certform.specs.Grammar.{AreBytes, InOrder}
 use Rattle.mr_certform.specs.Spelling.{items_of, bytes_from, is_ended}
 use Rattle.mr_certform.specs.Value.{Contents, Spells}
 use Rattle.mr_sequential.specs.Emitted.{emitted}
-use Rattle.mr_sequential.specs.Good.{IsGood}
+use Rattle.mr_sequential.specs.Good.{IsGoodResult}
 use Rattle.mr_sequential.specs.Skips.{is_past}
 use Rattle.mr_check.specs.declared.fault.No.{No}
 use Rattle.mr_check.specs.declared.fault.No.TheVariants.{OutputCount, Malformed, OtherJob, OtherInput, SkipOrder, NoSuchRecord, TooManySkips, NoSuchPair, EntryOrder, KeyDiffers, WrongPartition, KeyOrder, OutputDiffers, Unnamed}
-use Rattle.mr_check.specs.Verdict.{Case, Accepted, State, Subject, passes, start, tests, after, subject_of, last_of, job_wanted, input_wanted, wanted_faults, faults, case_of, verdict_of}
+use Rattle.mr_check.specs.Verdict.{first, entries_in, Case, Accepted, State, Subject, passes, start, tests, after, subject_of, last_of, job_wanted, input_wanted, wanted_faults, faults, case_of, verdict_of}
 
 -- ---- yes
+
+-- what is told of a good result: what its certificate leaves out, and how many pairs are emitted without that
+abbrev pub told_of : {request : RequestSpec} {files outputs : List (List ℕ)} {bytes : List ℕ} → IsGoodResult request files outputs bytes → Accepted
+told_of {request} {files} {outputs} {bytes} r =
+    let skips = r.certificate.skips in record { skips = skips; pairs = length (emitted request.job request.split files skips) }
 
 -- a result that is judged good is good, and what is told of it are its left-out records and the number of its pairs
 abbrev pub YesIsGood : Type 0
 YesIsGood = (request : RequestSpec) (files outputs : List (List ℕ)) (bytes : List ℕ) (accepted : Accepted)
     → AreBytes bytes → verdict_of request files outputs bytes ≡ Ok accepted
-    → (c : Contents) × Spells bytes c × IsGood request files outputs c × (accepted ≡ record { skips = c.skips; pairs = length (emitted request files c.skips) })
+    → (r : IsGoodResult request files outputs bytes) × (accepted ≡ told_of r)
 
 -- a good result is judged good
 abbrev pub GoodIsYes : Type 0
-GoodIsYes = (request : RequestSpec) (files outputs : List (List ℕ)) (bytes : List ℕ) (c : Contents)
-    → Spells bytes c → IsGood request files outputs c
-    → verdict_of request files outputs bytes ≡ Ok (record { skips = c.skips; pairs = length (emitted request files c.skips) })
+GoodIsYes = (request : RequestSpec) (files outputs : List (List ℕ)) (bytes : List ℕ) (r : IsGoodResult request files outputs bytes)
+    → verdict_of request files outputs bytes ≡ Ok (told_of r)
 
 -- ---- items in turn
 
@@ -45,10 +49,6 @@ behind s st [] = st
 behind s st (i ∷ is) = behind s (after s st i) is
 
 -- ---- the place of a fault
-
-abbrev pub first : List No → Option No
-first [] = None
-first (fault ∷ faults) = Some fault
 
 abbrev pub or_else : Option No → Option No → Option No
 or_else None other = other
@@ -78,12 +78,6 @@ abbrev pub parts_in : List Item → List (List Item)
 parts_in [] = []
 parts_in (Groups n ∷ is) = (Groups n ∷ piece is) ∷ parts_in is
 parts_in (i ∷ is) = parts_in is
-
--- how many entries there are
-abbrev pub entries_in : List Item → ℕ
-entries_in [] = 0
-entries_in (Entry name ∷ is) = 1 + entries_in is
-entries_in (i ∷ is) = entries_in is
 
 -- what is told before the partitions
 abbrev pub front_skips : Case → List RecordName → List Item → List No
@@ -165,13 +159,13 @@ LaterOutputsDontMatter = (request : RequestSpec) (files outputs others : List (L
 -- ---- how far outputs are compared
 
 -- what is remembered before the item of which the first fault is told, or where none is told behind them all
-abbrev pub unless : List No → State → State → State
-unless [] st later = later
-unless (fault ∷ faults) st later = st
+abbrev pub last_before : List No → State → State → State
+last_before [] st later = later
+last_before (fault ∷ faults) st later = st
 
 abbrev pub before_fault : Subject → State → List Item → State
 before_fault s st [] = st
-before_fault s st (i ∷ is) = unless (tests s st i) st (before_fault s (after s st i) is)
+before_fault s st (i ∷ is) = last_before (tests s st i) st (before_fault s (after s st i) is)
 
 -- another output has the bytes that were compared by then: all of them where no group is still to come, and else those
 -- before the place of the next text

@@ -28,8 +28,8 @@ abbrev pub line : ℕ → ℕ → List ℕ
 line word digit = word ∷ 9 ∷ digit ∷ 10 ∷ []
 
 -- two times `a`, once `b`
-abbrev pub counted : List ℕ
-counted = line 97 50 ++ line 98 49
+abbrev pub a2_b1 : List ℕ
+a2_b1 = line 97 50 ++ line 98 49
 
 abbrev pub name : ℕ → ℕ → ℕ → Name
 name split rec place = record { split = split; rec = rec; place = place }

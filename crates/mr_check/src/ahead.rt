@@ -4,7 +4,7 @@ ghost use Rattle.std.specs.Prelude.{◌≡◌, ◌⊎◌, ◌<◌, ◌≤◌, �
 ghost use Rattle.std.specs.List.{AllByRecursion};
 ghost use Rattle.mr_certform.specs.Walking.{items_left, halt};
 ghost use Rattle.mr_check.specs.declared.fault.No.TheVariants.{Malformed, OutOfMemory};
-ghost use Rattle.mr_check.specs.Judging.{entries_in};
+ghost use Rattle.mr_check.specs.Verdict.{entries_in};
 ghost use Rattle.mr_check.specs.Ahead.{onto, items_sought, items_in, IsPlaced, IsFound};
 
 use crate::facts::Facts;

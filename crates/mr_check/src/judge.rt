@@ -4,10 +4,10 @@ ghost use Rattle.mr_input.specs.Files.{contents, split_total};
 ghost use Rattle.mr_certform.specs.Walking.{items_left, halt};
 ghost use Rattle.mr_certform.specs.Spelling.{items_of, stop};
 ghost use Rattle.mr_check.specs.declared.fault.No.TheVariants.{OutOfMemory};
-ghost use Rattle.mr_check.specs.Verdict.{start, subject_of, part_faults, count_faults, accepted_by, verdict_of};
+ghost use Rattle.mr_check.specs.Verdict.{start, subject_of, part_faults, count_faults, accepted_by, verdict_of, first, entries_in};
 ghost use Rattle.mr_check.specs.Headline.{IsCertified};
 ghost use Rattle.mr_check.specs.Metered.{IsBounded, IsExact, cut_by};
-ghost use Rattle.mr_check.specs.Judging.{first, Told, header_met, awaits_skips, case_at, entries_in};
+ghost use Rattle.mr_check.specs.Judging.{Told, header_met, awaits_skips, case_at};
 
 use crate::facts::Facts;
 use crate::fault::No;

@@ -164,7 +164,7 @@ impl<'a> Judging<'a> {
         value: Value,
     ) -> Result<(), No>
         requires { HasRoom self.old }
-        ensures { let fs = first_tests (subject facts.now).part p self.old.group self.old.key_before key.entry.now in
+        ensures { let fs = first_tests (subject facts.now).rules.part p self.old.group self.old.key_before key.entry.now in
             MatchResult result (λ _. (fs ≡ []) × (self.new ≡ with_entry self.old (record { key = key.entry.now; value = value; name = name }) 0)) (λ e. Told fs e) }
     {
         test_first(facts, p, self.group, self.key_before, key)?;
@@ -194,7 +194,7 @@ impl<'a> Judging<'a> {
         value: Value,
     ) -> Result<(), No>
         requires { HasRoom self.old }
-        ensures { let fs = order_tests (subject facts.now).part p self.old name key.entry.now self.old.entry in
+        ensures { let fs = order_tests (subject facts.now).rules.part p self.old name key.entry.now self.old.entry in
             MatchResult result (λ _. (fs ≡ []) × (self.new ≡ with_entry self.old (record { key = key.entry.now; value = value; name = name }) self.old.entry)) (λ e. Told fs e) }
     {
         if self.entry == 0 {

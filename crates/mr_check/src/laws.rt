@@ -2,8 +2,9 @@ ghost use Rattle.std.specs.Prelude.{◌≡◌, ◌∷◌, [], ◌++◌, take, tr
 ghost use Rattle.mr_jobs.specs.JobSpec.{WordCount};
 ghost use Rattle.mr_check.specs.declared.fault.No.{No};
 ghost use Rattle.mr_check.specs.Verdict.{verdict_of};
+ghost use Rattle.mr_check.specs.FaultLaws.{FaultsAreTrue};
 ghost use Rattle.mr_check.specs.VerdictLaws.{YesIsGood, GoodIsYes, FaultByPlace, LaterItemsDontMatter, LaterOutputsDontMatter, OnlyComparedMatters, OtherOutputsDontMatter, BytesBehindDontMatter};
-ghost use Rattle.mr_check.specs.VerdictRows.{words, a_b_a, a_b_aa, line, counted, name, certificate, of_groups, good_bytes, says, says_without, first_record};
+ghost use Rattle.mr_check.specs.VerdictRows.{words, a_b_a, a_b_aa, line, a2_b1, name, certificate, of_groups, good_bytes, says, says_without, first_record};
 
 /// The verdict is yes exactly where the result is good, and it tells the left-out records and how many pairs there are.
 pub fn yes_law()
@@ -31,27 +32,33 @@ pub fn partition_law()
     ensures compared { BytesBehindDontMatter }
 {}
 
+/// What each fault means: it is true of the certificate that was read, as far as its items stand, in the partition, the
+/// group and the entry that it names.
+pub fn fault_law()
+    ensures { FaultsAreTrue }
+{}
+
 /// Worked verdicts.
 pub fn worked_rows()
     ensures spelled { certificate 1 6 [] (((name 0 0 0 ∷ name 0 0 2 ∷ []) ∷ (name 0 0 1 ∷ []) ∷ []) ∷ []) ≡ good_bytes }
-    ensures yes { says counted good_bytes ≡ Ok (record { skips = []; pairs = 3 }) }
-    ensures entry_order { of_groups counted ((name 0 0 0 ∷ name 0 0 0 ∷ []) ∷ (name 0 0 1 ∷ []) ∷ []) ≡ Err (No.EntryOrder 0 0 1) }
+    ensures yes { says a2_b1 good_bytes ≡ Ok (record { skips = []; pairs = 3 }) }
+    ensures entry_order { of_groups a2_b1 ((name 0 0 0 ∷ name 0 0 0 ∷ []) ∷ (name 0 0 1 ∷ []) ∷ []) ≡ Err (No.EntryOrder 0 0 1) }
     ensures unnamed { of_groups (line 97 50) ((name 0 0 0 ∷ name 0 0 2 ∷ []) ∷ []) ≡ Err (No.Unnamed 3 2) }
-    ensures cut { says counted (take 91 good_bytes) ≡ Err (No.Malformed 80) }
-    ensures longer { says counted (good_bytes ++ 0 ∷ []) ≡ Err (No.Malformed 92) }
-    ensures output_longer { says (counted ++ 0 ∷ []) good_bytes ≡ Err (No.OutputDiffers 0 8) }
-    ensures output_cut { says (take 7 counted) good_bytes ≡ Err (No.OutputDiffers 0 7) }
+    ensures cut { says a2_b1 (take 91 good_bytes) ≡ Err (No.Malformed 80) }
+    ensures longer { says a2_b1 (good_bytes ++ 0 ∷ []) ≡ Err (No.Malformed 92) }
+    ensures output_longer { says (a2_b1 ++ 0 ∷ []) good_bytes ≡ Err (No.OutputDiffers 0 8) }
+    ensures output_cut { says (take 7 a2_b1) good_bytes ≡ Err (No.OutputDiffers 0 7) }
     ensures too_many { says_without 0 (first_record ∷ []) ≡ Err (No.TooManySkips 1) }
     ensures left_out { says_without 1 (first_record ∷ []) ≡ Ok (record { skips = first_record ∷ []; pairs = 1 }) }
     ensures skip_twice { says_without 2 (first_record ∷ first_record ∷ []) ≡ Err (No.SkipOrder 1) }
     ensures no_record { says_without 1 (record { split = 0; rec = 2 } ∷ []) ≡ Err (No.NoSuchRecord 0) }
     ensures wrong_partition { verdict_of (words 3 0) ((97 ∷ 10 ∷ []) ∷ []) (line 97 49 ∷ [] ∷ [] ∷ []) (certificate 3 2 [] (((name 0 0 0 ∷ []) ∷ []) ∷ [] ∷ [] ∷ [])) ≡ Err (No.WrongPartition 0 0 0) }
     ensures right_partition { verdict_of (words 3 0) ((97 ∷ 10 ∷ []) ∷ []) ([] ∷ line 97 49 ∷ [] ∷ []) (certificate 3 2 [] ([] ∷ ((name 0 0 0 ∷ []) ∷ []) ∷ [] ∷ [])) ≡ Ok (record { skips = []; pairs = 1 }) }
-    ensures no_pair { of_groups counted ((name 4294967295 4294967295 4294967295 ∷ name 0 0 2 ∷ []) ∷ (name 0 0 1 ∷ []) ∷ []) ≡ Err (No.NoSuchPair 0 0 0) }
-    ensures key_differs { of_groups counted ((name 0 0 0 ∷ name 0 0 1 ∷ []) ∷ (name 0 0 1 ∷ []) ∷ []) ≡ Err (No.KeyDiffers 0 0 1) }
+    ensures no_pair { of_groups a2_b1 ((name 4294967295 4294967295 4294967295 ∷ name 0 0 2 ∷ []) ∷ (name 0 0 1 ∷ []) ∷ []) ≡ Err (No.NoSuchPair 0 0 0) }
+    ensures key_differs { of_groups a2_b1 ((name 0 0 0 ∷ name 0 0 1 ∷ []) ∷ (name 0 0 1 ∷ []) ∷ []) ≡ Err (No.KeyDiffers 0 0 1) }
     ensures key_order { of_groups (line 97 49 ++ line 97 49 ++ line 98 49) ((name 0 0 0 ∷ []) ∷ (name 0 0 2 ∷ []) ∷ (name 0 0 1 ∷ []) ∷ []) ≡ Err (No.KeyOrder 0 1 0) }
-    ensures swapped { of_groups counted ((name 0 0 1 ∷ []) ∷ (name 0 0 0 ∷ name 0 0 2 ∷ []) ∷ []) ≡ Err (No.OutputDiffers 0 0) }
-    ensures other_input { verdict_of (words 1 0) (a_b_aa ∷ []) (counted ∷ []) good_bytes ≡ Err No.OtherInput }
-    ensures other_job { verdict_of (record (words 1 0) { job = WordCount true }) (a_b_a ∷ []) (counted ∷ []) good_bytes ≡ Err No.OtherJob }
-    ensures two_outputs { verdict_of (words 1 0) (a_b_a ∷ []) (counted ∷ counted ∷ []) good_bytes ≡ Err No.OutputCount }
+    ensures swapped { of_groups a2_b1 ((name 0 0 1 ∷ []) ∷ (name 0 0 0 ∷ name 0 0 2 ∷ []) ∷ []) ≡ Err (No.OutputDiffers 0 0) }
+    ensures other_input { verdict_of (words 1 0) (a_b_aa ∷ []) (a2_b1 ∷ []) good_bytes ≡ Err No.OtherInput }
+    ensures other_job { verdict_of (record (words 1 0) { job = WordCount true }) (a_b_a ∷ []) (a2_b1 ∷ []) good_bytes ≡ Err No.OtherJob }
+    ensures two_outputs { verdict_of (words 1 0) (a_b_a ∷ []) (a2_b1 ∷ a2_b1 ∷ []) good_bytes ≡ Err No.OutputCount }
 {}

@@ -18,4 +18,4 @@ mod wanted;
 
 pub use fault::No;
 pub use judge::{Yes, check, check_metered};
-pub use laws::{locality_law, partition_law, place_law, worked_rows, yes_law};
+pub use laws::{fault_law, locality_law, partition_law, place_law, worked_rows, yes_law};

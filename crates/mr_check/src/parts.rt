@@ -3,8 +3,8 @@ ghost use Rattle.std.specs.Prelude.{◌≡◌, ℕ, ◌<◌, ◌≤◌, ◌+◌,
 ghost use Rattle.std.specs.List.{AllByRecursion};
 ghost use Rattle.mr_certform.specs.declared.item.Item.{Item as Read};
 ghost use Rattle.mr_certform.specs.Walking.{items_left, halt};
-ghost use Rattle.mr_check.specs.Verdict.{start, part_faults};
-ghost use Rattle.mr_check.specs.Judging.{subject, first, Told, Room, entries_in};
+ghost use Rattle.mr_check.specs.Verdict.{start, part_faults, first, entries_in};
+ghost use Rattle.mr_check.specs.Judging.{subject, Told, Room};
 ghost use Rattle.mr_check.specs.Ahead.{items_in, IsFound, Judged};
 
 use crate::ahead::{BLOCK, Row, fetch_all, read_block, seek_all, touch};

@@ -44,7 +44,7 @@ pub(crate) fn test_first(
     key_before: Option<&[u8]>,
     key: &[u8],
 ) -> Result<(), No>
-    ensures { let fs = first_tests (subject facts.now).part p group (option_map (λ r. r.now) key_before.entry) key.now in MatchResult result (λ _. fs ≡ []) (λ e. Told fs e) }
+    ensures { let fs = first_tests (subject facts.now).rules.part p group (option_map (λ r. r.now) key_before.entry) key.now in MatchResult result (λ _. fs ≡ []) (λ e. Told fs e) }
 {
     if facts.part(key) != p {
         return Err(No::WrongPartition {

@@ -9,9 +9,9 @@ use Rattle.mr_splits.specs.Named.{NamedRecord, is_left_out}
 use Rattle.mr_splits.specs.Cut.{Cut}
 use Rattle.mr_sequential.specs.Emitted.{Triple, emitted}
 
--- all triples of a job over files that are cut, without the left-out records; the other numbers of an order don't matter
+-- all triples of a job over files that are cut, without the left-out records
 abbrev pub triples_of : JobSpec → Cut → List RecordName → List Triple
-triples_of job cut skips = emitted (record { job = job; parts = 1; split = cut.size; skips = 0 }) cut.files skips
+triples_of job cut skips = emitted job cut.size cut.files skips
 
 -- how many of the records are mapped
 abbrev pub mapped_among : List RecordName → List NamedRecord → ℕ

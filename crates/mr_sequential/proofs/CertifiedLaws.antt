@@ -16,15 +16,15 @@ use Rattle.mr_partition.specs.Partition.{partition_of}
 use Rattle.mr_reduce.specs.Text.{text_of}
 use Rattle.mr_sequential.specs.Emitted.{Triple, emitted}
 use Rattle.mr_sequential.specs.Sequential.{keys_of, triples_with, values_of, texts_of}
-use Rattle.mr_sequential.specs.Good.{named, key_under, key_of, values_under, text_under, IsGoodGroup, IsGoodPart, groups_at, entries_of, AreGood}
+use Rattle.mr_sequential.specs.Good.{named, key_under, key_of, values_under, text_under, IsGoodGroup, AreGoodGroups, IsGoodPart, groups_at, entries_of, AreGood}
 use Rattle.mr_sequential.specs.Certified.{names_with, groups_of}
 use Rattle.mr_sequential.specs.GoodLaws.{SequentialIsGood}
-use Rattle.mr_sequential.proofs.ListLaws.{Has-all, all_from_Has, Has-map, Has-map_from, Has-flat_map, Has-flat_map_from, Distinct-rises, without, in_without, length-without}
+use Rattle.mr_sequential.proofs.ListLaws.{Has-all, all_from_Has, Has-map, Has-map_from, Has-flat_map, Has-flat_map_from, Distinct-rises, no_longer}
 use Rattle.mr_sequential.proofs.KeyLaws.{bytes_eq-is, bytes_eq-same, keys_rise}
 use Rattle.mr_sequential.proofs.NameLaws.{names_rise}
 use Rattle.mr_sequential.proofs.NamedLaws.{triples_under, named-of, Has-filter, Has-filter_from, Rises-filter, triple_order, rises_by_name}
 use Rattle.mr_sequential.proofs.SkipLaws.{good_skips}
-use Rattle.mr_sequential.proofs.EntryLaws.{names_total, EachFrom, AreGoodGroups, distinct_entries}
+use Rattle.mr_sequential.proofs.EntryLaws.{names_total, EachFrom, distinct_entries}
 use Rattle.mr_sequential.proofs.GoodLaws.{flat_map-agree, keys-triple, triple-keys}
 
 names_from : (ts : List Triple) → Rises triple_order ts → Rises name_order (map (λ (t : Triple). t.name) ts)
@@ -35,16 +35,6 @@ names_from (t ∷ ts) r = (
       subst (λ m. name_order t.name m ≡ Less) u.2 (Has-all (λ v. triple_order t v ≡ Less) ts u.0 r.0 u.1)),
   names_from ts r.1,
 )
-
--- distinct elements of a list are no more than it has
-no_longer : {X : Type 0} (xs ys : List X) → Distinct xs → ((x : X) → Has xs x → Has ys x) → length xs ≤ length ys
-no_longer [] ys d f = omega arith
-no_longer (x ∷ xs) ys d f =
-    let h = f x (inl refl) in
-    let rest : length xs ≤ length (without ys x h) =
-    no_longer xs (without ys x h) d.1
-    (λ z a. elim (in_without ys x h z (f z (inr a))) [ inl e ↦ absurd (d.0 (subst (Has xs) (sym e) a)) | inr b ↦ b ]) in
-    omega (arith, rest, length-without ys x h)
 
 in_range : (a n i : ℕ) → i < n → Has (range_with_len a n) (a + i)
 in_range a zero i l = absurd (omega arith)
@@ -130,15 +120,14 @@ module _ (part : List ℕ → ℕ) (text : List ℕ → List Value → List ℕ)
     good_groups_here : AreGoodGroups part ts p (groups_of part ts p)
     unfolding keys_at
     good_groups_here = record {
-      groups = groups_good (keys_at p) (λ k h. h);
+      each = groups_good (keys_at p) (λ k h. h);
       keys_rise = subst (Rises key_order) (sym (keys_back (keys_at p) (λ k h. h))) (keys_rise part (map (λ (u : Triple). u.key) ts) p).0;
     }
 
-    good_part_here : (output : List ℕ) → output ≡ texts_of part text ts p → IsGoodPart part text ts p (groups_of part ts p) output
+    good_part_here : (output : List ℕ) → output ≡ texts_of (record { part = part; text = text }) ts p → IsGoodPart (record { part = part; text = text }) ts p (groups_of part ts p) output
     unfolding keys_at
     good_part_here output is = record {
-      groups = good_groups_here.groups;
-      keys_rise = good_groups_here.keys_rise;
+      groups = good_groups_here;
       output_is = is
           ∙ (flat_map-agree (λ k. text k (values_of ts k)) (λ k. text_under text ts (names_with ts k)) (keys_at p) same_text
           ∙ sym (flat_map-map (text_under text ts) (names_with ts) (keys_at p)));
@@ -189,14 +178,14 @@ module _ (part : List ℕ → ℕ) (text : List ℕ → List Value → List ℕ)
 
   -- the groups of all partitions, with the texts as outputs, are good
   pub parts_are_good : (n : ℕ) (outputs : List (List ℕ)) → ((t : Triple) → Has ts t → part t.key < n) → length outputs ≡ n
-      → ((p : ℕ) → p < n → nth_file outputs p ≡ texts_of part text ts p) → AreGood part text ts (map (groups_of part ts) (range_with_len 0 n)) outputs
+      → ((p : ℕ) → p < n → nth_file outputs p ≡ texts_of (record { part = part; text = text }) ts p) → AreGood (record { part = part; text = text }) ts (map (groups_of part ts) (range_with_len 0 n)) outputs
   unfolding names parts_of
   parts_are_good n outputs fits count same = record {
     one_each = count ∙ sym (length-map-range_with_len (groups_of part ts) 0 n);
     each = λ p l.
         let less : p < n = omega (arith, l, length-map-range_with_len (groups_of part ts) 0 n) in
         let there : groups_at (parts_of n) p ≡ groups_of part ts p = get_or-map-range_with_len (groups_of part ts) 0 n p p [] less (omega arith) in
-        subst (λ gs. IsGoodPart part text ts p gs (nth_file outputs p)) (sym there) (good_part_here p (nth_file outputs p) (same p less));
+        subst (λ gs. IsGoodPart (record { part = part; text = text }) ts p gs (nth_file outputs p)) (sym there) (good_part_here p (nth_file outputs p) (same p less));
     none_left_out =
         let distinct : Distinct (entries_of (parts_of n)) = distinct_entries part ts 0 (parts_of n) (each_good 0 n) in
         let up : length (entries_of (parts_of n)) ≤ length names = no_longer (entries_of (parts_of n)) names distinct (only_names n) in
@@ -221,7 +210,7 @@ sequential_is_good request files outputs skips split some none count same =
       skips_rise = facts.1;
       skips_exist = facts.2;
       skips_few = facts.0;
-      one_each = length-map-range_with_len (groups_of (λ k. partition_of k request.parts) (emitted request files skips)) 0 request.parts;
-      result = parts_are_good (λ k. partition_of k request.parts) (text_of request.job) (emitted request files skips) (names_rise request files skips split) request.parts outputs
+      one_each = length-map-range_with_len (groups_of (λ k. partition_of k request.parts) (emitted request.job request.split files skips)) 0 request.parts;
+      result = parts_are_good (λ k. partition_of k request.parts) (text_of request.job) (emitted request.job request.split files skips) (names_rise request files skips split) request.parts outputs
           (λ t h. partition_below t.key request.parts some) count same;
     }

@@ -1,5 +1,5 @@
 -- All entries of a good result are distinct.
-use Rattle.std.proofs.Common.{◌≡◌, ℕ, suc, ◌+◌, ◌<◌, ◌≤◌, List, [], ◌∷◌, length, map, get_or, ap, sym, ◌∙◌, subst, inl, inr, arith}
+use Rattle.std.proofs.Common.{◌≡◌, ℕ, zero, suc, ◌+◌, ◌<◌, ◌≤◌, List, [], ◌∷◌, length, map, get_or, ap, sym, ◌∙◌, subst, inl, inr, arith, IsSome}
 use Rattle.std.proofs.lemmas.Cmp.{nat_list_cmp_total, nat_cmp_total, on_total, then_total}
 use Rattle.std.proofs.lemmas.List.{length-map}
 use Rattle.std.specs.List.{AllByRecursion, flat_map}
@@ -9,9 +9,10 @@ use Rattle.mr_bytes.specs.declared.Name.{Name}
 use Rattle.mr_bytes.specs.Lists.{Has, Rises, Distinct}
 use Rattle.mr_bytes.specs.Order.{key_order, name_order}
 use Rattle.mr_sequential.specs.Emitted.{Triple}
-use Rattle.mr_sequential.specs.Good.{key_under, key_of, IsGoodGroup, entries_of}
-use Rattle.mr_sequential.specs.GoodLaws.{EntriesAreDistinct, NoneIsLeftOut}
-use Rattle.mr_sequential.proofs.ListLaws.{Has-all, Distinct-rises, Distinct-append, Has-append_cases, not_before_itself}
+use Rattle.mr_sequential.specs.Good.{named, key_under, key_of, IsGoodGroup, AreGoodGroups, groups_at, entries_of}
+use Rattle.mr_sequential.specs.GoodLaws.{EntriesAreDistinct, NoMoreEntries, NoneIsLeftOut}
+use Rattle.mr_sequential.proofs.ListLaws.{Has-all, Has-map, Has-flat_map_from, Distinct-rises, Distinct-append, Has-append_cases, not_before_itself, no_longer}
+use Rattle.mr_sequential.proofs.NamedLaws.{some_is, named-Has}
 use Rattle.mr_sequential.proofs.ListLaws as lists
 
 pub names_total : IsTotalOrder name_order
@@ -24,7 +25,7 @@ abbrev pub EachFrom : {X : Type 0} → (ℕ → X → Type 0) → ℕ → List X
 EachFrom P p [] = Unit {0}
 EachFrom P p (x ∷ xs) = P p x × EachFrom P (suc p) xs
 
-each_from : {X : Type 0} (P : ℕ → X → Type 0) (d : X) (p : ℕ) (xs : List X) → ((q : ℕ) → q < length xs → P (p + q) (get_or xs q d)) → EachFrom P p xs
+pub each_from : {X : Type 0} (P : ℕ → X → Type 0) (d : X) (p : ℕ) (xs : List X) → ((q : ℕ) → q < length xs → P (p + q) (get_or xs q d)) → EachFrom P p xs
 each_from P d p [] f = tt
 each_from P d p (x ∷ xs) f =
     let here : p + 0 ≡ p = omega arith in (
@@ -32,12 +33,13 @@ each_from P d p (x ∷ xs) f =
       each_from P d (suc p) xs (λ q l. let there : p + suc q ≡ suc p + q = omega arith in subst (λ n. P n (get_or xs q d)) there (f (suc q) (omega arith))),
     )
 
-module _ (part : List ℕ → ℕ) (ts : List Triple) where
-  -- the groups of a partition, each good, their keys rising
-  pub record AreGoodGroups (p : ℕ) (gs : List (List Name)) : Type 0 where
-    pub groups : AllByRecursion (IsGoodGroup part ts p) gs
-    pub keys_rise : Rises key_order (map (key_of ts) gs)
+pub from_each : {X : Type 0} (P : ℕ → X → Type 0) (d : X) (p : ℕ) (xs : List X) → EachFrom P p xs → (q : ℕ) → q < length xs → P (p + q) (get_or xs q d)
+from_each P d p [] each q l = absurd (omega arith)
+from_each P d p (x ∷ xs) each zero l = let here : p ≡ p + 0 = omega arith in subst (λ n. P n x) here each.0
+from_each P d p (x ∷ xs) each (suc q) l =
+    let there : suc p + q ≡ p + suc q = omega arith in subst (λ n. P n (get_or xs q d)) there (from_each P d (suc p) xs each.1 q (omega arith))
 
+module _ (part : List ℕ → ℕ) (ts : List Triple) where
   pub key_in_group : (p : ℕ) (g : List Name) (n : Name) → IsGoodGroup part ts p g → Has g n → key_under ts n ≡ key_of ts g
   key_in_group p g n good h = Has-all (λ m. key_under ts m ≡ key_of ts g) g n good.one_key h
 
@@ -69,29 +71,50 @@ module _ (part : List ℕ → ℕ) (ts : List Triple) where
       not_before_itself nat_list_cmp_total (key_of ts g) (key_under ts n) (key_after p (key_of ts g) gs n good.1 rise.0 b) (sym (key_in_group p g n good.0 a)))
 
   -- later partitions have later numbers
-  part_after : (p : ℕ) (parts : List (List (List Name))) (n : Name) → EachFrom AreGoodGroups p parts → Has (entries_of parts) n → p ≤ part (key_under ts n)
+  part_after : (p : ℕ) (parts : List (List (List Name))) (n : Name) → EachFrom (AreGoodGroups part ts) p parts → Has (entries_of parts) n → p ≤ part (key_under ts n)
   part_after p [] n good h = absurd h
   part_after p (gs ∷ parts) n good h =
       elim (Has-append_cases (flat_map (λ g. g) gs) (entries_of parts) n h) [
-        | inl a ↦ (let e : part (key_under ts n) ≡ p = part_in_groups p gs n good.0.groups a in omega arith)
+        | inl a ↦ (let e : part (key_under ts n) ≡ p = part_in_groups p gs n good.0.each a in omega arith)
         | inr b ↦ (let le : suc p ≤ part (key_under ts n) = part_after (suc p) parts n good.1 b in omega arith)
       ]
 
-  pub distinct_entries : (p : ℕ) (parts : List (List (List Name))) → EachFrom AreGoodGroups p parts → Distinct (entries_of parts)
+  pub distinct_entries : (p : ℕ) (parts : List (List (List Name))) → EachFrom (AreGoodGroups part ts) p parts → Distinct (entries_of parts)
   distinct_entries p [] good = tt
   distinct_entries p (gs ∷ parts) good =
-      Distinct-append (flat_map (λ g. g) gs) (entries_of parts) (distinct_in_part p gs good.0.groups good.0.keys_rise) (distinct_entries (suc p) parts good.1)
+      Distinct-append (flat_map (λ g. g) gs) (entries_of parts) (distinct_in_part p gs good.0.each good.0.keys_rise) (distinct_entries (suc p) parts good.1)
       (λ n a b.
-      let e : part (key_under ts n) ≡ p = part_in_groups p gs n good.0.groups a in
+      let e : part (key_under ts n) ≡ p = part_in_groups p gs n good.0.each a in
       let le : suc p ≤ part (key_under ts n) = part_after (suc p) parts n good.1 b in
       omega arith)
 
+  -- each entry names a triple's name
+  pub entry_is_name : (p : ℕ) (parts : List (List (List Name))) → EachFrom (AreGoodGroups part ts) p parts → (n : Name) → Has (entries_of parts) n
+      → Has (map (λ (t : Triple). t.name) ts) n
+  entry_is_name p [] good n h = absurd h
+  entry_is_name p (gs ∷ parts) good n h =
+      elim (Has-append_cases (flat_map (λ g. g) gs) (entries_of parts) n h) [
+        | inl a ↦
+            (let g = Has-flat_map_from (λ (m : List Name). m) gs n a in
+            let group = Has-all (IsGoodGroup part ts p) gs g.0 good.0.each g.1 in
+            let t = some_is (named ts n) (Has-all (λ m. IsSome (named ts m)) g.0 n group.entries g.2) in
+            let r = named-Has ts n t.0 t.1 in
+            subst (Has (map (λ (u : Triple). u.name) ts)) r.1 (Has-map (λ (u : Triple). u.name) ts t.0 r.0))
+        | inr b ↦ entry_is_name (suc p) parts good.1 n b
+      ]
+
+  -- from what holds by place
+  from_places : (parts : List (List (List Name))) → ((p : ℕ) → p < length parts → AreGoodGroups part ts p (groups_at parts p)) → EachFrom (AreGoodGroups part ts) 0 parts
+  from_places parts good = each_from (AreGoodGroups part ts) [] 0 parts (λ q l. let same : q ≡ 0 + q = omega arith in subst (λ n. AreGoodGroups part ts n (get_or parts q [])) same (good q l))
+
 pub entries_are_distinct : EntriesAreDistinct
-entries_are_distinct part text ts parts outputs good =
-    distinct_entries part ts 0 parts
-    (each_from (AreGoodGroups part ts) [] 0 parts (λ q l.
-    let same : q ≡ 0 + q = omega arith in
-    subst (λ n. AreGoodGroups part ts n (get_or parts q [])) same (record { groups = (good.each q l).groups; keys_rise = (good.each q l).keys_rise })))
+entries_are_distinct part ts parts good = distinct_entries part ts 0 parts (from_places part ts parts good)
+
+pub no_more_entries : NoMoreEntries
+no_more_entries part ts parts good =
+    let each = from_places part ts parts good in
+    let le = no_longer (entries_of parts) (map (λ (t : Triple). t.name) ts) (distinct_entries part ts 0 parts each) (entry_is_name part ts 0 parts each) in
+    omega (arith, le, length-map ts (λ (t : Triple). t.name))
 
 pub none_is_left_out : NoneIsLeftOut
 none_is_left_out ts entries distinct names same n h =

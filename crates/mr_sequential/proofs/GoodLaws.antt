@@ -60,7 +60,7 @@ triple-keys part p ts k h =
     let t = Has-map_from (λ (u : Triple). u.key) ts k r.0 in
     (t.0, t.1, t.2, r.1)
 
-module _ (part : List ℕ → ℕ) (text : List ℕ → List Value → List ℕ) (ts : List Triple) (parts : List (List (List Name))) (outputs : List (List ℕ)) (rise : Rises name_order (map (λ (t : Triple). t.name) ts)) (good : AreGood part text ts parts outputs) where
+module _ (part : List ℕ → ℕ) (text : List ℕ → List Value → List ℕ) (ts : List Triple) (parts : List (List (List Name))) (outputs : List (List ℕ)) (rise : Rises name_order (map (λ (t : Triple). t.name) ts)) (good : AreGood (record { part = part; text = text }) ts parts outputs) where
   -- the key under a triple's name is its key
   key_of_triple : (t : Triple) → Has ts t → key_under ts t.name ≡ t.key
   key_of_triple t h = ap (λ o. option_map_or (λ (u : Triple). u.key) o []) (named-of ts t (Distinct-rises names_total _ rise) h)
@@ -83,7 +83,7 @@ module _ (part : List ℕ → ℕ) (text : List ℕ → List Value → List ℕ)
       (at.0, in_group.0, record { below = at.1; here = subst (λ gs. Has gs in_group.0) (sym (at.2)) in_group.1; entry = in_group.2 })
 
   group_ok : (n : Name) (q : ℕ) (g : List Name) → StandsIn n q g → IsGoodGroup part ts q g
-  group_ok n q g s = Has-all (IsGoodGroup part ts q) (groups_at parts q) g (good.each q s.below).groups s.here
+  group_ok n q g s = Has-all (IsGoodGroup part ts q) (groups_at parts q) g (good.each q s.below).groups.each s.here
 
   -- each entry names a triple's name
   entry_is_name : (n : Name) → Has (entries_of parts) n → Has (map (λ (t : Triple). t.name) ts) n
@@ -97,7 +97,7 @@ module _ (part : List ℕ → ℕ) (text : List ℕ → List Value → List ℕ)
   triple_stands : (t : Triple) → Has ts t → (q : ℕ) × (g : List Name) × StandsIn t.name q g
   triple_stands t h =
       stands t.name
-      (none_is_left_out ts (entries_of parts) (entries_are_distinct part text ts parts outputs good) entry_is_name good.none_left_out t.name
+      (none_is_left_out ts (entries_of parts) (entries_are_distinct part ts parts (λ p l. (good.each p l).groups)) entry_is_name good.none_left_out t.name
       (Has-map (λ (u : Triple). u.name) ts t h))
 
   -- it stands in the partition and in the group of its key
@@ -111,10 +111,10 @@ module _ (part : List ℕ → ℕ) (text : List ℕ → List Value → List ℕ)
   module _ (p : ℕ) (lt : p < length parts) where
     -- the keys of the groups are those of the partition
     pub keys_are : map (key_of ts) (groups_at parts p) ≡ keys_of part (map (λ (u : Triple). u.key) ts) p
-    keys_are = same_rising nat_list_cmp_total _ _ (good.each p lt).keys_rise (keys_rise part (map (λ (u : Triple). u.key) ts) p).0
+    keys_are = same_rising nat_list_cmp_total _ _ (good.each p lt).groups.keys_rise (keys_rise part (map (λ (u : Triple). u.key) ts) p).0
         (λ k h.
         let g = Has-map_from (key_of ts) (groups_at parts p) k h in
-        let ok = Has-all (IsGoodGroup part ts p) (groups_at parts p) g.0 (good.each p lt).groups g.1 in
+        let ok = Has-all (IsGoodGroup part ts p) (groups_at parts p) g.0 (good.each p lt).groups.each g.1 in
         let n = first_of g.0 ok.some_entry in
         let t = entry_named p g.0 n.0 ok n.1 in
         let r = named-Has ts n.0 t.0 t.1 in
@@ -132,7 +132,7 @@ module _ (part : List ℕ → ℕ) (text : List ℕ → List Value → List ℕ)
     -- a group names just the triples of its key
     pub triples_are : (g : List Name) → Has (groups_at parts p) g → triples_under ts g ≡ triples_with ts (key_of ts g)
     triples_are g h =
-        let ok = Has-all (IsGoodGroup part ts p) (groups_at parts p) g (good.each p lt).groups h in
+        let ok = Has-all (IsGoodGroup part ts p) (groups_at parts p) g (good.each p lt).groups.each h in
         same_rising triples_total _ _ (triples-rise ts g ok.names_rise) (Rises-filter triple_order _ ts (rises_by_name ts rise))
         (λ t a.
         let n = Has-filter_map_from (named ts) g t a in
@@ -147,11 +147,11 @@ module _ (part : List ℕ → ℕ) (text : List ℕ → List Value → List ℕ)
         let s = triple_stands t r.0 in
         let w = stands_right t r.0 s.0 s.1 s.2 in
         let q : s.0 ≡ p = sym (w.0) ∙ (ap part k ∙ ok.partition) in
-        let same : s.1 ≡ g = same_image (key_of ts) (groups_at parts p) s.1 g (Distinct-rises nat_list_cmp_total _ (good.each p lt).keys_rise)
+        let same : s.1 ≡ g = same_image (key_of ts) (groups_at parts p) s.1 g (Distinct-rises nat_list_cmp_total _ (good.each p lt).groups.keys_rise)
         (subst (λ v. Has (groups_at parts v) s.1) q s.2.here) h (w.1 ∙ k) in
         Has-filter_map (named ts) g t.name t (subst (λ v. Has v t.name) same s.2.entry) (named-of ts t (Distinct-rises names_total _ rise) r.0))
 
-    pub is_sequential : nth_file outputs p ≡ texts_of part text ts p
+    pub is_sequential : nth_file outputs p ≡ texts_of (record { part = part; text = text }) ts p
     is_sequential =
         (good.each p lt).output_is
         ∙ (flat_map-agree (text_under text ts) (λ g. text (key_of ts g) (values_of ts (key_of ts g))) (groups_at parts p)
@@ -159,9 +159,9 @@ module _ (part : List ℕ → ℕ) (text : List ℕ → List Value → List ℕ)
         ∙ (sym (flat_map-map (λ k. text k (values_of ts k)) (key_of ts) (groups_at parts p)) ∙ ap (flat_map (λ k. text k (values_of ts k))) keys_are))
 
 pub good_parts_are_sequential : GoodPartsAreSequential
-good_parts_are_sequential part text ts parts outputs rise good p lt = is_sequential part text ts parts outputs rise good p lt
+good_parts_are_sequential rules ts parts outputs rise good p lt = is_sequential rules.part rules.text ts parts outputs rise good p lt
 
 pub good_is_sequential : GoodIsSequential
 good_is_sequential request files outputs c some good p lt =
-    is_sequential (λ k. partition_of k request.parts) (text_of request.job) (emitted request files c.skips) c.groups outputs (names_rise request files c.skips some) good.result p
+    is_sequential (λ k. partition_of k request.parts) (text_of request.job) (emitted request.job request.split files c.skips) c.groups outputs (names_rise request files c.skips some) good.result p
     (omega (arith, lt, good.one_each))

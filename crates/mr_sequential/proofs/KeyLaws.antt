@@ -1,5 +1,5 @@
 -- The keys of a partition are the rising list of exactly its keys.
-use Rattle.std.proofs.Common.{◌≡◌, ℕ, List, [], ◌∷◌, refl, ap, sym, ◌∙◌, subst, inl, inr, ◌⊎◌, Bool, true, false, cond, eqb, ◌==◌}
+use Rattle.std.proofs.Common.{◌≡◌, ℕ, List, [], ◌∷◌, map, refl, ap, sym, ◌∙◌, subst, inl, inr, ◌⊎◌, Bool, true, false, cond, eqb, ◌==◌}
 use Rattle.std.proofs.lemmas.Bool.{eqb-true, eq-eqb}
 use Rattle.std.proofs.lemmas.Cmp.{nat_list_cmp_total}
 use Rattle.std.specs.Cmp.Lexicographic.{texts_ties, bytes_decides}
@@ -11,7 +11,9 @@ use Rattle.std.specs.Str.{bytes_eq}
 use Rattle.std.specs.Ordering.{match_ordering}
 use Rattle.mr_bytes.specs.Order.{key_order}
 use Rattle.mr_sequential.specs.Sequential.{with_key, keys_of}
-use Rattle.mr_sequential.specs.Laws.{HasJust, KeysRise, KeysAreUnique}
+use Rattle.mr_sequential.specs.Emitted.{Triple, emitted}
+use Rattle.mr_sequential.specs.Rules.{rules_of}
+use Rattle.mr_sequential.specs.Laws.{HasJust, KeysRise, KeysAreUnique, OutputsAreInKeyOrder}
 use Rattle.mr_sequential.proofs.ListLaws.{Has-all, all_from_Has, same_rising}
 
 pub bytes_eq-is : (j k : List ℕ) → bytes_eq j k ≡ true → j ≡ k
@@ -108,6 +110,13 @@ module _ (part : List ℕ → ℕ) (p : ℕ) where
 
 pub keys_rise : KeysRise
 keys_rise part all p = (keys-rise part p all, keys-just part p all)
+
+pub outputs_are_in_key_order : OutputsAreInKeyOrder
+outputs_are_in_key_order request files skips p =
+    let part : List ℕ → ℕ = (rules_of request).part in
+    let all : List (List ℕ) = map (λ (t : Triple). t.key) (emitted request.job request.split files skips) in
+    let law = keys_rise part all p in
+    record { keys = keys_of part all p; rise = law.0; just = law.1; joined = refl }
 
 pub keys_are_unique : KeysAreUnique
 keys_are_unique part all p keys r just = keys-unique part p all keys r just

@@ -131,3 +131,13 @@ none_left_out (x ∷ xs) ys d f le y h =
           (λ z a. elim (in_without ys x (f x (inl refl)) z (f z (inr a))) [ inl e ↦ absurd (d.0 (subst (Has xs) (sym e) a)) | inr b ↦ b ])
           (omega (arith, length-without ys x (f x (inl refl)))) y g)
     ]
+
+-- distinct elements of a list are no more than it has
+pub no_longer : {X : Type 0} (xs ys : List X) → Distinct xs → ((x : X) → Has xs x → Has ys x) → length xs ≤ length ys
+no_longer [] ys d f = omega arith
+no_longer (x ∷ xs) ys d f =
+    let h = f x (inl refl) in
+    let rest : length xs ≤ length (without ys x h) =
+    no_longer xs (without ys x h) d.1
+    (λ z a. elim (in_without ys x h z (f z (inr a))) [ inl e ↦ absurd (d.0 (subst (Has xs) (sym e) a)) | inr b ↦ b ]) in
+    omega (arith, rest, length-without ys x h)

@@ -159,7 +159,7 @@ all-pairs job skips (r ∷ rs) =
     ∙ ap (λ l. kept_pairs job skips r ++ l) (all-pairs job skips rs)
 
 pub emitted-pairs : (request : RequestSpec) (files : List (List ℕ)) (skips : List RecordName)
-    → map pair_of (emitted request files skips) ≡ flat_map (kept_pairs request.job skips) (named_records request.split files)
+    → map pair_of (emitted request.job request.split files skips) ≡ flat_map (kept_pairs request.job skips) (named_records request.split files)
 emitted-pairs request files skips = all-pairs request.job skips (named_records request.split files)
 
 same_length : (ts : List Triple) → length (map pair_of ts) ≡ length ts
@@ -167,8 +167,8 @@ same_length [] = refl
 same_length (t ∷ ts) = ap suc (same_length ts)
 
 pub emitted-count : (request : RequestSpec) (files : List (List ℕ)) (skips : List RecordName)
-    → length (flat_map (kept_pairs request.job skips) (named_records request.split files)) ≡ length (emitted request files skips)
-emitted-count request files skips = ap length (sym (emitted-pairs request files skips)) ∙ same_length (emitted request files skips)
+    → length (flat_map (kept_pairs request.job skips) (named_records request.split files)) ≡ length (emitted request.job request.split files skips)
+emitted-count request files skips = ap length (sym (emitted-pairs request files skips)) ∙ same_length (emitted request.job request.split files skips)
 
 triple-keys : (ts : List Triple) → map (λ (e : Emission). e.0) (map pair_of ts) ≡ map (λ (t : Triple). t.key) ts
 triple-keys [] = refl
@@ -188,7 +188,7 @@ flat_map-same f g e [] = refl
 flat_map-same f g e (k ∷ ks) = ap (λ l. l ++ flat_map f ks) (e k) ∙ ap (λ l. g k ++ l) (flat_map-same f g e ks)
 
 -- texts by pairs are texts by triples
-pub texts-triples : (part : List ℕ → ℕ) (text : List ℕ → List Value → List ℕ) (ts : List Triple) (p : ℕ) → texts_in part text (map pair_of ts) p ≡ texts_of part text ts p
+pub texts-triples : (part : List ℕ → ℕ) (text : List ℕ → List Value → List ℕ) (ts : List Triple) (p : ℕ) → texts_in part text (map pair_of ts) p ≡ texts_of (record { part = part; text = text }) ts p
 texts-triples part text ts p =
     ap (λ ks. flat_map (λ k. text k (values_in (map pair_of ts) k)) (keys_of part ks p)) (triple-keys ts)
     ∙ flat_map-same (λ k. text k (values_in (map pair_of ts) k)) (λ k. text k (values_of ts k)) (λ k. ap (text k) (triple-values k ts)) (keys_of part (map (λ (t : Triple). t.key) ts) p)
@@ -208,7 +208,7 @@ all-names job skips (r ∷ rs) =
     ∙ ap (λ l. kept_names job skips r ++ l) (all-names job skips rs)
 
 pub emitted-names : (request : RequestSpec) (files : List (List ℕ)) (skips : List RecordName)
-    → map (λ (t : Triple). t.name) (emitted request files skips) ≡ flat_map (kept_names request.job skips) (named_records request.split files)
+    → map (λ (t : Triple). t.name) (emitted request.job request.split files skips) ≡ flat_map (kept_names request.job skips) (named_records request.split files)
 emitted-names request files skips = all-names request.job skips (named_records request.split files)
 
 -- the names of a key's pairs are those of its triples

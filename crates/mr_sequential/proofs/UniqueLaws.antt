@@ -40,11 +40,11 @@ by_places f d a (x ∷ xs) same =
     let rest = by_places f d (a + 1) xs (λ q l. let next : a + suc q ≡ a + 1 + q = omega arith in same (suc q) (omega (arith, l)) ∙ ap f next) in
     λ i. here i ∷ rest i
 
-module _ (part : List ℕ → ℕ) (text : List ℕ → List Value → List ℕ) (ts : List Triple) (parts : List (List (List Name))) (outputs : List (List ℕ)) (rise : Rises name_order (map (λ (t : Triple). t.name) ts)) (good : AreGood part text ts parts outputs) where
+module _ (part : List ℕ → ℕ) (text : List ℕ → List Value → List ℕ) (ts : List Triple) (parts : List (List (List Name))) (outputs : List (List ℕ)) (rise : Rises name_order (map (λ (t : Triple). t.name) ts)) (good : AreGood (record { part = part; text = text }) ts parts outputs) where
   pub part_is : (p : ℕ) → p < length parts → groups_at parts p ≡ groups_of part ts p
   part_is p lt =
       remade (key_of ts) (names_with ts) (groups_at parts p) (λ g h.
-      sym (names_back ts g (Has-all (IsGoodGroup part ts p) (groups_at parts p) g (good.each p lt).groups h).entries)
+      sym (names_back ts g (Has-all (IsGoodGroup part ts p) (groups_at parts p) g (good.each p lt).groups.each h).entries)
       ∙ ap (map (λ (t : Triple). t.name)) (triples_are part text ts parts outputs rise good p lt g h))
       ∙ ap (map (names_with ts)) (keys_are part text ts parts outputs rise good p lt)
 
@@ -54,7 +54,7 @@ module _ (part : List ℕ → ℕ) (text : List ℕ → List Value → List ℕ)
 pub certificate_is_sequential : CertificateIsSequential
 certificate_is_sequential request files outputs c some good =
     let part : List ℕ → ℕ = λ k. partition_of k request.parts in
-    let ts : List Triple = emitted request files c.skips in
+    let ts : List Triple = emitted request.job request.split files c.skips in
     let groups : c.groups ≡ map (groups_of part ts) (range_with_len 0 request.parts) =
     parts_are part (text_of request.job) ts c.groups outputs (names_rise request files c.skips some) good.result
     ∙ ap (λ n. map (groups_of part ts) (range_with_len 0 n)) good.one_each in

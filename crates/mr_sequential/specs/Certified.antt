@@ -4,17 +4,17 @@ use Rattle.std.specs.List.{range_with_len}
 use Rattle.mr_bytes.specs.declared.Name.{Name}
 use Rattle.mr_bytes.specs.declared.RecordName.{RecordName}
 use Rattle.mr_jobs.specs.JobSpec.{RequestSpec, job_number, job_flags, job_literal}
-use Rattle.mr_partition.specs.Partition.{partition_of}
 use Rattle.mr_certform.specs.Value.{Contents}
 use Rattle.mr_sequential.specs.Emitted.{Triple, emitted}
+use Rattle.mr_sequential.specs.Rules.{Key, rules_of}
 use Rattle.mr_sequential.specs.Sequential.{keys_of, triples_with}
 
 -- the names of the triples of a key, in the order of the input
-abbrev pub names_with : List Triple → List ℕ → List Name
+abbrev pub names_with : List Triple → Key → List Name
 names_with ts k = map (λ t. t.name) (triples_with ts k)
 
 -- the groups of a partition, by rising key
-abbrev pub groups_of : (List ℕ → ℕ) → List Triple → ℕ → List (List Name)
+abbrev pub groups_of : (Key → ℕ) → List Triple → ℕ → List (List Name)
 groups_of part ts p = map (names_with ts) (keys_of part (map (λ t. t.key) ts) p)
 
 -- the certificate of the sequential execution of a job over an input, without the left-out records
@@ -27,5 +27,5 @@ certificate_of request files skips = record {
   split_size = request.split;
   lengths = map length files;
   skips = skips;
-  groups = map (groups_of (λ k. partition_of k request.parts) (emitted request files skips)) (range_with_len 0 request.parts);
+  groups = map (groups_of (rules_of request).part (emitted request.job request.split files skips)) (range_with_len 0 request.parts);
 }

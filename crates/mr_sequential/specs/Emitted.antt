@@ -4,7 +4,7 @@ use Rattle.std.specs.List.{flat_map}
 use Rattle.mr_bytes.specs.declared.Name.{Name}
 use Rattle.mr_bytes.specs.declared.RecordName.{RecordName}
 use Rattle.mr_bytes.specs.declared.Value.{Value}
-use Rattle.mr_jobs.specs.JobSpec.{JobSpec, RequestSpec}
+use Rattle.mr_jobs.specs.JobSpec.{JobSpec}
 use Rattle.mr_jobs.specs.Emissions.{Emission, emissions}
 use Rattle.mr_splits.specs.Named.{NamedRecord, is_left_out, named_records}
 
@@ -25,6 +25,7 @@ abbrev pub record_triples : JobSpec → List RecordName → NamedRecord → List
 record_triples job skips r =
     if is_left_out skips r.name then [] else placed_from r.name 0 (emissions job r.file r.start r.bytes)
 
--- all triples, in the order of their names; a record that is left out gives nothing, and the others keep their names
-abbrev pub emitted : RequestSpec → List (List ℕ) → List RecordName → List Triple
-emitted request files skips = flat_map (record_triples request.job skips) (named_records request.split files)
+-- all triples of a job over files with splits of this size, in the order of their names; a record that is left out gives
+-- nothing, and the others keep their names
+abbrev pub emitted : JobSpec → ℕ → List (List ℕ) → List RecordName → List Triple
+emitted job size files skips = flat_map (record_triples job skips) (named_records size files)

@@ -2,22 +2,27 @@
 use Rattle.std.specs.Prelude.{◌≡◌, ℕ, false, ◌<◌, ◌≤◌, None, List, [], ◌∷◌, length, map}
 use Rattle.mr_bytes.specs.declared.Name.{Name}
 use Rattle.mr_bytes.specs.declared.RecordName.{RecordName}
-use Rattle.mr_bytes.specs.declared.Value.{Value}
 use Rattle.mr_bytes.specs.Lists.{Has, Rises, Distinct}
 use Rattle.mr_bytes.specs.Order.{name_order}
 use Rattle.mr_jobs.specs.JobSpec.{RequestSpec, WordCount}
 use Rattle.mr_input.specs.Files.{nth_file}
 use Rattle.mr_certform.specs.Value.{Contents}
 use Rattle.mr_sequential.specs.Emitted.{Triple}
+use Rattle.mr_sequential.specs.Rules.{Key, Rules}
 use Rattle.mr_sequential.specs.Sequential.{texts_of, sequential}
 use Rattle.mr_sequential.specs.Skips.{skip_fault}
-use Rattle.mr_sequential.specs.Good.{entries_of, AreGood, IsGood}
+use Rattle.mr_sequential.specs.Good.{AreGoodGroups, groups_at, entries_of, AreGood, IsGood}
 use Rattle.mr_sequential.specs.Certified.{certificate_of}
 
--- the entries of a good result are distinct
+-- the entries of partitions whose groups are good are distinct: by names, keys and partitions alone
 abbrev pub EntriesAreDistinct : Type 0
-EntriesAreDistinct = (part : List ℕ → ℕ) (text : List ℕ → List Value → List ℕ) (ts : List Triple) (parts : List (List (List Name))) (outputs : List (List ℕ))
-    → AreGood part text ts parts outputs → Distinct (entries_of parts)
+EntriesAreDistinct = (part : Key → ℕ) (ts : List Triple) (parts : List (List (List Name)))
+    → ((p : ℕ) → p < length parts → AreGoodGroups part ts p (groups_at parts p)) → Distinct (entries_of parts)
+
+-- so there are no more of them than triples
+abbrev pub NoMoreEntries : Type 0
+NoMoreEntries = (part : Key → ℕ) (ts : List Triple) (parts : List (List (List Name)))
+    → ((p : ℕ) → p < length parts → AreGoodGroups part ts p (groups_at parts p)) → length (entries_of parts) ≤ length ts
 
 -- distinct entries that name triples, as many as there are triples, leave none out
 abbrev pub NoneIsLeftOut : Type 0
@@ -26,8 +31,9 @@ NoneIsLeftOut = (ts : List Triple) (entries : List Name) → Distinct entries �
 
 -- where the names of all triples rise, each output of a good result is that of the sequential execution
 abbrev pub GoodPartsAreSequential : Type 0
-GoodPartsAreSequential = (part : List ℕ → ℕ) (text : List ℕ → List Value → List ℕ) (ts : List Triple) (parts : List (List (List Name))) (outputs : List (List ℕ))
-    → Rises name_order (map (λ t. t.name) ts) → AreGood part text ts parts outputs → (p : ℕ) → p < length parts → nth_file outputs p ≡ texts_of part text ts p
+GoodPartsAreSequential = (rules : Rules) (ts : List Triple) (parts : List (List (List Name))) (outputs : List (List ℕ))
+    → Rises name_order (map (λ t. t.name) ts) → AreGood rules ts parts outputs
+    → (p : ℕ) → p < length parts → nth_file outputs p ≡ texts_of rules ts p
 
 -- each output of a good result is that of the sequential execution without the records that the certificate leaves out
 abbrev pub GoodIsSequential : Type 0
@@ -37,7 +43,8 @@ GoodIsSequential = (request : RequestSpec) (files outputs : List (List ℕ)) (c 
 -- the outputs of the sequential execution are good with its certificate, where what it leaves out has no fault
 abbrev pub SequentialIsGood : Type 0
 SequentialIsGood = (request : RequestSpec) (files outputs : List (List ℕ)) (skips : List RecordName) → 0 < request.split → 1 ≤ request.parts
-    → skip_fault request files skips ≡ None → length outputs ≡ request.parts → ((p : ℕ) → p < request.parts → nth_file outputs p ≡ sequential request files skips p)
+    → skip_fault request files skips ≡ None → length outputs ≡ request.parts
+    → ((p : ℕ) → p < request.parts → nth_file outputs p ≡ sequential request files skips p)
     → IsGood request files outputs (certificate_of request files skips)
 
 -- the certificate of a good result is that of the sequential execution without the same records

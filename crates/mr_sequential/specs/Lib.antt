@@ -1,5 +1,6 @@
 pub mod Buckets
 pub mod Emitted
+pub mod Rules
 pub mod Laws
 pub mod Pairs
 pub mod Rows

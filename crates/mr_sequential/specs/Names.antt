@@ -1,4 +1,4 @@
--- The names of pairs in their order, record by record.
+-- Of no public promise: the names of pairs in their order, record by record.
 use Rattle.std.specs.Prelude.{ℕ, zero, suc, ◌+◌, ◌-◌, List, [], ◌∷◌, ◌++◌, map}
 use Rattle.std.specs.List.{flat_map}
 use Rattle.mr_bytes.specs.declared.Name.{Name}

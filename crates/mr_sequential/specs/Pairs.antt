@@ -1,4 +1,4 @@
--- Pairs without their names, and how they are gathered: distinct keys, and for each pair its key's number and its value.
+-- Of no public promise: pairs without their names, and how they are gathered: distinct keys, and for each pair its key's number and its value.
 use Rattle.std.specs.Prelude.{ℕ, ◌==◌, if◌then◌else◌, List, [], map, filter, replicate, slice_index_or, ◌++◌, Vec}
 use Rattle.std.specs.Global.{Global}
 use Rattle.std.specs.List.{flat_map, range_with_len, zip}

@@ -7,33 +7,31 @@ use Rattle.mr_bytes.specs.declared.RecordName.{RecordName}
 use Rattle.mr_bytes.specs.declared.Value.{Value}
 use Rattle.mr_bytes.specs.Order.{key_order}
 use Rattle.mr_jobs.specs.JobSpec.{RequestSpec}
-use Rattle.mr_partition.specs.Partition.{partition_of}
-use Rattle.mr_reduce.specs.Text.{text_of}
 use Rattle.mr_sequential.specs.Emitted.{Triple, emitted}
+use Rattle.mr_sequential.specs.Rules.{Key, Text, Rules, rules_of}
 
 -- a key put at its place among rising keys, where it isn't there yet
-abbrev pub with_key : List ℕ → List (List ℕ) → List (List ℕ)
+abbrev pub with_key : Key → List Key → List Key
 with_key k [] = k ∷ []
 with_key k (x ∷ xs) = match_ordering (key_order k x) (k ∷ x ∷ xs) (x ∷ xs) (x ∷ with_key k xs)
 
 -- of keys, those of a partition, rising, each once; `part` gives each key its partition
-abbrev pub keys_of : (List ℕ → ℕ) → List (List ℕ) → ℕ → List (List ℕ)
+abbrev pub keys_of : (Key → ℕ) → List Key → ℕ → List Key
 keys_of part [] p = []
 keys_of part (k ∷ ks) p = if part k == p then with_key k (keys_of part ks p) else keys_of part ks p
 
 -- the triples of a key, in the order of the input
-abbrev pub triples_with : List Triple → List ℕ → List Triple
+abbrev pub triples_with : List Triple → Key → List Triple
 triples_with ts k = filter (λ t. bytes_eq t.key k) ts
 
 -- the values of a key, in the order of the input
-abbrev pub values_of : List Triple → List ℕ → List Value
+abbrev pub values_of : List Triple → Key → List Value
 values_of ts k = map (λ t. t.value) (triples_with ts k)
 
 -- the texts of the groups of a partition, by rising key
-abbrev pub texts_of : (List ℕ → ℕ) → (List ℕ → List Value → List ℕ) → List Triple → ℕ → List ℕ
-texts_of part text ts p = flat_map (λ k. text k (values_of ts k)) (keys_of part (map (λ t. t.key) ts) p)
+abbrev pub texts_of : Rules → List Triple → ℕ → Text
+texts_of rules ts p = flat_map (λ k. rules.text k (values_of ts k)) (keys_of rules.part (map (λ t. t.key) ts) p)
 
 -- output p of the sequential execution of a job over an input, without the left-out records
-abbrev pub sequential : RequestSpec → List (List ℕ) → List RecordName → ℕ → List ℕ
-sequential request files skips p =
-    texts_of (λ k. partition_of k request.parts) (text_of request.job) (emitted request files skips) p
+abbrev pub sequential : RequestSpec → List (List ℕ) → List RecordName → ℕ → Text
+sequential request files skips p = texts_of (rules_of request) (emitted request.job request.split files skips) p

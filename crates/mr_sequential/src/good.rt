@@ -1,11 +1,12 @@
 //! What good results are worth: laws about the definitions alone.
 
-ghost use Rattle.mr_sequential.specs.GoodLaws.{EntriesAreDistinct, NoneIsLeftOut, GoodPartsAreSequential, GoodIsSequential, SequentialIsGood, CertificateIsSequential, CertificateIsUnique, WorkedGroups, WorkedOutput};
+ghost use Rattle.mr_sequential.specs.GoodLaws.{EntriesAreDistinct, NoMoreEntries, NoneIsLeftOut, GoodPartsAreSequential, GoodIsSequential, SequentialIsGood, CertificateIsSequential, CertificateIsUnique, WorkedGroups, WorkedOutput};
 
-/// The entries of a good result are distinct; and distinct entries that name triples, as many as there are triples,
-/// leave none out.
+/// The entries of partitions whose groups are good are distinct, by names, keys and partitions alone, so there are no
+/// more of them than triples; and distinct entries that name triples, as many as there are triples, leave none out.
 pub fn entries_law()
     ensures distinct { EntriesAreDistinct }
+    ensures no_more { NoMoreEntries }
     ensures all { NoneIsLeftOut }
 {}
 

@@ -1,7 +1,7 @@
 //! The sequential execution of a job.
 #![tactic(auto)]
 
-ghost use Rattle.mr_sequential.specs.Laws.{KeysAreUnique, KeysRise, NamesRise};
+ghost use Rattle.mr_sequential.specs.Laws.{KeysAreUnique, KeysRise, NamesRise, OutputsAreInKeyOrder};
 ghost use Rattle.mr_sequential.specs.Skips.{GoodSkips};
 
 mod distribute;
@@ -22,10 +22,12 @@ pub use fault::RunFault;
 pub use good::{certified_law, entries_law, good_law, unique_law};
 pub use sequence::run;
 
-/// The keys of a partition are the one list that rises strictly and has just the keys that belong to it.
+/// The keys of a partition are the one list that rises strictly and has just the keys that belong to it; and the
+/// outputs of the sequential execution are the texts of these keys, in this order.
 pub fn keys_law()
     ensures rising { KeysRise }
     ensures unique { KeysAreUnique }
+    ensures outputs { OutputsAreInKeyOrder }
 {}
 
 /// The names of all that is emitted rise strictly, whichever records are left out.

@@ -1,7 +1,7 @@
 use Rattle.std.proofs.Common.{◌∷◌, [], Ok, List, length, ap, ◌∙◌, arith, length-append}
 use Rattle.mr_certform.specs.declared.item.Item.{Item}
 use Rattle.mr_certform.specs.Walking.{items_left}
-use Rattle.mr_check.specs.Judging.{entries_in}
+use Rattle.mr_check.specs.Verdict.{entries_in}
 use Rattle.mr_check.proofs.AheadLemmas.{read_more, counts_more}
 use Rattle.mr_check.proofs.ahead.read_block.Goals as goal
 

@@ -1,6 +1,6 @@
 use Rattle.std.proofs.Common.{◌≡◌, ◌≤◌, ◌+◌, ◌-◌, length}
 use Rattle.mr_certform.specs.Walking.{items_left, halt}
-use Rattle.mr_check.specs.Judging.{entries_in}
+use Rattle.mr_check.specs.Verdict.{entries_in}
 use Rattle.mr_check.specs.Ahead.{onto}
 use Rattle.mr_check.proofs.ahead.read_block.Given as goal
 

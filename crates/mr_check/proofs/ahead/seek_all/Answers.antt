@@ -4,7 +4,7 @@ use Rattle.std.specs.List.{AllByRecursion}
 use Rattle.mr_certform.specs.declared.item.Item.{Item}
 use Rattle.mr_certform.specs.declared.item.Item.TheVariants.{Magic}
 use Rattle.mr_check.specs.declared.ahead.Sought.{Sought}
-use Rattle.mr_check.specs.Judging.{entries_in}
+use Rattle.mr_check.specs.Verdict.{entries_in}
 use Rattle.mr_check.specs.Ahead.{items_sought, IsPlaced}
 use Rattle.mr_check.proofs.PartLemmas.{entries_more}
 use Rattle.mr_check.proofs.AheadLemmas.{entries_append, sought_more, all_more}

@@ -1,6 +1,6 @@
 use Rattle.std.proofs.Common.{◌≡◌, ◌+◌, ◌++◌, drop}
 use Rattle.std.specs.List.{AllByRecursion}
-use Rattle.mr_check.specs.Judging.{entries_in}
+use Rattle.mr_check.specs.Verdict.{entries_in}
 use Rattle.mr_check.specs.Ahead.{items_sought, IsPlaced}
 use Rattle.mr_check.proofs.ahead.seek_all.Given as goal
 

@@ -6,8 +6,8 @@ use Rattle.mr_splits.specs.Cut.{Cut, records_of}
 use Rattle.mr_certform.specs.Walking.{items_left, halt}
 use Rattle.mr_check.specs.declared.fault.No.{No}
 use Rattle.mr_check.specs.declared.fault.No.TheVariants.{OutOfMemory}
-use Rattle.mr_check.specs.Verdict.{Case, start, subject_of, part_faults, count_faults}
-use Rattle.mr_check.specs.Judging.{first, Told, Listed, case_at}
+use Rattle.mr_check.specs.Verdict.{Case, start, subject_of, part_faults, count_faults, first}
+use Rattle.mr_check.specs.Judging.{Told, Listed, case_at}
 use Rattle.mr_check.proofs.Faults.{told_is}
 use Rattle.mr_check.proofs.MeterLemmas.{bounded_wider, rest_entries}
 use Rattle.mr_check.specs.Metered.{cut_by}

@@ -1,8 +1,8 @@
 use Rattle.std.proofs.Common.{◌≡◌, None, MatchResult, refl, subst, arith}
 use Rattle.mr_input.specs.Files.{contents}
 use Rattle.mr_certform.specs.Walking.{items_left, halt}
-use Rattle.mr_check.specs.Verdict.{Subject, start, part_faults}
-use Rattle.mr_check.specs.Judging.{first, Told, case_at, entries_in}
+use Rattle.mr_check.specs.Verdict.{Subject, start, part_faults, first, entries_in}
+use Rattle.mr_check.specs.Judging.{Told, case_at}
 use Rattle.mr_splits.specs.Cut.{records_of}
 use Rattle.mr_index.proofs.WorkLemmas.{mapped-few}
 use Rattle.mr_check.proofs.VerdictLemmas.{known_subject}

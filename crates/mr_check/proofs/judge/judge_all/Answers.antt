@@ -14,8 +14,8 @@ use Rattle.mr_certform.proofs.Walks.{read_front}
 use Rattle.mr_check.specs.declared.judge.Yes.{Yes}
 use Rattle.mr_check.specs.declared.fault.No.{No}
 use Rattle.mr_check.specs.declared.fault.No.TheVariants.{OutOfMemory, OtherJob, OtherInput}
-use Rattle.mr_check.specs.Verdict.{count_faults, accepted_by, verdict_of}
-use Rattle.mr_check.specs.Judging.{first, Told, header_met, case_at}
+use Rattle.mr_check.specs.Verdict.{count_faults, accepted_by, verdict_of, first}
+use Rattle.mr_check.specs.Judging.{Told, header_met, case_at}
 use Rattle.mr_check.proofs.GrammarLemmas.{skips_come}
 use Rattle.mr_check.proofs.MeterLemmas.{bounded_wider, header_entries}
 use Rattle.mr_check.specs.Metered.{cut_by}

@@ -1,8 +1,8 @@
 use Rattle.std.proofs.Common.{◌≡◌, ◌+◌, true, false, Ok, List, [], length, arith, ap, sym, ◌∙◌, subst}
 use Rattle.mr_certform.specs.declared.item.Item.{Item}
 use Rattle.mr_certform.specs.Walking.{items_left, halt}
-use Rattle.mr_check.specs.Verdict.{part_faults}
-use Rattle.mr_check.specs.Judging.{subject, first, Room, entries_in}
+use Rattle.mr_check.specs.Verdict.{part_faults, first, entries_in}
+use Rattle.mr_check.specs.Judging.{subject, Room}
 use Rattle.mr_check.specs.Ahead.{items_in, items_sought, GoesOn, Judged}
 use Rattle.mr_check.proofs.AheadLemmas.{items_long, entries_few, judged_as, block_ended, ended_counts, room_block}
 use Rattle.mr_check.proofs.parts.check_parts.Goals as goal

@@ -28,14 +28,14 @@ gather-requires-clause-few c =
 
 -- what was gathered is the pairs of all triples, and their names
 pairs_are : (request : RequestSpec) (files : List (List ℕ)) (skips : List RecordName) (job : JobSpec) (size : ℕ) (es : List Emission) → job ≡ request.job → size ≡ request.split
-    → es ≡ flat_map (kept_pairs job skips) (named_records size files) → es ≡ map pair_of (emitted request files skips)
+    → es ≡ flat_map (kept_pairs job skips) (named_records size files) → es ≡ map pair_of (emitted request.job request.split files skips)
 pairs_are request files skips job size es same even is =
     is ∙ ap (λ (t : JobSpec). flat_map (kept_pairs t skips) (named_records size files)) same
     ∙ ap (λ n. flat_map (kept_pairs request.job skips) (named_records n files)) even
     ∙ sym (emitted-pairs request files skips)
 
 names_are : (request : RequestSpec) (files : List (List ℕ)) (skips : List RecordName) (job : JobSpec) (size : ℕ) (ns : List Name) → job ≡ request.job → size ≡ request.split
-    → ns ≡ flat_map (kept_names job skips) (named_records size files) → ns ≡ map (λ (t : Triple). t.name) (emitted request files skips)
+    → ns ≡ flat_map (kept_names job skips) (named_records size files) → ns ≡ map (λ (t : Triple). t.name) (emitted request.job request.split files skips)
 names_are request files skips job size ns same even is =
     is ∙ ap (λ (t : JobSpec). flat_map (kept_names t skips) (named_records size files)) same
     ∙ ap (λ n. flat_map (kept_names request.job skips) (named_records n files)) even
@@ -55,14 +55,14 @@ outputs-requires-clause-all c =
     let skips : List RecordName = c.args.skips.now in
     let pairs = pairs_are request files skips c.job-job.result.now c.args.plan.now.size c.in_ok-pairs.field-0.pairs c.job-job.ensures c.requires.size c.in_ok-pairs.ensures.pairs in
     let names = names_are request files skips c.job-job.result.now c.args.plan.now.size c.in_ok-pairs.field-0.names c.job-job.ensures c.requires.size c.in_ok-pairs.ensures.names in
-    omega (arith, ap length pairs, ap length names, even_lists (emitted request files skips))
+    omega (arith, ap length pairs, ap length names, even_lists (emitted request.job request.split files skips))
 
 pub returns-clause-texts : goal.returns-clause-texts
 returns-clause-texts c = λ p h.
     let request = c.args.request.now in
     let files : List (List ℕ) = c.args.plan.now.files in
     let skips : List RecordName = c.args.skips.now in
-    let ts : List Triple = emitted request files skips in
+    let ts : List Triple = emitted request.job request.split files skips in
     let job : JobSpec = request.job in
     let es : List Emission = c.in_ok-pairs.field-0.pairs in
     let pairs = pairs_are request files skips c.job-job.result.now c.args.plan.now.size es c.job-job.ensures c.requires.size c.in_ok-pairs.ensures.pairs in
@@ -77,7 +77,7 @@ returns-clause-certificate c =
     let request = c.args.request.now in
     let files : List (List ℕ) = c.args.plan.now.files in
     let skips : List RecordName = c.args.skips.now in
-    let ts : List Triple = emitted request files skips in
+    let ts : List Triple = emitted request.job request.split files skips in
     let n : ℕ = c.parts.result in
     let es : List Emission = c.in_ok-pairs.field-0.pairs in
     let ns : List Name = c.in_ok-pairs.field-0.names in
