@@ -1,7 +1,7 @@
 -- What calls do to a device: to its bytes and to its count of failed calls.
-use Rattle.std.specs.Prelude.{◌≡◌, ℕ, ◌+◌, ◌%◌, ◌^◌, ◌≤◌, ◌⊎◌, List, [], ◌∷◌, length, take, Option, Result, MatchResult, map, Vec}
+use Rattle.std.specs.Prelude.{◌≡◌, ℕ, ◌+◌, ◌%◌, ◌^◌, ◌≤◌, ◌⊎◌, Bool, true, List, [], ◌∷◌, length, take, Option, Result, MatchResult, OnErr, map, Vec}
 use Rattle.std.specs.Global.{Global}
-use Rattle.std.specs.Io.KnownBytes.{Appends}
+use Rattle.std.specs.Io.KnownBytes.{append_known}
 
 -- one more failed call; the count has 64 bits, and begins anew behind its last number
 abbrev pub counted : ℕ → ℕ
@@ -11,28 +11,47 @@ counted n = (n + 1) % 2 ^ 64
 abbrev pub Counts : {A E : Type 0} → ℕ → ℕ → Result A E → Type 0
 Counts old new r = MatchResult r (λ _. new ≡ old) (λ _. new ≡ counted old)
 
--- known bytes grow by a beginning of these
-abbrev pub AppendsBeginning : Option (List ℕ) → Option (List ℕ) → List ℕ → Type 0
-AppendsBeginning old new bytes = (k : ℕ) × (k ≤ length bytes) × Appends old new (take k bytes)
+-- a call fails only where one can fail, or for want of memory
+abbrev pub FailsOnly : {A E : Type 0} → Type 0 → Bool → Result A E → Type 0
+FailsOnly can_fail lacked r = OnErr r (can_fail ⊎ (lacked ≡ true))
 
--- the writer took all the bytes and handed on all that it then held, and no call failed
-abbrev pub TookAll : {W : Type 0} → (W → Option (List ℕ)) → (W → Option (List ℕ)) → (W → ℕ) → W → W → List ℕ → Type 0
-TookAll contents handed_on failed old new bytes = Appends (contents old) (contents new) bytes × (handed_on new ≡ contents new) × (failed new ≡ failed old)
+-- what can be seen of a writer: the bytes that it holds and those that it held at its last flush and handed on there,
+-- where they are known, and how many calls have failed
+pub record Seen : Type 0 where
+  pub contents : Option (List ℕ)
+  pub handed_on : Option (List ℕ)
+  pub failed : ℕ
 
--- the writer took a beginning of the bytes, and a call failed
-abbrev pub TookSome : {W : Type 0} → (W → Option (List ℕ)) → (W → ℕ) → W → W → List ℕ → Type 0
-TookSome contents failed old new bytes = AppendsBeginning (contents old) (contents new) bytes × (failed new ≡ counted (failed old))
+-- behind a write that took these bytes
+abbrev pub with_bytes : Seen → List ℕ → Seen
+with_bytes w bytes = record { contents = append_known w.contents bytes; handed_on = w.handed_on; failed = w.failed }
+
+-- behind a flush
+abbrev pub flushed : Seen → Seen
+flushed w = record { contents = w.contents; handed_on = w.contents; failed = w.failed }
+
+-- behind a call that failed
+abbrev pub once_failed : Seen → Seen
+once_failed w = record { contents = w.contents; handed_on = w.handed_on; failed = counted w.failed }
+
+-- the writer took all the bytes and then handed on what it held
+abbrev pub TookAll : Seen → Seen → List ℕ → Type 0
+TookAll old new bytes = new ≡ flushed (with_bytes old bytes)
+
+-- the writer took a beginning of the bytes and handed on nothing, and a call failed
+abbrev pub TookSome : Seen → Seen → List ℕ → Type 0
+TookSome old new bytes = (k : ℕ) × (k ≤ length bytes) × (new ≡ once_failed (with_bytes old (take k bytes)))
 
 -- each writer took its text whole
-abbrev pub AllTook : {W : Type 0} → (W → Option (List ℕ)) → (W → Option (List ℕ)) → (W → ℕ) → List W → List W → List (List ℕ) → Type 0
-AllTook contents handed_on failed [] [] [] = Unit {0}
-AllTook contents handed_on failed (w ∷ ws) (v ∷ vs) (t ∷ ts) = TookAll contents handed_on failed w v t × AllTook contents handed_on failed ws vs ts
-AllTook contents handed_on failed _ _ _ = ⊥
+abbrev pub AllTook : {W : Type 0} → (W → Seen) → List W → List W → List (List ℕ) → Type 0
+AllTook seen [] [] [] = Unit {0}
+AllTook seen (w ∷ ws) (v ∷ vs) (t ∷ ts) = TookAll (seen w) (seen v) t × AllTook seen ws vs ts
+AllTook seen _ _ _ = ⊥
 
--- the writers before one took their texts whole, that one a beginning of its text, and those behind it nothing
-abbrev pub StoppedAt : {W : Type 0} → (W → Option (List ℕ)) → (W → Option (List ℕ)) → (W → ℕ) → List W → List W → List (List ℕ) → Type 0
-StoppedAt contents handed_on failed (w ∷ ws) (v ∷ vs) (t ∷ ts) = (TookSome contents failed w v t × (vs ≡ ws)) ⊎ (TookAll contents handed_on failed w v t × StoppedAt contents handed_on failed ws vs ts)
-StoppedAt contents handed_on failed _ _ _ = ⊥
+-- the writers before one took their texts whole, that one a beginning of its text, and those behind it are as before
+abbrev pub StoppedAt : {W : Type 0} → (W → Seen) → List W → List W → List (List ℕ) → Type 0
+StoppedAt seen (w ∷ ws) (v ∷ vs) (t ∷ ts) = (TookSome (seen w) (seen v) t × (vs ≡ ws)) ⊎ (TookAll (seen w) (seen v) t × StoppedAt seen ws vs ts)
+StoppedAt seen _ _ _ = ⊥
 
 -- the bytes of each output
 abbrev pub texts : List (Vec ℕ Global) → List (List ℕ)

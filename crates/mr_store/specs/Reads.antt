@@ -1,4 +1,4 @@
--- What it is to read onto a list.
+-- Of no public promise: what it is to read onto a list.
 use Rattle.std.specs.Prelude.{◌≡◌, ℕ, List, ◌++◌, Option, Result, Ok, Err}
 use Rattle.std.specs.Io.KnownBytes.{Consumes, IsAtEnd}
 use Rattle.mr_store.specs.declared.reading.ReadFault.{ReadFault}
@@ -9,8 +9,8 @@ use Rattle.mr_store.specs.Devices.{counted}
 abbrev pub Grew : Option (List ℕ) → Option (List ℕ) → List ℕ → List ℕ → Type 0
 Grew known left was is = (got : List ℕ) × (is ≡ was ++ got) × Consumes known left got
 
--- to the end, or to a fault; where memory was wanting, what was read last is lost
+-- to the end, or to a fault; where memory was wanting, what was read last is given and not appended
 abbrev pub ReadOnto : Option (List ℕ) → Option (List ℕ) → ℕ → ℕ → List ℕ → List ℕ → Result (Unit {0}) ReadFault → Type 0
 ReadOnto known left failed failures was is (Ok _) = Grew known left was is × IsAtEnd left × (failures ≡ failed)
 ReadOnto known left failed failures was is (Err Device) = Grew known left was is × (failures ≡ counted failed)
-ReadOnto known left failed failures was is (Err OutOfMemory) = ((got : List ℕ) × (is ≡ was ++ got)) × (failures ≡ failed)
+ReadOnto known left failed failures was is (Err OutOfMemory) = ((got : List ℕ) × (is ≡ was ++ got)) × ((given : List ℕ) × Consumes known left given) × (failures ≡ failed)

@@ -1,6 +1,7 @@
-ghost use Rattle.std.specs.Prelude.{◌≡◌, ℕ, ◌≤◌, ◌<◌, List, Option, None, IfOk, OnOk, length};
-ghost use Rattle.std.specs.Io.KnownBytes.{ReadConsumes, WriteAppends, Keeps};
-ghost use Rattle.mr_store.specs.Devices.{Counts};
+//! Readers and writers, each with a count of its failed calls.
+ghost use Rattle.std.specs.Prelude.{◌≡◌, ℕ, ◌≤◌, ◌<◌, ⊤, Bool, List, Option, None, IfOk, MatchResult, length, take};
+ghost use Rattle.std.specs.Io.KnownBytes.{ReadConsumes};
+ghost use Rattle.mr_store.specs.Devices.{Counts, FailsOnly, Seen, with_bytes, flushed, once_failed};
 
 use thiserror::Error;
 
@@ -17,45 +18,61 @@ pub trait CountedRead {
     // How many calls have failed; the count has 64 bits.
     ghost failed: { Self → ℕ };
 
+    // A call can fail, now or later, for another cause than want of memory.
+    ghost can_fail: { Self → Type 0 } = { λ _. ⊤ };
+
+    // A call was refused memory.
+    ghost lacked: { Self → Bool };
+
     /// Reads some bytes into the front of the buffer and answers how many: none only at the end of the bytes, or
-    /// into an empty buffer.
+    /// into an empty buffer. A failed call takes none of the bytes that are left.
     fn read(&mut self, buffer: &mut [u8]) -> Result<usize, Device>
         ensures bound { IfOk result (λ n. n ≤ length buffer.new) }
         ensures bytes { ReadConsumes (remaining self.old) (remaining self.new) result buffer.new }
-        ensures count { Counts (failed self.old) (failed self.new) result };
+        ensures count { Counts (failed self.old) (failed self.new) result }
+        ensures fails { FailsOnly (can_fail self.old) (lacked self.new) result }
+        ensures later { can_fail self.new → can_fail self.old };
 
     /// How many calls have failed.
     fn failures(&self) -> u64
         ensures { result ≡ failed self.now };
+
+    /// Whether a call was refused memory.
+    fn lacked_memory(&self) -> bool
+        ensures { result ≡ lacked self.now };
 }
 
 /// A writer that counts its failed calls. An interrupted call is a failed one, and so is a write of some bytes that
 /// takes none.
 pub trait CountedWrite {
-    // The bytes that the writer holds, where they are known.
-    ghost contents: { Self → Option (List ℕ) } = { λ _. None };
+    // Its bytes, where they are known, and how many calls have failed.
+    ghost seen: { Self → Seen };
 
-    // The bytes that it held at its last flush, and handed on there, where they are known.
-    ghost handed_on: { Self → Option (List ℕ) } = { λ _. None };
+    // A call can fail, now or later, for another cause than want of memory.
+    ghost can_fail: { Self → Type 0 } = { λ _. ⊤ };
 
-    // How many calls have failed; the count has 64 bits.
-    ghost failed: { Self → ℕ };
+    // A call was refused memory.
+    ghost lacked: { Self → Bool };
 
-    /// Writes a beginning of the bytes and answers how many: some, where there are any.
+    /// Writes a beginning of the bytes and answers how many: some, where there are any. A failed call takes none.
     fn write(&mut self, bytes: &[u8]) -> Result<usize, Device>
         ensures bound { IfOk result (λ n. n ≤ length bytes.now) }
         ensures some { IfOk result (λ n. 0 < length bytes.now → 0 < n) }
-        ensures bytes { WriteAppends (contents self.old) (contents self.new) result bytes.now }
-        ensures kept { handed_on self.new ≡ handed_on self.old }
-        ensures count { Counts (failed self.old) (failed self.new) result };
+        ensures takes { MatchResult result (λ n. seen self.new ≡ with_bytes (seen self.old) (take n bytes.now)) (λ _. seen self.new ≡ once_failed (seen self.old)) }
+        ensures fails { FailsOnly (can_fail self.old) (lacked self.new) result }
+        ensures later { can_fail self.new → can_fail self.old };
 
-    /// Hands on what was written.
+    /// Hands on what was written. A failed call hands on nothing.
     fn flush(&mut self) -> Result<(), Device>
-        ensures bytes { Keeps (contents self.old) (contents self.new) }
-        ensures handed { OnOk result (handed_on self.new ≡ contents self.new) }
-        ensures count { Counts (failed self.old) (failed self.new) result };
+        ensures hands { MatchResult result (λ _. seen self.new ≡ flushed (seen self.old)) (λ _. seen self.new ≡ once_failed (seen self.old)) }
+        ensures fails { FailsOnly (can_fail self.old) (lacked self.new) result }
+        ensures later { can_fail self.new → can_fail self.old };
 
     /// How many calls have failed.
     fn failures(&self) -> u64
-        ensures { result ≡ failed self.now };
+        ensures { result ≡ (seen self.now).failed };
+
+    /// Whether a call was refused memory.
+    fn lacked_memory(&self) -> bool
+        ensures { result ≡ lacked self.now };
 }

@@ -6,12 +6,10 @@ mod failing;
 mod memory_reader;
 mod memory_writer;
 mod reading;
-#[cfg(test)]
-mod tests;
 mod writing;
 
 pub use crate::device::{CountedRead, CountedWrite, Device};
 pub use crate::memory_reader::MemoryReader;
 pub use crate::memory_writer::MemoryWriter;
 pub use crate::reading::{ReadFault, read_all};
-pub use crate::writing::{write_all, write_result};
+pub use crate::writing::{write_all, write_result, write_whole};

@@ -1,6 +1,7 @@
-ghost use Rattle.std.specs.Prelude.{◌≡◌, ℕ, ◌≤◌, List, Option, Some, IfSome, IfOk, IsErr, length, take, drop, min, true, false};
+//! A reader over bytes in memory, for tests of what reads.
+ghost use Rattle.std.specs.Prelude.{◌≡◌, ℕ, ◌≤◌, List, Option, Some, IsSome, IfSome, IfOk, IsErr, OnErr, length, take, drop, min, true, false};
 ghost use Rattle.std.specs.Io.KnownBytes.{ReadConsumes};
-ghost use Rattle.mr_store.specs.Devices.{Counts};
+ghost use Rattle.mr_store.specs.Devices.{Counts, FailsOnly};
 ghost use Rattle.mr_store.specs.Memory.{fails_now as does_fail, behind_call as what_is_behind};
 
 use crate::device::{CountedRead, Device};
@@ -73,13 +74,20 @@ impl CountedRead for MemoryReader {
 
     ghost failed = { λ r. r.failed };
 
+    ghost can_fail = { λ r. IsSome r.failing };
+
+    ghost lacked = { λ _. false };
+
     fn read(&mut self, buffer: &mut [u8]) -> Result<usize, Device>
         ensures bound { IfOk result (λ n. n ≤ length buffer.new) }
         ensures bytes { ReadConsumes (Some self.old.bytes) (Some self.new.bytes) result buffer.new }
         ensures count { Counts self.old.failed self.new.failed result }
+        ensures fails { FailsOnly (IsSome self.old.failing) false result }
+        ensures later { IsSome self.new.failing → IsSome self.old.failing }
+        ensures untouched { OnErr result (buffer.new ≡ buffer.old) }
         ensures gives { does_fail self.old.failing ≡ false → result ≡ Ok (min self.old.most (min (length buffer.old) (length self.old.bytes))) }
-        ensures fails { does_fail self.old.failing ≡ true → IsErr result }
-        ensures later { (self.new.failing ≡ what_is_behind self.old.failing) × (self.new.most ≡ self.old.most) }
+        ensures fails_now { does_fail self.old.failing ≡ true → IsErr result }
+        ensures behind { (self.new.failing ≡ what_is_behind self.old.failing) × (self.new.most ≡ self.old.most) }
     {
         let fails = fails_now(self.failing);
         self.failing = behind_call(self.failing);
@@ -94,5 +102,9 @@ impl CountedRead for MemoryReader {
 
     fn failures(&self) -> u64 {
         self.failed
+    }
+
+    fn lacked_memory(&self) -> bool {
+        false
     }
 }

@@ -1,7 +1,7 @@
-ghost use Rattle.std.specs.Prelude.{◌≡◌, ◌↔◌, ℕ, ◌≤◌, ◌<◌, [], Option, Some, IfSome, IfOk, OnOk, OnErr, IsErr, length, min, true};
-ghost use Rattle.std.specs.Io.KnownBytes.{WriteAppends, Keeps};
-ghost use Rattle.mr_store.specs.Devices.{Counts};
-ghost use Rattle.mr_store.specs.Memory.{fails_now as does_fail, behind_call as what_is_behind};
+//! A writer into memory, for tests of what writes.
+ghost use Rattle.std.specs.Prelude.{◌≡◌, ◌↔◌, ◌⊎◌, ℕ, ◌≤◌, ◌<◌, [], Option, Some, IsSome, IfSome, IfOk, OnOk, OnErr, IsErr, MatchResult, length, take, min, true, false};
+ghost use Rattle.mr_store.specs.Devices.{FailsOnly, with_bytes, flushed, once_failed};
+ghost use Rattle.mr_store.specs.Memory.{fails_now as does_fail, behind_call as what_is_behind, seen_of};
 
 use crate::device::{CountedWrite, Device};
 use crate::failing::{behind_call, fails_now};
@@ -17,6 +17,7 @@ pub struct MemoryWriter {
     most: usize,
     failing: Option<u64>,
     failed: u64,
+    lacked: bool,
 }
 
 impl Model for MemoryWriter {
@@ -25,7 +26,7 @@ impl Model for MemoryWriter {
 
     ghost Value = { WrittenMemory };
 
-    ghost view = { λ a. record { bytes = a.bytes.items; handed_on = take a.handed_on a.bytes.items; most = a.most; failing = a.failing; failed = a.failed } };
+    ghost view = { λ a. record { bytes = a.bytes.items; handed_on = take a.handed_on a.bytes.items; most = a.most; failing = a.failing; failed = a.failed; lacked = a.lacked } };
 
     ghost invariant = { λ a. record {
       within : a.handed_on ≤ length a.bytes.items;
@@ -40,7 +41,7 @@ impl MemoryWriter {
     pub fn new(alloc: Global, most: usize, failing: Option<u64>) -> MemoryWriter
         requires some { 1 ≤ most }
         requires later { IfSome failing (λ n. 1 ≤ n) }
-        ensures { result ≡ record { bytes = []; handed_on = []; most = most; failing = failing; failed = 0 } }
+        ensures { result ≡ record { bytes = []; handed_on = []; most = most; failing = failing; failed = 0; lacked = false } }
     {
         MemoryWriter {
             bytes: Vec::new(alloc),
@@ -48,6 +49,7 @@ impl MemoryWriter {
             most,
             failing,
             failed: 0,
+            lacked: false,
         }
     }
 
@@ -67,40 +69,44 @@ impl MemoryWriter {
 }
 
 impl CountedWrite for MemoryWriter {
-    ghost contents = { λ w. Some w.bytes };
+    ghost seen = { seen_of };
 
-    ghost handed_on = { λ w. Some w.handed_on };
+    ghost can_fail = { λ w. IsSome w.failing };
 
-    ghost failed = { λ w. w.failed };
+    ghost lacked = { λ w. w.lacked };
 
     fn write(&mut self, bytes: &[u8]) -> Result<usize, Device>
         ensures bound { IfOk result (λ n. n ≤ length bytes.now) }
         ensures some { IfOk result (λ n. 0 < length bytes.now → 0 < n) }
-        ensures bytes { WriteAppends (Some self.old.bytes) (Some self.new.bytes) result bytes.now }
-        ensures kept { Some self.new.handed_on ≡ Some self.old.handed_on }
-        ensures count { Counts self.old.failed self.new.failed result }
-        ensures takes { IfOk result (λ n. n ≡ min self.old.most (length bytes.now)) }
-        ensures fails { does_fail self.old.failing ≡ true → IsErr result }
-        ensures later { (self.new.failing ≡ what_is_behind self.old.failing) × (self.new.most ≡ self.old.most) }
+        ensures takes { MatchResult result (λ n. seen_of self.new ≡ with_bytes (seen_of self.old) (take n bytes.now)) (λ _. seen_of self.new ≡ once_failed (seen_of self.old)) }
+        ensures fails { FailsOnly (IsSome self.old.failing) self.new.lacked result }
+        ensures later { IsSome self.new.failing → IsSome self.old.failing }
+        ensures most { IfOk result (λ n. n ≡ min self.old.most (length bytes.now)) }
+        ensures fails_now { does_fail self.old.failing ≡ true → IsErr result }
+        ensures behind { (self.new.failing ≡ what_is_behind self.old.failing) × (self.new.most ≡ self.old.most) }
     {
         let fails = fails_now(self.failing);
         self.failing = behind_call(self.failing);
         let count = self.most.min(bytes.len());
         let (taken, _) = bytes.split_at(count);
-        if fails || self.bytes.extend_from_slice(taken).is_err() {
+        if fails {
             self.failed = self.failed.wrapping_add(1);
+            return Err(Device);
+        }
+        if self.bytes.extend_from_slice(taken).is_err() {
+            self.failed = self.failed.wrapping_add(1);
+            self.lacked = true;
             return Err(Device);
         }
         Ok(count)
     }
 
     fn flush(&mut self) -> Result<(), Device>
-        ensures bytes { Keeps (Some self.old.bytes) (Some self.new.bytes) }
-        ensures handed { OnOk result (Some self.new.handed_on ≡ Some self.new.bytes) }
-        ensures unhanded { OnErr result (self.new.handed_on ≡ self.old.handed_on) }
-        ensures count { Counts self.old.failed self.new.failed result }
-        ensures fails { (does_fail self.old.failing ≡ true) ↔ IsErr result }
-        ensures later { (self.new.failing ≡ what_is_behind self.old.failing) × (self.new.most ≡ self.old.most) }
+        ensures hands { MatchResult result (λ _. seen_of self.new ≡ flushed (seen_of self.old)) (λ _. seen_of self.new ≡ once_failed (seen_of self.old)) }
+        ensures fails { FailsOnly (IsSome self.old.failing) self.new.lacked result }
+        ensures later { IsSome self.new.failing → IsSome self.old.failing }
+        ensures fails_now { (does_fail self.old.failing ≡ true) ↔ IsErr result }
+        ensures behind { (self.new.failing ≡ what_is_behind self.old.failing) × (self.new.most ≡ self.old.most) }
     {
         let fails = fails_now(self.failing);
         self.failing = behind_call(self.failing);
@@ -114,5 +120,9 @@ impl CountedWrite for MemoryWriter {
 
     fn failures(&self) -> u64 {
         self.failed
+    }
+
+    fn lacked_memory(&self) -> bool {
+        self.lacked
     }
 }

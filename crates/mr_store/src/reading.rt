@@ -1,4 +1,5 @@
-ghost use Rattle.std.specs.Prelude.{◌≡◌, ◌↔◌, ℕ, List, ◌++◌, OnOk, OnErr, IfSome, MatchResult, length};
+//! A reader read to its end, onto a list.
+ghost use Rattle.std.specs.Prelude.{◌≡◌, ◌↔◌, ◌⊎◌, ℕ, List, ◌++◌, OnOk, OnErr, IfSome, MatchResult, true, length};
 ghost use Rattle.std.specs.Io.KnownBytes.{Consumes, IsAtEnd};
 ghost use Rattle.mr_store.specs.Devices.{counted};
 ghost use Rattle.mr_store.specs.Reads.{ReadOnto};
@@ -42,7 +43,8 @@ const PIECE: usize = 65_536;
 
 /// Appends what the reader gives, up to its end or to a fault; behind a fault some of it is appended.
 fn read_onto<R: CountedRead>(reader: &mut R, out: &mut Vec<u8>) -> Result<(), ReadFault>
-    ensures { ReadOnto (R.remaining reader.old) (R.remaining reader.new) (R.failed reader.old) (R.failed reader.new) out.old.items out.new.items result }
+    ensures onto { ReadOnto (R.remaining reader.old) (R.remaining reader.new) (R.failed reader.old) (R.failed reader.new) out.old.items out.new.items result }
+    ensures fails { result ≡ Err ReadFault.Device → R.can_fail reader.old ⊎ (R.lacked reader.new ≡ true) }
 {
     let mut buffer = [0u8; PIECE];
     loop {
@@ -60,8 +62,10 @@ pub fn read_all<R: CountedRead>(reader: &mut R, out: &mut Vec<u8>) -> Result<(),
     ensures bytes { OnOk result (IfSome (R.remaining reader.old) (λ xs. out.new.items ≡ out.old.items ++ xs)) }
     ensures end { OnOk result (IsAtEnd (R.remaining reader.new)) }
     ensures err { OnErr result (out.new.items ≡ out.old.items) }
+    ensures consumes { (got : List ℕ) × Consumes (R.remaining reader.old) (R.remaining reader.new) got }
     ensures device { (result ≡ Err ReadFault.Device) ↔ (R.failed reader.new ≡ counted (R.failed reader.old)) }
     ensures count { (result ≡ Err ReadFault.Device → ⊥) → R.failed reader.new ≡ R.failed reader.old }
+    ensures fails { result ≡ Err ReadFault.Device → R.can_fail reader.old ⊎ (R.lacked reader.new ≡ true) }
 {
     let before = out.len();
     let answer = read_onto(reader, out);

@@ -1,16 +1,17 @@
-ghost use Rattle.std.specs.Prelude.{◌≡◌, ◌⊎◌, OnOk, OnErr, MatchResult, length};
-ghost use Rattle.std.specs.Io.KnownBytes.{Appends};
-ghost use Rattle.mr_store.specs.Devices.{Counts, AppendsBeginning, TookAll, TookSome, AllTook, StoppedAt, texts};
+//! Bytes written whole, and the files of a result, each with its own writer.
+ghost use Rattle.std.specs.Prelude.{◌≡◌, ◌⊎◌, [], OnOk, OnErr, MatchResult, length};
+ghost use Rattle.mr_store.specs.Devices.{FailsOnly, TookAll, TookSome, AllTook, StoppedAt, texts, with_bytes};
 
 use crate::device::{CountedWrite, Device};
 
 /// Writes all the bytes and leaves it to the caller to flush; no call is made for none. Behind a refusal a beginning of
 /// them is written.
 pub fn write_all<W: CountedWrite>(writer: &mut W, bytes: &[u8]) -> Result<(), Device>
-    ensures whole { OnOk result (Appends (W.contents writer.old) (W.contents writer.new) bytes.now) }
-    ensures beginning { OnErr result (AppendsBeginning (W.contents writer.old) (W.contents writer.new) bytes.now) }
-    ensures kept { W.handed_on writer.new ≡ W.handed_on writer.old }
-    ensures count { Counts (W.failed writer.old) (W.failed writer.new) result }
+    ensures whole { OnOk result (W.seen writer.new ≡ with_bytes (W.seen writer.old) bytes.now) }
+    ensures beginning { OnErr result (TookSome (W.seen writer.old) (W.seen writer.new) bytes.now) }
+    ensures none { bytes.now ≡ [] → writer.new ≡ writer.old }
+    ensures fails { FailsOnly (W.can_fail writer.old) (W.lacked writer.new) result }
+    ensures later { W.can_fail writer.new → W.can_fail writer.old }
 {
     let mut rest = bytes;
     while !rest.is_empty() {
@@ -21,9 +22,12 @@ pub fn write_all<W: CountedWrite>(writer: &mut W, bytes: &[u8]) -> Result<(), De
     Ok(())
 }
 
-/// Writes all the bytes and hands them on.
-fn write_part<W: CountedWrite>(writer: &mut W, bytes: &[u8]) -> Result<(), Device>
-    ensures { MatchResult result (λ _. TookAll W.contents W.handed_on W.failed writer.old writer.new bytes.now) (λ _. TookSome W.contents W.failed writer.old writer.new bytes.now) }
+/// Writes all the bytes and hands them on; for none it is only flushed. Behind a refusal a beginning of them is
+/// written and nothing handed on.
+pub fn write_whole<W: CountedWrite>(writer: &mut W, bytes: &[u8]) -> Result<(), Device>
+    ensures whole { OnOk result (TookAll (W.seen writer.old) (W.seen writer.new) bytes.now) }
+    ensures beginning { OnErr result (TookSome (W.seen writer.old) (W.seen writer.new) bytes.now) }
+    ensures fails { FailsOnly (W.can_fail writer.old) (W.lacked writer.new) result }
 {
     write_all(writer, bytes)?;
     writer.flush()
@@ -32,13 +36,11 @@ fn write_part<W: CountedWrite>(writer: &mut W, bytes: &[u8]) -> Result<(), Devic
 /// Writes each part with its own writer, the parts in order.
 fn write_parts<W: CountedWrite>(writers: &mut [W], outputs: &[Vec<u8>]) -> Result<(), Device>
     requires { length writers.old ≡ length outputs.now }
-    ensures { MatchResult result
-        (λ _. AllTook W.contents W.handed_on W.failed writers.old writers.new (texts outputs.now))
-        (λ _. StoppedAt W.contents W.handed_on W.failed writers.old writers.new (texts outputs.now)) }
+    ensures { MatchResult result (λ _. AllTook W.seen writers.old writers.new (texts outputs.now)) (λ _. StoppedAt W.seen writers.old writers.new (texts outputs.now)) }
 {
     for i in 0..outputs.len() {
         let writer = &mut writers[i];
-        write_part(writer, &outputs[i])?;
+        write_whole(writer, &outputs[i])?;
     }
     Ok(())
 }
@@ -53,13 +55,12 @@ pub fn write_result<W: CountedWrite>(
     certificate: &[u8],
 ) -> Result<(), Device>
     requires { length writers.old ≡ length outputs.now }
-    ensures whole { OnOk result (AllTook W.contents W.handed_on W.failed writers.old writers.new (texts outputs.now)
-        × TookAll W.contents W.handed_on W.failed certificate_writer.old certificate_writer.new certificate.now) }
+    ensures parts { OnOk result (AllTook W.seen writers.old writers.new (texts outputs.now)) }
+    ensures last { OnOk result (TookAll (W.seen certificate_writer.old) (W.seen certificate_writer.new) certificate.now) }
     ensures stopped { OnErr result
-        ((StoppedAt W.contents W.handed_on W.failed writers.old writers.new (texts outputs.now) × (certificate_writer.new ≡ certificate_writer.old))
-        ⊎ (AllTook W.contents W.handed_on W.failed writers.old writers.new (texts outputs.now)
-        × TookSome W.contents W.failed certificate_writer.old certificate_writer.new certificate.now)) }
+        ((StoppedAt W.seen writers.old writers.new (texts outputs.now) × (certificate_writer.new ≡ certificate_writer.old))
+        ⊎ (AllTook W.seen writers.old writers.new (texts outputs.now) × TookSome (W.seen certificate_writer.old) (W.seen certificate_writer.new) certificate.now)) }
 {
     write_parts(writers, outputs)?;
-    write_part(certificate_writer, certificate)
+    write_whole(certificate_writer, certificate)
 }

@@ -5,6 +5,7 @@ use Rattle.mr_store.proofs.reading.read_onto.Given as goal
 abbrev pub invariant-loop-count : goal.invariant-loop-count
 invariant-loop-count g l = record {
   grew : Grew (g.R.CountedRead.remaining l.initial.reader) (g.R.CountedRead.remaining l.reader) l.initial.out.items l.out.items;
+  later : g.R.CountedRead.can_fail l.reader → g.R.CountedRead.can_fail l.initial.reader;
   count : g.R.CountedRead.failed l.reader ≡ g.R.CountedRead.failed l.initial.reader;
 }
 

@@ -1,0 +1,5 @@
+pub mod Entries
+pub mod Lists
+pub mod Digits
+pub mod Written
+pub mod Stopped

@@ -1,0 +1,17 @@
+//! Files by their names, behind a trait whose contract says what stands under a name.
+#![tactic(auto)]
+
+mod counted;
+mod disk;
+mod memory;
+mod names;
+mod reading;
+mod store;
+mod writing;
+
+pub use crate::disk::DiskFiles;
+pub use crate::memory::{MemoryFiles, one_content_law};
+pub use crate::names::{certificate_name, part_name};
+pub use crate::reading::{read_files, read_result};
+pub use crate::store::{FileFault, Store, WriteFault};
+pub use crate::writing::write_files;

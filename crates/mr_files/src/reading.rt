@@ -1,0 +1,136 @@
+//! Files read in order.
+ghost use Rattle.std.specs.Prelude.{◌≡◌, ◌∷◌, [], ◌++◌, map, IfOk, IfErr, OnErr};
+ghost use Rattle.mr_input.specs.Files.{contents};
+ghost use Rattle.mr_files.specs.Holding.{Holding};
+ghost use Rattle.mr_files.specs.Names.{part_names, name_of_part, name_of_certificate, result_names};
+ghost use Rattle.mr_files.specs.Refusals.{IsReadRefusal, IsUnread, IsOneUnread, IsFault};
+
+use crate::names::{certificate_name, part_name};
+use crate::store::{FileFault, Store};
+use mr_store::{CountedRead, ReadFault, read_all};
+use std::alloc::{AllocError, Global};
+
+/// The fault of a file of that name.
+fn fault_of(alloc: Global, name: &str, fault: ReadFault) -> FileFault
+    ensures { IsFault name.now fault result }
+{
+    match fault {
+        ReadFault::OutOfMemory => FileFault::OutOfMemory,
+        ReadFault::Device => match String::from_str(alloc, name) {
+            Ok(name) => FileFault::CannotRead(name),
+            Err(_) => FileFault::OutOfMemory,
+        },
+    }
+}
+
+/// All bytes of the file of that name.
+fn read_file<S: Store>(store: &S, alloc: Global, name: &str) -> Result<Vec<u8>, FileFault>
+    ensures bytes { IfOk result (λ v. S.holds store.now name.now v.items) }
+    ensures refused { IfErr result (λ e. IsUnread (S.unreadable store.now) name.now e) }
+{
+    let mut reader = match store.reader(alloc, name) {
+        Ok(reader) => reader,
+        Err(fault) => return Err(fault_of(alloc, name, fault)),
+    };
+    let mut bytes = Vec::new(alloc);
+    match read_all(&mut reader, &mut bytes) {
+        Ok(()) => Ok(bytes),
+        Err(_) if reader.lacked_memory() => Err(FileFault::OutOfMemory),
+        Err(fault) => Err(fault_of(alloc, name, fault)),
+    }
+}
+
+/// The bytes of the named files, in order.
+pub fn read_files<S: Store>(
+    store: &S,
+    alloc: Global,
+    names: &[&str],
+) -> Result<Vec<Vec<u8>>, FileFault>
+    ensures bytes { IfOk result (λ v. Holding (S.holds store.now) (map (λ s. s.now) names.now) (contents v.items)) }
+    ensures refused { IfErr result (λ e. IsReadRefusal (S.holds store.now) (S.unreadable store.now) (map (λ s. s.now) names.now) e) }
+{
+    let mut files = Vec::new(alloc);
+    for name in names {
+        let bytes = read_file(store, alloc, name)?;
+        files.push(bytes).map_err(AllocError::from)?;
+    }
+    Ok(files)
+}
+
+/// Whether the file of that name can be opened.
+fn try_file<S: Store>(store: &S, alloc: Global, name: &str) -> Result<(), FileFault>
+    ensures { IfErr result (λ e. IsUnread (S.unreadable store.now) name.now e) }
+{
+    match store.try_open(name) {
+        Ok(()) => Ok(()),
+        Err(fault) => Err(fault_of(alloc, name, fault)),
+    }
+}
+
+fn try_part<S: Store>(store: &S, alloc: Global, dir: &str, part: usize) -> Result<(), FileFault>
+    ensures { IfErr result (λ e. IsUnread (S.unreadable store.now) (name_of_part dir.now part) e) }
+{
+    let name = part_name(alloc, dir, part)?;
+    try_file(store, alloc, name.as_str())
+}
+
+fn read_part<S: Store>(
+    store: &S,
+    alloc: Global,
+    dir: &str,
+    part: usize,
+) -> Result<Vec<u8>, FileFault>
+    ensures bytes { IfOk result (λ v. S.holds store.now (name_of_part dir.now part) v.items) }
+    ensures refused { IfErr result (λ e. IsUnread (S.unreadable store.now) (name_of_part dir.now part) e) }
+{
+    let name = part_name(alloc, dir, part)?;
+    read_file(store, alloc, name.as_str())
+}
+
+/// Each part can be opened, tried in order.
+fn try_parts<S: Store>(store: &S, alloc: Global, dir: &str, parts: usize) -> Result<(), FileFault>
+    ensures { IfErr result (λ e. IsOneUnread (S.unreadable store.now) (result_names dir.now parts) e) }
+{
+    for part in 0..parts {
+        try_part(store, alloc, dir, part)?;
+    }
+    Ok(())
+}
+
+/// The bytes of the parts, in order.
+fn read_parts<S: Store>(
+    store: &S,
+    alloc: Global,
+    dir: &str,
+    parts: usize,
+) -> Result<Vec<Vec<u8>>, FileFault>
+    ensures bytes { IfOk result (λ v. Holding (S.holds store.now) (part_names dir.now parts) (contents v.items)) }
+    ensures refused { IfErr result (λ e. IsOneUnread (S.unreadable store.now) (result_names dir.now parts) e) }
+{
+    let mut files = Vec::new(alloc);
+    for part in 0..parts {
+        let bytes = read_part(store, alloc, dir, part)?;
+        files.push(bytes).map_err(AllocError::from)?;
+    }
+    Ok(files)
+}
+
+/// The bytes of the parts, in order, and those of the certificate. Each of the files is opened once before one is
+/// read, so that a missing file is told before one that can't be read.
+pub fn read_result<S: Store>(
+    store: &S,
+    alloc: Global,
+    dir: &str,
+    parts: usize,
+) -> Result<(Vec<Vec<u8>>, Vec<u8>), FileFault>
+    ensures outputs { IfOk result (λ r. Holding (S.holds store.now) (part_names dir.now parts) (contents r.0.items)) }
+    ensures certificate { IfOk result (λ r. S.holds store.now (name_of_certificate dir.now) r.1.items) }
+    ensures refused { IfErr result (λ e. IsOneUnread (S.unreadable store.now) (result_names dir.now parts) e) }
+{
+    try_parts(store, alloc, dir, parts)?;
+    let last = certificate_name(alloc, dir)?;
+    try_file(store, alloc, last.as_str())?;
+    let outputs = read_parts(store, alloc, dir, parts)?;
+    let certificate = read_file(store, alloc, last.as_str())?;
+    Ok((outputs, certificate))
+}

@@ -1,0 +1,107 @@
+//! A result written.
+ghost use Rattle.std.specs.Prelude.{◌≡◌, ◌∷◌, [], ◌++◌, ℕ, List, OnOk, IfErr, length, string_bytes};
+ghost use Rattle.mr_files.specs.Refusals.{IsUnwritten, IsWriteRefusal};
+ghost use Rattle.mr_input.specs.Files.{contents};
+ghost use Rattle.mr_files.specs.Holding.{Begins, Holding, ChangesOnly, ChangesAmong};
+ghost use Rattle.mr_files.specs.Names.{part_names, name_of_part, name_of_certificate, result_names};
+
+use crate::names::{certificate_name, part_name};
+use crate::store::{FileFault, Store, WriteFault};
+use mr_store::{CountedWrite, Device, write_whole};
+use std::alloc::Global;
+
+/// Writes a file, and tells its name where that fails.
+fn write_file<S: Store>(
+    store: &mut S,
+    alloc: Global,
+    name: String,
+    bytes: &[u8],
+) -> Result<(), FileFault>
+    ensures whole { OnOk result (S.holds store.new (string_bytes name) bytes.now) }
+    ensures begins { Begins (S.holds store.old) (S.holds store.new) (string_bytes name) bytes.now }
+    ensures others { ChangesOnly (S.holds store.old) (S.holds store.new) (string_bytes name) }
+    ensures refused { IfErr result (λ e. IsUnwritten (S.unwritable store.old) (string_bytes name) e) }
+    ensures still { (n : List ℕ) → S.unwritable store.new n → S.unwritable store.old n }
+{
+    let mut writer = match store.writer(alloc, name.as_str()) {
+        Ok(writer) => writer,
+        Err(WriteFault::OutOfMemory) => return Err(FileFault::OutOfMemory),
+        Err(WriteFault::Device) => return Err(FileFault::CannotWrite(name)),
+    };
+    let answer = write_whole(&mut writer, bytes);
+    let lacked_memory = writer.lacked_memory();
+    store.close(name.as_str(), writer)?;
+    match answer {
+        Ok(()) => Ok(()),
+        Err(Device) if lacked_memory => Err(FileFault::OutOfMemory),
+        Err(Device) => Err(FileFault::CannotWrite(name)),
+    }
+}
+
+fn write_part<S: Store>(
+    store: &mut S,
+    alloc: Global,
+    dir: &str,
+    part: usize,
+    bytes: &[u8],
+) -> Result<(), FileFault>
+    ensures whole { OnOk result (S.holds store.new (name_of_part dir.now part) bytes.now) }
+    ensures begins { Begins (S.holds store.old) (S.holds store.new) (name_of_part dir.now part) bytes.now }
+    ensures others { ChangesOnly (S.holds store.old) (S.holds store.new) (name_of_part dir.now part) }
+    ensures refused { IfErr result (λ e. IsUnwritten (S.unwritable store.old) (name_of_part dir.now part) e) }
+    ensures still { (n : List ℕ) → S.unwritable store.new n → S.unwritable store.old n }
+{
+    let name = part_name(alloc, dir, part)?;
+    write_file(store, alloc, name, bytes)
+}
+
+fn write_certificate<S: Store>(
+    store: &mut S,
+    alloc: Global,
+    dir: &str,
+    bytes: &[u8],
+) -> Result<(), FileFault>
+    ensures whole { OnOk result (S.holds store.new (name_of_certificate dir.now) bytes.now) }
+    ensures begins { Begins (S.holds store.old) (S.holds store.new) (name_of_certificate dir.now) bytes.now }
+    ensures others { ChangesOnly (S.holds store.old) (S.holds store.new) (name_of_certificate dir.now) }
+    ensures refused { IfErr result (λ e. IsUnwritten (S.unwritable store.old) (name_of_certificate dir.now) e) }
+{
+    let name = certificate_name(alloc, dir)?;
+    write_file(store, alloc, name, bytes)
+}
+
+/// Writes each output under the name of its part, in order.
+fn write_parts<S: Store>(
+    store: &mut S,
+    alloc: Global,
+    dir: &str,
+    outputs: &[Vec<u8>],
+) -> Result<(), FileFault>
+    ensures whole { OnOk result (Holding (S.holds store.new) (part_names dir.now (length outputs.now)) (contents outputs.now)) }
+    ensures others { ChangesAmong (S.holds store.old) (S.holds store.new) (part_names dir.now (length outputs.now)) }
+    ensures refused { IfErr result (λ e. IsWriteRefusal (S.holds store.old) (S.holds store.new) (S.unwritable store.old) (part_names dir.now (length outputs.now)) (contents outputs.now) e) }
+    ensures still { (n : List ℕ) → S.unwritable store.new n → S.unwritable store.old n }
+{
+    for part in 0..outputs.len() {
+        write_part(store, alloc, dir, part, &outputs[part])?;
+    }
+    Ok(())
+}
+
+/// Writes the outputs to `part-00000` and so on, in order, and then `certificate`. Behind it they all stand whole, and
+/// all else as before.
+pub fn write_files<S: Store>(
+    store: &mut S,
+    alloc: Global,
+    dir: &str,
+    outputs: &[Vec<u8>],
+    certificate: &[u8],
+) -> Result<(), FileFault>
+    ensures outputs { OnOk result (Holding (S.holds store.new) (part_names dir.now (length outputs.now)) (contents outputs.now)) }
+    ensures certificate { OnOk result (S.holds store.new (name_of_certificate dir.now) certificate.now) }
+    ensures others { ChangesAmong (S.holds store.old) (S.holds store.new) (result_names dir.now (length outputs.now)) }
+    ensures refused { IfErr result (λ e. IsWriteRefusal (S.holds store.old) (S.holds store.new) (S.unwritable store.old) (result_names dir.now (length outputs.now)) (contents outputs.now ++ certificate.now ∷ []) e) }
+{
+    write_parts(store, alloc, dir, outputs)?;
+    write_certificate(store, alloc, dir, certificate)
+}
