@@ -1,0 +1,159 @@
+"""The judge against a plain one: results are spoiled in every way that has a name, and whole lines are compared."""
+
+from dataclasses import replace
+
+from harness import seeded, write_result
+from plain import judged, named_records, pairs_of, produced, text_of
+from producer import options_of, random_job
+
+
+def some_group(rnd, certificate):
+    """A partition and a group of it, if there is one."""
+    places = [(p, g) for p, groups in enumerate(certificate.partitions) for g in range(len(groups))]
+    return rnd.choice(places) if places else None
+
+
+def rewritten(request, files, certificate):
+    """The outputs that fit the groups of a certificate, wrong as they may be."""
+    pairs = pairs_of(request, files, certificate.skips)
+    outputs = []
+    for groups in certificate.partitions:
+        text = b""
+        for names in groups:
+            known = [pairs[name] for name in names if name in pairs]
+            text += text_of(request, known[0][0], [value for _, value in known]) if known else b""
+        outputs.append(text)
+    return outputs
+
+
+def spoiled_groups(rnd, request, files, certificate):
+    """A certificate with one thing done to its groups."""
+    place = some_group(rnd, certificate)
+    if place is None:
+        return
+    p, g = place
+    groups = certificate.partitions[p]
+    names = groups[g]
+    all_names = list(pairs_of(request, files))
+    e = rnd.randrange(len(names))
+    other = rnd.choice(all_names)
+    kind = rnd.randrange(12)
+    if kind == 0:
+        names.insert(e, names[e])
+    elif kind == 1:
+        names[e] = other
+    elif kind == 2:
+        names[e] = (other[0], other[1], other[2] + rnd.choice([1, 7, 2**31]))
+    elif kind == 3:
+        names.insert(e, other)
+    elif kind == 4:
+        names.reverse()
+    elif kind == 5:
+        del groups[g]
+    elif kind == 6:
+        groups.insert(rnd.randrange(len(groups) + 1), names)
+    elif kind == 7:
+        groups.reverse()
+    elif kind == 8:
+        certificate.partitions[rnd.randrange(len(certificate.partitions))].append(groups.pop(g))
+    elif kind == 9:
+        groups[g : g + 1] = [names[:e], names[e:]] if e else [names, [other]]
+    elif kind == 10:
+        del names[e]
+    else:
+        groups[g : g + 1] = [[], names]
+
+
+def spoiled_header(rnd, request, files, certificate):
+    """A certificate with one thing done before its groups."""
+    names = [name for name, *_ in named_records(files, request.split)]
+    kind = rnd.randrange(12)
+    if kind == 0:
+        certificate.job = rnd.choice([0, 1, 2, 3, 4])
+    elif kind == 1:
+        certificate.flags ^= rnd.choice([1, 2, 4])
+    elif kind == 2:
+        certificate.literal = rnd.choice([b"", b"x", certificate.literal + b"y", certificate.literal[:-1], b"z" * 4097])
+    elif kind == 3:
+        certificate.literal = certificate.literal.translate(bytes(reversed(range(256))))
+    elif kind == 4:
+        certificate.parts = rnd.choice([0, certificate.parts + 1, 1025, 1])
+    elif kind == 5:
+        certificate.split = rnd.choice([0, certificate.split + 1, 2**32 - 1])
+    elif kind == 6:
+        certificate.lengths = certificate.lengths[:-1] if rnd.random() < 0.5 else [*certificate.lengths, 0]
+    elif kind == 7 and certificate.lengths:
+        certificate.lengths[rnd.randrange(len(certificate.lengths))] += rnd.choice([1, 2**40])
+    elif kind == 8:
+        certificate.lengths = [0] * 1025
+    elif kind == 9 and names:
+        certificate.skips = sorted([*certificate.skips, rnd.choice(names)])
+    elif kind == 10 and names:
+        certificate.skips = [*certificate.skips, rnd.choice([rnd.choice(names), (2**32 - 1, 0), (0, 2**32 - 1)])]
+    elif certificate.skips:
+        certificate.skips = rnd.choice([certificate.skips[1:], certificate.skips[::-1], certificate.skips * 2])
+
+
+def spoiled_bytes(rnd, data):
+    """Bytes with one place changed, cut, or lengthened."""
+    if not data:
+        return b"x"
+    at, kind = rnd.randrange(len(data)), rnd.randrange(5)
+    if kind == 0:
+        return data[:at] + bytes([data[at] ^ 1 << rnd.randrange(8)]) + data[at + 1 :]
+    if kind == 1:
+        return data[:at]
+    if kind == 2:
+        return data + rnd.choice([b"\0", b"\n", data[:3]])
+    if kind == 3:
+        return data[:at] + data[at + 1 :]
+    return data[:at] + bytes([rnd.randrange(256)]) + data[at:]
+
+
+def one_spoiled(rnd):
+    """A request, files, and a result that was good and is spoiled, or was left alone."""
+    request, files, skips = random_job(rnd)
+    outputs, certificate, _ = produced(request, files, skips)
+    kind, asked = rnd.randrange(10), request
+    if kind < 5:
+        spoiled_groups(rnd, request, files, certificate)
+        if rnd.random() < 0.8:
+            outputs = rewritten(request, files, certificate)
+    elif kind < 7:
+        spoiled_header(rnd, request, files, certificate)
+        asked = replace(request, most=request.most + rnd.choice([0, 10]))
+        if rnd.random() < 0.5 and len(certificate.partitions) == request.parts:
+            outputs = rewritten(request, files, certificate)
+    data = certificate.bytes()
+    if kind == 7:
+        data = spoiled_bytes(rnd, data)
+    elif kind == 8:
+        p = rnd.randrange(len(outputs))
+        outputs[p] = spoiled_bytes(rnd, outputs[p])
+    elif kind == 9:
+        asked = replace(request, parts=request.parts + rnd.choice([0, 1]), split=request.split + rnd.choice([0, 0, 1]) if request.split < 2**26 else 5, most=rnd.choice([0, request.most]))
+        outputs += [b""] * (asked.parts - len(outputs))
+        if rnd.random() < 0.4 and files:
+            files = [*files[:-1], rnd.choice([files[-1] + b"x", files[-1][:-1], b""])]
+    return asked, files, outputs, data
+
+
+def against_a_plain_judge(harness):
+    rnd = seeded("judging")
+    seen = {}
+    for turn in range(1500):
+        request, files, outputs, data = one_spoiled(rnd)
+        names = {f"f{i}": text for i, text in enumerate(files)}
+        where = harness.directory(names)
+        write_result(where, outputs, data)
+        got = harness.run([*options_of(request, "check"), "--out", ".", *names], cwd=where)
+        want = judged(request, files, outputs, data)
+        seen[want.split()[1] if want.startswith("no") else "yes"] = True
+        status = 0 if want.startswith("yes") else 1
+        harness.check(f"spoiled {turn} {request}", got[:3] == (status, want.encode(), b""), f"got {got[:3]!r} wanted {want!r}")
+    faults = "Malformed OtherJob OtherInput SkipOrder NoSuchRecord TooManySkips NoSuchPair EntryOrder KeyDiffers WrongPartition KeyOrder OutputDiffers Unnamed yes"
+    missing = sorted(set(faults.split()) - set(seen))
+    harness.check("each fault was met", missing == [], repr(missing))
+
+
+GROUPS = {"judging": against_a_plain_judge}

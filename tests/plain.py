@@ -1,0 +1,277 @@
+"""The rules of docs/FORMATS.md in plain Python: what a job gives over an input, and what the judge says of a result.
+
+Written from that page alone, without a look at the program. It is slow and keeps everything in memory."""
+import re
+import struct
+from dataclasses import dataclass, field
+
+MAGIC = b"MRCERT1\n"
+WORD = re.compile(rb"[0-9A-Za-z\x80-\xff]+")
+FOLD = bytes(b + 32 if 0x41 <= b <= 0x5A else b for b in range(256))
+JOBS = {"words": 1, "grep": 2, "url": 3}
+
+
+@dataclass
+class Request:
+    """A job with its numbers, and the options of the command line that ask for it."""
+
+    job: str
+    parts: int = 1
+    split: int = 67108864
+    keep: bool = False
+    literal: bytes = b""
+    fold: bool = False
+    most: int = 0
+
+    def options(self):
+        words = ["--job", self.job, "--parts", str(self.parts), "--split", str(self.split)]
+        if self.keep:
+            words.append("--keep-case")
+        if self.job == "grep":
+            words += ["--literal", self.literal.decode()]
+        if self.fold:
+            words.append("--fold")
+        return [*words, "--max-skips", str(self.most)]
+
+    def flags(self):
+        return 1 * self.keep + 2 * self.fold
+
+
+def fnv(key):
+    h = 0xCBF29CE484222325
+    for byte in key:
+        h = ((h ^ byte) * 0x100000001B3) % 2**64
+    return h
+
+
+def records(data):
+    """(start, bytes) of each record of a file."""
+    at, out = 0, []
+    while at < len(data):
+        end = data.find(b"\n", at)
+        end = len(data) if end < 0 else end
+        out.append((at, data[at:end]))
+        at = end + 1
+    return out
+
+
+def named_records(files, split):
+    """((split, number), file, start, bytes) of each record of the input, in order."""
+    first, out = 0, []
+    for number, data in enumerate(files):
+        counts = {}
+        for start, line in records(data):
+            s = first + start // split
+            out.append(((s, counts.get(s, 0)), number, start, line))
+            counts[s] = counts.get(s, 0) + 1
+        first += (len(data) + split - 1) // split
+    return out
+
+
+def resource_of(line):
+    """The resource that a line of a log requests, if it does."""
+    quote = line.find(b'"')
+    if quote < 0:
+        return None
+    at = quote + 1
+    while at < len(line) and line[at] != 0x22:
+        at += 2 if line[at] == 0x5C else 1
+    if at >= len(line):
+        return None
+    asked = line[quote + 1 : at]
+    space = asked.find(b" ")
+    if space < 0:
+        return None
+    return asked[space + 1 :].split(b" ")[0] or None
+
+
+def emitted(request, number, start, line):
+    """The pairs of a record: (key, value), the value being None or (file, place)."""
+    if request.job == "words":
+        return [(word if request.keep else word.translate(FOLD), None) for word in WORD.findall(line)]
+    if request.job == "grep":
+        table = FOLD if request.fold else None
+        return [(line, (number, start))] if request.literal.translate(table) in line.translate(table) else []
+    key = resource_of(line)
+    return [] if key is None else [(key, None)]
+
+
+def pairs_of(request, files, skips=()):
+    """All pairs by name, (split, record, place): (key, value), in the order of names."""
+    left_out, out = set(skips), {}
+    for name, number, start, line in named_records(files, request.split):
+        if name not in left_out:
+            for place, pair in enumerate(emitted(request, number, start, line)):
+                out[(*name, place)] = pair
+    return out
+
+
+def text_of(request, key, values):
+    """The text of a group."""
+    if request.job == "grep":
+        return b"".join(key + b"\t%d:%d\n" % value for value in values)
+    return key + b"\t%d\n" % len(values)
+
+
+def u32s(*numbers):
+    return struct.pack(f">{len(numbers)}I", *numbers)
+
+
+@dataclass
+class Certificate:
+    """A certificate as a value; `partitions` are lists of groups, each a list of names."""
+
+    job: int
+    flags: int
+    literal: bytes
+    parts: int
+    split: int
+    lengths: list
+    skips: list
+    partitions: list = field(default_factory=list)
+
+    def bytes(self):
+        out = [MAGIC, u32s(self.job, self.flags, len(self.literal)), self.literal]
+        out += [u32s(self.parts, self.split, len(self.lengths))]
+        out += [struct.pack(">Q", length) for length in self.lengths]
+        out += [u32s(len(self.skips)), *(u32s(*skip) for skip in self.skips)]
+        for groups in self.partitions:
+            out.append(u32s(len(groups)))
+            for names in groups:
+                out += [u32s(len(names)), *(u32s(*name) for name in names)]
+        return b"".join(out)
+
+
+def certificate_of(request, files, skips):
+    """What a certificate of this request over these files says before its groups."""
+    return Certificate(JOBS[request.job], request.flags(), request.literal, request.parts, request.split, [len(data) for data in files], list(skips))
+
+
+def produced(request, files, skips=()):
+    """The outputs, the certificate as a value, and the number of pairs."""
+    pairs, groups = pairs_of(request, files, skips), {}
+    for name, (key, value) in pairs.items():
+        groups.setdefault(key, []).append((name, value))
+    outputs, certificate = [b""] * request.parts, certificate_of(request, files, skips)
+    certificate.partitions = [[] for _ in range(request.parts)]
+    for key in sorted(groups):
+        p = fnv(key) % request.parts
+        certificate.partitions[p].append([name for name, _ in groups[key]])
+        outputs[p] += text_of(request, key, [value for _, value in groups[key]])
+    return outputs, certificate, len(pairs)
+
+
+class No(Exception):
+    pass
+
+
+class Walk:
+    """The items of a certificate's bytes, from the front."""
+
+    def __init__(self, data):
+        self.data, self.at = data, 0
+
+    def take(self, size):
+        if self.at + size > len(self.data):
+            raise No(f"Malformed at {self.at}")
+        taken = self.data[self.at : self.at + size]
+        self.at += size
+        return taken
+
+    def u32(self, low=0, high=2**32 - 1):
+        number = int.from_bytes(self.take(4), "big")
+        if not low <= number <= high:
+            raise No(f"Malformed at {self.at - 4}")
+        return number
+
+    def numbers(self, count):
+        return struct.unpack(f">{count}I", self.take(4 * count))
+
+
+def wanted(fault, got, want):
+    if got != want:
+        raise No(fault)
+
+
+def judge_header(walk, request, files):
+    """The tests before the partitions; the left-out records."""
+    if walk.data[:8] != MAGIC:
+        raise No("Malformed at 0")
+    walk.at = 8
+    wanted("OtherJob", walk.u32(), JOBS[request.job])
+    wanted("OtherJob", walk.u32(), request.flags())
+    wanted("OtherJob", walk.u32(high=4096), len(request.literal))
+    for byte in request.literal:
+        wanted("OtherJob", walk.take(1)[0], byte)
+    wanted("OtherJob", walk.u32(1, 1024), request.parts)
+    wanted("OtherJob", walk.u32(), request.split)
+    wanted("OtherInput", walk.u32(high=1024), len(files))
+    for data in files:
+        wanted("OtherInput", int.from_bytes(walk.take(8), "big"), len(data))
+    listed = walk.u32()
+    if listed > request.most:
+        raise No(f"TooManySkips listed {listed}")
+    exist, skips = {name for name, *_ in named_records(files, request.split)}, []
+    for number in range(listed):
+        skip = walk.numbers(2)
+        if skips and skip <= skips[-1]:
+            raise No(f"SkipOrder skip {number}")
+        if skip not in exist:
+            raise No(f"NoSuchRecord skip {number}")
+        skips.append(skip)
+    return skips
+
+
+def judge_group(walk, pairs, request, p, g, before):
+    """One group: its key, and the values of its entries."""
+    key, names, values = None, [], []
+    for e in range(walk.u32(low=1)):
+        name, place = walk.numbers(3), f"partition {p} group {g} entry {e}"
+        if name not in pairs:
+            raise No(f"NoSuchPair {place}")
+        own, value = pairs[name]
+        if e > 0 and name <= names[-1]:
+            raise No(f"EntryOrder {place}")
+        if e > 0 and own != key:
+            raise No(f"KeyDiffers {place}")
+        if e == 0 and fnv(own) % request.parts != p:
+            raise No(f"WrongPartition {place}")
+        if e == 0 and before is not None and own <= before:
+            raise No(f"KeyOrder {place}")
+        key = own
+        names.append(name)
+        values.append(value)
+    return key, values
+
+
+def judge_partition(walk, pairs, request, p, output):
+    """One partition; the number of its entries."""
+    at, key, entries = 0, None, 0
+    for g in range(walk.u32()):
+        key, values = judge_group(walk, pairs, request, p, g, key)
+        text = text_of(request, key, values)
+        for i, byte in enumerate(text):
+            if at + i >= len(output) or output[at + i] != byte:
+                raise No(f"OutputDiffers partition {p} at {at + i}")
+        at, entries = at + len(text), entries + len(values)
+    if at < len(output):
+        raise No(f"OutputDiffers partition {p} at {at}")
+    return entries
+
+
+def judged(request, files, outputs, data):
+    """What `check` prints, whole."""
+    try:
+        if len(outputs) != request.parts:
+            raise No("OutputCount")
+        walk = Walk(data)
+        skips = judge_header(walk, request, files)
+        pairs = pairs_of(request, files, skips)
+        entries = sum(judge_partition(walk, pairs, request, p, output) for p, output in enumerate(outputs))
+        if walk.at < len(data):
+            raise No(f"Malformed at {walk.at}")
+        if entries < len(pairs):
+            raise No(f"Unnamed emitted {len(pairs)} named {entries}")
+    except No as fault:
+        return f"no: {fault}\n"
+    return f"yes: {len(pairs)} pairs, {len(skips)} left out\n" + "".join(f"left out {s} {r}\n" for s, r in skips)

@@ -1,0 +1,52 @@
+"""Results made by the rules alone are those of `seq`, byte for byte, and the judge says yes to them."""
+from harness import random_log, random_text, read_result, seeded, write_result
+from plain import Request, judged, named_records, produced
+
+SPLITS = [1, 3, 16, 100, 67108864]
+
+
+def random_job(rnd):
+    """A request, files, and records to leave out of them."""
+    job = rnd.choice(["words", "grep", "url"])
+    if job == "url":
+        files = [random_log(rnd, rnd.randint(0, 40)) for _ in range(rnd.randint(0, 3))]
+    else:
+        files = [random_text(rnd, rnd.choice([0, 1, 50, 1500])) for _ in range(rnd.randint(0, 4))]
+    request = Request(job, rnd.choice([1, 2, 3, 7]), rnd.choice(SPLITS))
+    if job == "words":
+        request.keep = rnd.random() < 0.3
+    if job == "grep":
+        request.literal = rnd.choice(["the", "a", "THE", "ü", " ", "42", "-"]).encode()
+        request.fold = rnd.random() < 0.5
+    names = [name for name, *_ in named_records(files, request.split)]
+    skips = sorted(rnd.sample(names, min(len(names), rnd.choice([0, 0, 0, 1, 5]))))
+    request.most = len(skips) + rnd.choice([0, 0, 3])
+    return request, files, skips
+
+
+def options_of(request, command, skips=()):
+    """The words of the command line for a request, which leave out these records."""
+    words = [command, *request.options()]
+    if command == "seq" and skips:
+        words += ["--skips", ",".join(f"{s}:{r}" for s, r in skips)]
+    return words
+
+
+def same_as_seq(harness):
+    rnd = seeded("producer")
+    for turn in range(100):
+        request, files, skips = random_job(rnd)
+        names = {f"f{i}": data for i, data in enumerate(files)}
+        outputs, certificate, pairs = produced(request, files, skips)
+        got = harness.run([*options_of(request, "seq", skips), "--out", ".", *names], names)
+        done = f"done: {request.parts} files, {pairs} pairs, {len(skips)} left out\n".encode()
+        harness.check(f"job {turn} {request}", got[:3] == (0, done, b""), repr(got[:3]))
+        harness.check(f"job {turn} {request}, files", read_result(got[3]) == (outputs, certificate.bytes()))
+        where = harness.directory(names)
+        write_result(where, outputs, certificate.bytes())
+        got = harness.run([*options_of(request, "check"), "--out", ".", *names], cwd=where)
+        want = judged(request, files, outputs, certificate.bytes())
+        harness.check(f"job {turn} {request}, judged", want.startswith("yes: ") and got[:3] == (0, want.encode(), b""), repr(got[:3]))
+
+
+GROUPS = {"producer": same_as_seq}
