@@ -23,7 +23,7 @@ use Rattle.mr_core.proofs.Steps.{jobs, job_of, live_is, job_at}
 use Rattle.mr_core.proofs.Sets.{sets_and_parts}
 use Rattle.mr_core.proofs.Traced.{attempt_of_job}
 use Rattle.mr_core.proofs.Traced as traced
-use Rattle.mr_core.proofs.Cases.{Rule, step_holds}
+use Rattle.mr_core.proofs.StepCases.{Rule, step_holds}
 
 kept_output : (b : Bool) (x : Option (ℕ × ℕ)) (o : ℕ × ℕ) → cond b None x ≡ Some o → x ≡ Some o
 kept_output true x o e = absurd (cc e)

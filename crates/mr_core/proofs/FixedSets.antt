@@ -9,7 +9,7 @@ use Rattle.mr_core.specs.declared.event.Shape.{Shape}
 use Rattle.mr_core.specs.declared.entries.Split.{Split}
 use Rattle.mr_core.specs.Master.{State, Attempt, Step, Run, update_at, complete, finish, leave_out, note_failure, lose, gone_with, takes, may_leave_out, with_number, same_list}
 use Rattle.mr_core.specs.Laws.{IsFixedTo}
-use Rattle.mr_core.proofs.Cases.{Rule, step_holds}
+use Rattle.mr_core.proofs.StepCases.{Rule, step_holds}
 use Rattle.mr_core.proofs.Places.{map-update, map-map_same, get-update_here, get-update_other, get-map_from}
 use Rattle.mr_core.proofs.Steps.{set_of, sets, set_at}
 use Rattle.mr_core.proofs.Views.{Sets}

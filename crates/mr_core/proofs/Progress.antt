@@ -14,7 +14,7 @@ use Rattle.mr_core.specs.declared.entries.Split.{Split}
 use Rattle.mr_core.specs.Master.{State, Attempt, Step, Run, opening, update_at, issue, left_by, end_of, may_give, may_newly, may_backup, is_open, is_complete, is_active, is_stuck, is_task, has_live, live, issued, maps_complete, tasks, task_eq}
 use Rattle.mr_core.specs.declared.event.Task.TheVariants.{Map as MapTask, Reduce as ReduceTask}
 use Rattle.mr_core.proofs.Places.{get-update_other}
-use Rattle.mr_core.proofs.Cases.{Rule, step_case}
+use Rattle.mr_core.proofs.StepCases.{Rule, step_case}
 
 -- ---- lists
 

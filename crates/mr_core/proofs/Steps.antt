@@ -18,7 +18,7 @@ use Rattle.mr_core.specs.declared.event.Event.TheVariants.{MapDone}
 use Rattle.mr_core.specs.declared.event.Reply.TheVariants.{Accepted}
 use Rattle.mr_bytes.specs.Lists.{Has}
 use Rattle.mr_core.specs.Laws.{IsMapOf}
-use Rattle.mr_core.proofs.Cases.{Rule, step_holds}
+use Rattle.mr_core.proofs.StepCases.{Rule, step_holds}
 use Rattle.mr_core.proofs.Places.{map-update_same, map-update, map-map_same}
 use Rattle.mr_core.proofs.Views.{Jobs, Sets, size, is_of, Kept, IsFixed, Goes, stays_same, pushes, fixes, widens, length-with_number}
 

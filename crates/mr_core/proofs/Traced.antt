@@ -14,7 +14,7 @@ use Rattle.mr_core.specs.declared.event.Reply.TheVariants.{Accepted}
 use Rattle.mr_core.proofs.Places.{map-update_same, map-update, map-map_same, get-push_old, get-push_cases, get-update_from, get-map_from}
 use Rattle.mr_core.proofs.Views.{Jobs, Sets}
 use Rattle.mr_core.proofs.Steps.{job_of, set_of, jobs, sets, finished, job_at, set_now}
-use Rattle.mr_core.proofs.Cases.{Rule, step_holds}
+use Rattle.mr_core.proofs.StepCases.{Rule, step_holds}
 
 -- G of the sets of a split, P of the records that failed, C of the outputs of a partition
 module _ (G : ℕ → List ℕ → Type 0) (P C : ℕ → ℕ → Type 0) (empty : (s : ℕ) → G s []) (grows : (s r : ℕ) (k : List ℕ) → G s k → P s r → G s (with_number r k)) where

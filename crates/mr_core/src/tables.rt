@@ -171,7 +171,7 @@ impl Tables {
     }
 
     /// Whether some task can't be finished any more: goes over all tasks.
-    #[tactic(auto, using(crate::proofs::Finds::none_more, crate::proofs::Finds::none_of_all, crate::proofs::Finds::one_map, crate::proofs::Finds::one_part))]
+    #[tactic(auto, using(crate::proofs::TaskSearch::none_more, crate::proofs::TaskSearch::none_of_all, crate::proofs::TaskSearch::one_map, crate::proofs::TaskSearch::one_part))]
     fn has_stuck(&self, shape: Shape) -> bool
         ensures { result ≡ list_any (is_stuck shape self.now) (tasks shape) }
     {
@@ -211,7 +211,7 @@ impl Tables {
     }
 
     /// Whether the task, which is the only one that may be, can't be finished any more.
-    #[tactic(auto, using(crate::proofs::Touched::stuck_here, crate::proofs::Touched::stuck_nowhere))]
+    #[tactic(auto, using(crate::proofs::EndTests::stuck_here, crate::proofs::EndTests::stuck_nowhere))]
     fn is_stuck_at(&self, shape: Shape, task: Option<Task>) -> bool
         requires { IsTouched shape self.now task }
         ensures { result ≡ list_any (is_stuck shape self.now) (tasks shape) }
@@ -223,7 +223,7 @@ impl Tables {
     }
 
     /// The end that the job has reached by an event that touched only this task.
-    #[tactic(auto, using(crate::proofs::Touched::end_left))]
+    #[tactic(auto, using(crate::proofs::EndTests::end_left))]
     fn end_after(&self, shape: Shape, task: Option<Task>, over: bool) -> Option<End>
         requires { IsTouched shape self.now task }
         ensures { result ≡ end_of shape self.now over }

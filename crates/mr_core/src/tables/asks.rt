@@ -71,7 +71,7 @@ impl Tables {
     }
 
     /// An idle task that may be executed.
-    #[tactic(auto, using(crate::proofs::Newly::newly_map, crate::proofs::Newly::newly_part, crate::proofs::Newly::none_waiting, crate::proofs::Newly::none_at_all))]
+    #[tactic(auto, using(crate::proofs::IdleTasks::newly_map, crate::proofs::IdleTasks::newly_part, crate::proofs::IdleTasks::none_waiting, crate::proofs::IdleTasks::none_at_all))]
     fn find_newly(&mut self, shape: Shape) -> Option<Task>
         requires { IsGoing shape self.old }
         ensures same { self.new ≡ self.old }
@@ -103,7 +103,7 @@ impl Tables {
     }
 
     /// Whether the task may be executed once more beside its only live attempt.
-    #[tactic(auto, using(crate::proofs::Lone::lone_yes, crate::proofs::Lone::lone_no))]
+    #[tactic(auto, using(crate::proofs::BackupTasks::lone_yes, crate::proofs::BackupTasks::lone_no))]
     fn is_lone(&self, shape: Shape, task: Task) -> bool
         ensures { result ≡ is_lone shape self.now task }
     {
@@ -258,7 +258,7 @@ impl Tables {
     }
 
     /// A worker asks for a task. Answers two equal replies.
-    #[tactic(auto, using(crate::proofs::Gives::asked_lost, crate::proofs::Gives::asked_active, crate::proofs::Gives::given_wait))]
+    #[tactic(auto, using(crate::proofs::Asks::asked_lost, crate::proofs::Asks::asked_active, crate::proofs::Asks::given_wait))]
     pub(crate) fn ask(
         &mut self,
         alloc: Global,

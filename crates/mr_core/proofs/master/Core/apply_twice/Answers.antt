@@ -1,6 +1,6 @@
 use Rattle.std.proofs.Common.{subst}
 use Rattle.mr_core.specs.Core.{CoreView, InLimits}
-use Rattle.mr_core.proofs.Twice.{pair_goes_on}
+use Rattle.mr_core.proofs.EqualReplies.{pair_goes_on}
 use Rattle.mr_core.proofs.master.Core.apply_twice.Goals as goal
 
 pub returns-clause-run : goal.returns-clause-run

@@ -2,7 +2,7 @@ use Rattle.std.proofs.Common.{◌≡◌, None, refl, subst, rules}
 use Rattle.mr_core.specs.declared.event.Event.TheVariants.{Ask}
 use Rattle.mr_core.specs.Core.{CoreView, IsStep}
 use Rattle.mr_core.proofs.Moves.{ask_step, reach_more}
-use Rattle.mr_core.proofs.Calm.{going, asked_settled}
+use Rattle.mr_core.proofs.TouchedTasks.{going, asked_settled}
 use Rattle.mr_core.proofs.master.Core.ask_twice.Goals as goal
 
 pub ask-requires : goal.ask-requires

@@ -1,6 +1,6 @@
 use Rattle.std.proofs.Common.{◌≡◌, None, refl, rules}
 use Rattle.mr_core.specs.declared.event.Event.TheVariants.{MapFailed}
-use Rattle.mr_core.proofs.Calm.{touched}
+use Rattle.mr_core.proofs.TouchedTasks.{touched}
 use Rattle.mr_core.proofs.Moves.{report_step, reach_more}
 use Rattle.mr_core.proofs.master.Core.map_failed.Goals as goal
 

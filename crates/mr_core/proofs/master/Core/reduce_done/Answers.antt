@@ -1,7 +1,7 @@
 use Rattle.std.proofs.Common.{◌≡◌, refl, subst, false, None, rules}
 use Rattle.mr_core.specs.declared.event.Event.TheVariants.{ReduceDone}
 use Rattle.mr_core.specs.Core.{CoreView, IsStep}
-use Rattle.mr_core.proofs.Calm.{touched}
+use Rattle.mr_core.proofs.TouchedTasks.{touched}
 use Rattle.mr_core.proofs.Moves.{report_step, reach_more}
 use Rattle.mr_core.proofs.master.Core.reduce_done.Goals as goal
 

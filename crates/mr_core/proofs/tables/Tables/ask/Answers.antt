@@ -2,7 +2,7 @@ use Rattle.std.proofs.Common.{◌≡◌, ◌<◌, true, length, sym, subst, rule
 use Rattle.mr_core.specs.declared.event.Task.{Task}
 use Rattle.mr_core.specs.declared.event.Task.TheVariants.{Map as MapTask, Reduce as ReduceTask}
 use Rattle.mr_core.specs.Master.{State, is_active, may_give}
-use Rattle.mr_core.proofs.Gives.{active_below}
+use Rattle.mr_core.proofs.Asks.{active_below}
 use Rattle.mr_core.proofs.tables.Tables.ask.Goals as goal
 
 pub issue_map-requires-clause-may : goal.issue_map-requires-clause-may

@@ -1,7 +1,7 @@
 use Rattle.std.proofs.Common.{◌≡◌, Some, slice_get, ap, sym, ◌∙◌, arith}
 use Rattle.mr_core.specs.Master.{State}
 use Rattle.mr_core.specs.Queries.{is_lone}
-use Rattle.mr_core.proofs.Lone.{none_lone, lone_more}
+use Rattle.mr_core.proofs.BackupTasks.{none_lone, lone_more}
 use Rattle.mr_core.proofs.tables.Tables.find_lone.Goals as goal
 use Rattle.mr_core.proofs.tables.Tables.find_lone.Goals.{in-Some+else-is_lone, in_default}
 

@@ -2,7 +2,7 @@ use Rattle.std.proofs.Common.{◌≡◌, true, subst, rules}
 use Rattle.mr_core.specs.declared.event.Task.TheVariants.{Reduce as ReduceTask}
 use Rattle.mr_core.specs.Master.{State, maps_complete}
 use Rattle.mr_core.specs.Index.{is_idle}
-use Rattle.mr_core.proofs.Newly.{newly_map, newly_part}
+use Rattle.mr_core.proofs.IdleTasks.{newly_map, newly_part}
 use Rattle.mr_core.proofs.tables.Tables.find_newly.Goals as goal
 
 pub returns-then-split-shape-clause-found : goal.returns-then-split-shape-clause-found

@@ -1,6 +1,6 @@
 use Rattle.std.proofs.Common.{sym, ◌∙◌}
 use Rattle.mr_core.specs.Master.{is_stuck}
-use Rattle.mr_core.proofs.Finds.{one_map, one_part}
+use Rattle.mr_core.proofs.TaskSearch.{one_map, one_part}
 use Rattle.mr_core.proofs.tables.Tables.has_stuck.Goals as goal
 
 pub returns-then-is_stuck : goal.returns-then-is_stuck

@@ -1,6 +1,6 @@
 use Rattle.std.proofs.Common.{ap, ◌∙◌}
 use Rattle.mr_core.specs.Master.{State, has_live}
-use Rattle.mr_core.proofs.Gives.{busy_is}
+use Rattle.mr_core.proofs.Asks.{busy_is}
 use Rattle.mr_core.proofs.tables.Tables.is_busy.Goals as goal
 
 pub returns : goal.returns

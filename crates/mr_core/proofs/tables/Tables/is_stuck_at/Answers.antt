@@ -1,5 +1,5 @@
 use Rattle.std.proofs.Common.{◌∙◌}
-use Rattle.mr_core.proofs.Touched.{stuck_here}
+use Rattle.mr_core.proofs.EndTests.{stuck_here}
 use Rattle.mr_core.proofs.tables.Tables.is_stuck_at.Goals as goal
 
 pub returns-in-Some : goal.returns-in-Some

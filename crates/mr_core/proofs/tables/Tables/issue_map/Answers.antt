@@ -1,4 +1,4 @@
-use Rattle.mr_core.proofs.Gives.{given_map, task_below}
+use Rattle.mr_core.proofs.Asks.{given_map, task_below}
 use Rattle.mr_core.specs.declared.event.Task.TheVariants.{Map as MapTask}
 use Rattle.mr_core.proofs.tables.Tables.issue_map.Goals as goal
 

@@ -3,8 +3,8 @@ use Rattle.std.specs.Prelude.{MatchOption}
 use Rattle.std.specs.List.{list_any}
 use Rattle.mr_core.specs.Master.{State, has_live, tasks, is_task}
 use Rattle.mr_core.specs.Queries.{is_lone}
-use Rattle.mr_core.proofs.Finds.{none_for_busy}
-use Rattle.mr_core.proofs.Gives.{backup_given}
+use Rattle.mr_core.proofs.TaskSearch.{none_for_busy}
+use Rattle.mr_core.proofs.Asks.{backup_given}
 use Rattle.mr_core.proofs.tables.Tables.task_for.Goals as goal
 
 pub returns-then-is_busy-clause-found : goal.returns-then-is_busy-clause-found

@@ -16,7 +16,7 @@ use Rattle.std.specs.Prelude.{Result, Ok, Err, IfOk, MatchOption}
 use Rattle.mr_core.specs.Queries.{is_lone}
 use Rattle.mr_core.specs.Index.{IsGoing, IsBelow, IsCurrent}
 use Rattle.mr_core.proofs.Indexed.{none_at}
-use Rattle.mr_core.proofs.Finds.{none_newly_or_backup, backup_may}
+use Rattle.mr_core.proofs.TaskSearch.{none_newly_or_backup, backup_may}
 use Rattle.mr_core.proofs.Moves.{same_number, same_set, both}
 use Rattle.mr_core.proofs.Progress.{run_going, going_at_opening}
 

@@ -9,7 +9,7 @@ use Rattle.mr_core.specs.declared.event.JobFault.TheVariants.{TooManyAttempts, T
 use Rattle.mr_core.specs.declared.event.Task.TheVariants.{Map as MapTask, Reduce as ReduceTask}
 use Rattle.mr_core.specs.Master.{State, tasks, is_task, is_stuck, end_of, task_eq}
 use Rattle.mr_core.specs.Index.{IsTouched}
-use Rattle.mr_core.proofs.Finds.{none_of_all, one_of_all}
+use Rattle.mr_core.proofs.TaskSearch.{none_of_all, one_of_all}
 use Rattle.mr_core.proofs.Indexed.{same_task, task_self}
 
 none_from : (p : Task → Bool) (f : ℕ → Task) (a n : ℕ) → ((i : ℕ) → i < n → p (f (a + i)) ≡ false) → list_any p (map f (range_with_len a n)) ≡ false

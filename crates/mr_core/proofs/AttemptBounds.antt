@@ -10,7 +10,7 @@ use Rattle.mr_core.specs.declared.event.Task.TheVariants.{Map as MapTask, Reduce
 use Rattle.mr_core.specs.declared.event.Shape.{Shape}
 use Rattle.mr_core.specs.Master.{State, Attempt, opening, tasks, task_eq}
 use Rattle.mr_core.specs.Core.{InLimits, IsReached}
-use Rattle.mr_core.proofs.Finds.{one_of_all}
+use Rattle.mr_core.proofs.TaskSearch.{one_of_all}
 use Rattle.mr_core.proofs.Progress.{IsOfShape, run_going, going_at_opening}
 use Rattle.mr_core.proofs.Steps.{run_goes, kept_at_opening, issued-is}
 

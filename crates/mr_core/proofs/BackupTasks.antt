@@ -8,7 +8,7 @@ use Rattle.mr_core.specs.declared.event.Shape.{Shape}
 use Rattle.mr_core.specs.declared.event.Task.TheVariants.{Map as MapTask, Reduce as ReduceTask}
 use Rattle.mr_core.specs.Master.{State, Attempt, tasks, task_eq, is_open, is_complete, issued, live, maps_complete}
 use Rattle.mr_core.specs.Queries.{is_lone, is_ready}
-use Rattle.mr_core.proofs.Touched.{none_of_tasks}
+use Rattle.mr_core.proofs.EndTests.{none_of_tasks}
 use Rattle.mr_core.proofs.Indexed.{same_task}
 
 split : (sh : Shape) (st : State) (t : Task) → is_lone sh st t ≡ (not (is_complete st t) && (nat_lt (issued st t) sh.limits.attempts && ((live st t == 1) && is_ready st t)))

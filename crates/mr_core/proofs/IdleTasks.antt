@@ -7,7 +7,7 @@ use Rattle.mr_core.specs.declared.event.Shape.{Shape}
 use Rattle.mr_core.specs.declared.event.Task.TheVariants.{Map as MapTask, Reduce as ReduceTask}
 use Rattle.mr_core.specs.Master.{State, tasks, is_task, may_newly, is_complete, issued, live, maps_complete}
 use Rattle.mr_core.specs.Index.{is_idle, IsGoing}
-use Rattle.mr_core.proofs.Touched.{none_of_tasks}
+use Rattle.mr_core.proofs.EndTests.{none_of_tasks}
 
 map_open : (c f l : Bool) → (not c && l) ≡ true → (not c && (l && not f)) ≡ false → ((not c && f) && l) ≡ true
 map_open true f l e d = absurd (false≢true e)

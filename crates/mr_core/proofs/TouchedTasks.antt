@@ -19,14 +19,14 @@ use Rattle.mr_core.specs.declared.event.Reply.TheVariants.{Map, Reduce, Wait, St
 use Rattle.mr_core.specs.Master.{State, Attempt, Outcome, Step, Run, opening, update_at, task_eq, finish, issue, fetch, complete, leave_out, note_failure, commit, lose, settled, end_of, is_stuck, is_complete, is_active, is_task, issued, live, tasks, live_attempt, only_live, fetch_by, fetched_from, map_done_by, map_failed_by, reduce_done_by, takes, may_leave_out, failed_before, left_out, on_live, outcome, replies, given, asked, may_give, same_list, with_number, reply_eq, reply_ended, next_going, next_by}
 use Rattle.mr_core.specs.Core.{InLimits, IsReached}
 use Rattle.mr_core.specs.Index.{IsGoing, IsTouched, task_at, IsPlain}
-use Rattle.mr_core.proofs.Cases.{Rule, step_case, reply_eq-is}
-use Rattle.mr_core.proofs.Few.{attempts_few}
-use Rattle.mr_core.proofs.Finds.{one_of_all}
+use Rattle.mr_core.proofs.StepCases.{Rule, step_case, reply_eq-is}
+use Rattle.mr_core.proofs.AttemptBounds.{attempts_few}
+use Rattle.mr_core.proofs.TaskSearch.{one_of_all}
 use Rattle.mr_core.proofs.Indexed.{count_same}
 use Rattle.mr_core.proofs.Places.{get-update_other}
 use Rattle.mr_core.proofs.Progress.{IsOfShape, GoesOn, run_going, going_at_opening}
 use Rattle.mr_core.proofs.Tabled.{live_other}
-use Rattle.mr_core.proofs.Touched.{none_of_tasks}
+use Rattle.mr_core.proofs.EndTests.{none_of_tasks}
 use Rattle.mr_core.proofs.Updates.{live_there}
 
 -- ---- no end is reached where the job goes on
