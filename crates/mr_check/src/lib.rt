@@ -11,8 +11,6 @@ mod laws;
 mod parts;
 mod skips;
 mod testing;
-#[cfg(test)]
-mod tests;
 mod wanted;
 
 pub use fault::{No, is_same_fault};
