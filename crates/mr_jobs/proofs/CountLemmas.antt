@@ -1,16 +1,19 @@
 -- How many emissions a record has, and how long their keys are.
-use Rattle.std.proofs.Common.{◌≡◌, ℕ, ◌+◌, ◌-◌, ◌≤◌, Bool, true, false, cond, eqb, List, [], ◌∷◌, ◌++◌, All, length, get_or, drop, refl, sym, ap, subst, arith, length-append, Option, None, Some}
+use Rattle.std.proofs.Common.{◌≡◌, ℕ, ◌+◌, ◌-◌, ◌<◌, ◌≤◌, ◌∙◌, map, sum_by, Bool, true, false, cond, eqb, List, [], ◌∷◌, ◌++◌, All, length, get_or, drop, refl, sym, ap, subst, arith, length-append, Option, None, Some}
 use Rattle.std.proofs.lemmas.List.{length-map, length-take, length-drop}
 use Rattle.std.proofs.lemmas.List.Elements.{All-nil, All-cons, All-map}
 use Rattle.mr_bytes.specs.Bytes.{is_word_byte, fold_byte}
 use Rattle.mr_bytes.specs.Words.{extend, word_spans, word_spans_from, span_bytes}
 use Rattle.mr_bytes.specs.declared.Span.{Span}
+use Rattle.std.proofs.lemmas.Bool.{eqb-true, false≢true}
+use Rattle.std.proofs.lemmas.List.Sums.{sum_by-cons}
+use Rattle.mr_bytes.specs.declared.Value.{Value}
 use Rattle.mr_bytes.specs.declared.Value.TheVariants.{One, At}
 use Rattle.mr_bytes.proofs.WordLemmas.{word_spans_from-cons, word_spans_from-nil}
-use Rattle.mr_jobs.specs.Emissions.{Emission, one_for, word_key, word_emission}
-use Rattle.mr_jobs.specs.Laws.{FewEmissions, ShortKeys, CountersEmitOnes}
-use Rattle.mr_jobs.specs.Literal.{holds}
-use Rattle.mr_jobs.specs.JobSpec.{WordCount, LinesWith, Resources}
+use Rattle.mr_jobs.specs.Emissions.{Emission, emissions, one_for, word_key, word_emission}
+use Rattle.mr_jobs.specs.Laws.{FewEmissions, ShortKeys, KeysFitTheRecord, CountersEmitOnes}
+use Rattle.mr_jobs.specs.Literal.{holds, begins_with}
+use Rattle.mr_jobs.specs.JobSpec.{JobSpec, WordCount, LinesWith, Resources}
 use Rattle.mr_jobs.specs.Url.{IsRequestFor, url_of, piece_bytes}
 use Rattle.mr_jobs.proofs.UrlLemmas.{parts_of-url}
 
@@ -42,7 +45,8 @@ few_if : (t : Bool) (one : Emission) (line : List ℕ) → length (cond t (one �
 few_if true one line = omega arith
 few_if false one line = omega arith
 
-pub few_emissions : FewEmissions
+-- whatever the literal is
+pub few_emissions : (job : JobSpec) (file start : ℕ) (line : List ℕ) → length (emissions job file start line) ≤ length line + 1
 few_emissions (WordCount keep_case) file start line =
     omega (arith, few_words 0 line, length-map (word_spans line) (word_emission keep_case line))
 few_emissions (LinesWith literal fold) file start line =
@@ -50,14 +54,15 @@ few_emissions (LinesWith literal fold) file start line =
     few_if (holds fold line literal) one line
 few_emissions Resources file start line = omega (arith, few_one (url_of line))
 
--- keys
-abbrev Short : List ℕ → Emission → Type 0
-Short line e = length e.0 ≤ length line
+holds-none : (fold : Bool) (x : ℕ) (xs : List ℕ) → holds fold [] (x ∷ xs) ≡ false
+unfolding holds begins_with
+holds-none fold x xs = refl
 
-short_word : (keep_case : Bool) (line : List ℕ) (w : Span) → length (word_key keep_case (span_bytes line w)) ≤ length line
-short_word true line w = omega (arith, length-take (w.end - w.start) (drop w.start line), length-drop w.start line)
-short_word false line w =
-    omega (arith, length-map (span_bytes line w) fold_byte, length-take (w.end - w.start) (drop w.start line), length-drop w.start line)
+-- a line that holds some literal has a byte
+holding_some : (fold : Bool) (line literal : List ℕ) → 0 < length literal → holds fold line literal ≡ true → 0 < length line
+holding_some fold [] (x ∷ xs) some h = absurd (false≢true (sym (holds-none fold x xs) ∙ h))
+holding_some fold [] [] some h = absurd (omega (arith, some))
+holding_some fold (b ∷ bs) literal some h = omega arith
 
 short_request : (line key : List ℕ) → IsRequestFor line key → length key ≤ length line
 short_request line key p =
@@ -70,6 +75,34 @@ short_request line key p =
       length-append p.before (0x20 ∷ (key ++ p.after)),
       length-append key p.after,
     )
+
+one_in_some : (t : Bool) (one : Emission) (line : List ℕ) → (t ≡ true → 0 < length line) → length (cond t (one ∷ []) []) ≤ length line
+one_in_some true one line some = let h = some refl in omega (arith, h)
+one_in_some false one line some = omega arith
+
+one_of_some : (line : List ℕ) (key : Option (List ℕ)) → url_of line ≡ key → length (one_for key) ≤ length line
+one_of_some line None e = omega arith
+one_of_some line (Some key) e =
+    let fits = parts_of-url line key e in
+    let short = short_request line key fits in
+    omega (arith, short, fits.some_key)
+
+pub emissions_fit : FewEmissions
+emissions_fit (WordCount keep_case) file start line fits =
+    omega (arith, few_words 0 line, length-map (word_spans line) (word_emission keep_case line))
+emissions_fit (LinesWith literal fold) file start line fits =
+    let one : Emission = (line, At file start) in
+    one_in_some (holds fold line literal) one line (holding_some fold line literal fits.some)
+emissions_fit Resources file start line fits = one_of_some line (url_of line) refl
+
+-- keys
+abbrev Short : List ℕ → Emission → Type 0
+Short line e = length e.0 ≤ length line
+
+short_word : (keep_case : Bool) (line : List ℕ) (w : Span) → length (word_key keep_case (span_bytes line w)) ≤ length line
+short_word true line w = omega (arith, length-take (w.end - w.start) (drop w.start line), length-drop w.start line)
+short_word false line w =
+    omega (arith, length-map (span_bytes line w) fold_byte, length-take (w.end - w.start) (drop w.start line), length-drop w.start line)
 
 short_one : (line : List ℕ) (key : Option (List ℕ)) → url_of line ≡ key → All (Short line) (one_for key)
 short_one line None e = All-nil (Short line)
@@ -86,6 +119,64 @@ short_keys (LinesWith literal fold) file start line =
     let one : Emission = (line, At file start) in
     short_if (holds fold line literal) one line (let same : length line ≤ length line = omega arith in same)
 short_keys Resources file start line = short_one line (url_of line) refl
+
+-- keys, together
+abbrev span_sizes : List Span → ℕ
+span_sizes [] = 0
+span_sizes (w ∷ ws) = (w.end - w.start) + span_sizes ws
+
+sizes-extend : (at : ℕ) (ws : List Span) → span_sizes (extend at ws) ≤ span_sizes ws + 1
+unfolding extend
+sizes-extend at [] = omega arith
+sizes-extend at (w ∷ ws) =
+    by (eqb w.start (at + 1)) refl
+  where
+    by : (t : Bool) → eqb w.start (at + 1) ≡ t
+        → span_sizes (cond t (record { start = at; end = w.end } ∷ ws) (record { start = at; end = at + 1 } ∷ w ∷ ws)) ≤ span_sizes (w ∷ ws) + 1
+    by true e = let same = eqb-true w.start (at + 1) e in omega (arith, same)
+    by false e = omega arith
+
+sizes-words : (at : ℕ) (bs : List ℕ) → span_sizes (word_spans_from at bs) ≤ length bs
+sizes-words at [] = let none : span_sizes (word_spans_from at []) ≡ 0 = ap span_sizes (word_spans_from-nil at) in omega (arith, none)
+sizes-words at (b ∷ bs) =
+    let rest : List Span = word_spans_from (at + 1) bs in
+    let later : span_sizes rest ≤ length bs = sizes-words (at + 1) bs in
+    let one : span_sizes (extend at rest) ≤ span_sizes rest + 1 = sizes-extend at rest in
+    subst (λ (ws : List Span). span_sizes ws ≤ length (b ∷ bs)) (sym (word_spans_from-cons at b bs))
+    (elim (is_word_byte b) as (λ t. span_sizes (cond t (extend at rest) rest) ≤ length (b ∷ bs)) [
+      | true ↦ omega (arith, later, one)
+      | false ↦ omega (arith, later)
+    ])
+
+word_size : (keep_case : Bool) (line : List ℕ) (w : Span) → length (word_key keep_case (span_bytes line w)) ≤ w.end - w.start
+word_size true line w = omega (arith, length-take (w.end - w.start) (drop w.start line))
+word_size false line w = omega (arith, length-map (span_bytes line w) fold_byte, length-take (w.end - w.start) (drop w.start line))
+
+sizes-keys : (keep_case : Bool) (line : List ℕ) (ws : List Span) → sum_by (λ (e : Emission). length e.0) (map (word_emission keep_case line) ws) ≤ span_sizes ws
+sizes-keys keep_case line [] = omega arith
+sizes-keys keep_case line (w ∷ ws) =
+    omega (
+      arith,
+      sum_by-cons (λ (e : Emission). length e.0) (word_emission keep_case line w) (map (word_emission keep_case line) ws),
+      word_size keep_case line w,
+      sizes-keys keep_case line ws,
+    )
+
+size_of_one : (e : Emission) → sum_by (λ (e : Emission). length e.0) (e ∷ []) ≡ length e.0
+size_of_one e = omega (arith, sum_by-cons (λ (e : Emission). length e.0) e [])
+
+size_if : (t : Bool) (value : Value) (line : List ℕ) → sum_by (λ (e : Emission). length e.0) (cond t ((line, value) ∷ []) []) ≤ length line
+size_if true value line = omega (arith, size_of_one (line, value))
+size_if false value line = omega arith
+
+size_of_key : (line : List ℕ) (key : Option (List ℕ)) → url_of line ≡ key → sum_by (λ (e : Emission). length e.0) (one_for key) ≤ length line
+size_of_key line None e = omega arith
+size_of_key line (Some key) e = omega (arith, size_of_one (key, One), short_request line key (parts_of-url line key e))
+
+pub keys_fit : KeysFitTheRecord
+keys_fit (WordCount keep_case) file start line = omega (arith, sizes-keys keep_case line (word_spans line), sizes-words 0 line)
+keys_fit (LinesWith literal fold) file start line = size_if (holds fold line literal) (At file start) line
+keys_fit Resources file start line = size_of_key line (url_of line) refl
 
 -- values
 abbrev IsOne : Emission → Type 0

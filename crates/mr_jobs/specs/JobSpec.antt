@@ -1,5 +1,5 @@
 -- What a job does with a record.
-use Rattle.std.specs.Prelude.{ℕ, ◌≤◌, ◌^◌, Bool, true, false, if◌then◌else◌, List, []}
+use Rattle.std.specs.Prelude.{ℕ, ◌<◌, ◌≤◌, ◌^◌, Bool, true, false, if◌then◌else◌, List, [], Contains, length}
 
 pub data JobSpec : Type 0 where
   -- count words, by their exact bytes where the flag is true, and else by their folded bytes
@@ -46,3 +46,15 @@ abbrev pub job_literal : JobSpec → List ℕ
 job_literal (WordCount keep_case) = []
 job_literal (LinesWith literal fold) = literal
 job_literal Resources = []
+
+-- a literal has 1 to 4,096 bytes, none of them a line feed
+pub record LiteralFits (literal : List ℕ) : Type 0 where
+  pub some : 0 < length literal
+  pub short : length literal ≤ 4096
+  pub clear : Contains literal 0x0A → ⊥
+
+-- a job that looks for a literal has one that fits
+abbrev pub JobFits : JobSpec → Type 0
+JobFits (WordCount keep_case) = Unit {0}
+JobFits (LinesWith literal fold) = LiteralFits literal
+JobFits Resources = Unit {0}

@@ -1,7 +1,7 @@
 -- What the computed definitions are, in the words of the subject.
-use Rattle.std.specs.Prelude.{◌≡◌, ◌↔◌, ℕ, ◌+◌, ◌≤◌, Bool, List, Some, IsTrue, All, length}
+use Rattle.std.specs.Prelude.{◌≡◌, ◌↔◌, ℕ, ◌≤◌, Bool, List, Some, IsTrue, All, length, sum_by}
 use Rattle.mr_bytes.specs.declared.Value.TheVariants.{One}
-use Rattle.mr_jobs.specs.JobSpec.{JobSpec, counts}
+use Rattle.mr_jobs.specs.JobSpec.{JobSpec, JobFits, counts}
 use Rattle.mr_jobs.specs.Emissions.{emissions}
 use Rattle.mr_jobs.specs.Literal.{Holds, holds}
 use Rattle.mr_jobs.specs.Url.{IsRequestFor, url_of}
@@ -17,13 +17,17 @@ UrlByParts = (line key : List ℕ) → (url_of line ≡ Some key) ↔ IsRequestF
 abbrev pub OneKeyFits : Type 0
 OneKeyFits = (line a b : List ℕ) → IsRequestFor line a → IsRequestFor line b → a ≡ b
 
--- a record has at most one emission more than bytes
+-- a record has no more emissions than bytes
 abbrev pub FewEmissions : Type 0
-FewEmissions = (job : JobSpec) (file start : ℕ) (line : List ℕ) → length (emissions job file start line) ≤ length line + 1
+FewEmissions = (job : JobSpec) (file start : ℕ) (line : List ℕ) → JobFits job → length (emissions job file start line) ≤ length line
 
 -- no key is longer than its record
 abbrev pub ShortKeys : Type 0
 ShortKeys = (job : JobSpec) (file start : ℕ) (line : List ℕ) → All (λ e. length e.0 ≤ length line) (emissions job file start line)
+
+-- the keys of a record have together no more bytes than the record
+abbrev pub KeysFitTheRecord : Type 0
+KeysFitTheRecord = (job : JobSpec) (file start : ℕ) (line : List ℕ) → sum_by (λ e. length e.0) (emissions job file start line) ≤ length line
 
 -- a job that counts emits no other value than One
 abbrev pub CountersEmitOnes : Type 0

@@ -1,7 +1,7 @@
 //! What a job emits for a record.
 ghost use Rattle.std.specs.Prelude.{◌≡◌, ◌↔◌, IsTrue, ℕ, ◌+◌, ◌≤◌, ◌<◌, ◌^◌, ◌++◌, [], ◌∷◌, All, OnOk, OnErr, if◌then◌else◌, is_ok, length, take, vec_len};
 ghost use Rattle.mr_jobs.specs.Emissions.{emissions, nth_emission};
-ghost use Rattle.mr_jobs.specs.Laws.{FewEmissions, ShortKeys, CountersEmitOnes};
+ghost use Rattle.mr_jobs.specs.Laws.{FewEmissions, ShortKeys, KeysFitTheRecord, CountersEmitOnes};
 ghost use Rattle.mr_jobs.specs.Views.{IsIn, entries_seen, entry_for};
 
 use crate::emitter::Emitter;
@@ -154,10 +154,11 @@ pub fn map(
     done
 }
 
-/// What callers may rest on for every record: it has at most one emission more than bytes, no key is longer than the
-/// record, and a job that counts emits no other value than `One`.
+/// What callers may rest on for every record: it has no more emissions than bytes, its keys are no longer than the
+/// record, one by one and together, and a job that counts emits no other value than `One`.
 pub fn emission_law()
     ensures few { FewEmissions }
     ensures short { ShortKeys }
+    ensures together { KeysFitTheRecord }
     ensures ones { CountersEmitOnes }
 {}

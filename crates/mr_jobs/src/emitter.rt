@@ -1,6 +1,7 @@
 //! The emissions of a record, one after another.
-ghost use Rattle.std.specs.Prelude.{◌≡◌, ℕ, ◌≤◌, ◌<◌, ◌^◌, [], ◌∷◌, OnOk, MatchOption, IfSome, IfNone, length};
+ghost use Rattle.std.specs.Prelude.{◌≡◌, ℕ, ◌≤◌, ◌<◌, ◌^◌, ◌⊎◌, [], ◌∷◌, false, OnOk, OnErr, MatchOption, IfSome, IfNone, length, vec_capacity};
 ghost use Rattle.mr_jobs.specs.Emissions.{emissions, IsReady};
+ghost use Rattle.mr_jobs.specs.JobSpec.{WordCount};
 
 use crate::job::{Job, Kind};
 use crate::literal::holds;
@@ -91,10 +92,15 @@ fn one_pair(key: &[u8], value: Value) -> Emitter<'_>
 ghost use Rattle.mr_jobs.specs.Emissions.{words_from};
 
 impl Job {
-    /// Makes the buffer as `emit` wants it for `line`: for folded words, the folded bytes of the line. It fails only for
-    /// want of memory, and then the buffer's bytes are of no use. One buffer serves any number of lines.
+    /// Makes the buffer as `emit` wants it for `line`: for folded words, the folded bytes of the line. Other jobs leave
+    /// it alone. It fails only for want of memory, where the buffer has less room than the line has bytes, and then the
+    /// buffer's bytes are as they were. One buffer serves any number of lines.
     pub fn prepare(&self, line: &[u8], buffer: &mut Vec<u8>) -> Result<(), AllocError>
-        ensures { OnOk result (IsReady self.now line.now buffer.new.items) }
+        ensures ready { OnOk result (IsReady self.now line.now buffer.new.items) }
+        ensures same { (self.now ≡ WordCount false) ⊎ (buffer.new ≡ buffer.old) }
+        ensures only { OnErr result (self.now ≡ WordCount false) }
+        ensures full { OnErr result (vec_capacity buffer.old < length line.now) }
+        ensures err { OnErr result (buffer.new.items ≡ buffer.old.items) }
     {
         if let Kind::Words { keep_case: false } = &self.kind {
             fold_into(line, buffer)?;
@@ -142,10 +148,33 @@ ghost use Rattle.mr_bytes.specs.Bytes.{folded};
 
 /// Makes the buffer the folded bytes of the line.
 fn fold_into(line: &[u8], buffer: &mut Vec<u8>) -> Result<(), AllocError>
-    ensures { OnOk result (buffer.new.items ≡ folded line.now) }
+    ensures ok { OnOk result (buffer.new.items ≡ folded line.now) }
+    ensures full { OnErr result (vec_capacity buffer.old < length line.now) }
+    ensures err { OnErr result (buffer.new.items ≡ buffer.old.items) }
 {
-    buffer.clear();
-    buffer.extend_from_slice(line)?;
+    make_room(buffer, line.len())?;
+    copy_into(line, buffer);
     fold_in_place(buffer.as_mut_slice());
     Ok(())
+}
+
+/// Sees that the buffer has room for so many bytes; what it holds stays.
+fn make_room(buffer: &mut Vec<u8>, bytes: usize) -> Result<(), AllocError>
+    ensures ok { OnOk result (bytes ≤ vec_capacity buffer.new) }
+    ensures full { OnErr result (vec_capacity buffer.old < bytes) }
+    ensures same { buffer.new.items ≡ buffer.old.items }
+{
+    if bytes <= buffer.capacity() {
+        return Ok(());
+    }
+    buffer.reserve(bytes - buffer.len())
+}
+
+/// Makes the buffer the bytes of the line, for which it has room.
+fn copy_into(line: &[u8], buffer: &mut Vec<u8>)
+    requires { length line.now ≤ vec_capacity buffer.old }
+    ensures { buffer.new.items ≡ line.now }
+{
+    buffer.clear();
+    buffer.extend_from_slice(line).unwrap();
 }

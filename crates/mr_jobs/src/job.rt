@@ -1,6 +1,6 @@
 //! What is done with each record.
-ghost use Rattle.std.specs.Prelude.{◌≡◌, ◌↔◌, ℕ, ◌≤◌, ◌<◌, IfOk, IsOkUnless, length, [], Contains};
-ghost use Rattle.mr_jobs.specs.JobSpec.{WordCount, LinesWith, Resources, counts, job_number, job_flags, job_literal};
+ghost use Rattle.std.specs.Prelude.{◌≡◌, ◌↔◌, ℕ, ◌≤◌, ◌<◌, IfOk, OnOk, IsOkUnless, length, [], Contains};
+ghost use Rattle.mr_jobs.specs.JobSpec.{WordCount, LinesWith, Resources, JobFits, LiteralFits, counts, job_number, job_flags, job_literal};
 
 use std::alloc::Global;
 use std::marker::Model;
@@ -8,6 +8,9 @@ use thiserror::Error;
 
 /// The most bytes of a literal.
 pub const MAX_LITERAL: usize = 4096;
+
+// The number that the clauses give.
+const _: () = prove!(MAX_LITERAL == 4096);
 
 #[derive(Drop)]
 pub(crate) enum Kind {
@@ -31,10 +34,9 @@ impl Model for Job {
 
     ghost view = { λ j. spec_of j.kind };
 
-    ghost use Rattle.std.specs.Prelude.{◌≤◌, length};
-    ghost use Rattle.mr_jobs.specs.JobSpec.{job_literal};
+    ghost use Rattle.mr_jobs.specs.JobSpec.{JobFits};
 
-    ghost invariant = { λ j. length (job_literal (spec_of j.kind)) ≤ 4096 };
+    ghost invariant = { λ j. JobFits (spec_of j.kind) };
 }
 
 /// Why a literal makes no job.
@@ -69,10 +71,11 @@ impl Job {
     /// to 4,096 bytes and no line feed; of several faults the first of `JobFault` is told.
     pub fn grep(alloc: Global, literal: &[u8], fold: bool) -> Result<Job, JobFault>
         ensures ok { IfOk result (λ r. r ≡ LinesWith literal.now fold) }
+        ensures fits { OnOk result (LiteralFits literal.now) }
         ensures empty { (result ≡ Err JobFault.EmptyLiteral) ↔ (literal.now ≡ []) }
         ensures long { (result ≡ Err JobFault.LongLiteral) ↔ (4096 < length literal.now) }
         ensures line_end { (result ≡ Err JobFault.LineEndInLiteral) ↔ ((0 < length literal.now) × (length literal.now ≤ 4096) × Contains literal.now 10) }
-        ensures good { 0 < length literal.now → length literal.now ≤ 4096 → ¬ Contains literal.now 10 → IsOkUnless result JobFault.OutOfMemory }
+        ensures good { LiteralFits literal.now → IsOkUnless result JobFault.OutOfMemory }
     {
         if literal.is_empty() {
             return Err(JobFault::EmptyLiteral);
@@ -134,6 +137,7 @@ impl Job {
     pub fn literal(&self) -> &[u8]
         ensures bytes { result.now ≡ job_literal self.now }
         ensures short { length result.now ≤ 4096 }
+        ensures fits { JobFits self.now }
     {
         match &self.kind {
             Kind::Grep { literal, fold: _ } => literal.as_slice(),

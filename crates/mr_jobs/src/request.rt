@@ -1,7 +1,7 @@
 //! A job with its numbers.
 ghost use Rattle.std.specs.Prelude.{◌≡◌, ◌↔◌, ℕ, ◌≤◌, ◌<◌, ◌^◌, ◌⊎◌, IfOk, IsOk, IsTrue};
 ghost use Rattle.mr_input.specs.Files.{split_total};
-ghost use Rattle.mr_jobs.specs.JobSpec.{RequestSpec, PartsFit, SplitFits};
+ghost use Rattle.mr_jobs.specs.JobSpec.{JobFits, RequestSpec, PartsFit, SplitFits};
 
 use crate::job::Job;
 use mr_input::{Input, MAX_SPLIT_SIZE, MAX_SPLITS};
@@ -85,8 +85,11 @@ impl Request {
 
     /// What is done with each record.
     pub fn job(&self) -> &Job
-        ensures { result.now ≡ self.now.job }
+        ensures same { result.now ≡ self.now.job }
+        ensures fits { JobFits self.now.job }
     {
+        // A job's literal fits.
+        let _literal = self.job.literal();
         &self.job
     }
 

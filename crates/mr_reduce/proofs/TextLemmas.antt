@@ -1,7 +1,11 @@
 -- The text of a group of a job that counts, and texts that grow.
-use Rattle.std.proofs.Common.{◌≡◌, ℕ, ◌++◌, true, false, List, length, take, drop, arith, length-append, refl, ap, ◌∙◌, sym}
+use Rattle.std.proofs.Common.{◌≡◌, ℕ, zero, suc, ◌+◌, ◌<◌, ◌≤◌, ◌++◌, true, false, List, [], ◌∷◌, length, get_or, take, drop, arith, length-append, refl, ap, ◌∙◌, sym}
 use Rattle.std.proofs.lemmas.List.{take-append-le, take-append-drop, take_all}
-use Rattle.mr_jobs.specs.JobSpec.{WordCount, LinesWith, Resources}
+use Rattle.std.specs.List.{flat_map}
+use Rattle.mr_bytes.specs.declared.Value.{Value}
+use Rattle.mr_bytes.specs.Values.{ones_then}
+use Rattle.mr_jobs.specs.JobSpec.{JobSpec, WordCount, LinesWith, Resources, counts}
+use Rattle.mr_reduce.specs.Text.{place_line, text_of}
 use Rattle.mr_reduce.specs.Laws.{CountersTellTheNumber}
 
 pub counters_tell_the_number : CountersTellTheNumber
@@ -17,3 +21,23 @@ front-kept n m first more middle now is n_is m_is kept =
     ∙ ap (λ l. take n (l ++ drop m now)) (kept ∙ is)
     ∙ take-append-le n (first ++ more) (drop m now) (omega (arith, n_is, length-append first more))
     ∙ take-append-le n first more (omega (arith, n_is)) ∙ take_all n first (omega (arith, n_is))
+
+-- the pieces of the first items and of the next one are no longer than all
+pub flat-part : {X : Type 0} (f : X → List ℕ) (xs : List X) (i : ℕ) (d : X) → i < length xs
+    → length (flat_map f (take i xs)) + length (f (get_or xs i d)) ≤ length (flat_map f xs)
+flat-part f [] i d h = absurd (omega arith)
+flat-part f (x ∷ xs) zero d h = omega (arith, length-append (f x) (flat_map f xs))
+flat-part f (x ∷ xs) (suc i) d h =
+    let inside : i < length xs = omega arith in
+    omega (arith, flat-part f xs i d inside, length-append (f x) (flat_map f xs), length-append (f x) (flat_map f (take i xs)))
+
+ones-give-nothing : (key : List ℕ) (ones : ℕ) (rest : List Value) → flat_map (place_line key) (ones_then ones rest) ≡ flat_map (place_line key) rest
+ones-give-nothing key zero rest = refl
+ones-give-nothing key (suc ones) rest = ones-give-nothing key ones rest
+
+-- where a job doesn't count, the ones in front give nothing
+pub text-stored : (job : JobSpec) (key : List ℕ) (values rest : List Value) (ones : ℕ) → counts job ≡ false → values ≡ ones_then ones rest
+    → text_of job key values ≡ text_of job key rest
+text-stored (WordCount keep_case) key values rest ones other is = absurd (let e : true ≡ false = other in cc)
+text-stored (LinesWith literal fold) key values rest ones other is = ap (flat_map (place_line key)) is ∙ ones-give-nothing key ones rest
+text-stored Resources key values rest ones other is = absurd (let e : true ≡ false = other in cc)

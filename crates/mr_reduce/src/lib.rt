@@ -1,13 +1,13 @@
 //! What reduce makes of a key with its values: the text that goes into the output file of the key's partition.
 #![tactic(auto)]
 
-ghost use Rattle.std.specs.Prelude.{◌≡◌, ◌++◌, OnOk, OnErr, take, vec_len};
+ghost use Rattle.std.specs.Prelude.{◌≡◌, ◌+◌, ◌<◌, ◌≤◌, ◌++◌, OnOk, OnErr, length, take, vec_capacity, vec_len};
 ghost use Rattle.std.specs.List.{flat_map};
 ghost use Rattle.mr_reduce.specs.Text.{text_of, total_line, place_line};
 ghost use Rattle.mr_reduce.specs.Laws.{CountersTellTheNumber};
 
 use itoa::Buffer;
-use mr_bytes::Value;
+use mr_bytes::{Value, Values};
 use mr_jobs::Job;
 use std::alloc::AllocError;
 
@@ -22,6 +22,7 @@ pub fn group_text(
 ) -> Result<(), AllocError>
     ensures ok { OnOk result (out.new.items ≡ out.old.items ++ text_of job.now key.now values.now) }
     ensures err { OnErr result (out.new.items ≡ out.old.items) }
+    ensures full { OnErr result (vec_capacity out.old < vec_len out.old + length (text_of job.now key.now values.now)) }
 {
     if job.counts() {
         return total_text(key, values.len() as u64, out);
@@ -34,11 +35,31 @@ pub fn group_text(
     done
 }
 
+/// Appends the text of a key with the values of a column: what `group_text` appends for them. It fails only for want of
+/// memory, and then leaves `out` as it was.
+pub fn column_text(
+    job: &Job,
+    key: &[u8],
+    values: &Values,
+    out: &mut Vec<u8>,
+) -> Result<(), AllocError>
+    ensures ok { OnOk result (out.new.items ≡ out.old.items ++ text_of job.now key.now values.now) }
+    ensures err { OnErr result (out.new.items ≡ out.old.items) }
+    ensures full { OnErr result (vec_capacity out.old < vec_len out.old + length (text_of job.now key.now values.now)) }
+{
+    if !job.counts() {
+        return group_text(job, key, values.stored(), out);
+    }
+    let total = values.len();
+    total_text(key, total as u64, out)
+}
+
 /// Appends the line of a key with a number: what `group_text` appends for a job that counts, where the number is that
 /// of the values. It fails only for want of memory, and then leaves `out` as it was.
 pub fn total_text(key: &[u8], total: u64, out: &mut Vec<u8>) -> Result<(), AllocError>
     ensures ok { OnOk result (out.new.items ≡ out.old.items ++ total_line key.now total) }
     ensures err { OnErr result (out.new.items ≡ out.old.items) }
+    ensures full { OnErr result (vec_capacity out.old < vec_len out.old + length (total_line key.now total)) }
 {
     let before = out.len();
     let done = put_total(key, total, out);
@@ -52,6 +73,8 @@ pub fn total_text(key: &[u8], total: u64, out: &mut Vec<u8>) -> Result<(), Alloc
 fn put_total(key: &[u8], total: u64, out: &mut Vec<u8>) -> Result<(), AllocError>
     ensures kept { take (vec_len out.old) out.new.items ≡ out.old.items }
     ensures ok { OnOk result (out.new.items ≡ out.old.items ++ total_line key.now total) }
+    ensures full { OnErr result (vec_capacity out.old < vec_len out.old + length (total_line key.now total)) }
+    ensures capacity { vec_capacity out.old ≤ vec_capacity out.new }
 {
     let mut digits = Buffer::new();
     out.extend_from_slice(key)?;
@@ -66,6 +89,8 @@ fn put_total(key: &[u8], total: u64, out: &mut Vec<u8>) -> Result<(), AllocError
 fn put_place(key: &[u8], value: Value, out: &mut Vec<u8>) -> Result<(), AllocError>
     ensures kept { take (vec_len out.old) out.new.items ≡ out.old.items }
     ensures ok { OnOk result (out.new.items ≡ out.old.items ++ place_line key.now value) }
+    ensures full { OnErr result (vec_capacity out.old < vec_len out.old + length (place_line key.now value)) }
+    ensures capacity { vec_capacity out.old ≤ vec_capacity out.new }
 {
     let Value::At { file, offset } = value else {
         return Ok(());
@@ -84,6 +109,7 @@ fn put_place(key: &[u8], value: Value, out: &mut Vec<u8>) -> Result<(), AllocErr
 fn put_places(key: &[u8], values: &[Value], out: &mut Vec<u8>) -> Result<(), AllocError>
     ensures kept { take (vec_len out.old) out.new.items ≡ out.old.items }
     ensures ok { OnOk result (out.new.items ≡ out.old.items ++ flat_map (place_line key.now) values.now) }
+    ensures full { OnErr result (vec_capacity out.old < vec_len out.old + length (flat_map (place_line key.now) values.now)) }
 {
     for value in values {
         put_place(key, *value, out)?;

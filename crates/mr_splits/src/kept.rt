@@ -91,7 +91,8 @@ impl<'a> Plan<'a> {
     /// The fault of a left-out record, given the one before it in the list: its order is tested before its existence.
     /// It takes no memory.
     pub fn name_fault(&self, before: Option<RecordName>, name: RecordName) -> Option<SkipFault>
-        ensures { result ≡ name_fault (records_of self.now) before name }
+        ensures first { result ≡ name_fault (records_of self.now) before name }
+        ensures other { IfSome result (λ e. e ≢ SkipFault.TooMany) }
     {
         if let Some(before) = before {
             if compare_records(before, name) != Ordering::Less {
@@ -115,8 +116,10 @@ impl<'a> Plan<'a> {
         self.first_fault(skips)
     }
 
-    fn first_fault(&self, skips: &[RecordName]) -> Option<SkipFault>
-        ensures { result ≡ first_fault (records_of self.now) None skips.now }
+    /// The first fault of a list of left-out records, however many there are: never `TooMany`. It takes no memory.
+    pub fn first_fault(&self, skips: &[RecordName]) -> Option<SkipFault>
+        ensures first { result ≡ first_fault (records_of self.now) None skips.now }
+        ensures other { IfSome result (λ e. e ≢ SkipFault.TooMany) }
     {
         let mut before = None;
         for name in skips {

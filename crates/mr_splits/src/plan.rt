@@ -11,7 +11,7 @@ ghost use Rattle.mr_splits.specs.Places.{IsSplit};
 use crate::table::{Table, cut_files};
 use mr_bytes::RecordName;
 use mr_input::{Input, MAX_SPLIT_SIZE, MAX_SPLITS};
-use std::alloc::Global;
+use std::alloc::{AllocError, Global};
 use std::marker::Model;
 use thiserror::Error;
 
@@ -90,10 +90,20 @@ impl<'a> Plan<'a> {
         if MAX_SPLITS < input.splits(size) {
             return Err(PlanFault::TooManySplits);
         }
-        match cut_files(alloc, input, size) {
-            Ok(table) => Ok(Plan { input, size, table }),
+        match Plan::fitting(alloc, input, size) {
+            Ok(plan) => Ok(plan),
             Err(_) => Err(PlanFault::OutOfMemory),
         }
+    }
+
+    /// Cuts an input that fits into splits of `size` bytes: what `of` gives. It fails only for want of memory.
+    pub fn fitting(alloc: Global, input: &'a Input, size: u32) -> Result<Plan<'a>, AllocError>
+        requires size { (0 < size) × (size ≤ 2 ^ 26) }
+        requires few { split_total size input.now ≤ 2 ^ 20 }
+        ensures { IfOk result (λ r. r ≡ record { size = size; files = input.entry.now }) }
+    {
+        let table = cut_files(alloc, input, size)?;
+        Ok(Plan { input, size, table })
     }
 
     /// The files.
