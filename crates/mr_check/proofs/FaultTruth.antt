@@ -17,7 +17,7 @@ use Rattle.mr_certform.specs.Grammar.{MayStand, InOrder}
 use Rattle.mr_certform.specs.Places as Places
 use Rattle.mr_certform.specs.Spelling.{items_of, is_ended}
 use Rattle.mr_certform.proofs.Walks.{read_front}
-use Rattle.mr_sequential.specs.Skips.{is_past}
+use Rattle.mr_splits.specs.Kept.{is_past}
 use Rattle.mr_check.specs.declared.fault.No.{No}
 use Rattle.mr_check.specs.declared.fault.No.TheVariants as Fault
 use Rattle.mr_check.specs.Verdict.{Case, Subject, passes, start, first, subject_of, last_of, item_eq, job_wanted, input_wanted, wanted_faults, entries_in, Accepted, case_of, verdict_of}
@@ -123,20 +123,20 @@ back_true c is f true ended e =
 
 -- ---- before the partitions
 
-ended_behind : (i w : Item) (is : List Item) → item_eq i w ≡ true → is_ended (i ∷ is) ≡ is_ended is
+pub ended_behind : (i w : Item) (is : List Item) → item_eq i w ≡ true → is_ended (i ∷ is) ≡ is_ended is
 ended_behind End w is h = absurd (false≢true h)
 ended_behind i w is h = refl
 
-through_ended : (ws is : List Item) → AreEqual ws → is_ended (ws ++ is) ≡ is_ended is
+pub through_ended : (ws is : List Item) → AreEqual ws → is_ended (ws ++ is) ≡ is_ended is
 through_ended [] is h = refl
 through_ended (w ∷ ws) is h = ended_behind w w (ws ++ is) h.0 ∙ through_ended ws is h.1
 
-skips_behind : (i : Item) (is : List Item) → item_eq i i ≡ true → skips_in (i ∷ is) ≡ skips_in is
+pub skips_behind : (i : Item) (is : List Item) → item_eq i i ≡ true → skips_in (i ∷ is) ≡ skips_in is
 skips_behind (Skip s) is h = absurd (false≢true h)
 skips_behind (Groups n) is h = absurd (false≢true h)
 skips_behind i is h = refl
 
-through_skips : (ws is : List Item) → AreEqual ws → skips_in (ws ++ is) ≡ skips_in is
+pub through_skips : (ws is : List Item) → AreEqual ws → skips_in (ws ++ is) ≡ skips_in is
 through_skips [] is h = refl
 through_skips (w ∷ ws) is h = skips_behind w (ws ++ is) h.0 ∙ through_skips ws is h.1
 

@@ -1,5 +1,6 @@
 pub mod AheadLemmas
 pub mod FaultPart
+pub mod FaultRead
 pub mod FaultTruth
 pub mod Faults
 pub mod GrammarLemmas

@@ -4,7 +4,7 @@ use Rattle.std.specs.List.{flat_map}
 use Rattle.mr_bytes.specs.declared.Value.{Value}
 use Rattle.mr_jobs.specs.JobSpec.{JobSpec, WordCount, LinesWith, Resources, counts}
 use Rattle.mr_reduce.specs.Text.{text_of, place_line}
-use Rattle.mr_sequential.specs.Pairs.{ones_then}
+use Rattle.mr_bytes.specs.Values.{ones_then}
 
 lines_rest : (key : List ℕ) (n : ℕ) (rest : List Value) → flat_map (place_line key) (ones_then n rest) ≡ flat_map (place_line key) rest
 lines_rest key zero rest = refl

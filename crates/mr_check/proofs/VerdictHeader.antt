@@ -15,7 +15,8 @@ use Rattle.mr_certform.specs.Value.{Contents, job_items, input_items, skip_items
 use Rattle.mr_sequential.specs.declared.fault.RunFault.{RunFault}
 use Rattle.mr_sequential.specs.declared.fault.RunFault.TheVariants.{NoSuchRecord, SkipOrder}
 use Rattle.mr_sequential.specs.Good.{entries_of}
-use Rattle.mr_sequential.specs.Skips.{is_past, list_fault}
+use Rattle.mr_splits.specs.Kept.{is_past}
+use Rattle.mr_sequential.specs.Skips.{list_fault}
 use Rattle.mr_check.specs.declared.fault.No.{No}
 use Rattle.mr_check.specs.declared.fault.No.TheVariants as Fault
 use Rattle.mr_check.specs.Verdict.{Case, State, Subject, tests, after, passes, start, part_faults, subject_of, last_of, skip_faults, count_faults, item_eq, job_wanted, input_wanted, wanted_faults, Accepted, accepted_by, told_by}

@@ -8,7 +8,7 @@ use Rattle.mr_certform.specs.declared.item.Item.TheVariants.{Skips, Skip, End}
 use Rattle.mr_certform.specs.declared.place.Place.TheVariants.{AtMagic}
 use Rattle.mr_certform.specs.Spelling.{bytes_from, stop}
 use Rattle.mr_certform.proofs.Walks.{longest_items}
-use Rattle.mr_sequential.specs.Skips.{is_past}
+use Rattle.mr_splits.specs.Kept.{is_past}
 use Rattle.mr_check.specs.declared.fault.No.{No}
 use Rattle.mr_check.specs.declared.fault.No.TheVariants as Fault
 use Rattle.mr_check.specs.Verdict.{Case, State, Subject, passes, start, tests, after, part_faults, subject_of, last_of, skip_faults, count_faults, item_eq, job_wanted, input_wanted, wanted_faults, faults, Accepted, told_by, case_of, verdict_of, first}

@@ -6,7 +6,7 @@ use Rattle.mr_input.specs.Files.{nth_file}
 use Rattle.mr_certform.specs.declared.item.Item.{Item}
 use Rattle.mr_certform.specs.declared.item.Item.TheVariants.{Skips, Skip, Groups, Entries, Entry, End}
 use Rattle.mr_certform.specs.Spelling.{items_of, is_ended, stop}
-use Rattle.mr_sequential.specs.Skips.{is_past}
+use Rattle.mr_splits.specs.Kept.{is_past}
 use Rattle.mr_bytes.specs.declared.RecordName.{RecordName}
 use Rattle.mr_splits.specs.Named.{named_records}
 use Rattle.mr_splits.specs.Cut.{is_record}

@@ -17,7 +17,7 @@ use Rattle.mr_certform.specs.Spelling.{items_of, is_ended}
 use Rattle.mr_certform.proofs.Walks.{read_front}
 use Rattle.mr_sequential.specs.Emitted.{Triple}
 use Rattle.mr_sequential.specs.Good.{named}
-use Rattle.mr_sequential.specs.Skips.{is_past}
+use Rattle.mr_splits.specs.Kept.{is_past}
 use Rattle.mr_check.specs.declared.fault.No.{No}
 use Rattle.mr_check.specs.declared.fault.No.TheVariants as Fault
 use Rattle.mr_check.specs.Verdict.{Case, State, Subject, passes, start, tests, after, part_faults, subject_of, last_of, skip_faults, count_faults, item_eq, job_wanted, input_wanted, wanted_faults, faults, Accepted, accepted_by, told_by, case_of, verdict_of, order_tests, with_entry, entry_tests, group_tests, behind_group, after_entry, first, entries_in}

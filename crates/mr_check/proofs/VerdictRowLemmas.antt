@@ -11,7 +11,7 @@ use Rattle.mr_sequential.specs.Emitted.{placed_from}
 use Rattle.mr_splits.specs.Named.{named_from, named_files}
 use Rattle.mr_check.specs.declared.fault.No.{No}
 use Rattle.mr_check.specs.Verdict.{verdict_of}
-use Rattle.mr_check.specs.VerdictRows.{words, a_b_a, a_b_aa, line, a2_b1, name, certificate, of_groups, good_bytes, says, says_without, first_record}
+use Rattle.mr_check.specs.VerdictRows.{words, a_b_a, a_b_aa, line, a2_b1, name, certificate, of_groups, good_bytes, says, says_without, word, b1_d1, of_third, first_record}
 
 -- all that the rows compute with
 computing : ℕ
@@ -101,3 +101,35 @@ row_other_job = refl
 pub row_two_outputs : verdict_of (words 1 0) (a_b_a ∷ []) (a2_b1 ∷ a2_b1 ∷ []) good_bytes ≡ Err No.OutputCount
 unfolding computing
 row_two_outputs = refl
+
+pub row_third_yes : of_third (b1_d1 ++ line 102 50) (word 3 ∷ word 4 ∷ []) ≡ Ok (record { skips = []; pairs = 6 })
+unfolding computing
+row_third_yes = rw (decimal_digit 2 (omega arith), decimal_digit 1 (omega arith))
+
+pub row_third_no_pair : of_third (b1_d1 ++ line 102 50) (word 3 ∷ word 9 ∷ []) ≡ Err (No.NoSuchPair 1 2 1)
+unfolding computing
+row_third_no_pair = rw (decimal_digit 2 (omega arith), decimal_digit 1 (omega arith))
+
+pub row_third_entry_order : of_third (b1_d1 ++ line 102 50) (word 3 ∷ word 3 ∷ []) ≡ Err (No.EntryOrder 1 2 1)
+unfolding computing
+row_third_entry_order = rw (decimal_digit 2 (omega arith), decimal_digit 1 (omega arith))
+
+pub row_third_key_differs : of_third (b1_d1 ++ line 102 50) (word 3 ∷ word 5 ∷ []) ≡ Err (No.KeyDiffers 1 2 1)
+unfolding computing
+row_third_key_differs = rw (decimal_digit 2 (omega arith), decimal_digit 1 (omega arith))
+
+pub row_third_wrong_partition : of_third (b1_d1 ++ line 102 50) (word 5 ∷ word 4 ∷ []) ≡ Err (No.WrongPartition 1 2 0)
+unfolding computing
+row_third_wrong_partition = rw (decimal_digit 2 (omega arith), decimal_digit 1 (omega arith))
+
+pub row_third_key_order : of_third (b1_d1 ++ line 102 50) (word 1 ∷ word 4 ∷ []) ≡ Err (No.KeyOrder 1 2 0)
+unfolding computing
+row_third_key_order = rw (decimal_digit 2 (omega arith), decimal_digit 1 (omega arith))
+
+pub row_third_output : of_third (b1_d1 ++ line 102 51) (word 3 ∷ word 4 ∷ []) ≡ Err (No.OutputDiffers 1 10)
+unfolding computing
+row_third_output = rw (decimal_digit 2 (omega arith), decimal_digit 1 (omega arith))
+
+pub row_third_output_longer : of_third (b1_d1 ++ line 102 50 ++ line 102 50) (word 3 ∷ word 4 ∷ []) ≡ Err (No.OutputDiffers 1 12)
+unfolding computing
+row_third_output_longer = rw (decimal_digit 2 (omega arith), decimal_digit 1 (omega arith))

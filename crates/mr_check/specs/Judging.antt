@@ -8,7 +8,7 @@ use Rattle.mr_certform.specs.declared.item.Item.{Item}
 use Rattle.mr_certform.specs.declared.item.Item.TheVariants.{Skips, Skip, Entry}
 use Rattle.mr_sequential.specs.Emitted.{Triple}
 use Rattle.mr_sequential.specs.Rules.{rules_of}
-use Rattle.mr_sequential.specs.Skips.{is_past}
+use Rattle.mr_splits.specs.Kept.{is_past}
 use Rattle.mr_check.specs.declared.fault.No.{No}
 use Rattle.mr_check.specs.declared.fault.No.TheVariants.{OtherJob, OtherInput, Malformed, SkipOrder, NoSuchRecord, TooManySkips, OutOfMemory}
 use Rattle.mr_check.specs.Verdict.{first, Case, State, Subject, item_eq, last_of, job_wanted, input_wanted}

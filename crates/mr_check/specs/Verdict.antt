@@ -19,7 +19,7 @@ use Rattle.mr_certform.specs.Places.{first_name}
 use Rattle.mr_sequential.specs.Emitted.{Triple, emitted}
 use Rattle.mr_sequential.specs.Rules.{Rules, rules_of}
 use Rattle.mr_sequential.specs.Good.{named}
-use Rattle.mr_sequential.specs.Skips.{is_past}
+use Rattle.mr_splits.specs.Kept.{is_past}
 use Rattle.mr_check.specs.declared.fault.No.{No}
 use Rattle.mr_check.specs.declared.fault.No.TheVariants.{OutputCount, Malformed, OtherJob, OtherInput, SkipOrder, NoSuchRecord, TooManySkips, NoSuchPair, EntryOrder, KeyDiffers, WrongPartition, KeyOrder, OutputDiffers, Unnamed}
 

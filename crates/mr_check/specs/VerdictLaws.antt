@@ -13,7 +13,7 @@ use Rattle.mr_certform.specs.Spelling.{items_of, bytes_from, is_ended}
 use Rattle.mr_certform.specs.Value.{Contents, Spells}
 use Rattle.mr_sequential.specs.Emitted.{emitted}
 use Rattle.mr_sequential.specs.Good.{IsGoodResult}
-use Rattle.mr_sequential.specs.Skips.{is_past}
+use Rattle.mr_splits.specs.Kept.{is_past}
 use Rattle.mr_check.specs.declared.fault.No.{No}
 use Rattle.mr_check.specs.declared.fault.No.TheVariants.{OutputCount, Malformed, OtherJob, OtherInput, SkipOrder, NoSuchRecord, TooManySkips, NoSuchPair, EntryOrder, KeyDiffers, WrongPartition, KeyOrder, OutputDiffers, Unnamed}
 use Rattle.mr_check.specs.Verdict.{first, entries_in, Case, Accepted, State, Subject, passes, start, tests, after, subject_of, last_of, job_wanted, input_wanted, wanted_faults, faults, case_of, verdict_of}

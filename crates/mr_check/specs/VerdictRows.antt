@@ -59,5 +59,22 @@ says output bytes = verdict_of (words 1 0) (a_b_a ∷ []) (output ∷ []) bytes
 abbrev pub says_without : ℕ → List RecordName → Result Accepted No
 says_without most skips = verdict_of (words 1 most) (a_b_c ∷ []) (line 99 49 ∷ []) (certificate 1 6 skips (((name 0 1 0 ∷ []) ∷ []) ∷ []))
 
+-- `a b d f f a`: of two partitions, the first has `a`, and the second `b`, `d` and `f`
+abbrev pub a_b_d_f : List ℕ
+a_b_d_f = 97 ∷ 32 ∷ 98 ∷ 32 ∷ 100 ∷ 32 ∷ 102 ∷ 32 ∷ 102 ∷ 32 ∷ 97 ∷ 10 ∷ []
+
+-- its word at this place
+abbrev pub word : ℕ → Name
+word place = name 0 0 place
+
+abbrev pub b1_d1 : List ℕ
+b1_d1 = line 98 49 ++ line 100 49
+
+-- what is said of the second output and of the last of three groups of the second partition
+abbrev pub of_third : List ℕ → List Name → Result Accepted No
+of_third output third =
+    verdict_of (words 2 0) (a_b_d_f ∷ []) (line 97 50 ∷ output ∷ [])
+    (certificate 2 12 [] (((word 0 ∷ word 5 ∷ []) ∷ []) ∷ ((word 1 ∷ []) ∷ (word 2 ∷ []) ∷ third ∷ []) ∷ []))
+
 abbrev pub first_record : RecordName
 first_record = record { split = 0; rec = 0 }

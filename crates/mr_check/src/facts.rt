@@ -1,5 +1,5 @@
 //! What the partitions are judged against.
-ghost use Rattle.std.specs.Prelude.{◌≡◌, ◌<◌, ◌+◌, ◌^◌, MatchOption, OnOk, length, None, Some};
+ghost use Rattle.std.specs.Prelude.{◌≡◌, ◌<◌, ◌+◌, ◌^◌, ◌++◌, MatchOption, OnOk, length, None, Some};
 ghost use Rattle.mr_input.specs.Files.{nth_file};
 ghost use Rattle.mr_partition.specs.Partition.{partition_of};
 ghost use Rattle.mr_reduce.specs.Text.{text_of};
@@ -8,13 +8,24 @@ ghost use Rattle.mr_index.specs.Index.{pair_at};
 ghost use Rattle.mr_check.specs.Ahead.{triple_at};
 
 use crate::comparing::output_of;
-use crate::values::Values;
-use mr_bytes::{Name, Value};
+use mr_bytes::{Name, Value, Values};
 use mr_index::{EmissionIndex, Meter};
-use mr_jobs::Request;
+use mr_jobs::{Job, Request};
 use mr_partition::partition;
+use mr_reduce::{group_text, total_text};
 use std::alloc::AllocError;
 use std::marker::Model;
+
+/// Appends the text of a key with these values.
+fn put_text(job: &Job, key: &[u8], values: &Values, out: &mut Vec<u8>) -> Result<(), AllocError>
+    ensures { OnOk result (out.new.items ≡ out.old.items ++ text_of job.now key.now values.now) }
+{
+    if job.counts() {
+        total_text(key, values.len() as u64, out)
+    } else {
+        group_text(job, key, values.stored(), out)
+    }
+}
 
 /// What the partitions are judged against: all that is emitted, the request, and the outputs.
 #[derive(Drop)]
@@ -50,11 +61,10 @@ impl<'a> Facts<'a> {
 
     /// The text of a group, in place of what the buffer held.
     pub fn text(&self, key: &[u8], values: &Values, out: &mut Vec<u8>) -> Result<(), AllocError>
-        requires { length values.now < 2 ^ 64 }
         ensures { OnOk result (out.new.items ≡ text_of self.now.request.job key.now values.now) }
     {
         out.clear();
-        values.put_text(self.request.job(), key, out)
+        put_text(self.request.job(), key, values, out)
     }
 
     /// Where the pair of that name stands among all that is emitted, or none where there is no such pair.

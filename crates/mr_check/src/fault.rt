@@ -1,5 +1,5 @@
 //! Why a result is not good.
-ghost use Rattle.std.specs.Prelude.{◌≡◌};
+ghost use Rattle.std.specs.Prelude.{◌≡◌, ◌↔◌, IsTrue};
 
 use mr_certform::Malformed;
 use std::alloc::AllocError;
@@ -108,4 +108,11 @@ impl From<AllocError> for No {
     fn from(_fault: AllocError) -> No {
         No::OutOfMemory
     }
+}
+
+/// Whether the faults are one.
+pub fn is_same_fault(a: No, b: No) -> bool
+    ensures { IsTrue result ↔ (a ≡ b) }
+{
+    a == b
 }

@@ -19,7 +19,7 @@ use mr_certform::Walker;
 use mr_index::{EmissionIndex, Meter};
 use mr_input::Input;
 use mr_jobs::Request;
-use mr_splits::Plan;
+use mr_splits::{Plan, PlanFault};
 use std::alloc::Global;
 
 /// What a good result comes to: the left-out records, rising, and how many pairs were emitted.
@@ -37,7 +37,9 @@ fn plan_of<'a>(alloc: Global, request: &Request, input: &'a Input) -> Result<Pla
 {
     match Plan::of(alloc, input, request.split_size()) {
         Ok(plan) => Ok(plan),
-        Err(_) => Err(No::OutOfMemory),
+        Err(PlanFault::OutOfMemory) => Err(No::OutOfMemory),
+        // A request's split size is one that a plan takes, and the input fits.
+        Err(PlanFault::BadSplitSize) | Err(PlanFault::TooManySplits) => unreachable!(),
     }
 }
 

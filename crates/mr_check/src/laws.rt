@@ -1,10 +1,11 @@
+//! Laws about the verdict, and worked verdicts: definitions alone, which cost nothing.
 ghost use Rattle.std.specs.Prelude.{◌≡◌, ◌∷◌, [], ◌++◌, take, true, Ok, Err};
 ghost use Rattle.mr_jobs.specs.JobSpec.{WordCount};
 ghost use Rattle.mr_check.specs.declared.fault.No.{No};
 ghost use Rattle.mr_check.specs.Verdict.{verdict_of};
-ghost use Rattle.mr_check.specs.FaultLaws.{FaultsAreTrue};
+ghost use Rattle.mr_check.specs.FaultLaws.{EndedIsSpelled, FaultsAreTrue, ReadIsSpelled};
 ghost use Rattle.mr_check.specs.VerdictLaws.{YesIsGood, GoodIsYes, FaultByPlace, LaterItemsDontMatter, LaterOutputsDontMatter, OnlyComparedMatters, OtherOutputsDontMatter, BytesBehindDontMatter};
-ghost use Rattle.mr_check.specs.VerdictRows.{words, a_b_a, a_b_aa, line, a2_b1, name, certificate, of_groups, good_bytes, says, says_without, first_record};
+ghost use Rattle.mr_check.specs.VerdictRows.{words, a_b_a, a_b_aa, line, a2_b1, name, certificate, of_groups, good_bytes, says, says_without, word, b1_d1, of_third, first_record};
 
 /// The verdict is yes exactly where the result is good, and it tells the left-out records and how many pairs there are.
 pub fn yes_law()
@@ -33,9 +34,11 @@ pub fn partition_law()
 {}
 
 /// What each fault means: it is true of the certificate that was read, as far as its items stand, in the partition, the
-/// group and the entry that it names.
+/// group and the entry that it names. Of bytes that spell a certificate what was read is that certificate.
 pub fn fault_law()
-    ensures { FaultsAreTrue }
+    ensures faults { FaultsAreTrue }
+    ensures read { ReadIsSpelled }
+    ensures ended { EndedIsSpelled }
 {}
 
 /// Worked verdicts.
@@ -61,4 +64,16 @@ pub fn worked_rows()
     ensures other_input { verdict_of (words 1 0) (a_b_aa ∷ []) (a2_b1 ∷ []) good_bytes ≡ Err No.OtherInput }
     ensures other_job { verdict_of (record (words 1 0) { job = WordCount true }) (a_b_a ∷ []) (a2_b1 ∷ []) good_bytes ≡ Err No.OtherJob }
     ensures two_outputs { verdict_of (words 1 0) (a_b_a ∷ []) (a2_b1 ∷ a2_b1 ∷ []) good_bytes ≡ Err No.OutputCount }
+{}
+
+/// Worked verdicts of the second partition, in its third group, at its second entry.
+pub fn worked_places()
+    ensures yes { of_third (b1_d1 ++ line 102 50) (word 3 ∷ word 4 ∷ []) ≡ Ok (record { skips = []; pairs = 6 }) }
+    ensures no_pair { of_third (b1_d1 ++ line 102 50) (word 3 ∷ word 9 ∷ []) ≡ Err (No.NoSuchPair 1 2 1) }
+    ensures entry_order { of_third (b1_d1 ++ line 102 50) (word 3 ∷ word 3 ∷ []) ≡ Err (No.EntryOrder 1 2 1) }
+    ensures key_differs { of_third (b1_d1 ++ line 102 50) (word 3 ∷ word 5 ∷ []) ≡ Err (No.KeyDiffers 1 2 1) }
+    ensures wrong_partition { of_third (b1_d1 ++ line 102 50) (word 5 ∷ word 4 ∷ []) ≡ Err (No.WrongPartition 1 2 0) }
+    ensures key_order { of_third (b1_d1 ++ line 102 50) (word 1 ∷ word 4 ∷ []) ≡ Err (No.KeyOrder 1 2 0) }
+    ensures output { of_third (b1_d1 ++ line 102 51) (word 3 ∷ word 4 ∷ []) ≡ Err (No.OutputDiffers 1 10) }
+    ensures output_longer { of_third (b1_d1 ++ line 102 50 ++ line 102 50) (word 3 ∷ word 4 ∷ []) ≡ Err (No.OutputDiffers 1 12) }
 {}

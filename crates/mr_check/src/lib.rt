@@ -11,11 +11,8 @@ mod laws;
 mod parts;
 mod skips;
 mod testing;
-#[cfg(test)]
-mod tests;
-mod values;
 mod wanted;
 
-pub use fault::No;
+pub use fault::{No, is_same_fault};
 pub use judge::{Yes, check, check_metered};
-pub use laws::{fault_law, locality_law, partition_law, place_law, worked_rows, yes_law};
+pub use laws::{fault_law, locality_law, partition_law, place_law, worked_places, worked_rows, yes_law};

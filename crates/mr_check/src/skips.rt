@@ -6,11 +6,10 @@ ghost use Rattle.mr_check.specs.declared.fault.No.TheVariants.{OutOfMemory, Malf
 ghost use Rattle.mr_check.specs.Judging.{awaits_skips, counted, skip_front, behind_skip, skip_fault, listed};
 
 use crate::fault::No;
-use mr_bytes::{RecordName, compare_records};
+use mr_bytes::RecordName;
 use mr_certform::{Item, Walker};
-use mr_splits::Plan;
+use mr_splits::{Plan, SkipFault};
 use std::alloc::{AllocError, Global};
-use std::cmp::Ordering;
 
 /// How many records are left out comes next, which is at most so many.
 pub(crate) fn expect_count(walker: &mut Walker<'_>, most: u32) -> Result<(), No>
@@ -50,15 +49,10 @@ fn next_skip(walker: &mut Walker<'_>) -> Result<Option<RecordName>, No>
 fn fault_of(plan: &Plan<'_>, before: Option<RecordName>, name: RecordName, skip: u64) -> Option<No>
     ensures { result ≡ skip_fault (records_of plan.now) before name skip }
 {
-    if let Some(before) = before {
-        if compare_records(before, name) != Ordering::Less {
-            return Some(No::SkipOrder { skip });
-        }
+    match plan.name_fault(before, name)? {
+        SkipFault::NoSuchRecord => Some(No::NoSuchRecord { skip }),
+        SkipFault::Order | SkipFault::TooMany => Some(No::SkipOrder { skip }),
     }
-    if !plan.has_record(name) {
-        return Some(No::NoSuchRecord { skip });
-    }
-    None
 }
 
 /// Keeps one more left-out record.

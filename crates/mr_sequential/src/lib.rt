@@ -14,8 +14,6 @@ mod outputs;
 mod rows;
 mod sequence;
 mod source;
-#[cfg(test)]
-mod tests;
 mod texts;
 
 pub use fault::RunFault;

@@ -1,5 +1,12 @@
+use Rattle.mr_check.proofs.FaultRead.{read_is_spelled, ended_is_spelled}
 use Rattle.mr_check.proofs.FaultTruth.{faults_are_true}
 use Rattle.mr_check.proofs.laws.fault_law.Goals as goal
 
-pub returns : goal.returns
-returns c = faults_are_true
+pub returns-clause-faults : goal.returns-clause-faults
+returns-clause-faults c = faults_are_true
+
+pub returns-clause-read : goal.returns-clause-read
+returns-clause-read c = read_is_spelled
+
+pub returns-clause-ended : goal.returns-clause-ended
+returns-clause-ended c = ended_is_spelled
