@@ -5,7 +5,8 @@ import shutil
 import subprocess
 import tempfile
 
-TOP = os.path.dirname(os.path.dirname(os.path.abspath(__file__)))
+HERE = os.path.dirname(os.path.abspath(__file__))
+TOP = os.path.dirname(HERE)
 
 
 class Harness:
@@ -25,9 +26,9 @@ class Harness:
         if not good:
             print(f"failed: {name} {note}"[:2000], flush=True)
 
-    def directory(self, files=None):
-        """A fresh directory with these files."""
-        where = tempfile.mkdtemp(dir=self.room)
+    def directory(self, files=None, where=None):
+        """A directory with these files, a fresh one if none is given."""
+        where = where or tempfile.mkdtemp(dir=self.room)
         for name, data in (files or {}).items():
             with open(os.path.join(os.fsencode(where), os.fsencode(name)), "wb") as file:
                 file.write(data)
@@ -35,7 +36,7 @@ class Harness:
 
     def run(self, words, files=None, cwd=None, **more):
         """(status, standard output, standard error, the directory) of one run, in a fresh directory if none is given."""
-        where = cwd or self.directory(files)
+        where = self.directory(files, cwd)
         ran = subprocess.run([self.program, *words], cwd=where, capture_output=True, **more)
         return ran.returncode, ran.stdout, ran.stderr, where
 
@@ -47,18 +48,22 @@ def write_result(where, outputs, certificate):
             file.write(data)
 
 
+def parts_of(where):
+    """The parts of a result, in order."""
+    names = sorted(name for name in os.listdir(where) if name.startswith("part-"))
+    return [open(os.path.join(where, name), "rb").read() for name in names]
+
+
 def read_result(where):
     """The parts and the certificate, None where it isn't there."""
-    names = sorted(name for name in os.listdir(where) if name.startswith("part-"))
-    parts = [open(os.path.join(where, name), "rb").read() for name in names]
     path = os.path.join(where, "certificate")
-    return parts, open(path, "rb").read() if os.path.exists(path) else None
+    return parts_of(where), open(path, "rb").read() if os.path.exists(path) else None
 
 
 def random_text(rnd, size):
     """Lines of words, some of them empty or ended by CR LF, of about this many bytes."""
     words = ["the", "The", "of", "it's", "Zürich", "x1", "--", "naïve", "a" * 70, "THE", "\t", "42"]
-    words += ["".join(rnd.choice("abcdefghij") for _ in range(rnd.randint(1, 9))) for _ in range(3000)]
+    words += ["".join(rnd.choice("abcdefghij") for _ in range(rnd.randint(1, 9))) for _ in range(300)]
     out, length = [], 0
     while length < size:
         line = " ".join(rnd.choice(words) for _ in range(rnd.randint(0, 14)))

@@ -34,7 +34,7 @@ def options_of(request, command, skips=()):
 
 def same_as_seq(harness):
     rnd = seeded("producer")
-    for turn in range(100):
+    for turn in range(150):
         request, files, skips = random_job(rnd)
         names = {f"f{i}": data for i, data in enumerate(files)}
         outputs, certificate, pairs = produced(request, files, skips)

@@ -1,0 +1,125 @@
+"""Files: directories, sizes at their limits, full disks, closed streams, few open files."""
+import os
+import resource
+import subprocess
+
+from harness import parts_of, read_result as result_of, write_result
+from rows import compared, plain
+
+
+def directories(harness):
+    """Results in other directories: nested ones, one with an absolute name, one named as a switch might be; and files that stand there."""
+    text, words = {"a": b"the cat the dog\n"}, ["--job", "words", "--parts", "2"]
+    outputs, pairs, certificate = plain("words", [text["a"]], 2)
+    done, yes = b"done: 2 files, 4 pairs, 0 left out\n", b"yes: 4 pairs, 0 left out\n"
+    for name in ("d", "x/y", "./x/../x/y/", "trusted", "certificate", "part-00000", "a b", "/"):
+        where = harness.directory()
+        place = os.path.join(where, "absolute") if name == "/" else name
+        at = os.path.join(where, place)
+        os.makedirs(at)
+        before = sorted(os.listdir(where))
+        got = harness.run(["seq", *words, "--out", place, "a"], text, cwd=where)
+        harness.check(f"a result in {name}", got[:3] == (0, done, b"") and result_of(at) == (outputs, certificate), repr(got))
+        harness.check(f"nothing beside {name}", sorted(os.listdir(where)) == sorted([*before, "a"]), repr(os.listdir(where)))
+        got = harness.run(["check", *words, "--out", place, "a"], cwd=where)
+        harness.check(f"judging in {name}", got[:3] == (0, yes, b""), repr(got))
+        write_result(at, [b"the\t3\n", outputs[1]], certificate)
+        got = harness.run(["check", *words, "--out", place, "a"], cwd=where)
+        harness.check(f"a wrong result in {name}", got[:3] == (1, b"no: OutputDiffers partition 0 at 4\n", b""), repr(got))
+        os.remove(os.path.join(at, "certificate"))
+        got = harness.run(["check", *words, "--out", place, "a"], cwd=where)
+        harness.check(f"no certificate in {name}", got[:3] == (3, b"", b"mapred: cannot read %s/certificate\n" % place.encode()), repr(got))
+    where = harness.directory()
+    os.makedirs(os.path.join(where, "x/y"))
+    write_result(os.path.join(where, "x/y"), outputs, certificate)
+    os.mkdir(os.path.join(where, "y"))
+    write_result(os.path.join(where, "y"), [b"", b""], b"")
+    got = harness.run(["check", *words, "--out", "x/y", "a"], text, cwd=where)
+    harness.check("x/y is not y", got[:3] == (0, yes, b""), repr(got))
+    older = {"part-00002": b"old\n", "part-00010": b"", "other": b"x", "certificate.old": b"y"}
+    got = harness.run(["seq", *words, "--out", ".", "a"], {**text, **older})
+    stands = {name: open(os.path.join(got[3], name), "rb").read() for name in os.listdir(got[3])}
+    harness.check("old files beside the new ones", stands == {**text, **older, "part-00000": outputs[0], "part-00001": outputs[1], "certificate": certificate}, repr(stands))
+    where = got[3]
+    got = harness.run(["check", *words, "--out", ".", "a"], cwd=where)
+    harness.check("old parts are not judged", got[:3] == (0, yes, b""), repr(got))
+    harness.check("judging changes no file", stands == {name: open(os.path.join(where, name), "rb").read() for name in os.listdir(where)})
+    many = ["--job", "words", "--parts", "40", "--out", ".", "a"]
+    where = harness.run(["seq", *many], text)[3]
+    for part in (17, 39, 20):
+        os.remove(os.path.join(where, f"part-{part:05}"))
+        first = 17
+        got = harness.run(["check", *many], cwd=where)
+        harness.check(f"many parts without {part}", got[:3] == (3, b"", b"mapred: cannot read ./part-%05d\n" % first), repr(got))
+
+
+def sizes(harness):
+    """Files and lists at their limits: many files, one twice, a large one, many left-out records."""
+    for count in (300, 1024):
+        files = {f"f{i}": b"w%d common\n" % (i * 7) for i in range(count)}
+        outputs, pairs, certificate = plain("words", [*files.values()], 1)
+        words = ["--job", "words", "--out", ".", *files]
+        got = harness.run(["seq", *words], files)
+        harness.check(f"{count} files", got[:3] == (0, b"done: 1 files, %d pairs, 0 left out\n" % pairs, b"") and result_of(got[3]) == (outputs, certificate), repr(got))
+        got = harness.run(["check", *words], cwd=got[3])
+        harness.check(f"judging {count} files", got[:3] == (0, b"yes: %d pairs, 0 left out\n" % pairs, b""), repr(got))
+    files["more"] = b"x\n"
+    got = harness.run(["seq", *words, "more"], files)
+    harness.check("1025 files", got[:3] == (2, b"", b"mapred: TooManyFiles\n") and parts_of(got[3]) == [], repr(got))
+    got = harness.run(["seq", *words[:4], "a", "a", "b", "a"], {"a": b"x y\n", "b": b"x\n"})
+    outputs, pairs, certificate = plain("words", [b"x y\n", b"x y\n", b"x\n", b"x y\n"], 1)
+    harness.check("a file three times", got[:2] == (0, b"done: 1 files, 7 pairs, 0 left out\n") and result_of(got[3]) == (outputs, certificate), repr(got))
+    got = harness.run(["check", *words[:4], "a", "a", "b"], cwd=got[3])
+    harness.check("judged with it twice", got[:3] == (1, b"no: OtherInput\n", b""), repr(got))
+    data = b"".join(b"%d " % i + b"x" * 100 + b"\n" for i in range(50_000))
+    compared(harness, "a file over 5,000,000 bytes", "words", [data, b"end\n"], 3)
+    harness.check("it is over 5,000,000 bytes", len(data) > 5_000_000)
+    lines = b"".join(b"r%d\n" % i for i in range(1001))
+    skips = [(0, i) for i in range(1000)]
+    listed = ",".join(f"{s}:{r}" for s, r in skips)
+    compared(harness, "1000 left-out records", "words", [lines], 1, ["--skips", listed, "--max-skips", "1000"], skips=skips)
+    got = harness.run(["seq", "--job", "words", "--skips", listed + ",0:1000", "--max-skips", "1000", "--out", ".", "a"], {"a": lines})
+    harness.check("1001 left-out records", got[:3] == (2, b"", b"mapred: TooManySkips\n") and parts_of(got[3]) == [], repr(got[:3]))
+
+
+def streams_and_disks(harness):
+    """A disk that is full from the second part on, an input that is no file, and an output stream that takes nothing."""
+    words = ["seq", "--job", "words", "--parts", "2", "--out", "."]
+    data = {"a": b"the cat the dog\n"}
+    where = harness.directory()
+    os.symlink("/dev/full", os.path.join(where, "part-00001"))
+    got = harness.run([*words, "a"], data, cwd=where)
+    first = open(os.path.join(where, "part-00000"), "rb").read()
+    harness.check("a disk full at the second part", got[:3] == (3, b"", b"mapred: cannot write ./part-00001\n") and first == b"the\t2\n", repr(got))
+    harness.check("no certificate behind it", not os.path.exists(os.path.join(where, "certificate")))
+    where = harness.directory()
+    write_result(where, [b"", b"older and longer"], b"older and longer than a certificate is by far" * 9)
+    got = harness.run([*words, "a"], {"a": b"the\n"}, cwd=where)
+    stands = plain("words", [b"the\n"], 2)
+    harness.check("older files are emptied", got[0] == 0 and result_of(where) == (stands[0], stands[2]), repr(result_of(where)))
+    got = harness.run([*words, "a", "."], data)
+    harness.check("a directory for a file", got[:3] == (3, b"", b"mapred: cannot read .\n") and parts_of(got[3]) == [], repr(got))
+    where = harness.directory()
+    with open(os.path.join(where, "a"), "wb") as file:
+        file.write(data["a"])
+    with open("/dev/full", "wb") as full:
+        ran = subprocess.run([harness.program, *words, "a"], cwd=where, stdout=full, stderr=subprocess.PIPE)
+    harness.check("a stream that takes nothing", (ran.returncode, ran.stderr) == (0, b"") and parts_of(where) == [b"the\t2\n", b"cat\t1\ndog\t1\n"])
+
+
+def few_open_files(harness):
+    """More parts than files may be open."""
+    data = {"a": b"the cat the dog\n"}
+    where = harness.directory()
+    with open(os.path.join(where, "a"), "wb") as file:
+        file.write(data["a"])
+    limit = lambda: resource.setrlimit(resource.RLIMIT_NOFILE, (8, 8))
+    words = ["--job", "words", "--parts", "1024", "--out", ".", "a"]
+    for command, said in (("seq", b"done: 1024 files, 4 pairs, 0 left out\n"), ("check", b"yes: 4 pairs, 0 left out\n")):
+        ran = subprocess.run([harness.program, command, *words], cwd=where, capture_output=True, preexec_fn=limit)
+        harness.check(f"{command} with few open files", (ran.returncode, ran.stdout, ran.stderr) == (0, said, b""), repr(ran))
+    stands = plain("words", [data["a"]], 1024)
+    harness.check("the files of many parts", result_of(where) == (stands[0], stands[2]))
+
+
+GROUPS = {"directories": directories, "sizes": sizes, "streams and disks": streams_and_disks, "few open files": few_open_files}

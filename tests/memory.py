@@ -1,0 +1,44 @@
+"""The program with ever more memory."""
+import os
+import resource
+import subprocess
+
+from harness import read_result as result_of, write_result
+from rows import plain
+
+
+def little_memory(harness):
+    """With ever more memory the program says that it is out of memory and writes nothing, or does the whole work; and
+    the judge says the same, or yes."""
+    data = b" ".join(b"w%d" % (i * 7919 % 40000) for i in range(200_000)) + b"\n"
+    outputs, pairs, certificate = plain("words", [data], 2)
+    judging = harness.directory()
+    write_result(judging, outputs, certificate)
+    with open(os.path.join(judging, "input"), "wb") as file:
+        file.write(data)
+    short, done, unjudged, yes = 0, 0, 0, 0
+    for size in [*range(3000, 40000, 1000), *range(40000, 240000, 20000)]:
+        where = harness.directory()
+        with open(os.path.join(where, "input"), "wb") as file:
+            file.write(data)
+        limit = lambda: resource.setrlimit(resource.RLIMIT_AS, (size * 1024, size * 1024))
+        words = ["--job", "words", "--parts", "2", "--out", ".", "input"]
+        ran = subprocess.run([harness.program, "seq", *words], cwd=where, capture_output=True, preexec_fn=limit)
+        if ran.returncode == 127:
+            continue  # too little for the system to load a program
+        got = (ran.returncode, ran.stdout, ran.stderr, *result_of(where))
+        refused = got == (4, b"", b"mapred: out of memory\n", [], None)
+        worked = got == (0, b"done: 2 files, %d pairs, 0 left out\n" % pairs, b"", outputs, certificate)
+        harness.check(f"{size} KiB of memory", (refused and done == 0) or worked, repr(got)[:300])
+        short, done = short + refused, done + worked
+        ran = subprocess.run([harness.program, "check", *words], cwd=judging, capture_output=True, preexec_fn=limit)
+        got = (ran.returncode, ran.stdout, ran.stderr)
+        refused = got == (4, b"", b"mapred: out of memory\n")
+        good = got == (0, b"yes: %d pairs, 0 left out\n" % pairs, b"")
+        harness.check(f"{size} KiB of memory for the judge", (refused and yes == 0) or good, repr(got)[:300])
+        unjudged, yes = unjudged + refused, yes + good
+    harness.check("memory that doesn't suffice, and memory that does", short > 0 and done > 0)
+    harness.check("memory that doesn't suffice for the judge, and memory that does", unjudged > 0 and yes > 0)
+
+
+GROUPS = {"little memory": little_memory}

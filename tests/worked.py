@@ -1,0 +1,123 @@
+"""Rows worked out by hand: outputs, certificates byte for byte, refusals, and results with one byte changed."""
+import random
+
+from harness import read_result as result_of, write_result
+from plain import u32s
+from rows import EXAMPLE, MAGIC, certificate_of, judged, refused, row
+
+
+def worked_rows(harness):
+    words = ["seq", "--job", "words"]
+    row(harness, "two partitions", [*words, "--parts", "2"], {"a": b"the cat the dog\n"}, out=b"done: 2 files, 4 pairs, 0 left out\n", parts=[b"the\t2\n", b"cat\t1\ndog\t1\n"])
+    row(harness, "an empty file", [*words, "--parts", "2"], {"a": b""}, out=b"done: 2 files, 0 pairs, 0 left out\n", parts=[b"", b""])
+    row(harness, "a long word", words, {"a": b"a" * 65}, out=b"done: 1 files, 1 pairs, 0 left out\n", parts=[b"a" * 65 + b"\t1\n"])
+    row(harness, "a word of 64 bytes", words, {"a": b"a" * 64 + b"\n"}, out=b"done: 1 files, 1 pairs, 0 left out\n", parts=[b"a" * 64 + b"\t1\n"])
+    row(harness, "high bytes", words, {"a": bytes.fromhex("41 62 20 C3 84 42 0A")}, out=b"done: 1 files, 2 pairs, 0 left out\n", parts=[b"ab\t1\n" + bytes.fromhex("C3 84 62") + b"\t1\n"])
+    row(harness, "cases kept", [*words, "--keep-case"], {"a": b"A a A\n"}, out=b"done: 1 files, 3 pairs, 0 left out\n", parts=[b"A\t2\na\t1\n"])
+    grep = ["seq", "--job", "grep", "--literal"]
+    row(harness, "grep", [*grep, "b"], {"a": b"abc\nxbz\n"}, out=b"done: 1 files, 2 pairs, 0 left out\n", parts=[b"abc\t0:0\nxbz\t0:4\n"])
+    row(harness, "grep keeps a carriage return", [*grep, "a"], {"a": b"a\r\n"}, out=b"done: 1 files, 1 pairs, 0 left out\n", parts=[b"a\r\t0:0\n"])
+    row(harness, "grep folded", [*grep, "AB", "--fold"], {"a": b"xab\nb\naB\n"}, out=b"done: 1 files, 2 pairs, 0 left out\n", parts=[b"aB\t0:6\nxab\t0:0\n"])
+    row(harness, "grep in three files", [*grep, "x"], {"a": b"x", "b": b"", "c": b"x\n"}, out=b"done: 1 files, 2 pairs, 0 left out\n", parts=[b"x\t0:0\nx\t2:0\n"])
+    row(harness, "a literal with a hyphen", [*grep, "-x"], {"a": b"a-x\n"}, out=b"done: 1 files, 1 pairs, 0 left out\n", parts=[b"a-x\t0:0\n"])
+    url = ["seq", "--job", "url"]
+    log = b'1.2.3.4 - - [10/Oct/2000:13:55:36 -0700] "GET /a HTTP/1.0" 200 2326'
+    row(harness, "a log line", [*url, "--parts", "2"], {"a": log}, out=b"done: 2 files, 1 pairs, 0 left out\n", parts=[b"", b"/a\t1\n"])
+    row(harness, "no resource", url, {"a": b'h "-" 1\nh "GET  /a" 1\nh "GET /a 1\n'}, out=b"done: 1 files, 0 pairs, 0 left out\n", parts=[b""])
+    row(harness, "an escaped quote", url, {"a": b'h - - [t] "GET /a\\"b HTTP/1.0" 200 1\n'}, out=b"done: 1 files, 1 pairs, 0 left out\n", parts=[b'/a\\"b\t1\n'])
+    two = {"a": b"a b\nc\n"}
+    row(harness, "one record left out", [*words, "--skips", "0:0", "--max-skips", "1"], two, out=b"done: 1 files, 1 pairs, 1 left out\n", parts=[b"c\t1\n"])
+    for name, skips, most, said in [
+        ("the same record twice", "0:0,0:0", "2", b"SkipOrder"),
+        ("no such record", "0:2", "1", b"NoSuchRecord"),
+        ("too many left out", "0:0,0:1", "1", b"TooManySkips"),
+        ("a list that ends in a comma", "0:0,", "1", b"bad skip list"),
+        ("a limit above 1000", "", "1001", b"BadSkips"),
+    ]:
+        row(harness, name, [*words, "--skips", skips, "--max-skips", most], two, status=2, err=b"mapred: " + said + b"\n", parts=[])
+    row(harness, "two splits", [*words, "--split", "4", "--skips", "1:0", "--max-skips", "1"], {"a": b"ab cd\ne\n"}, out=b"done: 1 files, 2 pairs, 1 left out\n", parts=[b"ab\t1\ncd\t1\n"])
+
+
+def certificates(harness):
+    """Certificates written out by hand."""
+    words = ["seq", "--job", "words", "--split", "64"]
+    row(harness, "the example certified", words, {"a": b"a b a\n"}, out=b"done: 1 files, 3 pairs, 0 left out\n", parts=[b"a\t2\nb\t1\n"], certificate=EXAMPLE)
+    empty = MAGIC + bytes.fromhex("00000001 00000000 00000000 00000002 00000040 00000001 0000000000000000 00000000 00000000 00000000")
+    row(harness, "an empty file certified", [*words, "--parts", "2"], {"a": b""}, out=b"done: 2 files, 0 pairs, 0 left out\n", parts=[b"", b""], certificate=empty)
+    left_out = MAGIC + bytes.fromhex("00000001 00000000 00000000 00000001 00000040 00000001 0000000000000006 00000001 00000000 00000000 00000001 00000001 00000000 00000001 00000000")
+    row(harness, "a left-out record certified", [*words, "--skips", "0:0", "--max-skips", "1"], {"a": b"a b\nc\n"}, out=b"done: 1 files, 1 pairs, 1 left out\n", parts=[b"c\t1\n"], certificate=left_out)
+    lines = MAGIC + bytes.fromhex("00000002 00000000 00000001 78 00000001 00000040 00000003 0000000000000001 0000000000000000 0000000000000002 00000000 00000001 00000002 00000000 00000000 00000000 00000001 00000000 00000000")
+    grep = ["seq", "--job", "grep", "--literal", "x", "--split", "64"]
+    row(harness, "lines of three files certified", grep, {"a": b"x", "b": b"", "c": b"x\n"}, out=b"done: 1 files, 2 pairs, 0 left out\n", parts=[b"x\t0:0\nx\t2:0\n"], certificate=lines)
+    sizes = [len(c) for c in (EXAMPLE, empty, left_out, lines)]
+    harness.check("the lengths of the certificates", sizes == [92, 52, 72, 93], repr(sizes))
+
+
+def refusals(harness):
+    """The judge's refusals, worked out by hand."""
+    data, good, entry = b"a b a\n", [b"a\t2\nb\t1\n"], b"partition 0 group %d entry %d"
+    changed = lambda at, new: EXAMPLE[:at] + new + EXAMPLE[at + len(new) :]
+    refused(harness, "an entry twice", b"EntryOrder " + entry % (0, 1), data, good, changed(64, u32s(0, 0, 0)))
+    refused(harness, "a group dropped", b"Unnamed emitted 3 named 2", data, [b"a\t2\n"], changed(44, u32s(1))[:76])
+    refused(harness, "the last byte dropped", b"Malformed at 80", data, good, EXAMPLE[:-1])
+    refused(harness, "a byte added", b"Malformed at 92", data, good, EXAMPLE + b"\0")
+    refused(harness, "nothing at all", b"Malformed at 0", data, good, b"")
+    refused(harness, "an output too long", b"OutputDiffers partition 0 at 8", data, [good[0] + b"x"], EXAMPLE)
+    refused(harness, "an output too short", b"OutputDiffers partition 0 at 7", data, [good[0][:-1]], EXAMPLE)
+    refused(harness, "a name that isn't there", b"NoSuchPair " + entry % (0, 0), data, good, changed(52, u32s(*[2**32 - 1] * 3)))
+    refused(harness, "another key", b"KeyDiffers " + entry % (0, 1), data, good, changed(64, u32s(0, 0, 1)))
+    names = [[(0, 0, 0)], [(0, 0, 2)], [(0, 0, 1)]]
+    header = (1, 0), b"", (1, 64), [6], []
+    refused(harness, "a key twice", b"KeyOrder " + entry % (1, 0), data, [b"a\t1\na\t1\nb\t1\n"], certificate_of(*header, [names]))
+    swapped = certificate_of(*header, [[[(0, 0, 1)], [(0, 0, 0), (0, 0, 2)]]])
+    refused(harness, "groups swapped", b"OutputDiffers partition 0 at 0", data, good, swapped)
+    refused(harness, "another input", b"OtherInput", b"a b aa\n", good, EXAMPLE)
+    refused(harness, "cases kept", b"OtherJob", data, good, EXAMPLE, ["--keep-case"])
+    refused(harness, "another size of split", b"OtherJob", data, good, EXAMPLE, split="63")
+    refused(harness, "other partitions", b"OtherJob", data, [*good, b""], EXAMPLE)
+    wrong = certificate_of((1, 0), b"", (3, 64), [2], [], [[[(0, 0, 0)]], [], []])
+    refused(harness, "a key in another's partition", b"WrongPartition " + entry % (0, 0), b"a\n", [b"a\t1\n", b"", b""], wrong)
+    listed = lambda *skips: certificate_of((1, 0), b"", (1, 64), [6], skips, [[[(0, 1, 0)]]])
+    two, most = (b"a b\nc\n", [b"c\t1\n"]), ["--max-skips", "2"]
+    refused(harness, "a left-out record too many", b"TooManySkips listed 1", *two, listed((0, 0)))
+    refused(harness, "a left-out record twice", b"SkipOrder skip 1", *two, listed((0, 0), (0, 0)), most)
+    refused(harness, "a left-out record that isn't there", b"NoSuchRecord skip 1", *two, listed((0, 0), (0, 2)), most)
+    refused(harness, "a pair of a left-out record", b"NoSuchPair " + entry % (0, 0), b"a b\nc\n", [b"c\t1\n"], listed((0, 0), (0, 1)), most)
+
+
+def changes(harness):
+    """A result with one byte changed is never good. Given the left-out records, a good result is unique, byte for
+    byte, so none has an output or an entry changed alone. A change in the list of left-out records or in its length
+    needs more: each record of these texts emits, so that a record that joins the list or leaves it takes 12 bytes or
+    more of names out of the certificate or brings them in."""
+    rnd = random.Random(13)
+    text = b"the cat the dog\na b a\nthe dog\nx\n"
+    log = b"".join(b'h "GET /%s HTTP/1.0" 200 1\n' % rnd.choice([b"a", b"b", b"index.html"]) for _ in range(6))
+    for job, options, data in (
+        ("words", ["--parts", "2", "--split", "7"], text),
+        ("words", ["--parts", "3", "--split", "64", "--skips", "0:1", "--max-skips", "3"], text),
+        ("grep", ["--literal", "a"], b"a\nba\nac\n"),
+        ("url", ["--parts", "2", "--split", "16"], log),
+    ):
+        words = ["seq", "--job", job, *options]
+        where = harness.run([*words, "--out", ".", "a"], {"a": data})[3]
+        parts, certificate = result_of(where)
+        files = [*parts, certificate]
+        wrong = []
+        for _ in range(100):
+            at, which = rnd.randrange(sum(map(len, files))), 0
+            while at >= len(files[which]):
+                at, which = at - len(files[which]), which + 1
+            byte = rnd.choice([files[which][at] ^ 1 << rnd.randrange(8), rnd.choice([b for b in range(256) if b != files[which][at]])])
+            changed = [*files]
+            changed[which] = files[which][:at] + bytes([byte]) + files[which][at + 1 :]
+            write_result(where, changed[:-1], changed[-1])
+            got = judged(harness, words, ["a"], where)
+            if got[0] != 1 or not got[1].startswith(b"no: ") or got[2] != b"":
+                wrong.append((which, at, byte, got))
+        harness.check(f"a byte changed, {job} {options}", wrong == [], repr(wrong))
+        write_result(where, parts, certificate)
+        harness.check(f"and changed back, {job} {options}", judged(harness, words, ["a"], where)[0] == 0)
+
+
+GROUPS = {"worked rows": worked_rows, "certificates": certificates, "refusals": refusals, "changed bytes": changes}
