@@ -392,6 +392,120 @@ def check_faults():
     check("a missing part is told before", got[:3] == (3, b"", b"mapred: cannot read ./part-00002\n"), repr(got[:3]))
 
 
+def directories():
+    """Results in other directories: nested ones, one with an absolute name, one named as a switch might be; and files that stand there."""
+    text, words = {"a": b"the cat the dog\n"}, ["--job", "words", "--parts", "2"]
+    outputs, pairs, certificate = plain("words", [text["a"]], 2)
+    done, yes = b"done: 2 files, 4 pairs, 0 left out\n", b"yes: 4 pairs, 0 left out\n"
+    for name in ("d", "x/y", "./x/../x/y/", "trusted", "certificate", "part-00000", "a b", "/"):
+        where = tempfile.mkdtemp(dir=ROOM)
+        place = os.path.join(where, "absolute") if name == "/" else name
+        at = os.path.join(where, place)
+        os.makedirs(at)
+        before = sorted(os.listdir(where))
+        got = run(["seq", *words, "--out", place, "a"], text, cwd=where)
+        check(f"a result in {name}", got[:3] == (0, done, b"") and result_of(at) == (outputs, certificate), repr(got))
+        check(f"nothing beside {name}", sorted(os.listdir(where)) == sorted([*before, "a"]), repr(os.listdir(where)))
+        got = run(["check", *words, "--out", place, "a"], cwd=where)
+        check(f"judging in {name}", got[:3] == (0, yes, b""), repr(got))
+        write_result(at, [b"the\t3\n", outputs[1]], certificate)
+        got = run(["check", *words, "--out", place, "a"], cwd=where)
+        check(f"a wrong result in {name}", got[:3] == (1, b"no: OutputDiffers partition 0 at 4\n", b""), repr(got))
+        os.remove(os.path.join(at, "certificate"))
+        got = run(["check", *words, "--out", place, "a"], cwd=where)
+        check(f"no certificate in {name}", got[:3] == (3, b"", b"mapred: cannot read %s/certificate\n" % place.encode()), repr(got))
+    where = tempfile.mkdtemp(dir=ROOM)
+    os.makedirs(os.path.join(where, "x/y"))
+    write_result(os.path.join(where, "x/y"), outputs, certificate)
+    os.mkdir(os.path.join(where, "y"))
+    write_result(os.path.join(where, "y"), [b"", b""], b"")
+    got = run(["check", *words, "--out", "x/y", "a"], text, cwd=where)
+    check("x/y is not y", got[:3] == (0, yes, b""), repr(got))
+    older = {"part-00002": b"old\n", "part-00010": b"", "other": b"x", "certificate.old": b"y"}
+    got = run(["seq", *words, "--out", ".", "a"], {**text, **older})
+    stands = {name: open(os.path.join(got[3], name), "rb").read() for name in os.listdir(got[3])}
+    check("old files beside the new ones", stands == {**text, **older, "part-00000": outputs[0], "part-00001": outputs[1], "certificate": certificate}, repr(stands))
+    where = got[3]
+    got = run(["check", *words, "--out", ".", "a"], cwd=where)
+    check("old parts are not judged", got[:3] == (0, yes, b""), repr(got))
+    check("judging changes no file", stands == {name: open(os.path.join(where, name), "rb").read() for name in os.listdir(where)})
+    many = ["--job", "words", "--parts", "40", "--out", ".", "a"]
+    where = run(["seq", *many], text)[3]
+    for part in (17, 39, 20):
+        os.remove(os.path.join(where, f"part-{part:05}"))
+        first = 17
+        got = run(["check", *many], cwd=where)
+        check(f"many parts without {part}", got[:3] == (3, b"", b"mapred: cannot read ./part-%05d\n" % first), repr(got))
+
+
+def sizes():
+    """Files and lists at their limits: many files, one twice, a large one, many left-out records."""
+    for count in (300, 1024):
+        files = {f"f{i}": b"w%d common\n" % (i * 7) for i in range(count)}
+        outputs, pairs, certificate = plain("words", [*files.values()], 1)
+        words = ["--job", "words", "--out", ".", *files]
+        got = run(["seq", *words], files)
+        check(f"{count} files", got[:3] == (0, b"done: 1 files, %d pairs, 0 left out\n" % pairs, b"") and result_of(got[3]) == (outputs, certificate), repr(got))
+        got = run(["check", *words], cwd=got[3])
+        check(f"judging {count} files", got[:3] == (0, b"yes: %d pairs, 0 left out\n" % pairs, b""), repr(got))
+    files["more"] = b"x\n"
+    got = run(["seq", *words, "more"], files)
+    check("1025 files", got[:3] == (2, b"", b"mapred: TooManyFiles\n") and parts_of(got[3]) == [], repr(got))
+    got = run(["seq", *words[:4], "a", "a", "b", "a"], {"a": b"x y\n", "b": b"x\n"})
+    outputs, pairs, certificate = plain("words", [b"x y\n", b"x y\n", b"x\n", b"x y\n"], 1)
+    check("a file three times", got[:2] == (0, b"done: 1 files, 7 pairs, 0 left out\n") and result_of(got[3]) == (outputs, certificate), repr(got))
+    got = run(["check", *words[:4], "a", "a", "b"], cwd=got[3])
+    check("judged with it twice", got[:3] == (1, b"no: OtherInput\n", b""), repr(got))
+    data = b"".join(b"line %d of a large file\n" % i for i in range(300_000))
+    compared("a file over 5,000,000 bytes", "words", [data, b"end\n"], 3)
+    check("it is over 5,000,000 bytes", len(data) > 5_000_000)
+    lines = b"".join(b"r%d\n" % i for i in range(1001))
+    skips = [(0, i) for i in range(1000)]
+    listed = ",".join(f"{s}:{r}" for s, r in skips)
+    compared("1000 left-out records", "words", [lines], 1, ["--skips", listed, "--max-skips", "1000"], skips=skips)
+    got = run(["seq", "--job", "words", "--skips", listed + ",0:1000", "--max-skips", "1000", "--out", ".", "a"], {"a": lines})
+    check("1001 left-out records", got[:3] == (2, b"", b"mapred: TooManySkips\n") and parts_of(got[3]) == [], repr(got[:3]))
+
+
+def order_of_faults():
+    """Of several faults of one line the first is told: the line, an option of another job, the job, the numbers, the text of the skip
+    list, the files in order, their limits, the fit of the splits, and the list over the input."""
+    big = b"a" * 1048577
+    grep, words = ["--job", "grep"], ["--job", "words"]
+    for said, status, line, files in [
+        (b"option does not belong to this job", 2, [*grep, "--literal", "", "--keep-case", "--parts", "0", "--skips", "x"], ["none"]),
+        (b"EmptyLiteral", 2, [*grep, "--parts", "0", "--skips", "x"], ["none"]),
+        (b"BadParts", 2, [*words, "--parts", "0", "--split", "0", "--max-skips", "1001", "--skips", "x"], ["none"]),
+        (b"BadSplitSize", 2, [*words, "--split", "0", "--max-skips", "1001", "--skips", "x"], ["none"]),
+        (b"BadSkips", 2, [*words, "--max-skips", "1001", "--skips", "x"], ["none"]),
+        (b"bad skip list", 2, [*words, "--skips", "x"], ["none"]),
+        (b"cannot read none", 3, [*words, "--split", "1", "--skips", "9:9,9:9"], ["big", "none", "other"]),
+        (b"cannot read none", 3, [*words, "--skips", "9:9"], [*["a"] * 1025, "none"]),
+        (b"TooManyFiles", 2, [*words, "--split", "1", "--skips", "9:9"], ["big", *["a"] * 1024]),
+        (b"TooManySplits", 2, [*words, "--split", "1", "--skips", "9:9"], ["big"]),
+        (b"TooManySkips", 2, [*words, "--skips", "9:9,9:9"], ["a"]),
+        (b"NoSuchRecord", 2, [*words, "--skips", "9:9,9:9", "--max-skips", "2"], ["a"]),
+        (b"SkipOrder", 2, [*words, "--skips", "0:0,0:0,9:9", "--max-skips", "3"], ["a"]),
+    ]:
+        got = run(["seq", *line, "--out", "nowhere", *files], {"a": b"a\n", "big": big})
+        check(f"first of several: {said}", got[:3] == (status, b"", b"mapred: " + said + b"\n"), repr(got[:3]))
+    for option in ("--parts", "--split", "--max-skips", "--out", "--job", "--skips"):
+        value = {"--job": "words", "--out": ".", "--skips": "0:0"}.get(option, "1")
+        line = ["seq", *([] if option == "--job" else ["--job", "words"]), *([] if option == "--out" else ["--out", "."])]
+        got = run([*line, option, value, option, value, "a"], {"a": b"a\n"})
+        check(f"{option} twice", got[0] == 2 and got[1] == b"" and b"cannot be used multiple times" in got[2] and parts_of(got[3]) == [], repr(got))
+
+
+def help_texts():
+    """Help and version, byte for byte."""
+    texts = os.path.join(os.path.dirname(os.path.abspath(__file__)), "texts")
+    for name, line in (("help", ["--help"]), ("seq", ["seq", "--help"]), ("check", ["check", "--help"]), ("version", ["--version"])):
+        got = run(line)
+        said = got[1].replace(b"Usage: %s" % os.fsencode(os.path.basename(PROGRAM)), b"Usage: mapred")
+        with open(os.path.join(texts, name + ".txt"), "rb") as file:
+            check(f"the text of {line}", (got[0], said, got[2]) == (0, file.read(), b""), repr(got[1]))
+
+
 def text_of(rnd, size):
     words = ["the", "The", "of", "it's", "Zürich", "x1", "--", "naïve", "a" * 70, "THE", "\t", "42"]
     words += ["".join(rnd.choice("abcdefghij") for _ in range(rnd.randint(1, 9))) for _ in range(3000)]
@@ -604,6 +718,7 @@ def failing_calls():
                 while marked:
                     number += 1
                     got, marked = with_failing(library, f"{kind} {number}", words, given)
+                    failed = got
                     refused = got[:2] == (status, b"") and got[2].startswith(said) and got[2].count(b"\n") == 1 and is_beginning(got[3], whole[3], given)
                     unprinted = kind == "write" and got == (0, b"", b"", whole[3])
                     spared += kind == "malloc" and marked and got == whole
@@ -611,6 +726,11 @@ def failing_calls():
                     if kind != "malloc" and marked and not unprinted:
                         got, _ = with_failing(library, f"{kind} {number}", words, given, FAIL_MEMORY="1")
                         check(f"{words[0]} {name}, {kind} {number} wants memory", got[:3] == (4, b"", b"mapred: out of memory\n") and is_beginning(got[3], whole[3], given), repr(got))
+                    if kind != "malloc" and marked:
+                        # an interrupted read or write of a file is a failed one; std opens again, and writes a line again
+                        want = whole if kind == "open" or unprinted else failed
+                        got, _ = with_failing(library, f"{kind} {number}", words, given, FAIL_INTERRUPTED="1")
+                        check(f"{words[0]} {name}, {kind} {number} is interrupted", got == want, repr(got))
                 check(f"{words[0]} {name} comes to some {kind}", number > 1)
                 # asking for a word behind the last one needs no memory
                 check(f"{words[0]} {name} needs all memory but once", spared <= 1, str(spared))
@@ -627,7 +747,7 @@ def failing_calls():
 
 def main():
     try:
-        for part in (worked_rows, certificates, refusals, changes, faults, check_faults, streams_and_disks, few_open_files, failing_calls, little_memory, against_python, against_tools):
+        for part in (worked_rows, certificates, refusals, changes, faults, check_faults, directories, sizes, order_of_faults, help_texts, streams_and_disks, few_open_files, failing_calls, little_memory, against_python, against_tools):
             part()
     finally:
         shutil.rmtree(ROOM, ignore_errors=True)

@@ -1,6 +1,6 @@
 /* Preloaded before the program, lets calls of the system fail. FAIL says which: "malloc 3" the third allocation (growing
    one counts too), "read 3", "write 3" or "open 3" the third call of that kind, from 1, for want of memory where
-   FAIL_MEMORY is set; "short 0" lets each read and write move one byte. The file that FAIL_MARK names is made when a
+   FAIL_MEMORY is set, and by an interruption where FAIL_INTERRUPTED is; "short 0" lets each read and write move one byte. The file that FAIL_MARK names is made when a
    call was let fail. */
 #define _GNU_SOURCE
 #include <dlfcn.h>
@@ -37,7 +37,7 @@ static int fails(const char *what) {
 
 /* The failure of a call on a file. */
 static int failed(int cause) {
-    errno = getenv("FAIL_MEMORY") ? ENOMEM : cause;
+    errno = getenv("FAIL_MEMORY") ? ENOMEM : getenv("FAIL_INTERRUPTED") ? EINTR : cause;
     return -1;
 }
 
