@@ -1,2 +1,0 @@
-pub mod SkipLists
-pub mod Judged

@@ -1,5 +1,3 @@
-pub mod SkipList
-pub mod Asked
 pub mod Parsed
 pub mod Statuses
-pub mod Outcomes
+pub mod Program

@@ -4,8 +4,11 @@ use Rattle.std.specs.Option.{option_map_or}
 use Rattle.std.specs.Str.Parse.{IsNumeral, digits_value, without_leading_plus}
 use Rattle.clap.specs.Matches.{matched_of, raw_values, first_value, one_text}
 use Rattle.clap.specs.declared.parser.matches.Found.{Found}
-use Rattle.mr_cli.specs.declared.options.Options.{Options}
-use Rattle.mr_cli.specs.Asked.{Names}
+use Rattle.clap.specs.Walk.{Row, rows_of}
+use Rattle.mr_commands.specs.declared.asked.Options.{Options}
+use Rattle.mr_commands.specs.declared.asked.Subcommand.{Subcommand}
+use Rattle.mr_commands.specs.declared.asked.Subcommand.TheVariants.{Seq, Check}
+use Rattle.mr_commands.specs.Asked.{Names}
 
 -- decimal digits, a plus allowed in front, whose number fits in 32 bits
 abbrev pub WritesNumber : List ℕ → Type 0
@@ -31,3 +34,8 @@ pub record AreOptionsOf (found : Found) (o : Options) : Type 0 where
   pub literal : option_map (λ s. s.now) o.literal ≡ first_value found (codes "literal")
   pub out : o.out.now ≡ unwrap_or (first_value found (codes "out")) (codes ".")
   pub files : map (λ s. s.now) o.files.items ≡ option_map_or raw_values (matched_of found (codes "files")) []
+
+-- the subcommand is that of its own name, and its options are those of its matches
+abbrev pub IsAskedBy : Option (List ℕ) → Option (List Row) → Subcommand → Type 0
+IsAskedBy name rows (Seq o skips) = (name ≡ Some (codes "seq")) × ((found : Found) × (rows ≡ Some (rows_of found)) × AreOptionsOf found o × (skips.now ≡ unwrap_or (first_value found (codes "skips")) []))
+IsAskedBy name rows (Check o) = (name ≡ Some (codes "check")) × ((found : Found) × (rows ≡ Some (rows_of found)) × AreOptionsOf found o)

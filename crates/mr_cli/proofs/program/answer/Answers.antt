@@ -1,0 +1,19 @@
+use Rattle.std.proofs.Common.{Option, subst, inl, inr}
+use Rattle.std.specs.Prelude.{IfSome}
+use Rattle.std.proofs.lemmas.Result.{err_from_is_err_and}
+use Rattle.mr_commands.specs.declared.asked.Subcommand.{Subcommand}
+use Rattle.mr_cli.specs.Program.{IsAskedIn}
+use Rattle.mr_cli.proofs.program.answer.Goals as goal
+
+pub returns-in_err-done-in-Some-clause-unanswered : goal.returns-in_err-done-in-Some-clause-unanswered
+returns-in_err-done-in-Some-clause-unanswered g c =
+    let p = err_from_is_err_and c.from_residual-in_err-done-in-Some.result c.from_residual-in_err-done-in-Some.ensures.1 in
+    let parsed = c.in_ok-matches.matches in
+    let named : IsAskedIn parsed c.in-Some.asked = subst (λ (r : Option Subcommand). IfSome r (λ asked. IsAskedIn parsed asked)) c.in-Some.is c.in_ok-asked.ensures.asked in
+    rw p.1 (rw p.2 (inr (record { parsed = parsed; asked = c.in-Some.asked; named = named; refused = c.in_err-done-in-Some.ensures.refused })))
+
+pub returns-in-Some-clause-answered : goal.returns-in-Some-clause-answered
+returns-in-Some-clause-answered g c =
+    let parsed = c.in_ok-matches.matches in
+    let named : IsAskedIn parsed c.in-Some.asked = subst (λ (r : Option Subcommand). IfSome r (λ asked. IsAskedIn parsed asked)) c.in-Some.is c.in_ok-asked.ensures.asked in
+    inl (record { parsed = parsed; asked = c.in-Some.asked; named = named; answers = c.in_ok-done-in-Some.ensures.answers; others = c.in_ok-done-in-Some.ensures.others })

@@ -1,0 +1,42 @@
+-- What the program answers, and where it says it.
+use Rattle.std.specs.Prelude.{◌≡◌, ◌⊎◌, ℕ, List, [], option_map}
+use Rattle.clap.specs.Matches.{subcommand_name_of}
+use Rattle.clap.specs.Simple.{subcommand_rows_of}
+use Rattle.clap.specs.declared.parser.matches.ArgMatches.{ArgMatches}
+use Rattle.mr_files.specs.Holding.{ChangesAmong}
+use Rattle.mr_commands.specs.declared.asked.Subcommand.{Subcommand}
+use Rattle.mr_commands.specs.declared.fault.Fault.{Fault}
+use Rattle.mr_commands.specs.Answers.{Answers, IsRefusal, written_by}
+use Rattle.mr_cli.specs.declared.failure.Failure.{Failure}
+use Rattle.mr_cli.specs.declared.failure.Failure.TheVariants.{Line, NotUtf8, Command}
+use Rattle.mr_cli.specs.Parsed.{IsAskedBy}
+use Rattle.mr_cli.specs.Statuses.{no_memory_left}
+
+-- the command is the one that was parsed, with its options
+abbrev pub IsAskedIn : ArgMatches → Subcommand → Type 0
+IsAskedIn parsed asked = IsAskedBy (subcommand_name_of parsed) (option_map (λ p. p.1) (subcommand_rows_of parsed)) asked
+
+-- the parsed command was done, and nothing else changed than the files that it writes
+pub record IsDone (old new : List ℕ → List ℕ → Type 0) (text : List ℕ) (status : ℕ) : Type 0 where
+  pub parsed : ArgMatches
+  pub asked : Subcommand
+  pub named : IsAskedIn parsed asked
+  pub answers : Answers old new asked text status
+  pub others : ChangesAmong old new (written_by asked)
+
+-- a command was done; or none was asked for, and nothing is said or changed
+abbrev pub IsAnswered : (List ℕ → List ℕ → Type 0) → (List ℕ → List ℕ → Type 0) → List ℕ → ℕ → Type 0
+IsAnswered old new text status = IsDone old new text status ⊎ ((text ≡ []) × (status ≡ 0) × ChangesAmong old new [])
+
+-- the parsed command was refused, by this fault
+pub record IsRefused (old new : List ℕ → List ℕ → Type 0) (unreadable unwritable : List ℕ → Type 0) (fault : Fault) : Type 0 where
+  pub parsed : ArgMatches
+  pub asked : Subcommand
+  pub named : IsAskedIn parsed asked
+  pub refused : IsRefusal old new unreadable unwritable asked fault
+
+-- why nothing is answered: the line is told before a fault of what it asks for, and nothing is changed then
+abbrev pub IsUnanswered : (List ℕ → List ℕ → Type 0) → (List ℕ → List ℕ → Type 0) → (List ℕ → Type 0) → (List ℕ → Type 0) → Failure → Type 0
+IsUnanswered old new unreadable unwritable (Command fault) = ((Command fault ≡ no_memory_left) × ChangesAmong old new []) ⊎ IsRefused old new unreadable unwritable fault
+IsUnanswered old new unreadable unwritable (Line error) = ChangesAmong old new []
+IsUnanswered old new unreadable unwritable NotUtf8 = ⊥

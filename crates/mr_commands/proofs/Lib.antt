@@ -1,0 +1,3 @@
+pub mod Judged
+pub mod SkipLists
+pub mod Refused

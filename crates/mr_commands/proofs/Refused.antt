@@ -1,0 +1,113 @@
+-- What the program says, and why it says nothing.
+use Rattle.std.proofs.Common.{◌≡◌, ◌⊎◌, ◌↔◌, Some, ℕ, List, Result, Ok, Err, inl, inr, ap, sym, ◌∙◌, subst, length, [], ◌∷◌, ◌++◌}
+use Rattle.std.proofs.lemmas.List.{length-map}
+use Rattle.std.specs.Prelude.{Vec}
+use Rattle.std.specs.Global.{Global}
+use Rattle.mr_input.specs.Files.{contents}
+use Rattle.std.specs.Prelude.{IfOk}
+use Rattle.mr_sequential.specs.Emitted.{emitted}
+use Rattle.mr_files.specs.Refusals.{IsOneUnread, IsWriteRefusal}
+use Rattle.mr_files.specs.declared.store.FileFault.{FileFault}
+use Rattle.mr_files.specs.declared.store.FileFault.TheVariants as file
+use Rattle.mr_commands.specs.declared.fault.Fault.{Fault}
+use Rattle.mr_commands.specs.declared.fault.Fault.TheVariants.{OtherJobsOption, BadSkipList, OutOfMemory}
+use Rattle.mr_commands.specs.declared.asked.Options.{Options}
+use Rattle.mr_jobs.specs.JobSpec.{RequestSpec}
+use Rattle.mr_files.specs.Names.{result_names, part_names, name_of_certificate}
+use Rattle.mr_files.specs.Holding.{Holding}
+use Rattle.mr_commands.specs.Outcomes.{IsJudged, IsSequentialResult, done_line}
+use Rattle.mr_commands.specs.Asked.{AsksForOtherJob, WithinLimits, request_asked}
+use Rattle.mr_commands.specs.Answers.{TellsFile, IsResultRefusal, IsAsked, IsInput, IsInputRefusal, IsCheckRefusal, IsRunRefusal, IsWorkRefusal, IsSeqRefusal, IsStopped, AnswersCheck, WorksOut, input_names}
+use Rattle.mr_bytes.specs.declared.RecordName.{RecordName}
+use Rattle.mr_sequential.specs.Skips.{skip_fault}
+use Rattle.mr_sequential.specs.declared.fault.RunFault.{RunFault}
+use Rattle.mr_sequential.specs.declared.fault.RunFault.TheVariants as run
+use Rattle.mr_commands.specs.Statuses.{TellsRun}
+use Rattle.mr_commands.specs.SkipList.{SpellsNames}
+
+pub result_refused : (unreadable : List ℕ → Type 0) (names : List (List ℕ)) (e : FileFault) (f : Fault) → IsOneUnread unreadable names e → TellsFile e f → IsResultRefusal unreadable names f
+result_refused unreadable names (file.CannotRead name) f h t = rw t h
+result_refused unreadable names (file.CannotWrite name) f h t = absurd h
+result_refused unreadable names file.OutOfMemory f h t = rw t tt
+
+pub asked : {A : Type 0} (o : Options) (r : A) → ((◌≡◌ {A = Result A Fault} (Ok r) (Err OtherJobsOption)) ↔ AsksForOtherJob o) → WithinLimits (request_asked o) → IsAsked o
+asked o r other within = record { own = λ a. cc (other.1 a); within = within }
+
+pub input_stage : (holds : List ℕ → List ℕ → Type 0) (unreadable : List ℕ → Type 0) (o : Options) (names : List (List ℕ)) (request : RequestSpec) (e : Fault)
+    → names ≡ input_names o → request ≡ request_asked o → IsAsked o → IsInputRefusal holds unreadable names request.split e → IsCheckRefusal holds unreadable o e
+input_stage holds unreadable o names request e n r a h =
+    inr (inl (a, subst (λ (s : ℕ). IsInputRefusal holds unreadable (input_names o) s e) (ap (λ (v : RequestSpec). v.split) r) (subst (λ (v : List (List ℕ)). IsInputRefusal holds unreadable v request.split e) n h)))
+
+pub result_stage : (holds : List ℕ → List ℕ → Type 0) (unreadable : List ℕ → Type 0) (o : Options) (names files : List (List ℕ)) (request : RequestSpec) (e : FileFault) (f : Fault)
+    → names ≡ input_names o → request ≡ request_asked o → IsAsked o → IsInput holds names request.split files
+    → IsOneUnread unreadable (result_names o.out.now o.parts) e → TellsFile e f → IsCheckRefusal holds unreadable o f
+result_stage holds unreadable o names files request e f n r a i h t =
+    inr (inr (a, (files, subst (λ (s : ℕ). IsInput holds (input_names o) s files) (ap (λ (v : RequestSpec). v.split) r) (subst (λ (v : List (List ℕ)). IsInput holds v request.split files) n i)), result_refused unreadable (result_names o.out.now o.parts) e f h t))
+
+pub answered : (holds : List ℕ → List ℕ → Type 0) (o : Options) (names files outputs was_outputs : List (List ℕ)) (bytes was_bytes : List ℕ) (request : RequestSpec) (text : List ℕ) (status : ℕ)
+    → names ≡ input_names o → request ≡ request_asked o → IsInput holds names request.split files → was_outputs ≡ outputs → was_bytes ≡ bytes
+    → Holding holds (part_names o.out.now o.parts) outputs → holds (name_of_certificate o.out.now) bytes → IsJudged request files was_outputs was_bytes text status → AnswersCheck holds o text status
+answered holds o names files outputs was_outputs bytes was_bytes request text status n r i same_outputs same_bytes parts certificate judged = record {
+  files = files;
+  outputs = outputs;
+  bytes = bytes;
+  input = subst (λ (s : ℕ). IsInput holds (input_names o) s files) (ap (λ (v : RequestSpec). v.split) r) (subst (λ (v : List (List ℕ)). IsInput holds v request.split files) n i);
+  parts = parts;
+  certificate = certificate;
+  judged = subst (λ (v : RequestSpec). IsJudged v files outputs bytes text status) r (subst (λ (v : List ℕ). IsJudged request files outputs v text status) same_bytes (subst (λ (v : List (List ℕ)). IsJudged request files v was_bytes text status) same_outputs judged));
+}
+
+pub run_stage : (request : RequestSpec) (files : List (List ℕ)) (names : List RecordName) (e : RunFault) (f : Fault)
+    → (e ≡ run.OutOfMemory) ⊎ (skip_fault request files names ≡ Some e) → TellsRun e f → IsRunRefusal request files names f
+run_stage request files names run.NoSuchRecord f (inl h) t = absurd (cc h)
+run_stage request files names run.SkipOrder f (inl h) t = absurd (cc h)
+run_stage request files names run.TooManySkips f (inl h) t = absurd (cc h)
+run_stage request files names run.OutOfMemory f h t = rw t tt
+run_stage request files names run.NoSuchRecord f (inr h) t = rw t h
+run_stage request files names run.SkipOrder f (inr h) t = rw t h
+run_stage request files names run.TooManySkips f (inr h) t = rw t h
+
+pub list_stage : (holds : List ℕ → List ℕ → Type 0) (unreadable : List ℕ → Type 0) (o : Options) (list : List ℕ) (e : Fault)
+    → IsAsked o → (e ≡ OutOfMemory) ⊎ ((e ≡ BadSkipList) × ((names : List RecordName) → ¬ SpellsNames list names)) → IsWorkRefusal holds unreadable o list e
+list_stage holds unreadable o list e a (inl h) = rw h (inl tt)
+list_stage holds unreadable o list e a (inr h) = inr (inl (a, h.0, h.1))
+
+pub work_input_stage : (holds : List ℕ → List ℕ → Type 0) (unreadable : List ℕ → Type 0) (o : Options) (list : List ℕ) (skips : List RecordName) (names : List (List ℕ)) (request : RequestSpec) (e : Fault)
+    → names ≡ input_names o → request ≡ request_asked o → IsAsked o → SpellsNames list skips → IsInputRefusal holds unreadable names request.split e → IsWorkRefusal holds unreadable o list e
+work_input_stage holds unreadable o list skips names request e n r a s h =
+    inr (inr (inl (a, (skips, s), subst (λ (s : ℕ). IsInputRefusal holds unreadable (input_names o) s e) (ap (λ (v : RequestSpec). v.split) r) (subst (λ (v : List (List ℕ)). IsInputRefusal holds unreadable v request.split e) n h))))
+
+pub work_run_stage : (holds : List ℕ → List ℕ → Type 0) (unreadable : List ℕ → Type 0) (o : Options) (list : List ℕ) (skips : List RecordName) (names files : List (List ℕ)) (request : RequestSpec) (e : Fault)
+    → names ≡ input_names o → request ≡ request_asked o → IsAsked o → SpellsNames list skips → IsInput holds names request.split files → IsRunRefusal request files skips e → IsWorkRefusal holds unreadable o list e
+work_run_stage holds unreadable o list skips names files request e n r a s i h =
+    inr (inr (inr (a, (files, skips, subst (λ (s : ℕ). IsInput holds (input_names o) s files) (ap (λ (v : RequestSpec). v.split) r) (subst (λ (v : List (List ℕ)). IsInput holds v request.split files) n i), s, subst (λ (v : RequestSpec). IsRunRefusal v files skips e) r h))))
+
+pub works_out : (holds : List ℕ → List ℕ → Type 0) (o : Options) (list : List ℕ) (skips : List RecordName) (names files outputs : List (List ℕ)) (bytes line : List ℕ) (request : RequestSpec)
+    → names ≡ input_names o → request ≡ request_asked o → SpellsNames list skips → IsInput holds names request.split files
+    → IsSequentialResult request files skips outputs bytes → line ≡ done_line request.parts (length (emitted request files skips)) (length skips) → WorksOut holds o list outputs bytes line
+works_out holds o list skips names files outputs bytes line request n r s i h l = record {
+  files = files;
+  names = skips;
+  input = subst (λ (s : ℕ). IsInput holds (input_names o) s files) (ap (λ (v : RequestSpec). v.split) r) (subst (λ (v : List (List ℕ)). IsInput holds v request.split files) n i);
+  spelled = s;
+  result = subst (λ (v : RequestSpec). IsSequentialResult v files skips outputs bytes) r h;
+  said = subst (λ (v : RequestSpec). line ≡ done_line v.parts (length (emitted v files skips)) (length skips)) r l;
+}
+
+pub both_ok : {W E : Type 0} (r : Result W E) (P Q R : W → Type 0) → ((w : W) → P w → Q w → R w) → IfOk r P → IfOk r Q → IfOk r R
+both_ok (Ok w) P Q R f p q = f w p q
+both_ok (Err e) P Q R f p q = tt
+
+stopped_as : (old new : List ℕ → List ℕ → Type 0) (unwritable : List ℕ → Type 0) (names texts : List (List ℕ)) (e : FileFault) (f : Fault) → IsWriteRefusal old new unwritable names texts e → TellsFile e f → IsStopped old new unwritable names texts f
+stopped_as old new unwritable names texts (file.CannotRead name) f h t = absurd h
+stopped_as old new unwritable names texts (file.CannotWrite name) f h t = rw t h
+stopped_as old new unwritable names texts file.OutOfMemory f h t = rw t tt
+
+-- the result was not all written
+pub stopped_stage : (old new : List ℕ → List ℕ → Type 0) (unreadable unwritable : List ℕ → Type 0) (o : Options) (list : List ℕ) (outputs given : List (Vec ℕ Global)) (bytes given_bytes line : List ℕ) (e : FileFault) (f : Fault)
+    → WorksOut old o list (contents outputs) bytes line → given ≡ outputs → given_bytes ≡ bytes
+    → IsWriteRefusal old new unwritable (result_names o.out.now (length given)) (contents given ++ given_bytes ∷ []) e → TellsFile e f → IsSeqRefusal old new unreadable unwritable o list f
+stopped_stage old new unreadable unwritable o list outputs given bytes given_bytes line e f work same same_bytes h t =
+    let all : length given ≡ o.parts = ap length same ∙ (sym (length-map outputs (λ o. o.items)) ∙ work.result.count) in
+    let texts : contents given ++ given_bytes ∷ [] ≡ contents outputs ++ bytes ∷ [] = ap (λ (v : List (Vec ℕ Global)). contents v ++ given_bytes ∷ []) same ∙ ap (λ (v : List ℕ). contents outputs ++ v ∷ []) same_bytes in
+    inr (contents outputs, bytes, line, work, stopped_as old new unwritable (result_names o.out.now o.parts) (contents outputs ++ bytes ∷ []) e f (subst (λ (v : List (List ℕ)). IsWriteRefusal old new unwritable (result_names o.out.now o.parts) v e) texts (subst (λ (n : ℕ). IsWriteRefusal old new unwritable (result_names o.out.now n) (contents given ++ given_bytes ∷ []) e) all h)) t)

@@ -1,0 +1,106 @@
+//! Why a command does not do what it is asked for, with the exit status and what is said of it.
+ghost use Rattle.std.specs.Prelude.{◌≡◌};
+ghost use Rattle.mr_commands.specs.Statuses.{status_of};
+
+use mr_files::FileFault;
+use mr_input::InputFault;
+use mr_jobs::{JobFault, RequestFault};
+use mr_sequential::RunFault;
+use std::alloc::AllocError;
+use std::fmt;
+
+/// Why a command does not do what it is asked for.
+#[derive(Drop)]
+pub enum Fault {
+    /// An option of another job.
+    OtherJobsOption,
+    Job(JobFault),
+    Request(RequestFault),
+    BadSkipList,
+    Input(InputFault),
+    TooManySplits,
+    Run(RunFault),
+    CannotRead(String),
+    CannotWrite(String),
+    OutOfMemory,
+}
+
+impl From<AllocError> for Fault {
+    ghost use Rattle.mr_commands.specs.declared.fault.Fault.TheVariants.{OutOfMemory as told_memory};
+
+    ghost from_gives = { λ _ f. f ≡ told_memory };
+
+    fn from(_error: AllocError) -> Fault {
+        Fault::OutOfMemory
+    }
+}
+
+impl From<JobFault> for Fault {
+    ghost use Rattle.mr_commands.specs.Statuses.{TellsJob};
+
+    ghost from_gives = { λ e f. TellsJob e f };
+
+    fn from(fault: JobFault) -> Fault {
+        match fault {
+            JobFault::OutOfMemory => Fault::OutOfMemory,
+            other => Fault::Job(other),
+        }
+    }
+}
+
+impl From<RunFault> for Fault {
+    ghost use Rattle.mr_commands.specs.Statuses.{TellsRun};
+
+    ghost from_gives = { λ e f. TellsRun e f };
+
+    fn from(fault: RunFault) -> Fault {
+        match fault {
+            RunFault::OutOfMemory => Fault::OutOfMemory,
+            other => Fault::Run(other),
+        }
+    }
+}
+
+impl From<FileFault> for Fault {
+    ghost use Rattle.mr_commands.specs.Answers.{TellsFile};
+
+    ghost from_gives = { λ e f. TellsFile e f };
+
+    fn from(fault: FileFault) -> Fault {
+        match fault {
+            FileFault::CannotRead(name) => Fault::CannotRead(name),
+            FileFault::CannotWrite(name) => Fault::CannotWrite(name),
+            FileFault::OutOfMemory => Fault::OutOfMemory,
+        }
+    }
+}
+
+impl Fault {
+    /// The exit status: 2 for usage or a limit, 3 for a file, 4 for want of memory.
+    pub fn status(&self) -> u8
+        ensures { result ≡ status_of self.now }
+    {
+        match self {
+            Fault::CannotRead(_) | Fault::CannotWrite(_) => 3,
+            Fault::OutOfMemory => 4,
+            _ => 2,
+        }
+    }
+}
+
+impl fmt::Display for Fault {
+    fn fmt<W: fmt::Write>(&self, f: &mut fmt::Formatter<W>) -> fmt::Result {
+        match self {
+            Fault::OtherJobsOption => { write!(f, "mapred: option does not belong to this job\n") }
+            Fault::Job(fault) => write!(f, "mapred: {fault}\n"),
+            Fault::Request(fault) => write!(f, "mapred: {fault}\n"),
+            Fault::BadSkipList => write!(f, "mapred: bad skip list\n"),
+            Fault::Input(fault) => write!(f, "mapred: {fault}\n"),
+            Fault::TooManySplits => write!(f, "mapred: TooManySplits\n"),
+            Fault::Run(fault) => write!(f, "mapred: {fault}\n"),
+            Fault::CannotRead(name) => write!(f, "mapred: cannot read {name}\n"),
+            Fault::CannotWrite(name) => write!(f, "mapred: cannot write {name}\n"),
+            Fault::OutOfMemory => write!(f, "mapred: out of memory\n"),
+        }
+    }
+}
