@@ -5,7 +5,7 @@ ghost use Rattle.mr_partition.specs.Partition.{partition_of};
 ghost use Rattle.mr_reduce.specs.Text.{text_of};
 ghost use Rattle.mr_sequential.specs.Good.{named};
 ghost use Rattle.mr_index.specs.Index.{pair_at};
-ghost use Rattle.mr_check.specs.Ahead.{triple_at};
+ghost use Rattle.mr_check.specs.Blocks.{triple_at};
 
 use crate::comparing::output_of;
 use mr_bytes::{Name, Value, Values};
@@ -37,7 +37,7 @@ pub(crate) struct Facts<'a> {
 
 impl<'a> Model for Facts<'a> {
     ghost use Rattle.mr_input.specs.Files.{contents};
-    ghost use Rattle.mr_check.specs.Judging.{Known};
+    ghost use Rattle.mr_check.specs.Steps.{Known};
 
     ghost Value = { Known };
 
