@@ -1,5 +1,6 @@
 -- What the verdict is, in the words of the subject.
-use Rattle.std.specs.Prelude.{◌≡◌, ℕ, zero, suc, ◌+◌, ◌<◌, take, Bool, true, false, Option, Some, None, Result, Ok, Err, List, [], ◌∷◌, ◌++◌, length, nat_le, ◌==◌}
+use Rattle.std.specs.Prelude.{◌≡◌, ℕ, zero, suc, ◌+◌, ◌<◌, take, Bool, true, false, Option, Some, None, Result, Ok, Err, List, [], ◌∷◌, ◌++◌, length, nat_le}
+use Rattle.std.specs.Prelude.{◌==◌}
 use Rattle.mr_bytes.specs.declared.RecordName.{RecordName}
 use Rattle.mr_input.specs.Files.{nth_file}
 use Rattle.mr_jobs.specs.JobSpec.{RequestSpec}
@@ -15,8 +16,10 @@ use Rattle.mr_sequential.specs.Emitted.{emitted}
 use Rattle.mr_sequential.specs.Good.{IsGoodResult}
 use Rattle.mr_splits.specs.Kept.{is_past}
 use Rattle.mr_check.specs.declared.fault.No.{No}
-use Rattle.mr_check.specs.declared.fault.No.TheVariants.{OutputCount, Malformed, OtherJob, OtherInput, SkipOrder, NoSuchRecord, TooManySkips, NoSuchPair, EntryOrder, KeyDiffers, WrongPartition, KeyOrder, OutputDiffers, Unnamed}
-use Rattle.mr_check.specs.Verdict.{first, entries_in, Case, Accepted, Reached, Subject, passes, start, tests, after, subject_of, last_of, job_wanted, input_wanted, wanted_faults, faults, case_of, verdict_of}
+use Rattle.mr_check.specs.declared.fault.No.TheVariants.{OutputCount, Malformed, OtherJob, OtherInput, SkipOrder, NoSuchRecord, TooManySkips, NoSuchPair}
+use Rattle.mr_check.specs.declared.fault.No.TheVariants.{EntryOrder, KeyDiffers, WrongPartition, KeyOrder, OutputDiffers, Unnamed}
+use Rattle.mr_check.specs.Verdict.{first, entries_in, Case, Accepted, Reached, Subject, passes, start, tests, after, subject_of, last_of, job_wanted}
+use Rattle.mr_check.specs.Verdict.{input_wanted, wanted_faults, faults, case_of, verdict_of}
 
 -- ---- yes
 

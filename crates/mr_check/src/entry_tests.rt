@@ -24,7 +24,8 @@ pub(crate) fn test_end(output: &[u8], p: u64, groups: u64, from: u64) -> Result<
 
 /// Whether the text stands in the output from this place on.
 pub(crate) fn test_text(output: &[u8], p: u64, from: u64, text: &[u8]) -> Result<(), No>
-    ensures { MatchResult result (λ _. (text_tests output.now p from text.now ≡ []) × (from + length text.now < 2 ^ 64)) (λ e. Answers (text_tests output.now p from text.now) e) }
+    ensures { MatchResult result (λ _. (text_tests output.now p from text.now ≡ []) × (from + length text.now < 2 ^ 64))
+        (λ e. Answers (text_tests output.now p from text.now) e) }
 {
     let rest = from_place(output, from);
     if rest.starts_with(text) {
@@ -44,7 +45,8 @@ pub(crate) fn test_first(
     key_before: Option<&[u8]>,
     key: &[u8],
 ) -> Result<(), No>
-    ensures { let fs = first_tests (subject facts.now).rules.part p group (option_map (λ r. r.now) key_before.entry) key.now in MatchResult result (λ _. fs ≡ []) (λ e. Answers fs e) }
+    ensures { let fs = first_tests (subject facts.now).rules.part p group (option_map (λ r. r.now) key_before.entry) key.now in MatchResult result
+        (λ _. fs ≡ []) (λ e. Answers fs e) }
 {
     if facts.part(key) != p {
         return Err(No::WrongPartition {

@@ -70,7 +70,8 @@ impl<'a> Facts<'a> {
     /// Where the pair of that name stands among all that is emitted, or none where there is no such pair.
     pub fn find(&self, name: Name, meter: &mut Meter) -> Option<usize>
         requires { meter.old.lookups + 1 < 2 ^ 64 }
-        ensures found { MatchOption result (named self.now.triples name ≡ None) (λ at. (at < length self.now.triples) × (named self.now.triples name ≡ Some (triple_at self.now.triples name at))) }
+        ensures found { MatchOption result (named self.now.triples name ≡ None) (λ at. (at < length self.now.triples)
+            × (named self.now.triples name ≡ Some (triple_at self.now.triples name at))) }
         ensures lookups { meter.new.lookups ≡ meter.old.lookups + 1 }
         ensures mapped { meter.new.mapped ≡ meter.old.mapped }
     {

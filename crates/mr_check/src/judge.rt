@@ -5,7 +5,7 @@ ghost use Rattle.mr_certform.specs.Walking.{items_left, halt};
 ghost use Rattle.mr_certform.specs.Spelling.{items_of, stop};
 ghost use Rattle.mr_check.specs.declared.fault.No.TheVariants.{OutOfMemory};
 ghost use Rattle.mr_check.specs.Verdict.{start, subject_of, part_faults, count_faults, accepted_by, verdict_of, first, entries_in};
-ghost use Rattle.mr_check.specs.Headline.{IsCertified};
+ghost use Rattle.mr_check.specs.Headline.{IsCertified, accepted_of};
 ghost use Rattle.mr_check.specs.Metered.{IsBounded, IsExact, cut_by};
 ghost use Rattle.mr_check.specs.Steps.{Answers, header_met, awaits_skips, case_at};
 
@@ -80,7 +80,7 @@ fn check_rest(
     requires count { (meter.old.lookups ≤ 2 ^ 63) × (meter.old.mapped ≤ 2 ^ 63) }
     ensures verdict { let fs = count_faults (case_at request.now input.now (contents outputs.now) (halt walker.old)) (items_left walker.old) in
         MatchResult result
-        (λ y. (first fs ≡ None) × (accepted_by (record { skips = []; pairs = 0 }) (items_left walker.old) ≡ record { skips = y.skips.items; pairs = y.pairs }))
+        (λ y. (first fs ≡ None) × (accepted_by (record { skips = []; pairs = 0 }) (items_left walker.old) ≡ accepted_of y))
         (λ e. Answers fs e) }
     ensures bounded { IsBounded (cut_by request.now input.now) (items_left walker.old) meter.old meter.new }
     ensures exact { IfOk result (λ y. IsExact (cut_by request.now input.now) y.skips.items y.pairs meter.old meter.new) }
@@ -124,7 +124,7 @@ fn judge_all(
     requires fits { split_total request.now.split input.now ≤ 2 ^ 20 }
     requires count { (meter.old.lookups ≤ 2 ^ 63) × (meter.old.mapped ≤ 2 ^ 63) }
     ensures verdict { let v = verdict_of request.now input.now (contents outputs.now) certificate.now in
-        MatchResult result (λ y. v ≡ Ok (record { skips = y.skips.items; pairs = y.pairs })) (λ e. (e ≡ OutOfMemory) ⊎ (v ≡ Err e)) }
+        MatchResult result (λ y. v ≡ Ok (accepted_of y)) (λ e. (e ≡ OutOfMemory) ⊎ (v ≡ Err e)) }
     ensures bounded { IsBounded (cut_by request.now input.now) (items_of certificate.now) meter.old meter.new }
     ensures exact { IfOk result (λ y. IsExact (cut_by request.now input.now) y.skips.items y.pairs meter.old meter.new) }
 {
@@ -150,7 +150,8 @@ pub fn check(
 ) -> Result<Yes, No>
     requires { split_total request.now.split input.now ≤ 2 ^ 20 }
     ensures headline { IfOk result (λ y. IsCertified request.now input.now (contents outputs.now) certificate.now y.skips.items y.pairs) }
-    ensures yes { IfOk result (λ y. verdict_of request.now input.now (contents outputs.now) certificate.now ≡ Ok (record { skips = y.skips.items; pairs = y.pairs })) }
+    ensures yes { IfOk result
+        (λ y. verdict_of request.now input.now (contents outputs.now) certificate.now ≡ Ok (accepted_of y)) }
     ensures no { IfErr result (λ e. (e ≡ OutOfMemory) ⊎ (verdict_of request.now input.now (contents outputs.now) certificate.now ≡ Err e)) }
 {
     let mut meter = Meter {
@@ -179,7 +180,8 @@ pub fn check_metered(
     requires fits { split_total request.now.split input.now ≤ 2 ^ 20 }
     requires count { (meter.old.lookups ≤ 2 ^ 63) × (meter.old.mapped ≤ 2 ^ 63) }
     ensures headline { IfOk result (λ y. IsCertified request.now input.now (contents outputs.now) certificate.now y.skips.items y.pairs) }
-    ensures yes { IfOk result (λ y. verdict_of request.now input.now (contents outputs.now) certificate.now ≡ Ok (record { skips = y.skips.items; pairs = y.pairs })) }
+    ensures yes { IfOk result
+        (λ y. verdict_of request.now input.now (contents outputs.now) certificate.now ≡ Ok (accepted_of y)) }
     ensures no { IfErr result (λ e. (e ≡ OutOfMemory) ⊎ (verdict_of request.now input.now (contents outputs.now) certificate.now ≡ Err e)) }
     ensures bounded { IsBounded (cut_by request.now input.now) (items_of certificate.now) meter.old meter.new }
     ensures exact { IfOk result (λ y. IsExact (cut_by request.now input.now) y.skips.items y.pairs meter.old meter.new) }

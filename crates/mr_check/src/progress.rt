@@ -1,7 +1,8 @@
 //! How far the judge has come in the partitions, item by item.
 ghost use Rattle.std.specs.Prelude.{◌≡◌, ◌<◌, ◌≤◌, ◌+◌, ◌-◌, ◌^◌, ◌++◌, ◌∷◌, [], MatchOption, MatchResult, OnOk, None, Some, length};
 ghost use Rattle.mr_sequential.specs.Good.{named};
-ghost use Rattle.mr_check.specs.Verdict.{start, first_tests, later_tests, order_tests, with_entry, group_tests, behind_group, entry_tests, after_entry, tests, after};
+ghost use Rattle.mr_check.specs.Verdict.{start, first_tests, later_tests, order_tests, with_entry, group_tests, behind_group, entry_tests, after_entry};
+ghost use Rattle.mr_check.specs.Verdict.{tests, after};
 ghost use Rattle.mr_check.specs.Steps.{subject, Answers, HasRoom};
 ghost use Rattle.mr_check.specs.Blocks.{IsFound};
 
@@ -110,7 +111,8 @@ impl<'a> Progress<'a> {
     /// A group's first entry.
     fn take_first(&mut self, name: Name, key: &'a [u8], value: Value) -> Result<(), AllocError>
         requires { HasRoom self.old }
-        ensures { OnOk result (self.new ≡ record self.old { entry = 1; entries = self.old.entries - 1; key = key.entry.now; before = name; values = value ∷ []; named = self.old.named + 1 }) }
+        ensures { OnOk result (self.new
+            ≡ record self.old { entry = 1; entries = self.old.entries - 1; key = key.entry.now; before = name; values = value ∷ []; named = self.old.named + 1 }) }
     {
         self.values.clear();
         self.values.push(value)?;
@@ -125,7 +127,8 @@ impl<'a> Progress<'a> {
     /// A later entry of a group.
     fn take_later(&mut self, name: Name, value: Value) -> Result<(), AllocError>
         requires { HasRoom self.old }
-        ensures { OnOk result (self.new ≡ record self.old { entry = self.old.entry + 1; entries = self.old.entries - 1; before = name; values = self.old.values ++ value ∷ []; named = self.old.named + 1 }) }
+        ensures { OnOk result (self.new
+            ≡ record self.old { entry = self.old.entry + 1; entries = self.old.entries - 1; before = name; values = self.old.values ++ value ∷ []; named = self.old.named + 1 }) }
     {
         self.values.push(value)?;
         self.entry += 1;
@@ -140,7 +143,8 @@ impl<'a> Progress<'a> {
     /// The end of a group that stands whole: its text, and the partition's end where it was the last.
     fn end_group(&mut self, facts: &Facts<'_>, p: u64) -> Result<(), No>
         requires { (self.old.group + 1 < 2 ^ 64) × (length self.old.values < 2 ^ 64) }
-        ensures { let s = subject facts.now in MatchResult result (λ _. (group_tests s p self.old 0 ≡ []) × (self.new ≡ behind_group s self.old 0)) (λ e. Answers (group_tests s p self.old 0) e) }
+        ensures { let s = subject facts.now in MatchResult result (λ _. (group_tests s p self.old 0 ≡ []) × (self.new ≡ behind_group s self.old 0))
+            (λ e. Answers (group_tests s p self.old 0) e) }
     {
         facts.text(self.key, &self.values, &mut self.text)?;
         let output = facts.output(p);
@@ -164,7 +168,8 @@ impl<'a> Progress<'a> {
     ) -> Result<(), No>
         requires { HasRoom self.old }
         ensures { let fs = first_tests (subject facts.now).rules.part p self.old.group self.old.key_before key.entry.now in
-            MatchResult result (λ _. (fs ≡ []) × (self.new ≡ with_entry self.old (record { key = key.entry.now; value = value; name = name }) 0)) (λ e. Answers fs e) }
+            MatchResult result (λ _. (fs ≡ []) × (self.new ≡ with_entry self.old (record { key = key.entry.now; value = value; name = name }) 0))
+                (λ e. Answers fs e) }
     {
         test_first(facts, p, self.group, self.key_before, key)?;
         self.take_first(name, key, value)?;
@@ -175,7 +180,8 @@ impl<'a> Progress<'a> {
     fn later_entry(&mut self, p: u64, name: Name, key: &[u8], value: Value) -> Result<(), No>
         requires { HasRoom self.old }
         ensures { let fs = later_tests p self.old.group self.old.entry self.old.before name self.old.key key.now in
-            MatchResult result (λ _. (fs ≡ []) × (self.new ≡ record self.old { entry = self.old.entry + 1; entries = self.old.entries - 1; before = name; values = self.old.values ++ value ∷ []; named = self.old.named + 1 })) (λ e. Answers fs e) }
+            MatchResult result (λ _. (fs ≡ []) × (self.new
+                ≡ record self.old { entry = self.old.entry + 1; entries = self.old.entries - 1; before = name; values = self.old.values ++ value ∷ []; named = self.old.named + 1 })) (λ e. Answers fs e) }
     {
         test_later(p, self.group, self.entry, self.before, name, self.key, key)?;
         self.take_later(name, value)?;
@@ -194,7 +200,8 @@ impl<'a> Progress<'a> {
     ) -> Result<(), No>
         requires { HasRoom self.old }
         ensures { let fs = order_tests (subject facts.now).rules.part p self.old name key.entry.now self.old.entry in
-            MatchResult result (λ _. (fs ≡ []) × (self.new ≡ with_entry self.old (record { key = key.entry.now; value = value; name = name }) self.old.entry)) (λ e. Answers fs e) }
+            MatchResult result (λ _. (fs ≡ [])
+                × (self.new ≡ with_entry self.old (record { key = key.entry.now; value = value; name = name }) self.old.entry)) (λ e. Answers fs e) }
     {
         if self.entry == 0 {
             self.first_entry(facts, p, name, key, value)
@@ -208,7 +215,8 @@ impl<'a> Progress<'a> {
     fn end_entry(&mut self, facts: &Facts<'_>, p: u64) -> Result<(), No>
         requires { (self.old.group + 1 < 2 ^ 64) × (length self.old.values < 2 ^ 64) }
         ensures { let s = subject facts.now in
-            MatchResult result (λ _. (group_tests s p self.old self.old.entries ≡ []) × (self.new ≡ behind_group s self.old self.old.entries)) (λ e. Answers (group_tests s p self.old self.old.entries) e) }
+            MatchResult result (λ _. (group_tests s p self.old self.old.entries ≡ []) × (self.new ≡ behind_group s self.old self.old.entries))
+                (λ e. Answers (group_tests s p self.old self.old.entries) e) }
     {
         if self.entries == 0 {
             self.end_group(facts, p)
@@ -226,7 +234,8 @@ impl<'a> Progress<'a> {
         found: Option<(&'a [u8], Value)>,
     ) -> Result<(), No>
         requires room { HasRoom self.old }
-        requires found { let t = named facts.now.triples name in MatchOption found (t ≡ None) (λ p. t ≡ Some (record { key = p.0.now; value = p.1; name = name })) }
+        requires found { let t = named facts.now.triples name in MatchOption found (t ≡ None)
+            (λ p. t ≡ Some (record { key = p.0.now; value = p.1; name = name })) }
         ensures tests { let s = subject facts.now in let t = named s.triples name in let fs = entry_tests s p self.old name t in
             MatchResult result (λ _. (fs ≡ []) × (self.new ≡ after_entry s self.old t)) (λ e. Answers fs e) }
     {
@@ -248,7 +257,8 @@ impl<'a> Progress<'a> {
         requires room { HasRoom self.old }
         requires found { IsFound facts.now.triples row.now }
         ensures { let s = subject facts.now in
-            MatchResult result (λ _. (tests s self.old row.now.item ≡ []) × (self.new ≡ after s self.old row.now.item)) (λ e. Answers (tests s self.old row.now.item) e) }
+            MatchResult result (λ _. (tests s self.old row.now.item ≡ []) × (self.new ≡ after s self.old row.now.item))
+                (λ e. Answers (tests s self.old row.now.item) e) }
     {
         match row.item {
             Item::Groups(groups) => {

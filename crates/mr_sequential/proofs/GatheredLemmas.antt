@@ -1,5 +1,5 @@
 -- Pairs as numbers of keys and values: one more pair.
-use Rattle.std.proofs.Common.{◌≡◌, ℕ, ◌+◌, ◌<◌, ◌≤◌, Bool, cond, List, [], ◌∷◌, ◌++◌, length, refl, sym, ◌∙◌, ap, arith, zero, suc, inl, inr, Vec, Global, Some, None, subst, not, ltb, map, All, replicate, append_assoc}
+use Rattle.std.proofs.Common.{◌≡◌, ℕ, ◌+◌, ◌<◌, ◌≤◌, Bool, cond, List, [], ◌∷◌, ◌++◌, length, refl, sym, ◌∙◌, ap, arith, zero, suc, inl, inr, Vec, Global, Some, None, subst, not, ltb, map, All}
 use Rattle.std.proofs.lemmas.Bool.{cases_Bool, ltb-true, cases_lt}
 use Rattle.std.proofs.lemmas.Slice.Eq.{bytes_eq-Decides}
 use Rattle.std.proofs.lemmas.List.{map-append, get_or_push}
@@ -7,9 +7,8 @@ use Rattle.std.proofs.lemmas.List.Elements.{All-head, All-tail, All-push}
 use Rattle.std.specs.Str.{bytes_eq}
 use Rattle.std.specs.List.{position_or_len, position}
 use Rattle.mr_bytes.specs.declared.Value.{Value}
-use Rattle.mr_bytes.specs.declared.Value.TheVariants.{One}
 use Rattle.mr_bytes.specs.Lists.{Has}
-use Rattle.mr_sequential.specs.Pairs.{key_bytes, key_at, paired, ones_then}
+use Rattle.mr_sequential.specs.Pairs.{key_bytes, key_at, paired}
 
 pub position_found : {X : Type 0} (p : X → Bool) (xs : List X) (at : ℕ) → Some at ≡ position p xs
     → (position_or_len p xs ≡ at) × (at < length xs)
@@ -77,27 +76,9 @@ length-paired ks [] vs same = refl
 length-paired ks (i ∷ is) [] same = absurd (omega (arith, same))
 length-paired ks (i ∷ is) (v ∷ vs) same = ap suc (length-paired ks is vs (omega (arith, same)))
 
--- values of which the first so many are One
-length-replicate : (n : ℕ) → length (replicate n One) ≡ n
-length-replicate zero = refl
-length-replicate (suc n) = ap suc (length-replicate n)
-
 pub length-append : {X : Type 0} (xs ys : List X) → length (xs ++ ys) ≡ length xs + length ys
 length-append [] ys = omega arith
 length-append (x ∷ xs) ys = omega (arith, length-append xs ys)
-
-pub length-ones_then : (n : ℕ) (rest : List Value) → length (ones_then n rest) ≡ n + length rest
-length-ones_then n rest = omega (arith, length-append (replicate n One) rest, length-replicate n)
-
-pub ones_then-rest : (n : ℕ) (rest : List Value) (v : Value) → ones_then n (rest ++ v ∷ []) ≡ ones_then n rest ++ v ∷ []
-ones_then-rest n rest v = sym (append_assoc (replicate n One) rest (v ∷ []))
-
-one_more : (n : ℕ) → ones_then (suc n) [] ≡ ones_then n [] ++ One ∷ []
-one_more zero = refl
-one_more (suc n) = ap (λ l. One ∷ l) (one_more n)
-
-pub ones_then-one : (n : ℕ) → ones_then (n + 1) [] ≡ ones_then n [] ++ One ∷ []
-ones_then-one n = ap (λ m. ones_then m []) (let e : n + 1 ≡ suc n = omega arith in e) ∙ one_more n
 
 -- the numbers of keys after one more
 Has-last : (is : List ℕ) (i : ℕ) → Has (is ++ i ∷ []) i

@@ -12,6 +12,9 @@ use Rattle.mr_bytes.specs.Lists.{Rises}
 use Rattle.mr_bytes.specs.Order.{record_order}
 use Rattle.mr_splits.specs.Named.{NamedRecord, named_records}
 use Rattle.mr_splits.specs.Cut.{is_record}
+use Rattle.mr_splits.specs.Kept as kept
+use Rattle.mr_splits.specs.declared.kept.SkipFault.{SkipFault}
+use Rattle.mr_splits.specs.declared.kept.SkipFault.TheVariants as split
 use Rattle.mr_sequential.specs.declared.fault.RunFault.{RunFault}
 use Rattle.mr_sequential.specs.declared.fault.RunFault.TheVariants.{NoSuchRecord, SkipOrder, TooManySkips}
 use Rattle.mr_sequential.specs.Skips.{is_past, list_fault, GoodSkips}
@@ -93,3 +96,27 @@ good_skips request files skips =
       where
         at_most : (n k : ℕ) → nat_lt k n ≡ false → n ≤ k
         at_most n k f = elim (cases_lt k n) [ inl lt ↦ absurd (true≢false (sym (lt-ltb k n lt) ∙ f)) | inr le ↦ le ]
+
+-- the fault of a run that a fault of a list is
+abbrev pub told : Option SkipFault → Option RunFault
+told None = None
+told (Some split.TooMany) = Some TooManySkips
+told (Some split.Order) = Some SkipOrder
+told (Some split.NoSuchRecord) = Some NoSuchRecord
+
+past-same : (before : Option RecordName) (name : RecordName) → kept.is_past before name ≡ is_past before name
+past-same None name = refl
+past-same (Some before) name = refl
+
+pub told-first : (rs : List NamedRecord) (before : Option RecordName) (names : List RecordName) → told (kept.first_fault rs before names) ≡ list_fault rs before names
+told-first rs before [] = refl
+told-first rs before (name ∷ names) =
+    ap (λ t. told (cond t (cond (is_record rs name) (kept.first_fault rs (Some name) names) (Some split.NoSuchRecord)) (Some split.Order))) (past-same before name)
+    ∙ by (is_past before name) (is_record rs name) (told-first rs (Some name) names)
+  where
+    by : (p e : Bool) → told (kept.first_fault rs (Some name) names) ≡ list_fault rs (Some name) names
+        → told (cond p (cond e (kept.first_fault rs (Some name) names) (Some split.NoSuchRecord)) (Some split.Order))
+        ≡ cond p (cond e (list_fault rs (Some name) names) (Some NoSuchRecord)) (Some SkipOrder)
+    by false e h = refl
+    by true false h = refl
+    by true true h = h

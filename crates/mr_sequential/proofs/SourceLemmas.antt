@@ -1,6 +1,6 @@
 -- Records one after another, and how many pairs they give.
-use Rattle.std.proofs.Common.{◌≡◌, ℕ, suc, ◌+◌, ◌-◌, ◌/◌, ◌<◌, ◌≤◌, ◌^◌, cond, true, false, List, [], ◌∷◌, ◌++◌, length, drop, refl, sym, ◌∙◌, ap, arith, append_assoc, map, filter, eqb}
-use Rattle.std.proofs.lemmas.List.{at_drop_more, map-append}
+use Rattle.std.proofs.Common.{◌≡◌, ℕ, suc, ◌+◌, ◌/◌, ◌≤◌, ◌^◌, cond, not, true, false, List, [], ◌∷◌, ◌++◌, length, refl, sym, ◌∙◌, ap, arith, append_assoc, map, filter, eqb}
+use Rattle.std.proofs.lemmas.List.{map-append}
 use Rattle.std.proofs.lemmas.List.Sums.{sum_by-cons}
 use Rattle.std.specs.List.{flat_map, zip}
 use Rattle.std.specs.Str.{bytes_eq}
@@ -12,50 +12,44 @@ use Rattle.mr_input.specs.Files.{split_count, total_size}
 use Rattle.mr_jobs.specs.JobSpec.{JobSpec, RequestSpec}
 use Rattle.mr_jobs.specs.Emissions.{Emission, emissions}
 use Rattle.mr_jobs.proofs.CountLemmas.{few_emissions}
-use Rattle.mr_splits.specs.Named.{NamedRecord, is_left_out, named_from, named_files, named_records, of_split}
-use Rattle.mr_splits.specs.Cut.{nth_named}
-use Rattle.mr_splits.specs.Laws.{joined_splits}
-use Rattle.mr_splits.proofs.JoinedLemmas.{joined-suc, joined-zero}
+use Rattle.mr_splits.specs.Named.{NamedRecord, is_left_out, named_from, named_files, named_records}
+use Rattle.mr_splits.specs.Kept.{kept_records}
 use Rattle.mr_sequential.specs.Emitted.{Triple, placed_from, record_triples, emitted}
-use Rattle.mr_sequential.specs.Names.{names_from, kept_names}
+use Rattle.mr_sequential.specs.Names.{names_from, kept_names, record_names}
 use Rattle.mr_sequential.specs.Certified.{names_with, groups_of}
-use Rattle.mr_sequential.specs.Pairs.{kept_pairs, values_in, texts_in, names_under, groups_in}
+use Rattle.mr_sequential.specs.Pairs.{kept_pairs, record_pairs, values_in, texts_in, names_under, groups_in}
 use Rattle.mr_sequential.specs.Sequential.{keys_of, texts_of, values_of}
 use Rattle.mr_sequential.proofs.GatheredLemmas.{length-append}
-
-pub next_record : {Y : Type 0} (f : NamedRecord → List Y) (rs : List NamedRecord) (r : ℕ) → r < length rs
-    → flat_map f (drop r rs) ≡ f (nth_named rs r) ++ flat_map f (drop (r + 1) rs)
-next_record f rs r h = at_drop_more (flat_map f) rs r (record { name = record { split = 0; rec = 0 }; file = 0; start = 0; bytes = [] }) h
-
--- one more of the pieces stands behind the gathered ones
-pub one_gathered : {Y : Type 0} (f : NamedRecord → List Y) (rs : List NamedRecord) (r : ℕ) (old now all : List Y) → r < length rs
-    → now ≡ old ++ f (nth_named rs r) → old ++ flat_map f (drop r rs) ≡ all → now ++ flat_map f (drop (r + 1) rs) ≡ all
-one_gathered f rs r old now all h is before =
-    ap (λ l. l ++ flat_map f (drop (r + 1) rs)) is ∙ append_assoc old (f (nth_named rs r)) (flat_map f (drop (r + 1) rs))
-    ∙ ap (λ l. old ++ l) (sym (next_record f rs r h)) ∙ before
 
 pub flat_map-append : {X Y : Type 0} (f : X → List Y) (xs ys : List X) → flat_map f (xs ++ ys) ≡ flat_map f xs ++ flat_map f ys
 flat_map-append f [] ys = refl
 flat_map-append f (x ∷ xs) ys = ap (λ l. f x ++ l) (flat_map-append f xs ys) ∙ sym (append_assoc (f x) (flat_map f xs) (flat_map f ys))
 
-pub next_split : {Y : Type 0} (f : NamedRecord → List Y) (rs : List NamedRecord) (s m : ℕ) → s < m
-    → flat_map f (joined_splits s (m - s) rs) ≡ flat_map f (of_split s rs) ++ flat_map f (joined_splits (s + 1) (m - (s + 1)) rs)
-next_split f rs s m h =
-    let more : m - s ≡ suc (m - (s + 1)) = omega arith in
-    ap (λ n. flat_map f (joined_splits s n rs)) more ∙ ap (flat_map f) (joined-suc s (m - (s + 1)) rs)
-    ∙ flat_map-append f (of_split s rs) (joined_splits (s + 1) (m - (s + 1)) rs)
+-- a list of what is kept gives the same as one in which what is left out gives nothing
+kept-flat : {Y : Type 0} (f : NamedRecord → List Y) (skips : List RecordName) (rs : List NamedRecord)
+    → flat_map f (kept_records skips rs) ≡ flat_map (λ r. cond (is_left_out skips r.name) [] (f r)) rs
+kept-flat f skips [] = refl
+kept-flat {Y} f skips (r ∷ rs) =
+    let later : List Y = flat_map (λ (x : NamedRecord). cond (is_left_out skips x.name) [] (f x)) rs in
+    elim (is_left_out skips r.name) as (λ t. flat_map f (cond (not t) (r ∷ kept_records skips rs) (kept_records skips rs)) ≡ cond t [] (f r) ++ later) [
+      | true ↦ kept-flat f skips rs
+      | false ↦ ap (λ (l : List Y). f r ++ l) (kept-flat f skips rs)
+    ]
 
-pub split_gathered : {Y : Type 0} (f : NamedRecord → List Y) (rs : List NamedRecord) (s m : ℕ) (old now all : List Y) → s < m
-    → now ≡ old ++ flat_map f (of_split s rs) → old ++ flat_map f (joined_splits s (m - s) rs) ≡ all → now ++ flat_map f (joined_splits (s + 1) (m - (s + 1)) rs) ≡ all
-split_gathered f rs s m old now all h is before =
-    ap (λ l. l ++ flat_map f (joined_splits (s + 1) (m - (s + 1)) rs)) is ∙ append_assoc old (flat_map f (of_split s rs)) (flat_map f (joined_splits (s + 1) (m - (s + 1)) rs))
-    ∙ ap (λ l. old ++ l) (sym (next_split f rs s m h)) ∙ before
+pub kept-pairs : (job : JobSpec) (skips : List RecordName) (rs : List NamedRecord)
+    → flat_map (record_pairs job) (kept_records skips rs) ≡ flat_map (kept_pairs job skips) rs
+kept-pairs job skips rs = kept-flat (record_pairs job) skips rs
 
-pub all_gathered : {Y : Type 0} (f : NamedRecord → List Y) (rs : List NamedRecord) (s m : ℕ) (old all : List Y) → m ≤ s
-    → old ++ flat_map f (joined_splits s (m - s) rs) ≡ all → old ≡ all
-all_gathered {Y} f rs s m old all h before =
-    let none : m - s ≡ 0 = omega arith in
-    sym (ap (λ n. old ++ flat_map f (joined_splits s n rs)) none ∙ ap (λ l. old ++ flat_map f l) (joined-zero s rs) ∙ append_nil old) ∙ before
+-- one more of the records
+pub next_gathered : {Y : Type 0} (f : NamedRecord → List Y) (old now given all : List Y) (left later : List NamedRecord) (r : NamedRecord)
+    → left ≡ r ∷ later → given ≡ f r → now ≡ old ++ given → old ++ flat_map f left ≡ all → now ++ flat_map f later ≡ all
+next_gathered {Y} f old now given all left later r is one grown before =
+    ap (λ (l : List Y). l ++ flat_map f later) (grown ∙ ap (λ (l : List Y). old ++ l) one) ∙ append_assoc old (f r) (flat_map f later)
+    ∙ ap (λ (l : List NamedRecord). old ++ flat_map f l) (sym is) ∙ before
+
+-- no more records
+pub last_gathered : {Y : Type 0} (f : NamedRecord → List Y) (old all : List Y) (left : List NamedRecord) → left ≡ [] → old ++ flat_map f left ≡ all → old ≡ all
+last_gathered {Y} f old all left none before = sym (ap (λ (l : List NamedRecord). old ++ flat_map f l) none ∙ append_nil old) ∙ before
   where
     append_nil : (es : List Y) → es ++ [] ≡ es
     append_nil [] = refl
@@ -199,6 +193,25 @@ pub placed-names : (name : RecordName) (place : ℕ) (es : List Emission) → ma
 unfolding placed_from names_from
 placed-names name place [] = refl
 placed-names name place (e ∷ es) = ap (λ l. record { split = name.split; rec = name.rec; place = place } ∷ l) (placed-names name (place + 1) es)
+
+kept-name : (job : JobSpec) (skips : List RecordName) (r : NamedRecord)
+    → cond (is_left_out skips r.name) [] (record_names job r) ≡ kept_names job skips r
+kept-name job skips r =
+    let es : List Emission = emissions job r.file r.start r.bytes in
+    elim (is_left_out skips r.name) as (λ t. cond t [] (names_from r.name 0 (length es)) ≡ map (λ (x : Triple). x.name) (cond t [] (placed_from r.name 0 es))) [
+      | true ↦ refl
+      | false ↦ sym (placed-names r.name 0 es)
+    ]
+
+pub kept-names : (job : JobSpec) (skips : List RecordName) (rs : List NamedRecord)
+    → flat_map (record_names job) (kept_records skips rs) ≡ flat_map (kept_names job skips) rs
+kept-names job skips rs = kept-flat (record_names job) skips rs ∙ each rs
+  where
+    each : (xs : List NamedRecord) → flat_map (λ (r : NamedRecord). cond (is_left_out skips r.name) [] (record_names job r)) xs ≡ flat_map (kept_names job skips) xs
+    each [] = refl
+    each (x ∷ xs) =
+        ap (λ (l : List Name). l ++ flat_map (λ (r : NamedRecord). cond (is_left_out skips r.name) [] (record_names job r)) xs) (kept-name job skips x)
+        ∙ ap (λ (l : List Name). kept_names job skips x ++ l) (each xs)
 
 all-names : (job : JobSpec) (skips : List RecordName) (rs : List NamedRecord)
     → map (λ (t : Triple). t.name) (flat_map (record_triples job skips) rs) ≡ flat_map (kept_names job skips) rs

@@ -1,10 +1,9 @@
 -- Of no public promise: pairs without their names, and how they are gathered: distinct keys, and for each pair its key's number and its value.
-use Rattle.std.specs.Prelude.{ℕ, ◌==◌, if◌then◌else◌, List, [], map, filter, replicate, slice_index_or, ◌++◌, Vec}
+use Rattle.std.specs.Prelude.{ℕ, ◌==◌, if◌then◌else◌, List, [], map, filter, slice_index_or, Vec}
 use Rattle.std.specs.Global.{Global}
 use Rattle.std.specs.List.{flat_map, range_with_len, zip}
 use Rattle.std.specs.Str.{bytes_eq}
 use Rattle.mr_bytes.specs.declared.Value.{Value}
-use Rattle.mr_bytes.specs.declared.Value.TheVariants.{One}
 use Rattle.mr_bytes.specs.declared.Name.{Name}
 use Rattle.mr_bytes.specs.declared.RecordName.{RecordName}
 use Rattle.mr_jobs.specs.JobSpec.{JobSpec}
@@ -26,10 +25,6 @@ pair_at keys e = (key_at keys e.0, e.1)
 -- the pairs that numbers of keys and values stand for
 abbrev pub paired : List (List ℕ) → List ℕ → List Value → List Emission
 paired keys numbers values = map (pair_at keys) (zip numbers values)
-
--- values of which the first so many are One
-abbrev pub ones_then : ℕ → List Value → List Value
-ones_then ones rest = replicate ones One ++ rest
 
 -- of numbered items, those with the number, in their order
 abbrev pub bucket : {X : Type 0} → ℕ → List (ℕ × X) → List X
@@ -55,6 +50,10 @@ names_under es names k = map (λ e. e.1) (filter (λ e. bytes_eq e.0 k) (zip (ma
 abbrev pub groups_in : (List ℕ → ℕ) → List Emission → List Name → ℕ → List (List Name)
 groups_in part es names p = map (names_under es names) (keys_of part (map (λ e. e.0) es) p)
 
--- what a record gives, without names, unless it is left out
+-- what a record gives, without names
+abbrev pub record_pairs : JobSpec → NamedRecord → List Emission
+record_pairs job r = emissions job r.file r.start r.bytes
+
+-- the same, unless it is left out
 abbrev pub kept_pairs : JobSpec → List RecordName → NamedRecord → List Emission
 kept_pairs job skips r = if is_left_out skips r.name then [] else emissions job r.file r.start r.bytes

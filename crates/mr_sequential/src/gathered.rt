@@ -2,23 +2,20 @@
 ghost use Rattle.std.specs.Prelude.{◌≡◌, ℕ, ◌+◌, ◌≤◌, ◌<◌, ◌^◌, [], ◌∷◌, ◌++◌, length, vec_len, vec_capacity, IfOk, OnOk, OnErr, false, is_ok, if◌then◌else◌};
 ghost use Rattle.std.specs.List.{list_any};
 ghost use Rattle.std.specs.Str.{bytes_eq};
-ghost use Rattle.mr_bytes.specs.declared.Value.TheVariants.{One};
-ghost use Rattle.mr_sequential.specs.Pairs.{key_bytes, key_at, ones_then};
+ghost use Rattle.mr_sequential.specs.Pairs.{key_bytes, key_at};
 
 use indexmap::IndexSet;
-use mr_bytes::Value;
+use mr_bytes::{Value, Values};
 use std::alloc::{AllocError, Global};
 use std::marker::Model;
 
 /// The pairs so far. Distinct keys are numbered in the order in which they were first seen, and a pair is the number
-/// of its key with its value; the values `One` at the front are counted and not stored, so that a job that counts
-/// takes four bytes for each pair.
+/// of its key with its value in a column, so that a job that counts takes four bytes for each pair.
 #[derive(Drop)]
 pub(crate) struct Gathered {
     pub(crate) keys: IndexSet<Vec<u8>>,
     pub(crate) numbers: Vec<u32>,
-    pub(crate) ones: usize,
-    pub(crate) rest: Vec<Value>,
+    pub(crate) values: Values,
 }
 
 impl Model for Gathered {
@@ -28,15 +25,15 @@ impl Model for Gathered {
 
     ghost Value = { List Emission };
 
-    ghost use Rattle.mr_sequential.specs.Pairs.{key_bytes, ones_then, paired};
+    ghost use Rattle.mr_sequential.specs.Pairs.{key_bytes, paired};
 
-    ghost view = { λ g. paired (key_bytes g.keys.keys) g.numbers.items (ones_then g.ones g.rest.items) };
+    ghost view = { λ g. paired (key_bytes g.keys.keys) g.numbers.items g.values };
 
     ghost invariant = { λ g. record {
       inside : All (λ i. i < length g.keys.keys) g.numbers.items;
       used : (i : ℕ) → i < length g.keys.keys → Has g.numbers.items i;
       few : length g.keys.keys ≤ length g.numbers.items;
-      same : g.ones + length g.rest.items ≡ length g.numbers.items;
+      same : length g.values ≡ length g.numbers.items;
     } };
 }
 
@@ -47,8 +44,7 @@ impl Gathered {
         Gathered {
             keys: IndexSet::new(alloc),
             numbers: Vec::new(alloc),
-            ones: 0,
-            rest: Vec::new(alloc),
+            values: Values::new(alloc),
         }
     }
 
@@ -66,11 +62,18 @@ impl Gathered {
         ensures err { OnErr result (self.new ≡ self.old) }
     {
         self.numbers.reserve(1)?;
-        self.rest.reserve(1)?;
-        let number = number_of(alloc, &mut self.keys, key)? as u32;
-        put(&mut self.numbers, number);
-        put_value(&mut self.ones, &mut self.rest, value);
-        Ok(())
+        let before = self.values.len();
+        self.values.push(value)?;
+        match number_of(alloc, &mut self.keys, key) {
+            Ok(number) => {
+                put(&mut self.numbers, number as u32);
+                Ok(())
+            }
+            Err(fault) => {
+                self.values.truncate(before);
+                Err(fault)
+            }
+        }
     }
 }
 
@@ -80,21 +83,6 @@ fn put<T: Drop>(items: &mut Vec<T>, item: T)
     ensures { items.new.items ≡ items.old.items ++ item ∷ [] }
 {
     items.push(item).unwrap();
-}
-
-/// Adds a value behind the ones and the rest.
-fn put_value(ones: &mut usize, rest: &mut Vec<Value>, value: Value)
-    requires few { ones.old ≤ 2 ^ 32 }
-    requires room { vec_len rest.old < vec_capacity rest.old }
-    ensures value { ones_then ones.new rest.new.items ≡ ones_then ones.old rest.old.items ++ value ∷ [] }
-    ensures count { ones.new + length rest.new.items ≡ ones.old + length rest.old.items + 1 }
-    ensures counted { rest.old.items ≡ [] → value ≡ One → rest.new.items ≡ [] }
-{
-    if rest.is_empty() && matches!(value, Value::One) {
-        *ones += 1;
-    } else {
-        put(rest, value);
-    }
 }
 
 /// The number of `key`, which is added where it is not there.

@@ -7,6 +7,7 @@ ghost use Rattle.mr_partition.specs.Partition.{partition_of};
 ghost use Rattle.mr_reduce.specs.Text.{text_of};
 ghost use Rattle.mr_sequential.specs.Pairs.{groups_in, texts_in};
 
+use crate::distribute::sizes_of;
 use crate::gathered::Gathered;
 use crate::groups::groups_of;
 use crate::names::Names;
@@ -38,20 +39,28 @@ pub(crate) fn outputs(
     let Gathered {
         keys,
         mut numbers,
-        ones,
-        rest,
+        values,
     } = gathered;
     let rows = sorted_rows(alloc, keys.as_slice(), parts)?;
     rank_numbers(alloc, rows.as_slice(), numbers.as_mut_slice())?;
+    let sizes = sizes_of(alloc, numbers.as_slice(), rows.len())?;
     let mut texts = empty_texts(alloc, parts)?;
     fill_texts(
         alloc,
         job,
         rows.as_slice(),
         numbers.as_slice(),
-        (ones, rest),
+        values,
+        sizes.as_slice(),
         &mut texts,
     )?;
-    let groups = groups_of(alloc, rows.as_slice(), numbers.as_slice(), &names, parts)?;
+    let groups = groups_of(
+        alloc,
+        rows.as_slice(),
+        numbers.as_slice(),
+        &names,
+        sizes,
+        parts,
+    )?;
     Ok((texts, groups))
 }

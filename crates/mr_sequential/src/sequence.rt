@@ -11,45 +11,33 @@ ghost use Rattle.mr_sequential.specs.Skips.{list_fault, skip_fault};
 use crate::fault::RunFault;
 use crate::outputs::outputs;
 use crate::source::{Emitted, gather};
-use mr_bytes::{RecordName, compare_records};
+use mr_bytes::RecordName;
 use mr_certform::{Certificate, Header};
 use mr_input::Input;
 use mr_jobs::Request;
-use mr_splits::{Plan, PlanFault};
+use mr_splits::{Plan, SkipFault};
 use std::alloc::{AllocError, Global};
-use std::cmp::Ordering;
 
 /// The first fault of a list of left-out records, each tested for its order before its existence.
 fn fault_of(plan: &Plan<'_>, skips: &[RecordName]) -> Option<RunFault>
     ensures first { result ≡ list_fault (records_of plan.now) None skips.now }
     ensures other { IfSome result (λ e. e ≢ RunFault.TooManySkips) }
 {
-    let mut before = None;
-    for name in skips {
-        if let Some(last) = before {
-            if compare_records(last, *name) != Ordering::Less {
-                return Some(RunFault::SkipOrder);
-            }
-        }
-        if !plan.has_record(*name) {
-            return Some(RunFault::NoSuchRecord);
-        }
-        before = Some(*name);
+    match plan.first_fault(skips) {
+        None => None,
+        Some(SkipFault::TooMany) => Some(RunFault::TooManySkips),
+        Some(SkipFault::Order) => Some(RunFault::SkipOrder),
+        Some(SkipFault::NoSuchRecord) => Some(RunFault::NoSuchRecord),
     }
-    None
 }
 
 /// The plan of an input under a request that fits it.
-fn plan_of<'a>(alloc: Global, request: &Request, input: &'a Input) -> Result<Plan<'a>, RunFault>
+fn plan_of<'a>(alloc: Global, request: &Request, input: &'a Input) -> Result<Plan<'a>, AllocError>
     requires { split_total request.now.split input.now ≤ 2 ^ 20 }
     ensures plan { IfOk result (λ r. r ≡ record { size = request.now.split; files = input.entry.now }) }
     ensures some { IfOk result (λ r. 0 < r.size) }
-    ensures only { IfErr result (λ e. e ≡ RunFault.OutOfMemory) }
 {
-    match Plan::of(alloc, input, request.split_size()) {
-        Ok(plan) => Ok(plan),
-        Err(_) => Err(RunFault::OutOfMemory),
-    }
+    Plan::fitting(alloc, input, request.split_size())
 }
 
 /// Executes the request's job over the input, one record after another, without the records of `skips`: the output of

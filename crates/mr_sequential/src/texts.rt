@@ -1,16 +1,16 @@
 //! The outputs: for each partition the texts of its groups, by rising key.
-ghost use Rattle.std.specs.Prelude.{◌≡◌, ℕ, ◌+◌, ◌≤◌, ◌<◌, ◌^◌, [], ◌++◌, IfOk, OnOk, All, length, vec_len, slice_index, slice_range, slice_set, OnErr};
+ghost use Rattle.std.specs.Prelude.{◌≡◌, ℕ, ◌+◌, ◌≤◌, ◌<◌, ◌^◌, [], ◌++◌, IfOk, OnOk, All, count_by, ◌==◌, length, vec_len, slice_index, slice_range, slice_set, OnErr};
 ghost use Rattle.std.specs.List.{zip};
 ghost use Rattle.mr_bytes.specs.declared.Value.TheVariants.{One};
 ghost use Rattle.mr_input.specs.Files.{contents, nth_file};
 ghost use Rattle.mr_reduce.specs.Text.{text_of, total_line};
 ghost use Rattle.mr_sequential.specs.Buckets.{before, size};
-ghost use Rattle.mr_sequential.specs.Pairs.{bucket, ones_then};
+ghost use Rattle.mr_sequential.specs.Pairs.{bucket};
 ghost use Rattle.mr_sequential.specs.Rows.{bucket_text, count_line, row_texts, start_of, values_text};
 
-use crate::distribute::{scatter, sizes_of, starts_of};
+use crate::distribute::{scatter, starts_of};
 use crate::rows::Row;
-use mr_bytes::Value;
+use mr_bytes::{Value, Values};
 use mr_jobs::Job;
 use mr_reduce::{group_text, total_text};
 use std::alloc::{AllocError, Global};
@@ -97,38 +97,23 @@ pub(crate) fn value_texts(
     Ok(())
 }
 
-/// All values in one list.
-pub(crate) fn all_values(
-    alloc: Global,
-    ones: usize,
-    rest: Vec<Value>,
-) -> Result<Vec<Value>, AllocError>
-    ensures { IfOk result (λ r. r.items ≡ ones_then ones rest.items) }
-{
-    if ones == 0 {
-        return Ok(rest);
-    }
-    let mut values = vec![in alloc; Value::One; ones]?;
-    values.extend_from_slice(rest.as_slice())?;
-    Ok(values)
-}
-
 /// The values of the ranks one after another, and where each rank's end.
 pub(crate) fn distributed(
     alloc: Global,
     numbers: &[u32],
     values: &[Value],
-    count: usize,
+    sizes: &[usize],
 ) -> Result<(Vec<Value>, Vec<usize>), AllocError>
-    requires inside { All (λ i. i < count) numbers.now }
+    requires inside { All (λ i. i < length sizes.now) numbers.now }
     requires all { length values.now ≡ length numbers.now }
-    ensures len { IfOk result (λ r. length r.1.items ≡ count) }
-    ensures ends { IfOk result (λ r. (i : ℕ) → i < count → slice_index r.1.items i ≡ before (size (zip numbers.now values.now)) (i + 1)) }
-    ensures room { IfOk result (λ r. before (size (zip numbers.now values.now)) count ≤ length r.0.items) }
-    ensures buckets { IfOk result (λ r. (i : ℕ) → i < count
+    requires sizes { (i : ℕ) → i < length sizes.now → slice_index sizes.now i ≡ count_by (λ j. j == i) numbers.now }
+    ensures len { IfOk result (λ r. length r.1.items ≡ length sizes.now) }
+    ensures ends { IfOk result (λ r. (i : ℕ) → i < length sizes.now → slice_index r.1.items i ≡ before (size (zip numbers.now values.now)) (i + 1)) }
+    ensures room { IfOk result (λ r. before (size (zip numbers.now values.now)) (length sizes.now) ≤ length r.0.items) }
+    ensures buckets { IfOk result (λ r. (i : ℕ) → i < length sizes.now
         → slice_range r.0.items (before (size (zip numbers.now values.now)) i) (before (size (zip numbers.now values.now)) (i + 1)) ≡ bucket i (zip numbers.now values.now)) }
 {
-    let mut ends = sizes_of(alloc, numbers, count)?;
+    let mut ends = Vec::from_slice(alloc, sizes)?;
     let mut out = vec![in alloc; Value::One; numbers.len()]?;
     let places = ends.as_mut_slice();
     starts_of(places);
@@ -136,29 +121,30 @@ pub(crate) fn distributed(
     Ok((out, ends))
 }
 
-/// Appends the texts of all rows, given the rank and the value of each pair.
+/// Appends the texts of all rows, given the rank and the value of each pair, and how many pairs each rank has.
 pub(crate) fn fill_texts(
     alloc: Global,
     job: &Job,
     rows: &[Row<'_>],
     numbers: &[u32],
-    values: (usize, Vec<Value>),
+    values: Values,
+    sizes: &[usize],
     texts: &mut Vec<Vec<u8>>,
 ) -> Result<(), AllocError>
     requires parts { All (λ r. r.part < length texts.old.items) rows.now }
     requires inside { All (λ i. i < length rows.now) numbers.now }
-    requires all { values.0 + length values.1.items ≡ length numbers.now }
+    requires all { length values ≡ length numbers.now }
+    requires ranks { length sizes.now ≡ length rows.now }
+    requires sizes { (i : ℕ) → i < length sizes.now → slice_index sizes.now i ≡ count_by (λ j. j == i) numbers.now }
     ensures count { length texts.new.items ≡ length texts.old.items }
     ensures ok { OnOk result ((p : ℕ) → p < length texts.old.items → nth_file (contents texts.new.items) p
-        ≡ nth_file (contents texts.old.items) p ++ row_texts (bucket_text job.now (zip numbers.now (ones_then values.0 values.1.items))) p 0 rows.now) }
+        ≡ nth_file (contents texts.old.items) p ++ row_texts (bucket_text job.now (zip numbers.now values)) p 0 rows.now) }
 {
-    let (ones, rest) = values;
     if job.counts() {
-        let sizes = sizes_of(alloc, numbers, rows.len())?;
-        count_texts(rows, sizes.as_slice(), texts)
+        count_texts(rows, sizes, texts)
     } else {
-        let values = all_values(alloc, ones, rest)?;
-        let (values, ends) = distributed(alloc, numbers, values.as_slice(), rows.len())?;
+        let values = values.into_vec(alloc)?;
+        let (values, ends) = distributed(alloc, numbers, values.as_slice(), sizes)?;
         value_texts(job, rows, values.as_slice(), ends.as_slice(), texts)
     }
 }

@@ -16,7 +16,7 @@ returns-in_err-expect_literal-clause-met c =
     let lits = c.literal-literal.result.now in
     let w = c.args.walker.now in
     let p = err_from_is_err_and c.from_residual-in_err-expect_literal.result c.from_residual-in_err-expect_literal.ensures.1 in
-    let is_job = job_is o c.job-job.result.now lits c.number.result c.flags.result c.parts.result c.split_size.result c.job-job.ensures c.literal-literal.ensures.bytes c.number.ensures c.flags.ensures c.parts.ensures.same c.split_size.ensures.same in
+    let is_job = job_is o c.job-job.result.now lits c.number.result c.flags.result c.parts.result c.split_size.result c.job-job.ensures.same c.literal-literal.ensures.bytes c.number.ensures c.flags.ensures c.parts.ensures.same c.split_size.ensures.same in
     let front : List Item = Magic ∷ Job c.number.result ∷ Flags c.flags.result ∷ LiteralLength (length lits) ∷ [] in
     let back : List Item = Parts c.parts.result ∷ SplitSize c.split_size.result ∷ [] in
     rw (p.1, p.2) (ap (λ ws. met (halt w) ws OtherJob (items_left w)) is_job ∙ met_second (halt w) (halt c.expect_all.new.walker) OtherJob front (map LiteralByte lits) back (items_left w) (items_left c.expect_all.new.walker) c.in_err-expect_literal.field-0.0 c.expect_all.ensures.stop c.in_ok-expect_all.ensures.met c.in_err-expect_literal.ensures.met)
@@ -26,7 +26,7 @@ returns-clause-met c =
     let o = c.args.request.now in
     let lits = c.literal-literal.result.now in
     let w = c.args.walker.now in
-    let is_job = job_is o c.job-job.result.now lits c.number.result c.flags.result c.parts.result c.split_size.result c.job-job.ensures c.literal-literal.ensures.bytes c.number.ensures c.flags.ensures c.parts.ensures.same c.split_size.ensures.same in
+    let is_job = job_is o c.job-job.result.now lits c.number.result c.flags.result c.parts.result c.split_size.result c.job-job.ensures.same c.literal-literal.ensures.bytes c.number.ensures c.flags.ensures c.parts.ensures.same c.split_size.ensures.same in
     let front : List Item = Magic ∷ Job c.number.result ∷ Flags c.flags.result ∷ LiteralLength (length lits) ∷ [] in
     let back : List Item = Parts c.parts.result ∷ SplitSize c.split_size.result ∷ [] in
     let all = ap (λ ws. met (halt w) ws OtherJob (items_left w)) is_job ∙ met_three (halt w) (halt c.expect_all.new.walker) (halt c.expect_literal.new.walker) OtherJob front (map LiteralByte lits) back (items_left w) (items_left c.expect_all.new.walker) (items_left c.expect_literal.new.walker) c.expect_all.ensures.stop (c.expect_literal.ensures.stop ∙ c.expect_all.ensures.stop) c.in_ok-expect_all.ensures.met c.in_ok-expect_literal.ensures.met in

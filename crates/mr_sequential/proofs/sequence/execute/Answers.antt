@@ -19,8 +19,8 @@ use Rattle.mr_sequential.proofs.GatheredLemmas.{same_length}
 use Rattle.mr_sequential.proofs.SourceLemmas.{few_pairs, pair_of, emitted-pairs, emitted-names, even_lists, texts-triples, groups-triples}
 use Rattle.mr_sequential.proofs.sequence.execute.Goals as goal
 
-pub gather-requires-clause-few : goal.gather-requires-clause-few
-gather-requires-clause-few c =
+pub gather-requires : goal.gather-requires
+gather-requires c =
     let files : List (List ℕ) = c.args.plan.now.files in
     let small : total_size files ≤ 2 ^ 30 = subst (λ (fs : List (List ℕ)). total_size fs ≤ 2 ^ 30) c.input.ensures c.files-files.ensures.small in
     let few : length files ≤ 1024 = omega (arith, ap length c.input.ensures, c.files-files.ensures.count, c.files-files.ensures.few) in
@@ -53,8 +53,8 @@ outputs-requires-clause-all c =
     let request = c.args.request.now in
     let files : List (List ℕ) = c.args.plan.now.files in
     let skips : List RecordName = c.args.skips.now in
-    let pairs = pairs_are request files skips c.job-job.result.now c.args.plan.now.size c.in_ok-pairs.field-0.pairs c.job-job.ensures c.requires.size c.in_ok-pairs.ensures.pairs in
-    let names = names_are request files skips c.job-job.result.now c.args.plan.now.size c.in_ok-pairs.field-0.names c.job-job.ensures c.requires.size c.in_ok-pairs.ensures.names in
+    let pairs = pairs_are request files skips c.job-job.result.now c.args.plan.now.size c.in_ok-pairs.field-0.pairs c.job-job.ensures.same c.requires.size c.in_ok-pairs.ensures.pairs in
+    let names = names_are request files skips c.job-job.result.now c.args.plan.now.size c.in_ok-pairs.field-0.names c.job-job.ensures.same c.requires.size c.in_ok-pairs.ensures.names in
     omega (arith, ap length pairs, ap length names, even_lists (emitted request.job request.split files skips))
 
 pub returns-clause-texts : goal.returns-clause-texts
@@ -65,10 +65,10 @@ returns-clause-texts c = λ p h.
     let ts : List Triple = emitted request.job request.split files skips in
     let job : JobSpec = request.job in
     let es : List Emission = c.in_ok-pairs.field-0.pairs in
-    let pairs = pairs_are request files skips c.job-job.result.now c.args.plan.now.size es c.job-job.ensures c.requires.size c.in_ok-pairs.ensures.pairs in
+    let pairs = pairs_are request files skips c.job-job.result.now c.args.plan.now.size es c.job-job.ensures.same c.requires.size c.in_ok-pairs.ensures.pairs in
     c.in_ok-texts.ensures.texts p (omega (arith, h, c.parts.ensures.same))
     ∙ ap (λ n. texts_in (λ k. partition_of k n) (text_of c.job-job.result.now) es p) c.parts.ensures.same
-    ∙ ap (λ (t : JobSpec). texts_in (λ k. partition_of k request.parts) (text_of t) es p) c.job-job.ensures
+    ∙ ap (λ (t : JobSpec). texts_in (λ k. partition_of k request.parts) (text_of t) es p) c.job-job.ensures.same
     ∙ ap (λ (l : List Emission). texts_in (λ k. partition_of k request.parts) (text_of job) l p) pairs
     ∙ texts-triples (λ k. partition_of k request.parts) (text_of job) ts p
 
@@ -81,8 +81,8 @@ returns-clause-certificate c =
     let n : ℕ = c.parts.result in
     let es : List Emission = c.in_ok-pairs.field-0.pairs in
     let ns : List Name = c.in_ok-pairs.field-0.names in
-    let pairs = pairs_are request files skips c.job-job.result.now c.args.plan.now.size es c.job-job.ensures c.requires.size c.in_ok-pairs.ensures.pairs in
-    let names = names_are request files skips c.job-job.result.now c.args.plan.now.size ns c.job-job.ensures c.requires.size c.in_ok-pairs.ensures.names in
+    let pairs = pairs_are request files skips c.job-job.result.now c.args.plan.now.size es c.job-job.ensures.same c.requires.size c.in_ok-pairs.ensures.pairs in
+    let names = names_are request files skips c.job-job.result.now c.args.plan.now.size ns c.job-job.ensures.same c.requires.size c.in_ok-pairs.ensures.names in
     let header = c.in_ok-header.ensures in
     let lengths : c.in_ok-header.header.lengths.items ≡ map length files = header.lengths ∙ ap (map (length {A = ℕ})) c.input-2.ensures in
     let parts : length c.in_ok-texts.groups.group_counts.items ≡ request.parts = c.in_ok-texts.ensures.parts ∙ c.parts.ensures.same in

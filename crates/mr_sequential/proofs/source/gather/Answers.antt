@@ -1,69 +1,65 @@
-use Rattle.std.proofs.Common.{◌≡◌, ℕ, ◌<◌, ◌+◌, ◌-◌, ◌++◌, List, length, ap, ◌∙◌, arith}
+use Rattle.std.proofs.Common.{◌≡◌, ◌++◌, List, length, refl, ap, ◌∙◌, arith}
 use Rattle.std.specs.List.{flat_map}
 use Rattle.mr_bytes.specs.declared.Name.{Name}
-use Rattle.mr_input.specs.Files.{split_total}
 use Rattle.mr_jobs.specs.Emissions.{Emission}
-use Rattle.mr_splits.specs.Named.{NamedRecord, of_split}
-use Rattle.mr_splits.specs.Laws.{joined_splits}
+use Rattle.mr_splits.specs.Named.{NamedRecord}
 use Rattle.mr_splits.specs.Cut.{records_of}
-use Rattle.mr_splits.proofs.JoinedLemmas.{splits-join}
-use Rattle.mr_sequential.specs.Names.{kept_names}
-use Rattle.mr_sequential.specs.Pairs.{kept_pairs}
+use Rattle.mr_splits.specs.Kept.{Choice, kept_records}
+use Rattle.mr_sequential.specs.Names.{record_names}
+use Rattle.mr_sequential.specs.Pairs.{record_pairs}
 use Rattle.mr_sequential.proofs.GatheredLemmas.{length-append}
-use Rattle.mr_sequential.proofs.SourceLemmas.{next_split, split_gathered, all_gathered}
+use Rattle.mr_sequential.proofs.SourceLemmas.{kept-pairs, kept-names, next_gathered, last_gathered}
 use Rattle.mr_sequential.proofs.source.gather.Goals as goal
 
-pub loop-s-init : goal.loop-s-init
-loop-s-init c =
-    let rs : List NamedRecord = records_of c.args.plan.now in
-    let f : NamedRecord → List Emission = kept_pairs c.args.job.now c.args.skips.now in
-    let g : NamedRecord → List Name = kept_names c.args.job.now c.args.skips.now in
-    let m : ℕ = split_total c.args.plan.now.size c.args.plan.now.files in
-    let whole : m - 0 ≡ m = omega arith in
-    let joins = splits-join c.args.plan.now.size c.args.plan.now.files c.requires.some in (
-      ap (λ (l : List Emission). l ++ flat_map f (joined_splits 0 (m - 0) rs)) c.new.ensures
-          ∙ ap (λ n. flat_map f (joined_splits 0 n rs)) whole ∙ ap (flat_map f) joins,
-      ap (λ (l : List Name). l ++ flat_map g (joined_splits 0 (m - 0) rs)) c.new-2.ensures
-          ∙ ap (λ n. flat_map g (joined_splits 0 n rs)) whole ∙ ap (flat_map g) joins,
-    )
+pub loop-name-init : goal.loop-name-init
+loop-name-init c =
+    let f : NamedRecord → List Emission = record_pairs c.args.job.now in
+    let g : NamedRecord → List Name = record_names c.args.job.now in
+    let start : c.records-left.result ≡ kept_records c.args.skips.now (records_of c.args.plan.now) =
+    c.records-left.ensures ∙ ap (λ (k : Choice). kept_records k.skips (records_of k.cut)) c.in_ok-kept.ensures.ok in
+    record {
+      pairs = ap (λ (l : List Emission). l ++ flat_map f c.records-left.result) c.new.ensures ∙ ap (flat_map f) start;
+      names = ap (λ (l : List Name). l ++ flat_map g c.records-left.result) c.new-2.ensures ∙ ap (flat_map g) start;
+    }
 
-pub gather_split-requires-clause-few : goal.gather_split-requires-clause-few
-gather_split-requires-clause-few c =
-    let rs : List NamedRecord = records_of c.args.plan.now in
-    let f : NamedRecord → List Emission = kept_pairs c.args.job.now c.args.skips.now in
-    let m : ℕ = split_total c.args.plan.now.size c.args.plan.now.files in
-    let s : ℕ = c.loop-s.s in
-    let within : s < m = omega (arith, c.loop-s-test.true, c.splits-s-end.ensures.count) in
+pub gather_one-requires-clause-few : goal.gather_one-requires-clause-few
+gather_one-requires-clause-few c =
+    let f : NamedRecord → List Emission = record_pairs c.args.job.now in
+    let line = c.in-Some.line in
+    let r : NamedRecord = record { name = c.in-Some.name; file = line.file; start = line.start; bytes = line.bytes.now } in
     omega (
       arith,
-      ap length c.loop-s.invariant.0,
-      length-append c.loop-s.emitted.pairs (flat_map f (joined_splits s (m - s) rs)),
-      ap length (next_split f rs s m within),
-      length-append (flat_map f (of_split s rs)) (flat_map f (joined_splits (s + 1) (m - (s + 1)) rs)),
+      ap length c.loop-name.invariant.pairs,
+      length-append c.loop-name.emitted.pairs (flat_map f c.loop-name.left),
+      ap length (ap (flat_map f) c.in-Some.ensures.next),
+      length-append (f r) (flat_map f c.next.new.self),
+      ap length (kept-pairs c.args.job.now c.args.skips.now (records_of c.args.plan.now)),
       c.requires.few,
     )
 
-pub loop-s-preserved : goal.loop-s-preserved
-loop-s-preserved c =
-    let rs : List NamedRecord = records_of c.args.plan.now in
-    let f : NamedRecord → List Emission = kept_pairs c.args.job.now c.args.skips.now in
-    let g : NamedRecord → List Name = kept_names c.args.job.now c.args.skips.now in
-    let m : ℕ = split_total c.args.plan.now.size c.args.plan.now.files in
-    let within : c.loop-s.s < m = omega (arith, c.loop-s-test.true, c.splits-s-end.ensures.count) in (
-      split_gathered f rs c.loop-s.s m c.loop-s.emitted.pairs c.gather_split.new.emitted.pairs _ within c.in_ok-gather_split.ensures.pairs c.loop-s.invariant.0,
-      split_gathered g rs c.loop-s.s m c.loop-s.emitted.names c.gather_split.new.emitted.names _ within c.in_ok-gather_split.ensures.names c.loop-s.invariant.1,
-    )
+pub loop-name-preserved : goal.loop-name-preserved
+loop-name-preserved c =
+    let f : NamedRecord → List Emission = record_pairs c.args.job.now in
+    let g : NamedRecord → List Name = record_names c.args.job.now in
+    let line = c.in-Some.line in
+    let r : NamedRecord = record { name = c.in-Some.name; file = line.file; start = line.start; bytes = line.bytes.now } in
+    let rs : List NamedRecord = kept_records c.args.skips.now (records_of c.args.plan.now) in
+    record {
+      pairs = next_gathered f c.loop-name.emitted.pairs c.gather_one.new.emitted.pairs (f r) (flat_map f rs) c.loop-name.left c.next.new.self r
+          c.in-Some.ensures.next refl c.in_ok-gather_one.ensures.pairs c.loop-name.invariant.pairs;
+      names = next_gathered g c.loop-name.emitted.names c.gather_one.new.emitted.names (g r) (flat_map g rs) c.loop-name.left c.next.new.self r
+          c.in-Some.ensures.next refl c.in_ok-gather_one.ensures.names c.loop-name.invariant.names;
+    }
 
-pub returns-clause-pairs : goal.returns-clause-pairs
-returns-clause-pairs c =
+pub returns : goal.returns
+returns c =
+    let f : NamedRecord → List Emission = record_pairs c.args.job.now in
+    let g : NamedRecord → List Name = record_names c.args.job.now in
     let rs : List NamedRecord = records_of c.args.plan.now in
-    let f : NamedRecord → List Emission = kept_pairs c.args.job.now c.args.skips.now in
-    let m : ℕ = split_total c.args.plan.now.size c.args.plan.now.files in
-    all_gathered f rs c.loop-s.s m c.loop-s.emitted.pairs _ (omega (arith, c.loop-s-test.false, c.splits-s-end.ensures.count)) c.loop-s.invariant.0
-
-pub returns-clause-names : goal.returns-clause-names
-returns-clause-names c =
-    let rs : List NamedRecord = records_of c.args.plan.now in
-    let g : NamedRecord → List Name = kept_names c.args.job.now c.args.skips.now in
-    let m : ℕ = split_total c.args.plan.now.size c.args.plan.now.files in
-    all_gathered g rs c.loop-s.s m c.loop-s.emitted.names _ (omega (arith, c.loop-s-test.false, c.splits-s-end.ensures.count)) c.loop-s.invariant.1
+    let skips = c.args.skips.now in
+    record {
+      pairs = last_gathered f c.loop-name.emitted.pairs (flat_map f (kept_records skips rs)) c.loop-name.left c.in_default.ensures.next c.loop-name.invariant.pairs
+          ∙ kept-pairs c.args.job.now skips rs;
+      names = last_gathered g c.loop-name.emitted.names (flat_map g (kept_records skips rs)) c.loop-name.left c.in_default.ensures.next c.loop-name.invariant.names
+          ∙ kept-names c.args.job.now skips rs;
+    }
