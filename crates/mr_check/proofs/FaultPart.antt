@@ -25,7 +25,7 @@ use Rattle.mr_sequential.proofs.KeyLaws.{bytes_eq-same}
 use Rattle.mr_sequential.proofs.NamedLaws.{named-Has}
 use Rattle.mr_check.specs.declared.fault.No.{No}
 use Rattle.mr_check.specs.declared.fault.No.TheVariants as Fault
-use Rattle.mr_check.specs.Verdict.{State, Subject, first, passes, start, tests, after, text_tests, end_tests, is_key_past, first_tests, later_tests, order_tests, with_entry, entry_tests, group_tests, behind_group, after_entry}
+use Rattle.mr_check.specs.Verdict.{Reached, Subject, first, passes, start, tests, after, text_tests, end_tests, is_key_past, first_tests, later_tests, order_tests, with_entry, entry_tests, group_tests, behind_group, after_entry}
 use Rattle.mr_check.specs.VerdictLaws.{told, piece}
 use Rattle.mr_check.specs.FaultLaws.{GroupRead, PartRead, names_in, groups_in, part_read, whole, name_in, triple_in, IsUnknown, NamesFall, KeysDiffer, IsElsewhere, KeysFall, DifferFrom, TextsDiffer, IsWrongIn}
 use Rattle.mr_check.proofs.VerdictTests.{none_left, none_right, passed, text_stands}
@@ -148,7 +148,7 @@ module _ (s : Subject) (p : ℕ) (part : PartRead) (f : No) where
   LastKey gs (Some k) = IsLast gs k
 
   -- these groups stand whole and passed their tests, and so many are to come
-  pub record Done (st : State) (gs : List (List Name)) (g : ℕ) : Type 0 where
+  pub record Done (st : Reached) (gs : List (List Name)) (g : ℕ) : Type 0 where
     next : st.next ≡ suc p
     left : st.groups ≡ g
     count : st.group ≡ length gs
@@ -158,7 +158,7 @@ module _ (s : Subject) (p : ℕ) (part : PartRead) (f : No) where
     from : st.from ≡ length (texts gs)
 
   -- of the group these names passed their tests
-  pub record Taken (st : State) (n : Name) (ns : List Name) : Type 0 where
+  pub record Taken (st : Reached) (n : Name) (ns : List Name) : Type 0 where
     triple : Triple
     triple_is : named s.triples n ≡ Some triple
     key : st.key ≡ triple.key
@@ -168,19 +168,19 @@ module _ (s : Subject) (p : ℕ) (part : PartRead) (f : No) where
     names_are : n ∷ ns ≡ front ++ last ∷ []
     before : st.before ≡ last
 
-  abbrev AreTaken : State → List Name → Type 0
+  abbrev AreTaken : Reached → List Name → Type 0
   AreTaken st [] = Unit {0}
   AreTaken st (n ∷ ns) = Taken st n ns
 
   -- a group of k entries is open: these names stand, and so many are to come
-  pub record Open (st : State) (gs : List (List Name)) (g k : ℕ) (ns : List Name) (m : ℕ) : Type 0 where
+  pub record Open (st : Reached) (gs : List (List Name)) (g k : ℕ) (ns : List Name) (m : ℕ) : Type 0 where
     done : Done st gs (suc g)
     entries : st.entries ≡ m
     entry : st.entry ≡ length ns
     announced : k ≡ length ns + m
     taken : AreTaken st ns
 
-  abbrev Inv : Place → State → List (List Name) → ℕ → List Name → Type 0
+  abbrev Inv : Place → Reached → List (List Name) → ℕ → List Name → Type 0
   Inv (AtEntries r g) st gs k ns = Done st gs (suc g)
   Inv (AtEntry r g m b) st gs k ns = Open st gs g k ns (suc m)
   Inv (AtGroups r) st gs k ns = Unit {0}
@@ -200,7 +200,7 @@ module _ (s : Subject) (p : ℕ) (part : PartRead) (f : No) where
 
   -- what is to be shown of items
   abbrev Walk : List Item → Type 0
-  Walk is = (q : Place) (st : State) (gs : List (List Name)) (k : ℕ) (ns : List Name)
+  Walk is = (q : Place) (st : Reached) (gs : List (List Name)) (k : ℕ) (ns : List Name)
       → InOrder q is → Inv q st gs k ns → Reads q gs k ns (piece is) → Tells f (told s st (piece is)) → Wrong
 
   -- the name that stands there
@@ -218,7 +218,7 @@ module _ (s : Subject) (p : ℕ) (part : PartRead) (f : No) where
 
   -- ---- behind an entry that passed its tests
 
-  text_is : (st : State) (n : Name) (ns : List Name) → Taken st n ns → s.rules.text st.key st.values ≡ text_under s.rules.text s.triples (n ∷ ns)
+  text_is : (st : Reached) (n : Name) (ns : List Name) → Taken st n ns → s.rules.text st.key st.values ≡ text_under s.rules.text s.triples (n ∷ ns)
   text_is st n ns t =
       let key : key_under s.triples n ≡ t.triple.key = ap (λ o. option_map_or (λ (u : Triple). u.key) o []) t.triple_is in
       ap (λ k. s.rules.text k st.values) (t.key ∙ sym key) ∙ ap (s.rules.text (key_under s.triples n)) t.values
@@ -290,14 +290,14 @@ module _ (s : Subject) (p : ℕ) (part : PartRead) (f : No) where
       })
 
   -- behind a group what follows is walked
-  onward : (r g : ℕ) (is : List Item) (st : State) (gs : List (List Name)) → InOrder (Places.groups r g) is → Done st gs g
+  onward : (r g : ℕ) (is : List Item) (st : Reached) (gs : List (List Name)) → InOrder (Places.groups r g) is → Done st gs g
       → part.groups ≡ map whole gs ++ groups_in (piece is) → Tells f (told s st (piece is)) → Walk is → Wrong
   onward zero zero is st gs order d read e walk = walk AtEnd st gs 0 [] order tt tt e
   onward (suc r) zero is st gs order d read e walk = walk (AtGroups r) st gs 0 [] order tt tt e
   onward r (suc g) is st gs order d read e walk = walk (AtEntries r g) st gs 0 [] order d read e
 
   -- an entry of a group passed its tests: the text of a group that stands whole is tested, and the rest is walked
-  closing : (r g m : ℕ) (name n : Name) (ns : List Name) (is : List Item) (w : State) (gs : List (List Name)) (k : ℕ)
+  closing : (r g m : ℕ) (name n : Name) (ns : List Name) (is : List Item) (w : Reached) (gs : List (List Name)) (k : ℕ)
       → InOrder (Places.entries r g m name) is → Done w gs (suc g) → w.entries ≡ m → w.entry ≡ length (n ∷ ns) → k ≡ length (n ∷ ns) + m → Taken w n ns
       → part.groups ≡ map whole gs ++ cut k ((n ∷ ns) ++ names_in (piece is)) ∷ groups_in (piece is)
       → Tells f (group_tests s p w m ++ told s (behind_group s w m) (piece is)) → Walk is → Wrong
@@ -323,7 +323,7 @@ module _ (s : Subject) (p : ℕ) (part : PartRead) (f : No) where
             onward r g is (behind_group s w zero) gs' order d read rest.1 walk)
       ]
     where
-      closed : (w : State) (gs : List (List Name)) (g : ℕ) (n : Name) (ns : List Name) (text : List ℕ) → Done w gs (suc g) → Taken w n ns
+      closed : (w : Reached) (gs : List (List Name)) (g : ℕ) (n : Name) (ns : List Name) (text : List ℕ) → Done w gs (suc g) → Taken w n ns
           → texts (gs ++ (n ∷ ns) ∷ []) ≡ texts gs ++ text → text_tests output p w.from text ≡ []
           → Done (record w { groups = w.groups - 1; group = w.group + 1; key_before = Some w.key; from = w.from + length text }) (gs ++ (n ∷ ns) ∷ []) g
       closed w gs g n ns text done taken more passes = record {
@@ -338,7 +338,7 @@ module _ (s : Subject) (p : ℕ) (part : PartRead) (f : No) where
         from = omega (arith, done.from, ap length more, length-append (texts gs) text);
       }
 
-  entries_case : (r g : ℕ) (i : Item) (is : List Item) (st : State) (gs : List (List Name)) → MayStand (AtEntries r g) i → InOrder (Places.behind (AtEntries r g) i) is → Done st gs (suc g)
+  entries_case : (r g : ℕ) (i : Item) (is : List Item) (st : Reached) (gs : List (List Name)) → MayStand (AtEntries r g) i → InOrder (Places.behind (AtEntries r g) i) is → Done st gs (suc g)
       → part.groups ≡ map whole gs ++ groups_in (piece (i ∷ is)) → Tells f (told s st (piece (i ∷ is))) → Walk is → Wrong
   entries_case r g (Entries zero) is st gs h order d reads e walk = absurd (omega (arith, h.0))
   entries_case r g (Entries (suc m)) is st gs h order d reads e walk =
@@ -355,7 +355,7 @@ module _ (s : Subject) (p : ℕ) (part : PartRead) (f : No) where
   -- ---- an entry
 
   -- a group's first entry
-  first_wrong : (st : State) (t : Triple) (gs : List (List Name)) (g : ℕ) (here : GroupRead) (later : List GroupRead) → Done st gs g
+  first_wrong : (st : Reached) (t : Triple) (gs : List (List Name)) (g : ℕ) (here : GroupRead) (later : List GroupRead) → Done st gs g
       → part.groups ≡ map whole gs ++ here ∷ later → triple_in s.triples part st.group 0 ≡ Some t
       → Tells f (first_tests s.rules.part p st.group st.key_before t.key) → Wrong
   first_wrong st t gs g here later d reads there e =
@@ -389,7 +389,7 @@ module _ (s : Subject) (p : ℕ) (part : PartRead) (f : No) where
           }
 
   -- a later entry
-  later_wrong : (st : State) (t : Triple) (name n : Name) (ns more : List Name) (gs : List (List Name)) (k : ℕ) (later : List GroupRead) → st.group ≡ length gs → Taken st n ns
+  later_wrong : (st : Reached) (t : Triple) (name n : Name) (ns more : List Name) (gs : List (List Name)) (k : ℕ) (later : List GroupRead) → st.group ≡ length gs → Taken st n ns
       → part.groups ≡ map whole gs ++ cut k ((n ∷ ns) ++ name ∷ more) ∷ later → named s.triples name ≡ Some t
       → Tells f (later_tests p st.group (suc (length ns)) st.before name st.key t.key) → Wrong
   later_wrong st t name n ns more gs k later count taken reads named_is e =
@@ -421,14 +421,14 @@ module _ (s : Subject) (p : ℕ) (part : PartRead) (f : No) where
       ]
 
   -- an entry that names a triple
-  known : (r g m : ℕ) (name : Name) (t : Triple) (is : List Item) (st : State) (gs : List (List Name)) (k : ℕ) (ns : List Name) → named s.triples name ≡ Some t
+  known : (r g m : ℕ) (name : Name) (t : Triple) (is : List Item) (st : Reached) (gs : List (List Name)) (k : ℕ) (ns : List Name) → named s.triples name ≡ Some t
       → InOrder (Places.entries r g m name) is → Open st gs g k ns (suc m)
       → part.groups ≡ map whole gs ++ cut k (ns ++ name ∷ names_in (piece is)) ∷ groups_in (piece is)
       → Tells f ((order_tests s.rules.part p st name t.key (length ns) ++ group_tests s p (with_entry st t (length ns)) m) ++ told s (behind_group s (with_entry st t (length ns)) m) (piece is))
       → Walk is → Wrong
   known r g m name t is st gs k [] named_is order o reads e walk =
       let d = o.done in
-      let w : State = with_entry st t 0 in
+      let w : Reached = with_entry st t 0 in
       let tested : List No = first_tests s.rules.part p st.group st.key_before t.key in
       let here = stands gs k (name ∷ names_in (piece is)) [] (names_in (piece is)) (groups_in (piece is)) name st.group 0 reads refl d.count refl in
       elim (either tested (group_tests s p w m ++ told s (behind_group s w m) (piece is)) f (subst (Tells f) (append_assoc tested (group_tests s p w m) (told s (behind_group s w m) (piece is))) e)) [
@@ -449,7 +449,7 @@ module _ (s : Subject) (p : ℕ) (part : PartRead) (f : No) where
       ]
   known r g m name t is st gs k (n ∷ ns) named_is order o reads e walk =
       let d = o.done in
-      let w : State = with_entry st t (suc (length ns)) in
+      let w : Reached = with_entry st t (suc (length ns)) in
       let tested : List No = later_tests p st.group (suc (length ns)) st.before name st.key t.key in
       let read : part.groups ≡ map whole gs ++ cut k ((n ∷ (ns ++ name ∷ [])) ++ names_in (piece is)) ∷ groups_in (piece is) =
       reads ∙ ap (λ l. map whole gs ++ cut k l ∷ groups_in (piece is)) (sym (append_assoc (n ∷ ns) (name ∷ []) (names_in (piece is)))) in
@@ -473,7 +473,7 @@ module _ (s : Subject) (p : ℕ) (part : PartRead) (f : No) where
   by_places : (T : ℕ → ℕ → ℕ → Type 0) (a b c x y z : ℕ) → a ≡ x → b ≡ y → c ≡ z → T a b c → T x y z
   by_places T a b c x y z i j k h = subst (λ w. T x y w) k (subst (λ w. T x w c) j (subst (λ w. T w b c) i h))
 
-  entry_case : (r g m : ℕ) (b : Name) (i : Item) (is : List Item) (st : State) (gs : List (List Name)) (k : ℕ) (ns : List Name) → MayStand (AtEntry r g m b) i
+  entry_case : (r g m : ℕ) (b : Name) (i : Item) (is : List Item) (st : Reached) (gs : List (List Name)) (k : ℕ) (ns : List Name) → MayStand (AtEntry r g m b) i
       → InOrder (Places.behind (AtEntry r g m b) i) is → Open st gs g k ns (suc m)
       → part.groups ≡ map whole gs ++ cut k (ns ++ names_in (piece (i ∷ is))) ∷ groups_in (piece (i ∷ is))
       → Tells f (told s st (piece (i ∷ is))) → Walk is → Wrong
@@ -524,7 +524,7 @@ module _ (s : Subject) (p : ℕ) (part : PartRead) (f : No) where
   pub part_wrong : (r n : ℕ) (js : List Item) → InOrder (AtGroups r) (Groups n ∷ js) → part ≡ part_read (Groups n ∷ piece js)
       → Tells f (told s (record start { next = p }) (Groups n ∷ piece js)) → Wrong
   part_wrong r n js order read e =
-      let st : State = after s (record start { next = p }) (Groups n) in
+      let st : Reached = after s (record start { next = p }) (Groups n) in
       let groups : part.groups ≡ groups_in (piece js) = ap (λ (w : PartRead). w.groups) read in
       let all : part.announced ≡ n = ap (λ (w : PartRead). w.announced) read in
       elim (either (end_tests output p n 0) (told s st (piece js)) f e) [

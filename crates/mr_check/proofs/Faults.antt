@@ -7,8 +7,8 @@ use Rattle.std.proofs.lemmas.Bool.{false≢true}
 use Rattle.mr_check.specs.declared.fault.No.{No}
 use Rattle.mr_bytes.specs.declared.Name.{Name}
 use Rattle.mr_sequential.specs.Emitted.{Triple}
-use Rattle.mr_check.specs.Verdict.{State, Subject, passes, first_tests, later_tests, order_tests, with_entry, group_tests, behind_group, first}
-use Rattle.mr_check.specs.Judging.{Told}
+use Rattle.mr_check.specs.Verdict.{Reached, Subject, passes, first_tests, later_tests, order_tests, with_entry, group_tests, behind_group, first}
+use Rattle.mr_check.specs.Steps.{Answers}
 
 pub prefix_nil : (xs : List ℕ) → common_prefix_len nat_eq xs [] ≡ 0
 prefix_nil [] = refl
@@ -44,19 +44,19 @@ pub first_found : (fs gs : List No) (f : No) → first fs ≡ Some f → first (
 first_found [] gs f e = absurd (cc e)
 first_found (g ∷ fs) gs f e = e
 
-pub told_left : (fs gs : List No) (f : No) → Told fs f → Told (fs ++ gs) f
+pub told_left : (fs gs : List No) (f : No) → Answers fs f → Answers (fs ++ gs) f
 told_left fs gs f (inl e) = inl e
 told_left fs gs f (inr e) = inr (first_found fs gs f e)
 
-pub told_right : (fs gs : List No) (f : No) → fs ≡ [] → Told gs f → Told (fs ++ gs) f
+pub told_right : (fs gs : List No) (f : No) → fs ≡ [] → Answers gs f → Answers (fs ++ gs) f
 told_right fs gs f none (inl e) = inl e
 told_right fs gs f none (inr e) = inr (first_more fs gs none ∙ e)
 
-pub told_is : (fs gs : List No) (f : No) → first gs ≡ first fs → Told fs f → Told gs f
+pub told_is : (fs gs : List No) (f : No) → first gs ≡ first fs → Answers fs f → Answers gs f
 told_is fs gs f same (inl e) = inl e
 told_is fs gs f same (inr e) = inr (same ∙ e)
 
-pub failed : (b : Bool) (f : No) → b ≡ false → Told (passes b f) f
+pub failed : (b : Bool) (f : No) → b ≡ false → Answers (passes b f) f
 failed b f e = inr (ap (λ t. first (passes t f)) e)
 
 pub fine : (b : Bool) (f : No) → b ≡ true → passes b f ≡ []
@@ -67,24 +67,24 @@ both_fine fs gs e d = ap (λ w. w ++ gs) e ∙ d
 
 -- ---- the cases of an entry
 
-pub order_zero : (part : List ℕ → ℕ) (p : ℕ) (st : State) (n : Name) (key : List ℕ) (e : ℕ) → e ≡ 0 → order_tests part p st n key e ≡ first_tests part p st.group st.key_before key
+pub order_zero : (part : List ℕ → ℕ) (p : ℕ) (st : Reached) (n : Name) (key : List ℕ) (e : ℕ) → e ≡ 0 → order_tests part p st n key e ≡ first_tests part p st.group st.key_before key
 order_zero part p st n key e h = ap (order_tests part p st n key) h
 
-pub with_zero : (st : State) (t : Triple) (e : ℕ) → e ≡ 0 → with_entry st t e ≡ with_entry st t 0
+pub with_zero : (st : Reached) (t : Triple) (e : ℕ) → e ≡ 0 → with_entry st t e ≡ with_entry st t 0
 with_zero st t e h = ap (with_entry st t) h
 
-pub order_suc : (part : List ℕ → ℕ) (p : ℕ) (st : State) (n : Name) (key : List ℕ) (e : ℕ) → 1 ≤ e → order_tests part p st n key e ≡ later_tests p st.group e st.before n st.key key
+pub order_suc : (part : List ℕ → ℕ) (p : ℕ) (st : Reached) (n : Name) (key : List ℕ) (e : ℕ) → 1 ≤ e → order_tests part p st n key e ≡ later_tests p st.group e st.before n st.key key
 order_suc part p st n key zero h = absurd (omega arith)
 order_suc part p st n key (suc e) h = refl
 
-pub with_suc : (st : State) (t : Triple) (e : ℕ) → 1 ≤ e → with_entry st t e ≡ record st { entry = e + 1; entries = st.entries - 1; before = t.name; values = st.values ++ t.value ∷ []; named = st.named + 1 }
+pub with_suc : (st : Reached) (t : Triple) (e : ℕ) → 1 ≤ e → with_entry st t e ≡ record st { entry = e + 1; entries = st.entries - 1; before = t.name; values = st.values ++ t.value ∷ []; named = st.named + 1 }
 with_suc st t zero h = absurd (omega arith)
 with_suc st t (suc e) h = refl
 
-pub group_goes_on : (s : Subject) (p : ℕ) (st : State) (k : ℕ) → 1 ≤ k → group_tests s p st k ≡ []
+pub group_goes_on : (s : Subject) (p : ℕ) (st : Reached) (k : ℕ) → 1 ≤ k → group_tests s p st k ≡ []
 group_goes_on s p st zero h = absurd (omega arith)
 group_goes_on s p st (suc k) h = refl
 
-pub behind_goes_on : (s : Subject) (st : State) (k : ℕ) → 1 ≤ k → behind_group s st k ≡ st
+pub behind_goes_on : (s : Subject) (st : Reached) (k : ℕ) → 1 ≤ k → behind_group s st k ≡ st
 behind_goes_on s st zero h = absurd (omega arith)
 behind_goes_on s st (suc k) h = refl

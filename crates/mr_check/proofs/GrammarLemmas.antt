@@ -12,7 +12,7 @@ use Rattle.mr_certform.specs.Places.{behind, literal_bytes, file_lengths, partit
 use Rattle.mr_certform.specs.Grammar.{InOrder}
 use Rattle.mr_check.specs.declared.fault.No.{No}
 use Rattle.mr_check.specs.Verdict.{item_eq, job_wanted, input_wanted}
-use Rattle.mr_check.specs.Judging.{met, no_skip, skips_in_front, awaits_skips}
+use Rattle.mr_check.specs.Steps.{met, no_skip, skips_in_front, awaits_skips}
 
 -- the wanted item is the one that is met
 same_item : (i w : Item) → item_eq i w ≡ true → i ≡ w

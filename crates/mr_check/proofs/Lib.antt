@@ -1,4 +1,4 @@
-pub mod AheadLemmas
+pub mod BlockLemmas
 pub mod FaultPart
 pub mod FaultRead
 pub mod FaultTruth

@@ -6,7 +6,7 @@ use Rattle.mr_certform.specs.declared.item.Item.{Item}
 use Rattle.mr_certform.specs.declared.item.Item.TheVariants.{Magic, Job, Flags, LiteralLength, LiteralByte, Parts, SplitSize}
 use Rattle.mr_check.specs.declared.fault.No.{No}
 use Rattle.mr_check.specs.Verdict.{item_eq, job_wanted}
-use Rattle.mr_check.specs.Judging.{met}
+use Rattle.mr_check.specs.Steps.{met}
 
 pub met_then : (at : ℕ) (f : No) (ws vs is js : List Item) → met at ws f is ≡ Ok js → met at (ws ++ vs) f is ≡ met at vs f js
 met_then at f [] vs is js e = ap (met at vs f) (cc e)

@@ -8,7 +8,7 @@ use Rattle.mr_certform.specs.declared.item.Item.{Item}
 use Rattle.mr_certform.specs.declared.item.Item.TheVariants.{Skip, Entry}
 use Rattle.mr_index.specs.declared.index.Meter.{Meter}
 use Rattle.mr_check.specs.Verdict.{Accepted, accepted_by, entries_in}
-use Rattle.mr_check.specs.Judging.{header_met, counted, Listed, listed}
+use Rattle.mr_check.specs.Steps.{header_met, counted, Listed, listed}
 use Rattle.mr_check.specs.Metered.{IsBounded}
 use Rattle.mr_check.proofs.VerdictLemmas.{counted_is, listed_accepted, header_accepted}
 

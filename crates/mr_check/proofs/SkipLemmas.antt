@@ -7,7 +7,7 @@ use Rattle.mr_certform.specs.declared.item.Item.{Item}
 use Rattle.mr_certform.specs.declared.item.Item.TheVariants.{Skip}
 use Rattle.mr_check.specs.declared.fault.No.{No}
 use Rattle.mr_check.specs.Verdict.{last_of}
-use Rattle.mr_check.specs.Judging.{skip_front, behind_skip, skip_fault, unless, listed}
+use Rattle.mr_check.specs.Steps.{skip_front, behind_skip, skip_fault, unless, listed}
 
 pub last_more : (ss : List RecordName) (s : RecordName) → last_of (ss ++ s ∷ []) ≡ Some s
 last_more [] s = refl

@@ -19,7 +19,7 @@ use Rattle.mr_sequential.specs.Emitted.{Triple}
 use Rattle.mr_sequential.specs.Good.{named, key_under, key_of, values_under, text_under, IsGoodGroup}
 use Rattle.mr_check.specs.declared.fault.No.{No}
 use Rattle.mr_check.specs.declared.fault.No.TheVariants.{EntryOrder, KeyDiffers, WrongPartition, KeyOrder}
-use Rattle.mr_check.specs.Verdict.{State, Subject, tests, after, passes, text_tests, end_tests, is_key_past, first_tests, later_tests, order_tests, with_entry, entry_tests, group_tests, behind_group, after_entry}
+use Rattle.mr_check.specs.Verdict.{Reached, Subject, tests, after, passes, text_tests, end_tests, is_key_past, first_tests, later_tests, order_tests, with_entry, entry_tests, group_tests, behind_group, after_entry}
 use Rattle.mr_check.specs.VerdictLaws.{told, behind}
 use Rattle.mr_sequential.proofs.EntryLaws.{names_total}
 use Rattle.mr_sequential.proofs.NamedLaws.{named-Has, some_is}
@@ -34,7 +34,7 @@ module _ (s : Subject) where
     pub one_key : AllByRecursion (λ n. key_under s.triples n ≡ k) ns
 
   -- what is remembered behind a group of this key and text, of so many entries
-  pub record IsBehind (old new : State) (k text : List ℕ) (n : ℕ) : Type 0 where
+  pub record IsBehind (old new : Reached) (k text : List ℕ) (n : ℕ) : Type 0 where
     pub next : new.next ≡ old.next
     pub groups : new.groups ≡ old.groups - 1
     pub group : new.group ≡ old.group + 1
@@ -43,30 +43,30 @@ module _ (s : Subject) where
     pub named : new.named ≡ old.named + n
 
   -- a group's text, and where it is the last group the partition's end
-  abbrev pub text_told : State → List ℕ → List No
+  abbrev pub text_told : Reached → List ℕ → List No
   text_told st text =
       text_tests (nth_file s.outputs (st.next - 1)) (st.next - 1) st.from text
       ++ end_tests (nth_file s.outputs (st.next - 1)) (st.next - 1) (st.groups - 1) (st.from + length text)
 
   -- behind a group's first entry, m entries being still to come
-  abbrev first : State → Triple → ℕ → State
+  abbrev first : Reached → Triple → ℕ → Reached
   first st t m = record st { entry = 1; entries = m; key = t.key; before = t.name; values = t.value ∷ []; named = st.named + 1 }
 
   -- behind a further one
-  abbrev more : State → Triple → ℕ → ℕ → State
+  abbrev more : Reached → Triple → ℕ → ℕ → Reached
   more st t e m = record st { entry = suc (suc e); entries = m; before = t.name; values = st.values ++ t.value ∷ []; named = st.named + 1 }
 
   -- what is told of the entries that follow an entry, and of the group's end
-  abbrev entries_told : State → List Name → List No
+  abbrev entries_told : Reached → List Name → List No
   entries_told st ns = group_tests s (st.next - 1) st (length ns) ++ told s (behind_group s st (length ns)) (map Entry ns)
 
-  abbrev entries_behind : State → List Name → State
+  abbrev entries_behind : Reached → List Name → Reached
   entries_behind st ns = behind s (behind_group s st (length ns)) (map Entry ns)
 
   one_less : (n m : ℕ) → n ≡ suc m → n - 1 ≡ m
   one_less n m e = omega arith
 
-  with_more : (st : State) (t : Triple) (e m : ℕ) → st.entry ≡ suc e → st.entries ≡ suc m → with_entry st t st.entry ≡ more st t e m
+  with_more : (st : Reached) (t : Triple) (e m : ℕ) → st.entry ≡ suc e → st.entries ≡ suc m → with_entry st t st.entry ≡ more st t e m
   with_more st t e m he hm =
       let next : suc e + 1 ≡ suc (suc e) = omega arith in
       let left : st.entries - 1 ≡ m = one_less st.entries m hm in
@@ -74,7 +74,7 @@ module _ (s : Subject) where
       ∙ (ap (λ (x : ℕ). record st { entry = x; entries = st.entries - 1; before = t.name; values = st.values ++ t.value ∷ []; named = st.named + 1 }) next
       ∙ ap (λ (x : ℕ). record st { entry = suc (suc e); entries = x; before = t.name; values = st.values ++ t.value ∷ []; named = st.named + 1 }) left)
 
-  more_tests : (st : State) (n : Name) (t : Triple) (e m : ℕ) → st.entry ≡ suc e → st.entries ≡ suc m → named s.triples n ≡ Some t
+  more_tests : (st : Reached) (n : Name) (t : Triple) (e m : ℕ) → st.entry ≡ suc e → st.entries ≡ suc m → named s.triples n ≡ Some t
       → tests s st (Entry n) ≡ later_tests (st.next - 1) st.group (suc e) st.before n st.key t.key ++ group_tests s (st.next - 1) (more st t e m) m
   more_tests st n t e m he hm is =
       ap (entry_tests s (st.next - 1) st n) is
@@ -82,14 +82,14 @@ module _ (s : Subject) where
       ∙ (ap (λ w. later_tests (st.next - 1) st.group (suc e) st.before n st.key t.key ++ group_tests s (st.next - 1) w (st.entries - 1)) (with_more st t e m he hm)
       ∙ ap (λ x. later_tests (st.next - 1) st.group (suc e) st.before n st.key t.key ++ group_tests s (st.next - 1) (more st t e m) x) (one_less st.entries m hm)))
 
-  more_after : (st : State) (n : Name) (t : Triple) (e m : ℕ) → st.entry ≡ suc e → st.entries ≡ suc m → named s.triples n ≡ Some t
+  more_after : (st : Reached) (n : Name) (t : Triple) (e m : ℕ) → st.entry ≡ suc e → st.entries ≡ suc m → named s.triples n ≡ Some t
       → after s st (Entry n) ≡ behind_group s (more st t e m) m
   more_after st n t e m he hm is =
       ap (after_entry s st) is
       ∙ (ap (λ w. behind_group s w (st.entries - 1)) (with_more st t e m he hm) ∙ ap (λ x. behind_group s (more st t e m) x) (one_less st.entries m hm))
 
   -- one entry in front of those that follow
-  more_told : (st : State) (n : Name) (ns : List Name) (t : Triple) (e : ℕ) → st.entry ≡ suc e → st.entries ≡ suc (length ns) → named s.triples n ≡ Some t
+  more_told : (st : Reached) (n : Name) (ns : List Name) (t : Triple) (e : ℕ) → st.entry ≡ suc e → st.entries ≡ suc (length ns) → named s.triples n ≡ Some t
       → entries_told st (n ∷ ns) ≡ later_tests (st.next - 1) st.group (suc e) st.before n st.key t.key ++ entries_told (more st t e (length ns)) ns
   more_told st n ns t e he hm is =
       let tested : List No = later_tests (st.next - 1) st.group (suc e) st.before n st.key t.key in
@@ -98,7 +98,7 @@ module _ (s : Subject) where
       ∙ append_assoc tested (group_tests s (st.next - 1) (more st t e (length ns)) (length ns)) (told s (behind_group s (more st t e (length ns)) (length ns)) (map Entry ns)))
 
   -- where nothing is told of an entry there is a triple under its name
-  found : (st : State) (n : Name) → tests s st (Entry n) ≡ [] → (t : Triple) × (named s.triples n ≡ Some t)
+  found : (st : Reached) (n : Name) → tests s st (Entry n) ≡ [] → (t : Triple) × (named s.triples n ≡ Some t)
   found st n e = by (named s.triples n) refl e
     where
       by : (o : Option Triple) → named s.triples n ≡ o → entry_tests s (st.next - 1) st n o ≡ [] → (t : Triple) × (named s.triples n ≡ Some t)
@@ -115,7 +115,7 @@ module _ (s : Subject) where
   is_some : (n : Name) (t : Triple) → named s.triples n ≡ Some t → IsSome (named s.triples n)
   is_some n t is = subst IsSome (sym is) refl
 
-  later_good : (ns : List Name) (st : State) (e : ℕ) → st.entry ≡ suc e → st.entries ≡ length ns → entries_told st ns ≡ [] → AreLater st.key st.before ns
+  later_good : (ns : List Name) (st : Reached) (e : ℕ) → st.entry ≡ suc e → st.entries ≡ length ns → entries_told st ns ≡ [] → AreLater st.key st.before ns
   later_good [] st e he hm none = record { entries = tt; past = tt; rises = tt; one_key = tt }
   later_good (n ∷ ns) st e he hm none =
       let f = found st n (none_left (tests s st (Entry n)) _ none) in
@@ -149,7 +149,7 @@ module _ (s : Subject) where
       record { entries = g.entries.1; past = subst (λ w. AllByRecursion (λ m. name_order w m ≡ Less) ns) (sym ((named-Has s.triples n t is).1)) g.rises.0; rises = g.rises.1; one_key = g.one_key.1 }
 
   -- where the entries are as they should, the text alone is told of
-  later_told : (ns : List Name) (st : State) (e : ℕ) → st.entry ≡ suc e → st.entries ≡ length ns → AreLater st.key st.before ns
+  later_told : (ns : List Name) (st : Reached) (e : ℕ) → st.entry ≡ suc e → st.entries ≡ length ns → AreLater st.key st.before ns
       → entries_told st ns ≡ text_told st (s.rules.text st.key (st.values ++ values_under s.triples ns))
   later_told [] st e he hm g =
       append-nil (group_tests s (st.next - 1) st zero) ∙ ap (λ vs. text_told st (s.rules.text st.key vs)) (sym (append-nil st.values))
@@ -165,7 +165,7 @@ module _ (s : Subject) where
       ∙ (later_told ns (more st t e (length ns)) (suc e) refl refl (fewer st.key st.before n ns t f.1 g)
       ∙ ap (λ vs. text_told st (s.rules.text st.key vs)) (one_more st.values t.value (values_under s.triples ns) ∙ ap (λ vs. st.values ++ vs) (sym (values_found n ns t f.1)))))
 
-  later_behind : (ns : List Name) (st : State) (e : ℕ) → st.entry ≡ suc e → st.entries ≡ length ns → AreLater st.key st.before ns
+  later_behind : (ns : List Name) (st : Reached) (e : ℕ) → st.entry ≡ suc e → st.entries ≡ length ns → AreLater st.key st.before ns
       → IsBehind st (entries_behind st ns) st.key (s.rules.text st.key (st.values ++ values_under s.triples ns)) (length ns)
   later_behind [] st e he hm g = record {
     next = refl;
@@ -182,7 +182,7 @@ module _ (s : Subject) where
       let values : (st.values ++ t.value ∷ []) ++ values_under s.triples ns ≡ st.values ++ values_under s.triples (n ∷ ns) =
       one_more st.values t.value (values_under s.triples ns) ∙ ap (λ vs. st.values ++ vs) (sym (values_found n ns t f.1)) in
       let moved : entries_behind st (n ∷ ns) ≡ entries_behind (more st t e (length ns)) ns = ap (λ w. behind s w (map Entry ns)) (more_after st n t e (length ns) he hm f.1) in
-      subst (λ (w : State). IsBehind st w st.key (s.rules.text st.key (st.values ++ values_under s.triples (n ∷ ns))) (length (n ∷ ns))) (sym moved) (record {
+      subst (λ (w : Reached). IsBehind st w st.key (s.rules.text st.key (st.values ++ values_under s.triples (n ∷ ns))) (length (n ∷ ns))) (sym moved) (record {
         next = b.next;
         groups = b.groups;
         group = b.group;
@@ -193,26 +193,26 @@ module _ (s : Subject) where
 
   -- ---- a group
 
-  first_told : (st : State) (n : Name) (ns : List Name) (t : Triple) → named s.triples n ≡ Some t
+  first_told : (st : Reached) (n : Name) (ns : List Name) (t : Triple) → named s.triples n ≡ Some t
       → told s st (group_items (n ∷ ns)) ≡ first_tests s.rules.part (st.next - 1) st.group st.key_before t.key ++ entries_told (first st t (length ns)) ns
   first_told st n ns t is =
-      let u : State = record st { entries = suc (length ns); entry = 0 } in
+      let u : Reached = record st { entries = suc (length ns); entry = 0 } in
       let left : suc (length ns) - 1 ≡ length ns = omega arith in
       let tested : List No = first_tests s.rules.part (st.next - 1) st.group st.key_before t.key in
       ap (λ o. entry_tests s (st.next - 1) u n o ++ told s (after_entry s u o) (map Entry ns)) is
       ∙ (ap (λ (x : ℕ). (tested ++ group_tests s (st.next - 1) (first st t x) x) ++ told s (behind_group s (first st t x) x) (map Entry ns)) left
       ∙ append_assoc tested (group_tests s (st.next - 1) (first st t (length ns)) (length ns)) (told s (behind_group s (first st t (length ns)) (length ns)) (map Entry ns)))
 
-  first_behind : (st : State) (n : Name) (ns : List Name) (t : Triple) → named s.triples n ≡ Some t
+  first_behind : (st : Reached) (n : Name) (ns : List Name) (t : Triple) → named s.triples n ≡ Some t
       → behind s st (group_items (n ∷ ns)) ≡ entries_behind (first st t (length ns)) ns
   first_behind st n ns t is =
       let left : suc (length ns) - 1 ≡ length ns = omega arith in
-      let u : State = record st { entries = suc (length ns); entry = 0 } in
+      let u : Reached = record st { entries = suc (length ns); entry = 0 } in
       ap (λ o. behind s (after_entry s u o) (map Entry ns)) is
       ∙ ap (λ (x : ℕ). behind s (behind_group s (first st t x) x) (map Entry ns)) left
 
   -- where nothing is told of a group it is good, and its key is past the one before
-  pub group_good : (st : State) (ns : List Name) → 1 ≤ length ns → told s st (group_items ns) ≡ []
+  pub group_good : (st : Reached) (ns : List Name) → 1 ≤ length ns → told s st (group_items ns) ≡ []
       → IsGoodGroup s.rules.part s.triples (st.next - 1) ns × (is_key_past st.key_before (key_of s.triples ns) ≡ true)
   group_good st [] some none = absurd (omega arith)
   group_good st (n ∷ ns) some none =
@@ -237,7 +237,7 @@ module _ (s : Subject) where
       )
 
   -- where it is good, its text alone is told of, and what is behind it
-  pub group_told : (st : State) (ns : List Name) → IsGoodGroup s.rules.part s.triples (st.next - 1) ns → is_key_past st.key_before (key_of s.triples ns) ≡ true
+  pub group_told : (st : Reached) (ns : List Name) → IsGoodGroup s.rules.part s.triples (st.next - 1) ns → is_key_past st.key_before (key_of s.triples ns) ≡ true
       → (told s st (group_items ns) ≡ text_told st (text_under s.rules.text s.triples ns))
       × IsBehind st (behind s st (group_items ns)) (key_of s.triples ns) (text_under s.rules.text s.triples ns) (length ns)
   group_told st [] good past = absurd (omega (arith, good.some_entry))
@@ -261,7 +261,7 @@ module _ (s : Subject) where
         first_told st n ns t f.1
             ∙ (ap (λ w. w ++ entries_told (first st t (length ns)) ns) here
             ∙ (later_told ns (first st t (length ns)) 0 refl refl later ∙ ap (text_told st) text)),
-        subst (λ (w : State). IsBehind st w (key_of s.triples (n ∷ ns)) (text_under s.rules.text s.triples (n ∷ ns)) (length (n ∷ ns))) (sym (first_behind st n ns t f.1)) (record {
+        subst (λ (w : Reached). IsBehind st w (key_of s.triples (n ∷ ns)) (text_under s.rules.text s.triples (n ∷ ns)) (length (n ∷ ns))) (sym (first_behind st n ns t f.1)) (record {
           next = b.next;
           groups = b.groups;
           group = b.group;

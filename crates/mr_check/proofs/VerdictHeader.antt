@@ -19,7 +19,7 @@ use Rattle.mr_splits.specs.Kept.{is_past}
 use Rattle.mr_sequential.specs.Skips.{list_fault}
 use Rattle.mr_check.specs.declared.fault.No.{No}
 use Rattle.mr_check.specs.declared.fault.No.TheVariants as Fault
-use Rattle.mr_check.specs.Verdict.{Case, State, Subject, tests, after, passes, start, part_faults, subject_of, last_of, skip_faults, count_faults, item_eq, job_wanted, input_wanted, wanted_faults, Accepted, accepted_by, told_by}
+use Rattle.mr_check.specs.Verdict.{Case, Reached, Subject, tests, after, passes, start, part_faults, subject_of, last_of, skip_faults, count_faults, item_eq, job_wanted, input_wanted, wanted_faults, Accepted, accepted_by, told_by}
 use Rattle.mr_check.proofs.VerdictTests.{none_left, none_right, none_both, passed, passes-true}
 
 -- ---- the verdict is yes where there is no fault
@@ -213,7 +213,7 @@ skips_pass c (s ∷ ss) done parts h =
 
 -- ---- where there is no fault the items end
 
-part_ends : (s : Subject) (at : ℕ) (st : State) (is : List Item) → part_faults s at st is ≡ [] → Has is End
+part_ends : (s : Subject) (at : ℕ) (st : Reached) (is : List Item) → part_faults s at st is ≡ [] → Has is End
 part_ends s at st [] h = absurd (cc)
 part_ends s at st (End ∷ is) h = inl refl
 part_ends s at st (i ∷ is) h = inr (part_ends s at (after s st i) is (none_right (tests s st i) _ h))

@@ -13,7 +13,7 @@ use Rattle.mr_sequential.specs.Emitted.{Triple}
 use Rattle.mr_sequential.specs.Good.{named}
 use Rattle.mr_check.specs.declared.fault.No.{No}
 use Rattle.mr_check.specs.declared.fault.No.TheVariants as Fault
-use Rattle.mr_check.specs.Verdict.{Accepted, State, Subject, passes, start, tests, after, text_tests, end_tests, is_key_past, order_tests, with_entry, entry_tests, group_tests, subject_of, case_of, verdict_of, first, entries_in}
+use Rattle.mr_check.specs.Verdict.{Accepted, Reached, Subject, passes, start, tests, after, text_tests, end_tests, is_key_past, order_tests, with_entry, entry_tests, group_tests, subject_of, case_of, verdict_of, first, entries_in}
 use Rattle.mr_check.specs.VerdictLaws.{told, or_else, fault_of, skips_in, piece, parts_in, front_faults, part_fault, least_fault, back_fault, before_fault, SameBy, SameFor, SameTo, SameInPart, SameFrom, SameUnless, partition_named, LaterOutputsDontMatter}
 use Rattle.mr_check.proofs.VerdictOutputs.{next_entry, only_compared_matters}
 use Rattle.mr_check.proofs.VerdictPlace.{fault_by_place}
@@ -41,7 +41,7 @@ module _ (s : Subject) where
   end_all output p zero from = all_passes p (nat_le (length output) from) (Fault.OutputDiffers p from) refl
   end_all output p (suc groups) from = tt
 
-  group_all : (p : ℕ) (st : State) (m : ℕ) → AllOf p (group_tests s p st m)
+  group_all : (p : ℕ) (st : Reached) (m : ℕ) → AllOf p (group_tests s p st m)
   group_all p st zero =
       let text : List ℕ = s.rules.text st.key st.values in
       let output : List ℕ = nth_file s.outputs p in
@@ -50,7 +50,7 @@ module _ (s : Subject) where
       (end_all output p (st.groups - 1) (st.from + length text))
   group_all p st (suc m) = tt
 
-  order_all : (p : ℕ) (st : State) (n : Name) (key : List ℕ) (e : ℕ) → AllOf p (order_tests s.rules.part p st n key e)
+  order_all : (p : ℕ) (st : Reached) (n : Name) (key : List ℕ) (e : ℕ) → AllOf p (order_tests s.rules.part p st n key e)
   order_all p st n key zero =
       all_append p (passes (s.rules.part key == p) (Fault.WrongPartition p st.group 0)) (passes (is_key_past st.key_before key) (Fault.KeyOrder p st.group 0)) (all_passes p _ (Fault.WrongPartition p st.group 0) refl)
       (all_passes p _ (Fault.KeyOrder p st.group 0) refl)
@@ -58,12 +58,12 @@ module _ (s : Subject) where
       all_append p (passes (is_lt (name_order st.before n)) (Fault.EntryOrder p st.group (suc e))) (passes (bytes_eq key st.key) (Fault.KeyDiffers p st.group (suc e))) (all_passes p _ (Fault.EntryOrder p st.group (suc e)) refl)
       (all_passes p _ (Fault.KeyDiffers p st.group (suc e)) refl)
 
-  entry_all : (p : ℕ) (st : State) (n : Name) (o : Option Triple) → AllOf p (entry_tests s p st n o)
+  entry_all : (p : ℕ) (st : Reached) (n : Name) (o : Option Triple) → AllOf p (entry_tests s p st n o)
   entry_all p st n None = (refl, tt)
   entry_all p st n (Some t) =
       all_append p (order_tests s.rules.part p st n t.key st.entry) (group_tests s p (with_entry st t st.entry) (st.entries - 1)) (order_all p st n t.key st.entry) (group_all p (with_entry st t st.entry) (st.entries - 1))
 
-  told_all : (is : List Item) (st : State) → AllOf (st.next - 1) (told s st (piece is))
+  told_all : (is : List Item) (st : Reached) → AllOf (st.next - 1) (told s st (piece is))
   told_all [] st = tt
   told_all (Groups n ∷ is) st = tt
   told_all (End ∷ is) st = tt
@@ -102,7 +102,7 @@ module _ (s : Subject) where
   whole_by zero from output other e = e
   whole_by (suc groups) from output other e = ap (take from) e
 
-  same_for : (fault : No) (st : State) (output other : List ℕ) → SameTo fault output other → SameFor fault st output other
+  same_for : (fault : No) (st : Reached) (output other : List ℕ) → SameTo fault output other → SameFor fault st output other
   same_for (Fault.OutputDiffers p at) st output other e = e
   same_for _ st output other e = whole_by st.groups st.from output other e
 
@@ -119,12 +119,12 @@ module _ (s : Subject) where
             let named_ : partition_named fault ≡ Some k = subst (λ w. partition_named w ≡ Some k) same (part_names k n is f is_) in
             let both : Some p ≡ Some k = sym names ∙ named_ in
             let place : p ≡ k = cc in
-            let last : State = before_fault s (record start { next = k }) (Groups n ∷ piece is) in
+            let last : Reached = before_fault s (record start { next = k }) (Groups n ∷ piece is) in
             let there : SameTo f (nth_file s.outputs k) (nth_file others k) = subst (λ w. SameTo w (nth_file s.outputs k) (nth_file others k)) (sym same) (subst (λ w. SameTo fault (nth_file s.outputs w) (nth_file others w)) place here) in
             (omega arith, same_for f last (nth_file s.outputs k) (nth_file others k) there)
         by None is_ e rest =
             let r = rest e in
-            let last : State = before_fault s (record start { next = k }) (Groups n ∷ piece is) in
+            let last : Reached = before_fault s (record start { next = k }) (Groups n ∷ piece is) in
             let less : k < p = omega (arith, r.0) in
             (omega arith, (whole_by last.groups last.from (nth_file s.outputs k) (nth_file others k) (before k less), r.1))
     same_from (i ∷ is) k back none e = same_from is k back none e

@@ -16,7 +16,7 @@ use Rattle.mr_index.specs.Index.{triples_of}
 use Rattle.mr_check.specs.declared.fault.No.{No}
 use Rattle.mr_check.specs.declared.fault.No.TheVariants.{OtherJob, OtherInput, OutputCount, SkipOrder, NoSuchRecord, TooManySkips}
 use Rattle.mr_check.specs.Verdict.{Case, Accepted, item_eq, last_of, start, subject_of, part_faults, skip_faults, count_faults, wanted_faults, accepted_by, told_by, passes, job_wanted, input_wanted, verdict_of, first, entries_in}
-use Rattle.mr_check.specs.Judging.{subject, met, met_behind, header_met, counted, skip_fault, unless, Listed, listed, no_skip, skips_in_front, awaits_skips, case_at}
+use Rattle.mr_check.specs.Steps.{subject, met, met_behind, header_met, counted, skip_fault, unless, Listed, listed, no_skip, skips_in_front, awaits_skips, case_at}
 
 -- ---- what is met
 

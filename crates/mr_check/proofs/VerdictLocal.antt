@@ -11,7 +11,7 @@ use Rattle.mr_certform.proofs.Walks.{longest_items}
 use Rattle.mr_splits.specs.Kept.{is_past}
 use Rattle.mr_check.specs.declared.fault.No.{No}
 use Rattle.mr_check.specs.declared.fault.No.TheVariants as Fault
-use Rattle.mr_check.specs.Verdict.{Case, State, Subject, passes, start, tests, after, part_faults, subject_of, last_of, skip_faults, count_faults, item_eq, job_wanted, input_wanted, wanted_faults, faults, Accepted, told_by, case_of, verdict_of, first}
+use Rattle.mr_check.specs.Verdict.{Case, Reached, Subject, passes, start, tests, after, part_faults, subject_of, last_of, skip_faults, count_faults, item_eq, job_wanted, input_wanted, wanted_faults, faults, Accepted, told_by, case_of, verdict_of, first}
 use Rattle.mr_check.specs.VerdictLaws.{IsTested, LaterItemsDontMatter}
 
 module _ (fault : No) (tested : IsTested fault) where
@@ -31,7 +31,7 @@ module _ (fault : No) (tested : IsTested fault) where
   same_tests [] xs ys f h = f h
   same_tests (t ∷ ts) xs ys f h = h
 
-  parts_tell : (s : Subject) (m n : ℕ) (st : State) (is js : List Item) → Tells (part_faults s m st is) → Tells (part_faults s n st (is ++ js))
+  parts_tell : (s : Subject) (m n : ℕ) (st : Reached) (is js : List Item) → Tells (part_faults s m st is) → Tells (part_faults s n st (is ++ js))
   parts_tell s m n st [] js h = absurd (unstopped m h)
   parts_tell s m n st (End ∷ is) js h = h
   parts_tell s m n st (i ∷ is) js h = same_tests (tests s st i) (part_faults s m (after s st i) is) (part_faults s n (after s st i) (is ++ js)) (parts_tell s m n (after s st i) is js) h

@@ -14,7 +14,7 @@ use Rattle.mr_sequential.specs.Emitted.{Triple}
 use Rattle.mr_sequential.specs.Good.{named}
 use Rattle.mr_check.specs.declared.fault.No.{No}
 use Rattle.mr_check.specs.declared.fault.No.TheVariants as Fault
-use Rattle.mr_check.specs.Verdict.{Case, State, Subject, Accepted, passes, start, tests, after, last_of, item_eq, job_wanted, input_wanted, wanted_faults, faults, told_by, accepted_by, case_of, subject_of, verdict_of, text_tests, end_tests, order_tests, with_entry, entry_tests, group_tests, behind_group, after_entry, first, entries_in}
+use Rattle.mr_check.specs.Verdict.{Case, Reached, Subject, Accepted, passes, start, tests, after, last_of, item_eq, job_wanted, input_wanted, wanted_faults, faults, told_by, accepted_by, case_of, subject_of, verdict_of, text_tests, end_tests, order_tests, with_entry, entry_tests, group_tests, behind_group, after_entry, first, entries_in}
 use Rattle.mr_check.specs.VerdictLaws.{told, piece, part_fault, before_fault, last_before, SameBy, SameFor, fault_of, or_else, skips_in, parts_in, front_skips, front_count, front_faults, least_fault, back_fault, SameInPart, SameFrom, SameUnless, OtherOutputsDontMatter, BytesBehindDontMatter, OnlyComparedMatters}
 use Rattle.mr_check.proofs.VerdictPlace.{fault_by_place}
 use Rattle.mr_check.proofs.VerdictTests.{none_left, none_right, none_both}
@@ -25,46 +25,46 @@ abbrev with : Subject → List (List ℕ) → Subject
 with s others = record s { outputs = others }
 
 module _ (s : Subject) (others : List (List ℕ)) where
-  group_behind : (st : State) (m : ℕ) → behind_group (with s others) st m ≡ behind_group s st m
+  group_behind : (st : Reached) (m : ℕ) → behind_group (with s others) st m ≡ behind_group s st m
   group_behind st zero = refl
   group_behind st (suc m) = refl
 
   -- what is remembered doesn't hang on the outputs
-  entry_after : (st : State) (o : Option Triple) → after_entry (with s others) st o ≡ after_entry s st o
+  entry_after : (st : Reached) (o : Option Triple) → after_entry (with s others) st o ≡ after_entry s st o
   entry_after st None = refl
   entry_after st (Some t) = group_behind (with_entry st t st.entry) (st.entries - 1)
 
-  group_same : (p : ℕ) (st : State) (m : ℕ) → nth_file others p ≡ nth_file s.outputs p → group_tests (with s others) p st m ≡ group_tests s p st m
+  group_same : (p : ℕ) (st : Reached) (m : ℕ) → nth_file others p ≡ nth_file s.outputs p → group_tests (with s others) p st m ≡ group_tests s p st m
   group_same p st zero e =
       ap (λ out. text_tests out p st.from (s.rules.text st.key st.values) ++ end_tests out p (st.groups - 1) (st.from + length (s.rules.text st.key st.values))) e
   group_same p st (suc m) e = refl
 
-  entry_same : (p : ℕ) (st : State) (n : Name) (o : Option Triple) → nth_file others p ≡ nth_file s.outputs p → entry_tests (with s others) p st n o ≡ entry_tests s p st n o
+  entry_same : (p : ℕ) (st : Reached) (n : Name) (o : Option Triple) → nth_file others p ≡ nth_file s.outputs p → entry_tests (with s others) p st n o ≡ entry_tests s p st n o
   entry_same p st n None e = refl
   entry_same p st n (Some t) e = ap (λ w. order_tests s.rules.part p st n t.key st.entry ++ w) (group_same p (with_entry st t st.entry) (st.entries - 1) e)
 
-  next_group : (st : State) (m : ℕ) → (behind_group s st m).next ≡ st.next
+  next_group : (st : Reached) (m : ℕ) → (behind_group s st m).next ≡ st.next
   next_group st zero = refl
   next_group st (suc m) = refl
 
-  next_with : (st : State) (t : Triple) (e : ℕ) → (with_entry st t e).next ≡ st.next
+  next_with : (st : Reached) (t : Triple) (e : ℕ) → (with_entry st t e).next ≡ st.next
   next_with st t zero = refl
   next_with st t (suc e) = refl
 
-  pub next_entry : (st : State) (o : Option Triple) → (after_entry s st o).next ≡ st.next
+  pub next_entry : (st : Reached) (o : Option Triple) → (after_entry s st o).next ≡ st.next
   next_entry st None = refl
   next_entry st (Some t) = next_group (with_entry st t st.entry) (st.entries - 1) ∙ next_with st t st.entry
 
-  told_same : (is : List Item) (st : State) → nth_file others (st.next - 1) ≡ nth_file s.outputs (st.next - 1) → told (with s others) st (piece is) ≡ told s st (piece is)
+  told_same : (is : List Item) (st : Reached) → nth_file others (st.next - 1) ≡ nth_file s.outputs (st.next - 1) → told (with s others) st (piece is) ≡ told s st (piece is)
   told_same [] st e = refl
   told_same (Groups n ∷ is) st e = refl
   told_same (End ∷ is) st e = refl
   told_same (Entry n ∷ is) st e =
-      let new : State = after s st (Entry n) in
+      let new : Reached = after s st (Entry n) in
       let next : new.next ≡ st.next = next_entry st (named s.triples n) in
       ap (λ w. w ++ told (with s others) (after (with s others) st (Entry n)) (piece is)) (entry_same (st.next - 1) st n (named s.triples n) e)
       ∙ ap (λ w. tests s st (Entry n) ++ w)
-      (ap (λ (w : State). told (with s others) w (piece is)) (entry_after st (named s.triples n))
+      (ap (λ (w : Reached). told (with s others) w (piece is)) (entry_after st (named s.triples n))
       ∙ told_same is (after s st (Entry n)) (subst (λ k. nth_file others (k - 1) ≡ nth_file s.outputs (k - 1)) (sym next) e))
   told_same (Entries n ∷ is) st e = told_same is (after s st (Entries n)) e
   told_same (i ∷ is) st e = told_same is st e
@@ -123,16 +123,16 @@ either fault [] ys e = inr (refl, e)
 either fault (x ∷ xs) ys e = inl e
 
 module _ (s : Subject) (others : List (List ℕ)) where
-  abbrev text_at : State → List ℕ
+  abbrev text_at : Reached → List ℕ
   text_at st = s.rules.text st.key st.values
 
-  abbrev texts : ℕ → State → List No
+  abbrev texts : ℕ → Reached → List No
   texts p st = text_tests (nth_file s.outputs p) p st.from (text_at st)
 
-  abbrev ends : ℕ → State → List No
+  abbrev ends : ℕ → Reached → List No
   ends p st = end_tests (nth_file s.outputs p) p (st.groups - 1) (st.from + length (text_at st))
 
-  group_fault : (p : ℕ) (st : State) (m : ℕ) (fault : No) → NotOfOutput fault → Tells fault (group_tests s p st m) → ⊥
+  group_fault : (p : ℕ) (st : Reached) (m : ℕ) (fault : No) → NotOfOutput fault → Tells fault (group_tests s p st m) → ⊥
   group_fault p st zero fault n e =
       elim (either fault (texts p st) (ends p st) e) [
         | inl a ↦ one_fault (common_prefix_len nat_eq (text_at st) (drop st.from (nth_file s.outputs p)) == length (text_at st)) p (st.from + common_prefix_len nat_eq (text_at st) (drop st.from (nth_file s.outputs p))) fault n a
@@ -146,7 +146,7 @@ module _ (s : Subject) (others : List (List ℕ)) where
     abbrev Differs : List No → Type 0
     Differs faults = Tells (Fault.OutputDiffers q at) faults
 
-    group_place : (p : ℕ) (st : State) (m : ℕ) → Differs (group_tests s p st m) → st.from ≤ at
+    group_place : (p : ℕ) (st : Reached) (m : ℕ) → Differs (group_tests s p st m) → st.from ≤ at
     group_place p st zero e =
         elim (either (Fault.OutputDiffers q at) (texts p st) (ends p st) e) [
           | inl a ↦ text_place (nth_file s.outputs p) p st.from (text_at st) q at a
@@ -154,7 +154,7 @@ module _ (s : Subject) (others : List (List ℕ)) where
         ]
     group_place p st (suc m) e = absurd (cc)
 
-    group_fails : (p : ℕ) (st : State) (m : ℕ) → SameUpTo (at + 1) (nth_file s.outputs p) (nth_file others p) → Differs (group_tests s p st m) → Differs (group_tests (with s others) p st m)
+    group_fails : (p : ℕ) (st : Reached) (m : ℕ) → SameUpTo (at + 1) (nth_file s.outputs p) (nth_file others p) → Differs (group_tests s p st m) → Differs (group_tests (with s others) p st m)
     group_fails p st zero same e =
         elim (either (Fault.OutputDiffers q at) (texts p st) (ends p st) e) [
           | inl a ↦
@@ -169,30 +169,30 @@ module _ (s : Subject) (others : List (List ℕ)) where
         ]
     group_fails p st (suc m) same e = absurd (cc)
 
-    group_passes : (p : ℕ) (st : State) (m : ℕ) → SameUpTo (at + 1) (nth_file s.outputs p) (nth_file others p) → (behind_group s st m).from ≤ at → group_tests s p st m ≡ [] → group_tests (with s others) p st m ≡ []
+    group_passes : (p : ℕ) (st : Reached) (m : ℕ) → SameUpTo (at + 1) (nth_file s.outputs p) (nth_file others p) → (behind_group s st m).from ≤ at → group_tests s p st m ≡ [] → group_tests (with s others) p st m ≡ []
     group_passes p st zero same h e =
         none_both (text_tests (nth_file others p) p st.from (text_at st)) (end_tests (nth_file others p) p (st.groups - 1) (st.from + length (text_at st)))
         (text_again (nth_file s.outputs p) (nth_file others p) p st.from (at + 1) (text_at st) (omega (arith, h)) same (none_left (texts p st) (ends p st) e))
         (end_again (nth_file s.outputs p) (nth_file others p) p (st.groups - 1) (st.from + length (text_at st)) at h same (none_right (texts p st) (ends p st) e))
     group_passes p st (suc m) same h e = refl
 
-    from_with : (st : State) (t : Triple) (e : ℕ) → (with_entry st t e).from ≡ st.from
+    from_with : (st : Reached) (t : Triple) (e : ℕ) → (with_entry st t e).from ≡ st.from
     from_with st t zero = refl
     from_with st t (suc e) = refl
 
-    from_group : (st : State) (m : ℕ) → st.from ≤ (behind_group s st m).from
+    from_group : (st : Reached) (m : ℕ) → st.from ≤ (behind_group s st m).from
     from_group st zero = omega arith
     from_group st (suc m) = omega arith
 
-    from_entry : (st : State) (o : Option Triple) → st.from ≤ (after_entry s st o).from
+    from_entry : (st : Reached) (o : Option Triple) → st.from ≤ (after_entry s st o).from
     from_entry st None = omega arith
     from_entry st (Some t) = omega (arith, from_group (with_entry st t st.entry) (st.entries - 1), from_with st t st.entry)
 
-    order_fault : (p : ℕ) (st : State) (n : Name) (key : List ℕ) (e : ℕ) → Differs (order_tests s.rules.part p st n key e) → ⊥
+    order_fault : (p : ℕ) (st : Reached) (n : Name) (key : List ℕ) (e : ℕ) → Differs (order_tests s.rules.part p st n key e) → ⊥
     order_fault p st n key zero d = two_faults q at _ _ _ _ tt tt d
     order_fault p st n key (suc e) d = two_faults q at _ _ _ _ tt tt d
 
-    entry_place : (p : ℕ) (st : State) (n : Name) (o : Option Triple) → Differs (entry_tests s p st n o) → st.from ≤ at
+    entry_place : (p : ℕ) (st : Reached) (n : Name) (o : Option Triple) → Differs (entry_tests s p st n o) → st.from ≤ at
     entry_place p st n None e = absurd (cc)
     entry_place p st n (Some t) e =
         elim (either (Fault.OutputDiffers q at) (order_tests s.rules.part p st n t.key st.entry) (group_tests s p (with_entry st t st.entry) (st.entries - 1)) e) [
@@ -200,13 +200,13 @@ module _ (s : Subject) (others : List (List ℕ)) where
           | inr b ↦ omega (arith, group_place p (with_entry st t st.entry) (st.entries - 1) b.1, from_with st t st.entry)
         ]
 
-    entry_fails : (p : ℕ) (st : State) (n : Name) (o : Option Triple) → SameUpTo (at + 1) (nth_file s.outputs p) (nth_file others p) → Differs (entry_tests s p st n o) → Differs (entry_tests (with s others) p st n o)
+    entry_fails : (p : ℕ) (st : Reached) (n : Name) (o : Option Triple) → SameUpTo (at + 1) (nth_file s.outputs p) (nth_file others p) → Differs (entry_tests s p st n o) → Differs (entry_tests (with s others) p st n o)
     entry_fails p st n None same e = e
     entry_fails p st n (Some t) same e =
         same_tests (Fault.OutputDiffers q at) (order_tests s.rules.part p st n t.key st.entry) (group_tests s p (with_entry st t st.entry) (st.entries - 1)) (group_tests (with s others) p (with_entry st t st.entry) (st.entries - 1))
         (group_fails p (with_entry st t st.entry) (st.entries - 1) same) e
 
-    entry_passes : (p : ℕ) (st : State) (n : Name) (o : Option Triple) → SameUpTo (at + 1) (nth_file s.outputs p) (nth_file others p) → (after_entry s st o).from ≤ at → entry_tests s p st n o ≡ [] → entry_tests (with s others) p st n o ≡ []
+    entry_passes : (p : ℕ) (st : Reached) (n : Name) (o : Option Triple) → SameUpTo (at + 1) (nth_file s.outputs p) (nth_file others p) → (after_entry s st o).from ≤ at → entry_tests s p st n o ≡ [] → entry_tests (with s others) p st n o ≡ []
     entry_passes p st n None same h e = e
     entry_passes p st n (Some t) same h e =
         none_both (order_tests s.rules.part p st n t.key st.entry) (group_tests (with s others) p (with_entry st t st.entry) (st.entries - 1))
@@ -214,7 +214,7 @@ module _ (s : Subject) (others : List (List ℕ)) where
         (group_passes p (with_entry st t st.entry) (st.entries - 1) same h (none_right (order_tests s.rules.part p st n t.key st.entry) (group_tests s p (with_entry st t st.entry) (st.entries - 1)) e))
 
     -- what was compared lies before the place
-    told_place : (is : List Item) (st : State) → Differs (told s st (piece is)) → st.from ≤ at
+    told_place : (is : List Item) (st : Reached) → Differs (told s st (piece is)) → st.from ≤ at
     told_place [] st e = absurd (cc)
     told_place (Groups n ∷ is) st e = absurd (cc)
     told_place (End ∷ is) st e = absurd (cc)
@@ -226,7 +226,7 @@ module _ (s : Subject) (others : List (List ℕ)) where
     told_place (Entries n ∷ is) st e = told_place is (after s st (Entries n)) e
     told_place (i ∷ is) st e = told_place is st e
 
-    told_fails : (is : List Item) (st : State) → SameUpTo (at + 1) (nth_file s.outputs (st.next - 1)) (nth_file others (st.next - 1)) → Differs (told s st (piece is)) → Differs (told (with s others) st (piece is))
+    told_fails : (is : List Item) (st : Reached) → SameUpTo (at + 1) (nth_file s.outputs (st.next - 1)) (nth_file others (st.next - 1)) → Differs (told s st (piece is)) → Differs (told (with s others) st (piece is))
     told_fails [] st same e = e
     told_fails (Groups n ∷ is) st same e = e
     told_fails (End ∷ is) st same e = e
@@ -239,7 +239,7 @@ module _ (s : Subject) (others : List (List ℕ)) where
               (let passes_ = entry_passes (st.next - 1) st n (named s.triples n) same (told_place is (after s st (Entry n)) b.1) b.0 in
               let rest = told_fails is (after s st (Entry n)) (subst (λ k. SameUpTo (at + 1) (nth_file s.outputs (k - 1)) (nth_file others (k - 1))) (sym next) same) b.1 in
               subst (λ w. Differs (w ++ told (with s others) (after (with s others) st (Entry n)) (piece is))) (sym passes_)
-              (subst (λ (w : State). Differs (told (with s others) w (piece is))) (sym moved) rest))
+              (subst (λ (w : Reached). Differs (told (with s others) w (piece is))) (sym moved) rest))
         ]
     told_fails (Entries n ∷ is) st same e = told_fails is (after s st (Entries n)) same e
     told_fails (i ∷ is) st same e = told_fails is st same e
@@ -247,35 +247,35 @@ module _ (s : Subject) (others : List (List ℕ)) where
   -- ---- any other fault
 
   -- where the last group has come no more of it comes
-  groups_of_group : (st : State) (m : ℕ) → st.groups ≡ 0 → (behind_group s st m).groups ≡ 0
+  groups_of_group : (st : Reached) (m : ℕ) → st.groups ≡ 0 → (behind_group s st m).groups ≡ 0
   groups_of_group st zero h = omega arith
   groups_of_group st (suc m) h = h
 
-  groups_of_with : (st : State) (t : Triple) (e : ℕ) → (with_entry st t e).groups ≡ st.groups
+  groups_of_with : (st : Reached) (t : Triple) (e : ℕ) → (with_entry st t e).groups ≡ st.groups
   groups_of_with st t zero = refl
   groups_of_with st t (suc e) = refl
 
-  groups_of_entry : (st : State) (o : Option Triple) → st.groups ≡ 0 → (after_entry s st o).groups ≡ 0
+  groups_of_entry : (st : Reached) (o : Option Triple) → st.groups ≡ 0 → (after_entry s st o).groups ≡ 0
   groups_of_entry st None h = h
   groups_of_entry st (Some t) h = groups_of_group (with_entry st t st.entry) (st.entries - 1) (groups_of_with st t st.entry ∙ h)
 
-  from_of_with : (st : State) (t : Triple) (e : ℕ) → (with_entry st t e).from ≡ st.from
+  from_of_with : (st : Reached) (t : Triple) (e : ℕ) → (with_entry st t e).from ≡ st.from
   from_of_with st t zero = refl
   from_of_with st t (suc e) = refl
 
-  from_of_group : (st : State) (m : ℕ) → st.from ≤ (behind_group s st m).from
+  from_of_group : (st : Reached) (m : ℕ) → st.from ≤ (behind_group s st m).from
   from_of_group st zero = omega arith
   from_of_group st (suc m) = omega arith
 
-  from_of_entry : (st : State) (o : Option Triple) → st.from ≤ (after_entry s st o).from
+  from_of_entry : (st : Reached) (o : Option Triple) → st.from ≤ (after_entry s st o).from
   from_of_entry st None = omega arith
   from_of_entry st (Some t) = omega (arith, from_of_group (with_entry st t st.entry) (st.entries - 1), from_of_with st t st.entry)
 
-  record IsLater (old new : State) : Type 0 where
+  record IsLater (old new : Reached) : Type 0 where
     from : old.from ≤ new.from
     groups : old.groups ≡ 0 → new.groups ≡ 0
 
-  fault_later : (is : List Item) (st : State) → IsLater st (before_fault s st (piece is))
+  fault_later : (is : List Item) (st : Reached) → IsLater st (before_fault s st (piece is))
   fault_later [] st = record { from = omega arith; groups = λ h. h }
   fault_later (Groups n ∷ is) st = record { from = omega arith; groups = λ h. h }
   fault_later (End ∷ is) st = record { from = omega arith; groups = λ h. h }
@@ -287,7 +287,7 @@ module _ (s : Subject) (others : List (List ℕ)) where
   fault_later (Entries n ∷ is) st = let h = fault_later is (after s st (Entries n)) in record { from = h.from; groups = h.groups }
   fault_later (i ∷ is) st = fault_later is st
 
-  none_by : (p : ℕ) (st : State) (m groups from : ℕ) → SameBy groups from (nth_file s.outputs p) (nth_file others p) → (behind_group s st m).from ≤ from → ((behind_group s st m).groups ≡ 0 → groups ≡ 0)
+  none_by : (p : ℕ) (st : Reached) (m groups from : ℕ) → SameBy groups from (nth_file s.outputs p) (nth_file others p) → (behind_group s st m).from ≤ from → ((behind_group s st m).groups ≡ 0 → groups ≡ 0)
       → group_tests s p st m ≡ [] → group_tests (with s others) p st m ≡ []
   none_by p st m zero from same h g e = group_same s others p st m same ∙ e
   none_by p st (suc m) (suc groups) from same h g e = refl
@@ -300,7 +300,7 @@ module _ (s : Subject) (others : List (List ℕ)) where
       more zero is = let none : suc groups ≡ 0 = g is in absurd (omega arith)
       more (suc k) is = refl
 
-  entry_by : (p : ℕ) (st : State) (n : Name) (o : Option Triple) (groups from : ℕ) → SameBy groups from (nth_file s.outputs p) (nth_file others p) → (after_entry s st o).from ≤ from → ((after_entry s st o).groups ≡ 0 → groups ≡ 0)
+  entry_by : (p : ℕ) (st : Reached) (n : Name) (o : Option Triple) (groups from : ℕ) → SameBy groups from (nth_file s.outputs p) (nth_file others p) → (after_entry s st o).from ≤ from → ((after_entry s st o).groups ≡ 0 → groups ≡ 0)
       → entry_tests s p st n o ≡ [] → entry_tests (with s others) p st n o ≡ []
   entry_by p st n None groups from same h g e = e
   entry_by p st n (Some t) groups from same h g e =
@@ -309,7 +309,7 @@ module _ (s : Subject) (others : List (List ℕ)) where
       (none_by p (with_entry st t st.entry) (st.entries - 1) groups from same h g (none_right (order_tests s.rules.part p st n t.key st.entry) (group_tests s p (with_entry st t st.entry) (st.entries - 1)) e))
 
   module _ (fault : No) (not_output : NotOfOutput fault) where
-    entry_other : (p : ℕ) (st : State) (n : Name) (o : Option Triple) → Tells fault (entry_tests s p st n o) → Tells fault (entry_tests (with s others) p st n o)
+    entry_other : (p : ℕ) (st : Reached) (n : Name) (o : Option Triple) → Tells fault (entry_tests s p st n o) → Tells fault (entry_tests (with s others) p st n o)
     entry_other p st n None e = e
     entry_other p st n (Some t) e =
         elim (either fault (order_tests s.rules.part p st n t.key st.entry) (group_tests s p (with_entry st t st.entry) (st.entries - 1)) e) [
@@ -317,15 +317,15 @@ module _ (s : Subject) (others : List (List ℕ)) where
           | inr b ↦ absurd (group_fault p (with_entry st t st.entry) (st.entries - 1) fault not_output b.1)
         ]
 
-    abbrev SameAt : State → State → Type 0
+    abbrev SameAt : Reached → Reached → Type 0
     SameAt st last = SameBy last.groups last.from (nth_file s.outputs (st.next - 1)) (nth_file others (st.next - 1))
 
-    told_other : (is : List Item) (st : State) → SameAt st (before_fault s st (piece is)) → Tells fault (told s st (piece is)) → Tells fault (told (with s others) st (piece is))
+    told_other : (is : List Item) (st : Reached) → SameAt st (before_fault s st (piece is)) → Tells fault (told s st (piece is)) → Tells fault (told (with s others) st (piece is))
     told_other [] st same e = e
     told_other (Groups n ∷ is) st same e = e
     told_other (End ∷ is) st same e = e
     told_other (Entry n ∷ is) st same e =
-        let last : State = before_fault s (after s st (Entry n)) (piece is) in
+        let last : Reached = before_fault s (after s st (Entry n)) (piece is) in
         let moved : after (with s others) st (Entry n) ≡ after s st (Entry n) = entry_after s others st (named s.triples n) in
         let next : (after s st (Entry n)).next ≡ st.next = next_entry s others st (named s.triples n) in
         elim (either fault (tests s st (Entry n)) (told s (after s st (Entry n)) (piece is)) e) [
@@ -337,21 +337,21 @@ module _ (s : Subject) (others : List (List ℕ)) where
               let there : SameAt (after s st (Entry n)) (before_fault s (after s st (Entry n)) (piece is)) = subst (λ k. SameBy last.groups last.from (nth_file s.outputs (k - 1)) (nth_file others (k - 1))) (sym next) here in
               let rest = told_other is (after s st (Entry n)) there b.1 in
               subst (λ w. Tells fault (w ++ told (with s others) (after (with s others) st (Entry n)) (piece is))) (sym none)
-              (subst (λ (w : State). Tells fault (told (with s others) w (piece is))) (sym moved) rest))
+              (subst (λ (w : Reached). Tells fault (told (with s others) w (piece is))) (sym moved) rest))
         ]
     told_other (Entries n ∷ is) st same e = told_other is (after s st (Entries n)) same e
     told_other (i ∷ is) st same e = told_other is st same e
 
-  abbrev SameBehind : State → State → Type 0
+  abbrev SameBehind : Reached → Reached → Type 0
   SameBehind st last = SameBy last.groups last.from (nth_file s.outputs (st.next - 1)) (nth_file others (st.next - 1))
 
   -- where nothing is told
-  told_none : (is : List Item) (st : State) → SameBehind st (before_fault s st (piece is)) → told s st (piece is) ≡ [] → told (with s others) st (piece is) ≡ []
+  told_none : (is : List Item) (st : Reached) → SameBehind st (before_fault s st (piece is)) → told s st (piece is) ≡ [] → told (with s others) st (piece is) ≡ []
   told_none [] st same e = refl
   told_none (Groups n ∷ is) st same e = refl
   told_none (End ∷ is) st same e = refl
   told_none (Entry n ∷ is) st same e =
-      let last : State = before_fault s (after s st (Entry n)) (piece is) in
+      let last : Reached = before_fault s (after s st (Entry n)) (piece is) in
       let moved : after (with s others) st (Entry n) ≡ after s st (Entry n) = entry_after s others st (named s.triples n) in
       let next : (after s st (Entry n)).next ≡ st.next = next_entry s others st (named s.triples n) in
       let tested = none_left (tests s st (Entry n)) (told s (after s st (Entry n)) (piece is)) e in
@@ -360,13 +360,13 @@ module _ (s : Subject) (others : List (List ℕ)) where
       let none = entry_by (st.next - 1) st n (named s.triples n) last.groups last.from here later.from later.groups tested in
       let there : SameBehind (after s st (Entry n)) (before_fault s (after s st (Entry n)) (piece is)) = subst (λ k. SameBy last.groups last.from (nth_file s.outputs (k - 1)) (nth_file others (k - 1))) (sym next) here in
       let rest = told_none is (after s st (Entry n)) there (none_right (tests s st (Entry n)) (told s (after s st (Entry n)) (piece is)) e) in
-      none_both (tests (with s others) st (Entry n)) (told (with s others) (after (with s others) st (Entry n)) (piece is)) none (ap (λ (w : State). told (with s others) w (piece is)) moved ∙ rest)
+      none_both (tests (with s others) st (Entry n)) (told (with s others) (after (with s others) st (Entry n)) (piece is)) none (ap (λ (w : Reached). told (with s others) w (piece is)) moved ∙ rest)
   told_none (Entries n ∷ is) st same e = told_none is (after s st (Entries n)) same e
   told_none (i ∷ is) st same e = told_none is st same e
 
 -- ---- a partition
 
-abbrev opened : ℕ → ℕ → State
+abbrev opened : ℕ → ℕ → Reached
 opened p n = record start { next = p + 1; groups = n; group = 0; key_before = None; from = 0 }
 
 here_is : (p : ℕ) → p ≡ p + 1 - 1
@@ -388,7 +388,7 @@ part_differs s others p n is q at same e =
     ]
 
 -- the state in which the first fault of a partition is told
-abbrev last_of_part : Subject → ℕ → ℕ → List Item → State
+abbrev last_of_part : Subject → ℕ → ℕ → List Item → Reached
 last_of_part s p n is = last_before (end_tests (nth_file s.outputs p) p n 0) (record start { next = p }) (before_fault s (opened p n) (piece is))
 
 -- a partition of no group ends where it did
@@ -407,7 +407,7 @@ record IsOpened (s : Subject) (others : List (List ℕ)) (p n : ℕ) (is : List 
 is_opened : (s : Subject) (others : List (List ℕ)) (p n : ℕ) (is : List Item) → (let last = last_of_part s p n is in SameBy last.groups last.from (nth_file s.outputs p) (nth_file others p))
     → end_tests (nth_file s.outputs p) p n 0 ≡ [] → IsOpened s others p n is
 is_opened s others p n is same e =
-    let last : State = before_fault s (opened p n) (piece is) in
+    let last : Reached = before_fault s (opened p n) (piece is) in
     let here : SameBy last.groups last.from (nth_file s.outputs p) (nth_file others p) =
     subst (λ ts. (let w = last_before ts (record start { next = p }) (before_fault s (opened p n) (piece is)) in SameBy w.groups w.from (nth_file s.outputs p) (nth_file others p))) e same in
     record {

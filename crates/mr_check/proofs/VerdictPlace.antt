@@ -20,7 +20,7 @@ use Rattle.mr_sequential.specs.Good.{named}
 use Rattle.mr_splits.specs.Kept.{is_past}
 use Rattle.mr_check.specs.declared.fault.No.{No}
 use Rattle.mr_check.specs.declared.fault.No.TheVariants as Fault
-use Rattle.mr_check.specs.Verdict.{Case, State, Subject, passes, start, tests, after, part_faults, subject_of, last_of, skip_faults, count_faults, item_eq, job_wanted, input_wanted, wanted_faults, faults, Accepted, accepted_by, told_by, case_of, verdict_of, order_tests, with_entry, entry_tests, group_tests, behind_group, after_entry, first, entries_in}
+use Rattle.mr_check.specs.Verdict.{Case, Reached, Subject, passes, start, tests, after, part_faults, subject_of, last_of, skip_faults, count_faults, item_eq, job_wanted, input_wanted, wanted_faults, faults, Accepted, accepted_by, told_by, case_of, verdict_of, order_tests, with_entry, entry_tests, group_tests, behind_group, after_entry, first, entries_in}
 use Rattle.mr_check.specs.VerdictLaws.{told, or_else, fault_of, skips_in, piece, parts_in, front_skips, front_count, front_faults, part_fault, least_fault, back_fault, FaultByPlace}
 use Rattle.mr_check.proofs.VerdictHeader.{AreEqual, eq_is, equal_job, equal_input}
 
@@ -43,53 +43,53 @@ first_same (t ∷ ts) xs ys o e = refl
 
 module _ (s : Subject) where
   -- the same, but for how many entries there were
-  abbrev counting : State → ℕ → State
+  abbrev counting : Reached → ℕ → Reached
   counting st k = record st { named = k }
 
-  group_counting : (p : ℕ) (st : State) (k m : ℕ) → group_tests s p (counting st k) m ≡ group_tests s p st m
+  group_counting : (p : ℕ) (st : Reached) (k m : ℕ) → group_tests s p (counting st k) m ≡ group_tests s p st m
   group_counting p st k zero = refl
   group_counting p st k (suc m) = refl
 
-  behind_counting : (st : State) (k m : ℕ) → behind_group s (counting st k) m ≡ counting (behind_group s st m) k
+  behind_counting : (st : Reached) (k m : ℕ) → behind_group s (counting st k) m ≡ counting (behind_group s st m) k
   behind_counting st k zero = refl
   behind_counting st k (suc m) = refl
 
-  with_counting : (st : State) (t : Triple) (k e : ℕ) → with_entry (counting st k) t e ≡ counting (with_entry st t e) (k + 1)
+  with_counting : (st : Reached) (t : Triple) (k e : ℕ) → with_entry (counting st k) t e ≡ counting (with_entry st t e) (k + 1)
   with_counting st t k zero = refl
   with_counting st t k (suc e) = refl
 
-  order_counting : (p : ℕ) (st : State) (n : Name) (key : List ℕ) (k e : ℕ) → order_tests s.rules.part p (counting st k) n key e ≡ order_tests s.rules.part p st n key e
+  order_counting : (p : ℕ) (st : Reached) (n : Name) (key : List ℕ) (k e : ℕ) → order_tests s.rules.part p (counting st k) n key e ≡ order_tests s.rules.part p st n key e
   order_counting p st n key k zero = refl
   order_counting p st n key k (suc e) = refl
 
-  entry_counting : (p : ℕ) (st : State) (n : Name) (o : Option Triple) (k : ℕ) → entry_tests s p (counting st k) n o ≡ entry_tests s p st n o
+  entry_counting : (p : ℕ) (st : Reached) (n : Name) (o : Option Triple) (k : ℕ) → entry_tests s p (counting st k) n o ≡ entry_tests s p st n o
   entry_counting p st n None k = refl
   entry_counting p st n (Some t) k =
       ap (λ w. w ++ group_tests s p (with_entry (counting st k) t st.entry) (st.entries - 1)) (order_counting p st n t.key k st.entry)
       ∙ ap (λ w. order_tests s.rules.part p st n t.key st.entry ++ w)
-      (ap (λ (w : State). group_tests s p w (st.entries - 1)) (with_counting st t k st.entry) ∙ group_counting p (with_entry st t st.entry) (k + 1) (st.entries - 1))
+      (ap (λ (w : Reached). group_tests s p w (st.entries - 1)) (with_counting st t k st.entry) ∙ group_counting p (with_entry st t st.entry) (k + 1) (st.entries - 1))
 
-  after_counting : (st : State) (o : Option Triple) (k : ℕ) → (j : ℕ) × (after_entry s (counting st k) o ≡ counting (after_entry s st o) j)
+  after_counting : (st : Reached) (o : Option Triple) (k : ℕ) → (j : ℕ) × (after_entry s (counting st k) o ≡ counting (after_entry s st o) j)
   after_counting st None k = (k, refl)
-  after_counting st (Some t) k = (k + 1, ap (λ (w : State). behind_group s w (st.entries - 1)) (with_counting st t k st.entry) ∙ behind_counting (with_entry st t st.entry) (k + 1) (st.entries - 1))
+  after_counting st (Some t) k = (k + 1, ap (λ (w : Reached). behind_group s w (st.entries - 1)) (with_counting st t k st.entry) ∙ behind_counting (with_entry st t st.entry) (k + 1) (st.entries - 1))
 
   -- no item of a partition's piece tells of it
-  told_counting : (is : List Item) (st : State) (k : ℕ) → told s (counting st k) (piece is) ≡ told s st (piece is)
+  told_counting : (is : List Item) (st : Reached) (k : ℕ) → told s (counting st k) (piece is) ≡ told s st (piece is)
   told_counting [] st k = refl
   told_counting (Groups n ∷ is) st k = refl
   told_counting (End ∷ is) st k = refl
   told_counting (Entry n ∷ is) st k =
       let moved = after_counting st (named s.triples n) k in
       ap (λ w. w ++ told s (after s (counting st k) (Entry n)) (piece is)) (entry_counting (st.next - 1) st n (named s.triples n) k)
-      ∙ ap (λ w. tests s st (Entry n) ++ w) (ap (λ (w : State). told s w (piece is)) moved.1 ∙ told_counting is (after s st (Entry n)) moved.0)
+      ∙ ap (λ w. tests s st (Entry n) ++ w) (ap (λ (w : Reached). told s w (piece is)) moved.1 ∙ told_counting is (after s st (Entry n)) moved.0)
   told_counting (Entries n ∷ is) st k = told_counting is (after s st (Entries n)) k
   told_counting (i ∷ is) st k = told_counting is st k
 
   -- what the first entry of a group forgets
-  abbrev other : State → List ℕ → Name → List Value → ℕ → State
+  abbrev other : Reached → List ℕ → Name → List Value → ℕ → Reached
   other st key before values k = record st { key = key; before = before; values = values; named = k }
 
-  first_entry : (p : ℕ) (st : State) (n : Name) (key : List ℕ) (before : Name) (values : List Value) (k : ℕ) (o : Option Triple) → st.entry ≡ 0
+  first_entry : (p : ℕ) (st : Reached) (n : Name) (key : List ℕ) (before : Name) (values : List Value) (k : ℕ) (o : Option Triple) → st.entry ≡ 0
       → entry_tests s p (other st key before values k) n o ≡ entry_tests s p st n o
   first_entry p st n key before values k None h = refl
   first_entry p st n key before values k (Some t) h =
@@ -98,27 +98,27 @@ module _ (s : Subject) where
       ∙ ap (λ e. order_tests s.rules.part p st n t.key e ++ group_tests s p (with_entry st t e) (st.entries - 1)) (sym h))
 
   -- behind a first entry nothing is left of it; where there is no such pair a fault was told
-  first_after : (st : State) (key : List ℕ) (before : Name) (values : List Value) (k : ℕ) (t : Triple) → st.entry ≡ 0
+  first_after : (st : Reached) (key : List ℕ) (before : Name) (values : List Value) (k : ℕ) (t : Triple) → st.entry ≡ 0
       → after_entry s (other st key before values k) (Some t) ≡ counting (after_entry s st (Some t)) (k + 1)
   first_after st key before values k t h =
       ap (λ e. behind_group s (with_entry (other st key before values k) t e) (st.entries - 1)) h
       ∙ (behind_counting (with_entry st t 0) (k + 1) (st.entries - 1)
       ∙ ap (λ e. counting (behind_group s (with_entry st t e) (st.entries - 1)) (k + 1)) (sym h))
 
-  first_told : (p : ℕ) (st : State) (n : Name) (is : List Item) (key : List ℕ) (before : Name) (values : List Value) (k : ℕ) (o : Option Triple) → st.entry ≡ 0
+  first_told : (p : ℕ) (st : Reached) (n : Name) (is : List Item) (key : List ℕ) (before : Name) (values : List Value) (k : ℕ) (o : Option Triple) → st.entry ≡ 0
       → first (entry_tests s p (other st key before values k) n o ++ told s (after_entry s (other st key before values k) o) (piece is)) ≡ first (entry_tests s p st n o ++ told s (after_entry s st o) (piece is))
   first_told p st n is key before values k None h = refl
   first_told p st n is key before values k (Some t) h =
       ap (λ w. first (w ++ told s (after_entry s (other st key before values k) (Some t)) (piece is))) (first_entry p st n key before values k (Some t) h)
       ∙ ap (λ w. first (entry_tests s p st n (Some t) ++ w))
-      (ap (λ (w : State). told s w (piece is)) (first_after st key before values k t h) ∙ told_counting is (after_entry s st (Some t)) (k + 1))
+      (ap (λ (w : Reached). told s w (piece is)) (first_after st key before values k t h) ∙ told_counting is (after_entry s st (Some t)) (k + 1))
 
   -- a partition's first fault is told by its own items
-  abbrev alone : ℕ → State
+  abbrev alone : ℕ → Reached
   alone p = record start { next = p }
 
   -- behind the number of groups there comes a number of entries, and behind that an entry
-  in_place : (g r : ℕ) (st : State) (is : List Item) → InOrder (Places.groups r g) is
+  in_place : (g r : ℕ) (st : Reached) (is : List Item) → InOrder (Places.groups r g) is
       → first (told s st (piece is)) ≡ first (told s (record (alone st.next) { groups = st.groups; group = st.group; key_before = st.key_before; from = st.from }) (piece is))
   in_place zero zero st [] h = refl
   in_place zero zero st (i ∷ is) h = ended i is h.0
@@ -156,7 +156,7 @@ module _ (s : Subject) where
       counts (Entries m) is h = more m is h.0.0 h.1
       counts _ is h = absurd h.0
 
-  by_itself : (p : Place) (n : ℕ) (is : List Item) (st : State) → InOrder p (Groups n ∷ is) → first (told s st (Groups n ∷ piece is)) ≡ part_fault s st.next (Groups n ∷ piece is)
+  by_itself : (p : Place) (n : ℕ) (is : List Item) (st : Reached) → InOrder p (Groups n ∷ is) → first (told s st (Groups n ∷ piece is)) ≡ part_fault s st.next (Groups n ∷ piece is)
   by_itself p n is st h = at p h
     where
       at : (p : Place) → InOrder p (Groups n ∷ is) → first (told s st (Groups n ∷ piece is)) ≡ part_fault s st.next (Groups n ∷ piece is)
@@ -168,15 +168,15 @@ module _ (s : Subject) where
 
   -- ---- all partitions
 
-  next_of_group : (st : State) (m : ℕ) → (behind_group s st m).next ≡ st.next
+  next_of_group : (st : Reached) (m : ℕ) → (behind_group s st m).next ≡ st.next
   next_of_group st zero = refl
   next_of_group st (suc m) = refl
 
-  named_of_group : (st : State) (m : ℕ) → (behind_group s st m).named ≡ st.named
+  named_of_group : (st : Reached) (m : ℕ) → (behind_group s st m).named ≡ st.named
   named_of_group st zero = refl
   named_of_group st (suc m) = refl
 
-  next_of_entry : (st : State) (o : Option Triple) → (after_entry s st o).next ≡ st.next
+  next_of_entry : (st : Reached) (o : Option Triple) → (after_entry s st o).next ≡ st.next
   next_of_entry st None = refl
   next_of_entry st (Some t) = next_of_group (with_entry st t st.entry) (st.entries - 1) ∙ with_next st.entry
     where
@@ -185,7 +185,7 @@ module _ (s : Subject) where
       with_next (suc e) = refl
 
   -- an entry of which nothing is told counts
-  named_of_entry : (p : ℕ) (st : State) (n : Name) (o : Option Triple) → entry_tests s p st n o ≡ [] → (after_entry s st o).named ≡ st.named + 1
+  named_of_entry : (p : ℕ) (st : Reached) (n : Name) (o : Option Triple) → entry_tests s p st n o ≡ [] → (after_entry s st o).named ≡ st.named + 1
   named_of_entry p st n None h = absurd (cc)
   named_of_entry p st n (Some t) h = named_of_group (with_entry st t st.entry) (st.entries - 1) ∙ with_named st.entry
     where
@@ -194,21 +194,21 @@ module _ (s : Subject) where
       with_named (suc e) = refl
 
   -- the faults of the partitions, the next being the one that the state tells, and of what is behind them
-  abbrev later : State → ℕ → List Item → Option No
+  abbrev later : Reached → ℕ → List Item → Option No
   later st at is = or_else (least_fault s st.next (parts_in is)) (back_fault s at (st.named + entries_in is) (is_ended is))
 
   -- what is to be shown of items, behind such a state
-  abbrev Splits : ℕ → State → List Item → Type 0
+  abbrev Splits : ℕ → Reached → List Item → Type 0
   Splits at st is = first (part_faults s at st is) ≡ or_else (first (told s st (piece is))) (later st at is)
 
   -- an item that only counts or says nothing
-  quiet : (at : ℕ) (st new : State) (is : List Item) → new.next ≡ st.next → new.named ≡ st.named → Splits at new is
+  quiet : (at : ℕ) (st new : Reached) (is : List Item) → new.next ≡ st.next → new.named ≡ st.named → Splits at new is
       → first (part_faults s at new is) ≡ or_else (first (told s new (piece is))) (later st at is)
   quiet at st new is next named h =
       h ∙ ap (or_else (first (told s new (piece is)))) (ap (λ k. or_else (least_fault s k (parts_in is)) (back_fault s at (new.named + entries_in is) (is_ended is))) next
       ∙ ap (λ k. or_else (least_fault s st.next (parts_in is)) (back_fault s at (k + entries_in is) (is_ended is))) named)
 
-  an_entry : (at : ℕ) (st : State) (n : Name) (is : List Item) → Splits at (after s st (Entry n)) is → Splits at st (Entry n ∷ is)
+  an_entry : (at : ℕ) (st : Reached) (n : Name) (is : List Item) → Splits at (after s st (Entry n)) is → Splits at st (Entry n ∷ is)
   an_entry at st n is h = by (tests s st (Entry n)) refl
     where
       by : (ts : List No) → tests s st (Entry n) ≡ ts
@@ -222,9 +222,9 @@ module _ (s : Subject) where
           (ap (λ k. or_else (least_fault s k (parts_in is)) (back_fault s at ((after s st (Entry n)).named + entries_in is) (is_ended is))) next
           ∙ ap (λ k. or_else (least_fault s st.next (parts_in is)) (back_fault s at k (is_ended is))) count)
 
-  a_part : (p : Place) (at n : ℕ) (st : State) (is : List Item) → InOrder p (Groups n ∷ is) → Splits at (after s st (Groups n)) is → Splits at st (Groups n ∷ is)
+  a_part : (p : Place) (at n : ℕ) (st : Reached) (is : List Item) → InOrder p (Groups n ∷ is) → Splits at (after s st (Groups n)) is → Splits at st (Groups n ∷ is)
   a_part p at n st is h rest =
-      let new : State = after s st (Groups n) in
+      let new : Reached = after s st (Groups n) in
       let tested : List No = tests s st (Groups n) in
       let own : List No = told s (after s st (Groups n)) (piece is) in
       first_append tested (part_faults s at new is)
@@ -244,10 +244,10 @@ module _ (s : Subject) where
       at AtEnd is h = none is h.1
       at _ is h = absurd h.0
 
-  the_end : (at : ℕ) (st : State) → Splits at st (End ∷ [])
+  the_end : (at : ℕ) (st : Reached) → Splits at st (End ∷ [])
   the_end at st = let none : st.named ≡ st.named + 0 = omega arith in ap (λ k. back_fault s at k true) none
 
-  pub splits : (p : Place) (at : ℕ) (st : State) (is : List Item) → InOrder p is → Splits at st is
+  pub splits : (p : Place) (at : ℕ) (st : Reached) (is : List Item) → InOrder p is → Splits at st is
   splits p at st [] h = refl
   splits p at st (End ∷ is) h = subst (λ w. Splits at st (End ∷ w)) (sym (nothing_behind p is h)) (the_end at st)
   splits p at st (Groups n ∷ is) h = a_part p at n st is h (splits (Places.behind p (Groups n)) at (after s st (Groups n)) is h.1)

@@ -11,7 +11,7 @@ use Rattle.mr_sequential.specs.Emitted.{placed_from}
 use Rattle.mr_splits.specs.Named.{named_from, named_files}
 use Rattle.mr_check.specs.declared.fault.No.{No}
 use Rattle.mr_check.specs.Verdict.{verdict_of}
-use Rattle.mr_check.specs.VerdictRows.{words, a_b_a, a_b_aa, line, a2_b1, name, certificate, of_groups, good_bytes, says, says_without, word, b1_d1, of_third, first_record}
+use Rattle.mr_check.specs.VerdictRows.{words, a_b_a, a_b_aa, line, a2_b1, name, certificate, of_groups, good_bytes, says, of_a, last_name, says_without, word, b1_d1, of_third, first_record}
 
 -- all that the rows compute with
 computing : ℕ
@@ -66,15 +66,15 @@ pub row_no_record : says_without 1 (record { split = 0; rec = 2 } ∷ []) ≡ Er
 unfolding computing
 row_no_record = refl
 
-pub row_wrong_partition : verdict_of (words 3 0) ((97 ∷ 10 ∷ []) ∷ []) (line 97 49 ∷ [] ∷ [] ∷ []) (certificate 3 2 [] (((name 0 0 0 ∷ []) ∷ []) ∷ [] ∷ [] ∷ [])) ≡ Err (No.WrongPartition 0 0 0)
+pub row_wrong_partition : of_a (line 97 49 ∷ [] ∷ [] ∷ []) (((name 0 0 0 ∷ []) ∷ []) ∷ [] ∷ [] ∷ []) ≡ Err (No.WrongPartition 0 0 0)
 unfolding computing
 row_wrong_partition = refl
 
-pub row_right_partition : verdict_of (words 3 0) ((97 ∷ 10 ∷ []) ∷ []) ([] ∷ line 97 49 ∷ [] ∷ []) (certificate 3 2 [] ([] ∷ ((name 0 0 0 ∷ []) ∷ []) ∷ [] ∷ [])) ≡ Ok (record { skips = []; pairs = 1 })
+pub row_right_partition : of_a ([] ∷ line 97 49 ∷ [] ∷ []) ([] ∷ ((name 0 0 0 ∷ []) ∷ []) ∷ [] ∷ []) ≡ Ok (record { skips = []; pairs = 1 })
 unfolding computing
 row_right_partition = rw (decimal_digit 1 (omega arith))
 
-pub row_no_pair : of_groups a2_b1 ((name 4294967295 4294967295 4294967295 ∷ name 0 0 2 ∷ []) ∷ (name 0 0 1 ∷ []) ∷ []) ≡ Err (No.NoSuchPair 0 0 0)
+pub row_no_pair : of_groups a2_b1 ((last_name ∷ name 0 0 2 ∷ []) ∷ (name 0 0 1 ∷ []) ∷ []) ≡ Err (No.NoSuchPair 0 0 0)
 unfolding computing
 row_no_pair = refl
 

@@ -14,7 +14,7 @@ use Rattle.mr_bytes.specs.Order.{name_order}
 use Rattle.mr_certform.specs.declared.item.Item.{Item}
 use Rattle.mr_check.specs.declared.fault.No.{No}
 use Rattle.mr_check.specs.declared.fault.No.TheVariants.{OutputDiffers}
-use Rattle.mr_check.specs.Verdict.{State, Subject, tests, after, passes, text_tests, end_tests}
+use Rattle.mr_check.specs.Verdict.{Reached, Subject, tests, after, passes, text_tests, end_tests}
 use Rattle.mr_check.specs.VerdictLaws.{told, behind}
 
 -- ---- lists with nothing in them
@@ -97,12 +97,12 @@ end_passes output p from e = passes-true _ (OutputDiffers p from) (le-leb _ _ (b
 
 -- ---- items in turn
 
-pub told_append : (s : Subject) (st : State) (is js : List Item) → told s st (is ++ js) ≡ told s st is ++ told s (behind s st is) js
+pub told_append : (s : Subject) (st : Reached) (is js : List Item) → told s st (is ++ js) ≡ told s st is ++ told s (behind s st is) js
 told_append s st [] js = refl
 told_append s st (i ∷ is) js =
     ap (λ w. tests s st i ++ w) (told_append s (after s st i) is js)
     ∙ sym (append_assoc (tests s st i) (told s (after s st i) is) (told s (behind s (after s st i) is) js))
 
-pub behind_append : (s : Subject) (st : State) (is js : List Item) → behind s st (is ++ js) ≡ behind s (behind s st is) js
+pub behind_append : (s : Subject) (st : Reached) (is js : List Item) → behind s st (is ++ js) ≡ behind s (behind s st is) js
 behind_append s st [] js = refl
 behind_append s st (i ∷ is) js = behind_append s (after s st i) is js

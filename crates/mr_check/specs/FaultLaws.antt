@@ -1,5 +1,6 @@
 -- What each fault means, in the words of the certificate that was read: of its items, as far as they stand.
-use Rattle.std.specs.Prelude.{◌≡◌, ◌≢◌, ◌⊎◌, ℕ, ◌+◌, ◌-◌, ◌<◌, ◌≤◌, Bool, true, false, Option, Some, None, Err, List, [], ◌∷◌, ◌++◌, length, map, slice_index_or}
+use Rattle.std.specs.Prelude.{◌≡◌, ◌≢◌, ◌⊎◌, ℕ, ◌+◌, ◌-◌, ◌<◌, ◌≤◌, Bool, true, false, Option, Some, None, Err, List, [], ◌∷◌, ◌++◌, length, map}
+use Rattle.std.specs.Prelude.{slice_index_or}
 use Rattle.std.specs.List.{flat_map, slice_get}
 use Rattle.std.specs.Option.{option_and_then}
 use Rattle.std.specs.declared.cmp.Ordering.TheVariants.{Less}
@@ -19,7 +20,8 @@ use Rattle.mr_sequential.specs.Emitted.{Triple}
 use Rattle.mr_sequential.specs.Rules.{Text}
 use Rattle.mr_sequential.specs.Good.{named, text_under}
 use Rattle.mr_check.specs.declared.fault.No.{No}
-use Rattle.mr_check.specs.declared.fault.No.TheVariants.{OutputCount, Malformed, OtherJob, OtherInput, SkipOrder, NoSuchRecord, TooManySkips, NoSuchPair, EntryOrder, KeyDiffers, WrongPartition, KeyOrder, OutputDiffers, Unnamed}
+use Rattle.mr_check.specs.declared.fault.No.TheVariants.{OutputCount, Malformed, OtherJob, OtherInput, SkipOrder, NoSuchRecord, TooManySkips, NoSuchPair}
+use Rattle.mr_check.specs.declared.fault.No.TheVariants.{EntryOrder, KeyDiffers, WrongPartition, KeyOrder, OutputDiffers, Unnamed}
 use Rattle.mr_check.specs.Verdict.{Case, Subject, subject_of, job_wanted, input_wanted, entries_in, case_of, verdict_of}
 use Rattle.mr_check.specs.VerdictLaws.{skips_in, parts_in}
 

@@ -13,6 +13,12 @@ use Rattle.mr_sequential.specs.Emitted.{emitted}
 use Rattle.mr_sequential.specs.Rules.{rules_of}
 use Rattle.mr_sequential.specs.Laws.{IsInKeyOrder}
 use Rattle.mr_sequential.specs.Sequential.{sequential}
+use Rattle.mr_check.specs.declared.judge.Yes.{Yes}
+use Rattle.mr_check.specs.Verdict.{Accepted}
+
+-- what a yes says
+abbrev pub accepted_of : Yes → Accepted
+accepted_of y = record { skips = y.skips.items; pairs = y.pairs }
 
 -- the bytes spell a certificate that lists just these left-out records; they rise, exist, and are no more than the
 -- request allows; there are as many outputs as partitions, each byte for byte that of the sequential execution without

@@ -1,6 +1,6 @@
 pub mod Verdict
-pub mod Judging
-pub mod Ahead
+pub mod Steps
+pub mod Blocks
 pub mod VerdictRows
 pub mod VerdictLaws
 pub mod FaultLaws

@@ -1,6 +1,7 @@
 -- The judge's tests in their order, and the first that fails. The items of the certificate come one by one: what each
 -- is tested for, given what came before it, and what is remembered behind it.
-use Rattle.std.specs.Prelude.{ℕ, zero, suc, ◌+◌, ◌-◌, Bool, true, false, Option, Some, None, Result, Ok, Err, List, [], ◌∷◌, ◌++◌, length, drop, map, nat_le, nat_eq, ◌==◌}
+use Rattle.std.specs.Prelude.{ℕ, zero, suc, ◌+◌, ◌-◌, Bool, true, false, Option, Some, None, Result, Ok, Err, List, [], ◌∷◌, ◌++◌, length, drop, map, nat_le}
+use Rattle.std.specs.Prelude.{nat_eq, ◌==◌}
 use Rattle.std.specs.List.{common_prefix_len}
 use Rattle.std.specs.Str.{bytes_eq}
 use Rattle.std.specs.Ordering.{is_lt}
@@ -13,7 +14,8 @@ use Rattle.mr_jobs.specs.JobSpec.{RequestSpec, job_number, job_flags, job_litera
 use Rattle.mr_splits.specs.Named.{named_records}
 use Rattle.mr_splits.specs.Cut.{is_record}
 use Rattle.mr_certform.specs.declared.item.Item.{Item}
-use Rattle.mr_certform.specs.declared.item.Item.TheVariants.{Magic, Job, Flags, LiteralLength, LiteralByte, Parts, SplitSize, Files, FileLength, Skips, Skip, Groups, Entries, Entry, End}
+use Rattle.mr_certform.specs.declared.item.Item.TheVariants.{Magic, Job, Flags, LiteralLength, LiteralByte, Parts, SplitSize, Files, FileLength, Skips, Skip}
+use Rattle.mr_certform.specs.declared.item.Item.TheVariants.{Groups, Entries, Entry, End}
 use Rattle.mr_certform.specs.Spelling.{items_of, stop}
 use Rattle.mr_certform.specs.Places.{first_name}
 use Rattle.mr_sequential.specs.Emitted.{Triple, emitted}
@@ -21,7 +23,8 @@ use Rattle.mr_sequential.specs.Rules.{Rules, rules_of}
 use Rattle.mr_sequential.specs.Good.{named}
 use Rattle.mr_splits.specs.Kept.{is_past}
 use Rattle.mr_check.specs.declared.fault.No.{No}
-use Rattle.mr_check.specs.declared.fault.No.TheVariants.{OutputCount, Malformed, OtherJob, OtherInput, SkipOrder, NoSuchRecord, TooManySkips, NoSuchPair, EntryOrder, KeyDiffers, WrongPartition, KeyOrder, OutputDiffers, Unnamed}
+use Rattle.mr_check.specs.declared.fault.No.TheVariants.{OutputCount, Malformed, OtherJob, OtherInput, SkipOrder, NoSuchRecord, TooManySkips, NoSuchPair}
+use Rattle.mr_check.specs.declared.fault.No.TheVariants.{EntryOrder, KeyDiffers, WrongPartition, KeyOrder, OutputDiffers, Unnamed}
 
 -- what is judged: the order and the files, the outputs, and where the items of the certificate's bytes stop
 pub record Case : Type 0 where
@@ -40,7 +43,7 @@ passes false fault = fault ∷ []
 -- what is remembered: the next partition; of this one how many groups are still to come, and the group; of this group
 -- how many entries are still to come, and the entry; the key of the group before, and of this one; the name before;
 -- the values so far; where in the output the next text is to stand; how many entries there were
-pub record State : Type 0 where
+pub record Reached : Type 0 where
   pub next : ℕ
   pub groups : ℕ
   pub group : ℕ
@@ -54,7 +57,7 @@ pub record State : Type 0 where
   pub named : ℕ
 
 -- before the first partition
-abbrev pub start : State
+abbrev pub start : Reached
 start = record { next = 0; groups = 0; group = 0; entries = 0; entry = 0; key_before = None; key = []; before = first_name; values = []; from = 0; named = 0 }
 
 -- behind the last of its groups a partition's output ends
@@ -80,12 +83,12 @@ first_tests part p g key_before key = passes (part key == p) (WrongPartition p g
 abbrev pub later_tests : ℕ → ℕ → ℕ → Name → Name → List ℕ → List ℕ → List No
 later_tests p g e before name group_key key = passes (is_lt (name_order before name)) (EntryOrder p g e) ++ passes (bytes_eq key group_key) (KeyDiffers p g e)
 
-abbrev pub order_tests : (List ℕ → ℕ) → ℕ → State → Name → List ℕ → ℕ → List No
+abbrev pub order_tests : (List ℕ → ℕ) → ℕ → Reached → Name → List ℕ → ℕ → List No
 order_tests part p st name key zero = first_tests part p st.group st.key_before key
 order_tests part p st name key (suc e) = later_tests p st.group (suc e) st.before name st.key key
 
 -- behind an entry
-abbrev pub with_entry : State → Triple → ℕ → State
+abbrev pub with_entry : Reached → Triple → ℕ → Reached
 with_entry st t zero = record st { entry = 1; entries = st.entries - 1; key = t.key; before = t.name; values = t.value ∷ []; named = st.named + 1 }
 with_entry st t (suc e) = record st { entry = suc e + 1; entries = st.entries - 1; before = t.name; values = st.values ++ t.value ∷ []; named = st.named + 1 }
 
@@ -96,40 +99,40 @@ pub record Subject : Type 0 where
   pub outputs : List (List ℕ)
 
 -- behind the last entry of a group its text is compared, and where it is the last group its partition ends
-abbrev pub group_tests : Subject → ℕ → State → ℕ → List No
+abbrev pub group_tests : Subject → ℕ → Reached → ℕ → List No
 group_tests s p st zero =
     let text = s.rules.text st.key st.values in
     text_tests (nth_file s.outputs p) p st.from text ++ end_tests (nth_file s.outputs p) p (st.groups - 1) (st.from + length text)
 group_tests s p st (suc n) = []
 
-abbrev pub behind_group : Subject → State → ℕ → State
+abbrev pub behind_group : Subject → Reached → ℕ → Reached
 behind_group s st zero = record st { groups = st.groups - 1; group = st.group + 1; key_before = Some st.key; from = st.from + length (s.rules.text st.key st.values) }
 behind_group s st (suc n) = st
 
-abbrev pub entry_tests : Subject → ℕ → State → Name → Option Triple → List No
+abbrev pub entry_tests : Subject → ℕ → Reached → Name → Option Triple → List No
 entry_tests s p st name None = NoSuchPair p st.group st.entry ∷ []
 entry_tests s p st name (Some t) = order_tests s.rules.part p st name t.key st.entry ++ group_tests s p (with_entry st t st.entry) (st.entries - 1)
 
-abbrev pub after_entry : Subject → State → Option Triple → State
+abbrev pub after_entry : Subject → Reached → Option Triple → Reached
 after_entry s st None = st
 after_entry s st (Some t) = behind_group s (with_entry st t st.entry) (st.entries - 1)
 
 -- what an item is tested for; at the end, that no emitted pair is without a name
-abbrev pub tests : Subject → State → Item → List No
+abbrev pub tests : Subject → Reached → Item → List No
 tests s st (Groups n) = end_tests (nth_file s.outputs st.next) st.next n 0
 tests s st (Entry name) = entry_tests s (st.next - 1) st name (named s.triples name)
 tests s st End = passes (nat_le (length s.triples) st.named) (Unnamed (length s.triples) st.named)
 tests s st i = []
 
 -- what is remembered behind it
-abbrev pub after : Subject → State → Item → State
+abbrev pub after : Subject → Reached → Item → Reached
 after s st (Groups n) = record st { next = st.next + 1; groups = n; group = 0; key_before = None; from = 0 }
 after s st (Entries n) = record st { entries = n; entry = 0 }
 after s st (Entry name) = after_entry s st (named s.triples name)
 after s st i = st
 
 -- all faults from here on, in the order of the tests; where no item stands, that is the fault, at its place
-abbrev pub part_faults : Subject → ℕ → State → List Item → List No
+abbrev pub part_faults : Subject → ℕ → Reached → List Item → List No
 part_faults s at st [] = Malformed at ∷ []
 part_faults s at st (End ∷ is) = tests s st End
 part_faults s at st (i ∷ is) = tests s st i ++ part_faults s at (after s st i) is

@@ -1,5 +1,6 @@
 -- What the verdict is, in the words of the subject.
-use Rattle.std.specs.Prelude.{◌≡◌, ℕ, zero, suc, ◌+◌, ◌<◌, take, Bool, true, false, Option, Some, None, Result, Ok, Err, List, [], ◌∷◌, ◌++◌, length, nat_le, ◌==◌}
+use Rattle.std.specs.Prelude.{◌≡◌, ℕ, zero, suc, ◌+◌, ◌<◌, take, Bool, true, false, Option, Some, None, Result, Ok, Err, List, [], ◌∷◌, ◌++◌, length, nat_le}
+use Rattle.std.specs.Prelude.{◌==◌}
 use Rattle.mr_bytes.specs.declared.RecordName.{RecordName}
 use Rattle.mr_input.specs.Files.{nth_file}
 use Rattle.mr_jobs.specs.JobSpec.{RequestSpec}
@@ -15,8 +16,10 @@ use Rattle.mr_sequential.specs.Emitted.{emitted}
 use Rattle.mr_sequential.specs.Good.{IsGoodResult}
 use Rattle.mr_splits.specs.Kept.{is_past}
 use Rattle.mr_check.specs.declared.fault.No.{No}
-use Rattle.mr_check.specs.declared.fault.No.TheVariants.{OutputCount, Malformed, OtherJob, OtherInput, SkipOrder, NoSuchRecord, TooManySkips, NoSuchPair, EntryOrder, KeyDiffers, WrongPartition, KeyOrder, OutputDiffers, Unnamed}
-use Rattle.mr_check.specs.Verdict.{first, entries_in, Case, Accepted, State, Subject, passes, start, tests, after, subject_of, last_of, job_wanted, input_wanted, wanted_faults, faults, case_of, verdict_of}
+use Rattle.mr_check.specs.declared.fault.No.TheVariants.{OutputCount, Malformed, OtherJob, OtherInput, SkipOrder, NoSuchRecord, TooManySkips, NoSuchPair}
+use Rattle.mr_check.specs.declared.fault.No.TheVariants.{EntryOrder, KeyDiffers, WrongPartition, KeyOrder, OutputDiffers, Unnamed}
+use Rattle.mr_check.specs.Verdict.{first, entries_in, Case, Accepted, Reached, Subject, passes, start, tests, after, subject_of, last_of, job_wanted}
+use Rattle.mr_check.specs.Verdict.{input_wanted, wanted_faults, faults, case_of, verdict_of}
 
 -- ---- yes
 
@@ -39,12 +42,12 @@ GoodIsYes = (request : RequestSpec) (files outputs : List (List ℕ)) (bytes : L
 -- ---- items in turn
 
 -- what items are tested for, one behind another
-abbrev pub told : Subject → State → List Item → List No
+abbrev pub told : Subject → Reached → List Item → List No
 told s st [] = []
 told s st (i ∷ is) = tests s st i ++ told s (after s st i) is
 
 -- what is remembered behind them
-abbrev pub behind : Subject → State → List Item → State
+abbrev pub behind : Subject → Reached → List Item → Reached
 behind s st [] = st
 behind s st (i ∷ is) = behind s (after s st i) is
 
@@ -159,11 +162,11 @@ LaterOutputsDontMatter = (request : RequestSpec) (files outputs others : List (L
 -- ---- how far outputs are compared
 
 -- what is remembered before the item of which the first fault is told, or where none is told behind them all
-abbrev pub last_before : List No → State → State → State
+abbrev pub last_before : List No → Reached → Reached → Reached
 last_before [] st later = later
 last_before (fault ∷ faults) st later = st
 
-abbrev pub before_fault : Subject → State → List Item → State
+abbrev pub before_fault : Subject → Reached → List Item → Reached
 before_fault s st [] = st
 before_fault s st (i ∷ is) = last_before (tests s st i) st (before_fault s (after s st i) is)
 
@@ -174,7 +177,7 @@ SameBy zero from output other = other ≡ output
 SameBy (suc groups) from output other = take from other ≡ take from output
 
 -- and where the fault names a byte, those up to it
-abbrev pub SameFor : No → State → List ℕ → List ℕ → Type 0
+abbrev pub SameFor : No → Reached → List ℕ → List ℕ → Type 0
 SameFor (OutputDiffers p at) st output other = take (at + 1) other ≡ take (at + 1) output
 SameFor fault st output other = SameBy st.groups st.from output other
 
@@ -192,7 +195,7 @@ BytesBehindDontMatter = (s : Subject) (others : List (List ℕ)) (p n : ℕ) (is
     → part_fault (record s { outputs = others }) p (Groups n ∷ piece is) ≡ Some fault
 
 -- of each output, up to that of the first partition that has a fault, as much is the same as was compared
-abbrev pub SameInPart : Option No → State → List ℕ → List ℕ → Type 0 → Type 0
+abbrev pub SameInPart : Option No → Reached → List ℕ → List ℕ → Type 0 → Type 0
 SameInPart (Some fault) st output other Behind = SameFor fault st output other
 SameInPart None st output other Behind = SameBy st.groups st.from output other × Behind
 

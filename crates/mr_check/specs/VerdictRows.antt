@@ -55,6 +55,14 @@ good_bytes =
 abbrev pub says : List ℕ → List ℕ → Result Accepted No
 says output bytes = verdict_of (words 1 0) (a_b_a ∷ []) (output ∷ []) bytes
 
+-- what is said of outputs and of the groups of three partitions over `a`
+abbrev pub of_a : List (List ℕ) → List (List (List Name)) → Result Accepted No
+of_a outputs groups = verdict_of (words 3 0) ((97 ∷ 10 ∷ []) ∷ []) outputs (certificate 3 2 [] groups)
+
+-- the greatest name that a certificate can spell
+abbrev pub last_name : Name
+last_name = name 4294967295 4294967295 4294967295
+
 -- with the record `a b` left out, and so many allowed
 abbrev pub says_without : ℕ → List RecordName → Result Accepted No
 says_without most skips = verdict_of (words 1 most) (a_b_c ∷ []) (line 99 49 ∷ []) (certificate 1 6 skips (((name 0 1 0 ∷ []) ∷ []) ∷ []))

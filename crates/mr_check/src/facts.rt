@@ -5,7 +5,7 @@ ghost use Rattle.mr_partition.specs.Partition.{partition_of};
 ghost use Rattle.mr_reduce.specs.Text.{text_of};
 ghost use Rattle.mr_sequential.specs.Good.{named};
 ghost use Rattle.mr_index.specs.Index.{pair_at};
-ghost use Rattle.mr_check.specs.Ahead.{triple_at};
+ghost use Rattle.mr_check.specs.Blocks.{triple_at};
 
 use crate::comparing::output_of;
 use mr_bytes::{Name, Value, Values};
@@ -37,7 +37,7 @@ pub(crate) struct Facts<'a> {
 
 impl<'a> Model for Facts<'a> {
     ghost use Rattle.mr_input.specs.Files.{contents};
-    ghost use Rattle.mr_check.specs.Judging.{Known};
+    ghost use Rattle.mr_check.specs.Steps.{Known};
 
     ghost Value = { Known };
 
@@ -70,7 +70,8 @@ impl<'a> Facts<'a> {
     /// Where the pair of that name stands among all that is emitted, or none where there is no such pair.
     pub fn find(&self, name: Name, meter: &mut Meter) -> Option<usize>
         requires { meter.old.lookups + 1 < 2 ^ 64 }
-        ensures found { MatchOption result (named self.now.triples name ≡ None) (λ at. (at < length self.now.triples) × (named self.now.triples name ≡ Some (triple_at self.now.triples name at))) }
+        ensures found { MatchOption result (named self.now.triples name ≡ None) (λ at. (at < length self.now.triples)
+            × (named self.now.triples name ≡ Some (triple_at self.now.triples name at))) }
         ensures lookups { meter.new.lookups ≡ meter.old.lookups + 1 }
         ensures mapped { meter.new.mapped ≡ meter.old.mapped }
     {

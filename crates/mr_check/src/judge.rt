@@ -5,22 +5,22 @@ ghost use Rattle.mr_certform.specs.Walking.{items_left, halt};
 ghost use Rattle.mr_certform.specs.Spelling.{items_of, stop};
 ghost use Rattle.mr_check.specs.declared.fault.No.TheVariants.{OutOfMemory};
 ghost use Rattle.mr_check.specs.Verdict.{start, subject_of, part_faults, count_faults, accepted_by, verdict_of, first, entries_in};
-ghost use Rattle.mr_check.specs.Headline.{IsCertified};
+ghost use Rattle.mr_check.specs.Headline.{IsCertified, accepted_of};
 ghost use Rattle.mr_check.specs.Metered.{IsBounded, IsExact, cut_by};
-ghost use Rattle.mr_check.specs.Judging.{Told, header_met, awaits_skips, case_at};
+ghost use Rattle.mr_check.specs.Steps.{Answers, header_met, awaits_skips, case_at};
 
 use crate::facts::Facts;
 use crate::fault::No;
 use crate::parts::check_parts;
 use crate::skips::{expect_count, take_skips};
-use crate::wanted::{expect_input, expect_job};
+use crate::header::{expect_input, expect_job};
 use mr_bytes::RecordName;
 use mr_certform::Walker;
 use mr_index::{EmissionIndex, Meter};
 use mr_input::Input;
 use mr_jobs::Request;
-use mr_splits::{Plan, PlanFault};
-use std::alloc::Global;
+use mr_splits::Plan;
+use std::alloc::{AllocError, Global};
 
 /// What a good result comes to: the left-out records, rising, and how many pairs were emitted.
 #[derive(Debug, PartialEq, Eq, Drop)]
@@ -30,17 +30,11 @@ pub struct Yes {
 }
 
 /// The plan of an input under a request that fits it.
-fn plan_of<'a>(alloc: Global, request: &Request, input: &'a Input) -> Result<Plan<'a>, No>
+fn plan_of<'a>(alloc: Global, request: &Request, input: &'a Input) -> Result<Plan<'a>, AllocError>
     requires { split_total request.now.split input.now ≤ 2 ^ 20 }
     ensures plan { IfOk result (λ r. r ≡ record { size = request.now.split; files = input.entry.now }) }
-    ensures only { IfErr result (λ e. e ≡ OutOfMemory) }
 {
-    match Plan::of(alloc, input, request.split_size()) {
-        Ok(plan) => Ok(plan),
-        Err(PlanFault::OutOfMemory) => Err(No::OutOfMemory),
-        // A request's split size is one that a plan takes, and the input fits.
-        Err(PlanFault::BadSplitSize) | Err(PlanFault::TooManySplits) => unreachable!(),
-    }
+    Plan::fitting(alloc, input, request.split_size())
 }
 
 /// Judges the partitions, given the left-out records: how many pairs there are, or the first fault.
@@ -58,7 +52,7 @@ fn check_with(
     requires count { (meter.old.lookups ≤ 2 ^ 63) × (meter.old.mapped ≤ 2 ^ 63) }
     ensures faults { let s = subject_of (case_at request.now plan.now.files (contents outputs.now) (halt walker.old)) skips.now in
         let fs = part_faults s (halt walker.old) start (items_left walker.old) in
-        MatchResult result (λ n. (first fs ≡ None) × (n ≡ entries_in (items_left walker.old))) (λ e. Told fs e) }
+        MatchResult result (λ n. (first fs ≡ None) × (n ≡ entries_in (items_left walker.old))) (λ e. Answers fs e) }
     ensures bounded { IsBounded plan.now (items_left walker.old) meter.old meter.new }
     ensures exact { IfOk result (λ n. IsExact plan.now skips.now n meter.old meter.new) }
 {
@@ -86,8 +80,8 @@ fn check_rest(
     requires count { (meter.old.lookups ≤ 2 ^ 63) × (meter.old.mapped ≤ 2 ^ 63) }
     ensures verdict { let fs = count_faults (case_at request.now input.now (contents outputs.now) (halt walker.old)) (items_left walker.old) in
         MatchResult result
-        (λ y. (first fs ≡ None) × (accepted_by (record { skips = []; pairs = 0 }) (items_left walker.old) ≡ record { skips = y.skips.items; pairs = y.pairs }))
-        (λ e. Told fs e) }
+        (λ y. (first fs ≡ None) × (accepted_by (record { skips = []; pairs = 0 }) (items_left walker.old) ≡ accepted_of y))
+        (λ e. Answers fs e) }
     ensures bounded { IsBounded (cut_by request.now input.now) (items_left walker.old) meter.old meter.new }
     ensures exact { IfOk result (λ y. IsExact (cut_by request.now input.now) y.skips.items y.pairs meter.old meter.new) }
 {
@@ -130,7 +124,7 @@ fn judge_all(
     requires fits { split_total request.now.split input.now ≤ 2 ^ 20 }
     requires count { (meter.old.lookups ≤ 2 ^ 63) × (meter.old.mapped ≤ 2 ^ 63) }
     ensures verdict { let v = verdict_of request.now input.now (contents outputs.now) certificate.now in
-        MatchResult result (λ y. v ≡ Ok (record { skips = y.skips.items; pairs = y.pairs })) (λ e. (e ≡ OutOfMemory) ⊎ (v ≡ Err e)) }
+        MatchResult result (λ y. v ≡ Ok (accepted_of y)) (λ e. (e ≡ OutOfMemory) ⊎ (v ≡ Err e)) }
     ensures bounded { IsBounded (cut_by request.now input.now) (items_of certificate.now) meter.old meter.new }
     ensures exact { IfOk result (λ y. IsExact (cut_by request.now input.now) y.skips.items y.pairs meter.old meter.new) }
 {
@@ -156,7 +150,8 @@ pub fn check(
 ) -> Result<Yes, No>
     requires { split_total request.now.split input.now ≤ 2 ^ 20 }
     ensures headline { IfOk result (λ y. IsCertified request.now input.now (contents outputs.now) certificate.now y.skips.items y.pairs) }
-    ensures yes { IfOk result (λ y. verdict_of request.now input.now (contents outputs.now) certificate.now ≡ Ok (record { skips = y.skips.items; pairs = y.pairs })) }
+    ensures yes { IfOk result
+        (λ y. verdict_of request.now input.now (contents outputs.now) certificate.now ≡ Ok (accepted_of y)) }
     ensures no { IfErr result (λ e. (e ≡ OutOfMemory) ⊎ (verdict_of request.now input.now (contents outputs.now) certificate.now ≡ Err e)) }
 {
     let mut meter = Meter {
@@ -169,6 +164,11 @@ pub fn check(
 /// The same as `check`, adding to the meter what is looked up and mapped; each of its counts is at most 2^63 before. Each
 /// entry of the certificate is looked up at most once, and each record mapped at most once; on a yes there is a look-up
 /// for each pair, and just the records that aren't left out are mapped.
+///
+/// The clauses speak of the numbers in the meter alone. They cannot say that nothing is looked up or mapped beside it:
+/// that each look-up and each mapped record is counted rests on the code of the index, which counts where it looks up
+/// and where it maps. And where the answer is a no, they say only that the counts did not fall and stayed within their
+/// bounds.
 pub fn check_metered(
     alloc: Global,
     request: &Request,
@@ -180,7 +180,8 @@ pub fn check_metered(
     requires fits { split_total request.now.split input.now ≤ 2 ^ 20 }
     requires count { (meter.old.lookups ≤ 2 ^ 63) × (meter.old.mapped ≤ 2 ^ 63) }
     ensures headline { IfOk result (λ y. IsCertified request.now input.now (contents outputs.now) certificate.now y.skips.items y.pairs) }
-    ensures yes { IfOk result (λ y. verdict_of request.now input.now (contents outputs.now) certificate.now ≡ Ok (record { skips = y.skips.items; pairs = y.pairs })) }
+    ensures yes { IfOk result
+        (λ y. verdict_of request.now input.now (contents outputs.now) certificate.now ≡ Ok (accepted_of y)) }
     ensures no { IfErr result (λ e. (e ≡ OutOfMemory) ⊎ (verdict_of request.now input.now (contents outputs.now) certificate.now ≡ Err e)) }
     ensures bounded { IsBounded (cut_by request.now input.now) (items_of certificate.now) meter.old meter.new }
     ensures exact { IfOk result (λ y. IsExact (cut_by request.now input.now) y.skips.items y.pairs meter.old meter.new) }

@@ -4,8 +4,10 @@ ghost use Rattle.mr_jobs.specs.JobSpec.{WordCount};
 ghost use Rattle.mr_check.specs.declared.fault.No.{No};
 ghost use Rattle.mr_check.specs.Verdict.{verdict_of};
 ghost use Rattle.mr_check.specs.FaultLaws.{EndedIsSpelled, FaultsAreTrue, ReadIsSpelled};
-ghost use Rattle.mr_check.specs.VerdictLaws.{YesIsGood, GoodIsYes, FaultByPlace, LaterItemsDontMatter, LaterOutputsDontMatter, OnlyComparedMatters, OtherOutputsDontMatter, BytesBehindDontMatter};
-ghost use Rattle.mr_check.specs.VerdictRows.{words, a_b_a, a_b_aa, line, a2_b1, name, certificate, of_groups, good_bytes, says, says_without, word, b1_d1, of_third, first_record};
+ghost use Rattle.mr_check.specs.VerdictLaws.{YesIsGood, GoodIsYes, FaultByPlace, LaterItemsDontMatter, LaterOutputsDontMatter, OnlyComparedMatters};
+ghost use Rattle.mr_check.specs.VerdictLaws.{OtherOutputsDontMatter, BytesBehindDontMatter};
+ghost use Rattle.mr_check.specs.VerdictRows.{words, a_b_a, a_b_aa, line, a2_b1, name, certificate, of_groups, good_bytes, says, of_a, last_name, says_without, word, b1_d1};
+ghost use Rattle.mr_check.specs.VerdictRows.{of_third, first_record};
 
 /// The verdict is yes exactly where the result is good, and it tells the left-out records and how many pairs there are.
 pub fn yes_law()
@@ -55,9 +57,9 @@ pub fn worked_rows()
     ensures left_out { says_without 1 (first_record ∷ []) ≡ Ok (record { skips = first_record ∷ []; pairs = 1 }) }
     ensures skip_twice { says_without 2 (first_record ∷ first_record ∷ []) ≡ Err (No.SkipOrder 1) }
     ensures no_record { says_without 1 (record { split = 0; rec = 2 } ∷ []) ≡ Err (No.NoSuchRecord 0) }
-    ensures wrong_partition { verdict_of (words 3 0) ((97 ∷ 10 ∷ []) ∷ []) (line 97 49 ∷ [] ∷ [] ∷ []) (certificate 3 2 [] (((name 0 0 0 ∷ []) ∷ []) ∷ [] ∷ [] ∷ [])) ≡ Err (No.WrongPartition 0 0 0) }
-    ensures right_partition { verdict_of (words 3 0) ((97 ∷ 10 ∷ []) ∷ []) ([] ∷ line 97 49 ∷ [] ∷ []) (certificate 3 2 [] ([] ∷ ((name 0 0 0 ∷ []) ∷ []) ∷ [] ∷ [])) ≡ Ok (record { skips = []; pairs = 1 }) }
-    ensures no_pair { of_groups a2_b1 ((name 4294967295 4294967295 4294967295 ∷ name 0 0 2 ∷ []) ∷ (name 0 0 1 ∷ []) ∷ []) ≡ Err (No.NoSuchPair 0 0 0) }
+    ensures wrong_partition { of_a (line 97 49 ∷ [] ∷ [] ∷ []) (((name 0 0 0 ∷ []) ∷ []) ∷ [] ∷ [] ∷ []) ≡ Err (No.WrongPartition 0 0 0) }
+    ensures right_partition { of_a ([] ∷ line 97 49 ∷ [] ∷ []) ([] ∷ ((name 0 0 0 ∷ []) ∷ []) ∷ [] ∷ []) ≡ Ok (record { skips = []; pairs = 1 }) }
+    ensures no_pair { of_groups a2_b1 ((last_name ∷ name 0 0 2 ∷ []) ∷ (name 0 0 1 ∷ []) ∷ []) ≡ Err (No.NoSuchPair 0 0 0) }
     ensures key_differs { of_groups a2_b1 ((name 0 0 0 ∷ name 0 0 1 ∷ []) ∷ (name 0 0 1 ∷ []) ∷ []) ≡ Err (No.KeyDiffers 0 0 1) }
     ensures key_order { of_groups (line 97 49 ++ line 97 49 ++ line 98 49) ((name 0 0 0 ∷ []) ∷ (name 0 0 2 ∷ []) ∷ (name 0 0 1 ∷ []) ∷ []) ≡ Err (No.KeyOrder 0 1 0) }
     ensures swapped { of_groups a2_b1 ((name 0 0 1 ∷ []) ∷ (name 0 0 0 ∷ name 0 0 2 ∷ []) ∷ []) ≡ Err (No.OutputDiffers 0 0) }

@@ -1,17 +1,17 @@
 //! The judge of a result.
 #![tactic(auto)]
 
-mod ahead;
+mod blocks;
 mod comparing;
 mod facts;
 mod fault;
 mod judge;
-mod judging;
+mod progress;
 mod laws;
 mod parts;
 mod skips;
-mod testing;
-mod wanted;
+mod entry_tests;
+mod header;
 
 pub use fault::{No, is_same_fault};
 pub use judge::{Yes, check, check_metered};

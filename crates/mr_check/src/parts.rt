@@ -4,13 +4,13 @@ ghost use Rattle.std.specs.List.{AllByRecursion};
 ghost use Rattle.mr_certform.specs.declared.item.Item.{Item as Read};
 ghost use Rattle.mr_certform.specs.Walking.{items_left, halt};
 ghost use Rattle.mr_check.specs.Verdict.{start, part_faults, first, entries_in};
-ghost use Rattle.mr_check.specs.Judging.{subject, Told, Room};
-ghost use Rattle.mr_check.specs.Ahead.{items_in, IsFound, Judged};
+ghost use Rattle.mr_check.specs.Steps.{subject, Answers, Room};
+ghost use Rattle.mr_check.specs.Blocks.{items_in, IsFound, Judged};
 
-use crate::ahead::{BLOCK, Row, fetch_all, read_block, seek_all, touch};
+use crate::blocks::{BLOCK, FoundItem, fetch_all, read_block, seek_all, touch};
 use crate::facts::Facts;
 use crate::fault::No;
-use crate::judging::Judging;
+use crate::progress::Progress;
 use mr_certform::{Item, Walker};
 use mr_index::Meter;
 use std::alloc::Global;
@@ -18,9 +18,9 @@ use std::alloc::Global;
 /// Judges rows in turn: whether they end the certificate, or the first fault.
 #[inline(never)]
 fn judge_rows<'a>(
-    judging: &mut Judging<'a>,
+    judging: &mut Progress<'a>,
     facts: &Facts<'a>,
-    rows: &[Row<'a>],
+    rows: &[FoundItem<'a>],
 ) -> Result<bool, No>
     requires room { Room judging.old (length rows.now) (2 ^ 64 - 2) }
     requires found { AllByRecursion (IsFound facts.now.triples) rows.now }
@@ -46,12 +46,12 @@ pub(crate) fn check_parts(
     requires few { length (items_left walker.old) < 2 ^ 63 }
     requires count { meter.old.lookups ≤ 2 ^ 63 }
     ensures faults { let fs = part_faults (subject facts.now) (halt walker.old) start (items_left walker.old) in
-        MatchResult result (λ n. (first fs ≡ None) × (n ≡ entries_in (items_left walker.old))) (λ e. Told fs e) }
+        MatchResult result (λ n. (first fs ≡ None) × (n ≡ entries_in (items_left walker.old))) (λ e. Answers fs e) }
     ensures lookups { (meter.old.lookups ≤ meter.new.lookups) × (meter.new.lookups ≤ meter.old.lookups + entries_in (items_left walker.old)) }
     ensures all { IfOk result (λ n. meter.new.lookups ≡ meter.old.lookups + n) }
     ensures mapped { meter.new.mapped ≡ meter.old.mapped }
 {
-    let mut judging = Judging::new(alloc);
+    let mut judging = Progress::new(alloc);
     let mut items = Vec::with_capacity(alloc, BLOCK)?;
     let mut sought = Vec::with_capacity(alloc, BLOCK)?;
     let mut rows = Vec::with_capacity(alloc, BLOCK)?;

@@ -3,7 +3,7 @@ ghost use Rattle.std.specs.Prelude.{◌≡◌, ◌⊎◌, ◌≤◌, ◌++◌, �
 ghost use Rattle.mr_splits.specs.Cut.{records_of};
 ghost use Rattle.mr_certform.specs.Walking.{items_left, halt};
 ghost use Rattle.mr_check.specs.declared.fault.No.TheVariants.{OutOfMemory, Malformed};
-ghost use Rattle.mr_check.specs.Judging.{awaits_skips, counted, skip_front, behind_skip, skip_fault, listed};
+ghost use Rattle.mr_check.specs.Steps.{awaits_skips, counted, skip_front, behind_skip, skip_fault, listed};
 
 use crate::fault::No;
 use mr_bytes::RecordName;

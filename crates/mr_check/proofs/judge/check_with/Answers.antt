@@ -2,7 +2,7 @@ use Rattle.std.proofs.Common.{◌≡◌, None, MatchResult, refl, subst, arith}
 use Rattle.mr_input.specs.Files.{contents}
 use Rattle.mr_certform.specs.Walking.{items_left, halt}
 use Rattle.mr_check.specs.Verdict.{Subject, start, part_faults, first, entries_in}
-use Rattle.mr_check.specs.Judging.{Told, case_at}
+use Rattle.mr_check.specs.Steps.{Answers, case_at}
 use Rattle.mr_splits.specs.Cut.{records_of}
 use Rattle.mr_index.proofs.WorkLemmas.{mapped-few}
 use Rattle.mr_check.proofs.VerdictLemmas.{known_subject}
@@ -12,8 +12,8 @@ pub returns-clause-faults : goal.returns-clause-faults
 returns-clause-faults c =
     let w = c.args.walker.now in
     let case = case_at c.args.request.now c.args.plan.now.files (contents c.args.outputs.now) (halt w) in
-    let same = known_subject case c.args.skips.now c.job.result.now c.args.plan.now c.in_ok-index.index c.job.ensures c.requires.same refl c.in_ok-index.ensures.ok in
-    subst (λ (s : Subject). MatchResult c.check_parts.result (λ n. (first (part_faults s (halt w) start (items_left w)) ≡ None) × (n ≡ entries_in (items_left w))) (λ e. Told (part_faults s (halt w) start (items_left w)) e)) same c.check_parts.ensures.faults
+    let same = known_subject case c.args.skips.now c.job.result.now c.args.plan.now c.in_ok-index.index c.job.ensures.same c.requires.same refl c.in_ok-index.ensures.ok in
+    subst (λ (s : Subject). MatchResult c.check_parts.result (λ n. (first (part_faults s (halt w) start (items_left w)) ≡ None) × (n ≡ entries_in (items_left w))) (λ e. Answers (part_faults s (halt w) start (items_left w)) e)) same c.check_parts.ensures.faults
 
 pub returns-in_err-index-clause-bounded : goal.returns-in_err-index-clause-bounded
 returns-in_err-index-clause-bounded c =

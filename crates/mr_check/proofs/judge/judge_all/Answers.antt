@@ -15,7 +15,7 @@ use Rattle.mr_check.specs.declared.judge.Yes.{Yes}
 use Rattle.mr_check.specs.declared.fault.No.{No}
 use Rattle.mr_check.specs.declared.fault.No.TheVariants.{OutOfMemory, OtherJob, OtherInput}
 use Rattle.mr_check.specs.Verdict.{count_faults, accepted_by, verdict_of, first}
-use Rattle.mr_check.specs.Judging.{Told, header_met, case_at}
+use Rattle.mr_check.specs.Steps.{Answers, header_met, case_at}
 use Rattle.mr_check.proofs.GrammarLemmas.{skips_come}
 use Rattle.mr_check.proofs.MeterLemmas.{bounded_wider, header_entries}
 use Rattle.mr_check.specs.Metered.{cut_by}
@@ -62,7 +62,7 @@ abbrev Answers : RequestSpec → List (List ℕ) → List (List ℕ) → List �
 Answers o files outputs bytes r = MatchResult r (λ y. verdict_of o files outputs bytes ≡ Ok (record { skips = y.skips.items; pairs = y.pairs })) (λ e. (e ≡ OutOfMemory) ⊎ (verdict_of o files outputs bytes ≡ Err e))
 
 rest_verdict : (o : RequestSpec) (files outputs : List (List ℕ)) (bytes : List ℕ) (ks : List Item) (at : ℕ) (r : Result Yes No) → length outputs ≡ o.parts → header_met (stop bytes) o files (items_of bytes) ≡ Ok ks → at ≡ stop bytes
-    → MatchResult r (λ y. (first (count_faults (case_at o files outputs at) ks) ≡ None) × (accepted_by (accepted [] 0) ks ≡ accepted y.skips.items y.pairs)) (λ e. Told (count_faults (case_at o files outputs at) ks) e)
+    → MatchResult r (λ y. (first (count_faults (case_at o files outputs at) ks) ≡ None) × (accepted_by (accepted [] 0) ks ≡ accepted y.skips.items y.pairs)) (λ e. Answers (count_faults (case_at o files outputs at) ks) e)
     → Answers o files outputs bytes r
 rest_verdict o files outputs bytes ks at (Ok y) n h a d = verdict_ok o files outputs bytes ks (accepted y.skips.items y.pairs) n h (ap (λ k. first (count_faults (case_at o files outputs k) ks)) (sym a) ∙ d.0) d.1
 rest_verdict o files outputs bytes ks at (Err e) n h a (inl d) = inl d

@@ -2,9 +2,9 @@ use Rattle.std.proofs.Common.{◌≡◌, ◌+◌, true, false, Ok, List, [], len
 use Rattle.mr_certform.specs.declared.item.Item.{Item}
 use Rattle.mr_certform.specs.Walking.{items_left, halt}
 use Rattle.mr_check.specs.Verdict.{part_faults, first, entries_in}
-use Rattle.mr_check.specs.Judging.{subject, Room}
-use Rattle.mr_check.specs.Ahead.{items_in, items_sought, GoesOn, Judged}
-use Rattle.mr_check.proofs.AheadLemmas.{items_long, entries_few, judged_as, block_ended, ended_counts, room_block}
+use Rattle.mr_check.specs.Steps.{subject, Room}
+use Rattle.mr_check.specs.Blocks.{items_in, items_sought, GoesOn, Judged}
+use Rattle.mr_check.proofs.BlockLemmas.{items_long, entries_few, judged_as, block_ended, ended_counts, room_block}
 use Rattle.mr_check.proofs.parts.check_parts.Goals as goal
 
 pub seek_all-requires : goal.seek_all-requires

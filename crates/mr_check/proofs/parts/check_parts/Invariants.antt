@@ -1,7 +1,7 @@
 use Rattle.std.proofs.Common.{◌≡◌, ◌+◌, length}
 use Rattle.mr_certform.specs.Walking.{items_left, halt}
 use Rattle.mr_check.specs.Verdict.{start, part_faults, first, entries_in}
-use Rattle.mr_check.specs.Judging.{subject, Room}
+use Rattle.mr_check.specs.Steps.{subject, Room}
 use Rattle.mr_check.proofs.parts.check_parts.Given as goal
 
 abbrev pub invariant-loop-touched : goal.invariant-loop-touched

@@ -1,16 +1,16 @@
 use Rattle.std.proofs.Common.{◌≡◌, ◌+◌, List, length, drop, get_or, sym, subst, arith}
 use Rattle.std.proofs.lemmas.List.{drop_more}
 use Rattle.std.specs.List.{AllByRecursion}
-use Rattle.mr_check.specs.declared.ahead.Row.{Row}
-use Rattle.mr_check.specs.Verdict.{State}
-use Rattle.mr_check.specs.Judging.{subject}
-use Rattle.mr_check.specs.Ahead.{items_in, IsFound}
-use Rattle.mr_check.proofs.AheadLemmas.{Stands, blank, items_long, stands_next, stands_more, stands_all, room_here}
+use Rattle.mr_check.specs.declared.blocks.FoundItem.{FoundItem}
+use Rattle.mr_check.specs.Verdict.{Reached}
+use Rattle.mr_check.specs.Steps.{subject}
+use Rattle.mr_check.specs.Blocks.{items_in, IsFound}
+use Rattle.mr_check.proofs.BlockLemmas.{Stands, blank, items_long, stands_next, stands_more, stands_all, room_here}
 use Rattle.mr_check.proofs.parts.judge_rows.Goals as goal
 
 pub step-requires-clause-room : goal.step-requires-clause-room
 step-requires-clause-room c =
-    let rows : List Row = c.args.rows.now in
+    let rows : List FoundItem = c.args.rows.now in
     let i = c.loop-row.row-index in
     let s = subject c.args.facts.now in
     let stands = stands_next s c.args.judging.now c.loop-row.judging i rows c.loop-row-test.true c.loop-row.invariant.stands in
@@ -19,23 +19,23 @@ step-requires-clause-room c =
 pub loop-row-preserved : goal.loop-row-preserved
 loop-row-preserved c =
     let s = subject c.args.facts.now in
-    let rows : List Row = c.args.rows.now in
+    let rows : List FoundItem = c.args.rows.now in
     let i = c.loop-row.row-index in
-    let row : Row = get_or rows i blank in
+    let row : FoundItem = get_or rows i blank in
     let old = c.args.judging.now in
     let told = c.in_ok-step.ensures in
     let stands = stands_next s old c.loop-row.judging i rows c.loop-row-test.true c.loop-row.invariant.stands in
     let next = stands_more s old c.loop-row.judging i row.item (items_in (drop (i + 1) rows)) (items_in rows) stands c.in_default.not-End told.0 in
     let found = subst (AllByRecursion (IsFound c.args.facts.now.triples)) (drop_more rows i blank c.loop-row-test.true) c.loop-row.invariant.found in
     record {
-      stands = subst (λ (st : State). Stands s old st (i + 1) (items_in (drop (i + 1) rows)) (items_in rows)) (sym told.1) next;
+      stands = subst (λ (st : Reached). Stands s old st (i + 1) (items_in (drop (i + 1) rows)) (items_in rows)) (sym told.1) next;
       found = found.1;
     }
 
 pub returns : goal.returns
 returns c at js =
     let s = subject c.args.facts.now in
-    let rows : List Row = c.args.rows.now in
+    let rows : List FoundItem = c.args.rows.now in
     let i = c.loop-row.row-index in
     let whole : i ≡ length rows = omega arith in
     stands_all s at c.args.judging.now c.loop-row.judging i rows js whole c.loop-row.invariant.stands

@@ -1,8 +1,8 @@
 use Rattle.std.proofs.Common.{drop}
 use Rattle.std.specs.List.{AllByRecursion}
-use Rattle.mr_check.specs.Judging.{subject}
-use Rattle.mr_check.specs.Ahead.{items_in, IsFound}
-use Rattle.mr_check.proofs.AheadLemmas.{Stands}
+use Rattle.mr_check.specs.Steps.{subject}
+use Rattle.mr_check.specs.Blocks.{items_in, IsFound}
+use Rattle.mr_check.proofs.BlockLemmas.{Stands}
 use Rattle.mr_check.proofs.parts.judge_rows.Given as goal
 
 abbrev pub invariant-loop-row : goal.invariant-loop-row

@@ -4,7 +4,7 @@ use Rattle.mr_splits.specs.Cut.{records_of}
 use Rattle.mr_certform.specs.Walking.{items_left, halt}
 use Rattle.mr_check.specs.declared.fault.No.{No}
 use Rattle.mr_check.specs.Verdict.{last_of}
-use Rattle.mr_check.specs.Judging.{skip_front, listed}
+use Rattle.mr_check.specs.Steps.{skip_front, listed}
 use Rattle.mr_check.proofs.SkipLemmas.{last_more, listed_more}
 use Rattle.mr_check.proofs.skips.take_skips.Goals as goal
 

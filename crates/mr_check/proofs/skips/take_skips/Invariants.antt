@@ -2,7 +2,7 @@ use Rattle.std.proofs.Common.{◌≡◌, [], length}
 use Rattle.mr_splits.specs.Cut.{records_of}
 use Rattle.mr_certform.specs.Walking.{items_left, halt}
 use Rattle.mr_check.specs.Verdict.{last_of}
-use Rattle.mr_check.specs.Judging.{listed}
+use Rattle.mr_check.specs.Steps.{listed}
 use Rattle.mr_check.proofs.skips.take_skips.Given as goal
 
 abbrev pub invariant-loop-skips : goal.invariant-loop-skips

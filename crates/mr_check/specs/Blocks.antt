@@ -1,0 +1,55 @@
+-- Of no public promise: what is read and looked up ahead of the tests.
+use Rattle.std.specs.Prelude.{◌≡◌, ℕ, ◌+◌, Bool, true, false, Some, None, MatchOption, IfSome, ◌<◌, Result, Ok, Err, List, [], ◌∷◌, length}
+use Rattle.mr_bytes.specs.declared.Name.{Name}
+use Rattle.mr_certform.specs.declared.item.Item.{Item}
+use Rattle.mr_certform.specs.declared.item.Item.TheVariants.{Entry, End}
+use Rattle.mr_sequential.specs.Emitted.{Triple}
+use Rattle.mr_sequential.specs.Good.{named}
+use Rattle.mr_check.specs.declared.fault.No.{No}
+use Rattle.mr_index.specs.Index.{pair_at}
+use Rattle.mr_check.specs.declared.blocks.Sought.{Sought}
+use Rattle.mr_check.specs.declared.blocks.FoundItem.{FoundItem}
+use Rattle.mr_check.specs.Verdict.{Reached, Subject, part_faults, first, entries_in}
+use Rattle.mr_check.specs.Steps.{Answers, Room}
+
+-- items with others behind them; behind an end nothing is left
+abbrev pub onto : List Item → List Item → List Item
+onto [] js = js
+onto (End ∷ is) js = End ∷ []
+onto (i ∷ is) js = i ∷ onto is js
+
+-- the items that were sought, and those of rows
+abbrev pub items_sought : List Sought → List Item
+items_sought [] = []
+items_sought (s ∷ sought) = s.item ∷ items_sought sought
+
+abbrev pub items_in : List FoundItem → List Item
+items_in [] = []
+items_in (r ∷ rows) = r.item ∷ items_in rows
+
+-- the pair at this place, under this name
+abbrev pub triple_at : List Triple → Name → ℕ → Triple
+triple_at ts name at = record { key = (pair_at ts at).0; value = (pair_at ts at).1; name = name }
+
+-- where the item is an entry, its place is that of what is emitted under its name
+pub record IsPlaced (ts : List Triple) (s : Sought) : Type 0 where
+  pub within : IfSome s.place (λ at. at < length ts)
+  pub there : (name : Name) → s.item ≡ Entry name → MatchOption s.place (named ts name ≡ None) (λ at. named ts name ≡ Some (triple_at ts name at))
+
+-- where the row's item is an entry, what was found is what is emitted under its name
+abbrev pub IsFound : List Triple → FoundItem → Type 0
+IsFound ts r = (name : Name) → r.item ≡ Entry name
+    → MatchOption r.found (named ts name ≡ None) (λ p. named ts name ≡ Some (record { key = p.0.now; value = p.1; name = name }))
+
+-- items were judged, and stood: the first fault is that of what comes behind them, and each entry and item counts
+pub record GoesOn (s : Subject) (at : ℕ) (old new : Reached) (is js : List Item) : Type 0 where
+  pub same : first (part_faults s at new js) ≡ first (part_faults s at old (onto is js))
+  pub named : new.named + entries_in js ≡ old.named + entries_in (onto is js)
+  pub fewer : length (onto is js) ≡ length is + length js
+  pub room : (all : ℕ) → Room old (length is + length js) all → Room new (length js) all
+
+-- what an answer on items says, with others behind them: they end and all stood, or they stood, or a fault
+abbrev pub Judged : Subject → ℕ → Reached → Reached → List Item → List Item → Result Bool No → Type 0
+Judged s at old new is js (Ok true) = (first (part_faults s at old (onto is js)) ≡ None) × (new.named ≡ old.named + entries_in (onto is js))
+Judged s at old new is js (Ok false) = GoesOn s at old new is js
+Judged s at old new is js (Err e) = Answers (part_faults s at old (onto is js)) e

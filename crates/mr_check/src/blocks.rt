@@ -1,0 +1,160 @@
+//! Reading and looking up ahead of the tests, a block at a time. Each step is a loop of its own over the block, short and
+//! not inlined, in which no turn waits for the one before: so the waits for memory of many names overlap.
+ghost use Rattle.std.specs.Prelude.{◌≡◌, ◌⊎◌, ◌<◌, ◌≤◌, ◌+◌, ◌^◌, [], ◌∷◌, ◌++◌, MatchResult, OnOk, length};
+ghost use Rattle.std.specs.List.{AllByRecursion};
+ghost use Rattle.mr_certform.specs.Walking.{items_left, halt};
+ghost use Rattle.mr_check.specs.declared.fault.No.TheVariants.{Malformed, OutOfMemory};
+ghost use Rattle.mr_check.specs.Verdict.{entries_in};
+ghost use Rattle.mr_check.specs.Blocks.{onto, items_sought, items_in, IsPlaced, IsFound};
+
+use crate::facts::Facts;
+use crate::fault::No;
+use mr_bytes::Value;
+use mr_certform::{Item, Walker};
+use mr_index::Meter;
+use std::alloc::AllocError;
+
+/// How many items are read and looked up ahead.
+pub(crate) const BLOCK: usize = 64;
+
+/// An item, and where what is emitted under its name stands where it is an entry.
+#[derive(Drop)]
+pub(crate) struct Sought {
+    pub item: Item,
+    pub place: Option<usize>,
+}
+
+/// An item, and what is emitted under its name where it is an entry.
+#[derive(Drop)]
+pub(crate) struct FoundItem<'a> {
+    pub item: Item,
+    pub found: Option<(&'a [u8], Value)>,
+}
+
+/// Looks up the item's name, where it is an entry.
+fn seek(facts: &Facts<'_>, item: Item, meter: &mut Meter) -> Sought
+    requires { meter.old.lookups + entries_in (item ∷ []) < 2 ^ 64 }
+    ensures item { result.item ≡ item }
+    ensures placed { IsPlaced facts.now.triples result }
+    ensures lookups { meter.new.lookups ≡ meter.old.lookups + entries_in (item ∷ []) }
+    ensures mapped { meter.new.mapped ≡ meter.old.mapped }
+{
+    let place = match item {
+        Item::Entry(name) => facts.find(name, meter),
+        _ => None,
+    };
+    Sought { item, place }
+}
+
+/// The row of an item that was sought.
+fn row_of<'a>(facts: &Facts<'a>, sought: &Sought) -> FoundItem<'a>
+    requires { IsPlaced facts.now.triples sought.now }
+    ensures item { result.item ≡ sought.now.item }
+    ensures found { IsFound facts.now.triples result }
+{
+    let found = match sought.place {
+        Some(at) => Some(facts.at(at)),
+        None => None,
+    };
+    FoundItem {
+        item: sought.item,
+        found,
+    }
+}
+
+fn keep<T: Drop>(list: &mut Vec<T>, one: T) -> Result<(), AllocError>
+    ensures { OnOk result (list.new.items ≡ list.old.items ++ one ∷ []) }
+{
+    list.push(one)?;
+    Ok(())
+}
+
+/// Reads the items that come next, in place of what the list held: as many as a block has, but none behind the end, nor
+/// what is malformed. Malformed only where no item stands at all.
+#[inline(never)]
+pub(crate) fn read_block(walker: &mut Walker<'_>, items: &mut Vec<Item>) -> Result<(), No>
+    ensures items { MatchResult result
+        (λ _. (items_left walker.old ≡ onto items.new.items (items_left walker.new))
+            × (entries_in (items_left walker.old) ≡ entries_in items.new.items + entries_in (items_left walker.new)))
+        (λ e. (e ≡ OutOfMemory) ⊎ ((items_left walker.old ≡ []) × (e ≡ Malformed (halt walker.old)))) }
+    ensures some { OnOk result ((1 ≤ length items.new.items) × (length items.new.items ≤ 64)) }
+    ensures stop { halt walker.new ≡ halt walker.old }
+{
+    items.clear();
+    let first = walker.next()?;
+    keep(items, first)?;
+    while items.len() < BLOCK {
+        let Ok(item) = walker.next() else {
+            return Ok(());
+        };
+        keep(items, item)?;
+        if let Item::End = item {
+            return Ok(());
+        }
+    }
+    Ok(())
+}
+
+/// Looks up all names among the items, in place of what the list held: where each stands.
+#[inline(never)]
+pub(crate) fn seek_all(
+    facts: &Facts<'_>,
+    items: &[Item],
+    sought: &mut Vec<Sought>,
+    meter: &mut Meter,
+) -> Result<(), AllocError>
+    requires { meter.old.lookups + entries_in items.now < 2 ^ 64 }
+    ensures items { OnOk result (items_sought sought.new.items ≡ items.now) }
+    ensures placed { OnOk result (AllByRecursion (IsPlaced facts.now.triples) sought.new.items) }
+    ensures lookups { (meter.old.lookups ≤ meter.new.lookups) × (meter.new.lookups ≤ meter.old.lookups + entries_in items.now) }
+    ensures all { OnOk result (meter.new.lookups ≡ meter.old.lookups + entries_in items.now) }
+    ensures mapped { meter.new.mapped ≡ meter.old.mapped }
+{
+    sought.clear();
+    for item in items {
+        let one = seek(facts, *item, meter);
+        keep(sought, one)?;
+    }
+    Ok(())
+}
+
+/// The rows of all that was sought, in place of what the list held. No byte of a key is read.
+#[inline(never)]
+pub(crate) fn fetch_all<'a>(
+    facts: &Facts<'a>,
+    sought: &[Sought],
+    rows: &mut Vec<FoundItem<'a>>,
+) -> Result<(), AllocError>
+    requires { AllByRecursion (IsPlaced facts.now.triples) sought.now }
+    ensures items { OnOk result (items_in rows.new.items ≡ items_sought sought.now) }
+    ensures found { OnOk result (AllByRecursion (IsFound facts.now.triples) rows.new.items) }
+{
+    rows.clear();
+    for one in sought {
+        let row = row_of(facts, one);
+        keep(rows, row)?;
+    }
+    Ok(())
+}
+
+/// The first byte of a key, where one was found.
+fn first_byte(row: &FoundItem<'_>) -> u8 {
+    match row.found {
+        Some((key, _)) => match key.first() {
+            Some(byte) => *byte,
+            None => 0,
+        },
+        None => 0,
+    }
+}
+
+/// Reads the first byte of each key that was found, for nothing else than that the keys come from memory before they are
+/// compared; the list keeps the bytes, so that no compiler leaves out the reading.
+#[inline(never)]
+pub(crate) fn touch(rows: &[FoundItem<'_>], touched: &mut Vec<u8>) -> Result<(), AllocError> {
+    touched.clear();
+    for row in rows {
+        touched.push(first_byte(row))?;
+    }
+    Ok(())
+}

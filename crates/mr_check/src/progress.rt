@@ -1,0 +1,282 @@
+//! How far the judge has come in the partitions, item by item.
+ghost use Rattle.std.specs.Prelude.{◌≡◌, ◌<◌, ◌≤◌, ◌+◌, ◌-◌, ◌^◌, ◌++◌, ◌∷◌, [], MatchOption, MatchResult, OnOk, None, Some, length};
+ghost use Rattle.mr_sequential.specs.Good.{named};
+ghost use Rattle.mr_check.specs.Verdict.{start, first_tests, later_tests, order_tests, with_entry, group_tests, behind_group, entry_tests, after_entry};
+ghost use Rattle.mr_check.specs.Verdict.{tests, after};
+ghost use Rattle.mr_check.specs.Steps.{subject, Answers, HasRoom};
+ghost use Rattle.mr_check.specs.Blocks.{IsFound};
+
+use crate::blocks::FoundItem;
+use crate::facts::Facts;
+use crate::fault::No;
+use crate::entry_tests::{test_end, test_first, test_later, test_named, test_text};
+use mr_bytes::{Name, Value, Values};
+use mr_certform::Item;
+use std::alloc::{AllocError, Global};
+use std::marker::Model;
+
+/// How far the judge has come in the partitions: the next partition; of this one how many groups are still to come,
+/// and the group; of this group how many entries are still to come, and the entry; the key of the group before, and of
+/// this one; the name before; the values so far; where in the output the next text is to stand; how many entries there
+/// were; and a buffer for the texts.
+#[derive(Drop)]
+pub(crate) struct Progress<'a> {
+    next: u64,
+    groups: u64,
+    group: u64,
+    entries: u64,
+    entry: u64,
+    key_before: Option<&'a [u8]>,
+    key: &'a [u8],
+    before: Name,
+    values: Values,
+    from: u64,
+    named: u64,
+    text: Vec<u8>,
+}
+
+impl<'a> Model for Progress<'a> {
+    ghost use Rattle.std.specs.Option.{option_map};
+    ghost use Rattle.mr_check.specs.Verdict.{Reached};
+
+    ghost Value = { Reached };
+
+    ghost view = { λ j. record {
+      next = j.next;
+      groups = j.groups;
+      group = j.group;
+      entries = j.entries;
+      entry = j.entry;
+      key_before = option_map (λ r. r.now) j.key_before;
+      key = j.key.now;
+      before = j.before;
+      values = j.values;
+      from = j.from;
+      named = j.named;
+    } };
+}
+
+impl<'a> Progress<'a> {
+    /// Before the first partition.
+    pub fn new(alloc: Global) -> Progress<'a>
+        ensures { result ≡ start }
+    {
+        Progress {
+            next: 0,
+            groups: 0,
+            group: 0,
+            entries: 0,
+            entry: 0,
+            key_before: None,
+            key: b"",
+            before: Name {
+                split: 0,
+                rec: 0,
+                place: 0,
+            },
+            values: Values::new(alloc),
+            from: 0,
+            named: 0,
+            text: Vec::new(alloc),
+        }
+    }
+
+    /// How many entries there were.
+    pub fn named(&self) -> u64
+        ensures { result ≡ self.now.named }
+    {
+        self.named
+    }
+
+    /// The next partition, of so many groups.
+    fn begin_partition(&mut self, groups: u64)
+        requires { HasRoom self.old }
+        ensures { self.new ≡ record self.old { next = self.old.next + 1; groups = groups; group = 0; key_before = None; from = 0 } }
+    {
+        self.next += 1;
+        self.groups = groups;
+        self.group = 0;
+        self.key_before = None;
+        self.from = 0;
+    }
+
+    /// The next group, of so many entries.
+    fn begin_group(&mut self, entries: u64)
+        ensures { self.new ≡ record self.old { entries = entries; entry = 0 } }
+    {
+        self.entries = entries;
+        self.entry = 0;
+    }
+
+    /// A group's first entry.
+    fn take_first(&mut self, name: Name, key: &'a [u8], value: Value) -> Result<(), AllocError>
+        requires { HasRoom self.old }
+        ensures { OnOk result (self.new
+            ≡ record self.old { entry = 1; entries = self.old.entries - 1; key = key.entry.now; before = name; values = value ∷ []; named = self.old.named + 1 }) }
+    {
+        self.values.clear();
+        self.values.push(value)?;
+        self.entry = 1;
+        self.entries = self.entries.saturating_sub(1);
+        self.key = key;
+        self.before = name;
+        self.named += 1;
+        Ok(())
+    }
+
+    /// A later entry of a group.
+    fn take_later(&mut self, name: Name, value: Value) -> Result<(), AllocError>
+        requires { HasRoom self.old }
+        ensures { OnOk result (self.new
+            ≡ record self.old { entry = self.old.entry + 1; entries = self.old.entries - 1; before = name; values = self.old.values ++ value ∷ []; named = self.old.named + 1 }) }
+    {
+        self.values.push(value)?;
+        self.entry += 1;
+        self.entries = self.entries.saturating_sub(1);
+        self.before = name;
+        self.named += 1;
+        Ok(())
+    }
+}
+
+impl<'a> Progress<'a> {
+    /// The end of a group that stands whole: its text, and the partition's end where it was the last.
+    fn end_group(&mut self, facts: &Facts<'_>, p: u64) -> Result<(), No>
+        requires { (self.old.group + 1 < 2 ^ 64) × (length self.old.values < 2 ^ 64) }
+        ensures { let s = subject facts.now in MatchResult result (λ _. (group_tests s p self.old 0 ≡ []) × (self.new ≡ behind_group s self.old 0))
+            (λ e. Answers (group_tests s p self.old 0) e) }
+    {
+        facts.text(self.key, &self.values, &mut self.text)?;
+        let output = facts.output(p);
+        test_text(output, p, self.from, &self.text)?;
+        self.from += self.text.len() as u64;
+        self.groups = self.groups.saturating_sub(1);
+        test_end(output, p, self.groups, self.from)?;
+        self.group += 1;
+        self.key_before = Some(self.key);
+        Ok(())
+    }
+
+    /// A group's first entry is tested and taken.
+    fn first_entry(
+        &mut self,
+        facts: &Facts<'_>,
+        p: u64,
+        name: Name,
+        key: &'a [u8],
+        value: Value,
+    ) -> Result<(), No>
+        requires { HasRoom self.old }
+        ensures { let fs = first_tests (subject facts.now).rules.part p self.old.group self.old.key_before key.entry.now in
+            MatchResult result (λ _. (fs ≡ []) × (self.new ≡ with_entry self.old (record { key = key.entry.now; value = value; name = name }) 0))
+                (λ e. Answers fs e) }
+    {
+        test_first(facts, p, self.group, self.key_before, key)?;
+        self.take_first(name, key, value)?;
+        Ok(())
+    }
+
+    /// A later entry is tested and taken.
+    fn later_entry(&mut self, p: u64, name: Name, key: &[u8], value: Value) -> Result<(), No>
+        requires { HasRoom self.old }
+        ensures { let fs = later_tests p self.old.group self.old.entry self.old.before name self.old.key key.now in
+            MatchResult result (λ _. (fs ≡ []) × (self.new
+                ≡ record self.old { entry = self.old.entry + 1; entries = self.old.entries - 1; before = name; values = self.old.values ++ value ∷ []; named = self.old.named + 1 })) (λ e. Answers fs e) }
+    {
+        test_later(p, self.group, self.entry, self.before, name, self.key, key)?;
+        self.take_later(name, value)?;
+        Ok(())
+    }
+
+    /// The next entry is tested and taken.
+    #[tactic(auto, using(crate::proofs::Faults::order_zero, crate::proofs::Faults::with_zero, crate::proofs::Faults::order_suc, crate::proofs::Faults::with_suc))]
+    fn order_entry(
+        &mut self,
+        facts: &Facts<'_>,
+        p: u64,
+        name: Name,
+        key: &'a [u8],
+        value: Value,
+    ) -> Result<(), No>
+        requires { HasRoom self.old }
+        ensures { let fs = order_tests (subject facts.now).rules.part p self.old name key.entry.now self.old.entry in
+            MatchResult result (λ _. (fs ≡ [])
+                × (self.new ≡ with_entry self.old (record { key = key.entry.now; value = value; name = name }) self.old.entry)) (λ e. Answers fs e) }
+    {
+        if self.entry == 0 {
+            self.first_entry(facts, p, name, key, value)
+        } else {
+            self.later_entry(p, name, key, value)
+        }
+    }
+
+    /// The group's end, where no entry is to come.
+    #[tactic(auto, using(crate::proofs::Faults::group_goes_on, crate::proofs::Faults::behind_goes_on))]
+    fn end_entry(&mut self, facts: &Facts<'_>, p: u64) -> Result<(), No>
+        requires { (self.old.group + 1 < 2 ^ 64) × (length self.old.values < 2 ^ 64) }
+        ensures { let s = subject facts.now in
+            MatchResult result (λ _. (group_tests s p self.old self.old.entries ≡ []) × (self.new ≡ behind_group s self.old self.old.entries))
+                (λ e. Answers (group_tests s p self.old self.old.entries) e) }
+    {
+        if self.entries == 0 {
+            self.end_group(facts, p)
+        } else {
+            Ok(())
+        }
+    }
+
+    /// An entry, with all its tests, given what is emitted under its name.
+    fn entry(
+        &mut self,
+        facts: &Facts<'_>,
+        p: u64,
+        name: Name,
+        found: Option<(&'a [u8], Value)>,
+    ) -> Result<(), No>
+        requires room { HasRoom self.old }
+        requires found { let t = named facts.now.triples name in MatchOption found (t ≡ None)
+            (λ p. t ≡ Some (record { key = p.0.now; value = p.1; name = name })) }
+        ensures tests { let s = subject facts.now in let t = named s.triples name in let fs = entry_tests s p self.old name t in
+            MatchResult result (λ _. (fs ≡ []) × (self.new ≡ after_entry s self.old t)) (λ e. Answers fs e) }
+    {
+        match found {
+            None => Err(No::NoSuchPair {
+                partition: p,
+                group: self.group,
+                entry: self.entry,
+            }),
+            Some((key, value)) => {
+                self.order_entry(facts, p, name, key, value)?;
+                self.end_entry(facts, p)
+            }
+        }
+    }
+
+    /// All tests of a row's item, in their order.
+    pub fn step(&mut self, facts: &Facts<'_>, row: &FoundItem<'a>) -> Result<(), No>
+        requires room { HasRoom self.old }
+        requires found { IsFound facts.now.triples row.now }
+        ensures { let s = subject facts.now in
+            MatchResult result (λ _. (tests s self.old row.now.item ≡ []) × (self.new ≡ after s self.old row.now.item))
+                (λ e. Answers (tests s self.old row.now.item) e) }
+    {
+        match row.item {
+            Item::Groups(groups) => {
+                let groups = u64::from(groups);
+                test_end(facts.output(self.next), self.next, groups, 0)?;
+                self.begin_partition(groups);
+                Ok(())
+            }
+            Item::Entries(entries) => {
+                self.begin_group(u64::from(entries));
+                Ok(())
+            }
+            Item::Entry(name) => {
+                let p = self.next.saturating_sub(1);
+                self.entry(facts, p, name, row.found)
+            }
+            Item::End => test_named(facts.emitted(), self.named),
+            _ => Ok(()),
+        }
+    }
+}
