@@ -25,6 +25,8 @@ def worked_rows(harness):
     row(harness, "a log line", [*url, "--parts", "2"], {"a": log}, out=b"done: 2 files, 1 pairs, 0 left out\n", parts=[b"", b"/a\t1\n"])
     row(harness, "no resource", url, {"a": b'h "-" 1\nh "GET  /a" 1\nh "GET /a 1\n'}, out=b"done: 1 files, 0 pairs, 0 left out\n", parts=[b""])
     row(harness, "an escaped quote", url, {"a": b'h - - [t] "GET /a\\"b HTTP/1.0" 200 1\n'}, out=b"done: 1 files, 1 pairs, 0 left out\n", parts=[b'/a\\"b\t1\n'])
+    for line, key in ((b'h "GET /a"', b"/a"), (b'h " /a b"', b"/a"), (b'h "GET\\ /a" 1', b"/a"), (b'h \\"GET /a b" 1', b"/a"), (b'h "GET /a\\ b" 1', b"/a\\")):
+        row(harness, f"the resource of {line}", url, {"a": line}, out=b"done: 1 files, 1 pairs, 0 left out\n", parts=[key + b"\t1\n"])
     two = {"a": b"a b\nc\n"}
     row(harness, "one record left out", [*words, "--skips", "0:0", "--max-skips", "1"], two, out=b"done: 1 files, 1 pairs, 1 left out\n", parts=[b"c\t1\n"])
     for name, skips, most, said in [
@@ -49,8 +51,11 @@ def certificates(harness):
     lines = MAGIC + bytes.fromhex("00000002 00000000 00000001 78 00000001 00000040 00000003 0000000000000001 0000000000000000 0000000000000002 00000000 00000001 00000002 00000000 00000000 00000000 00000001 00000000 00000000")
     grep = ["seq", "--job", "grep", "--literal", "x", "--split", "64"]
     row(harness, "lines of three files certified", grep, {"a": b"x", "b": b"", "c": b"x\n"}, out=b"done: 1 files, 2 pairs, 0 left out\n", parts=[b"x\t0:0\nx\t2:0\n"], certificate=lines)
-    sizes = [len(c) for c in (EXAMPLE, empty, left_out, lines)]
-    harness.check("the lengths of the certificates", sizes == [92, 52, 72, 93], repr(sizes))
+    folded = MAGIC + bytes.fromhex("00000002 00000002 00000002 4162 00000002 00000004 00000002 0000000000000007 0000000000000005 00000001 00000000 00000000 00000002 00000001 000000020000000100000000 00000001 000000000000000100000000 00000000")
+    grep = ["seq", "--job", "grep", "--literal", "Ab", "--fold", "--parts", "2", "--split", "4", "--skips", "0:0", "--max-skips", "1"]
+    row(harness, "two files, folded, a record left out, certified", grep, {"a": b"ab\nxAB\n", "b": b"b\naB\n"}, out=b"done: 2 files, 2 pairs, 1 left out\n", parts=[b"aB\t1:2\nxAB\t0:3\n", b""], certificate=folded)
+    sizes = [len(c) for c in (EXAMPLE, empty, left_out, lines, folded)]
+    harness.check("the lengths of the certificates", sizes == [92, 52, 72, 93, 102], repr(sizes))
 
 
 def refusals(harness):

@@ -84,14 +84,14 @@ work_run_stage holds unreadable o list skips names files request e n r a s i h =
 
 pub works_out : (holds : List ℕ → List ℕ → Type 0) (o : Options) (list : List ℕ) (skips : List RecordName) (names files outputs : List (List ℕ)) (bytes line : List ℕ) (request : RequestSpec)
     → names ≡ input_names o → request ≡ request_asked o → SpellsNames list skips → IsInput holds names request.split files
-    → IsSequentialResult request files skips outputs bytes → line ≡ done_line request.parts (length (emitted request files skips)) (length skips) → WorksOut holds o list outputs bytes line
+    → IsSequentialResult request files skips outputs bytes → line ≡ done_line request.parts (length (emitted request.job request.split files skips)) (length skips) → WorksOut holds o list outputs bytes line
 works_out holds o list skips names files outputs bytes line request n r s i h l = record {
   files = files;
   names = skips;
   input = subst (λ (s : ℕ). IsInput holds (input_names o) s files) (ap (λ (v : RequestSpec). v.split) r) (subst (λ (v : List (List ℕ)). IsInput holds v request.split files) n i);
   spelled = s;
   result = subst (λ (v : RequestSpec). IsSequentialResult v files skips outputs bytes) r h;
-  said = subst (λ (v : RequestSpec). line ≡ done_line v.parts (length (emitted v files skips)) (length skips)) r l;
+  said = subst (λ (v : RequestSpec). line ≡ done_line v.parts (length (emitted v.job v.split files skips)) (length skips)) r l;
 }
 
 pub both_ok : {W E : Type 0} (r : Result W E) (P Q R : W → Type 0) → ((w : W) → P w → Q w → R w) → IfOk r P → IfOk r Q → IfOk r R

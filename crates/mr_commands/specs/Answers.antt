@@ -78,7 +78,7 @@ pub record WorksOut (holds : List ℕ → List ℕ → Type 0) (o : Options) (li
   pub input : IsInput holds (input_names o) o.split files
   pub spelled : SpellsNames list names
   pub result : IsSequentialResult (request_asked o) files names outputs bytes
-  pub said : line ≡ done_line o.parts (length (emitted (request_asked o) files names)) (length names)
+  pub said : line ≡ done_line o.parts (length (emitted (request_asked o).job (request_asked o).split files names)) (length names)
 
 -- a list of left-out records has this fault over the input
 abbrev pub IsRunRefusal : RequestSpec → List (List ℕ) → List RecordName → Fault → Type 0
@@ -105,7 +105,7 @@ pub record AnswersSeq (old new : List ℕ → List ℕ → Type 0) (o : Options)
   pub result : IsSequentialResult (request_asked o) files names outputs bytes
   pub parts : Holding new (part_names o.out.now o.parts) outputs
   pub certificate : new (name_of_certificate o.out.now) bytes
-  pub said : text ≡ done_line o.parts (length (emitted (request_asked o) files names)) (length names)
+  pub said : text ≡ done_line o.parts (length (emitted (request_asked o).job (request_asked o).split files names)) (length names)
 
 -- a file of the result can't be written: those before it stand whole, those behind it as before
 abbrev pub IsStopped : (List ℕ → List ℕ → Type 0) → (List ℕ → List ℕ → Type 0) → (List ℕ → Type 0) → List (List ℕ) → List (List ℕ) → Fault → Type 0

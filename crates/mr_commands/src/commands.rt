@@ -50,7 +50,7 @@ fn worked(
 ) -> Result<Work, Fault>
     requires { split_total request.now.split input ≤ 2 ^ 20 }
     ensures result { IfOk result (λ w. IsSequentialResult request.now input skips.now (contents w.outputs.items) w.certificate.items) }
-    ensures line { IfOk result (λ w. string_bytes w.line ≡ done_line request.now.parts (length (emitted request.now input skips.now)) (length skips.now)) }
+    ensures line { IfOk result (λ w. string_bytes w.line ≡ done_line request.now.parts (length (emitted request.now.job request.now.split input skips.now)) (length skips.now)) }
     ensures refused { IfErr result (λ e. IsRunRefusal request.now input skips.now e) }
 {
     let (outputs, certificate) = run(alloc, request, &input, skips)?;

@@ -23,7 +23,7 @@ returns-clause-work g c =
     let request = c.in_ok-request.request in
     let files = c.in_ok-input.input in
     let skips = c.as_slice-2.result.now in
-    both_ok c.worked.result (λ w. IsSequentialResult request files skips (contents w.outputs.items) w.certificate.items) (λ w. string_bytes w.line ≡ done_line request.parts (length (emitted request files skips)) (length skips))
+    both_ok c.worked.result (λ w. IsSequentialResult request files skips (contents w.outputs.items) w.certificate.items) (λ w. string_bytes w.line ≡ done_line request.parts (length (emitted request.job request.split files skips)) (length skips))
     (λ w. WorksOut holds o list (contents w.outputs.items) w.certificate.items (string_bytes w.line))
     (λ w h l. works_out holds o list skips (map (λ s. s.now) c.as_slice.result.now) files (contents w.outputs.items) w.certificate.items (string_bytes w.line) request (ap (map (λ s. s.now)) c.as_slice.ensures.value) c.in_ok-request.ensures.request (rw c.as_slice-2.ensures.value c.in_ok-skips.ensures.ok) c.in_ok-input.ensures.input h l)
     c.worked.ensures.result c.worked.ensures.line
