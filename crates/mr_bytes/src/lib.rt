@@ -104,6 +104,3 @@ pub fn fold_in_place(bytes: &mut [u8])
         *b = fold_byte(*b);
     }
 }
-
-#[cfg(test)]
-mod tests;

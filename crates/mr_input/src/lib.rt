@@ -130,6 +130,3 @@ fn splits_of(input: &Input, size: u32) -> usize
     }
     splits
 }
-
-#[cfg(test)]
-mod tests;

@@ -135,6 +135,3 @@ pub fn record_end(bytes: &[u8], from: usize) -> Option<usize>
     }
     Some(line_end(bytes, from))
 }
-
-#[cfg(test)]
-mod tests;

@@ -122,6 +122,3 @@ fn put_places(key: &[u8], values: &[Value], out: &mut Vec<u8>) -> Result<(), All
 pub fn text_law()
     ensures { CountersTellTheNumber }
 {}
-
-#[cfg(test)]
-mod tests;

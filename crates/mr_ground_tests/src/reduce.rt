@@ -1,6 +1,7 @@
-use crate::{group_text, total_text};
-use mr_bytes::Value;
+//! Texts of groups.
+use mr_bytes::{Value, Values};
 use mr_jobs::Job;
+use mr_reduce::{column_text, group_text, total_text};
 use std::test::Fail;
 
 #[test]
@@ -9,16 +10,16 @@ fn totals(rt: HostRuntime) -> Result<(), Fail> {
     let mut out = Vec::new(alloc);
     let ones = [Value::One, Value::One];
     group_text(&Job::words(false), b"the", &ones, &mut out)?;
-    assert_eq!(rt; out.as_slice(), b"the\t2\n".as_slice());
+    assert!(rt; out.as_slice() == b"the\t2\n".as_slice());
     // What is appended stands behind what was there.
     group_text(&Job::url(), b"/a", &ones[..1], &mut out)?;
-    assert_eq!(rt; out.as_slice(), b"the\t2\n/a\t1\n".as_slice());
+    assert!(rt; out.as_slice() == b"the\t2\n/a\t1\n".as_slice());
     let mut text = Vec::new(alloc);
     total_text(b"the", 2, &mut text)?;
-    assert_eq!(rt; text.as_slice(), b"the\t2\n".as_slice());
+    assert!(rt; text.as_slice() == b"the\t2\n".as_slice());
     let mut large = Vec::new(alloc);
     total_text(b"", 18446744073709551615, &mut large)?;
-    assert_eq!(rt; large.as_slice(), b"\t18446744073709551615\n".as_slice());
+    assert!(rt; large.as_slice() == b"\t18446744073709551615\n".as_slice());
     Ok(())
 }
 
@@ -36,12 +37,20 @@ fn places(rt: HostRuntime) -> Result<(), Fail> {
         },
     ];
     group_text(&job, b"abc", &values[..1], &mut out)?;
-    assert_eq!(rt; out.as_slice(), b"abc\t0:0\n".as_slice());
+    assert!(rt; out.as_slice() == b"abc\t0:0\n".as_slice());
     let mut all = Vec::new(alloc);
     group_text(&job, b"abc", &values, &mut all)?;
-    assert_eq!(rt;
-        all.as_slice(),
-        b"abc\t0:0\nabc\t12:4294967296\n".as_slice()
-    );
+    assert!(rt; all.as_slice() == b"abc\t0:0\nabc\t12:4294967296\n".as_slice());
+    let mut column = Values::new(alloc);
+    for value in values {
+        if column.len() < 3 {
+            column.push(value)?;
+        }
+    }
+    let mut same = Vec::new(alloc);
+    column_text(&job, b"abc", &column, &mut same)?;
+    assert!(rt; same.as_slice() == all.as_slice());
+    column_text(&Job::url(), b"/a", &column, &mut same)?;
+    assert!(rt; same.as_slice().ends_with(b"/a\t3\n"));
     Ok(())
 }

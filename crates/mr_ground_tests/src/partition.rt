@@ -1,17 +1,18 @@
-use crate::{fnv, partition};
+//! Hashes and partitions from outside.
+use mr_partition::{fnv, partition};
 
 #[test]
 fn hashes(rt: HostRuntime) {
-    assert_eq!(rt; fnv(b""), 0xcbf29ce484222325);
-    assert_eq!(rt; fnv(b"a"), 0xaf63dc4c8601ec8c);
-    assert_eq!(rt; fnv(b"foobar"), 0x85944171f73967e8);
+    assert!(rt; fnv(b"") == 0xcbf29ce484222325);
+    assert!(rt; fnv(b"a") == 0xaf63dc4c8601ec8c);
+    assert!(rt; fnv(b"foobar") == 0x85944171f73967e8);
 }
 
 #[test]
 fn partitions(rt: HostRuntime) {
-    assert_eq!(rt; partition(b"a", 3), 1);
-    assert_eq!(rt; partition(b"a", 4), 0);
-    assert_eq!(rt; partition(b"a", 1), 0);
+    assert!(rt; partition(b"a", 3) == 1);
+    assert!(rt; partition(b"a", 4) == 0);
+    assert!(rt; partition(b"a", 1) == 0);
 }
 
 /// The hash starts odd and its factor is odd, so that the lowest bit changes just at each odd byte.
@@ -32,6 +33,6 @@ fn two_partitions_tell_the_parity_of_odd_bytes(rt: HostRuntime) {
         for byte in key {
             parity ^= u32::from(*byte & 1);
         }
-        assert_eq!(rt; partition(key, 2), 1 ^ parity, "{key:?}");
+        assert!(rt; partition(key, 2) == 1 ^ parity);
     }
 }

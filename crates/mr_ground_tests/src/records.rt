@@ -1,4 +1,5 @@
-use crate::Records;
+//! Files cut into records by hand.
+use mr_records::Records;
 use std::alloc::Global;
 use std::process::Abort;
 use std::test::Fail;
@@ -7,11 +8,11 @@ use std::test::Fail;
 fn has(rt: &impl Abort, alloc: Global, file: &[u8], want: &[(u32, &[u8])]) -> Result<(), Fail> {
     assert!(rt; file.len() <= 1000);
     let records = Records::of(alloc, file)?;
-    assert_eq!(rt; records.count(), want.len(), "{file:?}");
+    assert!(rt; records.count() == want.len());
     for (i, (start, bytes)) in want.iter().enumerate() {
         if i < records.count() {
-            assert_eq!(rt; records.start(i), *start, "{file:?}");
-            assert_eq!(rt; records.record(i), *bytes, "{file:?}");
+            assert!(rt; records.start(i) == *start);
+            assert!(rt; records.record(i) == *bytes);
         }
     }
     Ok(())

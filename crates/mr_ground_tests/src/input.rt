@@ -1,4 +1,5 @@
-use crate::{Input, InputFault};
+//! Files at and over their limits.
+use mr_input::{Input, InputFault};
 use std::alloc::{AllocError, Global};
 use std::test::Fail;
 
@@ -16,17 +17,17 @@ fn files(alloc: Global, count: usize) -> Result<Vec<Vec<u8>>, AllocError> {
 fn as_many_files_as_allowed(rt: HostRuntime) -> Result<(), Fail> {
     let alloc = rt.alloc();
     let none = Input::of(files(alloc, 0)?)?;
-    assert_eq!(rt; none.files(), 0);
+    assert!(rt; none.files() == 0);
     let most = Input::of(files(alloc, 1024)?)?;
-    assert_eq!(rt; most.files(), 1024);
+    assert!(rt; most.files() == 1024);
     if 2 <= most.files() {
-        assert_eq!(rt; most.len(0), 0);
-        assert_eq!(rt; most.file(0), b"".as_slice());
-        assert_eq!(rt; most.len(1), 1);
-        assert_eq!(rt; most.file(1), b"x".as_slice());
+        assert!(rt; most.len(0) == 0);
+        assert!(rt; most.file(0) == b"".as_slice());
+        assert!(rt; most.len(1) == 1);
+        assert!(rt; most.file(1) == b"x".as_slice());
     }
     let more = Input::of(files(alloc, 1025)?);
-    assert_eq!(rt; more.err(), Some(InputFault::TooManyFiles));
+    assert!(rt; more.err() == Some(InputFault::TooManyFiles));
     Ok(())
 }
 
@@ -37,7 +38,7 @@ fn faults_by_name(rt: HostRuntime) -> Result<(), Fail> {
         (InputFault::TooManyFiles, "TooManyFiles"),
         (InputFault::TooLarge, "TooLarge"),
     ] {
-        assert_eq!(rt; format!(in alloc; "{fault}")?.as_str(), text);
+        assert!(rt; format!(in alloc; "{fault}")?.as_str() == text);
     }
     Ok(())
 }
