@@ -106,7 +106,8 @@ group_tests s p st zero =
 group_tests s p st (suc n) = []
 
 abbrev pub behind_group : Subject → Reached → ℕ → Reached
-behind_group s st zero = record st { groups = st.groups - 1; group = st.group + 1; key_before = Some st.key; from = st.from + length (s.rules.text st.key st.values) }
+behind_group s st zero =
+    record st { groups = st.groups - 1; group = st.group + 1; key_before = Some st.key; from = st.from + length (s.rules.text st.key st.values) }
 behind_group s st (suc n) = st
 
 abbrev pub entry_tests : Subject → ℕ → Reached → Name → Option Triple → List No

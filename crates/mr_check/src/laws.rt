@@ -6,7 +6,8 @@ ghost use Rattle.mr_check.specs.Verdict.{verdict_of};
 ghost use Rattle.mr_check.specs.FaultLaws.{EndedIsSpelled, FaultsAreTrue, ReadIsSpelled};
 ghost use Rattle.mr_check.specs.VerdictLaws.{YesIsGood, GoodIsYes, FaultByPlace, LaterItemsDontMatter, LaterOutputsDontMatter, OnlyComparedMatters};
 ghost use Rattle.mr_check.specs.VerdictLaws.{OtherOutputsDontMatter, BytesBehindDontMatter};
-ghost use Rattle.mr_check.specs.VerdictRows.{words, a_b_a, a_b_aa, line, a2_b1, name, certificate, of_groups, good_bytes, says, of_a, last_name, says_without, word, b1_d1};
+ghost use Rattle.mr_check.specs.VerdictRows.{words, a_b_a, a_b_aa, line, a2_b1, name, certificate, of_groups, good_bytes, says, of_a, last_name};
+ghost use Rattle.mr_check.specs.VerdictRows.{says_without, word, b1_d1};
 ghost use Rattle.mr_check.specs.VerdictRows.{of_third, first_record};
 
 /// The verdict is yes exactly where the result is good, and it tells the left-out records and how many pairs there are.
@@ -61,7 +62,8 @@ pub fn worked_rows()
     ensures right_partition { of_a ([] ∷ line 97 49 ∷ [] ∷ []) ([] ∷ ((name 0 0 0 ∷ []) ∷ []) ∷ [] ∷ []) ≡ Ok (record { skips = []; pairs = 1 }) }
     ensures no_pair { of_groups a2_b1 ((last_name ∷ name 0 0 2 ∷ []) ∷ (name 0 0 1 ∷ []) ∷ []) ≡ Err (No.NoSuchPair 0 0 0) }
     ensures key_differs { of_groups a2_b1 ((name 0 0 0 ∷ name 0 0 1 ∷ []) ∷ (name 0 0 1 ∷ []) ∷ []) ≡ Err (No.KeyDiffers 0 0 1) }
-    ensures key_order { of_groups (line 97 49 ++ line 97 49 ++ line 98 49) ((name 0 0 0 ∷ []) ∷ (name 0 0 2 ∷ []) ∷ (name 0 0 1 ∷ []) ∷ []) ≡ Err (No.KeyOrder 0 1 0) }
+    ensures key_order { of_groups (line 97 49 ++ line 97 49 ++ line 98 49)
+        ((name 0 0 0 ∷ []) ∷ (name 0 0 2 ∷ []) ∷ (name 0 0 1 ∷ []) ∷ []) ≡ Err (No.KeyOrder 0 1 0) }
     ensures swapped { of_groups a2_b1 ((name 0 0 1 ∷ []) ∷ (name 0 0 0 ∷ name 0 0 2 ∷ []) ∷ []) ≡ Err (No.OutputDiffers 0 0) }
     ensures other_input { verdict_of (words 1 0) (a_b_aa ∷ []) (a2_b1 ∷ []) good_bytes ≡ Err No.OtherInput }
     ensures other_job { verdict_of (record (words 1 0) { job = WordCount true }) (a_b_a ∷ []) (a2_b1 ∷ []) good_bytes ≡ Err No.OtherJob }

@@ -112,7 +112,8 @@ impl<'a> Progress<'a> {
     fn take_first(&mut self, name: Name, key: &'a [u8], value: Value) -> Result<(), AllocError>
         requires { HasRoom self.old }
         ensures { OnOk result (self.new
-            ≡ record self.old { entry = 1; entries = self.old.entries - 1; key = key.entry.now; before = name; values = value ∷ []; named = self.old.named + 1 }) }
+            ≡ record self.old { entry = 1; entries = self.old.entries - 1; key = key.entry.now; before = name;
+                values = value ∷ []; named = self.old.named + 1 }) }
     {
         self.values.clear();
         self.values.push(value)?;
@@ -128,7 +129,8 @@ impl<'a> Progress<'a> {
     fn take_later(&mut self, name: Name, value: Value) -> Result<(), AllocError>
         requires { HasRoom self.old }
         ensures { OnOk result (self.new
-            ≡ record self.old { entry = self.old.entry + 1; entries = self.old.entries - 1; before = name; values = self.old.values ++ value ∷ []; named = self.old.named + 1 }) }
+            ≡ record self.old { entry = self.old.entry + 1; entries = self.old.entries - 1; before = name;
+                values = self.old.values ++ value ∷ []; named = self.old.named + 1 }) }
     {
         self.values.push(value)?;
         self.entry += 1;
@@ -181,7 +183,8 @@ impl<'a> Progress<'a> {
         requires { HasRoom self.old }
         ensures { let fs = later_tests p self.old.group self.old.entry self.old.before name self.old.key key.now in
             MatchResult result (λ _. (fs ≡ []) × (self.new
-                ≡ record self.old { entry = self.old.entry + 1; entries = self.old.entries - 1; before = name; values = self.old.values ++ value ∷ []; named = self.old.named + 1 })) (λ e. Answers fs e) }
+                ≡ record self.old { entry = self.old.entry + 1; entries = self.old.entries - 1; before = name;
+                values = self.old.values ++ value ∷ []; named = self.old.named + 1 })) (λ e. Answers fs e) }
     {
         test_later(p, self.group, self.entry, self.before, name, self.key, key)?;
         self.take_later(name, value)?;

@@ -123,7 +123,8 @@ fn tells_the_first_fault_of_three(rt: HostRuntime) -> Result<(), Fail> {
         assert!(rt; told.err() == Some(fault));
     }
     let all = [at(0, 0), at(0, 1), at(0, 3)];
-    let (parts, _) = run(alloc, &request, &input, &all)?;
+    let (parts, _certificate) = run(alloc, &request, &input, &all)?;
+    assert!(rt; parts.len() == 1);
     assert!(rt; parts[0].as_slice() == b"c\t1\n".as_slice());
     Ok(())
 }
@@ -183,7 +184,7 @@ fn a_group_of_a_hundred_thousand(rt: HostRuntime) -> Result<(), Fail> {
     let input = input_of(alloc, &text)?;
     let request = Request::new(Job::words(false), 1, 64, 0)?;
     assert!(rt; is_accepted(alloc, &request, &input, &[], 100_000)?);
-    let (_, certificate) = run(alloc, &request, &input, &[])?;
+    let (_outputs, certificate) = run(alloc, &request, &input, &[])?;
     let bytes = write(alloc, &certificate)?;
     // One entry fewer: its number stands behind 48 bytes, and each name has 12.
     let mut short = Vec::new(alloc);

@@ -65,7 +65,10 @@ fn of_one(
     let outputs = pushed(Vec::new(alloc), alloc, output)?;
     let told = answer(alloc, request, files, &outputs, certificate)?;
     Ok(match told {
-        Ok(yes) => Ok(yes.pairs + 1000 * yes.skips.len() as u64),
+        Ok(yes) => Ok(
+            yes.pairs
+                .saturating_add((yes.skips.len() as u64).saturating_mul(1000)),
+        ),
         Err(no) => Err(no),
     })
 }

@@ -58,12 +58,12 @@ check_rest-requires-clause-few c =
     let few = header_few (halt c.walk-walker.result) c.args.request.now c.args.input.now (items_left c.walk-walker.result) (items_left c.expect_header.new.walker) c.in_ok-expect_header.ensures.met in
     omega (arith, few, c.walk-walker.ensures.few)
 
-abbrev Answers : RequestSpec → List (List ℕ) → List (List ℕ) → List ℕ → Result Yes No → Type 0
-Answers o files outputs bytes r = MatchResult r (λ y. verdict_of o files outputs bytes ≡ Ok (record { skips = y.skips.items; pairs = y.pairs })) (λ e. (e ≡ OutOfMemory) ⊎ (verdict_of o files outputs bytes ≡ Err e))
+abbrev IsVerdict : RequestSpec → List (List ℕ) → List (List ℕ) → List ℕ → Result Yes No → Type 0
+IsVerdict o files outputs bytes r = MatchResult r (λ y. verdict_of o files outputs bytes ≡ Ok (record { skips = y.skips.items; pairs = y.pairs })) (λ e. (e ≡ OutOfMemory) ⊎ (verdict_of o files outputs bytes ≡ Err e))
 
 rest_verdict : (o : RequestSpec) (files outputs : List (List ℕ)) (bytes : List ℕ) (ks : List Item) (at : ℕ) (r : Result Yes No) → length outputs ≡ o.parts → header_met (stop bytes) o files (items_of bytes) ≡ Ok ks → at ≡ stop bytes
     → MatchResult r (λ y. (first (count_faults (case_at o files outputs at) ks) ≡ None) × (accepted_by (accepted [] 0) ks ≡ accepted y.skips.items y.pairs)) (λ e. Answers (count_faults (case_at o files outputs at) ks) e)
-    → Answers o files outputs bytes r
+    → IsVerdict o files outputs bytes r
 rest_verdict o files outputs bytes ks at (Ok y) n h a d = verdict_ok o files outputs bytes ks (accepted y.skips.items y.pairs) n h (ap (λ k. first (count_faults (case_at o files outputs k) ks)) (sym a) ∙ d.0) d.1
 rest_verdict o files outputs bytes ks at (Err e) n h a (inl d) = inl d
 rest_verdict o files outputs bytes ks at (Err e) n h a (inr d) = inr (verdict_fault o files outputs bytes ks e n h (ap (λ k. first (count_faults (case_at o files outputs k) ks)) (sym a) ∙ d))
