@@ -1,10 +1,10 @@
 -- Pairs that are kept flat.
-use Rattle.std.proofs.Common.{◌≡◌, ℕ, zero, suc, ◌+◌, ◌-◌, ◌<◌, ◌≤◌, List, [], ◌∷◌, ◌++◌, length, get_or, take, drop, replicate, slice_range, refl, ◌∙◌, ap, arith, length-append, length-drop}
-use Rattle.std.proofs.lemmas.List.{drop-append-le, take-append-le, drop_at, take_all, length-replicate}
+use Rattle.std.proofs.Common.{◌≡◌, ℕ, zero, suc, ◌+◌, ◌-◌, ◌<◌, ◌≤◌, List, [], ◌∷◌, ◌++◌, length, get_or, take, drop, slice_range, refl, ◌∙◌, ap, arith, length-append, length-drop}
+use Rattle.std.proofs.lemmas.List.{drop-append-le, take-append-le, drop_at, take_all}
 use Rattle.mr_bytes.specs.declared.Value.{Value}
 use Rattle.mr_bytes.specs.declared.Value.TheVariants.{One}
 use Rattle.mr_jobs.specs.Emissions.{Emission}
-use Rattle.mr_index.specs.Pairs.{stored_values, pairs_from, EndsRise, pairs_seen, Sound}
+use Rattle.mr_index.specs.Pairs.{pairs_from, EndsRise, pairs_seen, Sound}
 use Rattle.mr_index.specs.declared.pairs.Pairs.{Pairs}
 
 -- a part of a list that has grown behind it
@@ -56,8 +56,5 @@ pairs-more at keys key (e ∷ ends) (w ∷ values) v r h =
     (range-more keys key at e r.0 (rise-request e (length keys) ends r.1))
     ∙ ap (λ (l : List Emission). (slice_range keys at e, w) ∷ l) (pairs-more e keys key ends values v r.1 (omega (arith, h)))
 
-pub length-values : (ones : ℕ) (rest : List Value) → length (stored_values ones rest) ≡ ones + length rest
-length-values ones rest = length-append (replicate ones One) rest ∙ ap (λ (n : ℕ). n + length rest) (length-replicate ones One)
-
 pub length-seen : (p : Pairs) → Sound p → length (pairs_seen p) ≡ length p.ends.items
-length-seen p s = length-pairs 0 p.keys.items p.ends.items (stored_values p.ones p.rest.items) s.values
+length-seen p s = length-pairs 0 p.keys.items p.ends.items p.values s.values

@@ -1,13 +1,8 @@
--- Keys with their values, kept flat.
-use Rattle.std.specs.Prelude.{◌≡◌, ℕ, ◌≤◌, List, [], ◌∷◌, ◌++◌, replicate, slice_range, length}
+-- Of no public promise: keys with their values, kept flat.
+use Rattle.std.specs.Prelude.{◌≡◌, ℕ, ◌≤◌, List, [], ◌∷◌, slice_range, length}
 use Rattle.mr_bytes.specs.declared.Value.{Value}
-use Rattle.mr_bytes.specs.declared.Value.TheVariants.{One}
 use Rattle.mr_jobs.specs.Emissions.{Emission}
 use Rattle.mr_index.specs.declared.pairs.Pairs.{Pairs}
-
--- values of which the first so many are One
-abbrev pub stored_values : ℕ → List Value → List Value
-stored_values ones rest = replicate ones One ++ rest
 
 -- the keys, each from the end of the one before, with their values
 abbrev pub pairs_from : ℕ → List ℕ → List ℕ → List Value → List Emission
@@ -22,9 +17,9 @@ EndsRise at last (e ∷ ends) = (at ≤ e) × EndsRise e last ends
 
 -- the pairs that are kept
 abbrev pub pairs_seen : Pairs → List Emission
-pairs_seen p = pairs_from 0 p.keys.items p.ends.items (stored_values p.ones p.rest.items)
+pairs_seen p = pairs_from 0 p.keys.items p.ends.items p.values
 
 -- the last key ends with the bytes, and each key has a value
 pub record Sound (p : Pairs) : Type 0 where
   pub rise : EndsRise 0 (length p.keys.items) p.ends.items
-  pub values : length (stored_values p.ones p.rest.items) ≡ length p.ends.items
+  pub values : length p.values ≡ length p.ends.items

@@ -2,9 +2,9 @@
 ghost use Rattle.std.specs.Prelude.{◌≡◌, ℕ, ◌+◌, ◌≤◌, ◌<◌, ◌^◌, ◌++◌, [], ◌∷◌, IfOk, OnOk, MatchOption, length, slice_index, slice_index_or};
 ghost use Rattle.mr_bytes.specs.declared.Value.TheVariants.{One};
 ghost use Rattle.mr_jobs.specs.Emissions.{emissions};
-ghost use Rattle.mr_index.specs.Pairs.{pairs_seen, stored_values, Sound};
+ghost use Rattle.mr_index.specs.Pairs.{pairs_seen, Sound};
 
-use mr_bytes::Value;
+use mr_bytes::{Value, Values};
 use mr_jobs::{Emitter, Job};
 use mr_splits::Located;
 use std::alloc::{AllocError, Global};
@@ -17,10 +17,7 @@ pub(crate) struct Pairs {
     /// Where each key ends. Four bytes serve: an input has at most 1 GiB, and a record's keys are parts of it that
     /// don't overlap.
     pub ends: Vec<u32>,
-    /// How many values come before the first that is not One.
-    pub ones: usize,
-    /// The values from there on.
-    pub rest: Vec<Value>,
+    pub values: Values,
 }
 
 /// No pairs, with room for the keys of files of so many bytes: at most as many bytes of keys, and one key for each
@@ -32,8 +29,7 @@ pub(crate) fn room_for(alloc: Global, bytes: usize) -> Result<Pairs, AllocError>
     Ok(Pairs {
         keys: Vec::with_capacity(alloc, bytes)?,
         ends: Vec::with_capacity(alloc, bytes / 8)?,
-        ones: 0,
-        rest: Vec::new(alloc),
+        values: Values::new(alloc),
     })
 }
 
@@ -48,33 +44,12 @@ pub(crate) fn push_end(ends: &mut Vec<u32>, end: usize) -> Result<(), AllocError
     Ok(())
 }
 
-fn push_value(ones: &mut usize, rest: &mut Vec<Value>, value: Value) -> Result<(), AllocError>
-    requires { ones.old + 1 < 2 ^ 64 }
-    ensures { OnOk result (stored_values ones.new rest.new.items ≡ stored_values ones.old rest.old.items ++ value ∷ []) }
-{
-    if rest.is_empty() {
-        if let Value::One = value {
-            *ones += 1;
-            return Ok(());
-        }
-    }
-    rest.push(value)?;
-    Ok(())
-}
-
 /// Where item `i` starts, given where each ends.
 pub(crate) fn start_of(ends: &[u32], i: usize) -> usize
     requires { i ≤ length ends.now }
     ensures { result ≡ slice_index (0 ∷ ends.now) i }
 {
     if i == 0 { 0 } else { ends[i - 1] as usize }
-}
-
-fn value_of(ones: usize, rest: &[Value], i: usize) -> Value
-    requires { i < length (stored_values ones rest.now) }
-    ensures { result ≡ slice_index_or (stored_values ones rest.entry.now) i One }
-{
-    if i < ones { Value::One } else { rest[i - ones] }
 }
 
 impl Pairs {
@@ -92,7 +67,7 @@ impl Pairs {
         ensures { (result.0.now, result.1) ≡ slice_index_or (pairs_seen self.now) i ([], One) }
     {
         let start = start_of(self.ends.as_slice(), i);
-        let value = value_of(self.ones, self.rest.as_slice(), i);
+        let value = self.values.get(i);
         (&self.keys[start..self.ends[i] as usize], value)
     }
 
@@ -103,7 +78,7 @@ impl Pairs {
     {
         self.keys.extend_from_slice(key)?;
         push_end(&mut self.ends, self.keys.len())?;
-        push_value(&mut self.ones, &mut self.rest, value)?;
+        self.values.push(value)?;
         Ok(())
     }
 

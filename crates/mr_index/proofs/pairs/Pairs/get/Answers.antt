@@ -2,30 +2,26 @@ use Rattle.std.proofs.Common.{arith, ap, sym, ◌∙◌, ◌≡◌, ◌<◌, ◌
 use Rattle.std.proofs.lemmas.List.{get_or_default}
 use Rattle.mr_bytes.specs.declared.Value.{Value}
 use Rattle.mr_bytes.specs.declared.Value.TheVariants.{One}
-use Rattle.mr_index.specs.Pairs.{stored_values}
 use Rattle.mr_index.proofs.PairLemmas.{length-pairs, pair-at, rise-at}
 use Rattle.mr_index.proofs.pairs.Pairs.get.Goals as goal
 
 pub start_of-start-requires : goal.start_of-start-requires
 start_of-start-requires c =
     let p = c.args.self.now in
-    let values : List Value = stored_values p.ones p.rest.items in
+    let values : List Value = p.values in
     let few : c.args.i < length p.ends.items =
     omega (arith, c.requires.within, length-pairs 0 p.keys.items p.ends.items values c.requires.sound.values) in
     omega (arith, few, ap length c.as_slice.ensures.value)
 
-pub value_of-value-requires : goal.value_of-value-requires
-value_of-value-requires c =
+pub get-value-requires : goal.get-value-requires
+get-value-requires c =
     let p = c.args.self.now in
-    let values : List Value = stored_values p.ones p.rest.items in
-    let few : c.args.i < length p.ends.items =
-    omega (arith, c.requires.within, length-pairs 0 p.keys.items p.ends.items values c.requires.sound.values) in
-    omega (arith, few, c.requires.sound.values, ap (λ (l : List Value). length (stored_values p.ones l)) c.as_slice-2.ensures.value)
+    omega (arith, c.requires.within, length-pairs 0 p.keys.items p.ends.items p.values c.requires.sound.values, c.requires.sound.values)
 
 pub index-requires : goal.index-requires
 index-requires c =
     let p = c.args.self.now in
-    let values : List Value = stored_values p.ones p.rest.items in
+    let values : List Value = p.values in
     let few : c.args.i < length p.ends.items =
     omega (arith, c.requires.within, length-pairs 0 p.keys.items p.ends.items values c.requires.sound.values) in
     omega (arith, few, p.ends.ok.0)
@@ -33,7 +29,7 @@ index-requires c =
 pub slice_bounds-result-count : goal.slice_bounds-result-count
 slice_bounds-result-count c =
     let p = c.args.self.now in
-    let values : List Value = stored_values p.ones p.rest.items in
+    let values : List Value = p.values in
     let few : c.args.i < length p.ends.items =
     omega (arith, c.requires.within, length-pairs 0 p.keys.items p.ends.items values c.requires.sound.values) in
     let start : c.start_of-start.result ≡ get_or (0 ∷ p.ends.items) c.args.i 0 =
@@ -45,7 +41,7 @@ slice_bounds-result-count c =
 pub slice_bounds-result-start : goal.slice_bounds-result-start
 slice_bounds-result-start c =
     let p = c.args.self.now in
-    let values : List Value = stored_values p.ones p.rest.items in
+    let values : List Value = p.values in
     let few : c.args.i < length p.ends.items =
     omega (arith, c.requires.within, length-pairs 0 p.keys.items p.ends.items values c.requires.sound.values) in
     let start : c.start_of-start.result ≡ get_or (0 ∷ p.ends.items) c.args.i 0 =
@@ -57,7 +53,7 @@ slice_bounds-result-start c =
 pub slice_bounds-result-end : goal.slice_bounds-result-end
 slice_bounds-result-end c =
     let p = c.args.self.now in
-    let values : List Value = stored_values p.ones p.rest.items in
+    let values : List Value = p.values in
     let few : c.args.i < length p.ends.items =
     omega (arith, c.requires.within, length-pairs 0 p.keys.items p.ends.items values c.requires.sound.values) in
     let start : c.start_of-start.result ≡ get_or (0 ∷ p.ends.items) c.args.i 0 =
@@ -69,16 +65,16 @@ slice_bounds-result-end c =
 pub returns : goal.returns
 returns c =
     let p = c.args.self.now in
-    let values : List Value = stored_values p.ones p.rest.items in
+    let values : List Value = p.values in
     let few : c.args.i < length p.ends.items =
     omega (arith, c.requires.within, length-pairs 0 p.keys.items p.ends.items values c.requires.sound.values) in
     let start : c.start_of-start.result ≡ get_or (0 ∷ p.ends.items) c.args.i 0 =
     c.start_of-start.ensures ∙ ap (λ (l : List ℕ). get_or (0 ∷ l) c.args.i 0) c.as_slice.ensures.value in
     let end : c.index.result.now ≡ get_or p.ends.items c.args.i 0 = c.index.ensures ∙ get_or_default p.ends.items c.args.i c.index.result.now 0 few in
     let order = rise-at 0 (length p.keys.items) c.args.i p.ends.items c.requires.sound.rise few in
-    ap (λ (l : List ℕ). (slice_range l c.start_of-start.result c.index.result.now, c.value_of-value.result)) c.deref.ensures.value
-    ∙ ap (λ (a : ℕ). (slice_range p.keys.items a c.index.result.now, c.value_of-value.result)) start
-    ∙ ap (λ (b : ℕ). (slice_range p.keys.items (get_or (0 ∷ p.ends.items) c.args.i 0) b, c.value_of-value.result)) end
+    ap (λ (l : List ℕ). (slice_range l c.start_of-start.result c.index.result.now, c.get-value.result)) c.deref.ensures.value
+    ∙ ap (λ (a : ℕ). (slice_range p.keys.items a c.index.result.now, c.get-value.result)) start
+    ∙ ap (λ (b : ℕ). (slice_range p.keys.items (get_or (0 ∷ p.ends.items) c.args.i 0) b, c.get-value.result)) end
     ∙ ap (λ (v : Value). (slice_range p.keys.items (get_or (0 ∷ p.ends.items) c.args.i 0) (get_or p.ends.items c.args.i 0), v))
-    (c.value_of-value.ensures ∙ ap (λ (l : List Value). get_or (stored_values p.ones l) c.args.i One) c.as_slice-2.ensures.value)
+    c.get-value.ensures
     ∙ sym (pair-at 0 c.args.i p.keys.items p.ends.items values c.requires.sound.values few)

@@ -1,8 +1,8 @@
 use Rattle.std.proofs.Common.{arith, ap, sym, ◌∙◌, ◌≡◌, ◌++◌, ◌∷◌, [], List, ℕ, length, length-append, subst}
 use Rattle.std.proofs.lemmas.List.{length_push}
 use Rattle.mr_bytes.specs.declared.Value.{Value}
-use Rattle.mr_index.specs.Pairs.{stored_values, pairs_from, EndsRise}
-use Rattle.mr_index.proofs.PairLemmas.{pairs-more, rise-push, length-values}
+use Rattle.mr_index.specs.Pairs.{pairs_from, EndsRise}
+use Rattle.mr_index.proofs.PairLemmas.{pairs-more, rise-push}
 use Rattle.mr_index.proofs.pairs.Pairs.push.Goals as goal
 
 pub returns : goal.returns
@@ -13,8 +13,8 @@ returns c =
     let ends : c.push_end.new.ends.items ≡ p.ends.items ++ c.len.result ∷ [] = c.in_ok-push_end.ensures in
     let last : c.len.result ≡ length (p.keys.items ++ key) = c.len.ensures ∙ c.extend_from_slice.new.self.ok.0 ∙ ap length keys in
     let ends-are : c.push_end.new.ends.items ≡ p.ends.items ++ length (p.keys.items ++ key) ∷ [] = ends ∙ ap (λ (n : ℕ). p.ends.items ++ n ∷ []) last in
-    let values : List Value = stored_values p.ones p.rest.items in
-    let values-are : stored_values c.push_value.new.ones c.push_value.new.rest.items ≡ values ++ c.args.value ∷ [] = c.in_ok-push_value.ensures in
+    let values : List Value = p.values in
+    let values-are : c.push.new.self ≡ values ++ c.args.value ∷ [] = c.in_ok-push.ensures.ok in
     record {
       sound = record {
         rise = subst (λ (l : List ℕ). EndsRise 0 (length l) c.push_end.new.ends.items) (sym keys)
@@ -29,13 +29,13 @@ returns c =
           c.requires.values,
         );
       };
-      pairs = ap (λ (l : List ℕ). pairs_from 0 l c.push_end.new.ends.items (stored_values c.push_value.new.ones c.push_value.new.rest.items)) keys
-          ∙ ap (λ (l : List ℕ). pairs_from 0 (p.keys.items ++ key) l (stored_values c.push_value.new.ones c.push_value.new.rest.items)) ends-are
+      pairs = ap (λ (l : List ℕ). pairs_from 0 l c.push_end.new.ends.items c.push.new.self) keys
+          ∙ ap (λ (l : List ℕ). pairs_from 0 (p.keys.items ++ key) l c.push.new.self) ends-are
           ∙ ap (pairs_from 0 (p.keys.items ++ key) (p.ends.items ++ length (p.keys.items ++ key) ∷ [])) values-are
           ∙ pairs-more 0 p.keys.items key p.ends.items values c.args.value c.requires.rise c.requires.values;
     }
 
-pub push_value-requires : goal.push_value-requires
-push_value-requires c =
+pub push-requires : goal.push-requires
+push-requires c =
     let p = c.args.self.now in
-    omega (arith, c.requires.values, length-values p.ones p.rest.items, p.ends.ok.0, p.ends.small)
+    omega (arith, c.requires.values, p.ends.ok.0, p.ends.small)
