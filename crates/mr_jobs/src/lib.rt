@@ -14,6 +14,3 @@ pub use job::{Job, JobFault, MAX_LITERAL};
 pub use literal::literal_law;
 pub use request::{MAX_PARTS, MAX_SKIPS, Request, RequestFault};
 pub use url::url_law;
-
-#[cfg(test)]
-mod tests;

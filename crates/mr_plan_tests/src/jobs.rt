@@ -1,6 +1,7 @@
-use crate::{Emissions, Job, JobFault, Origin, Request, RequestFault, map};
+//! What jobs emit, and the limits of requests.
 use mr_bytes::Value;
 use mr_input::Input;
+use mr_jobs::{Emissions, Job, JobFault, Origin, Request, RequestFault, map};
 use std::alloc::Global;
 use std::process::Abort;
 use std::test::Fail;
@@ -22,16 +23,16 @@ fn emits(
     assert!(rt; line.len() <= 1000);
     assert!(rt; keys.len() <= 1000);
     map(alloc, job, AT, line, &mut out)?;
-    assert_eq!(rt; out.len(), keys.len(), "{line:?}");
+    assert!(rt; out.len() == keys.len());
     map(alloc, job, AT, line, &mut out)?;
-    assert_eq!(rt; out.len(), 2 * keys.len(), "{line:?}");
+    assert!(rt; out.len() == 2 * keys.len());
     for (i, key) in keys.iter().enumerate() {
         if i < out.len() {
-            assert_eq!(rt; out.get(i), (*key, value), "{line:?}");
+            assert!(rt; out.get(i) == (*key, value));
         }
         let again = keys.len() + i;
         if again < out.len() {
-            assert_eq!(rt; out.get(again), (*key, value), "{line:?}");
+            assert!(rt; out.get(again) == (*key, value));
         }
     }
     Ok(())
@@ -113,12 +114,12 @@ fn emissions(rt: HostRuntime) -> Result<(), Fail> {
     let mut out = Emissions::new(alloc);
     assert!(rt; out.is_empty());
     map(alloc, &Job::words(true), AT, b"a bc", &mut out)?;
-    assert_eq!(rt; out.len(), 2);
+    assert!(rt; out.len() == 2);
     out.clear();
     assert!(rt; out.is_empty());
     map(alloc, &Job::words(true), AT, b"d", &mut out)?;
-    assert_eq!(rt; out.len(), 1);
-    assert_eq!(rt; out.get(0), (b"d".as_slice(), Value::One));
+    assert!(rt; out.len() == 1);
+    assert!(rt; out.get(0) == (b"d".as_slice(), Value::One));
     Ok(())
 }
 
@@ -130,7 +131,7 @@ fn literals(rt: HostRuntime) -> Result<(), Fail> {
         (&[b'\n'; 4097], JobFault::LongLiteral),
         (b"a\nb", JobFault::LineEndInLiteral),
     ] {
-        assert_eq!(rt; Job::grep(alloc, literal, false).err(), Some(want));
+        assert!(rt; Job::grep(alloc, literal, false).err() == Some(want));
     }
     let longest = Job::grep(alloc, &[b'x'; 4096], true)?;
     assert!(rt; !longest.counts());
@@ -141,7 +142,7 @@ fn literals(rt: HostRuntime) -> Result<(), Fail> {
         (JobFault::LineEndInLiteral, "LineEndInLiteral"),
         (JobFault::OutOfMemory, "OutOfMemory"),
     ] {
-        assert_eq!(rt; format!(in alloc; "{fault}")?.as_str(), text);
+        assert!(rt; format!(in alloc; "{fault}")?.as_str() == text);
     }
     Ok(())
 }
@@ -157,20 +158,20 @@ fn requests(rt: HostRuntime) -> Result<(), Fail> {
         (1024, 67108864, 1001, RequestFault::BadSkips),
     ] {
         let refused = Request::new(Job::url(), parts, split, skips);
-        assert_eq!(rt; refused.err(), Some(want));
+        assert!(rt; refused.err() == Some(want));
     }
     for (fault, text) in [
         (RequestFault::BadParts, "BadParts"),
         (RequestFault::BadSplitSize, "BadSplitSize"),
         (RequestFault::BadSkips, "BadSkips"),
     ] {
-        assert_eq!(rt; format!(in alloc; "{fault}")?.as_str(), text);
+        assert!(rt; format!(in alloc; "{fault}")?.as_str() == text);
     }
     let request = Request::new(Job::words(false), 1024, 1, 1000)?;
     assert!(rt; request.job().counts());
-    assert_eq!(rt; request.parts(), 1024);
-    assert_eq!(rt; request.split_size(), 1);
-    assert_eq!(rt; request.max_skips(), 1000);
+    assert!(rt; request.parts() == 1024);
+    assert!(rt; request.split_size() == 1);
+    assert!(rt; request.max_skips() == 1000);
     Ok(())
 }
 

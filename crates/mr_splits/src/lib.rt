@@ -11,8 +11,6 @@ pub use kept::{Kept, KeptRecords, SkipFault};
 pub use left_out::LeftOut;
 pub use plan::{Located, Plan, PlanFault, SplitPlace};
 
-#[cfg(test)]
-mod tests;
 
 ghost use Rattle.mr_splits.specs.Belongs.{RecordsAreByFile, RecordsBelong};
 ghost use Rattle.mr_splits.specs.Laws.{NamedAreRecords, NamesOfRecordsRise, NumbersCount, SplitsJoin};
