@@ -37,5 +37,6 @@ pub record AreOptionsOf (found : Found) (o : Options) : Type 0 where
 
 -- the subcommand is that of its own name, and its options are those of its matches
 abbrev pub IsAskedBy : Option (List ℕ) → Option (List Row) → Subcommand → Type 0
-IsAskedBy name rows (Seq o skips) = (name ≡ Some (codes "seq")) × ((found : Found) × (rows ≡ Some (rows_of found)) × AreOptionsOf found o × (skips.now ≡ unwrap_or (first_value found (codes "skips")) []))
+IsAskedBy name rows (Seq o skips) = (name ≡ Some (codes "seq"))
+    × ((found : Found) × (rows ≡ Some (rows_of found)) × AreOptionsOf found o × (skips.now ≡ unwrap_or (first_value found (codes "skips")) []))
 IsAskedBy name rows (Check o) = (name ≡ Some (codes "check")) × ((found : Found) × (rows ≡ Some (rows_of found)) × AreOptionsOf found o)

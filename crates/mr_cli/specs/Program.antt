@@ -3,7 +3,7 @@ use Rattle.std.specs.Prelude.{◌≡◌, ◌⊎◌, ℕ, List, [], option_map}
 use Rattle.clap.specs.Matches.{subcommand_name_of}
 use Rattle.clap.specs.Simple.{subcommand_rows_of}
 use Rattle.clap.specs.declared.parser.matches.ArgMatches.{ArgMatches}
-use Rattle.mr_files.specs.Holding.{ChangesAmong}
+use Rattle.mr_files.specs.Holding.{ChangesAmong, Faulty, Stored}
 use Rattle.mr_commands.specs.declared.asked.Subcommand.{Subcommand}
 use Rattle.mr_commands.specs.declared.fault.Fault.{Fault}
 use Rattle.mr_commands.specs.Answers.{Answers, IsRefusal, written_by}
@@ -17,7 +17,7 @@ abbrev pub IsAskedIn : ArgMatches → Subcommand → Type 0
 IsAskedIn parsed asked = IsAskedBy (subcommand_name_of parsed) (option_map (λ p. p.1) (subcommand_rows_of parsed)) asked
 
 -- the parsed command was done, and nothing else changed than the files that it writes
-pub record IsDone (old new : List ℕ → List ℕ → Type 0) (text : List ℕ) (status : ℕ) : Type 0 where
+pub record IsDone (old new : Stored) (text : List ℕ) (status : ℕ) : Type 0 where
   pub parsed : ArgMatches
   pub asked : Subcommand
   pub named : IsAskedIn parsed asked
@@ -25,18 +25,19 @@ pub record IsDone (old new : List ℕ → List ℕ → Type 0) (text : List ℕ)
   pub others : ChangesAmong old new (written_by asked)
 
 -- a command was done; or none was asked for, and nothing is said or changed
-abbrev pub IsAnswered : (List ℕ → List ℕ → Type 0) → (List ℕ → List ℕ → Type 0) → List ℕ → ℕ → Type 0
+abbrev pub IsAnswered : Stored → Stored → List ℕ → ℕ → Type 0
 IsAnswered old new text status = IsDone old new text status ⊎ ((text ≡ []) × (status ≡ 0) × ChangesAmong old new [])
 
 -- the parsed command was refused, by this fault
-pub record IsRefused (old new : List ℕ → List ℕ → Type 0) (unreadable unwritable : List ℕ → Type 0) (fault : Fault) : Type 0 where
+pub record IsRefused (old new : Stored) (unreadable unwritable : Faulty) (fault : Fault) : Type 0 where
   pub parsed : ArgMatches
   pub asked : Subcommand
   pub named : IsAskedIn parsed asked
   pub refused : IsRefusal old new unreadable unwritable asked fault
 
 -- why nothing is answered: the line is told before a fault of what it asks for, and nothing is changed then
-abbrev pub IsUnanswered : (List ℕ → List ℕ → Type 0) → (List ℕ → List ℕ → Type 0) → (List ℕ → Type 0) → (List ℕ → Type 0) → Failure → Type 0
-IsUnanswered old new unreadable unwritable (Command fault) = ((Command fault ≡ no_memory_left) × ChangesAmong old new []) ⊎ IsRefused old new unreadable unwritable fault
+abbrev pub IsUnanswered : Stored → Stored → Faulty → Faulty → Failure → Type 0
+IsUnanswered old new unreadable unwritable (Command fault) =
+    ((Command fault ≡ no_memory_left) × ChangesAmong old new []) ⊎ IsRefused old new unreadable unwritable fault
 IsUnanswered old new unreadable unwritable (Line error) = ChangesAmong old new []
 IsUnanswered old new unreadable unwritable NotUtf8 = ⊥

@@ -7,7 +7,7 @@ use Rattle.mr_input.specs.declared.InputFault.TheVariants.{TooManyFiles, TooLarg
 use Rattle.mr_jobs.specs.JobSpec.{RequestSpec}
 use Rattle.mr_sequential.specs.Emitted.{emitted}
 use Rattle.mr_sequential.specs.Skips.{skip_fault}
-use Rattle.mr_files.specs.Holding.{ChangesAmong, Holding}
+use Rattle.mr_files.specs.Holding.{ChangesAmong, Faulty, Holding, Stored}
 use Rattle.mr_files.specs.Names.{part_names, name_of_certificate, result_names}
 use Rattle.mr_files.specs.Refusals.{IsFirstUnread, IsUnwrittenAt}
 use Rattle.mr_files.specs.declared.store.FileFault.{FileFault}
@@ -26,7 +26,7 @@ abbrev pub input_names : Options → List (List ℕ)
 input_names o = map (λ s. s.now) o.files.items
 
 -- these bytes stand under these names, and are an input that fits splits of this size
-pub record IsInput (holds : List ℕ → List ℕ → Type 0) (names : List (List ℕ)) (size : ℕ) (files : List (List ℕ)) : Type 0 where
+pub record IsInput (holds : Stored) (names : List (List ℕ)) (size : ℕ) (files : List (List ℕ)) : Type 0 where
   pub held : Holding holds names files
   pub fits : split_total size files ≤ 2 ^ 20
 
@@ -36,7 +36,7 @@ IsInputFault files TooManyFiles = 1024 < length files
 IsInputFault files TooLarge = (length files ≤ 1024) × (2 ^ 30 < total_size files)
 
 -- why there is no input: the first name that can't be read; then the limits; then the fit
-abbrev pub IsInputRefusal : (List ℕ → List ℕ → Type 0) → (List ℕ → Type 0) → List (List ℕ) → ℕ → Fault → Type 0
+abbrev pub IsInputRefusal : Stored → Faulty → List (List ℕ) → ℕ → Fault → Type 0
 IsInputRefusal holds unreadable names size (CannotRead name) = IsFirstUnread holds unreadable names (string_bytes name)
 IsInputRefusal holds unreadable names size (Input fault) = (files : List (List ℕ)) × Holding holds names files × IsInputFault files fault
 IsInputRefusal holds unreadable names size TooManySplits = (files : List (List ℕ)) × Holding holds names files × (2 ^ 20 < split_total size files)
@@ -49,14 +49,15 @@ pub record IsAsked (o : Options) : Type 0 where
   pub within : WithinLimits (request_asked o)
 
 -- a file of the result can't be read
-abbrev pub IsResultRefusal : (List ℕ → Type 0) → List (List ℕ) → Fault → Type 0
-IsResultRefusal unreadable names (CannotRead name) = (before after : List (List ℕ)) × (names ≡ before ++ string_bytes name ∷ after) × unreadable (string_bytes name)
+abbrev pub IsResultRefusal : Faulty → List (List ℕ) → Fault → Type 0
+IsResultRefusal unreadable names (CannotRead name) =
+    (before after : List (List ℕ)) × (names ≡ before ++ string_bytes name ∷ after) × unreadable (string_bytes name)
 IsResultRefusal unreadable names OutOfMemory = ⊤
 IsResultRefusal unreadable names fault = ⊥
 
 -- what `check` says: what stands under the names of the input, of the parts and of the certificate is judged, and
 -- nothing else
-pub record AnswersCheck (holds : List ℕ → List ℕ → Type 0) (o : Options) (text : List ℕ) (status : ℕ) : Type 0 where
+pub record AnswersCheck (holds : Stored) (o : Options) (text : List ℕ) (status : ℕ) : Type 0 where
   pub files : List (List ℕ)
   pub outputs : List (List ℕ)
   pub bytes : List ℕ
@@ -66,13 +67,13 @@ pub record AnswersCheck (holds : List ℕ → List ℕ → Type 0) (o : Options)
   pub judged : IsJudged (request_asked o) files outputs bytes text status
 
 -- why `check` says nothing: the request, then the input, then the files of the result
-abbrev pub IsCheckRefusal : (List ℕ → List ℕ → Type 0) → (List ℕ → Type 0) → Options → Fault → Type 0
+abbrev pub IsCheckRefusal : Stored → Faulty → Options → Fault → Type 0
 IsCheckRefusal holds unreadable o fault = IsRequestRefusal o fault
     ⊎ (IsAsked o × IsInputRefusal holds unreadable (input_names o) o.split fault)
     ⊎ (IsAsked o × ((files : List (List ℕ)) × IsInput holds (input_names o) o.split files) × IsResultRefusal unreadable (result_names o.out.now o.parts) fault)
 
 -- the result of the sequential execution over what stands under the names of the input, and the line that is said of it
-pub record WorksOut (holds : List ℕ → List ℕ → Type 0) (o : Options) (list : List ℕ) (outputs : List (List ℕ)) (bytes line : List ℕ) : Type 0 where
+pub record WorksOut (holds : Stored) (o : Options) (list : List ℕ) (outputs : List (List ℕ)) (bytes line : List ℕ) : Type 0 where
   pub files : List (List ℕ)
   pub names : List RecordName
   pub input : IsInput holds (input_names o) o.split files
@@ -87,15 +88,16 @@ IsRunRefusal request files names OutOfMemory = ⊤
 IsRunRefusal request files names fault = ⊥
 
 -- why there is no work: the request, then the text of the skip list, then the input, then the list over the input
-abbrev pub IsWorkRefusal : (List ℕ → List ℕ → Type 0) → (List ℕ → Type 0) → Options → List ℕ → Fault → Type 0
+abbrev pub IsWorkRefusal : Stored → Faulty → Options → List ℕ → Fault → Type 0
 IsWorkRefusal holds unreadable o list fault = IsRequestRefusal o fault
     ⊎ (IsAsked o × (fault ≡ BadSkipList) × ((names : List RecordName) → ¬ SpellsNames list names))
     ⊎ (IsAsked o × ((names : List RecordName) × SpellsNames list names) × IsInputRefusal holds unreadable (input_names o) o.split fault)
-    ⊎ (IsAsked o × ((files : List (List ℕ)) × (names : List RecordName) × IsInput holds (input_names o) o.split files × SpellsNames list names × IsRunRefusal (request_asked o) files names fault))
+    ⊎ (IsAsked o × ((files : List (List ℕ)) × (names : List RecordName)
+    × IsInput holds (input_names o) o.split files × SpellsNames list names × IsRunRefusal (request_asked o) files names fault))
 
 -- what `seq` did where it says that it is done: behind it the result of the sequential execution over what stood under
 -- the names of the input stands under the names of the parts and of the certificate
-pub record AnswersSeq (old new : List ℕ → List ℕ → Type 0) (o : Options) (list text : List ℕ) : Type 0 where
+pub record AnswersSeq (old new : Stored) (o : Options) (list text : List ℕ) : Type 0 where
   pub files : List (List ℕ)
   pub names : List RecordName
   pub outputs : List (List ℕ)
@@ -108,15 +110,16 @@ pub record AnswersSeq (old new : List ℕ → List ℕ → Type 0) (o : Options)
   pub said : text ≡ done_line o.parts (length (emitted (request_asked o).job (request_asked o).split files names)) (length names)
 
 -- a file of the result can't be written: those before it stand whole, those behind it as before
-abbrev pub IsStopped : (List ℕ → List ℕ → Type 0) → (List ℕ → List ℕ → Type 0) → (List ℕ → Type 0) → List (List ℕ) → List (List ℕ) → Fault → Type 0
+abbrev pub IsStopped : Stored → Stored → Faulty → List (List ℕ) → List (List ℕ) → Fault → Type 0
 IsStopped old new unwritable names texts (CannotWrite name) = IsUnwrittenAt old new unwritable names texts (string_bytes name)
 IsStopped old new unwritable names texts OutOfMemory = ⊤
 IsStopped old new unwritable names texts fault = ⊥
 
 -- why `seq` is not done: there is no work and nothing was written; or the work's result was not all written
-abbrev pub IsSeqRefusal : (List ℕ → List ℕ → Type 0) → (List ℕ → List ℕ → Type 0) → (List ℕ → Type 0) → (List ℕ → Type 0) → Options → List ℕ → Fault → Type 0
+abbrev pub IsSeqRefusal : Stored → Stored → Faulty → Faulty → Options → List ℕ → Fault → Type 0
 IsSeqRefusal old new unreadable unwritable o list fault = (ChangesAmong old new [] × IsWorkRefusal old unreadable o list fault)
-    ⊎ ((outputs : List (List ℕ)) × (bytes line : List ℕ) × WorksOut old o list outputs bytes line × IsStopped old new unwritable (result_names o.out.now o.parts) (outputs ++ bytes ∷ []) fault)
+    ⊎ ((outputs : List (List ℕ)) × (bytes line : List ℕ) × WorksOut old o list outputs bytes line
+    × IsStopped old new unwritable (result_names o.out.now o.parts) (outputs ++ bytes ∷ []) fault)
 
 -- a fault of files is told as itself
 abbrev pub TellsFile : FileFault → Fault → Type 0
@@ -130,11 +133,11 @@ written_by (Seq o skips) = result_names o.out.now o.parts
 written_by (Check o) = []
 
 -- what is answered where the line was understood and no fault was met
-abbrev pub Answers : (List ℕ → List ℕ → Type 0) → (List ℕ → List ℕ → Type 0) → Subcommand → List ℕ → ℕ → Type 0
+abbrev pub Answers : Stored → Stored → Subcommand → List ℕ → ℕ → Type 0
 Answers old new (Seq o skips) text status = (status ≡ 0) × AnswersSeq old new o skips.now text
 Answers old new (Check o) text status = AnswersCheck old o text status
 
 -- why nothing is answered, and what was changed then
-abbrev pub IsRefusal : (List ℕ → List ℕ → Type 0) → (List ℕ → List ℕ → Type 0) → (List ℕ → Type 0) → (List ℕ → Type 0) → Subcommand → Fault → Type 0
+abbrev pub IsRefusal : Stored → Stored → Faulty → Faulty → Subcommand → Fault → Type 0
 IsRefusal old new unreadable unwritable (Seq o skips) fault = IsSeqRefusal old new unreadable unwritable o skips.now fault
 IsRefusal old new unreadable unwritable (Check o) fault = ChangesAmong old new [] × IsCheckRefusal old unreadable o fault

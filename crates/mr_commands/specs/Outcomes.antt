@@ -27,7 +27,8 @@ yes_text pairs skips = yes_line pairs (length skips) ++ flat_map left_out_line s
 
 -- what is said of a sequential execution
 abbrev pub done_line : ℕ → ℕ → ℕ → List ℕ
-done_line files pairs left_out = codes "done: " ++ (decimal files ++ (codes " files, " ++ (decimal pairs ++ (codes " pairs, " ++ (decimal left_out ++ codes " left out\n")))))
+done_line files pairs left_out =
+    codes "done: " ++ (decimal files ++ (codes " files, " ++ (decimal pairs ++ (codes " pairs, " ++ (decimal left_out ++ codes " left out\n")))))
 
 -- a yes is said and ends with 0, and a no is said by its fault and ends with 1; want of memory is no verdict
 abbrev pub TellsVerdict : Result Yes No → List ℕ → ℕ → Type 0

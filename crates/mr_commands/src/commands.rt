@@ -93,7 +93,8 @@ pub fn seq<S: Store>(
     ensures status { IfOk result (λ said. said.status ≡ 0) }
     ensures done { IfOk result (λ said. AnswersSeq (S.holds store.old) (S.holds store.new) options.now skips.now (string_bytes said.text)) }
     ensures others { ChangesAmong (S.holds store.old) (S.holds store.new) (result_names options.now.out.now options.now.parts) }
-    ensures refused { IfErr result (λ e. IsSeqRefusal (S.holds store.old) (S.holds store.new) (S.unreadable store.old) (S.unwritable store.old) options.now skips.now e) }
+    ensures refused { IfErr result (λ e. IsSeqRefusal (S.holds store.old) (S.holds store.new) (S.unreadable store.old) (S.unwritable store.old)
+        options.now skips.now e) }
 {
     let work = worked_out(store, alloc, options, skips)?;
     write_files(

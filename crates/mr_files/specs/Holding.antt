@@ -5,22 +5,30 @@ use Rattle.std.specs.Prelude.{◌≡◌, ◌≢◌, ◌⊎◌, ◌↔◌, ℕ, �
 abbrev pub Agrees : Option (List ℕ) → List ℕ → Type 0
 Agrees known bytes = IfSome known (λ xs. xs ≡ bytes)
 
+-- which bytes stand under which name
+abbrev pub Stored : Type 1
+Stored = List ℕ → List ℕ → Type 0
+
+-- the names whose files a kind of call can't be had of
+abbrev pub Faulty : Type 1
+Faulty = List ℕ → Type 0
+
 -- these bytes stand under these names, in order, one for one
-abbrev pub Holding : (List ℕ → List ℕ → Type 0) → List (List ℕ) → List (List ℕ) → Type 0
+abbrev pub Holding : Stored → List (List ℕ) → List (List ℕ) → Type 0
 Holding holds [] [] = ⊤
 Holding holds (n ∷ ns) (b ∷ bs) = holds n b × Holding holds ns bs
 Holding holds _ _ = ⊥
 
 -- what stands under any other name stands there as before
-abbrev pub ChangesOnly : (List ℕ → List ℕ → Type 0) → (List ℕ → List ℕ → Type 0) → List ℕ → Type 0
+abbrev pub ChangesOnly : Stored → Stored → List ℕ → Type 0
 ChangesOnly old new name = (n b : List ℕ) → n ≢ name → old n b ↔ new n b
 
 -- nothing stands under the name that didn't stand there
-abbrev pub Shrinks : (List ℕ → List ℕ → Type 0) → (List ℕ → List ℕ → Type 0) → List ℕ → Type 0
+abbrev pub Shrinks : Stored → Stored → List ℕ → Type 0
 Shrinks old new name = (b : List ℕ) → new name b → old name b
 
 -- what stands under the name is what stood there, or a beginning of the bytes
-abbrev pub Begins : (List ℕ → List ℕ → Type 0) → (List ℕ → List ℕ → Type 0) → List ℕ → List ℕ → Type 0
+abbrev pub Begins : Stored → Stored → List ℕ → List ℕ → Type 0
 Begins old new name bytes = (b : List ℕ) → new name b → old name b ⊎ ((k : ℕ) × (k ≤ length bytes) × (b ≡ take k bytes))
 
 -- none of these is the name
@@ -29,5 +37,5 @@ Differs n [] = ⊤
 Differs n (m ∷ ms) = (n ≢ m) × Differs n ms
 
 -- what stands under any name but these stands there as before
-abbrev pub ChangesAmong : (List ℕ → List ℕ → Type 0) → (List ℕ → List ℕ → Type 0) → List (List ℕ) → Type 0
+abbrev pub ChangesAmong : Stored → Stored → List (List ℕ) → Type 0
 ChangesAmong old new names = (n b : List ℕ) → Differs n names → old n b ↔ new n b

@@ -1,17 +1,18 @@
 -- Which file is told where one can't be read or written.
 use Rattle.std.specs.Prelude.{◌≡◌, ℕ, List, [], ◌∷◌, ◌++◌, ⊤, string_bytes}
-use Rattle.mr_files.specs.Holding.{Begins, ChangesAmong, Holding}
+use Rattle.mr_files.specs.Holding.{Begins, ChangesAmong, Faulty, Holding, Stored}
 use Rattle.mr_store.specs.declared.reading.ReadFault.{ReadFault}
 use Rattle.mr_store.specs.declared.reading.ReadFault.TheVariants.{Device}
 use Rattle.mr_files.specs.declared.store.FileFault.{FileFault}
 use Rattle.mr_files.specs.declared.store.FileFault.TheVariants.{CannotRead, CannotWrite, OutOfMemory}
 
 -- the name is one of these and can't be read, and those before it were read
-abbrev pub IsFirstUnread : (List ℕ → List ℕ → Type 0) → (List ℕ → Type 0) → List (List ℕ) → List ℕ → Type 0
-IsFirstUnread holds unreadable names name = (before after : List (List ℕ)) × (names ≡ before ++ name ∷ after) × unreadable name × ((read : List (List ℕ)) × Holding holds before read)
+abbrev pub IsFirstUnread : Stored → Faulty → List (List ℕ) → List ℕ → Type 0
+IsFirstUnread holds unreadable names name =
+    (before after : List (List ℕ)) × (names ≡ before ++ name ∷ after) × unreadable name × ((read : List (List ℕ)) × Holding holds before read)
 
 -- a name that can't be read is told
-abbrev pub IsReadRefusal : (List ℕ → List ℕ → Type 0) → (List ℕ → Type 0) → List (List ℕ) → FileFault → Type 0
+abbrev pub IsReadRefusal : Stored → Faulty → List (List ℕ) → FileFault → Type 0
 IsReadRefusal holds unreadable names (CannotRead name) = IsFirstUnread holds unreadable names (string_bytes name)
 IsReadRefusal holds unreadable names (CannotWrite name) = ⊥
 IsReadRefusal holds unreadable names OutOfMemory = ⊤
@@ -23,26 +24,26 @@ IsFault name fault (CannotRead told) = (fault ≡ Device) × (string_bytes told 
 IsFault name fault (CannotWrite told) = ⊥
 
 -- this file can't be read
-abbrev pub IsUnread : (List ℕ → Type 0) → List ℕ → FileFault → Type 0
+abbrev pub IsUnread : Faulty → List ℕ → FileFault → Type 0
 IsUnread unreadable name (CannotRead told) = unreadable name × (string_bytes told ≡ name)
 IsUnread unreadable name (CannotWrite told) = ⊥
 IsUnread unreadable name OutOfMemory = ⊤
 
 -- the name is one of these and can't be read
-abbrev pub IsOneUnread : (List ℕ → Type 0) → List (List ℕ) → FileFault → Type 0
+abbrev pub IsOneUnread : Faulty → List (List ℕ) → FileFault → Type 0
 IsOneUnread unreadable names (CannotRead told) = (before after : List (List ℕ)) × (names ≡ before ++ string_bytes told ∷ after) × unreadable (string_bytes told)
 IsOneUnread unreadable names (CannotWrite told) = ⊥
 IsOneUnread unreadable names OutOfMemory = ⊤
 
 -- this file can't be written
-abbrev pub IsUnwritten : (List ℕ → Type 0) → List ℕ → FileFault → Type 0
+abbrev pub IsUnwritten : Faulty → List ℕ → FileFault → Type 0
 IsUnwritten unwritable name (CannotRead told) = ⊥
 IsUnwritten unwritable name (CannotWrite told) = unwritable name × (string_bytes told ≡ name)
 IsUnwritten unwritable name OutOfMemory = ⊤
 
 -- a file of that name can't be written: those before it were written whole, under it stands what stood there or a
 -- beginning of its text, and all else stands as before
-pub record IsUnwrittenAt (old new : List ℕ → List ℕ → Type 0) (unwritable : List ℕ → Type 0) (names texts : List (List ℕ)) (name : List ℕ) : Type 0 where
+pub record IsUnwrittenAt (old new : Stored) (unwritable : Faulty) (names texts : List (List ℕ)) (name : List ℕ) : Type 0 where
   pub before : List (List ℕ)
   pub after : List (List ℕ)
   pub written : List (List ℕ)
@@ -56,7 +57,7 @@ pub record IsUnwrittenAt (old new : List ℕ → List ℕ → Type 0) (unwritabl
   pub others : ChangesAmong old new (before ++ name ∷ [])
 
 -- why the files were not all written
-abbrev pub IsWriteRefusal : (List ℕ → List ℕ → Type 0) → (List ℕ → List ℕ → Type 0) → (List ℕ → Type 0) → List (List ℕ) → List (List ℕ) → FileFault → Type 0
+abbrev pub IsWriteRefusal : Stored → Stored → Faulty → List (List ℕ) → List (List ℕ) → FileFault → Type 0
 IsWriteRefusal old new unwritable names texts (CannotRead told) = ⊥
 IsWriteRefusal old new unwritable names texts (CannotWrite told) = IsUnwrittenAt old new unwritable names texts (string_bytes told)
 IsWriteRefusal old new unwritable names texts OutOfMemory = ⊤

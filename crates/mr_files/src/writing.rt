@@ -79,7 +79,8 @@ fn write_parts<S: Store>(
 ) -> Result<(), FileFault>
     ensures whole { OnOk result (Holding (S.holds store.new) (part_names dir.now (length outputs.now)) (contents outputs.now)) }
     ensures others { ChangesAmong (S.holds store.old) (S.holds store.new) (part_names dir.now (length outputs.now)) }
-    ensures refused { IfErr result (λ e. IsWriteRefusal (S.holds store.old) (S.holds store.new) (S.unwritable store.old) (part_names dir.now (length outputs.now)) (contents outputs.now) e) }
+    ensures refused { IfErr result (λ e. IsWriteRefusal (S.holds store.old) (S.holds store.new) (S.unwritable store.old)
+        (part_names dir.now (length outputs.now)) (contents outputs.now) e) }
     ensures still { (n : List ℕ) → S.unwritable store.new n → S.unwritable store.old n }
 {
     for part in 0..outputs.len() {
@@ -100,7 +101,8 @@ pub fn write_files<S: Store>(
     ensures outputs { OnOk result (Holding (S.holds store.new) (part_names dir.now (length outputs.now)) (contents outputs.now)) }
     ensures certificate { OnOk result (S.holds store.new (name_of_certificate dir.now) certificate.now) }
     ensures others { ChangesAmong (S.holds store.old) (S.holds store.new) (result_names dir.now (length outputs.now)) }
-    ensures refused { IfErr result (λ e. IsWriteRefusal (S.holds store.old) (S.holds store.new) (S.unwritable store.old) (result_names dir.now (length outputs.now)) (contents outputs.now ++ certificate.now ∷ []) e) }
+    ensures refused { IfErr result (λ e. IsWriteRefusal (S.holds store.old) (S.holds store.new) (S.unwritable store.old)
+        (result_names dir.now (length outputs.now)) (contents outputs.now ++ certificate.now ∷ []) e) }
 {
     write_parts(store, alloc, dir, outputs)?;
     write_certificate(store, alloc, dir, certificate)

@@ -13,4 +13,5 @@ Grew known left was is = (got : List ℕ) × (is ≡ was ++ got) × Consumes kno
 abbrev pub ReadOnto : Option (List ℕ) → Option (List ℕ) → ℕ → ℕ → List ℕ → List ℕ → Result (Unit {0}) ReadFault → Type 0
 ReadOnto known left failed failures was is (Ok _) = Grew known left was is × IsAtEnd left × (failures ≡ failed)
 ReadOnto known left failed failures was is (Err Device) = Grew known left was is × (failures ≡ counted failed)
-ReadOnto known left failed failures was is (Err OutOfMemory) = ((got : List ℕ) × (is ≡ was ++ got)) × ((given : List ℕ) × Consumes known left given) × (failures ≡ failed)
+ReadOnto known left failed failures was is (Err OutOfMemory) =
+    ((got : List ℕ) × (is ≡ was ++ got)) × ((given : List ℕ) × Consumes known left given) × (failures ≡ failed)

@@ -58,7 +58,8 @@ pub trait CountedWrite {
     fn write(&mut self, bytes: &[u8]) -> Result<usize, Device>
         ensures bound { IfOk result (λ n. n ≤ length bytes.now) }
         ensures some { IfOk result (λ n. 0 < length bytes.now → 0 < n) }
-        ensures takes { MatchResult result (λ n. seen self.new ≡ with_bytes (seen self.old) (take n bytes.now)) (λ _. seen self.new ≡ once_failed (seen self.old)) }
+        ensures takes { MatchResult result (λ n. seen self.new ≡ with_bytes (seen self.old) (take n bytes.now))
+            (λ _. seen self.new ≡ once_failed (seen self.old)) }
         ensures fails { FailsOnly (can_fail self.old) (lacked self.new) result }
         ensures later { can_fail self.new → can_fail self.old };
 

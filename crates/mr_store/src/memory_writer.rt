@@ -26,7 +26,14 @@ impl Model for MemoryWriter {
 
     ghost Value = { WrittenMemory };
 
-    ghost view = { λ a. record { bytes = a.bytes.items; handed_on = take a.handed_on a.bytes.items; most = a.most; failing = a.failing; failed = a.failed; lacked = a.lacked } };
+    ghost view = { λ a. record {
+      bytes = a.bytes.items;
+      handed_on = take a.handed_on a.bytes.items;
+      most = a.most;
+      failing = a.failing;
+      failed = a.failed;
+      lacked = a.lacked;
+    } };
 
     ghost invariant = { λ a. record {
       within : a.handed_on ≤ length a.bytes.items;
@@ -78,7 +85,8 @@ impl CountedWrite for MemoryWriter {
     fn write(&mut self, bytes: &[u8]) -> Result<usize, Device>
         ensures bound { IfOk result (λ n. n ≤ length bytes.now) }
         ensures some { IfOk result (λ n. 0 < length bytes.now → 0 < n) }
-        ensures takes { MatchResult result (λ n. seen_of self.new ≡ with_bytes (seen_of self.old) (take n bytes.now)) (λ _. seen_of self.new ≡ once_failed (seen_of self.old)) }
+        ensures takes { MatchResult result (λ n. seen_of self.new ≡ with_bytes (seen_of self.old) (take n bytes.now))
+            (λ _. seen_of self.new ≡ once_failed (seen_of self.old)) }
         ensures fails { FailsOnly (IsSome self.old.failing) self.new.lacked result }
         ensures later { IsSome self.new.failing → IsSome self.old.failing }
         ensures most { IfOk result (λ n. n ≡ min self.old.most (length bytes.now)) }

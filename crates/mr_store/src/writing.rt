@@ -36,7 +36,8 @@ pub fn write_whole<W: CountedWrite>(writer: &mut W, bytes: &[u8]) -> Result<(), 
 /// Writes each part with its own writer, the parts in order.
 fn write_parts<W: CountedWrite>(writers: &mut [W], outputs: &[Vec<u8>]) -> Result<(), Device>
     requires { length writers.old ≡ length outputs.now }
-    ensures { MatchResult result (λ _. AllTook W.seen writers.old writers.new (texts outputs.now)) (λ _. StoppedAt W.seen writers.old writers.new (texts outputs.now)) }
+    ensures { MatchResult result (λ _. AllTook W.seen writers.old writers.new (texts outputs.now))
+        (λ _. StoppedAt W.seen writers.old writers.new (texts outputs.now)) }
 {
     for i in 0..outputs.len() {
         let writer = &mut writers[i];
@@ -59,7 +60,8 @@ pub fn write_result<W: CountedWrite>(
     ensures last { OnOk result (TookAll (W.seen certificate_writer.old) (W.seen certificate_writer.new) certificate.now) }
     ensures stopped { OnErr result
         ((StoppedAt W.seen writers.old writers.new (texts outputs.now) × (certificate_writer.new ≡ certificate_writer.old))
-        ⊎ (AllTook W.seen writers.old writers.new (texts outputs.now) × TookSome (W.seen certificate_writer.old) (W.seen certificate_writer.new) certificate.now)) }
+        ⊎ (AllTook W.seen writers.old writers.new (texts outputs.now)
+        × TookSome (W.seen certificate_writer.old) (W.seen certificate_writer.new) certificate.now)) }
 {
     write_parts(writers, outputs)?;
     write_whole(certificate_writer, certificate)

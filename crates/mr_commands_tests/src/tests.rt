@@ -1,0 +1,106 @@
+use mr_commands::{Fault, JobKind, Options, Said, Subcommand, done};
+use mr_files::{MemoryFiles, Store};
+use mr_store::read_all;
+use std::alloc::Global;
+use std::test::Fail;
+
+/// Word count over these files, with its result in this directory.
+fn words<'a>(
+    alloc: Global,
+    parts: u32,
+    out: &'a str,
+    names: &[&'a str],
+) -> Result<Options<'a>, Fail> {
+    Ok(Options {
+        job: JobKind::Words,
+        parts,
+        split: 67_108_864,
+        keep_case: false,
+        literal: None,
+        fold: false,
+        max_skips: 1,
+        out,
+        files: Vec::from_slice(alloc, names)?,
+    })
+}
+
+/// Whether the text and the status are these.
+fn says(answer: Result<Said, Fault>, text: &str, status: u8) -> bool {
+    match answer {
+        Ok(said) => said.text.as_str() == text && said.status == status,
+        Err(_) => false,
+    }
+}
+
+/// Whether that file can't be read (or, where `written`, can't be written).
+fn tells(answer: Result<Said, Fault>, written: bool, file: &str) -> bool {
+    match answer {
+        Err(Fault::CannotRead(name)) => !written && name.as_str() == file,
+        Err(Fault::CannotWrite(name)) => written && name.as_str() == file,
+        _ => false,
+    }
+}
+
+/// Whether these bytes stand under the name.
+fn stands(alloc: Global, store: &MemoryFiles, name: &str, text: &[u8]) -> Result<bool, Fail> {
+    let Ok(mut reader) = store.reader(alloc, name) else {
+        return Ok(false);
+    };
+    let mut bytes = Vec::new(alloc);
+    Ok(read_all(&mut reader, &mut bytes).is_ok() && bytes.as_slice() == text)
+}
+
+#[test]
+fn runs_and_judges(rt: HostRuntime) -> Result<(), Fail> {
+    let alloc = rt.alloc();
+    let mut store = MemoryFiles::new(alloc);
+    store.put("a", b"the cat the dog\n", false)?;
+    store.put("x/y/part-00002", b"old", false)?;
+    let run = Subcommand::Seq(words(alloc, 2, "x/y", &["a", "a"])?, "");
+    let judge = Subcommand::Check(words(alloc, 2, "x/y", &["a", "a"])?);
+    assert!(rt;
+        says(
+            done(&mut store, alloc, &run),
+            "done: 2 files, 8 pairs, 0 left out\n",
+            0
+        )
+    );
+    assert!(rt; stands(alloc, &store, "x/y/part-00000", b"the\t4\n")?);
+    assert!(rt; stands(alloc, &store, "x/y/part-00001", b"cat\t2\ndog\t2\n")?);
+    assert!(rt; stands(alloc, &store, "x/y/part-00002", b"old")?);
+    assert!(rt;
+        says(
+            done(&mut store, alloc, &judge),
+            "yes: 8 pairs, 0 left out\n",
+            0
+        )
+    );
+    store.put("x/y/part-00000", b"the\t5\n", false)?;
+    assert!(rt;
+        says(
+            done(&mut store, alloc, &judge),
+            "no: OutputDiffers partition 0 at 4\n",
+            1
+        )
+    );
+    Ok(())
+}
+
+#[test]
+fn the_first_file_that_fails_is_told(rt: HostRuntime) -> Result<(), Fail> {
+    let alloc = rt.alloc();
+    let mut store = MemoryFiles::new(alloc);
+    store.put("a", b"the cat the dog\n", false)?;
+    store.put("c", b"b\n", true)?;
+    let several = Subcommand::Check(words(alloc, 1, "d", &["a", "c", "missing"])?);
+    assert!(rt; tells(done(&mut store, alloc, &several), false, "c"));
+    let judge = Subcommand::Check(words(alloc, 2, "d", &["a"])?);
+    assert!(rt; tells(done(&mut store, alloc, &judge), false, "d/part-00000"));
+    store.put("d/part-00001", b"old", true)?;
+    store.put("d/certificate", b"old", false)?;
+    let run = Subcommand::Seq(words(alloc, 2, "d", &["a"])?, "");
+    assert!(rt; tells(done(&mut store, alloc, &run), true, "d/part-00001"));
+    assert!(rt; stands(alloc, &store, "d/part-00000", b"the\t2\n")?);
+    assert!(rt; stands(alloc, &store, "d/certificate", b"old")?);
+    Ok(())
+}
