@@ -1,3 +1,4 @@
+//! Tests of the sequential execution.
 use mr_bytes::{Name, RecordName};
 use mr_certform::{Certificate, write};
 use mr_check::{No, Yes, check};

@@ -1,3 +1,4 @@
+//! Tests of the judge.
 use mr_bytes::RecordName;
 use mr_check::{No, Yes, check, check_metered};
 use mr_index::Meter;

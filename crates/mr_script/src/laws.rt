@@ -1,3 +1,4 @@
+//! What holds of all lines and scripts: functions without a body, whose clauses are the laws.
 ghost use Rattle.mr_script.specs.Laws.{LinesByMeaning, OneDirective, NothingIsNoDirective, OneScript, NoScriptHasABadLine};
 
 /// A line spells a directive exactly where its meaning is that directive, so at most one; and a line that says nothing
