@@ -18,7 +18,8 @@ use Rattle.mr_sequential.specs.Emitted.{Triple, placed_from, record_triples}
 use Rattle.mr_index.specs.Index.{mapped_among}
 use Rattle.mr_sequential.specs.Good.{has_name, named}
 use Rattle.mr_index.specs.Pairs.{EndsRise}
-use Rattle.mr_index.specs.Building.{spread, kept_emissions, Shows}
+use Rattle.mr_sequential.specs.Pairs.{kept_pairs}
+use Rattle.mr_index.specs.Building.{spread, Shows}
 use Rattle.mr_index.proofs.PairLemmas.{range-more, range-end, rise-request, rise-push}
 
 -- one more record
@@ -37,7 +38,7 @@ spread-more at (x ∷ rs) (e ∷ ends) pairs more r rise h =
     ∙ ap (λ (ts : List Triple). placed_from x.name 0 (slice_range pairs at e) ++ ts) (spread-more e rs ends pairs more r rise.1 (omega (arith, h)))
     ∙ sym (append_assoc (placed_from x.name 0 (slice_range pairs at e)) (spread e rs ends pairs) (placed_from r.name 0 more))
 
-placed-kept : (job : JobSpec) (skips : List RecordName) (r : NamedRecord) → placed_from r.name 0 (kept_emissions job skips r) ≡ record_triples job skips r
+placed-kept : (job : JobSpec) (skips : List RecordName) (r : NamedRecord) → placed_from r.name 0 (kept_pairs job skips r) ≡ record_triples job skips r
 unfolding placed_from
 placed-kept job skips r =
     elim (is_left_out skips r.name) as (λ b. placed_from r.name 0 (cond b [] (emissions job r.file r.start r.bytes))
@@ -47,10 +48,10 @@ placed-kept job skips r =
     ]
 
 pub shows-more : (job : JobSpec) (skips : List RecordName) (rs : List NamedRecord) (ends ends' : List ℕ) (pairs pairs' : List Emission) (r : NamedRecord)
-    → Shows job skips rs ends pairs → pairs' ≡ pairs ++ kept_emissions job skips r → ends' ≡ ends ++ length pairs' ∷ []
+    → Shows job skips rs ends pairs → pairs' ≡ pairs ++ kept_pairs job skips r → ends' ≡ ends ++ length pairs' ∷ []
     → Shows job skips (rs ++ r ∷ []) ends' pairs'
 shows-more job skips rs ends ends' pairs pairs' r s grown ended =
-    let more : List Emission = kept_emissions job skips r in
+    let more : List Emission = kept_pairs job skips r in
     let ends-are : ends' ≡ ends ++ length (pairs ++ more) ∷ [] = ended ∙ ap (λ (es : List Emission). ends ++ length es ∷ []) grown in
     let after : Shows job skips (rs ++ r ∷ []) (ends ++ length (pairs ++ more) ∷ []) (pairs ++ more) = record {
       count = omega (arith, length_push ends (length (pairs ++ more)), length_push rs r, s.count);

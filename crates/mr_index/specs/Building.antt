@@ -1,10 +1,10 @@
 -- The triples that the tables of an index show.
-use Rattle.std.specs.Prelude.{◌≡◌, ℕ, if◌then◌else◌, List, [], ◌∷◌, ◌++◌, length, slice_range}
+use Rattle.std.specs.Prelude.{◌≡◌, ℕ, List, [], ◌∷◌, ◌++◌, length, slice_range}
 use Rattle.std.specs.List.{flat_map}
 use Rattle.mr_bytes.specs.declared.RecordName.{RecordName}
 use Rattle.mr_jobs.specs.JobSpec.{JobSpec}
-use Rattle.mr_jobs.specs.Emissions.{Emission, emissions}
-use Rattle.mr_splits.specs.Named.{NamedRecord, is_left_out}
+use Rattle.mr_jobs.specs.Emissions.{Emission}
+use Rattle.mr_splits.specs.Named.{NamedRecord}
 use Rattle.mr_sequential.specs.Emitted.{Triple, placed_from, record_triples}
 use Rattle.mr_index.specs.Pairs.{EndsRise}
 
@@ -13,10 +13,6 @@ unfoldable pub spread : ℕ → List NamedRecord → List ℕ → List Emission 
 spread at [] ends pairs = []
 spread at (r ∷ rs) [] pairs = []
 spread at (r ∷ rs) (e ∷ ends) pairs = placed_from r.name 0 (slice_range pairs at e) ++ spread e rs ends pairs
-
--- what a record emits, unless it is left out
-abbrev pub kept_emissions : JobSpec → List RecordName → NamedRecord → List Emission
-kept_emissions job skips r = if is_left_out skips r.name then [] else emissions job r.file r.start r.bytes
 
 -- the tables show just the triples of the records
 pub record Shows (job : JobSpec) (skips : List RecordName) (rs : List NamedRecord) (ends : List ℕ) (pairs : List Emission) : Type 0 where

@@ -7,7 +7,8 @@ ghost use Rattle.mr_splits.specs.Cut.{records_of, nth_named, left_out_flags};
 ghost use Rattle.mr_index.specs.Index.{triples_of, mapped_among, pair_at, name_at};
 ghost use Rattle.mr_sequential.specs.Good.{named};
 ghost use Rattle.mr_index.specs.Pairs.{pairs_seen, Sound};
-ghost use Rattle.mr_index.specs.Building.{kept_emissions, Shows};
+ghost use Rattle.mr_sequential.specs.Pairs.{kept_pairs};
+ghost use Rattle.mr_index.specs.Building.{Shows};
 
 use crate::pairs::{Pairs, push_end, room_for, start_of};
 use mr_bytes::{Name, RecordName, Value};
@@ -52,7 +53,7 @@ impl<'p, 'j, 's> Work<'p, 'j, 's> {
         requires room { tables.old.mapped ≤ length tables.old.ends.items }
         ensures sound { OnOk result (Sound tables.new.pairs) }
         ensures pairs { OnOk result (pairs_seen tables.new.pairs
-            ≡ pairs_seen tables.old.pairs ++ kept_emissions self.now.job.now self.now.skips.now (nth_named (of_split s (records_of self.now.plan.now)) r)) }
+            ≡ pairs_seen tables.old.pairs ++ kept_pairs self.now.job.now self.now.skips.now (nth_named (of_split s (records_of self.now.plan.now)) r)) }
         ensures ends { OnOk result (tables.new.ends.items ≡ tables.old.ends.items ++ length (pairs_seen tables.new.pairs) ∷ []) }
         ensures counted { OnOk result (tables.new.mapped
             ≡ tables.old.mapped + (if is_left_out self.now.skips.now (nth_named (of_split s (records_of self.now.plan.now)) r).name then 0 else 1)) }

@@ -5,6 +5,3 @@ mod index;
 mod pairs;
 
 pub use index::{EmissionIndex, Meter};
-
-#[cfg(test)]
-mod tests;

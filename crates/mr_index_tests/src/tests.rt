@@ -1,6 +1,6 @@
 //! Each job's pairs by name, on inputs mapped by hand.
-use crate::{EmissionIndex, Meter};
 use mr_bytes::{Name, RecordName, Value};
+use mr_index::{EmissionIndex, Meter};
 use mr_input::Input;
 use mr_jobs::Job;
 use mr_splits::Plan;
