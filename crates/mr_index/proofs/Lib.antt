@@ -1,3 +1,4 @@
 pub mod PairLemmas
 pub mod SpreadLemmas
 pub mod WorkLemmas
+pub mod SizeLemmas

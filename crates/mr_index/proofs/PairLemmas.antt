@@ -1,5 +1,5 @@
 -- Pairs that are kept flat.
-use Rattle.std.proofs.Common.{◌≡◌, ℕ, zero, suc, ◌+◌, ◌-◌, ◌<◌, ◌≤◌, List, [], ◌∷◌, ◌++◌, length, get_or, take, drop, slice_range, refl, ◌∙◌, ap, arith, length-append, length-drop}
+use Rattle.std.proofs.Common.{◌≡◌, ℕ, zero, suc, ◌+◌, ◌-◌, ◌<◌, ◌≤◌, List, [], ◌∷◌, ◌++◌, length, get_or, take, drop, slice_range, refl, ◌∙◌, ap, arith, length-append, length-drop, length-take-le}
 use Rattle.std.proofs.lemmas.List.{drop-append-le, take-append-le, drop_at, take_all}
 use Rattle.mr_bytes.specs.declared.Value.{Value}
 use Rattle.mr_bytes.specs.declared.Value.TheVariants.{One}
@@ -17,6 +17,9 @@ pub range-end : {X : Type 0} (xs ys : List X) → slice_range (xs ++ ys) (length
 range-end xs ys =
     ap (take (length (xs ++ ys) - length xs)) (drop_at xs ys (length xs) refl)
     ∙ take_all (length (xs ++ ys) - length xs) ys (omega (arith, length-append xs ys))
+
+pub range-size : {X : Type 0} (xs : List X) (a b : ℕ) → a ≤ b → b ≤ length xs → length (slice_range xs a b) ≡ b - a
+range-size xs a b request within = length-take-le (b - a) (drop a xs) (omega (arith, length-drop a xs))
 
 pub rise-request : (at last : ℕ) (ends : List ℕ) → EndsRise at last ends → at ≤ last
 rise-request at last [] r = omega (arith, r)

@@ -56,6 +56,7 @@ shows-more job skips rs ends ends' pairs pairs' r s grown ended =
     let after : Shows job skips (rs ++ r ∷ []) (ends ++ length (pairs ++ more) ∷ []) (pairs ++ more) = record {
       count = omega (arith, length_push ends (length (pairs ++ more)), length_push rs r, s.count);
       rise = rise-push 0 (length pairs) (length (pairs ++ more)) ends s.rise (omega (arith, length-append pairs more));
+      given = ap (λ (es : List Emission). es ++ more) s.given ∙ flat_map_more (kept_pairs job skips) [] rs r;
       same = spread-more 0 rs ends pairs more r s.rise s.count
           ∙ ap (λ (ts : List Triple). ts ++ placed_from r.name 0 more) s.same
           ∙ ap (λ (ts : List Triple). flat_map (record_triples job skips) rs ++ ts) (placed-kept job skips r)
@@ -70,7 +71,7 @@ unfolding spread
 shows-none job skips rs ends pairs a b d =
     subst (λ (x : List NamedRecord). Shows job skips x ends pairs) (sym a)
     (subst (λ (x : List ℕ). Shows job skips [] x pairs) (sym b)
-    (subst (λ (x : List Emission). Shows job skips [] [] x) (sym d) (record { count = refl; rise = refl; same = refl })))
+    (subst (λ (x : List Emission). Shows job skips [] [] x) (sym d) (record { count = refl; rise = refl; given = refl; same = refl })))
 
 pub mapped-more : (skips : List RecordName) (rs : List NamedRecord) (r : NamedRecord)
     → mapped_among skips (rs ++ r ∷ []) ≡ mapped_among skips rs + cond (is_left_out skips r.name) 0 1

@@ -49,6 +49,23 @@ mapped-before skips s r rs =
     ∙ before-all s (length (of_split s rs)) rs (omega arith) in
     omega (arith, mapped-append skips (before s r rs) rest, ap (mapped_among skips) whole)
 
+-- the first records of a split and those before, and all that follow
+pub before-rest : (size : ℕ) (files : List (List ℕ)) (s r : ℕ) → 0 < size → s < split_total size files
+    → (rest : List NamedRecord) × (before s r (named_records size files) ++ rest ≡ named_records size files)
+before-rest size files s r some h =
+    let rs : List NamedRecord = named_records size files in
+    let here : List NamedRecord = drop r (of_split s rs) in
+    let later : List NamedRecord = joined_splits (0 + (s + 1)) (split_total size files - (s + 1)) rs in
+    let first : before s r rs ++ here ≡ joined_splits 0 (s + 1) rs =
+    append_assoc (joined_splits 0 s rs) (take r (of_split s rs)) here
+    ∙ ap (λ (l : List NamedRecord). joined_splits 0 s rs ++ l) (take-append-drop r (of_split s rs) ∙ sym (take_all (length (of_split s rs)) (of_split s rs) (omega arith)))
+    ∙ before-all s (length (of_split s rs)) rs (omega arith) in
+    let whole : joined_splits 0 (s + 1) rs ++ later ≡ rs =
+    sym (joined-parts 0 (s + 1) (split_total size files - (s + 1)) rs)
+    ∙ ap (λ (n : ℕ). joined_splits 0 n rs) (let e : s + 1 + (split_total size files - (s + 1)) ≡ split_total size files = omega (arith, h) in e)
+    ∙ splits-join size files some in
+    (here ++ later, sym (append_assoc (before s r rs) here later) ∙ ap (λ (l : List NamedRecord). l ++ later) first ∙ whole)
+
 -- of the first splits' records no more are mapped than of all
 pub mapped-within : (skips : List RecordName) (size : ℕ) (files : List (List ℕ)) (s : ℕ) → 0 < size → s ≤ split_total size files
     → mapped_among skips (joined_splits 0 s (named_records size files)) ≤ mapped_among skips (named_records size files)

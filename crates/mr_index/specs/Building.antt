@@ -6,6 +6,7 @@ use Rattle.mr_jobs.specs.JobSpec.{JobSpec}
 use Rattle.mr_jobs.specs.Emissions.{Emission}
 use Rattle.mr_splits.specs.Named.{NamedRecord}
 use Rattle.mr_sequential.specs.Emitted.{Triple, placed_from, record_triples}
+use Rattle.mr_sequential.specs.Pairs.{kept_pairs}
 use Rattle.mr_index.specs.Pairs.{EndsRise}
 
 -- each record's pairs, from the end of those of the record before, with their places
@@ -18,4 +19,5 @@ spread at (r ∷ rs) (e ∷ ends) pairs = placed_from r.name 0 (slice_range pair
 pub record Shows (job : JobSpec) (skips : List RecordName) (rs : List NamedRecord) (ends : List ℕ) (pairs : List Emission) : Type 0 where
   pub count : length ends ≡ length rs
   pub rise : EndsRise 0 (length pairs) ends
+  pub given : pairs ≡ flat_map (kept_pairs job skips) rs
   pub same : spread 0 rs ends pairs ≡ flat_map (record_triples job skips) rs

@@ -1,5 +1,5 @@
 -- Of no public promise: keys with their values, kept flat.
-use Rattle.std.specs.Prelude.{◌≡◌, ℕ, ◌≤◌, List, [], ◌∷◌, slice_range, length}
+use Rattle.std.specs.Prelude.{◌≡◌, ℕ, ◌≤◌, ◌<◌, ◌^◌, List, [], ◌∷◌, slice_range, length, sum_by}
 use Rattle.mr_bytes.specs.declared.Value.{Value}
 use Rattle.mr_jobs.specs.Emissions.{Emission}
 use Rattle.mr_index.specs.declared.pairs.Pairs.{Pairs}
@@ -23,3 +23,11 @@ pairs_seen p = pairs_from 0 p.keys.items p.ends.items p.values
 pub record Sound (p : Pairs) : Type 0 where
   pub rise : EndsRise 0 (length p.keys.items) p.ends.items
   pub values : length p.values ≡ length p.ends.items
+
+-- how many bytes their keys have together
+abbrev pub keys_size : List Emission → ℕ
+keys_size es = sum_by (λ e. length e.0) es
+
+-- a number of four bytes serves for how many they are, and for the bytes of their keys
+abbrev pub Fits : List Emission → Type 0
+Fits es = (length es < 2 ^ 32) × (keys_size es < 2 ^ 32)

@@ -1,12 +1,13 @@
 //! The index of all emitted pairs.
 ghost use Rattle.std.specs.Prelude.{◌≡◌, ◌≢◌, ℕ, ◌+◌, ◌≤◌, ◌<◌, ◌^◌, ◌++◌, [], ◌∷◌, if◌then◌else◌, IfOk, IfSome, OnOk, OnErr, MatchOption, Some, None, length};
+ghost use Rattle.std.specs.List.{flat_map};
 ghost use Rattle.mr_input.specs.Files.{split_total};
 ghost use Rattle.mr_splits.specs.Named.{of_split, is_left_out};
 ghost use Rattle.mr_splits.specs.Laws.{joined_splits};
 ghost use Rattle.mr_splits.specs.Cut.{records_of, nth_named, left_out_flags};
 ghost use Rattle.mr_index.specs.Index.{triples_of, mapped_among, pair_at, name_at};
 ghost use Rattle.mr_sequential.specs.Good.{named};
-ghost use Rattle.mr_index.specs.Pairs.{pairs_seen, Sound};
+ghost use Rattle.mr_index.specs.Pairs.{pairs_seen, Sound, Fits};
 ghost use Rattle.mr_sequential.specs.Pairs.{kept_pairs};
 ghost use Rattle.mr_index.specs.Building.{Shows};
 
@@ -51,6 +52,7 @@ impl<'p, 'j, 's> Work<'p, 'j, 's> {
         requires inside { r < length (of_split s (records_of self.now.plan.now)) }
         requires sound { Sound tables.old.pairs }
         requires room { tables.old.mapped ≤ length tables.old.ends.items }
+        requires fits { Fits (pairs_seen tables.old.pairs ++ kept_pairs self.now.job.now self.now.skips.now (nth_named (of_split s (records_of self.now.plan.now)) r)) }
         ensures sound { OnOk result (Sound tables.new.pairs) }
         ensures pairs { OnOk result (pairs_seen tables.new.pairs
             ≡ pairs_seen tables.old.pairs ++ kept_pairs self.now.job.now self.now.skips.now (nth_named (of_split s (records_of self.now.plan.now)) r)) }
@@ -75,6 +77,8 @@ impl<'p, 'j, 's> Work<'p, 'j, 's> {
         requires sound { Sound tables.old.pairs }
         requires shows { Shows self.now.job.now self.now.skips.now (joined_splits 0 s (records_of self.now.plan.now)) tables.old.ends.items (pairs_seen tables.old.pairs) }
         requires counted { tables.old.mapped ≡ mapped_among self.now.skips.now (joined_splits 0 s (records_of self.now.plan.now)) }
+        requires size { 0 < self.now.plan.now.size }
+        requires fits { Fits (flat_map (kept_pairs self.now.job.now self.now.skips.now) (records_of self.now.plan.now)) }
         ensures sound { OnOk result (Sound tables.new.pairs) }
         ensures shows { OnOk result (Shows self.now.job.now self.now.skips.now (joined_splits 0 (s + 1) (records_of self.now.plan.now)) tables.new.ends.items (pairs_seen tables.new.pairs)) }
         ensures counted { OnOk result (tables.new.mapped ≡ mapped_among self.now.skips.now (joined_splits 0 (s + 1) (records_of self.now.plan.now))) }
@@ -91,6 +95,7 @@ impl<'p, 'j, 's> Work<'p, 'j, 's> {
         requires sound { Sound tables.old.pairs }
         requires none { (pairs_seen tables.old.pairs ≡ []) × (tables.old.ends.items ≡ []) × (tables.old.mapped ≡ 0) }
         requires size { 0 < self.now.plan.now.size }
+        requires fits { Fits (flat_map (kept_pairs self.now.job.now self.now.skips.now) (records_of self.now.plan.now)) }
         ensures sound { OnOk result (Sound tables.new.pairs) }
         ensures shows { OnOk result (Shows self.now.job.now self.now.skips.now (records_of self.now.plan.now) tables.new.ends.items (pairs_seen tables.new.pairs)) }
         ensures counted { OnOk result ((tables.new.mapped ≡ mapped_among self.now.skips.now (records_of self.now.plan.now)) × (tables.new.mapped < 2 ^ 63)) }
@@ -157,6 +162,8 @@ impl<'a> EmissionIndex<'a> {
     {
         // A plan's size is at least 1: the order of its records rests on that.
         let _size = plan.size();
+        // Files within the limits of an input emit few enough pairs, with few enough bytes of keys, for the tables.
+        let _files = plan.input().files();
         let left_out = plan.left_out(alloc, skips)?;
         let work = Work {
             plan,

@@ -2,7 +2,7 @@
 ghost use Rattle.std.specs.Prelude.{◌≡◌, ℕ, ◌+◌, ◌≤◌, ◌<◌, ◌^◌, ◌++◌, [], ◌∷◌, IfOk, OnOk, MatchOption, length, slice_index, slice_index_or};
 ghost use Rattle.mr_bytes.specs.declared.Value.TheVariants.{One};
 ghost use Rattle.mr_jobs.specs.Emissions.{emissions};
-ghost use Rattle.mr_index.specs.Pairs.{pairs_seen, Sound};
+ghost use Rattle.mr_index.specs.Pairs.{pairs_seen, Sound, Fits};
 
 use mr_bytes::{Value, Values};
 use mr_jobs::{Emitter, Job};
@@ -33,14 +33,12 @@ pub(crate) fn room_for(alloc: Global, bytes: usize) -> Result<Pairs, AllocError>
     })
 }
 
-/// Adds an end; one that doesn't fit its four bytes is answered as want of memory.
+/// Adds an end. It fails only for want of memory.
 pub(crate) fn push_end(ends: &mut Vec<u32>, end: usize) -> Result<(), AllocError>
+    requires { end < 2 ^ 32 }
     ensures { OnOk result (ends.new.items ≡ ends.old.items ++ end ∷ []) }
 {
-    let Ok(end) = u32::try_from(end) else {
-        return Err(AllocError);
-    };
-    ends.push(end)?;
+    ends.push(end as u32)?;
     Ok(())
 }
 
@@ -72,7 +70,8 @@ impl Pairs {
     }
 
     fn push(&mut self, key: &[u8], value: Value) -> Result<(), AllocError>
-        requires { Sound self.old }
+        requires sound { Sound self.old }
+        requires room { length self.old.keys.items + length key.now < 2 ^ 32 }
         ensures sound { OnOk result (Sound self.new) }
         ensures pairs { OnOk result (pairs_seen self.new ≡ pairs_seen self.old ++ (key.now, value) ∷ []) }
     {
@@ -83,7 +82,8 @@ impl Pairs {
     }
 
     fn push_all(&mut self, mut emitter: Emitter<'_>) -> Result<(), AllocError>
-        requires { Sound self.old }
+        requires sound { Sound self.old }
+        requires fits { Fits (pairs_seen self.old ++ emitter) }
         ensures sound { OnOk result (Sound self.new) }
         ensures pairs { OnOk result (pairs_seen self.new ≡ pairs_seen self.old ++ emitter.entry) }
     {
@@ -102,6 +102,7 @@ impl Pairs {
     ) -> Result<(), AllocError>
         requires sound { Sound self.old }
         requires small { length line.bytes.now ≤ 2 ^ 30 }
+        requires fits { Fits (pairs_seen self.old ++ emissions job.now line.file line.start line.bytes.now) }
         ensures sound { OnOk result (Sound self.new) }
         ensures pairs { OnOk result (pairs_seen self.new ≡ pairs_seen self.old ++ emissions job.now line.entry.file line.entry.start line.entry.bytes.now) }
     {

@@ -3,7 +3,10 @@ use Rattle.mr_splits.specs.Named.{NamedRecord, of_split, is_left_out}
 use Rattle.mr_splits.specs.Laws.{joined_splits}
 use Rattle.mr_splits.specs.Cut.{records_of, nth_named}
 use Rattle.mr_index.specs.Index.{mapped_among}
-use Rattle.mr_index.specs.Pairs.{pairs_seen}
+use Rattle.mr_jobs.specs.Emissions.{Emission}
+use Rattle.mr_sequential.specs.Pairs.{kept_pairs}
+use Rattle.mr_index.specs.Pairs.{pairs_seen, Fits}
+use Rattle.mr_index.proofs.SizeLemmas.{fits-next}
 use Rattle.mr_index.specs.Building.{Shows}
 use Rattle.mr_index.proofs.SpreadLemmas.{shows-more, mapped-more}
 use Rattle.mr_index.proofs.WorkLemmas.{before, before-none, before-more, before-all, mapped-few, mapped-before, on-err}
@@ -42,6 +45,14 @@ pub map_record-requires-clause-room : goal.map_record-requires-clause-room
 map_record-requires-clause-room c =
     let rs : List NamedRecord = records_of c.args.self.now.plan.now in
     omega (arith, c.loop-r.invariant.counted, c.loop-r.invariant.shows.count, mapped-few c.args.self.now.skips.now (before c.args.s c.loop-r.r rs))
+
+pub map_record-requires-clause-fits : goal.map_record-requires-clause-fits
+map_record-requires-clause-fits c =
+    let v = c.args.self.now.plan.now in
+    let job = c.args.self.now.job.now in
+    let skips = c.args.self.now.skips.now in
+    subst (λ (es : List Emission). Fits (es ++ kept_pairs job skips (nth_named (of_split c.args.s (records_of v)) c.loop-r.r))) (sym c.loop-r.invariant.shows.given)
+    (fits-next job skips v.size v.files c.args.s c.loop-r.r c.requires.size c.requires.split (omega (arith, c.loop-r-test.true, c.records_in-r-end.ensures)) c.requires.fits)
 
 pub returns-in_err-map_record-clause-err : goal.returns-in_err-map_record-clause-err
 returns-in_err-map_record-clause-err c =
