@@ -192,8 +192,12 @@ taken_none p bytes is = ap (λ w. length (bytes_from p w)) (items_none p bytes i
 
 taken_here : (p : Place) (bytes : List ℕ) (f : Front) → standing p bytes ≡ Some f → taken p bytes + length f.rest ≡ length bytes + taken (behind p f.item) f.rest
 taken_here p bytes f is =
-    omega (arith, ap (λ w. length (bytes_from p w)) (items_here p bytes f is),
-      length-append (bytes_at p f.item) (bytes_from (behind p f.item) (items_from (behind p f.item) f.rest)), sized_here p bytes f is)
+    omega (
+      arith,
+      ap (λ w. length (bytes_from p w)) (items_here p bytes f is),
+      length-append (bytes_at p f.item) (bytes_from (behind p f.item) (items_from (behind p f.item) f.rest)),
+      sized_here p bytes f is,
+    )
 
 -- ---- a walker's step
 

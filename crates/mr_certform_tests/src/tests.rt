@@ -190,7 +190,9 @@ fn empty_and_full_lists(rt: HostRuntime) -> Result<(), Fail> {
         b"MRCERT1\n\0\0\0\x02\0\0\0\x02\0\0\0\x02ab\0\0\0\x01\0\0\0\x01\0\0\0\0\0\0\0\x01\0\0\0\x03\0\0\0\x05\0\0\0\0";
     let read = read(alloc, want)?;
     let skips = [RecordName { split: 3, rec: 5 }];
-    let same = read.literal() == b"ab".as_slice() && read.skips() == skips.as_slice() && read.total() == 0;
+    let same = read.literal() == b"ab".as_slice()
+        && read.skips() == skips.as_slice()
+        && read.total() == 0;
     assert!(rt; same && read.lengths().is_empty());
     let bytes = write(alloc, &read)?;
     assert!(rt; bytes.as_slice() == want.as_slice());
@@ -200,7 +202,9 @@ fn empty_and_full_lists(rt: HostRuntime) -> Result<(), Fail> {
 /// The bytes of a certificate of 1,024 partitions, of which the last has one group of this many names.
 fn large_bytes(alloc: Global, names: u32) -> Result<Vec<u8>, AllocError> {
     let mut bytes = Vec::new(alloc);
-    bytes.extend_from_slice(b"MRCERT1\n\0\0\0\x01\0\0\0\0\0\0\0\0\0\0\x04\0\0\0\0\x40\0\0\0\0\0\0\0\0")?;
+    bytes.extend_from_slice(
+        b"MRCERT1\n\0\0\0\x01\0\0\0\0\0\0\0\0\0\0\x04\0\0\0\0\x40\0\0\0\0\0\0\0\0",
+    )?;
     for _ in 0..1023 {
         bytes.extend_from_slice(&[0, 0, 0, 0])?;
     }

@@ -267,13 +267,16 @@ module _ (s : Subject) (p : ℕ) (part : PartRead) (f : No) where
       let whole_text : texts (gs ++ ns ∷ []) ≡ (texts gs ++ k.same) ++ k.text_rest = more ∙ (ap (λ w. texts gs ++ w) k.text_is ∙ sym (append_assoc (texts gs) k.same k.text_rest)) in
       let whole_output : output ≡ (texts gs ++ k.same) ++ k.rest_rest = output_is ∙ (ap (λ w. texts gs ++ w) k.rest_is ∙ sym (append_assoc (texts gs) k.same k.rest_rest)) in
       let long : length (texts gs ++ k.same) ≡ from + same = omega (arith, length-append (texts gs) k.same, k.long, from_is) in
-      subst (IsWrongIn s p part) fail.1 (refl, record {
-        groups = gs ++ ns ∷ [];
-        others = later;
-        read = read;
-        differ = record { same = texts gs ++ k.same; a_rest = k.rest_rest; b_rest = k.text_rest; a_is = whole_output; b_is = whole_text; as_many = long; differ = apart.0 };
-        all = inl (omega (arith, ap length whole_text, length-append (texts gs ++ k.same) k.text_rest, long, apart.1));
-      })
+      subst (IsWrongIn s p part) fail.1 (
+        refl,
+        record {
+          groups = gs ++ ns ∷ [];
+          others = later;
+          read = read;
+          differ = record { same = texts gs ++ k.same; a_rest = k.rest_rest; b_rest = k.text_rest; a_is = whole_output; b_is = whole_text; as_many = long; differ = apart.0 };
+          all = inl (omega (arith, ap length whole_text, length-append (texts gs ++ k.same) k.text_rest, long, apart.1));
+        },
+      )
 
   -- the output goes on behind all texts
   end_wrong : (gs : List (List Name)) (later : List GroupRead) (g from : ℕ) → part.groups ≡ map whole gs ++ later → part.announced ≡ length gs + g
@@ -281,13 +284,16 @@ module _ (s : Subject) (p : ℕ) (part : PartRead) (f : No) where
   end_wrong gs later (suc g) from read all output_is from_is e = absurd (untold f e)
   end_wrong gs later zero from read all output_is from_is e =
       let fail = failed (nat_le (length output) from) (Fault.OutputDiffers p from) f e in
-      subst (IsWrongIn s p part) fail.1 (refl, record {
-        groups = gs;
-        others = later;
-        read = read;
-        differ = record { same = texts gs; a_rest = drop from output; b_rest = []; a_is = output_is; b_is = sym (append-nil (texts gs)); as_many = sym from_is; differ = left_there output from fail.0 };
-        all = inr (omega (arith, all));
-      })
+      subst (IsWrongIn s p part) fail.1 (
+        refl,
+        record {
+          groups = gs;
+          others = later;
+          read = read;
+          differ = record { same = texts gs; a_rest = drop from output; b_rest = []; a_is = output_is; b_is = sym (append-nil (texts gs)); as_many = sym from_is; differ = left_there output from fail.0 };
+          all = inr (omega (arith, all));
+        },
+      )
 
   -- behind a group what follows is walked
   onward : (r g : ℕ) (is : List Item) (st : Reached) (gs : List (List Name)) → InOrder (Places.groups r g) is → Done st gs g
@@ -313,11 +319,11 @@ module _ (s : Subject) (p : ℕ) (part : PartRead) (f : No) where
       let read : part.groups ≡ map whole gs' ++ groups_in (piece is) = one_whole gs k (n ∷ ns) ((n ∷ ns) ++ names_in (piece is)) (groups_in (piece is)) reads names (omega (arith, announced)) in
       elim (either (text_tested ++ end_tested) (told s (behind_group s w zero) (piece is)) f e) [
         | inl here ↦ elim (either text_tested end_tested f here) [
-            | inl a ↦ text_wrong gs (n ∷ ns) (groups_in (piece is)) w.from text read more done.output_is done.from a
-            | inr b ↦
-                (let d = closed w gs g n ns text done taken more b.0 in
-                end_wrong gs' (groups_in (piece is)) (w.groups - 1) (w.from + length text) read (omega (arith, d.all, d.left)) d.output_is d.from b.1)
-          ]
+          | inl a ↦ text_wrong gs (n ∷ ns) (groups_in (piece is)) w.from text read more done.output_is done.from a
+          | inr b ↦
+              (let d = closed w gs g n ns text done taken more b.0 in
+              end_wrong gs' (groups_in (piece is)) (w.groups - 1) (w.from + length text) read (omega (arith, d.all, d.left)) d.output_is d.from b.1)
+        ]
         | inr rest ↦
             (let d = closed w gs g n ns text done taken more (none_left text_tested end_tested rest.0) in
             onward r g is (behind_group s w zero) gs' order d read rest.1 walk)
@@ -400,24 +406,30 @@ module _ (s : Subject) (p : ℕ) (part : PartRead) (f : No) where
             (let fail = failed (is_lt (name_order st.before name)) (Fault.EntryOrder p st.group e') f a in
             let split : (n ∷ ns) ++ name ∷ more ≡ taken.front ++ taken.last ∷ (name ∷ more) = ap (λ l. l ++ name ∷ more) taken.names_are ∙ append_assoc taken.front (taken.last ∷ []) (name ∷ more) in
             let place : e' - 1 ≡ length taken.front = omega (arith, ap length taken.names_are, length-append taken.front (taken.last ∷ [])) in
-            subst (IsWrongIn s p part) fail.1 (refl, record {
-              later = omega arith;
-              before = taken.last;
-              name = name;
-              before_stands = stands gs k ((n ∷ ns) ++ name ∷ more) taken.front (name ∷ more) later taken.last st.group (e' - 1) reads split count place;
-              stands = here;
-              falls = not_less name_order taken.last name (ap (λ w. is_lt (name_order w name)) (sym taken.before) ∙ fail.0);
-            }))
+            subst (IsWrongIn s p part) fail.1 (
+              refl,
+              record {
+                later = omega arith;
+                before = taken.last;
+                name = name;
+                before_stands = stands gs k ((n ∷ ns) ++ name ∷ more) taken.front (name ∷ more) later taken.last st.group (e' - 1) reads split count place;
+                stands = here;
+                falls = not_less name_order taken.last name (ap (λ w. is_lt (name_order w name)) (sym taken.before) ∙ fail.0);
+              },
+            ))
         | inr b ↦
             (let fail = failed (bytes_eq t.key st.key) (Fault.KeyDiffers p st.group e') f b.1 in
             let head = stands gs k ((n ∷ ns) ++ name ∷ more) [] (ns ++ name ∷ more) later n st.group 0 reads refl count refl in
-            subst (IsWrongIn s p part) fail.1 (refl, record {
-              first = taken.triple;
-              other = t;
-              first_named = triple_of st.group 0 n taken.triple head taken.triple_is;
-              other_named = triple_of st.group e' name t here named_is;
-              differs = λ q. false≢true (sym fail.0 ∙ (ap (λ w. bytes_eq w st.key) (q ∙ sym taken.key) ∙ bytes_eq-same st.key));
-            }))
+            subst (IsWrongIn s p part) fail.1 (
+              refl,
+              record {
+                first = taken.triple;
+                other = t;
+                first_named = triple_of st.group 0 n taken.triple head taken.triple_is;
+                other_named = triple_of st.group e' name t here named_is;
+                differs = λ q. false≢true (sym fail.0 ∙ (ap (λ w. bytes_eq w st.key) (q ∙ sym taken.key) ∙ bytes_eq-same st.key));
+              },
+            ))
       ]
 
   -- an entry that names a triple
@@ -488,11 +500,14 @@ module _ (s : Subject) (p : ℕ) (part : PartRead) (f : No) where
       by : (x : Option Triple) → named s.triples name ≡ x → Tells f (entry_tests s (st.next - 1) st name x ++ told s (after_entry s st x) (piece is)) → Wrong
       by None named_is e =
           let same : Fault.NoSuchPair (st.next - 1) st.group st.entry ≡ f = cc in
-          subst (IsWrongIn s p part) same (next, record {
-            name = name;
-            stands = stands gs k (ns ++ name ∷ names_in (piece is)) ns (names_in (piece is)) (groups_in (piece is)) name st.group st.entry reads refl o.done.count o.entry;
-            none = named_is;
-          })
+          subst (IsWrongIn s p part) same (
+            next,
+            record {
+              name = name;
+              stands = stands gs k (ns ++ name ∷ names_in (piece is)) ns (names_in (piece is)) (groups_in (piece is)) name st.group st.entry reads refl o.done.count o.entry;
+              none = named_is;
+            },
+          )
       by (Some t) named_is e =
           known r g m name t is st gs k ns named_is order o reads
           (by_places (λ (P E M : ℕ). Tells f ((order_tests s.rules.part P st name t.key E ++ group_tests s P (with_entry st t E) M) ++ told s (behind_group s (with_entry st t E) M) (piece is)))

@@ -154,7 +154,9 @@ wanted_told c (w ∷ wanted) x behind (i ∷ is) f equal e = by (item_eq i w) re
     by true same e rest =
         let one : i ≡ w = eq_is i w same in
         elim (rest e) [
-          | inl a ↦ inl (a.0, (let d = a.1 in record {
+          | inl a ↦ inl (
+            a.0,
+            (let d = a.1 in record {
               same = w ∷ d.same;
               item = d.item;
               want = d.want;
@@ -163,23 +165,27 @@ wanted_told c (w ∷ wanted) x behind (i ∷ is) f equal e = by (item_eq i w) re
               items_are = (let more = d.items_are in cc);
               wanted_are = ap (λ l. w ∷ l) d.wanted_are;
               other = d.other;
-            }))
+            }),
+          )
           | inr b ↦ elim b [
-              | inl m ↦ inr (inl (m.0, ended_behind i w is same ∙ m.1))
-              | inr r ↦ inr (inr (r.0, (let more = r.1 in cc), r.2))
-            ]
+            | inl m ↦ inr (inl (m.0, ended_behind i w is same ∙ m.1))
+            | inr r ↦ inr (inr (r.0, (let more = r.1 in cc), r.2))
+          ]
         ]
     by false same e rest =
-        inl (cc, record {
-          same = [];
-          item = i;
-          want = w;
-          items_behind = is;
-          wanted_behind = wanted;
-          items_are = refl;
-          wanted_are = refl;
-          other = λ g. false≢true (sym same ∙ (ap (λ j. item_eq j w) g ∙ equal.0));
-        })
+        inl (
+          cc,
+          record {
+            same = [];
+            item = i;
+            want = w;
+            items_behind = is;
+            wanted_behind = wanted;
+            items_are = refl;
+            wanted_are = refl;
+            other = λ g. false≢true (sym same ∙ (ap (λ j. item_eq j w) g ∙ equal.0));
+          },
+        )
 
 -- ---- the left-out records
 
@@ -200,11 +206,11 @@ skips_true c all done (Skip s ∷ js) f same e =
           (let fail = failed (is_past (last_of done) s) (Fault.SkipOrder (length done)) f a in
           inl (length done, fail.1, falls (last_of done) refl here fail.0))
       | inr b ↦ elim (either there (front_skips c (done ++ s ∷ []) js) f b.1) [
-          | inl a ↦
-              (let fail = failed (is_record (named_records c.request.split c.files) s) (Fault.NoSuchRecord (length done)) f a in
-              inr (length done, fail.1, record { name = s; stands = here; none = fail.0 }))
-          | inr d ↦ skips_true c all (done ++ s ∷ []) js f (same ∙ sym (append_assoc done (s ∷ []) (skips_in js))) d.1
-        ]
+        | inl a ↦
+            (let fail = failed (is_record (named_records c.request.split c.files) s) (Fault.NoSuchRecord (length done)) f a in
+            inr (length done, fail.1, record { name = s; stands = here; none = fail.0 }))
+        | inr d ↦ skips_true c all (done ++ s ∷ []) js f (same ∙ sym (append_assoc done (s ∷ []) (skips_in js))) d.1
+      ]
     ]
   where
     falls : (o : Option RecordName) → last_of done ≡ o → slice_get all (length done) ≡ Some s → is_past o s ≡ false → SkipsFall all (length done)
@@ -255,9 +261,9 @@ count_true c all is (i ∷ js) r f before same ended skips order e = at i order.
               (let fail = failed (nat_le n c.request.skips) (Fault.TooManySkips n) f a in
               subst (IsTrueOf c is) fail.1 (record { before = before; behind = js; items_are = same }, leb-false n c.request.skips fail.0))
           | inr b ↦ elim (skips_true c (skips_in is) [] js f skips b.1) [
-              | inl k ↦ subst (IsTrueOf c is) k.1 k.2
-              | inr k ↦ subst (IsTrueOf c is) k.1 k.2
-            ]
+            | inl k ↦ subst (IsTrueOf c is) k.1 k.2
+            | inr k ↦ subst (IsTrueOf c is) k.1 k.2
+          ]
         ]
     at _ h same skips e = absurd h
 
@@ -268,24 +274,24 @@ front_true c is f order e =
           (let fail = failed (length c.outputs == c.request.parts) Fault.OutputCount f a in
           subst (IsTrueOf c is) fail.1 (λ same. false≢true (sym fail.0 ∙ eq-eqb (length c.outputs) c.request.parts same)))
       | inr b ↦ elim (wanted_told c (job_wanted c.request) Fault.OtherJob (wanted_faults c (input_wanted c.files) Fault.OtherInput (front_count c)) is f (equal_job c.request) b.1) [
-          | inl job ↦ subst (IsTrueOf c is) job.0 job.1
-          | inr d ↦ elim d [
-              | inl cut ↦ subst (IsTrueOf c is) cut.0 (refl, cut.1)
-              | inr job ↦ elim (wanted_told c (input_wanted c.files) Fault.OtherInput (front_count c) job.0 f (equal_input c.files) job.2) [
-                  | inl input ↦ subst (IsTrueOf c is) input.0 (record { rest = job.0; items_are = job.1; depart = input.1 })
-                  | inr g ↦ elim g [
-                      | inl cut ↦ subst (IsTrueOf c is) cut.0 (refl, ap is_ended job.1 ∙ (through_ended (job_wanted c.request) job.0 (equal_job c.request) ∙ cut.1))
-                      | inr input ↦
-                          (let wanted : List Item = job_wanted c.request ++ input_wanted c.files in
-                          let whole : is ≡ job_wanted c.request ++ (input_wanted c.files ++ input.0) = job.1 ∙ ap (λ l. job_wanted c.request ++ l) input.1 in
-                          count_true c is is input.0 c.request.parts f wanted (whole ∙ sym (append_assoc (job_wanted c.request) (input_wanted c.files) input.0))
-                          (ap is_ended whole ∙ (through_ended (job_wanted c.request) (input_wanted c.files ++ input.0) (equal_job c.request) ∙ through_ended (input_wanted c.files) input.0 (equal_input c.files)))
-                          (ap skips_in whole ∙ (through_skips (job_wanted c.request) (input_wanted c.files ++ input.0) (equal_job c.request) ∙ through_skips (input_wanted c.files) input.0 (equal_input c.files)))
-                          (header_place c input.0 (subst (InOrder AtMagic) whole order)) input.2)
-                    ]
-                ]
+        | inl job ↦ subst (IsTrueOf c is) job.0 job.1
+        | inr d ↦ elim d [
+          | inl cut ↦ subst (IsTrueOf c is) cut.0 (refl, cut.1)
+          | inr job ↦ elim (wanted_told c (input_wanted c.files) Fault.OtherInput (front_count c) job.0 f (equal_input c.files) job.2) [
+            | inl input ↦ subst (IsTrueOf c is) input.0 (record { rest = job.0; items_are = job.1; depart = input.1 })
+            | inr g ↦ elim g [
+              | inl cut ↦ subst (IsTrueOf c is) cut.0 (refl, ap is_ended job.1 ∙ (through_ended (job_wanted c.request) job.0 (equal_job c.request) ∙ cut.1))
+              | inr input ↦
+                  (let wanted : List Item = job_wanted c.request ++ input_wanted c.files in
+                  let whole : is ≡ job_wanted c.request ++ (input_wanted c.files ++ input.0) = job.1 ∙ ap (λ l. job_wanted c.request ++ l) input.1 in
+                  count_true c is is input.0 c.request.parts f wanted (whole ∙ sym (append_assoc (job_wanted c.request) (input_wanted c.files) input.0))
+                  (ap is_ended whole ∙ (through_ended (job_wanted c.request) (input_wanted c.files ++ input.0) (equal_job c.request) ∙ through_ended (input_wanted c.files) input.0 (equal_input c.files)))
+                  (ap skips_in whole ∙ (through_skips (job_wanted c.request) (input_wanted c.files ++ input.0) (equal_job c.request) ∙ through_skips (input_wanted c.files) input.0 (equal_input c.files)))
+                  (header_place c input.0 (subst (InOrder AtMagic) whole order)) input.2)
             ]
+          ]
         ]
+      ]
     ]
 
 pub faults_are_true : FaultsAreTrue
@@ -300,7 +306,7 @@ faults_are_true request files outputs bytes fault are_bytes e =
     elim (or_cases (first (front_faults c is)) (or_else (least_fault s 0 (parts_in is)) back) fault told_is) [
       | inl a ↦ front_true c is fault order a
       | inr b ↦ elim (or_cases (least_fault s 0 (parts_in is)) back fault b) [
-          | inl a ↦ parts_true c is AtMagic fault order a
-          | inr d ↦ back_true c is fault (is_ended is) refl d
-        ]
+        | inl a ↦ parts_true c is AtMagic fault order a
+        | inr d ↦ back_true c is fault (is_ended is) refl d
+      ]
     ]

@@ -134,23 +134,27 @@ yes_is_good request files outputs bytes a are_bytes says =
     let skips = (good_skips request files c.skips).0 (listed request files c.skips u.few u.listed) in
     let parts : length c.groups ≡ request.parts = fits.one_each ∙ u.job.parts in
     let told_is : accepted_by nothing (items_of bytes) ≡ record { skips = c.skips; pairs = length (entries_of c.groups) } = ap (accepted_by nothing) found.1 ∙ accepted_all c in (
-      record { certificate = c; spelled = found.2; good = record {
-        job = u.job.job;
-        flags = u.job.flags;
-        literal = u.job.literal;
-        parts = u.job.parts;
-        split_size = u.job.size;
-        lengths = u.lengths;
-        skips_rise = skips.1;
-        skips_exist = skips.2;
-        skips_few = skips.0;
-        one_each = parts;
-        result = record {
-          one_each = front.outputs ∙ sym parts;
-          each = goods;
-          none_left_out = all;
+      record {
+        certificate = c;
+        spelled = found.2;
+        good = record {
+          job = u.job.job;
+          flags = u.job.flags;
+          literal = u.job.literal;
+          parts = u.job.parts;
+          split_size = u.job.size;
+          lengths = u.lengths;
+          skips_rise = skips.1;
+          skips_exist = skips.2;
+          skips_few = skips.0;
+          one_each = parts;
+          result = record {
+            one_each = front.outputs ∙ sym parts;
+            each = goods;
+            none_left_out = all;
+          };
         };
-      } },
+      },
       sym none.1 ∙ (told_is ∙ ap (λ (n : ℕ). let it : Accepted = record { skips = c.skips; pairs = n } in it) all),
     )
   where

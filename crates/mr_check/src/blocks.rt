@@ -75,7 +75,7 @@ fn keep<T: Drop>(list: &mut Vec<T>, one: T) -> Result<(), AllocError>
 pub(crate) fn read_block(walker: &mut Walker<'_>, items: &mut Vec<Item>) -> Result<(), No>
     ensures items { MatchResult result
         (λ _. (items_left walker.old ≡ onto items.new.items (items_left walker.new))
-            × (entries_in (items_left walker.old) ≡ entries_in items.new.items + entries_in (items_left walker.new)))
+        × (entries_in (items_left walker.old) ≡ entries_in items.new.items + entries_in (items_left walker.new)))
         (λ e. (e ≡ OutOfMemory) ⊎ ((items_left walker.old ≡ []) × (e ≡ Malformed (halt walker.old)))) }
     ensures some { OnOk result ((1 ≤ length items.new.items) × (length items.new.items ≤ 64)) }
     ensures stop { halt walker.new ≡ halt walker.old }

@@ -11,9 +11,9 @@ ghost use Rattle.mr_check.specs.Steps.{Answers, header_met, awaits_skips, case_a
 
 use crate::facts::Facts;
 use crate::fault::No;
+use crate::header::{expect_input, expect_job};
 use crate::parts::check_parts;
 use crate::skips::{expect_count, take_skips};
-use crate::header::{expect_input, expect_job};
 use mr_bytes::RecordName;
 use mr_certform::Walker;
 use mr_index::{EmissionIndex, Meter};

@@ -3,16 +3,18 @@
 
 mod blocks;
 mod comparing;
+mod entry_tests;
 mod facts;
 mod fault;
+mod header;
 mod judge;
-mod progress;
 mod laws;
 mod parts;
+mod progress;
 mod skips;
-mod entry_tests;
-mod header;
 
 pub use fault::{No, is_same_fault};
 pub use judge::{Yes, check, check_metered};
-pub use laws::{fault_law, locality_law, partition_law, place_law, worked_places, worked_rows, yes_law};
+pub use laws::{
+    fault_law, locality_law, partition_law, place_law, worked_places, worked_rows, yes_law,
+};

@@ -7,9 +7,9 @@ ghost use Rattle.mr_check.specs.Steps.{subject, Answers, HasRoom};
 ghost use Rattle.mr_check.specs.Blocks.{IsFound};
 
 use crate::blocks::FoundItem;
+use crate::entry_tests::{test_end, test_first, test_later, test_named, test_text};
 use crate::facts::Facts;
 use crate::fault::No;
-use crate::entry_tests::{test_end, test_first, test_later, test_named, test_text};
 use mr_bytes::{Name, Value, Values};
 use mr_certform::Item;
 use std::alloc::{AllocError, Global};
@@ -112,8 +112,14 @@ impl<'a> Progress<'a> {
     fn take_first(&mut self, name: Name, key: &'a [u8], value: Value) -> Result<(), AllocError>
         requires { HasRoom self.old }
         ensures { OnOk result (self.new
-            ≡ record self.old { entry = 1; entries = self.old.entries - 1; key = key.entry.now; before = name;
-                values = value ∷ []; named = self.old.named + 1 }) }
+            ≡ record self.old {
+              entry = 1;
+              entries = self.old.entries - 1;
+              key = key.entry.now;
+              before = name;
+              values = value ∷ [];
+              named = self.old.named + 1;
+            }) }
     {
         self.values.clear();
         self.values.push(value)?;
@@ -129,8 +135,13 @@ impl<'a> Progress<'a> {
     fn take_later(&mut self, name: Name, value: Value) -> Result<(), AllocError>
         requires { HasRoom self.old }
         ensures { OnOk result (self.new
-            ≡ record self.old { entry = self.old.entry + 1; entries = self.old.entries - 1; before = name;
-                values = self.old.values ++ value ∷ []; named = self.old.named + 1 }) }
+            ≡ record self.old {
+              entry = self.old.entry + 1;
+              entries = self.old.entries - 1;
+              before = name;
+              values = self.old.values ++ value ∷ [];
+              named = self.old.named + 1;
+            }) }
     {
         self.values.push(value)?;
         self.entry += 1;
@@ -171,7 +182,7 @@ impl<'a> Progress<'a> {
         requires { HasRoom self.old }
         ensures { let fs = first_tests (subject facts.now).rules.part p self.old.group self.old.key_before key.entry.now in
             MatchResult result (λ _. (fs ≡ []) × (self.new ≡ with_entry self.old (record { key = key.entry.now; value = value; name = name }) 0))
-                (λ e. Answers fs e) }
+            (λ e. Answers fs e) }
     {
         test_first(facts, p, self.group, self.key_before, key)?;
         self.take_first(name, key, value)?;
@@ -183,8 +194,13 @@ impl<'a> Progress<'a> {
         requires { HasRoom self.old }
         ensures { let fs = later_tests p self.old.group self.old.entry self.old.before name self.old.key key.now in
             MatchResult result (λ _. (fs ≡ []) × (self.new
-                ≡ record self.old { entry = self.old.entry + 1; entries = self.old.entries - 1; before = name;
-                values = self.old.values ++ value ∷ []; named = self.old.named + 1 })) (λ e. Answers fs e) }
+            ≡ record self.old {
+              entry = self.old.entry + 1;
+              entries = self.old.entries - 1;
+              before = name;
+              values = self.old.values ++ value ∷ [];
+              named = self.old.named + 1;
+            })) (λ e. Answers fs e) }
     {
         test_later(p, self.group, self.entry, self.before, name, self.key, key)?;
         self.take_later(name, value)?;
@@ -204,7 +220,7 @@ impl<'a> Progress<'a> {
         requires { HasRoom self.old }
         ensures { let fs = order_tests (subject facts.now).rules.part p self.old name key.entry.now self.old.entry in
             MatchResult result (λ _. (fs ≡ [])
-                × (self.new ≡ with_entry self.old (record { key = key.entry.now; value = value; name = name }) self.old.entry)) (λ e. Answers fs e) }
+            × (self.new ≡ with_entry self.old (record { key = key.entry.now; value = value; name = name }) self.old.entry)) (λ e. Answers fs e) }
     {
         if self.entry == 0 {
             self.first_entry(facts, p, name, key, value)
@@ -219,7 +235,7 @@ impl<'a> Progress<'a> {
         requires { (self.old.group + 1 < 2 ^ 64) × (length self.old.values < 2 ^ 64) }
         ensures { let s = subject facts.now in
             MatchResult result (λ _. (group_tests s p self.old self.old.entries ≡ []) × (self.new ≡ behind_group s self.old self.old.entries))
-                (λ e. Answers (group_tests s p self.old self.old.entries) e) }
+            (λ e. Answers (group_tests s p self.old self.old.entries) e) }
     {
         if self.entries == 0 {
             self.end_group(facts, p)
@@ -261,7 +277,7 @@ impl<'a> Progress<'a> {
         requires found { IsFound facts.now.triples row.now }
         ensures { let s = subject facts.now in
             MatchResult result (λ _. (tests s self.old row.now.item ≡ []) × (self.new ≡ after s self.old row.now.item))
-                (λ e. Answers (tests s self.old row.now.item) e) }
+            (λ e. Answers (tests s self.old row.now.item) e) }
     {
         match row.item {
             Item::Groups(groups) => {

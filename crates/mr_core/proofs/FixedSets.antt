@@ -40,8 +40,8 @@ module _ (sh : Shape) (st : State) where
       map-update set_of (λ p. record { skips = at.skips; fixed = true; output = Some (o, at.worker) }) f (λ p. refl) s st.splits in
       ap (λ l. slice_get l i) d ∙ (elim (cases_eq s i) [
         | inl same ↦ ap (λ n. slice_get (update_at f s (sets st)) n) (sym same)
-          ∙ (get-update_here f s (sets st) (k, true) (ap (slice_get (sets st)) same ∙ h)
-          ∙ ap (λ l. Some (l, true)) (same_again s i k at.skips (slice_get st.splits s) refl t same h))
+            ∙ (get-update_here f s (sets st) (k, true) (ap (slice_get (sets st)) same ∙ h)
+            ∙ ap (λ l. Some (l, true)) (same_again s i k at.skips (slice_get st.splits s) refl t same h))
         | inr other ↦ get-update_other f s i (sets st) other ∙ h
       ])
 

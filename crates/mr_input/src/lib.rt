@@ -18,6 +18,7 @@ pub const MAX_SPLITS: usize = 0x10_0000;
 
 // The numbers that the clauses give.
 const _: () = prove!(MAX_FILES == 1024 && MAX_BYTES == 1_073_741_824);
+
 const _: () = prove!(MAX_SPLIT_SIZE == 67_108_864 && MAX_SPLITS == 1_048_576);
 
 /// Files, in order, each as its bytes.

@@ -22,11 +22,13 @@ const LOSE: Directive = Directive::Lose {
     worker: 1,
     after: 2,
 };
+
 const FLAKY: Directive = Directive::Flaky {
     split: 7,
     rec: 8,
     attempts: 9,
 };
+
 const SPOIL: Directive = Directive::Spoil {
     partition: 11,
     place: 12,
@@ -50,7 +52,13 @@ fn each_kind_of_line(rt: HostRuntime) {
     for (text, directive) in rows {
         assert!(rt; spells(alloc, text, &[directive]));
     }
-    assert!(rt; spells(alloc, b"spoil 11 12\nflaky 7 8 9\nlose 1 after 2", &[SPOIL, FLAKY, LOSE]));
+    assert!(rt;
+        spells(
+            alloc,
+            b"spoil 11 12\nflaky 7 8 9\nlose 1 after 2",
+            &[SPOIL, FLAKY, LOSE]
+        )
+    );
 }
 
 #[test]

@@ -7,13 +7,12 @@ mod plan;
 mod scan;
 mod table;
 
+ghost use Rattle.mr_splits.specs.Belongs.{RecordsAreByFile, RecordsBelong};
+ghost use Rattle.mr_splits.specs.Laws.{NamedAreRecords, NamesOfRecordsRise, NumbersCount, SplitsJoin};
+
 pub use kept::{Kept, KeptRecords, SkipFault};
 pub use left_out::LeftOut;
 pub use plan::{Located, Plan, PlanFault, SplitPlace};
-
-
-ghost use Rattle.mr_splits.specs.Belongs.{RecordsAreByFile, RecordsBelong};
-ghost use Rattle.mr_splits.specs.Laws.{NamedAreRecords, NamesOfRecordsRise, NumbersCount, SplitsJoin};
 
 /// The records of the splits, joined, are the records of the files, each told with its own file and in the split that
 /// has its start; they are numbered from 0 in each split, and their names rise.

@@ -37,19 +37,23 @@ fn reads_all(alloc: Global, most: usize, failing: Option<u64>) -> Result<bool, F
     let mut from = reader(alloc, most, failing)?;
     let mut out = Vec::from_slice(alloc, b"x")?;
     read_all(&mut from, &mut out)?;
-    Ok(out.as_slice() == b"x0123456789abcdefghij".as_slice()
-        && from.failures() == 0
-        && from.rest().is_empty())
+    Ok(
+        out.as_slice() == b"x0123456789abcdefghij".as_slice()
+            && from.failures() == 0
+            && from.rest().is_empty(),
+    )
 }
 
 /// Whether a failed read is told and counted once, and the list is as before.
 fn tells_a_failed_read(alloc: Global, most: usize, call: u64) -> Result<bool, Fail> {
     let mut from = reader(alloc, most, Some(call))?;
     let mut out = Vec::from_slice(alloc, b"x")?;
-    Ok(read_all(&mut from, &mut out).is_err()
-        && out.as_slice() == b"x".as_slice()
-        && from.failures() == 1
-        && !from.lacked_memory())
+    Ok(
+        read_all(&mut from, &mut out).is_err()
+            && out.as_slice() == b"x".as_slice()
+            && from.failures() == 1
+            && !from.lacked_memory(),
+    )
 }
 
 #[test]
@@ -70,11 +74,13 @@ fn writes_all(alloc: Global, most: usize, failing: Option<u64>) -> Result<bool, 
     let mut to = writer(alloc, most, failing)?;
     let done = write_all(&mut to, &TEXT).is_ok();
     let whole = to.bytes().len() == 20;
-    Ok(done == failing.is_none()
-        && whole == done
-        && TEXT.starts_with(to.bytes())
-        && to.failures() == u64::from(!done)
-        && !to.lacked_memory())
+    Ok(
+        done == failing.is_none()
+            && whole == done
+            && TEXT.starts_with(to.bytes())
+            && to.failures() == u64::from(!done)
+            && !to.lacked_memory(),
+    )
 }
 
 #[test]
