@@ -13,12 +13,11 @@ use Rattle.mr_jobs.specs.Emissions.{Emission, emissions}
 use Rattle.mr_jobs.proofs.CountLemmas.{keys_fit}
 use Rattle.mr_splits.specs.Named.{NamedRecord, is_left_out, of_split, named_from, named_files, named_records}
 use Rattle.mr_splits.specs.Cut.{nth_named}
-use Rattle.mr_splits.specs.Laws.{joined_splits}
 use Rattle.mr_sequential.specs.Pairs.{kept_pairs}
 use Rattle.mr_sequential.proofs.SourceLemmas.{few_pairs}
 use Rattle.mr_index.specs.Pairs.{pairs_from, pairs_seen, EndsRise, Sound, keys_size, Fits}
 use Rattle.mr_index.specs.declared.pairs.Pairs.{Pairs}
-use Rattle.mr_index.proofs.PairLemmas.{length-pairs, rise-request, range-size}
+use Rattle.mr_index.proofs.PairLemmas.{rise-request, range-size}
 use Rattle.mr_index.proofs.WorkLemmas.{before, before-more, before-rest}
 
 abbrev key_length : Emission → ℕ

@@ -1,5 +1,5 @@
 -- The triples that the tables show, as they grow and as they are looked up.
-use Rattle.std.proofs.Common.{◌≡◌, ℕ, zero, suc, ◌+◌, ◌-◌, ◌<◌, ◌≤◌, Bool, true, false, cond, eqb, ◌&&◌, not, Option, Some, None, List, [], ◌∷◌, ◌++◌, length, get_or, drop, filter, map, slice_range, refl, sym, ◌∙◌, ap, subst, arith, inl, inr, append_assoc, length-append, length-drop, length-take-le}
+use Rattle.std.proofs.Common.{◌≡◌, ℕ, zero, suc, ◌+◌, ◌-◌, ◌<◌, ◌≤◌, Bool, true, false, cond, eqb, ◌&&◌, not, Option, Some, None, List, [], ◌∷◌, ◌++◌, length, get_or, drop, filter, map, slice_range, refl, sym, ◌∙◌, ap, subst, arith, inl, inr, append_assoc, length-append}
 use Rattle.std.proofs.lemmas.Bool.{cases_eq, eq-eqb, ne_eqb, false≢true}
 use Rattle.std.proofs.lemmas.List.{drop_all, drop-drop, map-append, take-append-drop, append-nil, length_push, flat_map_more, get_or-take, get_or-drop, length-map}
 use Rattle.std.proofs.lemmas.List.Elements.{filter-append}
@@ -20,7 +20,7 @@ use Rattle.mr_sequential.specs.Good.{has_name, named}
 use Rattle.mr_index.specs.Pairs.{EndsRise}
 use Rattle.mr_sequential.specs.Pairs.{kept_pairs}
 use Rattle.mr_index.specs.Building.{spread, Shows}
-use Rattle.mr_index.proofs.PairLemmas.{range-more, range-end, rise-request, rise-push}
+use Rattle.mr_index.proofs.PairLemmas.{range-more, range-end, range-size, rise-request, rise-push}
 
 -- one more record
 pub spread-more : (at : ℕ) (rs : List NamedRecord) (ends : List ℕ) (pairs more : List Emission) (r : NamedRecord) → EndsRise at (length pairs) ends
@@ -195,18 +195,15 @@ slice_get-past [] i h = refl
 slice_get-past (e ∷ es) zero h = absurd (omega arith)
 slice_get-past (e ∷ es) (suc i) h = slice_get-past es i (omega arith)
 
-length-range : (pairs : List Emission) (a b : ℕ) → a ≤ b → b ≤ length pairs → length (slice_range pairs a b) ≡ b - a
-length-range pairs a b request within = length-take-le (b - a) (drop a pairs) (omega (arith, length-drop a pairs))
-
 -- a pair of a part of the pairs
 pub part-in : (pairs : List Emission) (a b i : ℕ) (d : Emission) → a ≤ b → b ≤ length pairs → a + i < b
     → slice_get (slice_range pairs a b) i ≡ Some (get_or pairs (a + i) d)
 part-in pairs a b i d request within h =
-    slice_get-in (slice_range pairs a b) i d (omega (arith, length-range pairs a b request within, h))
+    slice_get-in (slice_range pairs a b) i d (omega (arith, range-size pairs a b request within, h))
     ∙ ap (λ (e : Emission). Some e) (get_or-take (b - a) (drop a pairs) i d (omega (arith, h)) ∙ get_or-drop a pairs i d)
 
 pub part-past : (pairs : List Emission) (a b i : ℕ) → a ≤ b → b ≤ length pairs → b ≤ a + i → slice_get (slice_range pairs a b) i ≡ None
-part-past pairs a b i request within h = slice_get-past (slice_range pairs a b) i (omega (arith, length-range pairs a b request within, h))
+part-past pairs a b i request within h = slice_get-past (slice_range pairs a b) i (omega (arith, range-size pairs a b request within, h))
 
 -- where there is no record of a name, no record has it
 pub no-record : (rs : List NamedRecord) (n : Name) → is_record rs (record_of n) ≡ false → (k : ℕ) → k < length rs → (nth_named rs k).name ≡ record_of n → ⊥
@@ -233,7 +230,7 @@ length-spread at (r ∷ rs) (e ∷ ends) pairs count rise =
       length-spread e rs ends pairs (omega (arith, count)) rise.1,
       length-append (placed_from r.name 0 (slice_range pairs at e)) (spread e rs ends pairs),
       length-placed r.name 0 (slice_range pairs at e),
-      length-range pairs at e rise.0 (rise-request e (length pairs) ends rise.1),
+      range-size pairs at e rise.0 (rise-request e (length pairs) ends rise.1),
       rise.0,
     )
 
@@ -296,7 +293,7 @@ names-spread at [] ends pairs i j k d count rise h within is = absurd (omega ari
 names-spread at (r ∷ rs) [] pairs i j k d count rise h within is = absurd (omega (arith, count))
 names-spread at (r ∷ rs) (e ∷ ends) pairs zero j k d count rise h within is =
     let es : List Emission = slice_range pairs at e in
-    let long : length es ≡ e - at = length-range pairs at e rise.0 (rise-request e (length pairs) ends rise.1) in
+    let long : length es ≡ e - at = range-size pairs at e rise.0 (rise-request e (length pairs) ends rise.1) in
     let size : length (map (λ (t : Triple). t.name) (placed_from r.name 0 es)) ≡ length es = length-map (placed_from r.name 0 es) (λ (t : Triple). t.name) ∙ length-placed r.name 0 es in
     let same : k ≡ j = omega (arith, is) in
     ap (λ (n : ℕ). get_or (map (λ (t : Triple). t.name) (placed_from r.name 0 es ++ spread e rs ends pairs)) n d) same
@@ -306,7 +303,7 @@ names-spread at (r ∷ rs) (e ∷ ends) pairs zero j k d count rise h within is 
     ∙ ap (λ (p : ℕ). record { split = r.name.split; rec = r.name.rec; place = p }) (omega arith))))
 names-spread at (r ∷ rs) (e ∷ ends) pairs (suc i) j k d count rise h within is =
     let es : List Emission = slice_range pairs at e in
-    let long : length es ≡ e - at = length-range pairs at e rise.0 (rise-request e (length pairs) ends rise.1) in
+    let long : length es ≡ e - at = range-size pairs at e rise.0 (rise-request e (length pairs) ends rise.1) in
     let size : length (map (λ (t : Triple). t.name) (placed_from r.name 0 es)) ≡ length es = length-map (placed_from r.name 0 es) (λ (t : Triple). t.name) ∙ length-placed r.name 0 es in
     let from : e ≤ get_or (e ∷ ends) i 0 = rise-from e (length pairs) i ends rise.1 (omega (arith, count, h)) in
     let rest : ℕ = k - (e - at) in

@@ -1,7 +1,6 @@
 use Rattle.std.proofs.Common.{arith, ap, sym, ◌∙◌, ◌≡◌, ◌<◌, ◌∷◌, List, ℕ, length, get_or, slice_range}
 use Rattle.std.proofs.lemmas.List.{get_or_default}
 use Rattle.mr_bytes.specs.declared.Value.{Value}
-use Rattle.mr_bytes.specs.declared.Value.TheVariants.{One}
 use Rattle.mr_index.proofs.PairLemmas.{length-pairs, pair-at, rise-at}
 use Rattle.mr_index.proofs.pairs.Pairs.get.Goals as goal
 

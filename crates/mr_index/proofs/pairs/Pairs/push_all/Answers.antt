@@ -1,4 +1,4 @@
-use Rattle.std.proofs.Common.{arith, ap, length, List, ℕ}
+use Rattle.std.proofs.Common.{arith, ap, length}
 use Rattle.std.proofs.lemmas.List.Sums.{sum_by-append, sum_by-cons}
 use Rattle.mr_jobs.specs.Emissions.{Emission}
 use Rattle.mr_index.specs.Pairs.{keys_size, pairs_seen}
