@@ -125,4 +125,104 @@ def changes(harness):
         harness.check(f"and changed back, {job} {options}", judged(harness, words, ["a"], where)[0] == 0)
 
 
-GROUPS = {"worked rows": worked_rows, "certificates": certificates, "refusals": refusals, "changed bytes": changes}
+def of_words(parts, length, rest):
+    """A certificate of words over one file, with splits of 64 bytes: its numbers behind the file's length."""
+    return MAGIC + u32s(1, 0, 0, parts, 64, 1, 0, length, *rest)
+
+
+def tells(harness, name, request, data, outputs, certificate, said):
+    """The judge's answer on one file, yes or no."""
+    where = harness.directory({"a": data})
+    write_result(where, outputs, certificate)
+    got = harness.run(["check", *request, "--parts", str(len(outputs)), "--split", "64", "--out", ".", "a"], cwd=where)
+    harness.check("told: " + name, got[:3] == (0 if said.startswith(b"yes") else 1, said + b"\n", b""), repr(got[:3]))
+
+
+WORDS = ["--job", "words"]
+GOOD = [0, 2, 2, 0, 0, 0, 0, 0, 2, 1, 0, 0, 1]
+ABA = [b"a\t2\nb\t1\n"]
+
+
+def places_of_faults(harness):
+    """Faults at later partitions, groups and entries, where the certificate is cut, at the borders of blocks of 64 items."""
+    text = b"b\t1\nd\t1\nf\t2\n"
+    third = lambda a, b: of_words(2, 12, [0, 1, 2, 0, 0, 0, 0, 0, 5, 3, 1, 0, 0, 1, 1, 0, 0, 2, 2, 0, 0, a, 0, 0, b])
+    data, place = b"a b d f f a\n", b" partition 1 group 2 entry %d"
+    for a, b, said in [
+        (3, 4, b"yes: 6 pairs, 0 left out"),
+        (3, 9, b"no: NoSuchPair" + place % 1),
+        (3, 3, b"no: EntryOrder" + place % 1),
+        (4, 3, b"no: EntryOrder" + place % 1),
+        (3, 5, b"no: KeyDiffers" + place % 1),
+        (5, 4, b"no: WrongPartition" + place % 0),
+        (1, 4, b"no: KeyOrder" + place % 0),
+        (2, 4, b"no: KeyOrder" + place % 0),
+    ]:
+        tells(harness, f"third group {a} {b}", WORDS, data, [b"a\t2\n", text], third(a, b), said)
+    for output, at in [(b"b\t1\nd\t1\nf\t3\n", 10), (text + b"\n", 12), (text[:-2], 10), (b"b\t1\nd\t9\nf\t2\n", 6)]:
+        differs = b"no: OutputDiffers partition 1 at %d" % at
+        tells(harness, f"third group, output differs at {at}", WORDS, data, [b"a\t2\n", output], third(3, 4), differs)
+        # the text of the second group is compared before the third group is read
+        early = differs if at == 6 else b"no: NoSuchPair" + place % 1
+        tells(harness, f"third group, which comes first at {at}", WORDS, data, [b"a\t2\n", output], third(3, 9), early)
+    for output, at in [(ABA[0] + b"\n", 8), (ABA[0][:-1], 7), (b"a\t2\nb\t2\n", 6), (b"", 0), (b"a", 1)]:
+        tells(harness, f"an output that differs at {at}", WORDS, b"a b a\n", [output], of_words(1, 6, GOOD), b"no: OutputDiffers partition 0 at %d" % at)
+    for kept, at in [(91, 80), (80, 80), (79, 76), (50, 48), (47, 44), (43, 40), (39, 32), (31, 28), (27, 24), (20, 20), (9, 8), (7, 0), (0, 0)]:
+        tells(harness, f"cut to {kept}", WORDS, b"a b a\n", ABA, of_words(1, 6, GOOD)[:kept], b"no: Malformed at %d" % at)
+    one = lambda p: [b"a\t1\n" if q == p else b"" for q in range(3)]
+    for p, rest, said in [
+        (0, [0, 1, 1, 0, 0, 0, 0, 0], b"no: WrongPartition partition 0 group 0 entry 0"),
+        (1, [0, 0, 1, 1, 0, 0, 0, 0], b"yes: 1 pairs, 0 left out"),
+        (2, [0, 0, 0, 0], b"no: OutputDiffers partition 2 at 0"),
+        (3, [0, 0, 0, 0], b"no: Unnamed emitted 1 named 0"),
+    ]:
+        tells(harness, f"three partitions, {p}", WORDS, b"a\n", one(p), of_words(3, 2, rest), said)
+    many = lambda at, entry: of_words(1, 260, [0, 1, 130, *(n for e in range(130) for n in (0, 0, entry if e == at else e))])
+    text, whole = b"a " * 130, [b"a\t130\n"]
+    tells(harness, "many entries", WORDS, text, whole, many(130, 0), b"yes: 130 pairs, 0 left out")
+    for at in [61, 62, 63, 64, 65, 125, 126, 127, 128]:
+        tells(harness, f"order at entry {at}", WORDS, text, whole, many(at, at - 1), b"no: EntryOrder partition 0 group 0 entry %d" % at)
+        tells(harness, f"none at entry {at}", WORDS, text, whole, many(at, 130), b"no: NoSuchPair partition 0 group 0 entry %d" % at)
+        tells(harness, f"cut at entry {at}", WORDS, text, whole, many(130, 0)[: 52 + 12 * at], b"no: Malformed at %d" % (52 + 12 * at))
+
+
+def headers(harness):
+    """One number of the header each, and what is told of it; and lists of left-out records."""
+    for place, number, said in [
+        (0, 2, b"OtherJob"),
+        (1, 1, b"OtherJob"),
+        (2, 4096, b"OtherJob"),
+        (2, 4097, b"Malformed at 16"),
+        (3, 2, b"OtherJob"),
+        (3, 0, b"Malformed at 20"),
+        (3, 1025, b"Malformed at 20"),
+        (4, 63, b"OtherJob"),
+        (5, 0, b"OtherInput"),
+        (5, 2, b"OtherInput"),
+        (5, 1025, b"Malformed at 28"),
+        (6, 1, b"OtherInput"),
+        (7, 7, b"OtherInput"),
+        (8, 1, b"TooManySkips listed 1"),
+        (8, 2**32 - 1, b"TooManySkips listed 4294967295"),
+    ]:
+        numbers = [1, 0, 0, 1, 64, 1, 0, 6, *GOOD]
+        numbers[place] = number
+        tells(harness, f"number {place} of the header {number}", WORDS, b"a b a\n", ABA, MAGIC + u32s(*numbers), b"no: " + said)
+    for most, a, b, said in [
+        (0, 0, 2, b"no: TooManySkips listed 3"),
+        (2, 0, 2, b"no: TooManySkips listed 3"),
+        (3, 0, 2, b"yes: 1 pairs, 3 left out\nleft out 0 0\nleft out 0 2\nleft out 0 3"),
+        (3, 0, 0, b"no: SkipOrder skip 1"),
+        (3, 2, 0, b"no: SkipOrder skip 1"),
+        (3, 0, 3, b"no: SkipOrder skip 2"),
+        (3, 0, 4, b"no: NoSuchRecord skip 1"),
+        (3, 4, 4, b"no: NoSuchRecord skip 0"),
+    ]:
+        certificate = of_words(1, 10, [3, 0, a, 0, b, 0, 3, 1, 1, 0, 1, 0])
+        tells(harness, f"left out {a} {b} of {most}", [*WORDS, "--max-skips", str(most)], b"a b\nc\nd\ne\n", [b"c\t1\n"], certificate, said)
+    lines = lambda literal: MAGIC + u32s(2, 0, 1) + literal + u32s(1, 64, 1, 0, 1, 0, 1, 1, 0, 0, 0)
+    for literal, said in [(b"x", b"yes: 1 pairs, 0 left out"), (b"y", b"no: OtherJob")]:
+        tells(harness, f"the literal {literal}", ["--job", "grep", "--literal", "x"], b"x", [b"x\t0:0\n"], lines(literal), said)
+
+
+GROUPS = {"worked rows": worked_rows, "certificates": certificates, "refusals": refusals, "places of faults": places_of_faults, "headers": headers, "changed bytes": changes}
