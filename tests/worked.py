@@ -220,6 +220,23 @@ def headers(harness):
     ]:
         certificate = of_words(1, 10, [3, 0, a, 0, b, 0, 3, 1, 1, 0, 1, 0])
         tells(harness, f"left out {a} {b} of {most}", [*WORDS, "--max-skips", str(most)], b"a b\nc\nd\ne\n", [b"c\t1\n"], certificate, said)
+    for most, listed, said in [
+        (3, "0:0,0:1,0:1", b"SkipOrder"),
+        (3, "0:0,0:2,0:1", b"SkipOrder"),
+        (3, "0:0,0:1,0:4", b"NoSuchRecord"),
+        (3, "0:0,0:1,1:0", b"NoSuchRecord"),
+        (3, "0:0,0:4,0:3", b"NoSuchRecord"),
+        (2, "0:9,0:9,0:9", b"TooManySkips"),
+    ]:
+        row(harness, f"three names {listed}", ["seq", *WORDS, "--split", "64", "--skips", listed, "--max-skips", str(most)], {"a": b"a\nb\nc\nd\n"}, status=2, err=b"mapred: " + said + b"\n", parts=[])
+    large = b"a " * 100_000
+    row(harness, "a group of 100,000", ["seq", *WORDS], {"a": large}, out=b"done: 1 files, 100000 pairs, 0 left out\n", parts=[b"a\t100000\n"])
+    fewer = of_words(1, 200_000, [0, 1, 99_999]) + b"".join(u32s(0, 0, e) for e in range(99_999))
+    tells(harness, "a group of 100,000, one left out", WORDS, large, [b"a\t99999\n"], fewer, b"no: Unnamed emitted 100000 named 99999")
+    for parts in (1, 2, 1023, 1024):
+        where = harness.run(["seq", *WORDS, "--keep-case", "--parts", str(parts), "--out", ".", "a"], {"a": b"a b c d \xff \xff\xfe \xc3\xa9\n\xff\n"})[3]
+        got = harness.run(["check", *WORDS, "--keep-case", "--parts", str(parts), "--out", ".", "a"], cwd=where)
+        harness.check(f"keys of high bytes, {parts} partitions", got[:3] == (0, b"yes: 8 pairs, 0 left out\n", b""), repr(got[:3]))
     lines = lambda literal: MAGIC + u32s(2, 0, 1) + literal + u32s(1, 64, 1, 0, 1, 0, 1, 1, 0, 0, 0)
     for literal, said in [(b"x", b"yes: 1 pairs, 0 left out"), (b"y", b"no: OtherJob")]:
         tells(harness, f"the literal {literal}", ["--job", "grep", "--literal", "x"], b"x", [b"x\t0:0\n"], lines(literal), said)

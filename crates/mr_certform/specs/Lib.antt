@@ -7,3 +7,4 @@ pub mod Flat
 pub mod Pieces
 pub mod Building
 pub mod Reading
+pub mod Laws
