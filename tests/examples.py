@@ -32,6 +32,8 @@ def files_below(where):
     for at, _, names in os.walk(where):
         for name in names:
             path = os.path.join(at, name)
+            if os.path.islink(path):
+                continue
             found[os.path.relpath(path, where)] = open(path, "rb").read()
     return found
 
