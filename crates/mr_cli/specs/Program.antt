@@ -8,7 +8,7 @@ use Rattle.mr_commands.specs.declared.asked.Subcommand.{Subcommand}
 use Rattle.mr_commands.specs.declared.fault.Fault.{Fault}
 use Rattle.mr_commands.specs.Answers.{Answers, IsRefusal, written_by}
 use Rattle.mr_cli.specs.declared.failure.Failure.{Failure}
-use Rattle.mr_cli.specs.declared.failure.Failure.TheVariants.{Line, NotUtf8, Command}
+use Rattle.mr_cli.specs.declared.failure.Failure.TheVariants.{Line, NotUtf8, NoCommand, Command}
 use Rattle.mr_cli.specs.Parsed.{IsAskedBy}
 use Rattle.mr_cli.specs.Statuses.{no_memory_left}
 
@@ -24,10 +24,6 @@ pub record IsDone (old new : Stored) (text : List ℕ) (status : ℕ) : Type 0 w
   pub answers : Answers old new asked text status
   pub others : ChangesAmong old new (written_by asked)
 
--- a command was done; or none was asked for, and nothing is said or changed
-abbrev pub IsAnswered : Stored → Stored → List ℕ → ℕ → Type 0
-IsAnswered old new text status = IsDone old new text status ⊎ ((text ≡ []) × (status ≡ 0) × ChangesAmong old new [])
-
 -- the parsed command was refused, by this fault
 pub record IsRefused (old new : Stored) (unreadable unwritable : Faulty) (fault : Fault) : Type 0 where
   pub parsed : ArgMatches
@@ -41,3 +37,4 @@ IsUnanswered old new unreadable unwritable (Command fault) =
     ((Command fault ≡ no_memory_left) × ChangesAmong old new []) ⊎ IsRefused old new unreadable unwritable fault
 IsUnanswered old new unreadable unwritable (Line error) = ChangesAmong old new []
 IsUnanswered old new unreadable unwritable NotUtf8 = ⊥
+IsUnanswered old new unreadable unwritable NoCommand = ChangesAmong old new []

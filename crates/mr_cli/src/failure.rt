@@ -15,6 +15,8 @@ pub enum Failure {
     Line(clap::Error),
     /// A word of the command line that is not UTF-8.
     NotUtf8,
+    /// They ask for nothing. The parser tells that by itself before.
+    NoCommand,
     /// What they ask for.
     Command(Fault),
 }
@@ -69,7 +71,7 @@ impl Failure {
     {
         match self {
             Failure::Line(error) => { if error.use_stderr() { 2 } else { 0 } }
-            Failure::NotUtf8 => 2,
+            Failure::NotUtf8 | Failure::NoCommand => 2,
             Failure::Command(fault) => fault.status(),
         }
     }
@@ -90,6 +92,7 @@ impl fmt::Display for Failure {
         match self {
             Failure::Line(error) => write!(f, "{error}"),
             Failure::NotUtf8 => write!(f, "mapred: a word of the command line is not UTF-8\n"),
+            Failure::NoCommand => write!(f, "mapred: no command\n"),
             Failure::Command(fault) => write!(f, "{fault}"),
         }
     }

@@ -1,4 +1,4 @@
-use Rattle.std.proofs.Common.{Option, subst, inl, inr}
+use Rattle.std.proofs.Common.{Option, subst, inr}
 use Rattle.std.specs.Prelude.{IfSome}
 use Rattle.std.proofs.lemmas.Result.{err_from_is_err_and}
 use Rattle.mr_commands.specs.declared.asked.Subcommand.{Subcommand}
@@ -16,4 +16,4 @@ pub returns-in-Some-clause-answered : goal.returns-in-Some-clause-answered
 returns-in-Some-clause-answered g c =
     let parsed = c.in_ok-matches.matches in
     let named : IsAskedIn parsed c.in-Some.asked = subst (λ (r : Option Subcommand). IfSome r (λ asked. IsAskedIn parsed asked)) c.in-Some.is c.in_ok-asked.ensures.asked in
-    inl (record { parsed = parsed; asked = c.in-Some.asked; named = named; answers = c.in_ok-done-in-Some.ensures.answers; others = c.in_ok-done-in-Some.ensures.others })
+    record { parsed = parsed; asked = c.in-Some.asked; named = named; answers = c.in_ok-done-in-Some.ensures.answers; others = c.in_ok-done-in-Some.ensures.others }
