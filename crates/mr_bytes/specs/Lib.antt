@@ -1,6 +1,7 @@
 pub mod Bytes
 pub mod Lists
 pub mod Order
+pub mod Pairs
 pub mod Words
 pub mod WordLaw
 pub mod Cut

@@ -8,12 +8,14 @@ use std::alloc::{AllocError, Global};
 
 mod marks;
 mod names;
+mod pairs;
 mod same;
 mod values;
 mod words;
 
 pub use marks::cut;
 pub use names::{compare_keys, compare_names, compare_records, order_law};
+pub use pairs::{Pair, compare_pairs};
 pub use same::{
     clone_of_name, clone_of_record, clone_of_span, clone_of_value, is_same_name, is_same_record,
     is_same_span, is_same_value,
@@ -51,14 +53,6 @@ pub enum Value {
     One,
     /// The place of a record: the number of its file, and the record's start there in bytes.
     At { file: u32, offset: u64 },
-}
-
-/// A pair that a job emits, with its name.
-#[derive(Debug, PartialEq, Eq, Drop)]
-pub struct Pair {
-    pub key: Vec<u8>,
-    pub value: Value,
-    pub name: Name,
 }
 
 /// Whether the byte is an upper-case letter of ASCII, 0x41 to 0x5A.

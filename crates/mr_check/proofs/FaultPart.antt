@@ -19,7 +19,7 @@ use Rattle.mr_certform.specs.declared.place.Place.{Place}
 use Rattle.mr_certform.specs.declared.place.Place.TheVariants.{AtGroups, AtEntries, AtEntry, AtEnd}
 use Rattle.mr_certform.specs.Grammar.{MayStand, InOrder}
 use Rattle.mr_certform.specs.Places as Places
-use Rattle.mr_sequential.specs.Emitted.{Triple}
+use Rattle.mr_bytes.specs.Pairs.{Triple}
 use Rattle.mr_sequential.specs.Good.{named, key_under, key_of, values_under, text_under}
 use Rattle.mr_sequential.proofs.KeyLaws.{bytes_eq-same}
 use Rattle.mr_sequential.proofs.NamedLaws.{named-Has}

@@ -6,7 +6,7 @@ use Rattle.std.specs.Cmp.Lexicographic.{pointwise}
 use Rattle.std.proofs.lemmas.Bool.{false≢true}
 use Rattle.mr_check.specs.declared.fault.No.{No}
 use Rattle.mr_bytes.specs.declared.Name.{Name}
-use Rattle.mr_sequential.specs.Emitted.{Triple}
+use Rattle.mr_bytes.specs.Pairs.{Triple}
 use Rattle.mr_check.specs.Verdict.{Reached, Subject, passes, first_tests, later_tests, order_tests, with_entry, group_tests, behind_group, first}
 use Rattle.mr_check.specs.Steps.{Answers}
 

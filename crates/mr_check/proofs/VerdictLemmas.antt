@@ -10,7 +10,8 @@ use Rattle.mr_splits.specs.Cut.{Cut, is_record, records_of}
 use Rattle.mr_certform.specs.declared.item.Item.{Item}
 use Rattle.mr_certform.specs.declared.item.Item.TheVariants.{Skips, Skip, Entry}
 use Rattle.mr_certform.specs.Spelling.{items_of, stop}
-use Rattle.mr_sequential.specs.Emitted.{Triple, record_triples}
+use Rattle.mr_bytes.specs.Pairs.{Triple}
+use Rattle.mr_sequential.specs.Emitted.{record_triples}
 use Rattle.mr_splits.specs.Kept.{is_past}
 use Rattle.mr_index.specs.Index.{triples_of}
 use Rattle.mr_check.specs.declared.fault.No.{No}

@@ -10,7 +10,7 @@ use Rattle.mr_splits.specs.Kept.{is_past}
 use Rattle.mr_bytes.specs.declared.RecordName.{RecordName}
 use Rattle.mr_splits.specs.Named.{named_records}
 use Rattle.mr_splits.specs.Cut.{is_record}
-use Rattle.mr_sequential.specs.Emitted.{Triple}
+use Rattle.mr_bytes.specs.Pairs.{Triple}
 use Rattle.mr_sequential.specs.Good.{named}
 use Rattle.mr_check.specs.declared.fault.No.{No}
 use Rattle.mr_check.specs.declared.fault.No.TheVariants as Fault

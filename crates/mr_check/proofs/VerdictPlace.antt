@@ -15,7 +15,7 @@ use Rattle.mr_certform.specs.Grammar.{MayStand, InOrder}
 use Rattle.mr_certform.specs.Places as Places
 use Rattle.mr_certform.specs.Spelling.{items_of, is_ended}
 use Rattle.mr_certform.proofs.Walks.{read_front}
-use Rattle.mr_sequential.specs.Emitted.{Triple}
+use Rattle.mr_bytes.specs.Pairs.{Triple}
 use Rattle.mr_sequential.specs.Good.{named}
 use Rattle.mr_splits.specs.Kept.{is_past}
 use Rattle.mr_check.specs.declared.fault.No.{No}

@@ -22,7 +22,8 @@ use Rattle.mr_sequential.proofs.ListLaws.{Has-append_right}
 use Rattle.mr_sequential.proofs.SkipLaws.{good_skips}
 use Rattle.mr_sequential.specs.declared.fault.RunFault.{RunFault}
 use Rattle.mr_sequential.specs.declared.fault.RunFault.TheVariants.{TooManySkips}
-use Rattle.mr_sequential.specs.Emitted.{Triple, emitted}
+use Rattle.mr_bytes.specs.Pairs.{Triple}
+use Rattle.mr_sequential.specs.Emitted.{emitted}
 use Rattle.mr_sequential.specs.Good.{IsGoodPart, entries_of, groups_at}
 use Rattle.mr_sequential.specs.Skips.{list_fault}
 use Rattle.mr_check.specs.declared.fault.No.{No}

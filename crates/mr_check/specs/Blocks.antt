@@ -3,7 +3,7 @@ use Rattle.std.specs.Prelude.{◌≡◌, ℕ, ◌+◌, Bool, true, false, Some, 
 use Rattle.mr_bytes.specs.declared.Name.{Name}
 use Rattle.mr_certform.specs.declared.item.Item.{Item}
 use Rattle.mr_certform.specs.declared.item.Item.TheVariants.{Entry, End}
-use Rattle.mr_sequential.specs.Emitted.{Triple}
+use Rattle.mr_bytes.specs.Pairs.{Triple}
 use Rattle.mr_sequential.specs.Good.{named}
 use Rattle.mr_check.specs.declared.fault.No.{No}
 use Rattle.mr_index.specs.Index.{pair_at}

@@ -16,7 +16,7 @@ use Rattle.mr_certform.specs.declared.item.Item.TheVariants.{Skips, Groups, Entr
 use Rattle.mr_certform.specs.Grammar.{AreBytes}
 use Rattle.mr_certform.specs.Spelling.{items_of, is_ended}
 use Rattle.mr_certform.specs.Value.{Contents, Spells}
-use Rattle.mr_sequential.specs.Emitted.{Triple}
+use Rattle.mr_bytes.specs.Pairs.{Triple}
 use Rattle.mr_sequential.specs.Rules.{Text}
 use Rattle.mr_sequential.specs.Good.{named, text_under}
 use Rattle.mr_check.specs.declared.fault.No.{No}

@@ -14,7 +14,8 @@ use Rattle.mr_splits.specs.Named.{NamedRecord, is_left_out}
 use Rattle.mr_splits.specs.Cut.{nth_named, is_record}
 use Rattle.mr_splits.specs.Cut as cut
 use Rattle.mr_splits.proofs.NameLemmas.{test-from-name}
-use Rattle.mr_sequential.specs.Emitted.{Triple, placed_from, record_triples}
+use Rattle.mr_bytes.specs.Pairs.{Triple}
+use Rattle.mr_sequential.specs.Emitted.{placed_from, record_triples}
 use Rattle.mr_index.specs.Index.{mapped_among}
 use Rattle.mr_sequential.specs.Good.{has_name, named}
 use Rattle.mr_index.specs.Pairs.{EndsRise}

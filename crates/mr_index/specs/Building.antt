@@ -5,7 +5,8 @@ use Rattle.mr_bytes.specs.declared.RecordName.{RecordName}
 use Rattle.mr_jobs.specs.JobSpec.{JobSpec}
 use Rattle.mr_jobs.specs.Emissions.{Emission}
 use Rattle.mr_splits.specs.Named.{NamedRecord}
-use Rattle.mr_sequential.specs.Emitted.{Triple, placed_from, record_triples}
+use Rattle.mr_bytes.specs.Pairs.{Triple}
+use Rattle.mr_sequential.specs.Emitted.{placed_from, record_triples}
 use Rattle.mr_sequential.specs.Pairs.{kept_pairs}
 use Rattle.mr_index.specs.Pairs.{EndsRise}
 

@@ -119,7 +119,7 @@ pub struct EmissionIndex<'a> {
 impl<'a> Model for EmissionIndex<'a> {
     ghost use Rattle.std.specs.Prelude.{◌≡◌, List, length};
     ghost use Rattle.mr_splits.specs.Cut.{records_of};
-    ghost use Rattle.mr_sequential.specs.Emitted.{Triple};
+    ghost use Rattle.mr_bytes.specs.Pairs.{Triple};
     ghost use Rattle.mr_index.specs.Pairs.{pairs_seen, EndsRise, Sound};
     ghost use Rattle.mr_index.specs.Building.{spread};
 

@@ -13,7 +13,8 @@ use Rattle.mr_bytes.specs.Order.{name_order}
 use Rattle.mr_input.specs.Files.{nth_file}
 use Rattle.mr_partition.specs.Partition.{partition_of}
 use Rattle.mr_reduce.specs.Text.{text_of}
-use Rattle.mr_sequential.specs.Emitted.{Triple, emitted}
+use Rattle.mr_bytes.specs.Pairs.{Triple}
+use Rattle.mr_sequential.specs.Emitted.{emitted}
 use Rattle.mr_sequential.specs.Sequential.{keys_of, triples_with, values_of, texts_of}
 use Rattle.mr_sequential.specs.Good.{named, key_under, key_of, text_under, IsGoodGroup, groups_at, entries_of, AreGood}
 use Rattle.mr_sequential.specs.GoodLaws.{GoodPartsAreSequential, GoodIsSequential}

@@ -11,7 +11,8 @@ use Rattle.std.specs.Str.{bytes_eq}
 use Rattle.std.specs.Ordering.{match_ordering}
 use Rattle.mr_bytes.specs.Order.{key_order}
 use Rattle.mr_sequential.specs.Sequential.{with_key, keys_of}
-use Rattle.mr_sequential.specs.Emitted.{Triple, emitted}
+use Rattle.mr_bytes.specs.Pairs.{Triple}
+use Rattle.mr_sequential.specs.Emitted.{emitted}
 use Rattle.mr_sequential.specs.Rules.{rules_of}
 use Rattle.mr_sequential.specs.Laws.{HasJust, KeysRise, KeysAreUnique, OutputsAreInKeyOrder}
 use Rattle.mr_sequential.proofs.ListLaws.{Has-all, all_from_Has, same_rising}

@@ -15,7 +15,8 @@ use Rattle.mr_jobs.specs.JobSpec.{JobSpec}
 use Rattle.mr_jobs.specs.Emissions.{Emission, emissions}
 use Rattle.mr_splits.specs.Named.{NamedRecord, is_left_out, named_records}
 use Rattle.mr_splits.proofs.RisingLemmas.{names-rise}
-use Rattle.mr_sequential.specs.Emitted.{Triple, placed_from, record_triples}
+use Rattle.mr_bytes.specs.Pairs.{Triple}
+use Rattle.mr_sequential.specs.Emitted.{placed_from, record_triples}
 use Rattle.mr_sequential.specs.Laws.{NamesRise}
 use Rattle.mr_sequential.proofs.ListLaws.{Has-all, all_from_Has, Has-append_cases}
 

@@ -14,7 +14,8 @@ use Rattle.mr_jobs.specs.Emissions.{Emission, emissions}
 use Rattle.mr_jobs.proofs.CountLemmas.{few_emissions}
 use Rattle.mr_splits.specs.Named.{NamedRecord, is_left_out, named_from, named_files, named_records}
 use Rattle.mr_splits.specs.Kept.{kept_records}
-use Rattle.mr_sequential.specs.Emitted.{Triple, placed_from, record_triples, emitted}
+use Rattle.mr_bytes.specs.Pairs.{Triple}
+use Rattle.mr_sequential.specs.Emitted.{placed_from, record_triples, emitted}
 use Rattle.mr_sequential.specs.Names.{names_from, kept_names, record_names}
 use Rattle.mr_sequential.specs.Certified.{names_with, groups_of}
 use Rattle.mr_sequential.specs.Pairs.{kept_pairs, record_pairs, values_in, texts_in, names_under, groups_in}

@@ -7,7 +7,8 @@ use Rattle.mr_bytes.specs.Lists.{Has, Rises}
 use Rattle.mr_bytes.specs.Order.{name_order}
 use Rattle.mr_partition.specs.Partition.{partition_of}
 use Rattle.mr_reduce.specs.Text.{text_of}
-use Rattle.mr_sequential.specs.Emitted.{Triple, emitted}
+use Rattle.mr_bytes.specs.Pairs.{Triple}
+use Rattle.mr_sequential.specs.Emitted.{emitted}
 use Rattle.mr_sequential.specs.Good.{named, key_of, IsGoodGroup, groups_at, AreGood}
 use Rattle.mr_sequential.specs.Certified.{names_with, groups_of, certificate_of}
 use Rattle.mr_sequential.specs.GoodLaws.{CertificateIsSequential, CertificateIsUnique}

@@ -5,7 +5,8 @@ use Rattle.mr_bytes.specs.declared.Name.{Name}
 use Rattle.mr_bytes.specs.declared.RecordName.{RecordName}
 use Rattle.mr_jobs.specs.JobSpec.{RequestSpec, job_number, job_flags, job_literal}
 use Rattle.mr_certform.specs.Value.{Contents}
-use Rattle.mr_sequential.specs.Emitted.{Triple, emitted}
+use Rattle.mr_bytes.specs.Pairs.{Triple}
+use Rattle.mr_sequential.specs.Emitted.{emitted}
 use Rattle.mr_sequential.specs.Rules.{Key, rules_of}
 use Rattle.mr_sequential.specs.Sequential.{keys_of, triples_with}
 

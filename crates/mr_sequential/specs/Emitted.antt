@@ -1,18 +1,11 @@
 -- All that a job emits over an input, each pair with its name (OSDI 2004, section 2).
 use Rattle.std.specs.Prelude.{ℕ, ◌+◌, if◌then◌else◌, List, [], ◌∷◌}
 use Rattle.std.specs.List.{flat_map}
-use Rattle.mr_bytes.specs.declared.Name.{Name}
 use Rattle.mr_bytes.specs.declared.RecordName.{RecordName}
-use Rattle.mr_bytes.specs.declared.Value.{Value}
+use Rattle.mr_bytes.specs.Pairs.{Triple}
 use Rattle.mr_jobs.specs.JobSpec.{JobSpec}
 use Rattle.mr_jobs.specs.Emissions.{Emission, emissions}
 use Rattle.mr_splits.specs.Named.{NamedRecord, is_left_out, named_records}
-
--- an emitted pair with its name
-pub record Triple : Type 0 where
-  pub key : List ℕ
-  pub value : Value
-  pub name : Name
 
 -- the emissions of a record with their places, from `place` on
 unfoldable pub placed_from : RecordName → ℕ → List Emission → List Triple

@@ -12,7 +12,8 @@ use Rattle.mr_input.specs.Files.{nth_file}
 use Rattle.mr_splits.specs.Named.{named_records}
 use Rattle.mr_splits.specs.Cut.{is_record}
 use Rattle.mr_certform.specs.Value.{Contents, Spells}
-use Rattle.mr_sequential.specs.Emitted.{Triple, emitted}
+use Rattle.mr_bytes.specs.Pairs.{Triple}
+use Rattle.mr_sequential.specs.Emitted.{emitted}
 use Rattle.mr_sequential.specs.Rules.{Key, Text, Rules, rules_of}
 
 abbrev pub has_name : Name → Triple → Bool

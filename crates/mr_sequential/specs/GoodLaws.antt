@@ -7,7 +7,7 @@ use Rattle.mr_bytes.specs.Order.{name_order}
 use Rattle.mr_jobs.specs.JobSpec.{RequestSpec, WordCount}
 use Rattle.mr_input.specs.Files.{nth_file}
 use Rattle.mr_certform.specs.Value.{Contents}
-use Rattle.mr_sequential.specs.Emitted.{Triple}
+use Rattle.mr_bytes.specs.Pairs.{Triple}
 use Rattle.mr_sequential.specs.Rules.{Key, Rules}
 use Rattle.mr_sequential.specs.Sequential.{texts_of, sequential}
 use Rattle.mr_sequential.specs.Skips.{skip_fault}

@@ -5,7 +5,8 @@ use Rattle.mr_bytes.specs.declared.RecordName.{RecordName}
 use Rattle.mr_bytes.specs.Lists.{Has, Rises}
 use Rattle.mr_bytes.specs.Order.{key_order, name_order}
 use Rattle.mr_jobs.specs.JobSpec.{RequestSpec}
-use Rattle.mr_sequential.specs.Emitted.{Triple, emitted}
+use Rattle.mr_bytes.specs.Pairs.{Triple}
+use Rattle.mr_sequential.specs.Emitted.{emitted}
 use Rattle.mr_sequential.specs.Rules.{Key, Text, Rules, rules_of}
 use Rattle.mr_sequential.specs.Sequential.{keys_of, values_of, sequential}
 

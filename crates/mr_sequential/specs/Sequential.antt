@@ -7,7 +7,8 @@ use Rattle.mr_bytes.specs.declared.RecordName.{RecordName}
 use Rattle.mr_bytes.specs.declared.Value.{Value}
 use Rattle.mr_bytes.specs.Order.{key_order}
 use Rattle.mr_jobs.specs.JobSpec.{RequestSpec}
-use Rattle.mr_sequential.specs.Emitted.{Triple, emitted}
+use Rattle.mr_bytes.specs.Pairs.{Triple}
+use Rattle.mr_sequential.specs.Emitted.{emitted}
 use Rattle.mr_sequential.specs.Rules.{Key, Text, Rules, rules_of}
 
 -- a key put at its place among rising keys, where it isn't there yet

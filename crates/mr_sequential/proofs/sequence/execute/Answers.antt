@@ -10,7 +10,8 @@ use Rattle.mr_reduce.specs.Text.{text_of}
 use Rattle.mr_splits.specs.Named.{named_records}
 use Rattle.mr_certform.specs.Flat.{chunks}
 use Rattle.mr_sequential.specs.Certified.{groups_of}
-use Rattle.mr_sequential.specs.Emitted.{Triple, emitted}
+use Rattle.mr_bytes.specs.Pairs.{Triple}
+use Rattle.mr_sequential.specs.Emitted.{emitted}
 use Rattle.mr_sequential.specs.Good.{IsGood}
 use Rattle.mr_sequential.specs.Names.{kept_names}
 use Rattle.mr_sequential.specs.Pairs.{groups_in, kept_pairs, texts_in}

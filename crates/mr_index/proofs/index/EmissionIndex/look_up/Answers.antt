@@ -7,7 +7,7 @@ use Rattle.mr_bytes.specs.declared.Value.TheVariants.{One}
 use Rattle.mr_jobs.specs.Emissions.{Emission}
 use Rattle.mr_splits.specs.Named.{NamedRecord}
 use Rattle.mr_splits.specs.Cut.{records_of}
-use Rattle.mr_sequential.specs.Emitted.{Triple}
+use Rattle.mr_bytes.specs.Pairs.{Triple}
 use Rattle.mr_sequential.specs.Good.{named}
 use Rattle.mr_index.specs.Index.{name_at}
 use Rattle.mr_index.specs.Pairs.{pairs_seen}
