@@ -15,7 +15,7 @@ mod words;
 
 pub use marks::cut;
 pub use names::{compare_keys, compare_names, compare_records, order_law};
-pub use pairs::{Pair, compare_pairs};
+pub use pairs::{Pair, compare_pairs, sorted_law};
 pub use same::{
     clone_of_name, clone_of_record, clone_of_span, clone_of_value, is_same_name, is_same_record,
     is_same_span, is_same_value,

@@ -1,6 +1,7 @@
 //! Emitted pairs with their names.
 ghost use Rattle.std.specs.Prelude.{◌≡◌};
-ghost use Rattle.mr_bytes.specs.Pairs.{pair_order};
+ghost use Rattle.mr_bytes.specs.Lists.{RisingIsOne, SortedHas, SortedRises};
+ghost use Rattle.mr_bytes.specs.Pairs.{Triple, pair_order};
 
 use crate::names::{compare_keys, compare_names};
 use crate::{Name, Value};
@@ -29,3 +30,11 @@ pub fn compare_pairs(a: &Pair, b: &Pair) -> Ordering
 {
     compare_keys(a.key.as_slice(), b.key.as_slice()).then(compare_names(a.name, b.name))
 }
+
+/// What sorted lists of pairs are, in any order: a list that rises is told by its elements alone, and the sorted list
+/// rises and has just the elements of the list.
+pub fn sorted_law()
+    ensures one { RisingIsOne Triple }
+    ensures rises { SortedRises Triple }
+    ensures elements { SortedHas Triple }
+{}

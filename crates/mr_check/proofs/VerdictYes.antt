@@ -18,7 +18,7 @@ use Rattle.mr_certform.specs.Spelling.{items_of, is_ended, stop}
 use Rattle.mr_certform.specs.Value.{Contents, input_items, skip_items, part_items, certificate_items, Spells, GroupFits, PartFits}
 use Rattle.mr_certform.proofs.Certificates.{spelled_items, ended_items}
 use Rattle.mr_certform.proofs.Walks.{read_front, ended_more}
-use Rattle.mr_sequential.proofs.ListLaws.{Has-append_right}
+use Rattle.mr_bytes.proofs.ListLaws.{Has-append_right}
 use Rattle.mr_sequential.proofs.SkipLaws.{good_skips}
 use Rattle.mr_sequential.specs.declared.fault.RunFault.{RunFault}
 use Rattle.mr_sequential.specs.declared.fault.RunFault.TheVariants.{TooManySkips}

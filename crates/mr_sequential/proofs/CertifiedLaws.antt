@@ -20,10 +20,10 @@ use Rattle.mr_sequential.specs.Sequential.{keys_of, triples_with, values_of, tex
 use Rattle.mr_sequential.specs.Good.{named, key_under, key_of, values_under, text_under, IsGoodGroup, AreGoodGroups, IsGoodPart, groups_at, entries_of, AreGood}
 use Rattle.mr_sequential.specs.Certified.{names_with, groups_of}
 use Rattle.mr_sequential.specs.GoodLaws.{SequentialIsGood}
-use Rattle.mr_sequential.proofs.ListLaws.{Has-all, all_from_Has, Has-map, Has-map_from, Has-flat_map, Has-flat_map_from, Distinct-rises, no_longer}
+use Rattle.mr_bytes.proofs.ListLaws.{Has-all, all_from_Has, Has-map, Has-map_from, Has-flat_map, Has-flat_map_from, Distinct-rises, no_longer, Has-filter, Has-filter_from, Rises-filter}
 use Rattle.mr_sequential.proofs.KeyLaws.{bytes_eq-is, bytes_eq-same, keys_rise}
 use Rattle.mr_sequential.proofs.NameLaws.{names_rise}
-use Rattle.mr_sequential.proofs.NamedLaws.{triples_under, named-of, Has-filter, Has-filter_from, Rises-filter, triple_order, rises_by_name}
+use Rattle.mr_sequential.proofs.NamedLaws.{triples_under, named-of, triple_order, rises_by_name}
 use Rattle.mr_sequential.proofs.SkipLaws.{good_skips}
 use Rattle.mr_sequential.proofs.EntryLaws.{names_total, EachFrom, distinct_entries}
 use Rattle.mr_sequential.proofs.GoodLaws.{flat_map-agree, keys-triple, triple-keys}

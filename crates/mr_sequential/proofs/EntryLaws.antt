@@ -11,7 +11,7 @@ use Rattle.mr_bytes.specs.Order.{key_order, name_order}
 use Rattle.mr_bytes.specs.Pairs.{Triple}
 use Rattle.mr_sequential.specs.Good.{named, key_under, key_of, IsGoodGroup, AreGoodGroups, groups_at, entries_of}
 use Rattle.mr_sequential.specs.GoodLaws.{EntriesAreDistinct, NoMoreEntries, NoneIsLeftOut}
-use Rattle.mr_sequential.proofs.ListLaws.{Has-all, Has-map, Has-flat_map_from, Distinct-rises, Distinct-append, Has-append_cases, not_before_itself, no_longer}
+use Rattle.mr_bytes.proofs.ListLaws.{Has-all, Has-map, Has-flat_map_from, Distinct-rises, Distinct-append, Has-append_cases, not_before_itself, no_longer}
 use Rattle.mr_sequential.proofs.NamedLaws.{some_is, named-Has}
 use Rattle.mr_sequential.proofs.ListLaws as lists
 

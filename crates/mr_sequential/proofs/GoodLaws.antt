@@ -18,10 +18,10 @@ use Rattle.mr_sequential.specs.Emitted.{emitted}
 use Rattle.mr_sequential.specs.Sequential.{keys_of, triples_with, values_of, texts_of}
 use Rattle.mr_sequential.specs.Good.{named, key_under, key_of, text_under, IsGoodGroup, groups_at, entries_of, AreGood}
 use Rattle.mr_sequential.specs.GoodLaws.{GoodPartsAreSequential, GoodIsSequential}
-use Rattle.mr_sequential.proofs.ListLaws.{Has-all, Has-map, Has-map_from, Has-flat_map_from, Distinct-rises, same_rising}
+use Rattle.mr_bytes.proofs.ListLaws.{Has-all, Has-map, Has-map_from, Has-flat_map_from, Distinct-rises, same_rising, Has-filter, Has-filter_from, Rises-filter}
 use Rattle.mr_sequential.proofs.KeyLaws.{bytes_eq-is, bytes_eq-same, keys_rise}
 use Rattle.mr_sequential.proofs.NameLaws.{names_rise}
-use Rattle.mr_sequential.proofs.NamedLaws.{triples_under, some_is, named-Has, named-of, Has-filter, Has-filter_from, Has-filter_map, Has-filter_map_from, Rises-filter, triple_order, rises_by_name, triples-rise}
+use Rattle.mr_sequential.proofs.NamedLaws.{triples_under, some_is, named-Has, named-of, Has-filter_map, Has-filter_map_from, triple_order, rises_by_name, triples-rise}
 use Rattle.mr_sequential.proofs.EntryLaws.{names_total, key_in_group, part_in_group, entries_are_distinct, none_is_left_out}
 
 triples_total : IsTotalOrder triple_order

@@ -15,7 +15,7 @@ use Rattle.mr_bytes.specs.Pairs.{Triple}
 use Rattle.mr_sequential.specs.Emitted.{emitted}
 use Rattle.mr_sequential.specs.Rules.{rules_of}
 use Rattle.mr_sequential.specs.Laws.{HasJust, KeysRise, KeysAreUnique, OutputsAreInKeyOrder}
-use Rattle.mr_sequential.proofs.ListLaws.{Has-all, all_from_Has, same_rising}
+use Rattle.mr_bytes.proofs.ListLaws.{Has-all, all_from_Has, same_rising}
 
 pub bytes_eq-is : (j k : List ℕ) → bytes_eq j k ≡ true → j ≡ k
 bytes_eq-is j k e = (bytes_decides j k).0 e

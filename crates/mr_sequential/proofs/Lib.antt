@@ -6,7 +6,6 @@ pub mod GatheredLemmas
 pub mod GoodLaws
 pub mod GroupLemmas
 pub mod KeyLaws
-pub mod ListLaws
 pub mod NameLaws
 pub mod NamedLaws
 pub mod OrderLemmas

@@ -18,7 +18,7 @@ use Rattle.mr_splits.proofs.RisingLemmas.{names-rise}
 use Rattle.mr_bytes.specs.Pairs.{Triple}
 use Rattle.mr_sequential.specs.Emitted.{placed_from, record_triples}
 use Rattle.mr_sequential.specs.Laws.{NamesRise}
-use Rattle.mr_sequential.proofs.ListLaws.{Has-all, all_from_Has, Has-append_cases}
+use Rattle.mr_bytes.proofs.ListLaws.{Has-all, all_from_Has, Has-append_cases}
 
 pub less : (m n : ℕ) → m < n → nat_cmp m n ≡ Less
 less m n h = ap (λ t. cond t Less (cond (eqb m n) Equal Greater)) (lt-ltb m n h)

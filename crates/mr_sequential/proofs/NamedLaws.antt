@@ -9,7 +9,7 @@ use Rattle.mr_bytes.specs.Lists.{Has, Rises, Distinct}
 use Rattle.mr_bytes.specs.Order.{name_order}
 use Rattle.mr_bytes.specs.Pairs.{Triple}
 use Rattle.mr_sequential.specs.Good.{has_name, named}
-use Rattle.mr_sequential.proofs.ListLaws.{Has-all, all_from_Has, Has-map}
+use Rattle.mr_bytes.proofs.ListLaws.{Has-all, all_from_Has, Has-map}
 
 -- the triples under these names
 abbrev pub triples_under : List Triple → List Name → List Triple
@@ -74,36 +74,6 @@ Has-filter_map_from {X} {Y} h (z ∷ xs) y g = by (h z) refl g (Has-filter_map_f
     by None is g rest = let r = rest g in (r.0, inr (r.1), r.2)
     by (Some w) is (inl e) rest = (z, inl refl, is ∙ ap Some e)
     by (Some w) is (inr g) rest = let r = rest g in (r.0, inr (r.1), r.2)
-
-pub Has-filter : {X : Type 0} (p : X → Bool) (xs : List X) (x : X) → Has xs x → p x ≡ true → Has (filter p xs) x
-Has-filter p [] x h e = absurd h
-Has-filter p (z ∷ xs) x (inl d) e = rw (ap p d ∙ e) (inl d)
-Has-filter {X} p (z ∷ xs) x (inr h) e = by (p z) (Has-filter p xs x h e)
-  where
-    by : (b : Bool) → Has (filter p xs) x → Has (cond b (z ∷ filter p xs) (filter p xs)) x
-    by true g = inr g
-    by false g = g
-
-pub Has-filter_from : {X : Type 0} (p : X → Bool) (xs : List X) (x : X) → Has (filter p xs) x → Has xs x × (p x ≡ true)
-Has-filter_from p [] x h = absurd h
-Has-filter_from {X} p (z ∷ xs) x h = by (p z) refl h (Has-filter_from p xs x)
-  where
-    by : (b : Bool) → p z ≡ b → Has (cond b (z ∷ filter p xs) (filter p xs)) x → (Has (filter p xs) x → Has xs x × (p x ≡ true))
-        → ((z ≡ x) ⊎ Has xs x) × (p x ≡ true)
-    by true is (inl e) rest = (inl e, ap p (sym e) ∙ is)
-    by true is (inr g) rest = (inr ((rest g).0), (rest g).1)
-    by false is g rest = (inr ((rest g).0), (rest g).1)
-
-pub Rises-filter : {X : Type 0} (cmp : X → X → Ordering) (p : X → Bool) (xs : List X) → Rises cmp xs → Rises cmp (filter p xs)
-Rises-filter cmp p [] r = tt
-Rises-filter {X} cmp p (x ∷ xs) r =
-    by (p x)
-    (all_from_Has (λ y. cmp x y ≡ Less) (filter p xs) (λ y h. Has-all (λ w. cmp x w ≡ Less) xs y r.0 ((Has-filter_from p xs y h).0)))
-    (Rises-filter cmp p xs r.1)
-  where
-    by : (b : Bool) → AllByRecursion (λ y. cmp x y ≡ Less) (filter p xs) → Rises cmp (filter p xs) → Rises cmp (cond b (x ∷ filter p xs) (filter p xs))
-    by true a s = (a, s)
-    by false a s = s
 
 -- ---- the order of triples is that of their names
 

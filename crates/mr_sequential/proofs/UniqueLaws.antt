@@ -12,7 +12,7 @@ use Rattle.mr_sequential.specs.Emitted.{emitted}
 use Rattle.mr_sequential.specs.Good.{named, key_of, IsGoodGroup, groups_at, AreGood}
 use Rattle.mr_sequential.specs.Certified.{names_with, groups_of, certificate_of}
 use Rattle.mr_sequential.specs.GoodLaws.{CertificateIsSequential, CertificateIsUnique}
-use Rattle.mr_sequential.proofs.ListLaws.{Has-all}
+use Rattle.mr_bytes.proofs.ListLaws.{Has-all}
 use Rattle.mr_sequential.proofs.NameLaws.{names_rise}
 use Rattle.mr_sequential.proofs.NamedLaws.{triples_under, named-Has}
 use Rattle.mr_sequential.proofs.GoodLaws.{keys_are, triples_are}

@@ -1,5 +1,5 @@
 -- Lists that rise, lists without repeats, and what stands in a list.
-use Rattle.std.proofs.Common.{◌≡◌, suc, ◌≤◌, List, [], ◌∷◌, ◌++◌, length, map, refl, ap, sym, ◌∙◌, subst, inl, inr, ◌⊎◌, arith}
+use Rattle.std.proofs.Common.{◌≡◌, suc, ◌≤◌, Bool, true, false, cond, List, [], ◌∷◌, ◌++◌, length, map, filter, refl, ap, sym, ◌∙◌, subst, inl, inr, ◌⊎◌, arith}
 use Rattle.std.specs.List.{AllByRecursion, flat_map}
 use Rattle.std.specs.Cmp.{IsTotalOrder}
 use Rattle.std.proofs.lemmas.Cmp.{tied_itself}
@@ -55,6 +55,25 @@ Has-flat_map_from f (x ∷ xs) y h =
       | inr b ↦ (let r = Has-flat_map_from f xs y b in (r.0, inr (r.1), r.2))
     ]
 
+pub Has-filter : {X : Type 0} (p : X → Bool) (xs : List X) (x : X) → Has xs x → p x ≡ true → Has (filter p xs) x
+Has-filter p [] x h e = absurd h
+Has-filter p (z ∷ xs) x (inl d) e = rw (ap p d ∙ e) (inl d)
+Has-filter {X} p (z ∷ xs) x (inr h) e = by (p z) (Has-filter p xs x h e)
+  where
+    by : (b : Bool) → Has (filter p xs) x → Has (cond b (z ∷ filter p xs) (filter p xs)) x
+    by true g = inr g
+    by false g = g
+
+pub Has-filter_from : {X : Type 0} (p : X → Bool) (xs : List X) (x : X) → Has (filter p xs) x → Has xs x × (p x ≡ true)
+Has-filter_from p [] x h = absurd h
+Has-filter_from {X} p (z ∷ xs) x h = by (p z) refl h (Has-filter_from p xs x)
+  where
+    by : (b : Bool) → p z ≡ b → Has (cond b (z ∷ filter p xs) (filter p xs)) x → (Has (filter p xs) x → Has xs x × (p x ≡ true))
+        → ((z ≡ x) ⊎ Has xs x) × (p x ≡ true)
+    by true is (inl e) rest = (inl e, ap p (sym e) ∙ is)
+    by true is (inr g) rest = (inr ((rest g).0), (rest g).1)
+    by false is g rest = (inr ((rest g).0), (rest g).1)
+
 -- ---- lists that rise
 
 module _ {X : Type 0} {cmp : X → X → Ordering} (o : IsTotalOrder cmp) where
@@ -92,6 +111,17 @@ module _ {X : Type 0} {cmp : X → X → Ordering} (o : IsTotalOrder cmp) where
       later' : (zs : List X) (z : X) → (x ≡ z → ⊥) → (x ≡ z) ⊎ Has zs z → Has zs z
       later' zs z ne (inl e) = absurd (ne e)
       later' zs z ne (inr h) = h
+
+pub Rises-filter : {X : Type 0} (cmp : X → X → Ordering) (p : X → Bool) (xs : List X) → Rises cmp xs → Rises cmp (filter p xs)
+Rises-filter cmp p [] r = tt
+Rises-filter {X} cmp p (x ∷ xs) r =
+    by (p x)
+    (all_from_Has (λ y. cmp x y ≡ Less) (filter p xs) (λ y h. Has-all (λ w. cmp x w ≡ Less) xs y r.0 ((Has-filter_from p xs y h).0)))
+    (Rises-filter cmp p xs r.1)
+  where
+    by : (b : Bool) → AllByRecursion (λ y. cmp x y ≡ Less) (filter p xs) → Rises cmp (filter p xs) → Rises cmp (cond b (x ∷ filter p xs) (filter p xs))
+    by true a s = (a, s)
+    by false a s = s
 
 -- ---- lists without repeats
 
