@@ -13,7 +13,7 @@ use Rattle.mr_sequential.specs.Good.{named, key_under, key_of, IsGoodGroup, AreG
 use Rattle.mr_sequential.specs.GoodLaws.{EntriesAreDistinct, NoMoreEntries, NoneIsLeftOut}
 use Rattle.mr_bytes.proofs.ListLaws.{Has-all, Has-map, Has-flat_map_from, Distinct-rises, Distinct-append, Has-append_cases, not_before_itself, no_longer}
 use Rattle.mr_sequential.proofs.NamedLaws.{some_is, named-Has}
-use Rattle.mr_sequential.proofs.ListLaws as lists
+use Rattle.mr_bytes.proofs.ListLaws as lists
 
 pub names_total : IsTotalOrder name_order
 names_total =
