@@ -56,6 +56,8 @@ fn check_with(
     ensures bounded { IsBounded plan.now (items_left walker.old) meter.old meter.new }
     ensures exact { IfOk result (λ n. IsExact plan.now skips.now n meter.old meter.new) }
 {
+    // A plan has far fewer records than a u64 counts.
+    let _few = plan.count();
     let index = EmissionIndex::of(alloc, plan, request.job(), skips, meter)?;
     let facts = Facts {
         request,

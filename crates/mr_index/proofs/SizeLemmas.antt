@@ -1,24 +1,20 @@
 -- How many bytes the keys of all pairs have together: each record gives at most as many as it has.
-use Rattle.std.proofs.Common.{◌≡◌, ℕ, ◌+◌, ◌/◌, ◌<◌, ◌≤◌, ◌^◌, cond, true, false, List, [], ◌∷◌, ◌++◌, length, refl, sym, ◌∙◌, ap, subst, arith, eqb, length-append, slice_range}
-use Rattle.std.proofs.lemmas.List.{flat_map_more}
+use Rattle.std.proofs.Common.{◌≡◌, ℕ, ◌+◌, ◌/◌, ◌≤◌, ◌^◌, cond, true, false, List, [], ◌∷◌, ◌++◌, length, refl, ap, arith, eqb, length-append, slice_range}
 use Rattle.std.proofs.lemmas.List.Sums.{sum_by-cons, sum_by-append}
-use Rattle.std.proofs.lemmas.Grind.{flat_map-append}
 use Rattle.std.specs.List.{flat_map}
 use Rattle.mr_bytes.specs.declared.RecordName.{RecordName}
 use Rattle.mr_bytes.specs.declared.Value.{Value}
 use Rattle.mr_records.specs.Records.{Record, lengthen, records_from, records}
-use Rattle.mr_input.specs.Files.{split_count, split_total, total_size}
+use Rattle.mr_input.specs.Files.{split_count, total_size}
 use Rattle.mr_jobs.specs.JobSpec.{JobSpec}
 use Rattle.mr_jobs.specs.Emissions.{Emission, emissions}
 use Rattle.mr_jobs.proofs.CountLemmas.{keys_fit}
-use Rattle.mr_splits.specs.Named.{NamedRecord, is_left_out, of_split, named_from, named_files, named_records}
-use Rattle.mr_splits.specs.Cut.{nth_named}
+use Rattle.mr_splits.specs.Named.{NamedRecord, is_left_out, named_from, named_files, named_records}
 use Rattle.mr_sequential.specs.Pairs.{kept_pairs}
 use Rattle.mr_sequential.proofs.SourceLemmas.{few_pairs}
 use Rattle.mr_index.specs.Pairs.{pairs_from, pairs_seen, EndsRise, Sound, keys_size, Fits}
 use Rattle.mr_index.specs.declared.pairs.Pairs.{Pairs}
 use Rattle.mr_index.proofs.PairLemmas.{rise-request, range-size}
-use Rattle.mr_index.proofs.WorkLemmas.{before, before-more, before-rest}
 
 abbrev key_length : Emission → ℕ
 key_length e = length e.0
@@ -46,20 +42,6 @@ fits-part es more all whole h = (
   omega (arith, length-append es more, ap (length {A = Emission}) whole, h.0),
   omega (arith, sum_by-append key_length es more, ap keys_size whole, h.1),
 )
-
--- the pairs of the records before one and those of that one
-pub fits-next : (job : JobSpec) (skips : List RecordName) (size : ℕ) (files : List (List ℕ)) (s r : ℕ) → 0 < size → s < split_total size files
-    → r < length (of_split s (named_records size files)) → Fits (flat_map (kept_pairs job skips) (named_records size files))
-    → Fits (flat_map (kept_pairs job skips) (before s r (named_records size files)) ++ kept_pairs job skips (nth_named (of_split s (named_records size files)) r))
-fits-next job skips size files s r some h k fits =
-    let rs : List NamedRecord = named_records size files in
-    let f : NamedRecord → List Emission = kept_pairs job skips in
-    let one : NamedRecord = nth_named (of_split s rs) r in
-    let more : flat_map f (before s r rs) ++ f one ≡ flat_map f (before s (r + 1) rs) =
-    flat_map_more f [] (before s r rs) one ∙ ap (flat_map f) (sym (before-more s r rs k)) in
-    let rest = before-rest size files s (r + 1) some h in
-    subst Fits (sym more)
-    (fits-part (flat_map f (before s (r + 1) rs)) (flat_map f rest.0) (flat_map f rs) (sym (flat_map-append f (before s (r + 1) rs) rest.0) ∙ ap (flat_map f) rest.1) fits)
 
 -- ---- the bytes of all records
 

@@ -1,8 +1,7 @@
 -- The triples that the tables show, as they grow and as they are looked up.
-use Rattle.std.proofs.Common.{◌≡◌, ℕ, zero, suc, ◌+◌, ◌-◌, ◌<◌, ◌≤◌, Bool, true, false, cond, eqb, ◌&&◌, not, Option, Some, None, List, [], ◌∷◌, ◌++◌, length, get_or, drop, filter, map, slice_range, refl, sym, ◌∙◌, ap, subst, arith, inl, inr, append_assoc, length-append}
+use Rattle.std.proofs.Common.{◌≡◌, ℕ, zero, suc, ◌+◌, ◌-◌, ◌<◌, ◌≤◌, Bool, true, false, cond, eqb, ◌&&◌, Option, Some, None, List, [], ◌∷◌, ◌++◌, length, get_or, drop, map, slice_range, refl, sym, ◌∙◌, ap, subst, arith, inl, inr, append_assoc, length-append}
 use Rattle.std.proofs.lemmas.Bool.{cases_eq, eq-eqb, ne_eqb, false≢true}
 use Rattle.std.proofs.lemmas.List.{drop_all, drop-drop, map-append, take-append-drop, append-nil, length_push, flat_map_more, get_or-take, get_or-drop, length-map}
-use Rattle.std.proofs.lemmas.List.Elements.{filter-append}
 use Rattle.std.proofs.lemmas.List.Folds.{find-append, list_any_at}
 use Rattle.std.specs.Option.{option_map, option_or}
 use Rattle.std.specs.List.{find, slice_get, flat_map}
@@ -16,7 +15,6 @@ use Rattle.mr_splits.specs.Cut as cut
 use Rattle.mr_splits.proofs.NameLemmas.{test-from-name}
 use Rattle.mr_bytes.specs.Pairs.{Triple}
 use Rattle.mr_sequential.specs.Emitted.{placed_from, record_triples}
-use Rattle.mr_index.specs.Index.{mapped_among}
 use Rattle.mr_sequential.specs.Good.{has_name, named}
 use Rattle.mr_index.specs.Pairs.{EndsRise}
 use Rattle.mr_sequential.specs.Pairs.{kept_pairs}
@@ -73,22 +71,6 @@ shows-none job skips rs ends pairs a b d =
     subst (λ (x : List NamedRecord). Shows job skips x ends pairs) (sym a)
     (subst (λ (x : List ℕ). Shows job skips [] x pairs) (sym b)
     (subst (λ (x : List Emission). Shows job skips [] [] x) (sym d) (record { count = refl; rise = refl; given = refl; same = refl })))
-
-pub mapped-more : (skips : List RecordName) (rs : List NamedRecord) (r : NamedRecord)
-    → mapped_among skips (rs ++ r ∷ []) ≡ mapped_among skips rs + cond (is_left_out skips r.name) 0 1
-mapped-more skips rs r =
-    let p : NamedRecord → Bool = λ x. not (is_left_out skips x.name) in
-    ap length (filter-append p rs (r ∷ [])) ∙ length-append (filter p rs) (filter p (r ∷ []))
-    ∙ ap (λ (n : ℕ). mapped_among skips rs + n)
-    (elim (is_left_out skips r.name) as (λ b. length (cond (not b) (r ∷ []) []) ≡ cond b 0 1) [
-      | true ↦ refl
-      | false ↦ refl
-    ])
-
-pub mapped-append : (skips : List RecordName) (xs ys : List NamedRecord) → mapped_among skips (xs ++ ys) ≡ mapped_among skips xs + mapped_among skips ys
-mapped-append skips xs ys =
-    let p : NamedRecord → Bool = λ x. not (is_left_out skips x.name) in
-    ap length (filter-append p xs ys) ∙ length-append (filter p xs) (filter p ys)
 
 -- an emission with a name
 abbrev pub triple_for : Name → Emission → Triple

@@ -1,5 +1,5 @@
 -- Of no public promise: keys with their values, kept flat.
-use Rattle.std.specs.Prelude.{◌≡◌, ℕ, ◌≤◌, ◌<◌, ◌^◌, List, [], ◌∷◌, slice_range, length, sum_by}
+use Rattle.std.specs.Prelude.{◌≡◌, ℕ, ◌-◌, ◌≤◌, ◌<◌, ◌^◌, List, [], ◌∷◌, ◌++◌, slice_range, length, replicate, sum_by}
 use Rattle.mr_bytes.specs.declared.Value.{Value}
 use Rattle.mr_jobs.specs.Emissions.{Emission}
 use Rattle.mr_index.specs.declared.pairs.Pairs.{Pairs}
@@ -31,3 +31,7 @@ keys_size es = sum_by (λ e. length e.0) es
 -- a number of four bytes serves for how many they are, and for the bytes of their keys
 abbrev pub Fits : List Emission → Type 0
 Fits es = (length es < 2 ^ 32) × (keys_size es < 2 ^ 32)
+
+-- the ends, with `end` behind them until there are `count`
+abbrev pub filled : ℕ → ℕ → List ℕ → List ℕ
+filled count end ends = ends ++ replicate (count - length ends) end

@@ -2,7 +2,7 @@
 ghost use Rattle.std.specs.Prelude.{◌≡◌, ℕ, ◌+◌, ◌≤◌, ◌<◌, ◌^◌, ◌++◌, [], ◌∷◌, IfOk, OnOk, MatchOption, length, slice_index, slice_index_or};
 ghost use Rattle.mr_bytes.specs.declared.Value.TheVariants.{One};
 ghost use Rattle.mr_jobs.specs.Emissions.{emissions};
-ghost use Rattle.mr_index.specs.Pairs.{pairs_seen, Sound, Fits};
+ghost use Rattle.mr_index.specs.Pairs.{pairs_seen, filled, Sound, Fits};
 
 use mr_bytes::{Value, Values};
 use mr_jobs::{Emitter, Job};
@@ -39,6 +39,17 @@ pub(crate) fn push_end(ends: &mut Vec<u32>, end: usize) -> Result<(), AllocError
     ensures { OnOk result (ends.new.items ≡ ends.old.items ++ end ∷ []) }
 {
     ends.push(end as u32)?;
+    Ok(())
+}
+
+/// Adds the same end until there are `count` of them; where there are as many, none. It fails only for want of memory.
+pub(crate) fn fill(ends: &mut Vec<u32>, count: usize, end: usize) -> Result<(), AllocError>
+    requires { end < 2 ^ 32 }
+    ensures { OnOk result (ends.new.items ≡ filled count end ends.old.items) }
+{
+    while ends.len() < count {
+        push_end(ends, end)?;
+    }
     Ok(())
 }
 

@@ -1,4 +1,6 @@
 //! Each job's pairs by name, on inputs mapped by hand.
+ghost use Rattle.std.specs.Prelude.{◌≡◌, ◌≤◌, ◌^◌};
+
 use mr_bytes::{Name, RecordName, Value};
 use mr_index::{EmissionIndex, Meter};
 use mr_input::Input;
@@ -19,6 +21,22 @@ fn two_files(alloc: Global, first: &[u8], second: &[u8]) -> Result<Vec<Vec<u8>>,
     Ok(files)
 }
 
+/// The index over a plan, counted by a meter that has room for a whole input.
+fn index_of<'a>(
+    alloc: Global,
+    plan: &'a Plan<'a>,
+    job: &Job,
+    skips: &[RecordName],
+    meter: &mut Meter,
+) -> Result<EmissionIndex<'a>, AllocError>
+    requires { meter.old.mapped ≤ 2 ^ 63 }
+    ensures { meter.new.lookups ≡ meter.old.lookups }
+{
+    // A plan has far fewer records than a u64 counts.
+    let _few = plan.count();
+    EmissionIndex::of(alloc, plan, job, skips, meter)
+}
+
 fn name(split: u32, rec: u32, place: u32) -> Name {
     Name { split, rec, place }
 }
@@ -29,7 +47,7 @@ fn words(rt: HostRuntime) -> Result<(), Fail> {
     let input = Input::of(two_files(alloc, b"The cat\n\nthe dog\n", b"a\n")?)?;
     let plan = Plan::of(alloc, &input, 9)?;
     let mut meter = UNUSED;
-    let index = EmissionIndex::of(alloc, &plan, &Job::words(false), &[], &mut meter)?;
+    let index = index_of(alloc, &plan, &Job::words(false), &[], &mut meter)?;
     assert_eq!(rt; index.total(), 5);
     assert_eq!(rt; meter.mapped, 4);
     assert_eq!(rt; meter.lookups, 0);
@@ -53,7 +71,7 @@ fn lines_with_a_literal(rt: HostRuntime) -> Result<(), Fail> {
     let plan = Plan::of(alloc, &input, 64)?;
     let job = Job::grep(alloc, b"b", false)?;
     let mut meter = UNUSED;
-    let index = EmissionIndex::of(alloc, &plan, &job, &[], &mut meter)?;
+    let index = index_of(alloc, &plan, &job, &[], &mut meter)?;
     assert_eq!(rt; index.total(), 2);
     let first = Value::At { file: 1, offset: 0 };
     let last = Value::At { file: 1, offset: 5 };
@@ -69,7 +87,7 @@ fn resources(rt: HostRuntime) -> Result<(), Fail> {
     let input = Input::of(two_files(alloc, b"h \"GET /a HTTP/1.0\" 200\nh \"-\"\n", b"")?)?;
     let plan = Plan::of(alloc, &input, 64)?;
     let mut meter = UNUSED;
-    let index = EmissionIndex::of(alloc, &plan, &Job::url(), &[], &mut meter)?;
+    let index = index_of(alloc, &plan, &Job::url(), &[], &mut meter)?;
     assert_eq!(rt; index.total(), 1);
     assert!(rt; index.pair(name(0, 0, 0), &mut meter) == Some((b"/a".as_slice(), Value::One)));
     Ok(())
@@ -84,7 +102,7 @@ fn without_a_left_out_record(rt: HostRuntime) -> Result<(), Fail> {
     let first = RecordName { split: 0, rec: 0 };
     let skips = [first, absent, first];
     let mut meter = UNUSED;
-    let index = EmissionIndex::of(alloc, &plan, &Job::words(true), &skips, &mut meter)?;
+    let index = index_of(alloc, &plan, &Job::words(true), &skips, &mut meter)?;
     assert_eq!(rt; index.total(), 1);
     assert_eq!(rt; meter.mapped, 1);
     assert!(rt; index.pair(name(0, 0, 0), &mut meter) == None);
@@ -98,7 +116,7 @@ fn places(rt: HostRuntime) -> Result<(), Fail> {
     let input = Input::of(two_files(alloc, b"The cat\n\nthe dog\n", b"a\n")?)?;
     let plan = Plan::of(alloc, &input, 9)?;
     let mut meter = UNUSED;
-    let index = EmissionIndex::of(alloc, &plan, &Job::words(false), &[], &mut meter)?;
+    let index = index_of(alloc, &plan, &Job::words(false), &[], &mut meter)?;
     let names = [
         name(0, 0, 0),
         name(0, 0, 1),

@@ -8,3 +8,4 @@ pub mod ReadLemmas
 pub mod NameLemmas
 pub mod BelongLemmas
 pub mod KeptLemmas
+pub mod CountLemmas

@@ -147,8 +147,11 @@ impl<'a> Plan<'a> {
 
     /// How many records the whole input has.
     pub fn count(&self) -> usize
-        ensures { result ≡ length (records_of self.now) }
+        ensures count { result ≡ length (records_of self.now) }
+        ensures few { result ≤ 2 ^ 30 }
     {
+        // An input has at most 1 GiB, and each record a byte of its own.
+        let _files = self.input.files();
         self.table.spans.len()
     }
 

@@ -32,3 +32,13 @@ returns-clause-bounded c =
       lookups = (omega (arith, l.0, c.of.ensures.lookups), omega (arith, l.1, c.of.ensures.lookups));
       mapped = (omega (arith, m, o), omega (arith, m, o, mapped-few c.args.skips.now (records_of c.args.plan.now)));
     }
+
+pub of-requires : goal.of-requires
+of-requires c =
+    omega (
+      arith,
+      c.requires.count.1,
+      c.count-few.ensures.count,
+      c.count-few.ensures.few,
+      mapped-few c.args.skips.now (records_of c.args.plan.now),
+    )

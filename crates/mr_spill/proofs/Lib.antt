@@ -1,0 +1,3 @@
+pub mod ColumnLemmas
+pub mod RegionLaws
+pub mod RowLemmas

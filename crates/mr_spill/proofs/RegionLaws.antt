@@ -1,0 +1,68 @@
+-- What the region of a partition is: it rises, it has the pairs of the partition, and it is the only such list.
+use Rattle.std.proofs.Common.{◌≡◌, ◌↔◌, ℕ, List, [], ◌∷◌, filter, ◌==◌}
+use Rattle.std.proofs.lemmas.Bool.{eqb-true, eq-eqb}
+use Rattle.std.proofs.lemmas.Cmp.{nat_list_cmp_total, nat_cmp_total, then_total, on_total}
+use Rattle.std.specs.Cmp.{IsTotalOrder}
+use Rattle.std.specs.Ordering.{ordering_then}
+use Rattle.std.specs.declared.cmp.Ordering.{Ordering}
+use Rattle.std.specs.declared.cmp.Ordering.TheVariants.{Less, Equal, Greater}
+use Rattle.mr_bytes.specs.declared.Name.{Name}
+use Rattle.mr_bytes.specs.Lists.{Has, HasNoTies, Rises}
+use Rattle.mr_bytes.specs.Order.{key_order, name_order}
+use Rattle.mr_bytes.specs.Pairs.{Triple, pair_order}
+use Rattle.mr_bytes.proofs.ListLaws.{Has-all, all_from_Has, Has-map, Has-filter, Has-filter_from, same_rising}
+use Rattle.mr_bytes.proofs.SortLaws.{rising_tie, sorted-Has, sorted-Has_from, sorted-rises}
+use Rattle.mr_spill.specs.Column.{names_of}
+use Rattle.mr_spill.specs.Regions.{region, RegionsHave, RegionsRise}
+
+pub names_total : IsTotalOrder name_order
+names_total =
+    then_total (on_total (λ (n : Name). n.split) nat_cmp_total)
+    (then_total (on_total (λ (n : Name). n.rec) nat_cmp_total) (on_total (λ (n : Name). n.place) nat_cmp_total))
+
+pub pair_total : IsTotalOrder pair_order
+pair_total = then_total (on_total (λ (t : Triple). t.key) nat_list_cmp_total) (on_total (λ (t : Triple). t.name) names_total)
+
+abbrev pub by_name : Triple → Triple → Ordering
+by_name t u = name_order t.name u.name
+
+pub by_name_total : IsTotalOrder by_name
+by_name_total = on_total (λ (t : Triple). t.name) names_total
+
+pub rises-names : (ts : List Triple) → Rises name_order (names_of ts) → Rises by_name ts
+rises-names [] r = tt
+rises-names (t ∷ ts) r = (
+  all_from_Has (λ u. by_name t u ≡ Less) ts (λ u h. Has-all (λ n. name_order t.name n ≡ Less) (names_of ts) u.name r.0 (Has-map (λ (w : Triple). w.name) ts u h)),
+  rises-names ts r.1,
+)
+
+pub pair_tie : (t u : Triple) → pair_order t u ≡ Equal → by_name t u ≡ Equal
+pair_tie t u e = by (key_order t.key u.key) e
+  where
+    by : (o : Ordering) → ordering_then o (by_name t u) ≡ Equal → by_name t u ≡ Equal
+    by Less e = absurd (cc e)
+    by Equal e = e
+    by Greater e = absurd (cc e)
+
+-- of pairs whose names rise no two are equal
+pub no_ties : (ts : List Triple) → Rises name_order (names_of ts) → HasNoTies pair_order ts
+no_ties ts r x y h g e = rising_tie by_name by_name_total ts x y (rises-names ts r) h g (pair_tie x y e)
+
+pub regions_rise : RegionsRise
+regions_rise part ts p = sorted-rises pair_order pair_total (filter (λ t. part t.key == p) ts)
+
+pub regions_have : RegionsHave
+regions_have part ts p r t = (
+  λ h. let f = Has-filter_from (λ (u : Triple). part u.key == p) ts t (sorted-Has_from pair_order (filter (λ u. part u.key == p) ts) t h) in (f.0, eqb-true (part t.key) p f.1),
+  λ h. sorted-Has pair_order (filter (λ u. part u.key == p) ts)
+      (λ x y f g e. no_ties ts r x y (Has-filter_from (λ (u : Triple). part u.key == p) ts x f).0 (Has-filter_from (λ (u : Triple). part u.key == p) ts y g).0 e)
+      t (Has-filter (λ (u : Triple). part u.key == p) ts t h.0 (eq-eqb (part t.key) p h.1)),
+)
+
+-- a list that rises and has just the pairs of the partition is its region
+pub region-only : (part : List ℕ → ℕ) (ts : List Triple) (p : ℕ) (rs : List Triple) → Rises name_order (names_of ts) → Rises pair_order rs
+    → ((t : Triple) → Has rs t ↔ (Has ts t × (part t.key ≡ p))) → rs ≡ region part ts p
+region-only part ts p rs r rise has =
+    same_rising pair_total rs (region part ts p) rise (regions_rise part ts p)
+    (λ t h. (regions_have part ts p r t).1 ((has t).0 h))
+    (λ t h. (has t).1 ((regions_have part ts p r t).0 h))

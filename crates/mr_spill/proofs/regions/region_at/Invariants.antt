@@ -1,0 +1,13 @@
+use Rattle.std.proofs.Common.{◌≡◌, ◌++◌, ◌≤◌, ◌-◌, drop, length}
+use Rattle.mr_spill.specs.Rows.{behind, front, row_pairs}
+use Rattle.mr_spill.proofs.regions.region_at.Given as goal
+
+abbrev pub invariant-loop-row : goal.invariant-loop-row
+invariant-loop-row l = record {
+  within : l.at ≤ length l.rows;
+  region : l.region ++ row_pairs l.pairs (front l.part (drop l.at l.rows)) ≡ row_pairs l.pairs (front l.part (drop l.from l.rows));
+  rest : behind l.part (drop l.at l.rows) ≡ behind l.part (drop l.from l.rows);
+}
+
+abbrev pub decreases-loop-row : goal.decreases-loop-row
+decreases-loop-row l = length l.rows - l.at

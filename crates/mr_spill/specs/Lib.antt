@@ -1,0 +1,4 @@
+pub mod Column
+pub mod Buffer
+pub mod Regions
+pub mod Rows

@@ -1,0 +1,131 @@
+//! A buffer that a map task fills with pairs and seals into regions.
+ghost use Rattle.std.specs.Prelude.{◌≡◌, ◌↔◌, ◌++◌, ◌∷◌, [], ◌<◌, ◌==◌, if◌then◌else◌, IfOk, IfErr, OnOk, OnErr, length};
+ghost use Rattle.mr_bytes.specs.Lists.{Rises};
+ghost use Rattle.mr_bytes.specs.Order.{name_order};
+ghost use Rattle.mr_partition.specs.Partition.{partition_of};
+ghost use Rattle.mr_spill.specs.Buffer.{Buffered};
+ghost use Rattle.mr_spill.specs.Column.{names_of};
+ghost use Rattle.mr_spill.specs.Regions.{regions};
+
+use crate::column::Pairs;
+use crate::regions::sealed;
+use mr_bytes::{Name, Pair, Value};
+use std::alloc::{AllocError, Global};
+use std::marker::Model;
+use thiserror::Error;
+
+/// Pairs by rising name, up to a limit.
+#[derive(Drop)]
+pub struct Buffer {
+    pairs: Pairs,
+    limit: usize,
+}
+
+impl Model for Buffer {
+    ghost use Rattle.std.specs.Prelude.{length, ◌≤◌};
+    ghost use Rattle.mr_bytes.specs.Lists.{Rises};
+    ghost use Rattle.mr_bytes.specs.Order.{name_order};
+    ghost use Rattle.mr_spill.specs.Buffer.{Buffered};
+    ghost use Rattle.mr_spill.specs.Column.{names_of};
+
+    ghost Value = { Buffered };
+
+    ghost view = { λ b. record { limit = b.limit; pairs = b.pairs } };
+
+    ghost invariant = { λ b. record {
+      rise : Rises name_order (names_of b.pairs);
+      within : length b.pairs ≤ b.limit;
+    } };
+}
+
+/// Why a pair was not taken; it is handed back.
+#[derive(Debug, Error, Drop)]
+pub enum PushFault {
+    /// The buffer holds as many pairs as it may.
+    #[error("BufferFull")]
+    BufferFull(Pair),
+    /// There is no memory for it.
+    #[error("OutOfMemory")]
+    OutOfMemory(Pair),
+}
+
+/// Why a pair was not taken whose key was lent.
+#[derive(Clone, Copy, Debug, PartialEq, Eq, Error, Drop)]
+pub enum PushRefusal {
+    /// The buffer holds as many pairs as it may.
+    #[error("BufferFull")]
+    BufferFull,
+    /// There is no memory for it.
+    #[error("OutOfMemory")]
+    OutOfMemory,
+}
+
+ghost use Rattle.mr_spill.specs.declared.buffer.PushFault.{PushFault};
+ghost use Rattle.mr_spill.specs.declared.buffer.PushFault.TheVariants.{BufferFull as Full, OutOfMemory as NoRoom};
+ghost use Rattle.mr_spill.specs.declared.buffer.PushRefusal.{PushRefusal};
+ghost use Rattle.mr_spill.specs.declared.buffer.PushRefusal.TheVariants.{BufferFull, OutOfMemory};
+
+impl Buffer {
+    /// No pairs, and room for so many. It takes no memory.
+    pub fn new(alloc: Global, limit: usize) -> Buffer
+        ensures { result ≡ record { limit = limit; pairs = [] } }
+    {
+        Buffer {
+            pairs: Pairs::new(alloc),
+            limit,
+        }
+    }
+
+    /// How many pairs it holds.
+    pub fn len(&self) -> usize
+        ensures { result ≡ length self.now.pairs }
+    {
+        self.pairs.len()
+    }
+
+    /// Takes a pair whose key is lent, its name past those of all before it. A refusal leaves the buffer as it was.
+    pub fn push_key(&mut self, key: &[u8], value: Value, name: Name) -> Result<(), PushRefusal>
+        requires { Rises name_order (names_of self.old.pairs ++ name ∷ []) }
+        ensures ok { OnOk result (self.new
+            ≡ record { limit = self.old.limit; pairs = self.old.pairs ++ record { key = key.now; value = value; name = name } ∷ [] }) }
+        ensures err { OnErr result (self.new ≡ self.old) }
+        ensures full { IfErr result (λ e. (e ≡ BufferFull) ↔ (length self.old.pairs ≡ self.old.limit)) }
+        ensures room { OnOk result (length self.old.pairs < self.old.limit) }
+    {
+        if self.pairs.len() == self.limit {
+            return Err(PushRefusal::BufferFull);
+        }
+        match self.pairs.push(key, value, name) {
+            Ok(()) => Ok(()),
+            Err(_) => Err(PushRefusal::OutOfMemory),
+        }
+    }
+
+    /// Takes a pair, its name past those of all before it. A refusal hands it back, and leaves the buffer as it was.
+    pub fn push(&mut self, pair: Pair) -> Result<(), PushFault>
+        requires { Rises name_order (names_of self.old.pairs ++ pair.name ∷ []) }
+        ensures ok { OnOk result (self.new ≡ record { limit = self.old.limit; pairs = self.old.pairs ++ pair ∷ [] }) }
+        ensures err { OnErr result (self.new ≡ self.old) }
+        ensures back { IfErr result (λ e. e ≡ (if length self.old.pairs == self.old.limit then Full pair else NoRoom pair)) }
+        ensures room { OnOk result (length self.old.pairs < self.old.limit) }
+    {
+        match self.push_key(pair.key.as_slice(), pair.value, pair.name) {
+            Ok(()) => Ok(()),
+            Err(PushRefusal::BufferFull) => Err(PushFault::BufferFull(pair)),
+            Err(PushRefusal::OutOfMemory) => Err(PushFault::OutOfMemory(pair)),
+        }
+    }
+
+    /// A region for each partition, in order, of the pairs that it holds: by key, and then name. It holds none then.
+    /// It fails only for want of memory, and then leaves the buffer as it was.
+    pub fn seal(&mut self, alloc: Global, parts: u32) -> Result<Vec<Pairs>, AllocError>
+        requires { 0 < parts }
+        ensures ok { IfOk result (λ v. v.items ≡ regions (λ k. partition_of k parts) parts self.old.pairs) }
+        ensures empty { OnOk result (self.new ≡ record { limit = self.old.limit; pairs = [] }) }
+        ensures err { OnErr result (self.new ≡ self.old) }
+    {
+        let regions = sealed(alloc, &self.pairs, parts)?;
+        self.pairs.clear();
+        Ok(regions)
+    }
+}
