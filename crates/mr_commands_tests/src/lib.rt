@@ -1,4 +1,4 @@
-//! The commands over files in memory: that they succeed, which file of several is told, and what a failed write leaves.
+//! The commands over files in memory: which file of several is told, and what a failed write leaves. What they answer is shown from outside.
 #![tactic(auto)]
 
 #[cfg(test)]

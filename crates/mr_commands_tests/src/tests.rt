@@ -24,14 +24,6 @@ fn words<'a>(
     })
 }
 
-/// Whether the text and the status are these.
-fn says(answer: Result<Said, Fault>, text: &str, status: u8) -> bool {
-    match answer {
-        Ok(said) => said.text.as_str() == text && said.status == status,
-        Err(_) => false,
-    }
-}
-
 /// Whether that file can't be read (or, where `written`, can't be written).
 fn tells(answer: Result<Said, Fault>, written: bool, file: &str) -> bool {
     match answer {
@@ -48,42 +40,6 @@ fn stands(alloc: Global, store: &MemoryFiles, name: &str, text: &[u8]) -> Result
     };
     let mut bytes = Vec::new(alloc);
     Ok(read_all(&mut reader, &mut bytes).is_ok() && bytes.as_slice() == text)
-}
-
-#[test]
-fn runs_and_judges(rt: HostRuntime) -> Result<(), Fail> {
-    let alloc = rt.alloc();
-    let mut store = MemoryFiles::new(alloc);
-    store.put("a", b"the cat the dog\n", false)?;
-    store.put("x/y/part-00002", b"old", false)?;
-    let run = Subcommand::Seq(words(alloc, 2, "x/y", &["a", "a"])?, "");
-    let judge = Subcommand::Check(words(alloc, 2, "x/y", &["a", "a"])?);
-    assert!(rt;
-        says(
-            done(&mut store, alloc, &run),
-            "done: 2 files, 8 pairs, 0 left out\n",
-            0
-        )
-    );
-    assert!(rt; stands(alloc, &store, "x/y/part-00000", b"the\t4\n")?);
-    assert!(rt; stands(alloc, &store, "x/y/part-00001", b"cat\t2\ndog\t2\n")?);
-    assert!(rt; stands(alloc, &store, "x/y/part-00002", b"old")?);
-    assert!(rt;
-        says(
-            done(&mut store, alloc, &judge),
-            "yes: 8 pairs, 0 left out\n",
-            0
-        )
-    );
-    store.put("x/y/part-00000", b"the\t5\n", false)?;
-    assert!(rt;
-        says(
-            done(&mut store, alloc, &judge),
-            "no: OutputDiffers partition 0 at 4\n",
-            1
-        )
-    );
-    Ok(())
 }
 
 #[test]

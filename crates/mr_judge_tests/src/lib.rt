@@ -1,7 +1,5 @@
-//! Tests of `mr_sequential` and `mr_check` over their public calls: a worked result, faults of a list of left-out records, a yes, noes, and the meter.
+//! Tests of `mr_check` over its public calls: what no program shows, a fault of the outputs' number and the meter. Yeses, noes and left-out records are rows of the checks from outside.
 #![tactic(auto)]
 
-#[cfg(test)]
-mod results;
 #[cfg(test)]
 mod verdicts;

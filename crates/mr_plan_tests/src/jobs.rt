@@ -1,112 +1,10 @@
-//! What jobs emit, and the limits of requests.
+//! What `map` adds, and the limits of requests. What each job emits for a line is a row of the checks from outside.
 use mr_bytes::Value;
 use mr_input::Input;
 use mr_jobs::{Emissions, Job, JobFault, Origin, Request, RequestFault, map};
-use std::alloc::Global;
-use std::process::Abort;
 use std::test::Fail;
 
 const AT: Origin = Origin { file: 1, start: 4 };
-
-const PLACE: Value = Value::At { file: 1, offset: 4 };
-
-/// Maps the line twice, and sees that each time just these keys came, each with this value.
-fn emits(
-    rt: &impl Abort,
-    alloc: Global,
-    job: &Job,
-    line: &[u8],
-    keys: &[&[u8]],
-    value: Value,
-) -> Result<(), Fail> {
-    let mut out = Emissions::new(alloc);
-    assert!(rt; line.len() <= 1000);
-    assert!(rt; keys.len() <= 1000);
-    map(alloc, job, AT, line, &mut out)?;
-    assert!(rt; out.len() == keys.len());
-    map(alloc, job, AT, line, &mut out)?;
-    assert!(rt; out.len() == 2 * keys.len());
-    for (i, key) in keys.iter().enumerate() {
-        if i < out.len() {
-            assert!(rt; out.get(i) == (*key, value));
-        }
-        let again = keys.len() + i;
-        if again < out.len() {
-            assert!(rt; out.get(again) == (*key, value));
-        }
-    }
-    Ok(())
-}
-
-#[test]
-fn words(rt: HostRuntime) -> Result<(), Fail> {
-    let alloc = rt.alloc();
-    let folded = Job::words(false);
-    let exact = Job::words(true);
-    let line = b"\x41\x62\x20\xc3\x84\x42";
-    emits(
-        &rt,
-        alloc,
-        &folded,
-        line,
-        &[b"ab", b"\xc3\x84\x62"],
-        Value::One,
-    )?;
-    emits(
-        &rt,
-        alloc,
-        &exact,
-        line,
-        &[b"Ab", b"\xc3\x84\x42"],
-        Value::One,
-    )?;
-    emits(&rt, alloc, &folded, &[b'a'; 65], &[&[b'a'; 65]], Value::One)?;
-    emits(
-        &rt,
-        alloc,
-        &folded,
-        b"a b,a",
-        &[b"a", b"b", b"a"],
-        Value::One,
-    )?;
-    emits(&rt, alloc, &folded, b" -\r", &[], Value::One)?;
-    emits(&rt, alloc, &folded, b"", &[], Value::One)?;
-    Ok(())
-}
-
-#[test]
-fn lines_with_a_literal(rt: HostRuntime) -> Result<(), Fail> {
-    let alloc = rt.alloc();
-    let job = Job::grep(alloc, b"b", false)?;
-    emits(&rt, alloc, &job, b"abc", &[b"abc"], PLACE)?;
-    emits(&rt, alloc, &job, b"xbz", &[b"xbz"], PLACE)?;
-    emits(&rt, alloc, &job, b"b\r", &[b"b\r"], PLACE)?;
-    emits(&rt, alloc, &job, b"xBz", &[], PLACE)?;
-    emits(&rt, alloc, &job, b"", &[], PLACE)?;
-    let folded = Job::grep(alloc, b"AB", true)?;
-    emits(&rt, alloc, &folded, b"xab", &[b"xab"], PLACE)?;
-    emits(&rt, alloc, &folded, b"b", &[], PLACE)?;
-    emits(&rt, alloc, &folded, b"aB", &[b"aB"], PLACE)?;
-    Ok(())
-}
-
-#[test]
-fn resources_of_a_log(rt: HostRuntime) -> Result<(), Fail> {
-    let alloc = rt.alloc();
-    let job = Job::url();
-    let usual = b"1.2.3.4 - - [10/Oct/2000:13:55:36 -0700] \"GET /a HTTP/1.0\" 200 2326";
-    emits(&rt, alloc, &job, usual, &[b"/a"], Value::One)?;
-    emits(&rt, alloc, &job, b"h \"-\" 1", &[], Value::One)?;
-    emits(&rt, alloc, &job, b"h \"GET  /a\" 1", &[], Value::One)?;
-    emits(&rt, alloc, &job, b"h \"GET /a 1", &[], Value::One)?;
-    let escaped = b"h - - [t] \"GET /a\\\"b HTTP/1.0\" 200 1";
-    emits(&rt, alloc, &job, escaped, &[b"/a\\\"b"], Value::One)?;
-    emits(&rt, alloc, &job, b"\"GET /a\\ b\"", &[b"/a\\"], Value::One)?;
-    emits(&rt, alloc, &job, b"\"GET /a\\", &[], Value::One)?;
-    emits(&rt, alloc, &job, b"\" /a\"", &[b"/a"], Value::One)?;
-    emits(&rt, alloc, &job, b"no quote", &[], Value::One)?;
-    Ok(())
-}
 
 #[test]
 fn emissions(rt: HostRuntime) -> Result<(), Fail> {
@@ -118,8 +16,13 @@ fn emissions(rt: HostRuntime) -> Result<(), Fail> {
     out.clear();
     assert!(rt; out.is_empty());
     map(alloc, &Job::words(true), AT, b"d", &mut out)?;
-    assert!(rt; out.len() == 1);
+    map(alloc, &Job::words(true), AT, b"e", &mut out)?;
+    map(alloc, &Job::grep(alloc, b"f", false)?, AT, b"f", &mut out)?;
+    let place = Value::At { file: 1, offset: 4 };
+    assert!(rt; out.len() == 3);
     assert!(rt; out.get(0) == (b"d".as_slice(), Value::One));
+    assert!(rt; out.get(1) == (b"e".as_slice(), Value::One));
+    assert!(rt; out.get(2) == (b"f".as_slice(), place));
     Ok(())
 }
 

@@ -1,0 +1,180 @@
+"""Scripts and certificates, row by row: what the libraries `mr_script` and `mr_certform` tell of bytes.
+
+They are reached through two small programs, `mr_script_tests` and `mr_certform_tests`, which the gate leaves beside the
+checked one: each reads bytes on standard input, and prints what they are. Expected values are worked out by hand."""
+import os
+import struct
+import subprocess
+
+TOP = os.path.dirname(os.path.dirname(os.path.abspath(__file__)))
+
+
+def program(crate):
+    return os.path.join(TOP, "crates", crate, "out", crate)
+
+
+def told(crate, data):
+    """What the program prints of these bytes, line by line; nothing where it fails."""
+    ran = subprocess.run([program(crate)], input=data, capture_output=True)
+    return ran.stdout.decode().splitlines() if ran.returncode == 0 else []
+
+
+def built(crate, group):
+    """The group, where the program is there."""
+
+    def checked(harness):
+        if os.path.exists(program(crate)):
+            group(harness)
+        else:
+            harness.check(f"crates/{crate} is built (by ./test, or by `rt run` there)", False)
+
+    return checked
+
+
+# Scripts: a text, and the directives that it spells or the number of its first bad line.
+
+LOSE, ZOMBIE = "Lose { worker: 1, after: 2 }", "Zombie { worker: 3, after: 4 }"
+BAD, FLAKY = "Bad { split: 5, rec: 6 }", "Flaky { split: 7, rec: 8, attempts: 9 }"
+HOLD, SPOIL = "Hold { worker: 10 }", "Spoil { partition: 11, place: 12 }"
+
+SCRIPTS = [
+    (b"lose 1 after 2\n", [LOSE]),
+    (b"zombie 3 after 4\n", [ZOMBIE]),
+    (b"bad 5 6\n", [BAD]),
+    (b"flaky 7 8 9\n", [FLAKY]),
+    (b"hold 10\n", [HOLD]),
+    (b"spoil 11 12\n", [SPOIL]),
+    (b"spoil 11 12\nflaky 7 8 9\nlose 1 after 2", [SPOIL, FLAKY, LOSE]),
+    # lines that say nothing
+    (b"\n\n#\n#lose\r\n", []),
+    (b"# x\nspoil 0 007\n", ["Spoil { partition: 0, place: 7 }"]),
+    # the first bad line is told
+    (b"lose 0 after 1\n\nlose 0  after 1\n", 3),
+    (b"x\ny\n", 1),
+    (b"# x\n\nhold 1\nhold\nhold 2\nhold\n", 4),
+    (b"hold 1\r\n", 1),
+    (b"hold 1\n\r\n", 2),
+    (b" # x", 1),
+    (b" ", 1),
+    (b" hold 1", 1),
+    (b"hold 1 ", 1),
+    (b"hold\t1", 1),
+    (b"hold ", 1),
+    (b"hold 1 2", 1),
+    (b"Hold 1", 1),
+    (b"hold +1", 1),
+    (b"hold 1 # x", 1),
+    (b"lose 0 before 1", 1),
+    (b"lose 0 1", 1),
+    (b"bad 1", 1),
+    (b"bad 1 2 3", 1),
+    (b"flaky 1 2", 1),
+    (b"damage 1 2", 1),
+    # numbers
+    (b"hold 0000000001", ["Hold { worker: 1 }"]),
+    (b"hold 00000000001", 1),
+    (b"hold 4294967295", ["Hold { worker: 4294967295 }"]),
+    (b"hold 4294967296", 1),
+    (b"hold 9999999999", 1),
+    (b"hold 1:", 1),
+    (b"hold /", 1),
+    # many lines: want of memory isn't told in the place of the last, which is bad
+    (b"hold 10\n" * 2000, [HOLD] * 2000),
+    (b"hold 10\n" * 2000 + b"hold", 2001),
+]
+
+
+def scripts(harness):
+    harness.check("an empty script, and want of memory", told("mr_script_tests", b"") == ["OutOfMemory", "[]"])
+    for text, wanted in SCRIPTS:
+        line = f"BadLine {wanted}" if isinstance(wanted, int) else f"[{', '.join(wanted)}]"
+        harness.check(f"script {text[:40]!r}", told("mr_script_tests", text) == [line])
+
+
+# Certificates. The first is that of the words of `a b a` and a line end, one partition, splits of 64 bytes: each item
+# with its bytes.
+
+
+def number(n):
+    return struct.pack(">I", n)
+
+
+def name(split, rec, place):
+    return f"Name {{ split: {split}, rec: {rec}, place: {place} }}", number(split) + number(rec) + number(place)
+
+
+FIRST, SECOND, THIRD = name(0, 0, 0), name(0, 0, 2), name(0, 0, 1)
+
+ITEMS = [
+    ("Magic", b"MRCERT1\n"),
+    ("Job(1)", number(1)),
+    ("Flags(0)", number(0)),
+    ("LiteralLength(0)", number(0)),
+    ("Parts(1)", number(1)),
+    ("SplitSize(64)", number(64)),
+    ("Files(1)", number(1)),
+    ("FileLength(6)", struct.pack(">Q", 6)),
+    ("Skips(0)", number(0)),
+    ("Groups(2)", number(2)),
+    ("Entries(2)", number(2)),
+    (f"Entry({FIRST[0]})", FIRST[1]),
+    (f"Entry({SECOND[0]})", SECOND[1]),
+    ("Entries(1)", number(1)),
+    (f"Entry({THIRD[0]})", THIRD[1]),
+]
+EXAMPLE = b"".join(data for _, data in ITEMS)
+# where each item begins, and the end
+PLACES = [sum(len(data) for _, data in ITEMS[:n]) for n in range(len(ITEMS) + 1)]
+
+
+def cut(n):
+    """What is told of the first `n` bytes: the items that stand whole, and twice the place where they stop."""
+    whole = sum(place <= n for place in PLACES[1:])
+    return [f"Malformed at {PLACES[whole]}", *(item for item, _ in ITEMS[:whole]), *[f"stops at {PLACES[whole]}"] * 2]
+
+
+def certificates(harness):
+    tells = lambda data: told("mr_certform_tests", data)
+    harness.check("the example has 92 bytes", len(EXAMPLE) == 92)
+    harness.check("the example is built", tells(b"") == [str(list(EXAMPLE)), "OutOfMemory"])
+    head = ["job 1 flags 0 literal []", "parts 1 split 64", "lengths [6] skips []", "total 3", "written again: true"]
+    groups = ["partition", f"group [{FIRST[0]}, {SECOND[0]}]", f"group [{THIRD[0]}]"]
+    harness.check("the example", tells(EXAMPLE) == [*head, *groups, *(item for item, _ in ITEMS), "End", "End"])
+    for n in range(1, 92):
+        harness.check(f"the first {n} bytes of the example", tells(EXAMPLE[:n]) == cut(n))
+    harness.check("a byte behind the example", tells(EXAMPLE + b"\0")[0] == "Malformed at 92")
+    # with the four bytes at a place made this number, the example is malformed there, or nowhere
+    for at, n, wanted in [
+        (20, 0, 20),
+        (20, 1025, 20),
+        (20, 1024, 92),
+        (16, 4097, 16),
+        (28, 1025, 28),
+        (48, 0, 48),
+        (48, 4_294_967_295, 88),
+        (44, 4_294_967_295, 92),
+        (0, 0, 0),
+        (8, 9, None),
+    ]:
+        line = "job 9 flags 0 literal []" if wanted is None else f"Malformed at {wanted}"
+        harness.check(f"{n} at {at}", tells(EXAMPLE[:at] + number(n) + EXAMPLE[at + 4 :])[0] == line)
+
+
+def lists_of_certificates(harness):
+    tells = lambda data: told("mr_certform_tests", data)
+    full = b"MRCERT1\n" + number(2) + number(2) + number(2) + b"ab" + number(1) + number(1) + number(0) + number(1) + number(3) + number(5) + number(0)
+    wanted = ["job 2 flags 2 literal [97, 98]", "parts 1 split 1", "lengths [] skips [RecordName { split: 3, rec: 5 }]", "total 0", "written again: true", "partition"]
+    harness.check("a literal, a left-out record, no file and no group", tells(full)[:6] == wanted)
+    # the most partitions, and a group of two million names, 24 MB
+    front = b"MRCERT1\n" + number(1) + number(0) + number(0) + number(1024) + number(64) + number(0) + number(0)
+    names = b"".join(bytes(8) + number(place) for place in range(2_000_000))
+    large = front + number(0) * 1023 + number(1) + number(2_000_000) + names
+    wanted = ["job 1 flags 0 literal []", "parts 1024 split 64", "lengths [] skips []", "total 2000000", "written again: true"]
+    harness.check("large counts", tells(large) == wanted)
+
+
+GROUPS = {
+    "scripts": built("mr_script_tests", scripts),
+    "certificates": built("mr_certform_tests", certificates),
+    "lists of certificates": built("mr_certform_tests", lists_of_certificates),
+}
