@@ -51,7 +51,9 @@ pub fn input_of(alloc: Global, request: &Request, text: &[u8]) -> Result<Input, 
     ensures { IfOk result (λ input. split_total request.now.split input ≤ 2 ^ 20) }
 {
     let mut files = Vec::new(alloc);
-    files.push(Vec::from_slice(alloc, text)?).map_err(AllocError::from)?;
+    files
+        .push(Vec::from_slice(alloc, text)?)
+        .map_err(AllocError::from)?;
     let input = Input::of(files)?;
     if !request.fits(&input) {
         return Err(Trouble::TooManySplits);
@@ -83,6 +85,15 @@ pub fn judged(
     ensures { IfOk result (λ yes. IsCertified request.now input.now (contents handed.now.outputs.items) handed.now.certificate.items
         yes.skips.items yes.pairs) }
 {
-    let Handed { outputs, certificate } = handed;
-    Ok(check(alloc, request, input, outputs.as_slice(), certificate.as_slice())?)
+    let Handed {
+        outputs,
+        certificate,
+    } = handed;
+    Ok(check(
+        alloc,
+        request,
+        input,
+        outputs.as_slice(),
+        certificate.as_slice(),
+    )?)
 }

@@ -1,7 +1,7 @@
 //! A result is made and judged; then one byte of it is changed, and the judge says where.
 use crate::{Handed, Trouble, agreed, input_of, judged, made};
 use mr_check::No;
-use std::alloc::Global;
+use std::alloc::{AllocError, Global};
 use std::test::Fail;
 
 const BOOK: &[u8] = b"The cat saw the dog.\nThe dog saw nothing.\n";
@@ -21,6 +21,22 @@ fn pairs_judged(alloc: Global, handed: &Handed) -> Result<u64, Trouble> {
     Ok(yes.pairs)
 }
 
+/// Other outputs with the certificate of the book's.
+fn with_outputs(alloc: Global, first: &[u8], second: &[u8]) -> Result<Handed, Trouble> {
+    let mut outputs = Vec::new(alloc);
+    outputs
+        .push(Vec::from_slice(alloc, first)?)
+        .map_err(AllocError::from)?;
+    outputs
+        .push(Vec::from_slice(alloc, second)?)
+        .map_err(AllocError::from)?;
+    let certificate = counted(alloc)?.certificate;
+    Ok(Handed {
+        outputs,
+        certificate,
+    })
+}
+
 #[test]
 fn a_result_is_made_and_judged(rt: HostRuntime) -> Result<(), Fail> {
     let handed = counted(rt.alloc())?;
@@ -33,9 +49,12 @@ fn a_result_is_made_and_judged(rt: HostRuntime) -> Result<(), Fail> {
 
 #[test]
 fn a_changed_byte_is_told(rt: HostRuntime) -> Result<(), Fail> {
-    let mut handed = counted(rt.alloc())?;
-    handed.outputs[1][4] = b'2';
-    match pairs_judged(rt.alloc(), &handed) {
+    let spoiled = with_outputs(
+        rt.alloc(),
+        b"nothing\t1\nsaw\t2\nthe\t3\n",
+        b"cat\t2\ndog\t2\n",
+    )?;
+    match pairs_judged(rt.alloc(), &spoiled) {
         Err(Trouble::Judged(No::OutputDiffers { partition, at })) => {
             assert!(rt; partition == 1 && at == 4);
         }
