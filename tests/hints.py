@@ -71,6 +71,7 @@ def limits(harness):
     for words in (["--help"], ["--version"], ["seq", "--help"]):
         harness.check(f"{words} on a terminal", on_terminal(harness, words, harness.directory()) == harness.run(words)[:3])
     where = harness.directory(TEXT)
+    harness.check("no note where nothing can be done", on_terminal(harness, [*seq[:-1], "nowhere", "--parts", "1025", "a"], where) == (2, b"", b"mapred: BadParts\nhint: --parts is 1 to 1024\n"))
     harness.check("nothing where all is well", on_terminal(harness, [*seq, "a"], where) == (0, b"done: 1 files, 9 pairs, 0 left out\n", b""))
     harness.check("nothing where the judge says yes", on_terminal(harness, ["check", *WORDS, "a"], where) == (0, b"yes: 9 pairs, 0 left out\n", b""))
 
@@ -87,14 +88,14 @@ def files(harness):
     told(harness, "a file for a directory", [*seq, "a", "a"], 3, err=b"mapred: cannot write a/part-00000\n", before=b"note: a is no directory\n", hint=b"Not a directory (os error 20)")
     full = harness.directory(TEXT)
     os.symlink("/dev/full", os.path.join(full, "certificate"))
-    over = b"note: . has a result already, which is written over\n"
+    over = b"note: . has a result already, which will be written over\n"
     told(harness, "a full disk", ["seq", *WORDS, "a"], 3, err=b"mapred: cannot write ./certificate\n", before=over, hint=b"No space left on device (os error 28)", where=full)
     done = b"done: 1 files, 9 pairs, 0 left out\n"
     again = harness.directory(TEXT)
     harness.run(["seq", *WORDS, "a"], cwd=again)
     told(harness, "an earlier result", ["seq", *WORDS, "a"], 0, out=done, before=over, where=again)
     harness.directory({"part-00003": b"old\n", "part-01024": b""}, again)
-    lies = b"note: . has part-00003 too, which is none of these %d parts and stays\n"
+    lies = b"note: . has part-00003 too, which is none of this result (--parts %d) and stays\n"
     told(harness, "another part beside", ["seq", *WORDS, "a"], 0, out=done, before=over + lies % 1, where=again)
     told(harness, "another part beside what is judged", ["check", *WORDS, "a"], 0, out=b"yes: 9 pairs, 0 left out\n", before=lies % 1, where=again)
     told(harness, "none where it is one of them", ["seq", *WORDS, "--parts", "4", "a"], 0, out=b"done: 4 files, 9 pairs, 0 left out\n", before=over, where=again)
@@ -126,7 +127,7 @@ def verdicts(harness):
     ]:
         for part in (1, 2):
             harness.directory({f"part-{part:05}": b""}, made)
-        lies = b"" if b"--parts" in hint and words[words.index("--parts") + 1] == "3" else b"note: . has part-%05d too, which is none of these %d parts and stays\n" % ((2, 2) if b"--parts" in hint else (1, 1))
+        lies = b"" if b"--parts" in hint and words[words.index("--parts") + 1] == "3" else b"note: . has part-%05d too, which is none of this result (--parts %d) and stays\n" % ((2, 2) if b"--parts" in hint else (1, 1))
         told(harness, name, [*check, *words], 1, out=other, before=lies, hint=b"the certificate has other" + hint + of, where=made)
     for part in (1, 2):
         os.remove(os.path.join(made, f"part-{part:05}"))
@@ -141,6 +142,10 @@ def verdicts(harness):
     of = rb": it is of --job grep --literal '\x1b[1m' --fold --parts 1 --split 64"
     told(harness, "another literal", ["check", "--job", "grep", "--literal", "x", "--fold", "--split", "64", "--out", ".", "a"], 1, out=other, hint=b"the certificate has other --literal" + of, where=found)
     told(harness, "not folded", ["check", "--job", "grep", "--literal", "\x1b[1m", "--split", "64", "--out", ".", "a"], 1, out=other, hint=b"the certificate has other --fold" + of, where=found)
+    odd = harness.directory(TEXT)
+    write_result(odd, outputs, certificate[:11] + b"\x09" + certificate[12:])
+    of = b": it is of --job (no such job) --parts 1 --split 67108864"
+    told(harness, "a job that there isn't", [*check, "--job", "words", "a"], 1, out=other, hint=b"the certificate has other --job" + of, where=odd)
     cut = harness.directory(TEXT)
     write_result(cut, outputs, certificate[:20])
     told(harness, "a certificate that ends in its front", [*check, "--job", "url", "a"], 1, out=other, where=cut)
@@ -155,7 +160,7 @@ def both_streams(harness):
     where = harness.directory(TEXT)
     harness.run(["seq", *WORDS, "--parts", "2", "a"], cwd=where)
     got = on_terminal(harness, ["check", *WORDS, "a"], where, out_too=True)
-    lies = b"note: . has part-00001 too, which is none of these 1 parts and stays\n"
+    lies = b"note: . has part-00001 too, which is none of this result (--parts 1) and stays\n"
     wanted = lies + b"no: OtherJob\nhint: the certificate has other --parts: it is of --job words --parts 2 --split 67108864\n"
     harness.check("one terminal for both streams", got == (1, b"", wanted), repr(got))
 

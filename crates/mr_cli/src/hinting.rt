@@ -85,7 +85,9 @@ fn tell<F: Store + Look, O: Write, E: Write>(
 ) -> u8 {
     let hint = hint_of(files, alloc, asked, &answered);
     let status = finish_shown(alloc, answered, out, err);
-    if let Ok(hint) = hint && !hint.is_empty() {
+    if let Ok(hint) = hint
+        && !hint.is_empty()
+    {
         let _ = err.write_all(b"hint: ");
         show(alloc, err, hint.as_bytes(), false);
     }

@@ -27,7 +27,9 @@ enum Handle<F> {
 fn noted<T>(last: &Cell<i32>, answer: io::Result<T>) -> io::Result<T>
     ensures { result ≡ answer }
 {
-    if let Err(error) = &answer && let Some(number) = error.raw_os_error() {
+    if let Err(error) = &answer
+        && let Some(number) = error.raw_os_error()
+    {
         last.set(number);
     }
     answer

@@ -68,7 +68,8 @@ fn job_name(number: u32) -> &'static str {
     match number {
         1 => "words",
         2 => "grep",
-        _ => "url",
+        3 => "url",
+        _ => "(no such job)",
     }
 }
 
@@ -84,7 +85,9 @@ fn add_options(text: &mut String, front: &Front) -> Result<(), AllocError> {
     let job = job_name(front.job);
     write!(text, " --job {job}")?;
     if front.job == 2 {
-        let literal = str::from_utf8(front.literal.as_slice()).unwrap_or("(bytes that are not UTF-8)");
+        let literal = str::from_utf8(front.literal.as_slice()).unwrap_or(
+            "(bytes that are not UTF-8)",
+        );
         write!(text, " --literal '{literal}'")?;
     }
     add_where(text, front.flags % 2 == 1, "--keep-case")?;
@@ -98,19 +101,23 @@ fn add_others(text: &mut String, front: &Front, request: &Request) -> Result<(),
     let job = request.job();
     let is_same = front.job == job.number();
     add_where(text, !is_same, "--job")?;
-    add_where(text, is_same && front.literal.as_slice() != job.literal(), "--literal")?;
-    let flag = if front.job == 1 { "--keep-case" } else { "--fold" };
+    add_where(
+        text,
+        is_same && front.literal.as_slice() != job.literal(),
+        "--literal",
+    )?;
+    let flag = if front.job == 1 {
+        "--keep-case"
+    } else {
+        "--fold"
+    };
     add_where(text, is_same && front.flags != job.flags(), flag)?;
     add_where(text, front.parts != request.parts(), "--parts")?;
     add_where(text, front.split != request.split_size(), "--split")
 }
 
 /// In which options a certificate is of another job, and what they are in it.
-fn job_difference(
-    alloc: Global,
-    front: &Front,
-    request: &Request,
-) -> Result<String, AllocError> {
+fn job_difference(alloc: Global, front: &Front, request: &Request) -> Result<String, AllocError> {
     let mut text = String::from_str(alloc, "the certificate has other")?;
     add_others(&mut text, front, request)?;
     write!(&mut text, ": it is of")?;
@@ -130,7 +137,9 @@ fn input_difference<L: Look>(
         return format!(in alloc; "the certificate is of {was} files, not {is}");
     }
     for (length, name) in front.lengths.iter().zip(names) {
-        if let Standing::File(now) = look.standing(name) && now != *length {
+        if let Standing::File(now) = look.standing(name)
+            && now != *length
+        {
             return format!(in alloc; "{name} has {now} bytes, and had {length} by the certificate");
         }
     }

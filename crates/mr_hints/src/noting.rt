@@ -39,7 +39,9 @@ fn note_result<L: Look>(
     let certificate = certificate_name(alloc, dir)?;
     let part = part_name(alloc, dir, 0)?;
     if stands(look, certificate.as_str()) || stands(look, part.as_str()) {
-        let line = format!(in alloc; "note: {dir} has a result already, which is written over")?;
+        let line = format!(in alloc;
+            "note: {dir} has a result already, which will be written over"
+        )?;
         lines.push(line).map_err(AllocError::from)?;
     }
     Ok(())
@@ -70,7 +72,9 @@ fn note_others<L: Look>(
     lines: &mut Vec<String>,
 ) -> Result<(), AllocError> {
     if let Some(part) = first_other(look, alloc, dir, parts)? {
-        let line = format!(in alloc; "note: {dir} has part-{part:05} too, which is none of these {parts} parts and stays")?;
+        let line = format!(in alloc;
+            "note: {dir} has part-{part:05} too, which is none of this result (--parts {parts}) and stays"
+        )?;
         lines.push(line).map_err(AllocError::from)?;
     }
     Ok(())
@@ -87,6 +91,15 @@ fn seq_notes<L: Look>(
     note_others(look, alloc, options.out, options.parts as usize, lines)
 }
 
+/// Whether so many parts can be had. If not, nothing will be done.
+fn asks_for_parts(asked: &Subcommand<'_>) -> bool {
+    let options = match asked {
+        Subcommand::Seq(options, _) => options,
+        Subcommand::Check(options) => options,
+    };
+    0 < options.parts && options.parts as usize <= MOST_PARTS
+}
+
 /// Lines on the directory of the result, without line ends; none where there is nothing to tell.
 pub fn notes<L: Look>(
     look: &L,
@@ -94,6 +107,9 @@ pub fn notes<L: Look>(
     asked: &Subcommand<'_>,
 ) -> Result<Vec<String>, AllocError> {
     let mut lines = Vec::new(alloc);
+    if !asks_for_parts(asked) {
+        return Ok(lines);
+    }
     match asked {
         Subcommand::Seq(options, _) => seq_notes(look, alloc, options, &mut lines)?,
         Subcommand::Check(options) => {

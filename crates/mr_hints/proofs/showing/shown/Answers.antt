@@ -1,4 +1,4 @@
-use Rattle.std.proofs.Common.{◌≡◌, ◌++◌, ◌∙◌, ℕ, List, ap, sym, arith, get_or, drop, ◌+◌}
+use Rattle.std.proofs.Common.{◌++◌, ◌∙◌, ℕ, List, ap, sym, arith, get_or, drop, ◌+◌}
 use Rattle.mr_hints.specs.Shown.{text_shown}
 use Rattle.mr_hints.proofs.ShownLemmas.{one_more, none_left}
 use Rattle.mr_hints.proofs.showing.shown.Goals as goal
