@@ -2,6 +2,7 @@
 twice, with standard error on a pseudo terminal and without one."""
 import os
 import pty
+import resource
 import subprocess
 
 from harness import parts_of, write_result
@@ -156,13 +157,27 @@ def verdicts(harness):
 
 
 def both_streams(harness):
-    """Where both streams are one terminal, notes come before the answer and a hint behind it."""
+    """Where both streams are one terminal, notes come before the answer and a hint behind it; where standard output
+    alone is one, nothing more is told."""
     where = harness.directory(TEXT)
     harness.run(["seq", *WORDS, "--parts", "2", "a"], cwd=where)
     got = on_terminal(harness, ["check", *WORDS, "a"], where, out_too=True)
     lies = b"note: . has part-00001 too, which is none of this result (--parts 1) and stays\n"
     wanted = lies + b"no: OtherJob\nhint: the certificate has other --parts: it is of --job words --parts 2 --split 67108864\n"
     harness.check("one terminal for both streams", got == (1, b"", wanted), repr(got))
+    ours, theirs = pty.openpty()
+    ran = subprocess.run([harness.program, "check", *WORDS, "none"], cwd=where, stdout=theirs, stderr=subprocess.PIPE)
+    os.close(theirs)
+    os.close(ours)
+    harness.check("a terminal for standard output alone", (ran.returncode, ran.stderr) == (3, b"mapred: cannot read none\n"), repr(ran))
 
 
-GROUPS = {"hints on limits": limits, "hints on files": files, "hints on verdicts": verdicts, "hints on one terminal": both_streams}
+def memory(harness):
+    """Want of memory, with what helps."""
+    words = b" ".join(b"w%d" % (i * 7919 % 40000) for i in range(200_000)) + b"\n"
+    limit = lambda: resource.setrlimit(resource.RLIMIT_AS, (12_000 * 1024, 12_000 * 1024))
+    got = on_terminal(harness, ["seq", *WORDS, "a"], harness.directory({"a": words}), preexec_fn=limit)
+    harness.check("want of memory, on a terminal", got == (4, b"", b"mapred: out of memory\nhint: " + MEMORY + b"\n"), repr(got))
+
+
+GROUPS = {"hints on limits": limits, "hints on files": files, "hints on verdicts": verdicts, "hints on one terminal": both_streams, "hints on memory": memory}
