@@ -1,13 +1,16 @@
 //! The files of the system. No clause of std says what stands under a name, so nothing is known of them here, and what
 //! this file does is to be read: that the file of the name that was given is the one that is opened, that it is opened
-//! once, and that what is opened is what is read or written. Nothing else belongs here.
+//! once, and that what is opened is what is read or written. The number of the system's last error is kept beside, for
+//! hints. Nothing else belongs here.
 ghost use Rattle.std.specs.Prelude.{◌≡◌, ◌≤◌, ◌<◌, ⊤, None, IfOk, length};
 
 use crate::counted::{Failures, read_some, write_some};
+use crate::look::{Look, Standing};
 use crate::store::{Store, WriteFault};
 use mr_store::{CountedRead, CountedWrite, Device, ReadFault};
 use std::alloc::{AllocError, Global};
-use std::fs::File;
+use std::cell::Cell;
+use std::fs::{self, File};
 use std::io::{self, ErrorKind, Write};
 use std::mem;
 use std::rt::Files;
@@ -20,6 +23,18 @@ enum Handle<F> {
     Closed,
 }
 
+/// An answer as it is. Where the system failed, the number of its error is kept.
+fn noted<T>(last: &Cell<i32>, answer: io::Result<T>) -> io::Result<T>
+    ensures { result ≡ answer }
+{
+    if let Err(error) = &answer
+        && let Some(number) = error.raw_os_error()
+    {
+        last.set(number);
+    }
+    answer
+}
+
 /// A use of a file that is closed.
 fn closed<F>() -> io::Result<F> {
     Err(io::Error::from(ErrorKind::Other))
@@ -29,6 +44,7 @@ fn closed<F>() -> io::Result<F> {
 #[derive(Drop)]
 pub struct FileReader<'a, R: Files> {
     rt: &'a R,
+    last: &'a Cell<i32>,
     name: String,
     handle: Handle<R::File>,
     failures: Failures,
@@ -62,7 +78,7 @@ impl<'a, R: Files> CountedRead for FileReader<'a, R> {
     ghost lacked = { λ r. r.failures.lacked_memory };
 
     fn read(&mut self, buffer: &mut [u8]) -> Result<usize, Device> {
-        let answer = self.read_open(buffer);
+        let answer = noted(self.last, self.read_open(buffer));
         self.failures.counted(answer)
     }
 
@@ -80,6 +96,7 @@ impl<'a, R: Files> CountedRead for FileReader<'a, R> {
 #[derive(Drop)]
 pub struct FileWriter<'a, R: Files> {
     rt: &'a R,
+    last: &'a Cell<i32>,
     name: String,
     handle: Handle<R::File>,
     failures: Failures,
@@ -121,12 +138,12 @@ impl<'a, R: Files> CountedWrite for FileWriter<'a, R> {
     ghost lacked = { λ w. w.failures.lacked_memory };
 
     fn write(&mut self, bytes: &[u8]) -> Result<usize, Device> {
-        let answer = self.write_open(bytes);
+        let answer = noted(self.last, self.write_open(bytes));
         self.failures.counted(answer)
     }
 
     fn flush(&mut self) -> Result<(), Device> {
-        let answer = self.flush_open();
+        let answer = noted(self.last, self.flush_open());
         self.failures.counted(answer)
     }
 
@@ -143,11 +160,13 @@ impl<'a, R: Files> CountedWrite for FileWriter<'a, R> {
 #[derive(Drop)]
 pub struct DiskFiles<'a, R: Files> {
     rt: &'a R,
+    last: &'a Cell<i32>,
 }
 
 impl<'a, R: Files> DiskFiles<'a, R> {
-    pub fn new(rt: &'a R) -> DiskFiles<'a, R> {
-        DiskFiles { rt }
+    /// The number of the last error is kept in the cell, which holds 0 before.
+    pub fn new(rt: &'a R, last: &'a Cell<i32>) -> DiskFiles<'a, R> {
+        DiskFiles { rt, last }
     }
 }
 
@@ -163,7 +182,7 @@ impl<'a, R: Files> Store for DiskFiles<'a, R> {
     ghost unwritable = { λ _ _. ⊤ };
 
     fn try_open(&self, name: &str) -> Result<(), ReadFault> {
-        match File::open(self.rt, name) {
+        match noted(self.last, File::open(self.rt, name)) {
             Ok(_) => Ok(()),
             Err(error) if error.kind() == ErrorKind::OutOfMemory => Err(ReadFault::OutOfMemory),
             Err(_) => Err(ReadFault::Device),
@@ -173,6 +192,7 @@ impl<'a, R: Files> Store for DiskFiles<'a, R> {
     fn reader(&self, alloc: Global, name: &str) -> Result<FileReader<'a, R>, ReadFault> {
         Ok(FileReader {
             rt: self.rt,
+            last: self.last,
             name: String::from_str(alloc, name)?,
             handle: Handle::Unopened,
             failures: Failures::new(),
@@ -182,6 +202,7 @@ impl<'a, R: Files> Store for DiskFiles<'a, R> {
     fn writer(&mut self, alloc: Global, name: &str) -> Result<FileWriter<'a, R>, WriteFault> {
         Ok(FileWriter {
             rt: self.rt,
+            last: self.last,
             name: String::from_str(alloc, name)?,
             handle: Handle::Unopened,
             failures: Failures::new(),
@@ -190,5 +211,25 @@ impl<'a, R: Files> Store for DiskFiles<'a, R> {
 
     fn close(&mut self, _name: &str, _writer: FileWriter<'a, R>) -> Result<(), AllocError> {
         Ok(())
+    }
+}
+
+impl<'a, R: Files> Look for DiskFiles<'a, R> {
+    fn standing(&self, name: &str) -> Standing {
+        match fs::metadata(self.rt, name) {
+            Ok(seen) if seen.is_dir() => Standing::Directory,
+            Ok(seen) if seen.is_file() => Standing::File(seen.len()),
+            Ok(_) => Standing::Other,
+            Err(error) if error.kind() == ErrorKind::NotFound => Standing::Nothing,
+            Err(error) if error.kind() == ErrorKind::NotADirectory => Standing::Nothing,
+            Err(_) => Standing::Other,
+        }
+    }
+
+    fn reason(&self) -> Option<io::Error> {
+        match self.last.get() {
+            0 => None,
+            number => Some(io::Error::from_raw_os_error(number)),
+        }
     }
 }

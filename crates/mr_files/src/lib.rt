@@ -3,6 +3,7 @@
 
 mod counted;
 mod disk;
+mod look;
 mod memory;
 mod names;
 mod reading;
@@ -10,6 +11,7 @@ mod store;
 mod writing;
 
 pub use crate::disk::DiskFiles;
+pub use crate::look::{Look, Standing};
 pub use crate::memory::{MemoryFiles, one_content_law};
 pub use crate::names::{certificate_name, part_name};
 pub use crate::reading::{read_files, read_result};

@@ -1,0 +1,116 @@
+//! What a person at a terminal is told beside the program's own lines. Nothing here has a say in what is done, in what
+//! is answered, or in the exit status: those come from `answer` and `finish`, which are called as they are.
+use crate::failure::Failure;
+use crate::options::{command, subcommand_of};
+use crate::program::{answer, finish};
+use mr_commands::{Fault, Said, Subcommand};
+use mr_files::{Look, Store};
+use mr_hints::{NOT_UTF8, fault_hint, notes, shown, verdict_hint};
+use std::alloc::{AllocError, Global};
+use std::io::Write;
+
+/// What the words ask for, parsed once more; none where they can't be parsed.
+fn asked_by<'a>(alloc: Global, words: &'a [String]) -> Option<Subcommand<'a>> {
+    let matches = command(alloc).ok()?.try_get_matches_from(words).ok()?;
+    subcommand_of(alloc, &matches).ok()?
+}
+
+/// Shows a text, in one line or in its own, and a line end; one that there is no memory for is left out.
+fn show<E: Write>(alloc: Global, err: &mut E, text: &[u8], lines: bool) {
+    if let Ok(bytes) = shown(alloc, text, lines) {
+        let _ = err.write_all(bytes.as_slice());
+        let _ = err.write_all(b"\n");
+    }
+}
+
+/// Shows what is to be told before the work.
+fn show_notes<F: Look, E: Write>(files: &F, alloc: Global, asked: &Subcommand<'_>, err: &mut E) {
+    if let Ok(lines) = notes(files, alloc, asked) {
+        for line in lines.as_slice() {
+            show(alloc, err, line.as_bytes(), false);
+        }
+    }
+}
+
+/// The hint for an answer, without a line end; no text where there is none.
+fn hint_of<F: Store + Look>(
+    files: &F,
+    alloc: Global,
+    asked: &Option<Subcommand<'_>>,
+    answered: &Result<Said, Failure>,
+) -> Result<String, AllocError> {
+    match (answered, asked) {
+        (Ok(said), Some(asked)) => verdict_hint(files, alloc, asked, said.text.as_str()),
+        (Err(Failure::Command(fault)), _) => fault_hint(files, alloc, fault),
+        (Err(Failure::NotUtf8), _) => String::from_str(alloc, NOT_UTF8),
+        _ => Ok(String::new(alloc)),
+    }
+}
+
+/// Whether the text of an answer may hold a word of the command line, and whether it has lines of its own then.
+fn tells_words(answered: &Result<Said, Failure>) -> Option<bool> {
+    match answered {
+        Err(Failure::Line(_)) => Some(true),
+        Err(Failure::Command(Fault::CannotRead(_) | Fault::CannotWrite(_))) => Some(false),
+        _ => None,
+    }
+}
+
+/// Finishes as `finish` does, control bytes of words shown by their numbers.
+fn finish_shown<O: Write, E: Write>(
+    alloc: Global,
+    answered: Result<Said, Failure>,
+    out: &mut O,
+    err: &mut E,
+) -> u8 {
+    let Some(lines) = tells_words(&answered) else {
+        return finish(answered, out, err);
+    };
+    let mut told = Vec::new(alloc);
+    let status = finish(answered, out, &mut told);
+    if let Some((_, text)) = told.split_last() {
+        show(alloc, err, text, lines);
+    }
+    status
+}
+
+/// Says an answer, and a hint behind it.
+fn tell<F: Store + Look, O: Write, E: Write>(
+    files: &F,
+    alloc: Global,
+    asked: &Option<Subcommand<'_>>,
+    answered: Result<Said, Failure>,
+    out: &mut O,
+    err: &mut E,
+) -> u8 {
+    let hint = hint_of(files, alloc, asked, &answered);
+    let status = finish_shown(alloc, answered, out, err);
+    if let Ok(hint) = hint
+        && !hint.is_empty()
+    {
+        let _ = err.write_all(b"hint: ");
+        show(alloc, err, hint.as_bytes(), false);
+    }
+    status
+}
+
+/// Answers the words, of which the first is the program's name, as for a program, with notes before the answer and a
+/// hint behind it; gives the exit status.
+pub fn tell_person<F: Store + Look, O: Write, E: Write>(
+    files: &mut F,
+    alloc: Global,
+    words: Result<Vec<String>, Failure>,
+    out: &mut O,
+    err: &mut E,
+) -> u8 {
+    let words = match words {
+        Ok(words) => words,
+        Err(failure) => return tell(files, alloc, &None, Err(failure), out, err),
+    };
+    let asked = asked_by(alloc, words.as_slice());
+    if let Some(asked) = &asked {
+        show_notes(files, alloc, asked, err);
+    }
+    let answered = answer(files, alloc, words.as_slice());
+    tell(files, alloc, &asked, answered, out, err)
+}

@@ -1,0 +1,99 @@
+//! The crates as a program of one's own uses them: a job is run over bytes in memory (`mr_sequential`), and whoever is
+//! handed the result judges it (`mr_check`) before it is used.
+#![tactic(auto)]
+
+ghost use Rattle.std.specs.Prelude.{◌≤◌, ◌^◌, IfOk};
+ghost use Rattle.mr_input.specs.Files.{contents, split_total};
+ghost use Rattle.mr_check.specs.Headline.{IsCertified};
+
+use mr_certform::write;
+use mr_check::{No, Yes, check};
+use mr_input::{Input, InputFault};
+use mr_jobs::{Job, Request, RequestFault};
+use mr_sequential::{RunFault, run};
+use std::alloc::{AllocError, Global};
+use thiserror::Error;
+
+#[cfg(test)]
+mod tests;
+
+/// Why there is no result, or none that may be used.
+#[derive(Debug, Drop, Error)]
+pub enum Trouble {
+    #[error("{0}")]
+    Request(#[from] RequestFault),
+    #[error("{0}")]
+    Input(#[from] InputFault),
+    #[error("the input has too many splits")]
+    TooManySplits,
+    #[error("{0}")]
+    Run(#[from] RunFault),
+    #[error("{0}")]
+    Judged(#[from] No),
+    #[error("out of memory")]
+    Memory(#[from] AllocError),
+}
+
+/// What is handed from those who made a result to those who use it.
+#[derive(Drop)]
+pub struct Handed {
+    pub outputs: Vec<Vec<u8>>,
+    pub certificate: Vec<u8>,
+}
+
+/// What both sides agree on: words are counted, in two partitions, and no record is left out.
+pub fn agreed() -> Result<Request, Trouble> {
+    Ok(Request::new(Job::words(false), 2, 67_108_864, 0)?)
+}
+
+/// One text as the input of the request, which it fits.
+pub fn input_of(alloc: Global, request: &Request, text: &[u8]) -> Result<Input, Trouble>
+    ensures { IfOk result (λ input. split_total request.now.split input ≤ 2 ^ 20) }
+{
+    let mut files = Vec::new(alloc);
+    files
+        .push(Vec::from_slice(alloc, text)?)
+        .map_err(AllocError::from)?;
+    let input = Input::of(files)?;
+    if !request.fits(&input) {
+        return Err(Trouble::TooManySplits);
+    }
+    Ok(input)
+}
+
+/// Those who make it: the job is run, and its certificate spelled.
+pub fn made(alloc: Global, request: &Request, input: &Input) -> Result<Handed, Trouble>
+    requires { split_total request.now.split input.now ≤ 2 ^ 20 }
+{
+    let (outputs, certificate) = run(alloc, request, input, &[])?;
+    let certificate = write(alloc, &certificate)?;
+    Ok(Handed {
+        outputs,
+        certificate,
+    })
+}
+
+/// Those who use it, and trust nobody who made it: where this says yes, the outputs are those of the sequential
+/// execution, whoever made them.
+pub fn judged(
+    alloc: Global,
+    request: &Request,
+    input: &Input,
+    handed: &Handed,
+) -> Result<Yes, Trouble>
+    requires { split_total request.now.split input.now ≤ 2 ^ 20 }
+    ensures { IfOk result (λ yes. IsCertified request.now input.now (contents handed.now.outputs.items) handed.now.certificate.items
+        yes.skips.items yes.pairs) }
+{
+    let Handed {
+        outputs,
+        certificate,
+    } = handed;
+    Ok(check(
+        alloc,
+        request,
+        input,
+        outputs.as_slice(),
+        certificate.as_slice(),
+    )?)
+}

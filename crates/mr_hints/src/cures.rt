@@ -1,0 +1,79 @@
+//! What can be done about a fault: the option and its limit, or the system's reason.
+use mr_commands::Fault;
+use mr_files::Look;
+use mr_input::InputFault;
+use mr_jobs::{JobFault, RequestFault};
+use mr_sequential::RunFault;
+use std::alloc::{AllocError, Global};
+
+/// About a word of the command line that is not UTF-8.
+pub const NOT_UTF8: &str =
+    "literals and names of files are UTF-8: give the file another name, or a link";
+
+const MEMORY: &str =
+    "1 GiB of words takes 4 to 5 GB: close other programs, or cut the input into several runs";
+
+fn job_cure(fault: &JobFault) -> &'static str {
+    match fault {
+        JobFault::EmptyLiteral => "grep needs --literal TEXT, of 1 to 4096 bytes",
+        JobFault::LongLiteral => "--literal is 1 to 4096 bytes",
+        JobFault::LineEndInLiteral =>
+            "--literal holds no line feed, since lines are looked at one by one",
+        JobFault::OutOfMemory => MEMORY,
+    }
+}
+
+fn request_cure(fault: &RequestFault) -> &'static str {
+    match fault {
+        RequestFault::BadParts => "--parts is 1 to 1024",
+        RequestFault::BadSplitSize => "--split is 1 to 67108864",
+        RequestFault::BadSkips => "--max-skips is 0 to 1000",
+    }
+}
+
+fn input_cure(fault: &InputFault) -> &'static str {
+    match fault {
+        InputFault::TooManyFiles =>
+            "at most 1024 files: join some with cat, or cut the input into several runs",
+        InputFault::TooLarge =>
+            "at most 1 GiB (1073741824 bytes) in all files: cut the input into several runs",
+    }
+}
+
+fn run_cure(fault: &RunFault) -> &'static str {
+    match fault {
+        RunFault::NoSuchRecord =>
+            "--skips names a record that isn't there: splits, and records in each split, count from 0",
+        RunFault::SkipOrder => "--skips rises, by split and then by record, and names none twice",
+        RunFault::TooManySkips =>
+            "--skips names more records than --max-skips K allows; K is 0 where it isn't given",
+        RunFault::OutOfMemory => MEMORY,
+    }
+}
+
+/// What can be done about a fault of a command; nothing about a file, of which the system has its reason.
+fn cure(fault: &Fault) -> &'static str {
+    match fault {
+        Fault::OtherJobsOption =>
+            "--keep-case belongs to words, --literal and --fold to grep; url has none",
+        Fault::Job(fault) => job_cure(fault),
+        Fault::Request(fault) => request_cure(fault),
+        Fault::BadSkipList => "--skips is SPLIT:RECORD,SPLIT:RECORD, as in 0:1,0:7",
+        Fault::Input(fault) => input_cure(fault),
+        Fault::TooManySplits =>
+            "at most 1048576 splits: a greater --split, up to 67108864, makes fewer",
+        Fault::Run(fault) => run_cure(fault),
+        Fault::CannotRead(_) | Fault::CannotWrite(_) => "",
+        Fault::OutOfMemory => MEMORY,
+    }
+}
+
+/// The hint for a fault, without a line end; no text where there is none.
+pub fn fault_hint<L: Look>(look: &L, alloc: Global, fault: &Fault) -> Result<String, AllocError> {
+    match (fault, look.reason()) {
+        (Fault::CannotRead(_) | Fault::CannotWrite(_), Some(reason)) => format!(in alloc;
+            "{reason}"
+        ),
+        _ => String::from_str(alloc, cure(fault)),
+    }
+}

@@ -1,0 +1,183 @@
+"""What a person at a terminal is told beside the program's own lines, and that nobody else is told it: each row runs
+twice, with standard error on a pseudo terminal and without one."""
+import os
+import pty
+import resource
+import subprocess
+
+from harness import parts_of, write_result
+from rows import plain
+
+TEXT = {"a": b"The cat saw the dog.\nThe dog saw nothing.\n"}
+WORDS = ["--job", "words", "--out", "."]
+MEMORY = b"1 GiB of words takes 4 to 5 GB: close other programs, or cut the input into several runs"
+
+
+def on_terminal(harness, words, cwd, out_too=False, **more):
+    """(status, standard output, what the terminal shows) of a run whose standard error is a terminal."""
+    ours, theirs = pty.openpty()
+    with subprocess.Popen([harness.program, *words], cwd=cwd, stdin=subprocess.DEVNULL, stdout=theirs if out_too else subprocess.PIPE, stderr=theirs, **more) as ran:
+        os.close(theirs)
+        out = b"" if out_too else ran.stdout.read()
+        shown = b""
+        while True:
+            try:
+                piece = os.read(ours, 65536)
+            except OSError:
+                break
+            if not piece:
+                break
+            shown += piece
+    os.close(ours)
+    return ran.returncode, out, shown.replace(b"\r\n", b"\n")
+
+
+def told(harness, name, words, status, out=b"", err=b"", before=b"", hint=None, where=None, files=TEXT):
+    """A run on a terminal and one without, each in a directory of its own where none is given."""
+    shown = before + err + (b"hint: " + hint + b"\n" if hint else b"")
+    got = on_terminal(harness, words, where or harness.directory(files))
+    harness.check(name + ", on a terminal", got == (status, out, shown), f"{got} wanted {shown}")
+    got = harness.run(words, None if where else files, cwd=where)[:3]
+    harness.check(name + ", without", got == (status, out, err), repr(got))
+
+
+def limits(harness):
+    """Each fault of the options and of the input: which option, and which limit."""
+    seq = ["seq", *WORDS]
+    grep = ["seq", "--job", "grep", "--out", "."]
+    other = b"--keep-case belongs to words, --literal and --fold to grep; url has none"
+    literal = b"--literal is 1 to 4096 bytes"
+    skips = b"--skips names more records than --max-skips K allows; K is 0 where it isn't given"
+    for name, words, err, hint in [
+        ("no partitions", [*seq, "--parts", "0", "a"], b"BadParts", b"--parts is 1 to 1024"),
+        ("a split of no bytes", [*seq, "--split", "0", "a"], b"BadSplitSize", b"--split is 1 to 67108864"),
+        ("a limit above 1000", [*seq, "--max-skips", "1001", "a"], b"BadSkips", b"--max-skips is 0 to 1000"),
+        ("an option of another job", [*seq, "--fold", "a"], b"option does not belong to this job", other),
+        ("no literal", [*grep, "a"], b"EmptyLiteral", b"grep needs --literal TEXT, of 1 to 4096 bytes"),
+        ("a long literal", [*grep, "--literal", "x" * 4097, "a"], b"LongLiteral", literal),
+        ("a line feed in a literal", [*grep, "--literal", "x\ny", "a"], b"LineEndInLiteral", b"--literal holds no line feed, since lines are looked at one by one"),
+        ("a bad skip list", [*seq, "--skips", "0", "a"], b"bad skip list", b"--skips is SPLIT:RECORD,SPLIT:RECORD, as in 0:1,0:7"),
+        ("too many files", [*seq, *["a"] * 1025], b"TooManyFiles", b"at most 1024 files: join some with cat, or cut the input into several runs"),
+        ("too many left-out records", [*seq, "--skips", "0:1", "a"], b"TooManySkips", skips),
+        ("no such record", [*seq, "--skips", "0:2", "--max-skips", "1", "a"], b"NoSuchRecord", b"--skips names a record that isn't there: splits, and records in each split, count from 0"),
+        ("left-out records that don't rise", [*seq, "--skips", "0:1,0:0", "--max-skips", "2", "a"], b"SkipOrder", b"--skips rises, by split and then by record, and names none twice"),
+    ]:
+        told(harness, name, words, 2, err=b"mapred: " + err + b"\n", hint=hint)
+    big = {"a": b"a" * 1048577}
+    told(harness, "too many splits", [*seq, "--split", "1", "a"], 2, err=b"mapred: TooManySplits\n", hint=b"at most 1048576 splits: a greater --split, up to 67108864, makes fewer", files=big)
+    told(harness, "a word that is not UTF-8", [*seq, b"\xff"], 2, err=b"mapred: a word of the command line is not UTF-8\n", hint=b"literals and names of files are UTF-8: give the file another name, or a link")
+    got = on_terminal(harness, [*seq, "--parts", "x", "a"], harness.directory(TEXT))
+    without = harness.run([*seq, "--parts", "x", "a"], TEXT)
+    harness.check("a fault of the line is the parser's own on a terminal too", got == without[:3] and got[0] == 2, repr(got))
+    for words in (["--help"], ["--version"], ["seq", "--help"]):
+        harness.check(f"{words} on a terminal", on_terminal(harness, words, harness.directory()) == harness.run(words)[:3])
+    where = harness.directory(TEXT)
+    harness.check("no note where nothing can be done", on_terminal(harness, [*seq[:-1], "nowhere", "--parts", "1025", "a"], where) == (2, b"", b"mapred: BadParts\nhint: --parts is 1 to 1024\n"))
+    harness.check("nothing where all is well", on_terminal(harness, [*seq, "a"], where) == (0, b"done: 1 files, 9 pairs, 0 left out\n", b""))
+    harness.check("nothing where the judge says yes", on_terminal(harness, ["check", *WORDS, "a"], where) == (0, b"yes: 9 pairs, 0 left out\n", b""))
+
+
+def files(harness):
+    """Files that can't be read or written, with the system's reason; directories; what is written over; other parts."""
+    missing = b"No such file or directory (os error 2)"
+    told(harness, "a missing file", ["seq", *WORDS, "none"], 3, err=b"mapred: cannot read none\n", hint=missing)
+    told(harness, "a directory for a file", ["seq", *WORDS, "."], 3, err=b"mapred: cannot read .\n", hint=b"Is a directory (os error 21)")
+    told(harness, "a missing part", ["check", *WORDS, "a"], 3, err=b"mapred: cannot read ./part-00000\n", hint=missing)
+    seq = ["seq", "--job", "words", "--out"]
+    told(harness, "a missing directory", [*seq, "nowhere", "a"], 3, err=b"mapred: cannot write nowhere/part-00000\n", before=b"note: there is no directory nowhere: make it first\n", hint=missing)
+    told(harness, "a missing directory behind an earlier fault", [*seq, "nowhere", "none"], 3, err=b"mapred: cannot read none\n", before=b"note: there is no directory nowhere: make it first\n", hint=missing)
+    told(harness, "a file for a directory", [*seq, "a", "a"], 3, err=b"mapred: cannot write a/part-00000\n", before=b"note: a is no directory\n", hint=b"Not a directory (os error 20)")
+    full = harness.directory(TEXT)
+    os.symlink("/dev/full", os.path.join(full, "certificate"))
+    over = b"note: . has a result already, which will be written over\n"
+    told(harness, "a full disk", ["seq", *WORDS, "a"], 3, err=b"mapred: cannot write ./certificate\n", before=over, hint=b"No space left on device (os error 28)", where=full)
+    done = b"done: 1 files, 9 pairs, 0 left out\n"
+    again = harness.directory(TEXT)
+    harness.run(["seq", *WORDS, "a"], cwd=again)
+    told(harness, "an earlier result", ["seq", *WORDS, "a"], 0, out=done, before=over, where=again)
+    harness.directory({"part-00003": b"old\n", "part-01024": b""}, again)
+    lies = b"note: . has part-00003 too, which is none of this result (--parts %d) and stays\n"
+    told(harness, "another part beside", ["seq", *WORDS, "a"], 0, out=done, before=over + lies % 1, where=again)
+    told(harness, "another part beside what is judged", ["check", *WORDS, "a"], 0, out=b"yes: 9 pairs, 0 left out\n", before=lies % 1, where=again)
+    told(harness, "none where it is one of them", ["seq", *WORDS, "--parts", "4", "a"], 0, out=b"done: 4 files, 9 pairs, 0 left out\n", before=over, where=again)
+    odd = {"a\x1b[31m\x07\nb\x7f\u009b1mé£": b"x\n"}
+    name = next(iter(odd))
+    escaped = rb"a\x1b[31m\x07\x0ab\x7f" + b"\xc2" + rb"\x9b1m" + "é£".encode()
+    got = on_terminal(harness, ["seq", *WORDS, name + "no"], harness.directory(odd))
+    harness.check("a name with control bytes", got == (3, b"", b"mapred: cannot read " + escaped + b"no\nhint: " + missing + b"\n"), repr(got))
+    got = harness.run(["seq", *WORDS, name + "no"], odd)
+    harness.check("a name with control bytes, without", got[:3] == (3, b"", b"mapred: cannot read " + name.encode() + b"no\n"), repr(got))
+    got = on_terminal(harness, ["seq", *WORDS, "-" + name], harness.directory(odd))
+    harness.check("one that the parser tells", got[0] == 2 and not set(got[2]) & set(b"\x1b\x07\x7f\r"), repr(got))
+
+
+def verdicts(harness):
+    """In what a certificate is of another job or another input."""
+    outputs, _, certificate = plain("words", [TEXT["a"]], 1)
+    made = harness.directory({**TEXT, "b": b"b\n"})
+    write_result(made, outputs, certificate)
+    other = b"no: OtherJob\n"
+    of = b": it is of --job words --parts 1 --split 67108864"
+    check = ["check", "--out", "."]
+    for name, words, hint in [
+        ("another job", ["--job", "url", "a"], b" --job"),
+        ("another flag", ["--job", "words", "--keep-case", "a"], b" --keep-case"),
+        ("another number of parts", ["--job", "words", "--parts", "2", "a"], b" --parts"),
+        ("another split", ["--job", "words", "--split", "64", "a"], b" --split"),
+        ("all of them", ["--job", "grep", "--literal", "x", "--split", "64", "--parts", "3", "a"], b" --job --parts --split"),
+    ]:
+        for part in (1, 2):
+            harness.directory({f"part-{part:05}": b""}, made)
+        lies = b"" if b"--parts" in hint and words[words.index("--parts") + 1] == "3" else b"note: . has part-%05d too, which is none of this result (--parts %d) and stays\n" % ((2, 2) if b"--parts" in hint else (1, 1))
+        told(harness, name, [*check, *words], 1, out=other, before=lies, hint=b"the certificate has other" + hint + of, where=made)
+    for part in (1, 2):
+        os.remove(os.path.join(made, f"part-{part:05}"))
+    for name, words, hint in [
+        ("another number of files", ["a", "b"], b"the certificate is of 1 files, not 2"),
+        ("another length", ["b"], b"b has 2 bytes, and had 42 by the certificate"),
+        ("no file", [], b"the certificate is of 1 files, not 0"),
+    ]:
+        told(harness, name, [*check, "--job", "words", *words], 1, out=b"no: OtherInput\n", hint=hint, where=made)
+    found = harness.directory(TEXT)
+    harness.run(["seq", "--job", "grep", "--literal", "\x1b[1m", "--fold", "--split", "64", "--out", ".", "a"], cwd=found)
+    of = rb": it is of --job grep --literal '\x1b[1m' --fold --parts 1 --split 64"
+    told(harness, "another literal", ["check", "--job", "grep", "--literal", "x", "--fold", "--split", "64", "--out", ".", "a"], 1, out=other, hint=b"the certificate has other --literal" + of, where=found)
+    told(harness, "not folded", ["check", "--job", "grep", "--literal", "\x1b[1m", "--split", "64", "--out", ".", "a"], 1, out=other, hint=b"the certificate has other --fold" + of, where=found)
+    odd = harness.directory(TEXT)
+    write_result(odd, outputs, certificate[:11] + b"\x09" + certificate[12:])
+    of = b": it is of --job (no such job) --parts 1 --split 67108864"
+    told(harness, "a job that there isn't", [*check, "--job", "words", "a"], 1, out=other, hint=b"the certificate has other --job" + of, where=odd)
+    cut = harness.directory(TEXT)
+    write_result(cut, outputs, certificate[:20])
+    told(harness, "a certificate that ends in its front", [*check, "--job", "url", "a"], 1, out=other, where=cut)
+    spoiled = harness.directory(TEXT)
+    write_result(spoiled, [outputs[0][:-1] + b"x"], certificate)
+    got = on_terminal(harness, [*check, "--job", "words", "a"], spoiled)
+    harness.check("another no has no hint", got == harness.run([*check, "--job", "words", "a"], cwd=spoiled)[:3] and got[0] == 1 and got[2] == b"", repr(got))
+
+
+def both_streams(harness):
+    """Where both streams are one terminal, notes come before the answer and a hint behind it; where standard output
+    alone is one, nothing more is told."""
+    where = harness.directory(TEXT)
+    harness.run(["seq", *WORDS, "--parts", "2", "a"], cwd=where)
+    got = on_terminal(harness, ["check", *WORDS, "a"], where, out_too=True)
+    lies = b"note: . has part-00001 too, which is none of this result (--parts 1) and stays\n"
+    wanted = lies + b"no: OtherJob\nhint: the certificate has other --parts: it is of --job words --parts 2 --split 67108864\n"
+    harness.check("one terminal for both streams", got == (1, b"", wanted), repr(got))
+    ours, theirs = pty.openpty()
+    ran = subprocess.run([harness.program, "check", *WORDS, "none"], cwd=where, stdout=theirs, stderr=subprocess.PIPE)
+    os.close(theirs)
+    os.close(ours)
+    harness.check("a terminal for standard output alone", (ran.returncode, ran.stderr) == (3, b"mapred: cannot read none\n"), repr(ran))
+
+
+def memory(harness):
+    """Want of memory, with what helps."""
+    words = b" ".join(b"w%d" % (i * 7919 % 40000) for i in range(200_000)) + b"\n"
+    limit = lambda: resource.setrlimit(resource.RLIMIT_AS, (12_000 * 1024, 12_000 * 1024))
+    got = on_terminal(harness, ["seq", *WORDS, "a"], harness.directory({"a": words}), preexec_fn=limit)
+    harness.check("want of memory, on a terminal", got == (4, b"", b"mapred: out of memory\nhint: " + MEMORY + b"\n"), repr(got))
+
+
+GROUPS = {"hints on limits": limits, "hints on files": files, "hints on verdicts": verdicts, "hints on one terminal": both_streams, "hints on memory": memory}
