@@ -95,6 +95,7 @@ impl Job {
     /// Makes the buffer as `emit` wants it for `line`: for folded words, the folded bytes of the line. Other jobs leave
     /// it alone. It fails only for want of memory, where the buffer has less room than the line has bytes, and then the
     /// buffer's bytes are as they were. One buffer serves any number of lines.
+    #[inline]
     pub fn prepare(&self, line: &[u8], buffer: &mut Vec<u8>) -> Result<(), AllocError>
         ensures ready { OnOk result (IsReady self.now line.now buffer.new.items) }
         ensures same { (self.now ≡ WordCount false) ⊎ (buffer.new ≡ buffer.old) }
