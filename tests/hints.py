@@ -13,6 +13,12 @@ WORDS = ["--job", "words", "--out", "."]
 MEMORY = b"1 GiB of words takes 4 to 5 GB: close other programs, or cut the input into several runs"
 
 
+def free_memory():
+    """Bytes of memory that can be had without swapping."""
+    with open("/proc/meminfo", encoding="ascii") as lines:
+        return next(int(line.split()[1]) << 10 for line in lines if line.startswith("MemAvailable"))
+
+
 def on_terminal(harness, words, cwd, out_too=False, **more):
     """(status, standard output, what the terminal shows) of a run whose standard error is a terminal."""
     ours, theirs = pty.openpty()
@@ -65,6 +71,12 @@ def limits(harness):
         told(harness, name, words, 2, err=b"mapred: " + err + b"\n", hint=hint)
     big = {"a": b"a" * 1048577}
     told(harness, "too many splits", [*seq, "--split", "1", "a"], 2, err=b"mapred: TooManySplits\n", hint=b"at most 1048576 splits: a greater --split, up to 67108864, makes fewer", files=big)
+    if free_memory() > 6 << 30:
+        where = harness.directory({})
+        with open(os.path.join(where, "large"), "wb") as file:
+            file.truncate((1 << 30) + 1)
+        told(harness, "a byte past 1 GiB", [*seq, "large"], 2, err=b"mapred: TooLarge\n", hint=b"at most 1 GiB (1073741824 bytes) in all files: cut the input into several runs", where=where)
+        os.remove(os.path.join(where, "large"))
     told(harness, "a word that is not UTF-8", [*seq, b"\xff"], 2, err=b"mapred: a word of the command line is not UTF-8\n", hint=b"literals and names of files are UTF-8: give the file another name, or a link")
     got = on_terminal(harness, [*seq, "--parts", "x", "a"], harness.directory(TEXT))
     without = harness.run([*seq, "--parts", "x", "a"], TEXT)
