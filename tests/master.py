@@ -71,9 +71,20 @@ def stop(end):
     return f"Stop({end})"
 
 
+ONE_SKIP = "Shape { maps: 1, parts: 1, workers: 2, limits: Limits { attempts: 8, skips: 1 } }"
+
+# a record fails twice, while another attempt of its split goes on
+FAILED_TWICE = [
+    (("ask", 0), map_task(0, 0)),
+    (("ask", 1), map_task(1, 0)),
+    (("map failed", 0, 5), ACCEPTED),
+    (("ask", 0), map_task(2, 0)),
+    (("map failed", 2, 5), ACCEPTED),
+    (("ask", 0), map_task(3, 0, 5)),
+]
+
 # Worked by hand: splits, partitions, workers, attempts and records that may be left out; then events with their replies;
 # then looks, each as place and text: of a split whether it is complete, its output and its left-out records.
-
 HISTORIES = {
     "a repeated and a late completion": (
         (1, 1, 2, 8, 0),
@@ -109,43 +120,28 @@ HISTORIES = {
     "a record that fails twice is left out": (
         (1, 1, 2, 8, 1),
         [
-            (("ask", 0), map_task(0, 0)),
-            (("ask", 1), map_task(1, 0)),
-            (("map failed", 0, 5), ACCEPTED),
-            (("ask", 0), map_task(2, 0)),
-            (("map failed", 2, 5), ACCEPTED),
-            (("ask", 0), map_task(3, 0, 5)),
+            *FAILED_TWICE,
         ],
-        ["Shape { maps: 1, parts: 1, workers: 2, limits: Limits { attempts: 8, skips: 1 } }", "None", "false None [5]", "false None"],
+        [ONE_SKIP, "None", "false None [5]", "false None"],
     ),
     "a set fixed without a failed record": (
         (1, 1, 2, 8, 1),
         [
-            (("ask", 0), map_task(0, 0)),
-            (("ask", 1), map_task(1, 0)),
-            (("map failed", 0, 5), ACCEPTED),
-            (("ask", 0), map_task(2, 0)),
-            (("map failed", 2, 5), ACCEPTED),
-            (("ask", 0), map_task(3, 0, 5)),
+            *FAILED_TWICE,
             (("map done", 1, 10), ACCEPTED),
         ],
-        ["Shape { maps: 1, parts: 1, workers: 2, limits: Limits { attempts: 8, skips: 1 } }", "None", "true Some(10) []", "false None"],
+        [ONE_SKIP, "None", "true Some(10) []", "false None"],
     ),
     "another set behind a fixed one": (
         (1, 1, 2, 8, 1),
         [
-            (("ask", 0), map_task(0, 0)),
-            (("ask", 1), map_task(1, 0)),
-            (("map failed", 0, 5), ACCEPTED),
-            (("ask", 0), map_task(2, 0)),
-            (("map failed", 2, 5), ACCEPTED),
-            (("ask", 0), map_task(3, 0, 5)),
+            *FAILED_TWICE,
             (("map done", 1, 10), ACCEPTED),
             (("lose", 1), ACCEPTED),
             (("map done", 3, 11), IGNORED),
             (("ask", 0), map_task(4, 0)),
         ],
-        ["Shape { maps: 1, parts: 1, workers: 2, limits: Limits { attempts: 8, skips: 1 } }", "None", "false None []", "false None"],
+        [ONE_SKIP, "None", "false None []", "false None"],
     ),
     "too many attempts": (
         (1, 1, 1, 1, 0),
