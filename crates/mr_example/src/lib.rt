@@ -2,8 +2,11 @@
 //! handed the result judges it (`mr_check`) before it is used.
 #![tactic(auto)]
 
-ghost use Rattle.std.specs.Prelude.{◌≤◌, ◌^◌, IfOk};
-ghost use Rattle.mr_input.specs.Files.{contents, split_total};
+ghost use Rattle.std.specs.Prelude.{◌≡◌, ℕ, ◌≤◌, ◌<◌, ◌^◌, ◌∷◌, [], false, IfOk, IsOk};
+ghost use Rattle.mr_input.specs.Files.{contents, nth_file, split_total};
+ghost use Rattle.mr_jobs.specs.JobSpec.{WordCount};
+ghost use Rattle.mr_sequential.specs.Good.{IsGoodResult};
+ghost use Rattle.mr_sequential.specs.Sequential.{sequential};
 ghost use Rattle.mr_check.specs.Headline.{IsCertified};
 
 use mr_certform::write;
@@ -42,13 +45,17 @@ pub struct Handed {
 }
 
 /// What both sides agree on: words are counted, in two partitions, and no record is left out.
-pub fn agreed() -> Result<Request, Trouble> {
+pub fn agreed() -> Result<Request, Trouble>
+    ensures request { IfOk result (λ r. r ≡ record { job = WordCount false; parts = 2; split = 67108864; skips = 0 }) }
+    ensures some { IsOk result }
+{
     Ok(Request::new(Job::words(false), 2, 67_108_864, 0)?)
 }
 
 /// One text as the input of the request, which it fits.
 pub fn input_of(alloc: Global, request: &Request, text: &[u8]) -> Result<Input, Trouble>
-    ensures { IfOk result (λ input. split_total request.now.split input ≤ 2 ^ 20) }
+    ensures input { IfOk result (λ input. input ≡ text.now ∷ []) }
+    ensures fits { IfOk result (λ input. split_total request.now.split input ≤ 2 ^ 20) }
 {
     let mut files = Vec::new(alloc);
     files
@@ -61,9 +68,13 @@ pub fn input_of(alloc: Global, request: &Request, text: &[u8]) -> Result<Input, 
     Ok(input)
 }
 
-/// Those who make it: the job is run, and its certificate spelled.
+/// Those who make it: the job is run, and its certificate spelled. The outputs are those of the sequential execution
+/// without left-out records, and with the certificate they are a good result.
 pub fn made(alloc: Global, request: &Request, input: &Input) -> Result<Handed, Trouble>
     requires { split_total request.now.split input.now ≤ 2 ^ 20 }
+    ensures texts { IfOk result (λ h. (p : ℕ) → p < request.now.parts
+        → nth_file (contents h.outputs.items) p ≡ sequential request.now input.now [] p) }
+    ensures good { IfOk result (λ h. IsGoodResult request.now input.now (contents h.outputs.items) h.certificate.items) }
 {
     let (outputs, certificate) = run(alloc, request, input, &[])?;
     let certificate = write(alloc, &certificate)?;

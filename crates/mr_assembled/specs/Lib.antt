@@ -1,0 +1,4 @@
+pub mod Assembled
+pub mod Faithful
+pub mod Laws
+pub mod Worked

@@ -1,0 +1,41 @@
+//! The assembled result of a job: what a state of the master names as its files and its certificate, and what that is
+//! worth. Definitions and laws alone: no code.
+#![tactic(auto)]
+
+ghost use Rattle.mr_assembled.specs.Worked.{WorkedCertificate, WorkedCut, WorkedEnd, WorkedIsDone, WorkedOutput, WorkedRegion, WorkedValue, WorkedWithout};
+ghost use Rattle.mr_assembled.specs.Laws.{AttemptsHaveOneValue, CommittedHaveAValue, CutsDontMatter, DoneIsAGoodResult, DoneIsCertified, DoneIsGood, DoneIsSequential, ValuesAreSequential};
+
+/// The reduce value over the map values of all splits is what the sequential execution has for the partition, and over
+/// their regions, however they are cut, it is the same.
+pub fn values_law()
+    ensures sequential { ValuesAreSequential }
+    ensures cuts { CutsDontMatter }
+{}
+
+/// The value of a committed reduce attempt is that over the sets that are fixed for the splits, and no other.
+pub fn attempts_law()
+    ensures one { AttemptsHaveOneValue }
+    ensures some { CommittedHaveAValue }
+{}
+
+/// Over every run that ends done, where each committed reduce output is its attempt's value and each accepted failure
+/// names a record of its split, the assembled files are those of the sequential execution without the fixed sets, and
+/// with the assembled certificate they are good.
+pub fn done_law()
+    ensures sequential { DoneIsSequential }
+    ensures certified { DoneIsCertified }
+    ensures good { DoneIsGood }
+    ensures result { DoneIsAGoodResult }
+{}
+
+/// A worked run that leaves out a record: its values, its end, its result; and the premises of the laws above hold of it.
+pub fn worked_law()
+    ensures region { WorkedRegion }
+    ensures without { WorkedWithout }
+    ensures value { WorkedValue }
+    ensures cut { WorkedCut }
+    ensures end { WorkedEnd }
+    ensures output { WorkedOutput }
+    ensures certificate { WorkedCertificate }
+    ensures premises { WorkedIsDone }
+{}
