@@ -38,14 +38,14 @@ use Rattle.mr_core.specs.declared.entries.Split.{Split}
 use Rattle.mr_core.specs.Master.{State, Attempt, Run, opening}
 use Rattle.mr_core.specs.Laws.{IsMapOf, IsReduceOf, GoesOnWith}
 use Rattle.mr_core.proofs.Steps.{set_of, run_goes, run_accepts, kept_at_opening, fixed_to, left_out-is}
-use Rattle.mr_core.proofs.FetchLaws.{committed_fetched}
+use Rattle.mr_core.proofs.FetchLaws.{committed_fetched, part_was_accepted}
 use Rattle.mr_core.proofs.Places.{get-map_from}
 use Rattle.mr_core.proofs.Traced.{attempt_of_job}
 use Rattle.mr_core.proofs.Sets.{IsSet, sets_and_parts}
 use Rattle.mr_core.proofs.Progress.{Going, run_going, going_at_opening}
 use Rattle.mr_assembled.specs.Assembled.{in_split, records_from, fixed_set, fixed_sets, left_out_records, nothing, committed_values, assembled_outputs, assembled_certificate}
 use Rattle.mr_assembled.specs.Faithful.{IsHandedTo, IsValueOf, value_over}
-use Rattle.mr_assembled.specs.Laws.{sequential_value, ValuesAreSequential, IsDone, AttemptsHaveOneValue, CommittedHaveAValue, DoneIsSequential, DoneIsCertified, DoneIsGood, DoneIsAGoodResult}
+use Rattle.mr_assembled.specs.Laws.{sequential_value, ValuesAreSequential, IsDone, AttemptsHaveOneValue, CommittedHaveAValue, DoneSetsAreFixed, DoneIsSequential, DoneIsCertified, DoneIsGood, DoneIsAGoodResult}
 use Rattle.mr_assembled.proofs.Emissions.{leaves_out, split-below, without}
 use Rattle.mr_assembled.proofs.Handed.{reduce_is, map-after}
 use Rattle.mr_assembled.proofs.Skips.{records-rise, records-all, each_fixed, few_records}
@@ -154,6 +154,32 @@ pub committed_have_a_value : CommittedHaveAValue
 committed_have_a_value request files sh h st a o p parts attempts run done task =
     let going = (run_going sh (opening sh) h st (going_at_opening sh parts attempts) run).0 in
     record { partition = p; sets = fixed_sets st; reduce = task; handed = handed_fixed sh h st run going.sound.splits_long a o done; is = refl }
+
+-- ---- done jobs
+
+map-by_place : {X Y : Type 0} (f g : X → Y) (xs : List X) → ((i : ℕ) (x : X) → slice_get xs i ≡ Some x → f x ≡ g x) → map f xs ≡ map g xs
+map-by_place f g [] same = refl
+map-by_place f g (x ∷ xs) same = let rest = map-by_place f g xs (λ i y e. same (suc i) y e) in λ j. same 0 x refl j ∷ rest j
+
+some_committed : (xs : List (Option ℕ)) → 1 ≤ length xs → list_all is_some xs ≡ true → (o : ℕ) × (slice_get xs 0 ≡ Some (Some o))
+some_committed [] l all = absurd (omega arith)
+some_committed (None ∷ xs) l all = absurd (false≢true all)
+some_committed (Some o ∷ xs) l all = (o, refl)
+
+pub done_sets_are_fixed : DoneSetsAreFixed
+done_sets_are_fixed sh h st parts attempts run ends =
+    let going = (run_going sh (opening sh) h st (going_at_opening sh parts attempts) run).0 in
+    let first = some_committed st.committed (omega (arith, going.sound.parts_long)) (going.done ends) in
+    let commit = part_was_accepted sh h st run 0 first.0 first.1 in
+    let handed = handed_fixed sh h st run going.sound.splits_long commit.0 first.0 commit.1 in
+    ap (records_from 0) (map-by_place fixed_set (λ (sp : Split). sp.skips) st.splits (λ i sp e.
+    let there : slice_get (fixed_sets st) i ≡ Some (fixed_set sp) = slice_get-map fixed_set st.splits i ∙ ap (option_map fixed_set) e in
+    let x = handed.each i (fixed_set sp) there in
+    let fixed = fixed_to st x.2 i (fixed_set sp) (run_accepts sh (opening sh) h st x.2 x.0 (kept_at_opening sh) run x.3) x.4 in
+    let at = get-map_from set_of st.splits i (fixed_set sp, true) fixed in
+    let same : Some at.0 ≡ Some sp = sym at.1 ∙ e in
+    let one : at.0 ≡ sp = cc same in
+    ap (λ (w : List ℕ × Bool). w.0) at.2 ∙ ap (λ (q : Split). q.skips) one))
 
 -- ---- the result
 

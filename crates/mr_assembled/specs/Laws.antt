@@ -1,5 +1,5 @@
 -- What the assembled result of a done job is worth.
-use Rattle.std.specs.Prelude.{◌≡◌, ℕ, suc, ◌<◌, ◌≤◌, Some, List, [], ◌∷◌, length, slice_index_or}
+use Rattle.std.specs.Prelude.{◌≡◌, ℕ, suc, ◌<◌, ◌≤◌, Some, List, [], ◌∷◌, length, map, slice_index_or}
 use Rattle.std.specs.List.{flat_map}
 use Rattle.mr_bytes.specs.declared.Value.{Value}
 use Rattle.mr_bytes.specs.Lists.{Has, Rises}
@@ -68,6 +68,11 @@ CommittedHaveAValue = (request : RequestSpec) (files : List (List ℕ)) (sh : Sh
     → IsValueOf request files h st a (value_over request files (fixed_sets st) p)
 
 -- ---- done jobs
+
+-- once a job is done, the left-out set of each split is fixed: the result leaves out all records of all sets
+abbrev pub DoneSetsAreFixed : Type 0
+DoneSetsAreFixed = (sh : Shape) (h : List (Event × Reply)) (st : State) → 1 ≤ sh.parts → 1 ≤ sh.limits.attempts → Run sh (opening sh) h st
+    → st.end ≡ Some End.Done → left_out_records st ≡ records_from 0 (map (λ sp. sp.skips) st.splits)
 
 -- a run of a job that ends done, of faithful workers
 pub record IsDone (request : RequestSpec) (files : List (List ℕ)) (sh : Shape) (h : List (Event × Reply)) (st : State) (what : ℕ → Reduced) : Type 0 where

@@ -3,7 +3,7 @@
 #![tactic(auto)]
 
 ghost use Rattle.mr_assembled.specs.Worked.{WorkedCertificate, WorkedCut, WorkedEnd, WorkedIsDone, WorkedOutput, WorkedRegion, WorkedValue, WorkedWithout};
-ghost use Rattle.mr_assembled.specs.Laws.{AttemptsHaveOneValue, CommittedHaveAValue, CutsDontMatter, DoneIsAGoodResult, DoneIsCertified, DoneIsGood, DoneIsSequential, ValuesAreSequential};
+ghost use Rattle.mr_assembled.specs.Laws.{AttemptsHaveOneValue, CommittedHaveAValue, CutsDontMatter, DoneIsAGoodResult, DoneIsCertified, DoneIsGood, DoneIsSequential, DoneSetsAreFixed, ValuesAreSequential};
 
 /// The reduce value over the map values of all splits is what the sequential execution has for the partition, and over
 /// their regions, however they are cut, it is the same.
@@ -18,10 +18,11 @@ pub fn attempts_law()
     ensures some { CommittedHaveAValue }
 {}
 
-/// Over every run that ends done, where each committed reduce output is its attempt's value and each accepted failure
+/// Once a job is done, the left-out set of each split is fixed. Over every run that ends done, where each committed reduce output is its attempt's value and each accepted failure
 /// names a record of its split, the assembled files are those of the sequential execution without the fixed sets, and
 /// with the assembled certificate they are good.
 pub fn done_law()
+    ensures fixed { DoneSetsAreFixed }
     ensures sequential { DoneIsSequential }
     ensures certified { DoneIsCertified }
     ensures good { DoneIsGood }

@@ -79,8 +79,9 @@ fn lengths_of(alloc: Global, input: &Input) -> Result<Vec<u64>, AllocError>
     Ok(lengths)
 }
 
-/// What stands in the certificate before its groups.
-fn header_of(
+/// What stands before the groups in a certificate of the request and the input that leaves out these records. It fails
+/// only for want of memory.
+pub fn header_of(
     alloc: Global,
     request: &Request,
     input: &Input,

@@ -1,5 +1,8 @@
-use Rattle.mr_assembled.proofs.Done.{done_is_sequential, done_is_certified, done_is_good, done_is_a_good_result}
+use Rattle.mr_assembled.proofs.Done.{done_sets_are_fixed, done_is_sequential, done_is_certified, done_is_good, done_is_a_good_result}
 use Rattle.mr_assembled.proofs.done_law.Goals as goal
+
+pub returns-clause-fixed : goal.returns-clause-fixed
+returns-clause-fixed c = done_sets_are_fixed
 
 pub returns-clause-sequential : goal.returns-clause-sequential
 returns-clause-sequential c = done_is_sequential
