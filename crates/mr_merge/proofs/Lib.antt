@@ -1,0 +1,5 @@
+pub mod SortedLaws
+pub mod MergeLemmas
+pub mod SoundLemmas
+pub mod GroupLemmas
+pub mod LawLemmas

@@ -1,1 +1,4 @@
 pub mod Merged
+pub mod Laws
+pub mod Groups
+pub mod Merging

@@ -1,4 +1,5 @@
 -- Regions of one partition merged: each key once, with all its pairs (OSDI 2004, section 4.2).
+use denote.Ref.{Bor}
 use Rattle.std.specs.Prelude.{ℕ, List, map, filter}
 use Rattle.std.specs.List.{AllByRecursion, flat_map}
 use Rattle.std.specs.Str.{bytes_eq}
@@ -11,6 +12,10 @@ use Rattle.mr_spill.specs.Column.{names_of}
 pub record Group : Type 0 where
   pub key : List ℕ
   pub pairs : List Triple
+
+-- the regions behind references
+abbrev pub values_of : List (Bor (List Triple)) → List (List Triple)
+values_of regions = map (λ r. r.now) regions
 
 -- all pairs of all regions
 abbrev pub joined : List (List Triple) → List Triple

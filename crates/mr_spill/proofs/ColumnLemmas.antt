@@ -5,7 +5,7 @@ use Rattle.mr_bytes.specs.declared.Name.{Name}
 use Rattle.mr_bytes.specs.declared.Value.{Value}
 use Rattle.mr_bytes.specs.declared.Value.TheVariants.{One}
 use Rattle.mr_bytes.specs.Pairs.{Triple}
-use Rattle.mr_spill.specs.Column.{triples_from, EndsRise, no_pair}
+use Rattle.mr_spill.specs.Column.{triples_from, EndsRise, names_of, no_pair}
 
 -- a part of a list that has grown behind it
 range-more : {X : Type 0} (xs ys : List X) (a b : ℕ) → a ≤ b → b ≤ length xs → slice_range (xs ++ ys) a b ≡ slice_range xs a b
@@ -39,6 +39,15 @@ length-triples at keys [] values names h g = refl
 length-triples at keys (e ∷ ends) [] names h g = absurd (omega (arith, h))
 length-triples at keys (e ∷ ends) (v ∷ values) [] h g = absurd (omega (arith, g))
 length-triples at keys (e ∷ ends) (v ∷ values) (n ∷ names) h g = ap suc (length-triples e keys ends values names (omega (arith, h)) (omega (arith, g)))
+
+pub names-triples : (at : ℕ) (keys ends : List ℕ) (values : List Value) (names : List Name) → length values ≡ length ends → length names ≡ length ends
+    → names_of (triples_from at keys ends values names) ≡ names
+names-triples at keys [] values [] h g = refl
+names-triples at keys [] values (n ∷ names) h g = absurd (omega (arith, g))
+names-triples at keys (e ∷ ends) [] names h g = absurd (omega (arith, h))
+names-triples at keys (e ∷ ends) (v ∷ values) [] h g = absurd (omega (arith, g))
+names-triples at keys (e ∷ ends) (v ∷ values) (n ∷ names) h g =
+    ap (λ (l : List Name). n ∷ l) (names-triples e keys ends values names (omega (arith, h)) (omega (arith, g)))
 
 pub triple-at : (at i : ℕ) (keys ends : List ℕ) (values : List Value) (names : List Name) → length values ≡ length ends → length names ≡ length ends → i < length ends
     → get_or (triples_from at keys ends values names) i no_pair

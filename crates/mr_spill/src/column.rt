@@ -1,6 +1,6 @@
 //! Pairs with their names, in flat columns.
 ghost use Rattle.std.specs.Prelude.{◌≡◌, ◌++◌, ◌∷◌, [], ◌<◌, ◌≤◌, OnOk, OnErr, length, slice_index};
-ghost use Rattle.mr_spill.specs.Column.{nth_pair};
+ghost use Rattle.mr_spill.specs.Column.{names_of, nth_pair};
 
 use mr_bytes::{Name, Value, Values};
 use std::alloc::{AllocError, Global};
@@ -84,6 +84,13 @@ impl Pairs {
         ensures { result ≡ (nth_pair self.now i).name }
     {
         self.names[i]
+    }
+
+    /// The names of all pairs, in their order.
+    pub fn names(&self) -> &[Name]
+        ensures { result.now ≡ names_of self.now }
+    {
+        &self.names
     }
 
     /// One more pair, at the end. It fails only for want of memory, and then nothing has changed.
