@@ -1,0 +1,5 @@
+pub mod LeftOutLemmas
+pub mod OutputLemmas
+pub mod RunLemmas
+pub mod SourceLemmas
+pub mod ValueLaws
