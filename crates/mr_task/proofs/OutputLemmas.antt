@@ -1,7 +1,7 @@
 -- Groups that are added to an output, one by one.
 use denote.Ref.{Bor}
-use Rattle.std.proofs.Common.{◌≡◌, ℕ, ◌+◌, ◌<◌, ◌≤◌, Bool, true, false, cond, All, Some, List, [], ◌∷◌, ◌++◌, length, get_or, take, drop, map, filter, refl, sym, ap, ◌∙◌, arith, length-append, length-drop}
-use Rattle.std.proofs.lemmas.List.{append-nil, drop-append-le, map-append, take-append-drop, take-append-le, take_all, take_more}
+use Rattle.std.proofs.Common.{◌≡◌, ℕ, zero, suc, ◌+◌, ◌<◌, ◌≤◌, Bool, true, false, cond, All, Some, List, [], ◌∷◌, ◌++◌, length, get_or, take, drop, map, filter, refl, sym, ap, ◌∙◌, arith, length-append, length-drop}
+use Rattle.std.proofs.lemmas.List.{append-nil, length-map, drop-append-le, map-append, take-append-drop, take-append-le, take_all, take_more}
 use Rattle.std.proofs.lemmas.List.Elements.{All-map}
 use Rattle.std.specs.Ordering.{match_ordering}
 use Rattle.std.specs.Str.{bytes_eq}
@@ -18,6 +18,8 @@ use Rattle.mr_merge.specs.Groups.{no_group, nth_group}
 use Rattle.mr_sequential.specs.Rules.{Key, Text}
 use Rattle.mr_sequential.proofs.SourceLemmas.{flat_map-append}
 use Rattle.mr_spill.specs.Column.{names_of}
+use Rattle.std.specs.Prelude.{slice_index_or, slice_set}
+use Rattle.mr_task.specs.Outputs.{flipped, with_other_bit}
 use Rattle.mr_task.specs.Values.{group_text, read, reduced}
 
 -- ---- counts with names
@@ -118,3 +120,43 @@ read-same partition (r ∷ rs) (v ∷ vs) e =
 
 pub read-all : (partition : ℕ) (regions : List (List Triple)) → map (read partition) regions ≡ map Some regions
 read-all partition regions = refl
+
+-- ---- how many groups there are
+
+length-placed : {X : Type 0} (cmp : X → X → Ordering) (x : X) (ys : List X) → length (placed cmp x ys) ≤ length ys + 1
+length-placed cmp x [] = omega arith
+length-placed cmp x (y ∷ ys) = by (cmp x y) (length-placed cmp x ys)
+  where
+    by : (o : Ordering) → length (placed cmp x ys) ≤ length ys + 1 → length (match_ordering o (x ∷ y ∷ ys) (y ∷ ys) (y ∷ placed cmp x ys)) ≤ length (y ∷ ys) + 1
+    by Less rest = omega arith
+    by Equal rest = omega arith
+    by Greater rest = omega (arith, rest)
+
+length-sorted : {X : Type 0} (cmp : X → X → Ordering) (xs : List X) → length (sorted cmp xs) ≤ length xs
+length-sorted cmp [] = omega arith
+length-sorted cmp (x ∷ xs) = omega (arith, length-placed cmp x (sorted cmp xs), length-sorted cmp xs)
+
+-- no more than pairs
+pub groups-count : (ps : List Triple) → length (merged ps) ≤ length ps
+groups-count ps =
+    let keys : List Key = map (λ (t : Triple). t.key) ps in
+    omega (arith, length-map (sorted key_order keys) (group_of (sorted pair_order ps)), length-sorted key_order keys, length-map ps (λ (t : Triple). t.key))
+
+-- ---- a bit of a byte
+
+pub flipped-set : (place : ℕ) (bs : List ℕ) (d : ℕ) → place < length bs → slice_set bs place (with_other_bit (slice_index_or bs place d)) ≡ flipped place bs
+flipped-set place [] d l = absurd (omega arith)
+flipped-set zero (b ∷ bs) d l = refl
+flipped-set (suc place) (b ∷ bs) d l = ap (λ (xs : List ℕ). b ∷ xs) (flipped-set place bs d (omega arith))
+
+pub flipped-past : (place : ℕ) (bs : List ℕ) → length bs ≤ place → flipped place bs ≡ bs
+flipped-past place [] l = refl
+flipped-past zero (b ∷ bs) l = absurd (omega arith)
+flipped-past (suc place) (b ∷ bs) l = ap (λ (xs : List ℕ). b ∷ xs) (flipped-past place bs (omega arith))
+
+length-chunks : {X : Type 0} (cs : List ℕ) (xs : List X) → length (chunks cs xs) ≡ length cs
+length-chunks [] xs = refl
+length-chunks (c ∷ cs) xs = ap suc (length-chunks cs (drop c xs))
+
+pub counts-are : {X : Type 0} (cs : List ℕ) (xs : List X) → length cs ≡ length (chunks cs xs)
+counts-are cs xs = sym (length-chunks cs xs)

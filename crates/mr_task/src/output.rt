@@ -1,10 +1,11 @@
 //! What tasks give.
-ghost use Rattle.std.specs.Prelude.{◌≡◌, ◌<◌, ◌^◌, ◌≤◌, ◌++◌, ◌∷◌, [], IfOk, MatchOption, OnOk, length, map, slice_index_or};
+ghost use Rattle.std.specs.Prelude.{◌≡◌, ◌+◌, ◌<◌, ◌^◌, ◌≤◌, ◌++◌, ◌∷◌, [], IfOk, MatchOption, OnOk, length, map, slice_index_or};
 ghost use Rattle.std.specs.List.{AllByRecursion};
 ghost use Rattle.mr_certform.specs.Flat.{chunks, total};
 ghost use Rattle.mr_merge.specs.Groups.{nth_group};
 ghost use Rattle.mr_reduce.specs.Text.{text_of};
 ghost use Rattle.mr_spill.specs.Column.{names_of};
+ghost use Rattle.mr_task.specs.Outputs.{flipped, with_other_bit};
 ghost use Rattle.mr_task.specs.Values.{group_text};
 
 use mr_bytes::{Name, Values};
@@ -49,7 +50,7 @@ impl MapOutput {
 }
 
 /// What a reduce task gives: the text of its partition, and the names of each group's pairs, one group behind another.
-/// No group is empty, and the number of names of each fits a u32.
+/// No group is empty, and the number of groups, as that of the names of each, fits a u32.
 #[derive(Drop)]
 pub struct ReduceOutput {
     text: Vec<u8>,
@@ -58,7 +59,7 @@ pub struct ReduceOutput {
 }
 
 impl Model for ReduceOutput {
-    ghost use Rattle.std.specs.Prelude.{◌≡◌, ◌≤◌, length};
+    ghost use Rattle.std.specs.Prelude.{◌≡◌, ◌<◌, ◌^◌, ◌≤◌, length};
     ghost use Rattle.std.specs.List.{AllByRecursion};
     ghost use Rattle.mr_certform.specs.Flat.{chunks, total};
     ghost use Rattle.mr_task.specs.Values.{Reduced};
@@ -69,6 +70,7 @@ impl Model for ReduceOutput {
 
     ghost invariant = { λ o. record {
       some_entry : AllByRecursion (λ n. 1 ≤ n) o.counts.items;
+      few : length o.counts.items < 2 ^ 32;
       entries : total o.counts.items ≡ length o.names.items;
     } };
 }
@@ -104,6 +106,13 @@ fn put_text(
     column_text(job, key, values, text)
 }
 
+/// The byte with its lowest bit changed.
+fn flipped_bit(byte: u8) -> u8
+    ensures { result ≡ with_other_bit byte }
+{
+    if byte % 2 == 0 { byte + 1 } else { byte - 1 }
+}
+
 impl ReduceOutput {
     /// No text and no groups. It takes no memory.
     pub(crate) fn new(alloc: Global) -> ReduceOutput
@@ -126,6 +135,7 @@ impl ReduceOutput {
     ) -> Result<(), AllocError>
         requires group { g < length groups.now }
         requires few { length (nth_group groups.now g).pairs < 2 ^ 32 }
+        requires room { length self.old.groups + 1 < 2 ^ 32 }
         ensures { OnOk result (self.new ≡ record {
           output = self.old.output ++ group_text (text_of job.now) (nth_group groups.now g);
           groups = self.old.groups ++ names_of (nth_group groups.now g).pairs ∷ [];
@@ -146,10 +156,21 @@ impl ReduceOutput {
         &self.text
     }
 
+    /// Changes the lowest bit of the byte at this place of the text; nothing where no byte stands there.
+    pub fn flip(&mut self, place: u32)
+        ensures { self.new ≡ record self.old { output = flipped place self.old.output } }
+    {
+        let at = place as usize;
+        if at < self.text.len() {
+            self.text[at] = flipped_bit(self.text[at]);
+        }
+    }
+
     /// How many names each group has, and the names of all groups, one behind another.
     pub fn flat_groups(&self) -> (&[u32], &[Name])
         ensures groups { chunks result.0.now result.1.now ≡ self.now.groups }
         ensures some_entry { AllByRecursion (λ n. 1 ≤ n) result.0.now }
+        ensures few { length result.0.now < 2 ^ 32 }
         ensures entries { total result.0.now ≡ length result.1.now }
     {
         (&self.counts, &self.names)

@@ -44,6 +44,7 @@ fn push_groups(
 ) -> Result<(), AllocError>
     requires none { output.old ≡ record { output = []; groups = [] } }
     requires few { All (λ g. length g.pairs < 2 ^ 32) groups.now }
+    requires count { length groups.now < 2 ^ 32 }
     ensures { OnOk result (output.new ≡ reduced (text_of job.now) groups.now) }
 {
     let mut values = Values::new(alloc);

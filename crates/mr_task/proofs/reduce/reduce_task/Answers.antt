@@ -5,7 +5,7 @@ use Rattle.mr_bytes.specs.Pairs.{Triple}
 use Rattle.mr_merge.specs.Merged.{AreSound, Group, joined, values_of}
 use Rattle.mr_reduce.specs.Text.{text_of}
 use Rattle.mr_task.specs.Values.{CanMerge, reduced}
-use Rattle.mr_task.proofs.OutputLemmas.{groups-few, read-all, read-same}
+use Rattle.mr_task.proofs.OutputLemmas.{groups-count, groups-few, read-all, read-same}
 use Rattle.mr_task.proofs.reduce.reduce_task.Goals as goal
 
 -- regions that can be merged are few and sound as they are
@@ -30,6 +30,12 @@ push_groups-requires-clause-few c =
     let few : length (joined rs) ≤ 1073741824 = c.are_few.ensures.0 c.if-not-are_few.false in
     subst (λ (gs : List Group). All (λ (g : Group). length g.pairs < 4294967296) gs) (sym c.in_ok-groups.ensures.groups)
     (groups-few (joined rs) 4294967296 (omega (arith, few)))
+
+pub push_groups-requires-clause-count : goal.push_groups-requires-clause-count
+push_groups-requires-clause-count c =
+    let rs : List (List Triple) = values_of c.args.regions.now in
+    let few : length (joined rs) ≤ 1073741824 = c.are_few.ensures.0 c.if-not-are_few.false in
+    subst (λ (gs : List Group). length gs < 4294967296) (sym c.in_ok-groups.ensures.groups) (omega (arith, few, groups-count (joined rs)))
 
 pub returns-clause-reduced : goal.returns-clause-reduced
 returns-clause-reduced c =

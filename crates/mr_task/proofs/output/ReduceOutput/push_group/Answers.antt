@@ -8,7 +8,7 @@ use Rattle.mr_merge.specs.Groups.{nth_group}
 use Rattle.mr_reduce.specs.Text.{text_of}
 use Rattle.mr_spill.specs.Column.{names_of}
 use Rattle.mr_task.specs.Values.{Reduced, group_text}
-use Rattle.mr_task.proofs.OutputLemmas.{chunks-more, some-more, total-more}
+use Rattle.mr_task.proofs.OutputLemmas.{chunks-more, counts-are, some-more, total-more}
 use Rattle.mr_task.proofs.output.ReduceOutput.push_group.Goals as goal
 
 pub invariant_of-self-2 : goal.invariant_of-self-2
@@ -22,6 +22,7 @@ invariant_of-self-2 c =
     c.in_ok-extend_from_slice.ensures.items ∙ ap (λ (l : List Name). p.names.items ++ l) c.names.ensures in
     record {
       some_entry = subst (AllByRecursion (λ m. 1 ≤ m)) (sym counts) (some-more p.counts.items n c.self.invariant.some_entry (omega (arith, c.count-count.ensures.some)));
+      few = omega (arith, ap length counts, length-append p.counts.items (n ∷ []), counts-are p.counts.items p.names.items, ap (λ (r : Reduced). length r.groups) c.self.view_is, c.requires.room);
       entries = omega (
         arith,
         ap total counts,
