@@ -1,0 +1,4 @@
+pub mod Calls
+pub mod Log
+pub mod Stored
+pub mod View
