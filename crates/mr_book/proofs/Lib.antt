@@ -1,3 +1,3 @@
-pub mod Fetches
 pub mod Histories
 pub mod Shelves
+pub mod StoredLaws

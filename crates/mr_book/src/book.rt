@@ -271,7 +271,7 @@ impl<L: Ledger> Book<L> {
             return Ok(None);
         }
         match core.output(map) {
-            Some(number) => Ok(Some(self.maps.share(number)?)),
+            Some(number) => Ok(Some(self.maps.at(number).share()?)),
             None => Ok(None),
         }
     }

@@ -3,11 +3,13 @@
 
 mod book;
 mod entry;
+mod laws;
 mod log;
 mod seat;
 mod shelf;
 
 pub use book::{Book, History};
 pub use entry::Entry;
+pub use laws::what_is_complete_is_stored;
 pub use seat::Seat;
 pub use shelf::Stored;

@@ -1,8 +1,6 @@
 //! The master with its history.
-ghost use Rattle.std.specs.Prelude.{◌≡◌, ◌+◌, ◌<◌, ◌≤◌, ◌∷◌, ◌++◌, [], length, replicate, sum, vec_len, IfOk, OnOk, OnErr};
-ghost use Rattle.mr_core.specs.Core.{IsStep, IsRun, InLimits, TakesMemory};
-ghost use Rattle.mr_core.specs.Master.{opening, is_complete};
-ghost use Rattle.mr_core.specs.Looks.{output_of};
+ghost use Rattle.std.specs.Prelude.{◌≡◌, ◌+◌, ◌≤◌, ◌∷◌, ◌++◌, [], length, replicate, sum, vec_len, IfOk, OnOk, OnErr};
+ghost use Rattle.mr_core.specs.Core.{IsStep, IsRun, TakesMemory};
 ghost use Rattle.mr_book.specs.Calls.{grown, is_wait};
 
 use crate::entry::Entry;

@@ -48,7 +48,7 @@ impl<T> Stored<T> {
     }
 
     /// The output, shared once more.
-    fn share(&self) -> Result<Arc<T>, AllocError>
+    pub(crate) fn share(&self) -> Result<Arc<T>, AllocError>
         ensures { IfOk result (λ a. arc_value a ≡ self.now.1) }
     {
         Arc::try_clone(&self.output)
@@ -103,14 +103,14 @@ impl<T: Drop> Shelf<T> {
         }
     }
 
-    /// The output of a number that is there, shared once more.
-    pub(crate) fn share(&self, number: u64) -> Result<Arc<T>, AllocError>
+    /// The output of a number that is there: a binary search.
+    pub(crate) fn at(&self, number: u64) -> &Stored<T>
         requires { IsSome (stored_at self.now.outputs number) }
-        ensures { IfOk result (λ a. stored_at self.now.outputs number ≡ Some (arc_value a)) }
+        ensures { stored_at self.now.outputs number ≡ Some (result.now.1) }
     {
         let outputs = self.outputs.as_slice();
         match outputs.binary_search_by_key(&number, |s| s.number()) {
-            Ok(at) => outputs[at].share(),
+            Ok(at) => &outputs[at],
             Err(_) => unreachable!(),
         }
     }

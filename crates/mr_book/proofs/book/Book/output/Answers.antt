@@ -5,11 +5,11 @@ use Rattle.mr_book.specs.View.{BookView}
 use Rattle.mr_book.specs.Calls.{Shares}
 use Rattle.mr_core.specs.Core.{CoreView}
 use Rattle.mr_core.specs.Looks.{output_of}
-use Rattle.mr_book.proofs.Fetches.{none_past, output_stored}
+use Rattle.mr_book.proofs.StoredLaws.{none_past, output_stored}
 use Rattle.mr_book.proofs.book.Book.output.Goals as goal
 
-pub share-requires : goal.share-requires
-share-requires g c =
+pub at-requires : goal.at-requires
+at-requires g c =
     let log = c.self.inside.log in
     let is = ap (λ (k : CoreView). output_of k.state c.args.map) (sym c.core-core.ensures.core) ∙ (sym c.output.ensures ∙ c.in-Some.is) in
     output_stored log.core.shape log.history log.core.state c.self.inside.maps.outputs c.core-core.ensures.run.0 c.self.invariant.maps c.args.map c.in-Some.number is

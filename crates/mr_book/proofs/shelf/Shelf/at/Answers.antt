@@ -1,12 +1,11 @@
 use Rattle.std.proofs.Common.{rules, ℕ, subst, sym, ap, ◌∙◌, List}
-use Rattle.std.specs.Prelude.{IsSome, Some}
-use Rattle.std.proofs.lemmas.Result.{IfOk-weaker}
+use Rattle.std.specs.Prelude.{IsSome}
 use Rattle.std.proofs.lemmas.List.Sorted.{answers_always}
 use Rattle.std.specs.Ordering.{nat_cmp}
 use Rattle.mr_bytes.specs.Lists.{Rises}
 use Rattle.mr_book.specs.Stored.{numbers, stored_at, Shelved}
 use Rattle.mr_book.proofs.Shelves.{no_gap, found}
-use Rattle.mr_book.proofs.shelf.Shelf.share.Goals as goal
+use Rattle.mr_book.proofs.shelf.Shelf.at.Goals as goal
 
 pub unreachable-requires : goal.unreachable-requires
 unreachable-requires g c =
@@ -24,5 +23,4 @@ returns g c =
     let same = c.as_slice-outputs.ensures.value in
     let rises = subst (λ (l : List (ℕ × V)). Rises nat_cmp (numbers l)) (sym same) c.self.invariant in
     let is = found c.as_slice-outputs.result.now c.args.number c.in-Ok.at c.index-outputs-at.result rises c.in-Ok.ensures.bound (at c.index-outputs-at.result) c.index-outputs-at.is in
-    let there = ap (λ (v : Shelved V). stored_at v.outputs c.args.number) (sym c.self.view_is) ∙ (ap (λ (l : List (ℕ × V)). stored_at l c.args.number) (sym same) ∙ is) in
-    IfOk-weaker c.share.result _ _ (λ a e. there ∙ ap Some (sym e)) c.share.ensures
+    ap (λ (v : Shelved V). stored_at v.outputs c.args.number) (sym c.self.view_is) ∙ (ap (λ (l : List (ℕ × V)). stored_at l c.args.number) (sym same) ∙ is)

@@ -1,4 +1,4 @@
--- A fetch that is answered by a region: its number is that of the split's output, which is stored.
+-- The output that a split has, and the one that is committed for a partition, are stored.
 use Rattle.std.proofs.Common.{◌≡◌, ℕ, zero, suc, ◌≤◌, length, Option, Some, None, List, [], ◌∷◌, slice_get, refl, ap, sym, ◌∙◌, subst, Bool, true, false, cond, inl, inr, arith}
 use Rattle.std.specs.Prelude.{IsSome, ◌==◌}
 use Rattle.std.proofs.lemmas.Bool.Decides.{nat_tests}
@@ -6,18 +6,19 @@ use Rattle.std.proofs.lemmas.List.{length-replicate, length-map}
 use Rattle.mr_bytes.specs.Lists.{Has}
 use Rattle.mr_bytes.proofs.ListLaws.{Has-flat_map}
 use Rattle.mr_core.specs.declared.event.Event.{Event}
-use Rattle.mr_core.specs.declared.event.Event.TheVariants.{MapDone}
+use Rattle.mr_core.specs.declared.event.Event.TheVariants.{MapDone, ReduceDone}
 use Rattle.mr_core.specs.declared.event.Reply.{Reply}
 use Rattle.mr_core.specs.declared.event.Reply.TheVariants.{Accepted}
 use Rattle.mr_core.specs.declared.event.Shape.{Shape}
 use Rattle.mr_core.specs.declared.entries.Split.{Split}
 use Rattle.mr_core.specs.Master.{State, Step, Run, opening}
-use Rattle.mr_core.specs.Looks.{number_of, split_output, output_of}
-use Rattle.mr_core.proofs.FetchLaws.{output_was_accepted}
+use Rattle.mr_core.specs.Looks.{number_of, split_output, output_of, part_output, committed_of}
+use Rattle.mr_core.proofs.FetchLaws.{output_was_accepted, part_was_accepted}
 use Rattle.mr_core.proofs.Progress.{length-update}
 use Rattle.mr_core.proofs.StepCases.{Rule, step_holds}
 use Rattle.mr_book.specs.Stored.{numbers, stored_at}
-use Rattle.mr_book.specs.View.{Regions, accepted_map, accepted_maps}
+use Rattle.mr_task.specs.Values.{Reduced}
+use Rattle.mr_book.specs.View.{Regions, accepted_map, accepted_maps, accepted_reduce, accepted_reduces}
 
 -- ---- what a split has is stored
 
@@ -50,6 +51,21 @@ has_output sh h st run s x e = by (slice_get st.splits s) refl e
 pub output_stored : (sh : Shape) (h : List (Event × Reply)) (st : State) (maps : List (ℕ × Regions)) → Run sh (opening sh) h st → numbers maps ≡ accepted_maps h
     → (s x : ℕ) → output_of st s ≡ Some x → IsSome (stored_at maps x)
 output_stored sh h st maps run same s x e = stored_there maps x (subst (λ (l : List ℕ). Has l x) (sym same) (has_output sh h st run s x e))
+
+has_committed : (sh : Shape) (h : List (Event × Reply)) (st : State) → Run sh (opening sh) h st → (p x : ℕ) → committed_of st p ≡ Some x → Has (accepted_reduces h) x
+has_committed sh h st run p x e = by (slice_get st.committed p) refl e
+  where
+    by : (o : Option (Option ℕ)) → slice_get st.committed p ≡ o → part_output o ≡ Some x → Has (accepted_reduces h) x
+    by None at e = absurd (cc e)
+    by (Some None) at e = absurd (cc e)
+    by (Some (Some y)) at e =
+        let was = part_was_accepted sh h st run p x (at ∙ ap Some e) in
+        Has-flat_map accepted_reduce h (ReduceDone (was.0) x, Accepted) x (was.1) (inl refl)
+
+-- the output that is committed for a partition is stored
+pub commit_stored : (sh : Shape) (h : List (Event × Reply)) (st : State) (reduces : List (ℕ × Reduced)) → Run sh (opening sh) h st → numbers reduces ≡ accepted_reduces h
+    → (p x : ℕ) → committed_of st p ≡ Some x → IsSome (stored_at reduces x)
+commit_stored sh h st reduces run same p x e = stored_there reduces x (subst (λ (l : List ℕ). Has l x) (sym same) (has_committed sh h st run p x e))
 
 -- ---- there are as many splits as at the opening
 
