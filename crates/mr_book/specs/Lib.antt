@@ -1,0 +1,5 @@
+pub mod Calls
+pub mod Laws
+pub mod Log
+pub mod Stored
+pub mod View

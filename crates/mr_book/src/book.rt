@@ -1,0 +1,288 @@
+//! The master's book.
+ghost use Rattle.std.specs.Prelude.{◌≡◌, ◌+◌, [], Some, None, IfOk, IfErr, OnOk, OnErr, length, replicate, sum, vec_len, is_some, if◌then◌else◌};
+ghost use Rattle.mr_core.specs.declared.event.Event.{Event};
+ghost use Rattle.mr_core.specs.Core.{InLimits};
+ghost use Rattle.mr_core.specs.Master.{opening, is_complete, replay};
+ghost use Rattle.mr_core.specs.Looks.{output_of};
+ghost use Rattle.mr_core.specs.Promises.{Promises};
+ghost use Rattle.mr_book.specs.View.{IsKept, output_with};
+ghost use Rattle.mr_book.specs.Calls.{Calls, StoresNothing, Hands, Shares, region_in, grown};
+ghost use Rattle.mr_book.specs.Stored.{stored_by};
+
+use crate::entry::Entry;
+use crate::log::Log;
+use crate::seat::Seat;
+use crate::shelf::{Shelf, Stored};
+use mr_core::{Core, End, Event, Limits, Reply, Shape, Task};
+use mr_task::{MapOutput, ReduceOutput};
+use std::alloc::{AllocError, AllocFailed, Global};
+use std::marker::Model;
+use std::sync::Arc;
+use std::sync::ledger::{Blank, Ledger};
+
+/// A book that is closed: its shape, its events with their replies, and the outputs that it accepted, by rising number.
+#[derive(Drop)]
+pub struct History {
+    pub shape: Shape,
+    pub entries: Vec<Entry>,
+    pub maps: Vec<Stored<MapOutput>>,
+    pub reduces: Vec<Stored<ReduceOutput>>,
+}
+
+/// The master of a job with its whole history and the outputs that it accepted. Each call is one event of the master, and
+/// is counted by the seat that makes it. Workers in many threads share a book under one lock; `L` names the book, so that
+/// its seats are no other's.
+#[derive(Drop)]
+pub struct Book<L: Ledger> {
+    log: Log<L>,
+    maps: Shelf<MapOutput>,
+    reduces: Shelf<ReduceOutput>,
+    alloc: Global,
+}
+
+impl<L: Ledger> Model for Book<L> {
+    ghost use Rattle.mr_book.specs.View.{BookView, StoresAccepted};
+
+    ghost Value = { BookView };
+
+    ghost view = { λ b. record { shape = b.log.core.shape; state = b.log.core.state; history = b.log.history; maps = b.maps.outputs; reduces = b.reduces.outputs } };
+
+    ghost invariant = { λ b. StoresAccepted b.log.history b.maps.outputs b.reduces.outputs };
+}
+
+impl<L: Ledger> Book<L> {
+    /// An empty book of `maps` splits, `parts` partitions and `workers` workers, with its seats.
+    pub fn open(
+        alloc: Global,
+        blank: Blank,
+        maps: u32,
+        parts: u32,
+        workers: u32,
+        limits: Limits,
+        seats: usize,
+    ) -> Result<(Book<L>, Vec<Seat<L>>), AllocError>
+        requires ledger { (blank.name ≡ L.name) × (blank.parts ≡ L.parts) }
+        requires seats { blank.parts ≡ seats }
+        requires limits { InLimits (record { maps = maps; parts = parts; workers = workers; limits = limits }) }
+        ensures book { IfOk result (λ r. r.0 ≡ record {
+          shape = record { maps = maps; parts = parts; workers = workers; limits = limits };
+          state = opening (record { maps = maps; parts = parts; workers = workers; limits = limits });
+          history = [];
+          maps = [];
+          reduces = [];
+        }) }
+        ensures seats { IfOk result (λ r. r.1.items ≡ replicate seats 0) }
+    {
+        let core = Core::new(alloc, maps, parts, workers, limits)?;
+        let (log, made) = Log::open(alloc, blank, core, seats)?;
+        let book = Book {
+            log,
+            maps: Shelf::new(alloc),
+            reduces: Shelf::new(alloc),
+            alloc,
+        };
+        Ok((book, made))
+    }
+
+    /// What the book was opened with. A look at a book brings what every book keeps.
+    pub fn shape(&self) -> Shape
+        ensures shape { result ≡ self.now.shape }
+        ensures kept { IsKept self.now }
+        ensures replay { replay self.now.shape self.now.history ≡ Some self.now.state }
+    {
+        self.log.core().shape()
+    }
+
+    /// The job's end, once it has ended.
+    pub fn end(&self) -> Option<End>
+        ensures { result ≡ self.now.state.end }
+    {
+        self.log.core().end()
+    }
+
+    /// Whether the task is complete. Splits and partitions are below their numbers.
+    pub fn complete(&self, task: Task) -> bool
+        ensures { result ≡ is_complete self.now.state task }
+    {
+        self.log.core().complete(task)
+    }
+
+    /// How many of its events are no ask that was answered by Wait.
+    pub fn grown(&self) -> u64
+        ensures { result ≡ grown self.now.history }
+    {
+        self.log.grown()
+    }
+
+    /// A worker asks for a task. Without memory book and seat stay as they were.
+    pub fn ask(&mut self, seat: &mut Seat<L>, worker: u32) -> Result<Reply, AllocError>
+        ensures call { IfOk result (λ r. Calls self.old (Event.Ask worker) r self.new) }
+        ensures stored { StoresNothing self.old self.new }
+        ensures seat { OnOk result (seat.new ≡ seat.old + 1) }
+        ensures err { OnErr result ((self.new ≡ self.old) × (seat.new ≡ seat.old)) }
+    {
+        self.hear(seat, Event::Ask(worker))
+    }
+
+    /// A reduce attempt wants the output of a split, which is shared with it where it is there. Without memory book and seat
+    /// stay as they were.
+    pub fn fetch(
+        &mut self,
+        seat: &mut Seat<L>,
+        attempt: u32,
+        map: u32,
+    ) -> Result<(Reply, Option<Arc<MapOutput>>), AllocError>
+        ensures call { IfOk result (λ r. Calls self.old (Event.Fetch attempt map) r.0 self.new) }
+        ensures output { IfOk result (λ r. Hands self.old.maps r.0 r.1) }
+        ensures stored { StoresNothing self.old self.new }
+        ensures seat { OnOk result (seat.new ≡ seat.old + 1) }
+        ensures err { OnErr result ((self.new ≡ self.old) × (seat.new ≡ seat.old)) }
+    {
+        let share = self.output(map)?;
+        let reply = self.hear(seat, Event::Fetch(attempt, map))?;
+        let share = handed(&reply, share);
+        Ok((reply, share))
+    }
+
+    /// A map attempt is done. Its output is stored where it is accepted; its number is how many events came before. Without
+    /// memory it comes back, and book and seat stay as they were.
+    pub fn map_done(
+        &mut self,
+        seat: &mut Seat<L>,
+        attempt: u32,
+        output: MapOutput,
+    ) -> Result<Reply, AllocFailed<MapOutput>>
+        ensures call { IfOk result (λ r. Calls self.old (Event.MapDone attempt (length self.old.history)) r self.new) }
+        ensures maps { IfOk result (λ r. self.new.maps ≡ stored_by self.old.maps (length self.old.history) output r) }
+        ensures reduces { self.new.reduces ≡ self.old.reduces }
+        ensures seat { OnOk result (seat.new ≡ seat.old + 1) }
+        ensures err { IfErr result (λ e. (self.new ≡ self.old) × (seat.new ≡ seat.old) × (e.value ≡ output)) }
+    {
+        if self.log.reserve().is_err() || self.maps.reserve().is_err() {
+            return Err(AllocFailed { value: output });
+        }
+        let output = Arc::new(self.alloc, output)?;
+        let number = self.log.len();
+        let event = Event::MapDone(attempt, number);
+        let Ok(reply) = self.log.enter(self.alloc, seat, event) else {
+            unreachable!()
+        };
+        self.maps.store(number, output, &reply);
+        Ok(reply)
+    }
+
+    /// A map attempt failed on a record of its split. Without memory book and seat stay as they were.
+    pub fn map_failed(
+        &mut self,
+        seat: &mut Seat<L>,
+        attempt: u32,
+        number: u32,
+    ) -> Result<Reply, AllocError>
+        ensures call { IfOk result (λ r. Calls self.old (Event.MapFailed attempt number) r self.new) }
+        ensures stored { StoresNothing self.old self.new }
+        ensures seat { OnOk result (seat.new ≡ seat.old + 1) }
+        ensures err { OnErr result ((self.new ≡ self.old) × (seat.new ≡ seat.old)) }
+    {
+        self.hear(seat, Event::MapFailed(attempt, number))
+    }
+
+    /// A reduce attempt is done. Its output is stored where it is accepted; its number is how many events came before.
+    /// Without memory it comes back, and book and seat stay as they were.
+    pub fn reduce_done(
+        &mut self,
+        seat: &mut Seat<L>,
+        attempt: u32,
+        output: ReduceOutput,
+    ) -> Result<Reply, AllocFailed<ReduceOutput>>
+        ensures call { IfOk result (λ r. Calls self.old (Event.ReduceDone attempt (length self.old.history)) r self.new) }
+        ensures reduces { IfOk result (λ r. self.new.reduces ≡ stored_by self.old.reduces (length self.old.history) output r) }
+        ensures maps { self.new.maps ≡ self.old.maps }
+        ensures seat { OnOk result (seat.new ≡ seat.old + 1) }
+        ensures err { IfErr result (λ e. (self.new ≡ self.old) × (seat.new ≡ seat.old) × (e.value ≡ output)) }
+    {
+        if self.log.reserve().is_err() || self.reduces.reserve().is_err() {
+            return Err(AllocFailed { value: output });
+        }
+        let output = Arc::new(self.alloc, output)?;
+        let number = self.log.len();
+        let event = Event::ReduceDone(attempt, number);
+        let Ok(reply) = self.log.enter(self.alloc, seat, event) else {
+            unreachable!()
+        };
+        self.reduces.store(number, output, &reply);
+        Ok(reply)
+    }
+
+    /// A worker is lost. Its outputs stay stored. Without memory book and seat stay as they were.
+    pub fn lose(&mut self, seat: &mut Seat<L>, worker: u32) -> Result<Reply, AllocError>
+        ensures call { IfOk result (λ r. Calls self.old (Event.Lose worker) r self.new) }
+        ensures stored { StoresNothing self.old self.new }
+        ensures seat { OnOk result (seat.new ≡ seat.old + 1) }
+        ensures err { OnErr result ((self.new ≡ self.old) × (seat.new ≡ seat.old)) }
+    {
+        self.hear(seat, Event::Lose(worker))
+    }
+
+    /// The whole history, with all seats that the book was opened with.
+    pub fn close(self, seats: Vec<Seat<L>>) -> History
+        requires { vec_len seats ≡ L.parts }
+        ensures shape { result.shape ≡ self.shape }
+        ensures entries { result.entries.items ≡ self.history }
+        ensures maps { result.maps.items ≡ self.maps }
+        ensures reduces { result.reduces.items ≡ self.reduces }
+        ensures calls { length self.history ≡ sum seats.items }
+        ensures kept { IsKept self }
+        ensures replay { replay self.shape self.history ≡ Some self.state }
+        ensures promises { Promises self.shape self.history self.state }
+    {
+        let Book {
+            log,
+            maps,
+            reduces,
+            alloc: _,
+        } = self;
+        let (shape, entries) = log.close(seats);
+        History {
+            shape,
+            entries,
+            maps: maps.into_vec(),
+            reduces: reduces.into_vec(),
+        }
+    }
+
+    /// An event that comes with no output.
+    fn hear(&mut self, seat: &mut Seat<L>, event: Event) -> Result<Reply, AllocError>
+        requires { output_with event ≡ None }
+        ensures call { IfOk result (λ r. Calls self.old event r self.new) }
+        ensures stored { StoresNothing self.old self.new }
+        ensures seat { OnOk result (seat.new ≡ seat.old + 1) }
+        ensures err { OnErr result ((self.new ≡ self.old) × (seat.new ≡ seat.old)) }
+    {
+        self.log.reserve()?;
+        self.log.enter(self.alloc, seat, event)
+    }
+
+    /// The output of a split that is complete, shared once more.
+    fn output(&self, map: u32) -> Result<Option<Arc<MapOutput>>, AllocError>
+        ensures { IfOk result (λ share. Shares self.now.maps (output_of self.now.state map) share) }
+    {
+        let core = self.log.core();
+        if map >= core.shape().maps {
+            return Ok(None);
+        }
+        match core.output(map) {
+            Some(number) => Ok(Some(self.maps.at(number).share()?)),
+            None => Ok(None),
+        }
+    }
+}
+
+/// What is handed out with the reply: the share where it tells a region.
+fn handed(reply: &Reply, share: Option<Arc<MapOutput>>) -> Option<Arc<MapOutput>>
+    ensures { result ≡ (if is_some (region_in reply.now) then share else None) }
+{
+    match reply {
+        Reply::Region { .. } => share,
+        _ => None,
+    }
+}

@@ -1,0 +1,15 @@
+//! The master's book: the master, its whole history, and the outputs that it accepted (OSDI 2004, section 3.2).
+#![tactic(auto)]
+
+mod book;
+mod entry;
+mod laws;
+mod log;
+mod seat;
+mod shelf;
+
+pub use book::{Book, History};
+pub use entry::Entry;
+pub use laws::what_is_complete_is_stored;
+pub use seat::Seat;
+pub use shelf::Stored;

@@ -1,0 +1,46 @@
+//! Outputs that tell a number.
+use mr_input::Input;
+use mr_jobs::Job;
+use mr_splits::Plan;
+use mr_task::{MapOutput, ReduceOutput, map_task, reduce_task};
+use std::alloc::Global;
+use std::io;
+
+/// What the map task gives for the one word that is `w` with the number.
+pub fn map_output(alloc: Global, number: u32) -> Option<MapOutput> {
+    let text = format!(in alloc; "w{number}\n").ok()?;
+    let mut files = Vec::new(alloc);
+    files.push(text.into_bytes()).ok()?;
+    let input = Input::of(files).ok()?;
+    let plan = Plan::of(alloc, &input, 64).ok()?;
+    if plan.splits() == 0 {
+        return None;
+    }
+    map_task(alloc, &plan, &Job::words(false), 1, 0, &[]).ok()
+}
+
+/// What the reduce task makes of it.
+pub fn reduce_output(alloc: Global, number: u32) -> Option<ReduceOutput> {
+    let output = map_output(alloc, number)?;
+    if output.parts() == 0 {
+        return None;
+    }
+    let mut regions = Vec::new(alloc);
+    for region in output.regions(0) {
+        regions.push(region).ok()?;
+    }
+    reduce_task(alloc, &Job::words(false), 0, regions.as_slice()).ok()
+}
+
+/// Tells the first word of the output.
+pub fn show_map(rt: &HostRuntime, output: &MapOutput) -> io::Result<()> {
+    if output.parts() == 0 {
+        return Ok(());
+    }
+    for region in output.regions(0) {
+        if region.len() > 0 {
+            print!(rt; "{:?}", region.key(0))?;
+        }
+    }
+    Ok(())
+}
