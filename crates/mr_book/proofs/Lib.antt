@@ -1,3 +1,4 @@
 pub mod Histories
 pub mod Shelves
 pub mod StoredLaws
+pub mod Assemblies

@@ -1,3 +1,4 @@
+pub mod Assembling
 pub mod Calls
 pub mod Laws
 pub mod Log

@@ -1,13 +1,13 @@
 //! The master's book.
-ghost use Rattle.std.specs.Prelude.{◌≡◌, ◌+◌, [], Some, None, IfOk, IfErr, OnOk, OnErr, length, replicate, sum, vec_len, is_some, if◌then◌else◌};
+ghost use Rattle.std.specs.Prelude.{◌≡◌, ◌+◌, [], Some, None, IfOk, IfErr, OnOk, OnErr, length, replicate, sum, vec_len, is_some, if◌then◌else◌, IsSome};
 ghost use Rattle.mr_core.specs.declared.event.Event.{Event};
-ghost use Rattle.mr_core.specs.Core.{InLimits};
+ghost use Rattle.mr_core.specs.Core.{InLimits, IsRun};
 ghost use Rattle.mr_core.specs.Master.{opening, is_complete, replay};
 ghost use Rattle.mr_core.specs.Looks.{output_of};
 ghost use Rattle.mr_core.specs.Promises.{Promises};
 ghost use Rattle.mr_book.specs.View.{IsKept, output_with};
 ghost use Rattle.mr_book.specs.Calls.{Calls, StoresNothing, Hands, Shares, region_in, grown};
-ghost use Rattle.mr_book.specs.Stored.{stored_by};
+ghost use Rattle.mr_book.specs.Stored.{stored_at, stored_by};
 
 use crate::entry::Entry;
 use crate::log::Log;
@@ -248,6 +248,22 @@ impl<L: Ledger> Book<L> {
             maps: maps.into_vec(),
             reduces: reduces.into_vec(),
         }
+    }
+
+    /// The master.
+    pub(crate) fn core(&self) -> &Core
+        ensures core { result.now ≡ record { shape = self.now.shape; state = self.now.state } }
+        ensures run { IsRun result.now self.now.history }
+    {
+        self.log.core()
+    }
+
+    /// The reduce output that is committed under a number.
+    pub(crate) fn reduce_output(&self, number: u64) -> &ReduceOutput
+        requires { IsSome (stored_at self.now.reduces number) }
+        ensures { stored_at self.now.reduces number ≡ Some result.now }
+    {
+        self.reduces.at(number).output()
     }
 
     /// An event that comes with no output.

@@ -1,8 +1,10 @@
 //! The master's book: the master, its whole history, and the outputs that it accepted (OSDI 2004, section 3.2).
 #![tactic(auto)]
 
+mod assembling;
 mod book;
 mod entry;
+mod gathering;
 mod laws;
 mod log;
 mod seat;

@@ -1,0 +1,115 @@
+//! The assembled result of a book whose job is done.
+ghost use Rattle.std.specs.Prelude.{◌≡◌, ℕ, List, ◌<◌, ◌≤◌, ◌++◌, Some, IfOk, OnOk, length, map, slice_index_or};
+ghost use Rattle.mr_input.specs.Files.{contents};
+ghost use Rattle.mr_certform.specs.Value.{Spells};
+ghost use Rattle.mr_core.specs.declared.event.End.{End};
+ghost use Rattle.mr_sequential.specs.Good.{IsGood, IsGoodResult};
+ghost use Rattle.mr_assembled.specs.Assembled.{assembled_certificate, assembled_outputs, committed_values, in_split, left_out_records, nothing, records_from};
+ghost use Rattle.mr_assembled.specs.Faithful.{IsFaithful, IsOpenedFor};
+ghost use Rattle.mr_book.specs.Assembling.{gathering_of, reduced_under, sets_of};
+
+use crate::book::Book;
+use crate::gathering::Gathering;
+use mr_bytes::RecordName;
+use mr_certform::Certificate;
+use mr_input::Input;
+use mr_jobs::Request;
+use mr_sequential::header_of;
+use mr_task::ReduceOutput;
+use std::alloc::{AllocError, Global};
+use std::sync::ledger::Ledger;
+
+/// Appends the records of a split that have these numbers.
+fn push_records(
+    records: &mut Vec<RecordName>,
+    split: u32,
+    numbers: &[u32],
+) -> Result<(), AllocError>
+    ensures { OnOk result (records.new.items ≡ records.old.items ++ map (in_split split) numbers.now) }
+{
+    for number in numbers {
+        records.push(RecordName {
+            split,
+            rec: *number,
+        })?;
+    }
+    Ok(())
+}
+
+impl<L: Ledger> Book<L> {
+    /// The records that the left-out sets of all splits have.
+    fn records_left_out(&self, alloc: Global) -> Result<Vec<RecordName>, AllocError>
+        ensures { IfOk result (λ v. v.items ≡ records_from 0 (sets_of self.now.state)) }
+    {
+        let core = self.core();
+        // What the master was opened with is within the limits of a job: that it has all its splits rests on that.
+        let _limits = core.limits();
+        let mut records = Vec::new(alloc);
+        for split in 0..core.shape().maps {
+            push_records(&mut records, split, core.set(split))?;
+        }
+        Ok(records)
+    }
+
+    /// The committed output of a partition.
+    fn committed(&self, partition: u32) -> &ReduceOutput
+        requires done { self.now.state.end ≡ Some End.Done }
+        requires partition { partition < self.now.shape.parts }
+        ensures { result.now ≡ slice_index_or (committed_values (reduced_under self.now.reduces) self.now.state) partition nothing }
+    {
+        let core = self.core();
+        // A job's tasks may have an attempt at least: that a done one has committed all rests on that; and that what is
+        // committed is stored, on what every book keeps.
+        let _limits = core.limits();
+        let _shape = self.shape();
+        let Some(number) = core.committed(partition) else {
+            unreachable!()
+        };
+        self.reduce_output(number)
+    }
+
+    /// The committed outputs of all partitions, put together.
+    fn gathered(&self, alloc: Global) -> Result<Gathering, AllocError>
+        requires { self.now.state.end ≡ Some End.Done }
+        ensures { IfOk result (λ g. g ≡ gathering_of (committed_values (reduced_under self.now.reduces) self.now.state)) }
+    {
+        // As above: that there are as many commits as partitions rests on that.
+        let _limits = self.core().limits();
+        let mut gathering = Gathering::new(alloc);
+        for partition in 0..self.shape().parts {
+            gathering = gathering.with(alloc, self.committed(partition))?;
+        }
+        Ok(gathering)
+    }
+
+    /// The files and the certificate of a job that is done, opened for this request and this input: those that the book's
+    /// state names. Where each committed reduce output is the value of its attempt, and each accepted failure named a
+    /// record of its split, they are good, and so are the files with any bytes that spell the certificate. It fails only
+    /// for want of memory.
+    pub fn assemble(
+        &self,
+        alloc: Global,
+        request: &Request,
+        input: &Input,
+    ) -> Result<(Vec<Vec<u8>>, Certificate), AllocError>
+        requires done { self.now.state.end ≡ Some End.Done }
+        requires opened { IsOpenedFor request.now input.now self.now.shape }
+        ensures outputs { IfOk result (λ r. contents r.0.items ≡ assembled_outputs (reduced_under self.now.reduces) self.now.state) }
+        ensures certificate { IfOk result (λ r. r.1 ≡ assembled_certificate request.now input.now (reduced_under self.now.reduces) self.now.state) }
+        ensures good { IsFaithful request.now input.now self.now.history self.now.state (reduced_under self.now.reduces)
+            → IfOk result (λ r. IsGood request.now input.now (contents r.0.items) r.1) }
+        ensures result { IsFaithful request.now input.now self.now.history self.now.state (reduced_under self.now.reduces)
+            → IfOk result (λ r. (bytes : List ℕ) → Spells bytes r.1 → IsGoodResult request.now input.now (contents r.0.items) bytes) }
+    {
+        // Book, input and request are within their limits, and the book keeps a run: that there is a certificate of them,
+        // and that it is good, rests on that.
+        let _limits = self.core().limits();
+        let _shape = self.shape();
+        let _files = input.files();
+        let _size = request.split_size();
+        let skips = self.records_left_out(alloc)?;
+        let Gathering { outputs, groups } = self.gathered(alloc)?;
+        let header = header_of(alloc, request, input, skips.as_slice())?;
+        Ok((outputs, Certificate::of(header, groups)))
+    }
+}
