@@ -1,0 +1,3 @@
+pub mod LeftOutLemmas
+pub mod RunLemmas
+pub mod SourceLemmas

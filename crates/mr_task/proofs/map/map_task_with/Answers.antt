@@ -1,0 +1,97 @@
+use Rattle.std.proofs.Common.{◌≡◌, ℕ, ◌<◌, true, false, List, [], ◌++◌, ◌+◌, length, get_or, take, refl, subst, sym, ap, ◌∙◌, arith}
+use Rattle.std.proofs.lemmas.List.{append-nil, take_all}
+use Rattle.std.proofs.lemmas.Result.{IfOk-weaker}
+use Rattle.std.specs.List.{flat_map}
+use Rattle.mr_bytes.specs.Lists.{Rises}
+use Rattle.mr_bytes.specs.Order.{name_order}
+use Rattle.mr_bytes.specs.Pairs.{Triple}
+use Rattle.mr_jobs.specs.Emissions.{emissions}
+use Rattle.mr_partition.specs.Partition.{partition_of}
+use Rattle.mr_sequential.specs.Emitted.{emitted, placed_from}
+use Rattle.mr_splits.specs.Cut.{nth_named, records_of}
+use Rattle.mr_splits.specs.Named.{NamedRecord, of_split}
+use Rattle.mr_spill.specs.Column.{names_of}
+use Rattle.mr_task.specs.declared.runs.Runs.{Runs}
+use Rattle.mr_task.specs.Runs.{HasTaken, Takes, record_gives}
+use Rattle.mr_task.specs.Values.{IsCutOf, emitted_in, has_number}
+use Rattle.mr_task.proofs.SourceLemmas.{emitted-gives, gives-kept, gives-more, gives-nothing, record-rises, task-rises}
+use Rattle.mr_task.proofs.map.map_task_with.Goals.{then-not-has+in_ok-take_record, else-not-has}
+use Rattle.mr_task.proofs.map.map_task_with.Goals as goal
+
+abbrev no_record : NamedRecord
+no_record = record { name = record { split = 0; rec = 0 }; file = 0; start = 0; bytes = [] }
+
+pub take_record-requires-clause-rise : goal.take_record-requires-clause-rise
+take_record-requires-clause-rise c =
+    let skips : List ℕ = c.args.skips.now in
+    let rs : List NamedRecord = of_split c.args.split (records_of c.args.plan.now) in
+    let i : ℕ = c.loop-rec.rec in
+    let line = c.located-line.result in
+    let is : NamedRecord = record { name = record { split = c.args.split; rec = i }; file = line.file; start = line.start; bytes = line.bytes.now } in
+    let kept : has_number skips i ≡ false =
+    sym (c.has.ensures ∙ ap (λ l. has_number l i) c.as_slice.ensures.value ∙ c.in_ok-left_out.ensures.same i) ∙ c.if-not-has.true in
+    let within : i < length rs = omega (arith, c.loop-rec-test.true, c.records_in-rec-end.ensures) in
+    let taken = c.loop-rec.invariant.taken in
+    subst (λ (l : List Triple). Rises name_order (names_of (c.loop-rec.runs.buffer.pairs ++ l)))
+    (gives-kept c.args.job.now skips (nth_named rs i) is c.located-line.ensures.record kept)
+    (record-rises (record_gives c.args.job.now skips) rs i no_record taken.sealed c.loop-rec.runs.buffer.pairs within taken.all
+    (task-rises c.args.job.now c.args.plan.now.size c.args.plan.now.files c.args.split skips (omega (arith, c.size-size.ensures.same, c.size-size.ensures.within.0))))
+
+-- what the loop knows after some records
+abbrev IsSoFar : ℕ → List Triple → Runs → Type 0
+IsSoFar n pairs r = record { parts : r.parts ≡ n; lists : length r.lists.items ≡ n; taken : HasTaken pairs r }
+
+kept-step : (parts : ℕ) (all so_far more : List Triple) (old new now : Runs) → now ≡ new → all ≡ so_far ++ more → IsSoFar parts so_far old
+    → record { parts : new.parts ≡ old.parts; lists : length new.lists.items ≡ old.parts; taken : Takes more old new } → IsSoFar parts all now
+kept-step parts all so_far more old new now is e before step =
+    subst (λ (r : Runs). IsSoFar parts all r) (sym is)
+    (record {
+      parts = step.parts ∙ before.parts;
+      lists = step.lists ∙ before.parts;
+      taken = subst (λ (l : List Triple). HasTaken l new) (sym e) (step.taken so_far before.taken);
+    })
+
+pub loop-rec-preserved : goal.loop-rec-preserved
+loop-rec-preserved c =
+    let skips : List ℕ = c.args.skips.now in
+    let rs : List NamedRecord = of_split c.args.split (records_of c.args.plan.now) in
+    let i : ℕ = c.loop-rec.rec in
+    let gives : NamedRecord → List Triple = record_gives c.args.job.now skips in
+    let so_far : List Triple = flat_map gives (take i rs) in
+    let within : i < length rs = omega (arith, c.loop-rec-test.true, c.records_in-rec-end.ensures) in
+    let more : flat_map gives (take (i + 1) rs) ≡ so_far ++ gives (nth_named rs i) = gives-more gives rs i no_record within in
+    let has : c.has.result ≡ has_number skips i = c.has.ensures ∙ ap (λ l. has_number l i) c.as_slice.ensures.value ∙ c.in_ok-left_out.ensures.same i in
+    let line = c.located-line.result in
+    let is : NamedRecord = record { name = record { split = c.args.split; rec = i }; file = line.file; start = line.start; bytes = line.bytes.now } in
+    elim c.if-not-has.branch [
+      | then-not-has+in_ok-take_record w ↦
+          let kept : has_number skips i ≡ false = sym has ∙ w.if-not-has.true in
+          let gave : gives (nth_named rs i) ≡ placed_from is.name 0 (emissions c.args.job.now line.file line.start line.bytes.now) =
+          gives-kept c.args.job.now skips (nth_named rs i) is c.located-line.ensures.record kept in
+          kept-step c.args.parts (flat_map gives (take (i + 1) rs)) so_far (placed_from is.name 0 (emissions c.args.job.now line.file line.start line.bytes.now))
+          c.loop-rec.runs w.take_record.new.self c.if-not-has.runs w.runs-is (more ∙ ap (λ (l : List Triple). so_far ++ l) gave)
+          c.loop-rec.invariant w.in_ok-take_record.ensures
+      | else-not-has w ↦
+          let out : has_number skips i ≡ true = sym has ∙ w.if-not-has.false in
+          let nothing : flat_map gives (take (i + 1) rs) ≡ so_far =
+          more ∙ ap (λ (l : List Triple). so_far ++ l) (gives-nothing c.args.job.now skips (nth_named rs i) is c.located-line.ensures.record out) ∙ append-nil so_far in
+          subst (λ (r : Runs). IsSoFar c.args.parts (flat_map gives (take (i + 1) rs)) r) (sym w.runs-is)
+          (subst (λ (l : List Triple). IsSoFar c.args.parts l c.loop-rec.runs) (sym nothing) c.loop-rec.invariant)
+    ]
+
+pub returns : goal.returns
+returns c =
+    let rs : List NamedRecord = of_split c.args.split (records_of c.args.plan.now) in
+    let skips : List ℕ = c.args.skips.now in
+    let i : ℕ = c.loop-rec.rec in
+    let gives : NamedRecord → List Triple = record_gives c.args.job.now skips in
+    let all : flat_map gives (take i rs) ≡ flat_map gives rs =
+    ap (flat_map gives) (take_all i rs (omega (arith, c.loop-rec-test.false, c.records_in-rec-end.ensures))) in
+    let taken : HasTaken (flat_map gives rs) c.loop-rec.runs = subst (λ (l : List Triple). HasTaken l c.loop-rec.runs) all c.loop-rec.invariant.taken in
+    let gave = emitted-gives c.args.job.now c.args.plan.now.size c.args.plan.now.files c.args.split skips in
+    IfOk-weaker c.finish.result
+    (λ out. (pairs : List Triple) → HasTaken pairs c.loop-rec.runs → IsCutOf (λ k. partition_of k c.loop-rec.runs.parts) c.loop-rec.runs.parts pairs out)
+    (λ out. IsCutOf (λ k. partition_of k c.args.parts) c.args.parts (emitted_in (emitted c.args.job.now c.args.plan.now.size c.args.plan.now.files []) c.args.split skips) out)
+    (λ out f. subst (λ (n : ℕ). IsCutOf (λ k. partition_of k n) n (emitted_in (emitted c.args.job.now c.args.plan.now.size c.args.plan.now.files []) c.args.split skips) out) c.loop-rec.invariant.parts
+    (subst (λ (l : List Triple). IsCutOf (λ k. partition_of k c.loop-rec.runs.parts) c.loop-rec.runs.parts l out) (sym gave) (f (flat_map gives rs) taken)))
+    c.finish.ensures

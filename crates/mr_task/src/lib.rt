@@ -1,0 +1,14 @@
+//! Map and reduce tasks with their values (OSDI 2004, section 3.1).
+//!
+//! A map task maps the records of a split and cuts what they emit by partition; a reduce task merges what the map
+//! tasks have for a partition, and tells each group's text. What a task gives is a function of the pairs that it is
+//! handed, however they are cut into lists.
+#![tactic(auto)]
+
+mod left_out;
+mod map;
+mod output;
+mod runs;
+
+pub use map::{map_task, map_task_with};
+pub use output::{MapOutput, ReduceOutput};

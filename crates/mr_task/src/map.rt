@@ -1,0 +1,61 @@
+//! Map tasks.
+ghost use Rattle.std.specs.Prelude.{◌≡◌, ◌≤◌, ◌<◌, [], IfOk, OnOk, length};
+ghost use Rattle.mr_input.specs.Files.{split_total};
+ghost use Rattle.mr_partition.specs.Partition.{partition_of};
+ghost use Rattle.mr_sequential.specs.Emitted.{emitted};
+ghost use Rattle.mr_task.specs.Values.{IsCutOf, emitted_in};
+
+use crate::left_out::{has, in_order};
+use crate::output::MapOutput;
+use crate::runs::Runs;
+use mr_bytes::RecordName;
+use mr_jobs::Job;
+use mr_splits::Plan;
+use std::alloc::{AllocError, Global};
+
+/// What a job emits for the records of a split, without those whose numbers are listed, as sorted regions by partition.
+/// Numbers may stand in any order, more than once, and need not be those of records. It fails only for want of memory.
+pub fn map_task(
+    alloc: Global,
+    plan: &Plan<'_>,
+    job: &Job,
+    parts: u32,
+    split: u32,
+    skips: &[u32],
+) -> Result<MapOutput, AllocError>
+    requires parts { 1 ≤ parts }
+    requires split { split < split_total plan.now.size plan.now.files }
+    ensures { IfOk result (IsCutOf (λ k. partition_of k parts) parts (emitted_in (emitted job.now plan.now.size plan.now.files []) split skips.now)) }
+{
+    map_task_with(alloc, plan, job, parts, split, skips, usize::MAX)
+}
+
+/// What `map_task` gives, where a run ends as soon as it has `limit` pairs: each run that has any gives one region to
+/// each partition. It fails only for want of memory.
+pub fn map_task_with(
+    alloc: Global,
+    plan: &Plan<'_>,
+    job: &Job,
+    parts: u32,
+    split: u32,
+    skips: &[u32],
+    limit: usize,
+) -> Result<MapOutput, AllocError>
+    requires parts { 1 ≤ parts }
+    requires split { split < split_total plan.now.size plan.now.files }
+    requires limit { 1 ≤ limit }
+    ensures { IfOk result (IsCutOf (λ k. partition_of k parts) parts (emitted_in (emitted job.now plan.now.size plan.now.files []) split skips.now)) }
+{
+    // A plan's size is at least 1: that names rise rests on that.
+    let _size = plan.size();
+    let left_out = in_order(alloc, skips)?;
+    let mut runs = Runs::new(alloc, parts, limit)?;
+    let mut folded = Vec::new(alloc);
+    for rec in 0..plan.records_in(split) {
+        let line = plan.located(split, rec);
+        if !has(left_out.as_slice(), rec) {
+            runs.take_record(alloc, job, RecordName { split, rec }, line, &mut folded)?;
+        }
+    }
+    runs.finish(alloc)
+}
