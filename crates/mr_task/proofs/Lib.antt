@@ -1,3 +1,4 @@
 pub mod LeftOutLemmas
+pub mod OutputLemmas
 pub mod RunLemmas
 pub mod SourceLemmas

@@ -5,10 +5,14 @@
 //! handed, however they are cut into lists.
 #![tactic(auto)]
 
+mod fault;
 mod left_out;
 mod map;
 mod output;
+mod reduce;
 mod runs;
 
+pub use fault::TaskFault;
 pub use map::{map_task, map_task_with};
-pub use output::{MapOutput, ReduceOutput};
+pub use output::{GroupNames, MapOutput, ReduceOutput};
+pub use reduce::reduce_task;

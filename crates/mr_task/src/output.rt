@@ -1,8 +1,18 @@
 //! What tasks give.
-ghost use Rattle.std.specs.Prelude.{◌≡◌, ◌<◌, [], length, slice_index_or};
+ghost use Rattle.std.specs.Prelude.{◌≡◌, ◌<◌, ◌^◌, ◌≤◌, ◌++◌, ◌∷◌, [], IfOk, MatchOption, OnOk, length, map, slice_index_or};
+ghost use Rattle.std.specs.List.{AllByRecursion};
+ghost use Rattle.mr_certform.specs.Flat.{chunks, total};
+ghost use Rattle.mr_merge.specs.Groups.{nth_group};
+ghost use Rattle.mr_reduce.specs.Text.{text_of};
+ghost use Rattle.mr_spill.specs.Column.{names_of};
+ghost use Rattle.mr_task.specs.Values.{group_text};
 
-use mr_bytes::Name;
+use mr_bytes::{Name, Values};
+use mr_jobs::Job;
+use mr_merge::Groups;
+use mr_reduce::{column_text, total_text};
 use mr_spill::Pairs;
+use std::alloc::{AllocError, Global};
 use std::marker::Model;
 
 /// What a map task gives: for each partition a list of regions, each by key and then name.
@@ -42,9 +52,9 @@ impl MapOutput {
 /// No group is empty, and the number of names of each fits a u32.
 #[derive(Drop)]
 pub struct ReduceOutput {
-    pub(crate) text: Vec<u8>,
-    pub(crate) counts: Vec<u32>,
-    pub(crate) names: Vec<Name>,
+    text: Vec<u8>,
+    counts: Vec<u32>,
+    names: Vec<Name>,
 }
 
 impl Model for ReduceOutput {
@@ -63,11 +73,142 @@ impl Model for ReduceOutput {
     } };
 }
 
+/// Puts the values of a group into the column, in place of what it had.
+fn put_values(groups: &Groups, g: usize, values: &mut Values) -> Result<(), AllocError>
+    requires { g < length groups.now }
+    ensures { OnOk result (values.new ≡ map (λ t. t.value) (nth_group groups.now g).pairs) }
+{
+    values.clear();
+    for i in 0..groups.count(g) {
+        values.push(groups.value(g, i))?;
+    }
+    Ok(())
+}
+
+/// Appends the text of a group. Where that takes more than how many values there are, they are put into the column.
+fn put_text(
+    job: &Job,
+    groups: &Groups,
+    g: usize,
+    values: &mut Values,
+    text: &mut Vec<u8>,
+) -> Result<(), AllocError>
+    requires { g < length groups.now }
+    ensures { OnOk result (text.new.items ≡ text.old.items ++ group_text (text_of job.now) (nth_group groups.now g)) }
+{
+    let key = groups.key(g);
+    if job.counts() {
+        return total_text(key, groups.count(g) as u64, text);
+    }
+    put_values(groups, g, values)?;
+    column_text(job, key, values, text)
+}
+
 impl ReduceOutput {
+    /// No text and no groups. It takes no memory.
+    pub(crate) fn new(alloc: Global) -> ReduceOutput
+        ensures { result ≡ record { output = []; groups = [] } }
+    {
+        ReduceOutput {
+            text: Vec::new(alloc),
+            counts: Vec::new(alloc),
+            names: Vec::new(alloc),
+        }
+    }
+
+    /// Appends a group: its text, and the names of its pairs. The column of values is one for all groups.
+    pub(crate) fn push_group(
+        &mut self,
+        job: &Job,
+        groups: &Groups,
+        g: usize,
+        values: &mut Values,
+    ) -> Result<(), AllocError>
+        requires group { g < length groups.now }
+        requires few { length (nth_group groups.now g).pairs < 2 ^ 32 }
+        ensures { OnOk result (self.new ≡ record {
+          output = self.old.output ++ group_text (text_of job.now) (nth_group groups.now g);
+          groups = self.old.groups ++ names_of (nth_group groups.now g).pairs ∷ [];
+        }) }
+    {
+        put_text(job, groups, g, values, &mut self.text)?;
+        let count = groups.count(g);
+        self.counts.reserve(1)?;
+        self.names.extend_from_slice(groups.names(g))?;
+        self.counts.push_reserved(count as u32);
+        Ok(())
+    }
+
     /// The text of the partition.
     pub fn text(&self) -> &[u8]
         ensures { result.now ≡ self.now.output }
     {
         &self.text
+    }
+
+    /// How many names each group has, and the names of all groups, one behind another.
+    pub fn flat_groups(&self) -> (&[u32], &[Name])
+        ensures groups { chunks result.0.now result.1.now ≡ self.now.groups }
+        ensures some_entry { AllByRecursion (λ n. 1 ≤ n) result.0.now }
+        ensures entries { total result.0.now ≡ length result.1.now }
+    {
+        (&self.counts, &self.names)
+    }
+
+    /// The names of each group, one group after another.
+    pub fn groups(&self) -> GroupNames<'_>
+        ensures { result ≡ self.now.groups }
+    {
+        GroupNames {
+            counts: &self.counts,
+            names: &self.names,
+        }
+    }
+
+    /// The text, how many names each group has, and the names of all groups, one behind another.
+    pub fn into_parts(self) -> (Vec<u8>, Vec<u32>, Vec<Name>)
+        ensures text { result.0.items ≡ self.output }
+        ensures groups { chunks result.1.items result.2.items ≡ self.groups }
+        ensures some_entry { AllByRecursion (λ n. 1 ≤ n) result.1.items }
+        ensures entries { total result.1.items ≡ length result.2.items }
+    {
+        let ReduceOutput {
+            text,
+            counts,
+            names,
+        } = self;
+        (text, counts, names)
+    }
+}
+
+/// The names of groups that are still to come.
+#[derive(Drop)]
+pub struct GroupNames<'a> {
+    counts: &'a [u32],
+    names: &'a [Name],
+}
+
+impl<'a> Model for GroupNames<'a> {
+    ghost use Rattle.std.specs.Prelude.{◌≡◌, List, length};
+    ghost use Rattle.mr_bytes.specs.declared.Name.{Name as PairName};
+    ghost use Rattle.mr_certform.specs.Flat.{chunks, total};
+
+    ghost Value = { List (List PairName) };
+
+    ghost view = { λ g. chunks g.counts.now g.names.now };
+
+    ghost invariant = { λ g. total g.counts.now ≡ length g.names.now };
+}
+
+impl<'a> GroupNames<'a> {
+    /// The names of the next group, or `None` where none is left, and from then on.
+    pub fn next(&mut self) -> Option<&'a [Name]>
+        ensures { MatchOption result ((self.old ≡ []) × (self.new ≡ [])) (λ names. self.old ≡ names.now ∷ self.new) }
+    {
+        let (count, later) = self.counts.split_first()?;
+        let (names, rest) = self.names.split_at(*count as usize);
+        self.counts = later;
+        self.names = rest;
+        Some(names)
     }
 }

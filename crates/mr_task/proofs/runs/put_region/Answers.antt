@@ -1,5 +1,3 @@
-use Rattle.std.proofs.Common.{ℕ, List, Vec, Global}
-use Rattle.mr_bytes.specs.Pairs.{Triple}
 use Rattle.mr_task.proofs.RunLemmas.{lists-set}
 use Rattle.mr_task.proofs.runs.put_region.Goals as goal
 

@@ -1,4 +1,4 @@
-use Rattle.std.proofs.Common.{◌≡◌, List, [], ◌++◌, subst, sym, ap, ◌∙◌, arith, refl}
+use Rattle.std.proofs.Common.{List, subst, sym, arith, refl}
 use Rattle.std.proofs.lemmas.List.{append-nil}
 use Rattle.mr_bytes.specs.Pairs.{Triple}
 use Rattle.mr_partition.specs.Partition.{partition_of}

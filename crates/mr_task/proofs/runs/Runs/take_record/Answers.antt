@@ -1,4 +1,4 @@
-use Rattle.std.proofs.Common.{◌≡◌, ℕ, ◌+◌, ◌<◌, List, [], ◌∷◌, ◌++◌, length, take, drop, refl, subst, sym, ap, ◌∙◌, arith}
+use Rattle.std.proofs.Common.{◌≡◌, ℕ, ◌+◌, List, [], ◌∷◌, ◌++◌, length, take, drop, refl, subst, sym, ap, ◌∙◌, arith}
 use Rattle.std.proofs.lemmas.List.{append-nil, take-append-drop}
 use Rattle.mr_bytes.specs.declared.RecordName.{RecordName}
 use Rattle.mr_bytes.specs.declared.Value.{Value}
@@ -9,7 +9,7 @@ use Rattle.mr_jobs.specs.Emissions.{Emission, emissions}
 use Rattle.mr_jobs.proofs.CountLemmas.{few_emissions}
 use Rattle.mr_sequential.specs.Emitted.{placed_from}
 use Rattle.mr_spill.specs.Column.{names_of}
-use Rattle.mr_task.specs.Runs.{HasTaken, Takes}
+use Rattle.mr_task.specs.Runs.{Takes}
 use Rattle.mr_task.proofs.RunLemmas.{later-rise, next-left, next-rises, next-taken, takes-more, takes-none}
 use Rattle.mr_task.proofs.runs.Runs.take_record.Goals as goal
 

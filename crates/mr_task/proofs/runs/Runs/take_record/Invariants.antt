@@ -1,4 +1,4 @@
-use Rattle.std.proofs.Common.{◌≡◌, ℕ, ◌+◌, ◌++◌, length, take, drop}
+use Rattle.std.proofs.Common.{◌≡◌, ◌+◌, ◌++◌, length, take, drop}
 use Rattle.mr_bytes.specs.Lists.{Rises}
 use Rattle.mr_bytes.specs.Order.{name_order}
 use Rattle.mr_jobs.specs.Emissions.{emissions}
