@@ -75,7 +75,7 @@ pub emitted-rises : (job : JobSpec) (size : ℕ) (files : List (List ℕ)) → 0
 emitted-rises job size files some =
     rises-names (emitted job size files []) (names_rise (record { job = job; parts = 1; split = size; skips = 0 }) files [] some)
 
-names-rises : (ts : List Triple) → Rises by_name ts → Rises name_order (names_of ts)
+pub names-rises : (ts : List Triple) → Rises by_name ts → Rises name_order (names_of ts)
 names-rises [] r = tt
 names-rises (t ∷ ts) r = (
   all_from_Has (λ n. name_order t.name n ≡ Less) (names_of ts)

@@ -1,3 +1,5 @@
+pub mod Laws
 pub mod Outputs
 pub mod Runs
 pub mod Values
+pub mod Worked

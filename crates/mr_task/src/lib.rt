@@ -6,6 +6,7 @@
 #![tactic(auto)]
 
 mod fault;
+mod laws;
 mod left_out;
 mod map;
 mod output;
@@ -13,6 +14,7 @@ mod reduce;
 mod runs;
 
 pub use fault::TaskFault;
+pub use laws::{map_values_law, worked_tasks};
 pub use map::{map_task, map_task_with};
 pub use output::{GroupNames, MapOutput, ReduceOutput};
 pub use reduce::reduce_task;
