@@ -1,12 +1,10 @@
 -- What a map value is: it rises, and has the pairs of its split and partition.
-use Rattle.std.proofs.Common.{◌≡◌, ◌↔◌, ℕ, Bool, true, false, not, ◌||◌, ◌==◌, List, [], ◌∷◌, refl, sym, ◌∙◌, ap, subst, inl, inr}
+use Rattle.std.proofs.Common.{◌≡◌, ◌↔◌, ℕ, true, false, not, ◌||◌, ◌==◌, List, [], ◌∷◌, refl, sym, ◌∙◌, ap, inl, inr}
 use Rattle.std.proofs.lemmas.Bool.{and_from, and_parts, cases_Bool, eq-eqb, eqb-true, false≢true, not-true, or_parts}
 use Rattle.mr_bytes.specs.Lists.{Has, Rises}
-use Rattle.mr_bytes.specs.Order.{name_order}
 use Rattle.mr_bytes.specs.Pairs.{Triple}
 use Rattle.mr_bytes.proofs.ListLaws.{Has-filter, Has-filter_from, Rises-filter}
 use Rattle.mr_sequential.specs.Rules.{Key}
-use Rattle.mr_spill.specs.Column.{names_of}
 use Rattle.mr_spill.proofs.RegionLaws.{by_name, regions_have, regions_rise}
 use Rattle.mr_task.specs.Laws.{MapValuesHave, MapValuesRise}
 use Rattle.mr_task.specs.Values.{emitted_in, has_number, is_of, map_value}

@@ -4,7 +4,6 @@ use Rattle.std.specs.Fmt.{digits}
 use Rattle.mr_bytes.specs.Pairs.{Triple}
 use Rattle.mr_merge.specs.Merged.{joined}
 use Rattle.mr_spill.specs.Regions.{region}
-use Rattle.mr_task.specs.Values.{IsCutOf}
 use Rattle.mr_task.specs.Worked.{emitted_letters, first_run, letter, letters, only_partition, second_run}
 use Rattle.mr_task.proofs.laws.worked_tasks.Goals as goal
 
