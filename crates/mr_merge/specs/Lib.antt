@@ -1,4 +1,5 @@
 pub mod Merged
 pub mod Laws
+pub mod Worked
 pub mod Groups
 pub mod Merging

@@ -10,4 +10,4 @@ mod merging;
 mod sound;
 
 pub use groups::Groups;
-pub use merged::{MergeFault, merge, merge_law};
+pub use merged::{MergeFault, merge, merge_law, worked_groups};

@@ -2,6 +2,7 @@
 ghost use Rattle.std.specs.Prelude.{◌≡◌, IfOk, IfErr};
 ghost use Rattle.mr_merge.specs.Merged.{AreSound, joined, merged, values_of};
 ghost use Rattle.mr_merge.specs.Laws.{GroupsHave, GroupsRise, MergedHas, MergedIsOne};
+ghost use Rattle.mr_merge.specs.Worked.{WorkedFalling, WorkedGroups, WorkedTwice, WorkedTwoKeys};
 
 use crate::groups::{Groups, grouped};
 use crate::merging::merged_all;
@@ -55,4 +56,12 @@ pub fn merge_law()
     ensures have { GroupsHave }
     ensures all { MergedHas }
     ensures one { MergedIsOne }
+{}
+
+/// Regions merged by hand, and regions that are not sound.
+pub fn worked_groups()
+    ensures groups { WorkedGroups }
+    ensures twice { WorkedTwice }
+    ensures keys { WorkedTwoKeys }
+    ensures falling { WorkedFalling }
 {}

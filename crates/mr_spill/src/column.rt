@@ -1,5 +1,5 @@
 //! Pairs with their names, in flat columns.
-ghost use Rattle.std.specs.Prelude.{◌≡◌, ◌++◌, ◌∷◌, [], ◌<◌, ◌≤◌, OnOk, OnErr, length, slice_index};
+ghost use Rattle.std.specs.Prelude.{◌≡◌, ◌++◌, ◌∷◌, [], ◌<◌, ◌≤◌, IfOk, OnOk, OnErr, length, slice_index};
 ghost use Rattle.mr_spill.specs.Column.{names_of, nth_pair};
 
 use mr_bytes::{Name, Value, Values};
@@ -52,6 +52,20 @@ impl Pairs {
             values: Values::new(alloc),
             names: Vec::new(alloc),
         }
+    }
+
+    /// No pairs, and room for as many as two columns have. It fails only for want of memory.
+    pub fn with_room_for(alloc: Global, first: &Pairs, second: &Pairs) -> Result<Pairs, AllocError>
+        ensures { IfOk result (λ p. p ≡ []) }
+    {
+        let count = first.ends.len().saturating_add(second.ends.len());
+        let bytes = first.keys.len().saturating_add(second.keys.len());
+        Ok(Pairs {
+            keys: Vec::with_capacity(alloc, bytes)?,
+            ends: Vec::with_capacity(alloc, count)?,
+            values: Values::new(alloc),
+            names: Vec::with_capacity(alloc, count)?,
+        })
     }
 
     /// How many pairs there are.

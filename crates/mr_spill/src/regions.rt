@@ -1,12 +1,12 @@
 //! A column of pairs cut by partition into sorted regions.
-ghost use Rattle.std.specs.Prelude.{◌≡◌, ℕ, ◌+◌, ◌<◌, ◌≤◌, ◌∷◌, ◌++◌, [], IfOk, MatchOption, All, length, map, drop};
+ghost use Rattle.std.specs.Prelude.{◌≡◌, ℕ, ◌+◌, ◌<◌, ◌≤◌, ◌∷◌, ◌++◌, [], IfOk, MatchOption, length, map, drop};
 ghost use Rattle.std.specs.List.{range_with_len};
 ghost use Rattle.mr_bytes.specs.Lists.{Rises};
 ghost use Rattle.mr_bytes.specs.Order.{name_order};
 ghost use Rattle.mr_partition.specs.Partition.{partition_of};
-ghost use Rattle.mr_spill.specs.Column.{names_of, nth_pair};
+ghost use Rattle.mr_spill.specs.Column.{names_of};
 ghost use Rattle.mr_spill.specs.Regions.{RegionsHave, RegionsRise, regions};
-ghost use Rattle.mr_spill.specs.Rows.{behind, front, pairs_in, row_order, row_pairs};
+ghost use Rattle.mr_spill.specs.Rows.{AreOfPairs, behind, front, pairs_in, row_order, row_pairs};
 
 use crate::column::Pairs;
 use crate::rows::{Row, sorted_rows};
@@ -33,7 +33,7 @@ fn region_at(
     from: usize,
     part: u32,
 ) -> Result<(Pairs, usize), AllocError>
-    requires inside { All (λ r. (r.number < length pairs.now) × ((nth_pair pairs.now r.number).key ≡ r.key.now)) rows.now }
+    requires inside { AreOfPairs pairs.now rows.now }
     requires from { from ≤ length rows.now }
     ensures region { IfOk result (λ r. r.0 ≡ row_pairs pairs.now (front part (drop from rows.now))) }
     ensures rest { IfOk result (λ r. (r.1 ≤ length rows.now) × (drop (r.1) rows.now ≡ behind part (drop from rows.now))) }
@@ -54,7 +54,7 @@ fn regions_of(
     rows: &[Row<'_>],
     parts: u32,
 ) -> Result<Vec<Pairs>, AllocError>
-    requires inside { All (λ r. (r.number < length pairs.now) × ((nth_pair pairs.now r.number).key ≡ r.key.now)) rows.now }
+    requires inside { AreOfPairs pairs.now rows.now }
     requires rise { Rises row_order rows.now }
     ensures { IfOk result (λ v. v.items ≡ map (pairs_in pairs.now rows.now) (range_with_len 0 parts)) }
 {

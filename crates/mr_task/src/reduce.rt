@@ -1,5 +1,5 @@
 //! Reduce tasks.
-ghost use Rattle.std.specs.Prelude.{◌≡◌, ◌↔◌, ◌≤◌, ◌<◌, ◌^◌, [], All, IfErr, IfOk, IsTrue, OnOk, length};
+ghost use Rattle.std.specs.Prelude.{◌≡◌, ◌≤◌, ◌<◌, ◌^◌, [], All, IfErr, IfOk, OnOk, length};
 ghost use Rattle.mr_merge.specs.Merged.{joined, values_of};
 ghost use Rattle.mr_reduce.specs.Text.{text_of};
 ghost use Rattle.mr_task.specs.Values.{CanMerge, IsReduced, reduced};
@@ -20,19 +20,20 @@ const _: () = prove!(MAX_PAIRS == 1073741824);
 
 ghost use Rattle.mr_task.specs.declared.fault.TaskFault.TheVariants.{RegionDamaged};
 
-/// Whether there are no more pairs than a reduce task takes.
-fn are_few(regions: &[&Pairs]) -> bool
-    ensures { IsTrue result ↔ (length (joined (values_of regions.now)) ≤ 1073741824) }
+/// Refuses more pairs than a reduce task takes.
+fn check_count(regions: &[&Pairs]) -> Result<(), TaskFault>
+    ensures few { OnOk result (length (joined (values_of regions.now)) ≤ 1073741824) }
+    ensures many { IfErr result (λ e. (e ≡ RegionDamaged) × (1073741824 < length (joined (values_of regions.now)))) }
 {
     let mut room = MAX_PAIRS;
     for region in regions {
         let count = region.len();
         if room < count {
-            return false;
+            return Err(TaskFault::RegionDamaged);
         }
         room -= count;
     }
-    true
+    Ok(())
 }
 
 /// Appends all groups, in their order.
@@ -66,9 +67,7 @@ pub fn reduce_task(
     ensures reduced { IfOk result (IsReduced (text_of job.now) partition (values_of regions.now)) }
     ensures damaged { IfErr result (λ e. e ≡ RegionDamaged → CanMerge partition (values_of regions.now) → ⊥) }
 {
-    if !are_few(regions) {
-        return Err(TaskFault::RegionDamaged);
-    }
+    check_count(regions)?;
     let groups = merge(alloc, regions)?;
     let mut output = ReduceOutput::new(alloc);
     push_groups(alloc, job, &groups, &mut output)?;

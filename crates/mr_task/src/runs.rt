@@ -161,7 +161,8 @@ impl Runs {
         ensures { IfOk result (λ out. (pairs : List Triple) → HasTaken pairs self
             → IsCutOf (λ k. partition_of k self.parts) self.parts pairs out) }
     {
-        if self.buffer.len() > 0 {
+        let waiting = self.buffer.len();
+        if waiting > 0 {
             self.seal(alloc)?;
         }
         Ok(MapOutput {

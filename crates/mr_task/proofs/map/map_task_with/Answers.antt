@@ -30,7 +30,7 @@ take_record-requires-clause-rise c =
     let is : NamedRecord = record { name = record { split = c.args.split; rec = i }; file = line.file; start = line.start; bytes = line.bytes.now } in
     let kept : has_number skips i ≡ false =
     sym (c.has.ensures ∙ ap (λ l. has_number l i) c.as_slice.ensures.value ∙ c.in_ok-left_out.ensures.same i) ∙ c.if-not-has.true in
-    let within : i < length rs = omega (arith, c.loop-rec-test.true, c.records_in-rec-end.ensures) in
+    let within : i < length rs = omega (arith, c.loop-rec-test.true, c.records_in-count.ensures) in
     let taken = c.loop-rec.invariant.taken in
     subst (λ (l : List Triple). Rises name_order (names_of (c.loop-rec.runs.buffer.pairs ++ l)))
     (gives-kept c.args.job.now skips (nth_named rs i) is c.located-line.ensures.record kept)
@@ -58,7 +58,7 @@ loop-rec-preserved c =
     let i : ℕ = c.loop-rec.rec in
     let gives : NamedRecord → List Triple = record_gives c.args.job.now skips in
     let so_far : List Triple = flat_map gives (take i rs) in
-    let within : i < length rs = omega (arith, c.loop-rec-test.true, c.records_in-rec-end.ensures) in
+    let within : i < length rs = omega (arith, c.loop-rec-test.true, c.records_in-count.ensures) in
     let more : flat_map gives (take (i + 1) rs) ≡ so_far ++ gives (nth_named rs i) = gives-more gives rs i no_record within in
     let has : c.has.result ≡ has_number skips i = c.has.ensures ∙ ap (λ l. has_number l i) c.as_slice.ensures.value ∙ c.in_ok-left_out.ensures.same i in
     let line = c.located-line.result in
@@ -86,7 +86,7 @@ returns c =
     let i : ℕ = c.loop-rec.rec in
     let gives : NamedRecord → List Triple = record_gives c.args.job.now skips in
     let all : flat_map gives (take i rs) ≡ flat_map gives rs =
-    ap (flat_map gives) (take_all i rs (omega (arith, c.loop-rec-test.false, c.records_in-rec-end.ensures))) in
+    ap (flat_map gives) (take_all i rs (omega (arith, c.loop-rec-test.false, c.records_in-count.ensures))) in
     let taken : HasTaken (flat_map gives rs) c.loop-rec.runs = subst (λ (l : List Triple). HasTaken l c.loop-rec.runs) all c.loop-rec.invariant.taken in
     let gave = emitted-gives c.args.job.now c.args.plan.now.size c.args.plan.now.files c.args.split skips in
     IfOk-weaker c.finish.result
