@@ -34,7 +34,7 @@ push_groups-requires-clause-few c =
 pub push_groups-requires-clause-count : goal.push_groups-requires-clause-count
 push_groups-requires-clause-count c =
     let rs : List (List Triple) = values_of c.args.regions.now in
-    let few : length (joined rs) ≤ 1073741824 = c.are_few.ensures.0 c.if-not-are_few.false in
+    let few : length (joined rs) ≤ 1073741824 = c.in_ok-check_count.ensures.few in
     subst (λ (gs : List Group). length gs < 4294967296) (sym c.in_ok-groups.ensures.groups) (omega (arith, few, groups-count (joined rs)))
 
 pub returns-clause-reduced : goal.returns-clause-reduced
