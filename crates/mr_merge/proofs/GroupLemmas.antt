@@ -83,9 +83,6 @@ filter-rest p [] rest none = refl
 filter-rest p (x ∷ run) rest none =
     ap (λ b. cond b (x ∷ filter p (run ++ rest)) (filter p (run ++ rest))) (none x (inl refl)) ∙ filter-rest p run rest (λ y h. none y (inr h))
 
-keys_of : List Triple → List (List ℕ)
-keys_of ts = map (λ (t : Triple). t.key) ts
-
 module _ (k : List ℕ) (run rest : List Triple) (t : Triple) (some : Has run t) (same : (u : Triple) → Has run u → u.key ≡ k)
     (rise : Rises pair_order (run ++ rest)) (rises : Rises pair_order rest) (larger : (u : Triple) → Has rest u → key_order k u.key ≡ Less) where
   keys-run : sorted key_order (map (λ (u : Triple). u.key) (run ++ rest)) ≡ k ∷ sorted key_order (map (λ (u : Triple). u.key) rest)

@@ -35,8 +35,8 @@ impl From<AllocError> for MergeFault {
     }
 }
 
-/// The regions of one partition, merged: each key once, rising, with its pairs by name. Regions that are not in order, or
-/// in which a name stands twice, are `RegionDamaged`.
+/// The regions of one partition, merged: each key once, rising, with its pairs by name. Regions of which one is not in
+/// order, or in which a name stands twice, under one key or two, are `RegionDamaged`.
 pub fn merge(alloc: Global, regions: &[&Pairs]) -> Result<Groups, MergeFault>
     ensures sound { IfOk result (λ g. AreSound (values_of regions.now)) }
     ensures groups { IfOk result (λ g. g ≡ merged (joined (values_of regions.now))) }

@@ -100,6 +100,38 @@ fn a_full_buffer(rt: HostRuntime) -> Result<(), Fail> {
 }
 
 #[test]
+fn texts(rt: HostRuntime) -> Result<(), Fail> {
+    let full = PushRefusal::BufferFull;
+    let memory = PushRefusal::OutOfMemory;
+    let said = format!(in rt.alloc(); "{full} {memory} {full:?} {memory:?}")?;
+    assert!(rt; said.as_str() == "BufferFull OutOfMemory BufferFull OutOfMemory");
+
+    let pair = || -> Result<Pair, AllocError> {
+        Ok(Pair {
+            key: Vec::from_slice(rt.alloc(), b"a")?,
+            value: Value::One,
+            name: name(0),
+        })
+    };
+    let full = PushFault::BufferFull(pair()?);
+    let memory = PushFault::OutOfMemory(pair()?);
+    let said = format!(in rt.alloc(); "{full} {memory}")?;
+    assert!(rt; said.as_str() == "BufferFull OutOfMemory");
+    Ok(())
+}
+
+#[test]
+fn names_lent(rt: HostRuntime) -> Result<(), Fail> {
+    let mut pairs = Pairs::new(rt.alloc());
+    pairs.push(b"b", Value::One, name(7))?;
+    pairs.push(b"a", Value::One, name(3))?;
+    assert!(rt; pairs.names() == [name(7), name(3)].as_slice());
+    let roomy = Pairs::with_room_for(rt.alloc(), &pairs, &pairs)?;
+    assert!(rt; roomy.len() == 0 && roomy.names().len() == 0);
+    Ok(())
+}
+
+#[test]
 fn pairs_in_order(rt: HostRuntime) -> Result<(), Fail> {
     let pair = |key: &[u8], place| -> Result<Pair, AllocError> {
         Ok(Pair {
