@@ -1,8 +1,8 @@
 """The master's book: a worked history through two seats, and a thousand drawn at random against a plain master.
 
-The library `mr_book` is reached through the small program `mr_book_tests`, which the gate leaves beside the checked one: a
-line of numbers is a call with a seat, and the line that answers it tells the reply, the output that comes with it, and all
-that can be looked at. At the end of the lines the book is closed, and its history and its outputs are told."""
+The library `mr_book` is reached through the small program `mr_book_tests`, which the gate leaves beside the checked
+one: a line of numbers is a call with a seat, and the line that answers it tells the reply, the output that comes with
+it, and all that can be looked at. At the end of the lines the book is closed, and its history and outputs are told."""
 import os
 import re
 import subprocess
@@ -21,7 +21,7 @@ class Book:
         self.process = subprocess.Popen(words, stdin=subprocess.PIPE, stdout=subprocess.PIPE, text=True, bufsize=1)
 
     def answer(self, seat, event):
-        """The reply, the output that comes with it, and what can be looked at, as texts; no texts where a call failed."""
+        """The reply, the output that comes with it, and what can be looked at; no texts where a call failed."""
         numbers = [KINDS[event[0]], seat, *event[1:]]
         self.process.stdin.write(" ".join(map(str, numbers)) + "\n")
         self.process.stdin.flush()
@@ -53,7 +53,7 @@ def reduce_told(number):
 
 def event_told(event, place):
     """An event of the library, as the history tells it: an output's number is its place."""
-    name = {"ask": "Ask", "fetch": "Fetch", "map done": "MapDone", "map failed": "MapFailed", "reduce done": "ReduceDone", "lose": "Lose"}[event[0]]
+    name = event[0].title().replace(" ", "")
     numbers = [event[1], place] if event[0] in ("map done", "reduce done") else event[1:]
     return f"{name}({', '.join(map(str, numbers))})"
 

@@ -29,9 +29,9 @@ pub struct History {
     pub reduces: Vec<Stored<ReduceOutput>>,
 }
 
-/// The master of a job with its whole history and the outputs that it accepted. Each call is one event of the master, and
-/// is counted by the seat that makes it. Workers in many threads share a book under one lock; `L` names the book, so that
-/// its seats are no other's.
+/// The master of a job with its whole history and the outputs that it accepted. Each call is one event of the master,
+/// and is counted by the seat that makes it. Workers in many threads share a book under one lock; `L` names the book,
+/// so that its seats are no other's.
 #[derive(Drop)]
 pub struct Book<L: Ledger> {
     log: Log<L>,
@@ -124,8 +124,8 @@ impl<L: Ledger> Book<L> {
         self.hear(seat, Event::Ask(worker))
     }
 
-    /// A reduce attempt wants the output of a split, which is shared with it where it is there. Without memory book and seat
-    /// stay as they were.
+    /// A reduce attempt wants the output of a split, which is shared with it where it is there. Without memory book and
+    /// seat stay as they were.
     pub fn fetch(
         &mut self,
         seat: &mut Seat<L>,
@@ -144,8 +144,8 @@ impl<L: Ledger> Book<L> {
         Ok((reply, share))
     }
 
-    /// A map attempt is done. Its output is stored where it is accepted; its number is how many events came before. Without
-    /// memory it comes back, and book and seat stay as they were.
+    /// A map attempt is done. Its output is stored where it is accepted; its number is how many events came before.
+    /// Without memory it comes back, and book and seat stay as they were.
     pub fn map_done(
         &mut self,
         seat: &mut Seat<L>,

@@ -1,7 +1,7 @@
 //! The master's book as a program, for the checks from outside. Its arguments are how many splits, partitions, workers,
-//! attempts of a task, records that may be left out, and seats there are. Each line of standard input is a call: its kind,
-//! its seat, and its numbers. A line answers it with the reply, the output that comes with it, and all that can be looked
-//! at. At the end of the lines the book is closed, and its history told.
+//! attempts of a task, records that may be left out, and seats there are. Each line of standard input is a call: its
+//! kind, its seat, and its numbers. A line answers it with the reply, the output that comes with it, and all that can
+//! be looked at. At the end of the lines the book is closed, and its history told.
 #![tactic(auto)]
 
 mod outputs;
@@ -10,10 +10,9 @@ ghost use Rattle.std.specs.Prelude.{◌≡◌};
 
 use mr_book::{Book, History, Seat};
 use mr_core::{Limits, Task};
-use std::env;
-use std::io;
 use std::marker::Brand;
 use std::sync::ledger::{Blank, Ledger};
+use std::{env, io};
 
 /// The numbers of a line; what is missing or is no number is 0.
 fn numbers_of(line: &str) -> [u32; 4] {
@@ -98,7 +97,7 @@ fn reduce_done<L: Ledger>(
     }
 }
 
-/// Tells what can be looked at: the shape, the end, each split and partition, how far the history has grown, and the seat.
+/// Tells what can be looked at: the shape, the end, each split and partition, how far the history has grown, the seat.
 fn show<L: Ledger>(rt: &HostRuntime, book: &Book<L>, seat: &Seat<L>) -> io::Result<()> {
     let shape = book.shape();
     print!(rt; "|{shape:?}|{:?}", book.end())?;
@@ -112,11 +111,7 @@ fn show<L: Ledger>(rt: &HostRuntime, book: &Book<L>, seat: &Seat<L>) -> io::Resu
 }
 
 /// Answers each line.
-fn serve<L: Ledger>(
-    rt: &HostRuntime,
-    book: &mut Book<L>,
-    seats: &mut [Seat<L>],
-) -> io::Result<()> {
+fn serve<L: Ledger>(rt: &HostRuntime, book: &mut Book<L>, seats: &mut [Seat<L>]) -> io::Result<()> {
     for line in rt.lines(rt.alloc()) {
         let numbers = numbers_of(line?.as_str());
         let Some(seat) = seats.get_mut(numbers[1] as usize) else {
@@ -145,12 +140,7 @@ fn show_history(rt: &HostRuntime, history: &History) -> io::Result<()> {
 }
 
 /// Opens a book of these sizes, where they are within the limits of a small job, and closes it at the end of the lines.
-fn work<L: Ledger>(
-    rt: &HostRuntime,
-    blank: Blank,
-    sizes: [u32; 6],
-    seats: u32,
-) -> io::Result<()>
+fn work<L: Ledger>(rt: &HostRuntime, blank: Blank, sizes: [u32; 6], seats: u32) -> io::Result<()>
     requires ledger { (blank.name ≡ L.name) × (blank.parts ≡ L.parts) }
     requires seats { blank.parts ≡ seats }
 {
