@@ -119,6 +119,14 @@ impl Core {
         })
     }
 
+    /// The bounds that it was opened with. What it was opened with is within the limits of a job.
+    pub fn limits(&self) -> Limits
+        ensures same { result ≡ self.now.shape.limits }
+        ensures within { InLimits self.now.shape }
+    {
+        self.shape.limits
+    }
+
     /// A worker asks for a task.
     pub fn ask(&mut self, alloc: Global, worker: u32) -> Result<Reply, AllocError>
         ensures ok { IfOk result (λ r. IsStep self.old (Event.Ask worker) r self.new) }

@@ -2,12 +2,11 @@
 ghost use Rattle.std.specs.Prelude.{◌≡◌, ◌<◌};
 ghost use Rattle.std.specs.Ordering.{nat_cmp};
 ghost use Rattle.mr_bytes.specs.Lists.{Rises};
-ghost use Rattle.mr_core.specs.Core.{InLimits};
 ghost use Rattle.mr_core.specs.Master.{is_complete};
 ghost use Rattle.mr_core.specs.Looks.{output_of, committed_of, set_of};
 
 use super::Core;
-use crate::event::{End, Limits, Shape, Task};
+use crate::event::{End, Shape, Task};
 
 impl Core {
     /// What the master was opened with.
@@ -15,14 +14,6 @@ impl Core {
         ensures { result ≡ self.now.shape }
     {
         self.shape
-    }
-
-    /// The bounds that it was opened with. What it was opened with is within the limits of a job.
-    pub fn limits(&self) -> Limits
-        ensures same { result ≡ self.now.shape.limits }
-        ensures within { InLimits self.now.shape }
-    {
-        self.shape.limits
     }
 
     /// The job's end, once it has ended.
