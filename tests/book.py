@@ -7,6 +7,7 @@ import os
 import re
 import subprocess
 
+from failing import shim
 from master import ACCEPTED, GONE, KINDS, WAIT, Draws, Plain, map_task, reduce_task, region, truth
 
 TOP = os.path.dirname(os.path.dirname(os.path.abspath(__file__)))
@@ -16,9 +17,10 @@ PROGRAM = os.path.join(TOP, "crates", "mr_book_tests", "out", "mr_book_tests")
 class Book:
     """A book of the library."""
 
-    def __init__(self, sizes, seats):
+    def __init__(self, sizes, seats, **environment):
         words = [PROGRAM, *map(str, sizes), str(seats)]
-        self.process = subprocess.Popen(words, stdin=subprocess.PIPE, stdout=subprocess.PIPE, text=True, bufsize=1)
+        pipes = {"stdin": subprocess.PIPE, "stdout": subprocess.PIPE, "stderr": subprocess.DEVNULL}
+        self.process = subprocess.Popen(words, text=True, bufsize=1, env={**os.environ, **environment}, **pipes)
 
     def answer(self, seat, event):
         """The reply, the output that comes with it, and what can be looked at; no texts where a call failed."""
@@ -138,6 +140,65 @@ def a_thousand_histories(harness):
         harness.check(f"{what} comes in some history", times > 0)
 
 
+# A job that is done: each kind of call, and both kinds of output.
+DONE = [
+    (0, ("ask", 0)),
+    (1, ("ask", 1)),
+    (0, ("map failed", 0, 3)),
+    (1, ("lose", 2)),
+    (1, ("map done", 1, 80)),
+    (0, ("ask", 0)),
+    (0, ("fetch", 2, 0)),
+    (0, ("reduce done", 2, 82)),
+    (1, ("ask", 0)),
+]
+
+
+def stands(book, shadow, calls):
+    """Goes through the calls of a done job, where one allocation of the program fails: whether each call that isn't
+    answered leaves the book as it was, and of which calls outputs were handed back. An ask that is refused ends the program."""
+    before, back = None, set()
+    for seat, event in DONE:
+        try:
+            reply, output, looks = book.answer(seat, event)
+            if reply == "" and output == "":
+                return True, back
+            if output.startswith("Shape"):
+                told = {"map done": map_told(event[-1]), "reduce done": bytes_told(f"w{event[-1]}\t1\n")}.get(event[0])
+                if reply not in ("", told) or before is not None and [output, *looks] != [*before, str(calls[seat])]:
+                    return False, back
+                back |= {event[0]} if reply else set()
+                reply, output, looks = book.answer(seat, event)
+        except BrokenPipeError:
+            return True, back
+        calls[seat] += 1
+        if not shadow.hears(event, reply, output) or looks != [*shadow.looks(), str(calls[seat])]:
+            return False, back
+        before = shadow.looks()
+    told, status = book.close()
+    return told == [""] or told == shadow.closed() and status == 0, back
+
+
+def each_allocation(harness):
+    """Each allocation fails in turn: a call that is refused changes neither book nor seat, and hands an output back."""
+    library = shim(harness)
+    if library is None:
+        return
+    number, marked, handed_back = 0, True, set()
+    while marked:
+        number += 1
+        mark = os.path.join(harness.room, f"book-{number}.mark")
+        sizes = (1, 1, 3, 8, 1)
+        book = Book(sizes, 2, LD_PRELOAD=library, FAIL=f"malloc {number}", FAIL_MARK=mark)
+        fits, back = stands(book, Shadow(sizes), [0, 0])
+        book.process.kill()
+        book.process.wait()
+        marked = os.path.exists(mark)
+        handed_back |= back
+        harness.check(f"allocation {number} of a book fails", fits)
+    harness.check("outputs of both kinds of tasks are handed back", handed_back == {"map done", "reduce done"})
+
+
 def built(group):
     """The group, where the program is there."""
 
@@ -150,4 +211,4 @@ def built(group):
     return checked
 
 
-GROUPS = {"a lost output": built(a_lost_output), "a thousand histories of a book": built(a_thousand_histories)}
+GROUPS = {"a lost output": built(a_lost_output), "each allocation of a book": built(each_allocation), "a thousand histories of a book": built(a_thousand_histories)}

@@ -198,8 +198,8 @@ module _ (request : RequestSpec) (files : List (List ℕ)) (sh : Shape) (h : Lis
   found = sets_and_parts Exists IsValue sh h st done.run
       (λ a r s k e d. done.faithful.failures a r s k e (attempt_of_job st a s k d))
       (λ a o p k e d.
-          let u = get-map_from _ st.attempts a (ReduceTask p, k) d in
-          value_is sh h st done.run request files a p (what o) (u.0, u.1, ap (λ (x : Task × List ℕ). x.0) (sym u.2)) (done.faithful.values a o e))
+      let u = get-map_from _ st.attempts a (ReduceTask p, k) d in
+      value_is sh h st done.run request files a p (what o) (u.0, u.1, ap (λ (x : Task × List ℕ). x.0) (sym u.2)) (done.faithful.values a o e))
 
   values_are : committed_values what st ≡ map (sequential_value request files (fixed_sets st)) (range_with_len 0 request.parts)
   unfolding IsValue

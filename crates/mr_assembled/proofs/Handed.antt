@@ -129,10 +129,10 @@ module _ (part : Key → ℕ) (ts : List Triple) (rise : Rises by_name ts) (p : 
         (Rises-filter by_name has_key es es-rise)
         (λ t h. let f = Has-filter_from has_key ps t h in Has-filter has_key es t (in_es t (sorted-Has_from pair_order (handed 0 ks) t f.0)).0 f.1)
         (λ t h.
-            let f = Has-filter_from has_key es t h in
-            Has-filter has_key ps t
-            (sorted-Has pair_order (handed 0 ks) (λ x y a b o. rising_tie by_name by_name_total es x y es-rise (in_es x a).0 (in_es y b).0 (pair_tie x y o)) t
-            (from_es t f.0 (ap part (bytes_eq-is t.key k f.1) ∙ d))) f.1)
+        let f = Has-filter_from has_key es t h in
+        Has-filter has_key ps t
+        (sorted-Has pair_order (handed 0 ks) (λ x y a b o. rising_tie by_name by_name_total es x y es-rise (in_es x a).0 (in_es y b).0 (pair_tie x y o)) t
+        (from_es t f.0 (ap part (bytes_eq-is t.key k f.1) ∙ d))) f.1)
 
     groups_are : merged (handed 0 ks) ≡ map (λ (k : Key). record { key = k; pairs = triples_with es k }) (keys_of part (map (λ (t : Triple). t.key) es) p)
     groups_are =

@@ -86,9 +86,9 @@ records_more st i rs l is =
     let within : i < length (sets_of st) = omega (arith, length-map st.splits (λ (sp : Split). sp.skips)) in
     let count : 0 + length (take i (sets_of st)) ≡ i = omega (arith, length-take i (sets_of st)) in
     sym (
-      ap (records_from 0) (take_more (sets_of st) i [] within)
-      ∙ records-append 0 (take i (sets_of st)) (get_or (sets_of st) i [])
-      ∙ (λ j. sym is j ++ map (in_split (count j)) (set_at st.splits i j))
+    ap (records_from 0) (take_more (sets_of st) i [] within)
+    ∙ records-append 0 (take i (sets_of st)) (get_or (sets_of st) i [])
+    ∙ (λ j. sym is j ++ map (in_split (count j)) (set_at st.splits i j))
     )
 
 -- ---- what is committed

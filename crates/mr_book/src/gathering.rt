@@ -52,8 +52,8 @@ impl Gathering {
     /// One partition more.
     pub(crate) fn with(self, alloc: Global, output: &ReduceOutput) -> Result<Gathering, AllocError>
         ensures { IfOk result (λ g. g ≡ record {
-            outputs = self.outputs ++ output.now.output ∷ [];
-            groups = self.groups ++ output.now.groups ∷ [];
+          outputs = self.outputs ++ output.now.output ∷ [];
+          groups = self.groups ++ output.now.groups ∷ [];
         }) }
     {
         let Gathering {

@@ -37,7 +37,7 @@ returns c =
     ap contents c.in_ok-push.ensures.items ∙ map-append (λ f. f.items) c.self.inside.outputs.items (c.in_ok-from_slice.field-0 ∷ [])
     ∙ ap (λ (t : List ℕ). contents c.self.inside.outputs.items ++ t ∷ []) (c.in_ok-from_slice.ensures.items ∙ c.text.ensures) in
     let gs : chunks c.push-2.new.self.items (chunks c.extend_from_slice.new.self.items c.extend_from_slice-2.new.self.items)
-        ≡ chunks groups.group_counts.items (chunks groups.entry_counts.items groups.names.items) ++ c.args.output.now.groups ∷ [] =
+    ≡ chunks groups.group_counts.items (chunks groups.entry_counts.items groups.names.items) ++ c.args.output.now.groups ∷ [] =
     (λ i. chunks (gc i) (chunks (ec i) (ns i)))
     ∙ groups_more groups.group_counts.items groups.entry_counts.items es groups.names.items ms (length es) was.groups was.entries (omega arith)
     ∙ ap (λ (w : List (List Name)). chunks groups.group_counts.items (chunks groups.entry_counts.items groups.names.items) ++ w ∷ []) c.flat_groups.ensures.groups in
