@@ -6,6 +6,7 @@ ghost use Rattle.mr_bytes.specs.Bytes.{is_upper, is_word_byte, fold_byte, folded
 
 use std::alloc::{AllocError, Global};
 
+mod gates;
 mod marks;
 mod names;
 mod pairs;
@@ -13,6 +14,7 @@ mod same;
 mod values;
 mod words;
 
+pub use gates::{Gate, OpenGate};
 pub use marks::cut;
 pub use names::{compare_keys, compare_names, compare_records, order_law};
 pub use pairs::{Pair, compare_pairs, sorted_law};

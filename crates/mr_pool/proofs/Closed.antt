@@ -1,0 +1,22 @@
+-- The history of a book that is closed.
+use Rattle.std.proofs.Common.{◌≡◌, ℕ, List, sym, subst}
+use Rattle.mr_core.specs.declared.event.Event.{Event}
+use Rattle.mr_core.specs.declared.event.Reply.{Reply}
+use Rattle.mr_core.specs.Master.{Run, opening}
+use Rattle.mr_core.specs.Promises.{Promises}
+use Rattle.mr_task.specs.Values.{Reduced}
+use Rattle.mr_book.specs.View.{BookView, IsKept, Regions, StoresAccepted}
+use Rattle.mr_book.specs.declared.book.History.{History}
+use Rattle.mr_pool.specs.Outcomes.{IsHistory}
+
+pub is_history : (b : BookView) (h : History) → h.shape ≡ b.shape → h.entries.items ≡ b.history → h.maps.items ≡ b.maps → h.reduces.items ≡ b.reduces
+    → IsKept b → Promises b.shape b.history b.state → IsHistory b.shape h b.state
+is_history b h shape entries maps reduces kept promises = record {
+  shape = shape;
+  run = subst (λ (e : List (Event × Reply)). Run b.shape (opening b.shape) e b.state) (sym entries) kept.run;
+  promises = subst (λ (e : List (Event × Reply)). Promises b.shape e b.state) (sym entries) promises;
+  stored =
+      subst (λ (e : List (Event × Reply)). StoresAccepted e h.maps.items h.reduces.items) (sym entries)
+      (subst (λ (m : List (ℕ × Regions)). StoresAccepted b.history m h.reduces.items) (sym maps)
+      (subst (λ (r : List (ℕ × Reduced)). StoresAccepted b.history b.maps r) (sym reduces) kept.stored));
+}

@@ -1,0 +1,77 @@
+-- What a run answers.
+use Rattle.std.specs.Prelude.{◌≡◌, ℕ, List, Some, Err, ◌⊎◌, IsTrue}
+use Rattle.mr_input.specs.Files.{contents, split_total}
+use Rattle.mr_jobs.specs.JobSpec.{RequestSpec}
+use Rattle.mr_certform.specs.Value.{Spells}
+use Rattle.mr_script.specs.declared.directive.Directive.{Directive}
+use Rattle.mr_core.specs.declared.event.Shape.{Shape}
+use Rattle.mr_core.specs.declared.event.End.{End}
+use Rattle.mr_core.specs.declared.event.JobFault.{JobFault}
+use Rattle.mr_core.specs.Master.{State, Run, opening}
+use Rattle.mr_core.specs.Promises.{Promises}
+use Rattle.mr_assembled.specs.Assembled.{assembled_certificate, assembled_outputs}
+use Rattle.mr_book.specs.View.{StoresAccepted}
+use Rattle.mr_book.specs.Assembling.{reduced_under}
+use Rattle.mr_book.specs.declared.book.History.{History}
+use Rattle.mr_check.specs.declared.fault.No.{No}
+use Rattle.mr_check.specs.declared.fault.No.TheVariants.{OtherJob}
+use Rattle.mr_check.specs.Headline.{IsCertified}
+use Rattle.mr_check.specs.Verdict.{verdict_of}
+use Rattle.mr_pool.specs.Accounts.{accounts}
+use Rattle.mr_pool.specs.declared.running.Certified.{Certified}
+use Rattle.mr_pool.specs.declared.running.RunFault.{RunFault}
+use Rattle.mr_pool.specs.declared.running.RunFault.TheVariants.{Failed, Uncertified, OutOfMemory}
+
+-- what the book of a run is opened with
+abbrev pub run_shape : RequestSpec → List (List ℕ) → ℕ → ℕ → Shape
+run_shape request files workers attempts = record {
+  maps = split_total request.split files;
+  parts = request.parts;
+  workers = workers;
+  limits = record { attempts = attempts; skips = request.skips };
+}
+
+-- a closed book of this shape: its history is a run of the master that leads to the state, so that the master's promises
+-- hold of it, and its stored outputs are just those that the history accepted
+pub record IsHistory (sh : Shape) (h : History) (st : State) : Type 0 where
+  pub shape : h.shape ≡ sh
+  pub run : Run sh (opening sh) h.entries.items st
+  pub promises : Promises sh h.entries.items st
+  pub stored : StoresAccepted h.entries.items h.maps.items h.reduces.items
+
+-- a history that ends done, with the files, and bytes of the certificate, that are assembled from it
+pub record IsDoneRun (request : RequestSpec) (files : List (List ℕ)) (sh : Shape) (h : History) (outputs : List (List ℕ)) (bytes : List ℕ) : Type 0 where
+  pub state : State
+  pub history : IsHistory sh h state
+  pub ends : state.end ≡ Some End.Done
+  pub outputs_are : outputs ≡ assembled_outputs (reduced_under h.reduces.items) state
+  pub certificate_is : Spells bytes (assembled_certificate request files (reduced_under h.reduces.items) state)
+
+-- the judge says yes to just these files and these bytes, which are assembled from a history of this shape that ends done
+pub record IsCertifiedRun (request : RequestSpec) (files : List (List ℕ)) (sh : Shape) (c : Certified) : Type 0 where
+  pub judged : IsCertified request files (contents c.outputs.items) c.certificate.items c.skips.items c.pairs
+  pub done : IsDoneRun request files sh c.history (contents c.outputs.items) c.certificate.items
+
+-- the job failed by this fault, and the script accounts for it
+pub record IsFailedRun (script : List Directive) (sh : Shape) (fault : JobFault) (h : History) : Type 0 where
+  pub state : State
+  pub history : IsHistory sh h state
+  pub ends : state.end ≡ Some (End.Failed fault)
+  pub accounted : IsTrue (accounts script sh.workers fault)
+
+-- the verdict over the files and the bytes that are assembled from the history is this no
+pub record IsRefusedRun (request : RequestSpec) (files : List (List ℕ)) (sh : Shape) (verdict : No) (h : History) : Type 0 where
+  pub outputs : List (List ℕ)
+  pub bytes : List ℕ
+  pub done : IsDoneRun request files sh h outputs bytes
+  pub refused : verdict_of request files outputs bytes ≡ Err verdict
+
+-- the history has another shape, or has not ended done, or failed without the script's account
+abbrev pub IsAstray : List Directive → Shape → History → Type 0
+IsAstray script sh h = (st : State) × Run h.shape (opening h.shape) h.entries.items st
+    × ((h.shape ≡ sh) → (st.end ≡ Some End.Done → ⊥) × ((fault : JobFault) → st.end ≡ Some (End.Failed fault) → IsTrue (accounts script sh.workers fault) → ⊥))
+
+abbrev pub IsRunFault : RequestSpec → List (List ℕ) → List Directive → Shape → RunFault → Type 0
+IsRunFault request files script sh (Failed fault h) = IsFailedRun script sh fault h
+IsRunFault request files script sh (Uncertified verdict h) = IsRefusedRun request files sh verdict h ⊎ ((verdict ≡ OtherJob) × IsAstray script sh h)
+IsRunFault request files script sh OutOfMemory = Unit {0}

@@ -1,0 +1,9 @@
+//! A run of a job: workers in threads of their own over one book, then the judge (OSDI 2004, section 3.1).
+#![tactic(auto)]
+
+mod orders;
+mod running;
+mod shared;
+mod worker;
+
+pub use running::{Certified, RunFault, run};

@@ -1,0 +1,310 @@
+//! A run, from its opening to its answer.
+ghost use Rattle.std.specs.Prelude.{◌≡◌, ◌↔◌, ℕ, ◌≤◌, ◌<◌, ◌^◌, Some, IfOk, IfErr, IsTrue, vec_len};
+ghost use Rattle.mr_pool.specs.Endings.{ending_of};
+ghost use Rattle.mr_input.specs.Files.{contents, split_total};
+ghost use Rattle.mr_core.specs.declared.event.End.{End as Ended};
+ghost use Rattle.mr_assembled.specs.Faithful.{IsOpenedFor};
+ghost use Rattle.mr_core.specs.Core.{InLimits};
+ghost use Rattle.mr_pool.specs.Outcomes.{IsCertifiedRun, IsRunFault, run_shape};
+
+use crate::orders::{Orders, accounts_for};
+use crate::shared::Shared;
+use crate::worker::{Left, Worker};
+use mr_book::{Book, History, Seat};
+use mr_bytes::{Gate, RecordName};
+use mr_certform::write;
+use mr_check::{No, check, is_same_fault};
+use mr_core::{End, JobFault, Limits, Shape};
+use mr_input::Input;
+use mr_jobs::Request;
+use mr_script::Script;
+use mr_splits::Plan;
+use std::alloc::{AllocError, Global};
+use std::marker::Brand;
+use std::sync::atomic::AtomicBool;
+use std::sync::ledger::{Blank, Ledger};
+use std::sync::{Condvar, Mutex, Wait};
+use std::thread;
+use std::thread::Threads;
+
+/// A result that the judge said yes to, with the history of the run that made it.
+#[derive(Drop)]
+pub struct Certified {
+    /// The bytes of each partition's file.
+    pub outputs: Vec<Vec<u8>>,
+    /// The certificate's bytes.
+    pub certificate: Vec<u8>,
+    /// The records that the result leaves out, rising.
+    pub skips: Vec<RecordName>,
+    /// How many pairs are emitted without them.
+    pub pairs: u64,
+    pub history: History,
+}
+
+/// Why a run gives no certified result.
+#[derive(Drop)]
+pub enum RunFault {
+    /// The job failed, and the script accounts for that.
+    Failed(JobFault, History),
+    /// The judge said no to the assembled result; or the book has not ended, or otherwise than it may, and then the no
+    /// is `OtherJob`.
+    Uncertified(No, History),
+    /// The machine refused memory.
+    OutOfMemory,
+}
+
+impl From<AllocError> for RunFault {
+    ghost use Rattle.mr_pool.specs.declared.running.RunFault.TheVariants.{OutOfMemory};
+
+    ghost from_gives = { λ e r. r ≡ OutOfMemory };
+
+    fn from(_: AllocError) -> RunFault {
+        RunFault::OutOfMemory
+    }
+}
+
+/// What a run is of, and how many workers and attempts it may have.
+#[derive(Clone, Copy)]
+struct Terms<'a> {
+    request: &'a Request,
+    input: &'a Input,
+    script: &'a Script,
+    shape: Shape,
+}
+
+/// The workers, each with its seat; the last has the number 0.
+fn workers_of<L: Ledger>(
+    alloc: Global,
+    mut seats: Vec<Seat<L>>,
+) -> Result<Vec<Worker<L>>, AllocError>
+    requires { vec_len seats < 2 ^ 32 }
+    ensures { IfOk result (λ v. vec_len v ≡ vec_len seats) }
+{
+    let mut workers = Vec::with_capacity(alloc, seats.len())?;
+    while let Some(seat) = seats.pop() {
+        let number = seats.len() as u32;
+        workers.push(Worker {
+            number,
+            seat,
+            reports: 0,
+        })?;
+    }
+    Ok(workers)
+}
+
+/// The seats that came back; refused where a worker was refused memory.
+fn seats_of<L: Ledger>(alloc: Global, mut left: Vec<Left<L>>) -> Result<Vec<Seat<L>>, AllocError>
+    ensures { IfOk result (λ v. vec_len v ≡ vec_len left) }
+{
+    let mut seats = Vec::with_capacity(alloc, left.len())?;
+    while let Some(one) = left.pop() {
+        let Left { seat, refused } = one;
+        if refused {
+            return Err(AllocError);
+        }
+        seats.push(seat)?;
+    }
+    Ok(seats)
+}
+
+/// All workers' turns, each in a thread of its own where one can be made. The book, and the seats.
+fn executed<L: Ledger + Send + Sync, G: Gate, R: Threads + Wait + Sync>(
+    rt: &R,
+    alloc: Global,
+    plan: &Plan<'_>,
+    terms: Terms<'_>,
+    book: Book<L>,
+    seats: Vec<Seat<L>>,
+    gate: &G,
+) -> Result<(Book<L>, Vec<Seat<L>>), AllocError>
+    requires { vec_len seats < 2 ^ 32 }
+    ensures { IfOk result (λ r. vec_len r.1 ≡ vec_len seats) }
+{
+    let workers = workers_of(alloc, seats)?;
+    let shared = Shared {
+        alloc,
+        book: Mutex::new(book),
+        news: Condvar::new(),
+        stopped: AtomicBool::new(false),
+        plan,
+        job: terms.request.job(),
+        parts: terms.request.parts(),
+        orders: Orders::of(alloc, terms.script)?,
+        gate,
+    };
+    let every = &shared;
+    let left = thread::map_vec(rt, workers, &|worker| worker.work(rt, every))?;
+    let seats = seats_of(alloc, left)?;
+    let Shared { book, .. } = shared;
+    Ok((book.into_inner(), seats))
+}
+
+/// The result of a done job is assembled and judged.
+fn assembled<L: Ledger>(
+    alloc: Global,
+    terms: Terms<'_>,
+    book: Book<L>,
+    seats: Vec<Seat<L>>,
+) -> Result<Certified, RunFault>
+    requires fits { split_total terms.request.now.split terms.input.now ≤ 2 ^ 20 }
+    requires ends { book.state.end ≡ Some Ended.Done }
+    requires opened { IsOpenedFor terms.request.now terms.input.now book.shape }
+    requires seats { vec_len seats ≡ L.parts }
+    ensures certified { IfOk result (IsCertifiedRun terms.entry.request.now terms.entry.input.now book.shape) }
+    ensures fault { IfErr result (IsRunFault terms.entry.request.now terms.entry.input.now terms.entry.script.now book.shape) }
+{
+    let (outputs, certificate) = book.assemble(alloc, terms.request, terms.input)?;
+    let certificate = write(alloc, &certificate)?;
+    let judged = check(
+        alloc,
+        terms.request,
+        terms.input,
+        outputs.as_slice(),
+        certificate.as_slice(),
+    );
+    let history = book.close(seats);
+    match judged {
+        Ok(yes) => Ok(Certified {
+            outputs,
+            certificate,
+            skips: yes.skips,
+            pairs: yes.pairs,
+            history,
+        }),
+        Err(no) => {
+            if is_same_fault(no, No::OutOfMemory) {
+                return Err(RunFault::OutOfMemory);
+            }
+            Err(RunFault::Uncertified(no, history))
+        }
+    }
+}
+
+/// How a job ended, by what its script accounts for.
+#[derive(Clone, Copy, PartialEq, Eq)]
+enum Ending {
+    Done,
+    /// By a fault that the script accounts for.
+    Failed(JobFault),
+    /// Not at all, or by a fault that it doesn't account for.
+    Astray,
+}
+
+fn ending_by(end: Option<End>, script: &Script, workers: u32) -> Ending
+    ensures { result ≡ ending_of end script.now workers }
+{
+    match end {
+        Some(End::Done) => Ending::Done,
+        Some(End::Failed(fault)) => {
+            if accounts_for(script, workers, fault) {
+                Ending::Failed(fault)
+            } else {
+                Ending::Astray
+            }
+        }
+        Some(End::Dismissed) | None => Ending::Astray,
+    }
+}
+
+/// Whether the book has the shape that it was opened with: a lock's type doesn't tell that it is the same book.
+fn is_opened(shape: Shape, opened: Shape) -> bool
+    ensures { IsTrue result ↔ (shape ≡ opened) }
+{
+    shape == opened
+}
+
+/// What a book that is closed amounts to.
+fn settled<L: Ledger>(
+    alloc: Global,
+    terms: Terms<'_>,
+    book: Book<L>,
+    seats: Vec<Seat<L>>,
+) -> Result<Certified, RunFault>
+    requires fits { split_total terms.request.now.split terms.input.now ≤ 2 ^ 20 }
+    requires opened { IsOpenedFor terms.request.now terms.input.now terms.shape }
+    requires seats { vec_len seats ≡ L.parts }
+    ensures certified { IfOk result (IsCertifiedRun terms.entry.request.now terms.entry.input.now terms.entry.shape) }
+    ensures fault { IfErr result (IsRunFault terms.entry.request.now terms.entry.input.now terms.entry.script.now terms.entry.shape) }
+{
+    if !is_opened(book.shape(), terms.shape) {
+        return Err(RunFault::Uncertified(No::OtherJob, book.close(seats)));
+    }
+    match ending_by(book.end(), terms.script, terms.shape.workers) {
+        Ending::Done => assembled(alloc, terms, book, seats),
+        Ending::Failed(fault) => Err(RunFault::Failed(fault, book.close(seats))),
+        Ending::Astray => Err(RunFault::Uncertified(No::OtherJob, book.close(seats))),
+    }
+}
+
+fn run_in<L: Ledger + Send + Sync, G: Gate, R: Threads + Wait + Sync>(
+    rt: &R,
+    alloc: Global,
+    blank: Blank,
+    plan: &Plan<'_>,
+    terms: Terms<'_>,
+    gate: &G,
+) -> Result<Certified, RunFault>
+    requires ledger { (blank.name ≡ L.name) × (blank.parts ≡ L.parts) }
+    requires parts { blank.parts ≡ terms.shape.workers }
+    requires fits { split_total terms.request.now.split terms.input.now ≤ 2 ^ 20 }
+    requires opened { IsOpenedFor terms.request.now terms.input.now terms.shape }
+    requires limits { InLimits terms.shape }
+    ensures certified { IfOk result (IsCertifiedRun terms.entry.request.now terms.entry.input.now terms.entry.shape) }
+    ensures fault { IfErr result (IsRunFault terms.entry.request.now terms.entry.input.now terms.entry.script.now terms.entry.shape) }
+{
+    let Shape {
+        maps,
+        parts,
+        workers,
+        limits,
+    } = terms.shape;
+    let (book, seats) = Book::<L>::open(
+        alloc,
+        blank,
+        maps,
+        parts,
+        workers,
+        limits,
+        workers as usize,
+    )?;
+    let (book, seats) = executed(rt, alloc, plan, terms, book, seats, gate)?;
+    settled(alloc, terms, book, seats)
+}
+
+/// Runs the request's job over the input by so many workers, 1 to 64, each in a thread of its own where one can be made;
+/// each task may have so many attempts, 1 to 16. What the script orders goes wrong. The result of a job that is done is
+/// judged, and only a yes is `Certified`. The splits of the input must fit (`Request::fits`). It may wait for threads.
+pub fn run<G: Gate, R: Threads + Wait + Sync>(
+    rt: &R,
+    alloc: Global,
+    request: &Request,
+    input: &Input,
+    script: &Script,
+    workers: u32,
+    attempts: u32,
+    gate: &G,
+) -> Result<Certified, RunFault>
+    requires fits { split_total request.now.split input.now ≤ 2 ^ 20 }
+    requires workers { (1 ≤ workers) × (workers ≤ 64) }
+    requires attempts { (1 ≤ attempts) × (attempts ≤ 16) }
+    ensures certified { IfOk result (IsCertifiedRun request.now input.now (run_shape request.now input.now workers attempts)) }
+    ensures fault { IfErr result (IsRunFault request.now input.now script.now (run_shape request.now input.now workers attempts)) }
+{
+    let plan = Plan::fitting(alloc, input, request.split_size())?;
+    let shape = Shape {
+        maps: plan.splits(),
+        parts: request.parts(),
+        workers,
+        limits: Limits {
+            attempts,
+            skips: request.max_skips(),
+        },
+    };
+    let terms = Terms {
+        request,
+        input,
+        script,
+        shape,
+    };
+    run_in::<Brand, G, R>(rt, alloc, Blank::new(workers as u64), &plan, terms, gate)
+}

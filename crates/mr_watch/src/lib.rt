@@ -1,0 +1,32 @@
+//! Who is told how far long work has come.
+#![tactic(auto)]
+
+/// What long work is at.
+#[derive(Clone, Copy, PartialEq, Eq, Debug)]
+pub enum Phase {
+    /// Records, or map tasks, are mapped.
+    Mapping,
+    /// Groups, or reduce tasks, are reduced.
+    Reducing,
+    /// A result is judged.
+    Judging,
+}
+
+/// Is told now and then how far long work has come, by several threads at once perhaps. It has no say in the work: no
+/// clause speaks of it.
+pub trait Watch: Sync {
+    /// So much of the phase is done, of so much in all: records, pairs, or tasks.
+    fn tell(&self, phase: Phase, done: u64, all: u64);
+
+    /// A worker is lost.
+    fn lost(&self);
+}
+
+/// Nobody looks on.
+pub struct Unwatched;
+
+impl Watch for Unwatched {
+    fn tell(&self, _phase: Phase, _done: u64, _all: u64) {}
+
+    fn lost(&self) {}
+}
