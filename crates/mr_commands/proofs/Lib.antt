@@ -1,3 +1,4 @@
 pub mod Judged
 pub mod SkipLists
 pub mod Refused
+pub mod Kept

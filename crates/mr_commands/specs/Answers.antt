@@ -15,8 +15,6 @@ use Rattle.mr_files.specs.declared.store.FileFault.TheVariants as file
 use Rattle.mr_commands.specs.declared.fault.Fault.{Fault}
 use Rattle.mr_commands.specs.declared.fault.Fault.TheVariants.{Input, TooManySplits, BadSkipList, Run, CannotRead, CannotWrite, OutOfMemory}
 use Rattle.mr_commands.specs.declared.asked.Options.{Options}
-use Rattle.mr_commands.specs.declared.asked.Subcommand.{Subcommand}
-use Rattle.mr_commands.specs.declared.asked.Subcommand.TheVariants.{Seq, Check}
 use Rattle.mr_commands.specs.Asked.{AsksForOtherJob, WithinLimits, IsRequestRefusal, request_asked}
 use Rattle.mr_commands.specs.Outcomes.{IsJudged, IsSequentialResult, done_line}
 use Rattle.mr_commands.specs.SkipList.{SpellsNames}
@@ -126,18 +124,3 @@ abbrev pub TellsFile : FileFault → Fault → Type 0
 TellsFile (file.CannotRead name) told = told ≡ CannotRead name
 TellsFile (file.CannotWrite name) told = told ≡ CannotWrite name
 TellsFile file.OutOfMemory told = told ≡ OutOfMemory
-
--- the names that are written: those of the result, and for `check` none
-abbrev pub written_by : Subcommand → List (List ℕ)
-written_by (Seq o skips) = result_names o.out.now o.parts
-written_by (Check o) = []
-
--- what is answered where the line was understood and no fault was met
-abbrev pub Answers : Stored → Stored → Subcommand → List ℕ → ℕ → Type 0
-Answers old new (Seq o skips) text status = (status ≡ 0) × AnswersSeq old new o skips.now text
-Answers old new (Check o) text status = AnswersCheck old o text status
-
--- why nothing is answered, and what was changed then
-abbrev pub IsRefusal : Stored → Stored → Faulty → Faulty → Subcommand → Fault → Type 0
-IsRefusal old new unreadable unwritable (Seq o skips) fault = IsSeqRefusal old new unreadable unwritable o skips.now fault
-IsRefusal old new unreadable unwritable (Check o) fault = ChangesAmong old new [] × IsCheckRefusal old unreadable o fault

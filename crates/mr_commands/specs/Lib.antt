@@ -4,3 +4,6 @@ pub mod Statuses
 pub mod NoLines
 pub mod Outcomes
 pub mod Answers
+pub mod HistoryLines
+pub mod Runs
+pub mod Commands

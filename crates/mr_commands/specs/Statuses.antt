@@ -1,9 +1,11 @@
 -- The exit statuses.
 use Rattle.std.specs.Prelude.{◌≡◌, ℕ}
 use Rattle.mr_commands.specs.declared.fault.Fault.{Fault}
-use Rattle.mr_commands.specs.declared.fault.Fault.TheVariants.{Job, Run, CannotRead, CannotWrite, OutOfMemory}
+use Rattle.mr_commands.specs.declared.fault.Fault.TheVariants.{Job, Run, Script, CannotRead, CannotWrite, OutOfMemory}
 use Rattle.mr_jobs.specs.declared.job.JobFault.{JobFault}
 use Rattle.mr_jobs.specs.declared.job.JobFault.TheVariants as job
+use Rattle.mr_script.specs.declared.script.ScriptFault.{ScriptFault}
+use Rattle.mr_script.specs.declared.script.ScriptFault.TheVariants as script
 use Rattle.mr_sequential.specs.declared.fault.RunFault.{RunFault}
 use Rattle.mr_sequential.specs.declared.fault.RunFault.TheVariants as run
 
@@ -22,3 +24,7 @@ TellsJob fault told = told ≡ Job fault
 abbrev pub TellsRun : RunFault → Fault → Type 0
 TellsRun run.OutOfMemory told = told ≡ OutOfMemory
 TellsRun fault told = told ≡ Run fault
+
+abbrev pub TellsScript : ScriptFault → Fault → Type 0
+TellsScript script.OutOfMemory told = told ≡ OutOfMemory
+TellsScript fault told = told ≡ Script fault

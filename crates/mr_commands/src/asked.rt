@@ -22,10 +22,25 @@ pub struct Options<'a> {
     pub files: Vec<&'a str>,
 }
 
+/// What a run by workers is asked for.
+#[derive(Drop)]
+pub struct RunOptions<'a> {
+    pub options: Options<'a>,
+    /// How many workers there are, 1 to 64.
+    pub workers: u32,
+    /// How many attempts a task may have, 1 to 16.
+    pub attempts: u32,
+    /// The name of the file that says what shall go wrong.
+    pub script: Option<&'a str>,
+    /// The name under which the history is written.
+    pub history: Option<&'a str>,
+}
+
 /// The command that is asked for.
 #[derive(Drop)]
 pub enum Subcommand<'a> {
     /// With the text of its skip list.
     Seq(Options<'a>, &'a str),
+    Run(RunOptions<'a>),
     Check(Options<'a>),
 }

@@ -5,7 +5,8 @@ ghost use Rattle.mr_input.specs.Files.{contents, split_total};
 ghost use Rattle.mr_sequential.specs.Emitted.{emitted};
 ghost use Rattle.mr_commands.specs.Asked.{request_asked};
 ghost use Rattle.mr_commands.specs.Outcomes.{IsJudged, IsSequentialResult, TellsVerdict, done_line};
-ghost use Rattle.mr_commands.specs.Answers.{Answers, AnswersCheck, AnswersSeq, written_by, IsCheckRefusal, IsRefusal, IsRunRefusal, IsSeqRefusal, IsWorkRefusal, WorksOut};
+ghost use Rattle.mr_commands.specs.Answers.{AnswersCheck, AnswersSeq, IsCheckRefusal, IsRunRefusal, IsSeqRefusal, IsWorkRefusal, WorksOut};
+ghost use Rattle.mr_commands.specs.Commands.{Answers, IsRefusal, written_by};
 ghost use Rattle.mr_files.specs.Holding.{ChangesAmong};
 ghost use Rattle.mr_files.specs.Names.{result_names};
 
@@ -14,6 +15,7 @@ use crate::fault::Fault;
 use crate::input::input_of;
 use crate::no_lines::no_line;
 use crate::request::request_of;
+use crate::running::run as run_by_workers;
 use crate::said::{done_line, yes_text};
 use crate::skips::skips_of;
 use mr_bytes::RecordName;
@@ -24,6 +26,8 @@ use mr_input::Input;
 use mr_jobs::Request;
 use mr_sequential::run;
 use std::alloc::Global;
+use std::sync::Wait;
+use std::thread::Threads;
 
 /// What the program says on standard output, and its exit status.
 #[derive(Drop)]
@@ -162,7 +166,12 @@ pub fn check<S: Store>(store: &S, alloc: Global, options: &Options<'_>) -> Resul
 }
 
 /// Does what is asked for, and nothing else.
-pub fn done<S: Store>(store: &mut S, alloc: Global, asked: &Subcommand<'_>) -> Result<Said, Fault>
+pub fn done<S: Store, R: Threads + Wait + Sync>(
+    rt: &R,
+    store: &mut S,
+    alloc: Global,
+    asked: &Subcommand<'_>,
+) -> Result<Said, Fault>
     ensures answers { IfOk result (λ said. Answers (S.holds store.old) (S.holds store.new) asked.now (string_bytes said.text) said.status) }
     ensures others { ChangesAmong (S.holds store.old) (S.holds store.new) (written_by asked.now) }
     ensures refused { IfErr result (λ e. IsRefusal (S.holds store.old) (S.holds store.new) (S.unreadable store.old) (S.unwritable store.old) asked.now e) }
@@ -170,5 +179,6 @@ pub fn done<S: Store>(store: &mut S, alloc: Global, asked: &Subcommand<'_>) -> R
     match asked {
         Subcommand::Check(options) => check(store, alloc, options),
         Subcommand::Seq(options, skips) => seq(store, alloc, options, skips),
+        Subcommand::Run(asked) => run_by_workers(rt, store, alloc, asked),
     }
 }

@@ -5,6 +5,7 @@ ghost use Rattle.mr_commands.specs.Statuses.{status_of};
 use mr_files::FileFault;
 use mr_input::InputFault;
 use mr_jobs::{JobFault, RequestFault};
+use mr_script::ScriptFault;
 use mr_sequential::RunFault;
 use std::alloc::AllocError;
 use std::fmt;
@@ -20,6 +21,11 @@ pub enum Fault {
     Input(InputFault),
     TooManySplits,
     Run(RunFault),
+    /// There are no workers, or more than 64.
+    BadWorkers,
+    /// A task may have no attempt, or more than 16.
+    BadAttempts,
+    Script(ScriptFault),
     CannotRead(String),
     CannotWrite(String),
     OutOfMemory,
@@ -61,6 +67,19 @@ impl From<RunFault> for Fault {
     }
 }
 
+impl From<ScriptFault> for Fault {
+    ghost use Rattle.mr_commands.specs.Statuses.{TellsScript};
+
+    ghost from_gives = { λ e f. TellsScript e f };
+
+    fn from(fault: ScriptFault) -> Fault {
+        match fault {
+            ScriptFault::OutOfMemory => Fault::OutOfMemory,
+            other => Fault::Script(other),
+        }
+    }
+}
+
 impl From<FileFault> for Fault {
     ghost use Rattle.mr_commands.specs.Answers.{TellsFile};
 
@@ -98,6 +117,9 @@ impl fmt::Display for Fault {
             Fault::Input(fault) => write!(f, "mapred: {fault}\n"),
             Fault::TooManySplits => write!(f, "mapred: TooManySplits\n"),
             Fault::Run(fault) => write!(f, "mapred: {fault}\n"),
+            Fault::BadWorkers => write!(f, "mapred: BadWorkers\n"),
+            Fault::BadAttempts => write!(f, "mapred: BadAttempts\n"),
+            Fault::Script(fault) => write!(f, "mapred: {fault}\n"),
             Fault::CannotRead(name) => write!(f, "mapred: cannot read {name}\n"),
             Fault::CannotWrite(name) => write!(f, "mapred: cannot write {name}\n"),
             Fault::OutOfMemory => write!(f, "mapred: out of memory\n"),

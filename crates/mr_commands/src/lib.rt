@@ -1,19 +1,23 @@
 //! What the commands of the program ask for and do, over a store of files: the request that options ask for, skip
-//! lists, the input, the sequential execution and the judgement, and what is said of each.
+//! lists, the input, the sequential execution, the run by workers and the judgement, and what is said of each.
 #![tactic(auto)]
 
 mod asked;
 mod commands;
 mod fault;
+mod history;
 mod input;
 mod no_lines;
 mod request;
+mod running;
 mod said;
 mod skips;
 
-pub use crate::asked::{JobKind, Options, Subcommand};
+pub use crate::asked::{JobKind, Options, RunOptions, Subcommand};
 pub use crate::commands::{Said, check, done, seq};
 pub use crate::fault::Fault;
+pub use crate::history::history_text;
 pub use crate::no_lines::no_line;
 pub use crate::request::request_of;
+pub use crate::running::{Ran, run};
 pub use crate::skips::{skip_list_law, skips_of};

@@ -18,7 +18,7 @@ fn entry_text(
     format!(in alloc; "{fault} partition {partition} group {group} entry {entry}")
 }
 
-fn fault_text(alloc: Global, no: &No) -> Result<String, AllocError>
+pub(crate) fn fault_text(alloc: Global, no: &No) -> Result<String, AllocError>
     ensures { IfOk result (λ text. string_bytes text ≡ text_of_fault no.now) }
 {
     match *no {

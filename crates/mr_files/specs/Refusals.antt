@@ -41,6 +41,12 @@ IsUnwritten unwritable name (CannotRead told) = ⊥
 IsUnwritten unwritable name (CannotWrite told) = unwritable name × (string_bytes told ≡ name)
 IsUnwritten unwritable name OutOfMemory = ⊤
 
+-- the name is one of these and can't be written
+abbrev pub IsOneUnwritten : Faulty → List (List ℕ) → FileFault → Type 0
+IsOneUnwritten unwritable names (CannotRead told) = ⊥
+IsOneUnwritten unwritable names (CannotWrite told) = (before after : List (List ℕ)) × (names ≡ before ++ string_bytes told ∷ after) × unwritable (string_bytes told)
+IsOneUnwritten unwritable names OutOfMemory = ⊤
+
 -- a file of that name can't be written: those before it were written whole, under it stands what stood there or a
 -- beginning of its text, and all else stands as before
 pub record IsUnwrittenAt (old new : Stored) (unwritable : Faulty) (names texts : List (List ℕ)) (name : List ℕ) : Type 0 where

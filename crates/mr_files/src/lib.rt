@@ -14,6 +14,6 @@ pub use crate::disk::DiskFiles;
 pub use crate::look::{Look, Standing};
 pub use crate::memory::{MemoryFiles, one_content_law};
 pub use crate::names::{certificate_name, part_name};
-pub use crate::reading::{read_files, read_result};
+pub use crate::reading::{read_file, read_files, read_result};
 pub use crate::store::{FileFault, Store, WriteFault};
-pub use crate::writing::write_files;
+pub use crate::writing::{write_files, write_named};

@@ -24,7 +24,7 @@ fn fault_of(alloc: Global, name: &str, fault: ReadFault) -> FileFault
 }
 
 /// All bytes of the file of that name.
-fn read_file<S: Store>(store: &S, alloc: Global, name: &str) -> Result<Vec<u8>, FileFault>
+pub fn read_file<S: Store>(store: &S, alloc: Global, name: &str) -> Result<Vec<u8>, FileFault>
     ensures bytes { IfOk result (λ v. S.holds store.now name.now v.items) }
     ensures refused { IfErr result (λ e. IsUnread (S.unreadable store.now) name.now e) }
 {

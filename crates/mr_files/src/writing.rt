@@ -38,6 +38,23 @@ fn write_file<S: Store>(
     }
 }
 
+/// Writes a file of that name, and tells the name where that fails.
+pub fn write_named<S: Store>(
+    store: &mut S,
+    alloc: Global,
+    name: &str,
+    bytes: &[u8],
+) -> Result<(), FileFault>
+    ensures whole { OnOk result (S.holds store.new name.now bytes.now) }
+    ensures begins { Begins (S.holds store.old) (S.holds store.new) name.now bytes.now }
+    ensures others { ChangesOnly (S.holds store.old) (S.holds store.new) name.now }
+    ensures refused { IfErr result (λ e. IsUnwritten (S.unwritable store.old) name.now e) }
+    ensures still { (n : List ℕ) → S.unwritable store.new n → S.unwritable store.old n }
+{
+    let name = String::from_str(alloc, name)?;
+    write_file(store, alloc, name, bytes)
+}
+
 fn write_part<S: Store>(
     store: &mut S,
     alloc: Global,

@@ -1,0 +1,8 @@
+use Rattle.std.proofs.lemmas.Result.{err_from_is_err_and}
+use Rattle.mr_commands.proofs.Kept.{one_unwritten}
+use Rattle.mr_commands.proofs.running.keep_history.Goals as goal
+
+pub returns-in_err-write_named-clause-refused : goal.returns-in_err-write_named-clause-refused
+returns-in_err-write_named-clause-refused g c =
+    let p = err_from_is_err_and c.from_residual-in_err-write_named.result c.from_residual-in_err-write_named.ensures.1 in
+    rw p.1 (rw p.2 (rw c.in-Some.is (one_unwritten (g.S.Store.unwritable c.args.store.now) c.in-Some.name.now c.in_err-write_named.field-0.0 c.in_err-write_named.ensures.refused)))

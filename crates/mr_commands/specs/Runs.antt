@@ -1,0 +1,168 @@
+-- What `run` answers, over the files of a store.
+use Rattle.std.specs.Prelude.{◌≡◌, ◌⊎◌, ℕ, ◌∷◌, ◌++◌, ◌<◌, Option, None, Some, IfSome, List, [], codes, decimal, ⊤, string_bytes, option_map, length, vec_len}
+use Rattle.mr_input.specs.Files.{contents}
+use Rattle.mr_jobs.specs.JobSpec.{RequestSpec}
+use Rattle.mr_script.specs.declared.directive.Directive.{Directive}
+use Rattle.mr_script.specs.Scripts.{IsScriptFault, SpellsScript}
+use Rattle.mr_core.specs.declared.event.JobFault.{JobFault}
+use Rattle.mr_core.specs.declared.event.Shape.{Shape}
+use Rattle.mr_book.specs.declared.book.History.{History}
+use Rattle.mr_check.specs.declared.fault.No.{No}
+use Rattle.mr_pool.specs.Outcomes.{IsCertifiedRun, IsRunFault, run_shape}
+use Rattle.mr_pool.specs.declared.running.RunFault.TheVariants as fault
+use Rattle.mr_files.specs.Holding.{ChangesAmong, Differs, Faulty, Holding, Stored}
+use Rattle.mr_files.specs.Refusals.{IsOneUnwritten}
+use Rattle.mr_files.specs.declared.store.FileFault.{FileFault}
+use Rattle.mr_files.specs.Names.{part_names, name_of_certificate, result_names}
+use Rattle.mr_commands.specs.declared.fault.Fault.{Fault}
+use Rattle.mr_commands.specs.declared.fault.Fault.TheVariants.{BadWorkers, BadAttempts, Script, CannotRead, OutOfMemory}
+use Rattle.mr_commands.specs.declared.asked.RunOptions.{RunOptions}
+use Rattle.mr_commands.specs.declared.running.Ran.{Ran}
+use Rattle.mr_commands.specs.declared.running.Ran.TheVariants.{Certified, Failed, Uncertified}
+use Rattle.mr_commands.specs.Asked.{IsRequestRefusal, request_asked}
+use Rattle.mr_commands.specs.Answers.{IsAsked, IsInput, IsInputRefusal, TellsFile, input_names}
+use Rattle.mr_commands.specs.HistoryLines.{fault_name, history_text}
+use Rattle.mr_commands.specs.NoLines.{fault_text}
+
+-- ---- what is said
+
+abbrev pub certified_line : ℕ → ℕ → ℕ → List ℕ
+certified_line files pairs left_out =
+    codes "certified: " ++ (decimal files ++ (codes " files, " ++ (decimal pairs ++ (codes " pairs, " ++ (decimal left_out ++ codes " left out\n")))))
+
+abbrev pub failed_line : JobFault → List ℕ
+failed_line f = codes "failed: " ++ (fault_name f ++ codes "\n")
+
+abbrev pub uncertified_line : No → List ℕ
+uncertified_line verdict = codes "uncertified: " ++ (fault_text verdict ++ codes "\n")
+
+-- 0 says that the result is certified, 1 that the job failed or that the result is refused
+abbrev pub TellsRan : Ran → List ℕ → ℕ → Type 0
+TellsRan (Certified c) text status = (status ≡ 0) × (text ≡ certified_line (vec_len c.outputs) c.pairs (vec_len c.skips))
+TellsRan (Failed f h) text status = (status ≡ 1) × (text ≡ failed_line f)
+TellsRan (Uncertified verdict h) text status = (status ≡ 1) × (text ≡ uncertified_line verdict)
+
+-- ---- what is run
+
+-- the script that is named; where none is, that of no bytes
+abbrev pub IsScript : Stored → Option (List ℕ) → List Directive → Type 0
+IsScript holds None directives = SpellsScript [] directives
+IsScript holds (Some name) directives = (bytes : List ℕ) × holds name bytes × SpellsScript bytes directives
+
+abbrev pub script_name : RunOptions → Option (List ℕ)
+script_name o = option_map (λ s. s.now) o.script
+
+abbrev pub history_name : RunOptions → Option (List ℕ)
+history_name o = option_map (λ s. s.now) o.history
+
+-- what the pool answers
+abbrev pub IsEnding : RequestSpec → List (List ℕ) → List Directive → Shape → Ran → Type 0
+IsEnding request files script shape (Certified c) = IsCertifiedRun request files shape c
+IsEnding request files script shape (Failed f h) = IsRunFault request files script shape (fault.Failed f h)
+IsEnding request files script shape (Uncertified verdict h) = IsRunFault request files script shape (fault.Uncertified verdict h)
+
+-- the request that is asked for, over what stands under the names of the input, ended so by the script that is named
+pub record Runs (holds : Stored) (o : RunOptions) (ran : Ran) : Type 0 where
+  pub files : List (List ℕ)
+  pub script : List Directive
+  pub input : IsInput holds (input_names o.options) o.options.split files
+  pub scripted : IsScript holds (script_name o) script
+  pub ends : IsEnding (request_asked o.options) files script (run_shape (request_asked o.options) files o.workers o.attempts) ran
+
+-- ---- what stands behind a run
+
+abbrev pub history_of : Ran → History
+history_of (Certified c) = c.history
+history_of (Failed f h) = h
+history_of (Uncertified verdict h) = h
+
+-- the names besides the result's: that of the history, where one is given
+abbrev pub named : Option (List ℕ) → List (List ℕ)
+named None = []
+named (Some name) = name ∷ []
+
+-- the result stands, where it is certified; else nothing but the history has changed
+abbrev pub KeepsResult : Stored → Stored → RunOptions → Ran → Type 0
+KeepsResult old new o (Certified c) = Holding new (part_names o.options.out.now o.options.parts) (contents c.outputs.items) × new (name_of_certificate o.options.out.now) c.certificate.items
+KeepsResult old new o ran = ChangesAmong old new (named (history_name o))
+
+-- the history stands under its name, unless a file of the result has that name
+abbrev pub KeepsHistory : Stored → RunOptions → Ran → Type 0
+KeepsHistory new o ran = IfSome (history_name o) (λ name. Differs name (result_names o.options.out.now o.options.parts) → new name (history_text (history_of ran)))
+
+-- ---- what each stage leaves
+
+abbrev pub IsHistoryKept : Stored → Option (List ℕ) → History → Type 0
+IsHistoryKept new None h = ⊤
+IsHistoryKept new (Some name) h = new name (history_text h)
+
+-- the names that the result is written under, where it is certified
+abbrev pub names_left : List ℕ → Ran → List (List ℕ)
+names_left out (Certified c) = result_names out (length c.outputs.items)
+names_left out ran = []
+
+abbrev pub IsResultKept : Stored → List ℕ → Ran → Type 0
+IsResultKept new out (Certified c) = Holding new (part_names out (length c.outputs.items)) (contents c.outputs.items) × new (name_of_certificate out) c.certificate.items
+IsResultKept new out ran = ⊤
+
+-- all that a run may write: its history and its result
+abbrev pub written_by_run : RunOptions → List (List ℕ)
+written_by_run o = named (history_name o) ++ result_names o.options.out.now o.options.parts
+
+-- what `run` did where it tells of a run
+pub record AnswersRun (old new : Stored) (o : RunOptions) (text : List ℕ) (status : ℕ) : Type 0 where
+  pub ran : Ran
+  pub runs : Runs old o ran
+  pub told : TellsRan ran text status
+  pub result : KeepsResult old new o ran
+  pub history : KeepsHistory new o ran
+
+-- ---- why there is no run, or not all of it was written
+
+abbrev pub AreBadWorkers : ℕ → Type 0
+AreBadWorkers n = (n ≡ 0) ⊎ (64 < n)
+
+abbrev pub AreBadAttempts : ℕ → Type 0
+AreBadAttempts n = (n ≡ 0) ⊎ (16 < n)
+
+-- the numbers of workers and of attempts, in this order
+abbrev pub IsCrewRefusal : RunOptions → Fault → Type 0
+IsCrewRefusal o BadWorkers = AreBadWorkers o.workers
+IsCrewRefusal o BadAttempts = AreBadAttempts o.attempts
+IsCrewRefusal o fault = ⊥
+
+-- the script can't be read, or a line of it is bad
+abbrev pub IsScriptRefusal : Stored → Faulty → Option (List ℕ) → Fault → Type 0
+IsScriptRefusal holds unreadable (Some name) (CannotRead told) = unreadable name × (string_bytes told ≡ name)
+IsScriptRefusal holds unreadable (Some name) (Script f) = (bytes : List ℕ) × holds name bytes × IsScriptFault bytes f
+IsScriptRefusal holds unreadable None (Script f) = IsScriptFault [] f
+IsScriptRefusal holds unreadable name OutOfMemory = ⊤
+IsScriptRefusal holds unreadable name fault = ⊥
+
+-- bytes spell no script
+abbrev pub IsBadScript : List ℕ → Fault → Type 0
+IsBadScript bytes (Script f) = IsScriptFault bytes f
+IsBadScript bytes OutOfMemory = ⊤
+IsBadScript bytes fault = ⊥
+
+-- why there is no run: the request, the numbers, the script, the input
+abbrev pub IsStartRefusal : Stored → Faulty → RunOptions → Fault → Type 0
+IsStartRefusal holds unreadable o fault = IsRequestRefusal o.options fault
+    ⊎ (IsAsked o.options × IsCrewRefusal o fault)
+    ⊎ (IsAsked o.options × IsScriptRefusal holds unreadable (script_name o) fault)
+    ⊎ (IsAsked o.options × ((script : List Directive) × IsScript holds (script_name o) script) × IsInputRefusal holds unreadable (input_names o.options) o.options.split fault)
+
+-- one of these can't be written, and is told
+abbrev pub TellsUnwritten : Faulty → List (List ℕ) → Fault → Type 0
+TellsUnwritten unwritable names told = (e : FileFault) × TellsFile e told × IsOneUnwritten unwritable names e
+
+-- the history could not be written, and nothing else was; or a file of a certified result could not
+abbrev pub IsUnkept : Stored → Stored → Faulty → RunOptions → Ran → Fault → Type 0
+IsUnkept old new unwritable o (Certified c) fault = (ChangesAmong old new (named (history_name o)) × TellsUnwritten unwritable (named (history_name o)) fault)
+    ⊎ TellsUnwritten unwritable (result_names o.options.out.now o.options.parts) fault
+IsUnkept old new unwritable o ran fault = ChangesAmong old new (named (history_name o)) × TellsUnwritten unwritable (named (history_name o)) fault
+
+-- why nothing is told: there is no run, and nothing was written; or not all that it leaves could be written
+abbrev pub IsRunUnanswered : Stored → Stored → Faulty → Faulty → RunOptions → Fault → Type 0
+IsRunUnanswered old new unreadable unwritable o fault = (ChangesAmong old new [] × IsStartRefusal old unreadable o fault)
+    ⊎ ((ran : Ran) × Runs old o ran × IsUnkept old new unwritable o ran fault)

@@ -1,0 +1,229 @@
+//! A run by workers: what it is of, how it ended, and what it leaves.
+ghost use Rattle.std.specs.Prelude.{◌≡◌, ℕ, ◌≤◌, ◌^◌, List, IfOk, IfErr, OnOk, option_map, string_bytes};
+ghost use Rattle.mr_input.specs.Files.{split_total};
+ghost use Rattle.mr_files.specs.Holding.{ChangesAmong};
+ghost use Rattle.mr_files.specs.Refusals.{IsOneUnwritten};
+ghost use Rattle.mr_pool.specs.Outcomes.{run_shape};
+ghost use Rattle.mr_commands.specs.Runs.{AnswersRun, IsBadScript, IsCrewRefusal, IsEnding, IsHistoryKept, IsResultKept, IsStartRefusal, IsRunUnanswered, IsScript, IsScriptRefusal, Runs, TellsRan, history_of as history_in, named, names_left, written_by_run};
+ghost use Rattle.mr_script.specs.Scripts.{SpellsScript};
+
+use crate::asked::RunOptions;
+use crate::commands::Said;
+use crate::fault::Fault;
+use crate::history::history_text;
+use crate::input::input_of;
+use crate::no_lines::fault_text;
+use crate::request::request_of;
+use crate::said::{certified_line, failed_line};
+use mr_book::History;
+use mr_bytes::OpenGate;
+use mr_check::No;
+use mr_core::JobFault;
+use mr_files::{FileFault, Store, read_file, write_files, write_named};
+use mr_input::Input;
+use mr_jobs::Request;
+use mr_pool::{Certified, RunFault, run as pooled};
+use mr_script::Script;
+use std::alloc::{AllocError, Global};
+use std::sync::Wait;
+use std::thread::Threads;
+
+/// The most workers.
+const MAX_WORKERS: u32 = 64;
+/// The most attempts of a task.
+const MAX_ATTEMPTS: u32 = 16;
+
+// The numbers that the clauses give.
+const _: () = prove!(MAX_WORKERS == 64 && MAX_ATTEMPTS == 16);
+
+/// How a run ended.
+#[derive(Drop)]
+pub enum Ran {
+    Certified(Certified),
+    /// The job failed, and the script accounts for that.
+    Failed(JobFault, History),
+    /// The judge refused what was made.
+    Uncertified(No, History),
+}
+
+/// The numbers of workers and of attempts are within their limits.
+fn expect_crew(asked: &RunOptions<'_>) -> Result<(), Fault>
+    ensures workers { OnOk result ((1 ≤ asked.now.workers) × (asked.now.workers ≤ 64)) }
+    ensures attempts { OnOk result ((1 ≤ asked.now.attempts) × (asked.now.attempts ≤ 16)) }
+    ensures refused { IfErr result (λ e. IsCrewRefusal asked.now e) }
+{
+    if asked.workers == 0 || asked.workers > MAX_WORKERS {
+        return Err(Fault::BadWorkers);
+    }
+    if asked.attempts == 0 || asked.attempts > MAX_ATTEMPTS {
+        return Err(Fault::BadAttempts);
+    }
+    Ok(())
+}
+
+/// The script that bytes spell.
+fn script_in(alloc: Global, bytes: &[u8]) -> Result<Script, Fault>
+    ensures script { IfOk result (λ s. SpellsScript bytes.now s) }
+    ensures refused { IfErr result (λ e. IsBadScript bytes.now e) }
+{
+    Ok(Script::read(alloc, bytes)?)
+}
+
+/// The script of that name; without a name nothing shall go wrong.
+fn script_of<S: Store>(store: &S, alloc: Global, name: Option<&str>) -> Result<Script, Fault>
+    ensures script { IfOk result (λ s. IsScript (S.holds store.now) (option_map (λ n. n.now) name.entry) s) }
+    ensures refused { IfErr result (λ e. IsScriptRefusal (S.holds store.now) (S.unreadable store.now) (option_map (λ n. n.now) name.entry) e) }
+{
+    match name {
+        Some(name) => {
+            let bytes = read_file(store, alloc, name)?;
+            script_in(alloc, bytes.as_slice())
+        }
+        None => script_in(alloc, &[]),
+    }
+}
+
+/// Runs the request over the input.
+fn ended<R: Threads + Wait + Sync>(
+    rt: &R,
+    alloc: Global,
+    request: &Request,
+    input: &Input,
+    script: &Script,
+    workers: u32,
+    attempts: u32,
+) -> Result<Ran, Fault>
+    requires fits { split_total request.now.split input.now ≤ 2 ^ 20 }
+    requires workers { (1 ≤ workers) × (workers ≤ 64) }
+    requires attempts { (1 ≤ attempts) × (attempts ≤ 16) }
+    ensures ends { IfOk result (λ ran. IsEnding request.now input.now script.now (run_shape request.now input.now workers attempts) ran) }
+    ensures memory { IfErr result (λ e. e ≡ Fault.OutOfMemory) }
+{
+    match pooled(
+        rt, alloc, request, input, script, workers, attempts, &OpenGate,
+    ) {
+        Ok(certified) => Ok(Ran::Certified(certified)),
+        Err(RunFault::Failed(fault, history)) => Ok(Ran::Failed(fault, history)),
+        Err(RunFault::Uncertified(no, history)) => Ok(Ran::Uncertified(no, history)),
+        Err(RunFault::OutOfMemory) => Err(Fault::OutOfMemory),
+    }
+}
+
+/// Tests the request, the numbers, the script, the files and their fit, in this order, and only then runs; nothing is
+/// written.
+fn executed<S: Store, R: Threads + Wait + Sync>(
+    rt: &R,
+    store: &S,
+    alloc: Global,
+    asked: &RunOptions<'_>,
+) -> Result<Ran, Fault>
+    ensures runs { IfOk result (λ ran. Runs (S.holds store.now) asked.now ran) }
+    ensures refused { IfErr result (λ e. IsStartRefusal (S.holds store.now) (S.unreadable store.now) asked.now e) }
+{
+    let request = request_of(alloc, &asked.options)?;
+    expect_crew(asked)?;
+    let script = script_of(store, alloc, asked.script)?;
+    let input = input_of(store, alloc, &request, asked.options.files.as_slice())?;
+    ended(
+        rt,
+        alloc,
+        &request,
+        &input,
+        &script,
+        asked.workers,
+        asked.attempts,
+    )
+}
+
+/// What is said of a run.
+fn said_of(alloc: Global, ran: &Ran) -> Result<Said, AllocError>
+    ensures { IfOk result (λ said. TellsRan ran.now (string_bytes said.text) said.status) }
+{
+    match ran {
+        Ran::Certified(done) => {
+            let text = certified_line(alloc, done.outputs.len(), done.pairs, done.skips.len())?;
+            Ok(Said { text, status: 0 })
+        }
+        Ran::Failed(fault, _) => {
+            let text = failed_line(alloc, *fault)?;
+            Ok(Said { text, status: 1 })
+        }
+        Ran::Uncertified(no, _) => {
+            let fault = fault_text(alloc, no)?;
+            let text = format!(in alloc; "uncertified: {fault}\n")?;
+            Ok(Said { text, status: 1 })
+        }
+    }
+}
+
+/// The history of a run.
+fn history_of(ran: &Ran) -> &History
+    ensures { result.now ≡ history_in ran.entry.now }
+{
+    match ran {
+        Ran::Certified(done) => &done.history,
+        Ran::Failed(_, history) => history,
+        Ran::Uncertified(_, history) => history,
+    }
+}
+
+/// Writes the history, where a name is given for it.
+fn keep_history<S: Store>(
+    store: &mut S,
+    alloc: Global,
+    name: Option<&str>,
+    history: &History,
+) -> Result<(), FileFault>
+    ensures kept { OnOk result (IsHistoryKept (S.holds store.new) (option_map (λ n. n.now) name.entry) history.now) }
+    ensures others { ChangesAmong (S.holds store.old) (S.holds store.new) (named (option_map (λ n. n.now) name.entry)) }
+    ensures refused { IfErr result (λ e. IsOneUnwritten (S.unwritable store.old) (named (option_map (λ n. n.now) name.entry)) e) }
+    ensures still { (n : List ℕ) → S.unwritable store.new n → S.unwritable store.old n }
+{
+    if let Some(name) = name {
+        let text = history_text(alloc, history)?;
+        write_named(store, alloc, name, text.as_bytes())?;
+    }
+    Ok(())
+}
+
+/// Writes the result, where it is certified.
+fn keep_result<S: Store>(
+    store: &mut S,
+    alloc: Global,
+    out: &str,
+    ran: &Ran,
+) -> Result<(), FileFault>
+    ensures kept { OnOk result (IsResultKept (S.holds store.new) out.now ran.now) }
+    ensures others { ChangesAmong (S.holds store.old) (S.holds store.new) (names_left out.now ran.now) }
+    ensures refused { IfErr result (λ e. IsOneUnwritten (S.unwritable store.old) (names_left out.now ran.now) e) }
+{
+    if let Ran::Certified(done) = ran {
+        write_files(
+            store,
+            alloc,
+            out,
+            done.outputs.as_slice(),
+            done.certificate.as_slice(),
+        )?;
+    }
+    Ok(())
+}
+
+/// Runs a job by workers, and then writes the history, where one is asked for, and the result, where it is certified.
+/// The history comes first: a result that stands is whole, whatever the history's name.
+pub fn run<S: Store, R: Threads + Wait + Sync>(
+    rt: &R,
+    store: &mut S,
+    alloc: Global,
+    asked: &RunOptions<'_>,
+) -> Result<Said, Fault>
+    ensures done { IfOk result (λ said. AnswersRun (S.holds store.old) (S.holds store.new) asked.now (string_bytes said.text) said.status) }
+    ensures others { ChangesAmong (S.holds store.old) (S.holds store.new) (written_by_run asked.now) }
+    ensures refused { IfErr result (λ e. IsRunUnanswered (S.holds store.old) (S.holds store.new) (S.unreadable store.old) (S.unwritable store.old) asked.now e) }
+{
+    let ran = executed(rt, store, alloc, asked)?;
+    let said = said_of(alloc, &ran)?;
+    keep_history(store, alloc, asked.history, history_of(&ran))?;
+    keep_result(store, alloc, asked.options.out, &ran)?;
+    Ok(said)
+}
