@@ -6,8 +6,9 @@ use Rattle.clap.specs.Matches.{matched_of, raw_values, first_value, one_text}
 use Rattle.clap.specs.declared.parser.matches.Found.{Found}
 use Rattle.clap.specs.Walk.{Row, rows_of}
 use Rattle.mr_commands.specs.declared.asked.Options.{Options}
+use Rattle.mr_commands.specs.declared.asked.RunOptions.{RunOptions}
 use Rattle.mr_commands.specs.declared.asked.Subcommand.{Subcommand}
-use Rattle.mr_commands.specs.declared.asked.Subcommand.TheVariants.{Seq, Check}
+use Rattle.mr_commands.specs.declared.asked.Subcommand.TheVariants.{Seq, Run, Check}
 use Rattle.mr_commands.specs.Asked.{Names}
 
 -- decimal digits, a plus allowed in front, whose number fits in 32 bits
@@ -35,8 +36,17 @@ pub record AreOptionsOf (found : Found) (o : Options) : Type 0 where
   pub out : o.out.now ≡ unwrap_or (first_value found (codes "out")) (codes ".")
   pub files : map (λ s. s.now) o.files.items ≡ option_map_or raw_values (matched_of found (codes "files")) []
 
+-- the same of a run by workers
+pub record AreRunOptionsOf (found : Found) (o : RunOptions) : Type 0 where
+  pub options : AreOptionsOf found o.options
+  pub workers : IsNumberOf (one_text found (codes "workers")) 4 o.workers
+  pub attempts : IsNumberOf (one_text found (codes "attempts")) 8 o.attempts
+  pub script : option_map (λ s. s.now) o.script ≡ first_value found (codes "script")
+  pub history : option_map (λ s. s.now) o.history ≡ first_value found (codes "history")
+
 -- the subcommand is that of its own name, and its options are those of its matches
 abbrev pub IsAskedBy : Option (List ℕ) → Option (List Row) → Subcommand → Type 0
 IsAskedBy name rows (Seq o skips) = (name ≡ Some (codes "seq"))
     × ((found : Found) × (rows ≡ Some (rows_of found)) × AreOptionsOf found o × (skips.now ≡ unwrap_or (first_value found (codes "skips")) []))
+IsAskedBy name rows (Run o) = (name ≡ Some (codes "run")) × ((found : Found) × (rows ≡ Some (rows_of found)) × AreRunOptionsOf found o)
 IsAskedBy name rows (Check o) = (name ≡ Some (codes "check")) × ((found : Found) × (rows ≡ Some (rows_of found)) × AreOptionsOf found o)

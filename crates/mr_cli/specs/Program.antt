@@ -6,7 +6,7 @@ use Rattle.clap.specs.declared.parser.matches.ArgMatches.{ArgMatches}
 use Rattle.mr_files.specs.Holding.{ChangesAmong, Faulty, Stored}
 use Rattle.mr_commands.specs.declared.asked.Subcommand.{Subcommand}
 use Rattle.mr_commands.specs.declared.fault.Fault.{Fault}
-use Rattle.mr_commands.specs.Answers.{Answers, IsRefusal, written_by}
+use Rattle.mr_commands.specs.Commands.{Answers, IsRefusal, written_by}
 use Rattle.mr_cli.specs.declared.failure.Failure.{Failure}
 use Rattle.mr_cli.specs.declared.failure.Failure.TheVariants.{Line, NotUtf8, NoCommand, Command}
 use Rattle.mr_cli.specs.Parsed.{IsAskedBy}

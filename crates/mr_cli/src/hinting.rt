@@ -8,6 +8,8 @@ use mr_files::{Look, Store};
 use mr_hints::{NOT_UTF8, fault_hint, notes, shown, verdict_hint};
 use std::alloc::{AllocError, Global};
 use std::io::Write;
+use std::sync::Wait;
+use std::thread::Threads;
 
 /// What the words ask for, parsed once more; none where they can't be parsed.
 fn asked_by<'a>(alloc: Global, words: &'a [String]) -> Option<Subcommand<'a>> {
@@ -96,7 +98,8 @@ fn tell<F: Store + Look, O: Write, E: Write>(
 
 /// Answers the words, of which the first is the program's name, as for a program, with notes before the answer and a
 /// hint behind it; gives the exit status.
-pub fn tell_person<F: Store + Look, O: Write, E: Write>(
+pub fn tell_person<F: Store + Look, R: Threads + Wait + Sync, O: Write, E: Write>(
+    rt: &R,
     files: &mut F,
     alloc: Global,
     words: Result<Vec<String>, Failure>,
@@ -111,6 +114,6 @@ pub fn tell_person<F: Store + Look, O: Write, E: Write>(
     if let Some(asked) = &asked {
         show_notes(files, alloc, asked, err);
     }
-    let answered = answer(files, alloc, words.as_slice());
+    let answered = answer(rt, files, alloc, words.as_slice());
     tell(files, alloc, &asked, answered, out, err)
 }

@@ -63,6 +63,10 @@ fn cure(fault: &Fault) -> &'static str {
         Fault::TooManySplits =>
             "at most 1048576 splits: a greater --split, up to 67108864, makes fewer",
         Fault::Run(fault) => run_cure(fault),
+        Fault::BadWorkers => "--workers is 1 to 64",
+        Fault::BadAttempts => "--attempts is 1 to 16",
+        Fault::Script(_) =>
+            "a line is `lose W after N`, `zombie W after N`, `bad S R`, `flaky S R N`, `hold W` or `spoil P B`",
         Fault::CannotRead(_) | Fault::CannotWrite(_) => "",
         Fault::OutOfMemory => MEMORY,
     }

@@ -187,6 +187,6 @@ pub fn verdict_hint<S: Store + Look>(
 ) -> Result<String, AllocError> {
     match asked {
         Subcommand::Check(options) => check_hint(store, alloc, options, said),
-        Subcommand::Seq(_, _) => Ok(String::new(alloc)),
+        Subcommand::Seq(_, _) | Subcommand::Run(_) => Ok(String::new(alloc)),
     }
 }

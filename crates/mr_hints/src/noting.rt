@@ -95,6 +95,7 @@ fn seq_notes<L: Look>(
 fn asks_for_parts(asked: &Subcommand<'_>) -> bool {
     let options = match asked {
         Subcommand::Seq(options, _) => options,
+        Subcommand::Run(asked) => &asked.options,
         Subcommand::Check(options) => options,
     };
     0 < options.parts && options.parts as usize <= MOST_PARTS
@@ -112,6 +113,7 @@ pub fn notes<L: Look>(
     }
     match asked {
         Subcommand::Seq(options, _) => seq_notes(look, alloc, options, &mut lines)?,
+        Subcommand::Run(asked) => seq_notes(look, alloc, &asked.options, &mut lines)?,
         Subcommand::Check(options) => {
             note_others(look, alloc, options.out, options.parts as usize, &mut lines)?
         }
