@@ -20,6 +20,7 @@ use mr_index::{EmissionIndex, Meter};
 use mr_input::Input;
 use mr_jobs::Request;
 use mr_splits::Plan;
+use mr_watch::{Unwatched, Watch};
 use std::alloc::{AllocError, Global};
 
 /// What a good result comes to: the left-out records, rising, and how many pairs were emitted.
@@ -46,6 +47,7 @@ fn check_with(
     skips: &[RecordName],
     walker: &mut Walker<'_>,
     meter: &mut Meter,
+    watch: &dyn Watch,
 ) -> Result<u64, No>
     requires same { plan.now.size ≡ request.now.split }
     requires few { length (items_left walker.old) < 2 ^ 63 }
@@ -58,13 +60,13 @@ fn check_with(
 {
     // A plan has far fewer records than a u64 counts.
     let _few = plan.count();
-    let index = EmissionIndex::of(alloc, plan, request.job(), skips, meter)?;
+    let index = EmissionIndex::of_watched(alloc, plan, request.job(), skips, meter, watch)?;
     let facts = Facts {
         request,
         index: &index,
         outputs,
     };
-    check_parts(alloc, &facts, walker, meter)
+    check_parts(alloc, &facts, walker, meter, watch)
 }
 
 /// Judges what stands behind the items of the request and of the input.
@@ -75,6 +77,7 @@ fn check_rest(
     outputs: &[Vec<u8>],
     walker: &mut Walker<'_>,
     meter: &mut Meter,
+    watch: &dyn Watch,
 ) -> Result<Yes, No>
     requires fits { split_total request.now.split input.now ≤ 2 ^ 20 }
     requires awaits { IsTrue (awaits_skips (items_left walker.old)) }
@@ -90,7 +93,7 @@ fn check_rest(
     expect_count(walker, request.max_skips())?;
     let plan = plan_of(alloc, request, input)?;
     let skips = take_skips(alloc, walker, &plan)?;
-    let pairs = check_with(alloc, request, &plan, outputs, &skips, walker, meter)?;
+    let pairs = check_with(alloc, request, &plan, outputs, &skips, walker, meter, watch)?;
     Ok(Yes { skips, pairs })
 }
 
@@ -122,6 +125,7 @@ fn judge_all(
     outputs: &[Vec<u8>],
     certificate: &[u8],
     meter: &mut Meter,
+    watch: &dyn Watch,
 ) -> Result<Yes, No>
     requires fits { split_total request.now.split input.now ≤ 2 ^ 20 }
     requires count { (meter.old.lookups ≤ 2 ^ 63) × (meter.old.mapped ≤ 2 ^ 63) }
@@ -135,7 +139,31 @@ fn judge_all(
     }
     let mut walker = walk(certificate);
     expect_header(&mut walker, request, input)?;
-    check_rest(alloc, request, input, outputs, &mut walker, meter)
+    check_rest(alloc, request, input, outputs, &mut walker, meter, watch)
+}
+
+/// The verdict with its headline, and what the meter is added.
+fn judge_metered(
+    alloc: Global,
+    request: &Request,
+    input: &Input,
+    outputs: &[Vec<u8>],
+    certificate: &[u8],
+    meter: &mut Meter,
+    watch: &dyn Watch,
+) -> Result<Yes, No>
+    requires fits { split_total request.now.split input.now ≤ 2 ^ 20 }
+    requires count { (meter.old.lookups ≤ 2 ^ 63) × (meter.old.mapped ≤ 2 ^ 63) }
+    ensures headline { IfOk result (λ y. IsCertified request.now input.now (contents outputs.now) certificate.now y.skips.items y.pairs) }
+    ensures yes { IfOk result
+        (λ y. verdict_of request.now input.now (contents outputs.now) certificate.now ≡ Ok (accepted_of y)) }
+    ensures no { IfErr result (λ e. (e ≡ OutOfMemory) ⊎ (verdict_of request.now input.now (contents outputs.now) certificate.now ≡ Err e)) }
+    ensures bounded { IsBounded (cut_by request.now input.now) (items_of certificate.now) meter.old meter.new }
+    ensures exact { IfOk result (λ y. IsExact (cut_by request.now input.now) y.skips.items y.pairs meter.old meter.new) }
+{
+    // A request's splits have at least one byte.
+    let _size = request.split_size();
+    judge_all(alloc, request, input, outputs, certificate, meter, watch)
 }
 
 /// Judges a result of the request over the input: the outputs of the partitions with the bytes of the certificate. No
@@ -156,11 +184,30 @@ pub fn check(
         (λ y. verdict_of request.now input.now (contents outputs.now) certificate.now ≡ Ok (accepted_of y)) }
     ensures no { IfErr result (λ e. (e ≡ OutOfMemory) ⊎ (verdict_of request.now input.now (contents outputs.now) certificate.now ≡ Err e)) }
 {
-    let mut meter = Meter {
+    check_watched(alloc, request, input, outputs, certificate, &Unwatched)
+}
+
+/// The same as `check`, where somebody looks on: the watch is told now and then how many records are mapped, and behind
+/// them how many pairs are judged.
+pub fn check_watched(
+    alloc: Global,
+    request: &Request,
+    input: &Input,
+    outputs: &[Vec<u8>],
+    certificate: &[u8],
+    watch: &dyn Watch,
+) -> Result<Yes, No>
+    requires { split_total request.now.split input.now ≤ 2 ^ 20 }
+    ensures headline { IfOk result (λ y. IsCertified request.now input.now (contents outputs.now) certificate.now y.skips.items y.pairs) }
+    ensures yes { IfOk result
+        (λ y. verdict_of request.now input.now (contents outputs.now) certificate.now ≡ Ok (accepted_of y)) }
+    ensures no { IfErr result (λ e. (e ≡ OutOfMemory) ⊎ (verdict_of request.now input.now (contents outputs.now) certificate.now ≡ Err e)) }
+{
+    let meter = &mut Meter {
         lookups: 0,
         mapped: 0,
     };
-    check_metered(alloc, request, input, outputs, certificate, &mut meter)
+    judge_metered(alloc, request, input, outputs, certificate, meter, watch)
 }
 
 /// The same as `check`, adding to the meter what is looked up and mapped; each of its counts is at most 2^63 before. Each
@@ -188,7 +235,13 @@ pub fn check_metered(
     ensures bounded { IsBounded (cut_by request.now input.now) (items_of certificate.now) meter.old meter.new }
     ensures exact { IfOk result (λ y. IsExact (cut_by request.now input.now) y.skips.items y.pairs meter.old meter.new) }
 {
-    // A request's splits have at least one byte.
-    let _size = request.split_size();
-    judge_all(alloc, request, input, outputs, certificate, meter)
+    judge_metered(
+        alloc,
+        request,
+        input,
+        outputs,
+        certificate,
+        meter,
+        &Unwatched,
+    )
 }

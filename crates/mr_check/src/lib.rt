@@ -14,7 +14,7 @@ mod progress;
 mod skips;
 
 pub use fault::{No, is_same_fault};
-pub use judge::{Yes, check, check_metered};
+pub use judge::{Yes, check, check_metered, check_watched};
 pub use laws::{
     fault_law, locality_law, partition_law, place_law, worked_places, worked_rows, yes_law,
 };

@@ -13,6 +13,7 @@ use crate::fault::No;
 use crate::progress::Progress;
 use mr_certform::{Item, Walker};
 use mr_index::Meter;
+use mr_watch::{Pace, Phase, Watch};
 use std::alloc::Global;
 
 /// Judges rows in turn: whether they end the certificate, or the first fault.
@@ -36,12 +37,13 @@ fn judge_rows<'a>(
 }
 
 /// Judges all partitions, and the certificate's end: how many entries there are, or the first fault. Each entry is
-/// looked up once at most, a block of them ahead of the tests.
+/// looked up once at most, a block of them ahead of the tests. The watch is told how many entries are judged, of all pairs.
 pub(crate) fn check_parts(
     alloc: Global,
     facts: &Facts<'_>,
     walker: &mut Walker<'_>,
     meter: &mut Meter,
+    watch: &dyn Watch,
 ) -> Result<u64, No>
     requires few { length (items_left walker.old) < 2 ^ 63 }
     requires count { meter.old.lookups ≤ 2 ^ 63 }
@@ -51,12 +53,14 @@ pub(crate) fn check_parts(
     ensures all { IfOk result (λ n. meter.new.lookups ≡ meter.old.lookups + n) }
     ensures mapped { meter.new.mapped ≡ meter.old.mapped }
 {
+    let mut pace = Pace::new(Phase::Judging, facts.emitted());
     let mut judging = Progress::new(alloc);
     let mut items = Vec::with_capacity(alloc, BLOCK)?;
     let mut sought = Vec::with_capacity(alloc, BLOCK)?;
     let mut rows = Vec::with_capacity(alloc, BLOCK)?;
     let mut touched = Vec::with_capacity(alloc, BLOCK)?;
     loop {
+        pace.reach(judging.named(), watch);
         read_block(walker, &mut items)?;
         seek_all(facts, &items, &mut sought, meter)?;
         fetch_all(facts, &sought, &mut rows)?;

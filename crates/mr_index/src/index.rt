@@ -14,6 +14,7 @@ use mr_bytes::{Name, RecordName, Value};
 use mr_input::Input;
 use mr_jobs::Job;
 use mr_splits::{Kept, Located, Plan};
+use mr_watch::{Pace, Phase, Unwatched, Watch};
 use std::alloc::{AllocError, Global};
 use std::marker::Model;
 
@@ -61,13 +62,14 @@ impl Tables {
         Ok(())
     }
 
-    /// Appends what all kept records emit, and counts them.
+    /// Appends what all kept records emit, and counts them. The watch is told the numbers of records.
     fn map_all(
         &mut self,
         plan: &Plan<'_>,
         job: &Job,
         kept: &Kept<'_>,
         mapped: &mut u64,
+        watch: &dyn Watch,
     ) -> Result<(), AllocError>
         requires same { kept.now.cut ≡ plan.now }
         requires sound { Sound self.old.pairs }
@@ -82,8 +84,10 @@ impl Tables {
         // A plan's size is at least 1: that its records have numbers of their own rests on that.
         let _size = plan.size();
         let mut left = kept.records();
+        let mut pace = Pace::new(Phase::Mapping, plan.count() as u64);
         while let Some((name, line)) = left.next() {
             let number = plan.number_of(name.split, name.rec);
+            pace.reach(number as u64, watch);
             self.map_record(job, number, line, mapped)?;
         }
         fill(&mut self.ends, plan.count(), self.pairs.len())
@@ -142,6 +146,25 @@ impl<'a> EmissionIndex<'a> {
             × (meter.new.mapped ≤ meter.old.mapped + mapped_among skips.now (records_of plan.entry.now))) }
         ensures lookups { meter.new.lookups ≡ meter.old.lookups }
     {
+        EmissionIndex::of_watched(alloc, plan, job, skips, meter, &Unwatched)
+    }
+
+    /// The same as `of`, where somebody looks on: the watch is told now and then how many of the plan's records are done.
+    pub fn of_watched(
+        alloc: Global,
+        plan: &'a Plan<'a>,
+        job: &Job,
+        skips: &[RecordName],
+        meter: &mut Meter,
+        watch: &dyn Watch,
+    ) -> Result<EmissionIndex<'a>, AllocError>
+        requires { meter.old.mapped + mapped_among skips.now (records_of plan.now) < 2 ^ 64 }
+        ensures ok { IfOk result (λ i. i ≡ triples_of job.now plan.entry.now skips.now) }
+        ensures counted { OnOk result (meter.new.mapped ≡ meter.old.mapped + mapped_among skips.now (records_of plan.entry.now)) }
+        ensures err { OnErr result ((meter.old.mapped ≤ meter.new.mapped)
+            × (meter.new.mapped ≤ meter.old.mapped + mapped_among skips.now (records_of plan.entry.now))) }
+        ensures lookups { meter.new.lookups ≡ meter.old.lookups }
+    {
         // Files within the limits of an input emit few enough pairs, with few enough bytes of keys, for the tables.
         let _files = plan.input().files();
         let kept = plan.kept(alloc, skips)?;
@@ -150,7 +173,7 @@ impl<'a> EmissionIndex<'a> {
             ends: Vec::with_capacity(alloc, plan.count())?,
             buffer: Vec::new(alloc),
         };
-        tables.map_all(plan, job, &kept, &mut meter.mapped)?;
+        tables.map_all(plan, job, &kept, &mut meter.mapped, watch)?;
         let Tables {
             pairs,
             ends,

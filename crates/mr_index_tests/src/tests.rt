@@ -6,7 +6,9 @@ use mr_index::{EmissionIndex, Meter};
 use mr_input::Input;
 use mr_jobs::Job;
 use mr_splits::Plan;
+use mr_watch::{Phase, Watch};
 use std::alloc::{AllocError, Global};
+use std::sync::atomic::{AtomicU64, Ordering};
 use std::test::Fail;
 
 const UNUSED: Meter = Meter {
@@ -35,6 +37,49 @@ fn index_of<'a>(
     // A plan has far fewer records than a u64 counts.
     let _few = plan.count();
     EmissionIndex::of(alloc, plan, job, skips, meter)
+}
+
+/// Counts what it is told, and how often more was done than there is in all.
+#[derive(Drop)]
+struct Counting {
+    told: AtomicU64,
+    past: AtomicU64,
+}
+
+impl Counting {
+    fn new() -> Counting {
+        Counting {
+            told: AtomicU64::new(0),
+            past: AtomicU64::new(0),
+        }
+    }
+}
+
+impl Watch for Counting {
+    fn tell(&self, _phase: Phase, done: u64, all: u64) {
+        self.told.fetch_add(1, Ordering::SeqCst);
+        if all < done {
+            self.past.fetch_add(1, Ordering::SeqCst);
+        }
+    }
+
+    fn lost(&self) {}
+}
+
+/// The index over a plan, built while somebody looks on.
+fn watched_index<'a>(
+    alloc: Global,
+    plan: &'a Plan<'a>,
+    job: &Job,
+    meter: &mut Meter,
+    watch: &Counting,
+) -> Result<EmissionIndex<'a>, AllocError>
+    requires { meter.old.mapped ≤ 2 ^ 63 }
+    ensures { meter.new.lookups ≡ meter.old.lookups }
+{
+    // A plan has far fewer records than a u64 counts.
+    let _few = plan.count();
+    EmissionIndex::of_watched(alloc, plan, job, &[], meter, watch)
 }
 
 fn name(split: u32, rec: u32, place: u32) -> Name {
@@ -136,5 +181,22 @@ fn places(rt: HostRuntime) -> Result<(), Fail> {
     }
     assert!(rt; index.find(name(0, 0, 2), &mut meter) == None);
     assert_eq!(rt; meter.lookups, 1);
+    Ok(())
+}
+
+/// Of 5,000 records the first and the 4,097th are told.
+#[test]
+fn somebody_looks_on(rt: HostRuntime) -> Result<(), Fail> {
+    let alloc = rt.alloc();
+    let text = vec![in alloc; b'\n'; 5000]?;
+    let input = Input::of(two_files(alloc, text.as_slice(), b"")?)?;
+    let plan = Plan::of(alloc, &input, 64)?;
+    let mut meter = UNUSED;
+    let watch = Counting::new();
+    let index = watched_index(alloc, &plan, &Job::words(false), &mut meter, &watch)?;
+    assert_eq!(rt; index.total(), 0);
+    assert_eq!(rt; meter.mapped, 5000);
+    assert_eq!(rt; watch.told.load(Ordering::SeqCst), 2);
+    assert_eq!(rt; watch.past.load(Ordering::SeqCst), 0);
     Ok(())
 }

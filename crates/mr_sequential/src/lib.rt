@@ -18,7 +18,7 @@ mod texts;
 
 pub use fault::RunFault;
 pub use good::{certified_law, entries_law, good_law, unique_law};
-pub use sequence::{header_of, run};
+pub use sequence::{header_of, run, run_watched};
 
 /// The keys of a partition are the one list that rises strictly and has just the keys that belong to it; and the
 /// outputs of the sequential execution are the texts of these keys, in this order.

@@ -16,6 +16,7 @@ use mr_certform::{Certificate, Header};
 use mr_input::Input;
 use mr_jobs::Request;
 use mr_splits::{Plan, SkipFault};
+use mr_watch::{Phase, Unwatched, Watch};
 use std::alloc::{AllocError, Global};
 
 /// The first fault of a list of left-out records, each tested for its order before its existence.
@@ -58,6 +59,27 @@ pub fn run(
     ensures fault { IfErr result (λ e. (e ≡ RunFault.OutOfMemory) ⊎ (skip_fault request.now input.now skips.now ≡ Some e)) }
     ensures too_many { (result ≡ Err RunFault.TooManySkips) ↔ (request.now.skips < length skips.now) }
 {
+    run_watched(alloc, request, input, skips, &Unwatched)
+}
+
+/// The same as `run`, where somebody looks on: the watch is told now and then how many records are mapped, and when
+/// the outputs are begun and done.
+pub fn run_watched(
+    alloc: Global,
+    request: &Request,
+    input: &Input,
+    skips: &[RecordName],
+    watch: &dyn Watch,
+) -> Result<(Vec<Vec<u8>>, Certificate), RunFault>
+    requires { split_total request.now.split input.now ≤ 2 ^ 20 }
+    ensures count { IfOk result (λ r. length r.0.items ≡ request.now.parts) }
+    ensures texts { IfOk result (λ r. (p : ℕ) → p < request.now.parts → nth_file (contents r.0.items) p ≡ sequential request.now input.now skips.now p) }
+    ensures certificate { IfOk result (λ r. r.1 ≡ certificate_of request.now input.now skips.now) }
+    ensures is_good { IfOk result (λ r. IsGood request.now input.now (contents r.0.items) r.1) }
+    ensures skips { OnOk result (skip_fault request.now input.now skips.now ≡ None) }
+    ensures fault { IfErr result (λ e. (e ≡ RunFault.OutOfMemory) ⊎ (skip_fault request.now input.now skips.now ≡ Some e)) }
+    ensures too_many { (result ≡ Err RunFault.TooManySkips) ↔ (request.now.skips < length skips.now) }
+{
     if (request.max_skips() as usize) < skips.len() {
         return Err(RunFault::TooManySkips);
     }
@@ -65,7 +87,7 @@ pub fn run(
     if let Some(fault) = fault_of(&plan, skips) {
         return Err(fault);
     }
-    execute(alloc, request, &plan, skips)
+    execute(alloc, request, &plan, skips, watch)
 }
 
 /// The bytes of each file.
@@ -112,6 +134,7 @@ fn execute(
     request: &Request,
     plan: &Plan<'_>,
     skips: &[RecordName],
+    watch: &dyn Watch,
 ) -> Result<(Vec<Vec<u8>>, Certificate), RunFault>
     requires some { 0 < plan.now.size }
     requires size { plan.now.size ≡ request.now.split }
@@ -126,8 +149,10 @@ fn execute(
     // Files within the limits of an input emit fewer pairs than a u32 numbers.
     let _files = plan.input().files();
     let job = request.job();
-    let Emitted { pairs, names } = gather(alloc, job, plan, skips)?;
+    let Emitted { pairs, names } = gather(alloc, job, plan, skips, watch)?;
+    watch.tell(Phase::Reducing, 0, 1);
     let (texts, groups) = outputs(alloc, job, pairs, names, request.parts())?;
+    watch.tell(Phase::Reducing, 1, 1);
     let header = header_of(alloc, request, plan.input(), skips)?;
     Ok((texts, Certificate::of(header, groups)))
 }

@@ -11,6 +11,7 @@ use crate::names::Names;
 use mr_bytes::RecordName;
 use mr_jobs::Job;
 use mr_splits::{Located, Plan};
+use mr_watch::{Pace, Phase, Watch};
 use std::alloc::{AllocError, Global};
 
 /// Adds what a job emits for a record.
@@ -61,12 +62,14 @@ fn gather_one(
     emitted.names.add(name, count as u32)
 }
 
-/// All that a job emits over a plan's input, in order, without the left-out records.
+/// All that a job emits over a plan's input, in order, without the left-out records. The watch is told how many of the
+/// plan's records are done.
 pub(crate) fn gather(
     alloc: Global,
     job: &Job,
     plan: &Plan<'_>,
     skips: &[RecordName],
+    watch: &dyn Watch,
 ) -> Result<Emitted, AllocError>
     requires few { length (flat_map (kept_pairs job.now skips.now) (records_of plan.now)) < 2 ^ 32 }
     ensures pairs { IfOk result (λ e. e.pairs ≡ flat_map (kept_pairs job.now skips.now) (records_of plan.now)) }
@@ -79,7 +82,11 @@ pub(crate) fn gather(
         pairs: Gathered::new(alloc),
         names: Names::new(alloc),
     };
+    let mut pace = Pace::new(Phase::Mapping, plan.count() as u64);
+    let mut done = 0u64;
     while let Some((name, line)) = left.next() {
+        pace.reach(done, watch);
+        done = done.saturating_add(1);
         gather_one(alloc, job, name, line, &mut buffer, &mut emitted)?;
     }
     Ok(emitted)

@@ -30,3 +30,36 @@ impl Watch for Unwatched {
 
     fn lost(&self) {}
 }
+
+/// How much more must be done before it is told again: seldom enough that the work never waits for it, and often enough
+/// for a line at a terminal.
+const STRIDE: u64 = 4096;
+
+/// Tells how far one phase has come, now and then.
+#[derive(Drop)]
+pub struct Pace {
+    phase: Phase,
+    all: u64,
+    next: u64,
+}
+
+impl Pace {
+    /// Of a phase that has so much to do in all. Nothing is told yet.
+    pub fn new(phase: Phase, all: u64) -> Pace {
+        Pace {
+            phase,
+            all,
+            next: 0,
+        }
+    }
+
+    /// So much is done. The watch is told at once the first time, and then where it is a stride more than was told last.
+    #[inline]
+    pub fn reach(&mut self, done: u64, watch: &dyn Watch) {
+        if done < self.next {
+            return;
+        }
+        watch.tell(self.phase, done, self.all);
+        self.next = done.saturating_add(STRIDE);
+    }
+}

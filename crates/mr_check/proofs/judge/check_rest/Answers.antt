@@ -19,7 +19,7 @@ told_fault fs e P f (inl h) = inl h
 told_fault fs e P f (inr h) = inr (f h)
 
 pub returns-in_err-skips-clause-verdict : goal.returns-in_err-skips-clause-verdict
-returns-in_err-skips-clause-verdict c =
+returns-in_err-skips-clause-verdict g c =
     let w = c.args.walker.now in
     let case : Case = case_at c.args.request.now c.args.input.now (contents c.args.outputs.now) (halt w) in
     let p = err_from_is_err_and c.from_residual-in_err-skips.result c.from_residual-in_err-skips.ensures.1 in
@@ -27,14 +27,14 @@ returns-in_err-skips-clause-verdict c =
     rw (p.1, p.2) (told_fault (count_faults case (items_left w)) e _ (λ h. rest_fault case c.max_skips.result (halt c.expect_count.new.walker) c.in_ok-plan.plan (items_left w) (items_left c.expect_count.new.walker) e c.max_skips.ensures.same c.in_ok-expect_count.ensures.counted c.expect_count.ensures.stop c.in_ok-plan.ensures.plan h) c.in_err-skips.ensures.listed)
 
 pub check_with-requires-clause-few : goal.check_with-requires-clause-few
-check_with-requires-clause-few c =
+check_with-requires-clause-few g c =
     let w = c.args.walker.now in
     let r : Listed = record { skips = c.in_ok-skips.skips.items; behind = items_left c.take_skips.new.walker } in
     let few : length (items_left c.take_skips.new.walker) ≤ length (items_left w) = rest_few (records_of c.in_ok-plan.plan) (halt w) c.max_skips.result (halt c.expect_count.new.walker) (items_left w) (items_left c.expect_count.new.walker) r c.in_ok-expect_count.ensures.counted c.in_ok-skips.ensures.listed in
     omega (arith, few, c.requires.few)
 
 pub returns-in_err-pairs-clause-verdict : goal.returns-in_err-pairs-clause-verdict
-returns-in_err-pairs-clause-verdict c =
+returns-in_err-pairs-clause-verdict g c =
     let w = c.args.walker.now in
     let o = c.args.request.now in
     let outputs : List (List ℕ) = contents c.args.outputs.now in
@@ -51,7 +51,7 @@ returns-in_err-pairs-clause-verdict c =
     rw (p.1, p.2) (told_is _ (count_faults case (items_left w)) e (ap first (faults ∙ sym same)) c.in_err-pairs.ensures.faults)
 
 pub returns-clause-verdict : goal.returns-clause-verdict
-returns-clause-verdict c =
+returns-clause-verdict g c =
     let w = c.args.walker.now in
     let o = c.args.request.now in
     let outputs : List (List ℕ) = contents c.args.outputs.now in
@@ -66,14 +66,14 @@ returns-clause-verdict c =
     (ap first (faults ∙ sym same) ∙ c.in_ok-pairs.ensures.faults.0, rest_accepted (records_of c.in_ok-plan.plan) (halt w) c.max_skips.result (halt c.expect_count.new.walker) (items_left w) (items_left c.expect_count.new.walker) r c.requires.awaits c.in_ok-expect_count.ensures.counted c.in_ok-skips.ensures.listed ∙ ap (accepted skips) (sym c.in_ok-pairs.ensures.faults.1))
 
 pub returns-in_err-pairs-clause-bounded : goal.returns-in_err-pairs-clause-bounded
-returns-in_err-pairs-clause-bounded c =
+returns-in_err-pairs-clause-bounded g c =
     let w = c.args.walker.now in
     let r : Listed = record { skips = c.in_ok-skips.skips.items; behind = items_left c.take_skips.new.walker } in
     let same = rest_entries (records_of c.in_ok-plan.plan) (halt w) c.max_skips.result (halt c.expect_count.new.walker) (items_left w) (items_left c.expect_count.new.walker) r c.in_ok-expect_count.ensures.counted c.in_ok-skips.ensures.listed in
     bounded_wider (cut_by c.args.request.now c.args.input.now) c.in_ok-plan.plan (items_left w) (items_left c.take_skips.new.walker) c.args.meter.now c.check_with.new.meter c.in_ok-plan.ensures.plan same c.check_with.ensures.bounded
 
 pub returns-clause-bounded : goal.returns-clause-bounded
-returns-clause-bounded c =
+returns-clause-bounded g c =
     let w = c.args.walker.now in
     let r : Listed = record { skips = c.in_ok-skips.skips.items; behind = items_left c.take_skips.new.walker } in
     let same = rest_entries (records_of c.in_ok-plan.plan) (halt w) c.max_skips.result (halt c.expect_count.new.walker) (items_left w) (items_left c.expect_count.new.walker) r c.in_ok-expect_count.ensures.counted c.in_ok-skips.ensures.listed in

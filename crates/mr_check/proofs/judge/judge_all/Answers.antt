@@ -29,11 +29,11 @@ header_is : (o : RequestSpec) (files : List (List ℕ)) (bytes : List ℕ) (at :
 header_is o files bytes at is r a e h = ap (λ n. header_met n o files (items_of bytes)) (sym a) ∙ (ap (header_met at o files) (sym e) ∙ h)
 
 pub returns-then-outputs-parts-clause-verdict : goal.returns-then-outputs-parts-clause-verdict
-returns-then-outputs-parts-clause-verdict c =
+returns-then-outputs-parts-clause-verdict g c =
     inr (verdict_count c.args.request.now c.args.input.now (contents c.args.outputs.now) c.args.certificate.now (λ h. c.if-outputs-parts.true (let l : length (contents c.args.outputs.now) ≡ length c.args.outputs.now = length-map c.args.outputs.now (λ (f : Vec ℕ Global). f.items) in omega (arith, h, l, c.parts.ensures.same))))
 
 pub returns-in_err-expect_header-clause-verdict : goal.returns-in_err-expect_header-clause-verdict
-returns-in_err-expect_header-clause-verdict c =
+returns-in_err-expect_header-clause-verdict g c =
     let o = c.args.request.now in
     let files = c.args.input.now in
     let bytes = c.args.certificate.now in
@@ -43,7 +43,7 @@ returns-in_err-expect_header-clause-verdict c =
     rw (p.1, p.2) (inr (verdict_header o files (contents c.args.outputs.now) bytes e (as_many c.args.outputs.now c.parts.result o.parts c.if-outputs-parts.false c.parts.ensures.same) met))
 
 pub check_rest-requires-clause-awaits : goal.check_rest-requires-clause-awaits
-check_rest-requires-clause-awaits c =
+check_rest-requires-clause-awaits g c =
     let o = c.args.request.now in
     let files = c.args.input.now in
     let bytes = c.args.certificate.now in
@@ -54,7 +54,7 @@ check_rest-requires-clause-awaits c =
     skips_come o files (stop bytes) (stop bytes) OtherJob OtherInput (items_of bytes) h.0 ks order h.1 h.2
 
 pub check_rest-requires-clause-few : goal.check_rest-requires-clause-few
-check_rest-requires-clause-few c =
+check_rest-requires-clause-few g c =
     let few = header_few (halt c.walk-walker.result) c.args.request.now c.args.input.now (items_left c.walk-walker.result) (items_left c.expect_header.new.walker) c.in_ok-expect_header.ensures.met in
     omega (arith, few, c.walk-walker.ensures.few)
 
@@ -69,7 +69,7 @@ rest_verdict o files outputs bytes ks at (Err e) n h a (inl d) = inl d
 rest_verdict o files outputs bytes ks at (Err e) n h a (inr d) = inr (verdict_fault o files outputs bytes ks e n h (ap (λ k. first (count_faults (case_at o files outputs k) ks)) (sym a) ∙ d))
 
 pub returns-clause-verdict : goal.returns-clause-verdict
-returns-clause-verdict c =
+returns-clause-verdict g c =
     let o = c.args.request.now in
     let files = c.args.input.now in
     let bytes = c.args.certificate.now in
@@ -79,7 +79,7 @@ returns-clause-verdict c =
     rest_verdict o files outputs bytes ks (halt c.expect_header.new.walker) c.check_rest.result (as_many c.args.outputs.now c.parts.result o.parts c.if-outputs-parts.false c.parts.ensures.same) met (c.expect_header.ensures.stop ∙ c.walk-walker.ensures.stop) c.check_rest.ensures.verdict
 
 pub returns-clause-bounded : goal.returns-clause-bounded
-returns-clause-bounded c =
+returns-clause-bounded g c =
     let o = c.args.request.now in
     let files = c.args.input.now in
     let bytes = c.args.certificate.now in

@@ -8,16 +8,16 @@ use Rattle.mr_check.proofs.BlockLemmas.{items_long, entries_few, judged_as, bloc
 use Rattle.mr_check.proofs.parts.check_parts.Goals as goal
 
 pub seek_all-requires : goal.seek_all-requires
-seek_all-requires c = omega (arith, c.loop-touched.invariant.lookups, c.in_ok-read_block.ensures.items.1, ap entries_in c.deref.ensures.value, entries_few (items_left c.args.walker.now))
+seek_all-requires g c = omega (arith, c.loop-touched.invariant.lookups, c.in_ok-read_block.ensures.items.1, ap entries_in c.deref.ensures.value, entries_few (items_left c.args.walker.now))
 
 pub judge_rows-requires-clause-room : goal.judge_rows-requires-clause-room
-judge_rows-requires-clause-room c =
+judge_rows-requires-clause-room g c =
     let rows = ap items_in c.deref-in-loop-touched-3.ensures.value ∙ (c.in_ok-fetch_all.ensures.items ∙ (ap items_sought c.deref-in-loop-touched.ensures.value ∙ (c.in_ok-seek_all.ensures.items ∙ c.deref.ensures.value))) in
     room_block c.loop-touched.judging (length (items_left c.loop-touched.walker)) (length (items_left c.args.walker.now)) (length c.deref-in-loop-touched-3.result.now) c.loop-touched.invariant.room c.requires.few
     (omega (arith, c.in_ok-read_block.ensures.some, items_long c.deref-in-loop-touched-3.result.now, ap length rows))
 
 pub returns-then-branch-clause-faults : goal.returns-then-branch-clause-faults
-returns-then-branch-clause-faults c =
+returns-then-branch-clause-faults g c =
     let s = subject c.args.facts.now in
     let at = halt c.args.walker.now in
     let all : List Item = items_left c.args.walker.now in
@@ -29,10 +29,10 @@ returns-then-branch-clause-faults c =
     let rows = ap items_in c.deref-in-loop-touched-3.ensures.value ∙ (c.in_ok-fetch_all.ensures.items ∙ (ap items_sought c.deref-in-loop-touched.ensures.value ∙ (c.in_ok-seek_all.ensures.items ∙ c.deref.ensures.value))) in
     let judged = judged_as s at old new js (items_in c.deref-in-loop-touched-3.result.now) is c.in_ok-judge_rows.field-0 true rows c.if-branch.true (c.in_ok-judge_rows.ensures at js) in
     let ended = block_ended s at old new is js (items_left c.loop-touched.walker) all c.in_ok-read_block.ensures.items.0 inv.same inv.named judged in
-    (ended.0, c.named.ensures ∙ ended.1)
+    (ended.0, c.named-then-branch.ensures ∙ ended.1)
 
 pub returns-then-branch-clause-all : goal.returns-then-branch-clause-all
-returns-then-branch-clause-all c =
+returns-then-branch-clause-all g c =
     let s = subject c.args.facts.now in
     let at = halt c.args.walker.now in
     let all : List Item = items_left c.args.walker.now in
@@ -47,10 +47,10 @@ returns-then-branch-clause-all c =
     = λ ks. judged_as s at old new ks (items_in c.deref-in-loop-touched-3.result.now) is c.in_ok-judge_rows.field-0 true rows c.if-branch.true (c.in_ok-judge_rows.ensures at ks) in
     let ended = block_ended s at old new is js (items_left c.loop-touched.walker) all read.0 inv.same inv.named (judged js) in
     let counts = ended_counts is js (items_left c.loop-touched.walker) old.named new.named read.0 read.1 (judged js).1 (judged []).1 in
-    omega (arith, c.in_ok-seek_all.ensures.all, ap entries_in c.deref.ensures.value, counts, inv.lookups, ended.1, c.named.ensures)
+    omega (arith, c.in_ok-seek_all.ensures.all, ap entries_in c.deref.ensures.value, counts, inv.lookups, ended.1, c.named-then-branch.ensures)
 
 pub loop-touched-smaller : goal.loop-touched-smaller
-loop-touched-smaller c =
+loop-touched-smaller g c =
     let s = subject c.args.facts.now in
     let at = halt c.args.walker.now in
     let is : List Item = c.read_block.new.items.items in
@@ -61,7 +61,7 @@ loop-touched-smaller c =
     omega (arith, goes.fewer, ap length c.in_ok-read_block.ensures.items.0, c.in_ok-read_block.ensures.some)
 
 pub loop-touched-preserved : goal.loop-touched-preserved
-loop-touched-preserved c =
+loop-touched-preserved g c =
     let s = subject c.args.facts.now in
     let at = halt c.args.walker.now in
     let all : List Item = items_left c.args.walker.now in

@@ -5,7 +5,7 @@ use Rattle.mr_check.specs.Steps.{subject, Room}
 use Rattle.mr_check.proofs.parts.check_parts.Given as goal
 
 abbrev pub invariant-loop-touched : goal.invariant-loop-touched
-invariant-loop-touched l =
+invariant-loop-touched g l =
     let s = subject l.facts in
     let at = halt l.initial.walker in
     let all = items_left l.initial.walker in
@@ -20,4 +20,4 @@ invariant-loop-touched l =
     }
 
 abbrev pub decreases-loop-touched : goal.decreases-loop-touched
-decreases-loop-touched l = length (items_left l.walker)
+decreases-loop-touched g l = length (items_left l.walker)

@@ -21,7 +21,7 @@ use Rattle.mr_sequential.proofs.SourceLemmas.{few_pairs, pair_of, emitted-pairs,
 use Rattle.mr_sequential.proofs.sequence.execute.Goals as goal
 
 pub gather-requires : goal.gather-requires
-gather-requires c =
+gather-requires g c =
     let files : List (List ℕ) = c.args.plan.now.files in
     let small : total_size files ≤ 2 ^ 30 = subst (λ (fs : List (List ℕ)). total_size fs ≤ 2 ^ 30) c.input.ensures c.files-files.ensures.small in
     let few : length files ≤ 1024 = omega (arith, ap length c.input.ensures, c.files-files.ensures.count, c.files-files.ensures.few) in
@@ -43,14 +43,14 @@ names_are request files skips job size ns same even is =
     ∙ sym (emitted-names request files skips)
 
 pub outputs-requires-clause-few : goal.outputs-requires-clause-few
-outputs-requires-clause-few c =
+outputs-requires-clause-few g c =
     let files : List (List ℕ) = c.args.plan.now.files in
     let small : total_size files ≤ 2 ^ 30 = subst (λ (fs : List (List ℕ)). total_size fs ≤ 2 ^ 30) c.input.ensures c.files-files.ensures.small in
     let few : length files ≤ 1024 = omega (arith, ap length c.input.ensures, c.files-files.ensures.count, c.files-files.ensures.few) in
     omega (arith, ap length c.in_ok-pairs.ensures.pairs, few_pairs c.job-job.result.now c.args.skips.now c.args.plan.now.size files few small)
 
 pub outputs-requires-clause-all : goal.outputs-requires-clause-all
-outputs-requires-clause-all c =
+outputs-requires-clause-all g c =
     let request = c.args.request.now in
     let files : List (List ℕ) = c.args.plan.now.files in
     let skips : List RecordName = c.args.skips.now in
@@ -59,7 +59,7 @@ outputs-requires-clause-all c =
     omega (arith, ap length pairs, ap length names, even_lists (emitted request.job request.split files skips))
 
 pub returns-clause-texts : goal.returns-clause-texts
-returns-clause-texts c = λ p h.
+returns-clause-texts g c = λ p h.
     let request = c.args.request.now in
     let files : List (List ℕ) = c.args.plan.now.files in
     let skips : List RecordName = c.args.skips.now in
@@ -74,7 +74,7 @@ returns-clause-texts c = λ p h.
     ∙ texts-triples (λ k. partition_of k request.parts) (text_of job) ts p
 
 pub returns-clause-certificate : goal.returns-clause-certificate
-returns-clause-certificate c =
+returns-clause-certificate g c =
     let request = c.args.request.now in
     let files : List (List ℕ) = c.args.plan.now.files in
     let skips : List RecordName = c.args.skips.now in
@@ -106,16 +106,16 @@ returns-clause-certificate c =
     })
 
 pub returns-clause-is_good : goal.returns-clause-is_good
-returns-clause-is_good c =
+returns-clause-is_good g c =
     let request = c.args.request.now in
     let files : List (List ℕ) = c.args.plan.now.files in
     let skips : List RecordName = c.args.skips.now in
     let texts : List (Vec ℕ Global) = c.in_ok-texts.texts.items in
     let outs : List (List ℕ) = contents texts in
-    subst (IsGood request files outs) (sym (returns-clause-certificate c))
+    subst (IsGood request files outs) (sym (returns-clause-certificate g c))
     (sequential_is_good request files outs skips
     (omega (arith, c.requires.some, c.requires.size))
     (omega (arith, c.parts.ensures.same, c.parts.ensures.within.0))
     c.requires.fault
     (omega (arith, same_length (λ (v : Vec ℕ Global). v.items) texts, c.in_ok-texts.ensures.count, c.parts.ensures.same))
-    (returns-clause-texts c))
+    (returns-clause-texts g c))

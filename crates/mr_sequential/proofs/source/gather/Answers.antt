@@ -12,7 +12,7 @@ use Rattle.mr_sequential.proofs.SourceLemmas.{kept-pairs, kept-names, next_gathe
 use Rattle.mr_sequential.proofs.source.gather.Goals as goal
 
 pub loop-name-init : goal.loop-name-init
-loop-name-init c =
+loop-name-init g c =
     let f : NamedRecord → List Emission = record_pairs c.args.job.now in
     let g : NamedRecord → List Name = record_names c.args.job.now in
     let start : c.records-left.result ≡ kept_records c.args.skips.now (records_of c.args.plan.now) =
@@ -23,7 +23,7 @@ loop-name-init c =
     }
 
 pub gather_one-requires-clause-few : goal.gather_one-requires-clause-few
-gather_one-requires-clause-few c =
+gather_one-requires-clause-few g c =
     let f : NamedRecord → List Emission = record_pairs c.args.job.now in
     let line = c.in-Some.line in
     let r : NamedRecord = record { name = c.in-Some.name; file = line.file; start = line.start; bytes = line.bytes.now } in
@@ -38,7 +38,7 @@ gather_one-requires-clause-few c =
     )
 
 pub loop-name-preserved : goal.loop-name-preserved
-loop-name-preserved c =
+loop-name-preserved g c =
     let f : NamedRecord → List Emission = record_pairs c.args.job.now in
     let g : NamedRecord → List Name = record_names c.args.job.now in
     let line = c.in-Some.line in
@@ -52,7 +52,7 @@ loop-name-preserved c =
     }
 
 pub returns : goal.returns
-returns c =
+returns g c =
     let f : NamedRecord → List Emission = record_pairs c.args.job.now in
     let g : NamedRecord → List Name = record_names c.args.job.now in
     let rs : List NamedRecord = records_of c.args.plan.now in

@@ -7,10 +7,10 @@ use Rattle.mr_sequential.specs.Pairs.{record_pairs}
 use Rattle.mr_sequential.proofs.source.gather.Given as goal
 
 abbrev pub invariant-loop-name : goal.invariant-loop-name
-invariant-loop-name l = record {
+invariant-loop-name g l = record {
   pairs : l.emitted.pairs ++ flat_map (record_pairs l.job) l.left ≡ flat_map (record_pairs l.job) (kept_records l.fn.skips (records_of l.fn.plan));
   names : l.emitted.names ++ flat_map (record_names l.job) l.left ≡ flat_map (record_names l.job) (kept_records l.fn.skips (records_of l.fn.plan));
 }
 
 abbrev pub decreases-loop-name : goal.decreases-loop-name
-decreases-loop-name l = length l.left
+decreases-loop-name g l = length l.left

@@ -10,7 +10,7 @@ use Rattle.mr_index.proofs.WorkLemmas.{mapped-none, next-placed, mapped-next, ma
 use Rattle.mr_index.proofs.index.Tables.map_all.Goals as goal
 
 pub loop-name-init : goal.loop-name-init
-loop-name-init c =
+loop-name-init g c =
     let rs : List NamedRecord = records_of c.args.plan.now in
     let skips : List RecordName = c.args.kept.now.skips in
     let start : c.records-left.result ≡ kept_records skips rs =
@@ -24,7 +24,7 @@ loop-name-init c =
     }
 
 pub number_of-number-requires-clause-split : goal.number_of-number-requires-clause-split
-number_of-number-requires-clause-split c =
+number_of-number-requires-clause-split g c =
     let line = c.in-Some.line in
     let v : Cut = c.args.plan.now in
     let r : NamedRecord = record { name = c.in-Some.name; file = line.file; start = line.start; bytes = line.bytes.now } in
@@ -32,7 +32,7 @@ number_of-number-requires-clause-split c =
     c.loop-name.left c.next.new.self r (omega (arith, c.size-size.ensures.within)) c.loop-name.invariant.mapped c.in-Some.ensures.next).split
 
 pub number_of-number-requires-clause-record : goal.number_of-number-requires-clause-record
-number_of-number-requires-clause-record c =
+number_of-number-requires-clause-record g c =
     let line = c.in-Some.line in
     let v : Cut = c.args.plan.now in
     let r : NamedRecord = record { name = c.in-Some.name; file = line.file; start = line.start; bytes = line.bytes.now } in
@@ -40,14 +40,14 @@ number_of-number-requires-clause-record c =
     c.loop-name.left c.next.new.self r (omega (arith, c.size-size.ensures.within)) c.loop-name.invariant.mapped c.in-Some.ensures.next).number
 
 pub map_record-requires-clause-fits : goal.map_record-requires-clause-fits
-map_record-requires-clause-fits c =
+map_record-requires-clause-fits g c =
     let line = c.in-Some.line in
     let r : NamedRecord = record { name = c.in-Some.name; file = line.file; start = line.start; bytes = line.bytes.now } in
     fits-next c.args.job.now c.args.kept.now.skips (records_of c.args.plan.now) c.loop-name.self.ends.items (pairs_seen c.loop-name.self.pairs)
     c.loop-name.left c.next.new.self r c.loop-name.invariant.mapped c.in-Some.ensures.next c.requires.fits
 
 pub loop-name-preserved : goal.loop-name-preserved
-loop-name-preserved c =
+loop-name-preserved g c =
     let line = c.in-Some.line in
     let r : NamedRecord = record { name = c.in-Some.name; file = line.file; start = line.start; bytes = line.bytes.now } in
     let given = c.in_ok-map_record.ensures in
@@ -61,17 +61,17 @@ loop-name-preserved c =
     }
 
 pub fill-requires : goal.fill-requires
-fill-requires c =
+fill-requires g c =
     let fits = fits-mapped c.args.job.now c.args.kept.now.skips (records_of c.args.plan.now) c.loop-name.self.ends.items (pairs_seen c.loop-name.self.pairs)
     c.loop-name.left c.loop-name.invariant.mapped c.requires.fits in
     omega (arith, c.len.ensures, fits.0)
 
 pub returns-clause-shows : goal.returns-clause-shows
-returns-clause-shows c =
+returns-clause-shows g c =
     let pairs : List Emission = pairs_seen c.loop-name.self.pairs in
     let ends : List ℕ = c.loop-name.self.ends.items in
     on_ok_weaker c.fill.result
     (λ h. mapped-all c.args.job.now c.args.kept.now.skips (records_of c.args.plan.now) ends c.fill.new.ends.items pairs c.loop-name.left
-    c.count.result c.loop-name.invariant.mapped c.in_default.ensures.next c.count.ensures.count
-    (h ∙ ap (λ (n : ℕ). filled c.count.result n ends) c.len.ensures))
+    c.count-2.result c.loop-name.invariant.mapped c.in_default.ensures.next c.count-2.ensures.count
+    (h ∙ ap (λ (n : ℕ). filled c.count-2.result n ends) c.len.ensures))
     c.fill.ensures

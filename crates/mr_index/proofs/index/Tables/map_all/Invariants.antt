@@ -6,7 +6,7 @@ use Rattle.mr_index.proofs.WorkLemmas.{Mapped}
 use Rattle.mr_index.proofs.index.Tables.map_all.Given as goal
 
 abbrev pub invariant-loop-name : goal.invariant-loop-name
-invariant-loop-name l = record {
+invariant-loop-name g l = record {
   sound : Sound l.self.pairs;
   mapped : Mapped l.job l.kept.skips (records_of l.plan) l.self.ends.items (pairs_seen l.self.pairs) l.left;
   counted : l.mapped + length l.left ≡ l.fn.mapped + mapped_among l.kept.skips (records_of l.plan);
@@ -14,4 +14,4 @@ invariant-loop-name l = record {
 }
 
 abbrev pub decreases-loop-name : goal.decreases-loop-name
-decreases-loop-name l = length l.left
+decreases-loop-name g l = length l.left
