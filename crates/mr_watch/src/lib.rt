@@ -31,6 +31,17 @@ impl Watch for Unwatched {
     fn lost(&self) {}
 }
 
+/// Who is told through a reference is who it refers to.
+impl<'a> Watch for &'a dyn Watch {
+    fn tell(&self, phase: Phase, done: u64, all: u64) {
+        (**self).tell(phase, done, all);
+    }
+
+    fn lost(&self) {
+        (**self).lost();
+    }
+}
+
 /// How much more must be done before it is told again: seldom enough that the work never waits for it, and often enough
 /// for a line at a terminal.
 const STRIDE: u64 = 4096;
