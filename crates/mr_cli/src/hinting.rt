@@ -3,6 +3,7 @@
 use crate::failure::Failure;
 use crate::options::{command, subcommand_of};
 use crate::program::{answer, finish};
+use crate::progress::ProgressLine;
 use mr_commands::{Fault, Said, Subcommand};
 use mr_files::{Look, Store};
 use mr_hints::{NOT_UTF8, fault_hint, notes, shown, verdict_hint};
@@ -10,6 +11,7 @@ use std::alloc::{AllocError, Global};
 use std::io::Write;
 use std::sync::Wait;
 use std::thread::Threads;
+use std::time::Clock;
 
 /// What the words ask for, parsed once more; none where they can't be parsed.
 fn asked_by<'a>(alloc: Global, words: &'a [String]) -> Option<Subcommand<'a>> {
@@ -97,14 +99,15 @@ fn tell<F: Store + Look, O: Write, E: Write>(
 }
 
 /// Answers the words, of which the first is the program's name, as for a program, with notes before the answer and a
-/// hint behind it; gives the exit status.
-pub fn tell_person<F: Store + Look, R: Threads + Wait + Sync, O: Write, E: Write>(
+/// hint behind it, and a line of progress in between; gives the exit status.
+pub fn tell_person<F: Store + Look, R: Threads + Wait + Clock + Sync, O: Write, E: Write>(
     rt: &R,
     files: &mut F,
     alloc: Global,
     words: Result<Vec<String>, Failure>,
     out: &mut O,
     err: &mut E,
+    progress: &ProgressLine<'_, R>,
 ) -> u8 {
     let words = match words {
         Ok(words) => words,
@@ -114,6 +117,7 @@ pub fn tell_person<F: Store + Look, R: Threads + Wait + Sync, O: Write, E: Write
     if let Some(asked) = &asked {
         show_notes(files, alloc, asked, err);
     }
-    let answered = answer(rt, files, alloc, words.as_slice());
+    let answered = answer(rt, files, alloc, words.as_slice(), progress);
+    progress.wipe();
     tell(files, alloc, &asked, answered, out, err)
 }

@@ -20,11 +20,12 @@ use crate::said::{done_line, yes_text};
 use crate::skips::skips_of;
 use mr_bytes::RecordName;
 use mr_certform::write as written;
-use mr_check::{No, Yes, check as judged};
+use mr_check::{No, Yes, check_watched as judged};
 use mr_files::{Store, read_result, write_files};
 use mr_input::Input;
 use mr_jobs::Request;
-use mr_sequential::run;
+use mr_sequential::run_watched;
+use mr_watch::Watch;
 use std::alloc::Global;
 use std::sync::Wait;
 use std::thread::Threads;
@@ -51,13 +52,14 @@ fn worked(
     request: &Request,
     input: Input,
     skips: &[RecordName],
+    watch: &dyn Watch,
 ) -> Result<Work, Fault>
     requires { split_total request.now.split input ≤ 2 ^ 20 }
     ensures result { IfOk result (λ w. IsSequentialResult request.now input skips.now (contents w.outputs.items) w.certificate.items) }
     ensures line { IfOk result (λ w. string_bytes w.line ≡ done_line request.now.parts (length (emitted request.now.job request.now.split input skips.now)) (length skips.now)) }
     ensures refused { IfErr result (λ e. IsRunRefusal request.now input skips.now e) }
 {
-    let (outputs, certificate) = run(alloc, request, &input, skips)?;
+    let (outputs, certificate) = run_watched(alloc, request, &input, skips, watch)?;
     // What is done with is given back before memory is asked for again.
     drop(input);
     let pairs = certificate.total();
@@ -77,6 +79,7 @@ fn worked_out<S: Store>(
     alloc: Global,
     options: &Options<'_>,
     skips: &str,
+    watch: &dyn Watch,
 ) -> Result<Work, Fault>
     ensures work { IfOk result (λ w. WorksOut (S.holds store.now) options.now skips.now (contents w.outputs.items) w.certificate.items (string_bytes w.line)) }
     ensures refused { IfErr result (λ e. IsWorkRefusal (S.holds store.now) (S.unreadable store.now) options.now skips.now e) }
@@ -84,7 +87,7 @@ fn worked_out<S: Store>(
     let request = request_of(alloc, options)?;
     let skips = skips_of(alloc, skips)?;
     let input = input_of(store, alloc, &request, options.files.as_slice())?;
-    worked(alloc, &request, input, skips.as_slice())
+    worked(alloc, &request, input, skips.as_slice(), watch)
 }
 
 /// Works, and then writes the result. The line is said once all files stand.
@@ -93,6 +96,7 @@ pub fn seq<S: Store>(
     alloc: Global,
     options: &Options<'_>,
     skips: &str,
+    watch: &dyn Watch,
 ) -> Result<Said, Fault>
     ensures status { IfOk result (λ said. said.status ≡ 0) }
     ensures done { IfOk result (λ said. AnswersSeq (S.holds store.old) (S.holds store.new) options.now skips.now (string_bytes said.text)) }
@@ -100,7 +104,7 @@ pub fn seq<S: Store>(
     ensures refused { IfErr result (λ e. IsSeqRefusal (S.holds store.old) (S.holds store.new) (S.unreadable store.old) (S.unwritable store.old)
         options.now skips.now e) }
 {
-    let work = worked_out(store, alloc, options, skips)?;
+    let work = worked_out(store, alloc, options, skips, watch)?;
     write_files(
         store,
         alloc,
@@ -139,17 +143,23 @@ fn judgement(
     input: &Input,
     outputs: &[Vec<u8>],
     certificate: &[u8],
+    watch: &dyn Watch,
 ) -> Result<Said, Fault>
     requires { split_total request.now.split input.now ≤ 2 ^ 20 }
     ensures judged { IfOk result (λ said. IsJudged request.now input.now (contents outputs.now) certificate.now (string_bytes said.text) said.status) }
     ensures memory { IfErr result (λ e. e ≡ Fault.OutOfMemory) }
 {
-    let verdict = judged(alloc, request, input, outputs, certificate);
+    let verdict = judged(alloc, request, input, outputs, certificate, watch);
     said_of(alloc, verdict)
 }
 
 /// Tests as `seq` does, then reads the result and judges it.
-pub fn check<S: Store>(store: &S, alloc: Global, options: &Options<'_>) -> Result<Said, Fault>
+pub fn check<S: Store>(
+    store: &S,
+    alloc: Global,
+    options: &Options<'_>,
+    watch: &dyn Watch,
+) -> Result<Said, Fault>
     ensures answer { IfOk result (λ said. AnswersCheck (S.holds store.now) options.now (string_bytes said.text) said.status) }
     ensures refused { IfErr result (λ e. IsCheckRefusal (S.holds store.now) (S.unreadable store.now) options.now e) }
 {
@@ -162,23 +172,25 @@ pub fn check<S: Store>(store: &S, alloc: Global, options: &Options<'_>) -> Resul
         &input,
         outputs.as_slice(),
         certificate.as_slice(),
+        watch,
     )
 }
 
-/// Does what is asked for, and nothing else.
+/// Does what is asked for, and nothing else. The watch is told how far long work has come.
 pub fn done<S: Store, R: Threads + Wait + Sync>(
     rt: &R,
     store: &mut S,
     alloc: Global,
     asked: &Subcommand<'_>,
+    watch: &dyn Watch,
 ) -> Result<Said, Fault>
     ensures answers { IfOk result (λ said. Answers (S.holds store.old) (S.holds store.new) asked.now (string_bytes said.text) said.status) }
     ensures others { ChangesAmong (S.holds store.old) (S.holds store.new) (written_by asked.now) }
     ensures refused { IfErr result (λ e. IsRefusal (S.holds store.old) (S.holds store.new) (S.unreadable store.old) (S.unwritable store.old) asked.now e) }
 {
     match asked {
-        Subcommand::Check(options) => check(store, alloc, options),
-        Subcommand::Seq(options, skips) => seq(store, alloc, options, skips),
-        Subcommand::Run(asked) => run_by_workers(rt, store, alloc, asked),
+        Subcommand::Check(options) => check(store, alloc, options, watch),
+        Subcommand::Seq(options, skips) => seq(store, alloc, options, skips, watch),
+        Subcommand::Run(asked) => run_by_workers(rt, store, alloc, asked, watch),
     }
 }

@@ -22,8 +22,9 @@ use mr_core::JobFault;
 use mr_files::{FileFault, Store, read_file, write_files, write_named};
 use mr_input::Input;
 use mr_jobs::Request;
-use mr_pool::{Certified, RunFault, run as pooled};
+use mr_pool::{Certified, RunFault, run_watched as pooled};
 use mr_script::Script;
+use mr_watch::Watch;
 use std::alloc::{AllocError, Global};
 use std::sync::Wait;
 use std::thread::Threads;
@@ -92,6 +93,7 @@ fn ended<R: Threads + Wait + Sync>(
     script: &Script,
     workers: u32,
     attempts: u32,
+    watch: &dyn Watch,
 ) -> Result<Ran, Fault>
     requires fits { split_total request.now.split input.now ≤ 2 ^ 20 }
     requires workers { (1 ≤ workers) × (workers ≤ 64) }
@@ -100,7 +102,7 @@ fn ended<R: Threads + Wait + Sync>(
     ensures memory { IfErr result (λ e. e ≡ Fault.OutOfMemory) }
 {
     match pooled(
-        rt, alloc, request, input, script, workers, attempts, &OpenGate,
+        rt, alloc, request, input, script, workers, attempts, &OpenGate, watch,
     ) {
         Ok(certified) => Ok(Ran::Certified(certified)),
         Err(RunFault::Failed(fault, history)) => Ok(Ran::Failed(fault, history)),
@@ -116,6 +118,7 @@ fn executed<S: Store, R: Threads + Wait + Sync>(
     store: &S,
     alloc: Global,
     asked: &RunOptions<'_>,
+    watch: &dyn Watch,
 ) -> Result<Ran, Fault>
     ensures runs { IfOk result (λ ran. Runs (S.holds store.now) asked.now ran) }
     ensures refused { IfErr result (λ e. IsStartRefusal (S.holds store.now) (S.unreadable store.now) asked.now e) }
@@ -132,6 +135,7 @@ fn executed<S: Store, R: Threads + Wait + Sync>(
         &script,
         asked.workers,
         asked.attempts,
+        watch,
     )
 }
 
@@ -216,12 +220,13 @@ pub fn run<S: Store, R: Threads + Wait + Sync>(
     store: &mut S,
     alloc: Global,
     asked: &RunOptions<'_>,
+    watch: &dyn Watch,
 ) -> Result<Said, Fault>
     ensures done { IfOk result (λ said. AnswersRun (S.holds store.old) (S.holds store.new) asked.now (string_bytes said.text) said.status) }
     ensures others { ChangesAmong (S.holds store.old) (S.holds store.new) (written_by_run asked.now) }
     ensures refused { IfErr result (λ e. IsRunUnanswered (S.holds store.old) (S.holds store.new) (S.unreadable store.old) (S.unwritable store.old) asked.now e) }
 {
-    let ran = executed(rt, store, alloc, asked)?;
+    let ran = executed(rt, store, alloc, asked, watch)?;
     let said = said_of(alloc, &ran)?;
     keep_history(store, alloc, asked.history, history_of(&ran))?;
     keep_result(store, alloc, asked.options.out, &ran)?;

@@ -1,0 +1,107 @@
+//! One line at a terminal that tells how far long work has come: the phase, its share done, workers lost. It is drawn
+//! again a few times a second at most, by whichever thread tells first then, and wiped before anything else is said. No
+//! clause speaks of it, and it has no say in the work.
+use mr_watch::{Phase, Watch};
+use std::alloc::{AllocError, Global};
+use std::io::{Stderr, Write};
+use std::sync::atomic::{AtomicBool, AtomicU64, Ordering};
+use std::time::Clock;
+
+/// Milliseconds between two drawings at least, and before the first, so that short work shows nothing.
+const PAUSE: u64 = 300;
+
+/// What a terminal is told to go back to the line's first place and to wipe it.
+const WIPE: &str = "\r\x1b[K";
+
+/// A line of progress. It holds the time from which it may be drawn again, in milliseconds of the clock, how many workers
+/// were lost, and whether it stands at the terminal.
+#[derive(Drop)]
+pub struct ProgressLine<'a, C: Clock> {
+    clock: &'a C,
+    alloc: Global,
+    err: Stderr,
+    next: AtomicU64,
+    lost: AtomicU64,
+    stands: AtomicBool,
+}
+
+/// Milliseconds of a clock; none where it can't be read.
+fn now<C: Clock>(clock: &C) -> Option<u64> {
+    let time = clock.monotonic().ok()?;
+    Some(time.as_secs().saturating_mul(1000).saturating_add(time.subsec_millis() as u64))
+}
+
+/// The word for a phase.
+fn word(phase: Phase) -> &'static str {
+    match phase {
+        Phase::Mapping => "mapping",
+        Phase::Reducing => "reducing",
+        Phase::Judging => "judging",
+    }
+}
+
+/// How many hundredths are done.
+fn share(done: u64, all: u64) -> u64 {
+    if all == 0 { 0 } else { done.min(all).saturating_mul(100) / all }
+}
+
+/// The text of the line.
+fn line(alloc: Global, phase: Phase, share: u64, lost: u64) -> Result<String, AllocError> {
+    let word = word(phase);
+    match lost {
+        0 => format!(in alloc; "{WIPE}mapred: {word} {share} %"),
+        1 => format!(in alloc; "{WIPE}mapred: {word} {share} %, 1 worker lost"),
+        _ => format!(in alloc; "{WIPE}mapred: {word} {share} %, {lost} workers lost"),
+    }
+}
+
+impl<'a, C: Clock> ProgressLine<'a, C> {
+    /// Nothing is drawn yet.
+    pub fn new(clock: &'a C, alloc: Global, err: Stderr) -> ProgressLine<'a, C> {
+        let next = now(clock).unwrap_or(u64::MAX);
+        ProgressLine {
+            clock,
+            alloc,
+            err,
+            next: AtomicU64::new(next.saturating_add(PAUSE)),
+            lost: AtomicU64::new(0),
+            stands: AtomicBool::new(false),
+        }
+    }
+
+    /// Whether this call may draw: no other may until the pause is over.
+    fn is_due(&self) -> bool {
+        let Some(now) = now(self.clock) else {
+            return false;
+        };
+        let next = self.next.load(Ordering::SeqCst);
+        let after = now.saturating_add(PAUSE);
+        next <= now && self.next.compare_exchange(next, after, Ordering::SeqCst, Ordering::SeqCst).is_ok()
+    }
+
+    /// Wipes the line, where it stands.
+    pub fn wipe(&self) {
+        if self.stands.swap(false, Ordering::SeqCst) {
+            let mut err = self.err;
+            let _ = err.write_all(WIPE.as_bytes());
+        }
+    }
+}
+
+impl<'a, C: Clock + Sync> Watch for ProgressLine<'a, C> {
+    fn tell(&self, phase: Phase, done: u64, all: u64) {
+        if !self.is_due() {
+            return;
+        }
+        let lost = self.lost.load(Ordering::SeqCst);
+        if let Ok(text) = line(self.alloc, phase, share(done, all), lost) {
+            self.stands.store(true, Ordering::SeqCst);
+            let mut err = self.err;
+            let _ = err.write_all(text.as_bytes());
+        }
+    }
+
+    fn lost(&self) {
+        let _ = self.lost.fetch_add(1, Ordering::SeqCst);
+    }
+}

@@ -1,0 +1,257 @@
+"""`mapred run`: worked runs with exact streams and files, random jobs under random scripts against the rules and against
+`seq` and `check`, the history, and what stands where a run is stopped."""
+import os
+import random
+import re
+import signal
+import subprocess
+import time
+from concurrent.futures import ThreadPoolExecutor
+
+from harness import parts_of, read_result
+from hints import on_terminal
+from plain import Request
+from pool import CATS, LETTERS, ONE_PART, TWO_PARTS, random_case
+from scripts import Allowed, written
+
+CATS_LINE = b"certified: 2 files, 4 pairs, 0 left out\n"
+CATS_PARTS = [b"the\t2\n", b"cat\t1\ndog\t1\n"]
+LETTERS_LINE = b"certified: 1 files, 3 pairs, 0 left out\n"
+LETTERS_PARTS = [b"a\t1\nb\t1\nc\t1\n"]
+ONE_LEFT_OUT = Request("words", split=64, most=1)
+
+# Worked by hand: request, files, script, further words, the line on standard output, and the parts (none are written
+# where nothing is certified).
+ROWS = [
+    (TWO_PARTS, CATS, "", [], CATS_LINE, CATS_PARTS),
+    (TWO_PARTS, CATS, "lose 0 after 2\n", [], CATS_LINE, CATS_PARTS),
+    (TWO_PARTS, CATS, "hold 0\n", ["--workers", "2"], CATS_LINE, CATS_PARTS),
+    (TWO_PARTS, CATS, "bad 0 0\n", [], b"failed: TooManySkips\n", []),
+    (ONE_LEFT_OUT, LETTERS, "bad 0 0\n", [], b"certified: 1 files, 1 pairs, 1 left out\n", [b"c\t1\n"]),
+    (TWO_PARTS, CATS, "lose 0 after 1\n", ["--workers", "1"], b"failed: NoWorkers\n", []),
+    (TWO_PARTS, CATS, "spoil 0 0\n", [], b"uncertified: OutputDiffers partition 0 at 0\n", []),
+    (ONE_PART, LETTERS, "flaky 0 0 1\n", ["--workers", "1"], LETTERS_LINE, LETTERS_PARTS),
+    (ONE_PART, LETTERS, "flaky 0 0 2\n", ["--workers", "1"], b"failed: TooManySkips\n", []),
+    (ONE_PART, LETTERS, "flaky 0 0 1\n", ["--workers", "1", "--attempts", "1"], b"failed: TooManyAttempts\n", []),
+    (ONE_PART, LETTERS, "zombie 0 after 0\n", ["--workers", "1"], b"failed: NoWorkers\n", []),
+    (ONE_PART, LETTERS, "bad 7 7\n", ["--workers", "1"], LETTERS_LINE, LETTERS_PARTS),
+    (TWO_PARTS, [], "# nothing goes wrong\n\n", [], b"certified: 2 files, 0 pairs, 0 left out\n", [b"", b""]),
+]
+
+# One worker, no script, a record of each partition: each event is determined.
+HISTORY = b"""history 1 maps 1 parts 2 workers 1 attempts 8 skips 0
+ask 0: map attempt 0 split 0
+map-done attempt 0 output 1: accepted
+ask 0: reduce attempt 1 partition 0
+fetch attempt 1 split 0: output 1
+reduce-done attempt 1 output 4: accepted
+ask 0: reduce attempt 2 partition 1
+fetch attempt 2 split 0: output 1
+reduce-done attempt 2 output 7: accepted
+ask 0: stop done
+"""
+LEFT_OUT_HISTORY = b"""history 1 maps 1 parts 1 workers 1 attempts 8 skips 1
+ask 0: map attempt 0 split 0
+map-failed attempt 0 record 0: accepted
+ask 0: map attempt 1 split 0
+map-failed attempt 1 record 0: accepted
+ask 0: map attempt 2 split 0 without 0
+map-done attempt 2 output 5: accepted
+ask 0: reduce attempt 3 partition 0
+fetch attempt 3 split 0: output 5
+reduce-done attempt 3 output 8: accepted
+ask 0: stop done
+"""
+LOST_HISTORY = b"""history 1 maps 1 parts 2 workers 1 attempts 8 skips 0
+ask 0: map attempt 0 split 0
+map-done attempt 0 output 1: accepted
+lose 0: accepted
+"""
+
+
+def ran(harness, request, files, script=b"", words=(), where=None, **more):
+    """A run in a directory with its files and its script; the result goes into a directory of its own there."""
+    named = {f"in{number}": data for number, data in enumerate(files)}
+    where = harness.directory({**named, "script": script}, where)
+    os.makedirs(os.path.join(where, "out"), exist_ok=True)
+    line = ["run", *request.options(), "--script", "script", "--history", "history", *words, "--out", "out", *named]
+    return harness.run(line, cwd=where, **more)
+
+
+def history_of(where):
+    """What stands in the history's file; None where there is none."""
+    path = os.path.join(where, "history")
+    return open(path, "rb").read() if os.path.exists(path) else None
+
+
+def worked_runs(harness):
+    for request, files, script, words, line, parts in ROWS:
+        name = f"run under {script!r} {words}"
+        status, out, err, where = ran(harness, request, files, script.encode(), words)
+        harness.check(name, (status, out, err) == (0 if parts else 1, line, b""), f"{status} {out} {err}")
+        written_parts, certificate = read_result(os.path.join(where, "out"))
+        harness.check(name + ": files", written_parts == parts and (certificate is not None) == bool(parts), repr(written_parts))
+        harness.check(name + ": history", (history_of(where) or b"").startswith(b"history 1 maps "))
+    for request, files, script, history in [
+        (TWO_PARTS, CATS, b"", HISTORY),
+        (ONE_LEFT_OUT, LETTERS, b"bad 0 0\n", LEFT_OUT_HISTORY),
+        (TWO_PARTS, CATS, b"lose 0 after 1\n", LOST_HISTORY),
+    ]:
+        where = ran(harness, request, files, script, ["--workers", "1"])[3]
+        harness.check(f"the history of one worker under {script!r}", history_of(where) == history, repr(history_of(where)))
+
+
+EVENT = re.compile(
+    rb"(ask \d+: (map attempt \d+ split \d+( without( \d+)+)?|reduce attempt \d+ partition \d+|wait|stop (done|dismissed|failed \w+))"
+    rb"|fetch attempt \d+ split \d+: (output \d+|gone|ignored)|(map|reduce)-done attempt \d+ output \d+: (accepted|ignored)"
+    rb"|map-failed attempt \d+ record \d+: (accepted|ignored)|lose \d+: (accepted|ignored))"
+)
+
+
+def told_by(harness, where, names, request):
+    """What `check` says of a result: its status, its pairs, and the left-out records."""
+    status, out, _, _ = harness.run(["check", *request.options(), "--out", "out", *names], cwd=where)
+    return status, out.split(b" ", 1)[1].split(b"\n")[0], tuple(tuple(map(int, line.split()[2:])) for line in out.splitlines()[1:])
+
+
+def random_run(harness, start):
+    """A run that a number draws, and why what it left doesn't fit; None where it does."""
+    request, files, lines, workers, attempts = random_case(start)
+    allowed = Allowed(request, files, lines, workers, attempts)
+    words = ["--workers", str(workers), "--attempts", str(attempts)]
+    try:
+        status, out, err, where = ran(harness, request, files, written(lines), words, timeout=120)
+    except subprocess.TimeoutExpired:
+        return "late", "no answer"
+    kind, _, rest = out.decode().rstrip("\n").partition(": ")
+    head, *events = (history_of(where) or b"").splitlines()
+    if err or not head.startswith(b"history 1 ") or not events or not all(EVENT.fullmatch(event) for event in events):
+        return kind, f"history or standard error: {err} {events}"
+    result = read_result(os.path.join(where, "out"))
+    if kind != "certified":
+        fits = {"failed": allowed.failed, "uncertified": allowed.uncertified}.get(kind, lambda fault: False)
+        return rest if kind == "failed" else kind, None if status == 1 and fits(rest) and result == ([], None) else f"{out} {result}"
+    names = [f"in{number}" for number in range(len(files))]
+    verdict, pairs, skips = told_by(harness, where, names, request)
+    said = rest.split(", ", 1)
+    fits = (status, verdict) == (0, 0) and said[0] == f"{request.parts} files" and said[1].encode() == pairs
+    fits = fits and allowed.certified(result[0], result[1], skips, int(pairs.split()[0]))
+    leave = ["--skips", ",".join(f"{split}:{rec}" for split, rec in skips)] if skips else []
+    os.makedirs(os.path.join(where, "seq"))
+    harness.run(["seq", *request.options(), *leave, "--out", "seq", *names], cwd=where)
+    same = read_result(os.path.join(where, "seq")) == result
+    return kind if not skips else "a record left out", None if fits and same else f"{out} {verdict} {skips} same as seq: {same}"
+
+
+def random_runs(harness, runs=320):
+    """Each random run gives the files of `seq` without the records that were left out, with a yes of `check`; or it fails
+    or is refused for a reason that its script accounts for, and writes no result."""
+    first = int(os.environ.get("MAPRED_SEED") or 700_000)
+    print(f"random runs of the program: {first} to {first + runs - 1}")
+    seen = {}
+    with ThreadPoolExecutor(4) as pool:
+        for start, (kind, wrong) in zip(range(first, first + runs), pool.map(lambda start: random_run(harness, start), range(first, first + runs))):
+            harness.check(f"run {start} {random_case(start)}", wrong is None, f"{kind}: {wrong}")
+            seen[kind] = seen.get(kind, 0) + 1
+    for kind in ("certified", "a record left out", "uncertified", "NoWorkers", "TooManySkips", "TooManyAttempts"):
+        harness.check(f"{kind} comes in some random run", seen.get(kind, 0) > 0, repr(seen))
+
+
+def faults(harness):
+    """Each fault of a run: standard error, the status, and that nothing was written. Tests come in order: the line, the
+    request, the script, the files."""
+    words = ["run", "--job", "words", "--out", "out"]
+    files = {"a": b"a b\n", "good": b"# fine\nlose 1 after 0\n", "bad": b"hold 0\n\nlose 1\n"}
+    for name, more, status, err in [
+        ("a bad line", ["--script", "bad", "a"], 2, b"mapred: BadLine 3\n"),
+        ("a script that isn't there", ["--script", "none", "a"], 3, b"mapred: cannot read none\n"),
+        ("a script that is a directory", ["--script", "out", "a"], 3, b"mapred: cannot read out\n"),
+        ("a request is tested before a script", ["--parts", "0", "--script", "bad", "a"], 2, b"mapred: BadParts\n"),
+        ("an option of another job before a script", ["--fold", "--script", "bad", "a"], 2, b"mapred: option does not belong to this job\n"),
+        ("a script is tested before files", ["--script", "bad", "none"], 2, b"mapred: BadLine 3\n"),
+        ("a file that isn't there", ["--script", "good", "none"], 3, b"mapred: cannot read none\n"),
+        ("a history that can't be written", ["--history", "none/h", "a"], 3, b"mapred: cannot write none/h\n"),
+        ("no worker", ["--workers", "0", "a"], 2, None),
+        ("65 workers", ["--workers", "65", "a"], 2, None),
+        ("no attempt", ["--attempts", "0", "a"], 2, None),
+        ("17 attempts", ["--attempts", "17", "a"], 2, None),
+        ("a skip list", ["--skips", "0:0", "a"], 2, None),
+    ]:
+        where = harness.directory(files)
+        os.makedirs(os.path.join(where, "out"))
+        got = harness.run([*words, *more], cwd=where)[:3]
+        fits = got == (status, b"", err) if err is not None else got[0] == status and got[1] == b"" and got[2].startswith(b"error: ")
+        harness.check(f"run: {name}", fits, repr(got))
+        harness.check(f"run: {name}: nothing is written", os.listdir(os.path.join(where, "out")) == [] and not os.path.exists(os.path.join(where, "none")))
+    where = harness.directory({"a": b"a b\n"})
+    got = harness.run(["run", "--job", "words", "--out", "none", "a"], cwd=where)[:3]
+    harness.check("run: the result's directory isn't there", got == (3, b"", b"mapred: cannot write none/part-00000\n"), repr(got))
+
+
+def a_history_named_as_a_part(harness):
+    """Whatever the history's name, a certified result stands whole."""
+    for name in ("out/part-00000", "out/certificate", "in0"):
+        named = {"in0": CATS[0]}
+        where = harness.directory(named)
+        os.makedirs(os.path.join(where, "out"))
+        status, out, _, _ = harness.run(["run", *TWO_PARTS.options(), "--history", name, "--out", "out", "in0"], cwd=where)
+        parts, certificate = read_result(os.path.join(where, "out"))
+        harness.check(f"a history named {name}", (status, out, parts) == (0, CATS_LINE, CATS_PARTS) and certificate[:7] == b"MRCERT1", repr((status, out, parts)))
+
+
+def stopped(harness):
+    """A run that is ended by a signal before its end leaves the directory as it was."""
+    rnd = random.Random(5)
+    text = b" ".join(b"w%d" % rnd.randrange(50_000) for _ in range(2_500_000))
+    where = harness.directory({"in": text})
+    os.makedirs(os.path.join(where, "out"))
+    old = {"part-00000": b"old\n", "certificate": b"old"}
+    harness.directory(old, os.path.join(where, "out"))
+    line = [harness.program, "run", "--job", "words", "--split", "1048576", "--out", "out", "in"]
+    for pause in (0.05, 0.2, 0.4):
+        with subprocess.Popen(line, cwd=where, stdout=subprocess.PIPE, stderr=subprocess.PIPE) as running:
+            time.sleep(pause)
+            running.send_signal(signal.SIGTERM)
+            out, err = running.communicate(timeout=60)
+        stands = {name: open(os.path.join(where, "out", name), "rb").read() for name in os.listdir(os.path.join(where, "out"))}
+        harness.check(f"ended after {pause} s", stands == old and out == b"" and running.returncode == -signal.SIGTERM, f"{running.returncode} {out} {err} {sorted(stands)}")
+
+
+def progress(harness):
+    """Long work shows one line at a terminal, which is wiped; elsewhere nothing is shown."""
+    rnd = random.Random(6)
+    text = b"\n".join(b" ".join(b"w%d" % rnd.randrange(200_000) for _ in range(8)) for _ in range(700_000))
+    where = harness.directory({"in": text, "script": b"lose 1 after 1\n"})
+    for command, more, phases in [
+        ("seq", [], [b"mapping"]),
+        ("check", [], [b"mapping", b"judging"]),
+        ("run", ["--script", "script", "--split", "262144"], [b"mapping", b"reducing"]),
+    ]:
+        words = [command, "--job", "words", *more, "--out", ".", "in"]
+        status, out, shown = on_terminal(harness, words, where)
+        drawn = re.findall(rb"\r\x1b\[Kmapred: (\w+) (\d+) %(?:, (\d+) workers? lost)?", shown)
+        harness.check(f"{command}: a line of progress", status == 0 and out and drawn and all(phase in [*phases, b"judging", b"reducing"] and int(done) <= 100 for phase, done, _ in drawn), repr((status, out, shown[:300])))
+        harness.check(f"{command}: it is wiped", b"%" not in shown.rsplit(b"\r\x1b[K", 1)[-1], repr(shown[-200:]))
+        got = harness.run(words, cwd=where)
+        harness.check(f"{command}: nothing is shown elsewhere", got[0] == 0 and got[2] == b"", repr(got[2][:200]))
+
+
+def many_tasks(harness):
+    """5,000 map tasks over 64 workers."""
+    text = b"".join((b"w%d x" % (number % 97)).ljust(7, b" ") + b"\n" for number in range(5000))
+    request = Request("words", parts=8, split=8)
+    status, out, err, where = ran(harness, request, [text], b"lose 3 after 20\nzombie 11 after 7\nhold 5\n", ["--workers", "64"], timeout=300)
+    harness.check("5000 map tasks over 64 workers", (status, err) == (0, b"") and out == b"certified: 8 files, 10000 pairs, 0 left out\n", f"{status} {out} {err}")
+    harness.check("... and check says yes", told_by(harness, where, ["in0"], request)[0] == 0)
+    harness.check("... with their parts", len(parts_of(os.path.join(where, "out"))) == 8)
+
+
+GROUPS = {
+    "worked runs of the program": worked_runs,
+    "random runs of the program": random_runs,
+    "faults of a run": faults,
+    "a history named as a part": a_history_named_as_a_part,
+    "a run that is stopped": stopped,
+    "progress at a terminal": progress,
+    "many tasks of the program": many_tasks,
+}
