@@ -1,10 +1,51 @@
 //! A result is made and judged; then one byte of it is changed, and the judge says where.
 use crate::{Handed, Trouble, agreed, input_of, judged, made};
-use mr_check::No;
+use mr_certform::write;
+use mr_check::{No, check_watched};
+use mr_sequential::run_watched;
+use mr_watch::{Phase, Watch};
 use std::alloc::{AllocError, Global};
+use std::sync::atomic::{AtomicU64, Ordering};
 use std::test::Fail;
 
 const BOOK: &[u8] = b"The cat saw the dog.\nThe dog saw nothing.\n";
+
+/// Counts what it is told, and how often more was done than there is in all.
+#[derive(Drop)]
+struct Counting {
+    told: AtomicU64,
+    past: AtomicU64,
+}
+
+impl Counting {
+    fn new() -> Counting {
+        Counting {
+            told: AtomicU64::new(0),
+            past: AtomicU64::new(0),
+        }
+    }
+}
+
+impl Watch for Counting {
+    fn tell(&self, _phase: Phase, done: u64, all: u64) {
+        self.told.fetch_add(1, Ordering::SeqCst);
+        if all < done {
+            self.past.fetch_add(1, Ordering::SeqCst);
+        }
+    }
+
+    fn lost(&self) {}
+}
+
+/// The book is counted and judged while somebody looks on: how many pairs the judge says yes to.
+fn watched(alloc: Global, watch: &Counting) -> Result<u64, Trouble> {
+    let request = agreed()?;
+    let input = input_of(alloc, &request, BOOK)?;
+    let (outputs, certificate) = run_watched(alloc, &request, &input, &[], watch)?;
+    let bytes = write(alloc, &certificate)?;
+    let yes = check_watched(alloc, &request, &input, &outputs, &bytes, watch)?;
+    Ok(yes.pairs)
+}
 
 /// The result of the book, as it was made.
 fn counted(alloc: Global) -> Result<Handed, Trouble> {
@@ -60,5 +101,15 @@ fn a_changed_byte_is_told(rt: HostRuntime) -> Result<(), Fail> {
         }
         _ => assert!(rt; false),
     }
+    Ok(())
+}
+
+/// Mapping, reducing twice, and for the judge mapping and judging.
+#[test]
+fn somebody_looks_on(rt: HostRuntime) -> Result<(), Fail> {
+    let watch = Counting::new();
+    assert!(rt; watched(rt.alloc(), &watch)? == 9);
+    assert!(rt; watch.told.load(Ordering::SeqCst) == 5);
+    assert!(rt; watch.past.load(Ordering::SeqCst) == 0);
     Ok(())
 }
