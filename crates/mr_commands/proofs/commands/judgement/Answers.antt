@@ -6,11 +6,11 @@ use Rattle.mr_commands.proofs.Judged.{told_as_judged}
 use Rattle.mr_commands.proofs.commands.judgement.Goals as goal
 
 pub returns-clause-judged : goal.returns-clause-judged
-returns-clause-judged c =
+returns-clause-judged g c =
     let request = c.args.request.now in
     let files = c.args.input.now in
     let outputs = contents c.args.outputs.now in
     let bytes = c.args.certificate.now in
-    let verdict = c.check-verdict.result in
+    let verdict = c.check_watched-verdict.result in
     IfOk-weaker c.said_of.result (λ said. TellsVerdict verdict (string_bytes said.text) said.status) (λ said. IsJudged request files outputs bytes (string_bytes said.text) said.status)
-    (λ said s. told_as_judged request files outputs bytes verdict (string_bytes said.text) said.status c.check-verdict.ensures.headline c.check-verdict.ensures.no s) c.said_of.ensures.said
+    (λ said s. told_as_judged request files outputs bytes verdict (string_bytes said.text) said.status c.check_watched-verdict.ensures.headline c.check_watched-verdict.ensures.no s) c.said_of.ensures.said
