@@ -2,8 +2,9 @@
 #![tactic(auto)]
 
 mod orders;
+mod progress;
 mod running;
 mod shared;
 mod worker;
 
-pub use running::{Certified, RunFault, run};
+pub use running::{Certified, RunFault, run, run_watched};

@@ -8,6 +8,7 @@ ghost use Rattle.mr_core.specs.Core.{InLimits};
 ghost use Rattle.mr_pool.specs.Outcomes.{IsCertifiedRun, IsRunFault, run_shape};
 
 use crate::orders::{Orders, accounts_for};
+use crate::progress::Progress;
 use crate::shared::Shared;
 use crate::worker::{Left, Worker};
 use mr_book::{Book, History, Seat};
@@ -19,6 +20,7 @@ use mr_input::Input;
 use mr_jobs::Request;
 use mr_script::Script;
 use mr_splits::Plan;
+use mr_watch::{Phase, Unwatched, Watch};
 use std::alloc::{AllocError, Global};
 use std::marker::Brand;
 use std::sync::atomic::AtomicBool;
@@ -108,7 +110,7 @@ fn seats_of<L: Ledger>(alloc: Global, mut left: Vec<Left<L>>) -> Result<Vec<Seat
 }
 
 /// All workers' turns, each in a thread of its own where one can be made. The book, and the seats.
-fn executed<L: Ledger + Send + Sync, G: Gate, R: Threads + Wait + Sync>(
+fn executed<L: Ledger + Send + Sync, G: Gate, W: Watch, R: Threads + Wait + Sync>(
     rt: &R,
     alloc: Global,
     plan: &Plan<'_>,
@@ -116,6 +118,7 @@ fn executed<L: Ledger + Send + Sync, G: Gate, R: Threads + Wait + Sync>(
     book: Book<L>,
     seats: Vec<Seat<L>>,
     gate: &G,
+    watch: &W,
 ) -> Result<(Book<L>, Vec<Seat<L>>), AllocError>
     requires { vec_len seats < 2 ^ 32 }
     ensures { IfOk result (λ r. vec_len r.1 ≡ vec_len seats) }
@@ -131,6 +134,7 @@ fn executed<L: Ledger + Send + Sync, G: Gate, R: Threads + Wait + Sync>(
         parts: terms.request.parts(),
         orders: Orders::of(alloc, terms.script)?,
         gate,
+        progress: Progress::new(watch, terms.shape.maps, terms.shape.parts),
     };
     let every = &shared;
     let left = thread::map_vec(rt, workers, &|worker| worker.work(rt, every))?;
@@ -140,11 +144,12 @@ fn executed<L: Ledger + Send + Sync, G: Gate, R: Threads + Wait + Sync>(
 }
 
 /// The result of a done job is assembled and judged.
-fn assembled<L: Ledger>(
+fn assembled<L: Ledger, W: Watch>(
     alloc: Global,
     terms: Terms<'_>,
     book: Book<L>,
     seats: Vec<Seat<L>>,
+    watch: &W,
 ) -> Result<Certified, RunFault>
     requires fits { split_total terms.request.now.split terms.input.now ≤ 2 ^ 20 }
     requires ends { book.state.end ≡ Some Ended.Done }
@@ -155,6 +160,7 @@ fn assembled<L: Ledger>(
 {
     let (outputs, certificate) = book.assemble(alloc, terms.request, terms.input)?;
     let certificate = write(alloc, &certificate)?;
+    watch.tell(Phase::Judging, 0, 1);
     let judged = check(
         alloc,
         terms.request,
@@ -214,11 +220,12 @@ fn is_opened(shape: Shape, opened: Shape) -> bool
 }
 
 /// What a book that is closed amounts to.
-fn settled<L: Ledger>(
+fn settled<L: Ledger, W: Watch>(
     alloc: Global,
     terms: Terms<'_>,
     book: Book<L>,
     seats: Vec<Seat<L>>,
+    watch: &W,
 ) -> Result<Certified, RunFault>
     requires fits { split_total terms.request.now.split terms.input.now ≤ 2 ^ 20 }
     requires opened { IsOpenedFor terms.request.now terms.input.now terms.shape }
@@ -230,19 +237,20 @@ fn settled<L: Ledger>(
         return Err(RunFault::Uncertified(No::OtherJob, book.close(seats)));
     }
     match ending_by(book.end(), terms.script, terms.shape.workers) {
-        Ending::Done => assembled(alloc, terms, book, seats),
+        Ending::Done => assembled(alloc, terms, book, seats, watch),
         Ending::Failed(fault) => Err(RunFault::Failed(fault, book.close(seats))),
         Ending::Astray => Err(RunFault::Uncertified(No::OtherJob, book.close(seats))),
     }
 }
 
-fn run_in<L: Ledger + Send + Sync, G: Gate, R: Threads + Wait + Sync>(
+fn run_in<L: Ledger + Send + Sync, G: Gate, W: Watch, R: Threads + Wait + Sync>(
     rt: &R,
     alloc: Global,
     blank: Blank,
     plan: &Plan<'_>,
     terms: Terms<'_>,
     gate: &G,
+    watch: &W,
 ) -> Result<Certified, RunFault>
     requires ledger { (blank.name ≡ L.name) × (blank.parts ≡ L.parts) }
     requires parts { blank.parts ≡ terms.shape.workers }
@@ -267,8 +275,8 @@ fn run_in<L: Ledger + Send + Sync, G: Gate, R: Threads + Wait + Sync>(
         limits,
         workers as usize,
     )?;
-    let (book, seats) = executed(rt, alloc, plan, terms, book, seats, gate)?;
-    settled(alloc, terms, book, seats)
+    let (book, seats) = executed(rt, alloc, plan, terms, book, seats, gate, watch)?;
+    settled(alloc, terms, book, seats, watch)
 }
 
 /// Runs the request's job over the input by so many workers, 1 to 64, each in a thread of its own where one can be made;
@@ -283,6 +291,30 @@ pub fn run<G: Gate, R: Threads + Wait + Sync>(
     workers: u32,
     attempts: u32,
     gate: &G,
+) -> Result<Certified, RunFault>
+    requires fits { split_total request.now.split input.now ≤ 2 ^ 20 }
+    requires workers { (1 ≤ workers) × (workers ≤ 64) }
+    requires attempts { (1 ≤ attempts) × (attempts ≤ 16) }
+    ensures certified { IfOk result (IsCertifiedRun request.now input.now (run_shape request.now input.now workers attempts)) }
+    ensures fault { IfErr result (IsRunFault request.now input.now script.now (run_shape request.now input.now workers attempts)) }
+{
+    run_watched(
+        rt, alloc, request, input, script, workers, attempts, gate, &Unwatched,
+    )
+}
+
+/// Runs a job as `run` does, and tells who looks on: how many outputs of map tasks the book has accepted, and of reduce
+/// tasks, each worker that is lost, and that the result is judged. It is told by several threads at once, and waited for.
+pub fn run_watched<G: Gate, R: Threads + Wait + Sync>(
+    rt: &R,
+    alloc: Global,
+    request: &Request,
+    input: &Input,
+    script: &Script,
+    workers: u32,
+    attempts: u32,
+    gate: &G,
+    watch: &dyn Watch,
 ) -> Result<Certified, RunFault>
     requires fits { split_total request.now.split input.now ≤ 2 ^ 20 }
     requires workers { (1 ≤ workers) × (workers ≤ 64) }
@@ -306,5 +338,13 @@ pub fn run<G: Gate, R: Threads + Wait + Sync>(
         script,
         shape,
     };
-    run_in::<Brand, G, R>(rt, alloc, Blank::new(workers as u64), &plan, terms, gate)
+    run_in::<Brand, G, &dyn Watch, R>(
+        rt,
+        alloc,
+        Blank::new(workers as u64),
+        &plan,
+        terms,
+        gate,
+        &watch,
+    )
 }

@@ -1,11 +1,13 @@
 //! What the workers of a run share: the book under its lock, and all that they only read.
 use crate::orders::Orders;
+use crate::progress::Progress;
 use mr_book::{Book, Seat};
 use mr_bytes::Gate;
 use mr_core::{Reply, Task};
 use mr_jobs::Job;
 use mr_splits::Plan;
 use mr_task::{MapOutput, ReduceOutput};
+use mr_watch::Watch;
 use std::alloc::{AllocError, Global};
 use std::sync::atomic::{AtomicBool, Ordering};
 use std::sync::ledger::Ledger;
@@ -18,7 +20,7 @@ const LOOKS: u32 = 1_000;
 /// The book under its lock, which is held for one call of it and for nothing else; `news` wakes those who wait for a
 /// task. `stopped` is set once a worker can't go on.
 #[derive(Drop)]
-pub(crate) struct Shared<'a, L: Ledger, G: Gate> {
+pub(crate) struct Shared<'a, L: Ledger, G: Gate, W: Watch> {
     pub alloc: Global,
     pub book: Mutex<Book<L>>,
     pub news: Condvar,
@@ -28,9 +30,10 @@ pub(crate) struct Shared<'a, L: Ledger, G: Gate> {
     pub parts: u32,
     pub orders: Orders<'a>,
     pub gate: &'a G,
+    pub progress: Progress<'a, W>,
 }
 
-impl<'a, L: Ledger, G: Gate> Shared<'a, L, G> {
+impl<'a, L: Ledger, G: Gate, W: Watch> Shared<'a, L, G, W> {
     /// Whether the workers end after their present turn.
     pub(crate) fn is_stopped(&self) -> bool {
         self.stopped.load(Ordering::SeqCst)
@@ -89,10 +92,10 @@ impl<'a, L: Ledger, G: Gate> Shared<'a, L, G> {
     ) -> Result<(), AllocError> {
         let told = self.book.lock(rt).map_done(seat, attempt, output);
         self.news.notify_all();
-        match told {
-            Ok(_) => Ok(()),
-            Err(_) => Err(AllocError),
+        if matches!(told?, Reply::Accepted) {
+            self.progress.mapped();
         }
+        Ok(())
     }
 
     /// A map attempt failed on a record.
@@ -119,10 +122,10 @@ impl<'a, L: Ledger, G: Gate> Shared<'a, L, G> {
     ) -> Result<(), AllocError> {
         let told = self.book.lock(rt).reduce_done(seat, attempt, output);
         self.news.notify_all();
-        match told {
-            Ok(_) => Ok(()),
-            Err(_) => Err(AllocError),
+        if matches!(told?, Reply::Accepted) {
+            self.progress.reduced();
         }
+        Ok(())
     }
 
     /// A worker is lost.
@@ -134,7 +137,9 @@ impl<'a, L: Ledger, G: Gate> Shared<'a, L, G> {
     ) -> Result<(), AllocError> {
         let told = self.book.lock(rt).lose(seat, worker);
         self.news.notify_all();
-        told?;
+        if matches!(told?, Reply::Accepted) {
+            self.progress.lost();
+        }
         Ok(())
     }
 

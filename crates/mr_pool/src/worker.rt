@@ -9,6 +9,7 @@ use mr_core::{Reply, Skips, Task};
 use mr_script::Directive;
 use mr_spill::Pairs;
 use mr_task::{MapOutput, TaskFault, map_task, reduce_task};
+use mr_watch::Watch;
 use std::alloc::{AllocError, Global};
 use std::sync::ledger::Ledger;
 use std::sync::{Arc, Wait};
@@ -69,10 +70,10 @@ fn regions_of<'o>(
 
 impl<L: Ledger> Worker<L> {
     /// What is ordered just before the worker's next report, in the order of the lines.
-    fn before_report<R: Wait, G: Gate>(
+    fn before_report<R: Wait, G: Gate, W: Watch>(
         &mut self,
         rt: &R,
-        shared: &Shared<'_, L, G>,
+        shared: &Shared<'_, L, G, W>,
         task: Task,
     ) -> Result<(), AllocError> {
         for directive in shared.orders.directives() {
@@ -91,10 +92,10 @@ impl<L: Ledger> Worker<L> {
     }
 
     /// Executes a map task, and reports.
-    fn map<R: Wait, G: Gate>(
+    fn map<R: Wait, G: Gate, W: Watch>(
         &mut self,
         rt: &R,
-        shared: &Shared<'_, L, G>,
+        shared: &Shared<'_, L, G, W>,
         attempt: u32,
         split: u32,
         skips: &Skips,
@@ -123,10 +124,10 @@ impl<L: Ledger> Worker<L> {
     }
 
     /// The outputs of all splits, or none where one of them is gone.
-    fn fetch_all<R: Wait, G: Gate>(
+    fn fetch_all<R: Wait, G: Gate, W: Watch>(
         &mut self,
         rt: &R,
-        shared: &Shared<'_, L, G>,
+        shared: &Shared<'_, L, G, W>,
         attempt: u32,
     ) -> Result<Option<Vec<Arc<MapOutput>>>, AllocError> {
         let mut outputs = Vec::new(shared.alloc);
@@ -140,10 +141,10 @@ impl<L: Ledger> Worker<L> {
     }
 
     /// Executes a reduce task, and reports; where an output that it needs is gone it makes no report.
-    fn reduce<R: Wait, G: Gate>(
+    fn reduce<R: Wait, G: Gate, W: Watch>(
         &mut self,
         rt: &R,
-        shared: &Shared<'_, L, G>,
+        shared: &Shared<'_, L, G, W>,
         attempt: u32,
         partition: u32,
     ) -> Result<(), Halt> {
@@ -169,10 +170,10 @@ impl<L: Ledger> Worker<L> {
     }
 
     /// An attempt, between entering the gate and leaving it.
-    fn attempt<R: Wait, G: Gate>(
+    fn attempt<R: Wait, G: Gate, W: Watch>(
         &mut self,
         rt: &R,
-        shared: &Shared<'_, L, G>,
+        shared: &Shared<'_, L, G, W>,
         reply: &Reply,
     ) -> Result<Next, Halt> {
         let (attempt, done) = match reply {
@@ -197,7 +198,11 @@ impl<L: Ledger> Worker<L> {
     }
 
     /// One turn: the worker is lost where that is due; else it asks, and does what it is told.
-    fn turn<R: Wait, G: Gate>(&mut self, rt: &R, shared: &Shared<'_, L, G>) -> Result<Next, Halt> {
+    fn turn<R: Wait, G: Gate, W: Watch>(
+        &mut self,
+        rt: &R,
+        shared: &Shared<'_, L, G, W>,
+    ) -> Result<Next, Halt> {
         if shared.orders.loses(self.number, self.reports) {
             shared.lose(rt, &mut self.seat, self.number)?;
             return Ok(Next::End);
@@ -207,7 +212,11 @@ impl<L: Ledger> Worker<L> {
     }
 
     /// Turn after turn, until it is dismissed, or a worker can't go on.
-    pub(crate) fn work<R: Wait, G: Gate>(mut self, rt: &R, shared: &Shared<'_, L, G>) -> Left<L> {
+    pub(crate) fn work<R: Wait, G: Gate, W: Watch>(
+        mut self,
+        rt: &R,
+        shared: &Shared<'_, L, G, W>,
+    ) -> Left<L> {
         let mut refused = false;
         for _ in rt.forever() {
             match self.turn(rt, shared) {

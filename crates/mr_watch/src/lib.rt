@@ -30,3 +30,14 @@ impl Watch for Unwatched {
 
     fn lost(&self) {}
 }
+
+/// Who is told through a reference is who it refers to.
+impl<'a> Watch for &'a dyn Watch {
+    fn tell(&self, phase: Phase, done: u64, all: u64) {
+        (**self).tell(phase, done, all);
+    }
+
+    fn lost(&self) {
+        (**self).lost();
+    }
+}
