@@ -27,7 +27,7 @@ __attribute__((constructor)) static void choose(void) {
 }
 
 static int fails(const char *what) {
-    if (strcmp(kind, what) || ++seen != at)
+    if (strcmp(kind, what) || __atomic_add_fetch(&seen, 1, __ATOMIC_SEQ_CST) != at)
         return 0;
     const char *mark = getenv("FAIL_MARK");
     if (mark)

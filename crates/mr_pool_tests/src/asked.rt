@@ -1,0 +1,91 @@
+//! What the program is asked to run.
+use mr_input::Input;
+use mr_jobs::{Job, Request};
+use mr_script::Script;
+use std::alloc::{AllocError, Global};
+
+/// A run that is asked for.
+#[derive(Drop)]
+pub struct Order {
+    pub request: Request,
+    pub input: Input,
+    pub script: Script,
+    pub workers: u32,
+    pub attempts: u32,
+}
+
+/// The number at a place; 0 where there is none.
+fn number_at(words: &[String], place: usize) -> u32 {
+    match words.get(place) {
+        Some(word) => word.as_str().parse().unwrap_or(0),
+        None => 0,
+    }
+}
+
+/// The job of a word: what is no name of a job is the literal of a search.
+fn job_of(alloc: Global, word: &str) -> Option<Job> {
+    match word {
+        "words" => Some(Job::words(false)),
+        "keep" => Some(Job::words(true)),
+        "url" => Some(Job::url()),
+        literal => Job::grep(alloc, literal.as_bytes(), true).ok(),
+    }
+}
+
+/// The first bytes of a text, as many as there are of so many, and what is behind them.
+fn cut(text: &[u8], length: u32) -> (&[u8], &[u8]) {
+    text.split_at(text.len().min(length as usize))
+}
+
+/// The script and the files, by their lengths.
+fn texts_of(
+    alloc: Global,
+    words: &[String],
+    text: &[u8],
+) -> Result<Option<(Script, Input)>, AllocError> {
+    let (script, mut rest) = cut(text, number_at(words, 0));
+    let Ok(script) = Script::read(alloc, script) else {
+        return Ok(None);
+    };
+    let mut files = Vec::new(alloc);
+    for place in 1..words.len() {
+        let (file, behind) = cut(rest, number_at(words, place));
+        files.push(Vec::from_slice(alloc, file)?)?;
+        rest = behind;
+    }
+    let Ok(input) = Input::of(files) else {
+        return Ok(None);
+    };
+    Ok(Some((script, input)))
+}
+
+/// The run that the words ask for, if they ask for one.
+pub fn order_of(alloc: Global, words: &[String], text: &[u8]) -> Result<Option<Order>, AllocError> {
+    let Some(name) = words.first() else {
+        return Ok(None);
+    };
+    let Some(job) = job_of(alloc, name.as_str()) else {
+        return Ok(None);
+    };
+    let (parts, split, skips) = (
+        number_at(words, 1),
+        number_at(words, 2),
+        number_at(words, 3),
+    );
+    let Ok(request) = Request::new(job, parts, split, skips) else {
+        return Ok(None);
+    };
+    let Some(lengths) = words.get(6..) else {
+        return Ok(None);
+    };
+    let Some((script, input)) = texts_of(alloc, lengths, text)? else {
+        return Ok(None);
+    };
+    Ok(Some(Order {
+        request,
+        input,
+        script,
+        workers: number_at(words, 4),
+        attempts: number_at(words, 5),
+    }))
+}

@@ -1,0 +1,61 @@
+//! What a run answers, line by line.
+use mr_book::History;
+use mr_pool::{Certified, RunFault};
+use std::fmt::Write;
+use std::io;
+
+/// A line of bytes, each as two digits.
+fn show_bytes(rt: &HostRuntime, what: &str, bytes: &[u8]) -> io::Result<()> {
+    let mut line = String::new(rt.alloc());
+    for byte in bytes {
+        write!(line, "{byte:02x}")?;
+    }
+    println!(rt; "{what} {line}")
+}
+
+/// How many events there were, and each with its reply where that is asked for.
+fn show_history(rt: &HostRuntime, history: &History, has_events: bool) -> io::Result<()> {
+    println!(rt; "events {}", history.entries.len())?;
+    if has_events {
+        for entry in &history.entries {
+            println!(rt; "{:?}: {:?}", entry.event(), entry.reply())?;
+        }
+    }
+    Ok(())
+}
+
+fn show_certified(rt: &HostRuntime, certified: &Certified) -> io::Result<()> {
+    println!(rt; "certified {} pairs", certified.pairs)?;
+    for output in &certified.outputs {
+        show_bytes(rt, "file", output.as_slice())?;
+    }
+    show_bytes(rt, "certificate", certified.certificate.as_slice())?;
+    for skip in &certified.skips {
+        println!(rt; "skip {} {}", skip.split, skip.rec)?;
+    }
+    Ok(())
+}
+
+/// Tells the answer of a run, or that there was none.
+pub fn answer(
+    rt: &HostRuntime,
+    done: &Option<Result<Certified, RunFault>>,
+    has_events: bool,
+) -> io::Result<()> {
+    match done {
+        Some(Ok(certified)) => {
+            show_certified(rt, certified)?;
+            show_history(rt, &certified.history, has_events)
+        }
+        Some(Err(RunFault::Failed(fault, history))) => {
+            println!(rt; "failed {fault}")?;
+            show_history(rt, history, has_events)
+        }
+        Some(Err(RunFault::Uncertified(no, history))) => {
+            println!(rt; "uncertified {no}")?;
+            show_history(rt, history, has_events)
+        }
+        Some(Err(RunFault::OutOfMemory)) => println!(rt; "out of memory"),
+        None => println!(rt; "out of limits"),
+    }
+}

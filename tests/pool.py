@@ -1,0 +1,283 @@
+"""The pool: worked runs under scripts, random ones against the rules, and what threads and memory may do to it.
+
+The library `mr_pool` is reached through the small program `mr_pool_tests`, which the gate leaves beside the checked one: it
+runs a job as its arguments say, over a script and files that stand on standard input, and tells the answer line by line."""
+import os
+import random
+import resource
+import subprocess
+from concurrent.futures import ThreadPoolExecutor
+
+from failing import shim
+from plain import Request, produced
+from scripts import Allowed, drawn, misstep, written
+
+TOP = os.path.dirname(os.path.dirname(os.path.abspath(__file__)))
+PROGRAM = os.path.join(TOP, "crates", "mr_pool_tests", "out", "mr_pool_tests")
+SECONDS = 120
+
+
+class Answer:
+    """What the program told of a run."""
+
+    def __init__(self, text, status=0, is_late=False):
+        self.status, self.is_late, self.lines = status, is_late, text.splitlines()
+        words = (self.lines or [""])[0].split(" ", 1)
+        self.kind, self.fault = words[0], words[1] if len(words) > 1 else ""
+        of = lambda what: [line[len(what) + 1 :] for line in self.lines if line.startswith(what + " ")]
+        self.outputs = [bytes.fromhex(digits) for digits in of("file")]
+        self.certificate = bytes.fromhex("".join(of("certificate")))
+        self.skips = [tuple(map(int, skip.split())) for skip in of("skip")]
+        self.count = int((of("events") or ["-1"])[0])
+        self.events = [tuple(line.split(": ", 1)) for line in self.lines if ")" in line.split(": ", 1)[0] and ": " in line]
+        self.told = of("told")
+        self.gate = (of("gate") or [""])[0]
+
+    def short(self):
+        return (self.kind, self.fault) if self.kind != "certified" else (self.kind, self.outputs, self.skips)
+
+    def __repr__(self):
+        return "too late" if self.is_late else f"status {self.status}: " + " | ".join(self.lines)[:1500]
+
+
+def job_word(request):
+    return request.literal.decode() if request.job == "grep" else "keep" if request.keep else request.job
+
+
+def ran(request, files, script=b"", workers=4, attempts=8, mode="history", limit=None, **environment):
+    """The answer of a run; grep folds."""
+    sizes = [request.parts, request.split, request.most, workers, attempts, len(script), *map(len, files)]
+    words = [PROGRAM, mode, job_word(request), *map(str, sizes)]
+    try:
+        done = subprocess.run(words, input=script + b"".join(files), capture_output=True, timeout=SECONDS, preexec_fn=limit, env={**os.environ, **environment})
+    except subprocess.TimeoutExpired:
+        return Answer("", is_late=True)
+    return Answer(done.stdout.decode(), done.returncode)
+
+
+TWO_PARTS, ONE_PART = Request("words", parts=2, split=64), Request("words", split=64)
+CATS, LETTERS = [b"the cat the dog\n"], [b"a b\nc\n"]
+CATS_DONE = "certified", [b"the\t2\n", b"cat\t1\ndog\t1\n"], []
+LETTERS_DONE = "certified", [b"a\t1\nb\t1\nc\t1\n"], []
+
+# Worked by hand: request, files, script, workers, attempts, and the answer.
+ROWS = [
+    (TWO_PARTS, CATS, "", 1, 8, CATS_DONE),
+    (TWO_PARTS, CATS, "lose 0 after 2\n", 4, 8, CATS_DONE),
+    (TWO_PARTS, CATS, "hold 0\n", 2, 8, CATS_DONE),
+    (TWO_PARTS, CATS, "bad 0 0\n", 4, 8, ("failed", "TooManySkips")),
+    (TWO_PARTS, CATS, "lose 0 after 1\n", 1, 8, ("failed", "NoWorkers")),
+    (TWO_PARTS, CATS, "lose 0 after 0\n", 1, 8, ("failed", "NoWorkers")),
+    (TWO_PARTS, CATS, "spoil 0 0\n", 4, 8, ("uncertified", "OutputDiffers partition 0 at 0")),
+    (TWO_PARTS, CATS, "spoil 1 7\nspoil 1 2\n", 4, 8, ("uncertified", "OutputDiffers partition 1 at 2")),
+    (TWO_PARTS, CATS, "spoil 0 0\nspoil 0 0\n", 4, 8, CATS_DONE),
+    (TWO_PARTS, CATS, "spoil 0 6\nspoil 2 0\n", 4, 8, CATS_DONE),
+    (TWO_PARTS, [], "", 4, 8, ("certified", [b"", b""], [])),
+    (ONE_PART, LETTERS, "flaky 0 0 1\n", 1, 8, LETTERS_DONE),
+    (ONE_PART, LETTERS, "flaky 0 0 2\n", 1, 8, ("failed", "TooManySkips")),
+    (ONE_PART, LETTERS, "flaky 0 0 1\n", 1, 1, ("failed", "TooManyAttempts")),
+    (ONE_PART, LETTERS, "zombie 0 after 0\n", 1, 8, ("failed", "NoWorkers")),
+    (ONE_PART, LETTERS, "bad 7 7\n", 1, 8, LETTERS_DONE),
+    (ONE_PART, LETTERS, "bad 0 2\nlose 1 after 0\nhold 9\n", 1, 8, LETTERS_DONE),
+    (Request("words", split=64, most=1), LETTERS, "bad 0 0\n", 1, 8, ("certified", [b"c\t1\n"], [(0, 0)])),
+    (Request("words", split=64, most=1), LETTERS, "bad 0 0\nbad 0 1\n", 1, 8, ("failed", "TooManySkips")),
+    (Request("words", split=64, most=2), LETTERS, "bad 0 1\nbad 0 0\n", 1, 8, ("certified", [b""], [(0, 0), (0, 1)])),
+]
+
+
+def worked_runs(harness):
+    for request, files, script, workers, attempts, wanted in ROWS:
+        answer = ran(request, files, script.encode(), workers, attempts)
+        harness.check(f"{script!r}, {workers} workers", answer.short() == wanted and answer.status == 0, repr(answer))
+    answer = ran(TWO_PARTS, CATS, workers=1)
+    harness.check("one worker makes nine events", answer.count == 9 == len(answer.events), repr(answer))
+    answer = ran(Request("words", split=64, most=1), LETTERS, b"bad 0 0\n", 1)
+    names = produced(Request("words", split=64), LETTERS, [(0, 0)])[1].bytes()
+    harness.check("a certificate with a left-out record", answer.certificate == names and len(names) == 72, repr(answer))
+
+
+# Of one worker each event is determined, but for which of several tasks is given.
+MAP = "Map {{ attempt: {}, split: 0, skips: Skips {{ items: [{}] }} }}"
+REDUCE = "Reduce {{ attempt: {}, partition: 0 }}"
+HISTORIES = {
+    "lose 0 after 1\n": [("Ask(0)", MAP.format(0, "")), ("MapDone(0, 1)", "Accepted"), ("Lose(0)", "Accepted")],
+    "zombie 0 after 0\nhold 0\n": [("Ask(0)", MAP.format(0, "")), ("Lose(0)", "Accepted"), ("MapDone(0, 2)", "Ignored"), ("Ask(0)", "Stop(Failed(NoWorkers))")],
+    "zombie 0 after 1\n": [
+        ("Ask(0)", MAP.format(0, "")),
+        ("MapDone(0, 1)", "Accepted"),
+        ("Ask(0)", REDUCE.format(1)),
+        ("Fetch(1, 0)", "Region { output: 1 }"),
+        ("Lose(0)", "Accepted"),
+        ("ReduceDone(1, 5)", "Ignored"),
+        ("Ask(0)", "Stop(Failed(NoWorkers))"),
+    ],
+    "flaky 0 1 1\nflaky 0 0 1\n": [
+        ("Ask(0)", MAP.format(0, "")),
+        ("MapFailed(0, 0)", "Accepted"),
+        ("Ask(0)", MAP.format(1, "")),
+        ("MapFailed(1, 1)", "Accepted"),
+        ("Ask(0)", MAP.format(2, "")),
+        ("MapDone(2, 5)", "Accepted"),
+        ("Ask(0)", REDUCE.format(3)),
+        ("Fetch(3, 0)", "Region { output: 5 }"),
+        ("ReduceDone(3, 8)", "Accepted"),
+        ("Ask(0)", "Stop(Done)"),
+    ],
+    "bad 0 1\n": [
+        ("Ask(0)", MAP.format(0, "")),
+        ("MapFailed(0, 1)", "Accepted"),
+        ("Ask(0)", MAP.format(1, "")),
+        ("MapFailed(1, 1)", "Accepted"),
+        ("Ask(0)", MAP.format(2, "1")),
+        ("MapDone(2, 5)", "Accepted"),
+        ("Ask(0)", REDUCE.format(3)),
+        ("Fetch(3, 0)", "Region { output: 5 }"),
+        ("ReduceDone(3, 8)", "Accepted"),
+        ("Ask(0)", "Stop(Done)"),
+    ],
+}
+
+
+def worked_histories(harness):
+    for script, wanted in HISTORIES.items():
+        answer = ran(Request("words", split=64, most=1), LETTERS, script.encode(), 1)
+        harness.check(f"the history under {script!r}", answer.events == wanted, repr(answer))
+
+
+def a_gate(harness):
+    """The first attempt that enters is held until another has left: so more than one worker is at work."""
+    for workers in (2, 4, 64):
+        answer = ran(TWO_PARTS, CATS, workers=workers, mode="gate")
+        harness.check(f"of {workers} workers one goes on while another is held", answer.gate == "passed" and answer.short() == CATS_DONE, repr(answer))
+    answer = ran(TWO_PARTS, CATS, workers=1, mode="gate")
+    harness.check("one worker can't", answer.gate == "failed" and answer.short() == CATS_DONE, repr(answer))
+
+
+def who_looks_on(harness):
+    request, files = Request("words", parts=2, split=2), [b"a\nb\nc\nd\n"]
+    whole = ["Mapping 4 times, 4 of 4", "Reducing 2 times, 2 of 2", "Judging 1 times, 0 of 1"]
+    answer = ran(request, files, workers=1, mode="watch")
+    harness.check("who looks on is told each task that is done, and the judgement", answer.told == [*whole, "0 lost"], repr(answer))
+    answer = ran(request, files, b"lose 0 after 4\n", 1, mode="watch")
+    harness.check("who looks on at a lost worker", answer.told == [whole[0], "Reducing 0 times, 0 of 0", "Judging 0 times, 0 of 0", "1 lost"], repr(answer))
+    # workers that come late are lost behind the job's end, which is no event
+    answer = ran(request, files, b"lose 1 after 0\nlose 2 after 0\nlose 1 after 0\n", 4, mode="watch")
+    harness.check("who looks on at several workers", answer.told in [[*whole, f"{lost} lost"] for lost in range(3)], repr(answer))
+    answer = ran(request, files, b"lose 0 after 1\nlose 1 after 1\n", 3, mode="watch")
+    times, most = (answer.told[0].split()[1], answer.told[0].split(", ")[1]) if answer.told else ("0", "")
+    harness.check("what is mapped again is never told as more than all", int(times) >= 4 and most == "4 of 4", repr(answer))
+
+
+def many_tasks(harness):
+    """5,000 map tasks over 64 workers."""
+    lines = [b"w%d x\n" % (number % 97) for number in range(5000)]
+    files, size = [b"".join(line.ljust(8, b" ")[:7] + b"\n" for line in lines)], 8
+    request = Request("words", parts=8, split=size)
+    outputs, certificate, pairs = produced(request, files)
+    for script in (b"", b"lose 3 after 20\nlose 9 after 0\nzombie 11 after 7\nhold 5\nflaky 17 0 1\n"):
+        answer = ran(request, files, script, 64, mode="brief")
+        same = answer.outputs == outputs and answer.certificate == certificate.bytes()
+        harness.check(f"5000 map tasks over 64 workers under {script!r}", same and answer.fault == f"{pairs} pairs", repr(answer)[:300])
+
+
+def random_run(start):
+    """A run that a number draws: its words, and why the answer doesn't fit, if it doesn't."""
+    rnd = random.Random(start)
+    job = rnd.choice(["words", "words", "grep", "url"])
+    literal = b"aB" if job == "grep" else b""
+    request = Request(job, rnd.randint(1, 4), rnd.choice([3, 8, 20, 1000]), job == "words" and rnd.random() < 0.3, literal, job == "grep", rnd.choice([0, 1, 2, 5]))
+    line = lambda: rnd.choice([b"a Ab c", b"AB", b"", b"xaby the x", b'h "GET /%d x" 1' % rnd.randint(0, 3), b"b b"])
+    files = [b"\n".join(line() for _ in range(rnd.randint(0, 9))) + rnd.choice([b"", b"\n"]) for _ in range(rnd.randint(0, 3))]
+    splits = sum((len(data) + request.split - 1) // request.split for data in files)
+    workers, attempts = rnd.choice([1, 2, 4, 16, 64]), rnd.choice([1, 2, 4, 8, 16])
+    lines = drawn(rnd, min(splits, 6), min(workers, 6), request.parts)
+    answer = ran(request, files, written(lines), workers, attempts)
+    return (start, lines, workers, attempts), answer, Allowed(request, files, lines, workers, attempts)
+
+
+def misfit(answer, allowed):
+    """Why an answer doesn't fit, None where it does."""
+    if answer.is_late or answer.status != 0:
+        return "no answer"
+    fits = {
+        "certified": lambda: allowed.certified(answer.outputs, answer.certificate, answer.skips, int(answer.fault.split()[0])),
+        "failed": lambda: allowed.failed(answer.fault),
+        "uncertified": lambda: allowed.uncertified(answer.fault),
+    }.get(answer.kind, lambda: False)
+    if not fits():
+        return "another answer than may be"
+    if answer.count != len(answer.events):
+        return "another number of events"
+    wrong = misstep(allowed.lines, answer.events)
+    return None if wrong is None else f"the script orders no {wrong}"
+
+
+def random_runs(harness, first=20260, runs=400):
+    """Random jobs and scripts: each answer is one that the rules allow, and each history does what its script orders."""
+    print(f"random runs {first} to {first + runs - 1}")
+    seen = {}
+    with ThreadPoolExecutor(4) as pool:
+        for words, answer, allowed in pool.map(random_run, range(first, first + runs)):
+            wrong = misfit(answer, allowed)
+            harness.check(f"run {words}", wrong is None, f"{wrong}: {answer!r}")
+            kind = answer.kind if answer.kind != "failed" else answer.fault
+            for what in [kind, *(["a record left out"] if answer.skips else [])]:
+                seen[what] = seen.get(what, 0) + 1
+    for what in ("certified", "uncertified", "NoWorkers", "TooManySkips", "TooManyAttempts", "a record left out"):
+        harness.check(f"{what} comes in some random run", seen.get(what, 0) > 0, repr(seen))
+
+
+def each_allocation(harness):
+    """Each allocation fails in turn, of one worker and of several: the answer is that, or what it is without."""
+    library = shim(harness)
+    if library is None:
+        return
+    request, script, refused = Request("words", parts=2, split=4, most=1), b"bad 0 0\nhold 0\nlose 2 after 1\nspoil 0 900\n", set()
+    for workers in (1, 4):
+        whole, number, marked = ran(request, LETTERS, script, workers, mode="brief"), 0, True
+        while marked:
+            number += 1
+            mark = os.path.join(harness.room, f"pool-{workers}-{number}.mark")
+            answer = ran(request, LETTERS, script, workers, mode="brief", LD_PRELOAD=library, FAIL=f"malloc {number}", FAIL_MARK=mark)
+            marked = os.path.exists(mark)
+            # the program itself ends with status 1 where it is refused memory while it reads or tells
+            is_own = answer.status == 1 and answer.lines == whole.lines[: len(answer.lines)] or answer.kind == "refused"
+            refused |= {answer.kind}
+            fits = not answer.is_late and (marked and (answer.kind == "out" or is_own) or answer.short() == whole.short())
+            harness.check(f"allocation {number} of {workers} workers fails", fits, repr(answer))
+        harness.check(f"{workers} workers take memory", number > 50, str(number))
+    harness.check("a run is refused memory", "out" in refused, repr(refused))
+
+
+def no_threads(harness):
+    """Where the machine can't make all threads, those that there are do the work."""
+    room = lambda: resource.setrlimit(resource.RLIMIT_AS, (96 << 20, 96 << 20))
+    for workers in (2, 16, 64):
+        for script in (b"", b"lose 1 after 0\nhold 0\nflaky 0 0 1\n"):
+            answer = ran(TWO_PARTS, CATS, script, workers, limit=room)
+            harness.check(f"{workers} workers with little memory under {script!r}", answer.short() == CATS_DONE or answer.kind == "out", repr(answer))
+
+
+def built(group):
+    """The group, where the program is there."""
+
+    def checked(harness):
+        if os.path.exists(PROGRAM):
+            group(harness)
+        else:
+            harness.check("crates/mr_pool_tests is built (by ./test, or by `rt run` there)", False)
+
+    return checked
+
+
+ALL = {
+    "worked runs": worked_runs,
+    "worked histories of runs": worked_histories,
+    "a gate that holds a worker": a_gate,
+    "who looks on at a run": who_looks_on,
+    "many tasks": many_tasks,
+    "random runs": random_runs,
+    "each allocation of a run": each_allocation,
+    "runs without threads": no_threads,
+}
+GROUPS = {name: built(group) for name, group in ALL.items()}
