@@ -7,6 +7,7 @@ use crate::progress::ProgressLine;
 use mr_commands::{Fault, Said, Subcommand};
 use mr_files::{Look, Store};
 use mr_hints::{NOT_UTF8, fault_hint, notes, shown, verdict_hint};
+use mr_watch::Watch;
 use std::alloc::{AllocError, Global};
 use std::io::Write;
 use std::sync::Wait;
@@ -100,14 +101,15 @@ fn tell<F: Store + Look, O: Write, E: Write>(
 
 /// Answers the words, of which the first is the program's name, as for a program, with notes before the answer and a
 /// hint behind it, and a line of progress in between; gives the exit status.
-pub fn tell_person<F: Store + Look, R: Threads + Wait + Clock + Sync, O: Write, E: Write>(
+pub fn tell_person<F: Store + Look, R: Threads + Wait + Sync, C: Clock, O: Write, E: Write>(
     rt: &R,
     files: &mut F,
     alloc: Global,
     words: Result<Vec<String>, Failure>,
     out: &mut O,
     err: &mut E,
-    progress: &ProgressLine<'_, R>,
+    watch: &dyn Watch,
+    progress: &ProgressLine<C>,
 ) -> u8 {
     let words = match words {
         Ok(words) => words,
@@ -117,7 +119,7 @@ pub fn tell_person<F: Store + Look, R: Threads + Wait + Clock + Sync, O: Write, 
     if let Some(asked) = &asked {
         show_notes(files, alloc, asked, err);
     }
-    let answered = answer(rt, files, alloc, words.as_slice(), progress);
+    let answered = answer(rt, files, alloc, words.as_slice(), watch);
     progress.wipe();
     tell(files, alloc, &asked, answered, out, err)
 }

@@ -16,8 +16,8 @@ const WIPE: &str = "\r\x1b[K";
 /// A line of progress. It holds the time from which it may be drawn again, in milliseconds of the clock, how many workers
 /// were lost, and whether it stands at the terminal.
 #[derive(Drop)]
-pub struct ProgressLine<'a, C: Clock> {
-    clock: &'a C,
+pub struct ProgressLine<C: Clock> {
+    clock: C,
     alloc: Global,
     err: Stderr,
     next: AtomicU64,
@@ -28,7 +28,11 @@ pub struct ProgressLine<'a, C: Clock> {
 /// Milliseconds of a clock; none where it can't be read.
 fn now<C: Clock>(clock: &C) -> Option<u64> {
     let time = clock.monotonic().ok()?;
-    Some(time.as_secs().saturating_mul(1000).saturating_add(time.subsec_millis() as u64))
+    Some(
+        time.as_secs()
+            .saturating_mul(1000)
+            .saturating_add(time.subsec_millis() as u64),
+    )
 }
 
 /// The word for a phase.
@@ -42,7 +46,11 @@ fn word(phase: Phase) -> &'static str {
 
 /// How many hundredths are done.
 fn share(done: u64, all: u64) -> u64 {
-    if all == 0 { 0 } else { done.min(all).saturating_mul(100) / all }
+    if all == 0 {
+        0
+    } else {
+        done.min(all).saturating_mul(100) / all
+    }
 }
 
 /// The text of the line.
@@ -55,10 +63,10 @@ fn line(alloc: Global, phase: Phase, share: u64, lost: u64) -> Result<String, Al
     }
 }
 
-impl<'a, C: Clock> ProgressLine<'a, C> {
+impl<C: Clock> ProgressLine<C> {
     /// Nothing is drawn yet.
-    pub fn new(clock: &'a C, alloc: Global, err: Stderr) -> ProgressLine<'a, C> {
-        let next = now(clock).unwrap_or(u64::MAX);
+    pub fn new(clock: C, alloc: Global, err: Stderr) -> ProgressLine<C> {
+        let next = now(&clock).unwrap_or(u64::MAX);
         ProgressLine {
             clock,
             alloc,
@@ -71,12 +79,16 @@ impl<'a, C: Clock> ProgressLine<'a, C> {
 
     /// Whether this call may draw: no other may until the pause is over.
     fn is_due(&self) -> bool {
-        let Some(now) = now(self.clock) else {
+        let Some(now) = now(&self.clock) else {
             return false;
         };
         let next = self.next.load(Ordering::SeqCst);
         let after = now.saturating_add(PAUSE);
-        next <= now && self.next.compare_exchange(next, after, Ordering::SeqCst, Ordering::SeqCst).is_ok()
+        next <= now
+            && self
+                .next
+                .compare_exchange(next, after, Ordering::SeqCst, Ordering::SeqCst)
+                .is_ok()
     }
 
     /// Wipes the line, where it stands.
@@ -88,7 +100,7 @@ impl<'a, C: Clock> ProgressLine<'a, C> {
     }
 }
 
-impl<'a, C: Clock + Sync> Watch for ProgressLine<'a, C> {
+impl<C: Clock + Sync> Watch for ProgressLine<C> {
     fn tell(&self, phase: Phase, done: u64, all: u64) {
         if !self.is_due() {
             return;
