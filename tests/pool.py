@@ -180,8 +180,8 @@ def many_tasks(harness):
         harness.check(f"5000 map tasks over 64 workers under {script!r}", same and answer.fault == f"{pairs} pairs", repr(answer)[:300])
 
 
-def random_run(start):
-    """A run that a number draws: its words, and why the answer doesn't fit, if it doesn't."""
+def random_case(start):
+    """What a number draws: a request, its files, the lines of a script, workers, attempts."""
     rnd = random.Random(start)
     job = rnd.choice(["words", "words", "grep", "url"])
     literal = b"aB" if job == "grep" else b""
@@ -190,7 +190,12 @@ def random_run(start):
     files = [b"\n".join(line() for _ in range(rnd.randint(0, 9))) + rnd.choice([b"", b"\n"]) for _ in range(rnd.randint(0, 3))]
     splits = sum((len(data) + request.split - 1) // request.split for data in files)
     workers, attempts = rnd.choice([1, 2, 4, 16, 64]), rnd.choice([1, 2, 4, 8, 16])
-    lines = drawn(rnd, min(splits, 6), min(workers, 6), request.parts)
+    return request, files, drawn(rnd, min(splits, 6), min(workers, 6), request.parts), workers, attempts
+
+
+def random_run(start):
+    """The answer of a run that a number draws, with its words and what it may answer."""
+    request, files, lines, workers, attempts = random_case(start)
     answer = ran(request, files, written(lines), workers, attempts)
     return (start, lines, workers, attempts), answer, Allowed(request, files, lines, workers, attempts)
 

@@ -1,6 +1,7 @@
 use mr_commands::{Fault, JobKind, Options, Said, Subcommand, done};
 use mr_files::{MemoryFiles, Store};
 use mr_store::read_all;
+use mr_watch::Unwatched;
 use std::alloc::Global;
 use std::test::Fail;
 
@@ -49,13 +50,31 @@ fn the_first_file_that_fails_is_told(rt: HostRuntime) -> Result<(), Fail> {
     store.put("a", b"the cat the dog\n", false)?;
     store.put("c", b"b\n", true)?;
     let several = Subcommand::Check(words(alloc, 1, "d", &["a", "c", "missing"])?);
-    assert!(rt; tells(done(&rt, &mut store, alloc, &several), false, "c"));
+    assert!(rt;
+        tells(
+            done(&rt, &mut store, alloc, &several, &Unwatched),
+            false,
+            "c"
+        )
+    );
     let judge = Subcommand::Check(words(alloc, 2, "d", &["a"])?);
-    assert!(rt; tells(done(&rt, &mut store, alloc, &judge), false, "d/part-00000"));
+    assert!(rt;
+        tells(
+            done(&rt, &mut store, alloc, &judge, &Unwatched),
+            false,
+            "d/part-00000"
+        )
+    );
     store.put("d/part-00001", b"old", true)?;
     store.put("d/certificate", b"old", false)?;
     let run = Subcommand::Seq(words(alloc, 2, "d", &["a"])?, "");
-    assert!(rt; tells(done(&rt, &mut store, alloc, &run), true, "d/part-00001"));
+    assert!(rt;
+        tells(
+            done(&rt, &mut store, alloc, &run, &Unwatched),
+            true,
+            "d/part-00001"
+        )
+    );
     assert!(rt; stands(alloc, &store, "d/part-00000", b"the\t2\n")?);
     assert!(rt; stands(alloc, &store, "d/certificate", b"old")?);
     Ok(())
