@@ -14,7 +14,7 @@ const PAUSE: u64 = 300;
 const WIPE: &str = "\r\x1b[K";
 
 /// A line of progress. It holds the time from which it may be drawn again, in milliseconds of the clock, how many workers
-/// were lost, and whether it stands at the terminal.
+/// were lost, whether the judge has begun, and whether the line stands at the terminal.
 #[derive(Drop)]
 pub struct ProgressLine<C: Clock> {
     clock: C,
@@ -22,6 +22,7 @@ pub struct ProgressLine<C: Clock> {
     err: Stderr,
     next: AtomicU64,
     lost: AtomicU64,
+    judging: AtomicBool,
     stands: AtomicBool,
 }
 
@@ -73,6 +74,7 @@ impl<C: Clock> ProgressLine<C> {
             err,
             next: AtomicU64::new(next.saturating_add(PAUSE)),
             lost: AtomicU64::new(0),
+            judging: AtomicBool::new(false),
             stands: AtomicBool::new(false),
         }
     }
@@ -91,6 +93,13 @@ impl<C: Clock> ProgressLine<C> {
                 .is_ok()
     }
 
+    /// Whether the judge begins with this call, and a line stands that says otherwise. It is long at work behind.
+    fn begins_to_judge(&self, phase: Phase) -> bool {
+        phase == Phase::Judging
+            && !self.judging.swap(true, Ordering::SeqCst)
+            && self.stands.load(Ordering::SeqCst)
+    }
+
     /// Wipes the line, where it stands.
     pub fn wipe(&self) {
         if self.stands.swap(false, Ordering::SeqCst) {
@@ -102,7 +111,7 @@ impl<C: Clock> ProgressLine<C> {
 
 impl<C: Clock + Sync> Watch for ProgressLine<C> {
     fn tell(&self, phase: Phase, done: u64, all: u64) {
-        if !self.is_due() {
+        if !self.begins_to_judge(phase) && !self.is_due() {
             return;
         }
         let lost = self.lost.load(Ordering::SeqCst);
