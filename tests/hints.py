@@ -168,6 +168,22 @@ def verdicts(harness):
     harness.check("another no has no hint", got == harness.run([*check, "--job", "words", "a"], cwd=spoiled)[:3] and got[0] == 1 and got[2] == b"", repr(got))
 
 
+def runs(harness):
+    """Each failure of a run has a hint, a certified run and a refused one none; faults of a script."""
+    text = {**TEXT, "bad": b"bad 0 0\n", "lost": b"lose 0 after 0\n", "flaky": b"flaky 0 0 1\n", "spoil": b"spoil 0 0\n", "odd": b"lose 0\n"}
+    run = ["run", *WORDS, "--workers", "1", "--script"]
+    for name, words, out, hint in [
+        ("more left-out records than may be", ["bad", "a"], b"failed: TooManySkips\n", b"more records fail than --max-skips K lets be left out; K is 0 where it isn't given"),
+        ("no worker is left", ["lost", "a"], b"failed: NoWorkers\n", b"the script loses every worker: --workers W makes more of them"),
+        ("no attempt is left", ["flaky", "--attempts", "1", "a"], b"failed: TooManyAttempts\n", b"a task has had --attempts A attempts, 8 where it isn't given, and none completed it"),
+        ("a spoiled output", ["spoil", "a"], b"uncertified: OutputDiffers partition 0 at 0\n", None),
+    ]:
+        told(harness, name, [*run, *words], 1, out=out, hint=hint, files=text)
+    told(harness, "a certified run", [*run, "flaky", "a"], 0, out=b"certified: 1 files, 9 pairs, 0 left out\n", files=text)
+    kinds = b"a line is `lose W after N`, `zombie W after N`, `bad S R`, `flaky S R N`, `hold W` or `spoil P B`"
+    told(harness, "a bad line", [*run, "odd", "a"], 2, err=b"mapred: BadLine 1\n", hint=kinds, files=text)
+
+
 def both_streams(harness):
     """Where both streams are one terminal, notes come before the answer and a hint behind it; where standard output
     alone is one, nothing more is told."""
@@ -192,4 +208,4 @@ def memory(harness):
     harness.check("want of memory, on a terminal", got == (4, b"", b"mapred: out of memory\nhint: " + MEMORY + b"\n"), repr(got))
 
 
-GROUPS = {"hints on limits": limits, "hints on files": files, "hints on verdicts": verdicts, "hints on one terminal": both_streams, "hints on memory": memory}
+GROUPS = {"hints on limits": limits, "hints on files": files, "hints on verdicts": verdicts, "hints on runs": runs, "hints on one terminal": both_streams, "hints on memory": memory}

@@ -220,7 +220,7 @@ def stopped(harness):
 def progress(harness):
     """Long work shows one line at a terminal, which is wiped; elsewhere nothing is shown."""
     rnd = random.Random(6)
-    text = b"\n".join(b" ".join(b"w%d" % rnd.randrange(200_000) for _ in range(8)) for _ in range(700_000))
+    text = b"\n".join(b" ".join(b"w%d" % rnd.randrange(200_000) for _ in range(8)) for _ in range(300_000))
     where = harness.directory({"in": text, "script": b"lose 1 after 1\n"})
     for command, more, phases in [
         ("seq", [], [b"mapping"]),

@@ -40,7 +40,7 @@ fn input_cure(fault: &InputFault) -> &'static str {
     }
 }
 
-fn run_cure(fault: &RunFault) -> &'static str {
+fn list_cure(fault: &RunFault) -> &'static str {
     match fault {
         RunFault::NoSuchRecord =>
             "--skips names a record that isn't there: splits, and records in each split, count from 0",
@@ -62,7 +62,7 @@ fn cure(fault: &Fault) -> &'static str {
         Fault::Input(fault) => input_cure(fault),
         Fault::TooManySplits =>
             "at most 1048576 splits: a greater --split, up to 67108864, makes fewer",
-        Fault::Run(fault) => run_cure(fault),
+        Fault::Run(fault) => list_cure(fault),
         Fault::BadWorkers => "--workers is 1 to 64",
         Fault::BadAttempts => "--attempts is 1 to 16",
         Fault::Script(_) =>
@@ -79,5 +79,17 @@ pub fn fault_hint<L: Look>(look: &L, alloc: Global, fault: &Fault) -> Result<Str
             "{reason}"
         ),
         _ => String::from_str(alloc, cure(fault)),
+    }
+}
+
+/// What can be done where a run by workers is not certified; no text where there is nothing.
+pub(crate) fn run_cure(said: &str) -> &'static str {
+    match said {
+        "failed: TooManySkips\n" =>
+            "more records fail than --max-skips K lets be left out; K is 0 where it isn't given",
+        "failed: TooManyAttempts\n" =>
+            "a task has had --attempts A attempts, 8 where it isn't given, and none completed it",
+        "failed: NoWorkers\n" => "the script loses every worker: --workers W makes more of them",
+        _ => "",
     }
 }

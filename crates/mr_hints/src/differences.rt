@@ -1,4 +1,5 @@
 //! How a certificate differs from what was asked for, where the judge says that it is of another job or input.
+use crate::cures::run_cure;
 use mr_certform::{Item, Walker};
 use mr_commands::{Options, Subcommand, request_of};
 use mr_files::{Look, Standing, Store, certificate_name, read_files};
@@ -187,6 +188,7 @@ pub fn verdict_hint<S: Store + Look>(
 ) -> Result<String, AllocError> {
     match asked {
         Subcommand::Check(options) => check_hint(store, alloc, options, said),
-        Subcommand::Seq(_, _) | Subcommand::Run(_) => Ok(String::new(alloc)),
+        Subcommand::Seq(_, _) => Ok(String::new(alloc)),
+        Subcommand::Run(_) => String::from_str(alloc, run_cure(said)),
     }
 }
