@@ -8,6 +8,7 @@ import subprocess
 import time
 from concurrent.futures import ThreadPoolExecutor
 
+from failing import shim, with_failing
 from harness import parts_of, read_result
 from hints import on_terminal
 from plain import Request
@@ -246,6 +247,54 @@ def many_tasks(harness):
     harness.check("... with their parts", len(parts_of(os.path.join(where, "out"))) == 8)
 
 
+def is_beginning(stands, whole, given):
+    """Whether of the files that a whole run writes, the history, the parts in order and then the certificate, those up to
+    some file stand, the last of them perhaps in part, and all else is as it was."""
+    written_files = sorted((name for name in whole if name not in given), key=lambda name: (name != "history", name == "certificate", name))
+    made = [name for name in written_files if name in stands]
+    return (
+        made == written_files[: len(made)]
+        and sorted(stands) == sorted([*given, *made])
+        and all(stands[name] == given[name] for name in given)
+        and all(stands[name] == whole[name] for name in made[:-1])
+        and all(whole[name].startswith(stands[name]) for name in made[-1:])
+    )
+
+
+def failing_calls(harness):
+    """Each allocation, opening, read and write of a run by one worker fails in turn: the answer is the refusal's own, and
+    nothing else changes; of several workers, whose histories differ, each allocation."""
+    library = shim(harness)
+    if library is None:
+        return
+    given = {"a": b"The cat saw the dog.\n\nThe dog saw nothing.\n", "script": b"flaky 0 0 1\nhold 0\n"}
+    words = ["run", "--job", "words", "--parts", "2", "--split", "16", "--script", "script", "--history", "history", "--out", "."]
+    alone = [*words, "--workers", "1", "a"]
+    whole, _ = with_failing(harness, library, "none", alone, given)
+    harness.check("a run without a failing call", whole[:3] == (0, b"certified: 2 files, 9 pairs, 0 left out\n", b""), repr(whole))
+    short, _ = with_failing(harness, library, "short 0", alone, given)
+    harness.check("a run a byte a call", short == whole, repr(short))
+    for kind, status, said in (("malloc", 4, b"mapred: out of memory\n"), ("open", 3, b"mapred: cannot "), ("read", 3, b"mapred: cannot read "), ("write", 3, b"mapred: cannot write ")):
+        number, spared, marked = 0, 0, True
+        while marked:
+            number += 1
+            got, marked = with_failing(harness, library, f"{kind} {number}", alone, given)
+            refused = got[:2] == (status, b"") and got[2].startswith(said) and got[2].count(b"\n") == 1 and is_beginning(got[3], whole[3], given)
+            unprinted = kind == "write" and got == (0, b"", b"", whole[3])
+            spared += kind == "malloc" and marked and got == whole
+            harness.check(f"run, {kind} {number} fails", refused or unprinted or (got == whole and (kind == "malloc" or not marked)), repr(got))
+        harness.check(f"a run comes to some {kind}", number > 1)
+        # asking for a word behind the last one needs no memory, and a thread that can't be made is done without
+        harness.check("a run needs nearly all memory", spared <= 3, str(spared))
+    number, marked, several = 0, True, [*words, "--workers", "4", "a"]
+    while marked:
+        number += 1
+        got, marked = with_failing(harness, library, f"malloc {number}", several, given)
+        refused = got[:3] == (4, b"", b"mapred: out of memory\n")
+        same = got[:3] == whole[:3] and all(got[3].get(name) == data for name, data in whole[3].items() if name != "history")
+        harness.check(f"run by four workers, malloc {number} fails", refused or same, repr(got))
+
+
 GROUPS = {
     "worked runs of the program": worked_runs,
     "random runs of the program": random_runs,
@@ -254,4 +303,5 @@ GROUPS = {
     "a run that is stopped": stopped,
     "progress at a terminal": progress,
     "many tasks of the program": many_tasks,
+    "failing calls of a run": failing_calls,
 }
