@@ -41,4 +41,25 @@ def little_memory(harness):
     harness.check("memory that doesn't suffice for the judge, and memory that does", unjudged > 0 and yes > 0)
 
 
-GROUPS = {"little memory": little_memory}
+def little_memory_of_a_run(harness):
+    """A run by four workers with ever more memory ends, certified with the whole result or refused with none. Threads
+    take memory as they come, so more of it may be refused where less was not."""
+    data = b" ".join(b"w%d" % (i * 7919 % 40000) for i in range(200_000)) + b"\n"
+    outputs, pairs, certificate = plain("words", [data], 2, split=131072)
+    seen = set()
+    for size in [*range(4000, 60000, 4000), *range(60000, 400000, 20000)]:
+        where = harness.directory({"input": data})
+        limit = lambda: resource.setrlimit(resource.RLIMIT_AS, (size * 1024, size * 1024))
+        words = ["run", "--job", "words", "--parts", "2", "--split", "131072", "--out", ".", "input"]
+        ran = subprocess.run([harness.program, *words], cwd=where, capture_output=True, preexec_fn=limit, timeout=120)
+        if ran.returncode == 127:
+            continue  # too little for the system to load a program
+        got = (ran.returncode, ran.stdout, ran.stderr, *result_of(where))
+        refused = got == (4, b"", b"mapred: out of memory\n", [], None)
+        done = got == (0, b"certified: 2 files, %d pairs, 0 left out\n" % pairs, b"", outputs, certificate)
+        harness.check(f"{size} KiB of memory for a run", refused or done, repr(got)[:300])
+        seen |= {got[0]}
+    harness.check("memory that doesn't suffice for a run, and memory that does", seen == {0, 4}, repr(seen))
+
+
+GROUPS = {"little memory": little_memory, "little memory of a run": little_memory_of_a_run}
