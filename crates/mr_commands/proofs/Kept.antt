@@ -1,15 +1,16 @@
 -- The stages of a run, and what each leaves.
-use Rattle.std.proofs.Common.{◌≡◌, ℕ, List, [], ◌∷◌, ◌++◌, Option, None, Some, inl, inr, ap, sym, ◌∙◌, subst}
+use Rattle.std.proofs.Common.{◌≡◌, ◌⊎◌, ◌≤◌, ℕ, List, [], ◌∷◌, ◌++◌, Option, None, Some, inl, inr, ap, sym, ◌∙◌, subst, take}
 use Rattle.std.proofs.lemmas.List.{length-map}
 use Rattle.std.specs.Prelude.{IfSome, length, string_bytes}
 use Rattle.mr_input.specs.Files.{contents}
 use Rattle.mr_jobs.specs.JobSpec.{RequestSpec}
 use Rattle.mr_script.specs.declared.directive.Directive.{Directive}
-use Rattle.mr_files.specs.Refusals.{IsOneUnwritten, IsUnwritten, IsWriteRefusal}
-use Rattle.mr_files.specs.Holding.{ChangesAmong, Differs, Holding}
+use Rattle.mr_files.specs.Refusals.{IsOneUnwritten, IsUnwritten, IsUnwrittenAt, IsWriteRefusal}
+use Rattle.mr_files.specs.Holding.{Begins, ChangesAmong, Differs, Holding}
 use Rattle.mr_files.specs.Names.{part_names, result_names}
 use Rattle.mr_files.specs.declared.store.FileFault.{FileFault}
 use Rattle.mr_files.specs.declared.store.FileFault.TheVariants as file
+use Rattle.mr_book.specs.declared.book.History.{History}
 use Rattle.mr_pool.specs.Outcomes.{run_shape}
 use Rattle.mr_pool.specs.declared.running.Certified.{Certified}
 use Rattle.mr_commands.specs.declared.fault.Fault.{Fault}
@@ -18,7 +19,7 @@ use Rattle.mr_commands.specs.declared.running.Ran.{Ran}
 use Rattle.mr_commands.specs.HistoryLines.{history_text}
 use Rattle.mr_commands.specs.Asked.{request_asked}
 use Rattle.mr_commands.specs.Answers.{IsAsked, IsInput, IsInputRefusal, TellsFile, input_names}
-use Rattle.mr_commands.specs.Runs.{IsEnding, IsHistoryKept, IsResultKept, IsScript, IsScriptRefusal, IsStartRefusal, IsUnkept, KeepsHistory, KeepsResult, Runs, history_name, history_of, named, names_left, script_name, written_by_run}
+use Rattle.mr_commands.specs.Runs.{IsEnding, IsHistoryKept, IsResultKept, IsResultRefused, IsResultStopped, IsScript, IsScriptRefusal, IsStartRefusal, IsStoppedAt, IsUnkept, KeepsHistory, KeepsResult, Runs, history_name, history_of, named, names_left, script_name, written_by_run}
 
 module _ (holds : List ℕ → List ℕ → Type 0) (unreadable : List ℕ → Type 0) (o : RunOptions) where
   pub script_stage : (e : Fault) → IsAsked o.options → IsScriptRefusal holds unreadable (script_name o) e → IsStartRefusal holds unreadable o e
@@ -51,26 +52,6 @@ pub one_unwritten : (unwritable : List ℕ → Type 0) (name : List ℕ) (e : Fi
 one_unwritten unwritable name (file.CannotRead told) h = h
 one_unwritten unwritable name (file.CannotWrite told) h = ([], [], ap (λ n. n ∷ []) (sym h.1), subst unwritable (sym h.1) h.0)
 one_unwritten unwritable name file.OutOfMemory h = tt
-
-pub some_unwritten : (old new : List ℕ → List ℕ → Type 0) (unwritable : List ℕ → Type 0) (names texts : List (List ℕ)) (e : FileFault)
-    → IsWriteRefusal old new unwritable names texts e → IsOneUnwritten unwritable names e
-some_unwritten old new unwritable names texts (file.CannotRead told) h = h
-some_unwritten old new unwritable names texts (file.CannotWrite told) h = (h.before, h.after, h.names_are, h.refused)
-some_unwritten old new unwritable names texts file.OutOfMemory h = tt
-
-was_unwritten : (was is : List ℕ → Type 0) (names : List (List ℕ)) (e : FileFault) → ((n : List ℕ) → is n → was n) → IsOneUnwritten is names e → IsOneUnwritten was names e
-was_unwritten was is names (file.CannotRead told) still h = h
-was_unwritten was is names (file.CannotWrite told) still h = (h.0, h.1, h.2, still (string_bytes told) h.3)
-was_unwritten was is names file.OutOfMemory still h = tt
-
-only_memory : (unwritable other : List ℕ → Type 0) (names : List (List ℕ)) (e : FileFault) → IsOneUnwritten unwritable [] e → IsOneUnwritten other names e
-only_memory unwritable other names (file.CannotRead told) h = h
-only_memory unwritable other names (file.CannotWrite told) (before, after, are, refused) = absurd (no_name before are)
-  where
-    no_name : (xs : List (List ℕ)) → [] ≡ xs ++ string_bytes told ∷ after → ⊥
-    no_name [] e = cc e
-    no_name (y ∷ ys) e = cc e
-only_memory unwritable other names file.OutOfMemory h = tt
 
 -- ---- one write behind another
 
@@ -117,11 +98,47 @@ module _ (old mid new : List ℕ → List ℕ → Type 0) (o : RunOptions) where
   pub history_kept : (ran : Ran) → Runs old o ran → ChangesAmong mid new (names_left o.options.out.now ran) → IsHistoryKept mid (history_name o) (history_of ran) → KeepsHistory new o ran
   history_kept ran r q k = stands (history_name o) ran r q k
 
+  -- what stands under a name that isn't the history's came before it
+  begins_before : (name text : List ℕ) → ChangesAmong old mid (named (history_name o)) → Begins mid new name text → Differs name (named (history_name o)) → Begins old new name text
+  begins_before name text p begins d b stands = was_there (begins b stands)
+    where
+      was_there : (mid name b ⊎ ((k : ℕ) × (k ≤ length text) × (b ≡ take k text))) → (old name b ⊎ ((k : ℕ) × (k ≤ length text) × (b ≡ take k text)))
+      was_there (inl h) = inl ((p name b d).1 h)
+      was_there (inr h) = inr h
+
+  still_stands : (opt : Option (List ℕ)) (h : History) (names : List (List ℕ)) → IsHistoryKept mid opt h → ChangesAmong mid new names → IfSome opt (λ own. Differs own names → new own (history_text h))
+  still_stands None h names k q = tt
+  still_stands (Some own) h names k q = λ d. (q own (history_text h) d).0 k
+
+  stopped_at : (was is : List ℕ → Type 0) (c : Certified) (name : List ℕ) → ((n : List ℕ) → is n → was n) → Runs old o (Ran.Certified c) → ChangesAmong old mid (named (history_name o)) → IsHistoryKept mid (history_name o) c.history
+      → IsUnwrittenAt mid new is (result_names o.options.out.now o.options.parts) (contents c.outputs.items ++ c.certificate.items ∷ []) name → IsStoppedAt old new was o c name
+  stopped_at was is c name still r p k u = record {
+    before = u.before;
+    after = u.after;
+    written = u.written;
+    text = u.text;
+    left = u.left;
+    names_are = u.names_are;
+    texts_are = u.texts_are;
+    refused = still name u.refused;
+    whole = u.whole;
+    begins = begins_before name u.text p u.begins;
+    history = still_stands (history_name o) c.history (u.before ++ name ∷ []) k u.others;
+    others = both old mid new (history_name o) (u.before ++ name ∷ []) p u.others;
+  }
+
+  stopped_as : (was is : List ℕ → Type 0) (c : Certified) (e : FileFault) (f : Fault) → ((n : List ℕ) → is n → was n) → Runs old o (Ran.Certified c) → ChangesAmong old mid (named (history_name o)) → IsHistoryKept mid (history_name o) c.history
+      → IsWriteRefusal mid new is (result_names o.options.out.now o.options.parts) (contents c.outputs.items ++ c.certificate.items ∷ []) e → TellsFile e f → IsResultStopped old new was o c f
+  stopped_as was is c (file.CannotRead told) f still r p k h t = absurd h
+  stopped_as was is c (file.CannotWrite told) f still r p k h t = rw t (stopped_at was is c (string_bytes told) still r p k h)
+  stopped_as was is c file.OutOfMemory f still r p k h t = rw t tt
+
   pub unkept_result : (was is : List ℕ → Type 0) (ran : Ran) (e : FileFault) (f : Fault) → ((n : List ℕ) → is n → was n) → Runs old o ran
-      → ChangesAmong old mid (named (history_name o)) → ChangesAmong mid new (names_left o.options.out.now ran) → IsOneUnwritten is (names_left o.options.out.now ran) e → TellsFile e f → IsUnkept old new was o ran f
-  unkept_result was is (Ran.Certified c) e f still r p q h t = inr (e, t, was_unwritten was is (result_names o.options.out.now o.options.parts) e still (subst (λ (k : ℕ). IsOneUnwritten is (result_names o.options.out.now k) e) (count_is c r) h))
-  unkept_result was is (Ran.Failed x h) e f still r p q u t = (alone old mid new (history_name o) p q, (e, t, only_memory is was (named (history_name o)) e u))
-  unkept_result was is (Ran.Uncertified v h) e f still r p q u t = (alone old mid new (history_name o) p q, (e, t, only_memory is was (named (history_name o)) e u))
+      → ChangesAmong old mid (named (history_name o)) → IsHistoryKept mid (history_name o) (history_of ran)
+      → IsResultRefused mid new is o.options.out.now ran e → TellsFile e f → IsUnkept old new was o ran f
+  unkept_result was is (Ran.Certified c) e f still r p k h t = inr (stopped_as was is c e f still r p k (subst (λ (n : ℕ). IsWriteRefusal mid new is (result_names o.options.out.now n) (contents c.outputs.items ++ c.certificate.items ∷ []) e) (count_is c r) h) t)
+  unkept_result was is (Ran.Failed x y) e f still r p k h t = absurd h
+  unkept_result was is (Ran.Uncertified v y) e f still r p k h t = absurd h
 
   pub unkept_history : (was : List ℕ → Type 0) (ran : Ran) (e : FileFault) (f : Fault) → ChangesAmong old new (named (history_name o)) → IsOneUnwritten was (named (history_name o)) e → TellsFile e f → IsUnkept old new was o ran f
   unkept_history was (Ran.Certified c) e f p h t = inl (p, (e, t, h))

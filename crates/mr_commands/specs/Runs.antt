@@ -9,13 +9,14 @@ use Rattle.mr_core.specs.declared.event.Shape.{Shape}
 use Rattle.mr_book.specs.declared.book.History.{History}
 use Rattle.mr_check.specs.declared.fault.No.{No}
 use Rattle.mr_pool.specs.Outcomes.{IsCertifiedRun, IsRunFault, run_shape}
+use Rattle.mr_pool.specs.declared.running.Certified.{Certified as Kept}
 use Rattle.mr_pool.specs.declared.running.RunFault.TheVariants as fault
-use Rattle.mr_files.specs.Holding.{ChangesAmong, Differs, Faulty, Holding, Stored}
-use Rattle.mr_files.specs.Refusals.{IsOneUnwritten}
+use Rattle.mr_files.specs.Holding.{Begins, ChangesAmong, Differs, Faulty, Holding, Stored}
+use Rattle.mr_files.specs.Refusals.{IsOneUnwritten, IsWriteRefusal}
 use Rattle.mr_files.specs.declared.store.FileFault.{FileFault}
 use Rattle.mr_files.specs.Names.{part_names, name_of_certificate, result_names}
 use Rattle.mr_commands.specs.declared.fault.Fault.{Fault}
-use Rattle.mr_commands.specs.declared.fault.Fault.TheVariants.{BadWorkers, BadAttempts, Script, CannotRead, OutOfMemory}
+use Rattle.mr_commands.specs.declared.fault.Fault.TheVariants.{BadWorkers, BadAttempts, Script, CannotRead, CannotWrite, OutOfMemory}
 use Rattle.mr_commands.specs.declared.asked.RunOptions.{RunOptions}
 use Rattle.mr_commands.specs.declared.running.Ran.{Ran}
 use Rattle.mr_commands.specs.declared.running.Ran.TheVariants.{Certified, Failed, Uncertified}
@@ -105,6 +106,12 @@ abbrev pub IsResultKept : Stored → List ℕ → Ran → Type 0
 IsResultKept new out (Certified c) = Holding new (part_names out (length c.outputs.items)) (contents c.outputs.items) × new (name_of_certificate out) c.certificate.items
 IsResultKept new out ran = ⊤
 
+-- why a result was not all written; without one nothing is refused
+abbrev pub IsResultRefused : Stored → Stored → Faulty → List ℕ → Ran → FileFault → Type 0
+IsResultRefused old new unwritable out (Certified c) fault =
+    IsWriteRefusal old new unwritable (result_names out (length c.outputs.items)) (contents c.outputs.items ++ c.certificate.items ∷ []) fault
+IsResultRefused old new unwritable out ran fault = ⊥
+
 -- all that a run may write: its history and its result
 abbrev pub written_by_run : RunOptions → List (List ℕ)
 written_by_run o = named (history_name o) ++ result_names o.options.out.now o.options.parts
@@ -156,10 +163,33 @@ IsStartRefusal holds unreadable o fault = IsRequestRefusal o.options fault
 abbrev pub TellsUnwritten : Faulty → List (List ℕ) → Fault → Type 0
 TellsUnwritten unwritable names told = (e : FileFault) × TellsFile e told × IsOneUnwritten unwritable names e
 
+-- a file of the result can't be written, behind the history: those before it stand whole, under it stands what stood
+-- there or a beginning of its text, the history stands unless it has the name of one of these, and all else stands as
+-- before
+pub record IsStoppedAt (old new : Stored) (unwritable : Faulty) (o : RunOptions) (c : Kept) (name : List ℕ) : Type 0 where
+  pub before : List (List ℕ)
+  pub after : List (List ℕ)
+  pub written : List (List ℕ)
+  pub text : List ℕ
+  pub left : List (List ℕ)
+  pub names_are : result_names o.options.out.now o.options.parts ≡ before ++ name ∷ after
+  pub texts_are : contents c.outputs.items ++ c.certificate.items ∷ [] ≡ written ++ text ∷ left
+  pub refused : unwritable name
+  pub whole : Holding new before written
+  pub begins : Differs name (named (history_name o)) → Begins old new name text
+  pub history : IfSome (history_name o) (λ own. Differs own (before ++ name ∷ []) → new own (history_text c.history))
+  pub others : ChangesAmong old new (named (history_name o) ++ (before ++ name ∷ []))
+
+-- not all of a certified result was written
+abbrev pub IsResultStopped : Stored → Stored → Faulty → RunOptions → Kept → Fault → Type 0
+IsResultStopped old new unwritable o c (CannotWrite told) = IsStoppedAt old new unwritable o c (string_bytes told)
+IsResultStopped old new unwritable o c OutOfMemory = ⊤
+IsResultStopped old new unwritable o c fault = ⊥
+
 -- the history could not be written, and nothing else was; or a file of a certified result could not
 abbrev pub IsUnkept : Stored → Stored → Faulty → RunOptions → Ran → Fault → Type 0
 IsUnkept old new unwritable o (Certified c) fault = (ChangesAmong old new (named (history_name o)) × TellsUnwritten unwritable (named (history_name o)) fault)
-    ⊎ TellsUnwritten unwritable (result_names o.options.out.now o.options.parts) fault
+    ⊎ IsResultStopped old new unwritable o c fault
 IsUnkept old new unwritable o ran fault = ChangesAmong old new (named (history_name o)) × TellsUnwritten unwritable (named (history_name o)) fault
 
 -- why nothing is told: there is no run, and nothing was written; or not all that it leaves could be written

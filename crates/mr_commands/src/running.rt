@@ -4,7 +4,7 @@ ghost use Rattle.mr_input.specs.Files.{split_total};
 ghost use Rattle.mr_files.specs.Holding.{ChangesAmong};
 ghost use Rattle.mr_files.specs.Refusals.{IsOneUnwritten};
 ghost use Rattle.mr_pool.specs.Outcomes.{run_shape};
-ghost use Rattle.mr_commands.specs.Runs.{AnswersRun, IsBadScript, IsCrewRefusal, IsEnding, IsHistoryKept, IsResultKept, IsStartRefusal, IsRunUnanswered, IsScript, IsScriptRefusal, Runs, TellsRan, history_of as history_in, named, names_left, written_by_run};
+ghost use Rattle.mr_commands.specs.Runs.{AnswersRun, IsBadScript, IsCrewRefusal, IsEnding, IsHistoryKept, IsResultKept, IsResultRefused, IsStartRefusal, IsRunUnanswered, IsScript, IsScriptRefusal, Runs, TellsRan, history_of as history_in, named, names_left, written_by_run};
 ghost use Rattle.mr_script.specs.Scripts.{SpellsScript};
 
 use crate::asked::RunOptions;
@@ -199,7 +199,7 @@ fn keep_result<S: Store>(
 ) -> Result<(), FileFault>
     ensures kept { OnOk result (IsResultKept (S.holds store.new) out.now ran.now) }
     ensures others { ChangesAmong (S.holds store.old) (S.holds store.new) (names_left out.now ran.now) }
-    ensures refused { IfErr result (λ e. IsOneUnwritten (S.unwritable store.old) (names_left out.now ran.now) e) }
+    ensures refused { IfErr result (λ e. IsResultRefused (S.holds store.old) (S.holds store.new) (S.unwritable store.old) out.now ran.now e) }
 {
     if let Ran::Certified(done) = ran {
         write_files(

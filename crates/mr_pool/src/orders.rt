@@ -10,19 +10,53 @@ use mr_task::ReduceOutput;
 use std::alloc::{AllocError, Global};
 use std::sync::atomic::{AtomicU64, Ordering};
 
-/// The directives of a script, and how often each flaky record was reached: one count for all workers.
+/// What a line of a script bears on.
+#[derive(Clone, Copy, PartialEq, Eq, PartialOrd, Ord)]
+pub(crate) enum About {
+    /// The loss of a worker, behind so many reports.
+    Loss,
+    /// What comes just before a worker's next report, behind so many.
+    Report,
+    /// A record of a split.
+    Record,
+    /// A byte of a partition's output.
+    Output,
+}
+
+/// A line of a script, in the order in which lines are looked up: by what it bears on, by the worker, the split or the
+/// partition, by the number of reports, the record or the byte, and then by its number.
+#[derive(Clone, Copy, PartialEq, Eq, PartialOrd, Ord)]
+pub(crate) struct Line {
+    about: About,
+    of: u32,
+    at: u32,
+    number: usize,
+}
+
+/// The directives of a script, and how often each flaky record was reached: one count for all workers. The lines are
+/// sorted once, so that none is looked at for what it doesn't bear on: a script may be long.
 #[derive(Drop)]
 pub(crate) struct Orders<'a> {
     directives: &'a [Directive],
+    lines: Vec<Line>,
     reached: Vec<AtomicU64>,
 }
 
-/// The record that the directive lets fail in this split.
-fn failing_record(directive: &Directive, split: u32) -> Option<u32> {
-    match *directive {
-        Directive::Bad { split: s, rec } if s == split => Some(rec),
-        Directive::Flaky { split: s, rec, .. } if s == split => Some(rec),
-        _ => None,
+/// The line of a directive. A worker keeps back its first report, behind none.
+fn line_of(directive: &Directive, number: usize) -> Line {
+    let (about, of, at) = match *directive {
+        Directive::Lose { worker, after } => (About::Loss, worker, after),
+        Directive::Zombie { worker, after } => (About::Report, worker, after),
+        Directive::Hold { worker } => (About::Report, worker, 0),
+        Directive::Bad { split, rec } => (About::Record, split, rec),
+        Directive::Flaky { split, rec, .. } => (About::Record, split, rec),
+        Directive::Spoil { partition, place } => (About::Output, partition, place),
+    };
+    Line {
+        about,
+        of,
+        at,
+        number,
     }
 }
 
@@ -30,94 +64,96 @@ impl<'a> Orders<'a> {
     /// The orders of a script, before any record was reached.
     pub(crate) fn of(alloc: Global, script: &'a Script) -> Result<Orders<'a>, AllocError> {
         let directives = script.directives();
+        let mut lines = Vec::with_capacity(alloc, directives.len())?;
         let mut reached = Vec::with_capacity(alloc, directives.len())?;
-        for _ in 0..directives.len() {
+        for (number, directive) in directives.iter().enumerate() {
+            lines.push(line_of(directive, number))?;
             reached.push(AtomicU64::new(0))?;
         }
+        lines.sort_unstable();
         Ok(Orders {
             directives,
+            lines,
             reached,
         })
     }
 
-    /// The directives, in the order of their lines.
-    pub(crate) fn directives(&self) -> &'a [Directive] {
-        self.directives
+    /// The lines about this, from one place to another.
+    fn lines_between(&self, about: About, of: u32, first: u32, last: u32) -> &[Line] {
+        let least = Line {
+            about,
+            of,
+            at: first,
+            number: 0,
+        };
+        let most = Line {
+            about,
+            of,
+            at: last,
+            number: usize::MAX,
+        };
+        let (Ok(from) | Err(from)) = self.lines.binary_search(&least);
+        let (Ok(to) | Err(to)) = self.lines.binary_search(&most);
+        self.lines.get(from..to).unwrap_or(&[])
+    }
+
+    /// The lines about all of a split, or of a partition.
+    fn lines_of(&self, about: About, of: u32) -> &[Line] {
+        self.lines_between(about, of, 0, u32::MAX)
     }
 
     /// Whether the worker is lost once it has made so many reports.
     pub(crate) fn loses(&self, worker: u32, reports: u32) -> bool {
-        self.directives.contains(&Directive::Lose {
-            worker,
-            after: reports,
-        })
+        !self
+            .lines_between(About::Loss, worker, reports, reports)
+            .is_empty()
     }
 
-    /// The least record past `after` that a directive lets fail in this split and the attempt doesn't leave out.
-    fn next_record(&self, split: u32, skips: &[u32], after: Option<u32>) -> Option<u32> {
-        let mut least: Option<u32> = None;
-        for directive in self.directives {
-            let Some(rec) = failing_record(directive, split) else {
-                continue;
-            };
-            let is_past = after.is_none_or(|a| a < rec);
-            if is_past && least.is_none_or(|l| rec < l) && !skips.contains(&rec) {
-                least = Some(rec);
-            }
+    /// What is ordered just before the report that the worker makes behind so many, in the order of the lines.
+    pub(crate) fn before_report(&self, worker: u32, reports: u32) -> &[Line] {
+        self.lines_between(About::Report, worker, reports, reports)
+    }
+
+    /// The directive of a line.
+    pub(crate) fn directive(&self, line: &Line) -> Option<&Directive> {
+        self.directives.get(line.number)
+    }
+
+    /// Whether the record of the line fails in an attempt that reaches it now, by this line.
+    fn fails_by(&self, line: &Line) -> bool {
+        match self.directive(line) {
+            Some(Directive::Bad { .. }) => true,
+            Some(Directive::Flaky { attempts, .. }) => match self.reached.get(line.number) {
+                Some(reached) => reached.fetch_add(1, Ordering::SeqCst) < u64::from(*attempts),
+                None => false,
+            },
+            _ => false,
         }
-        least
     }
 
-    /// An attempt reaches the record: whether it fails there. A record that is flaky by several lines fails in as many
-    /// attempts as the greatest of them says.
-    fn fails_at(&self, split: u32, rec: u32) -> bool {
-        let mut fails = false;
-        for (directive, reached) in self.directives.iter().zip(self.reached.as_slice()) {
-            match *directive {
-                Directive::Bad { split: s, rec: r } if s == split && r == rec => fails = true,
-                Directive::Flaky {
-                    split: s,
-                    rec: r,
-                    attempts,
-                } if s == split && r == rec => {
-                    if reached.fetch_add(1, Ordering::SeqCst) < attempts as u64 {
-                        fails = true;
-                    }
-                }
-                _ => {}
-            }
-        }
-        fails
-    }
-
-    /// The record at which a map attempt fails: it reaches the records that a directive names in their order, up to the
-    /// first that fails. Records that aren't there have no effect.
+    /// The record at which a map attempt fails: it reaches the records that a line names in their order, up to the
+    /// first that fails. A record that is flaky by several lines fails in as many attempts as the greatest of them says;
+    /// records that aren't there have no effect.
     pub(crate) fn failing(&self, plan: &Plan<'_>, split: u32, skips: &[u32]) -> Option<u32> {
-        let mut after = None;
-        for _ in 0..self.directives.len() {
-            let rec = self.next_record(split, skips, after)?;
-            if plan.record_of(split, rec).is_none() {
-                return None;
+        let mut failing = None;
+        for line in self.lines_of(About::Record, split) {
+            if let Some(rec) = failing
+                && rec != line.at
+            {
+                return failing;
             }
-            if self.fails_at(split, rec) {
-                return Some(rec);
+            let is_reached = plan.record_of(split, line.at).is_some() && !skips.contains(&line.at);
+            if is_reached && self.fails_by(line) {
+                failing = Some(line.at);
             }
-            after = Some(rec);
         }
-        None
+        failing
     }
 
-    /// Changes the bytes of a reduce output that are to be spoiled: of each the lowest bit, once for each directive.
+    /// Changes the bytes of a reduce output that are to be spoiled: of each the lowest bit, once for each line.
     pub(crate) fn spoil(&self, partition: u32, output: &mut ReduceOutput) {
-        for directive in self.directives {
-            if let Directive::Spoil {
-                partition: p,
-                place,
-            } = *directive
-                && p == partition
-            {
-                output.flip(place);
-            }
+        for line in self.lines_of(About::Output, partition) {
+            output.flip(line.at);
         }
     }
 }

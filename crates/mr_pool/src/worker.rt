@@ -76,15 +76,12 @@ impl<L: Ledger> Worker<L> {
         shared: &Shared<'_, L, G, W>,
         task: Task,
     ) -> Result<(), AllocError> {
-        for directive in shared.orders.directives() {
-            match *directive {
-                Directive::Zombie { worker, after }
-                    if worker == self.number && after == self.reports => {
+        for line in shared.orders.before_report(self.number, self.reports) {
+            match shared.orders.directive(line) {
+                Some(Directive::Zombie { .. }) => {
                     shared.lose(rt, &mut self.seat, self.number)?;
                 }
-                Directive::Hold { worker } if worker == self.number && self.reports == 0 => {
-                    shared.hold(rt, task);
-                }
+                Some(Directive::Hold { .. }) => shared.hold(rt, task),
                 _ => {}
             }
         }

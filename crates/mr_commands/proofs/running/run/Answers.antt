@@ -28,12 +28,14 @@ returns-in_err-keep_result-clause-refused g c =
     let holds = g.S.Store.holds in
     let unwritable = g.S.Store.unwritable in
     let ran = c.in_ok-ran.ran in
+    let mid = holds c.keep_history.new.store in
+    let kept = subst (λ (h : History). IsHistoryKept mid (history_name c.args.asked.now) h) c.history_of.ensures c.in_ok-keep_history.ensures.kept in
     rw p.1 (inr (
       ran,
       c.in_ok-ran.ensures.runs,
-      unkept_result (holds c.args.store.now) (holds c.keep_history.new.store) (holds c.keep_result.new.store) c.args.asked.now
+      unkept_result (holds c.args.store.now) mid (holds c.keep_result.new.store) c.args.asked.now
           (unwritable c.args.store.now) (unwritable c.keep_history.new.store) ran c.in_err-keep_result.field-0.0 p.0 c.keep_history.ensures.still c.in_ok-ran.ensures.runs
-          c.keep_history.ensures.others c.keep_result.ensures.others c.in_err-keep_result.ensures.refused p.2,
+          c.keep_history.ensures.others kept c.in_err-keep_result.ensures.refused p.2,
     ))
 
 pub returns-clause-done : goal.returns-clause-done
