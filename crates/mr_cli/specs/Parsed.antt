@@ -6,6 +6,7 @@ use Rattle.clap.specs.Matches.{matched_of, raw_values, first_value, one_text}
 use Rattle.clap.specs.declared.parser.matches.Found.{Found}
 use Rattle.clap.specs.Walk.{Row, rows_of}
 use Rattle.mr_commands.specs.declared.asked.Options.{Options}
+use Rattle.mr_commands.specs.declared.asked.CheckOptions.{CheckOptions}
 use Rattle.mr_commands.specs.declared.asked.RunOptions.{RunOptions}
 use Rattle.mr_commands.specs.declared.asked.Subcommand.{Subcommand}
 use Rattle.mr_commands.specs.declared.asked.Subcommand.TheVariants.{Seq, Run, Check}
@@ -44,9 +45,14 @@ pub record AreRunOptionsOf (found : Found) (o : RunOptions) : Type 0 where
   pub script : option_map (λ s. s.now) o.script ≡ first_value found (codes "script")
   pub history : option_map (λ s. s.now) o.history ≡ first_value found (codes "history")
 
+-- the same of a judgement
+pub record AreCheckOptionsOf (found : Found) (o : CheckOptions) : Type 0 where
+  pub options : AreOptionsOf found o.options
+  pub threads : IsNumberOf (one_text found (codes "threads")) 1 o.threads
+
 -- the subcommand is that of its own name, and its options are those of its matches
 abbrev pub IsAskedBy : Option (List ℕ) → Option (List Row) → Subcommand → Type 0
 IsAskedBy name rows (Seq o skips) = (name ≡ Some (codes "seq"))
     × ((found : Found) × (rows ≡ Some (rows_of found)) × AreOptionsOf found o × (skips.now ≡ unwrap_or (first_value found (codes "skips")) []))
 IsAskedBy name rows (Run o) = (name ≡ Some (codes "run")) × ((found : Found) × (rows ≡ Some (rows_of found)) × AreRunOptionsOf found o)
-IsAskedBy name rows (Check o) = (name ≡ Some (codes "check")) × ((found : Found) × (rows ≡ Some (rows_of found)) × AreOptionsOf found o)
+IsAskedBy name rows (Check o) = (name ≡ Some (codes "check")) × ((found : Found) × (rows ≡ Some (rows_of found)) × AreCheckOptionsOf found o)

@@ -10,14 +10,15 @@ use Rattle.mr_files.specs.Refusals.{IsOneUnread, IsWriteRefusal}
 use Rattle.mr_files.specs.declared.store.FileFault.{FileFault}
 use Rattle.mr_files.specs.declared.store.FileFault.TheVariants as file
 use Rattle.mr_commands.specs.declared.fault.Fault.{Fault}
-use Rattle.mr_commands.specs.declared.fault.Fault.TheVariants.{OtherJobsOption, BadSkipList, OutOfMemory}
+use Rattle.mr_commands.specs.declared.fault.Fault.TheVariants.{OtherJobsOption, BadSkipList, BadThreads, OutOfMemory}
+use Rattle.mr_commands.specs.declared.asked.CheckOptions.{CheckOptions}
 use Rattle.mr_commands.specs.declared.asked.Options.{Options}
 use Rattle.mr_jobs.specs.JobSpec.{RequestSpec}
 use Rattle.mr_files.specs.Names.{result_names, part_names, name_of_certificate}
 use Rattle.mr_files.specs.Holding.{Holding}
 use Rattle.mr_commands.specs.Outcomes.{IsJudged, IsSequentialResult, done_line}
 use Rattle.mr_commands.specs.Asked.{AsksForOtherJob, WithinLimits, request_asked}
-use Rattle.mr_commands.specs.Answers.{TellsFile, IsResultRefusal, IsAsked, IsInput, IsInputRefusal, IsCheckRefusal, IsRunRefusal, IsWorkRefusal, IsSeqRefusal, IsStopped, AnswersCheck, WorksOut, input_names}
+use Rattle.mr_commands.specs.Answers.{AreBadThreads, TellsFile, IsResultRefusal, IsAsked, IsInput, IsInputRefusal, IsCheckRefusal, IsRunRefusal, IsWorkRefusal, IsSeqRefusal, IsStopped, AnswersCheck, WorksOut, input_names}
 use Rattle.mr_bytes.specs.declared.RecordName.{RecordName}
 use Rattle.mr_sequential.specs.Skips.{skip_fault}
 use Rattle.mr_sequential.specs.declared.fault.RunFault.{RunFault}
@@ -33,16 +34,21 @@ result_refused unreadable names file.OutOfMemory f h t = rw t tt
 pub asked : {A : Type 0} (o : Options) (r : A) → ((◌≡◌ {A = Result A Fault} (Ok r) (Err OtherJobsOption)) ↔ AsksForOtherJob o) → WithinLimits (request_asked o) → IsAsked o
 asked o r other within = record { own = λ a. cc (other.1 a); within = within }
 
-pub input_stage : (holds : List ℕ → List ℕ → Type 0) (unreadable : List ℕ → Type 0) (o : Options) (names : List (List ℕ)) (request : RequestSpec) (e : Fault)
-    → names ≡ input_names o → request ≡ request_asked o → IsAsked o → IsInputRefusal holds unreadable names request.split e → IsCheckRefusal holds unreadable o e
-input_stage holds unreadable o names request e n r a h =
-    inr (inl (a, subst (λ (s : ℕ). IsInputRefusal holds unreadable (input_names o) s e) (ap (λ (v : RequestSpec). v.split) r) (subst (λ (v : List (List ℕ)). IsInputRefusal holds unreadable v request.split e) n h)))
+pub threads_stage : (holds : List ℕ → List ℕ → Type 0) (unreadable : List ℕ → Type 0) (asked : CheckOptions) (e : Fault)
+    → IsAsked asked.options → (e ≡ BadThreads) × AreBadThreads asked.threads → IsCheckRefusal holds unreadable asked e
+threads_stage holds unreadable asked e a h = inr (inl (a, h.0, h.1))
 
-pub result_stage : (holds : List ℕ → List ℕ → Type 0) (unreadable : List ℕ → Type 0) (o : Options) (names files : List (List ℕ)) (request : RequestSpec) (e : FileFault) (f : Fault)
-    → names ≡ input_names o → request ≡ request_asked o → IsAsked o → IsInput holds names request.split files
-    → IsOneUnread unreadable (result_names o.out.now o.parts) e → TellsFile e f → IsCheckRefusal holds unreadable o f
-result_stage holds unreadable o names files request e f n r a i h t =
-    inr (inr (a, (files, subst (λ (s : ℕ). IsInput holds (input_names o) s files) (ap (λ (v : RequestSpec). v.split) r) (subst (λ (v : List (List ℕ)). IsInput holds v request.split files) n i)), result_refused unreadable (result_names o.out.now o.parts) e f h t))
+pub input_stage : (holds : List ℕ → List ℕ → Type 0) (unreadable : List ℕ → Type 0) (asked : CheckOptions) (names : List (List ℕ)) (request : RequestSpec) (e : Fault)
+    → names ≡ input_names asked.options → request ≡ request_asked asked.options → IsAsked asked.options → IsInputRefusal holds unreadable names request.split e → IsCheckRefusal holds unreadable asked e
+input_stage holds unreadable asked names request e n r a h =
+    inr (inr (inl (a, subst (λ (s : ℕ). IsInputRefusal holds unreadable (input_names asked.options) s e) (ap (λ (v : RequestSpec). v.split) r) (subst (λ (v : List (List ℕ)). IsInputRefusal holds unreadable v request.split e) n h))))
+
+pub result_stage : (holds : List ℕ → List ℕ → Type 0) (unreadable : List ℕ → Type 0) (asked : CheckOptions) (names files : List (List ℕ)) (request : RequestSpec) (e : FileFault) (f : Fault)
+    → names ≡ input_names asked.options → request ≡ request_asked asked.options → IsAsked asked.options → IsInput holds names request.split files
+    → IsOneUnread unreadable (result_names asked.options.out.now asked.options.parts) e → TellsFile e f → IsCheckRefusal holds unreadable asked f
+result_stage holds unreadable asked names files request e f n r a i h t =
+    let o = asked.options in
+    inr (inr (inr (a, (files, subst (λ (s : ℕ). IsInput holds (input_names o) s files) (ap (λ (v : RequestSpec). v.split) r) (subst (λ (v : List (List ℕ)). IsInput holds v request.split files) n i)), result_refused unreadable (result_names o.out.now o.parts) e f h t)))
 
 pub answered : (holds : List ℕ → List ℕ → Type 0) (o : Options) (names files outputs was_outputs : List (List ℕ)) (bytes was_bytes : List ℕ) (request : RequestSpec) (text : List ℕ) (status : ℕ)
     → names ≡ input_names o → request ≡ request_asked o → IsInput holds names request.split files → was_outputs ≡ outputs → was_bytes ≡ bytes

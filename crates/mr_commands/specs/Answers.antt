@@ -13,7 +13,8 @@ use Rattle.mr_files.specs.Refusals.{IsFirstUnread, IsUnwrittenAt}
 use Rattle.mr_files.specs.declared.store.FileFault.{FileFault}
 use Rattle.mr_files.specs.declared.store.FileFault.TheVariants as file
 use Rattle.mr_commands.specs.declared.fault.Fault.{Fault}
-use Rattle.mr_commands.specs.declared.fault.Fault.TheVariants.{Input, TooManySplits, BadSkipList, Run, CannotRead, CannotWrite, OutOfMemory}
+use Rattle.mr_commands.specs.declared.fault.Fault.TheVariants.{Input, TooManySplits, BadSkipList, BadThreads, Run, CannotRead, CannotWrite, OutOfMemory}
+use Rattle.mr_commands.specs.declared.asked.CheckOptions.{CheckOptions}
 use Rattle.mr_commands.specs.declared.asked.Options.{Options}
 use Rattle.mr_commands.specs.Asked.{AsksForOtherJob, WithinLimits, IsRequestRefusal, request_asked}
 use Rattle.mr_commands.specs.Outcomes.{IsJudged, IsSequentialResult, done_line}
@@ -64,9 +65,15 @@ pub record AnswersCheck (holds : Stored) (o : Options) (text : List ℕ) (status
   pub certificate : holds (name_of_certificate o.out.now) bytes
   pub judged : IsJudged (request_asked o) files outputs bytes text status
 
--- why `check` says nothing: the request, then the input, then the files of the result
-abbrev pub IsCheckRefusal : Stored → Faulty → Options → Fault → Type 0
-IsCheckRefusal holds unreadable o fault = IsRequestRefusal o fault
+abbrev pub AreBadThreads : ℕ → Type 0
+AreBadThreads n = (n ≡ 0) ⊎ (64 < n)
+
+-- why `check` says nothing: the request, then the number of threads, then the input, then the files of the result
+abbrev pub IsCheckRefusal : Stored → Faulty → CheckOptions → Fault → Type 0
+IsCheckRefusal holds unreadable asked fault =
+    let o = asked.options in
+    IsRequestRefusal o fault
+    ⊎ (IsAsked o × (fault ≡ BadThreads) × AreBadThreads asked.threads)
     ⊎ (IsAsked o × IsInputRefusal holds unreadable (input_names o) o.split fault)
     ⊎ (IsAsked o × ((files : List (List ℕ)) × IsInput holds (input_names o) o.split files) × IsResultRefusal unreadable (result_names o.out.now o.parts) fault)
 

@@ -18,7 +18,7 @@ written_by (Check o) = []
 abbrev pub Answers : Stored → Stored → Subcommand → List ℕ → ℕ → Type 0
 Answers old new (Seq o skips) text status = (status ≡ 0) × AnswersSeq old new o skips.now text
 Answers old new (Run o) text status = AnswersRun old new o text status
-Answers old new (Check o) text status = AnswersCheck old o text status
+Answers old new (Check o) text status = AnswersCheck old o.options text status
 
 -- why nothing is answered, and what was changed then
 abbrev pub IsRefusal : Stored → Stored → Faulty → Faulty → Subcommand → Fault → Type 0

@@ -36,11 +36,19 @@ pub struct RunOptions<'a> {
     pub history: Option<&'a str>,
 }
 
+/// What a judgement is asked for.
+#[derive(Drop)]
+pub struct CheckOptions<'a> {
+    pub options: Options<'a>,
+    /// How many threads judge, 1 to 64.
+    pub threads: u32,
+}
+
 /// The command that is asked for.
 #[derive(Drop)]
 pub enum Subcommand<'a> {
     /// With the text of its skip list.
     Seq(Options<'a>, &'a str),
     Run(RunOptions<'a>),
-    Check(Options<'a>),
+    Check(CheckOptions<'a>),
 }

@@ -25,6 +25,8 @@ pub enum Fault {
     BadWorkers,
     /// A task may have no attempt, or more than 16.
     BadAttempts,
+    /// No thread judges, or more than 64.
+    BadThreads,
     Script(ScriptFault),
     CannotRead(String),
     CannotWrite(String),
@@ -119,6 +121,7 @@ impl fmt::Display for Fault {
             Fault::Run(fault) => write!(f, "mapred: {fault}\n"),
             Fault::BadWorkers => write!(f, "mapred: BadWorkers\n"),
             Fault::BadAttempts => write!(f, "mapred: BadAttempts\n"),
+            Fault::BadThreads => write!(f, "mapred: BadThreads\n"),
             Fault::Script(fault) => write!(f, "mapred: {fault}\n"),
             Fault::CannotRead(name) => write!(f, "mapred: cannot read {name}\n"),
             Fault::CannotWrite(name) => write!(f, "mapred: cannot write {name}\n"),

@@ -13,7 +13,7 @@ mod running;
 mod said;
 mod skips;
 
-pub use crate::asked::{JobKind, Options, RunOptions, Subcommand};
+pub use crate::asked::{CheckOptions, JobKind, Options, RunOptions, Subcommand};
 pub use crate::commands::{Said, check, done, seq};
 pub use crate::fault::Fault;
 pub use crate::history::history_text;

@@ -1,4 +1,4 @@
-use mr_commands::{Fault, JobKind, Options, Said, Subcommand, done};
+use mr_commands::{CheckOptions, Fault, JobKind, Options, Said, Subcommand, done};
 use mr_files::{MemoryFiles, Store};
 use mr_store::read_all;
 use mr_watch::Unwatched;
@@ -22,6 +22,14 @@ fn words<'a>(
         max_skips: 1,
         out,
         files: Vec::from_slice(alloc, names)?,
+    })
+}
+
+/// A judgement by one thread.
+fn judged(options: Options<'_>) -> Subcommand<'_> {
+    Subcommand::Check(CheckOptions {
+        options,
+        threads: 1,
     })
 }
 
@@ -49,7 +57,7 @@ fn the_first_file_that_fails_is_told(rt: HostRuntime) -> Result<(), Fail> {
     let mut store = MemoryFiles::new(alloc);
     store.put("a", b"the cat the dog\n", false)?;
     store.put("c", b"b\n", true)?;
-    let several = Subcommand::Check(words(alloc, 1, "d", &["a", "c", "missing"])?);
+    let several = judged(words(alloc, 1, "d", &["a", "c", "missing"])?);
     assert!(rt;
         tells(
             done(&rt, &mut store, alloc, &several, &Unwatched),
@@ -57,7 +65,7 @@ fn the_first_file_that_fails_is_told(rt: HostRuntime) -> Result<(), Fail> {
             "c"
         )
     );
-    let judge = Subcommand::Check(words(alloc, 2, "d", &["a"])?);
+    let judge = judged(words(alloc, 2, "d", &["a"])?);
     assert!(rt;
         tells(
             done(&rt, &mut store, alloc, &judge, &Unwatched),

@@ -65,6 +65,7 @@ fn cure(fault: &Fault) -> &'static str {
         Fault::Run(fault) => list_cure(fault),
         Fault::BadWorkers => "--workers is 1 to 64",
         Fault::BadAttempts => "--attempts is 1 to 16",
+        Fault::BadThreads => "--threads is 1 to 64",
         Fault::Script(_) =>
             "a line is `lose W after N`, `zombie W after N`, `bad S R`, `flaky S R N`, `hold W` or `spoil P B`",
         Fault::CannotRead(_) | Fault::CannotWrite(_) => "",

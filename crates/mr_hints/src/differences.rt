@@ -187,7 +187,7 @@ pub fn verdict_hint<S: Store + Look>(
     said: &str,
 ) -> Result<String, AllocError> {
     match asked {
-        Subcommand::Check(options) => check_hint(store, alloc, options, said),
+        Subcommand::Check(asked) => check_hint(store, alloc, &asked.options, said),
         Subcommand::Seq(_, _) => Ok(String::new(alloc)),
         Subcommand::Run(_) => String::from_str(alloc, run_cure(said)),
     }

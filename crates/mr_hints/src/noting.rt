@@ -96,7 +96,7 @@ fn asks_for_parts(asked: &Subcommand<'_>) -> bool {
     let options = match asked {
         Subcommand::Seq(options, _) => options,
         Subcommand::Run(asked) => &asked.options,
-        Subcommand::Check(options) => options,
+        Subcommand::Check(asked) => &asked.options,
     };
     0 < options.parts && options.parts as usize <= MOST_PARTS
 }
@@ -114,8 +114,9 @@ pub fn notes<L: Look>(
     match asked {
         Subcommand::Seq(options, _) => seq_notes(look, alloc, options, &mut lines)?,
         Subcommand::Run(asked) => seq_notes(look, alloc, &asked.options, &mut lines)?,
-        Subcommand::Check(options) => {
-            note_others(look, alloc, options.out, options.parts as usize, &mut lines)?
+        Subcommand::Check(asked) => {
+            let Options { out, parts, .. } = &asked.options;
+            note_others(look, alloc, out, *parts as usize, &mut lines)?
         }
     }
     Ok(lines)

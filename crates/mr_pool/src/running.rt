@@ -1,20 +1,23 @@
 //! A run, from its opening to its answer.
-ghost use Rattle.std.specs.Prelude.{◌≡◌, ◌↔◌, ℕ, ◌≤◌, ◌<◌, ◌^◌, Some, IfOk, IfErr, IsTrue, vec_len};
+ghost use Rattle.std.specs.Prelude.{◌≡◌, ◌↔◌, ◌⊎◌, ℕ, Err, ◌≤◌, ◌<◌, ◌^◌, Some, IfOk, IfErr, IsTrue, vec_len};
 ghost use Rattle.mr_pool.specs.Endings.{ending_of};
 ghost use Rattle.mr_input.specs.Files.{contents, split_total};
 ghost use Rattle.mr_core.specs.declared.event.End.{End as Ended};
 ghost use Rattle.mr_assembled.specs.Faithful.{IsOpenedFor};
 ghost use Rattle.mr_core.specs.Core.{InLimits};
+ghost use Rattle.mr_check.specs.declared.fault.No.{No};
+ghost use Rattle.mr_check.specs.Headline.{IsCertified};
+ghost use Rattle.mr_check.specs.Verdict.{verdict_of};
 ghost use Rattle.mr_pool.specs.Outcomes.{IsCertifiedRun, IsRunFault, run_shape};
 
 use crate::orders::{Orders, accounts_for};
-use crate::progress::Progress;
+use crate::progress::{JudgesProgress, Progress};
 use crate::shared::Shared;
 use crate::worker::{Left, Worker};
 use mr_book::{Book, History, Seat};
-use mr_bytes::{Gate, RecordName};
+use mr_bytes::{Gate, OpenGate, RecordName};
 use mr_certform::write;
-use mr_check::{No, check, is_same_fault};
+use mr_check::{No, Yes, check_gated_watched, is_same_fault};
 use mr_core::{End, JobFault, Limits, Shape};
 use mr_input::Input;
 use mr_jobs::Request;
@@ -143,8 +146,36 @@ fn executed<L: Ledger + Send + Sync, G: Gate, W: Watch, R: Threads + Wait + Sync
     Ok((book.into_inner(), seats))
 }
 
+/// The verdict on a result, by as many threads as there are workers.
+fn judged_by_all<W: Watch, R: Threads + Sync>(
+    rt: &R,
+    alloc: Global,
+    terms: Terms<'_>,
+    outputs: &[Vec<u8>],
+    certificate: &[u8],
+    watch: &W,
+) -> Result<Yes, No>
+    requires fits { split_total terms.request.now.split terms.input.now ≤ 2 ^ 20 }
+    requires limits { InLimits terms.shape }
+    ensures headline { IfOk result (λ y. IsCertified terms.request.now terms.input.now (contents outputs.now) certificate.now y.skips.items y.pairs) }
+    ensures no { IfErr result (λ e. (e ≡ No.OutOfMemory) ⊎ (verdict_of terms.request.now terms.input.now (contents outputs.now) certificate.now ≡ Err e)) }
+{
+    check_gated_watched(
+        rt,
+        alloc,
+        terms.request,
+        terms.input,
+        outputs,
+        certificate,
+        terms.shape.workers,
+        &OpenGate,
+        &JudgesProgress { watch },
+    )
+}
+
 /// The result of a done job is assembled and judged.
-fn assembled<L: Ledger, W: Watch>(
+fn assembled<L: Ledger, W: Watch, R: Threads + Sync>(
+    rt: &R,
     alloc: Global,
     terms: Terms<'_>,
     book: Book<L>,
@@ -152,6 +183,7 @@ fn assembled<L: Ledger, W: Watch>(
     watch: &W,
 ) -> Result<Certified, RunFault>
     requires fits { split_total terms.request.now.split terms.input.now ≤ 2 ^ 20 }
+    requires limits { InLimits terms.shape }
     requires ends { book.state.end ≡ Some Ended.Done }
     requires opened { IsOpenedFor terms.request.now terms.input.now book.shape }
     requires seats { vec_len seats ≡ L.parts }
@@ -161,12 +193,13 @@ fn assembled<L: Ledger, W: Watch>(
     let (outputs, certificate) = book.assemble(alloc, terms.request, terms.input)?;
     let certificate = write(alloc, &certificate)?;
     watch.tell(Phase::Judging, 0, 1);
-    let judged = check(
+    let judged = judged_by_all(
+        rt,
         alloc,
-        terms.request,
-        terms.input,
+        terms,
         outputs.as_slice(),
         certificate.as_slice(),
+        watch,
     );
     let history = book.close(seats);
     match judged {
@@ -220,7 +253,8 @@ fn is_opened(shape: Shape, opened: Shape) -> bool
 }
 
 /// What a book that is closed amounts to.
-fn settled<L: Ledger, W: Watch>(
+fn settled<L: Ledger, W: Watch, R: Threads + Sync>(
+    rt: &R,
     alloc: Global,
     terms: Terms<'_>,
     book: Book<L>,
@@ -228,6 +262,7 @@ fn settled<L: Ledger, W: Watch>(
     watch: &W,
 ) -> Result<Certified, RunFault>
     requires fits { split_total terms.request.now.split terms.input.now ≤ 2 ^ 20 }
+    requires limits { InLimits terms.shape }
     requires opened { IsOpenedFor terms.request.now terms.input.now terms.shape }
     requires seats { vec_len seats ≡ L.parts }
     ensures certified { IfOk result (IsCertifiedRun terms.entry.request.now terms.entry.input.now terms.entry.shape) }
@@ -237,7 +272,7 @@ fn settled<L: Ledger, W: Watch>(
         return Err(RunFault::Uncertified(No::OtherJob, book.close(seats)));
     }
     match ending_by(book.end(), terms.script, terms.shape.workers) {
-        Ending::Done => assembled(alloc, terms, book, seats, watch),
+        Ending::Done => assembled(rt, alloc, terms, book, seats, watch),
         Ending::Failed(fault) => Err(RunFault::Failed(fault, book.close(seats))),
         Ending::Astray => Err(RunFault::Uncertified(No::OtherJob, book.close(seats))),
     }
@@ -276,7 +311,7 @@ fn run_in<L: Ledger + Send + Sync, G: Gate, W: Watch, R: Threads + Wait + Sync>(
         workers as usize,
     )?;
     let (book, seats) = executed(rt, alloc, plan, terms, book, seats, gate, watch)?;
-    settled(alloc, terms, book, seats, watch)
+    settled(rt, alloc, terms, book, seats, watch)
 }
 
 /// Runs the request's job over the input by so many workers, 1 to 64, each in a thread of its own where one can be made;

@@ -2,10 +2,12 @@
 //! are, the size of a split, how many records may be left out, how many workers and attempts of a task there are, and
 //! then the lengths of the script and of each file, which stand one behind another on standard input. It tells what the
 //! run answers. In the mode `history` it tells each event too, in `watch` what who looks on is told, and in `gate`
-//! whether a second attempt went on while the first was held.
+//! whether a second attempt went on while the first was held. In the mode `judge` it tells what as many threads as there
+//! are workers say of the result, and whether they shared the work, and in `tickets` what two seats draw.
 #![tactic(auto)]
 
 mod asked;
+mod judging;
 mod onlookers;
 mod telling;
 
@@ -68,6 +70,11 @@ fn main(rt: HostRuntime) -> io::Result<()> {
             telling::answer(&rt, &answer, false)?;
             watch.show(&rt)
         }
+        "judge" => match done(&rt, alloc, &order, &OpenGate, None) {
+            Some(Ok(certified)) => judging::show(&rt, alloc, &order, &certified),
+            _ => println!(rt; "nothing to judge"),
+        },
+        "tickets" => judging::show_draws(&rt, alloc),
         mode => {
             let answer = done(&rt, alloc, &order, &OpenGate, None);
             telling::answer(&rt, &answer, mode == "history")

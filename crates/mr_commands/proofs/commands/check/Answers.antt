@@ -4,26 +4,36 @@ use Rattle.std.proofs.lemmas.Result.{err_from_is_err_and, IfOk-weaker}
 use Rattle.mr_input.specs.Files.{contents}
 use Rattle.mr_commands.specs.Answers.{AnswersCheck}
 use Rattle.mr_commands.specs.Outcomes.{IsJudged}
-use Rattle.mr_commands.proofs.Refused.{asked, input_stage, result_stage, answered}
+use Rattle.mr_commands.proofs.Refused.{asked, input_stage, result_stage, threads_stage, answered}
 use Rattle.mr_commands.proofs.commands.check.Goals as goal
+
+pub returns-in_err-expect_threads-clause-refused : goal.returns-in_err-expect_threads-clause-refused
+returns-in_err-expect_threads-clause-refused g c =
+    let p = err_from_is_err_and c.from_residual-in_err-expect_threads.result c.from_residual-in_err-expect_threads.ensures.1 in
+    let asked_for = c.args.asked.now in
+    let a = asked asked_for.options c.in_ok-request.request c.in_ok-request.ensures.other c.in_ok-request.ensures.within in
+    rw p.1 (rw p.2 (threads_stage (g.S.Store.holds c.args.store.now) (g.S.Store.unreadable c.args.store.now) asked_for c.in_err-expect_threads.field-0.0 a c.in_err-expect_threads.ensures.refused))
 
 pub returns-in_err-input-clause-refused : goal.returns-in_err-input-clause-refused
 returns-in_err-input-clause-refused g c =
     let p = err_from_is_err_and c.from_residual-in_err-input.result c.from_residual-in_err-input.ensures.1 in
-    let o = c.args.options.now in
+    let asked_for = c.args.asked.now in
+    let o = asked_for.options in
     let a = asked o c.in_ok-request.request c.in_ok-request.ensures.other c.in_ok-request.ensures.within in
-    rw p.1 (rw p.2 (input_stage (g.S.Store.holds c.args.store.now) (g.S.Store.unreadable c.args.store.now) o (map (λ s. s.now) c.as_slice.result.now) c.in_ok-request.request c.in_err-input.field-0.0 (ap (map (λ s. s.now)) c.as_slice.ensures.value) c.in_ok-request.ensures.request a c.in_err-input.ensures.refused))
+    rw p.1 (rw p.2 (input_stage (g.S.Store.holds c.args.store.now) (g.S.Store.unreadable c.args.store.now) asked_for (map (λ s. s.now) c.as_slice.result.now) c.in_ok-request.request c.in_err-input.field-0.0 (ap (map (λ s. s.now)) c.as_slice.ensures.value) c.in_ok-request.ensures.request a c.in_err-input.ensures.refused))
 
 pub returns-in_err-outputs-clause-refused : goal.returns-in_err-outputs-clause-refused
 returns-in_err-outputs-clause-refused g c =
     let p = err_from_is_err_and c.from_residual-in_err-outputs.result c.from_residual-in_err-outputs.ensures.1 in
-    let o = c.args.options.now in
+    let asked_for = c.args.asked.now in
+    let o = asked_for.options in
     let a = asked o c.in_ok-request.request c.in_ok-request.ensures.other c.in_ok-request.ensures.within in
-    rw p.1 (result_stage (g.S.Store.holds c.args.store.now) (g.S.Store.unreadable c.args.store.now) o (map (λ s. s.now) c.as_slice.result.now) c.in_ok-input.input c.in_ok-request.request c.in_err-outputs.field-0.0 p.0 (ap (map (λ s. s.now)) c.as_slice.ensures.value) c.in_ok-request.ensures.request a c.in_ok-input.ensures.input c.in_err-outputs.ensures.refused p.2)
+    rw p.1 (result_stage (g.S.Store.holds c.args.store.now) (g.S.Store.unreadable c.args.store.now) asked_for (map (λ s. s.now) c.as_slice.result.now) c.in_ok-input.input c.in_ok-request.request c.in_err-outputs.field-0.0 p.0 (ap (map (λ s. s.now)) c.as_slice.ensures.value) c.in_ok-request.ensures.request a c.in_ok-input.ensures.input c.in_err-outputs.ensures.refused p.2)
 
 pub returns-clause-answer : goal.returns-clause-answer
 returns-clause-answer g c =
-    let o = c.args.options.now in
+    let asked_for = c.args.asked.now in
+    let o = asked_for.options in
     let outputs = contents c.as_slice-2.result.now in
     let bytes = c.as_slice-3.result.now in
     IfOk-weaker c.judgement.result (λ said. IsJudged c.in_ok-request.request c.in_ok-input.input outputs bytes (string_bytes said.text) said.status) (λ said. AnswersCheck (g.S.Store.holds c.args.store.now) o (string_bytes said.text) said.status)

@@ -11,6 +11,6 @@ returns-clause-judged g c =
     let files = c.args.input.now in
     let outputs = contents c.args.outputs.now in
     let bytes = c.args.certificate.now in
-    let verdict = c.check_watched-verdict.result in
+    let verdict = c.verdict-verdict.result in
     IfOk-weaker c.said_of.result (λ said. TellsVerdict verdict (string_bytes said.text) said.status) (λ said. IsJudged request files outputs bytes (string_bytes said.text) said.status)
-    (λ said s. told_as_judged request files outputs bytes verdict (string_bytes said.text) said.status c.check_watched-verdict.ensures.headline c.check_watched-verdict.ensures.no s) c.said_of.ensures.said
+    (λ said s. told_as_judged request files outputs bytes verdict (string_bytes said.text) said.status c.verdict-verdict.ensures.headline c.verdict-verdict.ensures.no s) c.said_of.ensures.said

@@ -1,0 +1,104 @@
+//! Numbers that seats draw, and a result that several threads judge.
+use crate::asked::Order;
+use crate::onlookers::Holding;
+use mr_bytes::Gate;
+use mr_check::{No, Yes, check_gated};
+use mr_pool::Certified;
+use mr_tickets::Tickets;
+use std::alloc::Global;
+use std::io;
+use std::thread::Threads;
+
+/// Holds the first piece of either phase until another of that phase has left.
+#[derive(Drop)]
+struct PhasesHeld {
+    /// How many pieces the first phase has.
+    maps: u32,
+    mapping: Holding,
+    judging: Holding,
+}
+
+impl PhasesHeld {
+    fn holder(&self, piece: u32) -> &Holding {
+        if piece < self.maps {
+            &self.mapping
+        } else {
+            &self.judging
+        }
+    }
+}
+
+impl Gate for PhasesHeld {
+    fn enter(&self, worker: u32, piece: u32) {
+        self.holder(piece).enter(worker, piece);
+    }
+
+    fn leave(&self, worker: u32, piece: u32) {
+        self.holder(piece).leave(worker, piece);
+    }
+}
+
+/// The verdict on a run's result, by as many threads as it had workers.
+fn judged<G: Gate, R: Threads + Sync>(
+    rt: &R,
+    alloc: Global,
+    order: &Order,
+    certified: &Certified,
+    gate: &G,
+) -> Option<Result<Yes, No>> {
+    let Order {
+        request,
+        input,
+        workers,
+        ..
+    } = order;
+    if !request.fits(input) || *workers < 1 || 64 < *workers {
+        return None;
+    }
+    Some(check_gated(
+        rt,
+        alloc,
+        request,
+        input,
+        certified.outputs.as_slice(),
+        certified.certificate.as_slice(),
+        *workers,
+        gate,
+    ))
+}
+
+/// Tells the verdict on a run's result, and whether a second piece of either phase went on while the first was held.
+pub fn show(
+    rt: &HostRuntime,
+    alloc: Global,
+    order: &Order,
+    certified: &Certified,
+) -> io::Result<()> {
+    let gate = PhasesHeld {
+        maps: certified.history.shape.maps,
+        mapping: Holding::new(),
+        judging: Holding::new(),
+    };
+    match judged(rt, alloc, order, certified, &gate) {
+        Some(Ok(yes)) => println!(rt; "yes {} {}", yes.pairs, yes.skips.len())?,
+        Some(Err(no)) => println!(rt; "no {no}")?,
+        None => println!(rt; "out of limits")?,
+    }
+    println!(rt; "gate {}, {}", gate.mapping.says(), gate.judging.says())
+}
+
+/// Tells what one of two seats draws of three numbers, alone, and what the other draws behind it.
+pub fn show_draws(rt: &HostRuntime, alloc: Global) -> io::Result<()> {
+    let Ok((tickets, mut seats)) = Tickets::open(alloc, 3, 2) else {
+        return println!(rt; "out of memory");
+    };
+    let (Some(mut other), Some(mut alone)) = (seats.pop(), seats.pop()) else {
+        return println!(rt; "no seats");
+    };
+    println!(rt; "drawn {:?}", tickets.draw(&mut alone))?;
+    println!(rt; "drawn {:?}", tickets.draw(&mut alone))?;
+    println!(rt; "drawn {:?}", tickets.draw(&mut alone))?;
+    println!(rt; "drawn {:?}", tickets.draw(&mut alone))?;
+    println!(rt; "drawn {:?}", tickets.draw(&mut alone))?;
+    println!(rt; "drawn {:?}", tickets.draw(&mut other))
+}
