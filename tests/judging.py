@@ -1,9 +1,10 @@
 """The judge against a plain one: results are spoiled in every way that has a name, and whole lines are compared."""
 
+from concurrent.futures import ThreadPoolExecutor
 from dataclasses import replace
 
 from harness import seeded, write_result
-from plain import judged, named_records, pairs_of, produced, text_of
+from plain import Request, judged, named_records, pairs_of, produced, text_of
 from producer import options_of, random_job
 
 
@@ -138,6 +139,14 @@ def one_spoiled(rnd):
     return asked, files, outputs, data
 
 
+def by_threads(harness, words, where):
+    """What the program answers with several numbers of threads."""
+    numbers = (2, 3, 8, 64)
+    with ThreadPoolExecutor(len(numbers)) as pool:
+        answers = pool.map(lambda n: harness.run([words[0], "--threads", str(n), *words[1:]], cwd=where)[:3], numbers)
+        return list(zip(numbers, answers))
+
+
 def against_a_plain_judge(harness):
     rnd = seeded("judging")
     seen = {}
@@ -151,9 +160,32 @@ def against_a_plain_judge(harness):
         seen[want.split()[1] if want.startswith("no") else "yes"] = True
         status = 0 if want.startswith("yes") else 1
         harness.check(f"spoiled {turn} {request}", got[:3] == (status, want.encode(), b""), f"got {got[:3]!r} wanted {want!r}")
+        words = [*options_of(request, "check"), "--out", ".", *names]
+        for threads, answer in by_threads(harness, words, where):
+            harness.check(f"spoiled {turn} {request}, by {threads} threads", answer == got[:3], f"got {answer!r} wanted {want!r}")
     faults = "Malformed OtherJob OtherInput SkipOrder NoSuchRecord TooManySkips NoSuchPair EntryOrder KeyDiffers WrongPartition KeyOrder OutputDiffers Unnamed yes"
     missing = sorted(set(faults.split()) - set(seen))
     harness.check("each fault was met", missing == [], repr(missing))
 
 
-GROUPS = {"judging": against_a_plain_judge}
+def the_same_each_time(harness):
+    """Faults in several partitions of a result of many splits: eight threads tell the same of them each time, and so that of
+    one, while four runs at once keep the processors busy."""
+    rnd = seeded("each time")
+    files = [b" ".join(b"w%d" % rnd.randrange(900) for _ in range(4000)) + b"\n", b"x y z\n" * 700]
+    request = Request("words", parts=12, split=512)
+    outputs, certificate, _ = produced(request, files, [])
+    spoiled = [text[:-3] + b"9\t1" if p in (3, 4, 7, 11) else text for p, text in enumerate(outputs)]
+    names = {f"f{i}": text for i, text in enumerate(files)}
+    for told, parts in (("yes", outputs), ("no", spoiled)):
+        where = harness.directory(names)
+        write_result(where, parts, certificate.bytes())
+        words = [*options_of(request, "check"), "--out", ".", *names]
+        alone = harness.run(words, cwd=where)[:3]
+        harness.check(f"one thread says {told}", alone[1].startswith(told.encode()) and (told == "yes" or b"partition 3" in alone[1]), repr(alone))
+        with ThreadPoolExecutor(4) as pool:
+            answers = list(pool.map(lambda _: harness.run([*words, "--threads", "8"], cwd=where)[:3], range(200)))
+        harness.check(f"200 times 8 threads say {told} as one does", answers == [alone] * 200, repr([answer for answer in answers if answer != alone][:3]))
+
+
+GROUPS = {"judging": against_a_plain_judge, "judging by threads each time": the_same_each_time}

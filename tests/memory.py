@@ -62,4 +62,24 @@ def little_memory_of_a_run(harness):
     harness.check("memory that doesn't suffice for a run, and memory that does", seen == {0, 4}, repr(seen))
 
 
-GROUPS = {"little memory": little_memory, "little memory of a run": little_memory_of_a_run}
+def little_memory_of_threads(harness):
+    """A judge of four threads with ever more memory says that it is out of memory, or yes."""
+    data = b" ".join(b"w%d" % (i * 7919 % 40000) for i in range(200_000)) + b"\n"
+    outputs, pairs, certificate = plain("words", [data], 2, split=131072)
+    where = harness.directory({"input": data})
+    write_result(where, outputs, certificate)
+    words = ["check", "--job", "words", "--parts", "2", "--split", "131072", "--threads", "4", "--out", ".", "input"]
+    seen = set()
+    for size in [*range(4000, 60000, 4000), *range(60000, 400000, 20000)]:
+        limit = lambda: resource.setrlimit(resource.RLIMIT_AS, (size * 1024, size * 1024))
+        ran = subprocess.run([harness.program, *words], cwd=where, capture_output=True, preexec_fn=limit, timeout=120)
+        if ran.returncode == 127:
+            continue  # too little for the system to load a program
+        got = (ran.returncode, ran.stdout, ran.stderr)
+        good = got in ((4, b"", b"mapred: out of memory\n"), (0, b"yes: %d pairs, 0 left out\n" % pairs, b""))
+        harness.check(f"{size} KiB of memory for four threads that judge", good, repr(got)[:300])
+        seen |= {got[0]}
+    harness.check("memory that doesn't suffice for threads that judge, and memory that does", seen == {0, 4}, repr(seen))
+
+
+GROUPS = {"little memory": little_memory, "little memory of a run": little_memory_of_a_run, "little memory of threads": little_memory_of_threads}

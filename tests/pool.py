@@ -153,6 +153,24 @@ def a_gate(harness):
     harness.check("one worker can't", answer.gate == "failed" and answer.short() == CATS_DONE, repr(answer))
 
 
+def threads_that_judge(harness):
+    """The first piece of either phase is held until another of it has left: so more than one thread maps, and judges."""
+    request, files = Request("words", parts=2, split=2), [b"a\nb\n"]
+    for threads in (2, 4, 64):
+        answer = ran(request, files, workers=threads, mode="judge")
+        harness.check(f"{threads} threads share the splits and the partitions", answer.lines == ["yes 2 0", "gate passed, passed"], repr(answer))
+    answer = ran(request, files, workers=1, mode="judge")
+    harness.check("one thread can't", answer.lines == ["yes 2 0", "gate failed, failed"], repr(answer))
+    for threads in (1, 2, 64):
+        answer = ran(Request("words", split=64), [b""], workers=threads, mode="judge")
+        harness.check(f"nothing is judged by {threads} threads", answer.lines[:1] == ["yes 0 0"], repr(answer))
+
+
+def tickets(harness):
+    answer = ran(ONE_PART, LETTERS, mode="tickets")
+    harness.check("a seat draws three numbers, and the other none", answer.lines == [f"drawn {n}" for n in ("Some(0)", "Some(1)", "Some(2)", "None", "None", "None")], repr(answer))
+
+
 def who_looks_on(harness):
     request, files = Request("words", parts=2, split=2), [b"a\nb\nc\nd\n"]
     whole = ["Mapping 4 times, 4 of 4", "Reducing 2 times, 2 of 2", "Judging 1 times, 0 of 1"]
@@ -279,6 +297,8 @@ ALL = {
     "worked runs": worked_runs,
     "worked histories of runs": worked_histories,
     "a gate that holds a worker": a_gate,
+    "threads that judge": threads_that_judge,
+    "numbers that threads draw": tickets,
     "who looks on at a run": who_looks_on,
     "many tasks": many_tasks,
     "random runs": random_runs,

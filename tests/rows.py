@@ -32,7 +32,11 @@ def judged(harness, words, files, where):
     if "--skips" in words:
         at = words.index("--skips")
         del words[at : at + 2]
-    return harness.run([*words, "--out", ".", *files], cwd=where)[:3]
+    alone = harness.run([*words, "--out", ".", *files], cwd=where)[:3]
+    for threads in ("1", "2", "64"):
+        answer = harness.run([*words, "--threads", threads, "--out", ".", *files], cwd=where)[:3]
+        harness.check(f"{words}, judged by {threads} threads", answer == alone, repr(answer))
+    return alone
 
 
 def yes_of(done, skips):
@@ -69,6 +73,9 @@ def refused(harness, name, said, data, parts, certificate, options=(), split="64
     words = ["check", "--job", "words", "--parts", str(len(parts)), "--split", split, *options, "--out", ".", "a"]
     got = harness.run(words, {"a": data}, cwd=where)
     harness.check("refused: " + name, got[:3] == (1, b"no: " + said + b"\n", b""), repr(got[:3]))
+    for threads in ("1", "2", "64"):
+        answer = harness.run([*words, "--threads", threads], cwd=where)
+        harness.check(f"refused by {threads} threads: {name}", answer[:3] == got[:3], repr(answer[:3]))
 
 
 def compared(harness, name, job, files, parts, options=(), **rules):
