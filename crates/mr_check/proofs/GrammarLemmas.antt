@@ -1,6 +1,6 @@
 -- Behind the items of a request and of an input the number of left-out records comes next.
 use Rattle.std.proofs.Common.{◌≡◌, ℕ, zero, suc, Bool, true, false, cond, List, [], ◌∷◌, ◌++◌, length, map, refl, ap, subst}
-use Rattle.std.specs.Prelude.{Ok, Err}
+use Rattle.std.specs.Prelude.{Ok, Err, Result, Option, Some, None, nat_le}
 use Rattle.std.proofs.lemmas.Bool.{false≢true, eqb-true}
 use Rattle.mr_bytes.specs.declared.Name.{Name}
 use Rattle.mr_jobs.specs.JobSpec.{RequestSpec, job_literal}
@@ -11,8 +11,11 @@ use Rattle.mr_certform.specs.declared.place.Place.TheVariants.{AtMagic, AtParts,
 use Rattle.mr_certform.specs.Places.{behind, literal_bytes, file_lengths, partitions, skips, groups, entries, first_name}
 use Rattle.mr_certform.specs.Grammar.{InOrder}
 use Rattle.mr_check.specs.declared.fault.No.{No}
-use Rattle.mr_check.specs.Verdict.{item_eq, job_wanted, input_wanted}
-use Rattle.mr_check.specs.Steps.{met, no_skip, skips_in_front, awaits_skips}
+use Rattle.mr_check.specs.Verdict.{item_eq, job_wanted, input_wanted, last_of}
+use Rattle.mr_check.specs.Steps.{met, no_skip, skips_in_front, awaits_skips, counted, listed, unless, skip_fault, Listed}
+use Rattle.mr_check.specs.declared.fault.No.TheVariants.{TooManySkips}
+use Rattle.mr_bytes.specs.declared.RecordName.{RecordName}
+use Rattle.mr_splits.specs.Named.{NamedRecord}
 
 -- the wanted item is the one that is met
 same_item : (i w : Item) → item_eq i w ≡ true → i ≡ w
@@ -101,13 +104,53 @@ front r (suc n) [] h = refl
 front r (suc n) (Skip s ∷ is) h = front r n is h.1
 front r (suc n) (i ∷ is) h = absurd (h.0)
 
-awaits : (r : ℕ) (is : List Item) → InOrder (AtSkips r) is → awaits_skips is ≡ true
+pub awaits : (r : ℕ) (is : List Item) → InOrder (AtSkips r) is → awaits_skips is ≡ true
 awaits r [] h = refl
 awaits r (Skips n ∷ is) h = front r n is h.1
 awaits r (i ∷ is) h = absurd (h.0)
 
 -- in a certificate of this order and these files
-pub skips_come : (o : RequestSpec) (files : List (List ℕ)) (a b : ℕ) (f g : No) (is js ks : List Item) → InOrder AtMagic is → met a (job_wanted o) f is ≡ Ok js → met b (input_wanted files) g js ≡ Ok ks → awaits_skips ks ≡ true
-skips_come o files a b f g is js ks h e d =
+pub skips_place : (o : RequestSpec) (files : List (List ℕ)) (a b : ℕ) (f g : No) (is js ks : List Item) → InOrder AtMagic is → met a (job_wanted o) f is ≡ Ok js → met b (input_wanted files) g js ≡ Ok ks → InOrder (AtSkips o.parts) ks
+skips_place o files a b f g is js ks h e d =
     let one : InOrder (AtFiles o.parts) js = subst (λ p. InOrder p js) (behind_job o) (met_order a (job_wanted o) f AtMagic is js h e) in
-    awaits o.parts ks (subst (λ p. InOrder p ks) (behind_input o.parts files) (met_order b (input_wanted files) g (AtFiles o.parts) js ks one d))
+    subst (λ p. InOrder p ks) (behind_input o.parts files) (met_order b (input_wanted files) g (AtFiles o.parts) js ks one d)
+
+pub skips_come : (o : RequestSpec) (files : List (List ℕ)) (a b : ℕ) (f g : No) (is js ks : List Item) → InOrder AtMagic is → met a (job_wanted o) f is ≡ Ok js → met b (input_wanted files) g js ≡ Ok ks → awaits_skips ks ≡ true
+skips_come o files a b f g is js ks h e d = awaits o.parts ks (skips_place o files a b f g is js ks h e d)
+
+-- ---- behind the left-out records the partitions come
+
+counted_place : (r at most : ℕ) (is js : List Item) → InOrder (AtSkips r) is → counted at most is ≡ Ok js → (n : ℕ) × InOrder (skips r n) js
+counted_place r at most [] js h e = absurd (cc e)
+counted_place r at most (Skips n ∷ is) js h e = by (nat_le n most) e
+  where
+    by : (b : Bool) → cond b (Ok is) (Err (TooManySkips n)) ≡ Ok js → (n : ℕ) × InOrder (skips r n) js
+    by true d = (n, subst (InOrder (skips r n)) (cc d) h.1)
+    by false d = absurd (cc d)
+counted_place r at most (i ∷ is) js h e = absurd (h.0)
+
+-- the items behind them
+abbrev items_behind : Result Listed No → List Item
+items_behind (Ok l) = l.behind
+items_behind (Err e) = []
+
+unless_ok : (o : Option No) (r : Result Listed No) (l : Listed) → unless o r ≡ Ok l → r ≡ Ok l
+unless_ok None r l e = e
+unless_ok (Some f) r l e = absurd (cc e)
+
+no_skip_here : (r : ℕ) (s : RecordName) (is : List Item) → InOrder (partitions r) (Skip s ∷ is) → ⊥
+no_skip_here zero s is h = h.0
+no_skip_here (suc r) s is h = h.0
+
+listed_place : (rs : List NamedRecord) (at : ℕ) (done : List RecordName) (r n : ℕ) (is : List Item) (l : Listed) → InOrder (skips r n) is → listed rs at done is ≡ Ok l → InOrder (partitions r) l.behind
+listed_place rs at done r n [] l h e = absurd (cc e)
+listed_place rs at done r zero (Skip s ∷ is) l h e = absurd (no_skip_here r s is h)
+listed_place rs at done r (suc n) (Skip s ∷ is) l h e =
+    listed_place rs at (done ++ s ∷ []) r n is l h.1 (unless_ok (skip_fault rs (last_of done) s (length done)) (listed rs at (done ++ s ∷ []) is) l e)
+listed_place rs at done r zero (i ∷ is) l h e = subst (InOrder (partitions r)) (ap items_behind e) h
+listed_place rs at done r (suc n) (i ∷ is) l h e = absurd (h.0)
+
+pub partitions_place : (rs : List NamedRecord) (r at other most : ℕ) (is js : List Item) (l : Listed) → InOrder (AtSkips r) is → counted at most is ≡ Ok js → listed rs other [] js ≡ Ok l → InOrder (partitions r) l.behind
+partitions_place rs r at other most is js l h e d =
+    let here = counted_place r at most is js h e in
+    listed_place rs other [] r here.0 js l here.1 d

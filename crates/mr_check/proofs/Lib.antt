@@ -3,10 +3,13 @@ pub mod FaultPart
 pub mod FaultRead
 pub mod FaultTruth
 pub mod Faults
+pub mod FrontLemmas
 pub mod GrammarLemmas
 pub mod HeadlineLemmas
+pub mod JudgeLemmas
 pub mod MetLemmas
 pub mod MeterLemmas
+pub mod OwnLemmas
 pub mod PartLemmas
 pub mod SkipLemmas
 pub mod ValueLemmas

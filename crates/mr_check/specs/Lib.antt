@@ -1,6 +1,7 @@
 pub mod Verdict
 pub mod Steps
 pub mod Blocks
+pub mod Fronts
 pub mod VerdictRows
 pub mod VerdictLaws
 pub mod FaultLaws

@@ -31,7 +31,11 @@ pub struct Yes {
 }
 
 /// The plan of an input under a request that fits it.
-fn plan_of<'a>(alloc: Global, request: &Request, input: &'a Input) -> Result<Plan<'a>, AllocError>
+pub(crate) fn plan_of<'a>(
+    alloc: Global,
+    request: &Request,
+    input: &'a Input,
+) -> Result<Plan<'a>, AllocError>
     requires { split_total request.now.split input.now ≤ 2 ^ 20 }
     ensures plan { IfOk result (λ r. r ≡ record { size = request.now.split; files = input.entry.now }) }
 {
@@ -98,7 +102,7 @@ fn check_rest(
 }
 
 /// A walker at the front of a certificate's bytes.
-fn walk(certificate: &[u8]) -> Walker<'_>
+pub(crate) fn walk(certificate: &[u8]) -> Walker<'_>
     ensures items { items_left result ≡ items_of certificate.entry.now }
     ensures stop { halt result ≡ stop certificate.entry.now }
     ensures few { length (items_left result) ≤ 2 ^ 63 }
@@ -107,7 +111,11 @@ fn walk(certificate: &[u8]) -> Walker<'_>
 }
 
 /// The items that the request and the input fix come next.
-fn expect_header(walker: &mut Walker<'_>, request: &Request, input: &Input) -> Result<(), No>
+pub(crate) fn expect_header(
+    walker: &mut Walker<'_>,
+    request: &Request,
+    input: &Input,
+) -> Result<(), No>
     ensures met { MatchResult result
         (λ _. header_met (halt walker.old) request.now input.now (items_left walker.old) ≡ Ok (items_left walker.new))
         (λ e. header_met (halt walker.old) request.now input.now (items_left walker.old) ≡ Err e) }

@@ -61,8 +61,15 @@ impl<'a> Progress<'a> {
     pub fn new(alloc: Global) -> Progress<'a>
         ensures { result ≡ start }
     {
+        Progress::before(alloc, 0)
+    }
+
+    /// Before that partition, with nothing told of those ahead of it.
+    pub fn before(alloc: Global, next: u64) -> Progress<'a>
+        ensures { result ≡ record start { next = next } }
+    {
         Progress {
-            next: 0,
+            next,
             groups: 0,
             group: 0,
             entries: 0,

@@ -1,22 +1,18 @@
-use Rattle.std.proofs.Common.{◌≡◌, ◌≤◌, ℕ, Some, List, length, ◌⊎◌, inl, inr, arith, ap, sym, ◌∙◌}
+use Rattle.std.proofs.Common.{◌≡◌, ◌≤◌, ℕ, List, length, arith, ap, sym, ◌∙◌}
 use Rattle.std.proofs.lemmas.Result.{err_from_is_err_and}
 use Rattle.mr_bytes.specs.declared.RecordName.{RecordName}
 use Rattle.mr_input.specs.Files.{contents}
 use Rattle.mr_splits.specs.Cut.{Cut, records_of}
 use Rattle.mr_certform.specs.Walking.{items_left, halt}
 use Rattle.mr_check.specs.declared.fault.No.{No}
-use Rattle.mr_check.specs.declared.fault.No.TheVariants.{OutOfMemory}
 use Rattle.mr_check.specs.Verdict.{Case, start, subject_of, part_faults, count_faults, first}
-use Rattle.mr_check.specs.Steps.{Answers, Listed, case_at}
+use Rattle.mr_check.specs.Steps.{Listed, case_at}
 use Rattle.mr_check.proofs.Faults.{told_is}
 use Rattle.mr_check.proofs.MeterLemmas.{bounded_wider, rest_entries}
 use Rattle.mr_check.specs.Metered.{cut_by}
 use Rattle.mr_check.proofs.VerdictLemmas.{rest_faults, rest_fault, rest_few, rest_accepted, case_same, accepted}
+use Rattle.mr_check.proofs.JudgeLemmas.{told_fault}
 use Rattle.mr_check.proofs.judge.check_rest.Goals as goal
-
-told_fault : (fs : List No) (e : No) (P : Type 0) → ((P → first fs ≡ Some e)) → (e ≡ OutOfMemory) ⊎ P → Answers fs e
-told_fault fs e P f (inl h) = inl h
-told_fault fs e P f (inr h) = inr (f h)
 
 pub returns-in_err-skips-clause-verdict : goal.returns-in_err-skips-clause-verdict
 returns-in_err-skips-clause-verdict g c =

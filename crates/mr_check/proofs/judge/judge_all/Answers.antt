@@ -1,9 +1,8 @@
-use Rattle.std.proofs.Common.{◌≡◌, ◌⊎◌, ℕ, None, List, [], MatchResult, length, refl, inl, inr, arith, ap, sym, ◌∙◌}
-use Rattle.std.specs.Prelude.{Result, Ok, Err, Vec}
+use Rattle.std.proofs.Common.{◌≡◌, ℕ, List, length, refl, inr, arith, sym, ◌∙◌}
+use Rattle.std.specs.Prelude.{Ok, Err, Vec}
 use Rattle.std.specs.Global.{Global}
 use Rattle.std.proofs.lemmas.List.{length-map}
 use Rattle.std.proofs.lemmas.Result.{err_from_is_err_and}
-use Rattle.mr_jobs.specs.JobSpec.{RequestSpec}
 use Rattle.mr_input.specs.Files.{contents}
 use Rattle.mr_certform.specs.declared.item.Item.{Item}
 use Rattle.mr_certform.specs.declared.place.Place.TheVariants.{AtMagic}
@@ -11,22 +10,14 @@ use Rattle.mr_certform.specs.Grammar.{InOrder}
 use Rattle.mr_certform.specs.Spelling.{items_of, stop}
 use Rattle.mr_certform.specs.Walking.{items_left, halt}
 use Rattle.mr_certform.proofs.Walks.{read_front}
-use Rattle.mr_check.specs.declared.judge.Yes.{Yes}
 use Rattle.mr_check.specs.declared.fault.No.{No}
-use Rattle.mr_check.specs.declared.fault.No.TheVariants.{OutOfMemory, OtherJob, OtherInput}
-use Rattle.mr_check.specs.Verdict.{count_faults, accepted_by, verdict_of, first}
-use Rattle.mr_check.specs.Steps.{Answers, header_met, case_at}
+use Rattle.mr_check.specs.declared.fault.No.TheVariants.{OtherJob, OtherInput}
 use Rattle.mr_check.proofs.GrammarLemmas.{skips_come}
 use Rattle.mr_check.proofs.MeterLemmas.{bounded_wider, header_entries}
 use Rattle.mr_check.specs.Metered.{cut_by}
-use Rattle.mr_check.proofs.VerdictLemmas.{header_ok, header_few, accepted, verdict_count, verdict_header, verdict_fault, verdict_ok}
+use Rattle.mr_check.proofs.VerdictLemmas.{header_ok, header_few, verdict_count, verdict_header}
+use Rattle.mr_check.proofs.JudgeLemmas.{as_many, header_is, rest_verdict}
 use Rattle.mr_check.proofs.judge.judge_all.Goals as goal
-
-as_many : (files : List (Vec ℕ Global)) (n m : ℕ) → length files ≡ n → n ≡ m → length (contents files) ≡ m
-as_many files n m e d = let l : length (contents files) ≡ length files = length-map files (λ (f : Vec ℕ Global). f.items) in omega (arith, l, e, d)
-
-header_is : (o : RequestSpec) (files : List (List ℕ)) (bytes : List ℕ) (at : ℕ) (is : List Item) (r : Result (List Item) No) → at ≡ stop bytes → is ≡ items_of bytes → header_met at o files is ≡ r → header_met (stop bytes) o files (items_of bytes) ≡ r
-header_is o files bytes at is r a e h = ap (λ n. header_met n o files (items_of bytes)) (sym a) ∙ (ap (header_met at o files) (sym e) ∙ h)
 
 pub returns-then-outputs-parts-clause-verdict : goal.returns-then-outputs-parts-clause-verdict
 returns-then-outputs-parts-clause-verdict g c =
@@ -57,16 +48,6 @@ pub check_rest-requires-clause-few : goal.check_rest-requires-clause-few
 check_rest-requires-clause-few g c =
     let few = header_few (halt c.walk-walker.result) c.args.request.now c.args.input.now (items_left c.walk-walker.result) (items_left c.expect_header.new.walker) c.in_ok-expect_header.ensures.met in
     omega (arith, few, c.walk-walker.ensures.few)
-
-abbrev IsVerdict : RequestSpec → List (List ℕ) → List (List ℕ) → List ℕ → Result Yes No → Type 0
-IsVerdict o files outputs bytes r = MatchResult r (λ y. verdict_of o files outputs bytes ≡ Ok (record { skips = y.skips.items; pairs = y.pairs })) (λ e. (e ≡ OutOfMemory) ⊎ (verdict_of o files outputs bytes ≡ Err e))
-
-rest_verdict : (o : RequestSpec) (files outputs : List (List ℕ)) (bytes : List ℕ) (ks : List Item) (at : ℕ) (r : Result Yes No) → length outputs ≡ o.parts → header_met (stop bytes) o files (items_of bytes) ≡ Ok ks → at ≡ stop bytes
-    → MatchResult r (λ y. (first (count_faults (case_at o files outputs at) ks) ≡ None) × (accepted_by (accepted [] 0) ks ≡ accepted y.skips.items y.pairs)) (λ e. Answers (count_faults (case_at o files outputs at) ks) e)
-    → IsVerdict o files outputs bytes r
-rest_verdict o files outputs bytes ks at (Ok y) n h a d = verdict_ok o files outputs bytes ks (accepted y.skips.items y.pairs) n h (ap (λ k. first (count_faults (case_at o files outputs k) ks)) (sym a) ∙ d.0) d.1
-rest_verdict o files outputs bytes ks at (Err e) n h a (inl d) = inl d
-rest_verdict o files outputs bytes ks at (Err e) n h a (inr d) = inr (verdict_fault o files outputs bytes ks e n h (ap (λ k. first (count_faults (case_at o files outputs k) ks)) (sym a) ∙ d))
 
 pub returns-clause-verdict : goal.returns-clause-verdict
 returns-clause-verdict g c =

@@ -1,0 +1,114 @@
+-- The items of one partition, one by one.
+use Rattle.std.proofs.Common.{◌≡◌, ℕ, ◌+◌, ◌<◌, ◌≤◌, Bool, true, false, Ok, None, List, [], ◌∷◌, ◌++◌, length, drop, get_or, refl, ap, sym, subst, ◌∙◌, arith}
+use Rattle.std.proofs.lemmas.List.{drop_more, drop_all}
+use Rattle.std.proofs.lemmas.Bool.{false≢true}
+use Rattle.mr_bytes.specs.declared.Name.{Name}
+use Rattle.mr_certform.specs.declared.item.Item.{Item}
+use Rattle.mr_certform.specs.declared.item.Item.TheVariants.{Groups, Entry, End}
+use Rattle.mr_certform.specs.Spelling.{left_behind}
+use Rattle.mr_check.specs.declared.blocks.FoundItem.{FoundItem}
+use Rattle.mr_check.specs.declared.fault.No.{No}
+use Rattle.mr_check.specs.Verdict.{Reached, Subject, start, tests, after, first}
+use Rattle.mr_check.specs.VerdictLaws.{told, piece}
+use Rattle.mr_check.specs.Steps.{Answers, HasRoom, Room}
+use Rattle.mr_check.specs.Blocks.{onto, items_in}
+use Rattle.mr_check.specs.Fronts.{opens, is_own, part_here, OwnGoesOn, OwnJudged, Opened}
+use Rattle.mr_check.proofs.Faults.{first_more, told_left, told_is}
+use Rattle.mr_check.proofs.PartLemmas.{room_after}
+use Rattle.mr_check.proofs.BlockLemmas.{blank, items_long}
+
+own_onto : (i : Item) (is js : List Item) → is_own i ≡ true → onto (i ∷ is) js ≡ i ∷ onto is js
+own_onto End is js e = absurd (false≢true e)
+own_onto i is js e = refl
+
+own_piece : (i : Item) (is : List Item) → is_own i ≡ true → piece (i ∷ is) ≡ i ∷ piece is
+own_piece (Groups n) is e = absurd (false≢true e)
+own_piece End is e = absurd (false≢true e)
+own_piece i is e = refl
+
+own_both : (i : Item) (is js : List Item) → is_own i ≡ true → piece (onto (i ∷ is) js) ≡ i ∷ piece (onto is js)
+own_both i is js e = ap piece (own_onto i is js e) ∙ own_piece i (onto is js) e
+
+others_piece : (i : Item) (is js : List Item) → is_own i ≡ false → piece (onto (i ∷ is) js) ≡ []
+others_piece (Groups n) is js e = refl
+others_piece End is js e = refl
+others_piece i is js e = absurd (false≢true (sym e))
+
+-- so many of the items stood, and the rest is to come
+pub record OwnStands (s : Subject) (old st : Reached) (n : ℕ) (rest all : List Item) : Type 0 where
+  pub same : (js : List Item) → first (told s st (piece (onto rest js))) ≡ first (told s old (piece (onto all js)))
+  pub fewer : (js : List Item) → n + length (onto rest js) ≡ length (onto all js)
+  pub room : (more top : ℕ) → Room old (length all + more) top → Room st (length rest + more) top
+
+pub own_first : (s : Subject) (old : Reached) (all : List Item) → OwnStands s old old 0 all all
+own_first s old all = record { same = λ js. refl; fewer = λ js. omega arith; room = λ more top r. r }
+
+pub own_more : (s : Subject) (old st : Reached) (n : ℕ) (i : Item) (rest all : List Item) → OwnStands s old st n (i ∷ rest) all → is_own i ≡ true → tests s st i ≡ [] → OwnStands s old (after s st i) (n + 1) rest all
+own_more s old st n i rest all h own none = record {
+  same = λ js.
+      (sym (ap (λ w. first (told s st w)) (own_both i rest js own) ∙ first_more (tests s st i) (told s (after s st i) (piece (onto rest js))) none)
+      ∙ h.same js);
+  fewer = λ js. omega (arith, ap length (own_onto i rest js own), h.fewer js);
+  room = λ more top r. (let d : length (i ∷ rest) + more ≡ length rest + more + 1 = omega arith in room_after s st i (length rest + more) top (subst (λ k. Room st k top) d (h.room more top r)));
+}
+
+pub own_ended : (s : Subject) (old st : Reached) (n : ℕ) (i : Item) (rest all js : List Item) → OwnStands s old st n (i ∷ rest) all → is_own i ≡ false → first (told s old (piece (onto all js))) ≡ None
+own_ended s old st n i rest all js h other = sym (h.same js) ∙ ap (λ w. first (told s st w)) (others_piece i rest js other)
+
+pub own_fault : (s : Subject) (old st : Reached) (n : ℕ) (i : Item) (rest all js : List Item) (f : No) → OwnStands s old st n (i ∷ rest) all → is_own i ≡ true → Answers (tests s st i) f → Answers (told s old (piece (onto all js))) f
+own_fault s old st n i rest all js f h own fault =
+    told_is (tests s st i ++ told s (after s st i) (piece (onto rest js))) (told s old (piece (onto all js))) f
+    (sym (h.same js) ∙ ap (λ w. first (told s st w)) (own_both i rest js own))
+    (told_left (tests s st i) (told s (after s st i) (piece (onto rest js))) f fault)
+
+pub own_next : (s : Subject) (old st : Reached) (i : ℕ) (rows : List FoundItem) → i < length rows → OwnStands s old st i (items_in (drop i rows)) (items_in rows) → OwnStands s old st i ((get_or rows i blank).item ∷ items_in (drop (i + 1) rows)) (items_in rows)
+own_next s old st i rows h stands = subst (λ (w : List FoundItem). OwnStands s old st i (items_in w) (items_in rows)) (drop_more rows i blank h) stands
+
+pub own_all : (s : Subject) (old st : Reached) (i : ℕ) (rows : List FoundItem) (js : List Item) → i ≡ length rows → OwnStands s old st i (items_in (drop i rows)) (items_in rows) → OwnGoesOn s old st (items_in rows) js
+own_all s old st i rows js e stands = by (subst (λ (w : List FoundItem). OwnStands s old st i (items_in w) (items_in rows)) none stands)
+  where
+    none : drop i rows ≡ []
+    none = drop_all i rows (omega arith)
+
+    by : OwnStands s old st i [] (items_in rows) → OwnGoesOn s old st (items_in rows) js
+    by h = record {
+      same = h.same js;
+      fewer = omega (arith, h.fewer js, e, items_long rows);
+      room = λ top r. (let d : length {A = Item} [] + length js ≡ length js = omega arith in subst (λ k. Room st k top) d (h.room (length js) top r));
+    }
+
+pub own_room : (s : Subject) (old st : Reached) (n : ℕ) (i : Item) (rest all : List Item) (top : ℕ) → Room old top 18446744073709551614 → length all ≡ top → OwnStands s old st n (i ∷ rest) all → HasRoom st
+own_room s old st n i rest all top r e stands = by (stands.room 0 18446744073709551614 (let d : top ≡ length all + 0 = omega arith in subst (λ k. Room old k 18446744073709551614) d r))
+  where
+    by : Room st (length (i ∷ rest) + 0) 18446744073709551614 → HasRoom st
+    by r = record { next = omega arith; group = omega arith; entry = omega arith; named = omega arith; values = omega arith }
+
+-- ---- the item that opens it
+
+pub opening : (i : Item) (is js : List Item) → opens i ≡ true → is ≡ i ∷ left_behind i js → (is ≡ i ∷ js) × (part_here is ≡ i ∷ piece js)
+opening (Groups n) is js e h = (h, ap part_here h)
+opening i is js e h = absurd (false≢true e)
+
+pub not_opening : (i : Item) (is js : List Item) → opens i ≡ false → is ≡ i ∷ js → part_here is ≡ []
+not_opening (Groups n) is js e h = absurd (false≢true (sym e))
+not_opening i is js e h = ap part_here h
+
+pub opening_is_no_entry : (i : Item) (name : Name) → opens i ≡ true → i ≡ Entry name → ⊥
+opening_is_no_entry i name e d = false≢true (ap opens (sym d) ∙ e)
+
+-- ---- a block
+
+pub own_as : (s : Subject) (old new : Reached) (js is ks : List Item) (b d : Bool) → is ≡ ks → b ≡ d → OwnJudged s old new is js (Ok b) → OwnJudged s old new ks js (Ok d)
+own_as s old new js is ks b d e h j = subst (λ (w : List Item). OwnJudged s old new w js (Ok d)) e (subst (λ (v : Bool). OwnJudged s old new is js (Ok v)) h j)
+
+-- a block's rows have room, where all items have
+pub own_block : (st : Reached) (more all n : ℕ) → Room st more all → all ≤ 9223372041149743104 → n ≤ 64 → Room st n 18446744073709551614
+own_block st more all n r h few = record { next = omega arith; group = omega arith; entry = omega arith; named = omega arith; values = omega arith }
+
+-- where it is told that a partition opens, one does
+pub opened_as : (s : Subject) (old new : Reached) (is js : List Item) (b : Bool) → b ≡ true → Opened s old new is js (Ok b) → Opened s old new is js (Ok true)
+opened_as s old new is js b e h = subst (λ (v : Bool). Opened s old new is js (Ok v)) e h
+
+-- before the first item of a partition there is room for all
+pub room_before : (st : Reached) (p n : ℕ) → st ≡ record start { next = p } → Room st n (p + n)
+room_before st p n e = subst (λ (w : Reached). Room w n (p + n)) (sym e) (record { next = omega arith; group = omega arith; entry = omega arith; named = omega arith; values = omega arith })

@@ -1,0 +1,12 @@
+use Rattle.std.proofs.Common.{drop}
+use Rattle.std.specs.List.{AllByRecursion}
+use Rattle.mr_check.specs.Steps.{subject}
+use Rattle.mr_check.specs.Blocks.{items_in, IsFound}
+use Rattle.mr_check.proofs.OwnLemmas.{OwnStands}
+use Rattle.mr_check.proofs.alone.judge_own.Given as goal
+
+abbrev pub invariant-loop-row : goal.invariant-loop-row
+invariant-loop-row l = record {
+  stands : OwnStands (subject l.facts) l.fn.judging l.judging l.row-index (items_in (drop l.row-index l.rows)) (items_in l.rows);
+  found : AllByRecursion (IsFound l.facts.triples) (drop l.row-index l.rows);
+}

@@ -1,0 +1,22 @@
+use Rattle.std.proofs.Common.{◌≡◌, ◌+◌, ◌++◌, ◌≤◌, length}
+use Rattle.mr_certform.specs.Spelling.{is_ended}
+use Rattle.mr_certform.specs.Walking.{items_left, halt}
+use Rattle.mr_check.specs.Verdict.{entries_in}
+use Rattle.mr_check.specs.VerdictLaws.{parts_in}
+use Rattle.mr_check.specs.Fronts.{parts_at}
+use Rattle.mr_check.proofs.fronts.fronts_of.Given as goal
+
+abbrev pub invariant-loop-item : goal.invariant-loop-item
+invariant-loop-item l =
+    let all = items_left l.walker in
+    let now = items_left l.here in
+    record {
+      parts : parts_at l.list.items ++ parts_in now ≡ parts_in all;
+      entries : l.entries + entries_in now ≡ entries_in all;
+      ended : is_ended now ≡ is_ended all;
+      stop : halt l.here ≡ halt l.walker;
+      few : length now ≤ length all;
+    }
+
+abbrev pub decreases-loop-item : goal.decreases-loop-item
+decreases-loop-item l = length (items_left l.here)

@@ -1,0 +1,44 @@
+use Rattle.std.proofs.Common.{◌≡◌, None, Some, List, length, ap, sym, ◌∙◌, inr, arith}
+use Rattle.mr_certform.specs.declared.item.Item.{Item}
+use Rattle.mr_certform.specs.Spelling.{is_ended}
+use Rattle.mr_certform.specs.Walking.{items_left, halt}
+use Rattle.mr_check.specs.Verdict.{start, part_faults, entries_in}
+use Rattle.mr_check.specs.VerdictLaws.{least_fault, back_fault, or_else, parts_in}
+use Rattle.mr_check.specs.Steps.{subject}
+use Rattle.mr_check.specs.Fronts.{parts_at}
+use Rattle.mr_check.proofs.FrontLemmas.{parts_few, parts_long, by_partitions}
+use Rattle.mr_check.proofs.JudgeLemmas.{settled}
+use Rattle.mr_check.proofs.threads.check_parts.Goals as goal
+
+pub least_of-requires-clause-few : goal.least_of-requires-clause-few
+least_of-requires-clause-few g c κs within =
+    let is : List Item = items_left c.args.walker.now in
+    omega (
+      arith,
+      c.requires.room,
+      ap length c.as_slice.ensures.value,
+      parts_long c.in_ok-list.field-0.list.items,
+      ap length c.in_ok-list.ensures.parts,
+      parts_few c.args.facts.now.request.parts is c.requires.order,
+    )
+
+pub returns-in-Some : goal.returns-in-Some
+returns-in-Some g c =
+    let s = subject c.args.facts.now in
+    let is : List Item = items_left c.args.walker.now in
+    let least : least_fault s 0 (parts_in is) ≡ Some c.in-Some.fault = ap (least_fault s 0) (sym c.in_ok-list.ensures.parts ∙ ap parts_at (sym c.as_slice.ensures.value)) ∙ (sym c.in_ok-fault.ensures ∙ c.in-Some.is) in
+    inr (by_partitions s (halt c.args.walker.now) c.args.facts.now.request.parts is c.requires.order ∙ ap (λ o. or_else o (back_fault s (halt c.args.walker.now) (entries_in is) (is_ended is))) least)
+
+pub returns : goal.returns
+returns g c =
+    let s = subject c.args.facts.now in
+    let at = halt c.args.walker.now in
+    let is : List Item = items_left c.args.walker.now in
+    let n = c.in_ok-list.field-0.entries in
+    let count : n ≡ entries_in is = c.in_ok-list.ensures.entries in
+    let least : least_fault s 0 (parts_in is) ≡ None = ap (least_fault s 0) (sym c.in_ok-list.ensures.parts ∙ ap parts_at (sym c.as_slice.ensures.value)) ∙ (sym c.in_ok-fault.ensures ∙ c.in_default.is) in
+    settled (part_faults s at start is) (back_fault s at n (is_ended is)) n (entries_in is) c.test_back.result
+    (by_partitions s at c.args.facts.now.request.parts is c.requires.order
+    ∙ (ap (λ o. or_else o (back_fault s at (entries_in is) (is_ended is))) least ∙ ap (λ k. back_fault s at k (is_ended is)) (sym count)))
+    count
+    (c.test_back.ensures at (is_ended is) c.in_ok-list.ensures.stop)

@@ -1,0 +1,132 @@
+//! A partition that is judged by itself.
+ghost use Rattle.std.specs.Prelude.{◌≡◌, ◌⊎◌, ◌<◌, ◌≤◌, ◌+◌, ◌-◌, ◌^◌, [], List, MatchResult, IfOk, None, Some, true, false, length};
+ghost use Rattle.std.specs.List.{AllByRecursion};
+ghost use Rattle.mr_certform.specs.declared.item.Item.{Item as Read};
+ghost use Rattle.mr_certform.specs.Walking.{items_left};
+ghost use Rattle.mr_check.specs.declared.fault.No.TheVariants.{OutOfMemory};
+ghost use Rattle.mr_check.specs.Verdict.{entries_in};
+ghost use Rattle.mr_check.specs.VerdictLaws.{part_fault};
+ghost use Rattle.mr_check.specs.Steps.{subject, Room};
+ghost use Rattle.mr_check.specs.Blocks.{items_in, onto, IsFound};
+ghost use Rattle.mr_check.specs.Fronts.{is_own as own, part_here, OwnJudged, Opened};
+
+use crate::blocks::{BLOCK, FoundItem, fetch_all, read_block, seek_all, touch};
+use crate::facts::Facts;
+use crate::fault::{No, is_same_fault};
+use crate::front::Front;
+use crate::fronts::is_opening;
+use crate::progress::Progress;
+use mr_certform::{Item, Walker};
+use mr_index::Meter;
+use std::alloc::{AllocError, Global};
+
+/// Whether the item belongs to the partition that is open.
+#[inline]
+fn is_own(item: Item) -> bool
+    ensures { result ≡ own item }
+{
+    !matches!(item, Item::Groups(_) | Item::End)
+}
+
+/// Judges the item that opens a partition, where one opens here.
+fn open_part<'a>(
+    judging: &mut Progress<'a>,
+    facts: &Facts<'a>,
+    walker: &mut Walker<'_>,
+) -> Result<bool, No>
+    requires room { Room judging.old (length (items_left walker.old)) (2 ^ 64 - 2) }
+    ensures { Opened (subject facts.now) judging.old judging.new (items_left walker.old) (items_left walker.new) result }
+{
+    let Ok(item) = walker.next() else {
+        return Ok(false);
+    };
+    if !is_opening(item) {
+        return Ok(false);
+    }
+    judging.step(facts, &FoundItem { item, found: None })?;
+    Ok(true)
+}
+
+/// Judges rows in turn, up to the next partition: whether the open one ends among them, or its first fault.
+#[inline(never)]
+fn judge_own<'a>(
+    judging: &mut Progress<'a>,
+    facts: &Facts<'a>,
+    rows: &[FoundItem<'a>],
+) -> Result<bool, No>
+    requires room { Room judging.old (length rows.now) (2 ^ 64 - 2) }
+    requires found { AllByRecursion (IsFound facts.now.triples) rows.now }
+    ensures { (js : List Read) → OwnJudged (subject facts.now) judging.old judging.new (items_in rows.now) js result }
+{
+    for row in rows {
+        if !is_own(row.item) {
+            return Ok(true);
+        }
+        judging.step(facts, row)?;
+    }
+    Ok(false)
+}
+
+/// Reads the items that come next, as `read_block` does: whether there are any.
+fn read_more(walker: &mut Walker<'_>, items: &mut Vec<Item>) -> Result<bool, AllocError>
+    ensures some { IfOk result (λ b. b ≡ true → (items_left walker.old ≡ onto items.new.items (items_left walker.new))
+        × (1 ≤ length items.new.items) × (length items.new.items ≤ 64)) }
+    ensures none { IfOk result (λ b. b ≡ false → items_left walker.old ≡ []) }
+{
+    match read_block(walker, items) {
+        Ok(()) => Ok(true),
+        Err(No::Malformed { .. }) => Ok(false),
+        Err(_) => Err(AllocError),
+    }
+}
+
+/// Judges partition `p`, which begins here: its first fault, if it has one. Its names are looked up a block of them
+/// ahead of the tests.
+fn judge_part(alloc: Global, facts: &Facts<'_>, p: u32, front: &Front<'_>) -> Result<(), No>
+    ensures { let fault = part_fault (subject facts.now) p (part_here (items_left front.now.walker)) in
+        MatchResult result (λ _. fault ≡ None) (λ e. (e ≡ OutOfMemory) ⊎ (fault ≡ Some e)) }
+{
+    let mut walker = front.walker;
+    let mut judging = Progress::before(alloc, u64::from(p));
+    if !open_part(&mut judging, facts, &mut walker)? {
+        return Ok(());
+    }
+    let mut items = Vec::with_capacity(alloc, BLOCK)?;
+    let mut sought = Vec::with_capacity(alloc, BLOCK)?;
+    let mut rows = Vec::with_capacity(alloc, BLOCK)?;
+    let mut touched = Vec::with_capacity(alloc, BLOCK)?;
+    while read_more(&mut walker, &mut items)? {
+        // What a thread looks up is counted for nobody.
+        let mut meter = Meter {
+            lookups: 0,
+            mapped: 0,
+        };
+        seek_all(facts, &items, &mut sought, &mut meter)?;
+        fetch_all(facts, &sought, &mut rows)?;
+        touch(&rows, &mut touched)?;
+        if judge_own(&mut judging, facts, &rows)? {
+            return Ok(());
+        }
+    }
+    Ok(())
+}
+
+/// The fault of partition `p`, which begins here, if it has one.
+pub(crate) fn fault_in(
+    alloc: Global,
+    facts: &Facts<'_>,
+    p: u32,
+    front: &Front<'_>,
+) -> Result<Option<No>, AllocError>
+    ensures { IfOk result (λ o. o ≡ part_fault (subject facts.now) p (part_here (items_left front.now.walker))) }
+{
+    match judge_part(alloc, facts, p, front) {
+        Ok(()) => Ok(None),
+        Err(fault) => {
+            if is_same_fault(fault, No::OutOfMemory) {
+                return Err(AllocError);
+            }
+            Ok(Some(fault))
+        }
+    }
+}

@@ -1,0 +1,337 @@
+//! The judge on many threads.
+ghost use Rattle.std.specs.Prelude.{◌≡◌, ◌⊎◌, ◌<◌, ◌≤◌, ◌+◌, ◌^◌, [], IfOk, IfErr, MatchResult, None, Some, length};
+ghost use Rattle.mr_input.specs.Files.{contents, split_total};
+ghost use Rattle.mr_certform.specs.declared.place.Place.TheVariants.{AtSkips};
+ghost use Rattle.mr_certform.specs.Grammar.{InOrder};
+ghost use Rattle.mr_certform.specs.Places.{partitions};
+ghost use Rattle.mr_certform.specs.Walking.{items_left, halt};
+ghost use Rattle.mr_check.specs.declared.fault.No.TheVariants.{OutOfMemory};
+ghost use Rattle.mr_check.specs.Verdict.{start, subject_of, part_faults, count_faults, accepted_by, verdict_of, first, entries_in};
+ghost use Rattle.mr_check.specs.VerdictLaws.{part_fault, least_fault, back_fault, or_else};
+ghost use Rattle.mr_check.specs.Headline.{IsCertified, accepted_of};
+ghost use Rattle.mr_check.specs.Steps.{Answers, subject, case_at};
+ghost use Rattle.mr_check.specs.Fronts.{part_at, parts_at, first_some, ends_at};
+
+use crate::alone::fault_in;
+use crate::entry_tests::test_named;
+use crate::facts::Facts;
+use crate::fault::No;
+use crate::front::{Front, Fronts};
+use crate::fronts::fronts_of;
+use crate::judge::{Yes, expect_header, plan_of, walk};
+use crate::skips::{expect_count, take_skips};
+use mr_bytes::{Gate, OpenGate, RecordName};
+use mr_certform::Walker;
+use mr_index::{EmissionIndex, Meter};
+use mr_input::Input;
+use mr_jobs::Request;
+use mr_splits::Plan;
+use mr_tickets::{Pieces, draw_all};
+use mr_watch::{Phase, Unwatched, Watch};
+use std::alloc::{AllocError, Global};
+use std::thread::Threads;
+
+/// How many threads judge, the gate that they pass, and who looks on.
+#[derive(Drop)]
+struct Crew<'a, G: Gate, W: Watch> {
+    threads: u32,
+    gate: &'a G,
+    watch: &'a W,
+    ghost some: { 0 < threads },
+}
+
+/// Partitions, to be judged each by itself.
+#[derive(Drop)]
+struct Judging<'a, W: Watch> {
+    facts: &'a Facts<'a>,
+    fronts: &'a [Front<'a>],
+    watch: &'a W,
+}
+
+/// The fault of the partition of that number, if there is such a partition and it has a fault.
+fn fault_at(
+    alloc: Global,
+    facts: &Facts<'_>,
+    fronts: &[Front<'_>],
+    number: u32,
+) -> Result<Option<No>, AllocError>
+    ensures { IfOk result (λ o. o ≡ part_fault (subject facts.now) number (part_at fronts.now number)) }
+{
+    if number as usize >= fronts.len() {
+        return Ok(None);
+    }
+    fault_in(alloc, facts, number, &fronts[number as usize])
+}
+
+impl<'a, W: Watch> Pieces for Judging<'a, W> {
+    ghost use Rattle.std.specs.Prelude.{◌≡◌};
+    ghost use Rattle.mr_check.specs.VerdictLaws.{part_fault};
+    ghost use Rattle.mr_check.specs.Steps.{subject};
+    ghost use Rattle.mr_check.specs.Fronts.{part_at};
+
+    type Out = Option<No>;
+
+    ghost gives = { λ j p out. out ≡ part_fault (subject j.facts.now) p (part_at j.fronts.now p) };
+
+    fn piece(&self, alloc: Global, number: u32) -> Result<Option<No>, AllocError> {
+        self.watch.tell(Phase::Judging, u64::from(number), self.fronts.len() as u64);
+        fault_at(alloc, self.facts, self.fronts, number)
+    }
+}
+
+/// The first fault that there is.
+fn first_of(faults: &[Option<No>]) -> Option<No>
+    ensures { result ≡ first_some faults.now }
+{
+    for one in faults {
+        if let Some(fault) = one {
+            return Some(*fault);
+        }
+    }
+    None
+}
+
+/// The fault of the least partition that has one, the partitions being judged by threads.
+fn least_of<R: Threads + Sync, G: Gate, W: Watch>(
+    rt: &R,
+    alloc: Global,
+    crew: &Crew<'_, G, W>,
+    facts: &Facts<'_>,
+    fronts: &[Front<'_>],
+    first_piece: u32,
+) -> Result<Option<No>, AllocError>
+    requires few { first_piece + length fronts.now < 2 ^ 32 }
+    ensures { IfOk result (λ o. o ≡ least_fault (subject facts.now) 0 (parts_at fronts.now)) }
+{
+    let judging = Judging {
+        facts,
+        fronts,
+        watch: crew.watch,
+    };
+    let faults = draw_all(
+        rt,
+        alloc,
+        fronts.len() as u32,
+        crew.threads,
+        &judging,
+        crew.gate,
+        first_piece,
+    )?;
+    Ok(first_of(faults.as_slice()))
+}
+
+/// What is told behind the partitions: that the items stop short of their end, or that pairs are unnamed; or else how
+/// many entries there are.
+fn test_back(facts: &Facts<'_>, entries: u64, stop: Option<u64>) -> Result<u64, No>
+    ensures { (at : _) (ended : _) → ends_at at stop ended
+        → (let fault = back_fault (subject facts.now) at entries ended in
+        MatchResult result (λ n. (fault ≡ None) × (n ≡ entries)) (λ e. (e ≡ OutOfMemory) ⊎ (fault ≡ Some e))) }
+{
+    if let Some(at) = stop {
+        return Err(No::Malformed { at });
+    }
+    test_named(facts.emitted(), entries)?;
+    Ok(entries)
+}
+
+/// Judges all partitions, each by a thread that draws it, and the certificate's end: how many entries there are, or the
+/// first fault. The items are walked once ahead of that, for where each partition begins.
+fn check_parts<R: Threads + Sync, G: Gate, W: Watch>(
+    rt: &R,
+    alloc: Global,
+    crew: &Crew<'_, G, W>,
+    facts: &Facts<'_>,
+    walker: &Walker<'_>,
+    first_piece: u32,
+) -> Result<u64, No>
+    requires few { length (items_left walker.now) < 2 ^ 63 }
+    requires order { InOrder (partitions facts.now.request.parts) (items_left walker.now) }
+    requires room { first_piece + facts.now.request.parts < 2 ^ 32 }
+    ensures { let fs = part_faults (subject facts.now) (halt walker.now) start (items_left walker.now) in
+        MatchResult result (λ n. (first fs ≡ None) × (n ≡ entries_in (items_left walker.now))) (λ e. Answers fs e) }
+{
+    let Fronts {
+        list,
+        entries,
+        stop,
+    } = fronts_of(alloc, walker)?;
+    if let Some(fault) = least_of(rt, alloc, crew, facts, list.as_slice(), first_piece)? {
+        return Err(fault);
+    }
+    test_back(facts, entries, stop)
+}
+
+/// Judges the partitions, given the left-out records: how many pairs there are, or the first fault. The pieces of the
+/// gate are numbered on from those of the splits.
+fn check_with<R: Threads + Sync, G: Gate, W: Watch>(
+    rt: &R,
+    alloc: Global,
+    crew: &Crew<'_, G, W>,
+    request: &Request,
+    plan: &Plan<'_>,
+    outputs: &[Vec<u8>],
+    skips: &[RecordName],
+    walker: &Walker<'_>,
+) -> Result<u64, No>
+    requires same { plan.now.size ≡ request.now.split }
+    requires few { length (items_left walker.now) < 2 ^ 63 }
+    requires order { InOrder (partitions request.now.parts) (items_left walker.now) }
+    ensures { let s = subject_of (case_at request.now plan.now.files (contents outputs.now) (halt walker.now)) skips.now in
+        let fs = part_faults s (halt walker.now) start (items_left walker.now) in
+        MatchResult result (λ n. (first fs ≡ None) × (n ≡ entries_in (items_left walker.now))) (λ e. Answers fs e) }
+{
+    // A plan has far fewer records than a u64 counts, and a request few parts.
+    let _few = plan.count();
+    let _parts = request.parts();
+    let mut meter = Meter {
+        lookups: 0,
+        mapped: 0,
+    };
+    let index = EmissionIndex::of(alloc, plan, request.job(), skips, &mut meter)?;
+    let facts = Facts {
+        request,
+        index: &index,
+        outputs,
+    };
+    check_parts(rt, alloc, crew, &facts, walker, plan.splits())
+}
+
+/// Judges what stands behind the items of the request and of the input.
+fn check_rest<R: Threads + Sync, G: Gate, W: Watch>(
+    rt: &R,
+    alloc: Global,
+    crew: &Crew<'_, G, W>,
+    request: &Request,
+    input: &Input,
+    outputs: &[Vec<u8>],
+    walker: &mut Walker<'_>,
+) -> Result<Yes, No>
+    requires fits { split_total request.now.split input.now ≤ 2 ^ 20 }
+    requires order { InOrder (AtSkips request.now.parts) (items_left walker.old) }
+    requires few { length (items_left walker.old) < 2 ^ 63 }
+    ensures { let fs = count_faults (case_at request.now input.now (contents outputs.now) (halt walker.old)) (items_left walker.old) in
+        MatchResult result
+        (λ y. (first fs ≡ None) × (accepted_by (record { skips = []; pairs = 0 }) (items_left walker.old) ≡ accepted_of y))
+        (λ e. Answers fs e) }
+{
+    expect_count(walker, request.max_skips())?;
+    let plan = plan_of(alloc, request, input)?;
+    let skips = take_skips(alloc, walker, &plan)?;
+    let pairs = check_with(rt, alloc, crew, request, &plan, outputs, &skips, walker)?;
+    Ok(Yes { skips, pairs })
+}
+
+/// Judges a result: the verdict, or want of memory.
+fn judge_all<R: Threads + Sync, G: Gate, W: Watch>(
+    rt: &R,
+    alloc: Global,
+    crew: &Crew<'_, G, W>,
+    request: &Request,
+    input: &Input,
+    outputs: &[Vec<u8>],
+    certificate: &[u8],
+) -> Result<Yes, No>
+    requires fits { split_total request.now.split input.now ≤ 2 ^ 20 }
+    ensures { let v = verdict_of request.now input.now (contents outputs.now) certificate.now in
+        MatchResult result (λ y. v ≡ Ok (accepted_of y)) (λ e. (e ≡ OutOfMemory) ⊎ (v ≡ Err e)) }
+{
+    if outputs.len() != request.parts() as usize {
+        return Err(No::OutputCount);
+    }
+    let mut walker = walk(certificate);
+    expect_header(&mut walker, request, input)?;
+    check_rest(rt, alloc, crew, request, input, outputs, &mut walker)
+}
+
+/// The same as `check`, by so many threads, from 1 to 64: they draw the partitions, and judge each by itself. What they
+/// answer is what one thread answers, memory aside. Where a thread can't be started, the calling thread does its share.
+pub fn check_threads<R: Threads + Sync>(
+    rt: &R,
+    alloc: Global,
+    request: &Request,
+    input: &Input,
+    outputs: &[Vec<u8>],
+    certificate: &[u8],
+    threads: u32,
+) -> Result<Yes, No>
+    requires fits { split_total request.now.split input.now ≤ 2 ^ 20 }
+    requires threads { (1 ≤ threads) × (threads ≤ 64) }
+    ensures headline { IfOk result (λ y. IsCertified request.now input.now (contents outputs.now) certificate.now y.skips.items y.pairs) }
+    ensures yes { IfOk result
+        (λ y. verdict_of request.now input.now (contents outputs.now) certificate.now ≡ Ok (accepted_of y)) }
+    ensures no { IfErr result (λ e. (e ≡ OutOfMemory) ⊎ (verdict_of request.now input.now (contents outputs.now) certificate.now ≡ Err e)) }
+{
+    check_gated_watched(
+        rt,
+        alloc,
+        request,
+        input,
+        outputs,
+        certificate,
+        threads,
+        &OpenGate,
+        &Unwatched,
+    )
+}
+
+/// The same as `check_threads`, where each thread passes the gate round each piece of work that it draws. Its number is
+/// the place of its seat, from 0; the piece of partition `p` is the number of the splits, and `p`.
+pub fn check_gated<R: Threads + Sync, G: Gate>(
+    rt: &R,
+    alloc: Global,
+    request: &Request,
+    input: &Input,
+    outputs: &[Vec<u8>],
+    certificate: &[u8],
+    threads: u32,
+    gate: &G,
+) -> Result<Yes, No>
+    requires fits { split_total request.now.split input.now ≤ 2 ^ 20 }
+    requires threads { (1 ≤ threads) × (threads ≤ 64) }
+    ensures headline { IfOk result (λ y. IsCertified request.now input.now (contents outputs.now) certificate.now y.skips.items y.pairs) }
+    ensures yes { IfOk result
+        (λ y. verdict_of request.now input.now (contents outputs.now) certificate.now ≡ Ok (accepted_of y)) }
+    ensures no { IfErr result (λ e. (e ≡ OutOfMemory) ⊎ (verdict_of request.now input.now (contents outputs.now) certificate.now ≡ Err e)) }
+{
+    check_gated_watched(
+        rt,
+        alloc,
+        request,
+        input,
+        outputs,
+        certificate,
+        threads,
+        gate,
+        &Unwatched,
+    )
+}
+
+/// The same as `check_gated`, where somebody looks on: the watch is told of each piece that is drawn how many were drawn
+/// before it, of all of its phase.
+pub fn check_gated_watched<R: Threads + Sync, G: Gate, W: Watch>(
+    rt: &R,
+    alloc: Global,
+    request: &Request,
+    input: &Input,
+    outputs: &[Vec<u8>],
+    certificate: &[u8],
+    threads: u32,
+    gate: &G,
+    watch: &W,
+) -> Result<Yes, No>
+    requires fits { split_total request.now.split input.now ≤ 2 ^ 20 }
+    requires threads { (1 ≤ threads) × (threads ≤ 64) }
+    ensures headline { IfOk result (λ y. IsCertified request.now input.now (contents outputs.now) certificate.now y.skips.items y.pairs) }
+    ensures yes { IfOk result
+        (λ y. verdict_of request.now input.now (contents outputs.now) certificate.now ≡ Ok (accepted_of y)) }
+    ensures no { IfErr result (λ e. (e ≡ OutOfMemory) ⊎ (verdict_of request.now input.now (contents outputs.now) certificate.now ≡ Err e)) }
+{
+    // A request's splits have at least one byte.
+    let _size = request.split_size();
+    let crew = Crew {
+        threads,
+        gate,
+        watch,
+    };
+    judge_all(rt, alloc, &crew, request, input, outputs, certificate)
+}

@@ -1,0 +1,4 @@
+pub mod Sums
+pub mod Moves
+pub mod Seats
+pub mod Slots

@@ -1,0 +1,5 @@
+pub mod Drawn
+pub mod Rule
+pub mod Plays
+pub mod Views
+pub mod Pieces

@@ -1,0 +1,203 @@
+//! All pieces of some work, drawn by threads.
+ghost use Rattle.std.specs.Prelude.{◌≡◌, ◌^◌, ◌<◌, ◌≤◌, ◌+◌, ℕ, [], ◌∷◌, ◌++◌, None, IfOk, OnOk, All, length, replicate, slice_index_or, slice_set, Some, vec_len};
+ghost use Rattle.mr_tickets.specs.Views.{IsSeatOf};
+ghost use Rattle.mr_tickets.specs.Drawn.{weigh, below};
+ghost use Rattle.mr_tickets.specs.Pieces.{IsFresh, IsDone, AllGiven, AllSlots, numbers_of};
+
+use crate::pieces::{Done, Found, Job, Pieces};
+use crate::tickets::{TicketSeat, Tickets};
+use mr_bytes::Gate;
+use std::alloc::{AllocError, Global};
+use std::thread;
+use std::thread::Threads;
+
+/// Does one piece, between the gate's two calls.
+fn gated<W: Pieces, G: Gate>(
+    alloc: Global,
+    all: &W,
+    gate: &G,
+    worker: u32,
+    told: u32,
+    piece: u32,
+) -> Result<W::Out, AllocError>
+    ensures { IfOk result (W.gives all.now piece) }
+{
+    gate.enter(worker, told);
+    let out = all.piece(alloc, piece);
+    gate.leave(worker, told);
+    out
+}
+
+/// Draws pieces until none is left, and does them.
+fn work<W: Pieces, G: Gate>(
+    alloc: Global,
+    tickets: &Tickets,
+    job: Job,
+    all: &W,
+    gate: &G,
+    first_piece: u32,
+) -> Result<Done<W::Out>, AllocError>
+    requires fresh { IsFresh tickets.now job }
+    requires room { first_piece + tickets.now.limit < 2 ^ 32 }
+    ensures { IfOk result (IsDone (W.gives all.now) tickets.now) }
+{
+    let Job { worker, mut seat } = job;
+    let mut found = Vec::new(alloc);
+    while let Some(piece) = tickets.draw(&mut seat) {
+        let out = gated(alloc, all, gate, worker, first_piece + piece, piece)?;
+        found.push(Found { piece, out })?;
+    }
+    Ok(Done { seat, found })
+}
+
+/// Each seat with its place among all; the last comes first.
+fn jobs_of(
+    alloc: Global,
+    tickets: &Tickets,
+    mut seats: Vec<TicketSeat>,
+) -> Result<Vec<Job>, AllocError>
+    requires few { vec_len seats < 2 ^ 32 }
+    requires fresh { All (λ s. IsSeatOf tickets.now s × (s.drawn ≡ [])) seats.items }
+    ensures count { IfOk result (λ v. vec_len v ≡ vec_len seats) }
+    ensures fresh { IfOk result (λ v. All (IsFresh tickets.now) v.items) }
+{
+    let mut jobs = Vec::with_capacity(alloc, seats.len())?;
+    while let Some(seat) = seats.pop() {
+        let worker = seats.len() as u32;
+        jobs.push(Job { worker, seat })?;
+    }
+    Ok(jobs)
+}
+
+/// One thread's seat and results go to the others.
+fn take_in<X: Drop>(
+    seats: &mut Vec<TicketSeat>,
+    found: &mut Vec<Found<X>>,
+    done: Done<X>,
+) -> Result<(), AllocError>
+    ensures seats { OnOk result (seats.new.items ≡ seats.old.items ++ done.seat ∷ []) }
+    ensures found { OnOk result (found.new.items ≡ found.old.items ++ done.found.items) }
+{
+    let Done {
+        seat,
+        found: mut more,
+    } = done;
+    found.append(&mut more)?;
+    seats.push(seat)?;
+    Ok(())
+}
+
+/// The results of all threads, in some order: each piece has one.
+fn gather<W: Pieces>(
+    alloc: Global,
+    all: &W,
+    tickets: Tickets,
+    mut dones: Vec<Result<Done<W::Out>, AllocError>>,
+) -> Result<Vec<Found<W::Out>>, AllocError>
+    requires count { vec_len dones ≡ tickets.seats }
+    requires done { All (λ r. IfOk r (IsDone (W.gives all.now) tickets)) dones.items }
+    ensures once { IfOk result (λ v. (h : ℕ → ℕ) → weigh h (numbers_of v.items) ≡ below h tickets.limit) }
+    ensures given { IfOk result (λ v. AllGiven (W.gives all.now) v.items) }
+{
+    let mut seats = Vec::new(alloc);
+    let mut found = Vec::new(alloc);
+    while let Some(done) = dones.pop() {
+        let done = done?;
+        take_in(&mut seats, &mut found, done)?;
+    }
+    tickets.close(seats);
+    Ok(found)
+}
+
+/// A slot for each piece.
+fn empty_slots<X: Drop>(alloc: Global, count: u32) -> Result<Vec<Option<X>>, AllocError>
+    ensures { IfOk result (λ v. v.items ≡ replicate count None) }
+{
+    let mut slots = Vec::new(alloc);
+    for _i in 0..count {
+        slots.push(None)?;
+    }
+    Ok(slots)
+}
+
+/// A result goes to its slot.
+fn put<X: Drop>(slots: &mut [Option<X>], at: usize, out: X)
+    requires { at < length slots.old }
+    ensures { slots.new ≡ slice_set slots.old at (Some out) }
+{
+    slots[at] = Some(out);
+}
+
+/// Each result goes to its slot, which stands as far from the end as its piece from the start.
+fn fill<W: Pieces>(all: &W, count: u32, slots: &mut [Option<W::Out>], mut found: Vec<Found<W::Out>>)
+    requires len { length slots.old ≡ count }
+    requires within { All (λ f. f.piece < count) found.items }
+    requires given { AllGiven (W.gives all.now) found.items }
+    requires slots { AllSlots (W.gives all.now) (numbers_of found.items) count slots.old }
+    ensures { AllSlots (W.gives all.now) [] count slots.new }
+{
+    while let Some(next) = found.pop() {
+        let Found { piece, out } = next;
+        put(slots, (count - 1 - piece) as usize, out);
+    }
+}
+
+/// What lies in the slots, the last slot first.
+fn take_all<W: Pieces>(
+    alloc: Global,
+    all: &W,
+    count: u32,
+    mut slots: Vec<Option<W::Out>>,
+) -> Result<Vec<W::Out>, AllocError>
+    requires len { vec_len slots ≡ count }
+    requires slots { AllSlots (W.gives all.now) [] count slots.items }
+    ensures len { IfOk result (λ v. vec_len v ≡ count) }
+    ensures each { IfOk result (λ v. (p : ℕ) (d : _) → p < count → W.gives all.now p (slice_index_or v.items p d)) }
+{
+    let mut outs = Vec::new(alloc);
+    while let Some(slot) = slots.pop() {
+        let Some(out) = slot else { unreachable!() };
+        outs.push(out)?;
+    }
+    Ok(outs)
+}
+
+/// Does all pieces by that many threads, at least one, and gives their results in the order of the pieces, as one thread
+/// would. Each thread draws a piece, does it, and draws again until none is left. Where a thread can't be started, the
+/// calling thread does its share.
+///
+/// A thread passes the gate round each piece. The gate is told the thread's number, from 0, and the piece's, counted
+/// from `first_piece`.
+///
+/// # Errors
+/// `AllocError` where memory is refused, be it in one thread alone.
+pub fn draw_all<W: Pieces, G: Gate, R: Threads + Sync>(
+    rt: &R,
+    alloc: Global,
+    count: u32,
+    threads: u32,
+    all: &W,
+    gate: &G,
+    first_piece: u32,
+) -> Result<Vec<W::Out>, AllocError>
+    requires threads { 0 < threads }
+    requires room { first_piece + count < 2 ^ 32 }
+    ensures len { IfOk result (λ v. vec_len v ≡ count) }
+    ensures each { IfOk result (λ v. (p : ℕ) (d : _) → p < count → W.gives all.now p (slice_index_or v.items p d)) }
+{
+    let (tickets, seats) = Tickets::open(alloc, count, threads)?;
+    let shared = &tickets;
+    let jobs = jobs_of(alloc, shared, seats)?;
+    let dones = thread::map_vec(
+        rt,
+        jobs,
+        &|job: Job| -> Result<Done<W::Out>, AllocError>
+            requires { IsFresh shared.now job × (first_piece + shared.now.limit < 2 ^ 32) }
+            ensures { IfOk result (IsDone (W.gives all.entry.now) shared.entry.now) }
+        { work(alloc, shared, job, all, gate, first_piece) },
+    )?;
+    let found = gather(alloc, all, tickets, dones)?;
+    let mut slots = empty_slots(alloc, count)?;
+    fill(all, count, slots.as_mut_slice(), found);
+    take_all(alloc, all, count, slots)
+}

@@ -1,0 +1,143 @@
+//! Numbers, and the seats that draw them.
+ghost use Rattle.std.specs.Prelude.{◌≡◌, ◌<◌, ℕ, [], ◌∷◌, ◌++◌, true, false, IfOk, IfSome, IfNone, All, length, replicate, vec_len, if◌then◌else◌};
+ghost use Rattle.mr_tickets.specs.Drawn.{below, weigh, total, kept, past};
+ghost use Rattle.mr_tickets.specs.Views.{TicketsView, SeatView, IsSeatOf};
+
+use crate::rule::{Both, Draw, Hand, Limits, Numbers, Part};
+use atomic_table::{Seat, Table};
+use std::alloc::{AllocError, Global};
+use std::marker::Model;
+
+/// The numbers below a limit, to be drawn by any number of threads at once.
+#[derive(Drop)]
+pub struct Tickets {
+    limit: u32,
+    table: Table<(), Hand, Limits, Numbers, Global>,
+}
+
+impl Model for Tickets {
+    ghost use Rattle.std.specs.Prelude.{◌≡◌, ◌^◌, ◌<◌};
+    ghost use Rattle.mr_tickets.specs.Views.{TicketsView};
+
+    ghost Value = { TicketsView };
+
+    ghost view = { λ t. record { table = t.table.shared.table_id; limit = t.limit; seats = t.table.shared.key.seats } };
+
+    ghost invariant = { λ t. (t.table.shared.table_id.words ≡ 1) × (t.table.shared.table_id.slots ≡ 0) × (t.table.shared.key.limit ≡ t.limit) × (t.table.shared.key.limit < 2 ^ 32) × (0 < t.table.shared.key.seats) × (t.table.shared.key.seats < 2 ^ 32) };
+}
+
+/// Who draws numbers of one `Tickets`. It knows which it drew, and whether it was told that none is left.
+#[derive(Drop)]
+pub struct TicketSeat {
+    limit: u32,
+    told: bool,
+    seat: Seat<(), Hand>,
+}
+
+impl Model for TicketSeat {
+    ghost use Rattle.std.specs.Prelude.{◌≡◌, [], if◌then◌else◌};
+    ghost use Rattle.mr_tickets.specs.Drawn.{kept, weigh, past};
+    ghost use Rattle.mr_tickets.specs.Views.{SeatView};
+
+    ghost Value = { SeatView };
+
+    ghost view = { λ s. record { table = s.seat.table_id; limit = s.limit; drawn = kept s.limit s.seat.me.0.drawn; told = s.told } };
+
+    ghost invariant = { λ s. (s.seat.me.1 ≡ []) × (s.seat.me.0.parts ≡ 1) × (weigh (past s.limit) s.seat.me.0.drawn ≡ (if s.told then 1 else 0)) };
+}
+
+impl TicketSeat {
+    /// A seat that has drawn nothing.
+    fn of(limit: u32, seat: Seat<(), Hand>) -> TicketSeat
+        requires { (seat.me.1 ≡ []) × (seat.me.0.parts ≡ 1) × (seat.me.0.drawn ≡ []) }
+        ensures { result ≡ record { table = seat.table_id; limit = limit; drawn = []; told = false } }
+    {
+        TicketSeat {
+            limit,
+            told: false,
+            seat,
+        }
+    }
+
+    /// The seat at the word, which knows the numbers past the limit too.
+    fn into_seat(self) -> Seat<(), Hand>
+        ensures table { result.table_id ≡ self.table }
+        ensures one { (result.me.1 ≡ []) × (result.me.0.parts ≡ 1) }
+        ensures drawn { kept self.limit result.me.0.drawn ≡ self.drawn }
+        ensures told { weigh (past self.limit) result.me.0.drawn ≡ (if self.told then 1 else 0) }
+    {
+        let TicketSeat {
+            limit: _,
+            told: _,
+            seat,
+        } = self;
+        seat
+    }
+}
+
+impl Tickets {
+    /// The numbers below the limit, and seats for those who draw, at least one.
+    ///
+    /// # Errors
+    /// `AllocError` where memory is refused.
+    pub fn open(
+        alloc: Global,
+        limit: u32,
+        seats: u32,
+    ) -> Result<(Tickets, Vec<TicketSeat>), AllocError>
+        requires { 0 < seats }
+        ensures tickets { IfOk result (λ r. (r.0.limit ≡ limit) × (r.0.seats ≡ seats)) }
+        ensures seats { IfOk result (λ r. r.1.items ≡ replicate seats (record { table = r.0.table; limit = limit; drawn = []; told = false })) }
+    {
+        let about = Limits { limit, seats };
+        let (table, mut first) = Table::<(), Hand, Limits, Numbers, Global>::of_words(
+            alloc,
+            &[0],
+            &about,
+        )?;
+        let mut made = Vec::new(alloc);
+        for _i in 0..seats {
+            let seat = table.shared.split_seat::<Part>(&mut first);
+            made.push(TicketSeat::of(limit, seat))?;
+        }
+        Ok((Tickets { limit, table }, made))
+    }
+
+    /// The next number, or `None` once all are drawn: a single step of the word. A seat that was told `None` is told so
+    /// from then on, with no step. The seat must be one of these tickets'.
+    pub fn draw(&self, seat: &mut TicketSeat) -> Option<u32>
+        requires { IsSeatOf self.now seat.old }
+        ensures some { IfSome result (λ n. (n < self.now.limit) × (seat.old.told ≡ false) × (length seat.old.drawn < self.now.limit) × (seat.new ≡ record seat.old { drawn = seat.old.drawn ++ n ∷ [] })) }
+        ensures none { IfNone result (seat.new ≡ record seat.old { told = true }) }
+    {
+        if seat.told {
+            return None;
+        }
+        // No seat makes more than one step past the limit: a word of 64 bits has room.
+        let found = self.table.shared.fetch_add::<Draw>(&mut seat.seat, 0, 1);
+        if found < self.limit as u64 {
+            Some(found as u32)
+        } else {
+            seat.told = true;
+            None
+        }
+    }
+
+    /// Takes all seats back. Where each was told `None`, the numbers below the limit were drawn, each once, however they
+    /// are weighed.
+    pub fn close(self, mut seats: Vec<TicketSeat>)
+        requires mine { All (IsSeatOf self) seats.items }
+        requires all { vec_len seats ≡ self.seats }
+        ensures { All (λ s. s.told ≡ true) seats.items → (h : ℕ → ℕ) → total (λ s. weigh h s.drawn) seats.items ≡ below h self.limit }
+    {
+        let Tickets { limit: _, table } = self;
+        let Some(seat) = seats.pop() else {
+            unreachable!()
+        };
+        let mut base = seat.into_seat();
+        while let Some(seat) = seats.pop() {
+            table.shared.join_seat::<Both>(&mut base, seat.into_seat());
+        }
+        table.close_with(base).free();
+    }
+}
