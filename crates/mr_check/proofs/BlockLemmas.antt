@@ -1,5 +1,5 @@
 -- Items that are read ahead: what stands before those that are left, and the tests on them in turn.
-use Rattle.std.proofs.Common.{◌≡◌, ℕ, ◌+◌, ◌<◌, ◌≤◌, Bool, true, None, Ok, List, [], ◌∷◌, ◌++◌, length, drop, get_or, refl, ap, sym, subst, ◌∙◌, inl, inr, arith, append_assoc}
+use Rattle.std.proofs.Common.{◌≡◌, ℕ, zero, suc, ◌+◌, ◌<◌, ◌≤◌, Bool, true, None, Ok, List, [], ◌∷◌, ◌++◌, length, drop, get_or, refl, ap, sym, subst, ◌∙◌, inl, inr, arith, append_assoc}
 use Rattle.std.proofs.lemmas.List.{drop_more, drop_all}
 use Rattle.std.specs.List.{AllByRecursion}
 use Rattle.mr_certform.specs.declared.item.Item.{Item}
@@ -77,13 +77,15 @@ sought_more (q ∷ sought) o more i ks js all m item d e =
     ∙ (ap (λ w. q.item ∷ w) (sought_more sought o (sought ++ o ∷ []) i ks js (items_sought sought ++ ks) refl item d refl)
     ∙ e)
 
--- what stands past the last that was sought
-abbrev pub unsought : Sought
-unsought = record { item = Magic; place = None }
-
 pub all_more : {A : Type 0} (P : A → Type 0) (xs : List A) (x : A) → AllByRecursion P xs → P x → AllByRecursion P (xs ++ x ∷ [])
 all_more P [] x all here = (here, tt)
 all_more P (y ∷ xs) x all here = (all.0, all_more P xs x all.1 here)
+
+-- one of them all
+pub all_at : {A : Type 0} (P : A → Type 0) (xs : List A) (i : ℕ) (d : A) → AllByRecursion P xs → i < length xs → P (get_or xs i d)
+all_at P [] i d all h = absurd (omega arith)
+all_at P (x ∷ xs) zero d all h = all.0
+all_at P (x ∷ xs) (suc i) d all h = all_at P xs i d all.1 (omega (arith, h))
 
 -- ---- the tests on items in turn
 

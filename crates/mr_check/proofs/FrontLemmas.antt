@@ -148,11 +148,6 @@ part_is [] p d h = absurd (omega arith)
 part_is (f ∷ fs) zero d h = refl
 part_is (f ∷ fs) (suc p) d h = part_is fs p d (omega arith)
 
-pub no_part : (fs : List Front) (p : ℕ) → length fs ≤ p → part_at fs p ≡ []
-no_part [] p h = refl
-no_part (f ∷ fs) zero h = absurd (omega arith)
-no_part (f ∷ fs) (suc p) h = no_part fs p (omega arith)
-
 -- ---- the first of faults
 
 first_here : (os : List (Option No)) (i : ℕ) (d : Option No) → i < length os → first_some (drop i os) ≡ or_else (get_or os i d) (first_some (drop (i + 1) os))

@@ -6,6 +6,7 @@ pub mod Faults
 pub mod FrontLemmas
 pub mod GrammarLemmas
 pub mod HeadlineLemmas
+pub mod IndexLemmas
 pub mod JudgeLemmas
 pub mod MetLemmas
 pub mod MeterLemmas

@@ -1,12 +1,11 @@
 -- Of no public promise: what is read and looked up ahead of the tests.
-use Rattle.std.specs.Prelude.{◌≡◌, ℕ, ◌+◌, Bool, true, false, Some, None, MatchOption, IfSome, ◌<◌, Result, Ok, Err, List, [], ◌∷◌, length}
+use Rattle.std.specs.Prelude.{◌≡◌, ℕ, ◌+◌, Bool, true, false, Some, None, MatchOption, Result, Ok, Err, List, [], ◌∷◌, length}
 use Rattle.mr_bytes.specs.declared.Name.{Name}
 use Rattle.mr_certform.specs.declared.item.Item.{Item}
 use Rattle.mr_certform.specs.declared.item.Item.TheVariants.{Entry, End}
 use Rattle.mr_bytes.specs.Pairs.{Triple}
 use Rattle.mr_sequential.specs.Good.{named}
 use Rattle.mr_check.specs.declared.fault.No.{No}
-use Rattle.mr_index.specs.Index.{pair_at}
 use Rattle.mr_check.specs.declared.blocks.Sought.{Sought}
 use Rattle.mr_check.specs.declared.blocks.FoundItem.{FoundItem}
 use Rattle.mr_check.specs.Verdict.{Reached, Subject, part_faults, first, entries_in}
@@ -27,14 +26,10 @@ abbrev pub items_in : List FoundItem → List Item
 items_in [] = []
 items_in (r ∷ rows) = r.item ∷ items_in rows
 
--- the pair at this place, under this name
-abbrev pub triple_at : List Triple → Name → ℕ → Triple
-triple_at ts name at = record { key = (pair_at ts at).0; value = (pair_at ts at).1; name = name }
-
 -- where the item is an entry, its place is that of what is emitted under its name
-pub record IsPlaced (ts : List Triple) (s : Sought) : Type 0 where
-  pub within : IfSome s.place (λ at. at < length ts)
-  pub there : (name : Name) → s.item ≡ Entry name → MatchOption s.place (named ts name ≡ None) (λ at. named ts name ≡ Some (triple_at ts name at))
+abbrev pub IsPlaced : List Triple → Sought → Type 0
+IsPlaced ts s = (name : Name) → s.item ≡ Entry name
+    → MatchOption s.place (named ts name ≡ None) (λ f. named ts name ≡ Some (record { key = f.0; value = f.1; name = name }))
 
 -- where the row's item is an entry, what was found is what is emitted under its name
 abbrev pub IsFound : List Triple → FoundItem → Type 0

@@ -102,7 +102,7 @@ fn judge_part(alloc: Global, facts: &Facts<'_>, p: u32, front: &Front<'_>) -> Re
             mapped: 0,
         };
         seek_all(facts, &items, &mut sought, &mut meter)?;
-        fetch_all(facts, &sought, &mut rows)?;
+        fetch_all(&sought, &mut rows)?;
         touch(&rows, &mut touched)?;
         if judge_own(&mut judging, facts, &rows)? {
             return Ok(());

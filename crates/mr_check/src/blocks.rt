@@ -1,8 +1,9 @@
 //! Reading and looking up ahead of the tests, a block at a time. Each step is a loop of its own over the block, short and
 //! not inlined, in which no turn waits for the one before: so the waits for memory of many names overlap.
-ghost use Rattle.std.specs.Prelude.{◌≡◌, ◌⊎◌, ◌<◌, ◌≤◌, ◌+◌, ◌^◌, [], ◌∷◌, ◌++◌, MatchResult, OnOk, length};
+ghost use Rattle.std.specs.Prelude.{◌≡◌, ◌⊎◌, ◌<◌, ◌≤◌, ◌+◌, ◌^◌, [], ◌∷◌, ◌++◌, MatchResult, OnOk, List, length};
 ghost use Rattle.std.specs.List.{AllByRecursion};
 ghost use Rattle.mr_certform.specs.Walking.{items_left, halt};
+ghost use Rattle.mr_bytes.specs.Pairs.{Triple};
 ghost use Rattle.mr_check.specs.declared.fault.No.TheVariants.{Malformed, OutOfMemory};
 ghost use Rattle.mr_check.specs.Verdict.{entries_in};
 ghost use Rattle.mr_check.specs.Blocks.{onto, items_sought, items_in, IsPlaced, IsFound};
@@ -11,17 +12,17 @@ use crate::facts::Facts;
 use crate::fault::No;
 use mr_bytes::Value;
 use mr_certform::{Item, Walker};
-use mr_index::Meter;
+use mr_index::{Found, Meter};
 use std::alloc::AllocError;
 
 /// How many items are read and looked up ahead.
 pub(crate) const BLOCK: usize = 64;
 
-/// An item, and where what is emitted under its name stands where it is an entry.
+/// An item, and the place of what is emitted under its name where it is an entry.
 #[derive(Drop)]
-pub(crate) struct Sought {
+pub(crate) struct Sought<'a> {
     pub item: Item,
-    pub place: Option<usize>,
+    pub place: Option<Found<'a>>,
 }
 
 /// An item, and what is emitted under its name where it is an entry.
@@ -32,7 +33,7 @@ pub(crate) struct FoundItem<'a> {
 }
 
 /// Looks up the item's name, where it is an entry.
-fn seek(facts: &Facts<'_>, item: Item, meter: &mut Meter) -> Sought
+fn seek<'a>(facts: &Facts<'a>, item: Item, meter: &mut Meter) -> Sought<'a>
     requires { meter.old.lookups + entries_in (item ∷ []) < 2 ^ 64 }
     ensures item { result.item ≡ item }
     ensures placed { IsPlaced facts.now.triples result }
@@ -47,13 +48,12 @@ fn seek(facts: &Facts<'_>, item: Item, meter: &mut Meter) -> Sought
 }
 
 /// The row of an item that was sought.
-fn row_of<'a>(facts: &Facts<'a>, sought: &Sought) -> FoundItem<'a>
-    requires { IsPlaced facts.now.triples sought.now }
+fn row_of<'a>(sought: &Sought<'a>) -> FoundItem<'a>
     ensures item { result.item ≡ sought.now.item }
-    ensures found { IsFound facts.now.triples result }
+    ensures found { (ts : List Triple) → IsPlaced ts sought.now → IsFound ts result }
 {
-    let found = match sought.place {
-        Some(at) => Some(facts.at(at)),
+    let found = match &sought.place {
+        Some(place) => Some(place.get()),
         None => None,
     };
     FoundItem {
@@ -97,10 +97,10 @@ pub(crate) fn read_block(walker: &mut Walker<'_>, items: &mut Vec<Item>) -> Resu
 
 /// Looks up all names among the items, in place of what the list held: where each stands.
 #[inline(never)]
-pub(crate) fn seek_all(
-    facts: &Facts<'_>,
+pub(crate) fn seek_all<'a>(
+    facts: &Facts<'a>,
     items: &[Item],
-    sought: &mut Vec<Sought>,
+    sought: &mut Vec<Sought<'a>>,
     meter: &mut Meter,
 ) -> Result<(), AllocError>
     requires { meter.old.lookups + entries_in items.now < 2 ^ 64 }
@@ -121,17 +121,15 @@ pub(crate) fn seek_all(
 /// The rows of all that was sought, in place of what the list held. No byte of a key is read.
 #[inline(never)]
 pub(crate) fn fetch_all<'a>(
-    facts: &Facts<'a>,
-    sought: &[Sought],
+    sought: &[Sought<'a>],
     rows: &mut Vec<FoundItem<'a>>,
 ) -> Result<(), AllocError>
-    requires { AllByRecursion (IsPlaced facts.now.triples) sought.now }
     ensures items { OnOk result (items_in rows.new.items ≡ items_sought sought.now) }
-    ensures found { OnOk result (AllByRecursion (IsFound facts.now.triples) rows.new.items) }
+    ensures found { OnOk result ((ts : List Triple) → AllByRecursion (IsPlaced ts) sought.now → AllByRecursion (IsFound ts) rows.new.items) }
 {
     rows.clear();
     for one in sought {
-        let row = row_of(facts, one);
+        let row = row_of(one);
         keep(rows, row)?;
     }
     Ok(())

@@ -4,12 +4,10 @@ ghost use Rattle.mr_input.specs.Files.{nth_file};
 ghost use Rattle.mr_partition.specs.Partition.{partition_of};
 ghost use Rattle.mr_reduce.specs.Text.{text_of};
 ghost use Rattle.mr_sequential.specs.Good.{named};
-ghost use Rattle.mr_index.specs.Index.{pair_at};
-ghost use Rattle.mr_check.specs.Blocks.{triple_at};
 
 use crate::comparing::output_of;
-use mr_bytes::{Name, Value, Values};
-use mr_index::{EmissionIndex, Meter};
+use mr_bytes::{Name, Values};
+use mr_index::{EmissionIndex, Found, Meter};
 use mr_jobs::{Job, Request};
 use mr_partition::partition;
 use mr_reduce::{group_text, total_text};
@@ -31,7 +29,7 @@ fn put_text(job: &Job, key: &[u8], values: &Values, out: &mut Vec<u8>) -> Result
 #[derive(Drop)]
 pub(crate) struct Facts<'a> {
     pub request: &'a Request,
-    pub index: &'a EmissionIndex<'a>,
+    pub index: &'a EmissionIndex,
     pub outputs: &'a [Vec<u8>],
 }
 
@@ -67,25 +65,16 @@ impl<'a> Facts<'a> {
         put_text(self.request.job(), key, values, out)
     }
 
-    /// Where the pair of that name stands among all that is emitted, or none where there is no such pair.
-    pub fn find(&self, name: Name, meter: &mut Meter) -> Option<usize>
+    /// The pair of that name among all that is emitted, or none where there is no such pair.
+    pub fn find(&self, name: Name, meter: &mut Meter) -> Option<Found<'a>>
         requires { meter.old.lookups + 1 < 2 ^ 64 }
-        ensures found { MatchOption result (named self.now.triples name ≡ None) (λ at. (at < length self.now.triples)
-            × (named self.now.triples name ≡ Some (triple_at self.now.triples name at))) }
+        ensures found { MatchOption result (named self.now.triples name ≡ None)
+            (λ f. named self.now.triples name ≡ Some (record { key = f.0; value = f.1; name = name })) }
         ensures lookups { meter.new.lookups ≡ meter.old.lookups + 1 }
         ensures mapped { meter.new.mapped ≡ meter.old.mapped }
     {
         let index = self.index;
         index.find(name, meter)
-    }
-
-    /// The key and the value of the pair that stands at this place.
-    pub fn at(&self, at: usize) -> (&'a [u8], Value)
-        requires { at < length self.now.triples }
-        ensures { (result.0.now, result.1) ≡ pair_at self.now.triples at }
-    {
-        let index = self.index;
-        index.at(at)
     }
 
     /// How many pairs are emitted.

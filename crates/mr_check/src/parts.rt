@@ -63,7 +63,7 @@ pub(crate) fn check_parts(
         pace.reach(judging.named(), watch);
         read_block(walker, &mut items)?;
         seek_all(facts, &items, &mut sought, meter)?;
-        fetch_all(facts, &sought, &mut rows)?;
+        fetch_all(&sought, &mut rows)?;
         touch(&rows, &mut touched)?;
         if judge_rows(&mut judging, facts, &rows)? {
             return Ok(judging.named());

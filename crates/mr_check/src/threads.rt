@@ -1,6 +1,7 @@
 //! The judge on many threads.
 ghost use Rattle.std.specs.Prelude.{◌≡◌, ◌⊎◌, ◌<◌, ◌≤◌, ◌+◌, ◌^◌, [], IfOk, IfErr, MatchResult, None, Some, length};
 ghost use Rattle.mr_input.specs.Files.{contents, split_total};
+ghost use Rattle.mr_index.specs.Index.{triples_of};
 ghost use Rattle.mr_certform.specs.declared.place.Place.TheVariants.{AtSkips};
 ghost use Rattle.mr_certform.specs.Grammar.{InOrder};
 ghost use Rattle.mr_certform.specs.Places.{partitions};
@@ -22,10 +23,10 @@ use crate::judge::{Yes, expect_header, plan_of, walk};
 use crate::skips::{expect_count, take_skips};
 use mr_bytes::{Gate, OpenGate, RecordName};
 use mr_certform::Walker;
-use mr_index::{EmissionIndex, Meter};
+use mr_index::{EmissionIndex, Part};
 use mr_input::Input;
-use mr_jobs::Request;
-use mr_splits::Plan;
+use mr_jobs::{Job, Request};
+use mr_splits::{Kept, Plan};
 use mr_tickets::{Pieces, draw_all};
 use mr_watch::{Phase, Unwatched, Watch};
 use std::alloc::{AllocError, Global};
@@ -40,6 +41,33 @@ struct Crew<'a, G: Gate, W: Watch> {
     ghost some: { 0 < threads },
 }
 
+/// The splits of a plan, to be mapped each by itself.
+#[derive(Drop)]
+struct Mapping<'a, W: Watch> {
+    kept: &'a Kept<'a>,
+    job: &'a Job,
+    splits: u32,
+    watch: &'a W,
+}
+
+impl<'a, W: Watch> Pieces for Mapping<'a, W> {
+    ghost use Rattle.std.specs.Prelude.{◌≡◌, ◌<◌};
+    ghost use Rattle.mr_input.specs.Files.{split_total};
+    ghost use Rattle.mr_index.specs.Index.{triples_in, triples_of};
+
+    type Out = Part;
+
+    ghost has = { λ m s. s < split_total m.kept.now.cut.size m.kept.now.cut.files };
+
+    ghost gives = { λ m s out. out ≡ triples_in s (triples_of m.job.now m.kept.now.cut m.kept.now.skips) };
+
+    fn piece(&self, alloc: Global, number: u32) -> Result<Part, AllocError> {
+        self.watch
+            .tell(Phase::Mapping, u64::from(number), u64::from(self.splits));
+        EmissionIndex::part_of(alloc, self.kept, self.job, number)
+    }
+}
+
 /// Partitions, to be judged each by itself.
 #[derive(Drop)]
 struct Judging<'a, W: Watch> {
@@ -48,28 +76,15 @@ struct Judging<'a, W: Watch> {
     watch: &'a W,
 }
 
-/// The fault of the partition of that number, if there is such a partition and it has a fault.
-fn fault_at(
-    alloc: Global,
-    facts: &Facts<'_>,
-    fronts: &[Front<'_>],
-    number: u32,
-) -> Result<Option<No>, AllocError>
-    ensures { IfOk result (λ o. o ≡ part_fault (subject facts.now) number (part_at fronts.now number)) }
-{
-    if number as usize >= fronts.len() {
-        return Ok(None);
-    }
-    fault_in(alloc, facts, number, &fronts[number as usize])
-}
-
 impl<'a, W: Watch> Pieces for Judging<'a, W> {
-    ghost use Rattle.std.specs.Prelude.{◌≡◌};
+    ghost use Rattle.std.specs.Prelude.{◌≡◌, ◌<◌, length};
     ghost use Rattle.mr_check.specs.VerdictLaws.{part_fault};
     ghost use Rattle.mr_check.specs.Steps.{subject};
     ghost use Rattle.mr_check.specs.Fronts.{part_at};
 
     type Out = Option<No>;
+
+    ghost has = { λ j p. p < length j.fronts.now };
 
     ghost gives = { λ j p out. out ≡ part_fault (subject j.facts.now) p (part_at j.fronts.now p) };
 
@@ -77,6 +92,43 @@ impl<'a, W: Watch> Pieces for Judging<'a, W> {
         self.watch.tell(Phase::Judging, u64::from(number), self.fronts.len() as u64);
         fault_at(alloc, self.facts, self.fronts, number)
     }
+}
+
+/// The fault of the partition of that number, if it has one.
+fn fault_at(
+    alloc: Global,
+    facts: &Facts<'_>,
+    fronts: &[Front<'_>],
+    number: u32,
+) -> Result<Option<No>, AllocError>
+    requires { number < length fronts.now }
+    ensures { IfOk result (λ o. o ≡ part_fault (subject facts.now) number (part_at fronts.now number)) }
+{
+    fault_in(alloc, facts, number, &fronts[number as usize])
+}
+
+/// All that the job emits over a plan without its left-out records, the splits being mapped by threads.
+fn index_of<R: Threads + Sync, G: Gate, W: Watch>(
+    rt: &R,
+    alloc: Global,
+    crew: &Crew<'_, G, W>,
+    kept: &Kept<'_>,
+    job: &Job,
+) -> Result<EmissionIndex, AllocError>
+    ensures { IfOk result (λ i. i ≡ triples_of job.now kept.now.cut kept.now.skips) }
+{
+    let plan = kept.plan();
+    // A plan's splits have at least one byte.
+    let _size = plan.size();
+    let splits = plan.splits();
+    let mapping = Mapping {
+        kept,
+        job,
+        splits,
+        watch: crew.watch,
+    };
+    let parts = draw_all(rt, alloc, splits, crew.threads, &mapping, crew.gate, 0)?;
+    Ok(EmissionIndex::join(parts))
 }
 
 /// The first fault that there is.
@@ -161,8 +213,8 @@ fn check_parts<R: Threads + Sync, G: Gate, W: Watch>(
     test_back(facts, entries, stop)
 }
 
-/// Judges the partitions, given the left-out records: how many pairs there are, or the first fault. The pieces of the
-/// gate are numbered on from those of the splits.
+/// Maps the splits and judges the partitions, given the left-out records: how many pairs there are, or the first fault.
+/// The pieces of the partitions are numbered on from those of the splits.
 fn check_with<R: Threads + Sync, G: Gate, W: Watch>(
     rt: &R,
     alloc: Global,
@@ -180,14 +232,10 @@ fn check_with<R: Threads + Sync, G: Gate, W: Watch>(
         let fs = part_faults s (halt walker.now) start (items_left walker.now) in
         MatchResult result (λ n. (first fs ≡ None) × (n ≡ entries_in (items_left walker.now))) (λ e. Answers fs e) }
 {
-    // A plan has far fewer records than a u64 counts, and a request few parts.
-    let _few = plan.count();
+    // A request has few parts.
     let _parts = request.parts();
-    let mut meter = Meter {
-        lookups: 0,
-        mapped: 0,
-    };
-    let index = EmissionIndex::of(alloc, plan, request.job(), skips, &mut meter)?;
+    let kept = plan.kept(alloc, skips)?;
+    let index = index_of(rt, alloc, crew, &kept, request.job())?;
     let facts = Facts {
         request,
         index: &index,
@@ -243,8 +291,8 @@ fn judge_all<R: Threads + Sync, G: Gate, W: Watch>(
     check_rest(rt, alloc, crew, request, input, outputs, &mut walker)
 }
 
-/// The same as `check`, by so many threads, from 1 to 64: they draw the partitions, and judge each by itself. What they
-/// answer is what one thread answers, memory aside. Where a thread can't be started, the calling thread does its share.
+/// The same as `check`, by so many threads, from 1 to 64: they draw the splits and map them, and then the partitions and
+/// judge each by itself. What they answer is what one thread answers, memory aside. Where a thread can't be started, the calling thread does its share.
 pub fn check_threads<R: Threads + Sync>(
     rt: &R,
     alloc: Global,
@@ -275,7 +323,7 @@ pub fn check_threads<R: Threads + Sync>(
 }
 
 /// The same as `check_threads`, where each thread passes the gate round each piece of work that it draws. Its number is
-/// the place of its seat, from 0; the piece of partition `p` is the number of the splits, and `p`.
+/// the place of its seat, from 0; the piece of split `s` is `s`, that of partition `p` the number of the splits, and `p`.
 pub fn check_gated<R: Threads + Sync, G: Gate>(
     rt: &R,
     alloc: Global,

@@ -1,4 +1,5 @@
 pub mod PairLemmas
-pub mod SpreadLemmas
+pub mod NumberedLemmas
 pub mod WorkLemmas
 pub mod SizeLemmas
+pub mod JoinLemmas

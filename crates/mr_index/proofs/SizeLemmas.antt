@@ -9,7 +9,7 @@ use Rattle.mr_input.specs.Files.{split_count, total_size}
 use Rattle.mr_jobs.specs.JobSpec.{JobSpec}
 use Rattle.mr_jobs.specs.Emissions.{Emission, emissions}
 use Rattle.mr_jobs.proofs.CountLemmas.{keys_fit}
-use Rattle.mr_splits.specs.Named.{NamedRecord, is_left_out, named_from, named_files, named_records}
+use Rattle.mr_splits.specs.Named.{NamedRecord, is_left_out, named_from, named_files, named_records, of_split}
 use Rattle.mr_sequential.specs.Pairs.{kept_pairs}
 use Rattle.mr_sequential.proofs.SourceLemmas.{few_pairs}
 use Rattle.mr_index.specs.Pairs.{pairs_from, pairs_seen, EndsRise, Sound, keys_size, Fits}
@@ -111,9 +111,34 @@ all-size job skips (r ∷ rs) =
     omega (arith, sum_by-append key_length (kept_pairs job skips r) (flat_map (kept_pairs job skips) rs), kept-size job skips r, all-size job skips rs)
 
 -- what a job emits over files within the limits of an input
-pub all-fits : (job : JobSpec) (skips : List RecordName) (size : ℕ) (files : List (List ℕ)) → length files ≤ 1024 → total_size files ≤ 2 ^ 30
+all-fits : (job : JobSpec) (skips : List RecordName) (size : ℕ) (files : List (List ℕ)) → length files ≤ 1024 → total_size files ≤ 2 ^ 30
     → Fits (flat_map (kept_pairs job skips) (named_records size files))
 all-fits job skips size files few small = (
   omega (arith, few_pairs job skips size files few small),
   omega (arith, all-size job skips (named_records size files), bytes-files size 0 0 files, small),
 )
+
+-- a split gives no more than all records
+split-few : (gives : NamedRecord → List Emission) (split : ℕ) (rs : List NamedRecord)
+    → (length (flat_map gives (of_split split rs)) ≤ length (flat_map gives rs)) × (keys_size (flat_map gives (of_split split rs)) ≤ keys_size (flat_map gives rs))
+split-few gives split [] = (omega arith, omega arith)
+split-few gives split (r ∷ rs) =
+    let later = split-few gives split rs in
+    let own : List NamedRecord = of_split split rs in
+    let long = length-append (gives r) (flat_map gives rs) in
+    let size = sum_by-append key_length (gives r) (flat_map gives rs) in
+    elim (eqb r.name.split split) as (λ b. (length (flat_map gives (cond b (r ∷ own) own)) ≤ length (flat_map gives (r ∷ rs)))
+    × (keys_size (flat_map gives (cond b (r ∷ own) own)) ≤ keys_size (flat_map gives (r ∷ rs)))) [
+      | true ↦ (
+        omega (arith, later.0, long, length-append (gives r) (flat_map gives own)),
+        omega (arith, later.1, size, sum_by-append key_length (gives r) (flat_map gives own)),
+      )
+      | false ↦ (omega (arith, later.0, long), omega (arith, later.1, size))
+    ]
+
+pub split-fits : (job : JobSpec) (skips : List RecordName) (split size : ℕ) (files : List (List ℕ)) → length files ≤ 1024 → total_size files ≤ 2 ^ 30
+    → Fits (flat_map (kept_pairs job skips) (of_split split (named_records size files)))
+split-fits job skips split size files few small =
+    let all = all-fits job skips size files few small in
+    let own = split-few (kept_pairs job skips) split (named_records size files) in
+    (omega (arith, all.0, own.0), omega (arith, all.1, own.1))

@@ -1,24 +1,27 @@
--- The triples that the tables of an index show.
-use Rattle.std.specs.Prelude.{◌≡◌, ℕ, List, [], ◌∷◌, ◌++◌, length, slice_range}
-use Rattle.std.specs.List.{flat_map}
-use Rattle.mr_bytes.specs.declared.RecordName.{RecordName}
-use Rattle.mr_jobs.specs.JobSpec.{JobSpec}
-use Rattle.mr_jobs.specs.Emissions.{Emission}
-use Rattle.mr_splits.specs.Named.{NamedRecord}
+-- Of no public promise: the triples that a part's tables show, and parts one after another.
+use Rattle.std.specs.Prelude.{◌≡◌, ℕ, ◌+◌, ◌==◌, if◌then◌else◌, List, [], ◌∷◌, ◌++◌, slice_range}
+use Rattle.std.specs.List.{AllByRecursion, flat_map}
 use Rattle.mr_bytes.specs.Pairs.{Triple}
-use Rattle.mr_sequential.specs.Emitted.{placed_from, record_triples}
-use Rattle.mr_sequential.specs.Pairs.{kept_pairs}
-use Rattle.mr_index.specs.Pairs.{EndsRise}
+use Rattle.mr_jobs.specs.Emissions.{Emission}
+use Rattle.mr_sequential.specs.Emitted.{placed_from}
+use Rattle.mr_index.specs.Pairs.{filled}
 
--- each record's pairs, from the end of those of the record before, with their places
-unfoldable pub spread : ℕ → List NamedRecord → List ℕ → List Emission → List Triple
-spread at [] ends pairs = []
-spread at (r ∷ rs) [] pairs = []
-spread at (r ∷ rs) (e ∷ ends) pairs = placed_from r.name 0 (slice_range pairs at e) ++ spread e rs ends pairs
+-- the pairs of the records of a split, from `number` on, each record's from the end of those of the one before
+unfoldable pub numbered : ℕ → ℕ → ℕ → List ℕ → List Emission → List Triple
+numbered split number at [] pairs = []
+numbered split number at (e ∷ ends) pairs =
+    placed_from (record { split = split; rec = number }) 0 (slice_range pairs at e) ++ numbered split (number + 1) e ends pairs
 
--- the tables show just the triples of the records
-pub record Shows (job : JobSpec) (skips : List RecordName) (rs : List NamedRecord) (ends : List ℕ) (pairs : List Emission) : Type 0 where
-  pub count : length ends ≡ length rs
-  pub rise : EndsRise 0 (length pairs) ends
-  pub given : pairs ≡ flat_map (kept_pairs job skips) rs
-  pub same : spread 0 rs ends pairs ≡ flat_map (record_triples job skips) rs
+-- the ends once the record `number` is mapped: none comes where it gave no pairs, and else those before it that have none
+-- end where it begins
+abbrev pub ended : ℕ → ℕ → ℕ → List ℕ → List ℕ
+ended number before after ends = if before == after then ends else filled number before ends ++ after ∷ []
+
+-- all parts, one after another
+abbrev pub joined : List (List Triple) → List Triple
+joined parts = flat_map (λ p. p) parts
+
+-- each part has triples of its split alone, the first those of `split`
+abbrev pub AreApart : ℕ → List (List Triple) → Type 0
+AreApart split [] = Unit {0}
+AreApart split (p ∷ parts) = AllByRecursion (λ t. t.name.split ≡ split) p × AreApart (split + 1) parts

@@ -3,5 +3,7 @@
 
 mod index;
 mod pairs;
+mod part;
 
 pub use index::{EmissionIndex, Meter};
+pub use part::{Found, Part};

@@ -20,19 +20,6 @@ pub(crate) struct Pairs {
     pub values: Values,
 }
 
-/// No pairs, with room for the keys of files of so many bytes: at most as many bytes of keys, and one key for each
-/// eight. Room that is not used is not touched, and a list that has it need not move.
-pub(crate) fn room_for(alloc: Global, bytes: usize) -> Result<Pairs, AllocError>
-    ensures none { IfOk result (λ p. pairs_seen p ≡ []) }
-    ensures sound { IfOk result (λ p. Sound p) }
-{
-    Ok(Pairs {
-        keys: Vec::with_capacity(alloc, bytes)?,
-        ends: Vec::with_capacity(alloc, bytes / 8)?,
-        values: Values::new(alloc),
-    })
-}
-
 /// Adds an end. It fails only for want of memory.
 pub(crate) fn push_end(ends: &mut Vec<u32>, end: usize) -> Result<(), AllocError>
     requires { end < 2 ^ 32 }
@@ -62,6 +49,29 @@ pub(crate) fn start_of(ends: &[u32], i: usize) -> usize
 }
 
 impl Pairs {
+    /// No pairs. It takes no memory.
+    pub(crate) fn new(alloc: Global) -> Pairs
+        ensures none { pairs_seen result ≡ [] }
+        ensures sound { Sound result }
+    {
+        Pairs {
+            keys: Vec::new(alloc),
+            ends: Vec::new(alloc),
+            values: Values::new(alloc),
+        }
+    }
+
+    /// Makes room for the keys of so many more bytes of a file: at most as many bytes of keys, and one key for each
+    /// eight. Room that is not used is not touched, and a list that has it need not move.
+    pub(crate) fn reserve(&mut self, bytes: usize) -> Result<(), AllocError>
+        requires sound { Sound self.old }
+        ensures sound { OnOk result (Sound self.new) }
+        ensures pairs { OnOk result (pairs_seen self.new ≡ pairs_seen self.old) }
+    {
+        self.keys.reserve(bytes)?;
+        self.ends.reserve(bytes / 8)
+    }
+
     pub(crate) fn len(&self) -> usize
         requires { Sound self.now }
         ensures { result ≡ length (pairs_seen self.now) }

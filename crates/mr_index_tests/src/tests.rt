@@ -1,11 +1,13 @@
 //! Each job's pairs by name, on inputs mapped by hand.
-ghost use Rattle.std.specs.Prelude.{◌≡◌, ◌≤◌, ◌^◌};
+ghost use Rattle.std.specs.Prelude.{◌≡◌, ◌<◌, ◌≤◌, ◌^◌, IfOk};
+ghost use Rattle.mr_input.specs.Files.{split_total};
+ghost use Rattle.mr_index.specs.Index.{triples_in, triples_of};
 
 use mr_bytes::{Name, RecordName, Value};
-use mr_index::{EmissionIndex, Meter};
+use mr_index::{EmissionIndex, Meter, Part};
 use mr_input::Input;
 use mr_jobs::Job;
-use mr_splits::Plan;
+use mr_splits::{Kept, Plan};
 use mr_watch::{Phase, Watch};
 use std::alloc::{AllocError, Global};
 use std::sync::atomic::{AtomicU64, Ordering};
@@ -24,13 +26,13 @@ fn two_files(alloc: Global, first: &[u8], second: &[u8]) -> Result<Vec<Vec<u8>>,
 }
 
 /// The index over a plan, counted by a meter that has room for a whole input.
-fn index_of<'a>(
+fn index_of(
     alloc: Global,
-    plan: &'a Plan<'a>,
+    plan: &Plan<'_>,
     job: &Job,
     skips: &[RecordName],
     meter: &mut Meter,
-) -> Result<EmissionIndex<'a>, AllocError>
+) -> Result<EmissionIndex, AllocError>
     requires { meter.old.mapped ≤ 2 ^ 63 }
     ensures { meter.new.lookups ≡ meter.old.lookups }
 {
@@ -67,13 +69,13 @@ impl Watch for Counting {
 }
 
 /// The index over a plan, built while somebody looks on.
-fn watched_index<'a>(
+fn watched_index(
     alloc: Global,
-    plan: &'a Plan<'a>,
+    plan: &Plan<'_>,
     job: &Job,
     meter: &mut Meter,
     watch: &Counting,
-) -> Result<EmissionIndex<'a>, AllocError>
+) -> Result<EmissionIndex, AllocError>
     requires { meter.old.mapped ≤ 2 ^ 63 }
     ensures { meter.new.lookups ≡ meter.old.lookups }
 {
@@ -172,15 +174,74 @@ fn places(rt: HostRuntime) -> Result<(), Fail> {
     let keys = [b"the".as_slice(), b"cat", b"the", b"dog", b"a"];
     for (i, key) in keys.iter().enumerate() {
         let mut meter = UNUSED;
-        let Some(at) = index.find(names[i], &mut meter) else {
+        let Some(found) = index.find(names[i], &mut meter) else {
             return Err(Fail::from("no such pair"));
         };
-        assert_eq!(rt; at, i);
         assert_eq!(rt; meter.lookups, 1);
-        assert!(rt; index.at(at) == (*key, Value::One));
+        assert!(rt; found.get() == (*key, Value::One));
     }
-    assert!(rt; index.find(name(0, 0, 2), &mut meter) == None);
+    assert!(rt; index.find(name(0, 0, 2), &mut meter).is_none());
     assert_eq!(rt; meter.lookups, 1);
+    Ok(())
+}
+
+/// The part of a split: from the list of left-out records where its number is even, and else from the plan without them.
+fn part_of(
+    alloc: Global,
+    plan: &Plan<'_>,
+    kept: &Kept<'_>,
+    job: &Job,
+    skips: &[RecordName],
+    split: u32,
+) -> Result<Part, AllocError>
+    requires split { split < split_total plan.now.size plan.now.files }
+    requires kept { kept.now ≡ record { cut = plan.now; skips = skips.now } }
+    ensures { IfOk result (λ r. r ≡ triples_in split (triples_of job.now plan.now skips.now)) }
+{
+    if split % 2 == 0 {
+        EmissionIndex::part(alloc, plan, job, skips, split)
+    } else {
+        EmissionIndex::part_of(alloc, kept, job, split)
+    }
+}
+
+/// The index of a plan's splits, each mapped apart.
+fn joined(
+    alloc: Global,
+    plan: &Plan<'_>,
+    job: &Job,
+    skips: &[RecordName],
+) -> Result<EmissionIndex, AllocError>
+    ensures { IfOk result (λ i. i ≡ triples_of job.now plan.now skips.now) }
+{
+    // A plan's size is at least 1.
+    let _size = plan.size();
+    let splits = plan.splits();
+    let kept = plan.kept(alloc, skips)?;
+    let mut parts = Vec::new(alloc);
+    for split in 0..splits {
+        parts.push(part_of(alloc, plan, &kept, job, skips, split)?)?;
+    }
+    Ok(EmissionIndex::join(parts))
+}
+
+/// Of `a b`, `c d` and `e`, the last in a split of its own, `a b` is left out.
+#[test]
+fn parts_of_two_splits(rt: HostRuntime) -> Result<(), Fail> {
+    let alloc = rt.alloc();
+    let input = Input::of(two_files(alloc, b"a b\nc d\ne\n", b"")?)?;
+    let plan = Plan::of(alloc, &input, 8)?;
+    assert_eq!(rt; plan.splits(), 2);
+    let first = RecordName { split: 0, rec: 0 };
+    let index = joined(alloc, &plan, &Job::words(false), &[first])?;
+    let mut meter = UNUSED;
+    assert_eq!(rt; index.total(), 3);
+    assert!(rt; index.pair(name(0, 0, 0), &mut meter) == None);
+    assert!(rt; index.pair(name(0, 1, 1), &mut meter) == Some((b"d".as_slice(), Value::One)));
+    assert!(rt; index.pair(name(1, 0, 0), &mut meter) == Some((b"e".as_slice(), Value::One)));
+    assert!(rt; index.pair(name(1, 1, 0), &mut meter) == None);
+    assert!(rt; index.pair(name(2, 0, 0), &mut meter) == None);
+    assert_eq!(rt; meter.lookups, 5);
     Ok(())
 }
 

@@ -133,6 +133,13 @@ impl<'a> Plan<'a> {
 }
 
 impl<'a> Kept<'a> {
+    /// The plan.
+    pub fn plan(&self) -> &'a Plan<'a>
+        ensures { result.now ≡ self.now.cut }
+    {
+        self.plan
+    }
+
     /// Whether the record of that name is left out.
     fn leaves_out(&self, name: RecordName) -> bool
         requires split { name.split < split_total self.now.cut.size self.now.cut.files }

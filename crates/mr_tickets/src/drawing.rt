@@ -20,6 +20,7 @@ fn gated<W: Pieces, G: Gate>(
     told: u32,
     piece: u32,
 ) -> Result<W::Out, AllocError>
+    requires { W.has all.now piece }
     ensures { IfOk result (W.gives all.now piece) }
 {
     gate.enter(worker, told);
@@ -39,6 +40,7 @@ fn work<W: Pieces, G: Gate>(
 ) -> Result<Done<W::Out>, AllocError>
     requires fresh { IsFresh tickets.now job }
     requires room { first_piece + tickets.now.limit < 2 ^ 32 }
+    requires all { (p : ℕ) → p < tickets.now.limit → W.has all.now p }
     ensures { IfOk result (IsDone (W.gives all.now) tickets.now) }
 {
     let Job { worker, mut seat } = job;
@@ -182,6 +184,7 @@ pub fn draw_all<W: Pieces, G: Gate, R: Threads + Sync>(
 ) -> Result<Vec<W::Out>, AllocError>
     requires threads { 0 < threads }
     requires room { first_piece + count < 2 ^ 32 }
+    requires all { (p : ℕ) → p < count → W.has all.now p }
     ensures len { IfOk result (λ v. vec_len v ≡ count) }
     ensures each { IfOk result (λ v. (p : ℕ) (d : _) → p < count → W.gives all.now p (slice_index_or v.items p d)) }
 {
@@ -192,7 +195,9 @@ pub fn draw_all<W: Pieces, G: Gate, R: Threads + Sync>(
         rt,
         jobs,
         &|job: Job| -> Result<Done<W::Out>, AllocError>
-            requires { IsFresh shared.now job × (first_piece + shared.now.limit < 2 ^ 32) }
+            requires { IsFresh shared.now job
+                × (first_piece + shared.now.limit < 2 ^ 32)
+                × ((p : ℕ) → p < shared.now.limit → W.has all.now p) }
             ensures { IfOk result (IsDone (W.gives all.entry.now) shared.entry.now) }
         { work(alloc, shared, job, all, gate, first_piece) },
     )?;

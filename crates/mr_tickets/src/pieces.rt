@@ -8,6 +8,9 @@ use std::alloc::{AllocError, Global};
 pub trait Pieces: Sync {
     type Out: Send + Drop;
 
+    /// Which pieces there are.
+    ghost has: { Self → ℕ → Type 0 };
+
     /// What a piece may give.
     ghost gives: { Self → ℕ → Self.Out → Type 0 };
 
@@ -16,6 +19,7 @@ pub trait Pieces: Sync {
     /// # Errors
     /// `AllocError` where memory is refused.
     fn piece(&self, alloc: Global, number: u32) -> Result<Self::Out, AllocError>
+        requires { has self.now number }
         ensures { IfOk result (gives self.now number) };
 }
 

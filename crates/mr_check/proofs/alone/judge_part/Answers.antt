@@ -1,10 +1,12 @@
 use Rattle.std.proofs.Common.{◌≡◌, ◌+◌, true, false, Ok, List, length, arith, ap, sym, ◌∙◌, subst}
+use Rattle.std.specs.List.{AllByRecursion}
+use Rattle.mr_bytes.specs.Pairs.{Triple}
 use Rattle.mr_certform.specs.declared.item.Item.{Item}
 use Rattle.mr_certform.specs.Walking.{items_left}
 use Rattle.mr_check.specs.Verdict.{Reached, start, first, entries_in}
 use Rattle.mr_check.specs.VerdictLaws.{told, piece}
 use Rattle.mr_check.specs.Steps.{subject, Room}
-use Rattle.mr_check.specs.Blocks.{items_in, items_sought}
+use Rattle.mr_check.specs.Blocks.{items_in, items_sought, IsPlaced, IsFound}
 use Rattle.mr_check.specs.Fronts.{part_here, OwnGoesOn, OwnJudged}
 use Rattle.mr_check.proofs.BlockLemmas.{entries_few}
 use Rattle.mr_check.proofs.OwnLemmas.{opened_as, room_before, own_as}
@@ -25,6 +27,12 @@ pub seek_all-requires : goal.seek_all-requires
 seek_all-requires c =
     let read = c.in_ok-read_more.ensures.some c.if-branch.true in
     omega (arith, read.2, ap entries_in c.deref.ensures.value, entries_few c.read_more.new.items.items)
+
+pub judge_own-requires-clause-found : goal.judge_own-requires-clause-found
+judge_own-requires-clause-found c =
+    let ts : List Triple = c.args.facts.now.triples in
+    let placed = subst (AllByRecursion (IsPlaced ts)) (sym c.deref-in-loop-touched.ensures.value) c.in_ok-seek_all.ensures.placed in
+    subst (AllByRecursion (IsFound ts)) (sym c.deref-in-loop-touched-3.ensures.value) (c.in_ok-fetch_all.ensures.found ts placed)
 
 pub returns-then-branch-2 : goal.returns-then-branch-2
 returns-then-branch-2 c =

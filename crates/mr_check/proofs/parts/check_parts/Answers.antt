@@ -3,7 +3,9 @@ use Rattle.mr_certform.specs.declared.item.Item.{Item}
 use Rattle.mr_certform.specs.Walking.{items_left, halt}
 use Rattle.mr_check.specs.Verdict.{part_faults, first, entries_in}
 use Rattle.mr_check.specs.Steps.{subject, Room}
-use Rattle.mr_check.specs.Blocks.{items_in, items_sought, GoesOn, Judged}
+use Rattle.mr_bytes.specs.Pairs.{Triple}
+use Rattle.mr_check.specs.Blocks.{items_in, items_sought, IsFound, IsPlaced, GoesOn, Judged}
+use Rattle.std.specs.List.{AllByRecursion}
 use Rattle.mr_check.proofs.BlockLemmas.{items_long, entries_few, judged_as, block_ended, ended_counts, room_block}
 use Rattle.mr_check.proofs.parts.check_parts.Goals as goal
 
@@ -15,6 +17,12 @@ judge_rows-requires-clause-room g c =
     let rows = ap items_in c.deref-in-loop-touched-3.ensures.value ∙ (c.in_ok-fetch_all.ensures.items ∙ (ap items_sought c.deref-in-loop-touched.ensures.value ∙ (c.in_ok-seek_all.ensures.items ∙ c.deref.ensures.value))) in
     room_block c.loop-touched.judging (length (items_left c.loop-touched.walker)) (length (items_left c.args.walker.now)) (length c.deref-in-loop-touched-3.result.now) c.loop-touched.invariant.room c.requires.few
     (omega (arith, c.in_ok-read_block.ensures.some, items_long c.deref-in-loop-touched-3.result.now, ap length rows))
+
+pub judge_rows-requires-clause-found : goal.judge_rows-requires-clause-found
+judge_rows-requires-clause-found g c =
+    let ts : List Triple = c.args.facts.now.triples in
+    let placed = subst (AllByRecursion (IsPlaced ts)) (sym c.deref-in-loop-touched.ensures.value) c.in_ok-seek_all.ensures.placed in
+    subst (AllByRecursion (IsFound ts)) (sym c.deref-in-loop-touched-3.ensures.value) (c.in_ok-fetch_all.ensures.found ts placed)
 
 pub returns-then-branch-clause-faults : goal.returns-then-branch-clause-faults
 returns-then-branch-clause-faults g c =

@@ -1,4 +1,4 @@
-use Rattle.std.proofs.Common.{◌≡◌, List, sym, ap, arith, ◌∙◌, subst}
+use Rattle.std.proofs.Common.{◌≡◌, List, sym, ap, ◌∙◌, subst}
 use Rattle.std.specs.Prelude.{Option, IfOk}
 use Rattle.mr_certform.specs.declared.item.Item.{Item}
 use Rattle.mr_certform.specs.Walking.{items_left}
@@ -7,13 +7,8 @@ use Rattle.mr_check.specs.declared.fault.No.{No}
 use Rattle.mr_check.specs.VerdictLaws.{part_fault}
 use Rattle.mr_check.specs.Steps.{subject}
 use Rattle.mr_check.specs.Fronts.{part_here}
-use Rattle.mr_check.proofs.FrontLemmas.{part_is, no_part}
+use Rattle.mr_check.proofs.FrontLemmas.{part_is}
 use Rattle.mr_check.proofs.threads.fault_at.Goals as goal
-
-pub returns-then-number-fronts : goal.returns-then-number-fronts
-returns-then-number-fronts c =
-    let n = c.args.number in
-    sym (ap (part_fault (subject c.args.facts.now) n) (no_part c.args.fronts.now n (omega (arith, c.if-number-fronts.true))))
 
 pub returns : goal.returns
 returns c =
@@ -22,4 +17,4 @@ returns c =
     let fs = c.args.fronts.now in
     let front = c.index-fronts-number.result in
     subst (λ (w : List Item). IfOk c.fault_in.result (λ (o : Option No). o ≡ part_fault s n w))
-    (ap (λ (f : Front). part_here (items_left f.walker)) c.index-fronts-number.is ∙ sym (part_is fs n front c.if-number-fronts.false)) c.fault_in.ensures
+    (ap (λ (f : Front). part_here (items_left f.walker)) c.index-fronts-number.is ∙ sym (part_is fs n front c.requires)) c.fault_in.ensures

@@ -1,15 +1,16 @@
 use Rattle.std.proofs.Common.{◌≡◌, ◌+◌, ◌≤◌, length}
 use Rattle.mr_splits.specs.Cut.{records_of}
+use Rattle.mr_splits.specs.Named.{of_split}
 use Rattle.mr_index.specs.Index.{mapped_among}
 use Rattle.mr_index.specs.Pairs.{pairs_seen, Sound}
 use Rattle.mr_index.proofs.WorkLemmas.{Mapped}
-use Rattle.mr_index.proofs.index.Tables.map_all.Given as goal
+use Rattle.mr_index.proofs.part.Tables.map_all.Given as goal
 
 abbrev pub invariant-loop-name : goal.invariant-loop-name
 invariant-loop-name g l = record {
   sound : Sound l.self.pairs;
-  mapped : Mapped l.job l.kept.skips (records_of l.plan) l.self.ends.items (pairs_seen l.self.pairs) l.left;
-  counted : l.mapped + length l.left ≡ l.fn.mapped + mapped_among l.kept.skips (records_of l.plan);
+  mapped : Mapped l.job l.kept.skips l.split (of_split l.split (records_of l.kept.cut)) l.self.ends.items (pairs_seen l.self.pairs) l.left;
+  counted : l.mapped + length l.left ≡ l.fn.mapped + mapped_among l.kept.skips (of_split l.split (records_of l.kept.cut));
   more : l.fn.mapped ≤ l.mapped;
 }
 

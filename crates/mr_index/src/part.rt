@@ -1,0 +1,272 @@
+//! What one split emits, looked up by the numbers of its records.
+ghost use Rattle.std.specs.Prelude.{◌≡◌, ℕ, ◌+◌, ◌≤◌, ◌<◌, ◌^◌, ◌++◌, [], ◌∷◌, IfOk, OnOk, OnErr, MatchOption, Some, None, length};
+ghost use Rattle.std.specs.List.{flat_map};
+ghost use Rattle.mr_input.specs.Files.{split_total};
+ghost use Rattle.mr_jobs.specs.Emissions.{emissions};
+ghost use Rattle.mr_splits.specs.Named.{of_split};
+ghost use Rattle.mr_splits.specs.Cut.{records_of};
+ghost use Rattle.mr_sequential.specs.Emitted.{record_triples};
+ghost use Rattle.mr_sequential.specs.Good.{named};
+ghost use Rattle.mr_sequential.specs.Pairs.{kept_pairs};
+ghost use Rattle.mr_index.specs.Index.{mapped_among, triples_in, triples_of};
+ghost use Rattle.mr_index.specs.Pairs.{pairs_seen, EndsRise, Sound, Fits};
+ghost use Rattle.mr_index.specs.Building.{numbered, ended};
+
+use crate::pairs::{Pairs, fill, push_end, start_of};
+use mr_bytes::{Name, Value};
+use mr_jobs::Job;
+use mr_splits::{Kept, Located, Plan};
+use mr_watch::{Pace, Watch};
+use std::alloc::{AllocError, Global};
+use std::marker::Model;
+
+/// What one split emits. It takes no memory of its own where nothing is emitted.
+#[derive(Drop)]
+pub struct Part {
+    split: u32,
+    /// Where each record's pairs end. Records behind the last that emits anything have no end.
+    ends: Vec<u32>,
+    pairs: Pairs,
+}
+
+impl Model for Part {
+    ghost use Rattle.std.specs.Prelude.{◌<◌, ◌^◌, List, length};
+    ghost use Rattle.mr_bytes.specs.Pairs.{Triple};
+    ghost use Rattle.mr_index.specs.Pairs.{pairs_seen, EndsRise, Sound};
+    ghost use Rattle.mr_index.specs.Building.{numbered};
+
+    ghost Value = { List Triple };
+
+    ghost view = { λ p. numbered p.split 0 0 p.ends.items (pairs_seen p.pairs) };
+
+    ghost invariant = { λ p. record {
+      rise : EndsRise 0 (length (pairs_seen p.pairs)) p.ends.items;
+      sound : Sound p.pairs;
+      few : length (pairs_seen p.pairs) < 2 ^ 32;
+    } };
+}
+
+/// A pair that was found: the part that has it, and its place there. Nothing of the pair is read yet.
+#[derive(Drop)]
+pub struct Found<'a> {
+    pairs: &'a Pairs,
+    at: usize,
+}
+
+impl<'a> Model for Found<'a> {
+    ghost use Rattle.std.specs.Prelude.{◌<◌, [], length, slice_index_or};
+    ghost use Rattle.mr_bytes.specs.declared.Value.TheVariants.{One};
+    ghost use Rattle.mr_jobs.specs.Emissions.{Emission};
+    ghost use Rattle.mr_index.specs.Pairs.{pairs_seen, Sound};
+
+    ghost Value = { Emission };
+
+    ghost view = { λ f. slice_index_or (pairs_seen f.pairs.now) f.at ([], One) };
+
+    ghost invariant = { λ f. record {
+      sound : Sound f.pairs.now;
+      within : f.at < length (pairs_seen f.pairs.now);
+    } };
+}
+
+impl<'a> Found<'a> {
+    /// The key and the value of the pair. No byte of the key is read.
+    pub fn get(&self) -> (&'a [u8], Value)
+        ensures { (result.0.now, result.1) ≡ self.now }
+    {
+        let pairs = self.pairs;
+        pairs.get(self.at)
+    }
+}
+
+impl Part {
+    /// How many pairs there are.
+    pub(crate) fn len(&self) -> usize
+        ensures count { result ≡ length self.now }
+        ensures few { result < 2 ^ 32 }
+    {
+        self.pairs.len()
+    }
+
+    /// The pair of that name, or none where there is no such pair.
+    pub(crate) fn find(&self, name: Name) -> Option<Found<'_>>
+        ensures { MatchOption result (named self.now name ≡ None)
+            (λ f. named self.now name ≡ Some (record { key = f.0; value = f.1; name = name })) }
+    {
+        let Name { split, rec, place } = name;
+        let number = rec as usize;
+        if split != self.split || self.ends.len() <= number {
+            return None;
+        }
+        let at = start_of(self.ends.as_slice(), number) + place as usize;
+        if self.ends[number] as usize <= at {
+            return None;
+        }
+        Some(Found {
+            pairs: &self.pairs,
+            at,
+        })
+    }
+}
+
+/// How much room the tables of a split are given at once: for its records, and for the bytes of keys.
+#[derive(Clone, Copy)]
+struct Room {
+    records: usize,
+    bytes: usize,
+}
+
+impl Room {
+    fn of_split(plan: &Plan<'_>, split: u32) -> Room
+        requires { split < split_total plan.now.size plan.now.files }
+    {
+        let place = plan.split(split);
+        Room {
+            records: plan.records_in(split) as usize,
+            bytes: place.end.saturating_sub(place.start) as usize,
+        }
+    }
+}
+
+/// The tables of a part as it grows.
+#[derive(Drop)]
+struct Tables {
+    ends: Vec<u32>,
+    pairs: Pairs,
+}
+
+impl Tables {
+    fn new(alloc: Global) -> Tables
+        ensures sound { Sound result.pairs }
+        ensures none { (pairs_seen result.pairs ≡ []) × (result.ends.items ≡ []) }
+    {
+        Tables {
+            ends: Vec::new(alloc),
+            pairs: Pairs::new(alloc),
+        }
+    }
+
+    /// Makes room behind the first pairs alone: a split that emits nothing takes none, and the lists of others need not
+    /// move.
+    fn make_room(&mut self, before: usize, room: Room) -> Result<(), AllocError>
+        requires sound { Sound self.old.pairs }
+        ensures sound { OnOk result (Sound self.new.pairs) }
+        ensures pairs { OnOk result (pairs_seen self.new.pairs ≡ pairs_seen self.old.pairs) }
+        ensures ends { OnOk result (self.new.ends.items ≡ self.old.ends.items) }
+    {
+        if 0 < before || self.pairs.len() == 0 {
+            return Ok(());
+        }
+        self.ends.reserve(room.records)?;
+        self.pairs.reserve(room.bytes)
+    }
+
+    /// Ends the pairs of the record of that number, before which there were so many.
+    fn end_record(&mut self, number: usize, before: usize) -> Result<(), AllocError>
+        requires sound { Sound self.old.pairs }
+        requires few { (before < 2 ^ 32) × (length (pairs_seen self.old.pairs) < 2 ^ 32) }
+        ensures pairs { self.new.pairs ≡ self.old.pairs }
+        ensures ends { OnOk result (self.new.ends.items ≡ ended number before (length (pairs_seen self.old.pairs)) self.old.ends.items) }
+    {
+        let after = self.pairs.len();
+        if before == after {
+            return Ok(());
+        }
+        fill(&mut self.ends, number, before)?;
+        push_end(&mut self.ends, after)
+    }
+
+    /// Appends what the record of that number emits, and counts it. Those before it that have no end yet gave nothing.
+    fn map_record(
+        &mut self,
+        job: &Job,
+        number: usize,
+        line: Located<'_>,
+        room: Room,
+        buffer: &mut Vec<u8>,
+        mapped: &mut u64,
+    ) -> Result<(), AllocError>
+        requires sound { Sound self.old.pairs }
+        requires small { length line.bytes.now ≤ 2 ^ 30 }
+        requires fits { Fits (pairs_seen self.old.pairs ++ emissions job.now line.file line.start line.bytes.now) }
+        requires room { mapped.old + 1 < 2 ^ 64 }
+        ensures sound { OnOk result (Sound self.new.pairs) }
+        ensures pairs { OnOk result (pairs_seen self.new.pairs
+            ≡ pairs_seen self.old.pairs ++ emissions job.now line.entry.file line.entry.start line.entry.bytes.now) }
+        ensures ends { OnOk result (self.new.ends.items
+            ≡ ended number (length (pairs_seen self.old.pairs)) (length (pairs_seen self.new.pairs)) self.old.ends.items) }
+        ensures counted { OnOk result (mapped.new ≡ mapped.old + 1) }
+        ensures err { OnErr result (mapped.new ≡ mapped.old) }
+    {
+        let before = self.pairs.len();
+        self.pairs.map(job, line, buffer)?;
+        self.make_room(before, room)?;
+        self.end_record(number, before)?;
+        *mapped += 1;
+        Ok(())
+    }
+
+    /// Appends what all kept records of the split emit, and counts them. The watch is told the numbers of records.
+    fn map_all(
+        &mut self,
+        kept: &Kept<'_>,
+        job: &Job,
+        split: u32,
+        buffer: &mut Vec<u8>,
+        pace: &mut Pace,
+        mapped: &mut u64,
+        watch: &dyn Watch,
+    ) -> Result<(), AllocError>
+        requires split { split < split_total kept.now.cut.size kept.now.cut.files }
+        requires sound { Sound self.old.pairs }
+        requires none { (pairs_seen self.old.pairs ≡ []) × (self.old.ends.items ≡ []) }
+        requires fits { Fits (flat_map (kept_pairs job.now kept.now.skips) (of_split split (records_of kept.now.cut))) }
+        requires room { mapped.old + mapped_among kept.now.skips (of_split split (records_of kept.now.cut)) < 2 ^ 64 }
+        ensures sound { OnOk result (Sound self.new.pairs) }
+        ensures rise { OnOk result (EndsRise 0 (length (pairs_seen self.new.pairs)) self.new.ends.items) }
+        ensures few { OnOk result (length (pairs_seen self.new.pairs) < 2 ^ 32) }
+        ensures shows { OnOk result (numbered split 0 0 self.new.ends.items (pairs_seen self.new.pairs)
+            ≡ flat_map (record_triples job.now kept.now.skips) (of_split split (records_of kept.now.cut))) }
+        ensures counted { OnOk result (mapped.new ≡ mapped.old + mapped_among kept.now.skips (of_split split (records_of kept.now.cut))) }
+        ensures err { OnErr result ((mapped.old ≤ mapped.new)
+            × (mapped.new ≤ mapped.old + mapped_among kept.now.skips (of_split split (records_of kept.now.cut)))) }
+    {
+        let plan = kept.plan();
+        // A plan's size is at least 1: that its records have numbers of their own rests on that.
+        let _size = plan.size();
+        let room = Room::of_split(plan, split);
+        let mut left = kept.of_split(split);
+        while let Some((name, line)) = left.next() {
+            pace.reach(plan.number_of(split, name.rec) as u64, watch);
+            self.map_record(job, name.rec as usize, line, room, buffer, mapped)?;
+        }
+        Ok(())
+    }
+}
+
+/// What the kept records of a split emit. Each is counted as mapped; the watch is told the numbers of records. The buffer
+/// is for folded records.
+pub(crate) fn map_split(
+    alloc: Global,
+    kept: &Kept<'_>,
+    job: &Job,
+    split: u32,
+    buffer: &mut Vec<u8>,
+    pace: &mut Pace,
+    mapped: &mut u64,
+    watch: &dyn Watch,
+) -> Result<Part, AllocError>
+    requires split { split < split_total kept.now.cut.size kept.now.cut.files }
+    requires room { mapped.old + mapped_among kept.now.skips (of_split split (records_of kept.now.cut)) < 2 ^ 64 }
+    ensures part { IfOk result (λ r. r ≡ triples_in split (triples_of job.now kept.now.cut kept.now.skips)) }
+    ensures counted { OnOk result (mapped.new ≡ mapped.old + mapped_among kept.now.skips (of_split split (records_of kept.now.cut))) }
+    ensures err { OnErr result ((mapped.old ≤ mapped.new)
+        × (mapped.new ≤ mapped.old + mapped_among kept.now.skips (of_split split (records_of kept.now.cut)))) }
+{
+    // Files within the limits of an input emit few enough pairs, with few enough bytes of keys, for the tables.
+    let _files = kept.plan().input().files();
+    let mut tables = Tables::new(alloc);
+    tables.map_all(kept, job, split, buffer, pace, mapped, watch)?;
+    let Tables { ends, pairs } = tables;
+    Ok(Part { split, ends, pairs })
+}
