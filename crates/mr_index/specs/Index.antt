@@ -16,7 +16,7 @@ triples_of job cut skips = emitted job cut.size cut.files skips
 abbrev pub mapped_among : List RecordName → List NamedRecord → ℕ
 mapped_among skips rs = length (filter (λ r. not (is_left_out skips r.name)) rs)
 
--- those of a split
+-- of triples, those of a split
 abbrev pub triples_in : ℕ → List Triple → List Triple
 triples_in split ts = filter (λ t. t.name.split == split) ts
 

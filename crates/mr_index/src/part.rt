@@ -46,7 +46,7 @@ impl Model for Part {
     } };
 }
 
-/// A pair that was found: the part that has it, and its place there. Nothing of the pair is read yet.
+/// A pair that was found: the pairs of its part, and its place among them. Nothing of the pair is read yet.
 #[derive(Drop)]
 pub struct Found<'a> {
     pairs: &'a Pairs,
