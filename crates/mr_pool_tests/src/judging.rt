@@ -11,7 +11,7 @@ use std::thread::Threads;
 
 /// Holds the first piece of either phase until another of that phase has left.
 #[derive(Drop)]
-struct PhasesHeld {
+pub struct PhasesHeld {
     /// How many pieces the first phase has.
     maps: u32,
     mapping: Holding,
@@ -19,6 +19,15 @@ struct PhasesHeld {
 }
 
 impl PhasesHeld {
+    /// Nobody is held yet.
+    pub fn of(certified: &Certified) -> PhasesHeld {
+        PhasesHeld {
+            maps: certified.history.shape.maps,
+            mapping: Holding::new(),
+            judging: Holding::new(),
+        }
+    }
+
     fn holder(&self, piece: u32) -> &Holding {
         if piece < self.maps {
             &self.mapping
@@ -39,7 +48,7 @@ impl Gate for PhasesHeld {
 }
 
 /// The verdict on a run's result, by as many threads as it had workers.
-fn judged<G: Gate, R: Threads + Sync>(
+pub fn judged<G: Gate, R: Threads + Sync>(
     rt: &R,
     alloc: Global,
     order: &Order,
@@ -70,16 +79,10 @@ fn judged<G: Gate, R: Threads + Sync>(
 /// Tells the verdict on a run's result, and whether a second piece of either phase went on while the first was held.
 pub fn show(
     rt: &HostRuntime,
-    alloc: Global,
-    order: &Order,
-    certified: &Certified,
+    verdict: &Option<Result<Yes, No>>,
+    gate: &PhasesHeld,
 ) -> io::Result<()> {
-    let gate = PhasesHeld {
-        maps: certified.history.shape.maps,
-        mapping: Holding::new(),
-        judging: Holding::new(),
-    };
-    match judged(rt, alloc, order, certified, &gate) {
+    match verdict {
         Some(Ok(yes)) => println!(rt; "yes {} {}", yes.pairs, yes.skips.len())?,
         Some(Err(no)) => println!(rt; "no {no}")?,
         None => println!(rt; "out of limits")?,

@@ -12,6 +12,7 @@ mod onlookers;
 mod telling;
 
 use asked::Order;
+use judging::PhasesHeld;
 use mr_bytes::{Gate, OpenGate};
 use mr_pool::{Certified, RunFault, run, run_watched};
 use onlookers::{Holding, Tally};
@@ -71,7 +72,11 @@ fn main(rt: HostRuntime) -> io::Result<()> {
             watch.show(&rt)
         }
         "judge" => match done(&rt, alloc, &order, &OpenGate, None) {
-            Some(Ok(certified)) => judging::show(&rt, alloc, &order, &certified),
+            Some(Ok(certified)) => {
+                let gate = PhasesHeld::of(&certified);
+                let verdict = judging::judged(&rt, alloc, &order, &certified, &gate);
+                judging::show(&rt, &verdict, &gate)
+            }
             _ => println!(rt; "nothing to judge"),
         },
         "tickets" => judging::show_draws(&rt, alloc),
