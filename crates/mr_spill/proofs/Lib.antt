@@ -1,3 +1,4 @@
 pub mod ColumnLemmas
 pub mod RegionLaws
 pub mod RowLemmas
+pub mod TableLemmas

@@ -2,3 +2,4 @@ pub mod Column
 pub mod Buffer
 pub mod Regions
 pub mod Rows
+pub mod Table

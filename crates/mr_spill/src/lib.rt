@@ -2,14 +2,17 @@
 //! (OSDI 2004, sections 3.1 and 4.2).
 //!
 //! Pairs enter by rising name, in the order of the input. What leaves is a region for each partition, by key and then
-//! name. Time: a sort, n log n comparisons. Memory: the pairs twice while they are cut, and 32 bytes for each.
+//! name. Time: one look-up for each pair, and a sort of the distinct keys, n log n comparisons. Memory: the pairs twice
+//! while they are cut, 24 bytes for each, and a copy of each distinct key.
 #![tactic(auto)]
 
 mod buffer;
 mod column;
 mod regions;
 mod rows;
+mod run;
+mod table;
 
 pub use buffer::{Buffer, PushFault, PushRefusal};
 pub use column::Pairs;
-pub use regions::spill_law;
+pub use regions::{gathered, spill_law};
