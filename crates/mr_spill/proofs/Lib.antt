@@ -1,4 +1,5 @@
 pub mod ColumnLemmas
+pub mod EntryLemmas
 pub mod RegionLaws
 pub mod RowLemmas
 pub mod TableLemmas

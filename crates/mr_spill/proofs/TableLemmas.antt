@@ -1,8 +1,7 @@
--- Runs put together by keys: one more run.
-use Rattle.std.proofs.Common.{◌≡◌, ℕ, zero, suc, ◌+◌, ◌<◌, ◌≤◌, Bool, true, false, cond, List, [], ◌∷◌, ◌++◌, length, get_or, set, slice_range, refl, sym, ◌∙◌, ap, subst, arith, inl, inr, Vec, Global, Some, None, not, ltb, ◌||◌, length-append, length-set, append-nil}
+-- Pairs put together by keys: one more run.
+use Rattle.std.proofs.Common.{◌≡◌, ℕ, zero, suc, ◌+◌, ◌<◌, ◌≤◌, Bool, true, false, cond, List, [], ◌∷◌, ◌++◌, length, get_or, map, set, slice_range, refl, sym, ◌∙◌, ap, subst, arith, inl, inr, Vec, Global, Some, None, not, ltb, ◌||◌, length-append, length-set, append-nil}
 use Rattle.std.proofs.lemmas.Bool.{cases_Bool, cases_lt, cases_eq, ltb-true, false≢true}
-use Rattle.std.proofs.lemmas.List.{get_or_push, get_or_append_left, get_or-set_same, get_or-set_other, get_or-map, map-set}
-use Rattle.std.proofs.lemmas.List.Concat.{flat_map-append}
+use Rattle.std.proofs.lemmas.List.{get_or_default, get_or_push, map-append, get_or_append_left, get_or-set_same, get_or-set_other}
 use Rattle.std.proofs.lemmas.List.Edits.{between_more, between_none}
 use Rattle.std.proofs.lemmas.List.Elements.{filter-append}
 use Rattle.std.proofs.lemmas.Slice.Eq.{bytes_eq-Decides}
@@ -11,9 +10,9 @@ use Rattle.std.specs.Str.{bytes_eq}
 use Rattle.mr_bytes.specs.Lists.{Has}
 use Rattle.mr_bytes.specs.Pairs.{Triple}
 use Rattle.mr_bytes.proofs.ListLaws.{Has-append_cases}
-use Rattle.mr_spill.specs.declared.run.Run.{Run}
 use Rattle.mr_spill.specs.Column.{nth_pair, no_pair}
-use Rattle.mr_spill.specs.Table.{IsTable, Knows, key_at, key_bytes, list_pairs, lists_of, pairs_at, run_pairs, under}
+use Rattle.mr_spill.specs.Entries.{Entry, entry_of, under_key}
+use Rattle.mr_spill.specs.Table.{IsTable, Knows, key_at, key_bytes, pairs_under, under}
 
 -- ---- parts of a list, all of one kind
 
@@ -60,32 +59,39 @@ key-of [] q t all h = absurd h
 key-of (r ∷ rs) q t all (inl e) = ap (λ (u : Triple). u.key) (sym e) ∙ all.0
 key-of (r ∷ rs) q t all (inr h) = key-of rs q t all.1 h
 
-list-push : (rs : List Run) (r : Run) → list_pairs (rs ++ r ∷ []) ≡ list_pairs rs ++ run_pairs r
-list-push rs r = flat_map-append run_pairs rs (r ∷ []) ∙ ap (λ l. list_pairs rs ++ l) (append-nil (run_pairs r))
+-- what pairs of a key have beside it, under the key again
+under-back : (q : List ℕ) (rs : List Triple) → AllByRecursion (λ t. t.key ≡ q) rs → map (under_key q) (map entry_of rs) ≡ rs
+under-back q [] all = refl
+under-back q (r ∷ rs) all =
+    ap (λ (k : List ℕ). record { key = k; value = r.value; name = r.name } ∷ map (under_key q) (map entry_of rs)) (sym all.0)
+    ∙ ap (λ l. r ∷ l) (under-back q rs all.1)
 
-module _ (ts : List Triple) (ks : List (List ℕ)) (ls : List (List Run)) (table : IsTable ts ks ls) (r : Run) (q : List ℕ) (all : AllByRecursion (λ t. t.key ≡ q) (run_pairs r)) where
+pairs-push : (q : List ℕ) (es : List Entry) (rs : List Triple) → AllByRecursion (λ t. t.key ≡ q) rs → map (under_key q) (es ++ map entry_of rs) ≡ map (under_key q) es ++ rs
+pairs-push q es rs all = map-append (under_key q) es (map entry_of rs) ∙ ap (λ l. map (under_key q) es ++ l) (under-back q rs all)
+
+module _ (ts : List Triple) (ks : List (List ℕ)) (ls : List (List Entry)) (table : IsTable ts ks ls) (rs : List Triple) (q : List ℕ) (all : AllByRecursion (λ t. t.key ≡ q) rs) where
   -- a run of a known key
-  pub taken-known : (at : ℕ) → at < length ks → key_at ks at ≡ q → IsTable (ts ++ run_pairs r) ks (set ls at (get_or ls at [] ++ r ∷ []))
+  pub taken-known : (at : ℕ) → at < length ks → key_at ks at ≡ q → IsTable (ts ++ rs) ks (set ls at (get_or ls at [] ++ map entry_of rs))
   taken-known at h is = record {
-    same = length-set ls at (get_or ls at [] ++ r ∷ []) ∙ table.same;
+    same = length-set ls at (get_or ls at [] ++ map entry_of rs) ∙ table.same;
     apart = table.apart;
-    known = λ t g. elim (Has-append_cases ts (run_pairs r) t g) [
+    known = λ t g. elim (Has-append_cases ts rs t g) [
       | inl old ↦ table.known t old
-      | inr new ↦ (at, h, is ∙ sym (key-of (run_pairs r) q t all new))
+      | inr new ↦ (at, h, is ∙ sym (key-of rs q t all new))
     ];
     each = λ k g. elim (cases_eq k at) [ inl e ↦ subst (λ n. At n) (sym e) here | inr ne ↦ other k g ne ];
   }
     where
       At : ℕ → Type 0
-      At k = pairs_at (set ls at (get_or ls at [] ++ r ∷ [])) k ≡ under (ts ++ run_pairs r) (key_at ks k)
+      At k = pairs_under (set ls at (get_or ls at [] ++ map entry_of rs)) (key_at ks k) k ≡ under (ts ++ rs) (key_at ks k)
 
       here : At at
       here =
-          ap list_pairs (get_or-set_same ls at (get_or ls at [] ++ r ∷ []) [] (omega (arith, h, table.same)))
-          ∙ list-push (get_or ls at []) r
-          ∙ ap (λ l. l ++ run_pairs r) (table.each at h)
-          ∙ ap (λ l. under ts (key_at ks at) ++ l) (sym (under-all (run_pairs r) q all) ∙ ap (under (run_pairs r)) (sym is))
-          ∙ sym (under-append ts (run_pairs r) (key_at ks at))
+          ap (map (under_key (key_at ks at))) (get_or-set_same ls at (get_or ls at [] ++ map entry_of rs) [] (omega (arith, h, table.same)))
+          ∙ pairs-push (key_at ks at) (get_or ls at []) rs (subst (λ (k : List ℕ). AllByRecursion (λ t. t.key ≡ k) rs) (sym is) all)
+          ∙ ap (λ l. l ++ rs) (table.each at h)
+          ∙ ap (λ l. under ts (key_at ks at) ++ l) (sym (under-all rs q all) ∙ ap (under rs) (sym is))
+          ∙ sym (under-append ts rs (key_at ks at))
 
       differ : (k : ℕ) → k < length ks → (k ≡ at → ⊥) → q ≡ key_at ks k → ⊥
       differ k g ne e = elim (cases_lt k at) [
@@ -95,16 +101,16 @@ module _ (ts : List Triple) (ks : List (List ℕ)) (ls : List (List Run)) (table
 
       other : (k : ℕ) → k < length ks → (k ≡ at → ⊥) → At k
       other k g ne =
-          ap list_pairs (get_or-set_other ls at k (get_or ls at [] ++ r ∷ []) [] ne)
+          ap (map (under_key (key_at ks k))) (get_or-set_other ls at k (get_or ls at [] ++ map entry_of rs) [] ne)
           ∙ table.each k g
           ∙ sym (append-nil (under ts (key_at ks k)))
-          ∙ ap (λ l. under ts (key_at ks k) ++ l) (sym (under-other (run_pairs r) q (key_at ks k) all (differ k g ne)))
-          ∙ sym (under-append ts (run_pairs r) (key_at ks k))
+          ∙ ap (λ l. under ts (key_at ks k) ++ l) (sym (under-other rs q (key_at ks k) all (differ k g ne)))
+          ∙ sym (under-append ts rs (key_at ks k))
 
   -- a run of a new key
-  pub taken-new : (Knows ks q → ⊥) → IsTable (ts ++ run_pairs r) (ks ++ q ∷ []) (ls ++ (r ∷ []) ∷ [])
+  pub taken-new : (Knows ks q → ⊥) → IsTable (ts ++ rs) (ks ++ q ∷ []) (ls ++ map entry_of rs ∷ [])
   taken-new new = record {
-    same = omega (arith, length-append ls ((r ∷ []) ∷ []), length-append ks (q ∷ []), table.same);
+    same = omega (arith, length-append ls (map entry_of rs ∷ []), length-append ks (q ∷ []), table.same);
     apart = λ j k h g e. elim (cases_lt k (length ks)) [
       | inl low ↦ table.apart j k h low (sym (old j (omega (arith, h, low))) ∙ e ∙ old k low)
       | inr high ↦ new (
@@ -114,9 +120,9 @@ module _ (ts : List Triple) (ks : List (List ℕ)) (ls : List (List Run)) (table
             ∙ get_or_push ks q [] k (omega (arith, high, g, length-append ks (q ∷ []))),
       )
     ];
-    known = λ t g. elim (Has-append_cases ts (run_pairs r) t g) [
+    known = λ t g. elim (Has-append_cases ts rs t g) [
       | inl was ↦ (let k = table.known t was in (k.0, omega (arith, k.1, length-append ks (q ∷ [])), old k.0 k.1 ∙ k.2))
-      | inr is ↦ (length ks, omega (arith, length-append ks (q ∷ [])), get_or_push ks q [] (length ks) refl ∙ sym (key-of (run_pairs r) q t all is))
+      | inr is ↦ (length ks, omega (arith, length-append ks (q ∷ [])), get_or_push ks q [] (length ks) refl ∙ sym (key-of rs q t all is))
     ];
     each = λ k g. elim (cases_lt k (length ks)) [
       | inl low ↦ before k low
@@ -128,25 +134,27 @@ module _ (ts : List Triple) (ks : List (List ℕ)) (ls : List (List Run)) (table
       old k h = get_or_append_left ks (q ∷ []) [] k h
 
       At : ℕ → Type 0
-      At k = pairs_at (ls ++ (r ∷ []) ∷ []) k ≡ under (ts ++ run_pairs r) (key_at (ks ++ q ∷ []) k)
+      At k = pairs_under (ls ++ map entry_of rs ∷ []) (key_at (ks ++ q ∷ []) k) k ≡ under (ts ++ rs) (key_at (ks ++ q ∷ []) k)
 
       before : (k : ℕ) → k < length ks → At k
       before k h =
-          ap list_pairs (get_or_append_left ls ((r ∷ []) ∷ []) [] k (omega (arith, h, table.same)))
+          ap (λ (j : List ℕ). pairs_under (ls ++ map entry_of rs ∷ []) j k) (old k h)
+          ∙ ap (map (under_key (key_at ks k))) (get_or_append_left ls (map entry_of rs ∷ []) [] k (omega (arith, h, table.same)))
           ∙ table.each k h
           ∙ sym (append-nil (under ts (key_at ks k)))
-          ∙ ap (λ l. under ts (key_at ks k) ++ l) (sym (under-other (run_pairs r) q (key_at ks k) all (λ e. new (k, h, sym e))))
-          ∙ sym (under-append ts (run_pairs r) (key_at ks k))
-          ∙ ap (under (ts ++ run_pairs r)) (sym (old k h))
+          ∙ ap (λ l. under ts (key_at ks k) ++ l) (sym (under-other rs q (key_at ks k) all (λ e. new (k, h, sym e))))
+          ∙ sym (under-append ts rs (key_at ks k))
+          ∙ ap (under (ts ++ rs)) (sym (old k h))
 
       last : At (length ks)
       last =
-          ap list_pairs (get_or_push ls (r ∷ []) [] (length ks) table.same)
-          ∙ append-nil (run_pairs r)
-          ∙ sym (under-all (run_pairs r) q all)
-          ∙ ap (λ l. l ++ under (run_pairs r) q) (sym (under-none ts q (λ t h e. new (let k = table.known t h in (k.0, k.1, k.2 ∙ e)))))
-          ∙ sym (under-append ts (run_pairs r) q)
-          ∙ ap (under (ts ++ run_pairs r)) (sym (get_or_push ks q [] (length ks) refl))
+          ap (λ (j : List ℕ). pairs_under (ls ++ map entry_of rs ∷ []) j (length ks)) (get_or_push ks q [] (length ks) refl)
+          ∙ ap (map (under_key q)) (get_or_push ls (map entry_of rs) [] (length ks) table.same)
+          ∙ under-back q rs all
+          ∙ sym (under-all rs q all)
+          ∙ ap (λ l. l ++ under rs q) (sym (under-none ts q (λ t h e. new (let k = table.known t h in (k.0, k.1, k.2 ∙ e)))))
+          ∙ sym (under-append ts rs q)
+          ∙ ap (under (ts ++ rs)) (sym (get_or_push ks q [] (length ks) refl))
 
 -- ---- keys that the set has, and that it lacks
 
@@ -190,18 +198,10 @@ not-known q (x ∷ ks) none (suc k, h, e) = by (bytes_eq q x.items) none (λ res
     by true none later = false≢true (sym none)
     by false none later = later none
 
--- ---- lists of runs
+-- ---- what a key has
 
--- one list of many gets one region more
-pub lists-set : {X : Type 0} (vs : List (Vec X Global)) (i : ℕ) (was now : Vec X Global) (more : X) → i < length vs
-    → was ≡ get_or vs i was → now.items ≡ was.items ++ more ∷ []
-    → lists_of (set vs i now) ≡ set (lists_of vs) i (get_or (lists_of vs) i [] ++ more ∷ [])
-lists-set {X} vs i was now more h is grown =
-    let old : get_or (lists_of vs) i [] ≡ was.items =
-    get_or-map (λ (v : Vec X Global). v.items) vs i was [] h ∙ ap (λ (v : Vec X Global). v.items) (sym is) in
-    map-set (λ (v : Vec X Global). v.items) vs i now
-    ∙ ap (λ l. set (lists_of vs) i l) (grown ∙ ap (λ (l : List X). l ++ more ∷ []) (sym old))
-
--- the list at a place
-pub list-at : {X : Type 0} (vs : List (Vec X Global)) (i : ℕ) (v : Vec X Global) → i < length vs → v ≡ get_or vs i v → v.items ≡ get_or (lists_of vs) i []
-list-at {X} vs i v h is = ap (λ (w : Vec X Global). w.items) is ∙ sym (get_or-map (λ (w : Vec X Global). w.items) vs i v [] h)
+-- one list of many gets more
+pub lists-set : (ls : List (List Entry)) (i : ℕ) (was now more : List Entry) → i < length ls → was ≡ get_or ls i was → now ≡ was ++ more
+    → set ls i now ≡ set ls i (get_or ls i [] ++ more)
+lists-set ls i was now more h is grown =
+    ap (λ l. set ls i l) (grown ∙ ap (λ (l : List Entry). l ++ more) (is ∙ get_or_default ls i was [] h))

@@ -1,4 +1,4 @@
--- Of no public promise but `columns_of`: runs of pairs put together by their keys.
+-- Of no public promise but `columns_of`: pairs put together by their keys.
 use denote.Ref.{Bor}
 use Rattle.std.specs.Prelude.{◌≡◌, ℕ, ◌<◌, List, [], ◌++◌, length, map, filter, slice_range, slice_index_or, Vec}
 use Rattle.std.specs.Global.{Global}
@@ -7,7 +7,7 @@ use Rattle.std.specs.Str.{bytes_eq}
 use Rattle.mr_bytes.specs.Lists.{Has}
 use Rattle.mr_bytes.specs.Pairs.{Triple}
 use Rattle.mr_spill.specs.Column.{nth_pair}
-use Rattle.mr_spill.specs.declared.run.Run.{Run}
+use Rattle.mr_spill.specs.Entries.{Entry, under_key}
 use Rattle.mr_spill.specs.declared.table.Table.{Table}
 
 -- the pairs of all columns, one column behind another
@@ -22,19 +22,9 @@ key_bytes keys = map (λ k. k.items) keys
 abbrev pub key_at : List (List ℕ) → ℕ → List ℕ
 key_at keys k = slice_index_or keys k []
 
--- lists in place of what holds them
-abbrev pub lists_of : {X : Type 0} → List (Vec X Global) → List (List X)
-lists_of vs = map (λ v. v.items) vs
-
--- the pairs of a run, of runs, and of the runs of a key by its number
-abbrev pub run_pairs : Run → List Triple
-run_pairs r = slice_range r.column.now r.from r.to
-
-abbrev pub list_pairs : List Run → List Triple
-list_pairs rs = flat_map run_pairs rs
-
-abbrev pub pairs_at : List (List Run) → ℕ → List Triple
-pairs_at ls k = list_pairs (slice_index_or ls k [])
+-- the pairs of list `k`, under a key
+abbrev pub pairs_under : List (List Entry) → List ℕ → ℕ → List Triple
+pairs_under ls key k = map (under_key key) (slice_index_or ls k [])
 
 -- the pairs from `from` to before `to` have the key of the first of them
 abbrev pub HaveOneKey : List Triple → ℕ → ℕ → Type 0
@@ -48,16 +38,16 @@ under ts key = filter (λ t. bytes_eq t.key key) ts
 abbrev pub Knows : List (List ℕ) → List ℕ → Type 0
 Knows ks q = (k : ℕ) × (k < length ks) × (key_at ks k ≡ q)
 
--- no key has two numbers, each key of the pairs has one, and its runs are its pairs, in their order
-pub record IsTable (ts : List Triple) (ks : List (List ℕ)) (ls : List (List Run)) : Type 0 where
+-- no key has two numbers, each key of the pairs has one, and its list has what its pairs have, in their order
+pub record IsTable (ts : List Triple) (ks : List (List ℕ)) (ls : List (List Entry)) : Type 0 where
   pub same : length ls ≡ length ks
   pub apart : (j k : ℕ) → j < k → k < length ks → key_at ks j ≡ key_at ks k → ⊥
   pub known : (t : Triple) → Has ts t → Knows ks t.key
-  pub each : (k : ℕ) → k < length ks → pairs_at ls k ≡ under ts (key_at ks k)
+  pub each : (k : ℕ) → k < length ks → pairs_under ls (key_at ks k) k ≡ under ts (key_at ks k)
 
 -- these pairs were taken, and no others
 abbrev pub HasTaken : List Triple → Table → Type 0
-HasTaken ts t = IsTable ts (key_bytes t.keys.keys) (lists_of t.lists.items)
+HasTaken ts t = IsTable ts (key_bytes t.keys.keys) t.lists.items
 
 -- whatever was taken before, these came behind
 abbrev pub Takes : List Triple → Table → Table → Type 0

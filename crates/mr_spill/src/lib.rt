@@ -8,6 +8,7 @@
 
 mod buffer;
 mod column;
+mod entries;
 mod regions;
 mod rows;
 mod run;

@@ -1,15 +1,16 @@
 //! Columns of pairs cut by partition into sorted regions.
-ghost use Rattle.std.specs.Prelude.{◌≡◌, ℕ, ◌+◌, ◌<◌, ◌≤◌, ◌∷◌, ◌++◌, [], IfOk, OnOk, MatchOption, All, length, map, drop, slice_range, slice_index_or};
+ghost use Rattle.std.specs.Prelude.{◌≡◌, ℕ, ◌+◌, ◌<◌, ◌≤◌, ◌∷◌, ◌++◌, [], IfOk, OnOk, MatchOption, All, length, map, drop, slice_index_or};
 ghost use Rattle.std.specs.List.{range_with_len};
 ghost use Rattle.mr_bytes.specs.Lists.{Rises};
 ghost use Rattle.mr_partition.specs.Partition.{partition_of};
 ghost use Rattle.mr_spill.specs.Regions.{RegionsHave, RegionsRise, RisesUnderKeys, regions};
 ghost use Rattle.mr_spill.specs.Rows.{behind, front, pairs_in, row_order, row_pairs};
-ghost use Rattle.mr_spill.specs.Table.{columns_of, list_pairs, lists_of, run_pairs};
+ghost use Rattle.mr_spill.specs.Entries.{under_key};
+ghost use Rattle.mr_spill.specs.Table.{columns_of};
 
 use crate::column::Pairs;
+use crate::entries::Entries;
 use crate::rows::{Row, sorted_rows};
-use crate::run::Run;
 use crate::table::table_of;
 use std::alloc::{AllocError, Global};
 
@@ -26,66 +27,63 @@ fn row_in<'a>(rows: &[Row<'a>], at: usize, part: u32) -> Option<Row<'a>>
     }
 }
 
-/// Appends the pairs of a run. It fails only for want of memory.
-fn copy(target: &mut Pairs, run: &Run<'_>) -> Result<(), AllocError>
-    ensures { OnOk result (target.new ≡ target.old ++ run_pairs run.now) }
+/// Appends the pairs of a key, which share its bytes. It fails only for want of memory.
+fn put_all(target: &mut Pairs, key: &[u8], entries: &Entries) -> Result<(), AllocError>
+    ensures { OnOk result (target.new ≡ target.old ++ map (under_key key.now) entries.now) }
 {
-    for i in run.from..run.to {
-        target.push(run.column.key(i), run.column.value(i), run.column.name(i))?;
+    let count = entries.len();
+    if count == 0 {
+        return Ok(());
+    }
+    let (value, name) = entries.get(0);
+    target.push(key, value, name)?;
+    for i in 1..count {
+        let (value, name) = entries.get(i);
+        target.push_again(value, name)?;
     }
     Ok(())
 }
 
-/// Appends the pairs of runs, in their order.
-fn copy_all(target: &mut Pairs, runs: &[Run<'_>]) -> Result<(), AllocError>
-    ensures { OnOk result (target.new ≡ target.old ++ list_pairs runs.now) }
-{
-    for run in runs {
-        copy(target, run)?;
-    }
-    Ok(())
-}
-
-/// The runs of the key of this number.
-fn runs_of<'l, 'a>(lists: &'l [Vec<Run<'a>>], number: usize) -> &'l [Run<'a>]
+/// What the key of this number has.
+fn entries_at(lists: &[Entries], number: usize) -> &Entries
     requires { number < length lists.now }
-    ensures { result.now ≡ slice_index_or (lists_of lists.now) number [] }
+    ensures { result.now ≡ slice_index_or lists.now number [] }
 {
-    lists[number].as_slice()
+    &lists[number]
 }
 
 /// The region of a partition, whose rows begin at `from`, and the place behind them.
 fn region_at(
     alloc: Global,
-    lists: &[Vec<Run<'_>>],
+    lists: &[Entries],
     rows: &[Row<'_>],
     from: usize,
     part: u32,
 ) -> Result<(Pairs, usize), AllocError>
     requires inside { All (λ r. r.number < length lists.now) rows.now }
     requires from { from ≤ length rows.now }
-    ensures region { IfOk result (λ r. r.0 ≡ row_pairs (lists_of lists.now) (front part (drop from rows.now))) }
+    ensures region { IfOk result (λ r. r.0 ≡ row_pairs lists.now (front part (drop from rows.now))) }
     ensures rest { IfOk result (λ r. (r.1 ≤ length rows.now) × (drop (r.1) rows.now ≡ behind part (drop from rows.now))) }
 {
     let mut region = Pairs::new(alloc);
     let mut at = from;
     while let Some(row) = row_in(rows, at, part) {
-        copy_all(&mut region, runs_of(lists, row.number))?;
+        put_all(&mut region, row.key, entries_at(lists, row.number))?;
         at += 1;
     }
     Ok((region, at))
 }
 
-/// The regions of all partitions, given the runs of each key and the rows of the keys in their order.
+/// The regions of all partitions, given what each key has and the rows of the keys in their order.
 fn regions_of(
     alloc: Global,
-    lists: &[Vec<Run<'_>>],
+    lists: &[Entries],
     rows: &[Row<'_>],
     parts: u32,
 ) -> Result<Vec<Pairs>, AllocError>
     requires inside { All (λ r. r.number < length lists.now) rows.now }
     requires rise { Rises row_order rows.now }
-    ensures { IfOk result (λ v. v.items ≡ map (pairs_in (lists_of lists.now) rows.now) (range_with_len 0 parts)) }
+    ensures { IfOk result (λ v. v.items ≡ map (pairs_in lists.now rows.now) (range_with_len 0 parts)) }
 {
     let mut regions = Vec::with_capacity(alloc, parts as usize)?;
     let mut at = 0;

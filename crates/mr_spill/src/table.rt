@@ -1,30 +1,31 @@
-//! Runs of pairs put together by their keys.
-ghost use Rattle.std.specs.Prelude.{◌≡◌, ◌≤◌, ◌<◌, ◌+◌, ◌++◌, ◌∷◌, [], false, is_ok, if◌then◌else◌, OnOk, IfOk, length, slice_set, slice_index_or};
+//! Pairs put together by their keys.
+ghost use Rattle.std.specs.Prelude.{◌≡◌, ◌≤◌, ◌<◌, ◌+◌, ◌++◌, ◌∷◌, [], false, is_ok, if◌then◌else◌, OnOk, IfOk, length, map, slice_set, slice_index_or};
 ghost use Rattle.std.specs.List.{list_any};
 ghost use Rattle.std.specs.Str.{bytes_eq};
-ghost use Rattle.mr_spill.specs.Column.{nth_pair};
-ghost use Rattle.mr_spill.specs.Table.{HasTaken, HaveOneKey, Takes, columns_of, lists_of, run_pairs};
+ghost use Rattle.mr_spill.specs.Entries.{entry_of, run_pairs};
+ghost use Rattle.mr_spill.specs.Table.{HasTaken, HaveOneKey, Takes, columns_of};
 
 use crate::column::Pairs;
+use crate::entries::Entries;
 use crate::run::Run;
 use indexmap::IndexSet;
 use std::alloc::{AllocError, Global};
 
-/// Distinct keys, and for each the runs of its pairs, in the order in which they came.
+/// Distinct keys, and for each what its pairs have beside it, in the order in which they came.
 #[derive(Drop)]
-pub(crate) struct Table<'a> {
+pub(crate) struct Table {
     pub keys: IndexSet<Vec<u8>>,
-    pub lists: Vec<Vec<Run<'a>>>,
+    pub lists: Vec<Entries>,
 }
 
-/// Puts a run behind those of the key of this number.
-fn put_run<'a>(lists: &mut Vec<Vec<Run<'a>>>, at: usize, run: Run<'a>) -> Result<(), AllocError>
+/// Puts what a run has behind that of the key of this number.
+fn put_run(lists: &mut Vec<Entries>, at: usize, run: &Run<'_>) -> Result<(), AllocError>
     requires { at < length lists.old.items }
     ensures count { length lists.new.items ≡ length lists.old.items }
-    ensures ok { OnOk result (lists_of lists.new.items
-        ≡ slice_set (lists_of lists.old.items) at (slice_index_or (lists_of lists.old.items) at [] ++ run.entry ∷ [])) }
+    ensures ok { OnOk result (lists.new.items
+        ≡ slice_set lists.old.items at (slice_index_or lists.old.items at [] ++ map entry_of (run_pairs run.now))) }
 {
-    lists[at].push(run)?;
+    lists[at].take(run)?;
     Ok(())
 }
 
@@ -44,45 +45,44 @@ fn run_end(pairs: &Pairs, from: usize) -> usize
     ensures same { HaveOneKey pairs.now from result }
 {
     let count = pairs.len();
-    let key = pairs.key(from);
     let mut end = from + 1;
-    while end < count && pairs.key(end) == key {
+    while end < count && pairs.is_same_key(from, end) {
         end += 1;
     }
     end
 }
 
-impl<'a> Table<'a> {
+impl Table {
     /// Takes a run, all of one key.
-    fn take(&mut self, alloc: Global, run: Run<'a>) -> Result<(), AllocError>
+    fn take(&mut self, alloc: Global, run: &Run<'_>) -> Result<(), AllocError>
         requires same { length self.old.lists.items ≡ length self.old.keys.keys }
-        requires some { run.from < run.to }
-        requires key { HaveOneKey run.column.now run.from run.to }
+        requires some { run.now.from < run.now.to }
+        requires key { HaveOneKey run.now.column.now run.now.from run.now.to }
         ensures same { OnOk result (length self.new.lists.items ≡ length self.new.keys.keys) }
-        ensures taken { OnOk result (Takes (run_pairs run.entry) self.old self.new) }
+        ensures taken { OnOk result (Takes (run_pairs run.now) self.old self.new) }
     {
         let key = run.column.key(run.from);
         if let Some(at) = self.keys.get_index_of(key) {
             return put_run(&mut self.lists, at, run);
         }
         let copy = Vec::from_slice(alloc, key)?;
-        let mut list = Vec::new(alloc);
-        list.push(run)?;
+        let mut list = Entries::new(alloc);
+        list.take(run)?;
         add_key(&mut self.keys, copy)?;
         self.lists.push(list)?;
         Ok(())
     }
 
     /// Takes all pairs of a column.
-    fn take_column(&mut self, alloc: Global, column: &'a Pairs) -> Result<(), AllocError>
+    fn take_column(&mut self, alloc: Global, column: &Pairs) -> Result<(), AllocError>
         requires same { length self.old.lists.items ≡ length self.old.keys.keys }
         ensures same { OnOk result (length self.new.lists.items ≡ length self.new.keys.keys) }
-        ensures taken { OnOk result (Takes column.entry.now self.old self.new) }
+        ensures taken { OnOk result (Takes column.now self.old self.new) }
     {
         let mut from = 0;
         while from < column.len() {
             let to = run_end(column, from);
-            self.take(alloc, Run { column, from, to })?;
+            self.take(alloc, &Run { column, from, to })?;
             from = to;
         }
         Ok(())
@@ -90,7 +90,7 @@ impl<'a> Table<'a> {
 }
 
 /// All pairs of the columns, put together by their keys.
-pub(crate) fn table_of<'a>(alloc: Global, columns: &[&'a Pairs]) -> Result<Table<'a>, AllocError>
+pub(crate) fn table_of(alloc: Global, columns: &[&Pairs]) -> Result<Table, AllocError>
     ensures same { IfOk result (λ t. length t.lists.items ≡ length t.keys.keys) }
     ensures taken { IfOk result (HasTaken (columns_of columns.now)) }
 {

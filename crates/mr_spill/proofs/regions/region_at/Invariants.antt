@@ -1,12 +1,11 @@
 use Rattle.std.proofs.Common.{◌≡◌, ◌++◌, ◌≤◌, ◌-◌, drop, length}
 use Rattle.mr_spill.specs.Rows.{behind, front, row_pairs}
-use Rattle.mr_spill.specs.Table.{lists_of}
 use Rattle.mr_spill.proofs.regions.region_at.Given as goal
 
 abbrev pub invariant-loop-row : goal.invariant-loop-row
 invariant-loop-row l = record {
   within : l.at ≤ length l.rows;
-  region : l.region ++ row_pairs (lists_of l.lists) (front l.part (drop l.at l.rows)) ≡ row_pairs (lists_of l.lists) (front l.part (drop l.from l.rows));
+  region : l.region ++ row_pairs l.lists (front l.part (drop l.at l.rows)) ≡ row_pairs l.lists (front l.part (drop l.from l.rows));
   rest : behind l.part (drop l.at l.rows) ≡ behind l.part (drop l.from l.rows);
 }
 

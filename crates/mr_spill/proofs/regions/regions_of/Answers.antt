@@ -4,16 +4,15 @@ use Rattle.std.specs.List.{range_with_len}
 use Rattle.mr_bytes.specs.Lists.{Rises}
 use Rattle.mr_bytes.specs.Pairs.{Triple}
 use Rattle.mr_spill.specs.declared.rows.Row.{Row}
-use Rattle.mr_spill.specs.declared.run.Run.{Run}
 use Rattle.mr_spill.specs.Rows.{behind, pairs_in, row_order, row_pairs, rows_in}
-use Rattle.mr_spill.specs.Table.{lists_of}
+use Rattle.mr_spill.specs.Entries.{Entry}
 use Rattle.mr_spill.proofs.RowLemmas.{AreFrom, behind-from, behind-in, behind-rises, front-is}
 use Rattle.mr_spill.proofs.regions.regions_of.Goals as goal
 
 pub loop-part-preserved : goal.loop-part-preserved
 loop-part-preserved c =
     let rows : List Row = c.args.rows.now in
-    let ls : List (List Run) = lists_of c.args.lists.now in
+    let ls : List (List Entry) = c.args.lists.now in
     let p : ℕ = c.loop-part.part in
     let left : List Row = drop c.loop-part.at rows in
     let rest : drop c.in_ok-region.next rows ≡ behind p left = c.in_ok-region.ensures.rest.1 in
