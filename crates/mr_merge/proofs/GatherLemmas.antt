@@ -10,15 +10,16 @@ use Rattle.std.specs.Cmp.{nat_cmp_is}
 use Rattle.std.specs.Ordering.{nat_cmp, ordering_then}
 use Rattle.std.specs.declared.cmp.Ordering.TheVariants.{Less, Equal}
 use Rattle.mr_bytes.specs.declared.Name.{Name}
-use Rattle.mr_bytes.specs.Lists.{Has, Rises, sorted}
+use Rattle.mr_bytes.specs.Lists.{Distinct, Has, Rises, sorted}
 use Rattle.mr_bytes.specs.Order.{key_order, name_order}
 use Rattle.mr_bytes.specs.Pairs.{Triple, pair_order}
-use Rattle.mr_bytes.proofs.ListLaws.{Has-all, all_from_Has, Has-append_cases, Has-map}
+use Rattle.mr_bytes.proofs.ListLaws.{Distinct-append, Has-all, all_from_Has, Has-append_cases, Has-map, Has-map_from}
 use Rattle.mr_partition.specs.Partition.{partition_of}
 use Rattle.mr_spill.specs.Column.{names_of}
 use Rattle.mr_spill.specs.Regions.{RisesUnderKeys, region}
 use Rattle.mr_spill.specs.Table.{columns_of}
 use Rattle.mr_merge.specs.Merged.{joined, values_of}
+use Rattle.mr_merge.specs.Merging.{NamesDiffer}
 use Rattle.mr_merge.proofs.MergeLemmas.{All-more}
 
 pub All-next : {X : Type 0} (P : X → Type 0) (xs : List X) (i : ℕ) (d : X) → i < length xs → AllByRecursion P (take i xs) → P (get_or xs i d) → AllByRecursion P (take (i + 1) xs)
@@ -64,6 +65,17 @@ follows xs ys low r s below names are from =
     under-append xs ys r (rising-under ys s) (λ t u a b.
     let above : low ≤ u.name.split = Has-all (λ (n : Name). low ≤ n.split) names u.name from (subst (λ (l : List Name). Has l u.name) (sym are) (Has-map (λ (w : Triple). w.name) ys u b)) in
     split-less t.name u.name (omega (arith, below t a, above)))
+
+-- names of later splits differ from those before
+pub differs : (xs ys : List Triple) (low : ℕ) → NamesDiffer xs → NamesDiffer ys → ((t : Triple) → Has xs t → t.name.split < low)
+    → (names : List Name) → names ≡ names_of ys → AllByRecursion (λ (n : Name). low ≤ n.split) names → NamesDiffer (xs ++ ys)
+differs xs ys low d e below names are from =
+    subst Distinct (sym (map-append (λ (w : Triple). w.name) xs ys))
+    (Distinct-append (names_of xs) (names_of ys) d e (λ n a b.
+    let t = Has-map_from (λ (w : Triple). w.name) xs n a in
+    let less : n.split < low = subst (λ (m : Name). m.split < low) t.2 (below t.0 t.1) in
+    let above : low ≤ n.split = Has-all (λ (m : Name). low ≤ m.split) names n from (subst (λ (l : List Name). Has l n) (sym are) b) in
+    absurd (omega (arith, less, above))))
 
 pub later : (xs ys : List Triple) (low end : ℕ) (names : List Name) → names ≡ names_of ys → low ≤ end → ((t : Triple) → Has xs t → t.name.split < low)
     → AllByRecursion (λ (n : Name). n.split < end) names → (t : Triple) → Has (xs ++ ys) t → t.name.split < end

@@ -5,6 +5,7 @@ ghost use Rattle.mr_bytes.specs.Lists.{Rises, sorted};
 ghost use Rattle.mr_bytes.specs.Pairs.{Triple, pair_order};
 ghost use Rattle.mr_spill.specs.Regions.{RisesUnderKeys};
 ghost use Rattle.mr_merge.specs.Merged.{AreSound, joined, values_of};
+ghost use Rattle.mr_merge.specs.Merging.{NamesDiffer};
 
 use crate::merging::merged_all;
 use mr_bytes::Name;
@@ -44,9 +45,10 @@ fn split_end(names: &[Name], low: u64) -> u64
 }
 
 /// Whether the splits of each region are past those of all before it.
-fn splits_follow(regions: &[&Pairs]) -> bool
+pub(crate) fn splits_follow(regions: &[&Pairs]) -> bool
     requires { AllByRecursion (Rises pair_order) (values_of regions.now) }
-    ensures { IsTrue result → RisesUnderKeys (joined (values_of regions.now)) }
+    ensures rise { IsTrue result → RisesUnderKeys (joined (values_of regions.now)) }
+    ensures differ { IsTrue result → AllByRecursion NamesDiffer (values_of regions.now) → NamesDiffer (joined (values_of regions.now)) }
 {
     let mut low = 0;
     for region in regions {

@@ -1,8 +1,9 @@
 //! Columns of pairs cut by partition into sorted regions.
 ghost use Rattle.std.specs.Prelude.{◌≡◌, ℕ, ◌+◌, ◌<◌, ◌≤◌, ◌∷◌, ◌++◌, [], IfOk, OnOk, MatchOption, All, length, map, drop, slice_index_or};
 ghost use Rattle.std.specs.List.{range_with_len};
-ghost use Rattle.mr_bytes.specs.Lists.{Rises};
+ghost use Rattle.mr_bytes.specs.Lists.{Distinct, Rises};
 ghost use Rattle.mr_partition.specs.Partition.{partition_of};
+ghost use Rattle.mr_spill.specs.Column.{IsSealed, names_of};
 ghost use Rattle.mr_spill.specs.Regions.{RegionsHave, RegionsRise, RisesUnderKeys, regions};
 ghost use Rattle.mr_spill.specs.Rows.{behind, front, pairs_in, row_order, row_pairs};
 ghost use Rattle.mr_spill.specs.Entries.{under_key};
@@ -83,12 +84,14 @@ fn regions_of(
 ) -> Result<Vec<Pairs>, AllocError>
     requires inside { All (λ r. r.number < length lists.now) rows.now }
     requires rise { Rises row_order rows.now }
+    requires sealed { (p : ℕ) → IsSealed (pairs_in lists.now rows.now p) }
     ensures { IfOk result (λ v. v.items ≡ map (pairs_in lists.now rows.now) (range_with_len 0 parts)) }
 {
     let mut regions = Vec::with_capacity(alloc, parts as usize)?;
     let mut at = 0;
     for part in 0..parts {
-        let (region, next) = region_at(alloc, lists, rows, at, part)?;
+        let (mut region, next) = region_at(alloc, lists, rows, at, part)?;
+        region.mark_sealed();
         regions.push(region)?;
         at = next;
     }
@@ -96,10 +99,11 @@ fn regions_of(
 }
 
 /// For each partition, in order, the pairs of all columns that belong to it, by key and then name. Under each key the
-/// names rise from column to column already. Keys are sorted once each. It fails only for want of memory.
+/// names rise from column to column already, and no name stands twice. Keys are sorted once each. It fails only for want of memory.
 pub fn gathered(alloc: Global, columns: &[&Pairs], parts: u32) -> Result<Vec<Pairs>, AllocError>
     requires some { 0 < parts }
     requires rise { RisesUnderKeys (columns_of columns.now) }
+    requires differ { Distinct (names_of (columns_of columns.now)) }
     ensures { IfOk result (λ v. v.items ≡ regions (λ k. partition_of k parts) parts (columns_of columns.now)) }
 {
     let table = table_of(alloc, columns)?;
