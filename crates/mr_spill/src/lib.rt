@@ -2,8 +2,9 @@
 //! (OSDI 2004, sections 3.1 and 4.2).
 //!
 //! Pairs enter by rising name, in the order of the input. What leaves is a region for each partition, by key and then
-//! name. Time: one look-up for each pair, and a sort of the distinct keys, n log n comparisons. Memory: the pairs twice
-//! while they are cut, 24 bytes for each, and a copy of each distinct key.
+//! name, in which a key is stored once. Time: one look-up for each pair, and a sort of the distinct keys, n log n
+//! comparisons, most of them of two numbers. Memory: the pairs three times while they are cut, of which the second has no
+//! keys but one copy of each distinct key.
 #![tactic(auto)]
 
 mod buffer;
