@@ -3,3 +3,4 @@ pub mod MergeLemmas
 pub mod SoundLemmas
 pub mod GroupLemmas
 pub mod LawLemmas
+pub mod GatherLemmas

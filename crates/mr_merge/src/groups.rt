@@ -93,9 +93,8 @@ fn key_end(pairs: &Pairs, from: usize) -> usize
     ensures ends { result < length pairs.now → (nth_pair pairs.now result).key ≢ (nth_pair pairs.now from).key }
 {
     let count = pairs.len();
-    let key = pairs.key(from);
     let mut end = from + 1;
-    while end < count && pairs.key(end) == key {
+    while end < count && pairs.is_same_key(from, end) {
         end += 1;
     }
     end

@@ -1,11 +1,13 @@
 -- Pairs kept flat: how many they are, the one at a place, and one more.
-use Rattle.std.proofs.Common.{◌≡◌, ℕ, zero, suc, ◌-◌, ◌<◌, ◌≤◌, List, [], ◌∷◌, ◌++◌, length, get_or, take, drop, slice_range, refl, ◌∙◌, ap, arith, length-append, length-drop}
+use Rattle.std.proofs.Common.{◌≡◌, ℕ, zero, suc, ◌-◌, ◌<◌, ◌≤◌, List, [], ◌∷◌, ◌++◌, length, get_or, take, drop, slice_range, refl, ◌∙◌, ap, sym, arith, append-nil, length-append, length-drop}
 use Rattle.std.proofs.lemmas.List.{drop-append-le, take-append-le, drop_at, take_all}
+use Rattle.std.specs.List.{AllByRecursion}
 use Rattle.mr_bytes.specs.declared.Name.{Name}
+use Rattle.mr_bytes.specs.declared.Span.{Span}
 use Rattle.mr_bytes.specs.declared.Value.{Value}
 use Rattle.mr_bytes.specs.declared.Value.TheVariants.{One}
 use Rattle.mr_bytes.specs.Pairs.{Triple}
-use Rattle.mr_spill.specs.Column.{triples_from, EndsRise, names_of, no_pair}
+use Rattle.mr_spill.specs.Column.{triples_of, key_of, IsSpan, names_of, no_pair}
 
 -- a part of a list that has grown behind it
 range-more : {X : Type 0} (xs ys : List X) (a b : ℕ) → a ≤ b → b ≤ length xs → slice_range (xs ++ ys) a b ≡ slice_range xs a b
@@ -13,63 +15,74 @@ range-more xs ys a b order within =
     ap (take (b - a)) (drop-append-le a xs ys (omega arith))
     ∙ take-append-le (b - a) (drop a xs) ys (omega (arith, length-drop a xs))
 
-range-end : {X : Type 0} (xs ys : List X) → slice_range (xs ++ ys) (length xs) (length (xs ++ ys)) ≡ ys
+pub range-end : {X : Type 0} (xs ys : List X) → slice_range (xs ++ ys) (length xs) (length (xs ++ ys)) ≡ ys
 range-end xs ys =
     ap (take (length (xs ++ ys) - length xs)) (drop_at xs ys (length xs) refl)
     ∙ take_all (length (xs ++ ys) - length xs) ys (omega (arith, length-append xs ys))
 
-rise-within : (at last : ℕ) (ends : List ℕ) → EndsRise at last ends → at ≤ last
-rise-within at last [] r = omega (arith, r)
-rise-within at last (e ∷ ends) r = omega (arith, r.0, rise-within e last ends r.1)
+-- ---- spans of the keys
 
-pub rise-push : (at last new : ℕ) (ends : List ℕ) → EndsRise at last ends → last ≤ new → EndsRise at new (ends ++ new ∷ [])
-rise-push at last new [] r h = (omega (arith, r, h), refl)
-rise-push at last new (e ∷ ends) r h = (r.0, rise-push e last new ends r.1 h)
+pub no-span : Span
+no-span = record { start = 0; end = 0 }
 
--- each item begins at or before its end, and ends within
-pub rise-at : (at last i : ℕ) (ends : List ℕ) → EndsRise at last ends → i < length ends
-    → (get_or (at ∷ ends) i 0 ≤ get_or ends i 0) × (get_or ends i 0 ≤ last)
-rise-at at last i [] r h = absurd (omega arith)
-rise-at at last zero (e ∷ ends) r h = (r.0, rise-within e last ends r.1)
-rise-at at last (suc i) (e ∷ ends) r h = rise-at e last i ends r.1 (omega arith)
+pub span-at : (count i : ℕ) (spans : List Span) (d : Span) → AllByRecursion (IsSpan count) spans → i < length spans → IsSpan count (get_or spans i d)
+span-at count i [] d all h = absurd (omega arith)
+span-at count zero (s ∷ spans) d all h = all.0
+span-at count (suc i) (s ∷ spans) d all h = span-at count i spans d all.1 (omega (arith, h))
 
-pub length-triples : (at : ℕ) (keys ends : List ℕ) (values : List Value) (names : List Name) → length values ≡ length ends → length names ≡ length ends
-    → length (triples_from at keys ends values names) ≡ length ends
-length-triples at keys [] values names h g = refl
-length-triples at keys (e ∷ ends) [] names h g = absurd (omega (arith, h))
-length-triples at keys (e ∷ ends) (v ∷ values) [] h g = absurd (omega (arith, g))
-length-triples at keys (e ∷ ends) (v ∷ values) (n ∷ names) h g = ap suc (length-triples e keys ends values names (omega (arith, h)) (omega (arith, g)))
+pub spans-more : (was now : ℕ) (spans : List Span) (s : Span) → was ≤ now → AllByRecursion (IsSpan was) spans → IsSpan now s → AllByRecursion (IsSpan now) (spans ++ s ∷ [])
+spans-more was now [] s h all is = (is, tt)
+spans-more was now (t ∷ spans) s h all is = ((all.0.0, omega (arith, h, all.0.1)), spans-more was now spans s h all.1 is)
 
-pub names-triples : (at : ℕ) (keys ends : List ℕ) (values : List Value) (names : List Name) → length values ≡ length ends → length names ≡ length ends
-    → names_of (triples_from at keys ends values names) ≡ names
-names-triples at keys [] values [] h g = refl
-names-triples at keys [] values (n ∷ names) h g = absurd (omega (arith, g))
-names-triples at keys (e ∷ ends) [] names h g = absurd (omega (arith, h))
-names-triples at keys (e ∷ ends) (v ∷ values) [] h g = absurd (omega (arith, g))
-names-triples at keys (e ∷ ends) (v ∷ values) (n ∷ names) h g =
-    ap (λ (l : List Name). n ∷ l) (names-triples e keys ends values names (omega (arith, h)) (omega (arith, g)))
+-- ---- the pairs
 
-pub triple-at : (at i : ℕ) (keys ends : List ℕ) (values : List Value) (names : List Name) → length values ≡ length ends → length names ≡ length ends → i < length ends
-    → get_or (triples_from at keys ends values names) i no_pair
-    ≡ record { key = slice_range keys (get_or (at ∷ ends) i 0) (get_or ends i 0); value = get_or values i One; name = get_or names i (record { split = 0; rec = 0; place = 0 }) }
-triple-at at i keys [] values names h g k = absurd (omega arith)
-triple-at at i keys (e ∷ ends) [] names h g k = absurd (omega (arith, h))
-triple-at at i keys (e ∷ ends) (v ∷ values) [] h g k = absurd (omega (arith, g))
-triple-at at zero keys (e ∷ ends) (v ∷ values) (n ∷ names) h g k = refl
-triple-at at (suc i) keys (e ∷ ends) (v ∷ values) (n ∷ names) h g k = triple-at e i keys ends values names (omega (arith, h)) (omega (arith, g)) (omega arith)
+pub length-triples : (keys : List ℕ) (spans : List Span) (values : List Value) (names : List Name) → length values ≡ length spans → length names ≡ length spans
+    → length (triples_of keys spans values names) ≡ length spans
+length-triples keys [] values names h g = refl
+length-triples keys (s ∷ spans) [] names h g = absurd (omega (arith, h))
+length-triples keys (s ∷ spans) (v ∷ values) [] h g = absurd (omega (arith, g))
+length-triples keys (s ∷ spans) (v ∷ values) (n ∷ names) h g = ap suc (length-triples keys spans values names (omega (arith, h)) (omega (arith, g)))
 
-pub triples-more : (at : ℕ) (keys key ends : List ℕ) (values : List Value) (v : Value) (names : List Name) (n : Name) → EndsRise at (length keys) ends
-    → length values ≡ length ends → length names ≡ length ends
-    → triples_from at (keys ++ key) (ends ++ length (keys ++ key) ∷ []) (values ++ v ∷ []) (names ++ n ∷ [])
-    ≡ triples_from at keys ends values names ++ record { key = key; value = v; name = n } ∷ []
-triples-more at keys key [] [] v [] n r h g =
-    ap (λ (k : List ℕ). record { key = k; value = v; name = n } ∷ []) (ap (λ (a : ℕ). slice_range (keys ++ key) a (length (keys ++ key))) r ∙ range-end keys key)
-triples-more at keys key [] [] v (m ∷ names) n r h g = absurd (omega (arith, g))
-triples-more at keys key [] (w ∷ values) v names n r h g = absurd (omega (arith, h))
-triples-more at keys key (e ∷ ends) [] v names n r h g = absurd (omega (arith, h))
-triples-more at keys key (e ∷ ends) (w ∷ values) v [] n r h g = absurd (omega (arith, g))
-triples-more at keys key (e ∷ ends) (w ∷ values) v (m ∷ names) n r h g =
-    ap (λ (k : List ℕ). record { key = k; value = w; name = m } ∷ triples_from e (keys ++ key) (ends ++ length (keys ++ key) ∷ []) (values ++ v ∷ []) (names ++ n ∷ []))
-    (range-more keys key at e r.0 (rise-within e (length keys) ends r.1))
-    ∙ ap (λ (l : List Triple). record { key = slice_range keys at e; value = w; name = m } ∷ l)
-    (triples-more e keys key ends values v names n r.1 (omega (arith, h)) (omega (arith, g)))
+pub names-triples : (keys : List ℕ) (spans : List Span) (values : List Value) (names : List Name) → length values ≡ length spans → length names ≡ length spans
+    → names_of (triples_of keys spans values names) ≡ names
+names-triples keys [] values [] h g = refl
+names-triples keys [] values (n ∷ names) h g = absurd (omega (arith, g))
+names-triples keys (s ∷ spans) [] names h g = absurd (omega (arith, h))
+names-triples keys (s ∷ spans) (v ∷ values) [] h g = absurd (omega (arith, g))
+names-triples keys (s ∷ spans) (v ∷ values) (n ∷ names) h g =
+    ap (λ (l : List Name). n ∷ l) (names-triples keys spans values names (omega (arith, h)) (omega (arith, g)))
+
+pub triple-at : (i : ℕ) (keys : List ℕ) (spans : List Span) (values : List Value) (names : List Name) (d : Span) → length values ≡ length spans → length names ≡ length spans → i < length spans
+    → get_or (triples_of keys spans values names) i no_pair
+    ≡ record { key = key_of keys (get_or spans i d); value = get_or values i One; name = get_or names i (record { split = 0; rec = 0; place = 0 }) }
+triple-at i keys [] values names d h g k = absurd (omega arith)
+triple-at i keys (s ∷ spans) [] names d h g k = absurd (omega (arith, h))
+triple-at i keys (s ∷ spans) (v ∷ values) [] d h g k = absurd (omega (arith, g))
+triple-at zero keys (s ∷ spans) (v ∷ values) (n ∷ names) d h g k = refl
+triple-at (suc i) keys (s ∷ spans) (v ∷ values) (n ∷ names) d h g k = triple-at i keys spans values names d (omega (arith, h)) (omega (arith, g)) (omega arith)
+
+-- one more pair, whose key stands at a span of bytes that may have grown
+pub triples-more : (keys more : List ℕ) (spans : List Span) (s : Span) (values : List Value) (v : Value) (names : List Name) (n : Name) → AllByRecursion (IsSpan (length keys)) spans
+    → length values ≡ length spans → length names ≡ length spans
+    → triples_of (keys ++ more) (spans ++ s ∷ []) (values ++ v ∷ []) (names ++ n ∷ [])
+    ≡ triples_of keys spans values names ++ record { key = key_of (keys ++ more) s; value = v; name = n } ∷ []
+triples-more keys more [] s [] v [] n all h g = refl
+triples-more keys more [] s [] v (m ∷ names) n all h g = absurd (omega (arith, g))
+triples-more keys more [] s (w ∷ values) v names n all h g = absurd (omega (arith, h))
+triples-more keys more (t ∷ spans) s [] v names n all h g = absurd (omega (arith, h))
+triples-more keys more (t ∷ spans) s (w ∷ values) v [] n all h g = absurd (omega (arith, g))
+triples-more keys more (t ∷ spans) s (w ∷ values) v (m ∷ names) n all h g =
+    ap (λ (k : List ℕ). record { key = k; value = w; name = m } ∷ triples_of (keys ++ more) (spans ++ s ∷ []) (values ++ v ∷ []) (names ++ n ∷ []))
+    (range-more keys more t.start t.end all.0.0 all.0.1)
+    ∙ ap (λ (l : List Triple). record { key = key_of keys t; value = w; name = m } ∷ l)
+    (triples-more keys more spans s values v names n all.1 (omega (arith, h)) (omega (arith, g)))
+
+-- one more pair, whose key stands there already
+pub triples-again : (keys : List ℕ) (spans : List Span) (s : Span) (values : List Value) (v : Value) (names : List Name) (n : Name) → AllByRecursion (IsSpan (length keys)) spans
+    → length values ≡ length spans → length names ≡ length spans
+    → triples_of keys (spans ++ s ∷ []) (values ++ v ∷ []) (names ++ n ∷ [])
+    ≡ triples_of keys spans values names ++ record { key = key_of keys s; value = v; name = n } ∷ []
+triples-again keys spans s values v names n all h g =
+    ap (λ (l : List ℕ). triples_of l (spans ++ s ∷ []) (values ++ v ∷ []) (names ++ n ∷ [])) (sym (append-nil keys))
+    ∙ triples-more keys [] spans s values v names n all h g
+    ∙ ap (λ (l : List ℕ). triples_of keys spans values names ++ record { key = key_of l s; value = v; name = n } ∷ []) (append-nil keys)

@@ -1,22 +1,27 @@
--- Pairs kept flat: keys one behind another with the place where each ends, values and names beside them.
-use Rattle.std.specs.Prelude.{◌≡◌, ℕ, ◌≤◌, List, [], ◌∷◌, map, slice_range, slice_index_or}
+-- Pairs kept flat: the bytes of keys one behind another with the place where each stands, values and names beside them.
+use Rattle.std.specs.Prelude.{ℕ, ◌≤◌, List, [], ◌∷◌, map, slice_range, slice_index_or}
 use Rattle.mr_bytes.specs.declared.Name.{Name}
+use Rattle.mr_bytes.specs.declared.Span.{Span}
 use Rattle.mr_bytes.specs.declared.Value.{Value}
 use Rattle.mr_bytes.specs.declared.Value.TheVariants.{One}
-use Rattle.mr_bytes.specs.Pairs.{Triple}
+use Rattle.mr_bytes.specs.Lists.{Distinct, Rises}
+use Rattle.mr_bytes.specs.Pairs.{Triple, pair_order}
 
--- the keys, each from the end of the one before, with their values and names
-abbrev pub triples_from : ℕ → List ℕ → List ℕ → List Value → List Name → List Triple
-triples_from at keys [] values names = []
-triples_from at keys (e ∷ ends) [] names = []
-triples_from at keys (e ∷ ends) (v ∷ values) [] = []
-triples_from at keys (e ∷ ends) (v ∷ values) (n ∷ names) =
-    record { key = slice_range keys at e; value = v; name = n } ∷ triples_from e keys ends values names
+-- the key that stands at a span of the bytes
+abbrev pub key_of : List ℕ → Span → List ℕ
+key_of keys s = slice_range keys s.start s.end
 
--- the ends rise from `at` to `last`
-abbrev pub EndsRise : ℕ → ℕ → List ℕ → Type 0
-EndsRise at last [] = at ≡ last
-EndsRise at last (e ∷ ends) = (at ≤ e) × EndsRise e last ends
+-- the keys, each at its span, with their values and names
+abbrev pub triples_of : List ℕ → List Span → List Value → List Name → List Triple
+triples_of keys [] values names = []
+triples_of keys (s ∷ spans) [] names = []
+triples_of keys (s ∷ spans) (v ∷ values) [] = []
+triples_of keys (s ∷ spans) (v ∷ values) (n ∷ names) =
+    record { key = key_of keys s; value = v; name = n } ∷ triples_of keys spans values names
+
+-- the span is one of so many bytes
+abbrev pub IsSpan : ℕ → Span → Type 0
+IsSpan count s = (s.start ≤ s.end) × (s.end ≤ count)
 
 -- a pair that stands for none
 abbrev pub no_pair : Triple
@@ -28,3 +33,8 @@ nth_pair ts i = slice_index_or ts i no_pair
 
 abbrev pub names_of : List Triple → List Name
 names_of ts = map (λ t. t.name) ts
+
+-- what a seal makes: the pairs rise by key and name, and no name stands twice
+pub record IsSealed (ts : List Triple) : Type 0 where
+  pub rise : Rises pair_order ts
+  pub differ : Distinct (names_of ts)

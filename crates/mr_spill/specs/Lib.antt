@@ -1,4 +1,6 @@
 pub mod Column
 pub mod Buffer
+pub mod Entries
 pub mod Regions
 pub mod Rows
+pub mod Table

@@ -1,6 +1,7 @@
 -- The region of a partition: the pairs of a run of a map task that belong to it, in order (OSDI 2004, sections 3.1 and 4.2).
-use Rattle.std.specs.Prelude.{◌≡◌, ◌↔◌, ℕ, ◌==◌, List, filter, map}
-use Rattle.std.specs.List.{range_with_len}
+use Rattle.std.specs.Prelude.{◌≡◌, ◌↔◌, ℕ, ◌==◌, List, [], ◌∷◌, filter, map}
+use Rattle.std.specs.List.{AllByRecursion, range_with_len}
+use Rattle.std.specs.declared.cmp.Ordering.TheVariants.{Less}
 use Rattle.mr_bytes.specs.Lists.{Has, Rises, sorted}
 use Rattle.mr_bytes.specs.Order.{name_order}
 use Rattle.mr_bytes.specs.Pairs.{Triple, pair_order}
@@ -22,3 +23,8 @@ RegionsRise = (part : List ℕ → ℕ) (ts : List Triple) (p : ℕ) → Rises p
 abbrev pub RegionsHave : Type 0
 RegionsHave = (part : List ℕ → ℕ) (ts : List Triple) (p : ℕ) → Rises name_order (names_of ts)
     → (t : Triple) → Has (region part ts p) t ↔ (Has ts t × (part t.key ≡ p))
+
+-- under each key the names rise, strictly
+abbrev pub RisesUnderKeys : List Triple → Type 0
+RisesUnderKeys [] = Unit {0}
+RisesUnderKeys (t ∷ ts) = AllByRecursion (λ u. u.key ≡ t.key → name_order t.name u.name ≡ Less) ts × RisesUnderKeys ts

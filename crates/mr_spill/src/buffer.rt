@@ -8,7 +8,7 @@ ghost use Rattle.mr_spill.specs.Column.{names_of};
 ghost use Rattle.mr_spill.specs.Regions.{regions};
 
 use crate::column::Pairs;
-use crate::regions::sealed;
+use crate::regions::gathered;
 use mr_bytes::{Name, Pair, Value};
 use std::alloc::{AllocError, Global};
 use std::marker::Model;
@@ -124,7 +124,7 @@ impl Buffer {
         ensures empty { OnOk result (self.new ≡ record { limit = self.old.limit; pairs = [] }) }
         ensures err { OnErr result (self.new ≡ self.old) }
     {
-        let regions = sealed(alloc, &self.pairs, parts)?;
+        let regions = gathered(alloc, &[&self.pairs], parts)?;
         self.pairs.clear();
         Ok(regions)
     }

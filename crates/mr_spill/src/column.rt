@@ -1,44 +1,59 @@
 //! Pairs with their names, in flat columns.
-ghost use Rattle.std.specs.Prelude.{◌≡◌, ◌++◌, ◌∷◌, [], ◌<◌, ◌≤◌, IfOk, OnOk, OnErr, length, slice_index};
-ghost use Rattle.mr_spill.specs.Column.{names_of, nth_pair};
+ghost use Rattle.std.specs.Prelude.{◌≡◌, ◌↔◌, ◌+◌, ◌-◌, ◌++◌, ◌∷◌, [], ◌<◌, IfOk, IsTrue, OnOk, OnErr, length};
+ghost use Rattle.mr_bytes.specs.Lists.{Distinct, Rises};
+ghost use Rattle.mr_bytes.specs.Pairs.{pair_order};
+ghost use Rattle.mr_spill.specs.Column.{IsSealed, names_of, nth_pair};
 
-use mr_bytes::{Name, Value, Values};
+use mr_bytes::{Name, Span, Value, Values, is_same_span};
 use std::alloc::{AllocError, Global};
 use std::marker::Model;
 
-/// Pairs with their names, one behind another: the bytes of all keys in one buffer, so that no key takes an allocation
-/// of its own, and values of which those `One` in front are only counted.
+/// Pairs with their names, one behind another: the bytes of keys in one buffer, so that no key takes an allocation of
+/// its own, and pairs that came together under one key share its bytes; values of which those `One` in front are only
+/// counted. The keys take less than 4 GiB.
 #[derive(Drop)]
 pub struct Pairs {
     keys: Vec<u8>,
-    /// Where each key ends.
-    ends: Vec<usize>,
+    /// Where the key of each pair stands.
+    spans: Vec<Span>,
     values: Values,
     names: Vec<Name>,
+    /// A seal made the pairs, and none was added since.
+    sealed: bool,
 }
 
 impl Model for Pairs {
-    ghost use Rattle.std.specs.Prelude.{◌≡◌, List, length};
+    ghost use Rattle.std.specs.Prelude.{◌≡◌, IsTrue, List, length};
+    ghost use Rattle.std.specs.List.{AllByRecursion};
     ghost use Rattle.mr_bytes.specs.Pairs.{Triple};
-    ghost use Rattle.mr_spill.specs.Column.{EndsRise, triples_from};
+    ghost use Rattle.mr_spill.specs.Column.{IsSealed, IsSpan, triples_of};
 
     ghost Value = { List Triple };
 
-    ghost view = { λ p. triples_from 0 p.keys.items p.ends.items p.values p.names.items };
+    ghost view = { λ p. triples_of p.keys.items p.spans.items p.values p.names.items };
 
     ghost invariant = { λ p. record {
-      rise : EndsRise 0 (length p.keys.items) p.ends.items;
-      values : length p.values ≡ length p.ends.items;
-      names : length p.names.items ≡ length p.ends.items;
+      spans : AllByRecursion (IsSpan (length p.keys.items)) p.spans.items;
+      values : length p.values ≡ length p.spans.items;
+      names : length p.names.items ≡ length p.spans.items;
+      sealed : IsTrue p.sealed → IsSealed (triples_of p.keys.items p.spans.items p.values p.names.items);
     } };
 }
 
-/// Where item `i` starts, given where each ends.
-fn start_of(ends: &[usize], i: usize) -> usize
-    requires { i ≤ length ends.now }
-    ensures { result ≡ slice_index (0 ∷ ends.now) i }
+/// Where a key stands that comes behind so many bytes. There is no memory for 4 GiB of keys.
+fn span_behind(bytes: usize, key: &[u8]) -> Result<Span, AllocError>
+    ensures start { IfOk result (λ s. s.start ≡ bytes) }
+    ensures end { IfOk result (λ s. s.end ≡ bytes + length key.now) }
 {
-    if i == 0 { 0 } else { ends[i - 1] }
+    let most = u32::MAX as usize;
+    let count = key.len();
+    if most < bytes || most - bytes < count {
+        return Err(AllocError);
+    }
+    Ok(Span {
+        start: bytes as u32,
+        end: (bytes + count) as u32,
+    })
 }
 
 impl Pairs {
@@ -48,9 +63,10 @@ impl Pairs {
     {
         Pairs {
             keys: Vec::new(alloc),
-            ends: Vec::new(alloc),
+            spans: Vec::new(alloc),
             values: Values::new(alloc),
             names: Vec::new(alloc),
+            sealed: false,
         }
     }
 
@@ -58,13 +74,14 @@ impl Pairs {
     pub fn with_room_for(alloc: Global, first: &Pairs, second: &Pairs) -> Result<Pairs, AllocError>
         ensures { IfOk result (λ p. p ≡ []) }
     {
-        let count = first.ends.len().saturating_add(second.ends.len());
+        let count = first.spans.len().saturating_add(second.spans.len());
         let bytes = first.keys.len().saturating_add(second.keys.len());
         Ok(Pairs {
             keys: Vec::with_capacity(alloc, bytes)?,
-            ends: Vec::with_capacity(alloc, count)?,
+            spans: Vec::with_capacity(alloc, count)?,
             values: Values::new(alloc),
             names: Vec::with_capacity(alloc, count)?,
+            sealed: false,
         })
     }
 
@@ -72,7 +89,7 @@ impl Pairs {
     pub fn len(&self) -> usize
         ensures { result ≡ length self.now }
     {
-        self.ends.len()
+        self.spans.len()
     }
 
     /// The key of pair `i`, from 0.
@@ -80,8 +97,17 @@ impl Pairs {
         requires { i < length self.now }
         ensures { result.now ≡ (nth_pair self.now i).key }
     {
-        let start = start_of(self.ends.as_slice(), i);
-        &self.keys[start..self.ends[i]]
+        let span = self.spans[i];
+        &self.keys[span.start as usize..span.end as usize]
+    }
+
+    /// Whether pairs `i` and `j`, from 0, have one key. It takes no look at a key that they share.
+    pub fn is_same_key(&self, i: usize, j: usize) -> bool
+        requires first { i < length self.now }
+        requires second { j < length self.now }
+        ensures { IsTrue result ↔ ((nth_pair self.now i).key ≡ (nth_pair self.now j).key) }
+    {
+        is_same_span(self.spans[i], self.spans[j]) || self.key(i) == self.key(j)
     }
 
     /// The value of pair `i`, from 0.
@@ -112,23 +138,62 @@ impl Pairs {
         ensures ok { OnOk result (self.new ≡ self.old ++ record { key = key.now; value = value; name = name } ∷ []) }
         ensures err { OnErr result (self.new ≡ self.old) }
     {
+        self.sealed = false;
+        let span = span_behind(self.keys.len(), key)?;
         self.keys.reserve(key.len())?;
-        self.ends.reserve(1)?;
+        self.spans.reserve(1)?;
         self.names.reserve(1)?;
         self.values.push(value)?;
         // There is room for the rest, so nothing fails behind a change.
         self.keys.extend_from_slice(key)?;
-        self.ends.push_reserved(self.keys.len());
+        self.spans.push_reserved(span);
         self.names.push_reserved(name);
         Ok(())
+    }
+
+    /// One more pair, at the end, under the key of the pair that stands there: they share its bytes. It fails only for
+    /// want of memory, and then nothing has changed.
+    pub(crate) fn push_again(&mut self, value: Value, name: Name) -> Result<(), AllocError>
+        requires { 0 < length self.old }
+        ensures ok { OnOk result (self.new
+            ≡ self.old ++ record { key = (nth_pair self.old (length self.old - 1)).key; value = value; name = name } ∷ []) }
+        ensures err { OnErr result (self.new ≡ self.old) }
+    {
+        self.sealed = false;
+        let span = self.spans[self.spans.len() - 1];
+        self.spans.reserve(1)?;
+        self.names.reserve(1)?;
+        self.values.push(value)?;
+        // There is room for the rest, so nothing fails behind a change.
+        self.spans.push_reserved(span);
+        self.names.push_reserved(name);
+        Ok(())
+    }
+
+    /// Whether a seal made the pairs, and none was added since: then they rise by key and name, and no name stands
+    /// twice.
+    pub fn is_sealed(&self) -> bool
+        ensures rise { IsTrue result → Rises pair_order self.now }
+        ensures differ { IsTrue result → Distinct (names_of self.now) }
+    {
+        self.sealed
+    }
+
+    /// Marks the pairs as those that a seal made.
+    pub(crate) fn mark_sealed(&mut self)
+        requires { IsSealed self.old }
+        ensures { self.new ≡ self.old }
+    {
+        self.sealed = true;
     }
 
     /// No pairs any more. What they took stays for later ones.
     pub fn clear(&mut self)
         ensures { self.new ≡ [] }
     {
+        self.sealed = false;
         self.keys.clear();
-        self.ends.clear();
+        self.spans.clear();
         self.values.clear();
         self.names.clear();
     }

@@ -1,15 +1,18 @@
-//! A column of pairs cut by partition into sorted regions.
-ghost use Rattle.std.specs.Prelude.{◌≡◌, ℕ, ◌+◌, ◌<◌, ◌≤◌, ◌∷◌, ◌++◌, [], IfOk, MatchOption, length, map, drop};
+//! Columns of pairs cut by partition into sorted regions.
+ghost use Rattle.std.specs.Prelude.{◌≡◌, ℕ, ◌+◌, ◌<◌, ◌≤◌, ◌∷◌, ◌++◌, [], IfOk, OnOk, MatchOption, All, length, map, drop, slice_index_or};
 ghost use Rattle.std.specs.List.{range_with_len};
-ghost use Rattle.mr_bytes.specs.Lists.{Rises};
-ghost use Rattle.mr_bytes.specs.Order.{name_order};
+ghost use Rattle.mr_bytes.specs.Lists.{Distinct, Rises};
 ghost use Rattle.mr_partition.specs.Partition.{partition_of};
-ghost use Rattle.mr_spill.specs.Column.{names_of};
-ghost use Rattle.mr_spill.specs.Regions.{RegionsHave, RegionsRise, regions};
-ghost use Rattle.mr_spill.specs.Rows.{AreOfPairs, behind, front, pairs_in, row_order, row_pairs};
+ghost use Rattle.mr_spill.specs.Column.{IsSealed, names_of};
+ghost use Rattle.mr_spill.specs.Regions.{RegionsHave, RegionsRise, RisesUnderKeys, regions};
+ghost use Rattle.mr_spill.specs.Rows.{behind, front, pairs_in, row_order, row_pairs};
+ghost use Rattle.mr_spill.specs.Entries.{under_key};
+ghost use Rattle.mr_spill.specs.Table.{columns_of};
 
 use crate::column::Pairs;
+use crate::entries::Entries;
 use crate::rows::{Row, sorted_rows};
+use crate::table::table_of;
 use std::alloc::{AllocError, Global};
 
 /// The row at this place, if it has this partition.
@@ -25,57 +28,87 @@ fn row_in<'a>(rows: &[Row<'a>], at: usize, part: u32) -> Option<Row<'a>>
     }
 }
 
+/// Appends the pairs of a key, which share its bytes. It fails only for want of memory.
+fn put_all(target: &mut Pairs, key: &[u8], entries: &Entries) -> Result<(), AllocError>
+    ensures { OnOk result (target.new ≡ target.old ++ map (under_key key.now) entries.now) }
+{
+    let count = entries.len();
+    if count == 0 {
+        return Ok(());
+    }
+    let (value, name) = entries.get(0);
+    target.push(key, value, name)?;
+    for i in 1..count {
+        let (value, name) = entries.get(i);
+        target.push_again(value, name)?;
+    }
+    Ok(())
+}
+
+/// What the key of this number has.
+fn entries_at(lists: &[Entries], number: usize) -> &Entries
+    requires { number < length lists.now }
+    ensures { result.now ≡ slice_index_or lists.now number [] }
+{
+    &lists[number]
+}
+
 /// The region of a partition, whose rows begin at `from`, and the place behind them.
 fn region_at(
     alloc: Global,
-    pairs: &Pairs,
+    lists: &[Entries],
     rows: &[Row<'_>],
     from: usize,
     part: u32,
 ) -> Result<(Pairs, usize), AllocError>
-    requires inside { AreOfPairs pairs.now rows.now }
+    requires inside { All (λ r. r.number < length lists.now) rows.now }
     requires from { from ≤ length rows.now }
-    ensures region { IfOk result (λ r. r.0 ≡ row_pairs pairs.now (front part (drop from rows.now))) }
+    ensures region { IfOk result (λ r. r.0 ≡ row_pairs lists.now (front part (drop from rows.now))) }
     ensures rest { IfOk result (λ r. (r.1 ≤ length rows.now) × (drop (r.1) rows.now ≡ behind part (drop from rows.now))) }
 {
     let mut region = Pairs::new(alloc);
     let mut at = from;
     while let Some(row) = row_in(rows, at, part) {
-        region.push(row.key, pairs.value(row.number), pairs.name(row.number))?;
+        put_all(&mut region, row.key, entries_at(lists, row.number))?;
         at += 1;
     }
     Ok((region, at))
 }
 
-/// The regions of all partitions, given the rows in their order.
+/// The regions of all partitions, given what each key has and the rows of the keys in their order.
 fn regions_of(
     alloc: Global,
-    pairs: &Pairs,
+    lists: &[Entries],
     rows: &[Row<'_>],
     parts: u32,
 ) -> Result<Vec<Pairs>, AllocError>
-    requires inside { AreOfPairs pairs.now rows.now }
+    requires inside { All (λ r. r.number < length lists.now) rows.now }
     requires rise { Rises row_order rows.now }
-    ensures { IfOk result (λ v. v.items ≡ map (pairs_in pairs.now rows.now) (range_with_len 0 parts)) }
+    requires sealed { (p : ℕ) → IsSealed (pairs_in lists.now rows.now p) }
+    ensures { IfOk result (λ v. v.items ≡ map (pairs_in lists.now rows.now) (range_with_len 0 parts)) }
 {
     let mut regions = Vec::with_capacity(alloc, parts as usize)?;
     let mut at = 0;
     for part in 0..parts {
-        let (region, next) = region_at(alloc, pairs, rows, at, part)?;
+        let (mut region, next) = region_at(alloc, lists, rows, at, part)?;
+        region.mark_sealed();
         regions.push(region)?;
         at = next;
     }
     Ok(regions)
 }
 
-/// For each partition, in order, its pairs by key and then name.
-pub(crate) fn sealed(alloc: Global, pairs: &Pairs, parts: u32) -> Result<Vec<Pairs>, AllocError>
+/// For each partition, in order, the pairs of all columns that belong to it, by key and then name. Under each key the
+/// names rise from column to column already, and no name stands twice. Keys are sorted once each. It fails only for want of memory.
+pub fn gathered(alloc: Global, columns: &[&Pairs], parts: u32) -> Result<Vec<Pairs>, AllocError>
     requires some { 0 < parts }
-    requires rise { Rises name_order (names_of pairs.now) }
-    ensures { IfOk result (λ v. v.items ≡ regions (λ k. partition_of k parts) parts pairs.now) }
+    requires rise { RisesUnderKeys (columns_of columns.now) }
+    requires differ { Distinct (names_of (columns_of columns.now)) }
+    ensures { IfOk result (λ v. v.items ≡ regions (λ k. partition_of k parts) parts (columns_of columns.now)) }
 {
-    let rows = sorted_rows(alloc, pairs, parts)?;
-    regions_of(alloc, pairs, rows.as_slice(), parts)
+    let table = table_of(alloc, columns)?;
+    let rows = sorted_rows(alloc, table.keys.as_slice(), parts)?;
+    regions_of(alloc, table.lists.as_slice(), rows.as_slice(), parts)
 }
 
 /// What regions are: they rise strictly by key and name, and a region has just the pairs of its partition.

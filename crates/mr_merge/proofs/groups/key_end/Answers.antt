@@ -1,5 +1,4 @@
-use Rattle.std.proofs.Common.{◌≡◌, refl, sym, ◌∙◌, arith}
-use Rattle.std.specs.Cmp.Lexicographic.{bytes_decides}
+use Rattle.std.proofs.Common.{◌≡◌, refl, sym, arith}
 use Rattle.mr_bytes.specs.Pairs.{Triple}
 use Rattle.mr_spill.specs.Column.{nth_pair}
 use Rattle.mr_merge.proofs.MergeLemmas.{All-between, All-one}
@@ -17,5 +16,5 @@ loop-end-preserved c = record {
   low = omega arith;
   high = omega arith;
   same = All-between (λ (t : Triple). t.key ≡ (nth_pair c.args.pairs.now c.args.from).key) c.args.pairs.now c.args.from c.loop-end.end (omega arith) (omega arith)
-      c.loop-end.invariant.same (sym c.key.ensures ∙ (bytes_decides c.key.result.now c.key-key.result.now).0 (sym c.if-eq.ensures) ∙ c.key-key.ensures);
+      c.loop-end.invariant.same (sym (c.is_same_key.ensures.0 c.if-is_same_key.true));
 }

@@ -5,7 +5,7 @@ use Rattle.mr_spill.proofs.regions.region_at.Given as goal
 abbrev pub invariant-loop-row : goal.invariant-loop-row
 invariant-loop-row l = record {
   within : l.at ≤ length l.rows;
-  region : l.region ++ row_pairs l.pairs (front l.part (drop l.at l.rows)) ≡ row_pairs l.pairs (front l.part (drop l.from l.rows));
+  region : l.region ++ row_pairs l.lists (front l.part (drop l.at l.rows)) ≡ row_pairs l.lists (front l.part (drop l.from l.rows));
   rest : behind l.part (drop l.at l.rows) ≡ behind l.part (drop l.from l.rows);
 }
 

@@ -8,7 +8,7 @@ use Rattle.mr_spill.proofs.regions.regions_of.Given as goal
 abbrev pub invariant-loop-part : goal.invariant-loop-part
 invariant-loop-part l = record {
   within : l.at ≤ length l.rows;
-  regions : l.regions.items ≡ map (pairs_in l.pairs l.rows) (range_with_len 0 l.part);
+  regions : l.regions.items ≡ map (pairs_in l.lists l.rows) (range_with_len 0 l.part);
   rise : Rises row_order (drop l.at l.rows);
   low : AreFrom l.part (drop l.at l.rows);
   same : (q : ℕ) → l.part ≤ q → rows_in q (drop l.at l.rows) ≡ rows_in q l.rows;

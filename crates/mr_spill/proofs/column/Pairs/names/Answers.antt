@@ -7,5 +7,5 @@ pub returns : goal.returns
 returns c =
     let p = c.self.inside in
     c.deref.ensures.value
-    ∙ sym (names-triples 0 p.keys.items p.ends.items p.values p.names.items c.self.invariant.values c.self.invariant.names)
+    ∙ sym (names-triples p.keys.items p.spans.items p.values p.names.items c.self.invariant.values c.self.invariant.names)
     ∙ ap names_of c.self.view_is

@@ -1,0 +1,98 @@
+-- Regions whose splits follow one another, put together by key.
+use denote.Ref.{Bor}
+use Rattle.std.proofs.Common.{◌≡◌, ℕ, ◌+◌, ◌<◌, ◌≤◌, List, [], ◌∷◌, ◌++◌, length, get_or, take, filter, refl, ap, sym, ◌∙◌, subst, arith, inl, inr, cond, ◌==◌}
+use Rattle.std.proofs.lemmas.Bool.{eq-eqb}
+use Rattle.std.proofs.lemmas.List.{flat_map_more, map-append, take_more}
+use Rattle.std.proofs.lemmas.List.Folds.{flat_map-map}
+use Rattle.std.proofs.lemmas.Cmp.{tied_itself, nat_list_cmp_total}
+use Rattle.std.specs.List.{AllByRecursion}
+use Rattle.std.specs.Cmp.{nat_cmp_is}
+use Rattle.std.specs.Ordering.{nat_cmp, ordering_then}
+use Rattle.std.specs.declared.cmp.Ordering.TheVariants.{Less, Equal}
+use Rattle.mr_bytes.specs.declared.Name.{Name}
+use Rattle.mr_bytes.specs.Lists.{Distinct, Has, Rises, sorted}
+use Rattle.mr_bytes.specs.Order.{key_order, name_order}
+use Rattle.mr_bytes.specs.Pairs.{Triple, pair_order}
+use Rattle.mr_bytes.proofs.ListLaws.{Distinct-append, Has-all, all_from_Has, Has-append_cases, Has-map, Has-map_from}
+use Rattle.mr_partition.specs.Partition.{partition_of}
+use Rattle.mr_spill.specs.Column.{names_of}
+use Rattle.mr_spill.specs.Regions.{RisesUnderKeys, region}
+use Rattle.mr_spill.specs.Table.{columns_of}
+use Rattle.mr_merge.specs.Merged.{joined, values_of}
+use Rattle.mr_merge.specs.Merging.{NamesDiffer}
+use Rattle.mr_merge.proofs.MergeLemmas.{All-more}
+
+pub All-next : {X : Type 0} (P : X → Type 0) (xs : List X) (i : ℕ) (d : X) → i < length xs → AllByRecursion P (take i xs) → P (get_or xs i d) → AllByRecursion P (take (i + 1) xs)
+All-next P xs i d h all p = subst (AllByRecursion P) (sym (take_more xs i d h)) (All-more P (take i xs) (get_or xs i d) all p)
+
+pub All-weaker : {X : Type 0} (P Q : X → Type 0) (xs : List X) → ((x : X) → P x → Q x) → AllByRecursion P xs → AllByRecursion Q xs
+All-weaker P Q [] f all = tt
+All-weaker P Q (x ∷ xs) f all = (f x all.0, All-weaker P Q xs f all.1)
+
+pub joined-next : (rs : List (Bor (List Triple))) (i : ℕ) (r : Bor (List Triple)) → i < length rs → r ≡ get_or rs i r
+    → joined (values_of (take i rs)) ++ r.now ≡ joined (values_of (take (i + 1) rs))
+joined-next rs i r h is =
+    flat_map_more (λ (l : List Triple). l) [] (values_of (take i rs)) r.now
+    ∙ ap joined (sym (map-append (λ (b : Bor (List Triple)). b.now) (take i rs) (r ∷ [])))
+    ∙ ap (λ l. joined (values_of l)) (sym (take_more rs i r h ∙ ap (λ (y : Bor (List Triple)). take i rs ++ y ∷ []) (sym is)))
+
+-- pairs that rise, rise under their keys
+rising-under : (ts : List Triple) → Rises pair_order ts → RisesUnderKeys ts
+rising-under [] r = tt
+rising-under (t ∷ ts) r = (
+  all_from_Has (λ (u : Triple). u.key ≡ t.key → name_order t.name u.name ≡ Less) ts (λ u h e.
+      let tied : key_order t.key u.key ≡ Equal = ap (key_order t.key) e ∙ tied_itself nat_list_cmp_total t.key in
+      sym (ap (λ o. ordering_then o (name_order t.name u.name)) tied) ∙ Has-all (λ w. pair_order t w ≡ Less) ts u r.0 h),
+  rising-under ts r.1,
+)
+
+under-append : (xs ys : List Triple) → RisesUnderKeys xs → RisesUnderKeys ys → ((t u : Triple) → Has xs t → Has ys u → name_order t.name u.name ≡ Less) → RisesUnderKeys (xs ++ ys)
+under-append [] ys r s f = s
+under-append (x ∷ xs) ys r s f = (
+  all_from_Has (λ (u : Triple). u.key ≡ x.key → name_order x.name u.name ≡ Less) (xs ++ ys) (λ u h e. elim (Has-append_cases xs ys u h) [
+    | inl a ↦ Has-all (λ (w : Triple). w.key ≡ x.key → name_order x.name w.name ≡ Less) xs u r.0 a e
+    | inr b ↦ f x u (inl refl) b
+  ]),
+  under-append xs ys r.1 s (λ t u a b. f t u (inr a) b),
+)
+
+split-less : (m n : Name) → m.split < n.split → name_order m n ≡ Less
+split-less m n h = ap (λ o. ordering_then o (ordering_then (nat_cmp m.rec n.rec) (nat_cmp m.place n.place))) (sym (nat_cmp_is m.split n.split Less h))
+
+pub follows : (xs ys : List Triple) (low : ℕ) → RisesUnderKeys xs → Rises pair_order ys → ((t : Triple) → Has xs t → t.name.split < low)
+    → (names : List Name) → names ≡ names_of ys → AllByRecursion (λ (n : Name). low ≤ n.split) names → RisesUnderKeys (xs ++ ys)
+follows xs ys low r s below names are from =
+    under-append xs ys r (rising-under ys s) (λ t u a b.
+    let above : low ≤ u.name.split = Has-all (λ (n : Name). low ≤ n.split) names u.name from (subst (λ (l : List Name). Has l u.name) (sym are) (Has-map (λ (w : Triple). w.name) ys u b)) in
+    split-less t.name u.name (omega (arith, below t a, above)))
+
+-- names of later splits differ from those before
+pub differs : (xs ys : List Triple) (low : ℕ) → NamesDiffer xs → NamesDiffer ys → ((t : Triple) → Has xs t → t.name.split < low)
+    → (names : List Name) → names ≡ names_of ys → AllByRecursion (λ (n : Name). low ≤ n.split) names → NamesDiffer (xs ++ ys)
+differs xs ys low d e below names are from =
+    subst Distinct (sym (map-append (λ (w : Triple). w.name) xs ys))
+    (Distinct-append (names_of xs) (names_of ys) d e (λ n a b.
+    let t = Has-map_from (λ (w : Triple). w.name) xs n a in
+    let less : n.split < low = subst (λ (m : Name). m.split < low) t.2 (below t.0 t.1) in
+    let above : low ≤ n.split = Has-all (λ (m : Name). low ≤ m.split) names n from (subst (λ (l : List Name). Has l n) (sym are) b) in
+    absurd (omega (arith, less, above))))
+
+pub later : (xs ys : List Triple) (low end : ℕ) (names : List Name) → names ≡ names_of ys → low ≤ end → ((t : Triple) → Has xs t → t.name.split < low)
+    → AllByRecursion (λ (n : Name). n.split < end) names → (t : Triple) → Has (xs ++ ys) t → t.name.split < end
+later xs ys low end names are le below past t h = elim (Has-append_cases xs ys t h) [
+  | inl a ↦ omega (arith, below t a, le)
+  | inr b ↦ Has-all (λ (n : Name). n.split < end) names t.name past (subst (λ (l : List Name). Has l t.name) (sym are) (Has-map (λ (w : Triple). w.name) ys t b))
+]
+
+pub columns-joined : (rs : List (Bor (List Triple))) → columns_of rs ≡ joined (values_of rs)
+columns-joined rs = sym (flat_map-map (λ (l : List Triple). l) (λ (b : Bor (List Triple)). b.now) rs)
+
+-- all pairs are of the one partition
+all-in : (ts : List Triple) → filter (λ t. partition_of t.key 1 == 0) ts ≡ ts
+all-in [] = refl
+all-in (t ∷ ts) =
+    ap (λ b. cond b (t ∷ filter (λ u. partition_of u.key 1 == 0) ts) (filter (λ u. partition_of u.key 1 == 0) ts)) (eq-eqb (partition_of t.key 1) 0 (omega arith))
+    ∙ ap (λ l. t ∷ l) (all-in ts)
+
+pub one-region : (ts : List Triple) → region (λ k. partition_of k 1) ts 0 ≡ sorted pair_order ts
+one-region ts = ap (sorted pair_order) (all-in ts)

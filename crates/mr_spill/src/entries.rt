@@ -1,0 +1,75 @@
+//! Values with their names: what the pairs of a key have beside it.
+ghost use Rattle.std.specs.Prelude.{◌≡◌, ◌++◌, ◌∷◌, [], ◌<◌, IfOk, OnOk, OnErr, length, map};
+ghost use Rattle.mr_spill.specs.Entries.{entry_of, nth_entry, run_pairs};
+
+use crate::run::Run;
+use mr_bytes::{Name, Value, Values};
+use std::alloc::{AllocError, Global};
+use std::marker::Model;
+
+/// Values, each with its name, in the order in which they came.
+#[derive(Drop)]
+pub(crate) struct Entries {
+    values: Values,
+    names: Vec<Name>,
+}
+
+impl Model for Entries {
+    ghost use Rattle.std.specs.Prelude.{◌≡◌, List, length};
+    ghost use Rattle.std.specs.List.{zip};
+    ghost use Rattle.mr_spill.specs.Entries.{Entry};
+
+    ghost Value = { List Entry };
+
+    ghost view = { λ e. zip e.values e.names.items };
+
+    ghost invariant = { λ e. length e.values ≡ length e.names.items };
+}
+
+impl Entries {
+    /// No values. It takes no memory.
+    pub fn new(alloc: Global) -> Entries
+        ensures { result ≡ [] }
+    {
+        Entries {
+            values: Values::new(alloc),
+            names: Vec::new(alloc),
+        }
+    }
+
+    /// How many values there are.
+    pub fn len(&self) -> usize
+        ensures { result ≡ length self.now }
+    {
+        self.names.len()
+    }
+
+    /// Value `i`, from 0, and its name.
+    pub fn get(&self, i: usize) -> (Value, Name)
+        requires { i < length self.now }
+        ensures { result ≡ nth_entry self.now i }
+    {
+        (self.values.get(i), self.names[i])
+    }
+
+    /// One more value, at the end. It fails only for want of memory, and then nothing has changed.
+    fn push(&mut self, value: Value, name: Name) -> Result<(), AllocError>
+        ensures ok { OnOk result (self.new ≡ self.old ++ (value, name) ∷ []) }
+        ensures err { OnErr result (self.new ≡ self.old) }
+    {
+        self.names.reserve(1)?;
+        self.values.push(value)?;
+        self.names.push_reserved(name);
+        Ok(())
+    }
+
+    /// Those of the pairs of a run, at the end. It fails only for want of memory.
+    pub fn take(&mut self, run: &Run<'_>) -> Result<(), AllocError>
+        ensures { OnOk result (self.new ≡ self.old ++ map entry_of (run_pairs run.now)) }
+    {
+        for i in run.from..run.to {
+            self.push(run.column.value(i), run.column.name(i))?;
+        }
+        Ok(())
+    }
+}
