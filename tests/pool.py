@@ -173,7 +173,7 @@ def tickets(harness):
 
 def who_looks_on(harness):
     request, files = Request("words", parts=2, split=2), [b"a\nb\nc\nd\n"]
-    whole = ["Mapping 4 times, 4 of 4", "Reducing 2 times, 2 of 2", "Judging 1 times, 0 of 1"]
+    whole = ["Mapping 4 times, 4 of 4", "Reducing 2 times, 2 of 2", "Judging 7 times, 3 of 8"]
     answer = ran(request, files, workers=1, mode="watch")
     harness.check("who looks on is told each task that is done, and the judgement", answer.told == [*whole, "0 lost"], repr(answer))
     answer = ran(request, files, b"lose 0 after 4\n", 1, mode="watch")
