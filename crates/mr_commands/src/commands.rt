@@ -176,7 +176,15 @@ fn verdict<R: Threads + Sync>(
         return check_watched(alloc, request, input, outputs, certificate, watch);
     }
     check_gated_watched(
-        rt, alloc, request, input, outputs, certificate, threads, &OpenGate, &watch,
+        rt,
+        alloc,
+        request,
+        input,
+        outputs,
+        certificate,
+        threads,
+        &OpenGate,
+        &watch,
     )
 }
 
@@ -197,7 +205,14 @@ fn judgement<R: Threads + Sync>(
     ensures memory { IfErr result (λ e. e ≡ Fault.OutOfMemory) }
 {
     let verdict = verdict(
-        rt, alloc, request, input, outputs, certificate, threads, watch,
+        rt,
+        alloc,
+        request,
+        input,
+        outputs,
+        certificate,
+        threads,
+        watch,
     );
     said_of(alloc, verdict)
 }
