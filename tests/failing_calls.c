@@ -1,11 +1,13 @@
 /* Preloaded before the program, lets calls of the system fail. FAIL says which: "malloc 3" the third allocation (growing
    one counts too), "read 3", "write 3" or "open 3" the third call of that kind, from 1, for want of memory where
-   FAIL_MEMORY is set, and by an interruption where FAIL_INTERRUPTED is; "short 0" lets each read and write move one byte. The file that FAIL_MARK names is made when a
+   FAIL_MEMORY is set, and by an interruption where FAIL_INTERRUPTED is; "thread 3" lets the third thread
+   that is asked for fail, and all behind it; "short 0" lets each read and write move one byte. The file that FAIL_MARK names is made when a
    call was let fail. */
 #define _GNU_SOURCE
 #include <dlfcn.h>
 #include <errno.h>
 #include <fcntl.h>
+#include <pthread.h>
 #include <stdarg.h>
 #include <stdlib.h>
 #include <string.h>
@@ -19,7 +21,7 @@ __attribute__((constructor)) static void choose(void) {
     const char *fail = getenv("FAIL");
     if (!fail)
         return;
-    for (const char *const *name = (const char *const[]){"malloc", "read", "write", "open", "short", 0}; *name; name++)
+    for (const char *const *name = (const char *const[]){"malloc", "read", "write", "open", "thread", "short", 0}; *name; name++)
         if (!strncmp(fail, *name, strlen(*name))) {
             kind = *name;
             at = atol(fail + strlen(*name));
@@ -27,7 +29,10 @@ __attribute__((constructor)) static void choose(void) {
 }
 
 static int fails(const char *what) {
-    if (strcmp(kind, what) || __atomic_add_fetch(&seen, 1, __ATOMIC_SEQ_CST) != at)
+    if (strcmp(kind, what))
+        return 0;
+    long number = __atomic_add_fetch(&seen, 1, __ATOMIC_SEQ_CST);
+    if (number != at && !(number > at && !strcmp(what, "thread")))
         return 0;
     const char *mark = getenv("FAIL_MARK");
     if (mark)
@@ -73,4 +78,11 @@ int open(const char *name, int flags, ...) {
     int mode = va_arg(more, int);
     va_end(more);
     return fails("open") ? failed(EACCES) : (int)syscall(SYS_open, name, flags, mode);
+}
+
+int pthread_create(pthread_t *thread, const pthread_attr_t *how, void *(*begin)(void *), void *with) {
+    static int (*real)(pthread_t *, const pthread_attr_t *, void *(*)(void *), void *);
+    if (!real)
+        real = next("pthread_create");
+    return fails("thread") ? EAGAIN : real(thread, how, begin, with);
 }

@@ -1,8 +1,10 @@
 """The judge against a plain one: results are spoiled in every way that has a name, and whole lines are compared."""
 
+import os
 from concurrent.futures import ThreadPoolExecutor
 from dataclasses import replace
 
+from failing import shim, with_failing
 from harness import seeded, write_result
 from plain import Request, judged, named_records, pairs_of, produced, text_of
 from producer import options_of, random_job
@@ -188,4 +190,35 @@ def the_same_each_time(harness):
         harness.check(f"200 times 8 threads say {told} as one does", answers == [alone] * 200, repr([answer for answer in answers if answer != alone][:3]))
 
 
-GROUPS = {"judging": against_a_plain_judge, "judging by threads each time": the_same_each_time}
+def threads_refused(harness):
+    """Threads that can't be made change no answer, and of an allocation that fails comes want of memory or the same."""
+    library = shim(harness)
+    if library is None:
+        return
+    files = {"a": b"The cat saw the dog.\n\nThe dog saw nothing.\n"}
+    words = ["--job", "words", "--parts", "3", "--split", "8", "--out", ".", "a"]
+    good = harness.run(["seq", *words], files)[3]
+    given = {name: open(os.path.join(good, name), "rb").read() for name in sorted(os.listdir(good))}
+    bad = {**given, "part-00001": given["part-00001"][:-1] + b"x"}
+    for told, stands in (("yes", given), ("no", bad)):
+        check = ["check", "--threads", "6", *words]
+        whole, _ = with_failing(harness, library, "none", check, stands)
+        harness.check(f"six threads say {told}", whole[1].startswith(told.encode()) and whole[3] == stands, repr(whole))
+        for number in range(1, 11):
+            got, marked = with_failing(harness, library, f"thread {number}", check, stands)
+            harness.check(f"from thread {number} on none is made, {told}", marked and got == whole, repr(got))
+        number, marked, refused = 0, True, 0
+        while marked:
+            number += 1
+            got, marked = with_failing(harness, library, f"malloc {number}", check, stands)
+            is_refusal = got == (4, b"", b"mapred: out of memory\n", stands)
+            refused += is_refusal
+            harness.check(f"six threads that judge, malloc {number} fails, {told}", is_refusal or got == whole, repr(got))
+        harness.check(f"six threads take memory, {told}", refused > 20, str(refused))
+    run, _ = with_failing(harness, library, "none", ["run", "--workers", "6", *words], files)
+    for number in (1, 2, 5, 7):
+        got, marked = with_failing(harness, library, f"thread {number}", ["run", "--workers", "6", *words], files)
+        harness.check(f"a run, from thread {number} on none is made", marked and got == run and got[0] == 0, repr(got))
+
+
+GROUPS = {"judging": against_a_plain_judge, "judging by threads each time": the_same_each_time, "threads that can't be made": threads_refused}
