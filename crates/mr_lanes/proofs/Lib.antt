@@ -1,0 +1,11 @@
+pub mod BitLemmas
+pub mod LaneLemmas
+pub mod LineLemmas
+pub mod RestLemmas
+pub mod SpanLemmas
+pub mod DifferenceLemmas
+pub mod FoldLemmas
+pub mod SearchLemmas
+pub mod HashLemmas
+pub mod CaseLemmas
+pub mod LawLemmas

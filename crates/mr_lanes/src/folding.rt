@@ -1,0 +1,44 @@
+//! Capitals of ASCII made small.
+ghost use Rattle.std.specs.Prelude.{◌≡◌, ◌++◌, map, OnOk, OnErr};
+ghost use Rattle.mr_bytes.specs.Bytes.{fold_byte, folded};
+
+use mr_bytes::fold_byte;
+use std::alloc::AllocError;
+use std::simd::prelude::*;
+
+/// Appends the bytes with upper-case letters of ASCII made lower case. It fails only for want of memory, and then the list is as it was.
+pub fn fold_into(bytes: &[u8], text: &mut Vec<u8>) -> Result<(), AllocError>
+    ensures all { OnOk result (text.new.items ≡ text.old.items ++ folded bytes.now) }
+    ensures kept { OnErr result (text.new.items ≡ text.old.items) }
+{
+    let before = text.len();
+    text.extend_from_slice(bytes)?;
+    fold_lanes(&mut text.as_mut_slice()[before..]);
+    Ok(())
+}
+
+/// Folds each byte where it stands.
+pub(crate) fn fold_lanes(bytes: &mut [u8])
+    ensures { bytes.new ≡ folded bytes.old }
+{
+    let mut at = 0;
+    while bytes.len() - at >= 64 {
+        let block = fold_block(u8x64::from_slice(&bytes[at..]));
+        block.copy_to_slice(&mut bytes[at..]);
+        at += 64;
+    }
+    let mut place = at;
+    while place < bytes.len() {
+        bytes[place] = fold_byte(bytes[place]);
+        place += 1;
+    }
+}
+
+/// Folds each lane.
+#[inline(always)]
+fn fold_block(lanes: u8x64) -> u8x64
+    ensures { result ≡ map fold_byte lanes }
+{
+    let upper = (lanes - u8x64::splat(b'A')).simd_lt(u8x64::splat(26));
+    upper.select(lanes | u8x64::splat(0x20), lanes)
+}

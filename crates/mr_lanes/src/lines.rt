@@ -1,0 +1,47 @@
+//! Where lines end.
+ghost use Rattle.std.specs.Prelude.{◌≡◌, ℕ, ◌+◌, ◌^◌, ◌<◌, ◌≤◌, ◌++◌, length, OnOk, OnErr};
+ghost use Rattle.mr_lanes.specs.Bits.{Extends};
+ghost use Rattle.mr_lanes.specs.Lines.{line_ends};
+ghost use Rattle.mr_lanes.specs.Laws.{LineEndsAreLineFeeds, LineEndsRise};
+
+use crate::bits::push_places;
+use crate::blocks::{last_block, line_feeds};
+use std::alloc::AllocError;
+use std::simd::prelude::*;
+
+/// Appends the places of the line feeds, rising, of a text of at most 1 GiB. It fails only for want of memory, and then
+/// the list is as it was.
+pub fn line_ends(bytes: &[u8], ends: &mut Vec<u32>) -> Result<(), AllocError>
+    requires { length bytes.now ≤ 2 ^ 30 }
+    ensures all { OnOk result (ends.new.items ≡ ends.old.items ++ line_ends bytes.now) }
+    ensures kept { OnErr result (ends.new.items ≡ ends.old.items) }
+{
+    let before = ends.len();
+    let done = push_line_ends(bytes, ends);
+    if done.is_err() {
+        ends.truncate(before);
+    }
+    done
+}
+
+/// Appends them too, and may leave some of them behind where it fails.
+fn push_line_ends(bytes: &[u8], ends: &mut Vec<u32>) -> Result<(), AllocError>
+    requires { length bytes.now ≤ 2 ^ 30 }
+    ensures all { OnOk result (ends.new.items ≡ ends.old.items ++ line_ends bytes.now) }
+    ensures kept { Extends ends.old.items ends.new.items }
+{
+    let mut at = 0;
+    while bytes.len() - at >= 64 {
+        let block = u8x64::from_slice(&bytes[at..]);
+        push_places(ends, at as u32, line_feeds(block))?;
+        at += 64;
+    }
+    push_places(ends, at as u32, line_feeds(last_block(bytes, at)))?;
+    Ok(())
+}
+
+/// What `line_ends` means: each place of a line feed and no other, in rising order.
+pub fn line_end_law()
+    ensures places { LineEndsAreLineFeeds }
+    ensures rise { LineEndsRise }
+{}

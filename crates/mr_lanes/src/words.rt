@@ -1,0 +1,89 @@
+//! Where words stand.
+ghost use Rattle.std.specs.Prelude.{◌≡◌, ℕ, ◌+◌, ◌^◌, ◌<◌, ◌≤◌, ◌++◌, drop, get_or, length, IfOk, OnOk, OnErr};
+ghost use Rattle.mr_bytes.specs.Bytes.{is_word_byte};
+ghost use Rattle.mr_bytes.specs.Words.{word_spans, word_spans_from};
+ghost use Rattle.mr_lanes.specs.Bits.{is_set, Extends};
+ghost use Rattle.mr_lanes.specs.Words.{OpenAt};
+
+use crate::blocks::{last_block, word_bytes};
+use mr_bytes::Span;
+use std::alloc::AllocError;
+use std::simd::prelude::*;
+
+/// Appends the words of a text of at most 1 GiB, in rising order. It fails only for want of memory, and then the list is
+/// as it was.
+pub fn word_spans(bytes: &[u8], spans: &mut Vec<Span>) -> Result<(), AllocError>
+    requires { length bytes.now ≤ 2 ^ 30 }
+    ensures all { OnOk result (spans.new.items ≡ spans.old.items ++ word_spans bytes.now) }
+    ensures kept { OnErr result (spans.new.items ≡ spans.old.items) }
+{
+    let before = spans.len();
+    let done = push_word_spans(bytes, spans);
+    if done.is_err() {
+        spans.truncate(before);
+    }
+    done
+}
+
+/// Appends them too, and may leave some of them behind where it fails.
+fn push_word_spans(bytes: &[u8], spans: &mut Vec<Span>) -> Result<(), AllocError>
+    requires { length bytes.now ≤ 2 ^ 30 }
+    ensures all { OnOk result (spans.new.items ≡ spans.old.items ++ word_spans bytes.now) }
+    ensures kept { Extends spans.old.items spans.new.items }
+{
+    let mut at = 0;
+    let mut from = 0;
+    while bytes.len() - at >= 64 {
+        let block = u8x64::from_slice(&bytes[at..]);
+        from = push_words(bytes, spans, at as u32, from, word_bytes(block))?;
+        at += 64;
+    }
+    push_words(
+        bytes,
+        spans,
+        at as u32,
+        from,
+        word_bytes(last_block(bytes, at)),
+    )?;
+    Ok(())
+}
+
+/// Appends the words that end in the block of 64 bytes from `base` on, and tells where the word begins that is open
+/// behind it. `from` tells the same of the block before, and `word` which bytes of the block stand in words. It reads no
+/// byte: `bytes` is for the contract alone.
+#[inline(always)]
+fn push_words(
+    bytes: &[u8],
+    spans: &mut Vec<Span>,
+    base: u32,
+    from: u32,
+    word: u64,
+) -> Result<u32, AllocError>
+    requires fits { base + 64 < 2 ^ 32 }
+    requires bits { (i : ℕ) → i < 64 → is_set word i ≡ is_word_byte (get_or bytes.now (base + i) 0) }
+    requires state { OpenAt bytes.now base from }
+    ensures state { IfOk result (λ next. OpenAt bytes.now (base + 64) next) }
+    ensures all { IfOk result (λ next. spans.new.items ++ word_spans_from next (drop next bytes.now)
+        ≡ spans.old.items ++ word_spans_from from (drop from bytes.now)) }
+    ensures kept { Extends spans.old.items spans.new.items }
+{
+    let follows = (word << 1) | (from < base) as u64;
+    let mut starts = word & !follows;
+    let mut ends = follows & !word;
+    let mut start = from;
+    if start == base {
+        start = base + starts.trailing_zeros();
+        starts &= starts.wrapping_sub(1);
+    }
+    while ends != 0 {
+        spans.push(Span {
+            start,
+            end: base + ends.trailing_zeros(),
+        })?;
+        ends &= ends.wrapping_sub(1);
+        // Where no word begins any more, this is the next block's place.
+        start = base + starts.trailing_zeros();
+        starts &= starts.wrapping_sub(1);
+    }
+    Ok(start)
+}
