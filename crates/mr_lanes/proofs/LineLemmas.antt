@@ -17,10 +17,10 @@ line_ends_from-cons at b bs = refl
 pub line_ends_from-end : (at : ℕ) (bs : List ℕ) → length bs ≤ at → line_ends_from at (drop at bs) ≡ []
 line_ends_from-end at bs h = at_drop_all (line_ends_from at) bs at h ∙ line_ends_from-nil at
 
-abbrev is_end : List ℕ → ℕ → Bool
+abbrev pub is_end : List ℕ → ℕ → Bool
 is_end bs at = eqb (get_or bs at 0) 10
 
-line_ends_from-more : (at : ℕ) (bs : List ℕ)
+pub line_ends_from-more : (at : ℕ) (bs : List ℕ)
     → line_ends_from at (drop at bs) ≡ cond (is_end bs at) (at ∷ line_ends_from (at + 1) (drop (at + 1) bs)) (line_ends_from (at + 1) (drop (at + 1) bs))
 line_ends_from-more at bs =
     elim (cases_lt at (length bs)) [

@@ -1,12 +1,13 @@
 //! The records of a file.
 #![tactic(auto)]
 
-ghost use Rattle.std.specs.Prelude.{◌≡◌, ℕ, ◌+◌, ◌^◌, ◌≤◌, ◌<◌, ◌≢◌, length, List, [], ◌∷◌, ◌++◌, IfOk, OnOk, All, map, MatchOption, drop, slice_index};
-ghost use Rattle.mr_records.specs.Records.{Record, records, nth_record};
+ghost use Rattle.std.specs.Prelude.{◌≡◌, ℕ, ◌+◌, ◌^◌, ◌≤◌, ◌<◌, ◌≢◌, length, List, IfOk, MatchOption, slice_index};
+ghost use Rattle.mr_records.specs.Records.{Record, records, nth_record, IsBehindAll, IsRecordOf};
+ghost use Rattle.mr_records.specs.Ends.{ended_at, EndsRise, is_open};
 ghost use Rattle.mr_records.specs.RecordLaw.{NoLineFeeds, GiveTheFileBack, StartInTurn, StartWhereLinesBegin, FewRecords};
 
 use memchr::memchr;
-use mr_bytes::Span;
+use mr_lanes::line_ends;
 use std::alloc::{AllocError, Global};
 use std::marker::Model;
 
@@ -15,20 +16,22 @@ use std::marker::Model;
 #[derive(Drop)]
 pub struct Records<'a> {
     bytes: &'a [u8],
-    spans: Vec<Span>,
+    // Where each record ends: its line feed, or the end of the file.
+    ends: Vec<u32>,
 }
 
 impl<'a> Model for Records<'a> {
-    ghost use Rattle.std.specs.Prelude.{List, map, All, length, ◌≤◌, ◌^◌};
-    ghost use Rattle.mr_records.specs.Records.{Record, record_at, Within};
+    ghost use Rattle.std.specs.Prelude.{List, length, ◌≤◌, ◌^◌};
+    ghost use Rattle.mr_records.specs.Records.{Record};
+    ghost use Rattle.mr_records.specs.Ends.{ended_at, EndsRise};
 
     ghost Value = { List Record };
 
-    ghost view = { λ r. map (record_at r.bytes.now) r.spans.items };
+    ghost view = { λ r. ended_at r.bytes.now 0 r.ends.items };
 
     ghost invariant = { λ r. record {
-      within : All (Within r.bytes.now) r.spans.items;
-      few : length r.spans.items ≤ length r.bytes.now;
+      rise : EndsRise r.bytes.now 0 r.ends.items;
+      few : length r.ends.items ≤ length r.bytes.now;
       small : length r.bytes.now ≤ 2 ^ 30;
     } };
 }
@@ -39,8 +42,8 @@ impl<'a> Records<'a> {
         requires { length bytes.now ≤ 2 ^ 30 }
         ensures { IfOk result (λ r. r ≡ records bytes.entry.now) }
     {
-        let spans = spans_of(alloc, bytes)?;
-        Ok(Records { bytes, spans })
+        let ends = record_ends(alloc, bytes)?;
+        Ok(Records { bytes, ends })
     }
 
     /// How many records there are.
@@ -48,7 +51,7 @@ impl<'a> Records<'a> {
         ensures number { result ≡ length self.now }
         ensures few { result ≤ 2 ^ 30 }
     {
-        self.spans.len()
+        self.ends.len()
     }
 
     /// The bytes of record `i`, from 0, without its line feed.
@@ -57,8 +60,7 @@ impl<'a> Records<'a> {
         ensures bytes { result.now ≡ (nth_record self.now i).bytes }
         ensures small { length result.now ≤ 2 ^ 30 }
     {
-        let span = self.spans[i];
-        &self.bytes[span.start as usize..span.end as usize]
+        &self.bytes[self.start(i) as usize..self.ends[i] as usize]
     }
 
     /// The place in the file of the first byte of record `i`, or of its line feed where the record is empty.
@@ -67,7 +69,7 @@ impl<'a> Records<'a> {
         ensures place { result ≡ (nth_record self.now i).start }
         ensures small { result ≤ 2 ^ 30 }
     {
-        self.spans[i].start
+        if i == 0 { 0 } else { self.ends[i - 1] + 1 }
     }
 }
 
@@ -82,34 +84,30 @@ pub fn record_law()
     ensures few { FewRecords }
 {}
 
-ghost use Rattle.mr_records.specs.Records.{record_at, Within, IsBehindAll, IsRecordOf};
-
-/// Adds the span from `start` to before `end`.
-fn push_span(spans: &mut Vec<Span>, start: usize, end: usize) -> Result<(), AllocError>
-    requires { (start ≤ 2 ^ 30) × (end ≤ 2 ^ 30) }
-    ensures { OnOk result (spans.new.items ≡ spans.old.items ++ record { start = start; end = end } ∷ []) }
+/// Where the records end, in their order.
+fn record_ends(alloc: Global, bytes: &[u8]) -> Result<Vec<u32>, AllocError>
+    requires { length bytes.now ≤ 2 ^ 30 }
+    ensures rise { IfOk result (λ v. EndsRise bytes.now 0 v.items) }
+    ensures few { IfOk result (λ v. length v.items ≤ length bytes.now) }
+    ensures all { IfOk result (λ v. ended_at bytes.now 0 v.items ≡ records bytes.now) }
 {
-    spans.push(Span {
-        start: start as u32,
-        end: end as u32,
-    })?;
-    Ok(())
+    let mut ends = Vec::new(alloc);
+    line_ends(bytes, &mut ends)?;
+    if !is_open(bytes) {
+        return Ok(ends);
+    }
+    ends.push(bytes.len() as u32)?;
+    Ok(ends)
 }
 
-/// Where the records stand, in their order.
-fn spans_of(alloc: Global, bytes: &[u8]) -> Result<Vec<Span>, AllocError>
-    requires { length bytes.now ≤ 2 ^ 30 }
-    ensures within { IfOk result (λ v. All (Within bytes.now) v.items) }
-    ensures few { IfOk result (λ v. length v.items ≤ length bytes.now) }
-    ensures all { IfOk result (λ v. map (record_at bytes.now) v.items ≡ records bytes.now) }
+/// Whether the file's end ends the last record, and no line feed does.
+fn is_open(bytes: &[u8]) -> bool
+    ensures { result ≡ is_open bytes.now }
 {
-    let mut spans = Vec::new(alloc);
-    let mut from = 0;
-    while let Some(end) = record_end(bytes, from) {
-        push_span(&mut spans, from, end)?;
-        from = end + 1;
+    match bytes.last() {
+        Some(b) => *b != b'\n',
+        None => false,
     }
-    Ok(spans)
 }
 
 /// The place of the first line feed from `from` on, or the end.
