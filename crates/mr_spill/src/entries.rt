@@ -1,5 +1,5 @@
 //! Values with their names: what pairs have beside their keys.
-ghost use Rattle.std.specs.Prelude.{◌≡◌, ◌++◌, ◌∷◌, [], ◌<◌, OnOk, OnErr, length};
+ghost use Rattle.std.specs.Prelude.{◌≡◌, ◌++◌, ◌∷◌, [], ◌<◌, IfOk, OnOk, OnErr, length};
 ghost use Rattle.mr_spill.specs.Entries.{nth_entry};
 
 use mr_bytes::{Name, Value, Values};
@@ -34,6 +34,16 @@ impl Entries {
             values: Values::new(alloc),
             names: Vec::new(alloc),
         }
+    }
+
+    /// No values, and room for so many names. It fails only for want of memory.
+    pub fn with_room(alloc: Global, count: usize) -> Result<Entries, AllocError>
+        ensures { IfOk result (λ e. e ≡ []) }
+    {
+        Ok(Entries {
+            values: Values::new(alloc),
+            names: Vec::with_capacity(alloc, count)?,
+        })
     }
 
     /// How many values there are.

@@ -82,6 +82,18 @@ impl Numbered {
         }
     }
 
+    /// No pairs, and room for so many. It fails only for want of memory.
+    fn with_room(alloc: Global, count: usize) -> Result<Numbered, AllocError>
+        ensures { IfOk result (λ n. n ≡ []) }
+    {
+        Ok(Numbered {
+            alloc,
+            keys: IndexSet::new(alloc),
+            numbers: Vec::with_capacity(alloc, count)?,
+            entries: Entries::with_room(alloc, count)?,
+        })
+    }
+
     /// How many pairs there are.
     pub fn len(&self) -> usize
         ensures { result ≡ length self.now }
@@ -157,11 +169,20 @@ impl Numbered {
     }
 }
 
+/// How many pairs the columns have together.
+fn count_of(columns: &[&Pairs]) -> usize {
+    let mut count = 0usize;
+    for column in columns {
+        count = count.saturating_add(column.len());
+    }
+    count
+}
+
 /// All pairs of the columns, one column behind another.
 pub(crate) fn numbered_columns(alloc: Global, columns: &[&Pairs]) -> Result<Numbered, AllocError>
     ensures { IfOk result (λ n. n ≡ columns_of columns.now) }
 {
-    let mut all = Numbered::new(alloc);
+    let mut all = Numbered::with_room(alloc, count_of(columns))?;
     for column in columns {
         all.take_column(column)?;
     }

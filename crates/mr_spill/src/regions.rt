@@ -50,6 +50,22 @@ fn put_all(
     Ok(())
 }
 
+/// How many pairs the rows of a partition have that begin at `from`, and how many bytes their keys.
+fn room_at(lists: &Lists<'_>, rows: &[Row<'_>], from: usize, part: u32) -> (usize, usize)
+    requires inside { All (λ r. r.number < length lists.now) rows.now }
+    requires from { from ≤ length rows.now }
+{
+    let mut count = 0usize;
+    let mut bytes = 0usize;
+    let mut at = from;
+    while let Some(row) = row_in(rows, at, part) {
+        count = count.saturating_add(lists.count(row.number));
+        bytes = bytes.saturating_add(row.key.len());
+        at += 1;
+    }
+    (count, bytes)
+}
+
 /// The region of a partition, whose rows begin at `from`, and the place behind them.
 fn region_at(
     alloc: Global,
@@ -63,7 +79,8 @@ fn region_at(
     ensures region { IfOk result (λ r. r.0 ≡ row_pairs lists.now (front part (drop from rows.now))) }
     ensures rest { IfOk result (λ r. (r.1 ≤ length rows.now) × (drop (r.1) rows.now ≡ behind part (drop from rows.now))) }
 {
-    let mut region = Pairs::new(alloc);
+    let (count, bytes) = room_at(lists, rows, from, part);
+    let mut region = Pairs::with_room(alloc, count, bytes)?;
     let mut at = from;
     while let Some(row) = row_in(rows, at, part) {
         put_all(&mut region, row.key, lists, row.number)?;
