@@ -1,14 +1,14 @@
--- Regions whose splits follow one another, put together by key.
+-- Regions whose names follow one another, put together by key.
 use denote.Ref.{Bor}
-use Rattle.std.proofs.Common.{◌≡◌, ℕ, ◌+◌, ◌<◌, ◌≤◌, List, [], ◌∷◌, ◌++◌, length, get_or, take, filter, refl, ap, sym, ◌∙◌, subst, arith, inl, inr, cond, ◌==◌}
+use Rattle.std.proofs.Common.{◌≡◌, ℕ, ◌+◌, ◌<◌, List, [], ◌∷◌, ◌++◌, length, get_or, take, filter, refl, ap, sym, ◌∙◌, subst, arith, inl, inr, cond, ◌==◌, Option, Some, None}
 use Rattle.std.proofs.lemmas.Bool.{eq-eqb}
 use Rattle.std.proofs.lemmas.List.{flat_map_more, map-append, take_more}
 use Rattle.std.proofs.lemmas.List.Folds.{flat_map-map}
 use Rattle.std.proofs.lemmas.Cmp.{tied_itself, nat_list_cmp_total}
 use Rattle.std.specs.List.{AllByRecursion}
-use Rattle.std.specs.Cmp.{nat_cmp_is}
-use Rattle.std.specs.Ordering.{nat_cmp, ordering_then}
-use Rattle.std.specs.declared.cmp.Ordering.TheVariants.{Less, Equal}
+use Rattle.std.specs.Ordering.{ordering_reverse, ordering_then}
+use Rattle.std.specs.declared.cmp.Ordering.{Ordering}
+use Rattle.std.specs.declared.cmp.Ordering.TheVariants.{Less, Equal, Greater}
 use Rattle.mr_bytes.specs.declared.Name.{Name}
 use Rattle.mr_bytes.specs.Lists.{Distinct, Has, Rises, sorted}
 use Rattle.mr_bytes.specs.Order.{key_order, name_order}
@@ -19,8 +19,9 @@ use Rattle.mr_spill.specs.Column.{names_of}
 use Rattle.mr_spill.specs.Regions.{RisesUnderKeys, region}
 use Rattle.mr_spill.specs.Table.{columns_of}
 use Rattle.mr_merge.specs.Merged.{joined, values_of}
-use Rattle.mr_merge.specs.Merging.{NamesDiffer}
-use Rattle.mr_merge.proofs.MergeLemmas.{All-more}
+use Rattle.mr_merge.specs.Merging.{IsPast, IsUpTo, NamesDiffer}
+use Rattle.mr_spill.proofs.RegionLaws.{names_total}
+use Rattle.mr_merge.proofs.MergeLemmas.{All-more, name-tie}
 
 pub All-next : {X : Type 0} (P : X → Type 0) (xs : List X) (i : ℕ) (d : X) → i < length xs → AllByRecursion P (take i xs) → P (get_or xs i d) → AllByRecursion P (take (i + 1) xs)
 All-next P xs i d h all p = subst (AllByRecursion P) (sym (take_more xs i d h)) (All-more P (take i xs) (get_or xs i d) all p)
@@ -56,32 +57,53 @@ under-append (x ∷ xs) ys r s f = (
   under-append xs ys r.1 s (λ t u a b. f t u (inr a) b),
 )
 
-split-less : (m n : Name) → m.split < n.split → name_order m n ≡ Less
-split-less m n h = ap (λ o. ordering_then o (ordering_then (nat_cmp m.rec n.rec) (nat_cmp m.place n.place))) (sym (nat_cmp_is m.split n.split Less h))
+-- a name up to the last one is before each past it
+pub before-past : (last : Option Name) (m n : Name) → IsUpTo last m → IsPast last n → name_order m n ≡ Less
+before-past None m n h g = absurd h
+before-past (Some last) m n h g = by (name_order last m) refl
+  where
+    by : (o : Ordering) → name_order last m ≡ o → name_order m n ≡ Less
+    by Less is = absurd (h is)
+    by Equal is = subst (λ l. name_order l n ≡ Less) (name-tie last m is) g
+    by Greater is = names_total.trans m last n (names_total.antisymm m last ∙ ap ordering_reverse is) g
 
-pub follows : (xs ys : List Triple) (low : ℕ) → RisesUnderKeys xs → Rises pair_order ys → ((t : Triple) → Has xs t → t.name.split < low)
-    → (names : List Name) → names ≡ names_of ys → AllByRecursion (λ (n : Name). low ≤ n.split) names → RisesUnderKeys (xs ++ ys)
-follows xs ys low r s below names are from =
-    under-append xs ys r (rising-under ys s) (λ t u a b.
-    let above : low ≤ u.name.split = Has-all (λ (n : Name). low ≤ n.split) names u.name from (subst (λ (l : List Name). Has l u.name) (sym are) (Has-map (λ (w : Triple). w.name) ys u b)) in
-    split-less t.name u.name (omega (arith, below t a, above)))
+pub up_to-itself : (n : Name) → IsUpTo (Some n) n
+up_to-itself n h = cc (h, tied_itself names_total n)
 
--- names of later splits differ from those before
-pub differs : (xs ys : List Triple) (low : ℕ) → NamesDiffer xs → NamesDiffer ys → ((t : Triple) → Has xs t → t.name.split < low)
-    → (names : List Name) → names ≡ names_of ys → AllByRecursion (λ (n : Name). low ≤ n.split) names → NamesDiffer (xs ++ ys)
-differs xs ys low d e below names are from =
+-- up to the last one, and so up to a later one
+pub up_to-later : (last : Option Name) (name n : Name) → IsPast last name → IsUpTo last n → IsUpTo (Some name) n
+up_to-later last name n past h g = cc (names_total.trans n name n (before-past last n name h past) g, tied_itself names_total n)
+
+-- not past the last one is up to it
+pub up_to-not_past : (last : Option Name) (n : Name) → (IsPast last n → ⊥) → IsUpTo last n
+up_to-not_past None n h = h tt
+up_to-not_past (Some last) n h = h
+
+past-at : (ys : List Triple) (last : Option Name) (names : List Name) → names ≡ names_of ys → AllByRecursion (IsPast last) names → (u : Triple) → Has ys u → IsPast last u.name
+past-at ys last names are past u h =
+    Has-all (IsPast last) names u.name past (subst (λ (l : List Name). Has l u.name) (sym are) (Has-map (λ (w : Triple). w.name) ys u h))
+
+pub follows : (xs ys : List Triple) (last : Option Name) → RisesUnderKeys xs → Rises pair_order ys → ((t : Triple) → Has xs t → IsUpTo last t.name)
+    → (names : List Name) → names ≡ names_of ys → AllByRecursion (IsPast last) names → RisesUnderKeys (xs ++ ys)
+follows xs ys last r s below names are past =
+    under-append xs ys r (rising-under ys s) (λ t u a b. before-past last t.name u.name (below t a) (past-at ys last names are past u b))
+
+-- names past all before differ from them
+pub differs : (xs ys : List Triple) (last : Option Name) → NamesDiffer xs → NamesDiffer ys → ((t : Triple) → Has xs t → IsUpTo last t.name)
+    → (names : List Name) → names ≡ names_of ys → AllByRecursion (IsPast last) names → NamesDiffer (xs ++ ys)
+differs xs ys last d e below names are past =
     subst Distinct (sym (map-append (λ (w : Triple). w.name) xs ys))
     (Distinct-append (names_of xs) (names_of ys) d e (λ n a b.
     let t = Has-map_from (λ (w : Triple). w.name) xs n a in
-    let less : n.split < low = subst (λ (m : Name). m.split < low) t.2 (below t.0 t.1) in
-    let above : low ≤ n.split = Has-all (λ (m : Name). low ≤ m.split) names n from (subst (λ (l : List Name). Has l n) (sym are) b) in
-    absurd (omega (arith, less, above))))
+    let up : IsUpTo last n = subst (IsUpTo last) t.2 (below t.0 t.1) in
+    let above : IsPast last n = Has-all (IsPast last) names n past (subst (λ (l : List Name). Has l n) (sym are) b) in
+    absurd (cc (before-past last n n up above, tied_itself names_total n))))
 
-pub later : (xs ys : List Triple) (low end : ℕ) (names : List Name) → names ≡ names_of ys → low ≤ end → ((t : Triple) → Has xs t → t.name.split < low)
-    → AllByRecursion (λ (n : Name). n.split < end) names → (t : Triple) → Has (xs ++ ys) t → t.name.split < end
-later xs ys low end names are le below past t h = elim (Has-append_cases xs ys t h) [
-  | inl a ↦ omega (arith, below t a, le)
-  | inr b ↦ Has-all (λ (n : Name). n.split < end) names t.name past (subst (λ (l : List Name). Has l t.name) (sym are) (Has-map (λ (w : Triple). w.name) ys t b))
+pub later-last : (xs ys : List Triple) (last end : Option Name) (names : List Name) → names ≡ names_of ys → ((n : Name) → IsUpTo last n → IsUpTo end n)
+    → ((t : Triple) → Has xs t → IsUpTo last t.name) → AllByRecursion (IsUpTo end) names → (t : Triple) → Has (xs ++ ys) t → IsUpTo end t.name
+later-last xs ys last end names are up below all t h = elim (Has-append_cases xs ys t h) [
+  | inl a ↦ up t.name (below t a)
+  | inr b ↦ Has-all (IsUpTo end) names t.name all (subst (λ (l : List Name). Has l t.name) (sym are) (Has-map (λ (w : Triple). w.name) ys t b))
 ]
 
 pub columns-joined : (rs : List (Bor (List Triple))) → columns_of rs ≡ joined (values_of rs)

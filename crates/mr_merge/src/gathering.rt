@@ -1,62 +1,78 @@
-//! Regions of splits that follow one another, merged at once.
-ghost use Rattle.std.specs.Prelude.{◌≡◌, ◌≤◌, ◌<◌, ◌∷◌, [], IfOk, IsTrue, length};
+//! Regions whose names follow one another, merged at once.
+ghost use Rattle.std.specs.Prelude.{◌≡◌, ◌↔◌, ◌∷◌, [], IfOk, IsTrue, length};
 ghost use Rattle.std.specs.List.{AllByRecursion};
+ghost use Rattle.mr_bytes.specs.declared.Name.{Name};
 ghost use Rattle.mr_bytes.specs.Lists.{Rises, sorted};
 ghost use Rattle.mr_bytes.specs.Pairs.{Triple, pair_order};
 ghost use Rattle.mr_spill.specs.Regions.{RisesUnderKeys};
 ghost use Rattle.mr_merge.specs.Merged.{AreSound, joined, values_of};
-ghost use Rattle.mr_merge.specs.Merging.{NamesDiffer};
+ghost use Rattle.mr_merge.specs.Merging.{IsPast, IsUpTo, NamesDiffer};
 
 use crate::merging::merged_all;
-use mr_bytes::Name;
+use mr_bytes::{Name, compare_names};
 use mr_spill::{Pairs, gathered};
 use std::alloc::{AllocError, Global};
+use std::cmp::Ordering;
 
-/// Whether each name is of this split or a later one.
-fn are_from(names: &[Name], low: u64) -> bool
-    ensures { IsTrue result → AllByRecursion (λ n. low ≤ n.split) names.now }
+/// Whether the name is past this one, if there is one.
+fn is_past(last: Option<Name>, name: Name) -> bool
+    ensures { IsTrue result ↔ IsPast last name }
+{
+    match last {
+        None => true,
+        Some(last) => matches!(compare_names(last, name), Ordering::Less),
+    }
+}
+
+/// Whether each name is past this one.
+fn are_past(names: &[Name], last: Option<Name>) -> bool
+    ensures { IsTrue result → AllByRecursion (IsPast last) names.now }
 {
     for name in names {
-        if (name.split as u64) < low {
+        if !is_past(last, *name) {
             return false;
         }
     }
     true
 }
 
-/// A number that is past the split of the name, and no less than `end`.
-fn later(end: u64, name: Name) -> u64
-    ensures { (end ≤ result) × (name.split < result) }
+/// The later one of two names.
+fn later(last: Option<Name>, name: Name) -> Option<Name>
+    ensures up_to { (n : Name) → IsUpTo last n → IsUpTo result n }
+    ensures it { IsUpTo result name }
 {
-    let next = name.split as u64 + 1;
-    if end < next { next } else { end }
-}
-
-/// A number that is past the splits of all names, and no less than `low`.
-fn split_end(names: &[Name], low: u64) -> u64
-    ensures low { low ≤ result }
-    ensures past { AllByRecursion (λ n. n.split < result) names.now }
-{
-    let mut end = low;
-    for name in names {
-        end = later(end, *name);
+    if is_past(last, name) {
+        Some(name)
+    } else {
+        last
     }
-    end
 }
 
-/// Whether the splits of each region are past those of all before it.
-pub(crate) fn splits_follow(regions: &[&Pairs]) -> bool
+/// The last of all these names.
+fn last_of(names: &[Name], before: Option<Name>) -> Option<Name>
+    ensures before { (n : Name) → IsUpTo before n → IsUpTo result n }
+    ensures up_to { AllByRecursion (IsUpTo result) names.now }
+{
+    let mut last = before;
+    for name in names {
+        last = later(last, *name);
+    }
+    last
+}
+
+/// Whether the names of each region are past those of all before it.
+pub(crate) fn names_follow(regions: &[&Pairs]) -> bool
     requires { AllByRecursion (Rises pair_order) (values_of regions.now) }
     ensures rise { IsTrue result → RisesUnderKeys (joined (values_of regions.now)) }
     ensures differ { IsTrue result → AllByRecursion NamesDiffer (values_of regions.now) → NamesDiffer (joined (values_of regions.now)) }
 {
-    let mut low = 0;
+    let mut last = None;
     for region in regions {
         let names = region.names();
-        if !are_from(names, low) {
+        if !are_past(names, last) {
             return false;
         }
-        low = split_end(names, low);
+        last = last_of(names, last);
     }
     true
 }
@@ -69,13 +85,13 @@ fn only(mut regions: Vec<Pairs>) -> Pairs
     regions.pop().unwrap()
 }
 
-/// The pairs of all regions, in order. Where the splits of the regions follow one another, as those of map tasks do, each
-/// key is looked up and not compared.
+/// The pairs of all regions, in order. Where the names of the regions follow one another, as those of map tasks and of their
+/// runs do, each key is looked up and not compared.
 pub(crate) fn merged_pairs(alloc: Global, regions: &[&Pairs]) -> Result<Pairs, AllocError>
     requires { AreSound (values_of regions.now) }
     ensures { IfOk result (λ p. p ≡ sorted pair_order (joined (values_of regions.now))) }
 {
-    if splits_follow(regions) {
+    if names_follow(regions) {
         return Ok(only(gathered(alloc, regions, 1)?));
     }
     merged_all(alloc, regions)

@@ -8,7 +8,7 @@ ghost use Rattle.mr_spill.specs.Column.{names_of};
 ghost use Rattle.mr_merge.specs.Merged.{AreSound, joined, values_of};
 ghost use Rattle.mr_merge.specs.Merging.{NamesDiffer};
 
-use crate::gathering::splits_follow;
+use crate::gathering::names_follow;
 use crate::merging::is_before;
 use mr_bytes::{Name, compare_names};
 use mr_spill::Pairs;
@@ -90,12 +90,12 @@ fn are_sealed(regions: &[&Pairs]) -> bool
     true
 }
 
-/// Whether each region is in order, and no name stands twice. Neither pairs nor names are compared where a seal made each
-/// region, and their splits follow one another. It fails only for want of memory.
+/// Whether each region is in order, and no name stands twice. Pairs are not compared where a seal made each region, and their
+/// names follow one another. It fails only for want of memory.
 pub(crate) fn are_sound(alloc: Global, regions: &[&Pairs]) -> Result<bool, AllocError>
     ensures { IfOk result (λ b. IsTrue b ↔ AreSound (values_of regions.now)) }
 {
-    if are_sealed(regions) && splits_follow(regions) {
+    if are_sealed(regions) && names_follow(regions) {
         return Ok(true);
     }
     if !all_rise(regions) {

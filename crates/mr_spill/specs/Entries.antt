@@ -1,17 +1,14 @@
 -- Of no public promise: what pairs have beside their keys.
-use Rattle.std.specs.Prelude.{ℕ, List, slice_range, slice_index_or}
+use Rattle.std.specs.Prelude.{ℕ, List, map, slice_index, slice_index_or, slice_range}
 use Rattle.mr_bytes.specs.declared.Name.{Name}
 use Rattle.mr_bytes.specs.declared.Value.{Value}
 use Rattle.mr_bytes.specs.declared.Value.TheVariants.{One}
 use Rattle.mr_bytes.specs.Pairs.{Triple}
-use Rattle.mr_spill.specs.declared.run.Run.{Run}
+use Rattle.mr_spill.specs.Buckets.{start_of}
 
 -- what a pair has beside its key
 abbrev pub Entry : Type 0
 Entry = Value × Name
-
-abbrev pub entry_of : Triple → Entry
-entry_of t = (t.value, t.name)
 
 -- an entry that stands for none, and that at a place, from 0
 abbrev pub nth_entry : List Entry → ℕ → Entry
@@ -21,6 +18,6 @@ nth_entry es i = slice_index_or es i (One, record { split = 0; rec = 0; place = 
 abbrev pub under_key : List ℕ → Entry → Triple
 under_key key e = record { key = key; value = e.0; name = e.1 }
 
--- the pairs of a run
-abbrev pub run_pairs : Run → List Triple
-run_pairs r = slice_range r.column.now r.from r.to
+-- the entries of number `k`, whose places stand up to the end of that number
+abbrev pub listed : List Entry → List ℕ → List ℕ → ℕ → List Entry
+listed es order ends k = map (nth_entry es) (slice_range order (start_of ends k) (slice_index ends k))

@@ -1,3 +1,4 @@
+pub mod Buckets
 pub mod Column
 pub mod Buffer
 pub mod Entries

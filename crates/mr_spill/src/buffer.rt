@@ -8,16 +8,17 @@ ghost use Rattle.mr_spill.specs.Column.{names_of};
 ghost use Rattle.mr_spill.specs.Regions.{regions};
 
 use crate::column::Pairs;
-use crate::regions::gathered;
+use crate::numbered::Numbered;
+use crate::regions::cut;
 use mr_bytes::{Name, Pair, Value};
 use std::alloc::{AllocError, Global};
 use std::marker::Model;
 use thiserror::Error;
 
-/// Pairs by rising name, up to a limit.
+/// Pairs by rising name, up to a limit. Each distinct key is stored once, and looked up once a pair.
 #[derive(Drop)]
 pub struct Buffer {
-    pairs: Pairs,
+    pairs: Numbered,
     limit: usize,
 }
 
@@ -71,7 +72,7 @@ impl Buffer {
         ensures { result ≡ record { limit = limit; pairs = [] } }
     {
         Buffer {
-            pairs: Pairs::new(alloc),
+            pairs: Numbered::new(alloc),
             limit,
         }
     }
@@ -124,7 +125,7 @@ impl Buffer {
         ensures empty { OnOk result (self.new ≡ record { limit = self.old.limit; pairs = [] }) }
         ensures err { OnErr result (self.new ≡ self.old) }
     {
-        let regions = gathered(alloc, &[&self.pairs], parts)?;
+        let regions = cut(alloc, &self.pairs, parts)?;
         self.pairs.clear();
         Ok(regions)
     }

@@ -70,12 +70,11 @@ impl Pairs {
         }
     }
 
-    /// No pairs, and room for as many as two columns have. It fails only for want of memory.
-    pub fn with_room_for(alloc: Global, first: &Pairs, second: &Pairs) -> Result<Pairs, AllocError>
+    /// No pairs, and room for so many whose keys have so many bytes together, what they share counted once. It fails only
+    /// for want of memory.
+    pub(crate) fn with_room(alloc: Global, count: usize, bytes: usize) -> Result<Pairs, AllocError>
         ensures { IfOk result (λ p. p ≡ []) }
     {
-        let count = first.spans.len().saturating_add(second.spans.len());
-        let bytes = first.keys.len().saturating_add(second.keys.len());
         Ok(Pairs {
             keys: Vec::with_capacity(alloc, bytes)?,
             spans: Vec::with_capacity(alloc, count)?,
@@ -83,6 +82,15 @@ impl Pairs {
             names: Vec::with_capacity(alloc, count)?,
             sealed: false,
         })
+    }
+
+    /// No pairs, and room for as many as two columns have. It fails only for want of memory.
+    pub fn with_room_for(alloc: Global, first: &Pairs, second: &Pairs) -> Result<Pairs, AllocError>
+        ensures { IfOk result (λ p. p ≡ []) }
+    {
+        let count = first.spans.len().saturating_add(second.spans.len());
+        let bytes = first.keys.len().saturating_add(second.keys.len());
+        Pairs::with_room(alloc, count, bytes)
     }
 
     /// How many pairs there are.

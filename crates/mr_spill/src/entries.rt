@@ -1,8 +1,7 @@
-//! Values with their names: what the pairs of a key have beside it.
-ghost use Rattle.std.specs.Prelude.{◌≡◌, ◌++◌, ◌∷◌, [], ◌<◌, IfOk, OnOk, OnErr, length, map};
-ghost use Rattle.mr_spill.specs.Entries.{entry_of, nth_entry, run_pairs};
+//! Values with their names: what pairs have beside their keys.
+ghost use Rattle.std.specs.Prelude.{◌≡◌, ◌++◌, ◌∷◌, [], ◌<◌, IfOk, OnOk, OnErr, length};
+ghost use Rattle.mr_spill.specs.Entries.{nth_entry};
 
-use crate::run::Run;
 use mr_bytes::{Name, Value, Values};
 use std::alloc::{AllocError, Global};
 use std::marker::Model;
@@ -37,6 +36,16 @@ impl Entries {
         }
     }
 
+    /// No values, and room for so many names. It fails only for want of memory.
+    pub fn with_room(alloc: Global, count: usize) -> Result<Entries, AllocError>
+        ensures { IfOk result (λ e. e ≡ []) }
+    {
+        Ok(Entries {
+            values: Values::new(alloc),
+            names: Vec::with_capacity(alloc, count)?,
+        })
+    }
+
     /// How many values there are.
     pub fn len(&self) -> usize
         ensures { result ≡ length self.now }
@@ -53,7 +62,7 @@ impl Entries {
     }
 
     /// One more value, at the end. It fails only for want of memory, and then nothing has changed.
-    fn push(&mut self, value: Value, name: Name) -> Result<(), AllocError>
+    pub fn push(&mut self, value: Value, name: Name) -> Result<(), AllocError>
         ensures ok { OnOk result (self.new ≡ self.old ++ (value, name) ∷ []) }
         ensures err { OnErr result (self.new ≡ self.old) }
     {
@@ -63,13 +72,11 @@ impl Entries {
         Ok(())
     }
 
-    /// Those of the pairs of a run, at the end. It fails only for want of memory.
-    pub fn take(&mut self, run: &Run<'_>) -> Result<(), AllocError>
-        ensures { OnOk result (self.new ≡ self.old ++ map entry_of (run_pairs run.now)) }
+    /// No values any more. What they took stays for later ones.
+    pub fn clear(&mut self)
+        ensures { self.new ≡ [] }
     {
-        for i in run.from..run.to {
-            self.push(run.column.value(i), run.column.name(i))?;
-        }
-        Ok(())
+        self.values.clear();
+        self.names.clear();
     }
 }

@@ -2,18 +2,20 @@
 //! (OSDI 2004, sections 3.1 and 4.2).
 //!
 //! Pairs enter by rising name, in the order of the input. What leaves is a region for each partition, by key and then
-//! name, in which a key is stored once. Time: one look-up for each pair, and a sort of the distinct keys, n log n
-//! comparisons, most of them of two numbers. Memory: the pairs three times while they are cut, of which the second has no
-//! keys but one copy of each distinct key.
+//! name, in which a key is stored once. Time: one look-up for each pair as it enters, and a sort of the distinct keys, n log n
+//! comparisons, most of them of two numbers; each pair is put at its place by counting. Memory: 16 bytes for each pair that
+//! waits and its value where it has one beside `One`, with one copy of each distinct key; while they are cut 4 bytes more for
+//! each pair, and the regions.
 #![tactic(auto)]
 
 mod buffer;
 mod column;
+mod distribute;
 mod entries;
+mod lists;
+mod numbered;
 mod regions;
 mod rows;
-mod run;
-mod table;
 
 pub use buffer::{Buffer, PushFault, PushRefusal};
 pub use column::Pairs;

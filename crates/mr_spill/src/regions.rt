@@ -1,18 +1,17 @@
-//! Columns of pairs cut by partition into sorted regions.
-ghost use Rattle.std.specs.Prelude.{◌≡◌, ℕ, ◌+◌, ◌<◌, ◌≤◌, ◌∷◌, ◌++◌, [], IfOk, OnOk, MatchOption, All, length, map, drop, slice_index_or};
+//! Pairs cut by partition into sorted regions.
+ghost use Rattle.std.specs.Prelude.{◌≡◌, ℕ, ◌+◌, ◌<◌, ◌≤◌, ◌∷◌, ◌++◌, [], IfOk, OnOk, MatchOption, All, length, map, drop};
 ghost use Rattle.std.specs.List.{range_with_len};
 ghost use Rattle.mr_bytes.specs.Lists.{Distinct, Rises};
 ghost use Rattle.mr_partition.specs.Partition.{partition_of};
 ghost use Rattle.mr_spill.specs.Column.{IsSealed, names_of};
 ghost use Rattle.mr_spill.specs.Regions.{RegionsHave, RegionsRise, RisesUnderKeys, regions};
 ghost use Rattle.mr_spill.specs.Rows.{behind, front, pairs_in, row_order, row_pairs};
-ghost use Rattle.mr_spill.specs.Entries.{under_key};
-ghost use Rattle.mr_spill.specs.Table.{columns_of};
+ghost use Rattle.mr_spill.specs.Table.{columns_of, pairs_under};
 
 use crate::column::Pairs;
-use crate::entries::Entries;
+use crate::lists::{Lists, lists_of};
+use crate::numbered::{Numbered, numbered_columns};
 use crate::rows::{Row, sorted_rows};
-use crate::table::table_of;
 use std::alloc::{AllocError, Global};
 
 /// The row at this place, if it has this partition.
@@ -28,35 +27,49 @@ fn row_in<'a>(rows: &[Row<'a>], at: usize, part: u32) -> Option<Row<'a>>
     }
 }
 
-/// Appends the pairs of a key, which share its bytes. It fails only for want of memory.
-fn put_all(target: &mut Pairs, key: &[u8], entries: &Entries) -> Result<(), AllocError>
-    ensures { OnOk result (target.new ≡ target.old ++ map (under_key key.now) entries.now) }
+/// Appends the pairs of a key, whose number is told; they share its bytes. It fails only for want of memory.
+fn put_all(
+    target: &mut Pairs,
+    key: &[u8],
+    lists: &Lists<'_>,
+    number: usize,
+) -> Result<(), AllocError>
+    requires { number < length lists.now }
+    ensures { OnOk result (target.new ≡ target.old ++ pairs_under lists.now key.now number) }
 {
-    let count = entries.len();
+    let count = lists.count(number);
     if count == 0 {
         return Ok(());
     }
-    let (value, name) = entries.get(0);
+    let (value, name) = lists.get(number, 0);
     target.push(key, value, name)?;
     for i in 1..count {
-        let (value, name) = entries.get(i);
+        let (value, name) = lists.get(number, i);
         target.push_again(value, name)?;
     }
     Ok(())
 }
 
-/// What the key of this number has.
-fn entries_at(lists: &[Entries], number: usize) -> &Entries
-    requires { number < length lists.now }
-    ensures { result.now ≡ slice_index_or lists.now number [] }
+/// How many pairs the rows of a partition have that begin at `from`, and how many bytes their keys.
+fn room_at(lists: &Lists<'_>, rows: &[Row<'_>], from: usize, part: u32) -> (usize, usize)
+    requires inside { All (λ r. r.number < length lists.now) rows.now }
+    requires from { from ≤ length rows.now }
 {
-    &lists[number]
+    let mut count = 0usize;
+    let mut bytes = 0usize;
+    let mut at = from;
+    while let Some(row) = row_in(rows, at, part) {
+        count = count.saturating_add(lists.count(row.number));
+        bytes = bytes.saturating_add(row.key.len());
+        at += 1;
+    }
+    (count, bytes)
 }
 
 /// The region of a partition, whose rows begin at `from`, and the place behind them.
 fn region_at(
     alloc: Global,
-    lists: &[Entries],
+    lists: &Lists<'_>,
     rows: &[Row<'_>],
     from: usize,
     part: u32,
@@ -66,10 +79,11 @@ fn region_at(
     ensures region { IfOk result (λ r. r.0 ≡ row_pairs lists.now (front part (drop from rows.now))) }
     ensures rest { IfOk result (λ r. (r.1 ≤ length rows.now) × (drop (r.1) rows.now ≡ behind part (drop from rows.now))) }
 {
-    let mut region = Pairs::new(alloc);
+    let (count, bytes) = room_at(lists, rows, from, part);
+    let mut region = Pairs::with_room(alloc, count, bytes)?;
     let mut at = from;
     while let Some(row) = row_in(rows, at, part) {
-        put_all(&mut region, row.key, entries_at(lists, row.number))?;
+        put_all(&mut region, row.key, lists, row.number)?;
         at += 1;
     }
     Ok((region, at))
@@ -78,7 +92,7 @@ fn region_at(
 /// The regions of all partitions, given what each key has and the rows of the keys in their order.
 fn regions_of(
     alloc: Global,
-    lists: &[Entries],
+    lists: &Lists<'_>,
     rows: &[Row<'_>],
     parts: u32,
 ) -> Result<Vec<Pairs>, AllocError>
@@ -98,17 +112,30 @@ fn regions_of(
     Ok(regions)
 }
 
+/// For each partition, in order, the pairs that belong to it, by key and then name. Under each key the names rise already,
+/// and no name stands twice. Keys are sorted once each. It fails only for want of memory.
+pub(crate) fn cut(alloc: Global, pairs: &Numbered, parts: u32) -> Result<Vec<Pairs>, AllocError>
+    requires some { 0 < parts }
+    requires rise { RisesUnderKeys pairs.now }
+    requires differ { Distinct (names_of pairs.now) }
+    ensures { IfOk result (λ v. v.items ≡ regions (λ k. partition_of k parts) parts pairs.now) }
+{
+    let keys = pairs.keys.as_slice();
+    let lists = lists_of(alloc, pairs.numbers.as_slice(), &pairs.entries, keys.len())?;
+    let rows = sorted_rows(alloc, keys, parts)?;
+    regions_of(alloc, &lists, rows.as_slice(), parts)
+}
+
 /// For each partition, in order, the pairs of all columns that belong to it, by key and then name. Under each key the
-/// names rise from column to column already, and no name stands twice. Keys are sorted once each. It fails only for want of memory.
+/// names rise from column to column already, and no name stands twice. It fails only for want of memory.
 pub fn gathered(alloc: Global, columns: &[&Pairs], parts: u32) -> Result<Vec<Pairs>, AllocError>
     requires some { 0 < parts }
     requires rise { RisesUnderKeys (columns_of columns.now) }
     requires differ { Distinct (names_of (columns_of columns.now)) }
     ensures { IfOk result (λ v. v.items ≡ regions (λ k. partition_of k parts) parts (columns_of columns.now)) }
 {
-    let table = table_of(alloc, columns)?;
-    let rows = sorted_rows(alloc, table.keys.as_slice(), parts)?;
-    regions_of(alloc, table.lists.as_slice(), rows.as_slice(), parts)
+    let pairs = numbered_columns(alloc, columns)?;
+    cut(alloc, &pairs, parts)
 }
 
 /// What regions are: they rise strictly by key and name, and a region has just the pairs of its partition.

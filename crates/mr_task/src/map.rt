@@ -13,8 +13,13 @@ use mr_jobs::Job;
 use mr_splits::Plan;
 use std::alloc::{AllocError, Global};
 
-/// What a job emits for the records of a split, without those whose numbers are listed, as sorted regions by partition.
-/// Numbers may stand in any order, more than once, and need not be those of records. It fails only for want of memory.
+/// How many pairs a run of a map task has at most: few enough that their keys stay near the processor, so many that a key
+/// stands in few runs.
+const RUN_PAIRS: usize = 65_536;
+
+/// What a job emits for the records of a split, without those whose numbers are listed, as sorted regions by partition: a
+/// region for each run of at most 65,536 pairs. Numbers may stand in any order, more than once, and need not be those of
+/// records. It fails only for want of memory.
 pub fn map_task(
     alloc: Global,
     plan: &Plan<'_>,
@@ -27,7 +32,7 @@ pub fn map_task(
     requires split { split < split_total plan.now.size plan.now.files }
     ensures { IfOk result (IsCutOf (λ k. partition_of k parts) parts (emitted_in (emitted job.now plan.now.size plan.now.files []) split skips.now)) }
 {
-    map_task_with(alloc, plan, job, parts, split, skips, usize::MAX)
+    map_task_with(alloc, plan, job, parts, split, skips, RUN_PAIRS)
 }
 
 /// What `map_task` gives, where a run ends as soon as it has `limit` pairs: each run that has any gives one region to

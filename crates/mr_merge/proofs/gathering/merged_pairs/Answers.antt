@@ -9,14 +9,14 @@ use Rattle.mr_merge.proofs.gathering.merged_pairs.Goals as goal
 
 pub gathered-requires-clause-rise : goal.gathered-requires-clause-rise
 gathered-requires-clause-rise c =
-    subst RisesUnderKeys (sym (columns-joined c.args.regions.now)) (c.splits_follow.ensures.rise c.if-splits_follow.true)
+    subst RisesUnderKeys (sym (columns-joined c.args.regions.now)) (c.names_follow.ensures.rise c.if-names_follow.true)
 
 pub gathered-requires-clause-differ : goal.gathered-requires-clause-differ
 gathered-requires-clause-differ c =
     subst NamesDiffer (sym (columns-joined c.args.regions.now)) c.requires.names_differ
 
-pub returns-then-splits_follow : goal.returns-then-splits_follow
-returns-then-splits_follow c =
+pub returns-then-names_follow : goal.returns-then-names_follow
+returns-then-names_follow c =
     ap (λ (l : List (List Triple)). get_or l 0 []) (sym c.only.ensures ∙ c.in_ok-gathered.ensures)
     ∙ one-region (columns_of c.args.regions.now)
     ∙ ap (sorted pair_order) (columns-joined c.args.regions.now)

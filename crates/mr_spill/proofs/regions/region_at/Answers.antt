@@ -1,15 +1,15 @@
-use Rattle.std.proofs.Common.{◌≡◌, ℕ, ◌+◌, ◌<◌, ◌++◌, List, length, map, drop, ap, sym, ◌∙◌, subst, arith}
+use Rattle.std.proofs.Common.{◌≡◌, ℕ, ◌+◌, ◌<◌, ◌++◌, List, length, drop, ap, sym, ◌∙◌, subst, arith}
 use Rattle.std.proofs.lemmas.List.{append_assoc}
 use Rattle.mr_bytes.specs.Pairs.{Triple}
 use Rattle.mr_spill.specs.declared.rows.Row.{Row}
 use Rattle.mr_spill.specs.Rows.{front, row_pairs}
-use Rattle.mr_spill.specs.Entries.{Entry, under_key}
+use Rattle.mr_spill.specs.Entries.{Entry}
 use Rattle.mr_spill.specs.Table.{pairs_under}
 use Rattle.mr_spill.proofs.RowLemmas.{at-drop, passed, taken}
 use Rattle.mr_spill.proofs.regions.region_at.Goals as goal
 
-pub entries_at-requires : goal.entries_at-requires
-entries_at-requires c =
+pub put_all-requires : goal.put_all-requires
+put_all-requires c =
     let rows : List Row = c.args.rows.now in
     let row : Row = c.in-Some.row in
     let read = at-drop rows c.loop-row.at row (drop (c.loop-row.at + 1) rows) row c.in-Some.ensures.1 in
@@ -23,9 +23,7 @@ loop-row-preserved c =
     let ls : List (List Entry) = c.args.lists.now in
     let region : List Triple = c.loop-row.region in
     let later : List Triple = row_pairs ls (front c.args.part (drop (at + 1) rows)) in
-    let pairs : map (under_key row.key.now) c.entries_at.result.now ≡ pairs_under ls row.key.now row.number =
-    ap (map (under_key row.key.now)) c.entries_at.ensures in
-    let pushed : c.put_all.new.target ≡ region ++ pairs_under ls row.key.now row.number = c.in_ok-put_all.ensures ∙ ap (λ (l : List Triple). region ++ l) pairs in
+    let pushed : c.put_all.new.target ≡ region ++ pairs_under ls row.key.now row.number = c.in_ok-put_all.ensures in
     record {
       within = omega (arith, c.in-Some.ensures.0);
       region = ap (λ (l : List Triple). l ++ later) pushed ∙ append_assoc region (pairs_under ls row.key.now row.number) later

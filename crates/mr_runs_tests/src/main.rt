@@ -1,0 +1,135 @@
+//! Tasks whose runs end at a limit, as a program for the checks from outside. Its arguments are the job (0 for words, 1 for
+//! lines with `b`, 2 for links), how many partitions there are, the size of a split, and how many pairs a run has at most.
+//! Standard input is the one file, each line ended by LF. For each split a line tells how many regions each partition
+//! has, and for each partition a line its text, how many names each group has, and all names.
+#![tactic(auto)]
+
+use mr_input::Input;
+use mr_jobs::Job;
+use mr_spill::Pairs;
+use mr_splits::Plan;
+use mr_task::{MapOutput, map_task_with, reduce_task};
+use std::alloc::{AllocError, Global};
+use std::{env, io};
+
+/// The numbers that the program is given; what is missing or is no number is 0.
+fn numbers_of(rt: &HostRuntime) -> io::Result<[u32; 4]> {
+    let mut numbers = [0; 4];
+    for (number, word) in numbers.iter_mut().zip(env::args(rt)?.skip(1)) {
+        *number = word.as_str().parse().unwrap_or(0);
+    }
+    Ok(numbers)
+}
+
+/// The lines of standard input.
+fn text(rt: &HostRuntime) -> io::Result<Vec<u8>> {
+    let mut bytes = Vec::new(rt.alloc());
+    for line in rt.lines(rt.alloc()) {
+        let line = line?;
+        bytes.extend_from_slice(line.as_str().as_bytes())?;
+        bytes.push(b'\n')?;
+    }
+    Ok(bytes)
+}
+
+fn input_of(rt: &HostRuntime) -> io::Result<Option<Input>> {
+    let bytes = text(rt)?;
+    let mut files = Vec::new(rt.alloc());
+    files.push(bytes)?;
+    Ok(Input::of(files).ok())
+}
+
+fn job_of(alloc: Global, number: u32) -> Option<Job> {
+    match number {
+        0 => Some(Job::words(false)),
+        1 => Job::grep(alloc, b"b", false).ok(),
+        _ => Some(Job::url()),
+    }
+}
+
+/// What the map task of each split gives.
+fn mapped(
+    alloc: Global,
+    plan: &Plan<'_>,
+    job: &Job,
+    parts: u32,
+    limit: usize,
+) -> Result<Vec<MapOutput>, AllocError> {
+    let mut outputs = Vec::new(alloc);
+    if parts < 1 || limit < 1 {
+        return Ok(outputs);
+    }
+    for split in 0..plan.splits() {
+        outputs.push(map_task_with(alloc, plan, job, parts, split, &[], limit)?)?;
+    }
+    Ok(outputs)
+}
+
+/// The regions of a partition, those of one split behind those of another.
+fn regions_of(
+    alloc: Global,
+    outputs: &[MapOutput],
+    partition: u32,
+) -> Result<Vec<&Pairs>, AllocError> {
+    let mut regions = Vec::new(alloc);
+    for output in outputs {
+        if (partition as usize) < output.parts() {
+            for region in output.regions(partition) {
+                regions.push(region)?;
+            }
+        }
+    }
+    Ok(regions)
+}
+
+/// Tells how many regions each partition has.
+fn show_counts(rt: &HostRuntime, output: &MapOutput, parts: u32) -> io::Result<()> {
+    for partition in 0..parts {
+        if (partition as usize) < output.parts() {
+            print!(rt; "{} ", output.regions(partition).len())?;
+        }
+    }
+    println!(rt; "")
+}
+
+/// Tells what the reduce task of a partition gives.
+fn show_reduced(
+    rt: &HostRuntime,
+    job: &Job,
+    outputs: &[MapOutput],
+    partition: u32,
+) -> io::Result<()> {
+    let regions = regions_of(rt.alloc(), outputs, partition)?;
+    match reduce_task(rt.alloc(), job, partition, regions.as_slice()) {
+        Ok(reduced) => {
+            let (counts, names) = reduced.flat_groups();
+            println!(rt; "{:?}|{:?}|{:?}", reduced.text(), counts, names)
+        }
+        Err(fault) => println!(rt; "{:?}", fault),
+    }
+}
+
+fn work(rt: &HostRuntime, plan: &Plan<'_>, job: &Job, parts: u32, limit: u32) -> io::Result<()> {
+    let outputs = mapped(rt.alloc(), plan, job, parts, limit as usize)?;
+    for output in &outputs {
+        show_counts(rt, output, parts)?;
+    }
+    for partition in 0..parts {
+        show_reduced(rt, job, outputs.as_slice(), partition)?;
+    }
+    Ok(())
+}
+
+fn main(rt: HostRuntime) -> io::Result<()> {
+    let [number, parts, size, limit] = numbers_of(&rt)?;
+    let Some(input) = input_of(&rt)? else {
+        return Ok(());
+    };
+    let Some(job) = job_of(rt.alloc(), number) else {
+        return Ok(());
+    };
+    match Plan::of(rt.alloc(), &input, size) {
+        Ok(plan) => work(&rt, &plan, &job, parts, limit),
+        Err(_) => Ok(()),
+    }
+}

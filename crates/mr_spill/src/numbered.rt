@@ -1,0 +1,190 @@
+//! Pairs whose keys are numbered.
+ghost use Rattle.std.specs.Prelude.{◌≡◌, ℕ, ◌+◌, ◌-◌, ◌≤◌, ◌<◌, ◌^◌, ◌++◌, ◌∷◌, [], false, is_ok, if◌then◌else◌, IfOk, OnOk, OnErr, length};
+ghost use Rattle.std.specs.List.{list_any};
+ghost use Rattle.std.specs.Str.{bytes_eq};
+ghost use Rattle.mr_spill.specs.Column.{nth_pair};
+ghost use Rattle.mr_spill.specs.Table.{columns_of, key_at, key_bytes};
+
+use crate::column::Pairs;
+use crate::entries::Entries;
+use indexmap::IndexSet;
+use mr_bytes::{Name, Value};
+use std::alloc::{AllocError, Global};
+use std::marker::Model;
+
+/// Pairs with their names, each distinct key stored once. Keys are numbered in the order in which they were first seen,
+/// and a pair is the number of its key with what it has beside it. There is no memory for 4 Gi pairs.
+#[derive(Drop)]
+pub(crate) struct Numbered {
+    alloc: Global,
+    pub keys: IndexSet<Vec<u8>>,
+    pub numbers: Vec<u32>,
+    pub entries: Entries,
+}
+
+impl Model for Numbered {
+    ghost use Rattle.std.specs.Prelude.{◌≡◌, ◌<◌, ◌≤◌, ◌^◌, All, List, length};
+    ghost use Rattle.mr_bytes.specs.Pairs.{Triple};
+    ghost use Rattle.mr_spill.specs.Table.{key_bytes, numbered};
+
+    ghost Value = { List Triple };
+
+    ghost view = { λ n. numbered (key_bytes n.keys.keys) n.numbers.items n.entries };
+
+    ghost invariant = { λ n. record {
+      inside : All (λ i. i < length n.keys.keys) n.numbers.items;
+      same : length n.entries ≡ length n.numbers.items;
+      known : length n.keys.keys < 2 ^ 32;
+      few : length n.numbers.items < 2 ^ 32;
+    } };
+}
+
+/// The number of a key, which is added where it is not there. It fails only for want of memory, and then no key was added.
+fn number_of(alloc: Global, keys: &mut IndexSet<Vec<u8>>, key: &[u8]) -> Result<u32, AllocError>
+    requires known { length keys.old.keys < 2 ^ 32 }
+    ensures known { length keys.new.keys < 2 ^ 32 }
+    ensures found { IfOk result (λ at. (at < length keys.new.keys) × (key_at (key_bytes keys.new.keys) at ≡ key.now)) }
+    ensures grows { length keys.old.keys ≤ length keys.new.keys }
+    ensures stay { (i : ℕ) → i < length keys.old.keys → key_at (key_bytes keys.new.keys) i ≡ key_at (key_bytes keys.old.keys) i }
+    ensures err { OnErr result (keys.new.keys ≡ keys.old.keys) }
+{
+    if let Some(at) = keys.get_index_of(key) {
+        return Ok(at as u32);
+    }
+    let at = keys.len();
+    if at + 1 > u32::MAX as usize {
+        return Err(AllocError);
+    }
+    let copy = Vec::from_slice(alloc, key)?;
+    add_key(keys, copy)?;
+    Ok(at as u32)
+}
+
+/// Adds a key that the set lacks.
+fn add_key(keys: &mut IndexSet<Vec<u8>>, key: Vec<u8>) -> Result<(), AllocError>
+    requires { list_any (λ k. bytes_eq key.items k.items) keys.old.keys ≡ false }
+    ensures { keys.new.keys ≡ (if is_ok result then keys.old.keys ++ key ∷ [] else keys.old.keys) }
+{
+    keys.insert(key)?;
+    Ok(())
+}
+
+impl Numbered {
+    /// No pairs. It takes no memory.
+    pub fn new(alloc: Global) -> Numbered
+        ensures { result ≡ [] }
+    {
+        Numbered {
+            alloc,
+            keys: IndexSet::new(alloc),
+            numbers: Vec::new(alloc),
+            entries: Entries::new(alloc),
+        }
+    }
+
+    /// No pairs, and room for so many. It fails only for want of memory.
+    fn with_room(alloc: Global, count: usize) -> Result<Numbered, AllocError>
+        ensures { IfOk result (λ n. n ≡ []) }
+    {
+        Ok(Numbered {
+            alloc,
+            keys: IndexSet::new(alloc),
+            numbers: Vec::with_capacity(alloc, count)?,
+            entries: Entries::with_room(alloc, count)?,
+        })
+    }
+
+    /// How many pairs there are.
+    pub fn len(&self) -> usize
+        ensures { result ≡ length self.now }
+    {
+        self.numbers.len()
+    }
+
+    /// One more pair, at the end. It fails only for want of memory, and then the pairs are those that were there.
+    pub fn push(&mut self, key: &[u8], value: Value, name: Name) -> Result<(), AllocError>
+        ensures ok { OnOk result (self.new ≡ self.old ++ record { key = key.now; value = value; name = name } ∷ []) }
+        ensures err { OnErr result (self.new ≡ self.old) }
+    {
+        if self.numbers.len() + 1 > u32::MAX as usize {
+            return Err(AllocError);
+        }
+        self.numbers.reserve(1)?;
+        let number = number_of(self.alloc, &mut self.keys, key)?;
+        self.entries.push(value, name)?;
+        self.numbers.push_reserved(number);
+        Ok(())
+    }
+
+    /// One more pair, at the end, under the key of the pair that stands there: it takes no look-up. It fails only for
+    /// want of memory, and then nothing has changed.
+    fn push_again(&mut self, value: Value, name: Name) -> Result<(), AllocError>
+        requires { 0 < length self.old }
+        ensures ok { OnOk result (self.new
+            ≡ self.old ++ record { key = (nth_pair self.old (length self.old - 1)).key; value = value; name = name } ∷ []) }
+        ensures err { OnErr result (self.new ≡ self.old) }
+    {
+        if self.numbers.len() + 1 > u32::MAX as usize {
+            return Err(AllocError);
+        }
+        let number = self.numbers[self.numbers.len() - 1];
+        self.numbers.reserve(1)?;
+        self.entries.push(value, name)?;
+        self.numbers.push_reserved(number);
+        Ok(())
+    }
+
+    /// No pairs any more. What the numbers and names took stays for later ones.
+    pub fn clear(&mut self)
+        ensures { self.new ≡ [] }
+    {
+        self.keys.clear();
+        self.numbers.clear();
+        self.entries.clear();
+    }
+
+    /// Takes pair `i` of a column, from 0, where the pair that was taken last has the key of the one before it: a key that
+    /// follows itself takes no look-up.
+    fn take_next(&mut self, column: &Pairs, i: usize) -> Result<(), AllocError>
+        requires within { i < length column.now }
+        requires last { 0 < i → (0 < length self.old) × ((nth_pair self.old (length self.old - 1)).key ≡ (nth_pair column.now (i - 1)).key) }
+        ensures { OnOk result (self.new ≡ self.old ++ nth_pair column.now i ∷ []) }
+    {
+        let value = column.value(i);
+        let name = column.name(i);
+        if i > 0 && column.is_same_key(i - 1, i) {
+            return self.push_again(value, name);
+        }
+        self.push(column.key(i), value, name)
+    }
+
+    /// Takes the pairs of a column, at the end.
+    fn take_column(&mut self, column: &Pairs) -> Result<(), AllocError>
+        ensures { OnOk result (self.new ≡ self.old ++ column.now) }
+    {
+        for i in 0..column.len() {
+            self.take_next(column, i)?;
+        }
+        Ok(())
+    }
+}
+
+/// How many pairs the columns have together.
+fn count_of(columns: &[&Pairs]) -> usize {
+    let mut count = 0usize;
+    for column in columns {
+        count = count.saturating_add(column.len());
+    }
+    count
+}
+
+/// All pairs of the columns, one column behind another.
+pub(crate) fn numbered_columns(alloc: Global, columns: &[&Pairs]) -> Result<Numbered, AllocError>
+    ensures { IfOk result (λ n. n ≡ columns_of columns.now) }
+{
+    let mut all = Numbered::with_room(alloc, count_of(columns))?;
+    for column in columns {
+        all.take_column(column)?;
+    }
+    Ok(all)
+}
