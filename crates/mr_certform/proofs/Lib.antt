@@ -1,4 +1,5 @@
 pub mod Fuel
+pub mod Rows
 pub mod ItemLaws
 pub mod Walks
 pub mod Tails

@@ -3,6 +3,7 @@ pub mod Spelling
 pub mod Value
 pub mod Grammar
 pub mod Walking
+pub mod Rows
 pub mod Flat
 pub mod Pieces
 pub mod Building
