@@ -232,7 +232,7 @@ end_step p q bytes rest i is e last =
     ]
 
 -- the place where the items end is the same from behind an item
-taken_step : (p q : Place) (bytes rest : List ℕ) (i : Item) → standing p bytes ≡ Some (record { item = i; rest = rest }) → q ≡ onward p i → taken p bytes + length rest ≡ length bytes + taken q rest
+pub taken_step : (p q : Place) (bytes rest : List ℕ) (i : Item) → standing p bytes ≡ Some (record { item = i; rest = rest }) → q ≡ onward p i → taken p bytes + length rest ≡ length bytes + taken q rest
 taken_step p q bytes rest i is e =
     let f : Front = record { item = i; rest = rest } in
     elim (end_or_not i) [

@@ -4,6 +4,7 @@ pub mod Value
 pub mod Grammar
 pub mod Walking
 pub mod Rows
+pub mod Streaming
 pub mod Flat
 pub mod Pieces
 pub mod Building
