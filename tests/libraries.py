@@ -13,9 +13,9 @@ def program(crate):
     return os.path.join(TOP, "crates", crate, "out", crate)
 
 
-def told(crate, data):
+def told(crate, data, *words):
     """What the program prints of these bytes, line by line; nothing where it fails."""
-    ran = subprocess.run([program(crate)], input=data, capture_output=True)
+    ran = subprocess.run([program(crate), *map(str, words)], input=data, capture_output=True)
     return ran.stdout.decode().splitlines() if ran.returncode == 0 else []
 
 
@@ -173,8 +173,55 @@ def lists_of_certificates(harness):
     harness.check("large counts", tells(large) == wanted)
 
 
+# Walks over readers: so many bytes a call, and a call that fails. Twelve bytes are read before an item is told, or all
+# that there are.
+
+
+def streamed(n, most, failing=None):
+    """What is told of the first `n` bytes of the example, given `most` a call, where that call fails, if one does."""
+    calls = -(-n // most) if failing is None else failing - 1
+    had = min(n, calls * most)
+    # all items that stand whole are told, unless a call fails while the bytes that an item may have are still read
+    fails = failing is not None and had <= n
+    told_by = [k for k in range(len(ITEMS)) if PLACES[k] + 12 <= had or (not fails and PLACES[k + 1] <= n)]
+    items = [ITEMS[k][0] for k in told_by]
+    at = PLACES[len(items)]
+    if fails:
+        return [*items, "Device", "Device", f"at {at}, failed 1"]
+    last = "End" if n == 92 else f"stops at {at}"
+    return [*items, last, last, f"at {at}, failed 0"]
+
+
+def readers_of_certificates(harness):
+    tells = lambda data, *words: told("mr_certform_tests", data, *words)
+    for most in (1, 7, 65_536):
+        for n in range(93):
+            harness.check(f"the first {n} bytes of the example, {most} a call", tells(EXAMPLE[:n], most) == streamed(n, most))
+        harness.check(f"a byte behind the example, {most} a call", tells(EXAMPLE + b"\0", most)[-3:] == ["stops at 92", "stops at 92", "at 92, failed 0"])
+        harness.check(f"the first call fails, {most} a call", tells(EXAMPLE, most, 1) == ["Device", "Device", "at 0, failed 1"])
+    for call in range(1, 94):
+        harness.check(f"call {call} fails, a byte a call", tells(EXAMPLE, 1, call) == streamed(92, 1, call))
+    for call in range(1, 16):
+        harness.check(f"call {call} fails, seven bytes a call", tells(EXAMPLE, 7, call) == streamed(92, 7, call))
+    thirteen = [item for item, _ in ITEMS[:13]]
+    harness.check("call 81 fails, a byte a call: thirteen items", tells(EXAMPLE, 1, 81) == [*thirteen, "Device", "Device", "at 76, failed 1"])
+    harness.check("a call behind the end isn't made", tells(EXAMPLE, 1, 94)[-1] == "at 92, failed 0")
+    # a group of 20,000 names, with pieces that end anywhere in one
+    front = b"MRCERT1\n" + number(1) + number(0) + number(0) + number(1) + number(64) + number(0) + number(0)
+    names = b"".join(bytes(8) + number(place) for place in range(20_000))
+    large = front + number(1) + number(20_000) + names
+    for most in (65_536, 65_521, 4_099, 13):
+        said = tells(large, most)
+        harness.check(f"20,000 names, {most} a call", len(said) == 67 and said[-3:] == ["End", "End", "at 240044, failed 0"])
+        said = tells(large[:-1], most)
+        harness.check(f"20,000 names but for a byte, {most} a call", said[-3:] == ["stops at 240032", "stops at 240032", "at 240032, failed 0"])
+        said = tells(large + b"\0", most)
+        harness.check(f"20,000 names and a byte, {most} a call", said[-3:] == ["stops at 240044", "stops at 240044", "at 240044, failed 0"])
+
+
 GROUPS = {
     "scripts": built("mr_script_tests", scripts),
     "certificates": built("mr_certform_tests", certificates),
     "lists of certificates": built("mr_certform_tests", lists_of_certificates),
+    "readers of certificates": built("mr_certform_tests", readers_of_certificates),
 }

@@ -187,10 +187,10 @@ sized_here Behind bytes f e = absurd (cc e)
 abbrev pub taken : Place → List ℕ → ℕ
 taken p bytes = length (bytes_from p (items_from p bytes))
 
-taken_none : (p : Place) (bytes : List ℕ) → standing p bytes ≡ None → taken p bytes ≡ 0
+pub taken_none : (p : Place) (bytes : List ℕ) → standing p bytes ≡ None → taken p bytes ≡ 0
 taken_none p bytes is = ap (λ w. length (bytes_from p w)) (items_none p bytes is)
 
-taken_here : (p : Place) (bytes : List ℕ) (f : Front) → standing p bytes ≡ Some f → taken p bytes + length f.rest ≡ length bytes + taken (behind p f.item) f.rest
+pub taken_here : (p : Place) (bytes : List ℕ) (f : Front) → standing p bytes ≡ Some f → taken p bytes + length f.rest ≡ length bytes + taken (behind p f.item) f.rest
 taken_here p bytes f is =
     omega (
       arith,
@@ -232,7 +232,7 @@ end_step p q bytes rest i is e last =
     ]
 
 -- the place where the items end is the same from behind an item
-taken_step : (p q : Place) (bytes rest : List ℕ) (i : Item) → standing p bytes ≡ Some (record { item = i; rest = rest }) → q ≡ onward p i → taken p bytes + length rest ≡ length bytes + taken q rest
+pub taken_step : (p q : Place) (bytes rest : List ℕ) (i : Item) → standing p bytes ≡ Some (record { item = i; rest = rest }) → q ≡ onward p i → taken p bytes + length rest ≡ length bytes + taken q rest
 taken_step p q bytes rest i is e =
     let f : Front = record { item = i; rest = rest } in
     elim (end_or_not i) [

@@ -1,4 +1,6 @@
 pub mod Fuel
+pub mod Rows
+pub mod Streams
 pub mod ItemLaws
 pub mod Walks
 pub mod Tails

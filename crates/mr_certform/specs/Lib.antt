@@ -3,6 +3,8 @@ pub mod Spelling
 pub mod Value
 pub mod Grammar
 pub mod Walking
+pub mod Rows
+pub mod Streaming
 pub mod Flat
 pub mod Pieces
 pub mod Building

@@ -96,7 +96,7 @@ fn skips_to_come(parts: u32, n: u32) -> Place
 }
 
 /// The place where `n` groups of this partition are to come.
-fn groups_to_come(parts: u32, n: u32) -> Place
+pub(crate) fn groups_to_come(parts: u32, n: u32) -> Place
     ensures { result ≡ groups_from parts n }
 {
     if n == 0 {

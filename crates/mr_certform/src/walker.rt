@@ -1,11 +1,20 @@
 //! A walk over the items of bytes, front to back. It takes no memory, and each item costs a look at its own bytes.
-ghost use Rattle.std.specs.Prelude.{◌≡◌, ◌≤◌, ◌-◌, ◌+◌, ◌∷◌, [], Some, None, MatchResult, length};
+ghost use Rattle.std.specs.Prelude.{◌≡◌, ◌≤◌, ◌-◌, ◌+◌, ◌∷◌, [], Some, None, MatchResult, length, ◌*◌, drop};
 ghost use Rattle.mr_certform.specs.Places.{onward};
 ghost use Rattle.mr_certform.specs.Spelling.{standing, items_of, stop, left_behind};
+ghost use Rattle.mr_certform.specs.Rows.{entries_ahead, behind_entries};
 
 use crate::front::front_of;
 use crate::item::{Item, Malformed};
-use crate::place::Place;
+use crate::place::{Place, groups_to_come};
+
+/// The bytes behind so many entries.
+fn behind_row(bytes: &[u8], entries: u64) -> &[u8]
+    requires { entries * 12 ≤ length bytes.now }
+    ensures { result.now ≡ drop (entries * 12) bytes.now }
+{
+    &bytes[entries as usize * 12..]
+}
 
 /// Walks the items of a certificate's bytes, from the front. It takes no memory.
 #[derive(Clone, Copy)]
@@ -62,5 +71,38 @@ impl<'a> Walker<'a> {
         ensures stop { halt self.new ≡ halt self.old }
     {
         self.step()
+    }
+
+    /// Passes over the entries that stand next in their group, without a look at any of them: how many these are. It
+    /// stands then where so many calls of `next` would have left it.
+    pub fn pass_entries(&mut self) -> u64
+        ensures count { result ≡ entries_ahead (items_left self.old) }
+        ensures items { items_left self.new ≡ behind_entries (items_left self.old) }
+        ensures stop { halt self.new ≡ halt self.old }
+    {
+        let Place::AtEntry {
+            parts,
+            groups,
+            more,
+            before,
+        } = self.place
+        else {
+            return 0;
+        };
+        let held = self.rest.len() as u64 / 12;
+        if held > u64::from(more) {
+            let awaited = u64::from(more) + 1;
+            self.rest = behind_row(self.rest, awaited);
+            self.place = groups_to_come(parts, groups);
+            return awaited;
+        }
+        self.rest = behind_row(self.rest, held);
+        self.place = Place::AtEntry {
+            parts,
+            groups,
+            more: more - held as u32,
+            before,
+        };
+        held
     }
 }

@@ -1,13 +1,16 @@
 //! Certificates as a program, for the checks from outside: reads bytes on standard input, and tells the certificate that
 //! they spell or where they are malformed, and the items that the walk over them gives. With no bytes it tells those of
-//! an example that is built, and the text of a fault.
+//! an example that is built, and the text of a fault. With arguments, how many bytes a reader gives a call and which call
+//! of it fails, if one does, it tells the items that the walk over that reader gives.
 #![tactic(auto)]
+
+mod streaming;
 
 use mr_bytes::Name;
 use mr_certform::{Builder, Certificate, Groups, Header, Item, ReadFault, Walker, read, write};
 use std::alloc::{AllocError, Global};
-use std::io;
 use std::io::Read;
+use std::{env, io};
 
 /// As many bytes as a certificate has at most whose names and items are told one by one.
 const SHORT: usize = 4096;
@@ -136,8 +139,13 @@ fn tell_example(rt: &HostRuntime) -> io::Result<()> {
 }
 
 fn main(rt: HostRuntime) -> io::Result<()> {
+    let words: Vec<String> = env::args(&rt)?.skip(1).collect(rt.alloc())?;
     let mut bytes = Vec::new(rt.alloc());
     rt.stdin().read_to_end(&mut bytes)?;
+    if let Some(most) = words.first() {
+        let failing = words.get(1).and_then(|word| word.parse().ok());
+        return streaming::walk(&rt, bytes, most.parse().unwrap_or(1), failing);
+    }
     if bytes.is_empty() {
         return tell_example(&rt);
     }

@@ -1,5 +1,5 @@
 -- Partitions that are found one by one.
-use Rattle.std.proofs.Common.{◌≡◌, ℕ, zero, suc, ◌+◌, ◌<◌, ◌≤◌, true, false, Option, List, [], ◌∷◌, ◌++◌, length, refl, ap, sym, ◌∙◌, arith, append_assoc, get_or, drop, Some, None, Bool}
+use Rattle.std.proofs.Common.{◌≡◌, ℕ, zero, suc, ◌+◌, ◌<◌, ◌≤◌, true, false, Option, List, [], ◌∷◌, ◌++◌, length, refl, ap, sym, ◌∙◌, arith, append_assoc, append-nil, get_or, drop, Some, None, Bool}
 use Rattle.std.proofs.lemmas.Bool.{false≢true}
 use Rattle.std.proofs.lemmas.List.{drop_more}
 use Rattle.mr_certform.specs.declared.item.Item.{Item}
@@ -11,6 +11,7 @@ use Rattle.mr_bytes.specs.declared.Name.{Name}
 use Rattle.mr_certform.specs.Grammar.{InOrder}
 use Rattle.mr_certform.specs.Spelling.{is_ended, left_behind}
 use Rattle.mr_certform.specs.Walking.{items_left}
+use Rattle.mr_certform.specs.Rows.{entries_ahead, behind_entries}
 use Rattle.mr_check.specs.declared.fault.No.{No}
 use Rattle.mr_check.specs.declared.front.Front.{Front}
 use Rattle.mr_check.specs.declared.fault.No.TheVariants.{Malformed, Unnamed}
@@ -55,6 +56,39 @@ ended_on i js e = refl
 pub end_is : (i : Item) (is js : List Item) → closes i ≡ true → is ≡ i ∷ left_behind i js → is ≡ End ∷ []
 end_is End is js e h = h
 end_is i is js e h = absurd (false≢true e)
+
+-- ---- entries that are passed over
+
+pub parts_behind : (is : List Item) → parts_in (behind_entries is) ≡ parts_in is
+parts_behind [] = refl
+parts_behind (Entry name ∷ is) = parts_behind is
+parts_behind (i ∷ is) = refl
+
+pub entries_behind : (is : List Item) → entries_in is ≡ entries_ahead is + entries_in (behind_entries is)
+entries_behind [] = omega arith
+entries_behind (Entry name ∷ is) = omega (arith, entries_behind is)
+entries_behind (i ∷ is) = omega arith
+
+pub ended_behind : (is : List Item) → is_ended (behind_entries is) ≡ is_ended is
+ended_behind [] = refl
+ended_behind (Entry name ∷ is) = ended_behind is
+ended_behind (i ∷ is) = refl
+
+pub fewer_behind : (is : List Item) → length (behind_entries is) ≤ length is
+fewer_behind [] = omega arith
+fewer_behind (Entry name ∷ is) = omega (arith, fewer_behind is)
+fewer_behind (i ∷ is) = omega arith
+
+-- the item behind them is no entry
+pub other_behind : (is : List Item) (i : Item) (js : List Item) → behind_entries is ≡ i ∷ js → entries_in (i ∷ js) ≡ entries_in js
+other_behind [] i js e = absurd (cc e)
+other_behind (Entry name ∷ is) i js e = other_behind is i js e
+other_behind (j ∷ is) i js e = sym (ap entries_in e) ∙ ap entries_in (let tail : is ≡ js = cc e in tail)
+
+-- nothing is told of parts behind them
+pub last_parts : (fs : List Front) (is js : List Item) (parts : List (List Item)) → js ≡ behind_entries is → parts_in js ≡ [] → parts_at fs ++ parts_in is ≡ parts → parts_at fs ≡ parts
+last_parts fs is js parts e none h =
+    sym (append-nil (parts_at fs)) ∙ (ap (λ w. parts_at fs ++ w) (sym none ∙ (ap parts_in e ∙ parts_behind is)) ∙ h)
 
 -- ---- how many there are
 

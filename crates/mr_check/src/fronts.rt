@@ -27,17 +27,6 @@ pub(crate) fn is_end(item: Item) -> bool
     matches!(item, Item::End)
 }
 
-/// How many entries the item is.
-#[inline]
-fn entries_of(item: Item) -> u64
-    ensures { result ≡ entries_in (item ∷ []) }
-{
-    match item {
-        Item::Entry(_) => 1,
-        _ => 0,
-    }
-}
-
 /// A place is kept, where a partition begins there.
 #[inline]
 fn keep_front<'a>(
@@ -56,7 +45,8 @@ fn keep_front<'a>(
     Ok(())
 }
 
-/// Walks all items, once: where each partition begins, how many entries there are, and where the items stop.
+/// Walks all items, once: where each partition begins, how many entries there are, and where the items stop. Entries are
+/// passed over a group at a time.
 pub(crate) fn fronts_of<'a>(alloc: Global, walker: &Walker<'a>) -> Result<Fronts<'a>, AllocError>
     requires few { length (items_left walker.now) ≤ 2 ^ 63 }
     ensures parts { IfOk result (λ f. parts_at f.list.items ≡ parts_in (items_left walker.now)) }
@@ -67,6 +57,7 @@ pub(crate) fn fronts_of<'a>(alloc: Global, walker: &Walker<'a>) -> Result<Fronts
     let mut list = Vec::new(alloc);
     let mut entries = 0u64;
     loop {
+        entries += here.pass_entries();
         let before = here;
         let item = match here.next() {
             Ok(item) => item,
@@ -86,6 +77,5 @@ pub(crate) fn fronts_of<'a>(alloc: Global, walker: &Walker<'a>) -> Result<Fronts
             });
         }
         keep_front(&mut list, before, item)?;
-        entries += entries_of(item);
     }
 }

@@ -2,41 +2,92 @@ use Rattle.std.proofs.Common.{◌≡◌, ◌++◌, ◌∷◌, List, false, ap, s
 use Rattle.mr_certform.specs.declared.item.Item.{Item}
 use Rattle.mr_certform.specs.Spelling.{is_ended}
 use Rattle.mr_certform.specs.Walking.{items_left}
+use Rattle.mr_certform.specs.Rows.{behind_entries}
 use Rattle.mr_check.specs.Verdict.{entries_in}
 use Rattle.mr_check.specs.VerdictLaws.{parts_in}
 use Rattle.mr_check.specs.Fronts.{closes, parts_at}
 use Rattle.mr_check.proofs.BlockLemmas.{entries_few}
-use Rattle.mr_check.proofs.PartLemmas.{entries_more, entries_one}
-use Rattle.mr_check.proofs.FrontLemmas.{goes_on, ended_on, end_is}
+use Rattle.mr_check.proofs.FrontLemmas.{goes_on, ended_on, end_is, parts_behind, entries_behind, ended_behind, fewer_behind, other_behind, last_parts}
 use Rattle.mr_check.proofs.fronts.fronts_of.Goals as goal
 
 pub overflow_add-entries : goal.overflow_add-entries
 overflow_add-entries c =
-    omega (arith, c.loop-item.invariant.entries, entries_few (items_left c.args.walker.now), c.requires.few, c.entries_of-entries.ensures, entries_one c.in-Ok.item)
+    omega (
+      arith,
+      c.loop-item.invariant.entries,
+      entries_few (items_left c.args.walker.now),
+      c.requires.few,
+      c.pass_entries-entries.ensures.count,
+      entries_behind (items_left c.loop-item.here),
+    )
+
+pub keep_front-requires : goal.keep_front-requires
+keep_front-requires c =
+    omega (arith, c.loop-item.invariant.few, c.requires.few, ap length c.pass_entries-entries.ensures.items, fewer_behind (items_left c.loop-item.here))
+
+pub loop-item-smaller : goal.loop-item-smaller
+loop-item-smaller c =
+    let is : List Item = items_left c.pass_entries-entries.new.self in
+    let js : List Item = items_left c.next.new.self in
+    let on : is ≡ c.in-Ok.item ∷ js = goes_on c.in-Ok.item is js (sym c.is_end.ensures ∙ c.if-is_end.false) c.in-Ok.ensures.item in
+    omega (arith, ap length on, ap length c.pass_entries-entries.ensures.items, fewer_behind (items_left c.loop-item.here))
 
 pub loop-item-preserved : goal.loop-item-preserved
 loop-item-preserved c =
-    let is : List Item = items_left c.loop-item.here in
+    let all : List Item = items_left c.loop-item.here in
+    let is : List Item = items_left c.pass_entries-entries.new.self in
     let js : List Item = items_left c.next.new.self in
     let item : Item = c.in-Ok.item in
+    let passed : is ≡ behind_entries all = c.pass_entries-entries.ensures.items in
     let told = c.in-Ok.ensures in
     let inv = c.loop-item.invariant in
     let more : closes item ≡ false = sym c.is_end.ensures ∙ c.if-is_end.false in
     let on : is ≡ item ∷ js = goes_on item is js more told.item in
+    let parts : parts_in (item ∷ js) ≡ parts_in all = sym (ap parts_in on) ∙ (ap parts_in passed ∙ parts_behind all) in
+    let ended : is_ended (item ∷ js) ≡ is_ended all = sym (ap is_ended on) ∙ (ap is_ended passed ∙ ended_behind all) in
     record {
-      parts = c.in_ok-keep_front.ensures js on ∙ (ap (λ w. parts_at c.loop-item.list.items ++ parts_in w) (sym on) ∙ inv.parts);
-      entries = omega (arith, c.entries_of-entries.ensures, entries_more item js, ap entries_in on, inv.entries);
-      ended = sym (ended_on item js more) ∙ (sym (ap is_ended on) ∙ inv.ended);
-      stop = told.stop ∙ inv.stop;
-      few = omega (arith, ap length on, inv.few);
+      parts = c.in_ok-keep_front.ensures js on ∙ (ap (λ w. parts_at c.loop-item.list.items ++ w) parts ∙ inv.parts);
+      entries = omega (arith, c.pass_entries-entries.ensures.count, entries_behind all, other_behind all item js (sym passed ∙ on), ap entries_in on, ap entries_in passed, inv.entries);
+      ended = sym (ended_on item js more) ∙ (ended ∙ inv.ended);
+      stop = told.stop ∙ (c.pass_entries-entries.ensures.stop ∙ inv.stop);
+      few = omega (arith, ap length on, ap length passed, fewer_behind all, inv.few);
     }
+
+pub returns-in-Err-clause-parts : goal.returns-in-Err-clause-parts
+returns-in-Err-clause-parts c =
+    last_parts c.loop-item.list.items (items_left c.loop-item.here) (items_left c.pass_entries-entries.new.self) _ c.pass_entries-entries.ensures.items (ap parts_in c.in-Err.ensures.item.0) c.loop-item.invariant.parts
+
+pub returns-in-Err-clause-entries : goal.returns-in-Err-clause-entries
+returns-in-Err-clause-entries c =
+    let all : List Item = items_left c.loop-item.here in
+    omega (arith, c.pass_entries-entries.ensures.count, entries_behind all, ap entries_in c.in-Err.ensures.item.0, ap entries_in c.pass_entries-entries.ensures.items, c.loop-item.invariant.entries)
 
 pub returns-in-Err-clause-stop : goal.returns-in-Err-clause-stop
 returns-in-Err-clause-stop c =
+    let all : List Item = items_left c.loop-item.here in
+    let passed = c.pass_entries-entries.ensures.items in
     let inv = c.loop-item.invariant in
     let told = c.in-Err.ensures.item in
-    (sym inv.ended ∙ ap is_ended told.0, told.2 ∙ inv.stop)
+    (sym inv.ended ∙ (sym (ended_behind all) ∙ (sym (ap is_ended passed) ∙ ap is_ended told.0)), told.2 ∙ (c.pass_entries-entries.ensures.stop ∙ inv.stop))
+
+pub returns-then-is_end-clause-parts : goal.returns-then-is_end-clause-parts
+returns-then-is_end-clause-parts c =
+    let is : List Item = items_left c.pass_entries-entries.new.self in
+    let last = end_is c.in-Ok.item is (items_left c.next.new.self) (sym c.is_end.ensures ∙ c.if-is_end.true) c.in-Ok.ensures.item in
+    last_parts c.loop-item.list.items (items_left c.loop-item.here) is _ c.pass_entries-entries.ensures.items (ap parts_in last) c.loop-item.invariant.parts
+
+pub returns-then-is_end-clause-entries : goal.returns-then-is_end-clause-entries
+returns-then-is_end-clause-entries c =
+    let all : List Item = items_left c.loop-item.here in
+    let is : List Item = items_left c.pass_entries-entries.new.self in
+    let last = end_is c.in-Ok.item is (items_left c.next.new.self) (sym c.is_end.ensures ∙ c.if-is_end.true) c.in-Ok.ensures.item in
+    omega (arith, c.pass_entries-entries.ensures.count, entries_behind all, ap entries_in last, ap entries_in c.pass_entries-entries.ensures.items, c.loop-item.invariant.entries)
 
 pub returns-then-is_end-clause-stop : goal.returns-then-is_end-clause-stop
 returns-then-is_end-clause-stop c =
-    sym c.loop-item.invariant.ended ∙ ap is_ended (end_is c.in-Ok.item (items_left c.loop-item.here) (items_left c.next.new.self) (sym c.is_end.ensures ∙ c.if-is_end.true) c.in-Ok.ensures.item)
+    let all : List Item = items_left c.loop-item.here in
+    let passed = c.pass_entries-entries.ensures.items in
+    sym c.loop-item.invariant.ended
+    ∙ (sym (ended_behind all)
+    ∙ (sym (ap is_ended passed)
+    ∙ ap is_ended (end_is c.in-Ok.item (items_left c.pass_entries-entries.new.self) (items_left c.next.new.self) (sym c.is_end.ensures ∙ c.if-is_end.true) c.in-Ok.ensures.item)))

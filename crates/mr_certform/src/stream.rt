@@ -1,0 +1,176 @@
+//! A walk over the items of a reader's bytes, front to back. Its buffer is all the memory that it takes.
+ghost use Rattle.std.specs.Prelude.{◌≡◌, ◌⊎◌, ℕ, ◌≤◌, ◌<◌, ◌+◌, ◌-◌, ◌^◌, [], List, Some, None, IfOk, OnOk, IfErr, IfSome, OnErr, MatchResult, true, length};
+ghost use Rattle.mr_store.specs.Devices.{Counts, FailsOnly};
+ghost use Rattle.mr_certform.specs.declared.item.Item.{Item as Read};
+ghost use Rattle.mr_certform.specs.declared.place.Place.TheVariants.{AtMagic};
+ghost use Rattle.mr_certform.specs.Places.{onward};
+ghost use Rattle.mr_certform.specs.Spelling.{items_of, stop, bytes_at};
+ghost use Rattle.mr_certform.specs.Streaming.{stream, Agrees, IsToCome, Gives, Told, Counted};
+
+use crate::front::front_of;
+use crate::held::Held;
+use crate::item::Item;
+use crate::place::Place;
+use mr_store::{CountedRead, Device};
+use std::alloc::{AllocError, Global};
+use thiserror::Error;
+
+/// Why a walker over a reader gives no item.
+#[derive(Clone, Copy, Debug, PartialEq, Eq, Drop, Error)]
+pub enum StreamFault {
+    /// No item of the grammar stands at this place, in bytes from the front.
+    #[error("Malformed at {at}")]
+    Malformed { at: u64 },
+    /// A read failed.
+    #[error("Device")]
+    Device,
+}
+
+impl From<Device> for StreamFault {
+    ghost use Rattle.mr_certform.specs.declared.stream.StreamFault.TheVariants.{Device as told_device};
+
+    ghost from_gives = { λ _ f. f ≡ told_device };
+
+    fn from(_fault: Device) -> StreamFault {
+        StreamFault::Device
+    }
+}
+
+/// The most bytes that an item has.
+const LONGEST: usize = 12;
+
+/// Walks the items of the bytes that a reader gives, from the front. It reads at most 65,536 bytes ahead, into a buffer
+/// that it takes at its start.
+#[derive(Drop)]
+pub struct StreamWalker<R: CountedRead + Drop> {
+    reader: R,
+    held: Held,
+    place: Place,
+    passed: u64,
+    exhausted: bool,
+    fault: Option<StreamFault>,
+}
+
+impl<R: CountedRead + Drop> StreamWalker<R> {
+    /// At the front of the bytes that the reader gives. All its memory is taken here.
+    pub fn new(alloc: Global, reader: R) -> Result<StreamWalker<R>, AllocError>
+        ensures items { IfOk result (λ w. (is : List Read) (at : ℕ) → Gives (stream R.remaining w) is at
+            → (bytes : List ℕ) × Agrees (R.remaining reader) bytes × (is ≡ items_of bytes) × (at ≡ stop bytes)) }
+        ensures place { IfOk result (λ w. w.passed ≡ 0) }
+        ensures fault { IfOk result (λ w. w.fault ≡ None) }
+        ensures reader { IfOk result (λ w. w.reader ≡ reader) }
+    {
+        let held = Held::new(alloc)?;
+        Ok(StreamWalker {
+            reader,
+            held,
+            place: Place::AtMagic,
+            passed: 0,
+            exhausted: false,
+            fault: None,
+        })
+    }
+
+    /// How many bytes the items have that were told.
+    pub fn place(&self) -> u64
+        ensures { result ≡ self.now.passed }
+    {
+        self.passed
+    }
+
+    /// The reader.
+    pub fn reader(&self) -> &R
+        ensures { result.now ≡ self.now.reader }
+    {
+        &self.reader
+    }
+
+    /// Reads until an item's bytes are held, or the reader is at its end.
+    fn fill(&mut self) -> Result<(), Device>
+        ensures filled { OnOk result ((12 ≤ length self.new.held) ⊎ (self.new.exhausted ≡ true)) }
+        ensures bytes { (bytes : List ℕ) → IsToCome (stream R.remaining self.new) bytes → IsToCome (stream R.remaining self.old) bytes }
+        ensures same { (self.new.place ≡ self.old.place) × (self.new.passed ≡ self.old.passed) × (self.new.fault ≡ self.old.fault) }
+        ensures count { Counts (R.failed self.old.reader) (R.failed self.new.reader) result }
+        ensures fails { FailsOnly (R.can_fail self.old.reader) (R.lacked self.new.reader) result }
+        ensures later { R.can_fail self.new.reader → R.can_fail self.old.reader }
+    {
+        if self.exhausted {
+            return Ok(());
+        }
+        while self.held.bytes().len() < LONGEST {
+            let count = self.held.read_more(&mut self.reader)?;
+            if count == 0 {
+                self.exhausted = true;
+                return Ok(());
+            }
+        }
+        Ok(())
+    }
+
+    /// The item that the held bytes begin with.
+    fn step(&mut self) -> Result<Item, StreamFault>
+        requires filled { (12 ≤ length self.old.held) ⊎ (self.old.exhausted ≡ true) }
+        requires few { self.old.passed ≤ 2 ^ 63 }
+        ensures told { Told (stream R.remaining self.old) (stream R.remaining self.new) result }
+        ensures device { result ≡ Err StreamFault.Device → ⊥ }
+        ensures place { MatchResult result
+            (λ i. (self.new.place ≡ onward self.old.place i) × (self.new.passed ≡ self.old.passed + length (bytes_at self.old.place i)))
+            (λ _. (self.new.place ≡ self.old.place) × (self.new.passed ≡ self.old.passed)) }
+        ensures same { (self.new.reader ≡ self.old.reader) × (self.new.fault ≡ self.old.fault) }
+    {
+        let held = self.held.bytes();
+        match front_of(self.place, held) {
+            None => Err(StreamFault::Malformed { at: self.passed }),
+            Some((item, rest)) => {
+                let count = held.len() - rest.len();
+                self.held.pass(count);
+                self.passed += count as u64;
+                if let Item::End = item {} else {
+                    self.place = self.place.behind(item);
+                }
+                Ok(item)
+            }
+        }
+    }
+
+    /// The next item, where no fault was told.
+    fn read_item(&mut self) -> Result<Item, StreamFault>
+        requires few { self.old.passed ≤ 2 ^ 63 }
+        ensures told { Told (stream R.remaining self.old) (stream R.remaining self.new) result }
+        ensures place { MatchResult result
+            (λ i. (self.new.place ≡ onward self.old.place i) × (self.new.passed ≡ self.old.passed + length (bytes_at self.old.place i)))
+            (λ _. (self.new.place ≡ self.old.place) × (self.new.passed ≡ self.old.passed)) }
+        ensures fault { self.new.fault ≡ self.old.fault }
+        ensures count { Counted (R.failed self.old.reader) (R.failed self.new.reader) result }
+        ensures fails { result ≡ Err StreamFault.Device → R.can_fail self.old.reader ⊎ (R.lacked self.new.reader ≡ true) }
+        ensures later { R.can_fail self.new.reader → R.can_fail self.old.reader }
+    {
+        self.fill()?;
+        self.step()
+    }
+
+    /// The next of the items of the bytes that the reader gives, the last being `End`; asked again after `End` it gives
+    /// `End`. Malformed where no item of the grammar stands, Device where a read fails, an interrupted one too; and the
+    /// same answer from then on. It takes no memory. The items before have at most 2^63 bytes, as `place` tells.
+    pub fn next(&mut self) -> Result<Item, StreamFault>
+        requires few { self.old.passed ≤ 2 ^ 63 }
+        ensures told { self.old.fault ≡ None → Told (stream R.remaining self.old) (stream R.remaining self.new) result }
+        ensures place { MatchResult result
+            (λ i. (self.new.place ≡ onward self.old.place i) × (self.new.passed ≡ self.old.passed + length (bytes_at self.old.place i)))
+            (λ _. (self.new.place ≡ self.old.place) × (self.new.passed ≡ self.old.passed)) }
+        ensures fault { MatchResult result (λ _. self.new.fault ≡ None) (λ e. self.new.fault ≡ Some e) }
+        ensures again { IfSome self.old.fault (λ e. (result ≡ Err e) × (self.new ≡ self.old)) }
+        ensures count { self.old.fault ≡ None → Counted (R.failed self.old.reader) (R.failed self.new.reader) result }
+        ensures fails { self.old.fault ≡ None → result ≡ Err StreamFault.Device → R.can_fail self.old.reader ⊎ (R.lacked self.new.reader ≡ true) }
+        ensures later { R.can_fail self.new.reader → R.can_fail self.old.reader }
+    {
+        if let Some(fault) = self.fault {
+            return Err(fault);
+        }
+        let answer = self.read_item();
+        if let Err(fault) = answer {
+            self.fault = Some(fault);
+        }
+        answer
+    }
+}
