@@ -8,9 +8,8 @@ use Rattle.mr_reduce.proofs.TextLemmas.{counters_tell_the_number}
 use Rattle.mr_sequential.specs.declared.rows.Row.{Row}
 use Rattle.mr_sequential.specs.Buckets.{before, size}
 use Rattle.mr_sequential.specs.Pairs.{bucket}
-use Rattle.mr_sequential.specs.Rows.{bucket_text, count_line, values_text, row_texts, start_of}
+use Rattle.mr_sequential.specs.Rows.{no_row, bucket_text, count_line, values_text, row_texts, start_of}
 use Rattle.mr_sequential.proofs.BucketLemmas.{before-zero, before-rises, size-count}
-use Rattle.mr_sequential.proofs.OrderLemmas.{no_row}
 use Rattle.mr_sequential.proofs.TextLemmas.{row_texts-congr}
 
 -- where the buckets begin, given where they end

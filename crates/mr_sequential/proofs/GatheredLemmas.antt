@@ -1,51 +1,38 @@
 -- Pairs as numbers of keys and values: one more pair.
-use Rattle.std.proofs.Common.{◌≡◌, ℕ, ◌+◌, ◌<◌, ◌≤◌, Bool, cond, List, [], ◌∷◌, ◌++◌, length, refl, sym, ◌∙◌, ap, arith, zero, suc, inl, inr, Vec, Global, Some, None, subst, not, ltb, map, All}
-use Rattle.std.proofs.lemmas.Bool.{cases_Bool, ltb-true, cases_lt}
-use Rattle.std.proofs.lemmas.Slice.Eq.{bytes_eq-Decides}
-use Rattle.std.proofs.lemmas.List.{map-append, get_or_push}
+use Rattle.std.proofs.Common.{◌≡◌, ℕ, ◌+◌, ◌<◌, ◌≤◌, ◌⊎◌, List, [], ◌∷◌, ◌++◌, length, refl, sym, ◌∙◌, ap, arith, suc, inl, inr, subst, map, All}
+use Rattle.std.proofs.lemmas.Bool.{cases_lt}
+use Rattle.std.proofs.lemmas.List.{get_or_append_left}
 use Rattle.std.proofs.lemmas.List.Elements.{All-head, All-tail, All-push}
-use Rattle.std.specs.Str.{bytes_eq}
-use Rattle.std.specs.List.{position_or_len, position}
 use Rattle.mr_bytes.specs.declared.Value.{Value}
 use Rattle.mr_bytes.specs.Lists.{Has}
-use Rattle.mr_sequential.specs.Pairs.{key_bytes, key_at, paired}
-
-pub position_found : {X : Type 0} (p : X → Bool) (xs : List X) (at : ℕ) → Some at ≡ position p xs
-    → (position_or_len p xs ≡ at) × (at < length xs)
-position_found p xs at h =
-    let n : ℕ = position_or_len p xs in
-    elim (cases_Bool (ltb n (length xs))) [
-      | inl lt ↦
-          let same : Some at ≡ Some n = h ∙ ap (λ t. cond t (Some n) None) lt in
-          let e : n ≡ at = cc in
-          (e, omega (arith, e, ltb-true n (length xs) lt))
-      | inr ge ↦
-          let absent : Some at ≡ None = h ∙ ap (λ t. cond t (Some n) None) ge in cc
-    ]
-
-pub key_at-found : (q : List ℕ) (ks : List (Vec ℕ Global)) (at : ℕ) → position_or_len (λ (k : Vec ℕ Global). bytes_eq q k.items) ks ≡ at → at < length ks
-    → key_at (key_bytes ks) at ≡ q
-key_at-found q [] at place within = absurd (omega arith)
-key_at-found q (k ∷ ks) at place within =
-    let rest : ℕ = position_or_len (λ (x : Vec ℕ Global). bytes_eq q x.items) ks in
-    elim (cases_Bool (bytes_eq q k.items)) [
-      | inl found ↦
-          let here : zero ≡ at = ap (λ t. cond (not t) (1 + rest) 0) (sym found) ∙ place in
-          subst (λ n. key_at (key_bytes (k ∷ ks)) n ≡ q) here (sym ((bytes_eq-Decides q k.items).0 found))
-      | inr differs ↦
-          let later : 1 + rest ≡ at = ap (λ t. cond (not t) (1 + rest) 0) (sym differs) ∙ place in
-          let there : suc rest ≡ at = omega (arith, later) in
-          subst (λ n. key_at (key_bytes (k ∷ ks)) n ≡ q) there (key_at-found q ks rest refl (omega (arith, within)))
-    ]
+use Rattle.mr_sequential.specs.Pairs.{key_at, paired}
 
 pub same_length : {X Y : Type 0} (f : X → Y) (xs : List X) → length (map f xs) ≡ length xs
 same_length f [] = refl
 same_length f (x ∷ xs) = ap suc (same_length f xs)
 
-pub key_at-added : (ks : List (Vec ℕ Global)) (k : Vec ℕ Global) → key_at (key_bytes (ks ++ k ∷ [])) (length ks) ≡ k.items
-key_at-added ks k =
-    ap (λ l. key_at l (length ks)) (map-append (λ (x : Vec ℕ Global). x.items) ks (k ∷ []))
-    ∙ get_or_push (key_bytes ks) k.items [] (length ks) (same_length (λ (x : Vec ℕ Global). x.items) ks)
+pub length-append : {X : Type 0} (xs ys : List X) → length (xs ++ ys) ≡ length xs + length ys
+length-append [] ys = omega arith
+length-append (x ∷ xs) ys = omega (arith, length-append xs ys)
+
+-- ---- keys to which one more may have come
+
+abbrev pub Grew : List (List ℕ) → List (List ℕ) → List ℕ → Type 0
+Grew ks ls key = (ls ≡ ks) ⊎ (ls ≡ ks ++ key ∷ [])
+
+pub grew-stay : (ks ls : List (List ℕ)) (key : List ℕ) → Grew ks ls key → (j : ℕ) → j < length ks → key_at ls j ≡ key_at ks j
+grew-stay ks ls key (inl e) j h = ap (λ l. key_at l j) e
+grew-stay ks ls key (inr e) j h = ap (λ l. key_at l j) e ∙ get_or_append_left ks (key ∷ []) [] j h
+
+pub grew-count : (ks ls : List (List ℕ)) (key : List ℕ) → Grew ks ls key → (length ks ≤ length ls) × (length ls ≤ length ks + 1)
+grew-count ks ls key (inl e) = (omega (arith, ap length e), omega (arith, ap length e))
+grew-count ks ls key (inr e) = (omega (arith, ap length e, length-append ks (key ∷ [])), omega (arith, ap length e, length-append ks (key ∷ [])))
+
+-- the number of a key that is new is the last
+pub grew-last : (ks ls : List (List ℕ)) (key : List ℕ) (n : ℕ) → Grew ks ls key → (ls ≡ ks) ⊎ (n ≡ length ks) → (j : ℕ) → j < length ls → length ks ≤ j → j ≡ n
+grew-last ks ls key n (inl e) next j h k = absurd (omega (arith, h, k, ap length e))
+grew-last ks ls key n (inr e) (inl f) j h k = absurd (omega (arith, h, k, ap length f))
+grew-last ks ls key n (inr e) (inr f) j h k = omega (arith, f, h, k, ap length e, length-append ks (key ∷ []))
 
 -- pairs read as before where their keys stay
 paired-stay : (ks ls : List (List ℕ)) (n : ℕ) (is : List ℕ) (vs : List Value) → All (λ i. i < n) is → ((j : ℕ) → j < n → key_at ls j ≡ key_at ks j)
@@ -75,10 +62,6 @@ pub length-paired : (ks : List (List ℕ)) (is : List ℕ) (vs : List Value) →
 length-paired ks [] vs same = refl
 length-paired ks (i ∷ is) [] same = absurd (omega (arith, same))
 length-paired ks (i ∷ is) (v ∷ vs) same = ap suc (length-paired ks is vs (omega (arith, same)))
-
-pub length-append : {X : Type 0} (xs ys : List X) → length (xs ++ ys) ≡ length xs + length ys
-length-append [] ys = omega arith
-length-append (x ∷ xs) ys = omega (arith, length-append xs ys)
 
 -- the numbers of keys after one more
 Has-last : (is : List ℕ) (i : ℕ) → Has (is ++ i ∷ []) i

@@ -1,6 +1,5 @@
 -- Of no public promise: pairs without their names, and how they are gathered: distinct keys, and for each pair its key's number and its value.
-use Rattle.std.specs.Prelude.{ℕ, ◌==◌, if◌then◌else◌, List, [], map, filter, slice_index_or, Vec}
-use Rattle.std.specs.Global.{Global}
+use Rattle.std.specs.Prelude.{ℕ, ◌==◌, if◌then◌else◌, List, [], map, filter, slice_index_or}
 use Rattle.std.specs.List.{flat_map, range_with_len, zip}
 use Rattle.std.specs.Str.{bytes_eq}
 use Rattle.mr_bytes.specs.declared.Value.{Value}
@@ -10,10 +9,6 @@ use Rattle.mr_jobs.specs.JobSpec.{JobSpec}
 use Rattle.mr_jobs.specs.Emissions.{Emission, emissions}
 use Rattle.mr_splits.specs.Named.{NamedRecord, is_left_out}
 use Rattle.mr_sequential.specs.Sequential.{keys_of}
-
--- keys as their bytes
-abbrev pub key_bytes : List (Vec ℕ Global) → List (List ℕ)
-key_bytes keys = map (λ k. k.items) keys
 
 -- a key by its number
 abbrev pub key_at : List (List ℕ) → ℕ → List ℕ

@@ -1,38 +1,35 @@
 //! Emitted pairs in their order, each key stored once.
-ghost use Rattle.std.specs.Prelude.{◌≡◌, ℕ, ◌+◌, ◌≤◌, ◌<◌, ◌^◌, [], ◌∷◌, ◌++◌, length, vec_len, vec_capacity, IfOk, OnOk, OnErr, false, is_ok, if◌then◌else◌};
-ghost use Rattle.std.specs.List.{list_any};
-ghost use Rattle.std.specs.Str.{bytes_eq};
-ghost use Rattle.mr_sequential.specs.Pairs.{key_bytes, key_at};
+ghost use Rattle.std.specs.Prelude.{◌≡◌, ◌<◌, ◌^◌, [], ◌∷◌, ◌++◌, length, vec_len, vec_capacity, OnOk, OnErr};
 
-use indexmap::IndexSet;
 use mr_bytes::{Value, Values};
+use mr_keys::Keys;
 use std::alloc::{AllocError, Global};
 use std::marker::Model;
 
-/// The pairs so far. Distinct keys are numbered in the order in which they were first seen, and a pair is the number
-/// of its key with its value in a column, so that a job that counts takes four bytes for each pair.
+/// The pairs so far: a pair is the number of its key with its value in a column, so that a job that counts takes four
+/// bytes for each pair. Some keys may have more than one number.
 #[derive(Drop)]
 pub(crate) struct Gathered {
-    pub(crate) keys: IndexSet<Vec<u8>>,
+    pub(crate) keys: Keys,
     pub(crate) numbers: Vec<u32>,
     pub(crate) values: Values,
 }
 
 impl Model for Gathered {
-    ghost use Rattle.std.specs.Prelude.{◌≡◌, ℕ, ◌+◌, ◌<◌, ◌≤◌, List, length, All};
+    ghost use Rattle.std.specs.Prelude.{◌≡◌, ℕ, ◌<◌, ◌≤◌, List, length, All};
     ghost use Rattle.mr_bytes.specs.Lists.{Has};
     ghost use Rattle.mr_jobs.specs.Emissions.{Emission};
 
     ghost Value = { List Emission };
 
-    ghost use Rattle.mr_sequential.specs.Pairs.{key_bytes, paired};
+    ghost use Rattle.mr_sequential.specs.Pairs.{paired};
 
-    ghost view = { λ g. paired (key_bytes g.keys.keys) g.numbers.items g.values };
+    ghost view = { λ g. paired g.keys g.numbers.items g.values };
 
     ghost invariant = { λ g. record {
-      inside : All (λ i. i < length g.keys.keys) g.numbers.items;
-      used : (i : ℕ) → i < length g.keys.keys → Has g.numbers.items i;
-      few : length g.keys.keys ≤ length g.numbers.items;
+      inside : All (λ i. i < length g.keys) g.numbers.items;
+      used : (i : ℕ) → i < length g.keys → Has g.numbers.items i;
+      few : length g.keys ≤ length g.numbers.items;
       same : length g.values ≡ length g.numbers.items;
     } };
 }
@@ -42,7 +39,7 @@ impl Gathered {
         ensures { result ≡ [] }
     {
         Gathered {
-            keys: IndexSet::new(alloc),
+            keys: Keys::new(alloc),
             numbers: Vec::new(alloc),
             values: Values::new(alloc),
         }
@@ -64,9 +61,9 @@ impl Gathered {
         self.numbers.reserve(1)?;
         let before = self.values.len();
         self.values.push(value)?;
-        match number_of(alloc, &mut self.keys, key) {
+        match self.keys.number_of(alloc, key) {
             Ok(number) => {
-                put(&mut self.numbers, number as u32);
+                put(&mut self.numbers, number);
                 Ok(())
             }
             Err(fault) => {
@@ -83,30 +80,4 @@ fn put<T: Drop>(items: &mut Vec<T>, item: T)
     ensures { items.new.items ≡ items.old.items ++ item ∷ [] }
 {
     items.push(item).unwrap();
-}
-
-/// The number of `key`, which is added where it is not there.
-fn number_of(alloc: Global, keys: &mut IndexSet<Vec<u8>>, key: &[u8]) -> Result<usize, AllocError>
-    ensures found { IfOk result (λ at. (at < length keys.new.keys) × (key_at (key_bytes keys.new.keys) at ≡ key.now)) }
-    ensures grows { (length keys.old.keys ≤ length keys.new.keys) × (length keys.new.keys ≤ length keys.old.keys + 1) }
-    ensures only_it { IfOk result (λ at. (i : ℕ) → i < length keys.new.keys → length keys.old.keys ≤ i → i ≡ at) }
-    ensures stay { (i : ℕ) → i < length keys.old.keys → key_at (key_bytes keys.new.keys) i ≡ key_at (key_bytes keys.old.keys) i }
-    ensures err { OnErr result (keys.new.keys ≡ keys.old.keys) }
-{
-    if let Some(at) = keys.get_index_of(key) {
-        return Ok(at);
-    }
-    let at = keys.len();
-    let copy = Vec::from_slice(alloc, key)?;
-    add_key(keys, copy)?;
-    Ok(at)
-}
-
-/// Adds a key that the set lacks.
-fn add_key(keys: &mut IndexSet<Vec<u8>>, key: Vec<u8>) -> Result<(), AllocError>
-    requires { list_any (λ k. bytes_eq key.items k.items) keys.old.keys ≡ false }
-    ensures { keys.new.keys ≡ (if is_ok result then keys.old.keys ++ key ∷ [] else keys.old.keys) }
-{
-    keys.insert(key)?;
-    Ok(())
 }

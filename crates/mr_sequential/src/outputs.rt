@@ -11,7 +11,7 @@ use crate::distribute::sizes_of;
 use crate::gathered::Gathered;
 use crate::groups::groups_of;
 use crate::names::Names;
-use crate::rows::{rank_numbers, sorted_rows};
+use crate::rows::ranked;
 use crate::texts::{empty_texts, fill_texts};
 use mr_certform::FlatGroups;
 use mr_jobs::Job;
@@ -38,26 +38,25 @@ pub(crate) fn outputs(
 {
     let Gathered {
         keys,
-        mut numbers,
+        numbers,
         values,
     } = gathered;
-    let rows = sorted_rows(alloc, keys.as_slice(), parts)?;
-    rank_numbers(alloc, rows.as_slice(), numbers.as_mut_slice())?;
-    let sizes = sizes_of(alloc, numbers.as_slice(), rows.len())?;
+    let by_rank = ranked(alloc, &keys, parts, numbers)?;
+    let sizes = sizes_of(alloc, by_rank.numbers.as_slice(), by_rank.rows.len())?;
     let mut texts = empty_texts(alloc, parts)?;
     fill_texts(
         alloc,
         job,
-        rows.as_slice(),
-        numbers.as_slice(),
+        by_rank.rows.as_slice(),
+        by_rank.numbers.as_slice(),
         values,
         sizes.as_slice(),
         &mut texts,
     )?;
     let groups = groups_of(
         alloc,
-        rows.as_slice(),
-        numbers.as_slice(),
+        by_rank.rows.as_slice(),
+        by_rank.numbers.as_slice(),
         &names,
         sizes,
         parts,

@@ -2,8 +2,8 @@ use Rattle.std.proofs.Common.{◌≡◌, ℕ, ◌+◌, ◌<◌, List, [], ◌∷
 use Rattle.mr_bytes.specs.declared.Value.{Value}
 use Rattle.mr_bytes.specs.Lists.{Has}
 use Rattle.mr_jobs.specs.Emissions.{Emission}
-use Rattle.mr_sequential.specs.Pairs.{key_bytes, paired}
-use Rattle.mr_sequential.proofs.GatheredLemmas.{length-paired, pushed-view, used-push, inside-push, length-append}
+use Rattle.mr_sequential.specs.Pairs.{paired}
+use Rattle.mr_sequential.proofs.GatheredLemmas.{length-paired, pushed-view, used-push, inside-push, length-append, grew-stay, grew-count, grew-last}
 use Rattle.mr_sequential.proofs.gathered.Gathered.push.Goals as goal
 
 -- how many pairs there are
@@ -13,29 +13,31 @@ seen ks is vs es view even = ap length (sym view) ∙ length-paired ks is vs (sy
 pub push-requires : goal.push-requires
 push-requires c =
     let g = c.self.inside in
-    omega (arith, seen (key_bytes g.keys.keys) g.numbers.items g.values c.args.self.now c.self.view_is c.self.invariant.same, c.requires, c.self.invariant.same)
+    omega (arith, seen g.keys g.numbers.items g.values c.args.self.now c.self.view_is c.self.invariant.same, c.requires, c.self.invariant.same)
 
-pub overflow_cast-number : goal.overflow_cast-number
-overflow_cast-number c =
+pub number_of-requires : goal.number_of-requires
+number_of-requires c =
     let g = c.self.inside in
-    let few = seen (key_bytes g.keys.keys) g.numbers.items g.values c.args.self.now c.self.view_is c.self.invariant.same in
-    omega (arith, few, c.requires, c.self.invariant.few, c.in-Ok.ensures.found.0, c.in-Ok.ensures.grows.1)
+    omega (arith, seen g.keys g.numbers.items g.values c.args.self.now c.self.view_is c.self.invariant.same, c.requires, c.self.invariant.few)
 
 pub invariant_of-self-in-Ok : goal.invariant_of-self-in-Ok
 invariant_of-self-in-Ok c =
     let g = c.self.inside in
     let is : List ℕ = g.numbers.items in
     let i : ℕ = c.in-Ok.number in
-    let n : ℕ = length g.keys.keys in
-    let m : ℕ = length c.number_of.new.keys.keys in
-    let found = c.in-Ok.ensures.found.0 in
-    let grows = c.in-Ok.ensures.grows in
+    let ks : List (List ℕ) = g.keys in
+    let ls : List (List ℕ) = c.number_of.new.self in
+    let key : List ℕ = c.args.key.now in
+    let n : ℕ = length ks in
+    let m : ℕ = length ls in
+    let counts = grew-count ks ls key c.in-Ok.ensures.grows in
+    let only = grew-last ks ls key i c.in-Ok.ensures.grows c.in-Ok.ensures.next in
     let pushed : is ++ i ∷ [] ≡ c.put.new.items.items = sym (c.put.ensures ∙ ap (λ (l : List ℕ). l ++ i ∷ []) c.in_ok-reserve.ensures.items) in
     let count : length c.put.new.items.items ≡ length is + 1 = ap length (sym pushed) ∙ length-append is (i ∷ []) in
     record {
-      inside = subst (λ (l : List ℕ). All (λ j. j < m) l) pushed (inside-push n m i is grows.0 found c.self.invariant.inside);
-      used = subst (λ (l : List ℕ). (j : ℕ) → j < m → Has l j) pushed (used-push n m i is c.self.invariant.used c.in-Ok.ensures.only_it);
-      few = omega (arith, count, grows.1, c.self.invariant.few);
+      inside = subst (λ (l : List ℕ). All (λ j. j < m) l) pushed (inside-push n m i is counts.0 c.in-Ok.ensures.is.0 c.self.invariant.inside);
+      used = subst (λ (l : List ℕ). (j : ℕ) → j < m → Has l j) pushed (used-push n m i is c.self.invariant.used only);
+      few = omega (arith, count, counts.1, c.self.invariant.few);
       same = omega (arith, count, ap length c.in_ok-push.ensures.ok, length-append g.values (c.args.value ∷ []), c.self.invariant.same);
     }
 
@@ -44,13 +46,14 @@ returns-in-Ok-clause-ok c =
     let g = c.self.inside in
     let is : List ℕ = g.numbers.items in
     let i : ℕ = c.in-Ok.number in
-    let ks : List (List ℕ) = key_bytes g.keys.keys in
-    let ls : List (List ℕ) = key_bytes c.number_of.new.keys.keys in
+    let ks : List (List ℕ) = g.keys in
+    let ls : List (List ℕ) = c.number_of.new.self in
+    let key : List ℕ = c.args.key.now in
     let vs : List Value = g.values in
     let v : Value = c.args.value in
     let numbers : c.put.new.items.items ≡ is ++ i ∷ [] = c.put.ensures ∙ ap (λ (l : List ℕ). l ++ i ∷ []) c.in_ok-reserve.ensures.items in
     ap (λ (l : List ℕ). paired ls l c.push.new.self) numbers
     ∙ ap (paired ls (is ++ i ∷ [])) c.in_ok-push.ensures.ok
-    ∙ pushed-view ks ls (length g.keys.keys) i is vs c.args.key.now v c.self.invariant.inside c.in-Ok.ensures.stay
-    c.in-Ok.ensures.found.1 (sym c.self.invariant.same)
-    ∙ ap (λ (l : List Emission). l ++ (c.args.key.now, v) ∷ []) c.self.view_is
+    ∙ pushed-view ks ls (length ks) i is vs key v c.self.invariant.inside (grew-stay ks ls key c.in-Ok.ensures.grows)
+    c.in-Ok.ensures.is.1 (sym c.self.invariant.same)
+    ∙ ap (λ (l : List Emission). l ++ (key, v) ∷ []) c.self.view_is

@@ -1,0 +1,108 @@
+//! Keys by number.
+ghost use Rattle.std.specs.Prelude.{◌≡◌, ℕ, ◌+◌, ◌<◌, ◌≤◌, ◌^◌, ◌++◌, ◌∷◌, ◌⊎◌, [], All, IfOk, OnOk, OnErr, length};
+ghost use Rattle.std.specs.Int.{w64, from_le_bytes};
+ghost use Rattle.mr_keys.specs.Front.{AreBytes, front as front_bytes};
+ghost use Rattle.mr_keys.specs.Keys.{IsKeyAt, IsSlot, key_at};
+
+use crate::front::front_of;
+use crate::slots::{Slot, look, slot_of, slots_of};
+use crate::texts::Texts;
+use std::alloc::{AllocError, Global};
+use std::marker::Model;
+
+/// Keys by number. The list that a contract sees is that of the keys, each at its number; the keys take less than 4 GiB.
+#[derive(Drop)]
+pub struct Keys {
+    texts: Texts,
+    slots: Vec<Slot>,
+}
+
+impl Model for Keys {
+    ghost use Rattle.std.specs.Prelude.{ℕ, List, All};
+    ghost use Rattle.mr_keys.specs.Keys.{IsSlot};
+
+    ghost Value = { List (List ℕ) };
+
+    ghost view = { λ k. k.texts };
+
+    ghost invariant = { λ k. All (IsSlot k.texts) k.slots.items };
+}
+
+/// How many slots there are at least.
+const LEAST_SLOTS: usize = 64;
+
+impl Keys {
+    /// No keys. It takes no memory.
+    pub fn new(alloc: Global) -> Keys
+        ensures { result ≡ [] }
+    {
+        Keys {
+            texts: Texts::new(alloc),
+            slots: Vec::new(alloc),
+        }
+    }
+
+    /// How many numbers were given.
+    pub fn len(&self) -> usize
+        ensures { result ≡ length self.now }
+    {
+        self.texts.len()
+    }
+
+    /// The key of a number.
+    pub fn get(&self, number: usize) -> &[u8]
+        requires { number < length self.now }
+        ensures { result.now ≡ key_at self.now number }
+    {
+        self.texts.get(number)
+    }
+
+    /// A number of the key: the one that the table finds, else the next. It fails only for want of memory, and then no
+    /// key has come.
+    pub fn number_of(&mut self, alloc: Global, key: &[u8]) -> Result<u32, AllocError>
+        requires few { length self.old < 2 ^ 32 }
+        ensures is { IfOk result (λ n. IsKeyAt self.new n key.now) }
+        ensures grows { OnOk result ((self.new ≡ self.old) ⊎ (self.new ≡ self.old ++ key.now ∷ [])) }
+        ensures next { IfOk result (λ n. (self.new ≡ self.old) ⊎ (n ≡ length self.old)) }
+        ensures err { OnErr result (self.new ≡ self.old) }
+    {
+        self.make_room(alloc)?;
+        let front = front_of(key);
+        match look(self.slots.as_slice(), &self.texts, front, key) {
+            Ok(number) => Ok(number),
+            Err(at) => self.add(at, front, key),
+        }
+    }
+
+    /// Makes sure that at most half of the slots are taken.
+    #[inline(always)]
+    fn make_room(&mut self, alloc: Global) -> Result<(), AllocError>
+        ensures { self.new ≡ self.old }
+    {
+        if self.slots.len() / 2 <= self.texts.len() {
+            self.slots = slots_of(
+                alloc,
+                &self.texts,
+                self.slots.len().saturating_mul(2).max(LEAST_SLOTS),
+            )?;
+        }
+        Ok(())
+    }
+
+    /// Adds a key, of which the slot at this place tells from now on, where there is one.
+    fn add(&mut self, at: usize, front: u64, key: &[u8]) -> Result<u32, AllocError>
+        requires few { length self.old < 2 ^ 32 }
+        requires is { front ≡ from_le_bytes w64 (front_bytes key.now) }
+        requires bytes { AreBytes (front_bytes key.now) }
+        ensures number { IfOk result (λ n. n ≡ length self.old) }
+        ensures ok { OnOk result (self.new ≡ self.old ++ key.now ∷ []) }
+        ensures err { OnErr result (self.new ≡ self.old) }
+    {
+        let number = self.texts.len();
+        self.texts.push(key)?;
+        if at < self.slots.len() {
+            self.slots[at] = slot_of(number, front, key);
+        }
+        Ok(number as u32)
+    }
+}

@@ -1,0 +1,122 @@
+//! A table that tells where a key was seen.
+ghost use Rattle.std.specs.Prelude.{◌≡◌, ℕ, ◌-◌, ◌<◌, List, All, IsTrue, IfOk, length};
+ghost use Rattle.std.specs.Int.{w64, from_le_bytes};
+ghost use Rattle.mr_keys.specs.Front.{AreBytes, front as front_bytes};
+ghost use Rattle.mr_keys.specs.Keys.{IsKeyAt, IsSlot, key_at};
+ghost use Rattle.mr_keys.specs.declared.slots.Slot.{Slot};
+
+use crate::front::{front_of, hash_of};
+use crate::texts::Texts;
+use std::alloc::{AllocError, Global};
+
+/// How many slots are looked at for a key. At most half of them are taken, so more than a few are hardly ever needed.
+const MOST_LOOKS: usize = 64;
+
+/// What is known of a key that was seen: its first bytes, its length, and its number plus one. 0 stands for no key.
+#[derive(Clone, Copy)]
+pub(crate) struct Slot {
+    pub front: u64,
+    pub length: u32,
+    pub mark: u32,
+}
+
+/// A slot of no key.
+fn empty_slot() -> Slot
+    ensures { result.mark ≡ 0 }
+{
+    Slot {
+        front: 0,
+        length: 0,
+        mark: 0,
+    }
+}
+
+/// What a slot tells of key `number`, given its front; where a number of the slot is too small, nothing.
+pub(crate) fn slot_of(number: usize, front: u64, key: &[u8]) -> Slot
+    requires is { front ≡ from_le_bytes w64 (front_bytes key.now) }
+    requires bytes { AreBytes (front_bytes key.now) }
+    ensures { (keys : List (List ℕ)) → IsKeyAt keys number key.now → IsSlot keys result }
+{
+    let most = u32::MAX as usize;
+    if most <= number || most < key.len() {
+        return empty_slot();
+    }
+    Slot {
+        front,
+        length: key.len() as u32,
+        mark: number as u32 + 1,
+    }
+}
+
+/// Whether the slot, which is not empty, tells of the key. A key of at most eight bytes is told by its front and its
+/// length.
+#[inline(always)]
+fn is_of(slot: Slot, texts: &Texts, front: u64, key: &[u8]) -> bool
+    requires some { 0 < slot.mark }
+    requires slot { IsSlot texts.now slot }
+    requires is { front ≡ from_le_bytes w64 (front_bytes key.now) }
+    requires bytes { AreBytes (front_bytes key.now) }
+    ensures { IsTrue result → IsKeyAt texts.now (slot.mark - 1) key.now }
+{
+    if slot.front != front || slot.length as usize != key.len() {
+        return false;
+    }
+    key.len() <= 8 || texts.get(slot.mark as usize - 1) == key
+}
+
+/// The number of the key where the table finds it, else the slot that has room for it; where none has, one past the end.
+#[inline(always)]
+pub(crate) fn look(slots: &[Slot], texts: &Texts, front: u64, key: &[u8]) -> Result<u32, usize>
+    requires slots { All (IsSlot texts.now) slots.now }
+    requires is { front ≡ from_le_bytes w64 (front_bytes key.now) }
+    requires bytes { AreBytes (front_bytes key.now) }
+    ensures { IfOk result (λ n. IsKeyAt texts.now n key.now) }
+{
+    let mask = slots.len().wrapping_sub(1);
+    let mut at = hash_of(front, key) as usize & mask;
+    for _ in 0..MOST_LOOKS {
+        if slots.len() <= at {
+            return Err(at);
+        }
+        let slot = slots[at];
+        if slot.mark == 0 {
+            return Err(at);
+        }
+        if is_of(slot, texts, front, key) {
+            return Ok(slot.mark - 1);
+        }
+        at = at.wrapping_add(1) & mask;
+    }
+    Err(slots.len())
+}
+
+/// Puts a slot at the first free place for a key of this hash, if one is near.
+fn put(slots: &mut Vec<Slot>, hash: u64, slot: Slot)
+    ensures { (keys : List (List ℕ)) → All (IsSlot keys) slots.old.items → IsSlot keys slot → All (IsSlot keys) slots.new.items }
+{
+    let mask = slots.len().wrapping_sub(1);
+    let mut at = hash as usize & mask;
+    for _ in 0..MOST_LOOKS {
+        if slots.len() <= at {
+            return;
+        }
+        if slots[at].mark == 0 {
+            slots[at] = slot;
+            return;
+        }
+        at = at.wrapping_add(1) & mask;
+    }
+}
+
+/// So many slots, which tell of the texts.
+pub(crate) fn slots_of(alloc: Global, texts: &Texts, count: usize) -> Result<Vec<Slot>, AllocError>
+    ensures { IfOk result (λ v. All (IsSlot texts.now) v.items) }
+{
+    let mut slots = vec![in alloc; empty_slot(); count]?;
+    for number in 0..texts.len() {
+        let key = texts.get(number);
+        let front = front_of(key);
+        put(&mut slots, hash_of(front, key), slot_of(number, front, key));
+    }
+    Ok(slots)
+}
