@@ -1,3 +1,4 @@
+pub mod Agreements
 pub mod BlockLemmas
 pub mod FaultPart
 pub mod FaultRead

@@ -6,6 +6,7 @@ ghost use Rattle.mr_bytes.specs.Order.{key_order, name_order};
 ghost use Rattle.mr_input.specs.Files.{contents, nth_file};
 
 use mr_bytes::{Name, compare_keys, compare_names};
+use mr_lanes::first_difference;
 use std::cmp::Ordering;
 
 /// The output of partition `p`; past the last there is none.
@@ -46,19 +47,5 @@ pub(crate) fn is_name_less(before: Name, name: Name) -> bool
 pub(crate) fn agreement(text: &[u8], output: &[u8]) -> u64
     ensures { result ≡ common_prefix_len nat_eq text.now output.now }
 {
-    let mut rest = output;
-    let mut same = 0u64;
-    for byte in text {
-        match rest.split_first() {
-            Some((first, more)) => {
-                if *first != *byte {
-                    return same;
-                }
-                rest = more;
-                same += 1;
-            }
-            None => return same,
-        }
-    }
-    same
+    first_difference(text, output).unwrap_or(text.len()) as u64
 }

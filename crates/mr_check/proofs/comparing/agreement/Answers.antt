@@ -1,6 +1,10 @@
-use Rattle.std.proofs.Common.{drop}
-use Rattle.mr_check.proofs.Faults.{prefix_end}
+use Rattle.std.proofs.Common.{ap, length, ◌∙◌}
+use Rattle.std.specs.Option.{unwrap_or}
+use Rattle.mr_check.proofs.Agreements.{agreement-is}
 use Rattle.mr_check.proofs.comparing.agreement.Goals as goal
 
-pub returns-in-None : goal.returns-in-None
-returns-in-None c = prefix_end c.loop-byte.same (drop c.loop-byte.byte-index c.args.text.now) c.loop-byte.rest.now _ c.in-None.ensures.cases c.loop-byte.invariant.agrees
+pub returns : goal.returns
+returns c =
+    c.unwrap_or.ensures
+    ∙ ap (λ place. unwrap_or place (length c.args.text.now)) c.first_difference.ensures
+    ∙ agreement-is c.args.text.now c.args.output.now
