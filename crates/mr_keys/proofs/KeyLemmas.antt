@@ -1,16 +1,29 @@
 -- Keys told by their first bytes, and slots that go on telling of them.
-use Rattle.std.proofs.Common.{◌≡◌, ℕ, ◌≤◌, List, [], ◌∷◌, ◌++◌, length, get_or, take, refl, sym, ◌∙◌, ap, subst, arith, All, length-append}
+use Rattle.std.proofs.Common.{◌≡◌, ℕ, ◌≤◌, List, [], ◌∷◌, ◌++◌, length, get_or, take, drop, append-nil, refl, sym, ◌∙◌, ap, subst, arith, All, length-append}
 use Rattle.std.proofs.Math.Seq.{get_or-append_seam}
 use Rattle.std.proofs.lemmas.Nat.{le_bytes_8}
 use Rattle.std.proofs.lemmas.List.{get_or_append_left}
 use Rattle.std.specs.Int.{w64, from_le_bytes}
-use Rattle.mr_keys.specs.Front.{AreBytes, front}
+use Rattle.mr_keys.specs.Front.{AreBytes, IsFront, eight}
+use Rattle.mr_keys.specs.declared.front.Front.{Front}
 use Rattle.mr_keys.specs.Keys.{IsSlot, Tells, key_at, IsKeyAt}
 use Rattle.mr_keys.specs.declared.slots.Slot.{Slot}
 
 -- ---- a short key is its front, cut to its length
 
-cut-front : (key : List ℕ) → length key ≤ 8 → take (length key) (front key) ≡ key
+cut-eight : (key more : List ℕ) → length key ≤ 8 → take (length key) (eight key ++ more) ≡ key
+cut-eight [] more h = refl
+cut-eight (a ∷ []) more h = refl
+cut-eight (a ∷ b ∷ []) more h = refl
+cut-eight (a ∷ b ∷ c ∷ []) more h = refl
+cut-eight (a ∷ b ∷ c ∷ d ∷ []) more h = refl
+cut-eight (a ∷ b ∷ c ∷ d ∷ e ∷ []) more h = refl
+cut-eight (a ∷ b ∷ c ∷ d ∷ e ∷ f ∷ []) more h = refl
+cut-eight (a ∷ b ∷ c ∷ d ∷ e ∷ f ∷ g ∷ []) more h = refl
+cut-eight (a ∷ b ∷ c ∷ d ∷ e ∷ f ∷ g ∷ i ∷ []) more h = refl
+cut-eight (a ∷ b ∷ c ∷ d ∷ e ∷ f ∷ g ∷ i ∷ j ∷ key) more h = absurd (omega (arith, h))
+
+cut-front : (key : List ℕ) → length key ≤ 16 → take (length key) (eight key ++ eight (drop 8 key)) ≡ key
 cut-front [] h = refl
 cut-front (a ∷ []) h = refl
 cut-front (a ∷ b ∷ []) h = refl
@@ -19,21 +32,24 @@ cut-front (a ∷ b ∷ c ∷ d ∷ []) h = refl
 cut-front (a ∷ b ∷ c ∷ d ∷ e ∷ []) h = refl
 cut-front (a ∷ b ∷ c ∷ d ∷ e ∷ f ∷ []) h = refl
 cut-front (a ∷ b ∷ c ∷ d ∷ e ∷ f ∷ g ∷ []) h = refl
-cut-front (a ∷ b ∷ c ∷ d ∷ e ∷ f ∷ g ∷ i ∷ []) h = refl
-cut-front (a ∷ b ∷ c ∷ d ∷ e ∷ f ∷ g ∷ i ∷ j ∷ key) h = absurd (omega (arith, h))
+cut-front (a ∷ b ∷ c ∷ d ∷ e ∷ f ∷ g ∷ i ∷ key) h =
+    ap (λ (l : List ℕ). a ∷ b ∷ c ∷ d ∷ e ∷ f ∷ g ∷ i ∷ take (length key) l) (sym (append-nil (eight key)))
+    ∙ ap (λ (l : List ℕ). a ∷ b ∷ c ∷ d ∷ e ∷ f ∷ g ∷ i ∷ l) (cut-eight key [] (omega (arith, h)))
 
--- fronts that are one number are one
-one-front : (a b : List ℕ) → AreBytes (front a) → AreBytes (front b) → from_le_bytes w64 (front a) ≡ from_le_bytes w64 (front b) → front a ≡ front b
-one-front a b s t same =
-    sym (le_bytes_8 (front a) (from_le_bytes w64 (front a)) refl s refl)
-    ∙ le_bytes_8 (front b) (from_le_bytes w64 (front a)) refl t same
+-- eight bytes that are one number are one
+one-eight : (a b : List ℕ) → AreBytes (eight a) → AreBytes (eight b) → from_le_bytes w64 (eight a) ≡ from_le_bytes w64 (eight b) → eight a ≡ eight b
+one-eight a b s t same =
+    sym (le_bytes_8 (eight a) (from_le_bytes w64 (eight a)) refl s refl)
+    ∙ le_bytes_8 (eight b) (from_le_bytes w64 (eight a)) refl t same
 
-pub one-key : (a b : List ℕ) → AreBytes (front a) → AreBytes (front b) → from_le_bytes w64 (front a) ≡ from_le_bytes w64 (front b) → length a ≡ length b → length b ≤ 8
-    → a ≡ b
-one-key a b s t same long short =
+pub one-key : (f g : Front) (a b : List ℕ) → IsFront f a → IsFront g b → f.first ≡ g.first → f.second ≡ g.second → length a ≡ length b → length b ≤ 16 → a ≡ b
+one-key f g a b is of first second long short =
+    let one : eight a ≡ eight b = one-eight a b is.are_bytes.0 of.are_bytes.0 (sym is.first_is ∙ first ∙ of.first_is) in
+    let two : eight (drop 8 a) ≡ eight (drop 8 b) = one-eight (drop 8 a) (drop 8 b) is.are_bytes.1 of.are_bytes.1 (sym is.second_is ∙ second ∙ of.second_is) in
     sym (cut-front a (omega (arith, long, short)))
-    ∙ ap (λ n. take n (front a)) long
-    ∙ ap (take (length b)) (one-front a b s t same)
+    ∙ ap (λ n. take n (eight a ++ eight (drop 8 a))) long
+    ∙ ap (λ (l : List ℕ). take (length b) (l ++ eight (drop 8 a))) one
+    ∙ ap (λ (l : List ℕ). take (length b) (eight b ++ l)) two
     ∙ cut-front b short
 
 -- ---- one more key
@@ -44,8 +60,7 @@ slot-more keys more s is number mark =
     let same : key_at keys number ≡ key_at (keys ++ more) number = sym (get_or_append_left keys more [] number t.within) in
     record {
       within = omega (arith, t.within, length-append keys more);
-      front_is = subst (λ k. s.front ≡ from_le_bytes w64 (front k)) same t.front_is;
-      are_bytes = subst (λ k. AreBytes (front k)) same t.are_bytes;
+      front_is = subst (IsFront s.front) same t.front_is;
       length_is = subst (λ k. s.length ≡ length k) same t.length_is;
     }
 

@@ -1,8 +1,7 @@
 -- Keys by number.
 use Rattle.std.specs.Prelude.{◌≡◌, ℕ, ◌+◌, ◌≤◌, ◌<◌, List, [], map, length, slice_range, slice_index_or}
-use Rattle.std.specs.Int.{w64, from_le_bytes}
 use Rattle.mr_bytes.specs.declared.Span.{Span}
-use Rattle.mr_keys.specs.Front.{AreBytes, front}
+use Rattle.mr_keys.specs.Front.{IsFront}
 use Rattle.mr_keys.specs.declared.slots.Slot.{Slot}
 
 -- a key by its number
@@ -20,8 +19,7 @@ IsSpan count s = (s.start ≤ s.end) × (s.end ≤ count)
 -- what a slot tells of key `number`
 pub record Tells (keys : List (List ℕ)) (s : Slot) (number : ℕ) : Type 0 where
   pub within : number < length keys
-  pub front_is : s.front ≡ from_le_bytes w64 (front (key_at keys number))
-  pub are_bytes : AreBytes (front (key_at keys number))
+  pub front_is : IsFront s.front (key_at keys number)
   pub length_is : s.length ≡ length (key_at keys number)
 
 -- a slot tells of the key whose number plus one it has

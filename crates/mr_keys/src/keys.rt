@@ -1,10 +1,9 @@
 //! Keys by number.
 ghost use Rattle.std.specs.Prelude.{◌≡◌, ℕ, ◌+◌, ◌<◌, ◌≤◌, ◌^◌, ◌++◌, ◌∷◌, ◌⊎◌, [], All, IfOk, OnOk, OnErr, length};
-ghost use Rattle.std.specs.Int.{w64, from_le_bytes};
-ghost use Rattle.mr_keys.specs.Front.{AreBytes, front as front_bytes};
+ghost use Rattle.mr_keys.specs.Front.{IsFront};
 ghost use Rattle.mr_keys.specs.Keys.{IsKeyAt, IsSlot, key_at};
 
-use crate::front::front_of;
+use crate::front::{Front, front_of};
 use crate::slots::{Slot, look, slot_of, slots_of};
 use crate::texts::Texts;
 use std::alloc::{AllocError, Global};
@@ -90,10 +89,9 @@ impl Keys {
     }
 
     /// Adds a key, of which the slot at this place tells from now on, where there is one.
-    fn add(&mut self, at: usize, front: u64, key: &[u8]) -> Result<u32, AllocError>
+    fn add(&mut self, at: usize, front: Front, key: &[u8]) -> Result<u32, AllocError>
         requires few { length self.old < 2 ^ 32 }
-        requires is { front ≡ from_le_bytes w64 (front_bytes key.now) }
-        requires bytes { AreBytes (front_bytes key.now) }
+        requires front { IsFront front key.now }
         ensures number { IfOk result (λ n. n ≡ length self.old) }
         ensures ok { OnOk result (self.new ≡ self.old ++ key.now ∷ []) }
         ensures err { OnErr result (self.new ≡ self.old) }

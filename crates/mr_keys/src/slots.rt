@@ -1,11 +1,10 @@
 //! A table that tells where a key was seen.
 ghost use Rattle.std.specs.Prelude.{◌≡◌, ℕ, ◌-◌, ◌<◌, List, All, IsTrue, IfOk, length};
-ghost use Rattle.std.specs.Int.{w64, from_le_bytes};
-ghost use Rattle.mr_keys.specs.Front.{AreBytes, front as front_bytes};
+ghost use Rattle.mr_keys.specs.Front.{IsFront};
 ghost use Rattle.mr_keys.specs.Keys.{IsKeyAt, IsSlot, key_at};
 ghost use Rattle.mr_keys.specs.declared.slots.Slot.{Slot};
 
-use crate::front::{front_of, hash_of};
+use crate::front::{Front, front_of, hash_of};
 use crate::texts::Texts;
 use std::alloc::{AllocError, Global};
 
@@ -15,7 +14,7 @@ const MOST_LOOKS: usize = 64;
 /// What is known of a key that was seen: its first bytes, its length, and its number plus one. 0 stands for no key.
 #[derive(Clone, Copy)]
 pub(crate) struct Slot {
-    pub front: u64,
+    pub front: Front,
     pub length: u32,
     pub mark: u32,
 }
@@ -25,16 +24,18 @@ fn empty_slot() -> Slot
     ensures { result.mark ≡ 0 }
 {
     Slot {
-        front: 0,
+        front: Front {
+            first: 0,
+            second: 0,
+        },
         length: 0,
         mark: 0,
     }
 }
 
 /// What a slot tells of key `number`, given its front; where a number of the slot is too small, nothing.
-pub(crate) fn slot_of(number: usize, front: u64, key: &[u8]) -> Slot
-    requires is { front ≡ from_le_bytes w64 (front_bytes key.now) }
-    requires bytes { AreBytes (front_bytes key.now) }
+pub(crate) fn slot_of(number: usize, front: Front, key: &[u8]) -> Slot
+    requires front { IsFront front key.now }
     ensures { (keys : List (List ℕ)) → IsKeyAt keys number key.now → IsSlot keys result }
 {
     let most = u32::MAX as usize;
@@ -48,28 +49,29 @@ pub(crate) fn slot_of(number: usize, front: u64, key: &[u8]) -> Slot
     }
 }
 
-/// Whether the slot, which is not empty, tells of the key. A key of at most eight bytes is told by its front and its
+/// Whether the slot, which is not empty, tells of the key. A key of at most sixteen bytes is told by its front and its
 /// length.
 #[inline(always)]
-fn is_of(slot: Slot, texts: &Texts, front: u64, key: &[u8]) -> bool
+fn is_of(slot: Slot, texts: &Texts, front: Front, key: &[u8]) -> bool
     requires some { 0 < slot.mark }
     requires slot { IsSlot texts.now slot }
-    requires is { front ≡ from_le_bytes w64 (front_bytes key.now) }
-    requires bytes { AreBytes (front_bytes key.now) }
+    requires front { IsFront front key.now }
     ensures { IsTrue result → IsKeyAt texts.now (slot.mark - 1) key.now }
 {
-    if slot.front != front || slot.length as usize != key.len() {
+    if slot.front.first != front.first || slot.front.second != front.second {
         return false;
     }
-    key.len() <= 8 || texts.get(slot.mark as usize - 1) == key
+    if slot.length as usize != key.len() {
+        return false;
+    }
+    key.len() <= 16 || texts.get(slot.mark as usize - 1) == key
 }
 
 /// The number of the key where the table finds it, else the slot that has room for it; where none has, one past the end.
 #[inline(always)]
-pub(crate) fn look(slots: &[Slot], texts: &Texts, front: u64, key: &[u8]) -> Result<u32, usize>
+pub(crate) fn look(slots: &[Slot], texts: &Texts, front: Front, key: &[u8]) -> Result<u32, usize>
     requires slots { All (IsSlot texts.now) slots.now }
-    requires is { front ≡ from_le_bytes w64 (front_bytes key.now) }
-    requires bytes { AreBytes (front_bytes key.now) }
+    requires front { IsFront front key.now }
     ensures { IfOk result (λ n. IsKeyAt texts.now n key.now) }
 {
     let mask = slots.len().wrapping_sub(1);

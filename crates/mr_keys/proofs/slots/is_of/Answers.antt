@@ -8,10 +8,10 @@ get-requires c =
     let t : Tells c.args.texts.now c.args.slot (c.args.slot.mark - 1) = c.requires.slot (c.args.slot.mark - 1) (omega (arith, c.requires.some)) in
     t.within
 
-pub returns-then-key-le8 : goal.returns-then-key-le8
-returns-then-key-le8 c = λ yes-it-is.
+pub returns-then-key-le16 : goal.returns-then-key-le16
+returns-then-key-le16 c = λ short.
     let t : Tells c.args.texts.now c.args.slot (c.args.slot.mark - 1) = c.requires.slot (c.args.slot.mark - 1) (omega (arith, c.requires.some)) in (
       t.within,
-      one-key (key_at c.args.texts.now (c.args.slot.mark - 1)) c.args.key.now t.are_bytes c.requires.bytes
-          (sym t.front_is ∙ c.if-slot-front.false ∙ c.requires.is) (sym t.length_is ∙ c.if-slot-key.false) c.if-key-le8.true,
+      one-key c.args.slot.front c.args.front (key_at c.args.texts.now (c.args.slot.mark - 1)) c.args.key.now t.front_is c.requires.front
+          c.if-slot-front.false c.if-slot-front-2.false (sym t.length_is ∙ c.if-slot-key.false) c.if-key-le16.true,
     )
