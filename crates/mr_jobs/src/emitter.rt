@@ -6,7 +6,8 @@ ghost use Rattle.mr_jobs.specs.JobSpec.{WordCount};
 use crate::job::{Job, Kind};
 use crate::literal::holds;
 use crate::url::url;
-use mr_bytes::{Value, fold_in_place, next_word};
+use mr_bytes::{Value, fold_in_place};
+use mr_lanes::next_word;
 use std::alloc::AllocError;
 use std::marker::Model;
 

@@ -26,4 +26,4 @@ pub use folding::fold_into;
 pub use hashes::{fnv, hash8};
 pub use lines::{line_end_law, line_ends};
 pub use search::find_folded;
-pub use words::word_spans;
+pub use words::{next_word, word_spans};
