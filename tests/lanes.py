@@ -249,6 +249,11 @@ def giving_up(harness):
         rows.append((b"aA" * 30000, literal, "None"))
         rows.append((b"aA" * 30000 + literal, literal, optional(60000)))
         rows.append((b"Aa" * 30000 + literal[:-1], literal, "None"))
+    # long lines: a search that compared at each place would take minutes
+    line = b"a" * (4 << 20)
+    for literal in (b"a" * 4095 + b"b", b"a" * 2047 + b"b" + b"A" * 2048):
+        rows.append((line, literal, "None"))
+        rows.append((line + swapped(literal), literal, optional(len(line))))
     for (hay, literal, wanted), line in zip(rows, answers([(FIND, hay, literal) for hay, literal, _ in rows])):
         harness.check(f"a literal of {len(literal)} bytes among {len(hay)}", line == wanted, f"{line}, not {wanted}")
 
