@@ -9,7 +9,7 @@ import subprocess
 
 from libraries import built, program
 
-PLANES, LINES, WORDS, FOLDED, FIND, DIFFERENCE, HASHES = range(7)
+PLANES, LINES, WORDS, FOLDED, FIND, DIFFERENCE, HASHES, EACH_WORD = range(8)
 
 BLOCK = 64
 WINDOW = 16384
@@ -54,17 +54,27 @@ def line_ends(a, _):
     return str([7] + [place for place, byte in enumerate(a) if byte == 10])
 
 
-def word_spans(a, _):
-    spans, start = [(7, 8)], None
+def words(a):
+    spans, start = [], None
     for place, byte in enumerate(a):
         if is_word_byte(byte) and start is None:
             start = place
         elif not is_word_byte(byte) and start is not None:
             spans.append((start, place))
             start = None
-    if start is not None:
-        spans.append((start, len(a)))
+    return spans if start is None else spans + [(start, len(a))]
+
+
+def shown(spans):
     return "[" + ", ".join(f"Span {{ start: {start}, end: {end} }}" for start, end in spans) + "]"
+
+
+def word_spans(a, _):
+    return shown([(7, 8)] + words(a))
+
+
+def next_word(a, _):
+    return shown(words(a))
 
 
 def fold_into(a, _):
@@ -98,7 +108,7 @@ def hashes(a, b):
     return f"{values} {[value % len(b) for value in values]} {values[0] % len(b)}"
 
 
-PLAIN = [planes, line_ends, word_spans, fold_into, find_folded, first_difference, hashes]
+PLAIN = [planes, line_ends, word_spans, fold_into, find_folded, first_difference, hashes, next_word]
 
 
 def check_plain(harness, what, cases):
@@ -124,6 +134,8 @@ ROWS = [
     ((LINES, b"a\n\nb\r\n", b""), "[7, 1, 2, 5]"),
     ((WORDS, b"a" * 64 + b"-a", b""), "[Span { start: 7, end: 8 }, Span { start: 0, end: 64 }, Span { start: 65, end: 66 }]"),
     ((WORDS, b"a" * 65, b""), "[Span { start: 7, end: 8 }, Span { start: 0, end: 65 }]"),
+    ((EACH_WORD, b"a" * 15 + b"-" + b"b" * 16 + b" c", b""), "[Span { start: 0, end: 15 }, Span { start: 16, end: 32 }, Span { start: 33, end: 34 }]"),
+    ((EACH_WORD, b" -\n", b""), "[]"),
     ((FOLDED, b"@AZ[`az{\xc4", b""), "[88, 64, 97, 122, 91, 96, 97, 122, 123, 196]"),
     ((FIND, b"xAbaB", b"aB"), "Some(1)"),
     ((FIND, b"\xc3\x84", b"\xc3\xa4"), "None"),
@@ -171,8 +183,8 @@ def at_each_length(harness):
     for size in range(201):
         for words in (2, 6, 40):
             text = drawn(rnd, size, words)
-            cases += [(kernel, text, b"") for kernel in (PLANES, LINES, WORDS, FOLDED)]
-            cases[-4] = (PLANES, text[:BLOCK].ljust(BLOCK), b"")
+            cases.append((PLANES, text[:BLOCK].ljust(BLOCK), b""))
+            cases += [(kernel, text, b"") for kernel in (LINES, WORDS, EACH_WORD, FOLDED)]
             start = rnd.randrange(size + 1)
             cases.append((FIND, text, swapped(text[start : start + rnd.randrange(12)])))
             cases.append((FIND, text, swapped(text[start:])))
@@ -195,9 +207,10 @@ def at_each_place(harness):
     for place in range(2 * BLOCK + 3):
         before = b"-" * place
         cases += [(LINES, before + b"\n" * count + b"x" * 70, b"") for count in (1, 2, 65)]
-        for size in (1, 2, 63, 64, 65, 127, 128, 129, 300):
+        for size in (1, 2, 14, 15, 16, 17, 18, 63, 64, 65, 127, 128, 129, 300):
             word = b"w" * size
-            cases += [(WORDS, before + word, b""), (WORDS, before + word + b"-w", b""), (WORDS, b"w" + before + word + b" " * 70, b"")]
+            for text in (before + word, before + word + b"-w", b"w" + before + word + b" " * 70):
+                cases += [(WORDS, text, b""), (EACH_WORD, text, b"")]
         for literal in (b"z", b"Zy", b"zXy" * 10, b"zyx" * 30 + b"Y", b"z" * 200):
             hay = before + swapped(literal)
             cases += [(FIND, hay, literal), (FIND, hay + b"-" * 70 + literal, literal), (FIND, hay[:-1] + b"-" * 70, literal), (FIND, hay[:-1], literal)]
@@ -236,6 +249,11 @@ def giving_up(harness):
         rows.append((b"aA" * 30000, literal, "None"))
         rows.append((b"aA" * 30000 + literal, literal, optional(60000)))
         rows.append((b"Aa" * 30000 + literal[:-1], literal, "None"))
+    # long lines: a search that compared at each place would take minutes
+    line = b"a" * (4 << 20)
+    for literal in (b"a" * 4095 + b"b", b"a" * 2047 + b"b" + b"A" * 2048):
+        rows.append((line, literal, "None"))
+        rows.append((line + swapped(literal), literal, optional(len(line))))
     for (hay, literal, wanted), line in zip(rows, answers([(FIND, hay, literal) for hay, literal, _ in rows])):
         harness.check(f"a literal of {len(literal)} bytes among {len(hay)}", line == wanted, f"{line}, not {wanted}")
 

@@ -6,7 +6,8 @@ ghost use Rattle.mr_jobs.specs.JobSpec.{WordCount};
 use crate::job::{Job, Kind};
 use crate::literal::holds;
 use crate::url::url;
-use mr_bytes::{Value, fold_in_place, next_word};
+use mr_bytes::Value;
+use mr_lanes::{fold_into, next_word};
 use std::alloc::AllocError;
 use std::marker::Model;
 
@@ -104,7 +105,7 @@ impl Job {
         ensures err { OnErr result (buffer.new.items ≡ buffer.old.items) }
     {
         if let Kind::Words { keep_case: false } = &self.kind {
-            fold_into(line, buffer)?;
+            fill_folded(line, buffer)?;
         }
         Ok(())
     }
@@ -148,14 +149,15 @@ impl Job {
 ghost use Rattle.mr_bytes.specs.Bytes.{folded};
 
 /// Makes the buffer the folded bytes of the line.
-fn fold_into(line: &[u8], buffer: &mut Vec<u8>) -> Result<(), AllocError>
+fn fill_folded(line: &[u8], buffer: &mut Vec<u8>) -> Result<(), AllocError>
     ensures ok { OnOk result (buffer.new.items ≡ folded line.now) }
     ensures full { OnErr result (vec_capacity buffer.old < length line.now) }
     ensures err { OnErr result (buffer.new.items ≡ buffer.old.items) }
 {
     make_room(buffer, line.len())?;
-    copy_into(line, buffer);
-    fold_in_place(buffer.as_mut_slice());
+    // With that room nothing is refused.
+    buffer.clear();
+    fold_into(line, buffer)?;
     Ok(())
 }
 
@@ -169,13 +171,4 @@ fn make_room(buffer: &mut Vec<u8>, bytes: usize) -> Result<(), AllocError>
         return Ok(());
     }
     buffer.reserve(bytes - buffer.len())
-}
-
-/// Makes the buffer the bytes of the line, for which it has room.
-fn copy_into(line: &[u8], buffer: &mut Vec<u8>)
-    requires { length line.now ≤ vec_capacity buffer.old }
-    ensures { buffer.new.items ≡ line.now }
-{
-    buffer.clear();
-    buffer.extend_from_slice(line).unwrap();
 }

@@ -9,3 +9,4 @@ pub mod SearchLemmas
 pub mod HashLemmas
 pub mod CaseLemmas
 pub mod LawLemmas
+pub mod NextLemmas

@@ -40,6 +40,17 @@ pub(crate) fn word_bytes(lanes: u8x64) -> u64
         | lanes.simd_ge(u8x64::splat(0x80))).to_bitmask()
 }
 
+/// The lanes that stand in words, of 16.
+#[inline(always)]
+pub(crate) fn few_word_bytes(lanes: u8x16) -> u64
+    ensures { (i : ℕ) → i < 16 → is_set result i ≡ is_word_byte (get_or lanes i 0) }
+{
+    let small = lanes | u8x16::splat(0x20);
+    ((small - u8x16::splat(b'a')).simd_lt(u8x16::splat(26))
+        | (lanes - u8x16::splat(b'0')).simd_lt(u8x16::splat(10))
+        | lanes.simd_ge(u8x16::splat(0x80))).to_bitmask()
+}
+
 /// The lanes that are upper-case letters.
 #[inline(always)]
 pub(crate) fn upper_letters(lanes: u8x64) -> u64

@@ -1,15 +1,17 @@
 //! Capitals of ASCII made small.
-ghost use Rattle.std.specs.Prelude.{◌≡◌, ◌++◌, map, OnOk, OnErr};
+ghost use Rattle.std.specs.Prelude.{◌≡◌, ◌++◌, ◌+◌, ◌<◌, map, OnOk, OnErr, length, vec_capacity, vec_len};
 ghost use Rattle.mr_bytes.specs.Bytes.{fold_byte, folded};
 
 use mr_bytes::fold_byte;
 use std::alloc::AllocError;
 use std::simd::prelude::*;
 
-/// Appends the bytes with upper-case letters of ASCII made lower case. It fails only for want of memory, and then the list is as it was.
+/// Appends the bytes with upper-case letters of ASCII made lower case. It fails only for want of memory, where the list
+/// has no room for them, and then the list is as it was.
 pub fn fold_into(bytes: &[u8], text: &mut Vec<u8>) -> Result<(), AllocError>
     ensures all { OnOk result (text.new.items ≡ text.old.items ++ folded bytes.now) }
     ensures kept { OnErr result (text.new.items ≡ text.old.items) }
+    ensures full { OnErr result (vec_capacity text.old < vec_len text.old + length bytes.now) }
 {
     let before = text.len();
     text.extend_from_slice(bytes)?;

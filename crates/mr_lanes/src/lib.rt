@@ -3,7 +3,8 @@
 //! Bytes are taken 64 at a time, a block. What a block holds is told by a word of 64 bits, bit i for byte i (`planes`),
 //! and loops go over set bits alone, the lowest first. The bytes behind the last whole block are copied in front of
 //! zeros and taken as a block too, since no class holds 0; comparing, folding and hashing go over them one by one.
-//! Nothing is read outside of what is lent, and each call answers as its plain definition does, at every length.
+//! `next_word`, which is asked for one word of a short record, looks at 16 bytes. Nothing is read outside of what is
+//! lent, and each call answers as its plain definition does, at every length.
 //!
 //! The search compares only where the first and the last byte agree. Where it has compared more than eight bytes for
 //! each that it went over, it goes on by a search that is linear in both texts, so no text makes it quadratic.
@@ -26,4 +27,4 @@ pub use folding::fold_into;
 pub use hashes::{fnv, hash8};
 pub use lines::{line_end_law, line_ends};
 pub use search::find_folded;
-pub use words::word_spans;
+pub use words::{next_word, word_spans};

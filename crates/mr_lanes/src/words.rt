@@ -1,11 +1,11 @@
 //! Where words stand.
-ghost use Rattle.std.specs.Prelude.{◌≡◌, ℕ, ◌+◌, ◌^◌, ◌<◌, ◌≤◌, ◌++◌, drop, get_or, length, IfOk, OnOk, OnErr};
+ghost use Rattle.std.specs.Prelude.{◌≡◌, ℕ, ◌+◌, ◌^◌, ◌<◌, ◌≤◌, ◌++◌, ◌∷◌, [], drop, get_or, length, IfOk, OnOk, OnErr, MatchOption};
 ghost use Rattle.mr_bytes.specs.Bytes.{is_word_byte};
 ghost use Rattle.mr_bytes.specs.Words.{word_spans, word_spans_from};
 ghost use Rattle.mr_lanes.specs.Bits.{is_set, Extends};
 ghost use Rattle.mr_lanes.specs.Words.{OpenAt};
 
-use crate::blocks::{last_block, word_bytes};
+use crate::blocks::{few_word_bytes, last_block, word_bytes};
 use mr_bytes::Span;
 use std::alloc::AllocError;
 use std::simd::prelude::*;
@@ -86,4 +86,28 @@ fn push_words(
         starts &= starts.wrapping_sub(1);
     }
     Ok(start)
+}
+
+/// The first word from `from` on, or `None` where no word byte is left, as `mr_bytes::next_word` tells it. It takes no
+/// memory. A word that ends within the next 16 bytes, as most do, is found at one look.
+#[inline]
+pub fn next_word(bytes: &[u8], from: usize) -> Option<Span>
+    requires start { from ≤ length bytes.now }
+    requires fits { length bytes.now < 2 ^ 32 }
+    ensures { MatchOption result (word_spans_from from (drop from bytes.now) ≡ [])
+        (λ w. (from ≤ w.start) × (w.start < w.end) × (w.end ≤ length bytes.now)
+        × (word_spans_from from (drop from bytes.now) ≡ w ∷ word_spans_from w.end (drop w.end bytes.now))) }
+{
+    if bytes.len() - from < 16 {
+        return mr_bytes::next_word(bytes, from);
+    }
+    let word = few_word_bytes(u8x16::from_slice(&bytes[from..]));
+    let end = ((word << 1) & !word).trailing_zeros();
+    if end >= 16 {
+        return mr_bytes::next_word(bytes, from);
+    }
+    Some(Span {
+        start: from as u32 + word.trailing_zeros(),
+        end: from as u32 + end,
+    })
 }

@@ -3,7 +3,9 @@
 #![tactic(auto)]
 
 use mr_bytes::{Span, cut};
-use mr_lanes::{find_folded, first_difference, fold_into, hash8, line_ends, planes, word_spans};
+use mr_lanes::{
+    find_folded, first_difference, fold_into, hash8, line_ends, next_word, planes, word_spans,
+};
 use mr_partition::{partition, partition8};
 use std::io;
 use std::io::Read;
@@ -75,6 +77,20 @@ fn show_words(rt: &HostRuntime, bytes: &[u8]) -> io::Result<()> {
     println!(rt; "{spans:?}")
 }
 
+/// The words one after another.
+fn show_each_word(rt: &HostRuntime, bytes: &[u8]) -> io::Result<()> {
+    if LONGEST < bytes.len() {
+        return Ok(());
+    }
+    let mut spans = Vec::new(rt.alloc());
+    let mut from = 0;
+    while let Some(word) = next_word(bytes, from) {
+        spans.push(word)?;
+        from = word.end as usize;
+    }
+    println!(rt; "{spans:?}")
+}
+
 fn show_folded(rt: &HostRuntime, bytes: &[u8]) -> io::Result<()> {
     let mut folded = Vec::new(rt.alloc());
     folded.push(b'X')?;
@@ -109,7 +125,8 @@ fn answer(rt: &HostRuntime, case: Case<'_>) -> io::Result<()> {
         3 => show_folded(rt, a),
         4 => println!(rt; "{:?}", find_folded(a, b)),
         5 => println!(rt; "{:?}", first_difference(a, b)),
-        _ => show_hashes(rt, a, b.len()),
+        6 => show_hashes(rt, a, b.len()),
+        _ => show_each_word(rt, a),
     }
 }
 
