@@ -4,4 +4,6 @@ pub mod Buffer
 pub mod Entries
 pub mod Regions
 pub mod Rows
+pub mod Spelling
 pub mod Table
+pub mod WorkedBytes

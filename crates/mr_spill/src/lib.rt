@@ -16,7 +16,9 @@ mod lists;
 mod numbered;
 mod regions;
 mod rows;
+mod spelling;
 
 pub use buffer::{Buffer, PushFault, PushRefusal};
 pub use column::Pairs;
 pub use regions::{gathered, spill_law};
+pub use spelling::{worked_regions, write_region};
