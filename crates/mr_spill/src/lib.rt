@@ -14,11 +14,13 @@ mod distribute;
 mod entries;
 mod lists;
 mod numbered;
+mod reading;
 mod regions;
 mod rows;
 mod spelling;
 
 pub use buffer::{Buffer, PushFault, PushRefusal};
 pub use column::Pairs;
+pub use reading::{RegionFault, read_region};
 pub use regions::{gathered, spill_law};
 pub use spelling::{worked_regions, write_region};
