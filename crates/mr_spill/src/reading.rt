@@ -93,7 +93,8 @@ fn take_name<'a>(bytes: &'a [u8]) -> Option<(Name, &'a [u8])>
 
 /// The value in front, and the bytes behind it.
 fn take_value<'a>(bytes: &'a [u8]) -> Option<(Value, &'a [u8])>
-    ensures { MatchOption result ((v : Carried) (rest : List ℕ) → bytes.entry.now ≡ value_bytes v ++ rest → ⊥) (λ r. bytes.entry.now ≡ value_bytes (r.0) ++ r.1.now) }
+    ensures { MatchOption result ((v : Carried) (rest : List ℕ) → bytes.entry.now ≡ value_bytes v ++ rest → ⊥)
+        (λ r. bytes.entry.now ≡ value_bytes (r.0) ++ r.1.now) }
 {
     let (kind, rest) = bytes.split_first()?;
     if *kind == 0 {
