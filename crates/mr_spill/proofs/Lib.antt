@@ -3,6 +3,7 @@ pub mod ColumnLemmas
 pub mod EntryLemmas
 pub mod FrontLemmas
 pub mod ListsLemmas
+pub mod ReadingLemmas
 pub mod RegionLaws
 pub mod RowLemmas
 pub mod TableLemmas

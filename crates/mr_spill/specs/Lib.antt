@@ -2,6 +2,7 @@ pub mod Buckets
 pub mod Column
 pub mod Buffer
 pub mod Entries
+pub mod Reading
 pub mod Regions
 pub mod Rows
 pub mod Spelling

@@ -2,6 +2,7 @@
 use Rattle.std.specs.Prelude.{◌≡◌, ℕ, ◌<◌, ◌^◌, List, [], ◌∷◌, ◌++◌, length}
 use Rattle.std.specs.Int.{w32, w64, to_be_bytes}
 use Rattle.std.specs.List.{AllByRecursion, flat_map}
+use Rattle.mr_bytes.specs.declared.Name.{Name}
 use Rattle.mr_bytes.specs.declared.Value.{Value}
 use Rattle.mr_bytes.specs.declared.Value.TheVariants.{One, At}
 use Rattle.mr_bytes.specs.Lists.{Rises}
@@ -22,12 +23,19 @@ abbrev pub value_bytes : Value → List ℕ
 value_bytes One = 0 ∷ []
 value_bytes (At file offset) = 1 ∷ u32 file ++ u64 offset
 
+abbrev pub name_bytes : Name → List ℕ
+name_bytes n = u32 n.split ++ u32 n.rec ++ u32 n.place
+
 abbrev pub pair_bytes : Triple → List ℕ
-pair_bytes t = u32 (length t.key) ++ t.key ++ u32 t.name.split ++ u32 t.name.rec ++ u32 t.name.place ++ value_bytes t.value
+pair_bytes t = u32 (length t.key) ++ t.key ++ name_bytes t.name ++ value_bytes t.value
+
+-- what stands before the pairs: whose they are, and how many
+abbrev pub header : ℕ → ℕ → ℕ → List ℕ
+header split partition count = magic ++ u32 split ++ u32 partition ++ u32 count
 
 -- the region of a partition that a run of a split gave
 abbrev pub region_bytes : ℕ → ℕ → List Triple → List ℕ
-region_bytes split partition ts = magic ++ u32 split ++ u32 partition ++ u32 (length ts) ++ flat_map pair_bytes ts
+region_bytes split partition ts = header split partition (length ts) ++ flat_map pair_bytes ts
 
 -- its numbers fit their bytes
 abbrev pub ValueFits : Value → Type 0

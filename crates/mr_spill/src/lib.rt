@@ -5,7 +5,7 @@
 //! name, in which a key is stored once. Time: one look-up for each pair as it enters, and a sort of the distinct keys, n log n
 //! comparisons, most of them of two numbers; each pair is put at its place by counting. Memory: 16 bytes for each pair that
 //! waits and its value where it has one beside `One`, with one copy of each distinct key; while they are cut 4 bytes more for
-//! each pair, and the regions.
+//! each pair, and the regions. A region can be spelled as bytes, and read from them.
 #![tactic(auto)]
 
 mod buffer;
@@ -14,11 +14,13 @@ mod distribute;
 mod entries;
 mod lists;
 mod numbered;
+mod reading;
 mod regions;
 mod rows;
 mod spelling;
 
 pub use buffer::{Buffer, PushFault, PushRefusal};
 pub use column::Pairs;
+pub use reading::{RegionFault, read_region};
 pub use regions::{gathered, spill_law};
 pub use spelling::{worked_regions, write_region};

@@ -4,7 +4,7 @@ ghost use Rattle.std.specs.List.{AllByRecursion};
 ghost use Rattle.mr_bytes.specs.Lists.{Rises};
 ghost use Rattle.mr_bytes.specs.Pairs.{pair_order};
 ghost use Rattle.mr_spill.specs.Column.{nth_pair};
-ghost use Rattle.mr_spill.specs.Spelling.{PairFits, SpellsRegion, ValueFits, magic, pair_bytes, u32 as four, u64 as eight, value_bytes};
+ghost use Rattle.mr_spill.specs.Spelling.{PairFits, SpellsRegion, ValueFits, header, name_bytes, pair_bytes, u32 as four, u64 as eight, value_bytes};
 ghost use Rattle.mr_spill.specs.WorkedBytes.{WorkedFalling, WorkedOther, WorkedRegion, WorkedSizes};
 
 use crate::column::Pairs;
@@ -40,12 +40,21 @@ fn put_value(out: &mut Vec<u8>, value: Value) -> Result<(), AllocError>
 
 /// The header: the magic bytes, the split, the partition, and how many pairs there are.
 fn put_header(out: &mut Vec<u8>, split: u32, partition: u32, count: u32) -> Result<(), AllocError>
-    ensures { OnOk result (out.new.items ≡ out.old.items ++ magic ++ four split ++ four partition ++ four count) }
+    ensures { OnOk result (out.new.items ≡ out.old.items ++ header split partition count) }
 {
     out.extend_from_slice(b"MRREGN1\n")?;
     put_number(out, split)?;
     put_number(out, partition)?;
     put_number(out, count)?;
+    Ok(())
+}
+
+fn put_name(out: &mut Vec<u8>, name: Name) -> Result<(), AllocError>
+    ensures { OnOk result (out.new.items ≡ out.old.items ++ name_bytes name) }
+{
+    put_number(out, name.split)?;
+    put_number(out, name.rec)?;
+    put_number(out, name.place)?;
     Ok(())
 }
 
@@ -60,9 +69,7 @@ fn put_pair(out: &mut Vec<u8>, key: &[u8], value: Value, name: Name) -> Result<(
     }
     put_number(out, count as u32)?;
     out.extend_from_slice(key)?;
-    put_number(out, name.split)?;
-    put_number(out, name.rec)?;
-    put_number(out, name.place)?;
+    put_name(out, name)?;
     put_value(out, value)?;
     Ok(())
 }

@@ -1,0 +1,69 @@
+//! Regions as bytes, as a program for the checks from outside. Each line of standard input has a split, a partition, and
+//! bytes, all as decimal numbers. A line answers it: the fault, or whether the pairs that were read are spelled so again,
+//! and their keys, values and names.
+#![tactic(auto)]
+
+use mr_spill::{Pairs, read_region, write_region};
+use std::alloc::{AllocError, Global};
+use std::io;
+
+/// The numbers of a line; what is no number is 0.
+fn numbers_of(alloc: Global, line: &str) -> Result<Vec<u32>, AllocError> {
+    let mut numbers = Vec::new(alloc);
+    for word in line.split(' ') {
+        numbers.push(word.parse().unwrap_or(0))?;
+    }
+    Ok(numbers)
+}
+
+/// The numbers as bytes, those past 255 as 255.
+fn bytes_of(alloc: Global, numbers: &[u32]) -> Result<Vec<u8>, AllocError> {
+    let mut bytes = Vec::new(alloc);
+    for number in numbers {
+        bytes.push(u8::try_from(*number).unwrap_or(255))?;
+    }
+    Ok(bytes)
+}
+
+/// Tells the pairs.
+fn show_pairs(rt: &HostRuntime, pairs: &Pairs) -> io::Result<()> {
+    for i in 0..pairs.len() {
+        print!(rt;
+            "|{:?} {:?} {:?}",
+            pairs.key(i),
+            pairs.value(i),
+            pairs.name(i)
+        )?;
+    }
+    println!(rt; "")
+}
+
+/// Tells what the bytes spell.
+fn show(rt: &HostRuntime, bytes: &[u8], split: u32, partition: u32) -> io::Result<()> {
+    match read_region(rt.alloc(), bytes, split, partition) {
+        Err(fault) => println!(rt; "{:?}", fault),
+        Ok(pairs) => {
+            let again = write_region(rt.alloc(), &pairs, split, partition)?;
+            print!(rt; "{}", again.as_slice() == bytes)?;
+            show_pairs(rt, &pairs)
+        }
+    }
+}
+
+fn answer(rt: &HostRuntime, line: &str) -> io::Result<()> {
+    let numbers = numbers_of(rt.alloc(), line)?;
+    match numbers.as_slice() {
+        [split, partition, rest @ ..] => {
+            let bytes = bytes_of(rt.alloc(), rest)?;
+            show(rt, bytes.as_slice(), *split, *partition)
+        }
+        _ => println!(rt; "no numbers"),
+    }
+}
+
+fn main(rt: HostRuntime) -> io::Result<()> {
+    for line in rt.lines(rt.alloc()) {
+        answer(&rt, line?.as_str())?;
+    }
+    Ok(())
+}

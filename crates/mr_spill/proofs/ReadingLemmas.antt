@@ -1,0 +1,195 @@
+-- Spelled pairs in front of bytes: no two spellings begin alike.
+use Rattle.std.proofs.Common.{◌≡◌, ℕ, zero, suc, ◌<◌, ◌≤◌, ◌^◌, List, [], ◌∷◌, ◌++◌, length, refl, sym, ◌∙◌, ap, subst, arith, append_assoc, length-append}
+use Rattle.std.proofs.lemmas.Nat.{from_be_bytes-to_be_bytes_4, from_be_bytes-to_be_bytes_8}
+use Rattle.std.specs.Int.{w32, w64, from_be_bytes}
+use Rattle.std.specs.List.{AllByRecursion, flat_map}
+use Rattle.std.specs.declared.cmp.Ordering.TheVariants.{Less}
+use Rattle.mr_bytes.specs.declared.Name.{Name}
+use Rattle.mr_bytes.specs.declared.Value.{Value}
+use Rattle.mr_bytes.specs.declared.Value.TheVariants.{One, At}
+use Rattle.mr_bytes.specs.Lists.{Rises}
+use Rattle.mr_bytes.specs.Pairs.{Triple, pair_order}
+use Rattle.mr_spill.specs.Column.{nth_pair}
+use Rattle.mr_spill.specs.Reading.{AreRead, MayFollow}
+use Rattle.mr_spill.specs.Spelling.{PairFits, ValueFits, header, magic, name_bytes, pair_bytes, u32, u64, value_bytes}
+use Rattle.mr_spill.proofs.RegionLaws.{pair_total}
+
+pub front-cut : (a b xs ys : List ℕ) → length a ≡ length b → a ++ xs ≡ b ++ ys → (a ≡ b) × (xs ≡ ys)
+front-cut [] [] xs ys l e = (refl, e)
+front-cut [] (y ∷ b) xs ys l e = absurd (omega (arith, l))
+front-cut (x ∷ a) [] xs ys l e = absurd (omega (arith, l))
+front-cut (x ∷ a) (y ∷ b) xs ys l e =
+    let h : x ≡ y = cc e in
+    let t : a ++ xs ≡ b ++ ys = cc e in
+    let r = front-cut a b xs ys (omega (arith, l)) t in
+    ((λ i. h i ∷ r.0 i), r.1)
+
+pub number-front : (m n : ℕ) (xs ys : List ℕ) → m < 2 ^ 32 → n < 2 ^ 32 → u32 m ++ xs ≡ u32 n ++ ys → (m ≡ n) × (xs ≡ ys)
+number-front m n xs ys h g e =
+    let c = front-cut (u32 m) (u32 n) xs ys refl e in
+    (sym (from_be_bytes-to_be_bytes_4 m h) ∙ ap (from_be_bytes w32) c.0 ∙ from_be_bytes-to_be_bytes_4 n g, c.1)
+
+long-front : (m n : ℕ) (xs ys : List ℕ) → m < 2 ^ 64 → n < 2 ^ 64 → u64 m ++ xs ≡ u64 n ++ ys → (m ≡ n) × (xs ≡ ys)
+long-front m n xs ys h g e =
+    let c = front-cut (u64 m) (u64 n) xs ys refl e in
+    (sym (from_be_bytes-to_be_bytes_8 m h) ∙ ap (from_be_bytes w64) c.0 ∙ from_be_bytes-to_be_bytes_8 n g, c.1)
+
+value-front : (v w : Value) (xs ys : List ℕ) → ValueFits v → ValueFits w → value_bytes v ++ xs ≡ value_bytes w ++ ys → (v ≡ w) × (xs ≡ ys)
+value-front One One xs ys h g e = (refl, cc e)
+value-front One (At f o) xs ys h g e = let no : ◌≡◌ {A = ℕ} 0 1 = cc e in absurd (omega (arith, no))
+value-front (At f o) One xs ys h g e = let no : ◌≡◌ {A = ℕ} 1 0 = cc e in absurd (omega (arith, no))
+value-front (At f o) (At i p) xs ys h g e =
+    let t : u32 f ++ (u64 o ++ xs) ≡ u32 i ++ (u64 p ++ ys) = cc e in
+    let a = number-front f i (u64 o ++ xs) (u64 p ++ ys) h.0 g.0 t in
+    let b = long-front o p xs ys h.1 g.1 a.1 in
+    ((λ k. At (a.0 k) (b.0 k)), b.1)
+
+-- a name's bytes and a pair's, part by part
+pub name-parts : (n : Name) (xs : List ℕ) → name_bytes n ++ xs ≡ u32 n.split ++ (u32 n.rec ++ (u32 n.place ++ xs))
+name-parts n xs = append_assoc (u32 n.split ++ u32 n.rec) (u32 n.place) xs ∙ append_assoc (u32 n.split) (u32 n.rec) (u32 n.place ++ xs)
+
+pub pair-parts : (t : Triple) (xs : List ℕ) → pair_bytes t ++ xs ≡ u32 (length t.key) ++ (t.key ++ (name_bytes t.name ++ (value_bytes t.value ++ xs)))
+pair-parts t xs =
+    append_assoc ((u32 (length t.key) ++ t.key) ++ name_bytes t.name) (value_bytes t.value) xs
+    ∙ append_assoc (u32 (length t.key) ++ t.key) (name_bytes t.name) (value_bytes t.value ++ xs)
+    ∙ append_assoc (u32 (length t.key)) t.key (name_bytes t.name ++ (value_bytes t.value ++ xs))
+
+-- and a header's
+pub header-parts : (split partition n : ℕ) (xs : List ℕ) → header split partition n ++ xs ≡ magic ++ (u32 split ++ (u32 partition ++ (u32 n ++ xs)))
+header-parts split partition n xs =
+    append_assoc ((magic ++ u32 split) ++ u32 partition) (u32 n) xs
+    ∙ append_assoc (magic ++ u32 split) (u32 partition) (u32 n ++ xs)
+    ∙ append_assoc magic (u32 split) (u32 partition ++ (u32 n ++ xs))
+
+pub header-split : (bytes xs : List ℕ) (split partition n : ℕ) (rest : List ℕ) → bytes ≡ magic ++ xs → bytes ≡ header split partition n ++ rest
+    → xs ≡ u32 split ++ (u32 partition ++ (u32 n ++ rest))
+header-split bytes xs split partition n rest e h =
+    (front-cut magic magic xs (u32 split ++ (u32 partition ++ (u32 n ++ rest))) refl (sym e ∙ h ∙ header-parts split partition n rest)).1
+
+pub header-partition : (bytes xs ys : List ℕ) (split partition n : ℕ) (rest : List ℕ) → bytes ≡ magic ++ xs → xs ≡ u32 split ++ ys → bytes ≡ header split partition n ++ rest
+    → ys ≡ u32 partition ++ (u32 n ++ rest)
+header-partition bytes xs ys split partition n rest e f h =
+    (front-cut (u32 split) (u32 split) ys (u32 partition ++ (u32 n ++ rest)) refl (sym f ∙ header-split bytes xs split partition n rest e h)).1
+
+pub header-count : (bytes xs ys zs : List ℕ) (split partition n : ℕ) (rest : List ℕ) → bytes ≡ magic ++ xs → xs ≡ u32 split ++ ys → ys ≡ u32 partition ++ zs
+    → bytes ≡ header split partition n ++ rest → zs ≡ u32 n ++ rest
+header-count bytes xs ys zs split partition n rest e f g h =
+    (front-cut (u32 partition) (u32 partition) zs (u32 n ++ rest) refl (sym g ∙ header-partition bytes xs ys split partition n rest e f h)).1
+
+-- the number in front of a spelled pair is the length of its key
+pub pair-count : (m : ℕ) (xs : List ℕ) (t : Triple) (rest : List ℕ) → m < 2 ^ 32 → PairFits t → u32 m ++ xs ≡ pair_bytes t ++ rest
+    → (m ≡ length t.key) × (xs ≡ t.key ++ (name_bytes t.name ++ (value_bytes t.value ++ rest)))
+pair-count m xs t rest h fit e = number-front m (length t.key) xs (t.key ++ (name_bytes t.name ++ (value_bytes t.value ++ rest))) h fit.key (e ∙ pair-parts t rest)
+
+-- and then come its key and the rest
+pub pair-key : (m : ℕ) (k xs : List ℕ) (t : Triple) (rest : List ℕ) → m < 2 ^ 32 → length k ≡ m → PairFits t → u32 m ++ (k ++ xs) ≡ pair_bytes t ++ rest
+    → (k ≡ t.key) × (xs ≡ name_bytes t.name ++ (value_bytes t.value ++ rest))
+pair-key m k xs t rest h l fit e =
+    let c = pair-count m (k ++ xs) t rest h fit e in
+    front-cut k t.key xs (name_bytes t.name ++ (value_bytes t.value ++ rest)) (l ∙ c.0) c.1
+
+pub pair-front : (t u : Triple) (xs ys : List ℕ) → PairFits t → PairFits u → pair_bytes t ++ xs ≡ pair_bytes u ++ ys → (t ≡ u) × (xs ≡ ys)
+pair-front t u xs ys f g e =
+    let k = pair-key (length t.key) t.key (name_bytes t.name ++ (value_bytes t.value ++ xs)) u ys f.key refl g (sym (pair-parts t xs) ∙ e) in
+    let s = number-front t.name.split u.name.split (u32 t.name.rec ++ (u32 t.name.place ++ (value_bytes t.value ++ xs))) (u32 u.name.rec ++ (u32 u.name.place ++ (value_bytes u.value ++ ys))) f.split g.split
+    (sym (name-parts t.name (value_bytes t.value ++ xs)) ∙ k.1 ∙ name-parts u.name (value_bytes u.value ++ ys)) in
+    let r = number-front t.name.rec u.name.rec (u32 t.name.place ++ (value_bytes t.value ++ xs)) (u32 u.name.place ++ (value_bytes u.value ++ ys)) f.rec g.rec s.1 in
+    let p = number-front t.name.place u.name.place (value_bytes t.value ++ xs) (value_bytes u.value ++ ys) f.place g.place r.1 in
+    let v = value-front t.value u.value xs ys f.value g.value p.1 in
+    ((λ i. record { key = k.0 i; value = v.0 i; name = record { split = s.0 i; rec = r.0 i; place = p.0 i } }), v.1)
+
+-- where no value stands behind a key and a name, no pair is spelled
+pub no-value : (bytes xs ys zs : List ℕ) (m : ℕ) (k : List ℕ) (n : Name) (t : Triple) (rest : List ℕ) → m < 2 ^ 32 → length k ≡ m → PairFits t
+    → bytes ≡ u32 m ++ xs → xs ≡ k ++ ys → ys ≡ name_bytes n ++ zs → bytes ≡ pair_bytes t ++ rest → ((v : Value) (more : List ℕ) → zs ≡ value_bytes v ++ more → ⊥) → ⊥
+no-value bytes xs ys zs m k n t rest h l fit a b c e none =
+    let p = pair-key m k ys t rest h l fit (sym (a ∙ ap (λ w. u32 m ++ w) b) ∙ e) in
+    none t.value rest (front-cut (name_bytes n) (name_bytes t.name) zs (value_bytes t.value ++ rest) refl (sym c ∙ p.1)).1
+
+-- ---- pairs that were read, and pairs that are spelled
+
+-- what is left of spelled pairs when those in front were read
+pub record IsLeft (ps ts : List Triple) (rest : List ℕ) : Type 0 where
+  pub left : List Triple
+  pub all : ts ≡ ps ++ left
+  pub text : rest ≡ flat_map pair_bytes left
+
+pub read-front : (ps ts : List Triple) (rest : List ℕ) → AllByRecursion PairFits ps → AllByRecursion PairFits ts → length ps ≤ length ts
+    → flat_map pair_bytes ps ++ rest ≡ flat_map pair_bytes ts → IsLeft ps ts rest
+read-front [] ts rest f g h e = record { left = ts; all = refl; text = e }
+read-front (p ∷ ps) [] rest f g h e = absurd (omega (arith, h))
+read-front (p ∷ ps) (t ∷ ts) rest f g h e =
+    let c = pair-front p t (flat_map pair_bytes ps ++ rest) (flat_map pair_bytes ts) f.0 g.0 (sym (append_assoc (pair_bytes p) (flat_map pair_bytes ps) rest) ∙ e) in
+    let r = read-front ps ts rest f.1 g.1 (omega (arith, h)) c.1 in
+    record { left = r.left; all = (λ i. sym c.0 i ∷ r.all i); text = r.text }
+
+All-right : (P : Triple → Type 0) (ps us : List Triple) → AllByRecursion P (ps ++ us) → AllByRecursion P us
+All-right P [] us a = a
+All-right P (p ∷ ps) us a = All-right P ps us a.1
+
+pub All-one-more : (P : Triple → Type 0) (ps : List Triple) (t : Triple) → AllByRecursion P ps → P t → AllByRecursion P (ps ++ t ∷ [])
+All-one-more P [] t a p = (p, tt)
+All-one-more P (x ∷ ps) t a p = (a.0, All-one-more P ps t a.1 p)
+
+before-next : (ps us : List Triple) (u : Triple) → Rises pair_order (ps ++ u ∷ us) → AllByRecursion (λ p. pair_order p u ≡ Less) ps
+before-next [] us u r = tt
+before-next (p ∷ ps) us u r = ((All-right (λ w. pair_order p w ≡ Less) ps (u ∷ us) r.0).0, before-next ps us u r.1)
+
+-- the pairs that are spelled go on behind those that were read
+pub spelled-next : (bytes rest : List ℕ) (split count : ℕ) (ps ts : List Triple) → AreRead bytes split count ts → AllByRecursion PairFits ps → length ps < count
+    → bytes ≡ flat_map pair_bytes ps ++ rest
+    → ((t : Triple) (more : List ℕ) → MayFollow ps split t → PairFits t → rest ≡ pair_bytes t ++ more → ⊥) → ⊥
+spelled-next bytes rest split count ps ts read fit few text none = by l.left l.all l.text
+  where
+    l : IsLeft ps ts rest
+    l = read-front ps ts rest fit read.fit (omega (arith, few, read.all)) (sym text ∙ read.is)
+
+    by : (us : List Triple) → ts ≡ ps ++ us → rest ≡ flat_map pair_bytes us → ⊥
+    by [] all e = absurd (omega (arith, few, read.all, ap length all, length-append ps []))
+    by (u ∷ us) all e =
+        none u (flat_map pair_bytes us)
+        (record {
+          own = (All-right (λ t. t.name.split ≡ split) ps (u ∷ us) (subst (AllByRecursion (λ t. t.name.split ≡ split)) all read.own)).0;
+          past = before-next ps us u (subst (Rises pair_order) all read.rise);
+        })
+        (All-right PairFits ps (u ∷ us) (subst (AllByRecursion PairFits) all read.fit)).0
+        e
+
+-- where all were read, nothing is left
+pub spelled-end : (bytes rest : List ℕ) (split count : ℕ) (ps ts : List Triple) → AreRead bytes split count ts → AllByRecursion PairFits ps → length ps ≡ count
+    → bytes ≡ flat_map pair_bytes ps ++ rest → rest ≡ []
+spelled-end bytes rest split count ps ts read fit full text = by l.left l.all l.text
+  where
+    l : IsLeft ps ts rest
+    l = read-front ps ts rest fit read.fit (omega (arith, full, read.all)) (sym text ∙ read.is)
+
+    by : (us : List Triple) → ts ≡ ps ++ us → rest ≡ flat_map pair_bytes us → rest ≡ []
+    by [] all e = e
+    by (u ∷ us) all e = absurd (omega (arith, full, read.all, ap length all, length-append ps (u ∷ us)))
+
+pub rises-next : (ps : List Triple) (t : Triple) → Rises pair_order ps → AllByRecursion (λ p. pair_order p t ≡ Less) ps → Rises pair_order (ps ++ t ∷ [])
+rises-next [] t r a = (tt, tt)
+rises-next (p ∷ ps) t r a = (All-one-more (λ w. pair_order p w ≡ Less) ps t r.0 a.0, rises-next ps t r.1 a.1)
+
+pub flat-next : (ps : List Triple) (t : Triple) (rest : List ℕ) → flat_map pair_bytes (ps ++ t ∷ []) ++ rest ≡ flat_map pair_bytes ps ++ (pair_bytes t ++ rest)
+flat-next [] t rest = append_assoc (pair_bytes t) [] rest
+flat-next (p ∷ ps) t rest =
+    append_assoc (pair_bytes p) (flat_map pair_bytes (ps ++ t ∷ [])) rest
+    ∙ ap (λ l. pair_bytes p ++ l) (flat-next ps t rest)
+    ∙ sym (append_assoc (pair_bytes p) (flat_map pair_bytes ps) (pair_bytes t ++ rest))
+
+-- ---- the last of pairs that rise
+
+pub last-all : (ts : List Triple) (n : ℕ) (t : Triple) → length ts ≡ suc n → Rises pair_order ts → pair_order (nth_pair ts n) t ≡ Less
+    → AllByRecursion (λ u. pair_order u t ≡ Less) ts
+last-all [] n t e r l = absurd (omega (arith, e))
+last-all (u ∷ []) zero t e r l = (l, tt)
+last-all (u ∷ []) (suc n) t e r l = absurd (omega (arith, e))
+last-all (u ∷ w ∷ ts) zero t e r l = absurd (omega (arith, e))
+last-all (u ∷ w ∷ ts) (suc n) t e r l =
+    let rest = last-all (w ∷ ts) n t (omega (arith, e)) r.1 l in
+    (pair_total.trans u w t r.0.0 rest.0, rest)
+
+pub all-last : (ts : List Triple) (n : ℕ) (t : Triple) → n < length ts → AllByRecursion (λ u. pair_order u t ≡ Less) ts → pair_order (nth_pair ts n) t ≡ Less
+all-last [] n t h a = absurd (omega arith)
+all-last (u ∷ ts) zero t h a = a.0
+all-last (u ∷ ts) (suc n) t h a = all-last ts n t (omega (arith, h)) a.1

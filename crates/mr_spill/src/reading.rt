@@ -1,0 +1,239 @@
+//! A region read from its bytes.
+ghost use Rattle.std.specs.Prelude.{◌≡◌, ◌↔◌, ℕ, ◌-◌, ◌<◌, ◌≤◌, ◌^◌, ◌++◌, List, IfErr, IfOk, IsTrue, MatchOption, length, take};
+ghost use Rattle.std.specs.Int.{w32, w64, from_be_bytes};
+ghost use Rattle.mr_bytes.specs.declared.Value.{Value as Carried};
+ghost use Rattle.std.specs.declared.cmp.Ordering.TheVariants.{Less};
+ghost use Rattle.mr_bytes.specs.Lists.{Rises};
+ghost use Rattle.mr_bytes.specs.Pairs.{Triple, pair_order};
+ghost use Rattle.mr_spill.specs.Column.{nth_pair};
+ghost use Rattle.mr_spill.specs.Reading.{AreRead, IsNext, MayFollow, pair_of};
+ghost use Rattle.mr_spill.specs.Spelling.{PairFits, SpellsRegion, header, magic, name_bytes, pair_bytes, u32 as four, u64 as eight, value_bytes};
+
+use crate::column::Pairs;
+use byteorder::{BigEndian, ByteOrder};
+use mr_bytes::{Name, Value, compare_keys, compare_names};
+use std::alloc::{AllocError, Global};
+use std::cmp::Ordering;
+use thiserror::Error;
+
+/// Why a region was not read.
+#[derive(Clone, Copy, Debug, PartialEq, Eq, Drop, Error)]
+pub enum RegionFault {
+    /// There is no memory for it.
+    #[error("OutOfMemory")]
+    OutOfMemory,
+    /// The bytes spell no region of this split and partition.
+    #[error("RegionDamaged")]
+    RegionDamaged,
+}
+
+ghost use Rattle.mr_spill.specs.declared.reading.RegionFault.TheVariants.{RegionDamaged};
+
+impl From<AllocError> for RegionFault {
+    ghost use Rattle.mr_spill.specs.declared.reading.RegionFault.TheVariants.{OutOfMemory as told_memory};
+
+    ghost from_gives = { λ _ f. f ≡ told_memory };
+
+    fn from(_error: AllocError) -> RegionFault {
+        RegionFault::OutOfMemory
+    }
+}
+
+/// A pair that stands in front of bytes, and the bytes behind it.
+#[derive(Drop)]
+struct Front<'a> {
+    key: &'a [u8],
+    value: Value,
+    name: Name,
+    rest: &'a [u8],
+}
+
+/// The number that the first four bytes spell, and the bytes behind them.
+fn take_number<'a>(bytes: &'a [u8]) -> Option<(u32, &'a [u8])>
+    ensures { MatchOption result (length bytes.entry.now < 4) (λ r. (bytes.entry.now ≡ four (r.0) ++ r.1.now) × (r.0 < 2 ^ 32)) }
+{
+    if bytes.len() < 4 {
+        return None;
+    }
+    let (front, rest) = bytes.split_at(4);
+    Some((BigEndian::read_u32(front), rest))
+}
+
+/// The number that the first eight bytes spell, and the bytes behind them.
+fn take_long<'a>(bytes: &'a [u8]) -> Option<(u64, &'a [u8])>
+    ensures { MatchOption result (length bytes.entry.now < 8) (λ r. bytes.entry.now ≡ eight (r.0) ++ r.1.now) }
+{
+    if bytes.len() < 8 {
+        return None;
+    }
+    let (front, rest) = bytes.split_at(8);
+    Some((BigEndian::read_u64(front), rest))
+}
+
+/// The key of so many bytes, and the bytes behind it.
+fn take_key<'a>(bytes: &'a [u8], count: u32) -> Option<(&'a [u8], &'a [u8])>
+    ensures { MatchOption result (length bytes.entry.now < count) (λ r. (bytes.entry.now ≡ r.0.now ++ r.1.now) × (length (r.0.now) ≡ count)) }
+{
+    let count = count as usize;
+    if bytes.len() < count {
+        return None;
+    }
+    Some(bytes.split_at(count))
+}
+
+/// The name in front, and the bytes behind it.
+fn take_name<'a>(bytes: &'a [u8]) -> Option<(Name, &'a [u8])>
+    ensures { MatchOption result (length bytes.entry.now < 12) (λ r. bytes.entry.now ≡ name_bytes (r.0) ++ r.1.now) }
+{
+    let (split, behind_split) = take_number(bytes)?;
+    let (rec, behind_rec) = take_number(behind_split)?;
+    let (place, rest) = take_number(behind_rec)?;
+    Some((Name { split, rec, place }, rest))
+}
+
+/// The value in front, and the bytes behind it.
+fn take_value<'a>(bytes: &'a [u8]) -> Option<(Value, &'a [u8])>
+    ensures { MatchOption result ((v : Carried) (rest : List ℕ) → bytes.entry.now ≡ value_bytes v ++ rest → ⊥)
+        (λ r. bytes.entry.now ≡ value_bytes (r.0) ++ r.1.now) }
+{
+    let (kind, rest) = bytes.split_first()?;
+    if *kind == 0 {
+        return Some((Value::One, rest));
+    }
+    if *kind != 1 {
+        return None;
+    }
+    let (file, behind_file) = take_number(rest)?;
+    let (offset, rest) = take_long(behind_file)?;
+    Some((Value::At { file, offset }, rest))
+}
+
+/// The pair in front, and the bytes behind it.
+fn take_pair<'a>(bytes: &'a [u8]) -> Option<Front<'a>>
+    ensures { MatchOption result ((t : Triple) (rest : List ℕ) → PairFits t → bytes.entry.now ≡ pair_bytes t ++ rest → ⊥)
+        (λ f. (bytes.entry.now ≡ pair_bytes (pair_of f) ++ f.rest.now) × PairFits (pair_of f)) }
+{
+    let (count, behind_count) = take_number(bytes)?;
+    let (key, behind_key) = take_key(behind_count, count)?;
+    let (name, behind_name) = take_name(behind_key)?;
+    let Some((value, rest)) = take_value(behind_name) else {
+        return None;
+    };
+    Some(Front {
+        key,
+        value,
+        name,
+        rest,
+    })
+}
+
+/// The bytes behind the magic ones.
+fn take_magic<'a>(bytes: &'a [u8]) -> Option<&'a [u8]>
+    ensures { MatchOption result ((rest : List ℕ) → bytes.entry.now ≡ magic ++ rest → ⊥) (λ r. bytes.entry.now ≡ magic ++ r.now) }
+{
+    bytes.strip_prefix(b"MRREGN1\n".as_slice())
+}
+
+/// The bytes behind this number.
+fn take_this<'a>(bytes: &'a [u8], number: u32) -> Option<&'a [u8]>
+    ensures { MatchOption result ((rest : List ℕ) → bytes.entry.now ≡ four number ++ rest → ⊥) (λ r. bytes.entry.now ≡ four number ++ r.now) }
+{
+    let (n, rest) = take_number(bytes)?;
+    if n != number {
+        return None;
+    }
+    Some(rest)
+}
+
+/// How many pairs the header tells, if it is that of this split and partition, and the bytes behind it.
+fn take_header<'a>(bytes: &'a [u8], split: u32, partition: u32) -> Option<(u32, &'a [u8])>
+    ensures { MatchOption result ((n : ℕ) (rest : List ℕ) → bytes.entry.now ≡ header split partition n ++ rest → ⊥)
+        (λ r. (bytes.entry.now ≡ header split partition (r.0) ++ r.1.now) × (r.0 < 2 ^ 32)) }
+{
+    let behind_magic = take_magic(bytes)?;
+    let Some(behind_split) = take_this(behind_magic, split) else {
+        return None;
+    };
+    let Some(behind_partition) = take_this(behind_split, partition) else {
+        return None;
+    };
+    let Some((count, rest)) = take_number(behind_partition) else {
+        return None;
+    };
+    Some((count, rest))
+}
+
+/// Whether pair `i` stands before the one in front: by key, and then by name.
+fn stands_before(pairs: &Pairs, i: usize, front: &Front<'_>) -> bool
+    requires { i < length pairs.now }
+    ensures { IsTrue result ↔ (pair_order (nth_pair pairs.now i) (pair_of front.now) ≡ Less) }
+{
+    match compare_keys(pairs.key(i), front.key) {
+        Ordering::Less => true,
+        Ordering::Equal => matches!(compare_names(pairs.name(i), front.name), Ordering::Less),
+        Ordering::Greater => false,
+    }
+}
+
+/// Whether the pair in front may stand behind these in a region of the split.
+fn may_follow(pairs: &Pairs, split: u32, front: &Front<'_>) -> bool
+    requires { Rises pair_order pairs.now }
+    ensures { IsTrue result ↔ MayFollow pairs.now split (pair_of front.now) }
+{
+    if front.name.split != split {
+        return false;
+    }
+    let count = pairs.len();
+    count == 0 || stands_before(pairs, count - 1, front)
+}
+
+/// Takes the pair in front behind those that were read, and gives the bytes behind it.
+fn read_next<'a>(pairs: &mut Pairs, bytes: &'a [u8], split: u32) -> Result<&'a [u8], RegionFault>
+    requires { Rises pair_order pairs.old }
+    ensures ok { IfOk result (λ rest. IsNext pairs.old pairs.new split bytes.entry.now rest.now) }
+    ensures damaged { IfErr result (λ e. e ≡ RegionDamaged → (t : Triple) (rest : List ℕ) → MayFollow pairs.old split t → PairFits t
+        → bytes.entry.now ≡ pair_bytes t ++ rest → ⊥) }
+{
+    let Some(front) = take_pair(bytes) else {
+        return Err(RegionFault::RegionDamaged);
+    };
+    if !may_follow(pairs, split, &front) {
+        return Err(RegionFault::RegionDamaged);
+    }
+    pairs.push(front.key, front.value, front.name)?;
+    Ok(front.rest)
+}
+
+/// So many pairs of a split, which rise, and nothing behind them. No room is made for pairs before their bytes are read.
+fn read_pairs(alloc: Global, bytes: &[u8], split: u32, count: u32) -> Result<Pairs, RegionFault>
+    ensures ok { IfOk result (AreRead bytes.now split count) }
+    ensures damaged { IfErr result (λ e. e ≡ RegionDamaged → (ts : List Triple) → AreRead bytes.now split count ts → ⊥) }
+{
+    let mut pairs = Pairs::new(alloc);
+    let mut rest = bytes;
+    for _ in 0..count {
+        rest = read_next(&mut pairs, rest, split)?;
+    }
+    let behind = rest.len();
+    if behind > 0 {
+        return Err(RegionFault::RegionDamaged);
+    }
+    Ok(pairs)
+}
+
+/// The pairs that bytes spell as a region of this split and partition. Any other bytes are `RegionDamaged`: what
+/// `write_region` gives for them is their only spelling.
+pub fn read_region(
+    alloc: Global,
+    bytes: &[u8],
+    split: u32,
+    partition: u32,
+) -> Result<Pairs, RegionFault>
+    ensures spelled { IfOk result (SpellsRegion bytes.now split partition) }
+    ensures damaged { IfErr result (λ e. e ≡ RegionDamaged → (ts : List Triple) → SpellsRegion bytes.now split partition ts → ⊥) }
+{
+    let Some((count, rest)) = take_header(bytes, split, partition) else {
+        return Err(RegionFault::RegionDamaged);
+    };
+    read_pairs(alloc, rest, split, count)
+}
