@@ -17,7 +17,7 @@ WORD = r"[^0-9A-Za-z\200-\377]+"
 
 
 def build(room):
-    """The native native rivals, by rustc with std alone, for the processor level that `rt` builds for."""
+    """The native rivals, by rustc with std alone, for the processor level that `rt` builds for."""
     made = []
     for name in ("native", "tuned"):
         source, to = f"{HERE}/{name}.rs", f"{room}/{name}"
@@ -229,4 +229,5 @@ def main():
         json.dump(results, open(it.json, "w"), indent=1)
 
 
-main()
+if __name__ == "__main__":
+    main()

@@ -71,6 +71,8 @@ def refusals(harness):
     refused(harness, "an output too short", b"OutputDiffers partition 0 at 7", data, [good[0][:-1]], EXAMPLE)
     refused(harness, "a name that isn't there", b"NoSuchPair " + entry % (0, 0), data, good, changed(52, u32s(*[2**32 - 1] * 3)))
     refused(harness, "another key", b"KeyDiffers " + entry % (0, 1), data, good, changed(64, u32s(0, 0, 1)))
+    refused(harness, "groups that aren't there", b"Malformed at 92", data, good, changed(44, u32s(2**32 - 1)))
+    refused(harness, "entries that aren't there", b"NoSuchPair " + entry % (0, 2), data, good, changed(48, u32s(2**32 - 1)))
     names = [[(0, 0, 0)], [(0, 0, 2)], [(0, 0, 1)]]
     header = (1, 0), b"", (1, 64), [6], []
     refused(harness, "a key twice", b"KeyOrder " + entry % (1, 0), data, [b"a\t1\na\t1\nb\t1\n"], certificate_of(*header, [names]))

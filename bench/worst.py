@@ -1,0 +1,106 @@
+#!/usr/bin/env python3
+"""The worst inputs that we know for time and memory, each beside a plain one of its size.
+
+    worst.py MAPRED [--rounds 3] [--dir FOLDER] [--only NAME,..]
+
+Prints a row for each input and command: seconds (the least of the rounds), processor seconds, peak memory, and that
+memory as a multiple of the input. Needs GNU time."""
+import argparse, os, random, shutil, struct, sys, tempfile
+
+HERE = os.path.dirname(os.path.abspath(__file__))
+sys.path[:0] = [HERE, os.path.join(os.path.dirname(HERE), "tests")]
+from bench import timed
+from colliding import colliding
+
+MB = 1 << 20
+
+
+def written(path, make):
+    if not os.path.exists(path):
+        with open(path + ".part", "wb") as file:
+            file.writelines(make())
+        os.rename(path + ".part", path)
+    return path
+
+
+def distinct(count):
+    return (b"".join(b"%08d\n" % i for i in range(at, min(at + 100_000, count))) for at in range(0, count, 100_000))
+
+
+def collided(count):
+    words = colliding(count, random.Random(18))
+    random.Random(19).shuffle(words)
+    return [b" ".join(words), b"\n"]
+
+
+def random_words(count):
+    draw = random.Random(20)
+    return [b" ".join(struct.pack("<Q", draw.getrandbits(64)).hex().encode() for _ in range(count)), b"\n"]
+
+
+# (name, options, what the file holds)
+INPUTS = [
+    ("words of a byte, one record", ["--job", "words"], lambda: [b"a " * (16 * MB)]),
+    ("words of a byte, a record each", ["--job", "words"], lambda: [b"a\n" * (16 * MB)]),
+    ("8 million distinct words", ["--job", "words"], lambda: distinct(8_000_000)),
+    ("100,000 words of sixteen bytes", ["--job", "words"], lambda: random_words(100_000)),
+    ("the same many, made to collide", ["--job", "words"], lambda: collided(100_000)),
+    ("empty records", ["--job", "words"], lambda: [b"\n" * (32 * MB)]),
+    ("grep: short lines that match", ["--job", "grep", "--literal", "a"], lambda: [b"a\n" * (16 * MB)]),
+    ("grep: one line of a, the literal a..ab", ["--job", "grep", "--literal", "a" * 4095 + "b"], lambda: [b"a" * (4 * MB)]),
+    ("grep: the same, folded", ["--job", "grep", "--fold", "--literal", "a" * 4095 + "b"], lambda: [b"a" * (4 * MB)]),
+    ("grep: the same, folded, a..aba..a", ["--job", "grep", "--fold", "--literal", "a" * 2047 + "b" + "A" * 2048], lambda: [b"a" * (4 * MB)]),
+    ("url: short requests", ["--job", "url"], lambda: [b'"G / H"\n' * (4 * MB)]),
+    ("splits of a byte", ["--job", "words", "--split", "1"], lambda: [b"a\n" * (MB // 2)]),
+]
+
+
+def rows_of(mapred, room, options, path):
+    """The commands that are timed over a file, in the order in which they need each other."""
+    size = os.path.getsize(path)
+    small = options if "--split" in options else [*options, "--split", str(max(1, size // 8))]
+    alone, shared, run = (os.path.join(room, name) for name in ("alone", "shared", "run"))
+    for where in (alone, shared, run):
+        shutil.rmtree(where, ignore_errors=True)
+        os.mkdir(where)
+    return [
+        ("seq", [mapred, "seq", *options, "--parts", "8", "--out", alone, path]),
+        ("check", [mapred, "check", *options, "--parts", "8", "--out", alone, path]),
+        ("seq, 8 splits", [mapred, "seq", *small, "--parts", "8", "--out", shared, path]),
+        ("check, 4 threads", [mapred, "check", *small, "--parts", "8", "--threads", "4", "--out", shared, path]),
+        ("run, 4 workers", [mapred, "run", *small, "--parts", "8", "--workers", "4", "--out", run, path]),
+    ]
+
+
+def main():
+    ask = argparse.ArgumentParser(description=__doc__, formatter_class=argparse.RawDescriptionHelpFormatter)
+    ask.add_argument("mapred")
+    ask.add_argument("--rounds", type=int, default=3)
+    ask.add_argument("--timeout", type=float, default=120)
+    ask.add_argument("--dir", default=os.path.join(tempfile.gettempdir(), "mapred-worst"))
+    ask.add_argument("--only", default="")
+    it = ask.parse_args()
+    os.makedirs(it.dir, exist_ok=True)
+    print("| Input | MB | Command | Seconds | Processor s | Peak MB | × input |")
+    print("|---|---|---|---|---|---|---|")
+    for number, (name, options, make) in enumerate(INPUTS):
+        if it.only and not any(part in name for part in it.only.split(",")):
+            continue
+        path = written(os.path.join(it.dir, f"input-{number}"), make)
+        size = os.path.getsize(path) / 1e6
+        for command, words in rows_of(os.path.abspath(it.mapred), it.dir, options, path):
+            best = None
+            for _ in range(it.rounds):
+                wall, cpu, peak, status, said = timed(words, it.timeout)
+                if status != 0:
+                    best = (wall, cpu, peak, f"status {status} {said[:80]!r}")
+                    break
+                if best is None or wall < best[0]:
+                    best = (wall, cpu, peak, "")
+            wall, cpu, peak, note = best
+            told = f"{wall:.2f} | {cpu:.2f} | {peak:.0f} | {peak * 1.048576 / size:.1f}" if wall and cpu is not None else f"over {it.timeout:.0f} | | |"
+            print(f"| {name} | {size:.1f} | {command} | {told} |{' ' + note if note else ''}", flush=True)
+
+
+if __name__ == "__main__":
+    main()

@@ -1,0 +1,50 @@
+"""Words made to collide in the table by which the sequential execution numbers its keys.
+
+The table looks at few slots and then gives a word another number, so words that all begin at one slot mostly have
+several numbers; the sort of the keys takes them together again. No other input shows that this is done."""
+import random
+import struct
+
+from harness import read_result
+from rows import plain
+
+FACTOR, MASK = 0x9E3779B97F4A7C15, 2**64 - 1
+SMALL = b"0123456789abcdefghijklmnopqrstuvwxyz"
+WORD = frozenset(SMALL) | frozenset(range(0x80, 0x100))
+
+
+def mixed(number, word):
+    """One step of the table's hash (crates/mr_keys/src/front.rt)."""
+    product = ((number ^ word) * FACTOR) & MASK
+    return product ^ (product >> 32)
+
+
+def colliding(count, draw):
+    """So many words of sixteen bytes, all of one hash: the second eight bytes undo what the first eight did."""
+    words, wanted = set(), draw.getrandbits(64)
+    while len(words) < count:
+        first = bytes(draw.choice(SMALL) for _ in range(8))
+        second = struct.pack("<Q", mixed(16, int.from_bytes(first, "little")) ^ wanted)
+        if WORD.issuperset(second):
+            words.add(first + second)
+    return sorted(words)
+
+
+def counted_once(harness):
+    """Each word that comes again is counted with itself, however many numbers it had."""
+    draw = random.Random(18)
+    words = colliding(1500, draw)
+    for times, parts in ((1, 1), (4, 3)):
+        told = [word for word in words for _ in range(times)]
+        draw.shuffle(told)
+        data = b"".join(word + draw.choice((b" ", b"\n", b", ")) for word in told)
+        outputs, pairs, certificate = plain("words", [data], parts)
+        options = ["--job", "words", "--parts", str(parts), "--out", ".", "input"]
+        status, out, err, where = harness.run(["seq", *options], {"input": data})
+        good = (status, err) == (0, b"") and read_result(where) == (outputs, certificate)
+        harness.check(f"colliding words, {times} times each", good, repr((status, out, err)))
+        status, out, err, _ = harness.run(["check", *options], cwd=where)
+        harness.check(f"colliding words, {times} times each, judged", (status, err) == (0, b"") and out.startswith(b"yes: "), repr((status, out, err)))
+
+
+GROUPS = {"colliding words": counted_once}
