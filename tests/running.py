@@ -218,22 +218,33 @@ def stopped(harness):
         harness.check(f"ended after {pause} s", stands == old and out == b"" and running.returncode == -signal.SIGTERM, f"{running.returncode} {out} {err} {sorted(stands)}")
 
 
+def drawn_at_terminal(harness, command, words, text):
+    """What a command shows at a terminal over the text, repeated until it takes long enough for a line to be drawn."""
+    for times in (1, 4, 16):
+        where = harness.directory({"in": (text + b"\n") * times, "script": b"lose 1 after 1\n"})
+        if command == "check":
+            harness.run(["seq", *words], cwd=where)
+        status, out, shown = on_terminal(harness, [command, *words], where)
+        drawn = re.findall(rb"\r\x1b\[Kmapred: (\w+) (\d+) %(?:, (\d+) workers? lost)?", shown)
+        if drawn:
+            break
+    return where, status, out, shown, drawn
+
+
 def progress(harness):
     """Long work shows one line at a terminal, which is wiped; elsewhere nothing is shown."""
     rnd = random.Random(6)
     text = b"\n".join(b" ".join(b"w%d" % rnd.randrange(200_000) for _ in range(8)) for _ in range(300_000))
-    where = harness.directory({"in": text, "script": b"lose 1 after 1\n"})
     for command, more, phases in [
         ("seq", [], [b"mapping"]),
         ("check", [], [b"mapping", b"judging"]),
         ("run", ["--script", "script", "--split", "262144"], [b"mapping", b"reducing"]),
     ]:
-        words = [command, "--job", "words", *more, "--out", ".", "in"]
-        status, out, shown = on_terminal(harness, words, where)
-        drawn = re.findall(rb"\r\x1b\[Kmapred: (\w+) (\d+) %(?:, (\d+) workers? lost)?", shown)
+        words = ["--job", "words", *more, "--out", ".", "in"]
+        where, status, out, shown, drawn = drawn_at_terminal(harness, command, words, text)
         harness.check(f"{command}: a line of progress", status == 0 and out and drawn and all(phase in [*phases, b"judging", b"reducing"] and int(done) <= 100 for phase, done, _ in drawn), repr((status, out, shown[:300])))
         harness.check(f"{command}: it is wiped", b"%" not in shown.rsplit(b"\r\x1b[K", 1)[-1], repr(shown[-200:]))
-        got = harness.run(words, cwd=where)
+        got = harness.run([command, *words], cwd=where)
         harness.check(f"{command}: nothing is shown elsewhere", got[0] == 0 and got[2] == b"", repr(got[2][:200]))
 
 
