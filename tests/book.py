@@ -8,6 +8,7 @@ import re
 import subprocess
 
 from failing import shim
+from libraries import built
 from master import ACCEPTED, GONE, KINDS, WAIT, Draws, Plain, map_task, reduce_task, region, truth
 
 TOP = os.path.dirname(os.path.dirname(os.path.abspath(__file__)))
@@ -199,16 +200,4 @@ def each_allocation(harness):
     harness.check("outputs of both kinds of tasks are handed back", handed_back == {"map done", "reduce done"})
 
 
-def built(group):
-    """The group, where the program is there."""
-
-    def checked(harness):
-        if os.path.exists(PROGRAM):
-            group(harness)
-        else:
-            harness.check("crates/mr_book_tests is built (by ./test, or by `rt run` there)", False)
-
-    return checked
-
-
-GROUPS = {"a lost output": built(a_lost_output), "each allocation of a book": built(each_allocation), "a thousand histories of a book": built(a_thousand_histories)}
+GROUPS = {"a lost output": built("mr_book_tests", a_lost_output), "each allocation of a book": built("mr_book_tests", each_allocation), "a thousand histories of a book": built("mr_book_tests", a_thousand_histories)}

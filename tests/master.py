@@ -7,6 +7,8 @@ import random
 import re
 import subprocess
 
+from libraries import built
+
 TOP = os.path.dirname(os.path.dirname(os.path.abspath(__file__)))
 PROGRAM = os.path.join(TOP, "crates", "mr_core_tests", "out", "mr_core_tests")
 
@@ -460,16 +462,4 @@ def a_thousand_histories(harness):
     harness.check("no call fails", master.close() == 0)
 
 
-def built(group):
-    """The group, where the program is there."""
-
-    def checked(harness):
-        if os.path.exists(PROGRAM):
-            group(harness)
-        else:
-            harness.check("crates/mr_core_tests is built (by ./test, or by `rt run` there)", False)
-
-    return checked
-
-
-GROUPS = {"worked histories": built(histories_by_hand), "a whole job": built(a_whole_job), "a thousand histories": built(a_thousand_histories)}
+GROUPS = {"worked histories": built("mr_core_tests", histories_by_hand), "a whole job": built("mr_core_tests", a_whole_job), "a thousand histories": built("mr_core_tests", a_thousand_histories)}

@@ -9,6 +9,7 @@ import subprocess
 from concurrent.futures import ThreadPoolExecutor
 
 from failing import shim
+from libraries import built
 from plain import Request, produced
 from scripts import Allowed, drawn, misstep, written
 
@@ -281,18 +282,6 @@ def no_threads(harness):
             harness.check(f"{workers} workers with little memory under {script!r}", answer.short() == CATS_DONE or answer.kind == "out", repr(answer))
 
 
-def built(group):
-    """The group, where the program is there."""
-
-    def checked(harness):
-        if os.path.exists(PROGRAM):
-            group(harness)
-        else:
-            harness.check("crates/mr_pool_tests is built (by ./test, or by `rt run` there)", False)
-
-    return checked
-
-
 ALL = {
     "worked runs": worked_runs,
     "worked histories of runs": worked_histories,
@@ -305,4 +294,4 @@ ALL = {
     "each allocation of a run": each_allocation,
     "runs without threads": no_threads,
 }
-GROUPS = {name: built(group) for name, group in ALL.items()}
+GROUPS = {name: built("mr_pool_tests", group) for name, group in ALL.items()}

@@ -9,6 +9,8 @@ import re
 import struct
 import subprocess
 
+from libraries import built
+
 TOP = os.path.dirname(os.path.dirname(os.path.abspath(__file__)))
 PROGRAM = os.path.join(TOP, "crates", "mr_region_tests", "out", "mr_region_tests")
 MAGIC = b"MRREGN1\n"
@@ -116,16 +118,4 @@ def random_regions(harness):
     harness.check("random regions", told(rows) == wanted)
 
 
-def built(group):
-    """The group, where the program is there."""
-
-    def checked(harness):
-        if os.path.exists(PROGRAM):
-            group(harness)
-        else:
-            harness.check("crates/mr_region_tests is built (by ./test, or by `rt run` there)", False)
-
-    return checked
-
-
-GROUPS = {"regions": built(worked), "cuts and bytes of regions": built(cuts_and_bytes), "random regions": built(random_regions)}
+GROUPS = {"regions": built("mr_region_tests", worked), "cuts and bytes of regions": built("mr_region_tests", cuts_and_bytes), "random regions": built("mr_region_tests", random_regions)}

@@ -8,6 +8,7 @@ import random
 import re
 import subprocess
 
+from libraries import built
 import plain
 
 TOP = os.path.dirname(os.path.dirname(os.path.abspath(__file__)))
@@ -69,16 +70,4 @@ def random_runs(harness):
             harness.check(f"input {number} in runs of {limit}", told(request, data, limit) == (runs_of(request, data, limit), wanted))
 
 
-def built(group):
-    """The group, where the program is there."""
-
-    def checked(harness):
-        if os.path.exists(PROGRAM):
-            group(harness)
-        else:
-            harness.check("crates/mr_runs_tests is built (by ./test, or by `rt run` there)", False)
-
-    return checked
-
-
-GROUPS = {"runs of a map task": built(worked), "random runs of map tasks": built(random_runs)}
+GROUPS = {"runs of a map task": built("mr_runs_tests", worked), "random runs of map tasks": built("mr_runs_tests", random_runs)}
