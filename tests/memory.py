@@ -82,4 +82,22 @@ def little_memory_of_threads(harness):
     harness.check("memory that doesn't suffice for threads that judge, and memory that does", seen == {0, 4}, repr(seen))
 
 
-GROUPS = {"little memory": little_memory, "little memory of a run": little_memory_of_a_run, "little memory of threads": little_memory_of_threads}
+def input_without_end(harness):
+    """What is past the limit of an input is not read, whichever command reads it, and whatever stands there."""
+    if os.sysconf("SC_AVPHYS_PAGES") * os.sysconf("SC_PAGE_SIZE") < 6 << 30:
+        print("an input without end: skipped, for less than 6 GiB of memory are free")
+        return
+    where = harness.directory({"small": b"a\n" * 1000})
+    write_result(where, [b""], b"")
+    with open(os.path.join(where, "large"), "wb") as file:
+        file.truncate(3 << 30)
+    limit = lambda: resource.setrlimit(resource.RLIMIT_AS, (5 << 29, 5 << 29))
+    for command in ("seq", "check", "run"):
+        for files in (["/dev/zero"], ["small", "large", "nowhere"]):
+            words = [command, "--job", "words", "--parts", "1", "--out", ".", *files]
+            ran = subprocess.run([harness.program, *words], cwd=where, capture_output=True, preexec_fn=limit, timeout=120)
+            got = (ran.returncode, ran.stdout, ran.stderr, *result_of(where))
+            harness.check(f"{command} of {files}", got == (2, b"", b"mapred: TooLarge\n", [b""], b""), repr(got)[:300])
+
+
+GROUPS = {"an input without end": input_without_end, "little memory": little_memory, "little memory of a run": little_memory_of_a_run, "little memory of threads": little_memory_of_threads}

@@ -1,3 +1,4 @@
+pub mod Inputs
 pub mod Judged
 pub mod SkipLists
 pub mod Refused

@@ -1,7 +1,7 @@
 -- What the program answers, over the files of a store.
 use Rattle.std.specs.Prelude.{◌≡◌, ◌⊎◌, ℕ, ◌∷◌, ◌++◌, ◌<◌, ◌≤◌, ◌^◌, Some, List, [], map, length, ⊤, string_bytes}
 use Rattle.mr_bytes.specs.declared.RecordName.{RecordName}
-use Rattle.mr_input.specs.Files.{split_total, total_size}
+use Rattle.mr_input.specs.Files.{split_total}
 use Rattle.mr_input.specs.declared.InputFault.{InputFault}
 use Rattle.mr_input.specs.declared.InputFault.TheVariants.{TooManyFiles, TooLarge}
 use Rattle.mr_jobs.specs.JobSpec.{RequestSpec}
@@ -9,7 +9,7 @@ use Rattle.mr_sequential.specs.Emitted.{emitted}
 use Rattle.mr_sequential.specs.Skips.{skip_fault}
 use Rattle.mr_files.specs.Holding.{ChangesAmong, Faulty, Holding, Stored}
 use Rattle.mr_files.specs.Names.{part_names, name_of_certificate, result_names}
-use Rattle.mr_files.specs.Refusals.{IsFirstUnread, IsUnwrittenAt}
+use Rattle.mr_files.specs.Refusals.{IsFirstUnread, IsPassed, IsUnwrittenAt}
 use Rattle.mr_files.specs.declared.store.FileFault.{FileFault}
 use Rattle.mr_files.specs.declared.store.FileFault.TheVariants as file
 use Rattle.mr_commands.specs.declared.fault.Fault.{Fault}
@@ -29,15 +29,15 @@ pub record IsInput (holds : Stored) (names : List (List ℕ)) (size : ℕ) (file
   pub held : Holding holds names files
   pub fits : split_total size files ≤ 2 ^ 20
 
--- why files are none
-abbrev pub IsInputFault : List (List ℕ) → InputFault → Type 0
-IsInputFault files TooManyFiles = 1024 < length files
-IsInputFault files TooLarge = (length files ≤ 1024) × (2 ^ 30 < total_size files)
+-- why files are none, all of them being read, or the first ones up to the limit of their bytes
+abbrev pub IsInputFault : Stored → List (List ℕ) → InputFault → Type 0
+IsInputFault holds names TooManyFiles = (1024 < length names) × (((files : List (List ℕ)) × Holding holds names files) ⊎ IsPassed holds names (2 ^ 30))
+IsInputFault holds names TooLarge = (length names ≤ 1024) × IsPassed holds names (2 ^ 30)
 
 -- why there is no input: the first name that can't be read; then the limits; then the fit
 abbrev pub IsInputRefusal : Stored → Faulty → List (List ℕ) → ℕ → Fault → Type 0
 IsInputRefusal holds unreadable names size (CannotRead name) = IsFirstUnread holds unreadable names (string_bytes name)
-IsInputRefusal holds unreadable names size (Input fault) = (files : List (List ℕ)) × Holding holds names files × IsInputFault files fault
+IsInputRefusal holds unreadable names size (Input fault) = IsInputFault holds names fault
 IsInputRefusal holds unreadable names size TooManySplits = (files : List (List ℕ)) × Holding holds names files × (2 ^ 20 < split_total size files)
 IsInputRefusal holds unreadable names size OutOfMemory = ⊤
 IsInputRefusal holds unreadable names size fault = ⊥

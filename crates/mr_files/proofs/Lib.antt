@@ -1,3 +1,4 @@
+pub mod Passed
 pub mod Entries
 pub mod Lists
 pub mod Digits

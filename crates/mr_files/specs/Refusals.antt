@@ -1,8 +1,11 @@
 -- Which file is told where one can't be read or written.
-use Rattle.std.specs.Prelude.{◌≡◌, ℕ, List, [], ◌∷◌, ◌++◌, ⊤, string_bytes}
+use Rattle.std.specs.Prelude.{◌≡◌, ◌<◌, ℕ, List, [], ◌∷◌, ◌++◌, ⊤, length, string_bytes}
+use Rattle.mr_input.specs.Files.{total_size}
 use Rattle.mr_files.specs.Holding.{Begins, ChangesAmong, Faulty, Holding, Stored}
 use Rattle.mr_store.specs.declared.reading.ReadFault.{ReadFault}
 use Rattle.mr_store.specs.declared.reading.ReadFault.TheVariants.{Device}
+use Rattle.mr_files.specs.declared.within.WithinFault.{WithinFault}
+use Rattle.mr_files.specs.declared.within.WithinFault.TheVariants.{File, TooLong}
 use Rattle.mr_files.specs.declared.store.FileFault.{FileFault}
 use Rattle.mr_files.specs.declared.store.FileFault.TheVariants.{CannotRead, CannotWrite, OutOfMemory}
 
@@ -28,6 +31,21 @@ abbrev pub IsUnread : Faulty → List ℕ → FileFault → Type 0
 IsUnread unreadable name (CannotRead told) = unreadable name × (string_bytes told ≡ name)
 IsUnread unreadable name (CannotWrite told) = ⊥
 IsUnread unreadable name OutOfMemory = ⊤
+
+-- the file can't be read, or has more bytes than that
+abbrev pub IsUnreadWithin : Stored → Faulty → List ℕ → ℕ → WithinFault → Type 0
+IsUnreadWithin holds unreadable name limit (File fault) = IsUnread unreadable name fault
+IsUnreadWithin holds unreadable name limit TooLong = (bytes : List ℕ) × holds name bytes × (limit < length bytes)
+
+-- the files under the first of these names have more bytes together than that
+abbrev pub IsPassed : Stored → List (List ℕ) → ℕ → Type 0
+IsPassed holds names limit =
+    (before after : List (List ℕ)) × (names ≡ before ++ after) × ((files : List (List ℕ)) × Holding holds before files × (limit < total_size files))
+
+-- the first name that can't be read is told, or that the limit is passed
+abbrev pub IsReadRefusalWithin : Stored → Faulty → List (List ℕ) → ℕ → WithinFault → Type 0
+IsReadRefusalWithin holds unreadable names limit (File fault) = IsReadRefusal holds unreadable names fault
+IsReadRefusalWithin holds unreadable names limit TooLong = IsPassed holds names limit
 
 -- the name is one of these and can't be read
 abbrev pub IsOneUnread : Faulty → List (List ℕ) → FileFault → Type 0

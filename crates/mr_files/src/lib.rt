@@ -8,6 +8,7 @@ mod memory;
 mod names;
 mod reading;
 mod store;
+mod within;
 mod writing;
 
 pub use crate::disk::DiskFiles;
@@ -16,4 +17,5 @@ pub use crate::memory::{MemoryFiles, one_content_law};
 pub use crate::names::{certificate_name, part_name};
 pub use crate::reading::{read_file, read_files, read_result};
 pub use crate::store::{FileFault, Store, WriteFault};
+pub use crate::within::{WithinFault, read_files_within};
 pub use crate::writing::{write_files, write_named};

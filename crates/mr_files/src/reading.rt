@@ -11,7 +11,7 @@ use mr_store::{CountedRead, ReadFault, read_all};
 use std::alloc::{AllocError, Global};
 
 /// The fault of a file of that name.
-fn fault_of(alloc: Global, name: &str, fault: ReadFault) -> FileFault
+pub(crate) fn fault_of(alloc: Global, name: &str, fault: ReadFault) -> FileFault
     ensures { IsFault name.now fault result }
 {
     match fault {

@@ -24,6 +24,11 @@ pub(crate) enum Halt {
 }
 
 impl From<AllocError> for Halt {
+    ghost use Rattle.mr_pool.specs.declared.worker.Halt.TheVariants.{Refused};
+    ghost use Rattle.std.specs.Prelude.{◌≡◌};
+
+    ghost from_gives = { λ _ h. h ≡ Refused };
+
     fn from(_: AllocError) -> Halt {
         Halt::Refused
     }

@@ -3,12 +3,14 @@
 
 mod device;
 mod failing;
+mod limited;
 mod memory_reader;
 mod memory_writer;
 mod reading;
 mod writing;
 
 pub use crate::device::{CountedRead, CountedWrite, Device};
+pub use crate::limited::{LimitedFault, read_limited};
 pub use crate::memory_reader::MemoryReader;
 pub use crate::memory_writer::MemoryWriter;
 pub use crate::reading::{ReadFault, read_all};

@@ -1,5 +1,6 @@
 use mr_store::{
-    CountedRead, CountedWrite, MemoryReader, MemoryWriter, read_all, write_all, write_result,
+    CountedRead, CountedWrite, LimitedFault, MemoryReader, MemoryWriter, read_all, read_limited,
+    write_all, write_result,
 };
 use std::alloc::Global;
 use std::test::Fail;
@@ -66,6 +67,53 @@ fn reads_to_the_end_or_tells_the_failed_read(rt: HostRuntime) -> Result<(), Fail
         }
         assert!(rt; reads_all(alloc, most, Some(calls + 1))?);
     }
+    Ok(())
+}
+
+/// Whether a text of 20 bytes is refused under this limit, the list as before, and the reader asked for one byte past it.
+fn refuses_past(alloc: Global, most: usize, limit: u64) -> Result<bool, Fail> {
+    let mut from = reader(alloc, most, None)?;
+    let mut out = Vec::from_slice(alloc, b"x")?;
+    Ok(
+        read_limited(&mut from, &mut out, limit) == Err(LimitedFault::TooLong)
+            && out.as_slice() == b"x".as_slice()
+            && limit.wrapping_add(from.rest().len() as u64).wrapping_add(1) == 20
+            && from.failures() == 0,
+    )
+}
+
+/// What is answered under this limit where that call fails, and whether what was read stands behind the list's bytes.
+fn read_within(
+    alloc: Global,
+    most: usize,
+    failing: Option<u64>,
+    limit: u64,
+) -> Result<(Result<(), LimitedFault>, bool), Fail> {
+    let mut from = reader(alloc, most, failing)?;
+    let mut out = Vec::from_slice(alloc, b"x")?;
+    let answer = read_limited(&mut from, &mut out, limit);
+    Ok((
+        answer,
+        out.as_slice() == b"x0123456789abcdefghij".as_slice(),
+    ))
+}
+
+#[test]
+fn reads_up_to_a_limit_and_one_byte_past_it(rt: HostRuntime) -> Result<(), Fail> {
+    let alloc = rt.alloc();
+    for most in [1, 7, 20, 100] {
+        for limit in [0, 1, 3, 6, 7, 8, 18, 19] {
+            assert!(rt; refuses_past(alloc, most, limit)?);
+        }
+        for limit in [20, 21, 65_536, u64::MAX] {
+            assert!(rt; read_within(alloc, most, None, limit)? == (Ok(()), true));
+            assert!(rt;
+                read_within(alloc, most, Some(1), limit)? == (Err(LimitedFault::Device), false)
+            );
+        }
+        assert!(rt; read_within(alloc, most, Some(2), 0)? == (Err(LimitedFault::TooLong), false));
+    }
+    assert!(rt; read_within(alloc, 1, Some(21), 20)? == (Err(LimitedFault::Device), false));
     Ok(())
 }
 

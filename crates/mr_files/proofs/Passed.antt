@@ -1,0 +1,40 @@
+-- What was read of a file, and the sizes of files one behind another.
+use Rattle.std.proofs.Common.{◌≡◌, ℕ, ◌+◌, ◌≤◌, List, [], ◌∷◌, ◌++◌, length, refl, sym, ap, ◌∙◌, arith, rules, append_assoc, length-append}
+use Rattle.std.proofs.lemmas.List.Sums.{sum_by-append}
+use Rattle.std.specs.Prelude.{Vec, Option, Some, None}
+use Rattle.std.specs.Global.{Global}
+use Rattle.std.specs.Io.KnownBytes.{Consumes}
+use Rattle.mr_input.specs.Files.{contents, total_size}
+use Rattle.mr_files.specs.Holding.{Agrees, Faulty, Holding, Stored}
+use Rattle.mr_files.specs.Refusals.{IsReadRefusalWithin, IsUnreadWithin}
+use Rattle.mr_files.specs.declared.within.WithinFault.{WithinFault}
+use Rattle.mr_files.specs.declared.within.WithinFault.TheVariants.{File, TooLong}
+use Rattle.mr_files.proofs.Lists.{contents_more, holding_more, refused_at}
+
+-- what was read begins what stands there
+pub read_begins : (known left : Option (List ℕ)) (got : List ℕ) → Consumes known left got → (b : List ℕ) × Agrees known b × (length got ≤ length b)
+read_begins None left got c = (got, tt, omega arith)
+read_begins (Some xs) None got c = absurd c
+read_begins (Some xs) (Some ys) got c = (xs, refl, omega (arith, ap length c, length-append got ys))
+
+pub sizes_more : (fs : List (List ℕ)) (f : List ℕ) → total_size (fs ++ f ∷ []) ≡ total_size fs + length f
+sizes_more fs f =
+    let more : total_size (fs ++ f ∷ []) ≡ total_size fs + total_size (f ∷ []) = sum_by-append length fs (f ∷ []) in
+    let one : total_size (f ∷ []) ≡ length f + 0 = search rules in
+    omega (arith, more, one)
+
+-- one file more
+pub sizes_pushed : (files after : List (Vec ℕ Global)) (v : Vec ℕ Global) → after ≡ files ++ v ∷ [] → total_size (contents after) ≡ total_size (contents files) + length v.items
+sizes_pushed files after v is = ap (λ fs. total_size (contents fs)) is ∙ (ap total_size (contents_more files v) ∙ sizes_more (contents files) v.items)
+
+-- a file that is refused behind those that were read, with what is left of the limit
+pub refused_within : (holds : Stored) (unreadable : Faulty) (names before after read : List (List ℕ)) (name : List ℕ) (limit left : ℕ) (e : WithinFault)
+    → names ≡ before ++ name ∷ after → Holding holds before read → total_size read + left ≡ limit
+    → IsUnreadWithin holds unreadable name left e → IsReadRefusalWithin holds unreadable names limit e
+refused_within holds unreadable names before after read name limit left (File fault) is h room u = refused_at holds unreadable names before after read name fault is h u
+refused_within holds unreadable names before after read name limit left TooLong is h room u = (
+  before ++ name ∷ [],
+  after,
+  is ∙ sym (append_assoc before (name ∷ []) after),
+  (read ++ u.0 ∷ [], holding_more holds before read name u.0 h u.1, omega (arith, sizes_more read u.0, room, u.2)),
+)

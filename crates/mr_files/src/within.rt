@@ -1,0 +1,79 @@
+//! Files read in order, where their bytes together have a limit.
+ghost use Rattle.std.specs.Prelude.{◌≡◌, ◌≤◌, ◌∷◌, [], ◌++◌, map, IfOk, IfErr, length};
+ghost use Rattle.mr_input.specs.Files.{contents, total_size};
+ghost use Rattle.mr_files.specs.Holding.{Holding};
+ghost use Rattle.mr_files.specs.Refusals.{IsReadRefusalWithin, IsUnreadWithin};
+
+use crate::reading::fault_of;
+use crate::store::{FileFault, Store};
+use mr_store::{CountedRead, LimitedFault, ReadFault, read_limited};
+use std::alloc::{AllocError, Global};
+
+/// Why files were not read, where their bytes together have a limit.
+#[derive(Drop)]
+pub enum WithinFault {
+    File(FileFault),
+    /// Together they have more bytes than that.
+    TooLong,
+}
+
+impl From<AllocError> for WithinFault {
+    ghost use Rattle.mr_files.specs.declared.within.WithinFault.TheVariants.{File};
+    ghost use Rattle.mr_files.specs.declared.store.FileFault.TheVariants.{OutOfMemory};
+
+    ghost from_gives = { λ _ f. f ≡ File OutOfMemory };
+
+    fn from(_fault: AllocError) -> WithinFault {
+        WithinFault::File(FileFault::OutOfMemory)
+    }
+}
+
+/// All bytes of the file of that name, where they are at most so many. No more than one byte past the limit is read.
+fn read_file_within<S: Store>(
+    store: &S,
+    alloc: Global,
+    name: &str,
+    limit: u64,
+) -> Result<Vec<u8>, WithinFault>
+    ensures bytes { IfOk result (λ v. S.holds store.now name.now v.items) }
+    ensures within { IfOk result (λ v. length v.items ≤ limit) }
+    ensures refused { IfErr result (λ e. IsUnreadWithin (S.holds store.now) (S.unreadable store.now) name.now limit e) }
+{
+    let mut reader = match store.reader(alloc, name) {
+        Ok(reader) => reader,
+        Err(fault) => return Err(WithinFault::File(fault_of(alloc, name, fault))),
+    };
+    let mut bytes = Vec::new(alloc);
+    match read_limited(&mut reader, &mut bytes, limit) {
+        Ok(()) => Ok(bytes),
+        Err(LimitedFault::TooLong) => Err(WithinFault::TooLong),
+        Err(LimitedFault::Device) if !reader.lacked_memory() => Err(WithinFault::File(fault_of(
+            alloc,
+            name,
+            ReadFault::Device,
+        ))),
+        Err(_) => Err(WithinFault::File(FileFault::OutOfMemory)),
+    }
+}
+
+/// The bytes of the named files, in order, where together they are at most so many. Of what is past the limit no more than
+/// one byte is read.
+pub fn read_files_within<S: Store>(
+    store: &S,
+    alloc: Global,
+    names: &[&str],
+    limit: u64,
+) -> Result<Vec<Vec<u8>>, WithinFault>
+    ensures bytes { IfOk result (λ v. Holding (S.holds store.now) (map (λ s. s.now) names.now) (contents v.items)) }
+    ensures within { IfOk result (λ v. total_size (contents v.items) ≤ limit) }
+    ensures refused { IfErr result (λ e. IsReadRefusalWithin (S.holds store.now) (S.unreadable store.now) (map (λ s. s.now) names.now) limit e) }
+{
+    let mut files = Vec::new(alloc);
+    let mut left = limit;
+    for name in names {
+        let bytes = read_file_within(store, alloc, name, left)?;
+        left -= bytes.len() as u64;
+        files.push(bytes).map_err(AllocError::from)?;
+    }
+    Ok(files)
+}

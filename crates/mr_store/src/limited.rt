@@ -1,0 +1,129 @@
+//! A reader read to its end, onto a list, where its bytes have a limit.
+ghost use Rattle.std.specs.Prelude.{◌≡◌, ◌↔◌, ◌⊎◌, ◌≤◌, ◌<◌, ◌+◌, ℕ, List, ◌++◌, IfOk, OnOk, OnErr, IfSome, true, length};
+ghost use Rattle.std.specs.Io.KnownBytes.{Consumes, IsAtEnd, ReadConsumes};
+ghost use Rattle.mr_store.specs.Devices.{Counts, FailsOnly, counted};
+ghost use Rattle.mr_store.specs.Reads.{LimitedOnto};
+
+use crate::device::{CountedRead, Device};
+use std::alloc::AllocError;
+use thiserror::Error;
+
+/// Why a reader was not read to its end, where its bytes have a limit.
+#[derive(Clone, Copy, Debug, PartialEq, Eq, Drop, Error)]
+pub enum LimitedFault {
+    /// A read failed.
+    #[error("Device")]
+    Device,
+    #[error("OutOfMemory")]
+    OutOfMemory,
+    /// The reader gave a byte past the limit.
+    #[error("TooLong")]
+    TooLong,
+}
+
+impl From<Device> for LimitedFault {
+    ghost use Rattle.mr_store.specs.declared.limited.LimitedFault.TheVariants.{Device as told_device};
+
+    ghost from_gives = { λ _ f. f ≡ told_device };
+
+    fn from(_fault: Device) -> LimitedFault {
+        LimitedFault::Device
+    }
+}
+
+impl From<AllocError> for LimitedFault {
+    ghost use Rattle.mr_store.specs.declared.limited.LimitedFault.TheVariants.{OutOfMemory as told_memory};
+
+    ghost from_gives = { λ _ f. f ≡ told_memory };
+
+    fn from(_fault: AllocError) -> LimitedFault {
+        LimitedFault::OutOfMemory
+    }
+}
+
+/// The most bytes that one read asks for.
+const PIECE: usize = 65_536;
+
+/// How many bytes a read asks for where so many more may come: one more than those, which tells that there is one, and
+/// at most a piece.
+fn asked(left: u64) -> usize
+    ensures some { 0 < result }
+    ensures within { result ≤ left + 1 }
+    ensures piece { result ≤ 65536 }
+{
+    if left < PIECE as u64 {
+        left as usize + 1
+    } else {
+        PIECE
+    }
+}
+
+/// Reads at most so many bytes into the front of the buffer.
+fn read_some<R: CountedRead>(
+    reader: &mut R,
+    buffer: &mut [u8],
+    most: usize,
+) -> Result<usize, Device>
+    requires room { most ≤ length buffer.old }
+    requires some { 0 < most }
+    ensures bound { IfOk result (λ n. n ≤ most) }
+    ensures len { length buffer.new ≡ length buffer.old }
+    ensures bytes { ReadConsumes (R.remaining reader.old) (R.remaining reader.new) result buffer.new }
+    ensures count { Counts (R.failed reader.old) (R.failed reader.new) result }
+    ensures fails { FailsOnly (R.can_fail reader.old) (R.lacked reader.new) result }
+    ensures later { R.can_fail reader.new → R.can_fail reader.old }
+{
+    let (front, _) = buffer.split_at_mut(most);
+    reader.read(front)
+}
+
+/// Appends what the reader gives, up to its end, its first byte past the limit, or a fault; behind a fault some of it is
+/// appended.
+fn read_limited_onto<R: CountedRead>(
+    reader: &mut R,
+    out: &mut Vec<u8>,
+    limit: u64,
+) -> Result<(), LimitedFault>
+    ensures onto { LimitedOnto (R.remaining reader.old) (R.remaining reader.new) (R.failed reader.old) (R.failed reader.new) limit out.old.items out.new.items result }
+    ensures fails { result ≡ Err LimitedFault.Device → R.can_fail reader.old ⊎ (R.lacked reader.new ≡ true) }
+{
+    let mut buffer = [0u8; PIECE];
+    let mut left = limit;
+    loop {
+        let count = read_some(reader, &mut buffer, asked(left))?;
+        if count == 0 {
+            return Ok(());
+        }
+        if count as u64 > left {
+            return Err(LimitedFault::TooLong);
+        }
+        out.extend_from_slice(&buffer[..count])?;
+        left -= count as u64;
+    }
+}
+
+/// Appends all bytes of the reader, up to its end, where they are at most so many. TooLong exactly where the reader gave a
+/// byte past the limit, and it is asked for none behind that one; Device exactly where a read failed in this call. After a
+/// refusal the list is as before; the reader has given what was read.
+pub fn read_limited<R: CountedRead>(
+    reader: &mut R,
+    out: &mut Vec<u8>,
+    limit: u64,
+) -> Result<(), LimitedFault>
+    ensures bytes { OnOk result (IfSome (R.remaining reader.old) (λ xs. out.new.items ≡ out.old.items ++ xs)) }
+    ensures end { OnOk result (IsAtEnd (R.remaining reader.new)) }
+    ensures err { OnErr result (out.new.items ≡ out.old.items) }
+    ensures within { OnOk result (length out.new.items ≤ length out.old.items + limit) }
+    ensures consumes { (got : List ℕ) × Consumes (R.remaining reader.old) (R.remaining reader.new) got × (length got ≤ limit + 1)
+        × ((result ≡ Err LimitedFault.TooLong) ↔ (limit < length got)) }
+    ensures device { (result ≡ Err LimitedFault.Device) ↔ (R.failed reader.new ≡ counted (R.failed reader.old)) }
+    ensures count { (result ≡ Err LimitedFault.Device → ⊥) → R.failed reader.new ≡ R.failed reader.old }
+    ensures fails { result ≡ Err LimitedFault.Device → R.can_fail reader.old ⊎ (R.lacked reader.new ≡ true) }
+{
+    let before = out.len();
+    let answer = read_limited_onto(reader, out, limit);
+    if answer.is_err() {
+        out.truncate(before);
+    }
+    answer
+}
