@@ -50,6 +50,9 @@ INPUTS = [
     ("grep: one line of a, the literal a..ab", ["--job", "grep", "--literal", "a" * 4095 + "b"], lambda: [b"a" * (4 * MB)]),
     ("grep: the same, folded", ["--job", "grep", "--fold", "--literal", "a" * 4095 + "b"], lambda: [b"a" * (4 * MB)]),
     ("grep: the same, folded, a..aba..a", ["--job", "grep", "--fold", "--literal", "a" * 2047 + "b" + "A" * 2048], lambda: [b"a" * (4 * MB)]),
+    ("grep: empty lines, the longest literal", ["--job", "grep", "--literal", "a" * 4096], lambda: [b"\n" * (32 * MB)]),
+    ("grep: lines of a, the literal a..ab", ["--job", "grep", "--literal", "a" * 63 + "b"], lambda: [(b"a" * 63 + b"\n") * (MB // 2)]),
+    ("grep: lines of a..b, the literal a..b, folded", ["--job", "grep", "--fold", "--literal", "a" * 63 + "B"], lambda: [(b"a" * 300 + b"b\n") * (MB // 8)]),
     ("url: short requests", ["--job", "url"], lambda: [b'"G / H"\n' * (4 * MB)]),
     ("splits of a byte", ["--job", "words", "--split", "1"], lambda: [b"a\n" * (MB // 2)]),
 ]

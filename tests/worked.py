@@ -19,6 +19,8 @@ def worked_rows(harness):
     row(harness, "grep keeps a carriage return", [*grep, "a"], {"a": b"a\r\n"}, out=b"done: 1 files, 1 pairs, 0 left out\n", parts=[b"a\r\t0:0\n"])
     row(harness, "grep folded", [*grep, "AB", "--fold"], {"a": b"xab\nb\naB\n"}, out=b"done: 1 files, 2 pairs, 0 left out\n", parts=[b"aB\t0:6\nxab\t0:0\n"])
     row(harness, "grep in three files", [*grep, "x"], {"a": b"x", "b": b"", "c": b"x\n"}, out=b"done: 1 files, 2 pairs, 0 left out\n", parts=[b"x\t0:0\nx\t2:0\n"])
+    row(harness, "grep in lines that end in the literal's front", [*grep, "ab"], {"a": b"xa\nb\nab\na\nab", "b": b"b\nab\n"}, out=b"done: 1 files, 3 pairs, 0 left out\n", parts=[b"ab\t0:5\nab\t0:10\nab\t1:2\n"])
+    row(harness, "grep behind a line left out", [*grep, "b", "--skips", "0:0,0:2", "--max-skips", "2"], {"a": b"b\nb\nb\nbb\n"}, out=b"done: 1 files, 2 pairs, 2 left out\n", parts=[b"b\t0:2\nbb\t0:6\n"])
     row(harness, "a literal with a hyphen", [*grep, "-x"], {"a": b"a-x\n"}, out=b"done: 1 files, 1 pairs, 0 left out\n", parts=[b"a-x\t0:0\n"])
     url = ["seq", "--job", "url"]
     log = b'1.2.3.4 - - [10/Oct/2000:13:55:36 -0700] "GET /a HTTP/1.0" 200 2326'

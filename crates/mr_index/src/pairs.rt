@@ -2,10 +2,11 @@
 ghost use Rattle.std.specs.Prelude.{◌≡◌, ℕ, ◌+◌, ◌≤◌, ◌<◌, ◌^◌, ◌++◌, [], ◌∷◌, IfOk, OnOk, MatchOption, length, slice_index, slice_index_or};
 ghost use Rattle.mr_bytes.specs.declared.Value.TheVariants.{One};
 ghost use Rattle.mr_jobs.specs.Emissions.{emissions};
+ghost use Rattle.mr_jobs.specs.Hits.{IsLine};
 ghost use Rattle.mr_index.specs.Pairs.{pairs_seen, filled, Sound, Fits};
 
 use mr_bytes::{Value, Values};
-use mr_jobs::{Emitter, Job};
+use mr_jobs::{Emitter, Mapper};
 use mr_splits::Located;
 use std::alloc::{AllocError, Global};
 
@@ -117,18 +118,20 @@ impl Pairs {
     /// Appends what a record emits.
     pub(crate) fn map(
         &mut self,
-        job: &Job,
+        mapper: &mut Mapper<'_, '_>,
         line: Located<'_>,
         buffer: &mut Vec<u8>,
     ) -> Result<(), AllocError>
         requires sound { Sound self.old }
         requires small { length line.bytes.now ≤ 2 ^ 30 }
-        requires fits { Fits (pairs_seen self.old ++ emissions job.now line.file line.start line.bytes.now) }
+        requires line { IsLine mapper.old.files line.file line.start line.bytes.now }
+        requires fits { Fits (pairs_seen self.old ++ emissions mapper.old.job line.file line.start line.bytes.now) }
+        ensures same { mapper.new ≡ mapper.old }
         ensures sound { OnOk result (Sound self.new) }
-        ensures pairs { OnOk result (pairs_seen self.new ≡ pairs_seen self.old ++ emissions job.now line.entry.file line.entry.start line.entry.bytes.now) }
+        ensures pairs { OnOk result (pairs_seen self.new ≡ pairs_seen self.old ++ emissions mapper.old.job line.entry.file line.entry.start line.entry.bytes.now) }
     {
-        job.prepare(line.bytes, buffer)?;
-        self.push_all(job.emit(line.file, line.start, line.bytes, buffer.as_slice()))
+        mapper.job().prepare(line.bytes, buffer)?;
+        self.push_all(mapper.emit(line.file, line.start, line.bytes, buffer.as_slice()))
     }
 }
 

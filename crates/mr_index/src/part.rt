@@ -3,6 +3,7 @@ ghost use Rattle.std.specs.Prelude.{◌≡◌, ℕ, ◌+◌, ◌≤◌, ◌<◌,
 ghost use Rattle.std.specs.List.{flat_map};
 ghost use Rattle.mr_input.specs.Files.{split_total};
 ghost use Rattle.mr_jobs.specs.Emissions.{emissions};
+ghost use Rattle.mr_jobs.specs.Hits.{IsLine};
 ghost use Rattle.mr_splits.specs.Named.{of_split};
 ghost use Rattle.mr_splits.specs.Cut.{records_of};
 ghost use Rattle.mr_sequential.specs.Emitted.{record_triples};
@@ -14,7 +15,7 @@ ghost use Rattle.mr_index.specs.Building.{numbered, ended};
 
 use crate::pairs::{Pairs, fill, push_end, start_of};
 use mr_bytes::{Name, Value};
-use mr_jobs::Job;
+use mr_jobs::{Job, Mapper};
 use mr_splits::{Kept, Located, Plan};
 use mr_watch::{Pace, Watch};
 use std::alloc::{AllocError, Global};
@@ -179,7 +180,7 @@ impl Tables {
     /// Appends what the record of that number emits, and counts it. Those before it that have no end yet gave nothing.
     fn map_record(
         &mut self,
-        job: &Job,
+        mapper: &mut Mapper<'_, '_>,
         number: usize,
         line: Located<'_>,
         room: Room,
@@ -188,18 +189,20 @@ impl Tables {
     ) -> Result<(), AllocError>
         requires sound { Sound self.old.pairs }
         requires small { length line.bytes.now ≤ 2 ^ 30 }
-        requires fits { Fits (pairs_seen self.old.pairs ++ emissions job.now line.file line.start line.bytes.now) }
+        requires line { IsLine mapper.old.files line.file line.start line.bytes.now }
+        requires fits { Fits (pairs_seen self.old.pairs ++ emissions mapper.old.job line.file line.start line.bytes.now) }
         requires room { mapped.old + 1 < 2 ^ 64 }
+        ensures same { mapper.new ≡ mapper.old }
         ensures sound { OnOk result (Sound self.new.pairs) }
         ensures pairs { OnOk result (pairs_seen self.new.pairs
-            ≡ pairs_seen self.old.pairs ++ emissions job.now line.entry.file line.entry.start line.entry.bytes.now) }
+            ≡ pairs_seen self.old.pairs ++ emissions mapper.old.job line.entry.file line.entry.start line.entry.bytes.now) }
         ensures ends { OnOk result (self.new.ends.items
             ≡ ended number (length (pairs_seen self.old.pairs)) (length (pairs_seen self.new.pairs)) self.old.ends.items) }
         ensures counted { OnOk result (mapped.new ≡ mapped.old + 1) }
         ensures err { OnErr result (mapped.new ≡ mapped.old) }
     {
         let before = self.pairs.len();
-        self.pairs.map(job, line, buffer)?;
+        self.pairs.map(mapper, line, buffer)?;
         self.make_room(before, room)?;
         self.end_record(number, before)?;
         *mapped += 1;
@@ -235,10 +238,11 @@ impl Tables {
         // A plan's size is at least 1: that its records have numbers of their own rests on that.
         let _size = plan.size();
         let room = Room::of_split(plan, split);
+        let mut mapper = job.over(plan.input());
         let mut left = kept.of_split(split);
         while let Some((name, line)) = left.next() {
             pace.reach(plan.number_of(split, name.rec) as u64, watch);
-            self.map_record(job, name.rec as usize, line, room, buffer, mapped)?;
+            self.map_record(&mut mapper, name.rec as usize, line, room, buffer, mapped)?;
         }
         Ok(())
     }

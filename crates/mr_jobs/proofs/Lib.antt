@@ -1,4 +1,5 @@
 pub mod LiteralLemmas
+pub mod HitLemmas
 pub mod UrlLemmas
 pub mod EmitLemmas
 pub mod EntryLemmas

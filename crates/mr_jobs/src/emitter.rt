@@ -67,7 +67,7 @@ fn all_words(text: &[u8]) -> Emitter<'_>
 }
 
 /// No emission.
-fn nothing(text: &[u8]) -> Emitter<'_>
+pub(crate) fn nothing(text: &[u8]) -> Emitter<'_>
     requires { length text.now ≤ 2 ^ 30 }
     ensures { result ≡ [] }
 {
@@ -79,7 +79,7 @@ fn nothing(text: &[u8]) -> Emitter<'_>
 }
 
 /// One emission.
-fn one_pair(key: &[u8], value: Value) -> Emitter<'_>
+pub(crate) fn one_pair(key: &[u8], value: Value) -> Emitter<'_>
     requires { length key.now ≤ 2 ^ 30 }
     ensures { result ≡ (key.entry.now, value) ∷ [] }
 {

@@ -3,8 +3,10 @@
 
 mod emissions;
 mod emitter;
+mod hits;
 mod job;
 mod literal;
+mod mapper;
 mod request;
 mod url;
 
@@ -12,5 +14,6 @@ pub use emissions::{Emissions, Origin, emission_law, map};
 pub use emitter::Emitter;
 pub use job::{Job, JobFault, MAX_LITERAL};
 pub use literal::literal_law;
+pub use mapper::Mapper;
 pub use request::{MAX_PARTS, MAX_SKIPS, Request, RequestFault};
 pub use url::url_law;

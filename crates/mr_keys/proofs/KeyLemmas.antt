@@ -1,5 +1,5 @@
 -- Keys told by their first bytes, and slots that go on telling of them.
-use Rattle.std.proofs.Common.{◌≡◌, ℕ, ◌≤◌, List, [], ◌∷◌, ◌++◌, length, get_or, take, drop, append-nil, refl, sym, ◌∙◌, ap, subst, arith, All, length-append}
+use Rattle.std.proofs.Common.{◌≡◌, ℕ, ◌+◌, ◌<◌, ◌≤◌, ◌⊎◌, inl, inr, List, [], ◌∷◌, ◌++◌, length, get_or, take, drop, append-nil, refl, sym, ◌∙◌, ap, subst, arith, All, length-append}
 use Rattle.std.proofs.Math.Seq.{get_or-append_seam}
 use Rattle.std.proofs.lemmas.Nat.{le_bytes_8}
 use Rattle.std.proofs.lemmas.List.{get_or_append_left}
@@ -70,3 +70,22 @@ slots-more keys more slots all k d h = slot-more keys more (get_or slots k d) (a
 -- the key behind all others has the next number
 pub last-key : (keys : List (List ℕ)) (key : List ℕ) → IsKeyAt (keys ++ key ∷ []) (length keys) key
 last-key keys key = (omega (arith, length-append keys (key ∷ [])), get_or-append_seam keys key [] [])
+
+-- ---- keys to which one more may have come
+
+abbrev pub Grew : List (List ℕ) → List (List ℕ) → List ℕ → Type 0
+Grew ks ls key = (ls ≡ ks) ⊎ (ls ≡ ks ++ key ∷ [])
+
+pub grew-stay : (ks ls : List (List ℕ)) (key : List ℕ) → Grew ks ls key → (j : ℕ) → j < length ks → key_at ls j ≡ key_at ks j
+grew-stay ks ls key (inl e) j h = ap (λ l. key_at l j) e
+grew-stay ks ls key (inr e) j h = ap (λ l. key_at l j) e ∙ get_or_append_left ks (key ∷ []) [] j h
+
+pub grew-count : (ks ls : List (List ℕ)) (key : List ℕ) → Grew ks ls key → (length ks ≤ length ls) × (length ls ≤ length ks + 1)
+grew-count ks ls key (inl e) = (omega (arith, ap length e), omega (arith, ap length e))
+grew-count ks ls key (inr e) = (omega (arith, ap length e, length-append ks (key ∷ [])), omega (arith, ap length e, length-append ks (key ∷ [])))
+
+-- the number of a key that is new is the last
+pub grew-last : (ks ls : List (List ℕ)) (key : List ℕ) (n : ℕ) → Grew ks ls key → (ls ≡ ks) ⊎ (n ≡ length ks) → (j : ℕ) → j < length ls → length ks ≤ j → j ≡ n
+grew-last ks ls key n (inl e) next j h k = absurd (omega (arith, h, k, ap length e))
+grew-last ks ls key n (inr e) (inl f) j h k = absurd (omega (arith, h, k, ap length f))
+grew-last ks ls key n (inr e) (inr f) j h k = omega (arith, f, h, k, ap length e, length-append ks (key ∷ []))

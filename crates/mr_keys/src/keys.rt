@@ -4,7 +4,7 @@ ghost use Rattle.mr_keys.specs.Front.{IsFront};
 ghost use Rattle.mr_keys.specs.Keys.{IsKeyAt, IsSlot, key_at};
 
 use crate::front::{Front, front_of};
-use crate::slots::{Slot, look, slot_of, slots_of};
+use crate::slots::{Slot, empty_all, look, slot_of, slots_of};
 use crate::texts::Texts;
 use std::alloc::{AllocError, Global};
 use std::marker::Model;
@@ -71,6 +71,14 @@ impl Keys {
             Ok(number) => Ok(number),
             Err(at) => self.add(at, front, key),
         }
+    }
+
+    /// No keys any more. What they took stays for later ones.
+    pub fn clear(&mut self)
+        ensures { self.new ≡ [] }
+    {
+        self.texts.clear();
+        empty_all(&mut self.slots);
     }
 
     /// Makes sure that at most half of the slots are taken.

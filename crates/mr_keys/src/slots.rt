@@ -110,6 +110,15 @@ fn put(slots: &mut Vec<Slot>, hash: u64, slot: Slot)
     }
 }
 
+/// Leaves no key in any slot.
+pub(crate) fn empty_all(slots: &mut Vec<Slot>)
+    ensures { (keys : List (List ℕ)) → All (IsSlot keys) slots.new.items }
+{
+    for i in 0..slots.len() {
+        slots[i] = empty_slot();
+    }
+}
+
 /// So many slots, which tell of the texts.
 pub(crate) fn slots_of(alloc: Global, texts: &Texts, count: usize) -> Result<Vec<Slot>, AllocError>
     ensures { IfOk result (λ v. All (IsSlot texts.now) v.items) }

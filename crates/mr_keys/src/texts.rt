@@ -82,4 +82,11 @@ impl Texts {
         self.spans.push_reserved(span);
         Ok(())
     }
+    /// No texts any more. What they took stays for later ones.
+    pub fn clear(&mut self)
+        ensures { self.new ≡ [] }
+    {
+        self.bytes.clear();
+        self.spans.clear();
+    }
 }

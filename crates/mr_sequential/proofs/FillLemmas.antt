@@ -5,11 +5,11 @@ use Rattle.mr_bytes.specs.declared.Value.{Value}
 use Rattle.mr_jobs.specs.JobSpec.{JobSpec, counts}
 use Rattle.mr_reduce.specs.Text.{text_of, total_line}
 use Rattle.mr_reduce.proofs.TextLemmas.{counters_tell_the_number}
-use Rattle.mr_sequential.specs.declared.rows.Row.{Row}
-use Rattle.mr_sequential.specs.Buckets.{before, size}
-use Rattle.mr_sequential.specs.Pairs.{bucket}
-use Rattle.mr_sequential.specs.Rows.{no_row, bucket_text, count_line, values_text, row_texts, start_of}
-use Rattle.mr_sequential.proofs.BucketLemmas.{before-zero, before-rises, size-count}
+use Rattle.mr_ranks.specs.declared.rows.Row.{Row}
+use Rattle.mr_ranks.specs.Buckets.{before, size, bucket, start_of}
+use Rattle.mr_ranks.specs.Rows.{no_row}
+use Rattle.mr_sequential.specs.Rows.{bucket_text, count_line, values_text, row_texts}
+use Rattle.mr_ranks.proofs.BucketLemmas.{before-zero, before-rises, size-count}
 use Rattle.mr_sequential.proofs.TextLemmas.{row_texts-congr}
 
 -- where the buckets begin, given where they end

@@ -1,38 +1,11 @@
 -- Pairs as numbers of keys and values: one more pair.
-use Rattle.std.proofs.Common.{◌≡◌, ℕ, ◌+◌, ◌<◌, ◌≤◌, ◌⊎◌, List, [], ◌∷◌, ◌++◌, length, refl, sym, ◌∙◌, ap, arith, suc, inl, inr, subst, map, All}
+use Rattle.std.proofs.Common.{◌≡◌, ℕ, ◌<◌, ◌≤◌, List, [], ◌∷◌, ◌++◌, length, refl, sym, ◌∙◌, ap, arith, suc, inl, inr, subst, All}
 use Rattle.std.proofs.lemmas.Bool.{cases_lt}
-use Rattle.std.proofs.lemmas.List.{get_or_append_left}
 use Rattle.std.proofs.lemmas.List.Elements.{All-head, All-tail, All-push}
 use Rattle.mr_bytes.specs.declared.Value.{Value}
 use Rattle.mr_bytes.specs.Lists.{Has}
-use Rattle.mr_sequential.specs.Pairs.{key_at, paired}
-
-pub same_length : {X Y : Type 0} (f : X → Y) (xs : List X) → length (map f xs) ≡ length xs
-same_length f [] = refl
-same_length f (x ∷ xs) = ap suc (same_length f xs)
-
-pub length-append : {X : Type 0} (xs ys : List X) → length (xs ++ ys) ≡ length xs + length ys
-length-append [] ys = omega arith
-length-append (x ∷ xs) ys = omega (arith, length-append xs ys)
-
--- ---- keys to which one more may have come
-
-abbrev pub Grew : List (List ℕ) → List (List ℕ) → List ℕ → Type 0
-Grew ks ls key = (ls ≡ ks) ⊎ (ls ≡ ks ++ key ∷ [])
-
-pub grew-stay : (ks ls : List (List ℕ)) (key : List ℕ) → Grew ks ls key → (j : ℕ) → j < length ks → key_at ls j ≡ key_at ks j
-grew-stay ks ls key (inl e) j h = ap (λ l. key_at l j) e
-grew-stay ks ls key (inr e) j h = ap (λ l. key_at l j) e ∙ get_or_append_left ks (key ∷ []) [] j h
-
-pub grew-count : (ks ls : List (List ℕ)) (key : List ℕ) → Grew ks ls key → (length ks ≤ length ls) × (length ls ≤ length ks + 1)
-grew-count ks ls key (inl e) = (omega (arith, ap length e), omega (arith, ap length e))
-grew-count ks ls key (inr e) = (omega (arith, ap length e, length-append ks (key ∷ [])), omega (arith, ap length e, length-append ks (key ∷ [])))
-
--- the number of a key that is new is the last
-pub grew-last : (ks ls : List (List ℕ)) (key : List ℕ) (n : ℕ) → Grew ks ls key → (ls ≡ ks) ⊎ (n ≡ length ks) → (j : ℕ) → j < length ls → length ks ≤ j → j ≡ n
-grew-last ks ls key n (inl e) next j h k = absurd (omega (arith, h, k, ap length e))
-grew-last ks ls key n (inr e) (inl f) j h k = absurd (omega (arith, h, k, ap length f))
-grew-last ks ls key n (inr e) (inr f) j h k = omega (arith, f, h, k, ap length e, length-append ks (key ∷ []))
+use Rattle.mr_keys.specs.Keys.{key_at}
+use Rattle.mr_sequential.specs.Pairs.{paired}
 
 -- pairs read as before where their keys stay
 paired-stay : (ks ls : List (List ℕ)) (n : ℕ) (is : List ℕ) (vs : List Value) → All (λ i. i < n) is → ((j : ℕ) → j < n → key_at ls j ≡ key_at ks j)

@@ -3,12 +3,11 @@ use Rattle.std.proofs.Common.{◌≡◌, ℕ, List, [], ◌∷◌, map, refl, ap
 use Rattle.std.proofs.lemmas.Bool.{eqb-true, eq-eqb}
 use Rattle.std.proofs.lemmas.Cmp.{nat_list_cmp_total}
 use Rattle.std.specs.Cmp.Lexicographic.{texts_ties, bytes_decides}
-use Rattle.std.specs.Ordering.{is_eq, ordering_reverse}
+use Rattle.std.specs.Ordering.{is_eq, ordering_reverse, match_ordering}
 use Rattle.std.specs.declared.cmp.Ordering.{Ordering}
 use Rattle.std.specs.declared.cmp.Ordering.TheVariants.{Less, Equal, Greater}
 use Rattle.mr_bytes.specs.Lists.{Has, Rises}
 use Rattle.std.specs.Str.{bytes_eq}
-use Rattle.std.specs.Ordering.{match_ordering}
 use Rattle.mr_bytes.specs.Order.{key_order}
 use Rattle.mr_sequential.specs.Sequential.{with_key, keys_of}
 use Rattle.mr_bytes.specs.Pairs.{Triple}

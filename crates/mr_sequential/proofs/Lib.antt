@@ -1,4 +1,3 @@
-pub mod BucketLemmas
 pub mod CertifiedLaws
 pub mod EntryLaws
 pub mod FillLemmas
@@ -6,15 +5,14 @@ pub mod GatheredLemmas
 pub mod GoodLaws
 pub mod GroupLemmas
 pub mod KeyLaws
+pub mod LineLemmas
 pub mod NameLaws
 pub mod NamedLaws
 pub mod OrderLemmas
 pub mod RankLemmas
 pub mod RankedGroups
-pub mod RowLemmas
 pub mod RunLemmas
 pub mod SkipLaws
 pub mod SourceLemmas
 pub mod TextLemmas
 pub mod UniqueLaws
-pub mod UniteLemmas

@@ -20,7 +20,7 @@ use Rattle.mr_sequential.specs.Names.{names_from, kept_names, record_names}
 use Rattle.mr_sequential.specs.Certified.{names_with, groups_of}
 use Rattle.mr_sequential.specs.Pairs.{kept_pairs, record_pairs, values_in, texts_in, names_under, groups_in}
 use Rattle.mr_sequential.specs.Sequential.{keys_of, texts_of, values_of}
-use Rattle.mr_sequential.proofs.GatheredLemmas.{length-append}
+use Rattle.mr_ranks.proofs.ListLemmas.{length-append}
 
 pub flat_map-append : {X Y : Type 0} (f : X → List Y) (xs ys : List X) → flat_map f (xs ++ ys) ≡ flat_map f xs ++ flat_map f ys
 flat_map-append f [] ys = refl

@@ -3,8 +3,9 @@ use Rattle.std.proofs.Common.{◌≡◌, ◌≢◌, ℕ, suc, ◌+◌, ◌<◌, 
 use Rattle.std.proofs.lemmas.Bool.{cases_eq, eq-eqb, ne_eqb}
 use Rattle.std.proofs.lemmas.List.{at_drop_more, at_drop_all, map-set, get_or-map, get_or-set_same, get_or-set_other}
 use Rattle.mr_input.specs.Files.{contents, nth_file}
-use Rattle.mr_sequential.specs.declared.rows.Row.{Row}
-use Rattle.mr_sequential.specs.Rows.{no_row, row_texts}
+use Rattle.mr_ranks.specs.declared.rows.Row.{Row}
+use Rattle.mr_ranks.specs.Rows.{no_row}
+use Rattle.mr_sequential.specs.Rows.{row_texts}
 
 -- one text of many gets more bytes
 pub contents-set : (ts : List (Vec ℕ Global)) (i : ℕ) (was now : Vec ℕ Global) (more : List ℕ) → i < length ts

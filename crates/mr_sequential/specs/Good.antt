@@ -1,6 +1,5 @@
 -- A good result: outputs with the names that a certificate lists, against what a job emits over an input.
-use Rattle.std.specs.Prelude.{◌≡◌, ℕ, ◌<◌, ◌≤◌, ◌==◌, Bool, ◌&&◌, IsTrue, IsSome}
-use Rattle.std.specs.Prelude.{Option, List, [], ◌∷◌, length, map, slice_index_or}
+use Rattle.std.specs.Prelude.{◌≡◌, ℕ, ◌<◌, ◌≤◌, ◌==◌, Bool, ◌&&◌, IsTrue, IsSome, Option, List, [], ◌∷◌, length, map, slice_index_or}
 use Rattle.std.specs.Option.{option_map_or}
 use Rattle.std.specs.List.{AllByRecursion, filter_map, flat_map, find}
 use Rattle.mr_bytes.specs.declared.Name.{Name}

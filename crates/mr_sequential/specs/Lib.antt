@@ -1,4 +1,3 @@
-pub mod Buckets
 pub mod Emitted
 pub mod Rules
 pub mod Laws

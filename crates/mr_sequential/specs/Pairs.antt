@@ -1,5 +1,5 @@
 -- Of no public promise: pairs without their names, and how they are gathered: distinct keys, and for each pair its key's number and its value.
-use Rattle.std.specs.Prelude.{ℕ, ◌==◌, if◌then◌else◌, List, [], map, filter, slice_index_or}
+use Rattle.std.specs.Prelude.{ℕ, if◌then◌else◌, List, [], map, filter}
 use Rattle.std.specs.List.{flat_map, range_with_len, zip}
 use Rattle.std.specs.Str.{bytes_eq}
 use Rattle.mr_bytes.specs.declared.Value.{Value}
@@ -8,11 +8,9 @@ use Rattle.mr_bytes.specs.declared.RecordName.{RecordName}
 use Rattle.mr_jobs.specs.JobSpec.{JobSpec}
 use Rattle.mr_jobs.specs.Emissions.{Emission, emissions}
 use Rattle.mr_splits.specs.Named.{NamedRecord, is_left_out}
+use Rattle.mr_keys.specs.Keys.{key_at}
+use Rattle.mr_ranks.specs.Buckets.{bucket}
 use Rattle.mr_sequential.specs.Sequential.{keys_of}
-
--- a key by its number
-abbrev pub key_at : List (List ℕ) → ℕ → List ℕ
-key_at keys i = slice_index_or keys i []
 
 abbrev pub pair_at : List (List ℕ) → ℕ × Value → Emission
 pair_at keys e = (key_at keys e.0, e.1)
@@ -20,10 +18,6 @@ pair_at keys e = (key_at keys e.0, e.1)
 -- the pairs that numbers of keys and values stand for
 abbrev pub paired : List (List ℕ) → List ℕ → List Value → List Emission
 paired keys numbers values = map (pair_at keys) (zip numbers values)
-
--- of numbered items, those with the number, in their order
-abbrev pub bucket : {X : Type 0} → ℕ → List (ℕ × X) → List X
-bucket i es = map (λ e. e.1) (filter (λ e. e.0 == i) es)
 
 -- the buckets of the numbers below n
 abbrev pub buckets : {X : Type 0} → ℕ → List (ℕ × X) → List (List X)

@@ -11,7 +11,6 @@ mod good;
 mod groups;
 mod names;
 mod outputs;
-mod rows;
 mod sequence;
 mod source;
 mod texts;

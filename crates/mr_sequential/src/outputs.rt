@@ -7,14 +7,13 @@ ghost use Rattle.mr_partition.specs.Partition.{partition_of};
 ghost use Rattle.mr_reduce.specs.Text.{text_of};
 ghost use Rattle.mr_sequential.specs.Pairs.{groups_in, texts_in};
 
-use crate::distribute::sizes_of;
 use crate::gathered::Gathered;
 use crate::groups::groups_of;
 use crate::names::Names;
-use crate::rows::ranked;
 use crate::texts::{empty_texts, fill_texts};
 use mr_certform::FlatGroups;
 use mr_jobs::Job;
+use mr_ranks::{ranked, sizes_of};
 use std::alloc::{AllocError, Global};
 
 /// For each partition the texts of its groups, by rising key, and the groups of all partitions by their names.

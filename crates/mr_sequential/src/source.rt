@@ -2,6 +2,7 @@
 ghost use Rattle.std.specs.Prelude.{◌≡◌, ℕ, ◌+◌, ◌≤◌, ◌<◌, ◌^◌, ◌++◌, [], IfOk, OnOk, length};
 ghost use Rattle.std.specs.List.{flat_map};
 ghost use Rattle.mr_jobs.specs.Emissions.{emissions};
+ghost use Rattle.mr_jobs.specs.Hits.{IsLine};
 ghost use Rattle.mr_splits.specs.Cut.{records_of};
 ghost use Rattle.mr_sequential.specs.Names.{kept_names, names_from};
 ghost use Rattle.mr_sequential.specs.Pairs.{kept_pairs};
@@ -9,7 +10,7 @@ ghost use Rattle.mr_sequential.specs.Pairs.{kept_pairs};
 use crate::gathered::Gathered;
 use crate::names::Names;
 use mr_bytes::RecordName;
-use mr_jobs::Job;
+use mr_jobs::{Job, Mapper};
 use mr_splits::{Located, Plan};
 use mr_watch::{Pace, Phase, Watch};
 use std::alloc::{AllocError, Global};
@@ -17,17 +18,19 @@ use std::alloc::{AllocError, Global};
 /// Adds what a job emits for a record.
 fn gather_record(
     alloc: Global,
-    job: &Job,
+    mapper: &mut Mapper<'_, '_>,
     line: Located<'_>,
     buffer: &mut Vec<u8>,
     gathered: &mut Gathered,
 ) -> Result<(), AllocError>
     requires small { length line.bytes.now ≤ 2 ^ 30 }
-    requires few { length gathered.old + length (emissions job.now line.file line.start line.bytes.now) < 2 ^ 32 }
-    ensures { OnOk result (gathered.new ≡ gathered.old ++ emissions job.now line.entry.file line.entry.start line.entry.bytes.now) }
+    requires line { IsLine mapper.old.files line.file line.start line.bytes.now }
+    requires few { length gathered.old + length (emissions mapper.old.job line.file line.start line.bytes.now) < 2 ^ 32 }
+    ensures same { mapper.new ≡ mapper.old }
+    ensures pairs { OnOk result (gathered.new ≡ gathered.old ++ emissions mapper.old.job line.entry.file line.entry.start line.entry.bytes.now) }
 {
-    job.prepare(line.bytes, buffer)?;
-    let mut emitter = job.emit(line.file, line.start, line.bytes, buffer.as_slice());
+    mapper.job().prepare(line.bytes, buffer)?;
+    let mut emitter = mapper.emit(line.file, line.start, line.bytes, buffer.as_slice());
     while let Some((key, value)) = emitter.next() {
         gathered.push(alloc, key, value)?;
     }
@@ -44,20 +47,22 @@ pub(crate) struct Emitted {
 /// Adds what a job emits for a record, each pair with its name.
 fn gather_one(
     alloc: Global,
-    job: &Job,
+    mapper: &mut Mapper<'_, '_>,
     name: RecordName,
     line: Located<'_>,
     buffer: &mut Vec<u8>,
     emitted: &mut Emitted,
 ) -> Result<(), AllocError>
     requires small { length line.bytes.now ≤ 2 ^ 30 }
-    requires few { length emitted.old.pairs + length (emissions job.now line.file line.start line.bytes.now) < 2 ^ 32 }
-    ensures pairs { OnOk result (emitted.new.pairs ≡ emitted.old.pairs ++ emissions job.now line.entry.file line.entry.start line.entry.bytes.now) }
+    requires line { IsLine mapper.old.files line.file line.start line.bytes.now }
+    requires few { length emitted.old.pairs + length (emissions mapper.old.job line.file line.start line.bytes.now) < 2 ^ 32 }
+    ensures same { mapper.new ≡ mapper.old }
+    ensures pairs { OnOk result (emitted.new.pairs ≡ emitted.old.pairs ++ emissions mapper.old.job line.entry.file line.entry.start line.entry.bytes.now) }
     ensures names { OnOk result (emitted.new.names
-        ≡ emitted.old.names ++ names_from name 0 (length (emissions job.now line.entry.file line.entry.start line.entry.bytes.now))) }
+        ≡ emitted.old.names ++ names_from name 0 (length (emissions mapper.old.job line.entry.file line.entry.start line.entry.bytes.now))) }
 {
     let before = emitted.pairs.len();
-    gather_record(alloc, job, line, buffer, &mut emitted.pairs)?;
+    gather_record(alloc, mapper, line, buffer, &mut emitted.pairs)?;
     let count = emitted.pairs.len() - before;
     emitted.names.add(name, count as u32)
 }
@@ -84,10 +89,11 @@ pub(crate) fn gather(
     };
     let mut pace = Pace::new(Phase::Mapping, plan.count() as u64);
     let mut done = 0u64;
+    let mut mapper = job.over(plan.input());
     while let Some((name, line)) = left.next() {
         pace.reach(done, watch);
         done = done.saturating_add(1);
-        gather_one(alloc, job, name, line, &mut buffer, &mut emitted)?;
+        gather_one(alloc, &mut mapper, name, line, &mut buffer, &mut emitted)?;
     }
     Ok(emitted)
 }

@@ -4,14 +4,13 @@ ghost use Rattle.std.specs.List.{zip};
 ghost use Rattle.mr_bytes.specs.declared.Value.TheVariants.{One};
 ghost use Rattle.mr_input.specs.Files.{contents, nth_file};
 ghost use Rattle.mr_reduce.specs.Text.{text_of, total_line};
-ghost use Rattle.mr_sequential.specs.Buckets.{before, size};
-ghost use Rattle.mr_sequential.specs.Pairs.{bucket};
-ghost use Rattle.mr_sequential.specs.Rows.{bucket_text, count_line, row_texts, start_of, values_text};
+ghost use Rattle.mr_ranks.specs.Buckets.{before, size, bucket, start_of};
+ghost use Rattle.mr_sequential.specs.Rows.{bucket_text, count_line, row_texts, values_text};
 
-use crate::distribute::{scatter, starts_of};
-use crate::rows::Row;
+use crate::distribute::scatter;
 use mr_bytes::{Value, Values};
 use mr_jobs::Job;
+use mr_ranks::{Row, starts_of};
 use mr_reduce::{group_text, total_text};
 use std::alloc::{AllocError, Global};
 

@@ -1,7 +1,6 @@
-pub mod BucketLemmas
 pub mod ColumnLemmas
+pub mod CutLemmas
 pub mod EntryLemmas
-pub mod FrontLemmas
 pub mod ListsLemmas
 pub mod ReadingLemmas
 pub mod RegionLaws

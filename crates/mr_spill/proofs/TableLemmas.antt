@@ -1,45 +1,17 @@
 -- Pairs as numbers of keys and what they have beside them, and the pairs of each key.
-use Rattle.std.proofs.Common.{◌≡◌, ℕ, zero, suc, ◌+◌, ◌<◌, ◌≤◌, Bool, true, false, cond, List, [], ◌∷◌, ◌++◌, length, get_or, map, refl, sym, ◌∙◌, ap, subst, arith, inl, inr, Vec, Global, Some, None, not, ltb, All}
-use Rattle.std.proofs.lemmas.Bool.{cases_Bool, cases_eq, cases_lt, ltb-true}
+use Rattle.std.proofs.Common.{◌≡◌, ℕ, zero, suc, ◌<◌, ◌≤◌, true, false, cond, List, [], ◌∷◌, ◌++◌, length, get_or, map, drop, refl, sym, ◌∙◌, ap, arith, inl, inr, All}
+use Rattle.std.proofs.lemmas.Bool.{cases_Bool, cases_eq, cases_lt}
 use Rattle.std.proofs.lemmas.List.Elements.{All-head, All-tail, All-push}
 use Rattle.std.proofs.lemmas.Slice.Eq.{bytes_eq-Decides}
-use Rattle.std.specs.List.{AllByRecursion, IsDistinct, position, position_or_len, zip}
+use Rattle.std.specs.List.{zip}
 use Rattle.std.specs.Str.{bytes_eq}
 use Rattle.mr_bytes.specs.Lists.{Has}
 use Rattle.mr_bytes.specs.Pairs.{Triple}
-use Rattle.mr_spill.specs.Buckets.{bucket}
+use Rattle.mr_ranks.specs.Buckets.{bucket}
 use Rattle.mr_spill.specs.Entries.{Entry, under_key}
-use Rattle.mr_spill.specs.Table.{IsTable, Knows, key_at, key_bytes, numbered, under}
-use Rattle.mr_spill.proofs.BucketLemmas.{bucket-cons, one-other, one-same}
-
--- ---- keys that the set has
-
-pub position_found : {X : Type 0} (p : X → Bool) (xs : List X) (at : ℕ) → Some at ≡ position p xs → (position_or_len p xs ≡ at) × (at < length xs)
-position_found p xs at h =
-    let n : ℕ = position_or_len p xs in
-    elim (cases_Bool (ltb n (length xs))) [
-      | inl lt ↦
-          let same : Some at ≡ Some n = h ∙ ap (λ t. cond t (Some n) None) lt in
-          let e : n ≡ at = cc in
-          (e, omega (arith, e, ltb-true n (length xs) lt))
-      | inr ge ↦
-          let absent : Some at ≡ None = h ∙ ap (λ t. cond t (Some n) None) ge in cc
-    ]
-
-pub key_at-found : (q : List ℕ) (ks : List (Vec ℕ Global)) (at : ℕ) → position_or_len (λ (k : Vec ℕ Global). bytes_eq q k.items) ks ≡ at → at < length ks
-    → key_at (key_bytes ks) at ≡ q
-key_at-found q [] at place within = absurd (omega arith)
-key_at-found q (k ∷ ks) at place within =
-    let rest : ℕ = position_or_len (λ (x : Vec ℕ Global). bytes_eq q x.items) ks in
-    elim (cases_Bool (bytes_eq q k.items)) [
-      | inl found ↦
-          let here : zero ≡ at = ap (λ t. cond (not t) (1 + rest) 0) (sym found) ∙ place in
-          subst (λ n. key_at (key_bytes (k ∷ ks)) n ≡ q) here (sym ((bytes_eq-Decides q k.items).0 found))
-      | inr differs ↦
-          let later : 1 + rest ≡ at = ap (λ t. cond (not t) (1 + rest) 0) (sym differs) ∙ place in
-          let there : suc rest ≡ at = omega (arith, later) in
-          subst (λ n. key_at (key_bytes (k ∷ ks)) n ≡ q) there (key_at-found q ks rest refl (omega (arith, within)))
-    ]
+use Rattle.mr_spill.specs.Table.{IsTable, Knows, numbered, under}
+use Rattle.mr_keys.specs.Keys.{key_at}
+use Rattle.mr_ranks.proofs.BucketLemmas.{bucket-cons, one-other, one-same}
 
 -- ---- one more pair
 
@@ -85,6 +57,16 @@ weaker n m is h all = λ k d less. omega (arith, all k d less, h)
 pub inside-push : (n m i : ℕ) (is : List ℕ) → n ≤ m → i < m → All (λ j. j < n) is → All (λ j. j < m) (is ++ i ∷ [])
 inside-push n m i is h new all = All-push (λ j. j < m) is i (weaker n m is h all) new
 
+-- pairs read as before where other numbers of other keys have the same keys
+pub numbered-keys : (ks ls : List (List ℕ)) (is rs : List ℕ) (es : List Entry) → map (key_at ls) rs ≡ map (key_at ks) is → numbered ls rs es ≡ numbered ks is es
+numbered-keys ks ls [] [] es same = refl
+numbered-keys ks ls [] (r ∷ rs) es same = absurd (omega (arith, ap length same))
+numbered-keys ks ls (i ∷ is) [] es same = absurd (omega (arith, ap length same))
+numbered-keys ks ls (i ∷ is) (r ∷ rs) [] same = refl
+numbered-keys ks ls (i ∷ is) (r ∷ rs) (e ∷ es) same =
+    ap (λ (l : List (List ℕ)). under_key (get_or l 0 []) e ∷ numbered ls rs es) same
+    ∙ ap (λ l. under_key (key_at ks i) e ∷ l) (numbered-keys ks ls is rs es (ap (drop 1) same))
+
 -- ---- the pairs of a key
 
 pub equal-bytes : (a b : List ℕ) → a ≡ b → bytes_eq a b ≡ true
@@ -92,22 +74,6 @@ equal-bytes a b e = (bytes_eq-Decides a b).1 e
 
 other-bytes : (a b : List ℕ) → (a ≡ b → ⊥) → bytes_eq a b ≡ false
 other-bytes a b ne = elim (cases_Bool (bytes_eq a b)) [ inl is ↦ absurd (ne ((bytes_eq-Decides a b).0 is)) | inr isnt ↦ isnt ]
-
--- keys of which no two are alike
-pub keys-apart : (ks : List (Vec ℕ Global)) → IsDistinct (λ (a b : Vec ℕ Global). bytes_eq a.items b.items) ks → (j k : ℕ) → j < k → k < length (key_bytes ks)
-    → key_at (key_bytes ks) j ≡ key_at (key_bytes ks) k → ⊥
-unfolding IsDistinct
-keys-apart [] d j k h g e = absurd (omega (arith, g))
-keys-apart (x ∷ ks) d zero zero h g e = absurd (omega (arith, h))
-keys-apart (x ∷ ks) d zero (suc k) h g e = differ ks d.0 k (omega (arith, g)) e
-  where
-    differ : (ys : List (Vec ℕ Global)) → AllByRecursion (λ (y : Vec ℕ Global). bytes_eq x.items y.items ≡ false) ys → (k : ℕ) → k < length (key_bytes ys)
-        → x.items ≡ key_at (key_bytes ys) k → ⊥
-    differ [] all k g e = absurd (omega (arith, g))
-    differ (y ∷ ys) all zero g e = absurd (cc (all.0, equal-bytes x.items y.items e))
-    differ (y ∷ ys) all (suc k) g e = differ ys all.1 k (omega (arith, g)) e
-keys-apart (x ∷ ks) d (suc j) zero h g e = absurd (omega (arith, h))
-keys-apart (x ∷ ks) d (suc j) (suc k) h g e = keys-apart ks d.1 j k (omega (arith, h)) (omega (arith, g)) e
 
 module _ (ks : List (List ℕ)) (apart : (j k : ℕ) → j < k → k < length ks → key_at ks j ≡ key_at ks k → ⊥) where
   differ : (i k : ℕ) → i < length ks → k < length ks → (i ≡ k → ⊥) → key_at ks i ≡ key_at ks k → ⊥
@@ -147,7 +113,6 @@ module _ (ks : List (List ℕ)) (apart : (j k : ℕ) → j < k → k < length ks
       → ((k : ℕ) → k < length ks → get_or ls k [] ≡ bucket k (zip is es)) → IsTable (numbered ks is es) ks ls
   lists-table is es ls all same each = record {
     same = same;
-    apart = apart;
     known = known-of is es all;
     each = λ k h. ap (map (under_key (key_at ks k))) (each k h) ∙ bucket-under is es k all h;
   }

@@ -1,24 +1,16 @@
 -- Of no public promise but `columns_of`: pairs put together by their keys.
 use denote.Ref.{Bor}
-use Rattle.std.specs.Prelude.{◌≡◌, ℕ, ◌<◌, List, [], length, map, filter, slice_index_or, Vec}
-use Rattle.std.specs.Global.{Global}
+use Rattle.std.specs.Prelude.{◌≡◌, ℕ, ◌<◌, List, [], length, map, filter, slice_index_or}
 use Rattle.std.specs.List.{flat_map, zip}
 use Rattle.std.specs.Str.{bytes_eq}
 use Rattle.mr_bytes.specs.Lists.{Has}
 use Rattle.mr_bytes.specs.Pairs.{Triple}
+use Rattle.mr_keys.specs.Keys.{key_at}
 use Rattle.mr_spill.specs.Entries.{Entry, under_key}
 
 -- the pairs of all columns, one column behind another
 abbrev pub columns_of : List (Bor (List Triple)) → List Triple
 columns_of columns = flat_map (λ c. c.now) columns
-
--- keys as their bytes
-abbrev pub key_bytes : List (Vec ℕ Global) → List (List ℕ)
-key_bytes keys = map (λ k. k.items) keys
-
--- a key by its number
-abbrev pub key_at : List (List ℕ) → ℕ → List ℕ
-key_at keys k = slice_index_or keys k []
 
 -- the pair of an entry that has the number of its key
 abbrev pub pair_at : List (List ℕ) → ℕ × Entry → Triple
@@ -40,9 +32,8 @@ under ts key = filter (λ t. bytes_eq t.key key) ts
 abbrev pub Knows : List (List ℕ) → List ℕ → Type 0
 Knows ks q = (k : ℕ) × (k < length ks) × (key_at ks k ≡ q)
 
--- no key has two numbers, each key of the pairs has one, and its list has what its pairs have, in their order
+-- each key of the pairs has a number, and its list has what the pairs of the key have, in their order
 pub record IsTable (ts : List Triple) (ks : List (List ℕ)) (ls : List (List Entry)) : Type 0 where
   pub same : length ls ≡ length ks
-  pub apart : (j k : ℕ) → j < k → k < length ks → key_at ks j ≡ key_at ks k → ⊥
   pub known : (t : Triple) → Has ts t → Knows ks t.key
   pub each : (k : ℕ) → k < length ks → pairs_under ls (key_at ks k) k ≡ under ts (key_at ks k)

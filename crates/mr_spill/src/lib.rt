@@ -2,10 +2,10 @@
 //! (OSDI 2004, sections 3.1 and 4.2).
 //!
 //! Pairs enter by rising name, in the order of the input. What leaves is a region for each partition, by key and then
-//! name, in which a key is stored once. Time: one look-up for each pair as it enters, and a sort of the distinct keys, n log n
-//! comparisons, most of them of two numbers; each pair is put at its place by counting. Memory: 16 bytes for each pair that
-//! waits and its value where it has one beside `One`, with one copy of each distinct key; while they are cut 4 bytes more for
-//! each pair, and the regions. A region can be spelled as bytes, and read from them.
+//! name, in which a key is stored once. Time: one look-up for each pair as it enters, of mostly one look at memory and at most a
+//! few dozen, and a sort of the distinct keys, n log n comparisons, most of them of two numbers; each pair is put at its place by
+//! counting. Memory: 16 bytes for each pair that waits and its value where it has one beside `One`, and the keys, each mostly
+//! once; while they are cut 8 bytes more for each pair, and the regions. A region can be spelled as bytes, and read from them.
 #![tactic(auto)]
 
 mod buffer;
@@ -16,7 +16,6 @@ mod lists;
 mod numbered;
 mod reading;
 mod regions;
-mod rows;
 mod spelling;
 
 pub use buffer::{Buffer, PushFault, PushRefusal};

@@ -1,23 +1,22 @@
 //! Pairs whose keys are numbered.
-ghost use Rattle.std.specs.Prelude.{◌≡◌, ℕ, ◌+◌, ◌-◌, ◌≤◌, ◌<◌, ◌^◌, ◌++◌, ◌∷◌, [], false, is_ok, if◌then◌else◌, IfOk, OnOk, OnErr, length};
-ghost use Rattle.std.specs.List.{list_any};
-ghost use Rattle.std.specs.Str.{bytes_eq};
+ghost use Rattle.std.specs.Prelude.{◌≡◌, ℕ, ◌-◌, ◌≤◌, ◌<◌, ◌^◌, ◌++◌, ◌∷◌, [], IfOk, OnOk, OnErr, length};
+ghost use Rattle.mr_keys.specs.Keys.{IsKeyAt, key_at};
 ghost use Rattle.mr_spill.specs.Column.{nth_pair};
-ghost use Rattle.mr_spill.specs.Table.{columns_of, key_at, key_bytes};
+ghost use Rattle.mr_spill.specs.Table.{columns_of};
 
 use crate::column::Pairs;
 use crate::entries::Entries;
-use indexmap::IndexSet;
 use mr_bytes::{Name, Value};
+use mr_keys::Keys;
 use std::alloc::{AllocError, Global};
 use std::marker::Model;
 
-/// Pairs with their names, each distinct key stored once. Keys are numbered in the order in which they were first seen,
-/// and a pair is the number of its key with what it has beside it. There is no memory for 4 Gi pairs.
+/// Pairs with their names: the keys by number, and a pair is the number of its key with what it has beside it. Some keys may
+/// have more than one number. There is no memory for 4 Gi pairs.
 #[derive(Drop)]
 pub(crate) struct Numbered {
     alloc: Global,
-    pub keys: IndexSet<Vec<u8>>,
+    pub keys: Keys,
     pub numbers: Vec<u32>,
     pub entries: Entries,
 }
@@ -25,48 +24,33 @@ pub(crate) struct Numbered {
 impl Model for Numbered {
     ghost use Rattle.std.specs.Prelude.{◌≡◌, ◌<◌, ◌≤◌, ◌^◌, All, List, length};
     ghost use Rattle.mr_bytes.specs.Pairs.{Triple};
-    ghost use Rattle.mr_spill.specs.Table.{key_bytes, numbered};
+    ghost use Rattle.mr_spill.specs.Table.{numbered};
 
     ghost Value = { List Triple };
 
-    ghost view = { λ n. numbered (key_bytes n.keys.keys) n.numbers.items n.entries };
+    ghost view = { λ n. numbered n.keys n.numbers.items n.entries };
 
     ghost invariant = { λ n. record {
-      inside : All (λ i. i < length n.keys.keys) n.numbers.items;
+      inside : All (λ i. i < length n.keys) n.numbers.items;
       same : length n.entries ≡ length n.numbers.items;
-      known : length n.keys.keys < 2 ^ 32;
+      known : length n.keys < 2 ^ 32;
       few : length n.numbers.items < 2 ^ 32;
     } };
 }
 
-/// The number of a key, which is added where it is not there. It fails only for want of memory, and then no key was added.
-fn number_of(alloc: Global, keys: &mut IndexSet<Vec<u8>>, key: &[u8]) -> Result<u32, AllocError>
-    requires known { length keys.old.keys < 2 ^ 32 }
-    ensures known { length keys.new.keys < 2 ^ 32 }
-    ensures found { IfOk result (λ at. (at < length keys.new.keys) × (key_at (key_bytes keys.new.keys) at ≡ key.now)) }
-    ensures grows { length keys.old.keys ≤ length keys.new.keys }
-    ensures stay { (i : ℕ) → i < length keys.old.keys → key_at (key_bytes keys.new.keys) i ≡ key_at (key_bytes keys.old.keys) i }
-    ensures err { OnErr result (keys.new.keys ≡ keys.old.keys) }
+/// A number of a key, which is added where none is found. It fails only for want of memory, and then no key was added.
+fn number_of(alloc: Global, keys: &mut Keys, key: &[u8]) -> Result<u32, AllocError>
+    requires known { length keys.old < 2 ^ 32 }
+    ensures known { length keys.new < 2 ^ 32 }
+    ensures found { IfOk result (λ at. IsKeyAt keys.new at key.now) }
+    ensures grows { length keys.old ≤ length keys.new }
+    ensures stay { (i : ℕ) → i < length keys.old → key_at keys.new i ≡ key_at keys.old i }
+    ensures err { OnErr result (keys.new ≡ keys.old) }
 {
-    if let Some(at) = keys.get_index_of(key) {
-        return Ok(at as u32);
-    }
-    let at = keys.len();
-    if at + 1 > u32::MAX as usize {
+    if keys.len() + 1 > u32::MAX as usize {
         return Err(AllocError);
     }
-    let copy = Vec::from_slice(alloc, key)?;
-    add_key(keys, copy)?;
-    Ok(at as u32)
-}
-
-/// Adds a key that the set lacks.
-fn add_key(keys: &mut IndexSet<Vec<u8>>, key: Vec<u8>) -> Result<(), AllocError>
-    requires { list_any (λ k. bytes_eq key.items k.items) keys.old.keys ≡ false }
-    ensures { keys.new.keys ≡ (if is_ok result then keys.old.keys ++ key ∷ [] else keys.old.keys) }
-{
-    keys.insert(key)?;
-    Ok(())
+    keys.number_of(alloc, key)
 }
 
 impl Numbered {
@@ -76,7 +60,7 @@ impl Numbered {
     {
         Numbered {
             alloc,
-            keys: IndexSet::new(alloc),
+            keys: Keys::new(alloc),
             numbers: Vec::new(alloc),
             entries: Entries::new(alloc),
         }
@@ -88,7 +72,7 @@ impl Numbered {
     {
         Ok(Numbered {
             alloc,
-            keys: IndexSet::new(alloc),
+            keys: Keys::new(alloc),
             numbers: Vec::with_capacity(alloc, count)?,
             entries: Entries::with_room(alloc, count)?,
         })

@@ -5,13 +5,14 @@ ghost use Rattle.mr_bytes.specs.Lists.{Distinct, Rises};
 ghost use Rattle.mr_partition.specs.Partition.{partition_of};
 ghost use Rattle.mr_spill.specs.Column.{IsSealed, names_of};
 ghost use Rattle.mr_spill.specs.Regions.{RegionsHave, RegionsRise, RisesUnderKeys, regions};
-ghost use Rattle.mr_spill.specs.Rows.{behind, front, pairs_in, row_order, row_pairs};
+ghost use Rattle.mr_ranks.specs.Rows.{row_cmp};
+ghost use Rattle.mr_spill.specs.Rows.{behind, front, pairs_in, row_pairs};
 ghost use Rattle.mr_spill.specs.Table.{columns_of, pairs_under};
 
 use crate::column::Pairs;
 use crate::lists::{Lists, lists_of};
 use crate::numbered::{Numbered, numbered_columns};
-use crate::rows::{Row, sorted_rows};
+use mr_ranks::{Row, ranked};
 use std::alloc::{AllocError, Global};
 
 /// The row at this place, if it has this partition.
@@ -27,7 +28,7 @@ fn row_in<'a>(rows: &[Row<'a>], at: usize, part: u32) -> Option<Row<'a>>
     }
 }
 
-/// Appends the pairs of a key, whose number is told; they share its bytes. It fails only for want of memory.
+/// Appends the pairs of a key, whose rank is told; they share its bytes. It fails only for want of memory.
 fn put_all(
     target: &mut Pairs,
     key: &[u8],
@@ -59,7 +60,7 @@ fn room_at(lists: &Lists<'_>, rows: &[Row<'_>], from: usize, part: u32) -> (usiz
     let mut bytes = 0usize;
     let mut at = from;
     while let Some(row) = row_in(rows, at, part) {
-        count = count.saturating_add(lists.count(row.number));
+        count = count.saturating_add(lists.count(row.number as usize));
         bytes = bytes.saturating_add(row.key.len());
         at += 1;
     }
@@ -83,7 +84,7 @@ fn region_at(
     let mut region = Pairs::with_room(alloc, count, bytes)?;
     let mut at = from;
     while let Some(row) = row_in(rows, at, part) {
-        put_all(&mut region, row.key, lists, row.number)?;
+        put_all(&mut region, row.key, lists, row.number as usize)?;
         at += 1;
     }
     Ok((region, at))
@@ -97,7 +98,7 @@ fn regions_of(
     parts: u32,
 ) -> Result<Vec<Pairs>, AllocError>
     requires inside { All (λ r. r.number < length lists.now) rows.now }
-    requires rise { Rises row_order rows.now }
+    requires rise { Rises row_cmp rows.now }
     requires sealed { (p : ℕ) → IsSealed (pairs_in lists.now rows.now p) }
     ensures { IfOk result (λ v. v.items ≡ map (pairs_in lists.now rows.now) (range_with_len 0 parts)) }
 {
@@ -120,10 +121,16 @@ pub(crate) fn cut(alloc: Global, pairs: &Numbered, parts: u32) -> Result<Vec<Pai
     requires differ { Distinct (names_of pairs.now) }
     ensures { IfOk result (λ v. v.items ≡ regions (λ k. partition_of k parts) parts pairs.now) }
 {
-    let keys = pairs.keys.as_slice();
-    let lists = lists_of(alloc, pairs.numbers.as_slice(), &pairs.entries, keys.len())?;
-    let rows = sorted_rows(alloc, keys, parts)?;
-    regions_of(alloc, &lists, rows.as_slice(), parts)
+    let numbers = Vec::from_slice(alloc, pairs.numbers.as_slice())?;
+    let by_rank = ranked(alloc, &pairs.keys, parts, numbers)?;
+    let rows = by_rank.rows.as_slice();
+    let lists = lists_of(
+        alloc,
+        by_rank.numbers.as_slice(),
+        &pairs.entries,
+        rows.len(),
+    )?;
+    regions_of(alloc, &lists, rows, parts)
 }
 
 /// For each partition, in order, the pairs of all columns that belong to it, by key and then name. Under each key the

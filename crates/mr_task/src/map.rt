@@ -56,11 +56,18 @@ pub fn map_task_with(
     let left_out = in_order(alloc, skips)?;
     let mut runs = Runs::new(alloc, parts, limit)?;
     let mut folded = Vec::new(alloc);
+    let mut mapper = job.over(plan.input());
     let count = plan.records_in(split);
     for rec in 0..count {
         let line = plan.located(split, rec);
         if !has(left_out.as_slice(), rec) {
-            runs.take_record(alloc, job, RecordName { split, rec }, line, &mut folded)?;
+            runs.take_record(
+                alloc,
+                &mut mapper,
+                RecordName { split, rec },
+                line,
+                &mut folded,
+            )?;
         }
     }
     runs.finish(alloc)

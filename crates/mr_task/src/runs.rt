@@ -4,6 +4,7 @@ ghost use Rattle.mr_bytes.specs.Lists.{Rises};
 ghost use Rattle.mr_bytes.specs.Order.{name_order};
 ghost use Rattle.mr_bytes.specs.Pairs.{Triple};
 ghost use Rattle.mr_jobs.specs.Emissions.{emissions};
+ghost use Rattle.mr_jobs.specs.Hits.{IsLine};
 ghost use Rattle.mr_partition.specs.Partition.{partition_of};
 ghost use Rattle.mr_sequential.specs.Emitted.{placed_from};
 ghost use Rattle.mr_spill.specs.Column.{names_of};
@@ -13,7 +14,7 @@ ghost use Rattle.mr_task.specs.Values.{IsCutOf};
 
 use crate::output::MapOutput;
 use mr_bytes::{Name, RecordName, Value};
-use mr_jobs::Job;
+use mr_jobs::Mapper;
 use mr_spill::{Buffer, Pairs, PushRefusal};
 use mr_splits::Located;
 use std::alloc::{AllocError, Global};
@@ -124,7 +125,7 @@ impl Runs {
     pub fn take_record(
         &mut self,
         alloc: Global,
-        job: &Job,
+        mapper: &mut Mapper<'_, '_>,
         number: RecordName,
         line: Located<'_>,
         folded: &mut Vec<u8>,
@@ -132,15 +133,17 @@ impl Runs {
         requires some { 0 < self.old.parts }
         requires lists { length self.old.lists.items ≡ self.old.parts }
         requires small { length line.bytes.now ≤ 2 ^ 30 }
+        requires line { IsLine mapper.old.files line.file line.start line.bytes.now }
         requires rise { Rises name_order
-            (names_of (self.old.buffer.pairs ++ placed_from number 0 (emissions job.now line.file line.start line.bytes.now))) }
+            (names_of (self.old.buffer.pairs ++ placed_from number 0 (emissions mapper.old.job line.file line.start line.bytes.now))) }
+        ensures same { mapper.new ≡ mapper.old }
         ensures parts { OnOk result (self.new.parts ≡ self.old.parts) }
         ensures lists { OnOk result (length self.new.lists.items ≡ self.old.parts) }
         ensures taken { OnOk result (Takes
-            (placed_from number 0 (emissions job.now line.entry.file line.entry.start line.entry.bytes.now)) self.old self.new) }
+            (placed_from number 0 (emissions mapper.old.job line.entry.file line.entry.start line.entry.bytes.now)) self.old self.new) }
     {
-        job.prepare(line.bytes, folded)?;
-        let mut emitter = job.emit(line.file, line.start, line.bytes, folded.as_slice());
+        mapper.job().prepare(line.bytes, folded)?;
+        let mut emitter = mapper.emit(line.file, line.start, line.bytes, folded.as_slice());
         let mut place = 0;
         while let Some((key, value)) = emitter.next() {
             let name = Name {

@@ -6,10 +6,13 @@ use Rattle.mr_bytes.specs.declared.Value.{Value}
 use Rattle.mr_jobs.specs.Emissions.{Emission}
 use Rattle.mr_partition.specs.Partition.{partition_of}
 use Rattle.mr_reduce.specs.Text.{text_of}
-use Rattle.mr_sequential.specs.declared.rows.Row.{Row}
-use Rattle.mr_sequential.specs.Pairs.{buckets, key_at, groups_in, paired, texts_in}
-use Rattle.mr_sequential.specs.Rows.{IsRanked, bucket_text, row_key, row_part, row_texts}
-use Rattle.mr_sequential.proofs.GatheredLemmas.{length-paired, same_length}
+use Rattle.mr_ranks.specs.declared.rows.Row.{Row}
+use Rattle.mr_sequential.specs.Pairs.{buckets, groups_in, paired, texts_in}
+use Rattle.mr_keys.specs.Keys.{key_at}
+use Rattle.mr_ranks.specs.Rows.{IsRanked, row_key, row_part}
+use Rattle.mr_sequential.specs.Rows.{bucket_text, row_texts}
+use Rattle.mr_sequential.proofs.GatheredLemmas.{length-paired}
+use Rattle.mr_ranks.proofs.ListLemmas.{same_length}
 use Rattle.mr_sequential.proofs.RankLemmas.{HasPairs, texts-rows}
 use Rattle.mr_sequential.proofs.RankedGroups.{groups-rows, ranks-used}
 use Rattle.mr_sequential.proofs.outputs.outputs.Goals as goal

@@ -16,7 +16,7 @@ use Rattle.mr_sequential.specs.Good.{IsGood}
 use Rattle.mr_sequential.specs.Names.{kept_names}
 use Rattle.mr_sequential.specs.Pairs.{groups_in, kept_pairs, texts_in}
 use Rattle.mr_sequential.proofs.CertifiedLaws.{sequential_is_good}
-use Rattle.mr_sequential.proofs.GatheredLemmas.{same_length}
+use Rattle.mr_ranks.proofs.ListLemmas.{same_length}
 use Rattle.mr_sequential.proofs.SourceLemmas.{few_pairs, pair_of, emitted-pairs, emitted-names, even_lists, texts-triples, groups-triples}
 use Rattle.mr_sequential.proofs.sequence.execute.Goals as goal
 

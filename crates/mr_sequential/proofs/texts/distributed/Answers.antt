@@ -1,8 +1,8 @@
 use Rattle.std.proofs.Common.{◌≡◌, ℕ, ◌<◌, ◌≤◌, List, length, get_or, ap, ◌∙◌, sym, arith, drop, ◌==◌, count_by}
 use Rattle.std.specs.List.{zip}
 use Rattle.mr_bytes.specs.declared.Value.{Value}
-use Rattle.mr_sequential.specs.Buckets.{size, before}
-use Rattle.mr_sequential.proofs.BucketLemmas.{before-sizes, before-sizes-few, before-total, take_front, size-count, length-zip}
+use Rattle.mr_ranks.specs.Buckets.{size, before}
+use Rattle.mr_ranks.proofs.BucketLemmas.{before-sizes, before-sizes-few, before-total, take_front, size-count, length-zip}
 use Rattle.mr_sequential.proofs.texts.distributed.Goals as goal
 
 -- the sizes that were counted

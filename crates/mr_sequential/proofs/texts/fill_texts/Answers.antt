@@ -3,9 +3,9 @@ use Rattle.std.proofs.lemmas.Result.{on_ok_weaker}
 use Rattle.std.specs.List.{zip}
 use Rattle.mr_bytes.specs.declared.Value.{Value}
 use Rattle.mr_input.specs.Files.{contents, nth_file}
-use Rattle.mr_sequential.specs.declared.rows.Row.{Row}
-use Rattle.mr_sequential.specs.Buckets.{size}
-use Rattle.mr_sequential.specs.Rows.{bucket_text, count_line, row_texts, start_of, values_text}
+use Rattle.mr_ranks.specs.declared.rows.Row.{Row}
+use Rattle.mr_ranks.specs.Buckets.{size, start_of}
+use Rattle.mr_sequential.specs.Rows.{bucket_text, count_line, row_texts, values_text}
 use Rattle.mr_sequential.proofs.FillLemmas.{ends-rise, ends-within, counted-texts, placed-texts}
 use Rattle.mr_sequential.proofs.texts.fill_texts.Goals as goal
 

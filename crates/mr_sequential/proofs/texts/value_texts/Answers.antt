@@ -2,9 +2,11 @@ use Rattle.std.proofs.Common.{◌≡◌, ℕ, ◌<◌, ◌+◌, ◌++◌, List, 
 use Rattle.std.proofs.lemmas.List.{get_or_default}
 use Rattle.mr_reduce.specs.Text.{text_of}
 use Rattle.mr_input.specs.Files.{contents, nth_file}
-use Rattle.mr_sequential.specs.declared.rows.Row.{Row}
-use Rattle.mr_sequential.specs.Rows.{no_row, values_text, start_of}
-use Rattle.mr_sequential.proofs.GatheredLemmas.{same_length}
+use Rattle.mr_ranks.specs.declared.rows.Row.{Row}
+use Rattle.mr_ranks.specs.Rows.{no_row}
+use Rattle.mr_sequential.specs.Rows.{values_text}
+use Rattle.mr_ranks.specs.Buckets.{start_of}
+use Rattle.mr_ranks.proofs.ListLemmas.{same_length}
 use Rattle.mr_sequential.proofs.TextLemmas.{row_more, row_end}
 use Rattle.mr_sequential.proofs.texts.value_texts.Goals as goal
 

@@ -1,6 +1,7 @@
 use Rattle.std.proofs.Common.{◌≡◌, ◌<◌, ℕ, ◌++◌, length, drop}
 use Rattle.mr_input.specs.Files.{contents, nth_file}
-use Rattle.mr_sequential.specs.Rows.{row_texts, start_of, values_text}
+use Rattle.mr_sequential.specs.Rows.{row_texts, values_text}
+use Rattle.mr_ranks.specs.Buckets.{start_of}
 use Rattle.mr_sequential.proofs.texts.value_texts.Given as goal
 
 abbrev pub invariant-loop-rank : goal.invariant-loop-rank

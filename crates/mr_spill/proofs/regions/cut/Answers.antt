@@ -1,79 +1,70 @@
-use Rattle.std.proofs.Common.{◌≡◌, ◌<◌, All, ℕ, List, [], arith, length, map, ap, sym, ◌∙◌, subst, get_or, IfOk, IsPermutation, Vec, Global}
-use Rattle.std.proofs.lemmas.List.{length-map}
-use Rattle.std.specs.List.{IsDistinct, range_with_len, zip}
-use Rattle.std.specs.Str.{bytes_eq}
-use Rattle.mr_bytes.specs.Lists.{Rises}
+use Rattle.std.proofs.Common.{◌≡◌, ◌<◌, ℕ, List, [], arith, length, map, ap, sym, ◌∙◌, subst, get_or, IfOk}
+use Rattle.std.specs.List.{range_with_len, zip}
 use Rattle.mr_bytes.specs.Pairs.{Triple}
-use Rattle.mr_spill.specs.declared.rows.Row.{Row}
 use Rattle.mr_partition.specs.Partition.{partition_of}
-use Rattle.mr_spill.specs.Buckets.{bucket}
+use Rattle.mr_ranks.specs.declared.rows.Row.{Row}
+use Rattle.mr_ranks.specs.Buckets.{bucket}
+use Rattle.mr_ranks.specs.Rows.{AreRows, IsRanked, row_key, row_number}
+use Rattle.mr_ranks.proofs.ListLemmas.{same_length}
 use Rattle.mr_spill.specs.Column.{IsSealed}
-use Rattle.mr_spill.specs.Rows.{pairs_in, row_number, row_order}
+use Rattle.mr_spill.specs.Rows.{IsRowAt, pairs_in}
 use Rattle.mr_spill.specs.Entries.{Entry}
-use Rattle.mr_spill.specs.Table.{IsTable, key_bytes, numbered}
+use Rattle.mr_spill.specs.Table.{IsTable, numbered}
+use Rattle.mr_spill.proofs.CutLemmas.{ranked-table, rows-at}
 use Rattle.mr_spill.proofs.RegionLaws.{region-sealed}
-use Rattle.mr_spill.proofs.RowLemmas.{numbers-distinct, rows-region, rows-regions, rows-rise}
-use Rattle.mr_spill.proofs.TableLemmas.{keys-apart, lists-table}
+use Rattle.mr_spill.proofs.RowLemmas.{rows-region, rows-regions}
 use Rattle.mr_spill.proofs.regions.cut.Goals as goal
 
--- the keys of the set, with the lists of their numbers, put the pairs together
-table-of : (vs keys : List (Vec ℕ Global)) (is shown : List ℕ) (es : List Entry) (ls : List (List Entry)) (ts : List Triple)
-    → keys ≡ vs → shown ≡ is → IsDistinct (λ (a b : Vec ℕ Global). bytes_eq a.items b.items) vs → All (λ i. i < length vs) is → numbered (key_bytes vs) is es ≡ ts
-    → length ls ≡ length keys → ((k : ℕ) → k < length keys → get_or ls k [] ≡ bucket k (zip shown es))
-    → IsTable ts (key_bytes keys) ls
-table-of vs keys is shown es ls ts same even distinct inside view len each =
-    let count : length (key_bytes vs) ≡ length vs = length-map vs (λ (v : Vec ℕ Global). v.items) in
-    subst (λ (l : List (Vec ℕ Global)). IsTable ts (key_bytes l) ls) (sym same)
-    (subst (λ (us : List Triple). IsTable us (key_bytes vs) ls) view
-    (lists-table (key_bytes vs) (keys-apart vs distinct) is es ls
-    (subst (λ (n : ℕ). All (λ i. i < n) is) (sym count) inside)
-    (len ∙ ap length same ∙ sym count)
-    (λ k h. each k (omega (arith, h, count, ap length same)) ∙ ap (λ (l : List ℕ). bucket k (zip l es)) even)))
+-- the lists of the ranks put the pairs together, under the names that the steps give them
+table-of : (keys : List (List ℕ)) (parts : ℕ) (rows shown : List Row) (is copied rs seen : List ℕ) (es : List Entry) (ls : List (List Entry)) (ts : List Triple)
+    → AreRows keys parts rows → IsRanked keys rows copied rs → shown ≡ rows → copied ≡ is → seen ≡ rs → numbered keys is es ≡ ts
+    → length ls ≡ length shown → ((k : ℕ) → k < length shown → get_or ls k [] ≡ bucket k (zip seen es)) → IsTable ts (map row_key rows) ls
+table-of keys parts rows shown is copied rs seen es ls ts are ranks same even read view len each =
+    subst (λ (us : List Triple). IsTable us (map row_key rows) ls) view
+    (ranked-table keys parts rows is rs es ls are (subst (λ (l : List ℕ). IsRanked keys rows l rs) even ranks)
+    (len ∙ ap length same)
+    (λ k h. each k (omega (arith, h, ap length same)) ∙ ap (λ (l : List ℕ). bucket k (zip l es)) read))
 
-pub lists_of-requires-clause-inside : goal.lists_of-requires-clause-inside
-lists_of-requires-clause-inside c =
-    subst (λ (l : List ℕ). All (λ i. i < length c.as_slice-keys.result.now) l) (sym c.as_slice.ensures.value)
-    (subst (λ (n : ℕ). All (λ i. i < n) c.pairs.inside.numbers.items) (sym (ap length c.as_slice-keys.ensures.keys)) c.pairs.invariant.inside)
+-- each rank is that of its row
+ranks-of : (keys : List (List ℕ)) (parts : ℕ) (rows : List Row) → AreRows keys parts rows → map row_number rows ≡ range_with_len 0 (length (map row_key rows))
+ranks-of keys parts rows are = are.ranks_are ∙ ap (range_with_len 0) (sym (same_length row_key rows))
 
-pub regions_of-requires-clause-rise : goal.regions_of-requires-clause-rise
-regions_of-requires-clause-rise c =
-    let rows : List Row = c.in_ok-rows.rows.items in
-    subst (Rises row_order) (sym c.as_slice-2.ensures.value)
-    (rows-rise rows c.in_ok-rows.ensures.sorted (numbers-distinct (length c.as_slice-keys.result.now) rows c.in_ok-rows.ensures.numbers))
+pub regions_of-requires-clause-inside : goal.regions_of-requires-clause-inside
+regions_of-requires-clause-inside c = λ k d h.
+    let rows : List Row = c.in_ok-by_rank.by_rank.rows.items in
+    let shown : c.as_slice-rows.result.now ≡ rows = c.as_slice-rows.ensures.value in
+    let at : IsRowAt (map row_key rows) c.args.parts (get_or rows k d) =
+    rows-at c.pairs.inside.keys c.args.parts rows c.in_ok-by_rank.ensures.rows k d (omega (arith, h, ap length shown)) in
+    subst (λ (l : List Row). (get_or l k d).number < length c.in_ok-lists.lists) (sym shown)
+    (omega (arith, at.within, same_length row_key rows, c.in_ok-lists.ensures.len, ap length shown))
 
 pub regions_of-requires-clause-sealed : goal.regions_of-requires-clause-sealed
 regions_of-requires-clause-sealed c p =
-    let rows : List Row = c.in_ok-rows.rows.items in
-    let vs : List (Vec ℕ Global) = c.as_slice-keys.result.now in
-    let ks : List (List ℕ) = key_bytes vs in
+    let keys : List (List ℕ) = c.pairs.inside.keys in
+    let rows : List Row = c.in_ok-by_rank.by_rank.rows.items in
     let lists : List (List Entry) = c.in_ok-lists.lists in
     let ts : List Triple = c.args.pairs.now in
-    let rise : Rises row_order rows = rows-rise rows c.in_ok-rows.ensures.sorted (numbers-distinct (length vs) rows c.in_ok-rows.ensures.numbers) in
-    let table : IsTable ts ks lists =
-    table-of c.pairs.inside.keys.keys vs c.pairs.inside.numbers.items c.as_slice.result.now c.pairs.inside.entries lists ts
-    c.as_slice-keys.ensures.keys c.as_slice.ensures.value c.as_slice-keys.ensures.unique c.pairs.invariant.inside c.pairs.view_is
-    c.in_ok-lists.ensures.len c.in_ok-lists.ensures.each in
-    let all : IsPermutation (range_with_len 0 (length ks)) (map row_number rows) =
-    subst (λ (n : ℕ). IsPermutation (range_with_len 0 n) (map row_number rows)) (sym (length-map vs (λ (v : Vec ℕ Global). v.items))) c.in_ok-rows.ensures.numbers in
-    subst (λ (rs : List Row). IsSealed (pairs_in lists rs p)) (sym c.as_slice-2.ensures.value)
-    (subst IsSealed (sym (rows-region c.args.parts ts ks lists table c.requires.rise p rows c.in_ok-rows.ensures.rows rise all))
+    let are : AreRows keys c.args.parts rows = c.in_ok-by_rank.ensures.rows in
+    let table : IsTable ts (map row_key rows) lists =
+    table-of keys c.args.parts rows c.as_slice-rows.result.now c.pairs.inside.numbers.items c.in_ok-numbers.numbers.items c.in_ok-by_rank.by_rank.numbers.items
+    c.as_slice-2.result.now c.pairs.inside.entries lists ts are c.in_ok-by_rank.ensures.numbers c.as_slice-rows.ensures.value
+    (c.in_ok-numbers.ensures.items ∙ c.as_slice.ensures.value) c.as_slice-2.ensures.value c.pairs.view_is c.in_ok-lists.ensures.len c.in_ok-lists.ensures.each in
+    subst (λ (rs : List Row). IsSealed (pairs_in lists rs p)) (sym c.as_slice-rows.ensures.value)
+    (subst IsSealed (sym (rows-region c.args.parts ts (map row_key rows) lists table c.requires.rise p rows (rows-at keys c.args.parts rows are) are.rise (ranks-of keys c.args.parts rows are)))
     (region-sealed (λ k. partition_of k c.args.parts) ts p c.requires.differ))
 
 pub returns : goal.returns
 returns c =
-    let rows : List Row = c.in_ok-rows.rows.items in
-    let vs : List (Vec ℕ Global) = c.as_slice-keys.result.now in
-    let ks : List (List ℕ) = key_bytes vs in
+    let keys : List (List ℕ) = c.pairs.inside.keys in
+    let rows : List Row = c.in_ok-by_rank.by_rank.rows.items in
     let lists : List (List Entry) = c.in_ok-lists.lists in
     let ts : List Triple = c.args.pairs.now in
-    let rise : Rises row_order rows = rows-rise rows c.in_ok-rows.ensures.sorted (numbers-distinct (length vs) rows c.in_ok-rows.ensures.numbers) in
-    let table : IsTable ts ks lists =
-    table-of c.pairs.inside.keys.keys vs c.pairs.inside.numbers.items c.as_slice.result.now c.pairs.inside.entries lists ts
-    c.as_slice-keys.ensures.keys c.as_slice.ensures.value c.as_slice-keys.ensures.unique c.pairs.invariant.inside c.pairs.view_is
-    c.in_ok-lists.ensures.len c.in_ok-lists.ensures.each in
-    let all : IsPermutation (range_with_len 0 (length ks)) (map row_number rows) =
-    subst (λ (n : ℕ). IsPermutation (range_with_len 0 n) (map row_number rows)) (sym (length-map vs (λ (v : Vec ℕ Global). v.items))) c.in_ok-rows.ensures.numbers in
+    let are : AreRows keys c.args.parts rows = c.in_ok-by_rank.ensures.rows in
+    let table : IsTable ts (map row_key rows) lists =
+    table-of keys c.args.parts rows c.as_slice-rows.result.now c.pairs.inside.numbers.items c.in_ok-numbers.numbers.items c.in_ok-by_rank.by_rank.numbers.items
+    c.as_slice-2.result.now c.pairs.inside.entries lists ts are c.in_ok-by_rank.ensures.numbers c.as_slice-rows.ensures.value
+    (c.in_ok-numbers.ensures.items ∙ c.as_slice.ensures.value) c.as_slice-2.ensures.value c.pairs.view_is c.in_ok-lists.ensures.len c.in_ok-lists.ensures.each in
     subst (λ (l : List (List Triple)). IfOk c.regions_of.result (λ v. v.items ≡ l))
-    (ap (λ (rs : List Row). map (pairs_in lists rs) (range_with_len 0 c.args.parts)) c.as_slice-2.ensures.value
-    ∙ rows-regions c.args.parts ts ks lists rows table c.requires.rise c.in_ok-rows.ensures.rows rise all)
+    (ap (λ (rs : List Row). map (pairs_in lists rs) (range_with_len 0 c.args.parts)) c.as_slice-rows.ensures.value
+    ∙ rows-regions c.args.parts ts (map row_key rows) lists rows table c.requires.rise (rows-at keys c.args.parts rows are) are.rise (ranks-of keys c.args.parts rows are))
     c.regions_of.ensures

@@ -3,9 +3,10 @@ use Rattle.std.proofs.lemmas.List.FromFn.{map-range_with_len_more}
 use Rattle.std.specs.List.{range_with_len}
 use Rattle.mr_bytes.specs.Lists.{Rises}
 use Rattle.mr_bytes.specs.Pairs.{Triple}
-use Rattle.mr_spill.specs.declared.rows.Row.{Row}
+use Rattle.mr_ranks.specs.declared.rows.Row.{Row}
 use Rattle.mr_spill.specs.Column.{IsSealed}
-use Rattle.mr_spill.specs.Rows.{behind, pairs_in, row_order, row_pairs, rows_in}
+use Rattle.mr_spill.specs.Rows.{behind, pairs_in, row_pairs, rows_in}
+use Rattle.mr_ranks.specs.Rows.{row_cmp}
 use Rattle.mr_spill.specs.Entries.{Entry}
 use Rattle.mr_spill.proofs.RowLemmas.{AreFrom, behind-from, behind-in, behind-rises, front-is}
 use Rattle.mr_spill.proofs.regions.regions_of.Goals as goal
@@ -34,7 +35,7 @@ loop-part-preserved c =
       regions = c.in_ok-push.ensures.items ∙ ap (λ (l : List (List Triple)). l ++ c.mark_sealed.new.self ∷ []) c.loop-part.invariant.regions
           ∙ ap (λ (r : List Triple). map (pairs_in ls rows) (range_with_len 0 p) ++ r ∷ []) (c.mark_sealed.ensures ∙ region)
           ∙ sym (map-range_with_len_more (pairs_in ls rows) 0 p p (omega arith));
-      rise = subst (Rises row_order) (sym rest) (behind-rises p left c.loop-part.invariant.rise);
+      rise = subst (Rises row_cmp) (sym rest) (behind-rises p left c.loop-part.invariant.rise);
       low = subst (AreFrom (p + 1)) (sym rest) (behind-from p left c.loop-part.invariant.rise c.loop-part.invariant.low);
       same = λ q h. ap (rows_in q) rest ∙ behind-in p q left (omega (arith, h)) ∙ c.loop-part.invariant.same q (omega (arith, h));
     }

@@ -1,5 +1,5 @@
 use Rattle.std.proofs.Common.{◌+◌, ◌<◌, List, length, drop, subst}
-use Rattle.mr_spill.specs.declared.rows.Row.{Row}
+use Rattle.mr_ranks.specs.declared.rows.Row.{Row}
 use Rattle.mr_spill.proofs.RowLemmas.{at-drop}
 use Rattle.mr_spill.proofs.regions.room_at.Goals as goal
 

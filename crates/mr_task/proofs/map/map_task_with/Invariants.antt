@@ -9,5 +9,6 @@ abbrev pub invariant-loop-rec : goal.invariant-loop-rec
 invariant-loop-rec l = record {
   parts : l.runs.parts ≡ l.parts;
   lists : length l.runs.lists.items ≡ l.parts;
+  mapper : l.mapper ≡ record { job = l.job; files = l.plan.files };
   taken : HasTaken (flat_map (record_gives l.job l.skips) (take l.rec (of_split l.split (records_of l.plan)))) l.runs;
 }

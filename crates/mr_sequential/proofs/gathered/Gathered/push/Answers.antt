@@ -3,7 +3,9 @@ use Rattle.mr_bytes.specs.declared.Value.{Value}
 use Rattle.mr_bytes.specs.Lists.{Has}
 use Rattle.mr_jobs.specs.Emissions.{Emission}
 use Rattle.mr_sequential.specs.Pairs.{paired}
-use Rattle.mr_sequential.proofs.GatheredLemmas.{length-paired, pushed-view, used-push, inside-push, length-append, grew-stay, grew-count, grew-last}
+use Rattle.mr_keys.proofs.KeyLemmas.{grew-stay, grew-count, grew-last}
+use Rattle.mr_sequential.proofs.GatheredLemmas.{length-paired, pushed-view, used-push, inside-push}
+use Rattle.mr_ranks.proofs.ListLemmas.{length-append}
 use Rattle.mr_sequential.proofs.gathered.Gathered.push.Goals as goal
 
 -- how many pairs there are

@@ -3,7 +3,8 @@ use Rattle.std.proofs.lemmas.List.{get_or_default}
 use Rattle.mr_bytes.specs.Pairs.{Triple}
 use Rattle.mr_spill.specs.Column.{no_pair, nth_pair}
 use Rattle.mr_spill.specs.Entries.{Entry}
-use Rattle.mr_spill.specs.Table.{key_at, key_bytes, numbered}
+use Rattle.mr_keys.specs.Keys.{key_at}
+use Rattle.mr_spill.specs.Table.{numbered}
 use Rattle.mr_spill.proofs.TableLemmas.{length-numbered, numbered-at, numbered-push}
 use Rattle.mr_spill.proofs.numbered.Numbered.push_again.Goals as goal
 
@@ -11,7 +12,7 @@ pub returns-clause-ok : goal.returns-clause-ok
 returns-clause-ok c =
     let n = c.self.inside in
     let is : List ℕ = n.numbers.items in
-    let ks : List (List ℕ) = key_bytes n.keys.keys in
+    let ks : List (List ℕ) = n.keys in
     let es : List Entry = n.entries in
     let e : Entry = (c.args.value, c.args.name) in
     let i : ℕ = c.index-number.result.now in

@@ -35,8 +35,8 @@ pub loop-key-init : goal.loop-key-init
 loop-key-init c = record {
   parts = refl;
   lists = c.requires.lists;
-  count = omega (arith, ap length c.emit-emitter.ensures);
-  left = ap (placed_from c.args.number 0) (sym c.emit-emitter.ensures);
+  count = omega (arith, ap length c.emit-emitter.ensures.emissions);
+  left = ap (placed_from c.args.number 0) (sym c.emit-emitter.ensures.emissions);
   rise = c.requires.rise;
   taken = takes-none c.args.self.now;
 }
@@ -44,7 +44,7 @@ loop-key-init c = record {
 pub push-requires-clause-rise : goal.push-requires-clause-rise
 push-requires-clause-rise c =
     let line = c.args.line in
-    let ts : List Triple = placed_from c.args.number 0 (emissions c.args.job.now line.file line.start line.bytes.now) in
+    let ts : List Triple = placed_from c.args.number 0 (emissions c.args.mapper.now.job line.file line.start line.bytes.now) in
     let waiting : List Triple = c.loop-key.self.buffer.pairs in
     let t : Triple = placed c.args.number c.loop-key.place c.in-Some.key.now c.in-Some.value in
     let rest : List Triple = placed_from c.args.number (c.loop-key.place + 1) c.next.new.self in
@@ -54,12 +54,12 @@ push-requires-clause-rise c =
 pub overflow_add-place : goal.overflow_add-place
 overflow_add-place c =
     let line = c.args.line in
-    omega (arith, c.loop-key.invariant.count, ap length c.in-Some.ensures.next, few_emissions c.args.job.now line.file line.start line.bytes.now, c.requires.small)
+    omega (arith, c.loop-key.invariant.count, ap length c.in-Some.ensures.next, few_emissions c.args.mapper.now.job line.file line.start line.bytes.now, c.requires.small)
 
 pub loop-key-preserved : goal.loop-key-preserved
 loop-key-preserved c =
     let line = c.args.line in
-    let ts : List Triple = placed_from c.args.number 0 (emissions c.args.job.now line.file line.start line.bytes.now) in
+    let ts : List Triple = placed_from c.args.number 0 (emissions c.args.mapper.now.job line.file line.start line.bytes.now) in
     let waiting : List Triple = c.loop-key.self.buffer.pairs in
     let place : ℕ = c.loop-key.place in
     let t : Triple = placed c.args.number place c.in-Some.key.now c.in-Some.value in
@@ -81,7 +81,7 @@ loop-key-preserved c =
 pub returns-clause-taken : goal.returns-clause-taken
 returns-clause-taken c =
     let line = c.args.line in
-    let ts : List Triple = placed_from c.args.number 0 (emissions c.args.job.now line.file line.start line.bytes.now) in
+    let ts : List Triple = placed_from c.args.number 0 (emissions c.args.mapper.now.job line.file line.start line.bytes.now) in
     let place : ℕ = c.loop-key.place in
     let none : drop place ts ≡ [] =
     c.loop-key.invariant.left ∙ ap (placed_from c.args.number place) c.in_default.ensures.next ∙ placed-last c.args.number place in

@@ -9,7 +9,7 @@ use Rattle.mr_task.proofs.runs.Runs.take_record.Given as goal
 
 abbrev pub invariant-loop-key : goal.invariant-loop-key
 invariant-loop-key l =
-    let es = emissions l.job l.line.file l.line.start l.line.bytes.now in
+    let es = emissions l.fn.mapper.job l.line.file l.line.start l.line.bytes.now in
     let ts = placed_from l.number 0 es in
     record {
       parts : l.self.parts ≡ l.fn.self.parts;

@@ -1,0 +1,7 @@
+pub mod BucketLemmas
+pub mod FrontLemmas
+pub mod ListLemmas
+pub mod OrderLemmas
+pub mod RankLemmas
+pub mod RowLemmas
+pub mod UniteLemmas
