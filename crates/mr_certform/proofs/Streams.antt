@@ -353,3 +353,11 @@ onward_other p i h = refl
 
 pub onward_end : (p : Place) (i : Item) → i ≡ End → p ≡ onward p i
 onward_end p i h = sym (ap (onward p) h)
+
+-- some items may always come
+pub some_given : (s : Stream) → (is : List Item) × ((stopped : ℕ) × Gives s is stopped)
+some_given s = by s.coming (λ more a. (items_from s.place (s.held ++ more), (s.passed + length (bytes_from s.place (items_from s.place (s.held ++ more))), (s.held ++ more, (more, refl, a), refl, refl))))
+  where
+    by : (known : Option (List ℕ)) → ((more : List ℕ) → Agrees known more → (is : List Item) × ((stopped : ℕ) × Gives s is stopped)) → (is : List Item) × ((stopped : ℕ) × Gives s is stopped)
+    by None found = found [] tt
+    by (Some xs) found = found xs refl

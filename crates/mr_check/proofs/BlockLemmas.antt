@@ -10,7 +10,8 @@ use Rattle.mr_check.specs.declared.blocks.Sought.{Sought}
 use Rattle.mr_check.specs.declared.fault.No.{No}
 use Rattle.mr_check.specs.Verdict.{Reached, Subject, start, tests, after, part_faults, first, entries_in}
 use Rattle.mr_check.specs.Steps.{Answers, HasRoom, Room}
-use Rattle.mr_check.specs.Blocks.{onto, items_in, items_sought, GoesOn, Judged}
+use Rattle.mr_check.specs.Blocks.{onto, has_end, items_in, items_sought, GoesOn, Judged}
+use Rattle.mr_check.specs.Items.{Coming, Took}
 use Rattle.mr_check.proofs.Faults.{told_is}
 use Rattle.mr_check.proofs.PartLemmas.{end_or_not, loop_more, loop_end, loop_fault, entries_more, entries_end, named_after, room_after}
 
@@ -183,3 +184,30 @@ ended_counts is js all old new e counts h none = omega (arith, ap entries_in e, 
     entries_cut (End ∷ is) = omega arith
     entries_cut (Entry name ∷ is) = omega (arith, entries_cut is)
     entries_cut (i ∷ is) = entries_cut is
+
+-- ---- reading, whatever walks the items
+
+-- these were read, and others may still come behind them
+abbrev pub Reads : Coming → Coming → List Item → Type 0
+Reads old now items = (is : List Item) (at : ℕ) → now is at → old (onto items is) at × (entries_in (onto items is) ≡ entries_in items + entries_in is)
+
+-- one more
+pub reads_next : (old now next : Coming) (items more : List Item) (i : Item) → Reads old now items → Took now next (Ok i) → more ≡ items ++ i ∷ [] → Reads old next more
+reads_next old now next items more End reads took m is at there =
+    let t = took is at there in
+    let r = reads is at t.0 in
+    let same : onto items is ≡ onto more is = ap (onto items) t.1 ∙ (sym (onto_more items End is) ∙ ap (λ w. onto w is) (sym m)) in
+    (subst (λ w. old w at) same r.0, omega (arith, r.1, ap entries_in same, ap entries_in m, entries_append items (End ∷ [])))
+reads_next old now next items more i reads took m is at there =
+    let r = reads (i ∷ is) at (took is at there) in
+    let same : onto items (i ∷ is) ≡ onto more is = sym (onto_more items i is) ∙ ap (λ w. onto w is) (sym m) in
+    (subst (λ w. old w at) same r.0, omega (arith, r.1, ap entries_in same, ap entries_in m, entries_append items (i ∷ []), entries_more i is))
+
+-- an item that isn't the end counts
+pub no_end : (items more : List Item) (i : Item) → more ≡ items ++ i ∷ [] → i ≡ End → has_end more ≡ true
+no_end items more i m e = ap has_end m ∙ by items
+  where
+    by : (is : List Item) → has_end (is ++ i ∷ []) ≡ true
+    by [] = ap (λ (w : Item). has_end (w ∷ [])) e
+    by (End ∷ is) = refl
+    by (j ∷ is) = by is

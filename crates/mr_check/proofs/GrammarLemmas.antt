@@ -12,7 +12,7 @@ use Rattle.mr_certform.specs.Places.{behind, literal_bytes, file_lengths, partit
 use Rattle.mr_certform.specs.Grammar.{InOrder}
 use Rattle.mr_check.specs.declared.fault.No.{No}
 use Rattle.mr_check.specs.Verdict.{item_eq, job_wanted, input_wanted, last_of}
-use Rattle.mr_check.specs.Steps.{met, no_skip, skips_in_front, awaits_skips, counted, listed, unless, skip_fault, Listed}
+use Rattle.mr_check.specs.Steps.{met, no_skip, skips_in_front, awaits_skips, Counted, counted, listed, unless, skip_fault, Listed}
 use Rattle.mr_check.specs.declared.fault.No.TheVariants.{TooManySkips}
 use Rattle.mr_bytes.specs.declared.RecordName.{RecordName}
 use Rattle.mr_splits.specs.Named.{NamedRecord}
@@ -93,13 +93,8 @@ late AtEnd (i ∷ is) l h = absurd (h.0)
 late Behind (i ∷ is) l h = absurd (h.0)
 late p (i ∷ is) l h = absurd l
 
-none_in_front : (is : List Item) → no_skip is ≡ true → skips_in_front is ≡ true
-none_in_front [] e = refl
-none_in_front (Skip s ∷ is) e = absurd (false≢true e)
-none_in_front (i ∷ is) e = e
-
-front : (r n : ℕ) (is : List Item) → InOrder (skips r n) is → skips_in_front is ≡ true
-front r zero is h = none_in_front is (late (partitions r) is (late_partitions r) h)
+front : (r n : ℕ) (is : List Item) → InOrder (skips r n) is → skips_in_front n is ≡ true
+front r zero is h = late (partitions r) is (late_partitions r) h
 front r (suc n) [] h = refl
 front r (suc n) (Skip s ∷ is) h = front r n is h.1
 front r (suc n) (i ∷ is) h = absurd (h.0)
@@ -120,14 +115,14 @@ skips_come o files a b f g is js ks h e d = awaits o.parts ks (skips_place o fil
 
 -- ---- behind the left-out records the partitions come
 
-counted_place : (r at most : ℕ) (is js : List Item) → InOrder (AtSkips r) is → counted at most is ≡ Ok js → (n : ℕ) × InOrder (skips r n) js
-counted_place r at most [] js h e = absurd (cc e)
-counted_place r at most (Skips n ∷ is) js h e = by (nat_le n most) e
+counted_place : (r at most : ℕ) (is : List Item) (k : Counted) → InOrder (AtSkips r) is → counted at most is ≡ Ok k → InOrder (skips r k.many) k.behind
+counted_place r at most [] k h e = absurd (cc e)
+counted_place r at most (Skips n ∷ is) k h e = by (nat_le n most) e
   where
-    by : (b : Bool) → cond b (Ok is) (Err (TooManySkips n)) ≡ Ok js → (n : ℕ) × InOrder (skips r n) js
-    by true d = (n, subst (InOrder (skips r n)) (cc d) h.1)
+    by : (b : Bool) → cond b (Ok (record { many = n; behind = is })) (Err (TooManySkips n)) ≡ Ok k → InOrder (skips r k.many) k.behind
+    by true d = let same : record { many = n; behind = is } ≡ k = cc d in subst (λ (w : Counted). InOrder (skips r w.many) w.behind) same h.1
     by false d = absurd (cc d)
-counted_place r at most (i ∷ is) js h e = absurd (h.0)
+counted_place r at most (i ∷ is) k h e = absurd (h.0)
 
 -- the items behind them
 abbrev items_behind : Result Listed No → List Item
@@ -138,19 +133,12 @@ unless_ok : (o : Option No) (r : Result Listed No) (l : Listed) → unless o r �
 unless_ok None r l e = e
 unless_ok (Some f) r l e = absurd (cc e)
 
-no_skip_here : (r : ℕ) (s : RecordName) (is : List Item) → InOrder (partitions r) (Skip s ∷ is) → ⊥
-no_skip_here zero s is h = h.0
-no_skip_here (suc r) s is h = h.0
-
-listed_place : (rs : List NamedRecord) (at : ℕ) (done : List RecordName) (r n : ℕ) (is : List Item) (l : Listed) → InOrder (skips r n) is → listed rs at done is ≡ Ok l → InOrder (partitions r) l.behind
-listed_place rs at done r n [] l h e = absurd (cc e)
-listed_place rs at done r zero (Skip s ∷ is) l h e = absurd (no_skip_here r s is h)
+listed_place : (rs : List NamedRecord) (at : ℕ) (done : List RecordName) (r n : ℕ) (is : List Item) (l : Listed) → InOrder (skips r n) is → listed rs at n done is ≡ Ok l → InOrder (partitions r) l.behind
+listed_place rs at done r zero is l h e = subst (InOrder (partitions r)) (ap items_behind e) h
+listed_place rs at done r (suc n) [] l h e = absurd (cc e)
 listed_place rs at done r (suc n) (Skip s ∷ is) l h e =
-    listed_place rs at (done ++ s ∷ []) r n is l h.1 (unless_ok (skip_fault rs (last_of done) s (length done)) (listed rs at (done ++ s ∷ []) is) l e)
-listed_place rs at done r zero (i ∷ is) l h e = subst (InOrder (partitions r)) (ap items_behind e) h
+    listed_place rs at (done ++ s ∷ []) r n is l h.1 (unless_ok (skip_fault rs (last_of done) s (length done)) (listed rs at n (done ++ s ∷ []) is) l e)
 listed_place rs at done r (suc n) (i ∷ is) l h e = absurd (h.0)
 
-pub partitions_place : (rs : List NamedRecord) (r at other most : ℕ) (is js : List Item) (l : Listed) → InOrder (AtSkips r) is → counted at most is ≡ Ok js → listed rs other [] js ≡ Ok l → InOrder (partitions r) l.behind
-partitions_place rs r at other most is js l h e d =
-    let here = counted_place r at most is js h e in
-    listed_place rs other [] r here.0 js l here.1 d
+pub partitions_place : (rs : List NamedRecord) (r at other most : ℕ) (is : List Item) (k : Counted) (l : Listed) → InOrder (AtSkips r) is → counted at most is ≡ Ok k → listed rs other k.many [] k.behind ≡ Ok l → InOrder (partitions r) l.behind
+partitions_place rs r at other most is k l h e d = listed_place rs other [] r k.many k.behind l (counted_place r at most is k h e) d

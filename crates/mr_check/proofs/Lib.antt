@@ -1,5 +1,6 @@
 pub mod Agreements
 pub mod BlockLemmas
+pub mod BlocksJudged
 pub mod FaultPart
 pub mod FaultRead
 pub mod FaultTruth
@@ -9,10 +10,14 @@ pub mod GrammarLemmas
 pub mod HeadlineLemmas
 pub mod IndexLemmas
 pub mod JudgeLemmas
+pub mod JudgingLemmas
 pub mod MetLemmas
 pub mod MeterLemmas
+pub mod OutputLemmas
 pub mod OwnLemmas
 pub mod PartLemmas
+pub mod RestLemmas
+pub mod RowLemmas
 pub mod SkipLemmas
 pub mod ValueLemmas
 pub mod VerdictCompared
@@ -27,3 +32,4 @@ pub mod VerdictPlace
 pub mod VerdictRowLemmas
 pub mod VerdictTests
 pub mod VerdictYes
+mod ItemLemmas

@@ -41,11 +41,3 @@ met_not a at f w all ws is e d same h = ap (λ k. met at k f is) d ∙ (ap (λ n
 pub job_is : (o : RequestSpec) (job : JobSpec) (lits : List ℕ) (number flags parts split : ℕ) → job ≡ o.job → lits ≡ job_literal job → number ≡ job_number job → flags ≡ job_flags job → parts ≡ o.parts → split ≡ o.split
     → job_wanted o ≡ (Magic ∷ Job number ∷ Flags flags ∷ LiteralLength (length lits) ∷ []) ++ (map LiteralByte lits ++ (Parts parts ∷ SplitSize split ∷ []))
 job_is o job lits number flags parts split t l n g p s = rw (l, n, g, p, s, t) refl
-
--- three lists of items, one after another
-pub met_three : (at b d : ℕ) (f : No) (us ws vs is js ks : List Item) → b ≡ at → d ≡ at → met at us f is ≡ Ok js → met b ws f js ≡ Ok ks → met at (us ++ (ws ++ vs)) f is ≡ met d vs f ks
-met_three at b d f us ws vs is js ks e g h k =
-    met_then at f us (ws ++ vs) is js h ∙ (met_then at f ws vs js ks (ap (λ n. met n ws f js) (sym e) ∙ k) ∙ ap (λ n. met n vs f ks) (sym g))
-
-pub met_second : (at b : ℕ) (f : No) (us ws vs is js : List Item) (e : No) → b ≡ at → met at us f is ≡ Ok js → met b ws f js ≡ Err e → met at (us ++ (ws ++ vs)) f is ≡ Err e
-met_second at b f us ws vs is js e same h k = met_then at f us (ws ++ vs) is js h ∙ met_fails at f ws vs js e (ap (λ n. met n ws f js) (sym same) ∙ k)

@@ -8,7 +8,7 @@ use Rattle.mr_certform.specs.declared.item.Item.{Item}
 use Rattle.mr_certform.specs.declared.item.Item.TheVariants.{Skip, Entry}
 use Rattle.mr_index.specs.declared.index.Meter.{Meter}
 use Rattle.mr_check.specs.Verdict.{Accepted, accepted_by, entries_in}
-use Rattle.mr_check.specs.Steps.{header_met, counted, Listed, listed}
+use Rattle.mr_check.specs.Steps.{header_met, Counted, counted, Listed, listed}
 use Rattle.mr_check.specs.Metered.{IsBounded}
 use Rattle.mr_check.proofs.VerdictLemmas.{counted_is, listed_accepted, header_accepted}
 
@@ -24,16 +24,15 @@ header_entries at o files is ks e =
     let a : Accepted = record { skips = []; pairs = 0 } in
     omega (arith, accepted_pairs a is, accepted_pairs a ks, ap (λ (b : Accepted). b.pairs) (header_accepted at o files a is ks e))
 
-pub rest_entries : (rs : List NamedRecord) (stop most at : ℕ) (is js : List Item) (r : Listed) → counted stop most is ≡ Ok js → listed rs at [] js ≡ Ok r → entries_in r.behind ≡ entries_in is
-rest_entries rs stop most at is js r e h =
-    let k = counted_is stop most is js e in
+pub rest_entries : (rs : List NamedRecord) (stop most at : ℕ) (is : List Item) (k : Counted) (r : Listed) → counted stop most is ≡ Ok k → listed rs at k.many [] k.behind ≡ Ok r → entries_in r.behind ≡ entries_in is
+rest_entries rs stop most at is k r e h =
     let a : Accepted = record { skips = []; pairs = 0 } in
     omega (
       arith,
-      ap entries_in k.1,
-      accepted_pairs a js,
+      ap entries_in (counted_is stop most is k e).0,
+      accepted_pairs a k.behind,
       accepted_pairs (record { skips = r.skips; pairs = 0 }) r.behind,
-      ap (λ (b : Accepted). b.pairs) (listed_accepted rs at [] js r h),
+      ap (λ (b : Accepted). b.pairs) (listed_accepted rs at k.many [] k.behind r h),
     )
 
 -- what a walk over fewer items counts is within what one over all may count

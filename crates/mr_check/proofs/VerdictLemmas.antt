@@ -1,5 +1,5 @@
 -- From what the judge's functions find to the verdict.
-use Rattle.std.proofs.Common.{◌≡◌, ℕ, ◌+◌, ◌≤◌, Bool, true, false, cond, Option, Some, None, List, [], ◌∷◌, ◌++◌, length, refl, ap, sym, ◌∙◌, arith, leb, eqb}
+use Rattle.std.proofs.Common.{zero, suc, ◌≡◌, ℕ, ◌+◌, ◌≤◌, Bool, true, false, cond, Option, Some, None, List, [], ◌∷◌, ◌++◌, length, refl, ap, sym, ◌∙◌, arith, leb, eqb}
 use Rattle.std.specs.Prelude.{Result, Ok, Err}
 use Rattle.std.proofs.lemmas.Bool.{false≢true, eq-eqb, ne_eqb}
 use Rattle.std.specs.List.{flat_map}
@@ -17,7 +17,7 @@ use Rattle.mr_index.specs.Index.{triples_of}
 use Rattle.mr_check.specs.declared.fault.No.{No}
 use Rattle.mr_check.specs.declared.fault.No.TheVariants.{OtherJob, OtherInput, OutputCount, SkipOrder, NoSuchRecord, TooManySkips}
 use Rattle.mr_check.specs.Verdict.{Case, Accepted, item_eq, last_of, start, subject_of, part_faults, skip_faults, count_faults, wanted_faults, accepted_by, told_by, passes, job_wanted, input_wanted, verdict_of, first, entries_in}
-use Rattle.mr_check.specs.Steps.{subject, met, met_behind, header_met, counted, skip_fault, unless, Listed, listed, no_skip, skips_in_front, awaits_skips, case_at}
+use Rattle.mr_check.specs.Steps.{Counted, subject, met, met_behind, header_met, counted, skip_fault, unless, Listed, listed, no_skip, skips_in_front, awaits_skips, case_at}
 
 -- ---- what is met
 
@@ -65,82 +65,93 @@ met_accepted at (w ∷ ws) f a (i ∷ is) js e = by (item_eq i w) refl e (met_ac
 
 -- ---- how many records are left out
 
-pub counted_is : (at most : ℕ) (is js : List Item) → counted at most is ≡ Ok js → (n : ℕ) × (is ≡ Skips n ∷ js) × (leb n most ≡ true)
-counted_is at most [] js e = absurd (cc e)
-counted_is at most (Skips n ∷ is) js e = by (leb n most) refl e
+pub counted_is : (at most : ℕ) (is : List Item) (k : Counted) → counted at most is ≡ Ok k → (is ≡ Skips k.many ∷ k.behind) × (leb k.many most ≡ true)
+counted_is at most [] k e = absurd (cc e)
+counted_is at most (Skips n ∷ is) k e = by (leb n most) refl e
   where
-    by : (b : Bool) → leb n most ≡ b → cond b (Ok is) (Err (TooManySkips n)) ≡ Ok js → (m : ℕ) × (Skips n ∷ is ≡ Skips m ∷ js) × (leb m most ≡ true)
-    by true same h = (n, ap (λ w. Skips n ∷ w) (cc h), same)
+    by : (b : Bool) → leb n most ≡ b → cond b (Ok (record { many = n; behind = is })) (Err (TooManySkips n)) ≡ Ok k → (Skips n ∷ is ≡ Skips k.many ∷ k.behind) × (leb k.many most ≡ true)
+    by true same h = let d : record { many = n; behind = is } ≡ k = cc h in (ap (λ (w : Counted). Skips w.many ∷ w.behind) d, ap (λ (w : Counted). leb w.many most) (sym d) ∙ same)
     by false same h = absurd (cc h)
-counted_is at most (i ∷ is) js e = absurd (cc e)
+counted_is at most (i ∷ is) k e = absurd (cc e)
 
-pub counted_faults : (c : Case) (most : ℕ) (is js : List Item) → most ≡ c.request.skips → counted c.stop most is ≡ Ok js → count_faults c is ≡ skip_faults c [] js
-counted_faults c most is js m e =
-    let h = counted_is c.stop most is js e in
-    ap (count_faults c) h.1 ∙ (ap (λ k. passes (leb h.0 k) (TooManySkips h.0) ++ skip_faults c [] js) (sym m) ∙ ap (λ b. passes b (TooManySkips h.0) ++ skip_faults c [] js) h.2)
+pub counted_faults : (c : Case) (most : ℕ) (is : List Item) (k : Counted) → most ≡ c.request.skips → counted c.stop most is ≡ Ok k → count_faults c is ≡ skip_faults c [] k.behind
+counted_faults c most is k m e =
+    let h = counted_is c.stop most is k e in
+    ap (count_faults c) h.0 ∙ (ap (λ w. passes (leb k.many w) (TooManySkips k.many) ++ skip_faults c [] k.behind) (sym m) ∙ ap (λ b. passes b (TooManySkips k.many) ++ skip_faults c [] k.behind) h.1)
 
 pub counted_fault : (c : Case) (is : List Item) (e : No) → counted c.stop c.request.skips is ≡ Err e → first (count_faults c is) ≡ Some e
 counted_fault c [] e d = cc d
 counted_fault c (Skips n ∷ is) e d = by (leb n c.request.skips) d
   where
-    by : (b : Bool) → cond b (Ok is) (Err (TooManySkips n)) ≡ Err e → first (passes b (TooManySkips n) ++ skip_faults c [] is) ≡ Some e
+    by : (b : Bool) → cond {A = Result Counted No} b (Ok (record { many = n; behind = is })) (Err (TooManySkips n)) ≡ Err e → first (passes b (TooManySkips n) ++ skip_faults c [] is) ≡ Some e
     by true h = absurd (cc h)
     by false h = cc h
 counted_fault c (i ∷ is) e d = cc d
 
 -- ---- the left-out records
 
-pub listed_faults : (c : Case) (ss : List RecordName) (is : List Item) (r : Listed) → listed (named_records c.request.split c.files) c.stop ss is ≡ Ok r → skip_faults c ss is ≡ part_faults (subject_of c r.skips) c.stop start r.behind
-listed_faults c ss [] r e = absurd (cc e)
-listed_faults c ss (Skip s ∷ is) r e = by (is_past (last_of ss) s) (is_record (named_records c.request.split c.files) s) e (listed_faults c (ss ++ s ∷ []) is r)
+none_listed : (c : Case) (ss : List RecordName) (is : List Item) → no_skip is ≡ true → skip_faults c ss is ≡ part_faults (subject_of c ss) c.stop start is
+none_listed c ss [] h = refl
+none_listed c ss (Skip s ∷ is) h = absurd (false≢true h)
+none_listed c ss (i ∷ is) h = refl
+
+pub listed_faults : (c : Case) (n : ℕ) (ss : List RecordName) (is : List Item) (r : Listed) → skips_in_front n is ≡ true → listed (named_records c.request.split c.files) c.stop n ss is ≡ Ok r
+    → skip_faults c ss is ≡ part_faults (subject_of c r.skips) c.stop start r.behind
+listed_faults c zero ss is r front e = let same : record { skips = ss; behind = is } ≡ r = cc e in none_listed c ss is front ∙ ap (λ (w : Listed). part_faults (subject_of c w.skips) c.stop start w.behind) same
+listed_faults c (suc n) ss [] r front e = absurd (cc e)
+listed_faults c (suc n) ss (Skip s ∷ is) r front e = by (is_past (last_of ss) s) (is_record (named_records c.request.split c.files) s) e (listed_faults c n (ss ++ s ∷ []) is r front)
   where
-    by : (a b : Bool) → unless (cond a (cond b None (Some (NoSuchRecord (length ss)))) (Some (SkipOrder (length ss)))) (listed (named_records c.request.split c.files) c.stop (ss ++ s ∷ []) is) ≡ Ok r
-        → (listed (named_records c.request.split c.files) c.stop (ss ++ s ∷ []) is ≡ Ok r → skip_faults c (ss ++ s ∷ []) is ≡ part_faults (subject_of c r.skips) c.stop start r.behind)
+    by : (a b : Bool) → unless (cond a (cond b None (Some (NoSuchRecord (length ss)))) (Some (SkipOrder (length ss)))) (listed (named_records c.request.split c.files) c.stop n (ss ++ s ∷ []) is) ≡ Ok r
+        → (listed (named_records c.request.split c.files) c.stop n (ss ++ s ∷ []) is ≡ Ok r → skip_faults c (ss ++ s ∷ []) is ≡ part_faults (subject_of c r.skips) c.stop start r.behind)
         → passes a (SkipOrder (length ss)) ++ passes b (NoSuchRecord (length ss)) ++ skip_faults c (ss ++ s ∷ []) is ≡ part_faults (subject_of c r.skips) c.stop start r.behind
     by true true h more = more h
     by true false h more = absurd (cc h)
     by false b h more = absurd (cc h)
-listed_faults c ss (i ∷ is) r e = let same : record { skips = ss; behind = i ∷ is } ≡ r = cc e in ap (λ (w : Listed). part_faults (subject_of c w.skips) c.stop start w.behind) same
+listed_faults c (suc n) ss (i ∷ is) r front e = absurd (false≢true front)
 
-pub listed_fault : (c : Case) (ss : List RecordName) (is : List Item) (e : No) → listed (named_records c.request.split c.files) c.stop ss is ≡ Err e → first (skip_faults c ss is) ≡ Some e
-listed_fault c ss [] e d = cc d
-listed_fault c ss (Skip s ∷ is) e d = by (is_past (last_of ss) s) (is_record (named_records c.request.split c.files) s) d (listed_fault c (ss ++ s ∷ []) is e)
+pub listed_fault : (c : Case) (n : ℕ) (ss : List RecordName) (is : List Item) (e : No) → listed (named_records c.request.split c.files) c.stop n ss is ≡ Err e → first (skip_faults c ss is) ≡ Some e
+listed_fault c zero ss is e d = absurd (cc d)
+listed_fault c (suc n) ss [] e d = cc d
+listed_fault c (suc n) ss (Skip s ∷ is) e d = by (is_past (last_of ss) s) (is_record (named_records c.request.split c.files) s) d (listed_fault c n (ss ++ s ∷ []) is e)
   where
-    by : (a b : Bool) → unless (cond a (cond b None (Some (NoSuchRecord (length ss)))) (Some (SkipOrder (length ss)))) (listed (named_records c.request.split c.files) c.stop (ss ++ s ∷ []) is) ≡ Err e
-        → (listed (named_records c.request.split c.files) c.stop (ss ++ s ∷ []) is ≡ Err e → first (skip_faults c (ss ++ s ∷ []) is) ≡ Some e)
+    by : (a b : Bool) → unless (cond a (cond b None (Some (NoSuchRecord (length ss)))) (Some (SkipOrder (length ss)))) (listed (named_records c.request.split c.files) c.stop n (ss ++ s ∷ []) is) ≡ Err e
+        → (listed (named_records c.request.split c.files) c.stop n (ss ++ s ∷ []) is ≡ Err e → first (skip_faults c (ss ++ s ∷ []) is) ≡ Some e)
         → first (passes a (SkipOrder (length ss)) ++ passes b (NoSuchRecord (length ss)) ++ skip_faults c (ss ++ s ∷ []) is) ≡ Some e
     by true true h more = more h
     by true false h more = cc h
     by false b h more = cc h
-listed_fault c ss (i ∷ is) e d = absurd (cc d)
+listed_fault c (suc n) ss (i ∷ is) e d = absurd (cc d)
 
-pub listed_accepted : (rs : List NamedRecord) (at : ℕ) (ss : List RecordName) (is : List Item) (r : Listed) → listed rs at ss is ≡ Ok r → accepted_by (record { skips = ss; pairs = 0 }) is ≡ accepted_by (record { skips = r.skips; pairs = 0 }) r.behind
-listed_accepted rs at ss [] r e = absurd (cc e)
-listed_accepted rs at ss (Skip s ∷ is) r e = by (skip_fault rs (last_of ss) s (length ss)) e (listed_accepted rs at (ss ++ s ∷ []) is r)
+pub listed_accepted : (rs : List NamedRecord) (at n : ℕ) (ss : List RecordName) (is : List Item) (r : Listed) → listed rs at n ss is ≡ Ok r → accepted_by (record { skips = ss; pairs = 0 }) is ≡ accepted_by (record { skips = r.skips; pairs = 0 }) r.behind
+listed_accepted rs at zero ss is r e = let same : record { skips = ss; behind = is } ≡ r = cc e in ap (λ (w : Listed). accepted_by (record { skips = w.skips; pairs = 0 }) w.behind) same
+listed_accepted rs at (suc n) ss [] r e = absurd (cc e)
+listed_accepted rs at (suc n) ss (Skip s ∷ is) r e = by (skip_fault rs (last_of ss) s (length ss)) e (listed_accepted rs at n (ss ++ s ∷ []) is r)
   where
-    by : (o : Option No) → unless o (listed rs at (ss ++ s ∷ []) is) ≡ Ok r → (listed rs at (ss ++ s ∷ []) is ≡ Ok r → accepted_by (record { skips = ss ++ s ∷ []; pairs = 0 }) is ≡ accepted_by (record { skips = r.skips; pairs = 0 }) r.behind)
+    by : (o : Option No) → unless o (listed rs at n (ss ++ s ∷ []) is) ≡ Ok r → (listed rs at n (ss ++ s ∷ []) is ≡ Ok r → accepted_by (record { skips = ss ++ s ∷ []; pairs = 0 }) is ≡ accepted_by (record { skips = r.skips; pairs = 0 }) r.behind)
         → accepted_by (record { skips = ss ++ s ∷ []; pairs = 0 }) is ≡ accepted_by (record { skips = r.skips; pairs = 0 }) r.behind
     by None h more = more h
     by (Some f) h more = absurd (cc h)
-listed_accepted rs at ss (i ∷ is) r e = let same : record { skips = ss; behind = i ∷ is } ≡ r = cc e in ap (λ (w : Listed). accepted_by (record { skips = w.skips; pairs = 0 }) w.behind) same
+listed_accepted rs at (suc n) ss (i ∷ is) r e = let same : record { skips = ss; behind = i ∷ is } ≡ r = cc e in ap (λ (w : Listed). accepted_by (record { skips = w.skips; pairs = 0 }) w.behind) same
 
-pub listed_few : (rs : List NamedRecord) (at : ℕ) (ss : List RecordName) (is : List Item) (r : Listed) → listed rs at ss is ≡ Ok r → length r.behind ≤ length is
-listed_few rs at ss [] r e = absurd (cc e)
-listed_few rs at ss (Skip s ∷ is) r e = by (skip_fault rs (last_of ss) s (length ss)) e (listed_few rs at (ss ++ s ∷ []) is r)
+pub listed_few : (rs : List NamedRecord) (at n : ℕ) (ss : List RecordName) (is : List Item) (r : Listed) → listed rs at n ss is ≡ Ok r → length r.behind ≤ length is
+listed_few rs at zero ss is r e = let same : record { skips = ss; behind = is } ≡ r = cc e in omega (arith, ap (λ (w : Listed). length w.behind) same)
+listed_few rs at (suc n) ss [] r e = absurd (cc e)
+listed_few rs at (suc n) ss (Skip s ∷ is) r e = by (skip_fault rs (last_of ss) s (length ss)) e (listed_few rs at n (ss ++ s ∷ []) is r)
   where
-    by : (o : Option No) → unless o (listed rs at (ss ++ s ∷ []) is) ≡ Ok r → (listed rs at (ss ++ s ∷ []) is ≡ Ok r → length r.behind ≤ length is) → length r.behind ≤ length (Skip s ∷ is)
+    by : (o : Option No) → unless o (listed rs at n (ss ++ s ∷ []) is) ≡ Ok r → (listed rs at n (ss ++ s ∷ []) is ≡ Ok r → length r.behind ≤ length is) → length r.behind ≤ length (Skip s ∷ is)
     by None h more = omega (arith, more h)
     by (Some f) h more = absurd (cc h)
-listed_few rs at ss (i ∷ is) r e = let same : record { skips = ss; behind = i ∷ is } ≡ r = cc e in omega (arith, ap (λ (w : Listed). length w.behind) same)
+listed_few rs at (suc n) ss (i ∷ is) r e = let same : record { skips = ss; behind = i ∷ is } ≡ r = cc e in omega (arith, ap (λ (w : Listed). length w.behind) same)
 
-pub listed_no_skip : (rs : List NamedRecord) (at : ℕ) (ss : List RecordName) (is : List Item) (r : Listed) → skips_in_front is ≡ true → listed rs at ss is ≡ Ok r → no_skip r.behind ≡ true
-listed_no_skip rs at ss [] r front e = absurd (cc e)
-listed_no_skip rs at ss (Skip s ∷ is) r front e = by (skip_fault rs (last_of ss) s (length ss)) e (listed_no_skip rs at (ss ++ s ∷ []) is r front)
+pub listed_no_skip : (rs : List NamedRecord) (at n : ℕ) (ss : List RecordName) (is : List Item) (r : Listed) → skips_in_front n is ≡ true → listed rs at n ss is ≡ Ok r → no_skip r.behind ≡ true
+listed_no_skip rs at zero ss is r front e = let same : record { skips = ss; behind = is } ≡ r = cc e in ap (λ (w : Listed). no_skip w.behind) (sym same) ∙ front
+listed_no_skip rs at (suc n) ss [] r front e = absurd (cc e)
+listed_no_skip rs at (suc n) ss (Skip s ∷ is) r front e = by (skip_fault rs (last_of ss) s (length ss)) e (listed_no_skip rs at n (ss ++ s ∷ []) is r front)
   where
-    by : (o : Option No) → unless o (listed rs at (ss ++ s ∷ []) is) ≡ Ok r → (listed rs at (ss ++ s ∷ []) is ≡ Ok r → no_skip r.behind ≡ true) → no_skip r.behind ≡ true
+    by : (o : Option No) → unless o (listed rs at n (ss ++ s ∷ []) is) ≡ Ok r → (listed rs at n (ss ++ s ∷ []) is ≡ Ok r → no_skip r.behind ≡ true) → no_skip r.behind ≡ true
     by None h more = more h
     by (Some f) h more = absurd (cc h)
-listed_no_skip rs at ss (i ∷ is) r front e = let same : record { skips = ss; behind = i ∷ is } ≡ r = cc e in ap (λ (w : Listed). no_skip w.behind) (sym same) ∙ front
+listed_no_skip rs at (suc n) ss (i ∷ is) r front e = absurd (false≢true front)
 
 -- ---- the partitions
 
@@ -179,30 +190,31 @@ told_some (g ∷ fs) a f e = cc e
 abbrev pub cut_of : Case → Cut
 cut_of c = record { size = c.request.split; files = c.files }
 
-listed_by : (c : Case) (at : ℕ) (cut : Cut) (js : List Item) (r : Result Listed No) → at ≡ c.stop → cut ≡ cut_of c → listed (records_of cut) at [] js ≡ r → listed (named_records c.request.split c.files) c.stop [] js ≡ r
-listed_by c at cut js r a e h = ap (λ n. listed (named_records c.request.split c.files) n [] js) (sym a) ∙ (ap (λ (w : Cut). listed (records_of w) at [] js) (sym e) ∙ h)
+listed_by : (c : Case) (at n : ℕ) (cut : Cut) (js : List Item) (r : Result Listed No) → at ≡ c.stop → cut ≡ cut_of c → listed (records_of cut) at n [] js ≡ r → listed (named_records c.request.split c.files) c.stop n [] js ≡ r
+listed_by c at n cut js r a e h = ap (λ m. listed (named_records c.request.split c.files) m n [] js) (sym a) ∙ (ap (λ (w : Cut). listed (records_of w) at n [] js) (sym e) ∙ h)
 
-pub rest_faults : (c : Case) (most at : ℕ) (cut : Cut) (is js : List Item) (r : Listed) → most ≡ c.request.skips → counted c.stop most is ≡ Ok js → at ≡ c.stop → cut ≡ cut_of c → listed (records_of cut) at [] js ≡ Ok r
+-- behind their number so many are listed
+pub front_listed : (stop most : ℕ) (is : List Item) (k : Counted) → awaits_skips is ≡ true → counted stop most is ≡ Ok k → skips_in_front k.many k.behind ≡ true
+front_listed stop most is k awaits e = ap awaits_skips (sym (counted_is stop most is k e).0) ∙ awaits
+
+pub rest_faults : (c : Case) (most at : ℕ) (cut : Cut) (is : List Item) (k : Counted) (r : Listed) → awaits_skips is ≡ true → most ≡ c.request.skips → counted c.stop most is ≡ Ok k → at ≡ c.stop → cut ≡ cut_of c → listed (records_of cut) at k.many [] k.behind ≡ Ok r
     → count_faults c is ≡ part_faults (subject_of c r.skips) c.stop start r.behind
-rest_faults c most at cut is js r m e a d h = counted_faults c most is js m e ∙ listed_faults c [] js r (listed_by c at cut js (Ok r) a d h)
+rest_faults c most at cut is k r awaits m e a d h =
+    counted_faults c most is k m e ∙ listed_faults c k.many [] k.behind r (front_listed c.stop most is k awaits e) (listed_by c at k.many cut k.behind (Ok r) a d h)
 
-pub rest_fault : (c : Case) (most at : ℕ) (cut : Cut) (is js : List Item) (f : No) → most ≡ c.request.skips → counted c.stop most is ≡ Ok js → at ≡ c.stop → cut ≡ cut_of c → listed (records_of cut) at [] js ≡ Err f
+pub rest_fault : (c : Case) (most at : ℕ) (cut : Cut) (is : List Item) (k : Counted) (f : No) → most ≡ c.request.skips → counted c.stop most is ≡ Ok k → at ≡ c.stop → cut ≡ cut_of c → listed (records_of cut) at k.many [] k.behind ≡ Err f
     → first (count_faults c is) ≡ Some f
-rest_fault c most at cut is js f m e a d h = ap first (counted_faults c most is js m e) ∙ listed_fault c [] js f (listed_by c at cut js (Err f) a d h)
+rest_fault c most at cut is k f m e a d h = ap first (counted_faults c most is k m e) ∙ listed_fault c k.many [] k.behind f (listed_by c at k.many cut k.behind (Err f) a d h)
 
-pub rest_few : (rs : List NamedRecord) (stop most at : ℕ) (is js : List Item) (r : Listed) → counted stop most is ≡ Ok js → listed rs at [] js ≡ Ok r → length r.behind ≤ length is
-rest_few rs stop most at is js r e h =
-    let k = counted_is stop most is js e in
-    omega (arith, ap length k.1, listed_few rs at [] js r h)
+pub rest_few : (rs : List NamedRecord) (stop most at : ℕ) (is : List Item) (k : Counted) (r : Listed) → counted stop most is ≡ Ok k → listed rs at k.many [] k.behind ≡ Ok r → length r.behind ≤ length is
+rest_few rs stop most at is k r e h = omega (arith, ap length (counted_is stop most is k e).0, listed_few rs at k.many [] k.behind r h)
 
-pub rest_accepted : (rs : List NamedRecord) (stop most at : ℕ) (is js : List Item) (r : Listed) → awaits_skips is ≡ true → counted stop most is ≡ Ok js → listed rs at [] js ≡ Ok r
+pub rest_accepted : (rs : List NamedRecord) (stop most at : ℕ) (is : List Item) (k : Counted) (r : Listed) → awaits_skips is ≡ true → counted stop most is ≡ Ok k → listed rs at k.many [] k.behind ≡ Ok r
     → accepted_by (accepted [] 0) is ≡ accepted r.skips (entries_in r.behind)
-rest_accepted rs stop most at is js r awaits e h =
-    let k = counted_is stop most is js e in
-    let front : skips_in_front js ≡ true = ap awaits_skips (sym k.1) ∙ awaits in
-    ap (accepted_by (accepted [] 0)) k.1
-    ∙ (listed_accepted rs at [] js r h
-    ∙ (parts_accepted (accepted r.skips 0) r.behind (listed_no_skip rs at [] js r front h)
+rest_accepted rs stop most at is k r awaits e h =
+    ap (accepted_by (accepted [] 0)) (counted_is stop most is k e).0
+    ∙ (listed_accepted rs at k.many [] k.behind r h
+    ∙ (parts_accepted (accepted r.skips 0) r.behind (listed_no_skip rs at k.many [] k.behind r (front_listed stop most is k awaits e) h)
     ∙ (let z : 0 + entries_in r.behind ≡ entries_in r.behind = omega arith in ap (accepted r.skips) z)))
 
 pub case_same : (request : RequestSpec) (files others outputs : List (List ℕ)) (skips : List RecordName) (at to : ℕ) (is : List Item) → others ≡ files → to ≡ at

@@ -1,5 +1,7 @@
 pub mod Verdict
 pub mod Steps
+pub mod Items
+pub mod Outputs
 pub mod Blocks
 pub mod Fronts
 pub mod VerdictRows

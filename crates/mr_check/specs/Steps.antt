@@ -1,12 +1,12 @@
 -- Of no public promise: what the judge's functions say of the tests: the first of the faults, and how far the items were walked.
-use Rattle.std.specs.Prelude.{◌≡◌, ◌⊎◌, ◌<◌, ◌≤◌, ◌^◌, ℕ, ◌+◌, Bool, true, false, if◌then◌else◌, nat_le, Option, Some, None, Result, Ok, Err, List, [], ◌∷◌}
+use Rattle.std.specs.Prelude.{◌≡◌, ◌⊎◌, ◌<◌, ◌≤◌, ◌^◌, ℕ, zero, suc, ◌+◌, Bool, true, false, if◌then◌else◌, nat_le, Option, Some, None, Result, Ok, Err, List, [], ◌∷◌}
 use Rattle.std.specs.Prelude.{◌++◌, length}
 use Rattle.mr_bytes.specs.declared.RecordName.{RecordName}
 use Rattle.mr_jobs.specs.JobSpec.{RequestSpec}
 use Rattle.mr_splits.specs.Named.{NamedRecord}
 use Rattle.mr_splits.specs.Cut.{is_record}
 use Rattle.mr_certform.specs.declared.item.Item.{Item}
-use Rattle.mr_certform.specs.declared.item.Item.TheVariants.{Skips, Skip, Entry}
+use Rattle.mr_certform.specs.declared.item.Item.TheVariants.{Skips, Skip}
 use Rattle.mr_bytes.specs.Pairs.{Triple}
 use Rattle.mr_sequential.specs.Rules.{rules_of}
 use Rattle.mr_splits.specs.Kept.{is_past}
@@ -17,6 +17,19 @@ use Rattle.mr_check.specs.Verdict.{first, Case, Reached, Subject, item_eq, last_
 -- an answer for these faults: the first of them, or want of memory
 abbrev pub Answers : List No → No → Type 0
 Answers fs e = (e ≡ OutOfMemory) ⊎ (first fs ≡ Some e)
+
+-- what the groups are judged against: the order, and all that is emitted
+pub record Ground : Type 0 where
+  pub request : RequestSpec
+  pub triples : List Triple
+
+-- the subject, with these outputs
+abbrev pub subject_with : Ground → List (List ℕ) → Subject
+subject_with b outputs = record {
+  triples = b.triples;
+  rules = rules_of b.request;
+  outputs = outputs;
+}
 
 -- what is known when the partitions are judged: the order, all that is emitted, and the outputs
 pub record Known : Type 0 where
@@ -61,19 +74,15 @@ met_behind at files (Err e) = Err e
 abbrev pub header_met : ℕ → RequestSpec → List (List ℕ) → List Item → Result (List Item) No
 header_met at request files is = met_behind at files (met at (job_wanted request) OtherJob is)
 
--- the items begin with how many records are left out, at most so many: those behind it, or the fault
-abbrev pub counted : ℕ → ℕ → List Item → Result (List Item) No
-counted at most (Skips n ∷ is) = if nat_le n most then Ok is else Err (TooManySkips n)
+-- how many records are left out, and the items behind it
+pub record Counted : Type 0 where
+  pub many : ℕ
+  pub behind : List Item
+
+-- the items begin with how many records are left out, at most so many; or the fault
+abbrev pub counted : ℕ → ℕ → List Item → Result Counted No
+counted at most (Skips n ∷ is) = if nat_le n most then Ok (record { many = n; behind = is }) else Err (TooManySkips n)
 counted at most is = Err (Malformed at)
-
--- the left-out record that comes next, if one does, and what is behind it
-abbrev pub skip_front : List Item → Option RecordName
-skip_front (Skip s ∷ is) = Some s
-skip_front is = None
-
-abbrev pub behind_skip : List Item → List Item
-behind_skip (Skip s ∷ is) = is
-behind_skip is = is
 
 -- left-out records, and the items behind them
 pub record Listed : Type 0 where
@@ -89,11 +98,12 @@ abbrev pub unless : {A : Type 0} → Option No → Result A No → Result A No
 unless None r = r
 unless (Some e) r = Err e
 
--- all left-out records, behind those that came before, and the items behind them; or the first fault
-abbrev pub listed : List NamedRecord → ℕ → List RecordName → List Item → Result Listed No
-listed rs at skips [] = Err (Malformed at)
-listed rs at skips (Skip s ∷ is) = unless (skip_fault rs (last_of skips) s (length skips)) (listed rs at (skips ++ s ∷ []) is)
-listed rs at skips is = Ok (record { skips = skips; behind = is })
+-- so many left-out records, behind those that came before, and the items behind them; or the first fault
+abbrev pub listed : List NamedRecord → ℕ → ℕ → List RecordName → List Item → Result Listed No
+listed rs at zero skips is = Ok (record { skips = skips; behind = is })
+listed rs at (suc n) skips [] = Err (Malformed at)
+listed rs at (suc n) skips (Skip s ∷ is) = unless (skip_fault rs (last_of skips) s (length skips)) (listed rs at n (skips ++ s ∷ []) is)
+listed rs at (suc n) skips is = Ok (record { skips = skips; behind = is })
 
 -- no left-out record is listed
 abbrev pub no_skip : List Item → Bool
@@ -101,15 +111,17 @@ no_skip [] = true
 no_skip (Skip s ∷ is) = false
 no_skip (i ∷ is) = no_skip is
 
--- left-out records are listed in front alone
-abbrev pub skips_in_front : List Item → Bool
-skips_in_front (Skip s ∷ is) = skips_in_front is
-skips_in_front is = no_skip is
+-- so many left-out records are listed in front, as far as the items go, and none behind them
+abbrev pub skips_in_front : ℕ → List Item → Bool
+skips_in_front zero is = no_skip is
+skips_in_front (suc n) [] = true
+skips_in_front (suc n) (Skip s ∷ is) = skips_in_front n is
+skips_in_front (suc n) (i ∷ is) = false
 
--- the number of left-out records comes next, and these are listed behind it in front alone
+-- the number of left-out records comes next, and so many are listed behind it
 abbrev pub awaits_skips : List Item → Bool
 awaits_skips [] = true
-awaits_skips (Skips n ∷ is) = skips_in_front is
+awaits_skips (Skips n ∷ is) = skips_in_front n is
 awaits_skips is = false
 
 -- what is judged, by where the items stop

@@ -1,20 +1,24 @@
 //! A partition that is judged by itself.
-ghost use Rattle.std.specs.Prelude.{◌≡◌, ◌⊎◌, ◌<◌, ◌≤◌, ◌+◌, ◌-◌, ◌^◌, [], List, MatchResult, IfOk, None, Some, true, false, length};
+ghost use Rattle.std.specs.Prelude.{◌≡◌, ◌⊎◌, ◌<◌, ◌≤◌, ◌+◌, ◌-◌, ◌^◌, [], List, MatchResult, IfOk, OnOk, None, Some, true, false, length};
 ghost use Rattle.std.specs.List.{AllByRecursion};
 ghost use Rattle.mr_certform.specs.declared.item.Item.{Item as Read};
 ghost use Rattle.mr_certform.specs.Walking.{items_left};
 ghost use Rattle.mr_check.specs.declared.fault.No.TheVariants.{OutOfMemory};
-ghost use Rattle.mr_check.specs.Verdict.{entries_in};
+ghost use Rattle.mr_input.specs.Files.{contents};
+ghost use Rattle.mr_check.specs.Verdict.{entries_in, tests, after};
 ghost use Rattle.mr_check.specs.VerdictLaws.{part_fault};
-ghost use Rattle.mr_check.specs.Steps.{subject, Room};
+ghost use Rattle.mr_check.specs.Steps.{subject, Answers, HasRoom, Room};
 ghost use Rattle.mr_check.specs.Blocks.{items_in, onto, IsFound};
+ghost use Rattle.mr_check.specs.Outputs.{Leaves};
 ghost use Rattle.mr_check.specs.Fronts.{is_own as own, part_here, OwnJudged, Opened};
 
-use crate::blocks::{BLOCK, FoundItem, fetch_all, read_block, seek_all, touch};
+use crate::blocks::{BLOCK, FoundItem, fetch_all, read_block_of, seek_all, touch};
 use crate::facts::Facts;
 use crate::fault::{No, is_same_fault};
 use crate::front::Front;
 use crate::fronts::is_opening;
+use crate::items::Stop;
+use crate::outputs::AtHand;
 use crate::progress::Progress;
 use mr_certform::{Item, Walker};
 use mr_index::Meter;
@@ -28,14 +32,44 @@ fn is_own(item: Item) -> bool
     !matches!(item, Item::Groups(_) | Item::End)
 }
 
+/// All tests of a row's item, over outputs at hand.
+fn step_at_hand<'a>(
+    judging: &mut Progress<'a>,
+    facts: &Facts<'a>,
+    outputs: &mut AtHand<'_>,
+    row: &FoundItem<'a>,
+) -> Result<(), No>
+    requires room { HasRoom judging.old }
+    requires found { IsFound facts.now.triples row.now }
+    requires left { Leaves judging.old facts.now.outputs outputs.old.rest.now (contents outputs.old.later.now) }
+    requires place { outputs.old.passed ≡ judging.old.from }
+    ensures tested { let s = subject facts.now in MatchResult result
+        (λ _. (tests s judging.old row.now.item ≡ []) × (judging.new ≡ after s judging.old row.now.item))
+        (λ e. Answers (tests s judging.old row.now.item) e) }
+    ensures left { OnOk result (Leaves judging.new facts.now.outputs outputs.new.rest.now (contents outputs.new.later.now)) }
+    ensures place { OnOk result (outputs.new.passed ≡ judging.new.from) }
+{
+    match judging.step(&facts.basis(), outputs, row) {
+        Ok(()) => Ok(()),
+        Err(Stop::Fault(fault)) => Err(fault),
+        Err(Stop::Device | Stop::TooLong | Stop::Output { .. } | Stop::LongOutput) =>
+            unreachable!(),
+    }
+}
+
 /// Judges the item that opens a partition, where one opens here.
 fn open_part<'a>(
     judging: &mut Progress<'a>,
     facts: &Facts<'a>,
+    outputs: &mut AtHand<'_>,
     walker: &mut Walker<'_>,
 ) -> Result<bool, No>
     requires room { Room judging.old (length (items_left walker.old)) (2 ^ 64 - 2) }
-    ensures { Opened (subject facts.now) judging.old judging.new (items_left walker.old) (items_left walker.new) result }
+    requires left { Leaves judging.old facts.now.outputs outputs.old.rest.now (contents outputs.old.later.now) }
+    requires place { outputs.old.passed ≡ judging.old.from }
+    ensures opened { Opened (subject facts.now) judging.old judging.new (items_left walker.old) (items_left walker.new) result }
+    ensures left { IfOk result (λ b. b ≡ true → Leaves judging.new facts.now.outputs outputs.new.rest.now (contents outputs.new.later.now)) }
+    ensures place { IfOk result (λ b. b ≡ true → outputs.new.passed ≡ judging.new.from) }
 {
     let Ok(item) = walker.next() else {
         return Ok(false);
@@ -43,7 +77,7 @@ fn open_part<'a>(
     if !is_opening(item) {
         return Ok(false);
     }
-    judging.step(facts, &FoundItem { item, found: None })?;
+    step_at_hand(judging, facts, outputs, &FoundItem { item, found: None })?;
     Ok(true)
 }
 
@@ -52,28 +86,33 @@ fn open_part<'a>(
 fn judge_own<'a>(
     judging: &mut Progress<'a>,
     facts: &Facts<'a>,
+    outputs: &mut AtHand<'_>,
     rows: &[FoundItem<'a>],
 ) -> Result<bool, No>
     requires room { Room judging.old (length rows.now) (2 ^ 64 - 2) }
     requires found { AllByRecursion (IsFound facts.now.triples) rows.now }
-    ensures { (js : List Read) → OwnJudged (subject facts.now) judging.old judging.new (items_in rows.now) js result }
+    requires left { Leaves judging.old facts.now.outputs outputs.old.rest.now (contents outputs.old.later.now) }
+    requires place { outputs.old.passed ≡ judging.old.from }
+    ensures judged { (js : List Read) → OwnJudged (subject facts.now) judging.old judging.new (items_in rows.now) js result }
+    ensures left { IfOk result (λ b. b ≡ false → Leaves judging.new facts.now.outputs outputs.new.rest.now (contents outputs.new.later.now)) }
+    ensures place { IfOk result (λ b. b ≡ false → outputs.new.passed ≡ judging.new.from) }
 {
     for row in rows {
         if !is_own(row.item) {
             return Ok(true);
         }
-        judging.step(facts, row)?;
+        step_at_hand(judging, facts, outputs, row)?;
     }
     Ok(false)
 }
 
-/// Reads the items that come next, as `read_block` does: whether there are any.
+/// Reads the items that come next, as `read_block_of` does: whether there are any.
 fn read_more(walker: &mut Walker<'_>, items: &mut Vec<Item>) -> Result<bool, AllocError>
     ensures some { IfOk result (λ b. b ≡ true → (items_left walker.old ≡ onto items.new.items (items_left walker.new))
         × (1 ≤ length items.new.items) × (length items.new.items ≤ 64)) }
     ensures none { IfOk result (λ b. b ≡ false → items_left walker.old ≡ []) }
 {
-    match read_block(walker, items) {
+    match read_block_of(walker, items) {
         Ok(()) => Ok(true),
         Err(No::Malformed { .. }) => Ok(false),
         Err(_) => Err(AllocError),
@@ -87,8 +126,10 @@ fn judge_part(alloc: Global, facts: &Facts<'_>, p: u32, front: &Front<'_>) -> Re
         MatchResult result (λ _. fault ≡ None) (λ e. (e ≡ OutOfMemory) ⊎ (fault ≡ Some e)) }
 {
     let mut walker = front.walker;
+    let basis = facts.basis();
+    let mut outputs = facts.outputs_before(u64::from(p));
     let mut judging = Progress::before(alloc, u64::from(p));
-    if !open_part(&mut judging, facts, &mut walker)? {
+    if !open_part(&mut judging, facts, &mut outputs, &mut walker)? {
         return Ok(());
     }
     let mut items = Vec::with_capacity(alloc, BLOCK)?;
@@ -101,10 +142,10 @@ fn judge_part(alloc: Global, facts: &Facts<'_>, p: u32, front: &Front<'_>) -> Re
             lookups: 0,
             mapped: 0,
         };
-        seek_all(facts, &items, &mut sought, &mut meter)?;
+        seek_all(&basis, &items, &mut sought, &mut meter)?;
         fetch_all(&sought, &mut rows)?;
         touch(&rows, &mut touched)?;
-        if judge_own(&mut judging, facts, &rows)? {
+        if judge_own(&mut judging, facts, &mut outputs, &rows)? {
             return Ok(());
         }
     }

@@ -1,15 +1,17 @@
 //! Reading and looking up ahead of the tests, a block at a time. Each step is a loop of its own over the block, short and
 //! not inlined, in which no turn waits for the one before: so the waits for memory of many names overlap.
-ghost use Rattle.std.specs.Prelude.{◌≡◌, ◌⊎◌, ◌<◌, ◌≤◌, ◌+◌, ◌^◌, [], ◌∷◌, ◌++◌, MatchResult, OnOk, List, length};
+ghost use Rattle.std.specs.Prelude.{◌≡◌, ◌⊎◌, None, true, false, IfOk, ◌<◌, ◌≤◌, ◌+◌, ◌^◌, [], ◌∷◌, ◌++◌, MatchResult, OnOk, List, length};
 ghost use Rattle.std.specs.List.{AllByRecursion};
 ghost use Rattle.mr_certform.specs.Walking.{items_left, halt};
 ghost use Rattle.mr_bytes.specs.Pairs.{Triple};
 ghost use Rattle.mr_check.specs.declared.fault.No.TheVariants.{Malformed, OutOfMemory};
+ghost use Rattle.mr_check.specs.Items.{Some as IsSome, Stops};
 ghost use Rattle.mr_check.specs.Verdict.{entries_in};
-ghost use Rattle.mr_check.specs.Blocks.{onto, items_sought, items_in, IsPlaced, IsFound};
+ghost use Rattle.mr_check.specs.Blocks.{onto, has_end, Read, items_sought, items_in, IsPlaced, IsFound};
 
-use crate::facts::Facts;
+use crate::facts::Basis;
 use crate::fault::No;
+use crate::items::{Halt, Items, Stop};
 use mr_bytes::Value;
 use mr_certform::{Item, Walker};
 use mr_index::{Found, Meter};
@@ -33,15 +35,15 @@ pub(crate) struct FoundItem<'a> {
 }
 
 /// Looks up the item's name, where it is an entry.
-fn seek<'a>(facts: &Facts<'a>, item: Item, meter: &mut Meter) -> Sought<'a>
+fn seek<'a>(basis: &Basis<'a>, item: Item, meter: &mut Meter) -> Sought<'a>
     requires { meter.old.lookups + entries_in (item ∷ []) < 2 ^ 64 }
     ensures item { result.item ≡ item }
-    ensures placed { IsPlaced facts.now.triples result }
+    ensures placed { IsPlaced basis.now.triples result }
     ensures lookups { meter.new.lookups ≡ meter.old.lookups + entries_in (item ∷ []) }
     ensures mapped { meter.new.mapped ≡ meter.old.mapped }
 {
     let place = match item {
-        Item::Entry(name) => facts.find(name, meter),
+        Item::Entry(name) => basis.find(name, meter),
         _ => None,
     };
     Sought { item, place }
@@ -69,50 +71,82 @@ fn keep<T: Drop>(list: &mut Vec<T>, one: T) -> Result<(), AllocError>
     Ok(())
 }
 
-/// Reads the items that come next, in place of what the list held: as many as a block has, but none behind the end, nor
-/// what is malformed. Malformed only where no item stands at all.
+/// Reads the items that come next, in place of what the list held: as many as a block has, but none behind the end.
+/// Where no item stands behind them, it tells the place.
 #[inline(never)]
-pub(crate) fn read_block(walker: &mut Walker<'_>, items: &mut Vec<Item>) -> Result<(), No>
+pub(crate) fn read_block<I: Items>(
+    walker: &mut I,
+    items: &mut Vec<Item>,
+) -> Result<Option<u64>, Stop>
+    requires sound { I.sound walker.old }
+    ensures sound { IfOk result (λ o. o ≡ None → I.sound walker.new) }
+    ensures read { Read (I.gives walker.old) (I.gives walker.new) items.new.items result }
+    ensures given { IfOk result (λ _. IsSome (I.gives walker.new)) }
+    ensures some { IfOk result (λ o. o ≡ None → 1 ≤ length items.new.items) }
+    ensures block { IfOk result (λ _. length items.new.items ≤ 64) }
+    ensures entries { IfOk result (λ _. entries_in items.new.items ≤ I.most walker.old) }
+    ensures fewer { IfOk result (λ o. o ≡ None → has_end items.new.items ≡ false → length items.new.items + I.most walker.new ≤ I.most walker.old) }
+    ensures stops { Stops I.steady (I.failed walker.old) (I.failed walker.new) result }
+{
+    items.clear();
+    while items.len() < BLOCK {
+        match walker.next_item() {
+            Ok(item) => {
+                keep(items, item)?;
+                if let Item::End = item {
+                    return Ok(None);
+                }
+            }
+            Err(Halt::Malformed { at }) => return Ok(Some(at)),
+            Err(Halt::Device) => return Err(Stop::Device),
+            Err(Halt::TooLong) => return Err(Stop::TooLong),
+        }
+    }
+    Ok(None)
+}
+
+/// The same over bytes; the place is told as the fault that it is, where no item stands at all.
+pub(crate) fn read_block_of(walker: &mut Walker<'_>, items: &mut Vec<Item>) -> Result<(), No>
     ensures items { MatchResult result
         (λ _. (items_left walker.old ≡ onto items.new.items (items_left walker.new))
         × (entries_in (items_left walker.old) ≡ entries_in items.new.items + entries_in (items_left walker.new)))
         (λ e. (e ≡ OutOfMemory) ⊎ ((items_left walker.old ≡ []) × (e ≡ Malformed (halt walker.old)))) }
     ensures some { OnOk result ((1 ≤ length items.new.items) × (length items.new.items ≤ 64)) }
-    ensures stop { halt walker.new ≡ halt walker.old }
+    ensures stop { OnOk result (halt walker.new ≡ halt walker.old) }
 {
-    items.clear();
-    let first = walker.next()?;
-    keep(items, first)?;
-    while items.len() < BLOCK {
-        let Ok(item) = walker.next() else {
-            return Ok(());
-        };
-        keep(items, item)?;
-        if let Item::End = item {
-            return Ok(());
+    match read_block(walker, items) {
+        Ok(None) => Ok(()),
+        Ok(Some(at)) => {
+            if items.is_empty() {
+                Err(No::Malformed { at })
+            } else {
+                Ok(())
+            }
         }
+        Err(Stop::Fault(fault)) => Err(fault),
+        Err(Stop::Device | Stop::TooLong | Stop::Output { .. } | Stop::LongOutput) =>
+            unreachable!(),
     }
-    Ok(())
 }
 
 /// Looks up all names among the items, in place of what the list held: where each stands.
 #[inline(never)]
 pub(crate) fn seek_all<'a>(
-    facts: &Facts<'a>,
+    basis: &Basis<'a>,
     items: &[Item],
     sought: &mut Vec<Sought<'a>>,
     meter: &mut Meter,
 ) -> Result<(), AllocError>
     requires { meter.old.lookups + entries_in items.now < 2 ^ 64 }
     ensures items { OnOk result (items_sought sought.new.items ≡ items.now) }
-    ensures placed { OnOk result (AllByRecursion (IsPlaced facts.now.triples) sought.new.items) }
+    ensures placed { OnOk result (AllByRecursion (IsPlaced basis.now.triples) sought.new.items) }
     ensures lookups { (meter.old.lookups ≤ meter.new.lookups) × (meter.new.lookups ≤ meter.old.lookups + entries_in items.now) }
     ensures all { OnOk result (meter.new.lookups ≡ meter.old.lookups + entries_in items.now) }
     ensures mapped { meter.new.mapped ≡ meter.old.mapped }
 {
     sought.clear();
     for item in items {
-        let one = seek(facts, *item, meter);
+        let one = seek(basis, *item, meter);
         keep(sought, one)?;
     }
     Ok(())

@@ -1,33 +1,12 @@
 //! What is compared with the outputs.
-ghost use Rattle.std.specs.Prelude.{◌≡◌, drop, nat_eq};
+ghost use Rattle.std.specs.Prelude.{◌≡◌, nat_eq};
 ghost use Rattle.std.specs.List.{common_prefix_len};
 ghost use Rattle.std.specs.Ordering.{is_lt};
 ghost use Rattle.mr_bytes.specs.Order.{key_order, name_order};
-ghost use Rattle.mr_input.specs.Files.{contents, nth_file};
 
 use mr_bytes::{Name, compare_keys, compare_names};
 use mr_lanes::first_difference;
 use std::cmp::Ordering;
-
-/// The output of partition `p`; past the last there is none.
-pub(crate) fn output_of(outputs: &[Vec<u8>], p: u64) -> &[u8]
-    ensures { result.now ≡ nth_file (contents outputs.now) p }
-{
-    match outputs.get(p as usize) {
-        Some(output) => output.as_slice(),
-        None => b"",
-    }
-}
-
-/// What stands in the output from this place on.
-pub(crate) fn from_place(output: &[u8], from: u64) -> &[u8]
-    ensures { result.now ≡ drop from output.now }
-{
-    match output.get(from as usize..) {
-        Some(rest) => rest,
-        None => b"",
-    }
-}
 
 /// Whether the key is past the one before it.
 pub(crate) fn is_key_less(before: &[u8], key: &[u8]) -> bool

@@ -1,54 +1,68 @@
 //! The tests on entries and on outputs.
-ghost use Rattle.std.specs.Prelude.{◌≡◌, ◌<◌, ◌+◌, ◌^◌, [], MatchResult, length, nat_le};
+ghost use Rattle.std.specs.Prelude.{◌≡◌, ◌+◌, [], MatchResult, OnOk, length, nat_le};
 ghost use Rattle.std.specs.Option.{option_map};
-ghost use Rattle.mr_check.specs.Verdict.{passes, end_tests, text_tests, first_tests, later_tests};
-ghost use Rattle.mr_check.specs.Steps.{subject, Answers};
+ghost use Rattle.mr_sequential.specs.Rules.{rules_of};
+ghost use Rattle.mr_check.specs.Verdict.{passes, first_tests, later_tests};
+ghost use Rattle.mr_check.specs.Steps.{Answers};
+ghost use Rattle.mr_check.specs.Outputs.{Some as IsSome, EndTold, TextTold, Halts};
 
-use crate::comparing::{agreement, from_place, is_key_less, is_name_less};
-use crate::facts::Facts;
+use crate::comparing::{is_key_less, is_name_less};
+use crate::facts::Basis;
 use crate::fault::No;
+use crate::items::Stop;
+use crate::outputs::Outputs;
 use mr_bytes::Name;
 
 /// Whether a partition that has no more groups ends where its output does.
-pub(crate) fn test_end(output: &[u8], p: u64, groups: u64, from: u64) -> Result<(), No>
-    ensures { MatchResult result (λ _. end_tests output.now p groups from ≡ []) (λ e. Answers (end_tests output.now p groups from) e) }
+pub(crate) fn test_end<O: Outputs>(outputs: &mut O, p: u64, groups: u64) -> Result<(), Stop>
+    requires begun { O.begun outputs.old }
+    requires some { IsSome (O.gives outputs.old) }
+    ensures told { EndTold (O.gives outputs.old) (O.gives outputs.new) p groups (O.place outputs.old) result }
+    ensures some { IsSome (O.gives outputs.new) }
+    ensures place { OnOk result (O.place outputs.new ≡ O.place outputs.old) }
+    ensures begun { O.begun outputs.new }
+    ensures halts { Halts O.steady (O.failed outputs.old) (O.failed outputs.new) result }
 {
-    if groups == 0 && (output.len() as u64) > from {
-        return Err(No::OutputDiffers {
+    if groups == 0 && !outputs.is_passed()? {
+        return Err(Stop::Fault(No::OutputDiffers {
             partition: p,
-            at: from,
-        });
+            at: outputs.place(),
+        }));
     }
     Ok(())
 }
 
-/// Whether the text stands in the output from this place on.
-pub(crate) fn test_text(output: &[u8], p: u64, from: u64, text: &[u8]) -> Result<(), No>
-    ensures { MatchResult result (λ _. (text_tests output.now p from text.now ≡ []) × (from + length text.now < 2 ^ 64))
-        (λ e. Answers (text_tests output.now p from text.now) e) }
+/// Whether the text stands in the output that is open, behind what was passed of it.
+pub(crate) fn test_text<O: Outputs>(outputs: &mut O, p: u64, text: &[u8]) -> Result<(), Stop>
+    requires begun { O.begun outputs.old }
+    requires some { IsSome (O.gives outputs.old) }
+    ensures told { TextTold (O.gives outputs.old) (O.gives outputs.new) p (O.place outputs.old) text.now result }
+    ensures some { IsSome (O.gives outputs.new) }
+    ensures place { OnOk result (O.place outputs.new ≡ O.place outputs.old + length text.now) }
+    ensures begun { O.begun outputs.new }
+    ensures halts { Halts O.steady (O.failed outputs.old) (O.failed outputs.new) result }
 {
-    let rest = from_place(output, from);
-    if rest.starts_with(text) {
+    if outputs.pass_text(text)? {
         return Ok(());
     }
-    Err(No::OutputDiffers {
+    Err(Stop::Fault(No::OutputDiffers {
         partition: p,
-        at: from + agreement(text, rest),
-    })
+        at: outputs.place(),
+    }))
 }
 
 /// The tests on a group's first entry.
 pub(crate) fn test_first(
-    facts: &Facts<'_>,
+    basis: &Basis<'_>,
     p: u64,
     group: u64,
     key_before: Option<&[u8]>,
     key: &[u8],
 ) -> Result<(), No>
-    ensures { let fs = first_tests (subject facts.now).rules.part p group (option_map (λ r. r.now) key_before.entry) key.now in MatchResult result
+    ensures { let fs = first_tests (rules_of basis.now.request).part p group (option_map (λ r. r.now) key_before.entry) key.now in MatchResult result
         (λ _. fs ≡ []) (λ e. Answers fs e) }
 {
-    if facts.part(key) != p {
+    if basis.part(key) != p {
         return Err(No::WrongPartition {
             partition: p,
             group,

@@ -1,11 +1,11 @@
 //! What the partitions are judged against.
-ghost use Rattle.std.specs.Prelude.{◌≡◌, ◌<◌, ◌+◌, ◌^◌, ◌++◌, MatchOption, OnOk, length, None, Some};
-ghost use Rattle.mr_input.specs.Files.{nth_file};
+ghost use Rattle.std.specs.Prelude.{◌≡◌, ◌<◌, ◌+◌, ◌-◌, ◌^◌, ◌++◌, MatchOption, OnOk, length, drop, None, Some};
+ghost use Rattle.mr_input.specs.Files.{contents, nth_file};
 ghost use Rattle.mr_partition.specs.Partition.{partition_of};
 ghost use Rattle.mr_reduce.specs.Text.{text_of};
 ghost use Rattle.mr_sequential.specs.Good.{named};
 
-use crate::comparing::output_of;
+use crate::outputs::AtHand;
 use mr_bytes::{Name, Values};
 use mr_index::{EmissionIndex, Found, Meter};
 use mr_jobs::{Job, Request};
@@ -25,31 +25,22 @@ fn put_text(job: &Job, key: &[u8], values: &Values, out: &mut Vec<u8>) -> Result
     }
 }
 
-/// What the partitions are judged against: all that is emitted, the request, and the outputs.
+/// What the groups are judged against: all that is emitted, and the request.
 #[derive(Drop)]
-pub(crate) struct Facts<'a> {
+pub(crate) struct Basis<'a> {
     pub request: &'a Request,
     pub index: &'a EmissionIndex,
-    pub outputs: &'a [Vec<u8>],
 }
 
-impl<'a> Model for Facts<'a> {
-    ghost use Rattle.mr_input.specs.Files.{contents};
-    ghost use Rattle.mr_check.specs.Steps.{Known};
+impl<'a> Model for Basis<'a> {
+    ghost use Rattle.mr_check.specs.Steps.{Ground};
 
-    ghost Value = { Known };
+    ghost Value = { Ground };
 
-    ghost view = { λ f. record { request = f.request.now; triples = f.index.now; outputs = contents f.outputs.now } };
+    ghost view = { λ b. record { request = b.request.now; triples = b.index.now } };
 }
 
-impl<'a> Facts<'a> {
-    /// The output of partition `p`.
-    pub fn output(&self, p: u64) -> &[u8]
-        ensures { result.now ≡ nth_file self.now.outputs p }
-    {
-        output_of(self.outputs, p)
-    }
-
+impl<'a> Basis<'a> {
     /// The partition of a key.
     pub fn part(&self, key: &[u8]) -> u64
         ensures { result ≡ partition_of key.now self.now.request.parts }
@@ -75,6 +66,51 @@ impl<'a> Facts<'a> {
     {
         let index = self.index;
         index.find(name, meter)
+    }
+
+    /// How many pairs are emitted.
+    pub fn emitted(&self) -> u64
+        ensures { result ≡ length self.now.triples }
+    {
+        self.index.total()
+    }
+}
+
+/// What the partitions are judged against: all that is emitted, the request, and the outputs.
+#[derive(Drop)]
+pub(crate) struct Facts<'a> {
+    pub request: &'a Request,
+    pub index: &'a EmissionIndex,
+    pub outputs: &'a [Vec<u8>],
+}
+
+impl<'a> Model for Facts<'a> {
+    ghost use Rattle.mr_input.specs.Files.{contents};
+    ghost use Rattle.mr_check.specs.Steps.{Known};
+
+    ghost Value = { Known };
+
+    ghost view = { λ f. record { request = f.request.now; triples = f.index.now; outputs = contents f.outputs.now } };
+}
+
+impl<'a> Facts<'a> {
+    /// What the groups are judged against.
+    pub fn basis(&self) -> Basis<'a>
+        ensures { result ≡ record { request = self.now.request; triples = self.now.triples } }
+    {
+        Basis {
+            request: self.request,
+            index: self.index,
+        }
+    }
+
+    /// The outputs from partition `p` on, which are to come.
+    pub fn outputs_before(&self, p: u64) -> AtHand<'a>
+        ensures rest { result.rest.now ≡ nth_file self.now.outputs (p - 1) }
+        ensures later { contents result.later.now ≡ drop p self.now.outputs }
+        ensures passed { result.passed ≡ 0 }
+    {
+        AtHand::before(self.outputs, p)
     }
 
     /// How many pairs are emitted.

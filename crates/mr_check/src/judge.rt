@@ -1,17 +1,26 @@
 //! The judge, from the bytes of a certificate to the verdict.
-ghost use Rattle.std.specs.Prelude.{◌≡◌, ◌⊎◌, ◌<◌, ◌≤◌, ◌+◌, ◌^◌, [], IfOk, IfErr, MatchResult, IsTrue, None, length};
+ghost use Rattle.std.specs.Prelude.{◌≡◌, ◌⊎◌, ℕ, List, ◌<◌, ◌≤◌, ◌+◌, ◌^◌, IfOk, IfErr, MatchResult, length};
 ghost use Rattle.mr_input.specs.Files.{contents, split_total};
+ghost use Rattle.mr_splits.specs.Cut.{records_of};
+ghost use Rattle.mr_certform.specs.declared.item.Item.{Item as Read};
+ghost use Rattle.mr_certform.specs.declared.place.Place.TheVariants.{AtSkips};
+ghost use Rattle.mr_certform.specs.Grammar.{InOrder};
 ghost use Rattle.mr_certform.specs.Walking.{items_left, halt};
 ghost use Rattle.mr_certform.specs.Spelling.{items_of, stop};
 ghost use Rattle.mr_check.specs.declared.fault.No.TheVariants.{OutOfMemory};
-ghost use Rattle.mr_check.specs.Verdict.{start, subject_of, part_faults, count_faults, accepted_by, verdict_of, first, entries_in};
+ghost use Rattle.mr_check.specs.Verdict.{start, subject_of, verdict_of};
 ghost use Rattle.mr_check.specs.Headline.{IsCertified, accepted_of};
 ghost use Rattle.mr_check.specs.Metered.{IsBounded, IsExact, cut_by};
-ghost use Rattle.mr_check.specs.Steps.{Answers, header_met, awaits_skips, case_at};
+ghost use Rattle.mr_check.specs.Steps.{case_at};
+ghost use Rattle.mr_check.specs.Blocks.{Judges};
+ghost use Rattle.mr_check.specs.Items.{Some as IsSome, Each};
+ghost use Rattle.mr_check.specs.Outputs.{Some as IsSomeAhead, Fits, Through, RestJudged, OfBytes, AllJudged, HaltsItems, HaltsOutputs, begins};
 
-use crate::facts::Facts;
+use crate::facts::Basis;
 use crate::fault::No;
-use crate::header::{expect_input, expect_job};
+use crate::heading::expect_header;
+use crate::items::{Items, Stop};
+use crate::outputs::{AtHand, Outputs};
 use crate::parts::check_parts;
 use crate::skips::{expect_count, take_skips};
 use mr_bytes::RecordName;
@@ -43,60 +52,72 @@ pub(crate) fn plan_of<'a>(
 }
 
 /// Judges the partitions, given the left-out records: how many pairs there are, or the first fault.
-fn check_with(
+fn check_with<I: Items, O: Outputs>(
     alloc: Global,
     request: &Request,
     plan: &Plan<'_>,
-    outputs: &[Vec<u8>],
+    outputs: &mut O,
     skips: &[RecordName],
-    walker: &mut Walker<'_>,
+    walker: &mut I,
     meter: &mut Meter,
     watch: &dyn Watch,
-) -> Result<u64, No>
+) -> Result<u64, Stop>
     requires same { plan.now.size ≡ request.now.split }
-    requires few { length (items_left walker.old) < 2 ^ 63 }
+    requires sound { I.sound walker.old }
+    requires given { IsSome (I.gives walker.old) }
+    requires few { I.most walker.old < 2 ^ 63 }
+    requires begins { Each (I.gives walker.old) begins }
     requires count { (meter.old.lookups ≤ 2 ^ 63) × (meter.old.mapped ≤ 2 ^ 63) }
-    ensures faults { let s = subject_of (case_at request.now plan.now.files (contents outputs.now) (halt walker.old)) skips.now in
-        let fs = part_faults s (halt walker.old) start (items_left walker.old) in
-        MatchResult result (λ n. (first fs ≡ None) × (n ≡ entries_in (items_left walker.old))) (λ e. Answers fs e) }
-    ensures bounded { IsBounded plan.now (items_left walker.old) meter.old meter.new }
+    requires outputs { IsSomeAhead (O.gives outputs.old) }
+    requires fits { Fits (O.gives outputs.old) start }
+    requires place { O.place outputs.old ≡ 0 }
+    ensures judged { Through (O.gives outputs.old) start (λ outs. Judges (I.gives walker.old)
+        (subject_of (case_at request.now plan.now.files outs 0) skips.now) meter.old.lookups meter.new.lookups result) }
+    ensures mapped { (meter.old.mapped ≤ meter.new.mapped) × (meter.new.mapped ≤ meter.old.mapped + length (records_of plan.now)) }
     ensures exact { IfOk result (λ n. IsExact plan.now skips.now n meter.old meter.new) }
+    ensures stops { HaltsItems I.steady (I.failed walker.old) (I.failed walker.new) result }
+    ensures halts { HaltsOutputs O.steady (O.failed outputs.old) (O.failed outputs.new) result }
 {
     // A plan has far fewer records than a u64 counts.
     let _few = plan.count();
     let index = EmissionIndex::of_watched(alloc, plan, request.job(), skips, meter, watch)?;
-    let facts = Facts {
+    let basis = Basis {
         request,
         index: &index,
-        outputs,
     };
-    check_parts(alloc, &facts, walker, meter, watch)
+    check_parts(alloc, &basis, outputs, walker, meter, watch)
 }
 
 /// Judges what stands behind the items of the request and of the input.
-fn check_rest(
+fn check_rest<I: Items, O: Outputs>(
     alloc: Global,
     request: &Request,
     input: &Input,
-    outputs: &[Vec<u8>],
-    walker: &mut Walker<'_>,
+    outputs: &mut O,
+    walker: &mut I,
     meter: &mut Meter,
     watch: &dyn Watch,
-) -> Result<Yes, No>
+) -> Result<Yes, Stop>
     requires fits { split_total request.now.split input.now ≤ 2 ^ 20 }
-    requires awaits { IsTrue (awaits_skips (items_left walker.old)) }
-    requires few { length (items_left walker.old) < 2 ^ 63 }
+    requires sound { I.sound walker.old }
+    requires given { IsSome (I.gives walker.old) }
+    requires few { I.most walker.old < 2 ^ 63 }
+    requires order { (is : List Read) (at : ℕ) → I.gives walker.old is at → InOrder (AtSkips request.now.parts) is }
     requires count { (meter.old.lookups ≤ 2 ^ 63) × (meter.old.mapped ≤ 2 ^ 63) }
-    ensures verdict { let fs = count_faults (case_at request.now input.now (contents outputs.now) (halt walker.old)) (items_left walker.old) in
-        MatchResult result
-        (λ y. (first fs ≡ None) × (accepted_by (record { skips = []; pairs = 0 }) (items_left walker.old) ≡ accepted_of y))
-        (λ e. Answers fs e) }
-    ensures bounded { IsBounded (cut_by request.now input.now) (items_left walker.old) meter.old meter.new }
+    requires outputs { IsSomeAhead (O.gives outputs.old) }
+    requires ahead { Fits (O.gives outputs.old) start }
+    requires place { O.place outputs.old ≡ 0 }
+    ensures judged { Through (O.gives outputs.old) start
+        (RestJudged (I.gives walker.old) request.now input.now meter.old.lookups meter.new.lookups result) }
+    ensures mapped { (meter.old.mapped ≤ meter.new.mapped)
+        × (meter.new.mapped ≤ meter.old.mapped + length (records_of (cut_by request.now input.now))) }
     ensures exact { IfOk result (λ y. IsExact (cut_by request.now input.now) y.skips.items y.pairs meter.old meter.new) }
+    ensures stops { HaltsItems I.steady (I.failed walker.old) (I.failed walker.new) result }
+    ensures halts { HaltsOutputs O.steady (O.failed outputs.old) (O.failed outputs.new) result }
 {
-    expect_count(walker, request.max_skips())?;
+    let listed = expect_count(walker, request.max_skips())?;
     let plan = plan_of(alloc, request, input)?;
-    let skips = take_skips(alloc, walker, &plan)?;
+    let skips = take_skips(alloc, walker, &plan, listed)?;
     let pairs = check_with(alloc, request, &plan, outputs, &skips, walker, meter, watch)?;
     Ok(Yes { skips, pairs })
 }
@@ -110,23 +131,39 @@ pub(crate) fn walk(certificate: &[u8]) -> Walker<'_>
     Walker::new(certificate)
 }
 
-/// The items that the request and the input fix come next.
-pub(crate) fn expect_header(
-    walker: &mut Walker<'_>,
+/// Judges a result, whatever walks its items and holds its outputs, which are as many as the partitions.
+pub(crate) fn judge_all<I: Items, O: Outputs>(
+    alloc: Global,
     request: &Request,
     input: &Input,
-) -> Result<(), No>
-    ensures met { MatchResult result
-        (λ _. header_met (halt walker.old) request.now input.now (items_left walker.old) ≡ Ok (items_left walker.new))
-        (λ e. header_met (halt walker.old) request.now input.now (items_left walker.old) ≡ Err e) }
-    ensures stop { halt walker.new ≡ halt walker.old }
+    outputs: &mut O,
+    walker: &mut I,
+    meter: &mut Meter,
+    watch: &dyn Watch,
+) -> Result<Yes, Stop>
+    requires fits { split_total request.now.split input.now ≤ 2 ^ 20 }
+    requires sound { I.sound walker.old }
+    requires given { IsSome (I.gives walker.old) }
+    requires few { I.most walker.old ≤ 2 ^ 63 }
+    requires front { (is : List Read) (at : ℕ) → I.gives walker.old is at → (bytes : List ℕ) × OfBytes is at bytes }
+    requires count { (meter.old.lookups ≤ 2 ^ 63) × (meter.old.mapped ≤ 2 ^ 63) }
+    requires outputs { IsSomeAhead (O.gives outputs.old) }
+    requires ahead { Fits (O.gives outputs.old) start }
+    requires place { O.place outputs.old ≡ 0 }
+    ensures judged { Through (O.gives outputs.old) start
+        (AllJudged (I.gives walker.old) request.now input.now meter.old.lookups meter.new.lookups result) }
+    ensures mapped { (meter.old.mapped ≤ meter.new.mapped)
+        × (meter.new.mapped ≤ meter.old.mapped + length (records_of (cut_by request.now input.now))) }
+    ensures exact { IfOk result (λ y. IsExact (cut_by request.now input.now) y.skips.items y.pairs meter.old meter.new) }
+    ensures stops { HaltsItems I.steady (I.failed walker.old) (I.failed walker.new) result }
+    ensures halts { HaltsOutputs O.steady (O.failed outputs.old) (O.failed outputs.new) result }
 {
-    expect_job(walker, request)?;
-    expect_input(walker, input)
+    expect_header(walker, request, input)?;
+    check_rest(alloc, request, input, outputs, walker, meter, watch)
 }
 
-/// Judges a result: the verdict, or want of memory.
-fn judge_all(
+/// Judges a result at hand: the verdict, or want of memory.
+fn judge_at_hand(
     alloc: Global,
     request: &Request,
     input: &Input,
@@ -146,8 +183,21 @@ fn judge_all(
         return Err(No::OutputCount);
     }
     let mut walker = walk(certificate);
-    expect_header(&mut walker, request, input)?;
-    check_rest(alloc, request, input, outputs, &mut walker, meter, watch)
+    let mut outputs = AtHand::new(outputs);
+    match judge_all(
+        alloc,
+        request,
+        input,
+        &mut outputs,
+        &mut walker,
+        meter,
+        watch,
+    ) {
+        Ok(yes) => Ok(yes),
+        Err(Stop::Fault(fault)) => Err(fault),
+        Err(Stop::Device | Stop::TooLong | Stop::Output { .. } | Stop::LongOutput) =>
+            unreachable!(),
+    }
 }
 
 /// The verdict with its headline, and what the meter is added.
@@ -171,7 +221,7 @@ fn judge_metered(
 {
     // A request's splits have at least one byte.
     let _size = request.split_size();
-    judge_all(alloc, request, input, outputs, certificate, meter, watch)
+    judge_at_hand(alloc, request, input, outputs, certificate, meter, watch)
 }
 
 /// Judges a result of the request over the input: the outputs of the partitions with the bytes of the certificate. No

@@ -1,34 +1,45 @@
 //! The partitions of a certificate, with the outputs.
-ghost use Rattle.std.specs.Prelude.{◌≡◌, ℕ, ◌<◌, ◌≤◌, ◌+◌, ◌-◌, ◌^◌, List, MatchResult, IfOk, None, length};
+ghost use Rattle.std.specs.Prelude.{◌≡◌, ◌⊎◌, ◌<◌, ◌≤◌, ◌+◌, ◌-◌, ◌^◌, IfOk, OnOk, None, true, false, length};
 ghost use Rattle.std.specs.List.{AllByRecursion};
-ghost use Rattle.mr_certform.specs.declared.item.Item.{Item as Read};
-ghost use Rattle.mr_certform.specs.Walking.{items_left, halt};
-ghost use Rattle.mr_check.specs.Verdict.{start, part_faults, first, entries_in};
-ghost use Rattle.mr_check.specs.Steps.{subject, Answers, Room};
-ghost use Rattle.mr_check.specs.Blocks.{items_in, IsFound, Judged};
+ghost use Rattle.mr_check.specs.Verdict.{start, entries_in};
+ghost use Rattle.mr_check.specs.Steps.{subject_with, Room};
+ghost use Rattle.mr_check.specs.Blocks.{items_in, IsFound, Judges};
+ghost use Rattle.mr_check.specs.Items.{Some as IsSome, Each};
+ghost use Rattle.mr_check.specs.Outputs.{Some as IsSomeAhead, Fits, Through, RowsJudged, Halts, HaltsItems, HaltsOutputs, begins};
 
-use crate::blocks::{BLOCK, FoundItem, fetch_all, read_block, seek_all, touch};
-use crate::facts::Facts;
+use crate::blocks::{BLOCK, FoundItem, Sought, fetch_all, read_block, seek_all, touch};
+use crate::facts::Basis;
 use crate::fault::No;
+use crate::items::{Items, Stop};
+use crate::outputs::Outputs;
 use crate::progress::Progress;
-use mr_certform::{Item, Walker};
+use mr_certform::Item;
 use mr_index::Meter;
 use mr_watch::{Pace, Phase, Watch};
-use std::alloc::Global;
+use std::alloc::{AllocError, Global};
 
 /// Judges rows in turn: whether they end the certificate, or the first fault.
 #[inline(never)]
-fn judge_rows<'a>(
+fn judge_rows<'a, O: Outputs>(
     judging: &mut Progress<'a>,
-    facts: &Facts<'a>,
+    basis: &Basis<'a>,
+    outputs: &mut O,
     rows: &[FoundItem<'a>],
-) -> Result<bool, No>
+) -> Result<bool, Stop>
     requires room { Room judging.old (length rows.now) (2 ^ 64 - 2) }
-    requires found { AllByRecursion (IsFound facts.now.triples) rows.now }
-    ensures { (at : ℕ) (js : List Read) → Judged (subject facts.now) at judging.old judging.new (items_in rows.now) js result }
+    requires found { AllByRecursion (IsFound basis.now.triples) rows.now }
+    requires fits { Fits (O.gives outputs.old) judging.old }
+    requires some { IsSomeAhead (O.gives outputs.old) }
+    requires place { O.place outputs.old ≡ judging.old.from }
+    requires begun { (begins (items_in rows.now) ≡ true) ⊎ O.begun outputs.old }
+    ensures judged { RowsJudged (O.gives outputs.old) (O.gives outputs.new) basis.now judging.old judging.new (items_in rows.now) result }
+    ensures some { IsSomeAhead (O.gives outputs.new) }
+    ensures place { OnOk result (O.place outputs.new ≡ judging.new.from) }
+    ensures begun { IfOk result (λ b. b ≡ false → 1 ≤ length rows.now → O.begun outputs.new) }
+    ensures halts { Halts O.steady (O.failed outputs.old) (O.failed outputs.new) result }
 {
     for row in rows {
-        judging.step(facts, row)?;
+        judging.step(basis, outputs, row)?;
         if let Item::End = row.item {
             return Ok(true);
         }
@@ -36,37 +47,78 @@ fn judge_rows<'a>(
     Ok(false)
 }
 
-/// Judges all partitions, and the certificate's end: how many entries there are, or the first fault. Each entry is
-/// looked up once at most, a block of them ahead of the tests. The watch is told how many entries are judged, of all pairs.
-pub(crate) fn check_parts(
+/// Items that are read, looked up and judged together, with what is found of them: buffers for a block.
+#[derive(Drop)]
+struct Block<'a> {
+    items: Vec<Item>,
+    sought: Vec<Sought<'a>>,
+    rows: Vec<FoundItem<'a>>,
+    touched: Vec<u8>,
+}
+
+impl<'a> Block<'a> {
+    fn new(alloc: Global) -> Result<Block<'a>, AllocError> {
+        Ok(Block {
+            items: Vec::with_capacity(alloc, BLOCK)?,
+            sought: Vec::with_capacity(alloc, BLOCK)?,
+            rows: Vec::with_capacity(alloc, BLOCK)?,
+            touched: Vec::with_capacity(alloc, BLOCK)?,
+        })
+    }
+
+    /// Looks up the names among the items, for their rows.
+    fn look_up(&mut self, basis: &Basis<'a>, meter: &mut Meter) -> Result<(), AllocError>
+        requires { meter.old.lookups + entries_in self.old.items.items < 2 ^ 64 }
+        ensures items { OnOk result (items_in self.new.rows.items ≡ self.old.items.items) }
+        ensures found { OnOk result (AllByRecursion (IsFound basis.now.triples) self.new.rows.items) }
+        ensures lookups { (meter.old.lookups ≤ meter.new.lookups) × (meter.new.lookups ≤ meter.old.lookups + entries_in self.old.items.items) }
+        ensures all { OnOk result (meter.new.lookups ≡ meter.old.lookups + entries_in self.old.items.items) }
+        ensures mapped { meter.new.mapped ≡ meter.old.mapped }
+    {
+        seek_all(basis, &self.items, &mut self.sought, meter)?;
+        fetch_all(&self.sought, &mut self.rows)?;
+        touch(&self.rows, &mut self.touched)?;
+        Ok(())
+    }
+}
+
+/// Judges all partitions, and the items' end: how many entries there are, or the first fault. Each entry is looked up once
+/// at most, a block of them ahead of the tests. The watch is told how many entries are judged, of all pairs.
+pub(crate) fn check_parts<I: Items, O: Outputs>(
     alloc: Global,
-    facts: &Facts<'_>,
-    walker: &mut Walker<'_>,
+    basis: &Basis<'_>,
+    outputs: &mut O,
+    walker: &mut I,
     meter: &mut Meter,
     watch: &dyn Watch,
-) -> Result<u64, No>
-    requires few { length (items_left walker.old) < 2 ^ 63 }
+) -> Result<u64, Stop>
+    requires sound { I.sound walker.old }
+    requires some { IsSome (I.gives walker.old) }
+    requires few { I.most walker.old < 2 ^ 63 }
+    requires begins { Each (I.gives walker.old) begins }
     requires count { meter.old.lookups ≤ 2 ^ 63 }
-    ensures faults { let fs = part_faults (subject facts.now) (halt walker.old) start (items_left walker.old) in
-        MatchResult result (λ n. (first fs ≡ None) × (n ≡ entries_in (items_left walker.old))) (λ e. Answers fs e) }
-    ensures lookups { (meter.old.lookups ≤ meter.new.lookups) × (meter.new.lookups ≤ meter.old.lookups + entries_in (items_left walker.old)) }
+    requires outputs { IsSomeAhead (O.gives outputs.old) }
+    requires fits { Fits (O.gives outputs.old) start }
+    requires place { O.place outputs.old ≡ 0 }
+    ensures judged { Through (O.gives outputs.old) start
+        (λ outs. Judges (I.gives walker.old) (subject_with basis.now outs) meter.old.lookups meter.new.lookups result) }
     ensures all { IfOk result (λ n. meter.new.lookups ≡ meter.old.lookups + n) }
     ensures mapped { meter.new.mapped ≡ meter.old.mapped }
+    ensures stops { HaltsItems I.steady (I.failed walker.old) (I.failed walker.new) result }
+    ensures halts { HaltsOutputs O.steady (O.failed outputs.old) (O.failed outputs.new) result }
 {
-    let mut pace = Pace::new(Phase::Judging, facts.emitted());
+    let mut pace = Pace::new(Phase::Judging, basis.emitted());
     let mut judging = Progress::new(alloc);
-    let mut items = Vec::with_capacity(alloc, BLOCK)?;
-    let mut sought = Vec::with_capacity(alloc, BLOCK)?;
-    let mut rows = Vec::with_capacity(alloc, BLOCK)?;
-    let mut touched = Vec::with_capacity(alloc, BLOCK)?;
+    let mut block = Block::new(alloc)?;
     loop {
         pace.reach(judging.named(), watch);
-        read_block(walker, &mut items)?;
-        seek_all(facts, &items, &mut sought, meter)?;
-        fetch_all(&sought, &mut rows)?;
-        touch(&rows, &mut touched)?;
-        if judge_rows(&mut judging, facts, &rows)? {
+        let stopped = read_block(walker, &mut block.items)?;
+        block.look_up(basis, meter)?;
+        if judge_rows(&mut judging, basis, outputs, &block.rows)? {
             return Ok(judging.named());
+        }
+        if let Some(at) = stopped {
+            return Err(Stop::Fault(No::Malformed { at }));
         }
     }
 }

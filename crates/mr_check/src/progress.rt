@@ -1,15 +1,22 @@
 //! How far the judge has come in the partitions, item by item.
-ghost use Rattle.std.specs.Prelude.{◌≡◌, ◌<◌, ◌≤◌, ◌+◌, ◌-◌, ◌^◌, ◌++◌, ◌∷◌, [], MatchOption, MatchResult, OnOk, None, Some, length};
+ghost use Rattle.std.specs.Prelude.{◌≡◌, ◌<◌, ◌≤◌, ◌+◌, ◌-◌, ◌^◌, ◌++◌, ◌∷◌, [], MatchOption, MatchResult, OnOk, None, Some, true, length};
 ghost use Rattle.mr_sequential.specs.Good.{named};
+ghost use Rattle.mr_input.specs.Files.{nth_file};
+ghost use Rattle.mr_sequential.specs.Rules.{rules_of};
+ghost use Rattle.mr_certform.specs.declared.item.Item.TheVariants.{Entry};
 ghost use Rattle.mr_check.specs.Verdict.{start, first_tests, later_tests, order_tests, with_entry, group_tests, behind_group, entry_tests, after_entry};
-ghost use Rattle.mr_check.specs.Verdict.{tests, after};
-ghost use Rattle.mr_check.specs.Steps.{subject, Answers, HasRoom};
+ghost use Rattle.mr_check.specs.Verdict.{tests, after, end_tests};
+ghost use Rattle.mr_check.specs.Steps.{subject_with, Answers, HasRoom};
 ghost use Rattle.mr_check.specs.Blocks.{IsFound};
+ghost use Rattle.mr_check.specs.Fronts.{opens};
+ghost use Rattle.mr_check.specs.Outputs.{Some as IsSome, Tested, Halts};
 
 use crate::blocks::FoundItem;
 use crate::entry_tests::{test_end, test_first, test_later, test_named, test_text};
-use crate::facts::Facts;
+use crate::facts::Basis;
 use crate::fault::No;
+use crate::items::Stop;
+use crate::outputs::Outputs;
 use mr_bytes::{Name, Value, Values};
 use mr_certform::Item;
 use std::alloc::{AllocError, Global};
@@ -115,6 +122,18 @@ impl<'a> Progress<'a> {
         self.entry = 0;
     }
 
+    /// Behind a group, whose text ends at this place of the output.
+    fn close_group(&mut self, from: u64)
+        requires { self.old.group + 1 < 2 ^ 64 }
+        ensures { self.new
+            ≡ record self.old { groups = self.old.groups - 1; group = self.old.group + 1; key_before = Some self.old.key; from = from } }
+    {
+        self.groups = self.groups.saturating_sub(1);
+        self.group += 1;
+        self.key_before = Some(self.key);
+        self.from = from;
+    }
+
     /// A group's first entry.
     fn take_first(&mut self, name: Name, key: &'a [u8], value: Value) -> Result<(), AllocError>
         requires { HasRoom self.old }
@@ -161,37 +180,46 @@ impl<'a> Progress<'a> {
 
 impl<'a> Progress<'a> {
     /// The end of a group that stands whole: its text, and the partition's end where it was the last.
-    fn end_group(&mut self, facts: &Facts<'_>, p: u64) -> Result<(), No>
-        requires { (self.old.group + 1 < 2 ^ 64) × (length self.old.values < 2 ^ 64) }
-        ensures { let s = subject facts.now in MatchResult result (λ _. (group_tests s p self.old 0 ≡ []) × (self.new ≡ behind_group s self.old 0))
-            (λ e. Answers (group_tests s p self.old 0) e) }
+    fn end_group<O: Outputs>(
+        &mut self,
+        basis: &Basis<'_>,
+        outputs: &mut O,
+        p: u64,
+    ) -> Result<(), Stop>
+        requires room { (self.old.group + 1 < 2 ^ 64) × (length self.old.values < 2 ^ 64) }
+        requires here { p ≡ self.old.next - 1 }
+        requires begun { O.begun outputs.old }
+        requires some { IsSome (O.gives outputs.old) }
+        requires place { O.place outputs.old ≡ self.old.from }
+        ensures tested { Tested (O.gives outputs.old) (O.gives outputs.new) self.old self.new (λ outs. group_tests (subject_with basis.now outs) p self.old 0)
+            (λ outs. behind_group (subject_with basis.now outs) self.old 0) result }
+        ensures some { IsSome (O.gives outputs.new) }
+        ensures place { OnOk result (O.place outputs.new ≡ self.new.from) }
+        ensures begun { O.begun outputs.new }
+        ensures halts { Halts O.steady (O.failed outputs.old) (O.failed outputs.new) result }
     {
-        facts.text(self.key, &self.values, &mut self.text)?;
-        let output = facts.output(p);
-        test_text(output, p, self.from, &self.text)?;
-        self.from += self.text.len() as u64;
-        self.groups = self.groups.saturating_sub(1);
-        test_end(output, p, self.groups, self.from)?;
-        self.group += 1;
-        self.key_before = Some(self.key);
+        basis.text(self.key, &self.values, &mut self.text)?;
+        test_text(outputs, p, &self.text)?;
+        test_end(outputs, p, self.groups.saturating_sub(1))?;
+        self.close_group(outputs.place());
         Ok(())
     }
 
     /// A group's first entry is tested and taken.
     fn first_entry(
         &mut self,
-        facts: &Facts<'_>,
+        basis: &Basis<'_>,
         p: u64,
         name: Name,
         key: &'a [u8],
         value: Value,
     ) -> Result<(), No>
         requires { HasRoom self.old }
-        ensures { let fs = first_tests (subject facts.now).rules.part p self.old.group self.old.key_before key.entry.now in
+        ensures { let fs = first_tests (rules_of basis.now.request).part p self.old.group self.old.key_before key.entry.now in
             MatchResult result (λ _. (fs ≡ []) × (self.new ≡ with_entry self.old (record { key = key.entry.now; value = value; name = name }) 0))
             (λ e. Answers fs e) }
     {
-        test_first(facts, p, self.group, self.key_before, key)?;
+        test_first(basis, p, self.group, self.key_before, key)?;
         self.take_first(name, key, value)?;
         Ok(())
     }
@@ -218,90 +246,162 @@ impl<'a> Progress<'a> {
     #[tactic(auto, using(crate::proofs::Faults::order_zero, crate::proofs::Faults::with_zero, crate::proofs::Faults::order_suc, crate::proofs::Faults::with_suc))]
     fn order_entry(
         &mut self,
-        facts: &Facts<'_>,
+        basis: &Basis<'_>,
         p: u64,
         name: Name,
         key: &'a [u8],
         value: Value,
     ) -> Result<(), No>
         requires { HasRoom self.old }
-        ensures { let fs = order_tests (subject facts.now).rules.part p self.old name key.entry.now self.old.entry in
+        ensures { let fs = order_tests (rules_of basis.now.request).part p self.old name key.entry.now self.old.entry in
             MatchResult result (λ _. (fs ≡ [])
             × (self.new ≡ with_entry self.old (record { key = key.entry.now; value = value; name = name }) self.old.entry)) (λ e. Answers fs e) }
     {
         if self.entry == 0 {
-            self.first_entry(facts, p, name, key, value)
+            self.first_entry(basis, p, name, key, value)
         } else {
             self.later_entry(p, name, key, value)
         }
     }
 
     /// The group's end, where no entry is to come.
-    #[tactic(auto, using(crate::proofs::Faults::group_goes_on, crate::proofs::Faults::behind_goes_on))]
-    fn end_entry(&mut self, facts: &Facts<'_>, p: u64) -> Result<(), No>
-        requires { (self.old.group + 1 < 2 ^ 64) × (length self.old.values < 2 ^ 64) }
-        ensures { let s = subject facts.now in
-            MatchResult result (λ _. (group_tests s p self.old self.old.entries ≡ []) × (self.new ≡ behind_group s self.old self.old.entries))
-            (λ e. Answers (group_tests s p self.old self.old.entries) e) }
+    fn end_entry<O: Outputs>(
+        &mut self,
+        basis: &Basis<'_>,
+        outputs: &mut O,
+        p: u64,
+    ) -> Result<(), Stop>
+        requires room { (self.old.group + 1 < 2 ^ 64) × (length self.old.values < 2 ^ 64) }
+        requires here { p ≡ self.old.next - 1 }
+        requires begun { O.begun outputs.old }
+        requires some { IsSome (O.gives outputs.old) }
+        requires place { O.place outputs.old ≡ self.old.from }
+        ensures tested { Tested (O.gives outputs.old) (O.gives outputs.new) self.old self.new
+            (λ outs. group_tests (subject_with basis.now outs) p self.old self.old.entries)
+            (λ outs. behind_group (subject_with basis.now outs) self.old self.old.entries) result }
+        ensures some { IsSome (O.gives outputs.new) }
+        ensures place { OnOk result (O.place outputs.new ≡ self.new.from) }
+        ensures begun { O.begun outputs.new }
+        ensures halts { Halts O.steady (O.failed outputs.old) (O.failed outputs.new) result }
     {
         if self.entries == 0 {
-            self.end_group(facts, p)
+            self.end_group(basis, outputs, p)
         } else {
             Ok(())
         }
     }
 
-    /// An entry, with all its tests, given what is emitted under its name.
-    fn entry(
+    /// An entry of a pair that is emitted, with all its tests.
+    fn found_entry<O: Outputs>(
         &mut self,
-        facts: &Facts<'_>,
+        basis: &Basis<'_>,
+        outputs: &mut O,
+        p: u64,
+        name: Name,
+        key: &'a [u8],
+        value: Value,
+    ) -> Result<(), Stop>
+        requires room { HasRoom self.old }
+        requires found { named basis.now.triples name ≡ Some (record { key = key.now; value = value; name = name }) }
+        requires here { p ≡ self.old.next - 1 }
+        requires begun { O.begun outputs.old }
+        requires some { IsSome (O.gives outputs.old) }
+        requires place { O.place outputs.old ≡ self.old.from }
+        ensures tested { let t = named basis.now.triples name in
+            Tested (O.gives outputs.old) (O.gives outputs.new) self.old self.new (λ outs. entry_tests (subject_with basis.now outs) p self.old name t)
+            (λ outs. after_entry (subject_with basis.now outs) self.old t) result }
+        ensures some { IsSome (O.gives outputs.new) }
+        ensures place { OnOk result (O.place outputs.new ≡ self.new.from) }
+        ensures begun { O.begun outputs.new }
+        ensures halts { Halts O.steady (O.failed outputs.old) (O.failed outputs.new) result }
+    {
+        self.order_entry(basis, p, name, key, value)?;
+        self.end_entry(basis, outputs, p)
+    }
+
+    /// An entry, with all its tests, given what is emitted under its name.
+    fn entry<O: Outputs>(
+        &mut self,
+        basis: &Basis<'_>,
+        outputs: &mut O,
         p: u64,
         name: Name,
         found: Option<(&'a [u8], Value)>,
-    ) -> Result<(), No>
+    ) -> Result<(), Stop>
         requires room { HasRoom self.old }
-        requires found { let t = named facts.now.triples name in MatchOption found (t ≡ None)
+        requires found { let t = named basis.now.triples name in MatchOption found (t ≡ None)
             (λ p. t ≡ Some (record { key = p.0.now; value = p.1; name = name })) }
-        ensures tests { let s = subject facts.now in let t = named s.triples name in let fs = entry_tests s p self.old name t in
-            MatchResult result (λ _. (fs ≡ []) × (self.new ≡ after_entry s self.old t)) (λ e. Answers fs e) }
+        requires here { p ≡ self.old.next - 1 }
+        requires begun { O.begun outputs.old }
+        requires some { IsSome (O.gives outputs.old) }
+        requires place { O.place outputs.old ≡ self.old.from }
+        ensures tested { let t = named basis.now.triples name in
+            Tested (O.gives outputs.old) (O.gives outputs.new) self.old self.new (λ outs. entry_tests (subject_with basis.now outs) p self.old name t)
+            (λ outs. after_entry (subject_with basis.now outs) self.old t) result }
+        ensures some { IsSome (O.gives outputs.new) }
+        ensures place { OnOk result (O.place outputs.new ≡ self.new.from) }
+        ensures begun { O.begun outputs.new }
+        ensures halts { Halts O.steady (O.failed outputs.old) (O.failed outputs.new) result }
     {
         match found {
-            None => Err(No::NoSuchPair {
+            None => Err(Stop::Fault(No::NoSuchPair {
                 partition: p,
                 group: self.group,
                 entry: self.entry,
-            }),
-            Some((key, value)) => {
-                self.order_entry(facts, p, name, key, value)?;
-                self.end_entry(facts, p)
-            }
+            })),
+            Some((key, value)) => self.found_entry(basis, outputs, p, name, key, value),
         }
     }
 
-    /// All tests of a row's item, in their order.
-    pub fn step(&mut self, facts: &Facts<'_>, row: &FoundItem<'a>) -> Result<(), No>
+    /// The next partition begins, with so many groups, and its output is opened.
+    fn open_partition<O: Outputs>(&mut self, outputs: &mut O, groups: u64) -> Result<(), Stop>
         requires room { HasRoom self.old }
-        requires found { IsFound facts.now.triples row.now }
-        ensures { let s = subject facts.now in
-            MatchResult result (λ _. (tests s self.old row.now.item ≡ []) × (self.new ≡ after s self.old row.now.item))
-            (λ e. Answers (tests s self.old row.now.item) e) }
+        requires some { IsSome (O.gives outputs.old) }
+        ensures tested { Tested (O.gives outputs.old) (O.gives outputs.new) self.old self.new
+            (λ outs. end_tests (nth_file outs self.old.next) self.old.next groups 0)
+            (λ _. record self.old { next = self.old.next + 1; groups = groups; group = 0; key_before = None; from = 0 }) result }
+        ensures some { IsSome (O.gives outputs.new) }
+        ensures place { OnOk result (O.place outputs.new ≡ self.new.from) }
+        ensures begun { O.begun outputs.new }
+        ensures halts { Halts O.steady (O.failed outputs.old) (O.failed outputs.new) result }
+    {
+        outputs.open_next();
+        test_end(outputs, self.next, groups)?;
+        self.begin_partition(groups);
+        Ok(())
+    }
+
+    /// All tests of a row's item, in their order.
+    pub fn step<O: Outputs>(
+        &mut self,
+        basis: &Basis<'_>,
+        outputs: &mut O,
+        row: &FoundItem<'a>,
+    ) -> Result<(), Stop>
+        requires room { HasRoom self.old }
+        requires found { IsFound basis.now.triples row.now }
+        requires begun { (name : _) → row.now.item ≡ Entry name → O.begun outputs.old }
+        requires some { IsSome (O.gives outputs.old) }
+        requires place { O.place outputs.old ≡ self.old.from }
+        ensures tested { Tested (O.gives outputs.old) (O.gives outputs.new) self.old self.new
+            (λ outs. tests (subject_with basis.now outs) self.old row.now.item) (λ outs. after (subject_with basis.now outs) self.old row.now.item) result }
+        ensures some { IsSome (O.gives outputs.new) }
+        ensures place { OnOk result (O.place outputs.new ≡ self.new.from) }
+        ensures begun { O.begun outputs.old → O.begun outputs.new }
+        ensures opens { opens row.now.item ≡ true → O.begun outputs.new }
+        ensures halts { Halts O.steady (O.failed outputs.old) (O.failed outputs.new) result }
     {
         match row.item {
-            Item::Groups(groups) => {
-                let groups = u64::from(groups);
-                test_end(facts.output(self.next), self.next, groups, 0)?;
-                self.begin_partition(groups);
-                Ok(())
-            }
+            Item::Groups(groups) => self.open_partition(outputs, u64::from(groups)),
             Item::Entries(entries) => {
                 self.begin_group(u64::from(entries));
                 Ok(())
             }
             Item::Entry(name) => {
                 let p = self.next.saturating_sub(1);
-                self.entry(facts, p, name, row.found)
+                self.entry(basis, outputs, p, name, row.found)
             }
-            Item::End => test_named(facts.emitted(), self.named),
+            Item::End => Ok(test_named(basis.emitted(), self.named)?),
             _ => Ok(()),
         }
     }

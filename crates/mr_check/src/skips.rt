@@ -1,48 +1,51 @@
 //! The left-out records that a certificate lists.
-ghost use Rattle.std.specs.Prelude.{◌≡◌, ◌⊎◌, ◌≤◌, ◌++◌, ◌∷◌, [], MatchResult, OnOk, IsTrue, length};
+ghost use Rattle.std.specs.Prelude.{◌≡◌, ◌≤◌, ◌<◌, ◌++◌, ◌∷◌, [], OnOk};
 ghost use Rattle.mr_splits.specs.Cut.{records_of};
-ghost use Rattle.mr_certform.specs.Walking.{items_left, halt};
-ghost use Rattle.mr_check.specs.declared.fault.No.TheVariants.{OutOfMemory, Malformed};
-ghost use Rattle.mr_check.specs.Steps.{awaits_skips, counted, skip_front, behind_skip, skip_fault, listed};
+ghost use Rattle.mr_check.specs.Steps.{awaits_skips, counted, skip_fault, skips_in_front, listed};
+ghost use Rattle.mr_check.specs.Items.{Answered, Each, NextSkip, Some as IsSome, Stops, skip_next};
 
 use crate::fault::No;
+use crate::items::{Items, Stop};
 use mr_bytes::RecordName;
-use mr_certform::{Item, Walker};
+use mr_certform::Item;
 use mr_splits::{Plan, SkipFault};
 use std::alloc::{AllocError, Global};
 
 /// How many records are left out comes next, which is at most so many.
-pub(crate) fn expect_count(walker: &mut Walker<'_>, most: u32) -> Result<(), No>
-    requires { IsTrue (awaits_skips (items_left walker.old)) }
-    ensures counted { MatchResult result
-        (λ _. counted (halt walker.old) most (items_left walker.old) ≡ Ok (items_left walker.new))
-        (λ e. counted (halt walker.old) most (items_left walker.old) ≡ Err e) }
-    ensures stop { halt walker.new ≡ halt walker.old }
+pub(crate) fn expect_count<I: Items>(items: &mut I, most: u32) -> Result<u32, Stop>
+    requires sound { I.sound items.old }
+    requires awaits { Each (I.gives items.old) awaits_skips }
+    ensures sound { OnOk result (I.sound items.new) }
+    ensures given { OnOk result (IsSome (I.gives items.new)) }
+    ensures counted { Answered (I.gives items.old) (I.gives items.new) (λ n is. record { many = n; behind = is }) (λ at. counted at most) result }
+    ensures fewer { OnOk result (I.most items.new ≤ I.most items.old) }
+    ensures stops { Stops I.steady (I.failed items.old) (I.failed items.new) result }
 {
-    let Item::Skips(listed) = walker.next()? else {
+    let Item::Skips(listed) = items.next_item()? else {
         unreachable!()
     };
     if most < listed {
-        return Err(No::TooManySkips {
+        return Err(Stop::Fault(No::TooManySkips {
             listed: u64::from(listed),
-        });
+        }));
     }
-    Ok(())
+    Ok(listed)
 }
 
-/// The left-out record that comes next; another item is left where it stands.
-fn next_skip(walker: &mut Walker<'_>) -> Result<Option<RecordName>, No>
-    ensures item { MatchResult result
-        (λ o. (o ≡ skip_front (items_left walker.old)) × (items_left walker.new ≡ behind_skip (items_left walker.old)) × (1 ≤ length (items_left walker.old)))
-        (λ e. (items_left walker.old ≡ []) × (e ≡ Malformed (halt walker.old))) }
-    ensures stop { halt walker.new ≡ halt walker.old }
+/// The left-out record that comes next.
+fn next_skip<I: Items>(items: &mut I) -> Result<RecordName, Stop>
+    requires sound { I.sound items.old }
+    requires skip { Each (I.gives items.old) skip_next }
+    ensures sound { OnOk result (I.sound items.new) }
+    ensures some { IsSome (I.gives items.new) }
+    ensures next { NextSkip (I.gives items.old) (I.gives items.new) result }
+    ensures fewer { OnOk result (I.most items.new ≤ I.most items.old) }
+    ensures stops { Stops I.steady (I.failed items.old) (I.failed items.new) result }
 {
-    let here = *walker;
-    if let Item::Skip(name) = walker.next()? {
-        return Ok(Some(name));
-    }
-    *walker = here;
-    Ok(None)
+    let Item::Skip(name) = items.next_item()? else {
+        unreachable!()
+    };
+    Ok(name)
 }
 
 /// The fault of a left-out record, given the one before it and its number.
@@ -63,22 +66,29 @@ fn keep(skips: &mut Vec<RecordName>, name: RecordName) -> Result<(), AllocError>
     Ok(())
 }
 
-/// The left-out records, each tested for its order before its existence.
-pub(crate) fn take_skips(
+/// The left-out records, of which so many come next, each tested for its order before its existence.
+pub(crate) fn take_skips<I: Items>(
     alloc: Global,
-    walker: &mut Walker<'_>,
+    items: &mut I,
     plan: &Plan<'_>,
-) -> Result<Vec<RecordName>, No>
-    ensures listed { MatchResult result
-        (λ v. listed (records_of plan.now) (halt walker.old) [] (items_left walker.old) ≡ Ok (record { skips = v.items; behind = items_left walker.new }))
-        (λ e. (e ≡ OutOfMemory) ⊎ (listed (records_of plan.now) (halt walker.old) [] (items_left walker.old) ≡ Err e)) }
-    ensures stop { halt walker.new ≡ halt walker.old }
+    many: u32,
+) -> Result<Vec<RecordName>, Stop>
+    requires sound { I.sound items.old }
+    requires given { IsSome (I.gives items.old) }
+    requires front { Each (I.gives items.old) (skips_in_front many) }
+    ensures sound { OnOk result (I.sound items.new) }
+    ensures given { OnOk result (IsSome (I.gives items.new)) }
+    ensures listed { Answered (I.gives items.old) (I.gives items.new) (λ v is. record { skips = v.items; behind = is })
+        (λ at. listed (records_of plan.now) at many []) result }
+    ensures fewer { OnOk result (I.most items.new ≤ I.most items.old) }
+    ensures stops { Stops I.steady (I.failed items.old) (I.failed items.new) result }
 {
     let mut skips = Vec::new(alloc);
     let mut before = None;
-    while let Some(name) = next_skip(walker)? {
-        if let Some(fault) = fault_of(plan, before, name, skips.len() as u64) {
-            return Err(fault);
+    for number in 0..many {
+        let name = next_skip(items)?;
+        if let Some(fault) = fault_of(plan, before, name, u64::from(number)) {
+            return Err(Stop::Fault(fault));
         }
         keep(&mut skips, name)?;
         before = Some(name);

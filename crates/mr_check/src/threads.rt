@@ -18,9 +18,9 @@ use crate::entry_tests::test_named;
 use crate::facts::Facts;
 use crate::fault::No;
 use crate::front::{Front, Fronts};
+use crate::front_bytes::{expect_count_of, expect_header_of, take_skips_of};
 use crate::fronts::fronts_of;
-use crate::judge::{Yes, expect_header, plan_of, walk};
-use crate::skips::{expect_count, take_skips};
+use crate::judge::{Yes, plan_of, walk};
 use mr_bytes::{Gate, OpenGate, RecordName};
 use mr_certform::Walker;
 use mr_index::{EmissionIndex, Part};
@@ -262,9 +262,9 @@ fn check_rest<R: Threads + Sync, G: Gate, W: Watch>(
         (λ y. (first fs ≡ None) × (accepted_by (record { skips = []; pairs = 0 }) (items_left walker.old) ≡ accepted_of y))
         (λ e. Answers fs e) }
 {
-    expect_count(walker, request.max_skips())?;
+    let listed = expect_count_of(walker, request.max_skips())?;
     let plan = plan_of(alloc, request, input)?;
-    let skips = take_skips(alloc, walker, &plan)?;
+    let skips = take_skips_of(alloc, walker, &plan, listed)?;
     let pairs = check_with(rt, alloc, crew, request, &plan, outputs, &skips, walker)?;
     Ok(Yes { skips, pairs })
 }
@@ -287,7 +287,7 @@ fn judge_all<R: Threads + Sync, G: Gate, W: Watch>(
         return Err(No::OutputCount);
     }
     let mut walker = walk(certificate);
-    expect_header(&mut walker, request, input)?;
+    expect_header_of(&mut walker, request, input)?;
     check_rest(rt, alloc, crew, request, input, outputs, &mut walker)
 }
 

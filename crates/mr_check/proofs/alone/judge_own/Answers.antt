@@ -9,8 +9,8 @@ use Rattle.mr_check.proofs.BlockLemmas.{blank, items_long}
 use Rattle.mr_check.proofs.OwnLemmas.{OwnStands, own_next, own_more, own_all, own_room}
 use Rattle.mr_check.proofs.alone.judge_own.Goals as goal
 
-pub step-requires-clause-room : goal.step-requires-clause-room
-step-requires-clause-room c =
+pub step_at_hand-requires-clause-room : goal.step_at_hand-requires-clause-room
+step_at_hand-requires-clause-room c =
     let rows : List FoundItem = c.args.rows.now in
     let i = c.loop-row.row-index in
     let s = subject c.args.facts.now in
@@ -24,17 +24,19 @@ loop-row-preserved c =
     let i = c.loop-row.row-index in
     let row : FoundItem = get_or rows i blank in
     let old = c.args.judging.now in
-    let told = c.in_ok-step.ensures in
+    let told = c.in_ok-step_at_hand.ensures in
     let stands = own_next s old c.loop-row.judging i rows c.loop-row-test.true c.loop-row.invariant.stands in
-    let next = own_more s old c.loop-row.judging i row.item (items_in (drop (i + 1) rows)) (items_in rows) stands (sym c.is_own.ensures ∙ c.if-not-is_own.false) told.0 in
+    let next = own_more s old c.loop-row.judging i row.item (items_in (drop (i + 1) rows)) (items_in rows) stands (sym c.is_own.ensures ∙ c.if-not-is_own.false) told.tested.0 in
     let found = subst (AllByRecursion (IsFound c.args.facts.now.triples)) (drop_more rows i blank c.loop-row-test.true) c.loop-row.invariant.found in
     record {
-      stands = subst (λ (st : Reached). OwnStands s old st (i + 1) (items_in (drop (i + 1) rows)) (items_in rows)) (sym told.1) next;
+      stands = subst (λ (st : Reached). OwnStands s old st (i + 1) (items_in (drop (i + 1) rows)) (items_in rows)) (sym told.tested.1) next;
+      left = told.left;
+      place = told.place;
       found = found.1;
     }
 
-pub returns : goal.returns
-returns c js =
+pub returns-clause-judged : goal.returns-clause-judged
+returns-clause-judged c js =
     let s = subject c.args.facts.now in
     let rows : List FoundItem = c.args.rows.now in
     let i = c.loop-row.row-index in

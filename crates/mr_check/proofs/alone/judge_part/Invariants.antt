@@ -1,4 +1,6 @@
 use Rattle.std.proofs.Common.{◌≡◌, ◌+◌, length}
+use Rattle.mr_input.specs.Files.{contents}
+use Rattle.mr_check.specs.Outputs.{Leaves}
 use Rattle.mr_certform.specs.Walking.{items_left}
 use Rattle.mr_check.specs.Verdict.{first}
 use Rattle.mr_check.specs.VerdictLaws.{told, piece, part_fault}
@@ -13,6 +15,8 @@ invariant-loop-touched l =
     let now = items_left l.walker in
     record {
       same : first (told s l.judging (piece now)) ≡ part_fault s l.p (part_here all);
+      left : Leaves l.judging l.facts.outputs l.outputs.rest.now (contents l.outputs.later.now);
+      place : l.outputs.passed ≡ l.judging.from;
       room : Room l.judging (length now) (l.p + length all);
     }
 

@@ -1,17 +1,17 @@
 use Rattle.std.proofs.Common.{◌≡◌, ◌≤◌, ◌+◌, ◌-◌, length}
-use Rattle.mr_certform.specs.Walking.{items_left, halt}
-use Rattle.mr_check.specs.Verdict.{entries_in}
-use Rattle.mr_check.specs.Blocks.{onto}
+use Rattle.mr_check.specs.Items.{Some as IsSome}
+use Rattle.mr_check.proofs.BlockLemmas.{Reads}
 use Rattle.mr_check.proofs.blocks.read_block.Given as goal
 
 abbrev pub invariant-loop-walker : goal.invariant-loop-walker
-invariant-loop-walker l = record {
-  read : items_left l.fn.walker ≡ onto l.items.items (items_left l.walker);
-  counts : entries_in (items_left l.fn.walker) ≡ entries_in l.items.items + entries_in (items_left l.walker);
-  some : 1 ≤ length l.items.items;
-  most : length l.items.items ≤ 64;
-  stop : halt l.walker ≡ halt l.fn.walker;
+invariant-loop-walker g l = record {
+  reads : Reads (g.I.Items.gives l.fn.walker) (g.I.Items.gives l.walker) l.items.items;
+  given : 1 ≤ length l.items.items → IsSome (g.I.Items.gives l.walker);
+  sound : g.I.Items.sound l.walker;
+  count : g.I.Items.failed l.walker ≡ g.I.Items.failed l.fn.walker;
+  long : length l.items.items + g.I.Items.most l.walker ≤ g.I.Items.most l.fn.walker;
+  block : length l.items.items ≤ 64;
 }
 
 abbrev pub decreases-loop-walker : goal.decreases-loop-walker
-decreases-loop-walker l = 64 - length l.items.items
+decreases-loop-walker g l = 64 - length l.items.items

@@ -1,69 +1,31 @@
-use Rattle.std.proofs.Common.{◌≡◌, ℕ, List, length, refl, inr, arith, sym, ◌∙◌}
-use Rattle.std.specs.Prelude.{Ok, Err, Vec}
-use Rattle.std.specs.Global.{Global}
-use Rattle.std.proofs.lemmas.List.{length-map}
+use Rattle.std.specs.Prelude.{Err}
 use Rattle.std.proofs.lemmas.Result.{err_from_is_err_and}
-use Rattle.mr_input.specs.Files.{contents}
-use Rattle.mr_certform.specs.declared.item.Item.{Item}
-use Rattle.mr_certform.specs.declared.place.Place.TheVariants.{AtMagic}
-use Rattle.mr_certform.specs.Grammar.{InOrder}
-use Rattle.mr_certform.specs.Spelling.{items_of, stop}
-use Rattle.mr_certform.specs.Walking.{items_left, halt}
-use Rattle.mr_certform.proofs.Walks.{read_front}
-use Rattle.mr_check.specs.declared.fault.No.{No}
-use Rattle.mr_check.specs.declared.fault.No.TheVariants.{OtherJob, OtherInput}
-use Rattle.mr_check.proofs.GrammarLemmas.{skips_come}
-use Rattle.mr_check.proofs.MeterLemmas.{bounded_wider, header_entries}
-use Rattle.mr_check.specs.Metered.{cut_by}
-use Rattle.mr_check.proofs.VerdictLemmas.{header_ok, header_few, verdict_count, verdict_header}
-use Rattle.mr_check.proofs.JudgeLemmas.{as_many, header_is, rest_verdict}
+use Rattle.mr_check.specs.Verdict.{start}
+use Rattle.mr_check.specs.Outputs.{RestJudged, AllJudged}
+use Rattle.mr_check.proofs.OutputLemmas.{through_as, through_all}
+use Rattle.mr_check.proofs.RestLemmas.{order_behind, header_judged, all_judged}
 use Rattle.mr_check.proofs.judge.judge_all.Goals as goal
 
-pub returns-then-outputs-parts-clause-verdict : goal.returns-then-outputs-parts-clause-verdict
-returns-then-outputs-parts-clause-verdict g c =
-    inr (verdict_count c.args.request.now c.args.input.now (contents c.args.outputs.now) c.args.certificate.now (λ h. c.if-outputs-parts.true (let l : length (contents c.args.outputs.now) ≡ length c.args.outputs.now = length-map c.args.outputs.now (λ (f : Vec ℕ Global). f.items) in omega (arith, h, l, c.parts.ensures.same))))
-
-pub returns-in_err-expect_header-clause-verdict : goal.returns-in_err-expect_header-clause-verdict
-returns-in_err-expect_header-clause-verdict g c =
-    let o = c.args.request.now in
-    let files = c.args.input.now in
-    let bytes = c.args.certificate.now in
-    let e : No = c.in_err-expect_header.field-0.0 in
+pub returns-in_err-expect_header-clause-judged : goal.returns-in_err-expect_header-clause-judged
+returns-in_err-expect_header-clause-judged g c =
+    let old = g.I.Items.gives c.args.walker.now in
+    let n = c.args.meter.now.lookups in
+    let e = c.in_err-expect_header.field-0.0 in
     let p = err_from_is_err_and c.from_residual.result c.from_residual.ensures.1 in
-    let met = header_is o files bytes (halt c.walk-walker.result) (items_left c.walk-walker.result) (Err e) c.walk-walker.ensures.stop c.walk-walker.ensures.items c.in_err-expect_header.ensures.met in
-    rw (p.1, p.2) (inr (verdict_header o files (contents c.args.outputs.now) bytes e (as_many c.args.outputs.now c.parts.result o.parts c.if-outputs-parts.false c.parts.ensures.same) met))
+    rw (p.1, p.2) (through_all (g.O.Outputs.gives c.args.outputs.now) start (AllJudged old c.args.request.now c.args.input.now n n (Err e)) c.requires.outputs
+    (λ outs. header_judged old c.args.request.now c.args.input.now outs n e c.in_err-expect_header.ensures.met))
 
-pub check_rest-requires-clause-awaits : goal.check_rest-requires-clause-awaits
-check_rest-requires-clause-awaits g c =
-    let o = c.args.request.now in
-    let files = c.args.input.now in
-    let bytes = c.args.certificate.now in
-    let ks : List Item = items_left c.expect_header.new.walker in
-    let met = header_is o files bytes (halt c.walk-walker.result) (items_left c.walk-walker.result) (Ok ks) c.walk-walker.ensures.stop c.walk-walker.ensures.items c.in_ok-expect_header.ensures.met in
-    let h = header_ok (stop bytes) o files (items_of bytes) ks met in
-    let order : InOrder AtMagic (items_of bytes) = (read_front bytes (λ i. let b = c.type_inv.certificate i in omega arith)).0 in
-    skips_come o files (stop bytes) (stop bytes) OtherJob OtherInput (items_of bytes) h.0 ks order h.1 h.2
+pub check_rest-requires-clause-order : goal.check_rest-requires-clause-order
+check_rest-requires-clause-order g c =
+    let gives = g.I.Items.gives in
+    order_behind (gives c.args.walker.now) (gives c.expect_header.new.items) c.args.request.now c.args.input.now c.requires.front c.in_ok-expect_header.ensures.met
 
-pub check_rest-requires-clause-few : goal.check_rest-requires-clause-few
-check_rest-requires-clause-few g c =
-    let few = header_few (halt c.walk-walker.result) c.args.request.now c.args.input.now (items_left c.walk-walker.result) (items_left c.expect_header.new.walker) c.in_ok-expect_header.ensures.met in
-    omega (arith, few, c.walk-walker.ensures.few)
-
-pub returns-clause-verdict : goal.returns-clause-verdict
-returns-clause-verdict g c =
-    let o = c.args.request.now in
-    let files = c.args.input.now in
-    let bytes = c.args.certificate.now in
-    let outputs : List (List ℕ) = contents c.args.outputs.now in
-    let ks : List Item = items_left c.expect_header.new.walker in
-    let met = header_is o files bytes (halt c.walk-walker.result) (items_left c.walk-walker.result) (Ok ks) c.walk-walker.ensures.stop c.walk-walker.ensures.items c.in_ok-expect_header.ensures.met in
-    rest_verdict o files outputs bytes ks (halt c.expect_header.new.walker) c.check_rest.result (as_many c.args.outputs.now c.parts.result o.parts c.if-outputs-parts.false c.parts.ensures.same) met (c.expect_header.ensures.stop ∙ c.walk-walker.ensures.stop) c.check_rest.ensures.verdict
-
-pub returns-clause-bounded : goal.returns-clause-bounded
-returns-clause-bounded g c =
-    let o = c.args.request.now in
-    let files = c.args.input.now in
-    let bytes = c.args.certificate.now in
-    let ks : List Item = items_left c.expect_header.new.walker in
-    let met = header_is o files bytes (halt c.walk-walker.result) (items_left c.walk-walker.result) (Ok ks) c.walk-walker.ensures.stop c.walk-walker.ensures.items c.in_ok-expect_header.ensures.met in
-    bounded_wider (cut_by o files) (cut_by o files) (items_of bytes) ks c.args.meter.now c.check_rest.new.meter refl (sym (header_entries (stop bytes) o files (items_of bytes) ks met)) c.check_rest.ensures.bounded
+pub returns-clause-judged : goal.returns-clause-judged
+returns-clause-judged g c =
+    let gives = g.I.Items.gives in
+    let old = gives c.args.walker.now in
+    let mid = gives c.expect_header.new.items in
+    let n = c.args.meter.now.lookups in
+    let m = c.check_rest.new.meter.lookups in
+    through_as (g.O.Outputs.gives c.args.outputs.now) start (RestJudged mid c.args.request.now c.args.input.now n m c.check_rest.result) (AllJudged old c.args.request.now c.args.input.now n m c.check_rest.result) c.check_rest.ensures.judged
+    (λ outs j. all_judged old mid c.args.request.now c.args.input.now outs n m c.check_rest.result c.in_ok-expect_header.ensures.met j)

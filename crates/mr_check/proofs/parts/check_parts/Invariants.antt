@@ -1,23 +1,24 @@
-use Rattle.std.proofs.Common.{◌≡◌, ◌+◌, length}
-use Rattle.mr_certform.specs.Walking.{items_left, halt}
-use Rattle.mr_check.specs.Verdict.{start, part_faults, first, entries_in}
-use Rattle.mr_check.specs.Steps.{subject, Room}
+use Rattle.std.proofs.Common.{◌≡◌, ◌⊎◌, ◌+◌}
+use Rattle.mr_check.specs.Steps.{Room}
+use Rattle.mr_check.specs.Items.{Some as IsSome, Each}
+use Rattle.mr_check.specs.Outputs.{Some as IsSomeAhead, begins}
+use Rattle.mr_check.proofs.BlocksJudged.{Going}
 use Rattle.mr_check.proofs.parts.check_parts.Given as goal
 
-abbrev pub invariant-loop-touched : goal.invariant-loop-touched
-invariant-loop-touched g l =
-    let s = subject l.facts in
-    let at = halt l.initial.walker in
-    let all = items_left l.initial.walker in
-    let now = items_left l.walker in
-    record {
-      same : first (part_faults s at l.judging now) ≡ first (part_faults s at start all);
-      stop : halt l.walker ≡ at;
-      room : Room l.judging (length now) (length all);
-      named : l.judging.named + entries_in now ≡ entries_in all;
-      lookups : l.meter.lookups + entries_in now ≡ l.initial.meter.lookups + entries_in all;
-      mapped : l.meter.mapped ≡ l.initial.meter.mapped;
-    }
+abbrev pub invariant-loop-block : goal.invariant-loop-block
+invariant-loop-block g l = record {
+  going : Going (g.O.Outputs.gives l.initial.outputs) (g.O.Outputs.gives l.outputs) (g.I.Items.gives l.initial.walker) (g.I.Items.gives l.walker) l.basis l.judging l.initial.meter.lookups l.meter.lookups;
+  given : IsSome (g.I.Items.gives l.walker);
+  some : IsSomeAhead (g.O.Outputs.gives l.outputs);
+  place : g.O.Outputs.place l.outputs ≡ l.judging.from;
+  begun : Each (g.I.Items.gives l.walker) begins ⊎ g.O.Outputs.begun l.outputs;
+  sound : g.I.Items.sound l.walker;
+  count : g.I.Items.failed l.walker ≡ g.I.Items.failed l.initial.walker;
+  failed : g.O.Outputs.failed l.outputs ≡ g.O.Outputs.failed l.initial.outputs;
+  room : Room l.judging (g.I.Items.most l.walker) (g.I.Items.most l.initial.walker);
+  looked : l.meter.lookups ≡ l.initial.meter.lookups + l.judging.named;
+  mapped : l.meter.mapped ≡ l.initial.meter.mapped;
+}
 
-abbrev pub decreases-loop-touched : goal.decreases-loop-touched
-decreases-loop-touched g l = length (items_left l.walker)
+abbrev pub decreases-loop-block : goal.decreases-loop-block
+decreases-loop-block g l = g.I.Items.most l.walker

@@ -1,16 +1,22 @@
-use Rattle.std.proofs.Common.{◌≡◌, [], length}
+use Rattle.std.proofs.Common.{◌≡◌, ◌≤◌, ◌-◌, ℕ, List, [], length}
 use Rattle.mr_splits.specs.Cut.{records_of}
-use Rattle.mr_certform.specs.Walking.{items_left, halt}
+use Rattle.mr_certform.specs.declared.item.Item.{Item}
 use Rattle.mr_check.specs.Verdict.{last_of}
-use Rattle.mr_check.specs.Steps.{listed}
+use Rattle.mr_check.specs.Steps.{listed, skips_in_front}
+use Rattle.mr_check.specs.Items.{Each, Some as IsSome}
 use Rattle.mr_check.proofs.skips.take_skips.Given as goal
 
-abbrev pub invariant-loop-skips : goal.invariant-loop-skips
-invariant-loop-skips l = record {
-  listed : listed (records_of l.plan) (halt l.initial.walker) l.skips.items (items_left l.walker) ≡ listed (records_of l.plan) (halt l.initial.walker) [] (items_left l.initial.walker);
-  before : l.before ≡ last_of l.skips.items;
-  stop : halt l.walker ≡ halt l.initial.walker;
-}
-
-abbrev pub decreases-loop-skips : goal.decreases-loop-skips
-decreases-loop-skips l = length (items_left l.walker)
+abbrev pub invariant-loop-number : goal.invariant-loop-number
+invariant-loop-number g l =
+    let rs = records_of l.plan in
+    record {
+      leads : (is : List Item) (at : ℕ) → g.I.Items.gives l.items is at
+          → (js : List Item) × (g.I.Items.gives l.initial.items js at × (listed rs at (l.many - l.number) l.skips.items is ≡ listed rs at l.many [] js));
+      front : Each (g.I.Items.gives l.items) (skips_in_front (l.many - l.number));
+      long : l.number ≡ length l.skips.items;
+      before : l.before ≡ last_of l.skips.items;
+      given : IsSome (g.I.Items.gives l.items);
+      sound : g.I.Items.sound l.items;
+      count : g.I.Items.failed l.items ≡ g.I.Items.failed l.initial.items;
+      fewer : g.I.Items.most l.items ≤ g.I.Items.most l.initial.items;
+    }

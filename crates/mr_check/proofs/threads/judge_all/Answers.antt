@@ -21,14 +21,14 @@ pub returns-then-outputs-parts : goal.returns-then-outputs-parts
 returns-then-outputs-parts g c =
     inr (verdict_count c.args.request.now c.args.input.now (contents c.args.outputs.now) c.args.certificate.now (λ h. c.if-outputs-parts.true (let l : length (contents c.args.outputs.now) ≡ length c.args.outputs.now = length-map c.args.outputs.now (λ (f : Vec ℕ Global). f.items) in omega (arith, h, l, c.parts.ensures.same))))
 
-pub returns-in_err-expect_header : goal.returns-in_err-expect_header
-returns-in_err-expect_header g c =
+pub returns-in_err-expect_header_of : goal.returns-in_err-expect_header_of
+returns-in_err-expect_header_of g c =
     let o = c.args.request.now in
     let files = c.args.input.now in
     let bytes = c.args.certificate.now in
-    let e : No = c.in_err-expect_header.field-0.0 in
+    let e : No = c.in_err-expect_header_of.field-0.0 in
     let p = err_from_is_err_and c.from_residual.result c.from_residual.ensures.1 in
-    let met = header_is o files bytes (halt c.walk-walker.result) (items_left c.walk-walker.result) (Err e) c.walk-walker.ensures.stop c.walk-walker.ensures.items c.in_err-expect_header.ensures.met in
+    let met = header_is o files bytes (halt c.walk-walker.result) (items_left c.walk-walker.result) (Err e) c.walk-walker.ensures.stop c.walk-walker.ensures.items c.in_err-expect_header_of.ensures.met in
     rw (p.1, p.2) (inr (verdict_header o files (contents c.args.outputs.now) bytes e (as_many c.args.outputs.now c.parts.result o.parts c.if-outputs-parts.false c.parts.ensures.same) met))
 
 pub check_rest-requires-clause-order : goal.check_rest-requires-clause-order
@@ -36,15 +36,15 @@ check_rest-requires-clause-order g c κs within =
     let o = c.args.request.now in
     let files = c.args.input.now in
     let bytes = c.args.certificate.now in
-    let ks : List Item = items_left c.expect_header.new.walker in
-    let met = header_is o files bytes (halt c.walk-walker.result) (items_left c.walk-walker.result) (Ok ks) c.walk-walker.ensures.stop c.walk-walker.ensures.items c.in_ok-expect_header.ensures.met in
+    let ks : List Item = items_left c.expect_header_of.new.walker in
+    let met = header_is o files bytes (halt c.walk-walker.result) (items_left c.walk-walker.result) (Ok ks) c.walk-walker.ensures.stop c.walk-walker.ensures.items c.in_ok-expect_header_of.ensures.met in
     let h = header_ok (stop bytes) o files (items_of bytes) ks met in
     let order : InOrder AtMagic (items_of bytes) = (read_front bytes (λ i. let b = c.type_inv.certificate i in omega arith)).0 in
     skips_place o files (stop bytes) (stop bytes) OtherJob OtherInput (items_of bytes) h.0 ks order h.1 h.2
 
 pub check_rest-requires-clause-few : goal.check_rest-requires-clause-few
 check_rest-requires-clause-few g c κs within =
-    let few = header_few (halt c.walk-walker.result) c.args.request.now c.args.input.now (items_left c.walk-walker.result) (items_left c.expect_header.new.walker) c.in_ok-expect_header.ensures.met in
+    let few = header_few (halt c.walk-walker.result) c.args.request.now c.args.input.now (items_left c.walk-walker.result) (items_left c.expect_header_of.new.walker) c.in_ok-expect_header_of.ensures.met in
     omega (arith, few, c.walk-walker.ensures.few)
 
 pub returns : goal.returns
@@ -53,6 +53,6 @@ returns g c =
     let files = c.args.input.now in
     let bytes = c.args.certificate.now in
     let outputs : List (List ℕ) = contents c.args.outputs.now in
-    let ks : List Item = items_left c.expect_header.new.walker in
-    let met = header_is o files bytes (halt c.walk-walker.result) (items_left c.walk-walker.result) (Ok ks) c.walk-walker.ensures.stop c.walk-walker.ensures.items c.in_ok-expect_header.ensures.met in
-    rest_verdict o files outputs bytes ks (halt c.expect_header.new.walker) c.check_rest.result (as_many c.args.outputs.now c.parts.result o.parts c.if-outputs-parts.false c.parts.ensures.same) met (c.expect_header.ensures.stop ∙ c.walk-walker.ensures.stop) c.check_rest.ensures
+    let ks : List Item = items_left c.expect_header_of.new.walker in
+    let met = header_is o files bytes (halt c.walk-walker.result) (items_left c.walk-walker.result) (Ok ks) c.walk-walker.ensures.stop c.walk-walker.ensures.items c.in_ok-expect_header_of.ensures.met in
+    rest_verdict o files outputs bytes ks (halt c.expect_header_of.new.walker) c.check_rest.result (as_many c.args.outputs.now c.parts.result o.parts c.if-outputs-parts.false c.parts.ensures.same) met (c.in_ok-expect_header_of.ensures.stop ∙ c.walk-walker.ensures.stop) c.check_rest.ensures
