@@ -1,0 +1,29 @@
+-- Which cursor is least, and what is left of each.
+use Rattle.std.proofs.Common.{◌≡◌, ℕ, ◌+◌, ◌<◌, ◌≤◌, List, [], ◌∷◌, length, get_or, drop, refl, ap, sym, arith, Option, map}
+use Rattle.std.proofs.lemmas.List.{at_drop_more, at_drop_all}
+use Rattle.mr_jobs.specs.JobSpec.{JobSpec}
+use Rattle.mr_shards.specs.declared.cursor.Cursor.{Cursor}
+use Rattle.mr_shards.specs.declared.line.Line.{Line}
+use Rattle.mr_shards.specs.Merged.{moved_group}
+use Rattle.mr_shards.specs.Lines.{groups_in}
+use Rattle.mr_shards.specs.Cursors.{least_from, lesser}
+use Rattle.mr_shards.proofs.ReadingLemmas.{lines-none}
+use Rattle.mr_shards.specs.Lines.{group_in}
+
+pub least-more : (least : Option (ℕ × Line)) (at : ℕ) (cs : List Cursor) (d : Cursor) → at < length cs
+    → least_from least at (drop at cs) ≡ least_from (lesser least at (get_or cs at d).head) (at + 1) (drop (at + 1) cs)
+unfolding least_from
+least-more least at cs d h = at_drop_more (least_from least at) cs at d h
+
+pub least-all : (least : Option (ℕ × Line)) (at : ℕ) (cs : List Cursor) → length cs ≤ at → least_from least at (drop at cs) ≡ least
+unfolding least_from
+least-all least at cs h = at_drop_all (least_from least at) cs at h
+
+-- no bytes, no groups
+pub none-left : (job : JobSpec) (text : List ℕ) (n : ℕ) → length text ≡ 0 → [] ≡ map (moved_group n) (groups_in job text)
+none-left job [] n h = sym (ap (λ ls. map (moved_group n) (map (group_in job) ls)) lines-none)
+none-left job (b ∷ bs) n h = absurd (omega (arith, h))
+
+pub no_bytes : (text : List ℕ) → length text ≡ 0 → text ≡ []
+no_bytes [] h = refl
+no_bytes (b ∷ bs) h = absurd (omega (arith, h))

@@ -1,0 +1,15 @@
+pub mod EmittedLaws
+pub mod MergeLemmas
+pub mod MergedLaws
+pub mod ReadingLemmas
+pub mod ShardLaws
+pub mod SkipLaws
+pub mod LineLemmas
+pub mod CursorLemmas
+pub mod StepLemmas
+pub mod LoopLemmas
+pub mod PairLemmas
+pub mod WholeLaws
+pub mod RefusedLemmas
+pub mod TotalLemmas
+pub mod JudgedLaws

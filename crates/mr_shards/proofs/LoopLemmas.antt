@@ -1,0 +1,256 @@
+-- What the merge keeps: what is written, with what waits and what is left, is the text of the merged parts.
+use Rattle.std.proofs.Common.{Bool, ◌≡◌, ℕ, ◌+◌, ◌<◌, ◌++◌, List, [], ◌∷◌, length, get_or, take, drop, refl, ap, sym, ◌∙◌, subst, inl, inr, arith, Option, None, Some, map}
+use Rattle.std.proofs.lemmas.List.{append_assoc, map-append, take_more, drop_more, length-append}
+use Rattle.std.proofs.lemmas.Cmp.{nat_list_cmp_total}
+use Rattle.std.specs.List.{AllByRecursion, flat_map}
+use Rattle.std.specs.Ordering.{match_ordering}
+use Rattle.std.specs.declared.cmp.Ordering.{Ordering}
+use Rattle.std.specs.declared.cmp.Ordering.TheVariants.{Less, Equal, Greater}
+use Rattle.mr_bytes.specs.Lists.{Has, Rises}
+use Rattle.mr_bytes.specs.Order.{key_order}
+use Rattle.mr_jobs.specs.JobSpec.{JobSpec, WordCount, LinesWith, Resources}
+use Rattle.mr_reduce.specs.Text.{place_line}
+use Rattle.mr_sequential.proofs.KeyLaws.{key_tie, with_key-cases}
+use Rattle.mr_bytes.proofs.ListLaws.{Has-all, all_from_Has}
+use Rattle.mr_sequential.proofs.SourceLemmas.{flat_map-append}
+use Rattle.mr_shards.specs.declared.cursor.Cursor.{Cursor}
+use Rattle.mr_shards.specs.declared.line.Line.{Line}
+use Rattle.mr_shards.specs.declared.line.Tally.{Tally}
+use Rattle.mr_shards.specs.declared.line.Tally.TheVariants.{Total, Place}
+use Rattle.mr_shards.specs.declared.merge.Output.{Output}
+use Rattle.mr_shards.specs.Merged.{Group, group_text, texts, joined, with_group, merged, merged_parts, moved_group}
+use Rattle.mr_shards.specs.Lines.{groups_in, group_in, NoneFalls}
+use Rattle.mr_shards.specs.Refused.{AreRead, IsRest}
+use Rattle.mr_shards.specs.Views.{group_of, IsFor, IsPlace, IsSameKind}
+use Rattle.mr_shards.specs.Cursors.{headed, left, IsLineFor, IsHead, IsHeadFor, Goes, with_waiting}
+use Rattle.mr_shards.specs.Outputs.{parts_in, moved_parts, Stands, AreOpened}
+use Rattle.mr_shards.proofs.MergedLaws.{keys, with_group-keys}
+use Rattle.mr_shards.proofs.MergeLemmas.{merged_all, merged_all-rise, with_group-joined, in_front, parts-at_once}
+use Rattle.mr_shards.proofs.ReadingLemmas.{lines-none}
+use Rattle.mr_shards.proofs.TotalLemmas.{IsWithin, within-first, within-step}
+use Rattle.mr_shards.proofs.StepLemmas.{IsLeast, NotLess, NoneBefore, less-not, not_less-differs, turned, IsBest, Step, step-kinds, step-for, step-stands, step-pull, step-behind, step-at, merged-none_before}
+
+-- ---- the line that waits
+
+abbrev pub IsBelow : JobSpec → Option Line → List Cursor → Type 0
+IsBelow job None cs = Unit {0}
+IsBelow job (Some w) cs = AllByRecursion (NoneBefore w.key.now) (map (left job) cs)
+
+kind-same : (job : JobSpec) (t u : Tally) → IsSameKind t u → IsFor job t → IsFor job u
+kind-same (WordCount keep_case) (Total m) (Total n) s f = tt
+kind-same (WordCount keep_case) (Total m) (Place file offset) s f = absurd s
+kind-same (WordCount keep_case) (Place file offset) u s f = absurd f
+kind-same (LinesWith literal fold) (Total m) u s f = absurd f
+kind-same (LinesWith literal fold) (Place file offset) (Total n) s f = absurd s
+kind-same (LinesWith literal fold) (Place file offset) (Place file' offset') s f = tt
+kind-same Resources (Total m) (Total n) s f = tt
+kind-same Resources (Total m) (Place file offset) s f = absurd s
+kind-same Resources (Place file offset) u s f = absurd f
+
+joined-text : (literal : List ℕ) (fold : Bool) (g h : Group) → g.key ≡ h.key
+    → group_text (LinesWith literal fold) (joined g h) ≡ group_text (LinesWith literal fold) g ++ group_text (LinesWith literal fold) h
+joined-text literal fold g h e =
+    flat_map-append (place_line g.key) g.values h.values ∙ ap (λ (k : List ℕ). flat_map (place_line g.key) g.values ++ flat_map (place_line k) h.values) e
+
+-- places are written one behind the other, whatever their groups
+front-places : (literal : List ℕ) (fold : Bool) (g : Group) (gs : List Group) → AllByRecursion (λ k. NotLess k g.key) (keys gs)
+    → texts (LinesWith literal fold) (with_group g gs) ≡ group_text (LinesWith literal fold) g ++ texts (LinesWith literal fold) gs
+front-places literal fold g [] all = refl
+front-places literal fold g (h ∷ hs) all = by (key_order g.key h.key) refl
+  where
+    by : (o : Ordering) → key_order g.key h.key ≡ o
+        → texts (LinesWith literal fold) (match_ordering o (g ∷ h ∷ hs) (joined g h ∷ hs) (h ∷ with_group g hs))
+        ≡ group_text (LinesWith literal fold) g ++ (group_text (LinesWith literal fold) h ++ texts (LinesWith literal fold) hs)
+    by Less e = refl
+    by Equal e =
+        ap (λ (l : List ℕ). l ++ texts (LinesWith literal fold) hs) (joined-text literal fold g h (key_tie g.key h.key e))
+        ∙ append_assoc (group_text (LinesWith literal fold) g) (group_text (LinesWith literal fold) h) (texts (LinesWith literal fold) hs)
+    by Greater e = absurd (all.0 (turned g.key h.key e))
+
+front-place : (job : JobSpec) (t : Tally) (g : Group) (gs : List Group) → IsFor job t → IsPlace t → AllByRecursion (λ k. NotLess k g.key) (keys gs)
+    → texts job (with_group g gs) ≡ group_text job g ++ texts job gs
+front-place job (Total n) g gs f p all = absurd p
+front-place (WordCount keep_case) (Place file offset) g gs f p all = absurd f
+front-place (LinesWith literal fold) (Place file offset) g gs f p all = front-places literal fold g gs all
+front-place Resources (Place file offset) g gs f p all = absurd f
+
+-- keys of a group and those behind it
+with_group-behind : (k : List ℕ) (g : Group) (gs : List Group) (P : List ℕ → Type 0) → P g.key → AllByRecursion P (keys gs) → AllByRecursion P (keys (with_group g gs))
+with_group-behind k g gs P here all =
+    all_from_Has P (keys (with_group g gs)) (λ q h.
+    elim (with_key-cases g.key (keys gs) q (subst (λ (l : List (List ℕ)). Has l q) (with_group-keys g gs) h)) [
+      | inl e ↦ subst P e here
+      | inr old ↦ Has-all P (keys gs) q all old
+    ])
+
+-- q before w, and q not before the line: the line is before w
+less-back : (w q k : List ℕ) → NotLess q k → key_order q w ≡ Less → key_order k w ≡ Less
+less-back w q k f less = by (key_order k q) refl
+  where
+    by : (o : Ordering) → key_order k q ≡ o → key_order k w ≡ Less
+    by Less e = nat_list_cmp_total.trans k q w e less
+    by Equal e = ap (λ (j : List ℕ). key_order j w) (key_tie k q e) ∙ less
+    by Greater e = absurd (f (turned k q e))
+
+-- what a line does to what is written
+module _ (job : JobSpec) (line l : Line) (gs : List Group) (old new : List ℕ) where
+  pub goes-text : (waiting : Option Line) → Goes job waiting line l old new → IsLineFor job waiting → IsFor job line.tally
+      → Rises key_order (keys gs) → AllByRecursion (λ k. NotLess k line.key.now) (keys gs) → ((w : Line) → waiting ≡ Some w → NotLess line.key.now w.key.now)
+      → new ++ texts job (with_group (group_of l) gs) ≡ old ++ texts job (with_waiting waiting (with_group (group_of line) gs))
+  goes-text None g wf lf rise behind below =
+      λ i. g.1 i ++ texts job (with_group (group_of (g.0 i)) gs)
+  goes-text (Some w) (inl g) wf lf rise behind below =
+      ap (λ (o : List ℕ). o ++ texts job (with_group (group_of l) gs)) g.3
+      ∙ ap (λ (h : Group). old ++ texts job (with_group h gs)) g.1
+      ∙ ap (λ (hs : List Group). old ++ texts job hs) (sym (with_group-joined (group_of w) (group_of line) gs g.0 rise))
+  goes-text (Some w) (inr g) wf lf rise behind below =
+      let here : NotLess line.key.now w.key.now = below w refl in
+      let all : AllByRecursion (λ k. NotLess k w.key.now) (keys (with_group (group_of line) gs)) =
+      with_group-behind w.key.now (group_of line) gs (λ k. NotLess k w.key.now) here
+      (all_from_Has (λ k. NotLess k w.key.now) (keys gs) (λ q h. (let f : NotLess q line.key.now = Has-all (λ k. NotLess k line.key.now) (keys gs) q behind h in
+      λ less. here (less-back w.key.now q line.key.now f less)))) in
+      let wrote : texts job (with_group (group_of w) (with_group (group_of line) gs)) ≡ group_text job (group_of w) ++ texts job (with_group (group_of line) gs) =
+      elim g.2 [
+        | inl ne ↦
+            (let less : key_order w.key.now line.key.now ≡ Less = not_less-differs line.key.now w.key.now here ne in
+            ap (texts job) (in_front (group_of w) (with_group (group_of line) gs)
+            (with_group-behind w.key.now (group_of line) gs (λ k. key_order w.key.now k ≡ Less) less
+            (all_from_Has (λ k. key_order w.key.now k ≡ Less) (keys gs) (λ q h. less-not w.key.now line.key.now q less (Has-all (λ k. NotLess k line.key.now) (keys gs) q behind h))))))
+        | inr places ↦ elim places [
+          | inl p ↦ front-place job w.tally (group_of w) (with_group (group_of line) gs) wf p all
+          | inr p ↦ front-place job line.tally (group_of w) (with_group (group_of line) gs) lf p all
+        ]
+      ] in
+      ap (λ (o : List ℕ). o ++ texts job (with_group (group_of l) gs)) g.1
+      ∙ append_assoc old (group_text job (group_of w)) (texts job (with_group (group_of l) gs))
+      ∙ ap (λ (q : Line). old ++ (group_text job (group_of w) ++ texts job (with_group (group_of q) gs))) g.0
+      ∙ ap (λ (t : List ℕ). old ++ t) (sym wrote)
+
+  pub goes-key : (waiting : Option Line) → Goes job waiting line l old new → l.key.now ≡ line.key.now
+  goes-key None g = ap (λ (q : Line). q.key.now) g.0
+  goes-key (Some w) (inl g) = ap (λ (h : Group). h.key) g.1 ∙ g.0
+  goes-key (Some w) (inr g) = ap (λ (q : Line). q.key.now) g.0
+
+  pub goes-for : (waiting : Option Line) → Goes job waiting line l old new → IsLineFor job waiting → IsFor job line.tally → IsFor job l.tally
+  goes-for None g wf lf = subst (λ (q : Line). IsFor job q.tally) (sym g.0) lf
+  goes-for (Some w) (inl g) wf lf = kind-same job w.tally l.tally g.2 wf
+  goes-for (Some w) (inr g) wf lf = subst (λ (q : Line). IsFor job q.tally) (sym g.0) lf
+
+-- ---- what the loop keeps
+
+pub record Told (job : JobSpec) (outputs : List Output) (cursors : List Cursor) (waiting : Option Line) (out : List ℕ) : Type 0 where
+  pub stands : AllByRecursion (λ (o : Output). IsRest job None o.text.now) outputs
+  pub text : out ++ texts job (with_waiting waiting (merged_all (map (left job) cursors))) ≡ texts job (merged_parts (parts_in job outputs))
+  pub below : IsBelow job waiting cursors
+
+pub record Kept (job : JobSpec) (outputs : List Output) (cursors : List Cursor) (waiting : Option Line) (out : List ℕ) : Type 0 where
+  pub kinds : AllByRecursion (IsHeadFor job) cursors
+  pub waits : IsLineFor job waiting
+  pub read : AreRead job cursors outputs
+  pub few : IsWithin job outputs cursors waiting
+  pub told : AllByRecursion (Stands job) cursors → Told job outputs cursors waiting out
+
+below-some : (job : JobSpec) (waiting : Option Line) (cs : List Cursor) (w : Line) → waiting ≡ Some w → IsBelow job waiting cs → AllByRecursion (NoneBefore w.key.now) (map (left job) cs)
+below-some job waiting cs w e b = subst (λ (o : Option Line). IsBelow job o cs) e b
+
+pub kept-step : (job : JobSpec) (outputs : List Output) (old new : List Cursor) (waiting : Option Line) (line l : Line) (out out' : List ℕ)
+    → Step job old new line → AreRead job new outputs → Goes job waiting line l out out' → Kept job outputs old waiting out → Kept job outputs new (Some l) out'
+kept-step job outputs old new waiting line l out out' s read g k =
+    let lf = step-for job old new line s k.kinds in
+    let M : List (List Group) = map (left job) new in
+    record {
+      kinds = step-kinds job old new line s k.kinds;
+      read = read;
+      few = within-step job outputs old new waiting line l out out' s g k.few;
+      waits = goes-for job line l (merged_all M) out out' waiting g k.waits lf;
+      told = λ st.
+          (let t = k.told (step-stands job old new line s st) in
+          let behind = step-behind job old new line s st in record {
+            stands = t.stands;
+            text = goes-text job line l (merged_all M) out out' waiting g k.waits lf (merged_all-rise M) (merged-none_before line.key.now M behind)
+                (λ w e. step-at job old new line s w.key.now (below-some job waiting old w e t.below))
+                ∙ ap (λ (gs : List Group). out ++ texts job (with_waiting waiting gs)) (sym (step-pull job old new line s st)) ∙ t.text;
+            below = subst (λ (q : List ℕ). AllByRecursion (NoneBefore q) M) (sym (goes-key job line l (merged_all M) out out' waiting g)) behind;
+          });
+    }
+
+-- ---- the ends of the loop
+
+opened-all : (job : JobSpec) (cs : List Cursor) (os : List Output) → AreOpened job cs os → AllByRecursion (Stands job) cs → AllByRecursion (λ (o : Output). IsRest job None o.text.now) os
+opened-all job [] [] o s = tt
+opened-all job [] (x ∷ os) o s = absurd o
+opened-all job (c ∷ cs) [] o s = absurd o
+opened-all job (c ∷ cs) (x ∷ os) o s = (o.0 s.0, opened-all job cs os o.1 s.1)
+
+pub kept-first : (job : JobSpec) (outputs : List Output) (cs : List Cursor) (out : List ℕ) → AllByRecursion (IsHeadFor job) cs → AreRead job cs outputs → AreOpened job cs outputs
+    → map (left job) cs ≡ moved_parts 0 (parts_in job outputs) → out ≡ [] → Kept job outputs cs None out
+kept-first job outputs cs out kinds read opened lefts none = record {
+  kinds = kinds;
+  waits = tt;
+  read = read;
+  few = within-first job outputs cs lefts;
+  told = λ st. record {
+    stands = opened-all job cs outputs opened st;
+    text = ap (λ (o : List ℕ). o ++ texts job (merged_all (map (left job) cs))) none
+        ∙ ap (λ (gss : List (List Group)). texts job (merged_all gss)) lefts ∙ ap (texts job) (sym (parts-at_once (parts_in job outputs)));
+    below = tt;
+  };
+}
+
+no-groups : (job : JobSpec) → groups_in job [] ≡ []
+no-groups job = ap (map (group_in job)) lines-none
+
+stands-end : (job : JobSpec) (o : Option Line) (rest : List ℕ) → o ≡ None → IsHead job o rest → rest ≡ []
+stands-end job None rest e h = h
+stands-end job (Some l) rest e h = absurd (cc e)
+
+all-stand : (job : JobSpec) (cs : List Cursor) → AllByRecursion (λ c. c.head ≡ None) cs → AllByRecursion (IsHeadFor job) cs → AllByRecursion (Stands job) cs
+all-stand job [] ends kinds = tt
+all-stand job (c ∷ cs) ends kinds =
+    let empty : c.rest.now ≡ [] = stands-end job c.head c.rest.now ends.0 kinds.0 in (
+      record {
+        rest = record { groups = []; text_is = empty; lines = tt; in_turn = tt };
+        in_order = subst (λ (o : Option Line). NoneFalls (headed o (map (moved_group c.before) (groups_in job c.rest.now)))) (sym ends.0) tt;
+      },
+      all-stand job cs ends.1 kinds.1,
+    )
+
+none-left : (job : JobSpec) (cs : List Cursor) → AllByRecursion (λ c. c.head ≡ None) cs → merged_all (map (left job) cs) ≡ []
+none-left job [] ends = refl
+none-left job (c ∷ cs) ends =
+    ap (λ (o : Option Line). merged (headed o (map (moved_group c.before) (groups_in job c.rest.now))) (merged_all (map (left job) cs))) ends.0 ∙ none-left job cs ends.1
+
+pub record Ends (job : JobSpec) (outputs : List Output) (waiting : Option Line) (out : List ℕ) : Type 0 where
+  pub stands : AllByRecursion (λ (o : Output). IsRest job None o.text.now) outputs
+  pub text : out ++ texts job (with_waiting waiting []) ≡ texts job (merged_parts (parts_in job outputs))
+
+pub kept-end : (job : JobSpec) (outputs : List Output) (cs : List Cursor) (waiting : Option Line) (out : List ℕ) → IsBest cs None → Kept job outputs cs waiting out → Ends job outputs waiting out
+kept-end job outputs cs waiting out ends k =
+    let t = k.told (all-stand job cs ends k.kinds) in
+    record { stands = t.stands; text = ap (λ (gs : List Group). out ++ texts job (with_waiting waiting gs)) (sym (none-left job cs ends)) ∙ t.text }
+
+-- ---- opening
+
+opened-push : (job : JobSpec) (cs : List Cursor) (os : List Output) (c : Cursor) (o : Output) → AreOpened job cs os → (Stands job c → IsRest job None o.text.now) → AreOpened job (cs ++ c ∷ []) (os ++ o ∷ [])
+opened-push job [] [] c o a f = (f, tt)
+opened-push job [] (x ∷ os) c o a f = absurd a
+opened-push job (d ∷ cs) [] c o a f = absurd a
+opened-push job (d ∷ cs) (x ∷ os) c o a f = (a.0, opened-push job cs os c o a.1 f)
+
+pub opened-more : (job : JobSpec) (cs : List Cursor) (os : List Output) (i : ℕ) (d : Output) (c : Cursor) → i < length os → AreOpened job cs (take i os)
+    → (Stands job c → IsRest job None (get_or os i d).text.now) → AreOpened job (cs ++ c ∷ []) (take (i + 1) os)
+opened-more job cs os i d c h a f = subst (AreOpened job (cs ++ c ∷ [])) (sym (take_more os i d h)) (opened-push job cs (take i os) c (get_or os i d) a f)
+
+pub lefts-more : (job : JobSpec) (cs : List Cursor) (os : List Output) (i before next : ℕ) (d : Output) (c : Cursor) (all : List (List Group)) → i < length os
+    → map (left job) cs ++ moved_parts before (parts_in job (drop i os)) ≡ all → left job c ≡ map (moved_group before) (groups_in job (get_or os i d).text.now)
+    → next ≡ before + (get_or os i d).files
+    → map (left job) (cs ++ c ∷ []) ++ moved_parts next (parts_in job (drop (i + 1) os)) ≡ all
+lefts-more job cs os i before next d c all h e here n =
+    ap (λ (l : List (List Group)). l ++ moved_parts next (parts_in job (drop (i + 1) os))) (map-append (left job) cs (c ∷ []))
+    ∙ append_assoc (map (left job) cs) (left job c ∷ []) (moved_parts next (parts_in job (drop (i + 1) os)))
+    ∙ ap (λ (gs : List Group). map (left job) cs ++ gs ∷ moved_parts next (parts_in job (drop (i + 1) os))) here
+    ∙ ap (λ (k : ℕ). map (left job) cs ++ map (moved_group before) (groups_in job (get_or os i d).text.now) ∷ moved_parts k (parts_in job (drop (i + 1) os))) n
+    ∙ ap (λ (l : List Output). map (left job) cs ++ moved_parts before (parts_in job l)) (sym (drop_more os i d h)) ∙ e
+
+pub least-within : (cs : List Cursor) (at : ℕ) (line : Line) → IsLeast cs at line → at < length cs
+least-within cs at line b = omega (arith, ap length b.is, length-append b.front (b.one ∷ b.back), b.place)

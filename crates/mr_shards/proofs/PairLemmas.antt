@@ -1,0 +1,177 @@
+-- What the keys and values of all emitted pairs are.
+use Rattle.std.proofs.Common.{◌≡◌, ◌≢◌, ℕ, zero, suc, ◌+◌, ◌-◌, ◌<◌, ◌^◌, ◌++◌, List, [], ◌∷◌, length, take, drop, refl, ap, subst, inl, inr, arith, Bool, true, false, cond, Option, None, Some, map, All}
+use Rattle.std.proofs.lemmas.List.Elements.{recursion_from_All}
+use Rattle.std.specs.List.{AllByRecursion, flat_map}
+use Rattle.mr_bytes.specs.Bytes.{fold_byte, folded, is_upper}
+use Rattle.mr_bytes.specs.Lists.{Has}
+use Rattle.mr_bytes.specs.Words.{word_spans, span_bytes}
+use Rattle.mr_bytes.specs.declared.RecordName.{RecordName}
+use Rattle.mr_bytes.specs.declared.Span.{Span}
+use Rattle.mr_bytes.specs.declared.Value.{Value}
+use Rattle.mr_bytes.specs.declared.Value.TheVariants.{One, At}
+use Rattle.mr_input.specs.Files.{nth_file}
+use Rattle.mr_jobs.specs.JobSpec.{JobSpec, RequestSpec, WordCount, LinesWith, Resources}
+use Rattle.mr_jobs.specs.Emissions.{Emission, emissions, word_key, word_emission, one_for}
+use Rattle.mr_jobs.specs.Literal.{holds}
+use Rattle.mr_bytes.specs.Cut.{Lacks}
+use Rattle.mr_jobs.specs.Url.{IsRequestFor, url_of}
+use Rattle.mr_jobs.proofs.UrlLemmas.{url_by_parts}
+use Rattle.mr_records.specs.Records.{Record, records}
+use Rattle.mr_records.proofs.LawLemmas.{no_line_feeds}
+use Rattle.mr_splits.specs.Belongs.{Belongs}
+use Rattle.mr_splits.specs.Named.{NamedRecord, named_records, is_left_out}
+use Rattle.mr_splits.proofs.BelongLemmas.{records-belong}
+use Rattle.mr_splits.proofs.JoinedLemmas.{named-are-records}
+use Rattle.mr_splits.specs.Laws.{record_of}
+use Rattle.mr_bytes.specs.Pairs.{Triple}
+use Rattle.mr_sequential.specs.Emitted.{placed_from, record_triples, emitted}
+use Rattle.mr_bytes.proofs.ListLaws.{Has-all, Has-flat_map_from, Has-map}
+use Rattle.mr_shards.specs.Shards.{Shard}
+use Rattle.mr_shards.specs.Outputs.{IsJudged}
+use Rattle.mr_shards.proofs.LineLemmas.{Lacks-front}
+
+Lacks-behind : (b : ℕ) (xs ys : List ℕ) → Lacks b (xs ++ ys) → Lacks b ys
+Lacks-behind b [] ys h = h
+Lacks-behind b (x ∷ xs) ys h = Lacks-behind b xs ys h.1
+
+Lacks-take : (b n : ℕ) (xs : List ℕ) → Lacks b xs → Lacks b (take n xs)
+Lacks-take b zero xs h = tt
+Lacks-take b (suc n) [] h = tt
+Lacks-take b (suc n) (x ∷ xs) h = (h.0, Lacks-take b n xs h.1)
+
+Lacks-drop : (b n : ℕ) (xs : List ℕ) → Lacks b xs → Lacks b (drop n xs)
+Lacks-drop b zero xs h = h
+Lacks-drop b (suc n) [] h = tt
+Lacks-drop b (suc n) (x ∷ xs) h = Lacks-drop b n xs h.1
+
+-- folding makes no line feed
+fold-other : (b : ℕ) → b ≢ 10 → fold_byte b ≢ 10
+fold-other b ne = by (is_upper b)
+  where
+    by : (t : Bool) → cond t (b + 32) b ≢ 10
+    by true e = omega (arith, e)
+    by false e = ne e
+
+Lacks-folded : (xs : List ℕ) → Lacks 10 xs → Lacks 10 (folded xs)
+Lacks-folded [] h = tt
+Lacks-folded (x ∷ xs) h = (fold-other x h.0, Lacks-folded xs h.1)
+
+Lacks-word : (keep_case : Bool) (xs : List ℕ) → Lacks 10 xs → Lacks 10 (word_key keep_case xs)
+Lacks-word true xs h = h
+Lacks-word false xs h = Lacks-folded xs h
+
+-- ---- what a record emits
+
+abbrev pub IsValueOf : JobSpec → ℕ → ℕ → Value → Type 0
+IsValueOf (WordCount keep_case) file start v = v ≡ One
+IsValueOf (LinesWith literal fold) file start v = v ≡ At file start
+IsValueOf Resources file start v = v ≡ One
+
+pub record IsPairOf (job : JobSpec) (file start : ℕ) (key : List ℕ) (value : Value) : Type 0 where
+  pub clear : Lacks 10 key
+  pub value_is : IsValueOf job file start value
+
+words-pairs : (keep_case : Bool) (file start : ℕ) (line : List ℕ) (ws : List Span) (e : Emission) → Lacks 10 line → Has (map (word_emission keep_case line) ws) e → IsPairOf (WordCount keep_case) file start e.0 e.1
+words-pairs keep_case file start line [] e clear h = absurd h
+words-pairs keep_case file start line (w ∷ ws) e clear (inl is) =
+    let here : IsPairOf (WordCount keep_case) file start (word_key keep_case (span_bytes line w)) One =
+    record { clear = Lacks-word keep_case (span_bytes line w) (Lacks-take 10 (w.end - w.start) (drop w.start line) (Lacks-drop 10 w.start line clear)); value_is = refl } in
+    subst (λ (f : Emission). IsPairOf (WordCount keep_case) file start f.0 f.1) is here
+words-pairs keep_case file start line (w ∷ ws) e clear (inr h) = words-pairs keep_case file start line ws e clear h
+
+url-clear : (line key : List ℕ) → Lacks 10 line → url_of line ≡ Some key → Lacks 10 key
+url-clear line key clear is =
+    let p : IsRequestFor line key = (url_by_parts line key).0 is in
+    let whole = subst (Lacks 10) p.line_is clear in
+    let request = Lacks-front 10 _ (34 ∷ p.rest) (Lacks-behind 10 p.front (34 ∷ _) whole).1 in
+    Lacks-front 10 key p.after (Lacks-behind 10 p.before (32 ∷ (key ++ p.after)) (subst (Lacks 10) p.request_is request)).1
+
+emission-pairs : (job : JobSpec) (file start : ℕ) (line : List ℕ) (e : Emission) → Lacks 10 line → Has (emissions job file start line) e → IsPairOf job file start e.0 e.1
+emission-pairs (WordCount keep_case) file start line e clear h = words-pairs keep_case file start line (word_spans line) e clear h
+emission-pairs (LinesWith literal fold) file start line e clear h = by (holds fold line literal) h
+  where
+    by : (b : Bool) → Has (cond b ((line, At file start) ∷ []) []) e → IsPairOf (LinesWith literal fold) file start e.0 e.1
+    by true (inl is) = subst (λ (f : Emission). IsPairOf (LinesWith literal fold) file start f.0 f.1) is (record { clear = clear; value_is = refl })
+    by true (inr none) = absurd none
+    by false none = absurd none
+emission-pairs Resources file start line e clear h = by (url_of line) refl h
+  where
+    by : (o : Option (List ℕ)) → url_of line ≡ o → Has (one_for o) e → IsPairOf Resources file start e.0 e.1
+    by None is none = absurd none
+    by (Some key) is (inl at) = subst (λ (f : Emission). IsPairOf Resources file start f.0 f.1) at (record { clear = url-clear line key clear is; value_is = refl })
+    by (Some key) is (inr none) = absurd none
+
+placed-from : (name : RecordName) (place : ℕ) (es : List Emission) (t : Triple) → Has (placed_from name place es) t → (e : Emission) × Has es e × (e.0 ≡ t.key) × (e.1 ≡ t.value)
+unfolding placed_from
+placed-from name place [] t h = absurd h
+placed-from name place (e ∷ es) t (inl is) = (e, inl refl, ap (λ (u : Triple). u.key) is, ap (λ (u : Triple). u.value) is)
+placed-from name place (e ∷ es) t (inr h) = let r = placed-from name (place + 1) es t h in (r.0, inr r.1, r.2, r.3)
+
+-- ---- records
+
+Lacks-all : (b : ℕ) (xs : List ℕ) → AllByRecursion (λ x. x ≢ b) xs → Lacks b xs
+Lacks-all b [] h = tt
+Lacks-all b (x ∷ xs) h = (h.0, Lacks-all b xs h.1)
+
+file-small : (files : List (List ℕ)) (i : ℕ) → AllByRecursion (λ f. length f < 2 ^ 64) files → length (nth_file files i) < 2 ^ 64
+file-small [] i all = omega arith
+file-small (f ∷ fs) zero all = all.0
+file-small (f ∷ fs) (suc i) all = file-small fs i all.1
+
+-- a record of the input: no line feed, and its file and start can be counted
+record IsFineRecord (r : NamedRecord) : Type 0 where
+  pub clear : Lacks 10 r.bytes
+  pub file : r.file < 2 ^ 64
+  pub start : r.start < 2 ^ 64
+
+-- a record by its name is one of a file's
+record-bytes : (size : ℕ) (files : List (List ℕ)) (r : NamedRecord) → Has (named_records size files) r → Lacks 10 r.bytes
+record-bytes size files r h =
+    let one : Has (flat_map records files) (record_of r) = subst (λ (rs : List Record). Has rs (record_of r)) (named-are-records size files) (Has-map record_of (named_records size files) r h) in
+    let w = Has-flat_map_from records files (record_of r) one in
+    let each = recursion_from_All (λ (q : Record). All (λ x. x ≢ 10) q.bytes) (records w.0) (no_line_feeds w.0) in
+    let bytes : All (λ x. x ≢ 10) r.bytes = Has-all (λ (q : Record). All (λ x. x ≢ 10) q.bytes) (records w.0) (record_of r) each w.2 in
+    Lacks-all 10 r.bytes (recursion_from_All (λ x. x ≢ 10) r.bytes bytes)
+
+record-fine : (size : ℕ) (files : List (List ℕ)) (r : NamedRecord) → length files < 2 ^ 64 → AllByRecursion (λ f. length f < 2 ^ 64) files
+    → Has (named_records size files) r → Belongs size files r → IsFineRecord r
+record-fine size files r few small h b = record {
+  clear = record-bytes size files r h;
+  file = omega (arith, few, b.split.file, b.file);
+  start = omega (arith, b.before, b.split.end, file-small files b.place.file small);
+}
+
+-- ---- all pairs
+
+-- a pair's key and value, where the value can be counted
+abbrev pub IsCounted : JobSpec → Value → Type 0
+IsCounted (WordCount keep_case) v = v ≡ One
+IsCounted (LinesWith literal fold) v = (file : ℕ) × (offset : ℕ) × (file < 2 ^ 64) × (offset < 2 ^ 64) × (v ≡ At file offset)
+IsCounted Resources v = v ≡ One
+
+pub record IsFinePair (job : JobSpec) (t : Triple) : Type 0 where
+  pub clear : Lacks 10 t.key
+  pub value_is : IsCounted job t.value
+
+counted : (job : JobSpec) (file start : ℕ) (v : Value) → file < 2 ^ 64 → start < 2 ^ 64 → IsValueOf job file start v → IsCounted job v
+counted (WordCount keep_case) file start v f s is = is
+counted (LinesWith literal fold) file start v f s is = (file, start, f, s, is)
+counted Resources file start v f s is = is
+
+record-pairs : (job : JobSpec) (skips : List RecordName) (r : NamedRecord) (t : Triple) → IsFineRecord r → Has (record_triples job skips r) t → IsFinePair job t
+record-pairs job skips r t fine h = by (is_left_out skips r.name) h
+  where
+    by : (b : Bool) → Has (cond b [] (placed_from r.name 0 (emissions job r.file r.start r.bytes))) t → IsFinePair job t
+    by true none = absurd none
+    by false there =
+        let w = placed-from r.name 0 (emissions job r.file r.start r.bytes) t there in
+        let p : IsPairOf job r.file r.start w.0.0 w.0.1 = emission-pairs job r.file r.start r.bytes w.0 fine.clear w.1 in
+        record { clear = subst (Lacks 10) w.2 p.clear; value_is = subst (IsCounted job) w.3 (counted job r.file r.start w.0.1 fine.file fine.start p.value_is) }
+
+pub pairs-fine : (request : RequestSpec) (s : Shard) (t : Triple) → 0 < request.split → IsJudged request s → Has (emitted request.job request.split s.files s.skips) t → IsFinePair request.job t
+pairs-fine request s t some judged h =
+    let w = Has-flat_map_from (record_triples request.job s.skips) (named_records request.split s.files) t h in
+    let b : Belongs request.split s.files w.0 =
+    Has-all (Belongs request.split s.files) (named_records request.split s.files) w.0
+    (recursion_from_All (Belongs request.split s.files) (named_records request.split s.files) (records-belong request.split s.files some)) w.1 in
+    record-pairs request.job s.skips w.0 t (record-fine request.split s.files w.0 judged.few_files judged.small_files w.1 b) w.2

@@ -1,0 +1,145 @@
+-- A text of lines has one reading.
+use Rattle.std.proofs.Common.{◌≡◌, ℕ, ◌<◌, ◌^◌, ◌++◌, List, [], ◌∷◌, length, refl, ap, sym, ◌∙◌, subst, Bool, true, false, cond, eqb, ◌||◌, map, arith, append_assoc, replicate}
+use Rattle.std.specs.Prelude.{decimal}
+use Rattle.std.proofs.lemmas.Bool.{eq-eqb, ne_eqb}
+use Rattle.std.proofs.lemmas.List.{append-nil}
+use Rattle.std.proofs.lemmas.Fmt.{decimal_is_IsNumeral}
+use Rattle.std.proofs.lemmas.Str.Parse.{digit_from_value}
+use Rattle.std.specs.Int.{IsInRange}
+use Rattle.std.specs.List.{flat_map}
+use Rattle.std.specs.Str.Parse.{AllDigits, digits_value}
+use Rattle.mr_bytes.specs.declared.Value.TheVariants.{One, At}
+use Rattle.mr_jobs.specs.JobSpec.{JobSpec, WordCount, LinesWith, Resources}
+use Rattle.mr_bytes.specs.Cut.{Lacks}
+use Rattle.mr_jobs.specs.Url.{before_byte}
+use Rattle.mr_reduce.specs.Text.{total_line, place_line}
+use Rattle.mr_shards.specs.Merged.{Group, group_text, texts}
+use Rattle.mr_shards.specs.Lines.{longer, lines, has_byte, before_last, after_last, after_first, values_in, group_in, groups_in, HasLine, OneReading}
+
+lines-next : (l rest : List ℕ) → Lacks 10 l → lines (l ++ 10 ∷ rest) ≡ l ∷ lines rest
+unfolding lines longer
+lines-next [] rest clear = refl
+lines-next (b ∷ l) rest clear =
+    ap (λ t. cond t ([] ∷ lines (l ++ 10 ∷ rest)) (longer b (lines (l ++ 10 ∷ rest)))) (ne_eqb b 10 clear.0) ∙ ap (longer b) (lines-next l rest clear.1)
+
+pub lines-none : lines [] ≡ []
+unfolding lines
+lines-none = refl
+
+pub Lacks-append : (b : ℕ) (xs ys : List ℕ) → Lacks b xs → Lacks b ys → Lacks b (xs ++ ys)
+Lacks-append b [] ys h k = k
+Lacks-append b (x ∷ xs) ys h k = (h.0, Lacks-append b xs ys h.1 k)
+
+-- a byte that is no digit
+digits-lack : (b : ℕ) (ds : List ℕ) → (IsInRange 48 57 b → ⊥) → AllDigits 10 ds → Lacks b ds
+digits-lack b [] other h = tt
+digits-lack b (d ∷ ds) other h = (λ e. other (subst (IsInRange 48 57) e (digit_from_value d h.0)), digits-lack b ds other h.1)
+
+pub decimal-lacks : (b n : ℕ) → (IsInRange 48 57 b → ⊥) → n < 2 ^ 64 → Lacks b (decimal n)
+decimal-lacks b n other small = digits-lack b (decimal n) other (decimal_is_IsNumeral n small).0.1
+
+lf_other : IsInRange 48 57 10 → ⊥
+lf_other h = omega (arith, h.0)
+
+tab_other : IsInRange 48 57 9 → ⊥
+tab_other h = omega (arith, h.0)
+
+colon_other : IsInRange 48 57 58 → ⊥
+colon_other h = omega (arith, h.1)
+
+or_true : (a : Bool) → (a || true) ≡ true
+or_true true = refl
+or_true false = refl
+
+has-there : (b : ℕ) (xs ys : List ℕ) → has_byte b (xs ++ b ∷ ys) ≡ true
+has-there b [] ys = ap (λ t. t || has_byte b ys) (eq-eqb b b refl)
+has-there b (x ∷ xs) ys = ap (λ t. eqb x b || t) (has-there b xs ys) ∙ or_true (eqb x b)
+
+has-none : (b : ℕ) (xs : List ℕ) → Lacks b xs → has_byte b xs ≡ false
+has-none b [] h = refl
+has-none b (x ∷ xs) h = ap (λ t. t || has_byte b xs) (ne_eqb x b h.0) ∙ has-none b xs h.1
+
+before-last : (b : ℕ) (xs ys : List ℕ) → Lacks b ys → before_last b (xs ++ b ∷ ys) ≡ xs
+unfolding before_last
+before-last b [] ys h = ap (λ t. cond t (b ∷ before_last b ys) []) (has-none b ys h)
+before-last b (x ∷ xs) ys h =
+    ap (λ t. cond t (x ∷ before_last b (xs ++ b ∷ ys)) []) (has-there b xs ys) ∙ ap (λ l. x ∷ l) (before-last b xs ys h)
+
+pub after-last : (b : ℕ) (xs ys : List ℕ) → Lacks b ys → after_last b (xs ++ b ∷ ys) ≡ ys
+unfolding after_last
+after-last b [] ys h = ap (λ t. cond t (after_last b ys) ys) (has-none b ys h)
+after-last b (x ∷ xs) ys h =
+    ap (λ t. cond t (after_last b (xs ++ b ∷ ys)) (xs ++ b ∷ ys)) (has-there b xs ys) ∙ after-last b xs ys h
+
+pub before-first : (b : ℕ) (xs ys : List ℕ) → Lacks b xs → before_byte b (xs ++ b ∷ ys) ≡ xs
+unfolding before_byte
+before-first b [] ys h = ap (λ t. cond t [] (b ∷ before_byte b ys)) (eq-eqb b b refl)
+before-first b (x ∷ xs) ys h = ap (λ t. cond t [] (x ∷ before_byte b (xs ++ b ∷ ys))) (ne_eqb x b h.0) ∙ ap (λ l. x ∷ l) (before-first b xs ys h.1)
+
+pub after-first : (b : ℕ) (xs ys : List ℕ) → Lacks b xs → after_first b (xs ++ b ∷ ys) ≡ ys
+unfolding after_first
+after-first b [] ys h = ap (λ t. cond t ys (after_first b ys)) (eq-eqb b b refl)
+after-first b (x ∷ xs) ys h = ap (λ t. cond t (xs ++ b ∷ ys) (after_first b (xs ++ b ∷ ys))) (ne_eqb x b h.0) ∙ after-first b xs ys h.1
+
+-- ---- a line in front of a text
+
+one-line : (job : JobSpec) (key told rest : List ℕ) → Lacks 10 key → Lacks 10 told → Lacks 9 told
+    → groups_in job ((key ++ 9 ∷ told) ++ 10 ∷ rest) ≡ record { key = key; values = values_in job told } ∷ groups_in job rest
+one-line job key told rest clear clear' whole =
+    let line : List ℕ = key ++ 9 ∷ told in
+    let first = before-last 9 key told whole in
+    let second = ap (values_in job) (after-last 9 key told whole) in
+    ap (map (group_in job)) (lines-next line rest (Lacks-append 10 key (9 ∷ told) clear (λ e. omega (arith, e), clear')))
+    ∙ (λ i. record { key = first i; values = second i } ∷ groups_in job rest)
+
+-- a line of totals, followed by a text
+pub total-first : (key : List ℕ) (n : ℕ) (rest : List ℕ) → total_line key n ++ rest ≡ (key ++ 9 ∷ decimal n) ++ 10 ∷ rest
+total-first key n rest = append_assoc (key ++ 9 ∷ decimal n) (10 ∷ []) rest
+
+pub place-first : (key : List ℕ) (file offset : ℕ) (rest : List ℕ)
+    → place_line key (At file offset) ++ rest ≡ (key ++ 9 ∷ (decimal file ++ 58 ∷ decimal offset)) ++ 10 ∷ rest
+place-first key file offset rest =
+    append_assoc ((key ++ 9 ∷ decimal file) ++ 58 ∷ decimal offset) (10 ∷ []) rest
+    ∙ ap (λ l. l ++ 10 ∷ rest) (append_assoc key (9 ∷ decimal file) (58 ∷ decimal offset))
+
+-- a number that a text tells
+pub value-of : (n : ℕ) → n < 2 ^ 64 → digits_value 10 (decimal n) ≡ n
+value-of n small = (decimal_is_IsNumeral n small).1
+
+pub total-read : (job : JobSpec) (key : List ℕ) (n : ℕ) (rest : List ℕ) → Lacks 10 key → n < 2 ^ 64
+    → groups_in job (total_line key n ++ rest) ≡ record { key = key; values = values_in job (decimal n) } ∷ groups_in job rest
+total-read job key n rest clear small =
+    ap (groups_in job) (total-first key n rest)
+    ∙ one-line job key (decimal n) rest clear (decimal-lacks 10 n lf_other small) (decimal-lacks 9 n tab_other small)
+
+pub place-read : (literal : List ℕ) (fold : Bool) (key : List ℕ) (file offset : ℕ) (rest : List ℕ) → Lacks 10 key → file < 2 ^ 64 → offset < 2 ^ 64
+    → groups_in (LinesWith literal fold) (place_line key (At file offset) ++ rest) ≡ record { key = key; values = At file offset ∷ [] } ∷ groups_in (LinesWith literal fold) rest
+place-read literal fold key file offset rest clear small small' =
+    let told : List ℕ = decimal file ++ 58 ∷ decimal offset in
+    let first : digits_value 10 (before_byte 58 told) ≡ file =
+    ap (digits_value 10) (before-first 58 (decimal file) (decimal offset) (decimal-lacks 58 file colon_other small)) ∙ value-of file small in
+    let second : digits_value 10 (after_first 58 told) ≡ offset =
+    ap (digits_value 10) (after-first 58 (decimal file) (decimal offset) (decimal-lacks 58 file colon_other small)) ∙ value-of offset small' in
+    ap (groups_in (LinesWith literal fold)) (place-first key file offset rest)
+    ∙ one-line (LinesWith literal fold) key told rest clear
+    (Lacks-append 10 (decimal file) (58 ∷ decimal offset) (decimal-lacks 10 file lf_other small) (λ e. omega (arith, e), decimal-lacks 10 offset lf_other small'))
+    (Lacks-append 9 (decimal file) (58 ∷ decimal offset) (decimal-lacks 9 file tab_other small) (λ e. omega (arith, e), decimal-lacks 9 offset tab_other small'))
+    ∙ (λ i. record { key = key; values = At (first i) (second i) ∷ [] } ∷ groups_in (LinesWith literal fold) rest)
+
+pub line-read : (job : JobSpec) (g : Group) (rest : List ℕ) → HasLine job g → groups_in job (group_text job g ++ rest) ≡ g ∷ groups_in job rest
+line-read (WordCount keep_case) g rest h =
+    total-read (WordCount keep_case) g.key (length g.values) rest h.0 h.1
+    ∙ (let same = ap (λ n. replicate n One) (value-of (length g.values) h.1) ∙ sym h.2 in λ i. record { key = g.key; values = same i } ∷ groups_in (WordCount keep_case) rest)
+line-read (LinesWith literal fold) g rest h =
+    let w = h.1 in
+    let text : group_text (LinesWith literal fold) g ≡ place_line g.key (At w.0 w.1) =
+    ap (flat_map (place_line g.key)) w.4 ∙ append-nil (place_line g.key (At w.0 w.1)) in
+    ap (λ l. groups_in (LinesWith literal fold) (l ++ rest)) text ∙ place-read literal fold g.key w.0 w.1 rest h.0 w.2 w.3
+    ∙ (λ i. record { key = g.key; values = sym w.4 i } ∷ groups_in (LinesWith literal fold) rest)
+line-read Resources g rest h =
+    total-read Resources g.key (length g.values) rest h.0 h.1
+    ∙ (let same = ap (λ n. replicate n One) (value-of (length g.values) h.1) ∙ sym h.2 in λ i. record { key = g.key; values = same i } ∷ groups_in Resources rest)
+
+pub one_reading : OneReading
+one_reading job [] all = ap (map (group_in job)) lines-none
+one_reading job (g ∷ gs) all = line-read job g (texts job gs) all.0 ∙ ap (λ l. g ∷ l) (one_reading job gs all.1)

@@ -1,0 +1,232 @@
+-- Texts of lines with keys in turn, line by line.
+use Rattle.std.proofs.Common.{Result, Err, ◌≤◌, ◌≡◌, ℕ, ◌+◌, ◌<◌, ◌%◌, ◌^◌, ◌++◌, List, [], ◌∷◌, length, get_or, set, refl, ap, sym, ◌∙◌, subst, inl, inr, arith, Option, None, Some, map, replicate}
+use Rattle.std.proofs.lemmas.Bool.{cases_eq}
+use Rattle.std.proofs.lemmas.List.{append_assoc, append-nil, append_cancel_left, get_or-set_same, get_or-set_other, get_or_append_left, get_or_at, length-set, length-replicate, length_push, get_or-map}
+use Rattle.std.specs.Prelude.{IfErr}
+use Rattle.std.specs.List.{AllByRecursion}
+use Rattle.mr_bytes.specs.declared.Value.TheVariants.{One}
+use Rattle.mr_jobs.specs.JobSpec.{JobSpec, WordCount, LinesWith, Resources}
+use Rattle.mr_bytes.specs.Cut.{Lacks}
+use Rattle.mr_shards.specs.declared.cursor.Cursor.{Cursor}
+use Rattle.mr_shards.specs.declared.fault.MergeFault.{MergeFault}
+use Rattle.mr_shards.specs.declared.fault.MergeFault.TheVariants.{BadLine, TotalTooLarge, TooManyFiles, OutOfMemory}
+use Rattle.mr_shards.specs.declared.line.Line.{Line}
+use Rattle.mr_shards.specs.declared.line.Tally.{Tally}
+use Rattle.mr_shards.specs.declared.line.Tally.TheVariants.{Total, Place}
+use Rattle.mr_shards.specs.declared.merge.Output.{Output}
+use Rattle.mr_shards.specs.Merged.{Group, group_text, texts}
+use Rattle.std.proofs.Math.Nat.{mod-add-mod}
+use Rattle.mr_sequential.proofs.SourceLemmas.{flat_map-append}
+use Rattle.mr_shards.specs.Lines.{HasLine, groups_in, group_in}
+use Rattle.mr_shards.specs.Views.{BeginsWithLine, IsTold, group_of, values_of}
+use Rattle.mr_shards.specs.Cursors.{ReadsOn}
+use Rattle.mr_shards.specs.Refused.{AreRead, Blames, BlamesOnly, InTurn, IsBadLine, IsLineOf, IsReadOf, IsReadTo, IsRest, MayFollow, NoLineFollows, Overflows, TakesNot, last_key, last_of, text_at, total_of}
+use Rattle.mr_shards.proofs.LineLemmas.{IsCut, begun, cut-read, cut-text}
+use Rattle.mr_shards.proofs.ReadingLemmas.{lines-none}
+
+has-line : (job : JobSpec) (g : Group) (t : Tally) (told : List ℕ) → Lacks 10 g.key → IsTold job t told → g.values ≡ values_of t → HasLine job g
+has-line (WordCount keep_case) g (Total n) told clear is e =
+    let l : length g.values ≡ n = ap length e ∙ length-replicate n One in
+    (clear, omega (arith, l, is.1), e ∙ ap (λ k. replicate k One) (sym l))
+has-line (WordCount keep_case) g (Place file offset) told clear is e = absurd is
+has-line (LinesWith literal fold) g (Total n) told clear is e = absurd is
+has-line (LinesWith literal fold) g (Place file offset) told clear is e = (clear, (file, offset, omega (arith, is.1), is.2, e))
+has-line Resources g (Total n) told clear is e =
+    let l : length g.values ≡ n = ap length e ∙ length-replicate n One in
+    (clear, omega (arith, l, is.1), e ∙ ap (λ k. replicate k One) (sym l))
+has-line Resources g (Place file offset) told clear is e = absurd is
+
+have-lines : (job : JobSpec) (gs : List Group) → AllByRecursion (IsLineOf job) gs → AllByRecursion (HasLine job) gs
+have-lines job [] all = tt
+have-lines job (g ∷ gs) all = (has-line job g all.0.tally all.0.told all.0.clear all.0.tells all.0.values, have-lines job gs all.1)
+
+-- ---- one line in front of others
+
+-- what a line of the job is cut into
+line-cut : (job : JobSpec) (g : Group) (l : IsLineOf job g) (more : List ℕ)
+    → IsCut ((g.key ++ 9 ∷ l.told) ++ 10 ∷ more) (g.key ++ 9 ∷ l.told) g.key l.told more
+line-cut job g l more = record { first = refl; clear = begun job l.tally g.key l.told l.clear l.tells; last = refl }
+
+as-told : (job : JobSpec) (g : Group) (l : IsLineOf job g) → g ≡ record { key = g.key; values = values_of l.tally }
+as-told job g l = λ i. record { key = g.key; values = l.values i }
+
+front-text : (job : JobSpec) (g : Group) (l : IsLineOf job g) (more : List ℕ) → group_text job g ++ more ≡ (g.key ++ 9 ∷ l.told) ++ 10 ∷ more
+front-text job g l more =
+    ap (λ (h : Group). group_text job h ++ more) (as-told job g l)
+    ∙ sym (cut-text job l.tally ((g.key ++ 9 ∷ l.told) ++ 10 ∷ more) (g.key ++ 9 ∷ l.told) g.key l.told more (line-cut job g l more) l.tells)
+
+-- it is read first
+front-read : (job : JobSpec) (g : Group) (more : List ℕ) → IsLineOf job g → groups_in job (group_text job g ++ more) ≡ g ∷ groups_in job more
+front-read job g more l =
+    ap (groups_in job) (front-text job g l more)
+    ∙ cut-read job l.tally ((g.key ++ 9 ∷ l.told) ++ 10 ∷ more) (g.key ++ 9 ∷ l.told) g.key l.told more (line-cut job g l more) l.tells
+    ∙ ap (λ (h : Group). h ∷ groups_in job more) (sym (as-told job g l))
+
+front-begins : (job : JobSpec) (text : List ℕ) (g : Group) (more : List ℕ) → IsLineOf job g → text ≡ group_text job g ++ more → BeginsWithLine job text
+front-begins job text g more l e = record {
+  key = g.key;
+  told = l.told;
+  rest = more;
+  tally = l.tally;
+  text_is = e ∙ front-text job g l more;
+  clear = l.clear;
+  tells = l.tells;
+}
+
+-- a text that begins with no line has none that follows
+pub none-begins : (job : JobSpec) (last : Option (List ℕ)) (text : List ℕ) → (BeginsWithLine job text → ⊥) → NoLineFollows job last text
+none-begins job last text none g more l follows e = none (front-begins job text g more l e)
+
+-- and so one whose first line may not follow
+pub none-follows : (job : JobSpec) (last : Option (List ℕ)) (text : List ℕ) (line : Line) (rest : List ℕ)
+    → groups_in job text ≡ group_of line ∷ groups_in job rest → (MayFollow job last line.key.now → ⊥) → NoLineFollows job last text
+none-follows job last text line rest read not_next g more l follows e =
+    let whole : g ∷ groups_in job more ≡ group_of line ∷ groups_in job rest = sym (front-read job g more l) ∙ ap (groups_in job) (sym e) ∙ read in
+    let same : g ≡ group_of line = cc whole in
+    not_next (subst (MayFollow job last) (ap (λ (h : Group). h.key) same) follows)
+
+-- ---- lines that are read
+
+last-push : (last : Option (List ℕ)) (gs : List Group) (g : Group) → last_of last (gs ++ g ∷ []) ≡ Some g.key
+last-push last [] g = refl
+last-push last (h ∷ gs) g = last-push (Some h.key) gs g
+
+turn-push : (job : JobSpec) (last : Option (List ℕ)) (gs : List Group) (g : Group) → InTurn job last gs → MayFollow job (last_of last gs) g.key → InTurn job last (gs ++ g ∷ [])
+turn-push job last [] g turn follows = (follows, tt)
+turn-push job last (h ∷ gs) g turn follows = (turn.0, turn-push job (Some h.key) gs g turn.1 follows)
+
+lines-push : (job : JobSpec) (gs : List Group) (g : Group) → AllByRecursion (IsLineOf job) gs → IsLineOf job g → AllByRecursion (IsLineOf job) (gs ++ g ∷ [])
+lines-push job [] g all l = (l, tt)
+lines-push job (h ∷ gs) g all l = (all.0, lines-push job gs g all.1 l)
+
+pub read-line : (job : JobSpec) (text : List ℕ) (last : Option (List ℕ)) (rest : List ℕ) (number : ℕ) (line : Line) (more : List ℕ) → (rest ≡ [] → ⊥)
+    → IsLineOf job (group_of line) → rest ≡ group_text job (group_of line) ++ more → MayFollow job last line.key.now
+    → IsReadTo job text last rest number → IsReadTo job text (Some line.key.now) more ((number + 1) % 2 ^ 64)
+read-line job text last rest number line more some l e follows r =
+    let g : Group = group_of line in
+    let texts-push : texts job (r.groups ++ g ∷ []) ≡ texts job r.groups ++ group_text job g =
+    flat_map-append (group_text job) r.groups (g ∷ []) ∙ ap (λ (t : List ℕ). texts job r.groups ++ t) (append-nil (group_text job g)) in
+    record {
+      groups = r.groups ++ g ∷ [];
+      text_is = r.text_is ∙ ap (λ (t : List ℕ). texts job r.groups ++ t) e
+          ∙ sym (append_assoc (texts job r.groups) (group_text job g) more) ∙ ap (λ (t : List ℕ). t ++ more) (sym texts-push);
+      lines = lines-push job r.groups g r.lines l;
+      in_turn = turn-push job None r.groups g r.in_turn (subst (λ (o : Option (List ℕ)). MayFollow job o line.key.now) (sym (r.last_is some)) follows);
+      last_is = λ _. last-push None r.groups g;
+      number_is = ap (λ k. (k + 1) % 2 ^ 64) r.number_is ∙ mod-add-mod (length r.groups) (2 ^ 64) 1 ∙ ap (λ k. k % 2 ^ 64) (sym (length_push r.groups g));
+    }
+
+pub read-end : (job : JobSpec) (text : List ℕ) (last : Option (List ℕ)) (rest : List ℕ) (number : ℕ) → rest ≡ [] → IsReadTo job text last rest number → IsReadTo job text None rest number
+read-end job text last rest number none r = record {
+  groups = r.groups;
+  text_is = r.text_is;
+  lines = r.lines;
+  in_turn = r.in_turn;
+  last_is = λ some. absurd (some none);
+  number_is = r.number_is;
+}
+
+read-none : (job : JobSpec) (text : List ℕ) → IsReadTo job text None text 0
+read-none job text = record { groups = []; text_is = refl; lines = tt; in_turn = tt; last_is = λ _. refl; number_is = refl }
+
+-- ---- a bad line
+
+-- where lines stand in front of bytes that begin with none that may follow, no lines of the job are the whole
+parts-ways : (job : JobSpec) (last : Option (List ℕ)) (before gs : List Group) (rest : List ℕ) → texts job before ++ rest ≡ texts job gs
+    → AllByRecursion (IsLineOf job) before → AllByRecursion (IsLineOf job) gs → InTurn job last gs → (rest ≡ [] → ⊥) → NoLineFollows job (last_of last before) rest → ⊥
+parts-ways job last [] [] rest e all lines turn some bad = some e
+parts-ways job last [] (g ∷ gs) rest e all lines turn some bad = bad g (texts job gs) lines.0 turn.0 e
+parts-ways job last (b ∷ bs) [] rest e all lines turn some bad =
+    let none : [] ≡ b ∷ groups_in job (texts job bs ++ rest) =
+    sym (ap (map (group_in job)) lines-none) ∙ ap (groups_in job) (sym e ∙ append_assoc (group_text job b) (texts job bs) rest) ∙ front-read job b (texts job bs ++ rest) all.0 in
+    absurd (cc none)
+parts-ways job last (b ∷ bs) (g ∷ gs) rest e all lines turn some bad =
+    let split : group_text job b ++ (texts job bs ++ rest) ≡ group_text job g ++ texts job gs = sym (append_assoc (group_text job b) (texts job bs) rest) ∙ e in
+    let whole : b ∷ groups_in job (texts job bs ++ rest) ≡ g ∷ groups_in job (texts job gs) =
+    sym (front-read job b (texts job bs ++ rest) all.0) ∙ ap (groups_in job) split ∙ front-read job g (texts job gs) lines.0 in
+    let same : b ≡ g = cc whole in
+    let later : texts job bs ++ rest ≡ texts job gs =
+    append_cancel_left (group_text job b) (texts job bs ++ rest) (texts job gs) (split ∙ ap (λ (h : Group). group_text job h ++ texts job gs) (sym same)) in
+    parts-ways job (Some b.key) bs gs rest later all.1 lines.1 (subst (λ (h : Group). InTurn job (Some h.key) gs) (sym same) turn.1) some bad
+
+pub bad-text : (job : JobSpec) (text : List ℕ) (line : ℕ) → IsBadLine job text line → IsRest job None text → ⊥
+bad-text job text line b r =
+    parts-ways job None b.before.groups r.groups b.rest (sym b.before.text_is ∙ r.text_is) b.before.lines r.lines r.in_turn b.some
+    (subst (λ (o : Option (List ℕ)). NoLineFollows job o b.rest) (sym (b.before.last_is b.some)) b.bad)
+
+-- ---- cursors and outputs
+
+pub text-at : (os : List Output) (i : ℕ) (d : Output) → i < length os → text_at os i ≡ (get_or os i d).text.now
+text-at os i d h = get_or-map (λ (o : Output). o.text.now) os i d [] h
+
+pub read-push : (job : JobSpec) (cs : List Cursor) (os : List Output) (i : ℕ) (d : Output) (c : Cursor) → length cs ≡ i → i < length os → AreRead job cs os
+    → ((text : List ℕ) → IsReadTo job text None (get_or os i d).text.now 0 → IsReadOf job text c) → AreRead job (cs ++ c ∷ []) os
+read-push job cs os i d c same h read here j e l =
+    elim (cases_eq j i) [
+      | inl at ↦
+          (let one : get_or (cs ++ c ∷ []) j e ≡ c = get_or_at cs c [] e j (omega (arith, same, at)) in
+          let t : List ℕ = (get_or os i d).text.now in
+          let text : text_at os j ≡ t = ap (text_at os) at ∙ text-at os i d h in
+          subst (IsReadOf job (text_at os j)) (sym one) (here (text_at os j) (subst (λ (u : List ℕ). IsReadTo job u None t 0) (sym text) (read-none job t))))
+      | inr other ↦
+          (let low : j < length cs = omega (arith, l, length_push cs c, same, other) in
+          subst (IsReadOf job (text_at os j)) (sym (get_or_append_left cs (c ∷ []) e j low)) (read j e low))
+    ]
+
+read-set : (job : JobSpec) (cs : List Cursor) (os : List Output) (at : ℕ) (one next : Cursor) → at < length cs → get_or cs at one ≡ one → AreRead job cs os
+    → ((text : List ℕ) → IsReadOf job text one → IsReadOf job text next) → AreRead job (set cs at next) os
+read-set job cs os at one next h is read here j d l =
+    elim (cases_eq j at) [
+      | inl same ↦
+          (let now : get_or (set cs at next) j d ≡ next = ap (λ k. get_or (set cs at next) k d) same ∙ get_or-set_same cs at next d h in
+          let was : IsReadOf job (text_at os at) one = subst (IsReadOf job (text_at os at)) is (read at one h) in
+          subst (λ (c : Cursor). IsReadOf job (text_at os j) c) (sym now) (here (text_at os j) (subst (λ k. IsReadOf job (text_at os k) one) (sym same) was)))
+      | inr other ↦
+          (let low : j < length cs = omega (arith, l, length-set cs at next) in
+          subst (IsReadOf job (text_at os j)) (sym (get_or-set_other cs at j next d other)) (read j d low))
+    ]
+
+pub read-step : (job : JobSpec) (os : List Output) (at : ℕ) (old new : List Cursor) → at < length old → ReadsOn job at old new → AreRead job old os → AreRead job new os
+read-step job os at old new h r read = subst (λ (cs : List Cursor). AreRead job cs os) (sym r.set) (read-set job old os at r.one r.next h r.was read r.read)
+
+-- who blames a line of what is left blames the output
+blames-all : (job : JobSpec) (at : ℕ) (os : List Output) (last : Option (List ℕ)) (text : List ℕ) (number : ℕ) (e : MergeFault) → IsReadTo job (text_at os at) last text number
+    → BlamesOnly job at last text number e → Blames job os e
+blames-all job at os last text number (BadLine shard line) read b =
+    let bad : IsBadLine job (text_at os at) number = record { last = last; rest = text; before = read; some = b.2; bad = b.3 } in
+    let here : IsBadLine job (text_at os shard) line = subst (IsBadLine job (text_at os shard)) (sym b.1) (subst (λ k. IsBadLine job (text_at os k) number) (sym b.0) bad) in
+    (here, bad-text job (text_at os shard) line here)
+blames-all job at os last text number TotalTooLarge read b = absurd b
+blames-all job at os last text number TooManyFiles read b = tt
+blames-all job at os last text number OutOfMemory read b = tt
+
+pub blames-opening : (job : JobSpec) (i : ℕ) (os : List Output) (d : Output) (e : MergeFault) → i < length os → BlamesOnly job i None (get_or os i d).text.now 0 e → Blames job os e
+blames-opening job i os d e h b =
+    blames-all job i os None (get_or os i d).text.now 0 e
+    (subst (λ (t : List ℕ). IsReadTo job t None (get_or os i d).text.now 0) (sym (text-at os i d h)) (read-none job (get_or os i d).text.now)) b
+
+pub blames-left : (job : JobSpec) (at : ℕ) (cs : List Cursor) (os : List Output) (one : Cursor) (e : MergeFault) → at < length cs → get_or cs at one ≡ one → AreRead job cs os
+    → BlamesOnly job at (last_key one.head) one.rest.now one.lines e → Blames job os e
+blames-left job at cs os one e h is read b =
+    blames-all job at os (last_key one.head) one.rest.now one.lines e (subst (IsReadOf job (text_at os at)) is (read at one h)) b
+
+-- the error that is handed on
+pub blamed : {T : Type 0} (job : JobSpec) (os : List Output) (r : Result T MergeFault) (e : MergeFault) → (y : MergeFault) × (r ≡ Err y) × (y ≡ e) → Blames job os e → IfErr r (Blames job os)
+blamed {T} job os r e w b = subst (λ (q : Result T MergeFault). IfErr q (Blames job os)) (sym w.1) (subst (Blames job os) (sym w.2) b)
+
+pub blames-taken : (job : JobSpec) (os : List Output) (waiting : Option Line) (line : Line) (e : MergeFault) → TakesNot waiting line e
+    → (Overflows waiting line → (key : List ℕ) × (2 ^ 64 ≤ total_of job os key)) → Blames job os e
+blames-taken job os waiting line (BadLine shard at) b f = absurd b
+blames-taken job os waiting line TotalTooLarge b f = f b
+blames-taken job os waiting line TooManyFiles b f = tt
+blames-taken job os waiting line OutOfMemory b f = tt
+
+-- the same from behind: a line of the job in front of such a text
+pub rest-before : (job : JobSpec) (last : Option (List ℕ)) (text : List ℕ) (line : Line) (rest : List ℕ) → IsLineOf job (group_of line) → text ≡ group_text job (group_of line) ++ rest
+    → MayFollow job last line.key.now → IsRest job (Some line.key.now) rest → IsRest job last text
+rest-before job last text line rest l first follows r = record {
+  groups = group_of line ∷ r.groups;
+  text_is = first ∙ ap (λ (t : List ℕ). group_text job (group_of line) ++ t) r.text_is;
+  lines = (l, r.lines);
+  in_turn = (follows, r.in_turn);
+}

@@ -1,0 +1,110 @@
+-- No more values wait and are left of a key than the outputs tell.
+use Rattle.std.proofs.Common.{◌≡◌, ℕ, ◌+◌, ◌≤◌, ◌^◌, ◌++◌, List, [], ◌∷◌, length, refl, ap, ◌∙◌, inl, inr, arith, Bool, true, false, cond, Option, None, Some, map}
+use Rattle.std.proofs.lemmas.List.{length-append, length-map, map-append}
+use Rattle.std.specs.Str.{bytes_eq}
+use Rattle.mr_jobs.specs.JobSpec.{JobSpec}
+use Rattle.mr_sequential.proofs.KeyLaws.{bytes_eq-same}
+use Rattle.mr_shards.specs.declared.cursor.Cursor.{Cursor}
+use Rattle.mr_shards.specs.declared.line.Line.{Line}
+use Rattle.mr_shards.specs.declared.merge.Output.{Output}
+use Rattle.mr_shards.specs.Merged.{Group, joined, moved_group, moved_value}
+use Rattle.mr_shards.specs.Lines.{groups_in}
+use Rattle.mr_shards.specs.Views.{group_of}
+use Rattle.mr_shards.specs.Cursors.{left, Goes}
+use Rattle.mr_shards.specs.Refused.{Overflows, total_of, values_among, values_with}
+use Rattle.mr_shards.specs.Outputs.{parts_in, moved_parts}
+use Rattle.mr_shards.proofs.StepLemmas.{Step}
+
+-- the values that one group has for a key
+abbrev pub one_of : List ℕ → Group → ℕ
+one_of key g = cond (bytes_eq g.key key) (length g.values) 0
+
+abbrev pub waits_with : List ℕ → Option Line → ℕ
+waits_with key None = 0
+waits_with key (Some w) = one_of key (group_of w)
+
+abbrev pub IsWithin : JobSpec → List Output → List Cursor → Option Line → Type 0
+IsWithin job outputs cursors waiting = (key : List ℕ) → waits_with key waiting + values_among key (map (left job) cursors) ≤ total_of job outputs key
+
+-- ---- sums
+
+with-cons : (key : List ℕ) (g : Group) (gs : List Group) → values_with key (g ∷ gs) ≡ one_of key g + values_with key gs
+unfolding values_with
+with-cons key g gs = refl
+
+among-cons : (key : List ℕ) (gs : List Group) (gss : List (List Group)) → values_among key (gs ∷ gss) ≡ values_with key gs + values_among key gss
+unfolding values_among
+among-cons key gs gss = refl
+
+among-append : (key : List ℕ) (xs ys : List (List Group)) → values_among key (xs ++ ys) ≡ values_among key xs + values_among key ys
+unfolding values_among
+among-append key [] ys = omega arith
+among-append key (x ∷ xs) ys = omega (arith, among-append key xs ys)
+
+with-moved : (key : List ℕ) (n : ℕ) (gs : List Group) → values_with key (map (moved_group n) gs) ≡ values_with key gs
+unfolding values_with
+with-moved key n [] = refl
+with-moved key n (g ∷ gs) =
+    let same : length (map (moved_value n) g.values) ≡ length g.values = length-map g.values (moved_value n) in
+    ap (λ k. cond (bytes_eq g.key key) k 0 + values_with key (map (moved_group n) gs)) same
+    ∙ ap (λ k. one_of key g + k) (with-moved key n gs)
+
+among-moved : (key : List ℕ) (job : JobSpec) (n : ℕ) (os : List Output) → values_among key (moved_parts n (parts_in job os)) ≡ total_of job os key
+unfolding values_among
+among-moved key job n [] = refl
+among-moved key job n (o ∷ os) =
+    ap (λ k. k + values_among key (moved_parts (n + o.files) (parts_in job os))) (with-moved key n (groups_in job o.text.now))
+    ∙ ap (λ k. values_with key (groups_in job o.text.now) + k) (among-moved key job (n + o.files) os)
+
+pub within-first : (job : JobSpec) (outputs : List Output) (cs : List Cursor) → map (left job) cs ≡ moved_parts 0 (parts_in job outputs) → IsWithin job outputs cs None
+within-first job outputs cs lefts key = omega (arith, ap (values_among key) lefts, among-moved key job 0 outputs)
+
+-- ---- a line that goes in
+
+among-step : (job : JobSpec) (old new : List Cursor) (line : Line) (key : List ℕ) → Step job old new line
+    → values_among key (map (left job) old) ≡ one_of key (group_of line) + values_among key (map (left job) new)
+among-step job old new line key s =
+    let front : List (List Group) = map (left job) s.front in
+    let back : List (List Group) = map (left job) s.back in
+    let was : values_among key (map (left job) old) ≡ values_among key front + (values_with key (left job s.one) + values_among key back) =
+    ap (λ (cs : List Cursor). values_among key (map (left job) cs)) s.was ∙ ap (values_among key) (map-append (left job) s.front (s.one ∷ s.back))
+    ∙ among-append key front (left job s.one ∷ back) ∙ ap (λ k. values_among key front + k) (among-cons key (left job s.one) back) in
+    let now : values_among key (map (left job) new) ≡ values_among key front + (values_with key (left job s.next) + values_among key back) =
+    ap (λ (cs : List Cursor). values_among key (map (left job) cs)) s.now ∙ ap (values_among key) (map-append (left job) s.front (s.next ∷ s.back))
+    ∙ among-append key front (left job s.next ∷ back) ∙ ap (λ k. values_among key front + k) (among-cons key (left job s.next) back) in
+    let one : values_with key (left job s.one) ≡ one_of key (group_of line) + values_with key (left job s.next) =
+    ap (values_with key) s.left_one ∙ with-cons key (group_of line) (left job s.next) in
+    omega (arith, was, now, one)
+
+-- a line for one of the same key, as two
+joined-one : (key : List ℕ) (g h : Group) → g.key ≡ h.key → one_of key (joined g h) ≡ one_of key g + one_of key h
+joined-one key g h same =
+    by (bytes_eq g.key key) ∙ ap (λ (k : List ℕ). one_of key g + cond (bytes_eq k key) (length h.values) 0) same
+  where
+    by : (b : Bool) → cond b (length (g.values ++ h.values)) 0 ≡ cond b (length g.values) 0 + cond b (length h.values) 0
+    by true = length-append g.values h.values
+    by false = refl
+
+goes-within : (job : JobSpec) (waiting : Option Line) (line l : Line) (old new key : List ℕ) → Goes job waiting line l old new
+    → one_of key (group_of l) ≤ waits_with key waiting + one_of key (group_of line)
+goes-within job None line l old new key g = omega (arith, ap (λ (q : Line). one_of key (group_of q)) g.0)
+goes-within job (Some w) line l old new key (inl g) =
+    omega (arith, ap (one_of key) g.1, joined-one key (group_of w) (group_of line) g.0)
+goes-within job (Some w) line l old new key (inr g) = omega (arith, ap (λ (q : Line). one_of key (group_of q)) g.0)
+
+pub within-step : (job : JobSpec) (outputs : List Output) (old new : List Cursor) (waiting : Option Line) (line l : Line) (out out' : List ℕ)
+    → Step job old new line → Goes job waiting line l out out' → IsWithin job outputs old waiting → IsWithin job outputs new (Some l)
+within-step job outputs old new waiting line l out out' s g few key =
+    omega (arith, few key, among-step job old new line key s, goes-within job waiting line l out out' key g)
+
+-- ---- a total that doesn't fit
+
+one-own : (g : Group) (key : List ℕ) → g.key ≡ key → one_of key g ≡ length g.values
+one-own g key same = ap (λ b. cond b (length g.values) 0) (ap (λ (k : List ℕ). bytes_eq k key) same ∙ bytes_eq-same key)
+
+pub too-large : (job : JobSpec) (outputs : List Output) (old new : List Cursor) (waiting : Option Line) (line : Line) → Step job old new line → IsWithin job outputs old waiting
+    → Overflows waiting line → (key : List ℕ) × (2 ^ 64 ≤ total_of job outputs key)
+too-large job outputs old new None line s few o = absurd o
+too-large job outputs old new (Some w) line s few o =
+    let key : List ℕ = line.key.now in
+    (key, omega (arith, o.1, few key, among-step job old new line key s, one-own (group_of w) key o.0, one-own (group_of line) key refl))

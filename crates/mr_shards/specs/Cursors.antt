@@ -1,0 +1,82 @@
+-- Where a merge stands in the outputs of shards.
+use Rattle.std.specs.Prelude.{◌≡◌, ◌⊎◌, ℕ, ◌+◌, if◌then◌else◌, List, [], ◌∷◌, ◌++◌, Option, None, Some, IfSome, map, slice_index_or, slice_set}
+use Rattle.std.specs.Ordering.{is_lt}
+use Rattle.std.specs.declared.cmp.Ordering.TheVariants.{Less}
+use Rattle.mr_bytes.specs.Order.{key_order}
+use Rattle.mr_jobs.specs.JobSpec.{JobSpec}
+use Rattle.mr_shards.specs.declared.cursor.Cursor.{Cursor}
+use Rattle.mr_shards.specs.declared.line.Line.{Line}
+use Rattle.mr_shards.specs.Merged.{Group, group_text, moved_group, joined, with_group}
+use Rattle.mr_shards.specs.Lines.{groups_in}
+use Rattle.mr_shards.specs.declared.fault.MergeFault.{MergeFault}
+use Rattle.mr_shards.specs.Refused.{BlamesOnly, IsReadOf, IsRestOf, last_key}
+use Rattle.mr_shards.specs.Views.{group_of, IsFor, IsPlace, IsSameKind}
+
+-- the key of a line is not before that of the last one
+abbrev pub DoesNotFall : Option Line → Line → Type 0
+DoesNotFall None line = Unit {0}
+DoesNotFall (Some last) line = key_order line.key.now last.key.now ≡ Less → ⊥
+
+-- the groups of a line and those behind it
+abbrev pub headed : Option Line → List Group → List Group
+headed None gs = []
+headed (Some l) gs = group_of l ∷ gs
+
+-- what is left of a shard's output
+abbrev pub left : JobSpec → Cursor → List Group
+left job c = headed c.head (map (moved_group c.before) (groups_in job c.rest.now))
+
+-- of two lines the one with the lesser key, and of equal keys the first
+abbrev pub lesser : Option (ℕ × Line) → ℕ → Option Line → Option (ℕ × Line)
+lesser least at None = least
+lesser None at (Some line) = Some (at, line)
+lesser (Some best) at (Some line) = if is_lt (key_order line.key.now best.1.key.now) then Some (at, line) else Some best
+
+-- among cursors, the first of which has the number `at`
+unfoldable pub least_from : Option (ℕ × Line) → ℕ → List Cursor → Option (ℕ × Line)
+least_from least at [] = least
+least_from least at (c ∷ cs) = least_from (lesser least at c.head) (at + 1) cs
+
+-- the line is one of the job's
+abbrev pub IsLineFor : JobSpec → Option Line → Type 0
+IsLineFor job None = Unit {0}
+IsLineFor job (Some l) = IsFor job l.tally
+
+-- the next line is one of the job's, and there is one where bytes are left
+abbrev pub IsHead : JobSpec → Option Line → List ℕ → Type 0
+IsHead job None rest = rest ≡ []
+IsHead job (Some l) rest = IsFor job l.tally
+
+abbrev pub IsHeadFor : JobSpec → Cursor → Type 0
+IsHeadFor job c = IsHead job c.head c.rest.now
+
+-- a line is taken behind the one that waits: both are one line of one key; or the one that waited is written, and its
+-- key is another, or one of the two tells a place
+abbrev pub Goes : JobSpec → Option Line → Line → Line → List ℕ → List ℕ → Type 0
+Goes job None line l old new = (l ≡ line) × (new ≡ old)
+Goes job (Some w) line l old new =
+    ((w.key.now ≡ line.key.now) × (group_of l ≡ joined (group_of w) (group_of line)) × IsSameKind w.tally l.tally × (new ≡ old))
+    ⊎ ((l ≡ line) × (new ≡ old ++ group_text job (group_of w)) × ((w.key.now ≡ line.key.now → ⊥) ⊎ (IsPlace w.tally ⊎ IsPlace line.tally)))
+
+-- groups with the line that waits
+abbrev pub with_waiting : Option Line → List Group → List Group
+with_waiting None gs = gs
+with_waiting (Some w) gs = with_group (group_of w) gs
+
+-- one of the cursors is at its next line
+pub record ReadsOn (job : JobSpec) (at : ℕ) (old new : List Cursor) : Type 0 where
+  pub one : Cursor
+  pub next : Cursor
+  pub was : slice_index_or old at one ≡ one
+  pub set : new ≡ slice_set old at next
+  pub left : left job next ≡ map (moved_group one.before) (groups_in job one.rest.now)
+  pub kind : IsHeadFor job next
+  pub order : IfSome next.head (λ l. DoesNotFall one.head l)
+  pub behind : IsRestOf job next → IsRestOf job one
+  pub read : (text : List ℕ) → IsReadOf job text one → IsReadOf job text next
+
+-- a line of the cursor's shard is blamed, or none
+pub record BlamesAt (job : JobSpec) (at : ℕ) (cs : List Cursor) (e : MergeFault) : Type 0 where
+  pub one : Cursor
+  pub is : slice_index_or cs at one ≡ one
+  pub blames : BlamesOnly job at (last_key one.head) one.rest.now one.lines e

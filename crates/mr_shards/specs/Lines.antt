@@ -1,0 +1,68 @@
+-- Outputs as lines, and the merge of the outputs of shards.
+use Rattle.std.specs.Prelude.{◌≡◌, ℕ, ◌<◌, ◌^◌, ◌==◌, Bool, if◌then◌else◌, List, [], ◌∷◌, map, replicate, length}
+use Rattle.std.specs.List.{AllByRecursion, list_any}
+use Rattle.std.specs.Str.Parse.{digits_value}
+use Rattle.std.specs.declared.cmp.Ordering.TheVariants.{Less}
+use Rattle.mr_bytes.specs.declared.Value.{Value}
+use Rattle.mr_bytes.specs.declared.Value.TheVariants.{One, At}
+use Rattle.mr_bytes.specs.Order.{key_order}
+use Rattle.mr_jobs.specs.JobSpec.{JobSpec, WordCount, LinesWith, Resources}
+use Rattle.mr_bytes.specs.Cut.{Lacks}
+use Rattle.mr_jobs.specs.Url.{before_byte}
+use Rattle.mr_shards.specs.Merged.{Group, texts}
+
+-- the first bytes up to a line feed go on with this one
+unfoldable pub longer : ℕ → List (List ℕ) → List (List ℕ)
+longer b [] = []
+longer b (l ∷ ls) = (b ∷ l) ∷ ls
+
+-- the lines of a text, each without its line feed; bytes behind the last line feed are none
+unfoldable pub lines : List ℕ → List (List ℕ)
+lines [] = []
+lines (b ∷ bs) = if b == 10 then [] ∷ lines bs else longer b (lines bs)
+
+abbrev pub has_byte : ℕ → List ℕ → Bool
+has_byte b xs = list_any (λ x. x == b) xs
+
+-- the bytes before the last `b`, and those behind it
+unfoldable pub before_last : ℕ → List ℕ → List ℕ
+before_last b [] = []
+before_last b (x ∷ xs) = if has_byte b xs then x ∷ before_last b xs else []
+
+unfoldable pub after_last : ℕ → List ℕ → List ℕ
+after_last b [] = []
+after_last b (x ∷ xs) = if has_byte b xs then after_last b xs else xs
+
+-- the bytes behind the first `b`
+unfoldable pub after_first : ℕ → List ℕ → List ℕ
+after_first b [] = []
+after_first b (x ∷ xs) = if x == b then xs else after_first b xs
+
+-- the values that a line tells behind its last tab: so many, or a place
+abbrev pub values_in : JobSpec → List ℕ → List Value
+values_in (WordCount keep_case) told = replicate (digits_value 10 told) One
+values_in (LinesWith literal fold) told = At (digits_value 10 (before_byte 58 told)) (digits_value 10 (after_first 58 told)) ∷ []
+values_in Resources told = replicate (digits_value 10 told) One
+
+-- the group that a line tells
+abbrev pub group_in : JobSpec → List ℕ → Group
+group_in job line = record { key = before_last 9 line; values = values_in job (after_last 9 line) }
+
+-- the groups that the lines of a text tell
+abbrev pub groups_in : JobSpec → List ℕ → List Group
+groups_in job text = map (group_in job) (lines text)
+
+-- no line feed in the key, and a number that fits in 64 bits, or a place
+abbrev pub HasLine : JobSpec → Group → Type 0
+HasLine (WordCount keep_case) g = Lacks 10 g.key × (length g.values < 2 ^ 64) × (g.values ≡ replicate (length g.values) One)
+HasLine (LinesWith literal fold) g = Lacks 10 g.key × ((file : ℕ) × (offset : ℕ) × (file < 2 ^ 64) × (offset < 2 ^ 64) × (g.values ≡ At file offset ∷ []))
+HasLine Resources g = Lacks 10 g.key × (length g.values < 2 ^ 64) × (g.values ≡ replicate (length g.values) One)
+
+-- no key is before an earlier one
+abbrev pub NoneFalls : List Group → Type 0
+NoneFalls [] = Unit {0}
+NoneFalls (g ∷ gs) = AllByRecursion (λ h. key_order h.key g.key ≡ Less → ⊥) gs × NoneFalls gs
+
+-- a text of lines has one reading
+abbrev pub OneReading : Type 0
+OneReading = (job : JobSpec) (gs : List Group) → AllByRecursion (HasLine job) gs → groups_in job (texts job gs) ≡ gs

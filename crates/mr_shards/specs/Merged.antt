@@ -1,0 +1,62 @@
+-- The groups of a partition, and how those of two inputs are merged.
+use Rattle.std.specs.Prelude.{ℕ, ◌+◌, List, [], ◌∷◌, ◌++◌, map}
+use Rattle.std.specs.List.{flat_map}
+use Rattle.std.specs.Ordering.{match_ordering}
+use Rattle.mr_bytes.specs.declared.Value.{Value}
+use Rattle.mr_bytes.specs.declared.Value.TheVariants.{One, At}
+use Rattle.mr_bytes.specs.Order.{key_order}
+use Rattle.mr_jobs.specs.JobSpec.{JobSpec}
+use Rattle.mr_reduce.specs.Text.{text_of}
+use Rattle.mr_bytes.specs.Pairs.{Triple}
+use Rattle.mr_sequential.specs.Sequential.{keys_of, values_of}
+
+-- a key with all its values, in the order of the input
+pub record Group : Type 0 where
+  pub key : List ℕ
+  pub values : List Value
+
+abbrev pub group_for : List Triple → List ℕ → Group
+group_for ts k = record { key = k; values = values_of ts k }
+
+-- the groups of a partition, by rising key
+abbrev pub groups_of : (List ℕ → ℕ) → List Triple → ℕ → List Group
+groups_of part ts p = map (group_for ts) (keys_of part (map (λ t. t.key) ts) p)
+
+-- the text of a group, and of groups one behind another
+abbrev pub group_text : JobSpec → Group → List ℕ
+group_text job g = text_of job g.key g.values
+
+abbrev pub texts : JobSpec → List Group → List ℕ
+texts job gs = flat_map (group_text job) gs
+
+-- two groups of one key: the values of the first before those of the second
+abbrev pub joined : Group → Group → Group
+joined g h = record { key = g.key; values = g.values ++ h.values }
+
+-- a group put at its place among groups with rising keys, in front of the values of an equal key
+abbrev pub with_group : Group → List Group → List Group
+with_group g [] = g ∷ []
+with_group g (h ∷ hs) = match_ordering (key_order g.key h.key) (g ∷ h ∷ hs) (joined g h ∷ hs) (h ∷ with_group g hs)
+
+-- the groups of both, the first in front
+abbrev pub merged : List Group → List Group → List Group
+merged [] hs = hs
+merged (g ∷ gs) hs = with_group g (merged gs hs)
+
+-- a value, a group, where so many files come before its own
+abbrev pub moved_value : ℕ → Value → Value
+moved_value files One = One
+moved_value files (At file offset) = At (files + file) offset
+
+abbrev pub moved_group : ℕ → Group → Group
+moved_group files g = record { key = g.key; values = map (moved_value files) g.values }
+
+-- what a shard hands to the merge: how many files it has, and its groups
+pub record Part : Type 0 where
+  pub files : ℕ
+  pub groups : List Group
+
+-- the groups of all parts: those of the first, with those of the others, whose file numbers go on behind its own
+abbrev pub merged_parts : List Part → List Group
+merged_parts [] = []
+merged_parts (a ∷ rest) = merged a.groups (map (moved_group a.files) (merged_parts rest))

@@ -1,0 +1,134 @@
+-- What outputs are taken, and what a refused one is not.
+use Rattle.std.specs.Prelude.{◌≡◌, ℕ, ◌+◌, ◌<◌, ◌≤◌, ◌^◌, ◌%◌, if◌then◌else◌, true, List, [], ◌∷◌, ◌++◌, Option, None, Some, length, map, slice_index_or}
+use Rattle.std.specs.Str.{bytes_eq}
+use Rattle.std.specs.List.{AllByRecursion}
+use Rattle.std.specs.declared.cmp.Ordering.TheVariants.{Less, Equal}
+use Rattle.mr_bytes.specs.Order.{key_order}
+use Rattle.mr_jobs.specs.JobSpec.{JobSpec, counts}
+use Rattle.mr_bytes.specs.Cut.{Lacks}
+use Rattle.mr_shards.specs.declared.cursor.Cursor.{Cursor}
+use Rattle.mr_shards.specs.declared.fault.MergeFault.{MergeFault}
+use Rattle.mr_shards.specs.declared.fault.MergeFault.TheVariants.{BadLine, TotalTooLarge, TooManyFiles, OutOfMemory}
+use Rattle.mr_shards.specs.declared.line.Line.{Line}
+use Rattle.mr_shards.specs.declared.line.Tally.{Tally}
+use Rattle.mr_shards.specs.declared.merge.Output.{Output}
+use Rattle.mr_shards.specs.Merged.{Group, group_text, texts}
+use Rattle.mr_shards.specs.Lines.{groups_in}
+use Rattle.mr_shards.specs.Views.{IsTold, values_of}
+
+-- a key may stand behind the last one: behind that of a total it is greater, behind that of a place not less
+abbrev pub MayFollow : JobSpec → Option (List ℕ) → List ℕ → Type 0
+MayFollow job None key = Unit {0}
+MayFollow job (Some last) key = (key_order key last ≡ Less → ⊥) × (counts job ≡ true → key_order key last ≡ Equal → ⊥)
+
+-- a line of the job stands for the group
+pub record IsLineOf (job : JobSpec) (g : Group) : Type 0 where
+  pub tally : Tally
+  pub told : List ℕ
+  pub clear : Lacks 10 g.key
+  pub tells : IsTold job tally told
+  pub values : g.values ≡ values_of tally
+
+abbrev pub InTurn : JobSpec → Option (List ℕ) → List Group → Type 0
+InTurn job last [] = Unit {0}
+InTurn job last (g ∷ gs) = MayFollow job last g.key × InTurn job (Some g.key) gs
+
+-- a text of lines of the job, with keys in turn behind the last one
+pub record IsRest (job : JobSpec) (last : Option (List ℕ)) (text : List ℕ) : Type 0 where
+  pub groups : List Group
+  pub text_is : text ≡ texts job groups
+  pub lines : AllByRecursion (IsLineOf job) groups
+  pub in_turn : InTurn job last groups
+
+abbrev pub last_key : Option Line → Option (List ℕ)
+last_key None = None
+last_key (Some l) = Some l.key.now
+
+abbrev pub IsRestOf : JobSpec → Cursor → Type 0
+IsRestOf job c = IsRest job (last_key c.head) c.rest.now
+
+-- the key of the last of the groups, or the one before them
+abbrev pub last_of : Option (List ℕ) → List Group → Option (List ℕ)
+last_of last [] = last
+last_of last (g ∷ gs) = last_of (Some g.key) gs
+
+-- lines of the job, with keys in turn, stand in front of the rest of the text, so many of them, the last with that key
+-- where bytes are left; their number has 64 bits
+pub record IsReadTo (job : JobSpec) (text : List ℕ) (last : Option (List ℕ)) (rest : List ℕ) (number : ℕ) : Type 0 where
+  pub groups : List Group
+  pub text_is : text ≡ texts job groups ++ rest
+  pub lines : AllByRecursion (IsLineOf job) groups
+  pub in_turn : InTurn job None groups
+  pub last_is : (rest ≡ [] → ⊥) → last_of None groups ≡ last
+  pub number_is : number ≡ length groups % 2 ^ 64
+
+abbrev pub IsReadOf : JobSpec → List ℕ → Cursor → Type 0
+IsReadOf job text c = IsReadTo job text (last_key c.head) c.rest.now c.lines
+
+-- no line of the job that may follow stands in front of the text
+abbrev pub NoLineFollows : JobSpec → Option (List ℕ) → List ℕ → Type 0
+NoLineFollows job last text = (g : Group) (more : List ℕ) → IsLineOf job g → MayFollow job last g.key → text ≡ group_text job g ++ more → ⊥
+
+-- the lines of the text up to this one are lines of the job, with keys in turn, and what stands behind them begins with
+-- none that may follow
+pub record IsBadLine (job : JobSpec) (text : List ℕ) (line : ℕ) : Type 0 where
+  pub last : Option (List ℕ)
+  pub rest : List ℕ
+  pub before : IsReadTo job text last rest line
+  pub some : rest ≡ [] → ⊥
+  pub bad : NoLineFollows job last rest
+
+-- how many values the groups have for a key, in one list and in many
+unfoldable pub values_with : List ℕ → List Group → ℕ
+values_with key [] = 0
+values_with key (g ∷ gs) = (if bytes_eq g.key key then length g.values else 0) + values_with key gs
+
+unfoldable pub values_among : List ℕ → List (List Group) → ℕ
+values_among key [] = 0
+values_among key (gs ∷ gss) = values_with key gs + values_among key gss
+
+-- how many values the outputs tell of a key
+abbrev pub total_of : JobSpec → List Output → List ℕ → ℕ
+total_of job os key = values_among key (map (λ (o : Output). groups_in job o.text.now) os)
+
+-- no line is blamed, and no total
+abbrev pub IsBlameless : MergeFault → Type 0
+IsBlameless (BadLine shard line) = ⊥
+IsBlameless TotalTooLarge = ⊥
+IsBlameless TooManyFiles = Unit {0}
+IsBlameless OutOfMemory = Unit {0}
+
+-- two totals of one key, which together don't fit
+abbrev pub Overflows : Option Line → Line → Type 0
+Overflows None line = ⊥
+Overflows (Some w) line = (w.key.now ≡ line.key.now) × (2 ^ 64 ≤ length (values_of w.tally) + length (values_of line.tally))
+
+-- no line is blamed, and a total only where it doesn't fit
+abbrev pub TakesNot : Option Line → Line → MergeFault → Type 0
+TakesNot waiting line (BadLine shard at) = ⊥
+TakesNot waiting line TotalTooLarge = Overflows waiting line
+TakesNot waiting line TooManyFiles = Unit {0}
+TakesNot waiting line OutOfMemory = Unit {0}
+
+-- a line is blamed only in that shard, by its number there, and only where what is left begins with no line that may follow
+abbrev pub BlamesOnly : JobSpec → ℕ → Option (List ℕ) → List ℕ → ℕ → MergeFault → Type 0
+BlamesOnly job at last text number (BadLine shard line) = (shard ≡ at) × (line ≡ number) × (text ≡ [] → ⊥) × NoLineFollows job last text
+BlamesOnly job at last text number TotalTooLarge = ⊥
+BlamesOnly job at last text number TooManyFiles = Unit {0}
+BlamesOnly job at last text number OutOfMemory = Unit {0}
+
+-- the bytes of an output by its number
+abbrev pub text_at : List Output → ℕ → List ℕ
+text_at os i = slice_index_or (map (λ (o : Output). o.text.now) os) i []
+
+-- a line is blamed only where it is the first of that shard's output that doesn't stand, so that the output isn't lines of
+-- the job with keys in turn; and a total only where the outputs tell 2^64 values or more of some key
+abbrev pub Blames : JobSpec → List Output → MergeFault → Type 0
+Blames job os (BadLine shard line) = IsBadLine job (text_at os shard) line × (IsRest job None (text_at os shard) → ⊥)
+Blames job os TotalTooLarge = (key : List ℕ) × (2 ^ 64 ≤ total_of job os key)
+Blames job os TooManyFiles = Unit {0}
+Blames job os OutOfMemory = Unit {0}
+
+-- what was read of each output
+abbrev pub AreRead : JobSpec → List Cursor → List Output → Type 0
+AreRead job cs os = (i : ℕ) (d : Cursor) → i < length cs → IsReadOf job (text_at os i) (slice_index_or cs i d)

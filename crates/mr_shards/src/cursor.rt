@@ -1,0 +1,111 @@
+//! Where a merge stands in the outputs of shards.
+ghost use Rattle.std.specs.Prelude.{◌≡◌, ℕ, List, IfOk, IfSome, IsTrue, map, None, ◌↔◌, IfErr};
+ghost use Rattle.mr_shards.specs.Lines.{groups_in};
+ghost use Rattle.mr_shards.specs.Merged.{moved_group};
+ghost use Rattle.mr_shards.specs.Cursors.{DoesNotFall, IsHeadFor, left, least_from, lesser};
+ghost use Rattle.mr_shards.specs.Refused.{BlamesOnly, IsReadOf, IsRestOf, MayFollow, last_key};
+
+use crate::fault::MergeFault;
+use crate::line::{Line, first_line, moved};
+use mr_bytes::compare_keys;
+use mr_jobs::Job;
+use std::cmp::Ordering;
+
+/// Where a merge stands in the output of a shard: its next line, with the files moved, and the bytes behind it.
+#[derive(Clone, Copy)]
+pub(crate) struct Cursor<'a> {
+    pub head: Option<Line<'a>>,
+    pub rest: &'a [u8],
+    /// How many files the shards before have.
+    pub before: u32,
+    /// How many lines were read; the count has 64 bits.
+    pub lines: u64,
+}
+
+/// Whether a line may come behind the one before it: with totals, keys rise strictly.
+fn may_follow(job: &Job, last: Option<Line<'_>>, line: Line<'_>) -> bool
+    ensures order { IsTrue result → DoesNotFall last.entry line.entry }
+    ensures turn { IsTrue result ↔ MayFollow job.now (last_key last.entry) line.entry.key.now }
+{
+    let Some(last) = last else {
+        return true;
+    };
+    match compare_keys(line.key, last.key) {
+        Ordering::Less => false,
+        Ordering::Equal => !job.counts(),
+        Ordering::Greater => true,
+    }
+}
+
+/// The cursor behind its next line.
+pub(crate) fn advanced<'a>(
+    job: &Job,
+    shard: usize,
+    cursor: Cursor<'a>,
+) -> Result<Cursor<'a>, MergeFault>
+    ensures left { IfOk result (λ n. left job.now n ≡ map (moved_group cursor.entry.before) (groups_in job.now cursor.entry.rest.now)) }
+    ensures before { IfOk result (λ n. n.before ≡ cursor.entry.before) }
+    ensures kind { IfOk result (IsHeadFor job.now) }
+    ensures order { IfOk result (λ n. IfSome n.head (λ l. DoesNotFall cursor.entry.head l)) }
+    ensures behind { IfOk result (λ n. IsRestOf job.now n → IsRestOf job.now cursor.entry) }
+    ensures read { IfOk result (λ n. (text : List ℕ) → IsReadOf job.now text cursor.entry → IsReadOf job.now text n) }
+    ensures err { IfErr result (BlamesOnly job.now shard (last_key cursor.entry.head) cursor.entry.rest.now cursor.entry.lines) }
+{
+    if cursor.rest.is_empty() {
+        return Ok(Cursor {
+            head: None,
+            rest: cursor.rest,
+            before: cursor.before,
+            lines: cursor.lines,
+        });
+    }
+    let bad = MergeFault::BadLine {
+        shard,
+        line: cursor.lines,
+    };
+    let Some((line, rest)) = first_line(job, cursor.rest) else {
+        return Err(bad);
+    };
+    let line = moved(line, cursor.before)?;
+    if !may_follow(job, cursor.head, line) {
+        return Err(bad);
+    }
+    Ok(Cursor {
+        head: Some(line),
+        rest,
+        before: cursor.before,
+        lines: cursor.lines.wrapping_add(1),
+    })
+}
+
+/// The line of the lesser key, with its place; the one found before, where they are alike.
+fn lesser<'a>(
+    least: Option<(usize, Line<'a>)>,
+    at: usize,
+    head: Option<Line<'a>>,
+) -> Option<(usize, Line<'a>)>
+    ensures { result ≡ lesser least.entry at head.entry }
+{
+    let Some(line) = head else {
+        return least;
+    };
+    let Some((_, best)) = least else {
+        return Some((at, line));
+    };
+    if compare_keys(line.key, best.key).is_lt() {
+        Some((at, line))
+    } else {
+        least
+    }
+}
+
+/// The first of the cursors whose next line has the least key, and that line.
+pub(crate) fn first_least<'a>(cursors: &[Cursor<'a>]) -> Option<(usize, Line<'a>)>
+    ensures { result ≡ least_from None 0 cursors.entry.now }
+{
+    let mut least = None;
+    for (at, cursor) in cursors.iter().enumerate() {
+        least = lesser(least, at, cursor.head);
+    }
+    least
+}

@@ -1,0 +1,194 @@
+//! One line of an output.
+ghost use Rattle.std.specs.Prelude.{◌≡◌, ◌<◌, ◌^◌, ◌++◌, ℕ, [], ◌∷◌, IfErr, IfOk, IfSome, MatchOption, None, Some, OnOk, decimal, map};
+ghost use Rattle.mr_jobs.specs.JobSpec.{counts};
+ghost use Rattle.mr_bytes.specs.Cut.{Lacks};
+ghost use Rattle.mr_shards.specs.Lines.{groups_in};
+ghost use Rattle.mr_shards.specs.Merged.{group_text, moved_group, moved_value};
+ghost use Rattle.mr_shards.specs.declared.line.Tally.{Tally};
+ghost use Rattle.mr_shards.specs.Refused.{IsBlameless, IsLineOf, Overflows};
+ghost use Rattle.mr_shards.specs.Views.{BeginsWithLine, Combines, IsFor, IsSameKind, IsTold, group_of, values_of};
+
+use crate::fault::MergeFault;
+use itoa::Buffer;
+use memchr::{memchr, memrchr};
+use mr_bytes::Value;
+use mr_jobs::Job;
+use mr_reduce::{group_text, total_text};
+use std::alloc::AllocError;
+
+/// What a line tells of its key: how many values it has, or one of its places.
+#[derive(Clone, Copy)]
+pub(crate) enum Tally {
+    Total(u64),
+    Place { file: u32, offset: u64 },
+}
+
+/// A line of an output.
+#[derive(Clone, Copy)]
+pub(crate) struct Line<'a> {
+    pub key: &'a [u8],
+    pub tally: Tally,
+}
+
+/// The bytes before the first `mark`, and those behind it.
+fn cut_first(text: &[u8], mark: u8) -> Option<(&[u8], &[u8])>
+    ensures { MatchOption result (Lacks mark text.now) (λ r. (text.now ≡ r.0.now ++ mark ∷ r.1.now) × Lacks mark r.0.now) }
+{
+    match memchr(mark, text) {
+        Some(at) => Some((&text[..at], &text[at + 1..])),
+        None => None,
+    }
+}
+
+/// The bytes before the last `mark`, and those behind it.
+fn cut_last(text: &[u8], mark: u8) -> Option<(&[u8], &[u8])>
+    ensures { MatchOption result (Lacks mark text.now) (λ r. (text.now ≡ r.0.now ++ mark ∷ r.1.now) × Lacks mark r.1.now) }
+{
+    match memrchr(mark, text) {
+        Some(at) => Some((&text[..at], &text[at + 1..])),
+        None => None,
+    }
+}
+
+/// The number that these digits write, as an output writes it: without leading zeros, and below 2^64.
+pub fn number_of(digits: &[u8]) -> Option<u64>
+    ensures { MatchOption result ((n : ℕ) → n < 2 ^ 64 → digits.now ≡ decimal n → ⊥) (λ n. digits.now ≡ decimal n) }
+{
+    let Ok(text) = str::from_utf8(digits) else {
+        return None;
+    };
+    let Ok(value) = text.parse::<u64>() else {
+        return None;
+    };
+    let mut buffer = Buffer::new();
+    if buffer.format(value).as_bytes() == digits {
+        Some(value)
+    } else {
+        None
+    }
+}
+
+/// The place that a line tells: the number of a file, a colon, and the place there.
+fn place_of(told: &[u8]) -> Option<(u32, u64)>
+    ensures { MatchOption result
+        ((file offset : ℕ) → file < 2 ^ 32 → offset < 2 ^ 64 → told.now ≡ decimal file ++ 58 ∷ decimal offset → ⊥)
+        (λ r. told.now ≡ decimal r.0 ++ 58 ∷ decimal r.1) }
+{
+    let Some((front, back)) = cut_first(told, b':') else {
+        return None;
+    };
+    let Some(number) = number_of(front) else {
+        return None;
+    };
+    let Some(offset) = number_of(back) else {
+        return None;
+    };
+    let Ok(file) = u32::try_from(number) else {
+        return None;
+    };
+    Some((file, offset))
+}
+
+/// What a line tells behind its key.
+fn tally_of(job: &Job, told: &[u8]) -> Option<Tally>
+    ensures { MatchOption result ((t : Tally) → IsTold job.now t told.now → ⊥) (λ t. IsTold job.now t told.now) }
+{
+    if job.counts() {
+        match number_of(told) {
+            Some(total) => Some(Tally::Total(total)),
+            None => None,
+        }
+    } else {
+        match place_of(told) {
+            Some((file, offset)) => Some(Tally::Place { file, offset }),
+            None => None,
+        }
+    }
+}
+
+/// The first line of a text, and what stands behind it.
+pub(crate) fn first_line<'a>(job: &Job, text: &'a [u8]) -> Option<(Line<'a>, &'a [u8])>
+    ensures read { IfSome result (λ r. groups_in job.now text.entry.now ≡ group_of r.0 ∷ groups_in job.now r.1.now) }
+    ensures kind { IfSome result (λ r. IsFor job.now r.0.tally) }
+    ensures line { IfSome result (λ r. IsLineOf job.now (group_of r.0)) }
+    ensures text { IfSome result (λ r. text.entry.now ≡ group_text job.now (group_of r.0) ++ r.1.now) }
+    ensures none { (result ≡ None) → BeginsWithLine job.now text.entry.now → ⊥ }
+{
+    let Some((line, rest)) = cut_first(text, b'\n') else {
+        return None;
+    };
+    let Some((key, told)) = cut_last(line, b'\t') else {
+        return None;
+    };
+    let Some(tally) = tally_of(job, told) else {
+        return None;
+    };
+    Some((Line { key, tally }, rest))
+}
+
+/// What a line tells where so many files come before its own.
+fn moved_tally(tally: Tally, files: u32) -> Result<Tally, MergeFault>
+    ensures values { IfOk result (λ t. values_of t ≡ map (moved_value files) (values_of tally)) }
+    ensures kind { IfOk result (λ t. IsSameKind tally t) }
+    ensures err { IfErr result IsBlameless }
+{
+    match tally {
+        Tally::Total(total) => Ok(Tally::Total(total)),
+        Tally::Place { file, offset } => match files.checked_add(file) {
+            Some(file) => Ok(Tally::Place { file, offset }),
+            None => Err(MergeFault::TooManyFiles),
+        },
+    }
+}
+
+/// The line where so many files come before its own.
+pub(crate) fn moved<'a>(line: Line<'a>, files: u32) -> Result<Line<'a>, MergeFault>
+    ensures group { IfOk result (λ l. group_of l ≡ moved_group files (group_of line.entry)) }
+    ensures kind { IfOk result (λ l. IsSameKind line.entry.tally l.tally) }
+    ensures err { IfErr result IsBlameless }
+{
+    Ok(Line {
+        key: line.key,
+        tally: moved_tally(line.tally, files)?,
+    })
+}
+
+/// The two lines as one, where they are totals of one key.
+pub(crate) fn combined<'a>(
+    first: Line<'a>,
+    second: Line<'a>,
+) -> Result<Option<Line<'a>>, MergeFault>
+    ensures ok { IfOk result (Combines first.entry second.entry) }
+    ensures err { IfErr result (λ e. (e ≡ MergeFault.TotalTooLarge) × Overflows (Some first.entry) second.entry) }
+{
+    let (Tally::Total(a), Tally::Total(b)) = (first.tally, second.tally) else {
+        return Ok(None);
+    };
+    if first.key != second.key {
+        return Ok(None);
+    }
+    match a.checked_add(b) {
+        Some(total) => Ok(Some(Line {
+            key: first.key,
+            tally: Tally::Total(total),
+        })),
+        None => Err(MergeFault::TotalTooLarge),
+    }
+}
+
+/// Appends the text of a line.
+pub(crate) fn put(job: &Job, line: Line<'_>, out: &mut Vec<u8>) -> Result<(), AllocError>
+    ensures { OnOk result (out.new.items ≡ out.old.items ++ group_text job.now (group_of line.entry)) }
+{
+    match line.tally {
+        Tally::Total(total) => {
+            if job.counts() {
+                total_text(line.key, total, out)?;
+            }
+        }
+        Tally::Place { file, offset } => {
+            group_text(job, line.key, &[Value::At { file, offset }], out)?;
+        }
+    }
+    Ok(())
+}

@@ -1,0 +1,119 @@
+//! The merge of the outputs that shards have for one partition.
+ghost use Rattle.std.specs.Prelude.{IfErr, ◌≡◌, ℕ, ◌<◌, ◌++◌, [], ◌∷◌, None, All, IfOk, OnOk, length, map};
+ghost use Rattle.std.specs.List.{AllByRecursion};
+ghost use Rattle.mr_shards.specs.Cursors.{BlamesAt, Goes, IsHeadFor, ReadsOn, left, with_waiting};
+ghost use Rattle.mr_shards.specs.Merged.{merged_parts, texts};
+ghost use Rattle.mr_shards.specs.Refused.{AreRead, Blames, IsBlameless, IsRest, TakesNot};
+ghost use Rattle.mr_shards.specs.Outputs.{AreOpened, IsOutputOfAll, moved_parts, parts_in};
+
+use crate::cursor::{Cursor, advanced, first_least};
+use crate::fault::MergeFault;
+use crate::line::{Line, combined, put};
+use mr_jobs::Job;
+use std::alloc::{AllocError, Global};
+
+/// What a shard has for a partition, and how many files it has.
+#[derive(Clone, Copy)]
+pub struct Output<'a> {
+    pub files: u32,
+    pub text: &'a [u8],
+}
+
+/// Keeps a cursor behind the others.
+fn keep<'a>(cursors: &mut Vec<Cursor<'a>>, cursor: Cursor<'a>) -> Result<(), MergeFault>
+    ensures ok { OnOk result (cursors.new.items ≡ cursors.old.items ++ cursor.entry ∷ []) }
+    ensures err { IfErr result IsBlameless }
+{
+    cursors.push(cursor).map_err(AllocError::from)?;
+    Ok(())
+}
+
+/// A cursor at the first line of each output.
+fn open_all<'a>(
+    alloc: Global,
+    job: &Job,
+    outputs: &[Output<'a>],
+) -> Result<Vec<Cursor<'a>>, MergeFault>
+    ensures kinds { IfOk result (λ v. AllByRecursion (IsHeadFor job.now) v.items) }
+    ensures opened { IfOk result (λ v. AreOpened job.now v.items outputs.entry.now) }
+    ensures read { IfOk result (λ v. AreRead job.now v.items outputs.entry.now) }
+    ensures err { IfErr result (Blames job.now outputs.entry.now) }
+    ensures lefts { IfOk result (λ v. map (left job.now) v.items ≡ moved_parts 0 (parts_in job.now outputs.entry.now)) }
+{
+    let mut cursors = Vec::new(alloc);
+    let mut before = 0u32;
+    for (shard, output) in outputs.iter().enumerate() {
+        let start = Cursor {
+            head: None,
+            rest: output.text,
+            before,
+            lines: 0,
+        };
+        keep(&mut cursors, advanced(job, shard, start)?)?;
+        before = match before.checked_add(output.files) {
+            Some(files) => files,
+            None => return Err(MergeFault::TooManyFiles),
+        };
+    }
+    Ok(cursors)
+}
+
+/// Takes a line behind the one that waits to be written: either it goes in with that one, or that one is written.
+fn taken<'a>(
+    job: &Job,
+    waiting: Option<Line<'a>>,
+    line: Line<'a>,
+    out: &mut Vec<u8>,
+) -> Result<Line<'a>, MergeFault>
+    ensures ok { IfOk result (λ l. Goes job.now waiting.entry line.entry l out.old.items out.new.items) }
+    ensures err { IfErr result (TakesNot waiting.entry line.entry) }
+{
+    let Some(before) = waiting else {
+        return Ok(line);
+    };
+    if let Some(both) = combined(before, line)? {
+        return Ok(both);
+    }
+    put(job, before, out)?;
+    Ok(line)
+}
+
+/// Writes the line that still waits.
+fn put_last(job: &Job, waiting: Option<Line<'_>>, out: &mut Vec<u8>) -> Result<(), AllocError>
+    ensures { OnOk result (out.new.items ≡ out.old.items ++ texts job.now (with_waiting waiting.entry [])) }
+{
+    match waiting {
+        Some(last) => put(job, last, out),
+        None => Ok(()),
+    }
+}
+
+/// Reads on in the output of one cursor.
+fn go_on<'a>(job: &Job, cursors: &mut Vec<Cursor<'a>>, at: usize) -> Result<(), MergeFault>
+    requires { at < length cursors.old.items }
+    ensures ok { OnOk result (ReadsOn job.now at cursors.old.items cursors.new.items) }
+    ensures err { IfErr result (BlamesAt job.now at cursors.old.items) }
+{
+    let next = advanced(job, at, cursors[at])?;
+    cursors[at] = next;
+    Ok(())
+}
+
+/// The outputs that shards have for one partition, in the order of the shards, merged to that of the whole. It is
+/// refused where an output isn't lines of the job with keys in their order.
+pub fn merge_parts(alloc: Global, job: &Job, outputs: &[Output<'_>]) -> Result<Vec<u8>, MergeFault>
+    ensures stands { IfOk result (λ _. AllByRecursion (λ o. IsRest job.now None o.text.now) outputs.now) }
+    ensures merged { IfOk result (λ out. out.items ≡ texts job.now (merged_parts (parts_in job.now outputs.now))) }
+    ensures whole { IfOk result (λ out. IsOutputOfAll job.now outputs.now out.items) }
+    ensures err { IfErr result (Blames job.now outputs.now) }
+{
+    let mut cursors = open_all(alloc, job, outputs)?;
+    let mut out = Vec::new(alloc);
+    let mut waiting = None;
+    while let Some((at, line)) = first_least(&cursors) {
+        go_on(job, &mut cursors, at)?;
+        waiting = Some(taken(job, waiting, line, &mut out)?);
+    }
+    put_last(job, waiting, &mut out)?;
+    Ok(out)
+}

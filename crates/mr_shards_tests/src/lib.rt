@@ -1,0 +1,5 @@
+//! Tests of merged outputs, over what the crate exports.
+#![tactic(auto)]
+
+#[cfg(test)]
+mod merging;

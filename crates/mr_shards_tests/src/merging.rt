@@ -1,0 +1,149 @@
+//! Outputs of shards, merged: worked rows, and each refusal.
+use mr_jobs::Job;
+use mr_shards::{MergeFault, Output, merge_parts};
+use std::alloc::Global;
+use std::test::Fail;
+
+#[test]
+fn totals_are_added(rt: HostRuntime) -> Result<(), Fail> {
+    let alloc = rt.alloc();
+    let first = Output {
+        files: 2,
+        text: b"a\t2\nthe\t7\n",
+    };
+    let second = Output {
+        files: 1,
+        text: b"",
+    };
+    let third = Output {
+        files: 3,
+        text: b"b\t1\nthe\t40\nzoo\t1\n",
+    };
+    let merged = merge_parts(alloc, &Job::words(false), &[first, second, third])?;
+    assert_eq!(rt;
+        merged.as_slice(),
+        b"a\t2\nb\t1\nthe\t47\nzoo\t1\n".as_slice()
+    );
+    Ok(())
+}
+
+#[test]
+fn keys_may_hold_tabs(rt: HostRuntime) -> Result<(), Fail> {
+    let alloc = rt.alloc();
+    let first = Output {
+        files: 1,
+        text: b"/a\tb\t2\n/c\t1\n",
+    };
+    let second = Output {
+        files: 1,
+        text: b"/a\t9\n/a\tb\t3\n",
+    };
+    let merged = merge_parts(alloc, &Job::url(), &[first, second])?;
+    assert_eq!(rt; merged.as_slice(), b"/a\t9\n/a\tb\t5\n/c\t1\n".as_slice());
+    Ok(())
+}
+
+#[test]
+fn places_follow_by_file(rt: HostRuntime) -> Result<(), Fail> {
+    let alloc = rt.alloc();
+    let job = Job::grep(alloc, b"x", false)?;
+    let first = Output {
+        files: 2,
+        text: b"ax\t0:0\nx\t1:7\nx\t1:9\n",
+    };
+    let second = Output {
+        files: 1,
+        text: b"x\t0:3\nzx\t0:5\n",
+    };
+    let third = Output {
+        files: 1,
+        text: b"x\t0:1\n",
+    };
+    let merged = merge_parts(alloc, &job, &[first, second, third])?;
+    assert_eq!(rt;
+        merged.as_slice(),
+        b"ax\t0:0\nx\t1:7\nx\t1:9\nx\t2:3\nx\t3:1\nzx\t2:5\n".as_slice()
+    );
+    Ok(())
+}
+
+// Which line of which output is bad, where the text is the second of two.
+fn bad_line(alloc: Global, job: &Job, text: &[u8]) -> Result<Option<(usize, u64)>, MergeFault> {
+    let good = Output {
+        files: 1,
+        text: b"",
+    };
+    let other = Output { files: 1, text };
+    match merge_parts(alloc, job, &[good, other]) {
+        Ok(_) => Ok(None),
+        Err(MergeFault::BadLine { shard, line }) => Ok(Some((shard, line))),
+        Err(fault) => Err(fault),
+    }
+}
+
+#[test]
+fn bad_lines(rt: HostRuntime) -> Result<(), Fail> {
+    let words = Job::words(false);
+    let grep = Job::grep(rt.alloc(), b"x", false)?;
+    assert_eq!(rt; bad_line(rt.alloc(), &words, b"a\t1\nb\t2\n")?, None);
+    // A line without its line feed, or without a tab; no number, one with a zero in front, or one too large.
+    assert_eq!(rt; bad_line(rt.alloc(), &words, b"a\t1\nb\t2")?, Some((1, 1)));
+    assert_eq!(rt; bad_line(rt.alloc(), &words, b"a 1\n")?, Some((1, 0)));
+    assert_eq!(rt; bad_line(rt.alloc(), &words, b"a\t\n")?, Some((1, 0)));
+    assert_eq!(rt; bad_line(rt.alloc(), &words, b"a\t+1\n")?, Some((1, 0)));
+    assert_eq!(rt; bad_line(rt.alloc(), &words, b"a\t01\n")?, Some((1, 0)));
+    assert_eq!(rt;
+        bad_line(rt.alloc(), &words, b"a\t18446744073709551615\n")?,
+        None
+    );
+    assert_eq!(rt;
+        bad_line(rt.alloc(), &words, b"a\t18446744073709551616\n")?,
+        Some((1, 0))
+    );
+    // Keys that do not rise.
+    assert_eq!(rt;
+        bad_line(rt.alloc(), &words, b"b\t1\na\t1\n")?,
+        Some((1, 1))
+    );
+    assert_eq!(rt;
+        bad_line(rt.alloc(), &words, b"a\t1\na\t1\n")?,
+        Some((1, 1))
+    );
+    assert_eq!(rt; bad_line(rt.alloc(), &grep, b"x\t0:0\nx\t0:2\n")?, None);
+    assert_eq!(rt;
+        bad_line(rt.alloc(), &grep, b"x\t0:0\nax\t0:2\n")?,
+        Some((1, 1))
+    );
+    // Another job's lines.
+    assert_eq!(rt; bad_line(rt.alloc(), &grep, b"x\t1\n")?, Some((1, 0)));
+    assert_eq!(rt; bad_line(rt.alloc(), &words, b"x\t0:0\n")?, Some((1, 0)));
+    Ok(())
+}
+
+#[test]
+fn limits(rt: HostRuntime) -> Result<(), Fail> {
+    let alloc = rt.alloc();
+    let most = Output {
+        files: 4294967295,
+        text: b"a\t18446744073709551615\n",
+    };
+    let one = Output {
+        files: 0,
+        text: b"a\t1\n",
+    };
+    let words = Job::words(false);
+    assert!(rt;
+        matches!(
+            merge_parts(alloc, &words, &[most, one]),
+            Err(MergeFault::TotalTooLarge)
+        )
+    );
+    assert!(rt;
+        matches!(
+            merge_parts(alloc, &words, &[most, most]),
+            Err(MergeFault::TooManyFiles)
+        )
+    );
+    assert_eq!(rt; merge_parts(alloc, &words, &[])?.len(), 0);
+    Ok(())
+}

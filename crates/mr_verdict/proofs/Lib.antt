@@ -1,0 +1,4 @@
+pub mod TextLemmas
+pub mod ReadLemmas
+pub mod SpellLemmas
+pub mod OneLaws
