@@ -1,5 +1,5 @@
 -- The judge's loop over blocks, whatever walks the items and holds the outputs.
-use Rattle.std.proofs.Common.{◌≡◌, ◌⊎◌, ℕ, ◌+◌, ◌≤◌, true, false, Option, Some, None, List, [], length, ap, sym, subst, ◌∙◌, arith}
+use Rattle.std.proofs.Common.{◌≡◌, ℕ, ◌+◌, ◌≤◌, true, false, Some, List, sym, subst, arith}
 use Rattle.std.specs.Prelude.{Ok, Err}
 use Rattle.mr_certform.specs.declared.item.Item.{Item}
 use Rattle.mr_check.specs.declared.fault.No.TheVariants.{Malformed}
@@ -8,10 +8,10 @@ use Rattle.mr_check.specs.declared.items.Stop.TheVariants.{Fault, Device, TooLon
 use Rattle.mr_check.specs.Verdict.{Reached, start, entries_in}
 use Rattle.mr_check.specs.Steps.{Ground, subject_with, Room}
 use Rattle.mr_check.specs.Items.{Coming, Each, Some as IsSome}
-use Rattle.mr_check.specs.Blocks.{onto, has_end, Read, IsHalted, Judges, Judged}
+use Rattle.mr_check.specs.Blocks.{onto, Read, IsHalted, Judges, Judged}
 use Rattle.mr_check.specs.Outputs.{Ahead, Onward, Through, Fits, Some as IsSomeAhead, RowsJudged, begins}
 use Rattle.mr_check.proofs.BlockLemmas.{Reads}
-use Rattle.mr_check.proofs.JudgingLemmas.{Judging, judges_halted, judges_read, judges_fault, judges_ended, judges_stopped, judging_next, judging_first, ended_all, stood_open, room_next}
+use Rattle.mr_check.proofs.JudgingLemmas.{Judging, judges_halted, judges_read, judges_fault, judges_ended, judges_stopped, judging_next, judging_first}
 use Rattle.mr_check.proofs.OutputLemmas.{onward_same, onward_then, onward_through, onward_ends, any_of, begins_front}
 
 -- items were judged of outputs that may be

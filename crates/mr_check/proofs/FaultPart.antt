@@ -1,5 +1,5 @@
 -- A fault of a partition is true of what stands of it.
-use Rattle.std.proofs.Common.{◌≡◌, ◌≢◌, ◌⊎◌, ℕ, zero, suc, ◌+◌, ◌-◌, ◌<◌, ◌≤◌, Bool, true, false, Option, Some, None, List, [], ◌∷◌, ◌++◌, length, map, drop, refl, ap, sym, ◌∙◌, subst, inl, inr, arith, append_assoc, length-append, nat_eq, nat_le, eqb, cond, slice_index_or, ◌==◌}
+use Rattle.std.proofs.Common.{◌≡◌, ◌≢◌, ◌⊎◌, ℕ, zero, suc, ◌+◌, ◌-◌, ◌≤◌, Bool, true, false, Option, Some, None, List, [], ◌∷◌, ◌++◌, length, map, drop, refl, ap, sym, ◌∙◌, subst, inl, inr, arith, append_assoc, length-append, nat_eq, nat_le, eqb, cond, slice_index_or, ◌==◌}
 use Rattle.std.proofs.lemmas.Bool.{eqb-true, eq-eqb, leb-true, le-leb, false≢true}
 use Rattle.std.proofs.lemmas.List.{append-nil, length-map}
 use Rattle.std.proofs.Math.Seq.{get_or-append_seam}
@@ -10,7 +10,6 @@ use Rattle.std.specs.Str.{bytes_eq}
 use Rattle.std.specs.declared.cmp.Ordering.{Ordering}
 use Rattle.std.specs.declared.cmp.Ordering.TheVariants.{Less}
 use Rattle.mr_bytes.specs.declared.Name.{Name}
-use Rattle.mr_bytes.specs.declared.Value.{Value}
 use Rattle.mr_bytes.specs.Order.{key_order, name_order}
 use Rattle.mr_input.specs.Files.{nth_file}
 use Rattle.mr_certform.specs.declared.item.Item.{Item}
@@ -20,15 +19,15 @@ use Rattle.mr_certform.specs.declared.place.Place.TheVariants.{AtGroups, AtEntri
 use Rattle.mr_certform.specs.Grammar.{MayStand, InOrder}
 use Rattle.mr_certform.specs.Places as Places
 use Rattle.mr_bytes.specs.Pairs.{Triple}
-use Rattle.mr_sequential.specs.Good.{named, key_under, key_of, values_under, text_under}
+use Rattle.mr_sequential.specs.Good.{named, key_under, values_under, text_under}
 use Rattle.mr_sequential.proofs.KeyLaws.{bytes_eq-same}
 use Rattle.mr_sequential.proofs.NamedLaws.{named-Has}
 use Rattle.mr_check.specs.declared.fault.No.{No}
 use Rattle.mr_check.specs.declared.fault.No.TheVariants as Fault
-use Rattle.mr_check.specs.Verdict.{Reached, Subject, first, passes, start, tests, after, text_tests, end_tests, is_key_past, first_tests, later_tests, order_tests, with_entry, entry_tests, group_tests, behind_group, after_entry}
+use Rattle.mr_check.specs.Verdict.{Reached, Subject, first, passes, start, after, text_tests, end_tests, is_key_past, first_tests, later_tests, order_tests, with_entry, entry_tests, group_tests, behind_group, after_entry}
 use Rattle.mr_check.specs.VerdictLaws.{told, piece}
-use Rattle.mr_check.specs.FaultLaws.{GroupRead, PartRead, names_in, groups_in, part_read, whole, name_in, triple_in, IsUnknown, NamesFall, KeysDiffer, IsElsewhere, KeysFall, DifferFrom, TextsDiffer, IsWrongIn}
-use Rattle.mr_check.proofs.VerdictTests.{none_left, none_right, passed, text_stands}
+use Rattle.mr_check.specs.FaultLaws.{GroupRead, PartRead, names_in, groups_in, part_read, whole, name_in, triple_in, KeysFall, IsWrongIn}
+use Rattle.mr_check.proofs.VerdictTests.{none_left, text_stands}
 
 -- ---- the first of faults
 

@@ -1,20 +1,20 @@
 -- Of bytes that spell a certificate, what was read is the certificate.
-use Rattle.std.proofs.Common.{◌≡◌, ℕ, true, false, List, [], ◌∷◌, ◌++◌, length, map, refl, ap, sym, ◌∙◌, append_assoc}
+use Rattle.std.proofs.Common.{◌≡◌, ℕ, true, List, [], ◌∷◌, ◌++◌, length, map, refl, ap, ◌∙◌, append_assoc}
 use Rattle.std.proofs.lemmas.Bool.{eq-eqb, false≢true}
 use Rattle.std.proofs.lemmas.List.{append-nil}
 use Rattle.std.specs.List.{flat_map}
 use Rattle.mr_bytes.specs.declared.Name.{Name}
 use Rattle.mr_bytes.specs.declared.RecordName.{RecordName}
 use Rattle.mr_certform.specs.declared.item.Item.{Item}
-use Rattle.mr_certform.specs.declared.item.Item.TheVariants.{LiteralByte, Parts, SplitSize, FileLength, Skips, Skip, Groups, Entries, Entry, End}
-use Rattle.mr_certform.specs.Spelling.{items_of, is_ended}
-use Rattle.mr_certform.specs.Value.{Contents, Spells, job_items, input_items, skip_items, group_items, part_items, group_part_items, certificate_items}
+use Rattle.mr_certform.specs.declared.item.Item.TheVariants.{LiteralByte, Parts, SplitSize, FileLength, Skip, Groups, Entries, Entry, End}
+use Rattle.mr_certform.specs.Spelling.{is_ended}
+use Rattle.mr_certform.specs.Value.{Contents, job_items, input_items, skip_items, group_items, part_items, certificate_items}
 use Rattle.mr_certform.proofs.Certificates.{spelled_items, ended_items}
 use Rattle.mr_check.specs.Verdict.{item_eq}
 use Rattle.mr_check.specs.VerdictLaws.{skips_in, piece, parts_in}
-use Rattle.mr_check.specs.FaultLaws.{GroupRead, PartRead, names_in, groups_in, part_read, parts_read, whole, whole_part, ReadIsSpelled, EndedIsSpelled}
+use Rattle.mr_check.specs.FaultLaws.{names_in, groups_in, part_read, whole, whole_part, ReadIsSpelled, EndedIsSpelled}
 use Rattle.mr_check.proofs.VerdictHeader.{AreEqual}
-use Rattle.mr_check.proofs.FaultTruth.{ended_behind, through_ended, skips_behind, through_skips}
+use Rattle.mr_check.proofs.FaultTruth.{through_ended, through_skips}
 
 parts_behind : (i : Item) (is : List Item) → item_eq i i ≡ true → parts_in (i ∷ is) ≡ parts_in is
 parts_behind (Groups n) is h = absurd (false≢true h)

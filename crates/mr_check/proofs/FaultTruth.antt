@@ -1,9 +1,8 @@
 -- A fault that the verdict tells is true of the certificate that was read.
-use Rattle.std.proofs.Common.{◌≡◌, ◌≢◌, ◌⊎◌, ℕ, zero, suc, ◌+◌, ◌-◌, ◌<◌, ◌≤◌, Bool, true, false, Option, Some, None, Result, Err, List, [], ◌∷◌, ◌++◌, length, map, refl, ap, sym, ◌∙◌, subst, inl, inr, arith, append_assoc, length-append, nat_le, slice_index_or, ◌==◌}
+use Rattle.std.proofs.Common.{◌≡◌, ◌⊎◌, ℕ, zero, suc, ◌+◌, ◌-◌, ◌<◌, Bool, true, false, Option, Some, None, List, [], ◌∷◌, ◌++◌, length, map, refl, ap, sym, ◌∙◌, subst, inl, inr, arith, append_assoc, length-append, nat_le, slice_index_or, ◌==◌}
 use Rattle.std.proofs.lemmas.Bool.{eq-eqb, leb-false, false≢true}
-use Rattle.std.proofs.lemmas.List.{append-nil, length-map}
+use Rattle.std.proofs.lemmas.List.{length-map}
 use Rattle.std.specs.List.{slice_get}
-use Rattle.std.specs.Ordering.{is_lt}
 use Rattle.mr_bytes.specs.declared.RecordName.{RecordName}
 use Rattle.mr_bytes.specs.Order.{record_order}
 use Rattle.mr_jobs.specs.JobSpec.{job_literal}
@@ -20,9 +19,9 @@ use Rattle.mr_certform.proofs.Walks.{read_front}
 use Rattle.mr_splits.specs.Kept.{is_past}
 use Rattle.mr_check.specs.declared.fault.No.{No}
 use Rattle.mr_check.specs.declared.fault.No.TheVariants as Fault
-use Rattle.mr_check.specs.Verdict.{Case, Subject, passes, start, first, subject_of, last_of, item_eq, job_wanted, input_wanted, wanted_faults, entries_in, Accepted, case_of, verdict_of}
+use Rattle.mr_check.specs.Verdict.{Case, Subject, passes, start, first, subject_of, last_of, item_eq, job_wanted, input_wanted, wanted_faults, entries_in, case_of}
 use Rattle.mr_check.specs.VerdictLaws.{told, or_else, fault_of, skips_in, piece, parts_in, front_skips, front_count, front_faults, part_fault, least_fault, back_fault}
-use Rattle.mr_check.specs.FaultLaws.{PartRead, part_read, parts_read, IsWrongIn, IsWrongSomewhere, Depart, Announced, SkipsFall, IsNoRecord, AreUnnamed, IsTrueOf, FaultsAreTrue}
+use Rattle.mr_check.specs.FaultLaws.{part_read, parts_read, IsWrongIn, Depart, SkipsFall, IsNoRecord, IsTrueOf, FaultsAreTrue}
 use Rattle.mr_check.proofs.FaultPart.{Tells, either, failed, untold, get-seam, not_less, part_wrong}
 use Rattle.mr_check.proofs.VerdictHeader.{AreEqual, eq_is, equal_job, equal_input}
 use Rattle.mr_check.proofs.VerdictPlace.{fault_by_place}

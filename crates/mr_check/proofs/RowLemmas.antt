@@ -1,5 +1,5 @@
 -- Rows that are judged in turn, whatever holds the outputs.
-use Rattle.std.proofs.Common.{◌≡◌, ◌⊎◌, ℕ, ◌+◌, ◌<◌, ◌≤◌, true, false, List, [], ◌∷◌, length, drop, get_or, ap, sym, subst, inl, inr, arith}
+use Rattle.std.proofs.Common.{◌≡◌, ℕ, ◌+◌, ◌<◌, true, false, List, ◌∷◌, length, drop, get_or, sym, subst}
 use Rattle.std.specs.Prelude.{Ok, Err}
 use Rattle.std.proofs.lemmas.List.{drop_more}
 use Rattle.mr_certform.specs.declared.item.Item.{Item}
@@ -9,11 +9,10 @@ use Rattle.mr_check.specs.declared.items.Stop.{Stop}
 use Rattle.mr_check.specs.declared.items.Stop.TheVariants.{Fault, Device, TooLong, Output, LongOutput}
 use Rattle.mr_check.specs.Verdict.{Reached, tests, after}
 use Rattle.mr_check.specs.Steps.{Ground, subject_with}
-use Rattle.mr_check.specs.Blocks.{items_in, GoesOn, Judged}
-use Rattle.mr_check.specs.Fronts.{opens}
-use Rattle.mr_check.specs.Outputs.{Ahead, Onward, Through, Tested, RowsJudged, begins}
+use Rattle.mr_check.specs.Blocks.{items_in, Judged}
+use Rattle.mr_check.specs.Outputs.{Ahead, Onward, Tested, RowsJudged, begins}
 use Rattle.mr_check.proofs.BlockLemmas.{Stands, blank, stands_next, stands_more, stands_ended, stands_fault, stands_all}
-use Rattle.mr_check.proofs.OutputLemmas.{onward_then, onward_through, onward_as, no_entry, opens_first}
+use Rattle.mr_check.proofs.OutputLemmas.{onward_then, onward_through, onward_as}
 
 -- so many of the rows stood
 abbrev pub StoodTo : Ground → Reached → Reached → ℕ → List FoundItem → List (List ℕ) → Type 0

@@ -7,11 +7,10 @@ use Rattle.mr_jobs.specs.JobSpec.{RequestSpec}
 use Rattle.mr_splits.specs.Named.{named_records}
 use Rattle.mr_splits.specs.Cut.{is_record}
 use Rattle.mr_certform.specs.declared.item.Item.{Item}
-use Rattle.mr_certform.specs.declared.item.Item.TheVariants.{Skips, Skip, Groups, Entry, End}
+use Rattle.mr_certform.specs.declared.item.Item.TheVariants.{Skips, Skip, Groups, End}
 use Rattle.mr_certform.specs.declared.place.Place.TheVariants.{AtMagic}
 use Rattle.mr_certform.specs.Grammar.{AreBytes, InOrder}
 use Rattle.mr_certform.specs.Spelling.{items_of, bytes_from, is_ended}
-use Rattle.mr_certform.specs.Value.{Contents, Spells}
 use Rattle.mr_sequential.specs.Emitted.{emitted}
 use Rattle.mr_sequential.specs.Good.{IsGoodResult}
 use Rattle.mr_splits.specs.Kept.{is_past}

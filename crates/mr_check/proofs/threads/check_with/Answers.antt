@@ -1,5 +1,4 @@
-use Rattle.std.proofs.Common.{◌≡◌, None, MatchResult, List, refl, subst, ap, ◌∙◌}
-use Rattle.mr_bytes.specs.Pairs.{Triple}
+use Rattle.std.proofs.Common.{◌≡◌, None, MatchResult, refl, subst, ap, ◌∙◌}
 use Rattle.mr_input.specs.Files.{contents}
 use Rattle.mr_certform.specs.Walking.{items_left, halt}
 use Rattle.mr_index.specs.Index.{triples_of}
