@@ -10,6 +10,7 @@ pub mod GrammarLemmas
 pub mod HeadlineLemmas
 pub mod IndexLemmas
 pub mod JudgeLemmas
+mod KindLemmas
 pub mod JudgingLemmas
 pub mod MetLemmas
 pub mod MeterLemmas
@@ -33,3 +34,5 @@ pub mod VerdictRowLemmas
 pub mod VerdictTests
 pub mod VerdictYes
 mod ItemLemmas
+mod ReadingLemmas
+mod FromLemmas

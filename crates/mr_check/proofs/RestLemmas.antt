@@ -1,5 +1,5 @@
 -- From what is said of the partitions to the verdict, whatever walks the items and holds the outputs.
-use Rattle.std.proofs.Common.{◌≡◌, ◌⊎◌, ℕ, zero, suc, ◌+◌, ◌≤◌, true, None, List, [], ◌∷◌, length, refl, ap, sym, subst, ◌∙◌, inl, inr, arith}
+use Rattle.std.proofs.Common.{◌≡◌, ◌⊎◌, ℕ, zero, suc, ◌+◌, true, List, [], ◌∷◌, length, refl, ap, sym, subst, ◌∙◌, inl, inr, arith}
 use Rattle.std.specs.Prelude.{Result, Ok, Err}
 use Rattle.mr_bytes.specs.declared.RecordName.{RecordName}
 use Rattle.mr_jobs.specs.JobSpec.{RequestSpec}
@@ -8,24 +8,23 @@ use Rattle.mr_certform.specs.declared.item.Item.{Item}
 use Rattle.mr_certform.specs.declared.item.Item.TheVariants.{Groups, End}
 use Rattle.mr_certform.specs.declared.place.Place.TheVariants.{AtMagic, AtSkips}
 use Rattle.mr_certform.specs.Places.{partitions}
-use Rattle.mr_certform.specs.Grammar.{InOrder}
+use Rattle.mr_check.specs.Kinds.{InKind}
 use Rattle.mr_certform.specs.Spelling.{items_of, stop}
-use Rattle.mr_certform.proofs.Walks.{read_front}
 use Rattle.mr_check.specs.declared.judge.Yes.{Yes}
-use Rattle.mr_check.specs.declared.fault.No.{No}
 use Rattle.mr_check.specs.declared.fault.No.TheVariants.{OtherJob, OtherInput, OutOfMemory}
 use Rattle.mr_check.specs.declared.items.Stop.{Stop}
 use Rattle.mr_check.specs.declared.items.Stop.TheVariants.{Fault, Device, TooLong, Output, LongOutput}
 use Rattle.mr_check.specs.Verdict.{start, subject_of, part_faults, count_faults, accepted_by, entries_in, first}
-use Rattle.mr_check.specs.Steps.{Answers, Counted, Listed, counted, listed, header_met, awaits_skips, skips_in_front, case_at}
-use Rattle.mr_check.specs.Items.{Coming, Some as IsSome, Answered, Behind, IsStopped, Each}
+use Rattle.mr_check.specs.Steps.{Counted, Listed, counted, listed, header_met, case_at}
+use Rattle.mr_check.specs.Items.{Coming, Some as IsSome, Answered, IsStopped, Each}
 use Rattle.mr_check.specs.Blocks.{IsTold, Judges}
 use Rattle.mr_input.specs.Files.{nth_file}
 use Rattle.mr_check.specs.Outputs.{Ahead, Fits, Leaves, Through, Looked, IsRestTold, RestJudged, OfBytes, IsVerdict, AllJudged, begins}
 use Rattle.mr_check.proofs.Faults.{told_is}
 use Rattle.mr_check.proofs.GrammarLemmas.{awaits, skips_place, partitions_place}
+use Rattle.mr_check.proofs.KindLemmas.{in_kind}
 use Rattle.mr_check.proofs.MeterLemmas.{rest_entries, header_entries}
-use Rattle.mr_check.proofs.VerdictLemmas.{accepted, counted_fault, front_listed, rest_faults, rest_fault, rest_accepted, header_ok, verdict_ok, verdict_fault, verdict_header}
+use Rattle.mr_check.proofs.VerdictLemmas.{accepted, counted_fault, rest_faults, rest_fault, rest_accepted, header_ok, verdict_ok, verdict_fault, verdict_header}
 use Rattle.mr_check.proofs.JudgeLemmas.{header_is}
 
 -- no memory
@@ -77,27 +76,27 @@ skips_judged old mid new o files outs most many n cut e m c some a (inr (js, (at
 
 -- ---- the partitions
 
-in_front : (r : ℕ) (is : List Item) → InOrder (partitions r) is → begins is ≡ true
+in_front : (r : ℕ) (is : List Item) → InKind (partitions r) is → begins is ≡ true
 in_front r [] h = refl
 in_front r (Groups n ∷ is) h = refl
 in_front r (End ∷ is) h = refl
 in_front zero (i ∷ is) h = absurd (h.0)
 in_front (suc r) (i ∷ is) h = absurd (h.0)
 
-pub parts_begin : (old next : Coming) (o : RequestSpec) (cut : Cut) (most many : ℕ) (skips : List RecordName) → ((is : List Item) (at : ℕ) → old is at → InOrder (AtSkips o.parts) is) → Listing old next cut most many skips → Each next begins
+pub parts_begin : (old next : Coming) (o : RequestSpec) (cut : Cut) (most many : ℕ) (skips : List RecordName) → ((is : List Item) (at : ℕ) → old is at → InKind (AtSkips o.parts) is) → Listing old next cut most many skips → Each next begins
 parts_begin old next o cut most many skips order l is at n =
     let t = l is at n in
-    in_front o.parts is (partitions_place (records_of cut) o.parts at at most t.0 (record { many = many; behind = t.1.0 }) (record { skips = skips; behind = is }) (order t.0 at t.1.1.0) t.1.1.1.0 t.1.1.1.1)
+    in_front o.parts is (partitions_place InKind in_kind (records_of cut) o.parts at at most t.0 (record { many = many; behind = t.1.0 }) (record { skips = skips; behind = is }) (order t.0 at t.1.1.0) t.1.1.1.0 t.1.1.1.1)
 
-part_faults_same : (o : RequestSpec) (files others outs : List (List ℕ)) (most at many : ℕ) (cut : Cut) (skips : List RecordName) (ks js is : List Item) → most ≡ o.skips → cut ≡ record { size = o.split; files = files } → others ≡ files → InOrder (AtSkips o.parts) ks
+part_faults_same : (o : RequestSpec) (files others outs : List (List ℕ)) (most at many : ℕ) (cut : Cut) (skips : List RecordName) (ks js is : List Item) → most ≡ o.skips → cut ≡ record { size = o.split; files = files } → others ≡ files → InKind (AtSkips o.parts) ks
     → counted at most ks ≡ Ok (record { many = many; behind = js }) → listed (records_of cut) at many [] js ≡ Ok (record { skips = skips; behind = is })
     → first (part_faults (subject_of (case_at o others outs 0) skips) at start is) ≡ first (count_faults (case_at o files outs at) ks)
 part_faults_same o files others outs most at many cut skips ks js is m c same order k l =
     ap (λ fs. first (part_faults (subject_of (case_at o fs outs 0) skips) at start is)) same
-    ∙ sym (ap first (rest_faults (case_at o files outs at) most at cut ks (record { many = many; behind = js }) (record { skips = skips; behind = is }) (awaits o.parts ks order) m k refl c l))
+    ∙ sym (ap first (rest_faults (case_at o files outs at) most at cut ks (record { many = many; behind = js }) (record { skips = skips; behind = is }) (awaits InKind in_kind o.parts ks order) m k refl c l))
 
 pub pairs_fault : (old next : Coming) (o : RequestSpec) (files others outs : List (List ℕ)) (most many n m : ℕ) (cut : Cut) (skips : List RecordName) (e : Stop) → most ≡ o.skips → cut ≡ record { size = o.split; files = files } → others ≡ files
-    → ((is : List Item) (at : ℕ) → old is at → InOrder (AtSkips o.parts) is) → Listing old next cut most many skips → Judges next (subject_of (case_at o others outs 0) skips) n m (Err e) → RestJudged old o files n m (Err e) outs
+    → ((is : List Item) (at : ℕ) → old is at → InKind (AtSkips o.parts) is) → Listing old next cut most many skips → Judges next (subject_of (case_at o others outs 0) skips) n m (Err e) → RestJudged old o files n m (Err e) outs
 pairs_fault old next o files others outs most many n m cut skips e most_is c same order l (is, (at, (there, (told, looked)))) =
     let t = l is at there in
     let count = rest_entries (records_of cut) at most at t.0 (record { many = many; behind = t.1.0 }) (record { skips = skips; behind = is }) t.1.1.1.0 t.1.1.1.1 in
@@ -112,7 +111,7 @@ pairs_fault old next o files others outs most many n m cut skips e most_is c sam
     by at is ks LongOutput told same = tt
 
 pub pairs_fine : (old next : Coming) (o : RequestSpec) (files others outs : List (List ℕ)) (most many n m : ℕ) (cut : Cut) (y : Yes) → most ≡ o.skips → cut ≡ record { size = o.split; files = files } → others ≡ files
-    → ((is : List Item) (at : ℕ) → old is at → InOrder (AtSkips o.parts) is) → Listing old next cut most many y.skips.items → Judges next (subject_of (case_at o others outs 0) y.skips.items) n m (Ok y.pairs) → RestJudged old o files n m (Ok y) outs
+    → ((is : List Item) (at : ℕ) → old is at → InKind (AtSkips o.parts) is) → Listing old next cut most many y.skips.items → Judges next (subject_of (case_at o others outs 0) y.skips.items) n m (Ok y.pairs) → RestJudged old o files n m (Ok y) outs
 pairs_fine old next o files others outs most many n m cut y most_is c same order l (is, (at, (there, (told, looked)))) =
     let t = l is at there in
     let front = order t.0 at t.1.1.0 in
@@ -120,18 +119,16 @@ pairs_fine old next o files others outs most many n m cut y most_is c same order
     let r : Listed = record { skips = y.skips.items; behind = is } in
     let count = rest_entries (records_of cut) at most at t.0 k r t.1.1.1.0 t.1.1.1.1 in
     let faults = part_faults_same o files others outs most at many cut y.skips.items t.0 t.1.0 is most_is c same front t.1.1.1.0 t.1.1.1.1 in
-    (t.0, (at, (t.1.1.0, ((sym faults ∙ told.0, rest_accepted (records_of cut) at most at t.0 k r (awaits o.parts t.0 front) t.1.1.1.0 t.1.1.1.1 ∙ ap (accepted y.skips.items) (sym told.1)), (looked.0, omega (arith, looked.1, count))))))
+    (t.0, (at, (t.1.1.0, ((sym faults ∙ told.0, rest_accepted (records_of cut) at most at t.0 k r (awaits InKind in_kind o.parts t.0 front) t.1.1.1.0 t.1.1.1.1 ∙ ap (accepted y.skips.items) (sym told.1)), (looked.0, omega (arith, looked.1, count))))))
 
 -- ---- all of it
 
-pub order_behind : (old mid : Coming) (o : RequestSpec) (files : List (List ℕ)) → ((is : List Item) (at : ℕ) → old is at → (bytes : List ℕ) × OfBytes is at bytes)
-    → ((is : List Item) (at : ℕ) → mid is at → (js : List Item) × (old js at × (header_met at o files js ≡ Ok is))) → (is : List Item) (at : ℕ) → mid is at → InOrder (AtSkips o.parts) is
-order_behind old mid o files bytes met is at n =
+pub order_behind : (old mid : Coming) (o : RequestSpec) (files : List (List ℕ)) → ((is : List Item) (at : ℕ) → old is at → InKind AtMagic is)
+    → ((is : List Item) (at : ℕ) → mid is at → (js : List Item) × (old js at × (header_met at o files js ≡ Ok is))) → (is : List Item) (at : ℕ) → mid is at → InKind (AtSkips o.parts) is
+order_behind old mid o files front met is at n =
     let t = met is at n in
-    let b = bytes t.0 at t.1.0 in
     let h = header_ok at o files t.0 is t.1.1 in
-    let front : InOrder AtMagic t.0 = subst (InOrder AtMagic) (sym b.1.items_are) (read_front b.0 b.1.bytes_are).0 in
-    skips_place o files at at OtherJob OtherInput t.0 h.0 is front h.1 h.2
+    skips_place InKind in_kind o files at at OtherJob OtherInput t.0 h.0 is (front t.0 at t.1.0) h.1 h.2
 
 header_told : (o : RequestSpec) (files outs : List (List ℕ)) (at : ℕ) (js : List Item) (e : Stop) → IsStopped (header_met at o files js) e → (bytes : List ℕ) → OfBytes js at bytes → length outs ≡ o.parts → IsVerdict o files outs bytes (Err e)
 header_told o files outs at js (Fault f) h bytes of count = inr (verdict_header o files outs bytes f count (header_is o files bytes at js (Err f) of.stop_is of.items_are h))

@@ -1,7 +1,11 @@
 pub mod Verdict
 pub mod Steps
+pub mod Kinds
 pub mod Items
 pub mod Outputs
+pub mod Reading
+pub mod Readers
+pub mod From
 pub mod Blocks
 pub mod Fronts
 pub mod VerdictRows

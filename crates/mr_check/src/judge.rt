@@ -3,8 +3,7 @@ ghost use Rattle.std.specs.Prelude.{◌≡◌, ◌⊎◌, ℕ, List, ◌<◌, �
 ghost use Rattle.mr_input.specs.Files.{contents, split_total};
 ghost use Rattle.mr_splits.specs.Cut.{records_of};
 ghost use Rattle.mr_certform.specs.declared.item.Item.{Item as Read};
-ghost use Rattle.mr_certform.specs.declared.place.Place.TheVariants.{AtSkips};
-ghost use Rattle.mr_certform.specs.Grammar.{InOrder};
+ghost use Rattle.mr_certform.specs.declared.place.Place.TheVariants.{AtMagic, AtSkips};
 ghost use Rattle.mr_certform.specs.Walking.{items_left, halt};
 ghost use Rattle.mr_certform.specs.Spelling.{items_of, stop};
 ghost use Rattle.mr_check.specs.declared.fault.No.TheVariants.{OutOfMemory};
@@ -13,8 +12,9 @@ ghost use Rattle.mr_check.specs.Headline.{IsCertified, accepted_of};
 ghost use Rattle.mr_check.specs.Metered.{IsBounded, IsExact, cut_by};
 ghost use Rattle.mr_check.specs.Steps.{case_at};
 ghost use Rattle.mr_check.specs.Blocks.{Judges};
+ghost use Rattle.mr_check.specs.Kinds.{InKind};
 ghost use Rattle.mr_check.specs.Items.{Some as IsSome, Each};
-ghost use Rattle.mr_check.specs.Outputs.{Some as IsSomeAhead, Fits, Through, RestJudged, OfBytes, AllJudged, HaltsItems, HaltsOutputs, begins};
+ghost use Rattle.mr_check.specs.Outputs.{Some as IsSomeAhead, Fits, Through, RestJudged, AllJudged, HaltsItems, HaltsOutputs, begins};
 
 use crate::facts::Basis;
 use crate::fault::No;
@@ -102,7 +102,7 @@ fn check_rest<I: Items, O: Outputs>(
     requires sound { I.sound walker.old }
     requires given { IsSome (I.gives walker.old) }
     requires few { I.most walker.old < 2 ^ 63 }
-    requires order { (is : List Read) (at : ℕ) → I.gives walker.old is at → InOrder (AtSkips request.now.parts) is }
+    requires order { (is : List Read) (at : ℕ) → I.gives walker.old is at → InKind (AtSkips request.now.parts) is }
     requires count { (meter.old.lookups ≤ 2 ^ 63) × (meter.old.mapped ≤ 2 ^ 63) }
     requires outputs { IsSomeAhead (O.gives outputs.old) }
     requires ahead { Fits (O.gives outputs.old) start }
@@ -145,7 +145,7 @@ pub(crate) fn judge_all<I: Items, O: Outputs>(
     requires sound { I.sound walker.old }
     requires given { IsSome (I.gives walker.old) }
     requires few { I.most walker.old ≤ 2 ^ 63 }
-    requires front { (is : List Read) (at : ℕ) → I.gives walker.old is at → (bytes : List ℕ) × OfBytes is at bytes }
+    requires front { (is : List Read) (at : ℕ) → I.gives walker.old is at → InKind AtMagic is }
     requires count { (meter.old.lookups ≤ 2 ^ 63) × (meter.old.mapped ≤ 2 ^ 63) }
     requires outputs { IsSomeAhead (O.gives outputs.old) }
     requires ahead { Fits (O.gives outputs.old) start }

@@ -7,6 +7,7 @@ mod comparing;
 mod entry_tests;
 mod facts;
 mod fault;
+mod from;
 mod front;
 mod front_bytes;
 mod fronts;
@@ -14,13 +15,17 @@ mod heading;
 mod items;
 mod judge;
 mod laws;
+mod lent;
 mod outputs;
 mod parts;
+mod piece;
 mod progress;
+mod readers;
 mod skips;
 mod threads;
 
 pub use fault::{No, is_same_fault};
+pub use from::{NoFrom, Source, check_from, check_from_watched};
 pub use judge::{Yes, check, check_metered, check_watched};
 pub use laws::{
     fault_law, locality_law, partition_law, place_law, worked_places, worked_rows, yes_law,

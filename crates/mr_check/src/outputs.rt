@@ -115,7 +115,7 @@ fn outputs_from<'a>(outputs: &'a [Vec<u8>], p: u64) -> &'a [Vec<u8>]
 }
 
 /// What comes behind so many bytes.
-fn behind<'a>(bytes: &'a [u8], count: u64) -> &'a [u8]
+pub(crate) fn behind<'a>(bytes: &'a [u8], count: u64) -> &'a [u8]
     ensures { result.now ≡ drop count bytes.entry.now }
 {
     match bytes.get(count as usize..) {

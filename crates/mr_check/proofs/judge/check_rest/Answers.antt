@@ -10,18 +10,20 @@ use Rattle.mr_check.specs.Steps.{case_at}
 use Rattle.mr_check.specs.Blocks.{Judges}
 use Rattle.mr_check.specs.Outputs.{RestJudged}
 use Rattle.mr_check.proofs.GrammarLemmas.{awaits}
+use Rattle.mr_check.proofs.KindLemmas.{in_kind}
+use Rattle.mr_check.specs.Kinds.{InKind}
 use Rattle.mr_check.proofs.VerdictLemmas.{front_listed}
 use Rattle.mr_check.proofs.OutputLemmas.{through_as, through_all}
 use Rattle.mr_check.proofs.RestLemmas.{no_room, count_judged, listing, skips_judged, parts_begin, pairs_fault, pairs_fine}
 use Rattle.mr_check.proofs.judge.check_rest.Goals as goal
 
 pub expect_count-requires-clause-awaits : goal.expect_count-requires-clause-awaits
-expect_count-requires-clause-awaits g c is at there = awaits c.args.request.now.parts is (c.requires.order is at there)
+expect_count-requires-clause-awaits g c is at there = awaits InKind in_kind c.args.request.now.parts is (c.requires.order is at there)
 
 pub take_skips-requires-clause-front : goal.take_skips-requires-clause-front
 take_skips-requires-clause-front g c is at there =
     let t = c.in_ok-listed.ensures.counted is at there in
-    front_listed at c.max_skips.result t.0 (record { many = c.in_ok-listed.listed; behind = is }) (awaits c.args.request.now.parts t.0 (c.requires.order t.0 at t.1.0)) t.1.1
+    front_listed at c.max_skips.result t.0 (record { many = c.in_ok-listed.listed; behind = is }) (awaits InKind in_kind c.args.request.now.parts t.0 (c.requires.order t.0 at t.1.0)) t.1.1
 
 pub check_with-requires-clause-begins : goal.check_with-requires-clause-begins
 check_with-requires-clause-begins g c =

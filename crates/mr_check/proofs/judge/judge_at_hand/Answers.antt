@@ -1,9 +1,12 @@
-use Rattle.std.proofs.Common.{◌≡◌, ℕ, List, length, ap, ◌∙◌, subst, inr, arith}
+use Rattle.std.proofs.Common.{◌≡◌, ℕ, List, length, ap, sym, ◌∙◌, subst, inr, arith}
 use Rattle.std.specs.Prelude.{Vec, Ok, Err}
 use Rattle.std.specs.Global.{Global}
 use Rattle.std.proofs.lemmas.List.{length-map}
 use Rattle.mr_input.specs.Files.{contents}
 use Rattle.mr_certform.specs.declared.item.Item.{Item}
+use Rattle.mr_certform.specs.declared.place.Place.TheVariants.{AtMagic}
+use Rattle.mr_check.specs.Kinds.{InKind}
+use Rattle.mr_check.proofs.KindLemmas.{kinds_of}
 use Rattle.mr_check.specs.Outputs.{OfBytes, IsVerdict}
 use Rattle.mr_check.proofs.VerdictLemmas.{verdict_count}
 use Rattle.mr_check.proofs.JudgeLemmas.{as_many}
@@ -17,14 +20,7 @@ returns-then-outputs-parts-clause-verdict g c =
     inr (verdict_count c.args.request.now c.args.input.now (contents c.args.outputs.now) c.args.certificate.now (λ h. c.if-outputs-parts.true (let l : length (contents c.args.outputs.now) ≡ length c.args.outputs.now = length-map c.args.outputs.now (λ (f : Vec ℕ Global). f.items) in omega (arith, h, l, c.parts.ensures.same))))
 
 pub judge_all-requires-clause-front : goal.judge_all-requires-clause-front
-judge_all-requires-clause-front g c is at e = (
-  c.args.certificate.now,
-  record {
-    bytes_are = λ i. (let b = c.type_inv.certificate i in omega arith);
-    items_are = e.0 ∙ c.walk-walker.ensures.items;
-    stop_is = e.1 ∙ c.walk-walker.ensures.stop;
-  },
-)
+judge_all-requires-clause-front g c is at e = subst (InKind AtMagic) (sym (e.0 ∙ c.walk-walker.ensures.items)) (kinds_of c.args.certificate.now)
 
 pub judge_all-requires-clause-ahead : goal.judge_all-requires-clause-ahead
 judge_all-requires-clause-ahead g c =

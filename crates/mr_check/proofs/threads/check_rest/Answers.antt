@@ -8,13 +8,15 @@ use Rattle.mr_check.specs.declared.fault.No.{No}
 use Rattle.mr_check.specs.Verdict.{Case, start, subject_of, part_faults, count_faults, first}
 use Rattle.mr_check.specs.Steps.{Listed, case_at}
 use Rattle.mr_check.proofs.Faults.{told_is}
+use Rattle.mr_certform.specs.Grammar.{InOrder}
 use Rattle.mr_check.proofs.GrammarLemmas.{awaits, partitions_place}
+use Rattle.mr_check.proofs.KindLemmas.{in_order}
 use Rattle.mr_check.proofs.JudgeLemmas.{told_fault}
 use Rattle.mr_check.proofs.VerdictLemmas.{front_listed, rest_faults, rest_fault, rest_few, rest_accepted, case_same, accepted}
 use Rattle.mr_check.proofs.threads.check_rest.Goals as goal
 
 pub expect_count_of-requires : goal.expect_count_of-requires
-expect_count_of-requires g c = awaits c.args.request.now.parts (items_left c.args.walker.now) c.requires.order
+expect_count_of-requires g c = awaits InOrder in_order c.args.request.now.parts (items_left c.args.walker.now) c.requires.order
 
 pub returns-in_err-skips : goal.returns-in_err-skips
 returns-in_err-skips g c =
@@ -35,7 +37,7 @@ pub check_with-requires-clause-order : goal.check_with-requires-clause-order
 check_with-requires-clause-order g c κs within =
     let w = c.args.walker.now in
     let r : Listed = record { skips = c.in_ok-skips.skips.items; behind = items_left c.take_skips_of.new.walker } in
-    partitions_place (records_of c.in_ok-plan.plan) c.args.request.now.parts (halt w) (halt c.expect_count_of.new.walker) c.max_skips.result (items_left w) (record { many = c.in_ok-listed.listed; behind = items_left c.expect_count_of.new.walker }) r c.requires.order c.in_ok-listed.ensures.counted c.in_ok-skips.ensures.listed
+    partitions_place InOrder in_order (records_of c.in_ok-plan.plan) c.args.request.now.parts (halt w) (halt c.expect_count_of.new.walker) c.max_skips.result (items_left w) (record { many = c.in_ok-listed.listed; behind = items_left c.expect_count_of.new.walker }) r c.requires.order c.in_ok-listed.ensures.counted c.in_ok-skips.ensures.listed
 
 pub returns-in_err-pairs : goal.returns-in_err-pairs
 returns-in_err-pairs g c =
@@ -47,7 +49,7 @@ returns-in_err-pairs g c =
     let p = err_from_is_err_and c.from_residual-in_err-pairs.result c.from_residual-in_err-pairs.ensures.1 in
     let e : No = c.in_err-pairs.field-0.0 in
     let r : Listed = record { skips = skips; behind = items_left c.take_skips_of.new.walker } in
-    let faults = rest_faults case c.max_skips.result (halt c.expect_count_of.new.walker) c.in_ok-plan.plan (items_left w) (record { many = c.in_ok-listed.listed; behind = items_left c.expect_count_of.new.walker }) r (awaits o.parts (items_left w) c.requires.order) c.max_skips.ensures.same c.in_ok-listed.ensures.counted c.in_ok-listed.ensures.stop c.in_ok-plan.ensures.plan c.in_ok-skips.ensures.listed in
+    let faults = rest_faults case c.max_skips.result (halt c.expect_count_of.new.walker) c.in_ok-plan.plan (items_left w) (record { many = c.in_ok-listed.listed; behind = items_left c.expect_count_of.new.walker }) r (awaits InOrder in_order o.parts (items_left w) c.requires.order) c.max_skips.ensures.same c.in_ok-listed.ensures.counted c.in_ok-listed.ensures.stop c.in_ok-plan.ensures.plan c.in_ok-skips.ensures.listed in
     let at : halt c.take_skips_of.new.walker ≡ halt w = c.in_ok-skips.ensures.stop ∙ c.in_ok-listed.ensures.stop in
     let others : List (List ℕ) = c.in_ok-plan.plan.files in
     let same = ap (λ (ss : List RecordName). part_faults (subject_of (case_at o others outputs (halt c.take_skips_of.new.walker)) ss) (halt c.take_skips_of.new.walker) start (items_left c.take_skips_of.new.walker)) c.deref.ensures.value
@@ -62,15 +64,15 @@ returns g c =
     let skips : List RecordName = c.in_ok-skips.skips.items in
     let case : Case = case_at o c.args.input.now outputs (halt w) in
     let r : Listed = record { skips = skips; behind = items_left c.take_skips_of.new.walker } in
-    let faults = rest_faults case c.max_skips.result (halt c.expect_count_of.new.walker) c.in_ok-plan.plan (items_left w) (record { many = c.in_ok-listed.listed; behind = items_left c.expect_count_of.new.walker }) r (awaits o.parts (items_left w) c.requires.order) c.max_skips.ensures.same c.in_ok-listed.ensures.counted c.in_ok-listed.ensures.stop c.in_ok-plan.ensures.plan c.in_ok-skips.ensures.listed in
+    let faults = rest_faults case c.max_skips.result (halt c.expect_count_of.new.walker) c.in_ok-plan.plan (items_left w) (record { many = c.in_ok-listed.listed; behind = items_left c.expect_count_of.new.walker }) r (awaits InOrder in_order o.parts (items_left w) c.requires.order) c.max_skips.ensures.same c.in_ok-listed.ensures.counted c.in_ok-listed.ensures.stop c.in_ok-plan.ensures.plan c.in_ok-skips.ensures.listed in
     let at : halt c.take_skips_of.new.walker ≡ halt w = c.in_ok-skips.ensures.stop ∙ c.in_ok-listed.ensures.stop in
     let others : List (List ℕ) = c.in_ok-plan.plan.files in
     let same = ap (λ (ss : List RecordName). part_faults (subject_of (case_at o others outputs (halt c.take_skips_of.new.walker)) ss) (halt c.take_skips_of.new.walker) start (items_left c.take_skips_of.new.walker)) c.deref.ensures.value
     ∙ case_same o c.args.input.now others outputs skips (halt w) (halt c.take_skips_of.new.walker) (items_left c.take_skips_of.new.walker) (ap (λ (k : Cut). k.files) c.in_ok-plan.ensures.plan) at in
-    let awaited = awaits o.parts (items_left w) c.requires.order in
+    let awaited = awaits InOrder in_order o.parts (items_left w) c.requires.order in
     (ap first (faults ∙ sym same) ∙ c.in_ok-pairs.ensures.0, rest_accepted (records_of c.in_ok-plan.plan) (halt w) c.max_skips.result (halt c.expect_count_of.new.walker) (items_left w) (record { many = c.in_ok-listed.listed; behind = items_left c.expect_count_of.new.walker }) r awaited c.in_ok-listed.ensures.counted c.in_ok-skips.ensures.listed ∙ ap (accepted skips) (sym c.in_ok-pairs.ensures.1))
 
 pub take_skips_of-requires : goal.take_skips_of-requires
 take_skips_of-requires g c =
     let w = c.args.walker.now in
-    front_listed (halt w) c.max_skips.result (items_left w) (record { many = c.in_ok-listed.listed; behind = items_left c.expect_count_of.new.walker }) (awaits c.args.request.now.parts (items_left w) c.requires.order) c.in_ok-listed.ensures.counted
+    front_listed (halt w) c.max_skips.result (items_left w) (record { many = c.in_ok-listed.listed; behind = items_left c.expect_count_of.new.walker }) (awaits InOrder in_order c.args.request.now.parts (items_left w) c.requires.order) c.in_ok-listed.ensures.counted

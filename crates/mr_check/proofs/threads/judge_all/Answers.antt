@@ -13,6 +13,7 @@ use Rattle.mr_certform.proofs.Walks.{read_front}
 use Rattle.mr_check.specs.declared.fault.No.{No}
 use Rattle.mr_check.specs.declared.fault.No.TheVariants.{OtherJob, OtherInput}
 use Rattle.mr_check.proofs.GrammarLemmas.{skips_place}
+use Rattle.mr_check.proofs.KindLemmas.{in_order}
 use Rattle.mr_check.proofs.JudgeLemmas.{as_many, header_is, rest_verdict}
 use Rattle.mr_check.proofs.VerdictLemmas.{header_ok, header_few, verdict_count, verdict_header}
 use Rattle.mr_check.proofs.threads.judge_all.Goals as goal
@@ -40,7 +41,7 @@ check_rest-requires-clause-order g c κs within =
     let met = header_is o files bytes (halt c.walk-walker.result) (items_left c.walk-walker.result) (Ok ks) c.walk-walker.ensures.stop c.walk-walker.ensures.items c.in_ok-expect_header_of.ensures.met in
     let h = header_ok (stop bytes) o files (items_of bytes) ks met in
     let order : InOrder AtMagic (items_of bytes) = (read_front bytes (λ i. let b = c.type_inv.certificate i in omega arith)).0 in
-    skips_place o files (stop bytes) (stop bytes) OtherJob OtherInput (items_of bytes) h.0 ks order h.1 h.2
+    skips_place InOrder in_order o files (stop bytes) (stop bytes) OtherJob OtherInput (items_of bytes) h.0 ks order h.1 h.2
 
 pub check_rest-requires-clause-few : goal.check_rest-requires-clause-few
 check_rest-requires-clause-few g c κs within =

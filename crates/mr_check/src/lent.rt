@@ -1,0 +1,30 @@
+//! A reader that is lent.
+use mr_store::{CountedRead, Device};
+
+/// A reader that is lent: it is read as the one behind it, which is its owner's again afterwards.
+#[derive(Drop)]
+pub(crate) struct Lent<'a, R> {
+    pub reader: &'a mut R,
+}
+
+impl<'a, R: CountedRead> CountedRead for Lent<'a, R> {
+    ghost remaining = { λ l. R.remaining l.reader.now };
+
+    ghost failed = { λ l. R.failed l.reader.now };
+
+    ghost can_fail = { λ l. R.can_fail l.reader.now };
+
+    ghost lacked = { λ l. R.lacked l.reader.now };
+
+    fn read(&mut self, buffer: &mut [u8]) -> Result<usize, Device> {
+        self.reader.read(buffer)
+    }
+
+    fn failures(&self) -> u64 {
+        self.reader.failures()
+    }
+
+    fn lacked_memory(&self) -> bool {
+        self.reader.lacked_memory()
+    }
+}
