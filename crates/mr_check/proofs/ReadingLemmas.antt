@@ -8,7 +8,7 @@ use Rattle.std.proofs.lemmas.Bool.{false≢true, eqb-true, eqb-false, eq-eqb}
 use Rattle.std.proofs.lemmas.List.{length-map, length-take}
 use Rattle.mr_store.specs.Devices.{counted, Counts}
 use Rattle.mr_input.specs.Files.{nth_file}
-use Rattle.mr_check.specs.Outputs.{counted_at, Opens, Compares, Ends, Some as IsSome}
+use Rattle.mr_check.specs.Outputs.{counted_at, Opens, Compares, Ends, CanCome}
 use Rattle.mr_certform.specs.Streaming.{Agrees}
 use Rattle.mr_certform.proofs.Streams.{agrees_read, agrees_kept, agrees_end}
 use Rattle.mr_check.specs.Reading.{Reading, AgreeAll, IsLeft, IsToCome, known_at, coming}
@@ -124,7 +124,7 @@ some_left : (k : ℕ) (r : Reading) (later : List (List ℕ)) → (rest : List �
 some_left zero r later = (nth_file later 0, refl)
 some_left (suc k) r later = let a = agreeing (coming r) in (r.held ++ a.0, (a.0, refl, a.1))
 
-pub some_to_come : (r : Reading) → IsSome (IsToCome r)
+pub some_to_come : (r : Reading) → CanCome (IsToCome r)
 some_to_come r = let later = all_agreeing (drop r.opened r.known) in let rest = some_left r.opened r later.0 in (rest.0, (later.0, (rest.1, later.1)))
 
 -- ---- the next is opened
