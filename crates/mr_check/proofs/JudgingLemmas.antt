@@ -8,7 +8,7 @@ use Rattle.mr_check.specs.declared.items.Stop.{Stop}
 use Rattle.mr_check.specs.declared.items.Stop.TheVariants.{Fault, Device, TooLong, Output, LongOutput}
 use Rattle.mr_check.specs.Verdict.{Reached, Subject, start, part_faults, first, entries_in}
 use Rattle.mr_check.specs.Steps.{Answers, Room}
-use Rattle.mr_check.specs.Items.{Coming, Some as IsSome}
+use Rattle.mr_check.specs.Items.{Coming, CanCome}
 use Rattle.mr_check.specs.Blocks.{onto, has_end, Read, IsHalted, IsTold, Judges, GoesOn, Judged}
 use Rattle.mr_check.proofs.Faults.{told_is}
 use Rattle.mr_check.proofs.BlockLemmas.{Reads, ended_counts}
@@ -36,13 +36,13 @@ halted_told fs n (Output p) h = tt
 halted_told fs n LongOutput h = tt
 
 -- a block can't be had
-pub judges_halted : (old now : Coming) (s : Subject) (st : Reached) (before looked : ℕ) (e : Stop) → Judging old now s st before looked → IsSome now → IsHalted e → before ≤ looked → Judges old s before looked (Err e)
+pub judges_halted : (old now : Coming) (s : Subject) (st : Reached) (before looked : ℕ) (e : Stop) → Judging old now s st before looked → CanCome now → IsHalted e → before ≤ looked → Judges old s before looked (Err e)
 judges_halted old now s st before looked e judging some h low =
     let t = judging some.0 some.1.0 some.1.1 in
     (t.0, (some.1.0, (t.1.0, (halted_told (part_faults s some.1.0 start t.0) (entries_in t.0) e h, (low, omega (arith, t.1.1.1.1))))))
 
 -- a block was read, and its names can't be looked up
-pub judges_read : (old now next : Coming) (s : Subject) (st : Reached) (before looked behind : ℕ) (items : List Item) (e : Stop) → Judging old now s st before looked → Reads now next items → IsSome next → IsHalted e
+pub judges_read : (old now next : Coming) (s : Subject) (st : Reached) (before looked behind : ℕ) (items : List Item) (e : Stop) → Judging old now s st before looked → Reads now next items → CanCome next → IsHalted e
     → before ≤ looked → looked ≤ behind → behind ≤ looked + entries_in items → Judges old s before behind (Err e)
 judges_read old now next s st before looked behind items e judging reads some h low more most =
     let r = reads some.0 some.1.0 some.1.1 in
@@ -50,7 +50,7 @@ judges_read old now next s st before looked behind items e judging reads some h 
     (t.0, (some.1.0, (t.1.0, (halted_told (part_faults s some.1.0 start t.0) (entries_in t.0) e h, (omega (arith, low, more), omega (arith, most, r.1, t.1.1.1.1))))))
 
 -- an item of the block has a fault
-pub judges_fault : (old now next : Coming) (s : Subject) (st new : Reached) (before looked behind : ℕ) (items : List Item) (e : No) → Judging old now s st before looked → Reads now next items → IsSome next
+pub judges_fault : (old now next : Coming) (s : Subject) (st new : Reached) (before looked behind : ℕ) (items : List Item) (e : No) → Judging old now s st before looked → Reads now next items → CanCome next
     → before ≤ looked → behind ≡ looked + entries_in items → ((at : ℕ) (js : List Item) → Judged s at st new items js (Err e)) → Judges old s before behind (Err (Fault e))
 judges_fault old now next s st new before looked behind items e judging reads some low all judged =
     let at = some.1.0 in
@@ -60,7 +60,7 @@ judges_fault old now next s st new before looked behind items e judging reads so
     (t.0, (at, (t.1.0, (told, (omega (arith, low, all), omega (arith, all, r.1, t.1.1.1.1))))))
 
 -- the block has the end
-pub judges_ended : (old now next : Coming) (s : Subject) (st new : Reached) (before looked behind : ℕ) (items : List Item) → Judging old now s st before looked → Reads now next items → IsSome next
+pub judges_ended : (old now next : Coming) (s : Subject) (st new : Reached) (before looked behind : ℕ) (items : List Item) → Judging old now s st before looked → Reads now next items → CanCome next
     → before ≤ looked → behind ≡ looked + entries_in items → ((at : ℕ) (js : List Item) → Judged s at st new items js (Ok true)) → Judges old s before behind (Ok new.named)
 judges_ended old now next s st new before looked behind items judging reads some low all judged =
     let at = some.1.0 in
@@ -70,7 +70,7 @@ judges_ended old now next s st new before looked behind items judging reads some
     (t.0, (at, (t.1.0, ((sym t.1.1.0 ∙ j.0, omega (arith, j.1, t.1.1.1.0)), (omega (arith, low, all), omega (arith, all, r.1, t.1.1.1.1))))))
 
 -- and then each entry was looked up
-pub ended_all : (now next : Coming) (s : Subject) (st new : Reached) (before looked behind : ℕ) (items : List Item) → Reads now next items → IsSome next
+pub ended_all : (now next : Coming) (s : Subject) (st new : Reached) (before looked behind : ℕ) (items : List Item) → Reads now next items → CanCome next
     → looked ≡ before + st.named → behind ≡ looked + entries_in items → ((at : ℕ) (js : List Item) → Judged s at st new items js (Ok true)) → behind ≡ before + new.named
 ended_all now next s st new before looked behind items reads some named all judged =
     let at = some.1.0 in
@@ -80,7 +80,7 @@ ended_all now next s st new before looked behind items reads some named all judg
     omega (arith, named, all, counts, j.1)
 
 -- behind the block no item stands
-pub judges_stopped : (old now next : Coming) (s : Subject) (st new : Reached) (before looked behind place : ℕ) (items : List Item) → Judging old now s st before looked → Read now next items (Ok (Some place)) → IsSome next
+pub judges_stopped : (old now next : Coming) (s : Subject) (st new : Reached) (before looked behind place : ℕ) (items : List Item) → Judging old now s st before looked → Read now next items (Ok (Some place)) → CanCome next
     → before ≤ looked → behind ≡ looked + entries_in items → ((at : ℕ) (js : List Item) → Judged s at st new items js (Ok false)) → Judges old s before behind (Err (Fault (Malformed place)))
 judges_stopped old now next s st new before looked behind place items judging read some low all judged =
     let at = some.1.0 in

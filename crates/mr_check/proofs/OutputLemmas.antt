@@ -23,7 +23,7 @@ use Rattle.mr_check.specs.Items.{Stops}
 use Rattle.mr_check.specs.Blocks.{onto}
 use Rattle.mr_sequential.specs.Rules.{rules_of}
 use Rattle.mr_check.specs.Fronts.{opens}
-use Rattle.mr_check.specs.Outputs.{Ahead, Some, Leaves, Fits, Onward, Through, Tested, Opens, TextTold, EndTold, Halts, HaltsItems, begins}
+use Rattle.mr_check.specs.Outputs.{Ahead, CanCome, Leaves, Fits, Onward, Through, Tested, Opens, TextTold, EndTold, Halts, HaltsItems, begins}
 use Rattle.mr_check.proofs.Faults.{fine, failed, told_left, told_right, both_fine, group_goes_on, behind_goes_on}
 
 -- ---- going on
@@ -42,7 +42,7 @@ onward_through a b st mid P Q R f (r, (l, (g, h))) both =
     let o = f r l g in
     (o.0, (o.1.0, (o.1.1.0, λ outs w. (let p = o.1.1.1 outs w in both outs p.1 (h outs p.0)))))
 
-pub onward_ends : (a b : Ahead) (st mid : Reached) (P R : List (List ℕ) → Type 0) → Onward a b st mid P → Some b → ((outs : List (List ℕ)) → P outs → R outs) → Through a st R
+pub onward_ends : (a b : Ahead) (st mid : Reached) (P R : List (List ℕ) → Type 0) → Onward a b st mid P → CanCome b → ((outs : List (List ℕ)) → P outs → R outs) → Through a st R
 onward_ends a b st mid P R f (r, (l, g)) more = let o = f r l g in (o.0, (o.1.0, (o.1.1.0, λ outs w. more outs (o.1.1.1 outs w).1)))
 
 pub onward_as : (a b : Ahead) (st mid : Reached) (P R : List (List ℕ) → Type 0) → Onward a b st mid P → ((outs : List (List ℕ)) → P outs → R outs) → Onward a b st mid R
@@ -51,11 +51,11 @@ onward_as a b st mid P R f more rest later g = let o = f rest later g in (o.0, (
 pub through_as : (a : Ahead) (st : Reached) (P R : List (List ℕ) → Type 0) → Through a st P → ((outs : List (List ℕ)) → P outs → R outs) → Through a st R
 through_as a st P R (r, (l, (g, h))) more = (r, (l, (g, λ outs w. more outs (h outs w))))
 
-pub through_all : (a : Ahead) (st : Reached) (P : List (List ℕ) → Type 0) → Some a → ((outs : List (List ℕ)) → P outs) → Through a st P
+pub through_all : (a : Ahead) (st : Reached) (P : List (List ℕ) → Type 0) → CanCome a → ((outs : List (List ℕ)) → P outs) → Through a st P
 through_all a st P (r, (l, g)) h = (r, (l, (g, λ outs w. h outs)))
 
 -- of some outputs it holds
-pub any_of : (a b : Ahead) (st mid : Reached) (P : List (List ℕ) → Type 0) → Onward a b st mid P → Some b → Fits a st → (outs : List (List ℕ)) × P outs
+pub any_of : (a b : Ahead) (st mid : Reached) (P : List (List ℕ) → Type 0) → Onward a b st mid P → CanCome b → Fits a st → (outs : List (List ℕ)) × P outs
 any_of a b st mid P f (r, (l, g)) fits =
     let o = f r l g in
     let w = fits o.0 o.1.0 o.1.1.0 in

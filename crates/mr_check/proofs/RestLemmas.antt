@@ -18,7 +18,7 @@ use Rattle.mr_check.specs.declared.items.Stop.{Stop}
 use Rattle.mr_check.specs.declared.items.Stop.TheVariants.{Fault, Device, TooLong, Output, LongOutput}
 use Rattle.mr_check.specs.Verdict.{start, subject_of, part_faults, count_faults, accepted_by, entries_in, first}
 use Rattle.mr_check.specs.Steps.{Answers, Counted, Listed, counted, listed, header_met, awaits_skips, skips_in_front, case_at}
-use Rattle.mr_check.specs.Items.{Coming, Some as IsSome, Answered, Behind, IsStopped, Each}
+use Rattle.mr_check.specs.Items.{Coming, CanCome, Answered, Behind, IsStopped, Each}
 use Rattle.mr_check.specs.Blocks.{IsTold, Judges}
 use Rattle.mr_input.specs.Files.{nth_file}
 use Rattle.mr_check.specs.Outputs.{Ahead, Fits, Leaves, Through, Looked, IsRestTold, RestJudged, OfBytes, IsVerdict, AllJudged, begins}
@@ -29,7 +29,7 @@ use Rattle.mr_check.proofs.VerdictLemmas.{accepted, counted_fault, front_listed,
 use Rattle.mr_check.proofs.JudgeLemmas.{header_is}
 
 -- no memory
-pub no_room : (old : Coming) (o : RequestSpec) (files outs : List (List ℕ)) (n : ℕ) → IsSome old → RestJudged old o files n n (Err (Fault OutOfMemory)) outs
+pub no_room : (old : Coming) (o : RequestSpec) (files outs : List (List ℕ)) (n : ℕ) → CanCome old → RestJudged old o files n n (Err (Fault OutOfMemory)) outs
 no_room old o files outs n (is, (at, there)) = (is, (at, (there, (inl refl, (omega arith, omega arith)))))
 
 -- ---- the number of left-out records, and these
@@ -41,7 +41,7 @@ count_told o files outs most at is TooLong m h = tt
 count_told o files outs most at is (Output p) m h = tt
 count_told o files outs most at is LongOutput m h = tt
 
-pub count_judged : (old new : Coming) (o : RequestSpec) (files outs : List (List ℕ)) (most n : ℕ) (e : Stop) → most ≡ o.skips → IsSome old → Answered {A = ℕ} old new (λ k is. record { many = k; behind = is }) (λ at. counted at most) (Err e) → RestJudged old o files n n (Err e) outs
+pub count_judged : (old new : Coming) (o : RequestSpec) (files outs : List (List ℕ)) (most n : ℕ) (e : Stop) → most ≡ o.skips → CanCome old → Answered {A = ℕ} old new (λ k is. record { many = k; behind = is }) (λ at. counted at most) (Err e) → RestJudged old o files n n (Err e) outs
 count_judged old new o files outs most n e m some (inl d) = subst (λ w. RestJudged old o files n n (Err w) outs) (sym d) (no_room old o files outs n some)
 count_judged old new o files outs most n e m some (inr (js, (at, (there, h)))) = (js, (at, (there, (count_told o files outs most at js e m h, (omega arith, omega arith)))))
 
@@ -65,7 +65,7 @@ skips_told o files outs most at many cut ks js TooLong m c k h = tt
 skips_told o files outs most at many cut ks js (Output p) m c k h = tt
 skips_told o files outs most at many cut ks js LongOutput m c k h = tt
 
-pub skips_judged : (old mid new : Coming) (o : RequestSpec) (files outs : List (List ℕ)) (most many n : ℕ) (cut : Cut) (e : Stop) → most ≡ o.skips → cut ≡ record { size = o.split; files = files } → IsSome mid
+pub skips_judged : (old mid new : Coming) (o : RequestSpec) (files outs : List (List ℕ)) (most many n : ℕ) (cut : Cut) (e : Stop) → most ≡ o.skips → cut ≡ record { size = o.split; files = files } → CanCome mid
     → ((is : List Item) (at : ℕ) → mid is at → (js : List Item) × (old js at × (counted at most js ≡ Ok (record { many = many; behind = is }))))
     → (e ≡ Fault OutOfMemory) ⊎ ((js : List Item) × ((at : ℕ) × (mid js at × IsStopped (listed (records_of cut) at many [] js) e))) → RestJudged old o files n n (Err e) outs
 skips_judged old mid new o files outs most many n cut e m c some a (inl d) =

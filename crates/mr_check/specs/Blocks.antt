@@ -12,7 +12,7 @@ use Rattle.mr_check.specs.Verdict.{Reached, Subject, start, part_faults, first, 
 use Rattle.mr_check.specs.declared.fault.No.TheVariants.{OutOfMemory}
 use Rattle.mr_check.specs.declared.items.Stop.{Stop}
 use Rattle.mr_check.specs.declared.items.Stop.TheVariants.{Fault}
-use Rattle.mr_check.specs.Items.{Coming, Some as IsSome}
+use Rattle.mr_check.specs.Items.{Coming, CanCome}
 use Rattle.mr_check.specs.Steps.{Answers, Room}
 
 -- items with others behind them; behind an end nothing is left
@@ -37,7 +37,7 @@ abbrev pub Read : Coming → Coming → List Item → Result (Option ℕ) Stop �
 Read old new items (Ok None) = (is : List Item) (at : ℕ) → new is at → old (onto items is) at × (entries_in (onto items is) ≡ entries_in items + entries_in is)
 Read old new items (Ok (Some place)) =
     (is : List Item) (at : ℕ) → new is at → (old (onto items is) at × (entries_in (onto items is) ≡ entries_in items + entries_in is)) × ((is ≡ []) × (at ≡ place))
-Read old new items (Err e) = IsSome old × IsHalted e
+Read old new items (Err e) = CanCome old × IsHalted e
 
 -- the items that were sought, and those of rows
 abbrev pub items_sought : List Sought → List Item

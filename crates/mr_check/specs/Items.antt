@@ -17,8 +17,8 @@ abbrev pub Coming : Type 1
 Coming = List Item → ℕ → Type 0
 
 -- there are such items
-abbrev pub Some : Coming → Type 0
-Some gives = (is : List Item) × ((at : ℕ) × gives is at)
+abbrev pub CanCome : Coming → Type 0
+CanCome gives = (is : List Item) × ((at : ℕ) × gives is at)
 
 -- each of these may come is one of those
 abbrev pub Within : Coming → Coming → Type 0

@@ -26,8 +26,8 @@ abbrev pub Ahead : Type 1
 Ahead = List ℕ → List (List ℕ) → Type 0
 
 -- there are such
-abbrev pub Some : Ahead → Type 0
-Some gives = (rest : List ℕ) × ((later : List (List ℕ)) × gives rest later)
+abbrev pub CanCome : Ahead → Type 0
+CanCome gives = (rest : List ℕ) × ((later : List (List ℕ)) × gives rest later)
 
 -- behind what was judged this is left of the open one of the outputs, and these come behind it
 pub record Leaves (st : Reached) (outs : List (List ℕ)) (rest : List ℕ) (later : List (List ℕ)) : Type 0 where

@@ -5,7 +5,7 @@ ghost use Rattle.std.specs.List.{AllByRecursion};
 ghost use Rattle.mr_certform.specs.Walking.{items_left, halt};
 ghost use Rattle.mr_bytes.specs.Pairs.{Triple};
 ghost use Rattle.mr_check.specs.declared.fault.No.TheVariants.{Malformed, OutOfMemory};
-ghost use Rattle.mr_check.specs.Items.{Some as IsSome, Stops};
+ghost use Rattle.mr_check.specs.Items.{CanCome, Stops};
 ghost use Rattle.mr_check.specs.Verdict.{entries_in};
 ghost use Rattle.mr_check.specs.Blocks.{onto, has_end, Read, items_sought, items_in, IsPlaced, IsFound};
 
@@ -81,7 +81,7 @@ pub(crate) fn read_block<I: Items>(
     requires sound { I.sound walker.old }
     ensures sound { IfOk result (λ o. o ≡ None → I.sound walker.new) }
     ensures read { Read (I.gives walker.old) (I.gives walker.new) items.new.items result }
-    ensures given { IfOk result (λ _. IsSome (I.gives walker.new)) }
+    ensures given { IfOk result (λ _. CanCome (I.gives walker.new)) }
     ensures some { IfOk result (λ o. o ≡ None → 1 ≤ length items.new.items) }
     ensures block { IfOk result (λ _. length items.new.items ≤ 64) }
     ensures entries { IfOk result (λ _. entries_in items.new.items ≤ I.most walker.old) }

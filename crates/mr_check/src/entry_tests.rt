@@ -4,7 +4,7 @@ ghost use Rattle.std.specs.Option.{option_map};
 ghost use Rattle.mr_sequential.specs.Rules.{rules_of};
 ghost use Rattle.mr_check.specs.Verdict.{passes, first_tests, later_tests};
 ghost use Rattle.mr_check.specs.Steps.{Answers};
-ghost use Rattle.mr_check.specs.Outputs.{Some as IsSome, EndTold, TextTold, Halts};
+ghost use Rattle.mr_check.specs.Outputs.{CanCome, EndTold, TextTold, Halts};
 
 use crate::comparing::{is_key_less, is_name_less};
 use crate::facts::Basis;
@@ -16,9 +16,9 @@ use mr_bytes::Name;
 /// Whether a partition that has no more groups ends where its output does.
 pub(crate) fn test_end<O: Outputs>(outputs: &mut O, p: u64, groups: u64) -> Result<(), Stop>
     requires begun { O.begun outputs.old }
-    requires some { IsSome (O.gives outputs.old) }
+    requires some { CanCome (O.gives outputs.old) }
     ensures told { EndTold (O.gives outputs.old) (O.gives outputs.new) p groups (O.place outputs.old) result }
-    ensures some { IsSome (O.gives outputs.new) }
+    ensures some { CanCome (O.gives outputs.new) }
     ensures place { OnOk result (O.place outputs.new ≡ O.place outputs.old) }
     ensures begun { O.begun outputs.new }
     ensures halts { Halts O.steady (O.failed outputs.old) (O.failed outputs.new) result }
@@ -35,9 +35,9 @@ pub(crate) fn test_end<O: Outputs>(outputs: &mut O, p: u64, groups: u64) -> Resu
 /// Whether the text stands in the output that is open, behind what was passed of it.
 pub(crate) fn test_text<O: Outputs>(outputs: &mut O, p: u64, text: &[u8]) -> Result<(), Stop>
     requires begun { O.begun outputs.old }
-    requires some { IsSome (O.gives outputs.old) }
+    requires some { CanCome (O.gives outputs.old) }
     ensures told { TextTold (O.gives outputs.old) (O.gives outputs.new) p (O.place outputs.old) text.now result }
-    ensures some { IsSome (O.gives outputs.new) }
+    ensures some { CanCome (O.gives outputs.new) }
     ensures place { OnOk result (O.place outputs.new ≡ O.place outputs.old + length text.now) }
     ensures begun { O.begun outputs.new }
     ensures halts { Halts O.steady (O.failed outputs.old) (O.failed outputs.new) result }

@@ -3,7 +3,7 @@ ghost use Rattle.std.specs.Prelude.{◌≡◌, ◌<◌, ◌≤◌, ◌∷◌, []
 ghost use Rattle.mr_certform.specs.declared.item.Item.TheVariants.{LiteralByte, FileLength};
 ghost use Rattle.mr_check.specs.Verdict.{item_eq, job_wanted, input_wanted};
 ghost use Rattle.mr_check.specs.Steps.{header_met};
-ghost use Rattle.mr_check.specs.Items.{Met, Some as IsSome, Behind, Stops};
+ghost use Rattle.mr_check.specs.Items.{Met, CanCome, Behind, Stops};
 
 use crate::fault::No;
 use crate::items::{Items, Stop};
@@ -33,7 +33,7 @@ fn is_wanted(item: Item, wanted: Item) -> bool
 fn expect<I: Items>(items: &mut I, wanted: Item, fault: No) -> Result<(), Stop>
     requires sound { I.sound items.old }
     ensures sound { OnOk result (I.sound items.new) }
-    ensures some { IsSome (I.gives items.new) }
+    ensures some { CanCome (I.gives items.new) }
     ensures met { Met (I.gives items.old) (I.gives items.new) (wanted ∷ []) fault result }
     ensures fewer { OnOk result (I.most items.new < I.most items.old) }
     ensures stops { Stops I.steady (I.failed items.old) (I.failed items.new) result }
@@ -76,8 +76,8 @@ fn expect_literal<I: Items>(items: &mut I, literal: &[u8]) -> Result<(), Stop>
 /// The length of each file comes next.
 fn expect_lengths<I: Items>(items: &mut I, input: &Input) -> Result<(), Stop>
     requires sound { I.sound items.old }
-    requires given { IsSome (I.gives items.old) }
-    ensures given { OnOk result (IsSome (I.gives items.new)) }
+    requires given { CanCome (I.gives items.old) }
+    ensures given { OnOk result (CanCome (I.gives items.new)) }
     ensures sound { OnOk result (I.sound items.new) }
     ensures met { Met (I.gives items.old) (I.gives items.new) (map (λ f. FileLength (length f)) input.now) No.OtherInput result }
     ensures fewer { OnOk result (I.most items.new ≤ I.most items.old) }
@@ -117,7 +117,7 @@ fn expect_job<I: Items>(items: &mut I, request: &Request) -> Result<(), Stop>
 /// The items that the input fixes come next.
 fn expect_input<I: Items>(items: &mut I, input: &Input) -> Result<(), Stop>
     requires sound { I.sound items.old }
-    ensures given { OnOk result (IsSome (I.gives items.new)) }
+    ensures given { OnOk result (CanCome (I.gives items.new)) }
     ensures sound { OnOk result (I.sound items.new) }
     ensures met { Met (I.gives items.old) (I.gives items.new) (input_wanted input.now) No.OtherInput result }
     ensures fewer { OnOk result (I.most items.new < I.most items.old) }
@@ -134,7 +134,7 @@ pub(crate) fn expect_header<I: Items>(
     input: &Input,
 ) -> Result<(), Stop>
     requires sound { I.sound items.old }
-    ensures given { OnOk result (IsSome (I.gives items.new)) }
+    ensures given { OnOk result (CanCome (I.gives items.new)) }
     ensures sound { OnOk result (I.sound items.new) }
     ensures met { Behind (I.gives items.old) (I.gives items.new) (λ at. header_met at request.now input.now) result }
     ensures fewer { OnOk result (I.most items.new < I.most items.old) }

@@ -4,7 +4,7 @@ ghost use Rattle.mr_certform.specs.declared.item.Item.{Item as Read};
 ghost use Rattle.mr_certform.specs.declared.item.Item.TheVariants.{End};
 ghost use Rattle.mr_certform.specs.Walking.{items_left, halt};
 ghost use Rattle.mr_certform.specs.Streaming.{stream, Gives};
-ghost use Rattle.mr_check.specs.Items.{Coming, Some as IsSome, Took, Halts};
+ghost use Rattle.mr_check.specs.Items.{Coming, CanCome, Took, Halts};
 
 use crate::fault::No;
 use crate::outputs::Lack;
@@ -104,7 +104,7 @@ pub(crate) trait Items {
         ensures sound { IfOk result (λ _. sound self.new) }
         ensures fewer { IfOk result (λ i. (i ≡ End → ⊥) → most self.new < most self.old) }
         ensures took { Took (gives self.old) (gives self.new) result }
-        ensures some { IsSome (gives self.new) }
+        ensures some { CanCome (gives self.new) }
         ensures halts { Halts steady (failed self.old) (failed self.new) result };
 }
 

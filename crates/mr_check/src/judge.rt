@@ -13,8 +13,8 @@ ghost use Rattle.mr_check.specs.Headline.{IsCertified, accepted_of};
 ghost use Rattle.mr_check.specs.Metered.{IsBounded, IsExact, cut_by};
 ghost use Rattle.mr_check.specs.Steps.{case_at};
 ghost use Rattle.mr_check.specs.Blocks.{Judges};
-ghost use Rattle.mr_check.specs.Items.{Some as IsSome, Each};
-ghost use Rattle.mr_check.specs.Outputs.{Some as IsSomeAhead, Fits, Through, RestJudged, OfBytes, AllJudged, HaltsItems, HaltsOutputs, begins};
+ghost use Rattle.mr_check.specs.Items.{CanCome, Each};
+ghost use Rattle.mr_check.specs.Outputs.{CanCome as CanComeAhead, Fits, Through, RestJudged, OfBytes, AllJudged, HaltsItems, HaltsOutputs, begins};
 
 use crate::facts::Basis;
 use crate::fault::No;
@@ -64,11 +64,11 @@ fn check_with<I: Items, O: Outputs>(
 ) -> Result<u64, Stop>
     requires same { plan.now.size ≡ request.now.split }
     requires sound { I.sound walker.old }
-    requires given { IsSome (I.gives walker.old) }
+    requires given { CanCome (I.gives walker.old) }
     requires few { I.most walker.old < 2 ^ 63 }
     requires begins { Each (I.gives walker.old) begins }
     requires count { (meter.old.lookups ≤ 2 ^ 63) × (meter.old.mapped ≤ 2 ^ 63) }
-    requires outputs { IsSomeAhead (O.gives outputs.old) }
+    requires outputs { CanComeAhead (O.gives outputs.old) }
     requires fits { Fits (O.gives outputs.old) start }
     requires place { O.place outputs.old ≡ 0 }
     ensures judged { Through (O.gives outputs.old) start (λ outs. Judges (I.gives walker.old)
@@ -100,11 +100,11 @@ fn check_rest<I: Items, O: Outputs>(
 ) -> Result<Yes, Stop>
     requires fits { split_total request.now.split input.now ≤ 2 ^ 20 }
     requires sound { I.sound walker.old }
-    requires given { IsSome (I.gives walker.old) }
+    requires given { CanCome (I.gives walker.old) }
     requires few { I.most walker.old < 2 ^ 63 }
     requires order { (is : List Read) (at : ℕ) → I.gives walker.old is at → InOrder (AtSkips request.now.parts) is }
     requires count { (meter.old.lookups ≤ 2 ^ 63) × (meter.old.mapped ≤ 2 ^ 63) }
-    requires outputs { IsSomeAhead (O.gives outputs.old) }
+    requires outputs { CanComeAhead (O.gives outputs.old) }
     requires ahead { Fits (O.gives outputs.old) start }
     requires place { O.place outputs.old ≡ 0 }
     ensures judged { Through (O.gives outputs.old) start
@@ -143,11 +143,11 @@ pub(crate) fn judge_all<I: Items, O: Outputs>(
 ) -> Result<Yes, Stop>
     requires fits { split_total request.now.split input.now ≤ 2 ^ 20 }
     requires sound { I.sound walker.old }
-    requires given { IsSome (I.gives walker.old) }
+    requires given { CanCome (I.gives walker.old) }
     requires few { I.most walker.old ≤ 2 ^ 63 }
     requires front { (is : List Read) (at : ℕ) → I.gives walker.old is at → (bytes : List ℕ) × OfBytes is at bytes }
     requires count { (meter.old.lookups ≤ 2 ^ 63) × (meter.old.mapped ≤ 2 ^ 63) }
-    requires outputs { IsSomeAhead (O.gives outputs.old) }
+    requires outputs { CanComeAhead (O.gives outputs.old) }
     requires ahead { Fits (O.gives outputs.old) start }
     requires place { O.place outputs.old ≡ 0 }
     ensures judged { Through (O.gives outputs.old) start

@@ -1,7 +1,7 @@
 //! The outputs that are judged, one after another: at hand, or from readers.
 ghost use Rattle.std.specs.Prelude.{◌≡◌, ◌⊎◌, ◌≤◌, ◌<◌, ◌+◌, ◌-◌, ⊤, ◌^◌, ℕ, List, [], IfOk, OnOk, length, drop};
 ghost use Rattle.mr_input.specs.Files.{contents, nth_file};
-ghost use Rattle.mr_check.specs.Outputs.{Ahead, Some as IsSome, Opens, Compares, Ends, Lacks};
+ghost use Rattle.mr_check.specs.Outputs.{Ahead, CanCome, Opens, Compares, Ends, Lacks};
 
 use crate::comparing::agreement;
 
@@ -36,7 +36,7 @@ pub(crate) trait Outputs {
         ensures opens { Opens (gives self.old) (gives self.new) }
         ensures place { place self.new ≡ 0 }
         ensures begun { begun self.new }
-        ensures some { IsSome (gives self.old) → IsSome (gives self.new) }
+        ensures some { CanCome (gives self.old) → CanCome (gives self.new) }
         ensures failed { failed self.new ≡ failed self.old };
 
     /// Whether the text stands next. What is the same in both is passed.
@@ -44,7 +44,7 @@ pub(crate) trait Outputs {
         requires begun { begun self.old }
         ensures compares { Compares (gives self.old) (gives self.new) (place self.old) (place self.new) text.now result }
         ensures begun { begun self.new }
-        ensures some { IsSome (gives self.old) → IsSome (gives self.new) }
+        ensures some { CanCome (gives self.old) → CanCome (gives self.new) }
         ensures lacks { Lacks steady (failed self.old) (failed self.new) result };
 
     /// Whether nothing is left of the open one.
@@ -53,7 +53,7 @@ pub(crate) trait Outputs {
         ensures ends { Ends (gives self.old) (gives self.new) result }
         ensures place { place self.new ≡ place self.old }
         ensures begun { begun self.new }
-        ensures some { IsSome (gives self.old) → IsSome (gives self.new) }
+        ensures some { CanCome (gives self.old) → CanCome (gives self.new) }
         ensures lacks { Lacks steady (failed self.old) (failed self.new) result };
 
     /// How many bytes of the open one were passed.

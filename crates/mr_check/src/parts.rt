@@ -4,8 +4,8 @@ ghost use Rattle.std.specs.List.{AllByRecursion};
 ghost use Rattle.mr_check.specs.Verdict.{start, entries_in};
 ghost use Rattle.mr_check.specs.Steps.{subject_with, Room};
 ghost use Rattle.mr_check.specs.Blocks.{items_in, IsFound, Judges};
-ghost use Rattle.mr_check.specs.Items.{Some as IsSome, Each};
-ghost use Rattle.mr_check.specs.Outputs.{Some as IsSomeAhead, Fits, Through, RowsJudged, Halts, HaltsItems, HaltsOutputs, begins};
+ghost use Rattle.mr_check.specs.Items.{CanCome, Each};
+ghost use Rattle.mr_check.specs.Outputs.{CanCome as CanComeAhead, Fits, Through, RowsJudged, Halts, HaltsItems, HaltsOutputs, begins};
 
 use crate::blocks::{BLOCK, FoundItem, Sought, fetch_all, read_block, seek_all, touch};
 use crate::facts::Basis;
@@ -29,11 +29,11 @@ fn judge_rows<'a, O: Outputs>(
     requires room { Room judging.old (length rows.now) (2 ^ 64 - 2) }
     requires found { AllByRecursion (IsFound basis.now.triples) rows.now }
     requires fits { Fits (O.gives outputs.old) judging.old }
-    requires some { IsSomeAhead (O.gives outputs.old) }
+    requires some { CanComeAhead (O.gives outputs.old) }
     requires place { O.place outputs.old ≡ judging.old.from }
     requires begun { (begins (items_in rows.now) ≡ true) ⊎ O.begun outputs.old }
     ensures judged { RowsJudged (O.gives outputs.old) (O.gives outputs.new) basis.now judging.old judging.new (items_in rows.now) result }
-    ensures some { IsSomeAhead (O.gives outputs.new) }
+    ensures some { CanComeAhead (O.gives outputs.new) }
     ensures place { OnOk result (O.place outputs.new ≡ judging.new.from) }
     ensures begun { IfOk result (λ b. b ≡ false → 1 ≤ length rows.now → O.begun outputs.new) }
     ensures halts { Halts O.steady (O.failed outputs.old) (O.failed outputs.new) result }
@@ -93,11 +93,11 @@ pub(crate) fn check_parts<I: Items, O: Outputs>(
     watch: &dyn Watch,
 ) -> Result<u64, Stop>
     requires sound { I.sound walker.old }
-    requires some { IsSome (I.gives walker.old) }
+    requires some { CanCome (I.gives walker.old) }
     requires few { I.most walker.old < 2 ^ 63 }
     requires begins { Each (I.gives walker.old) begins }
     requires count { meter.old.lookups ≤ 2 ^ 63 }
-    requires outputs { IsSomeAhead (O.gives outputs.old) }
+    requires outputs { CanComeAhead (O.gives outputs.old) }
     requires fits { Fits (O.gives outputs.old) start }
     requires place { O.place outputs.old ≡ 0 }
     ensures judged { Through (O.gives outputs.old) start

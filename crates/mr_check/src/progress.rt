@@ -9,7 +9,7 @@ ghost use Rattle.mr_check.specs.Verdict.{tests, after, end_tests};
 ghost use Rattle.mr_check.specs.Steps.{subject_with, Answers, HasRoom};
 ghost use Rattle.mr_check.specs.Blocks.{IsFound};
 ghost use Rattle.mr_check.specs.Fronts.{opens};
-ghost use Rattle.mr_check.specs.Outputs.{Some as IsSome, Tested, Halts};
+ghost use Rattle.mr_check.specs.Outputs.{CanCome, Tested, Halts};
 
 use crate::blocks::FoundItem;
 use crate::entry_tests::{test_end, test_first, test_later, test_named, test_text};
@@ -189,11 +189,11 @@ impl<'a> Progress<'a> {
         requires room { (self.old.group + 1 < 2 ^ 64) × (length self.old.values < 2 ^ 64) }
         requires here { p ≡ self.old.next - 1 }
         requires begun { O.begun outputs.old }
-        requires some { IsSome (O.gives outputs.old) }
+        requires some { CanCome (O.gives outputs.old) }
         requires place { O.place outputs.old ≡ self.old.from }
         ensures tested { Tested (O.gives outputs.old) (O.gives outputs.new) self.old self.new (λ outs. group_tests (subject_with basis.now outs) p self.old 0)
             (λ outs. behind_group (subject_with basis.now outs) self.old 0) result }
-        ensures some { IsSome (O.gives outputs.new) }
+        ensures some { CanCome (O.gives outputs.new) }
         ensures place { OnOk result (O.place outputs.new ≡ self.new.from) }
         ensures begun { O.begun outputs.new }
         ensures halts { Halts O.steady (O.failed outputs.old) (O.failed outputs.new) result }
@@ -274,12 +274,12 @@ impl<'a> Progress<'a> {
         requires room { (self.old.group + 1 < 2 ^ 64) × (length self.old.values < 2 ^ 64) }
         requires here { p ≡ self.old.next - 1 }
         requires begun { O.begun outputs.old }
-        requires some { IsSome (O.gives outputs.old) }
+        requires some { CanCome (O.gives outputs.old) }
         requires place { O.place outputs.old ≡ self.old.from }
         ensures tested { Tested (O.gives outputs.old) (O.gives outputs.new) self.old self.new
             (λ outs. group_tests (subject_with basis.now outs) p self.old self.old.entries)
             (λ outs. behind_group (subject_with basis.now outs) self.old self.old.entries) result }
-        ensures some { IsSome (O.gives outputs.new) }
+        ensures some { CanCome (O.gives outputs.new) }
         ensures place { OnOk result (O.place outputs.new ≡ self.new.from) }
         ensures begun { O.begun outputs.new }
         ensures halts { Halts O.steady (O.failed outputs.old) (O.failed outputs.new) result }
@@ -305,12 +305,12 @@ impl<'a> Progress<'a> {
         requires found { named basis.now.triples name ≡ Some (record { key = key.now; value = value; name = name }) }
         requires here { p ≡ self.old.next - 1 }
         requires begun { O.begun outputs.old }
-        requires some { IsSome (O.gives outputs.old) }
+        requires some { CanCome (O.gives outputs.old) }
         requires place { O.place outputs.old ≡ self.old.from }
         ensures tested { let t = named basis.now.triples name in
             Tested (O.gives outputs.old) (O.gives outputs.new) self.old self.new (λ outs. entry_tests (subject_with basis.now outs) p self.old name t)
             (λ outs. after_entry (subject_with basis.now outs) self.old t) result }
-        ensures some { IsSome (O.gives outputs.new) }
+        ensures some { CanCome (O.gives outputs.new) }
         ensures place { OnOk result (O.place outputs.new ≡ self.new.from) }
         ensures begun { O.begun outputs.new }
         ensures halts { Halts O.steady (O.failed outputs.old) (O.failed outputs.new) result }
@@ -333,12 +333,12 @@ impl<'a> Progress<'a> {
             (λ p. t ≡ Some (record { key = p.0.now; value = p.1; name = name })) }
         requires here { p ≡ self.old.next - 1 }
         requires begun { O.begun outputs.old }
-        requires some { IsSome (O.gives outputs.old) }
+        requires some { CanCome (O.gives outputs.old) }
         requires place { O.place outputs.old ≡ self.old.from }
         ensures tested { let t = named basis.now.triples name in
             Tested (O.gives outputs.old) (O.gives outputs.new) self.old self.new (λ outs. entry_tests (subject_with basis.now outs) p self.old name t)
             (λ outs. after_entry (subject_with basis.now outs) self.old t) result }
-        ensures some { IsSome (O.gives outputs.new) }
+        ensures some { CanCome (O.gives outputs.new) }
         ensures place { OnOk result (O.place outputs.new ≡ self.new.from) }
         ensures begun { O.begun outputs.new }
         ensures halts { Halts O.steady (O.failed outputs.old) (O.failed outputs.new) result }
@@ -356,11 +356,11 @@ impl<'a> Progress<'a> {
     /// The next partition begins, with so many groups, and its output is opened.
     fn open_partition<O: Outputs>(&mut self, outputs: &mut O, groups: u64) -> Result<(), Stop>
         requires room { HasRoom self.old }
-        requires some { IsSome (O.gives outputs.old) }
+        requires some { CanCome (O.gives outputs.old) }
         ensures tested { Tested (O.gives outputs.old) (O.gives outputs.new) self.old self.new
             (λ outs. end_tests (nth_file outs self.old.next) self.old.next groups 0)
             (λ _. record self.old { next = self.old.next + 1; groups = groups; group = 0; key_before = None; from = 0 }) result }
-        ensures some { IsSome (O.gives outputs.new) }
+        ensures some { CanCome (O.gives outputs.new) }
         ensures place { OnOk result (O.place outputs.new ≡ self.new.from) }
         ensures begun { O.begun outputs.new }
         ensures halts { Halts O.steady (O.failed outputs.old) (O.failed outputs.new) result }
@@ -381,11 +381,11 @@ impl<'a> Progress<'a> {
         requires room { HasRoom self.old }
         requires found { IsFound basis.now.triples row.now }
         requires begun { (name : _) → row.now.item ≡ Entry name → O.begun outputs.old }
-        requires some { IsSome (O.gives outputs.old) }
+        requires some { CanCome (O.gives outputs.old) }
         requires place { O.place outputs.old ≡ self.old.from }
         ensures tested { Tested (O.gives outputs.old) (O.gives outputs.new) self.old self.new
             (λ outs. tests (subject_with basis.now outs) self.old row.now.item) (λ outs. after (subject_with basis.now outs) self.old row.now.item) result }
-        ensures some { IsSome (O.gives outputs.new) }
+        ensures some { CanCome (O.gives outputs.new) }
         ensures place { OnOk result (O.place outputs.new ≡ self.new.from) }
         ensures begun { O.begun outputs.old → O.begun outputs.new }
         ensures opens { opens row.now.item ≡ true → O.begun outputs.new }

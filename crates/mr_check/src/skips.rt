@@ -2,7 +2,7 @@
 ghost use Rattle.std.specs.Prelude.{◌≡◌, ◌≤◌, ◌<◌, ◌++◌, ◌∷◌, [], OnOk};
 ghost use Rattle.mr_splits.specs.Cut.{records_of};
 ghost use Rattle.mr_check.specs.Steps.{awaits_skips, counted, skip_fault, skips_in_front, listed};
-ghost use Rattle.mr_check.specs.Items.{Answered, Each, NextSkip, Some as IsSome, Stops, skip_next};
+ghost use Rattle.mr_check.specs.Items.{Answered, Each, NextSkip, CanCome, Stops, skip_next};
 
 use crate::fault::No;
 use crate::items::{Items, Stop};
@@ -16,7 +16,7 @@ pub(crate) fn expect_count<I: Items>(items: &mut I, most: u32) -> Result<u32, St
     requires sound { I.sound items.old }
     requires awaits { Each (I.gives items.old) awaits_skips }
     ensures sound { OnOk result (I.sound items.new) }
-    ensures given { OnOk result (IsSome (I.gives items.new)) }
+    ensures given { OnOk result (CanCome (I.gives items.new)) }
     ensures counted { Answered (I.gives items.old) (I.gives items.new) (λ n is. record { many = n; behind = is }) (λ at. counted at most) result }
     ensures fewer { OnOk result (I.most items.new ≤ I.most items.old) }
     ensures stops { Stops I.steady (I.failed items.old) (I.failed items.new) result }
@@ -37,7 +37,7 @@ fn next_skip<I: Items>(items: &mut I) -> Result<RecordName, Stop>
     requires sound { I.sound items.old }
     requires skip { Each (I.gives items.old) skip_next }
     ensures sound { OnOk result (I.sound items.new) }
-    ensures some { IsSome (I.gives items.new) }
+    ensures some { CanCome (I.gives items.new) }
     ensures next { NextSkip (I.gives items.old) (I.gives items.new) result }
     ensures fewer { OnOk result (I.most items.new ≤ I.most items.old) }
     ensures stops { Stops I.steady (I.failed items.old) (I.failed items.new) result }
@@ -74,10 +74,10 @@ pub(crate) fn take_skips<I: Items>(
     many: u32,
 ) -> Result<Vec<RecordName>, Stop>
     requires sound { I.sound items.old }
-    requires given { IsSome (I.gives items.old) }
+    requires given { CanCome (I.gives items.old) }
     requires front { Each (I.gives items.old) (skips_in_front many) }
     ensures sound { OnOk result (I.sound items.new) }
-    ensures given { OnOk result (IsSome (I.gives items.new)) }
+    ensures given { OnOk result (CanCome (I.gives items.new)) }
     ensures listed { Answered (I.gives items.old) (I.gives items.new) (λ v is. record { skips = v.items; behind = is })
         (λ at. listed (records_of plan.now) at many []) result }
     ensures fewer { OnOk result (I.most items.new ≤ I.most items.old) }

@@ -1,12 +1,12 @@
 use Rattle.std.proofs.Common.{◌≡◌, ◌≤◌, ◌+◌, ◌-◌, length}
-use Rattle.mr_check.specs.Items.{Some as IsSome}
+use Rattle.mr_check.specs.Items.{CanCome}
 use Rattle.mr_check.proofs.BlockLemmas.{Reads}
 use Rattle.mr_check.proofs.blocks.read_block.Given as goal
 
 abbrev pub invariant-loop-walker : goal.invariant-loop-walker
 invariant-loop-walker g l = record {
   reads : Reads (g.I.Items.gives l.fn.walker) (g.I.Items.gives l.walker) l.items.items;
-  given : 1 ≤ length l.items.items → IsSome (g.I.Items.gives l.walker);
+  given : 1 ≤ length l.items.items → CanCome (g.I.Items.gives l.walker);
   sound : g.I.Items.sound l.walker;
   count : g.I.Items.failed l.walker ≡ g.I.Items.failed l.fn.walker;
   long : length l.items.items + g.I.Items.most l.walker ≤ g.I.Items.most l.fn.walker;

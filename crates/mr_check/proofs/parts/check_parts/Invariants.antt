@@ -1,15 +1,15 @@
 use Rattle.std.proofs.Common.{◌≡◌, ◌⊎◌, ◌+◌}
 use Rattle.mr_check.specs.Steps.{Room}
-use Rattle.mr_check.specs.Items.{Some as IsSome, Each}
-use Rattle.mr_check.specs.Outputs.{Some as IsSomeAhead, begins}
+use Rattle.mr_check.specs.Items.{CanCome, Each}
+use Rattle.mr_check.specs.Outputs.{CanCome as CanComeAhead, begins}
 use Rattle.mr_check.proofs.BlocksJudged.{Going}
 use Rattle.mr_check.proofs.parts.check_parts.Given as goal
 
 abbrev pub invariant-loop-block : goal.invariant-loop-block
 invariant-loop-block g l = record {
   going : Going (g.O.Outputs.gives l.initial.outputs) (g.O.Outputs.gives l.outputs) (g.I.Items.gives l.initial.walker) (g.I.Items.gives l.walker) l.basis l.judging l.initial.meter.lookups l.meter.lookups;
-  given : IsSome (g.I.Items.gives l.walker);
-  some : IsSomeAhead (g.O.Outputs.gives l.outputs);
+  given : CanCome (g.I.Items.gives l.walker);
+  some : CanComeAhead (g.O.Outputs.gives l.outputs);
   place : g.O.Outputs.place l.outputs ≡ l.judging.from;
   begun : Each (g.I.Items.gives l.walker) begins ⊎ g.O.Outputs.begun l.outputs;
   sound : g.I.Items.sound l.walker;

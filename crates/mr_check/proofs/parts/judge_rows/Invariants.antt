@@ -2,7 +2,7 @@ use Rattle.std.proofs.Common.{◌≡◌, ◌⊎◌, true, drop}
 use Rattle.std.specs.List.{AllByRecursion}
 use Rattle.mr_check.specs.Steps.{subject_with}
 use Rattle.mr_check.specs.Blocks.{items_in, IsFound}
-use Rattle.mr_check.specs.Outputs.{Onward, Some as IsSomeAhead, begins}
+use Rattle.mr_check.specs.Outputs.{Onward, CanCome as CanComeAhead, begins}
 use Rattle.mr_check.proofs.BlockLemmas.{Stands}
 use Rattle.mr_check.proofs.parts.judge_rows.Given as goal
 
@@ -11,7 +11,7 @@ invariant-loop-row g l = record {
   going : Onward (g.O.Outputs.gives l.initial.outputs) (g.O.Outputs.gives l.outputs) l.initial.judging l.judging
       (λ outs. Stands (subject_with l.basis outs) l.initial.judging l.judging l.row-index (items_in (drop l.row-index l.rows)) (items_in l.rows));
   found : AllByRecursion (IsFound l.basis.triples) (drop l.row-index l.rows);
-  some : IsSomeAhead (g.O.Outputs.gives l.outputs);
+  some : CanComeAhead (g.O.Outputs.gives l.outputs);
   place : g.O.Outputs.place l.outputs ≡ l.judging.from;
   begun : ((l.row-index ≡ 0) × (begins (items_in l.rows) ≡ true)) ⊎ g.O.Outputs.begun l.outputs;
   count : g.O.Outputs.failed l.outputs ≡ g.O.Outputs.failed l.initial.outputs;

@@ -3,7 +3,7 @@ use Rattle.mr_splits.specs.Cut.{records_of}
 use Rattle.mr_certform.specs.declared.item.Item.{Item}
 use Rattle.mr_check.specs.Verdict.{last_of}
 use Rattle.mr_check.specs.Steps.{listed, skips_in_front}
-use Rattle.mr_check.specs.Items.{Each, Some as IsSome}
+use Rattle.mr_check.specs.Items.{Each, CanCome}
 use Rattle.mr_check.proofs.skips.take_skips.Given as goal
 
 abbrev pub invariant-loop-number : goal.invariant-loop-number
@@ -15,7 +15,7 @@ invariant-loop-number g l =
       front : Each (g.I.Items.gives l.items) (skips_in_front (l.many - l.number));
       long : l.number ≡ length l.skips.items;
       before : l.before ≡ last_of l.skips.items;
-      given : IsSome (g.I.Items.gives l.items);
+      given : CanCome (g.I.Items.gives l.items);
       sound : g.I.Items.sound l.items;
       count : g.I.Items.failed l.items ≡ g.I.Items.failed l.initial.items;
       fewer : g.I.Items.most l.items ≤ g.I.Items.most l.initial.items;
