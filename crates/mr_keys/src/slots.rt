@@ -119,12 +119,39 @@ pub(crate) fn empty_all(slots: &mut Vec<Slot>)
     }
 }
 
+/// How many texts ahead their slots are read.
+const AHEAD: usize = 64;
+
+/// Reads where the table begins to look for each of the texts from this one on, for nothing else than that these places
+/// come from memory side by side, and not each when its turn comes. It tells after how many texts to read ahead again; that
+/// rests on what was read, if only by one, so that no compiler leaves out the reading.
+#[inline(never)]
+fn read_ahead(slots: &[Slot], texts: &Texts, from: usize) -> usize
+    ensures { 0 < result }
+{
+    let mask = slots.len().wrapping_sub(1);
+    let mut seen = 0u32;
+    for number in from..texts.len().min(from.saturating_add(AHEAD)) {
+        let key = texts.get(number);
+        let at = hash_of(front_of(key), key) as usize & mask;
+        if at < slots.len() {
+            seen |= slots[at].mark;
+        }
+    }
+    if seen == u32::MAX { AHEAD - 1 } else { AHEAD }
+}
+
 /// So many slots, which tell of the texts.
 pub(crate) fn slots_of(alloc: Global, texts: &Texts, count: usize) -> Result<Vec<Slot>, AllocError>
     ensures { IfOk result (λ v. All (IsSlot texts.now) v.items) }
 {
     let mut slots = vec![in alloc; empty_slot(); count]?;
+    let mut left = 0;
     for number in 0..texts.len() {
+        if left == 0 {
+            left = read_ahead(slots.as_slice(), texts, number);
+        }
+        left -= 1;
         let key = texts.get(number);
         let front = front_of(key);
         put(&mut slots, hash_of(front, key), slot_of(number, front, key));
