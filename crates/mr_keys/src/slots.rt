@@ -119,26 +119,28 @@ pub(crate) fn empty_all(slots: &mut Vec<Slot>)
     }
 }
 
-/// How many texts ahead their slots are read.
-const AHEAD: usize = 64;
+/// How many texts are put into a table together.
+const BLOCK: usize = 64;
 
-/// Reads where the table begins to look for each of the texts from this one on, for nothing else than that these places
-/// come from memory side by side, and not each when its turn comes. It tells after how many texts to read ahead again; that
-/// rests on what was read, if only by one, so that no compiler leaves out the reading.
-#[inline(never)]
-fn read_ahead(slots: &[Slot], texts: &Texts, from: usize) -> usize
-    ensures { 0 < result }
-{
+/// The hashes of the texts from this one on, as many as there are in a block.
+fn hash_ahead(texts: &Texts, from: usize, hashes: &mut [u64; BLOCK]) {
+    let count = texts.len().saturating_sub(from).min(BLOCK);
+    for lane in 0..count {
+        let key = texts.get(from + lane);
+        hashes[lane] = hash_of(front_of(key), key);
+    }
+}
+
+/// Steps past the first slot of each hash where that is taken. What counts is that these slots, which lie far apart, are
+/// read in a loop as short as this: so they come from memory side by side, and not each when its text is put.
+fn step_past(slots: &[Slot], hashes: &mut [u64; BLOCK]) {
     let mask = slots.len().wrapping_sub(1);
-    let mut seen = 0u32;
-    for number in from..texts.len().min(from.saturating_add(AHEAD)) {
-        let key = texts.get(number);
-        let at = hash_of(front_of(key), key) as usize & mask;
+    for hash in hashes.iter_mut() {
+        let at = *hash as usize & mask;
         if at < slots.len() {
-            seen |= slots[at].mark;
+            *hash = hash.wrapping_add(u64::from(slots[at].mark != 0));
         }
     }
-    if seen == u32::MAX { AHEAD - 1 } else { AHEAD }
 }
 
 /// So many slots, which tell of the texts.
@@ -146,15 +148,16 @@ pub(crate) fn slots_of(alloc: Global, texts: &Texts, count: usize) -> Result<Vec
     ensures { IfOk result (λ v. All (IsSlot texts.now) v.items) }
 {
     let mut slots = vec![in alloc; empty_slot(); count]?;
-    let mut left = 0;
+    let mut hashes = [0; BLOCK];
     for number in 0..texts.len() {
-        if left == 0 {
-            left = read_ahead(slots.as_slice(), texts, number);
+        let lane = number % BLOCK;
+        if lane == 0 {
+            hash_ahead(texts, number, &mut hashes);
+            step_past(slots.as_slice(), &mut hashes);
         }
-        left -= 1;
         let key = texts.get(number);
-        let front = front_of(key);
-        put(&mut slots, hash_of(front, key), slot_of(number, front, key));
+        let slot = slot_of(number, front_of(key), key);
+        put(&mut slots, hashes[lane], slot);
     }
     Ok(slots)
 }
