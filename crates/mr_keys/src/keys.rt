@@ -30,6 +30,16 @@ impl Model for Keys {
 /// How many slots there are at least.
 const LEAST_SLOTS: usize = 64;
 
+/// A table of so many slots or more doesn't fit near the processor: to fill it anew is dear.
+const MANY_SLOTS: usize = 1 << 20;
+
+/// How many slots there are next: twice as many, and four times as many where there are many, so that those are filled anew
+/// seldom.
+fn more_slots(count: usize) -> usize {
+    let times = if count < MANY_SLOTS { 2 } else { 4 };
+    count.saturating_mul(times).max(LEAST_SLOTS)
+}
+
 impl Keys {
     /// No keys. It takes no memory.
     pub fn new(alloc: Global) -> Keys
@@ -87,11 +97,7 @@ impl Keys {
         ensures { self.new ≡ self.old }
     {
         if self.slots.len() / 2 <= self.texts.len() {
-            self.slots = slots_of(
-                alloc,
-                &self.texts,
-                self.slots.len().saturating_mul(2).max(LEAST_SLOTS),
-            )?;
+            self.slots = slots_of(alloc, &self.texts, more_slots(self.slots.len()))?;
         }
         Ok(())
     }

@@ -119,15 +119,45 @@ pub(crate) fn empty_all(slots: &mut Vec<Slot>)
     }
 }
 
+/// How many texts are put into a table together.
+const BLOCK: usize = 64;
+
+/// The hashes of the texts from this one on, as many as there are in a block.
+fn hash_ahead(texts: &Texts, from: usize, hashes: &mut [u64; BLOCK]) {
+    let count = texts.len().saturating_sub(from).min(BLOCK);
+    for lane in 0..count {
+        let key = texts.get(from + lane);
+        hashes[lane] = hash_of(front_of(key), key);
+    }
+}
+
+/// Steps past the first slot of each hash where that is taken. What counts is that these slots, which lie far apart, are
+/// read in a loop as short as this: so they come from memory side by side, and not each when its text is put.
+fn step_past(slots: &[Slot], hashes: &mut [u64; BLOCK]) {
+    let mask = slots.len().wrapping_sub(1);
+    for hash in hashes.iter_mut() {
+        let at = *hash as usize & mask;
+        if at < slots.len() {
+            *hash = hash.wrapping_add(u64::from(slots[at].mark != 0));
+        }
+    }
+}
+
 /// So many slots, which tell of the texts.
 pub(crate) fn slots_of(alloc: Global, texts: &Texts, count: usize) -> Result<Vec<Slot>, AllocError>
     ensures { IfOk result (λ v. All (IsSlot texts.now) v.items) }
 {
     let mut slots = vec![in alloc; empty_slot(); count]?;
+    let mut hashes = [0; BLOCK];
     for number in 0..texts.len() {
+        let lane = number % BLOCK;
+        if lane == 0 {
+            hash_ahead(texts, number, &mut hashes);
+            step_past(slots.as_slice(), &mut hashes);
+        }
         let key = texts.get(number);
-        let front = front_of(key);
-        put(&mut slots, hash_of(front, key), slot_of(number, front, key));
+        let slot = slot_of(number, front_of(key), key);
+        put(&mut slots, hashes[lane], slot);
     }
     Ok(slots)
 }

@@ -7,4 +7,4 @@ returns-in-Err-clause-refused g c =
     let read = c.in-Ok.ensures in
     let of = c.of.ensures in
     input_fault (g.S.Store.holds c.args.store.now) (map (λ s. s.now) c.args.names.now) c.in-Ok.files.items c.in-Err.fault read.bytes read.within
-      (λ e. of.too_many.0 (c.in-Err.is ∙ ap Err e)) (λ e. of.too_large.0 (c.in-Err.is ∙ ap Err e))
+    (λ e. of.too_many.0 (c.in-Err.is ∙ ap Err e)) (λ e. of.too_large.0 (c.in-Err.is ∙ ap Err e))
