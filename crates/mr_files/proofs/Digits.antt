@@ -2,7 +2,7 @@
 use Rattle.std.proofs.Common.{◌≡◌, ℕ, ◌-◌, ◌^◌, false, List, [], ◌++◌, length, refl, ap, sym, ◌∙◌, ◌≢◌, ◌<◌, ◌≤◌, zero, suc, get_or, append-nil, arith, codes}
 use Rattle.std.specs.Prelude.{decimal, replicate}
 use Rattle.std.specs.Fmt.{padded_integral, format_spec, before_digits, char_count}
-use Rattle.mr_files.specs.Names.{five_digits, name_of_part, name_of_certificate, part_names}
+use Rattle.mr_files.specs.Names.{five_digits, name_of_part, name_of_certificate, name_of_verdict, part_names}
 use Rattle.mr_files.specs.Holding.{Differs}
 use Rattle.mr_files.proofs.Lists.{differs_more}
 use Rattle.std.specs.Str.Parse.{digits_value}
@@ -45,3 +45,14 @@ pub differs_certificate : (dir : List ℕ) (i : ℕ) → Differs (name_of_certif
 unfolding part_names
 differs_certificate dir zero = tt
 differs_certificate dir (suc i) = differs_more (name_of_certificate dir) (name_of_part dir i) (part_names dir i) (differs_certificate dir i) (certificate_differs dir i)
+
+pub verdict_differs : (dir : List ℕ) (k : ℕ) → name_of_verdict dir ≢ name_of_part dir k
+verdict_differs dir k is =
+    let same : codes "/verdict" ≡ codes "/part-" ++ five_digits k = append_cancel_left dir (codes "/verdict") (codes "/part-" ++ five_digits k) is in
+    let e : 118 ≡ 112 = ap (λ (v : List ℕ). get_or v 1 0) same in
+    absurd (omega (arith, e))
+
+pub differs_verdict : (dir : List ℕ) (i : ℕ) → Differs (name_of_verdict dir) (part_names dir i)
+unfolding part_names
+differs_verdict dir zero = tt
+differs_verdict dir (suc i) = differs_more (name_of_verdict dir) (name_of_part dir i) (part_names dir i) (differs_verdict dir i) (verdict_differs dir i)

@@ -29,7 +29,7 @@ impl From<AllocError> for WithinFault {
 }
 
 /// All bytes of the file of that name, where they are at most so many. No more than one byte past the limit is read.
-fn read_file_within<S: Store>(
+pub fn read_file_within<S: Store>(
     store: &S,
     alloc: Global,
     name: &str,

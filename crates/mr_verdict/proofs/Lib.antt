@@ -2,3 +2,6 @@ pub mod TextLemmas
 pub mod ReadLemmas
 pub mod SpellLemmas
 pub mod OneLaws
+pub mod JoinedLaws
+pub mod JoinLemmas
+pub mod SeenLemmas

@@ -4,12 +4,18 @@
 ghost use Rattle.mr_verdict.specs.Laws.{OneText};
 
 mod fault;
+mod joining;
+mod noting;
 mod reading;
+mod requests;
 mod verdict;
 mod writing;
 
 pub use crate::fault::VerdictFault;
+pub use crate::joining::{JoinFault, first_repeat, join_verdicts, joined_law};
+pub use crate::noting::{is_note_of, note_for, verdict_for};
 pub use crate::reading::read_verdict;
+pub use crate::requests::{asks, request_of};
 pub use crate::verdict::{FileNote, Verdict};
 pub use crate::writing::write_verdict;
 

@@ -1,0 +1,53 @@
+//! The request that a verdict is about.
+ghost use Rattle.std.specs.Prelude.{◌≡◌, ◌↔◌, IfOk, IsTrue, MatchOption};
+ghost use Rattle.mr_jobs.specs.JobSpec.{JobFits, JobSpec};
+ghost use Rattle.mr_verdict.specs.Truth.{Asks, AsksNone, NamesJob};
+
+use crate::verdict::Verdict;
+use mr_jobs::{Job, JobFault, Request};
+use std::alloc::{AllocError, Global};
+
+/// Whether a verdict is about the request.
+pub fn asks(verdict: &Verdict, request: &Request) -> bool
+    ensures { IsTrue result ↔ Asks verdict.now request.now }
+{
+    let job = request.job();
+    verdict.job == job.number()
+        && verdict.flags == job.flags()
+        && verdict.literal.as_slice() == job.literal()
+        && verdict.parts == request.parts()
+        && verdict.split == request.split_size()
+}
+
+/// The one job that a verdict may name.
+fn job_named(alloc: Global, verdict: &Verdict) -> Result<Option<Job>, AllocError>
+    ensures { IfOk result (λ r. MatchOption r ((job : JobSpec) → JobFits job → NamesJob verdict.now job → ⊥)
+        (λ j. (job : JobSpec) → JobFits job → NamesJob verdict.now job → j ≡ job)) }
+{
+    match verdict.job {
+        1 => Ok(Some(Job::words(verdict.flags == 1))),
+        2 => match Job::grep(alloc, verdict.literal.as_slice(), verdict.flags == 2) {
+            Ok(job) => Ok(Some(job)),
+            Err(JobFault::OutOfMemory) => Err(AllocError),
+            Err(_) => Ok(None),
+        },
+        _ => Ok(Some(Job::url())),
+    }
+}
+
+/// A request that a verdict is about, which lets no record be left out; none where there is no such request.
+pub fn request_of(alloc: Global, verdict: &Verdict) -> Result<Option<Request>, AllocError>
+    ensures { IfOk result (λ r. MatchOption r (AsksNone verdict.now) (λ q. Asks verdict.now q)) }
+{
+    let Some(job) = job_named(alloc, verdict)? else {
+        return Ok(None);
+    };
+    let Ok(request) = Request::new(job, verdict.parts, verdict.split, 0) else {
+        return Ok(None);
+    };
+    if asks(verdict, &request) {
+        Ok(Some(request))
+    } else {
+        Ok(None)
+    }
+}
