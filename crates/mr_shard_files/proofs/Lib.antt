@@ -1,0 +1,6 @@
+pub mod ListLemmas
+pub mod FaultLemmas
+pub mod PartLemmas
+pub mod NoteLemmas
+pub mod RowLemmas
+pub mod TruthLemmas

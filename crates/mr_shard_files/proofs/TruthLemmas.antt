@@ -1,0 +1,66 @@
+-- What the joined verdict is worth, whatever request the verdicts are about.
+use Rattle.std.proofs.Common.{◌≡◌, ℕ, ◌<◌, List, [], ◌∷◌, length, refl, ap, sym, ◌∙◌, subst, arith, Bool, true, false}
+use Rattle.std.specs.List.{AllByRecursion}
+use Rattle.mr_jobs.specs.JobSpec.{JobSpec, LinesWith, RequestSpec, Resources, WordCount, job_flags, job_literal, job_number}
+use Rattle.mr_verdict.specs.Joined.{AreMerged, AreTrueOf, IsJoined, all_files}
+use Rattle.mr_verdict.specs.Truth.{AreNotesOf, Asks, IsTrueOf}
+use Rattle.mr_verdict.specs.Verdict.{Told}
+use Rattle.mr_verdict.proofs.JoinedLaws.{joined_is_true}
+use Rattle.mr_shard_files.specs.Merging.{IsTrueOfAll}
+
+-- a job is known by its number, its flags and its literal
+same_job : (a b : JobSpec) → job_number a ≡ job_number b → job_flags a ≡ job_flags b → job_literal a ≡ job_literal b → a ≡ b
+same_job (WordCount true) (WordCount true) n f l = refl
+same_job (WordCount true) (WordCount false) n f l = absurd (omega (arith, f))
+same_job (WordCount false) (WordCount true) n f l = absurd (omega (arith, f))
+same_job (WordCount false) (WordCount false) n f l = refl
+same_job (WordCount k) (LinesWith literal fold) n f l = absurd (omega (arith, n))
+same_job (WordCount k) Resources n f l = absurd (omega (arith, n))
+same_job (LinesWith literal fold) (WordCount k) n f l = absurd (omega (arith, n))
+same_job (LinesWith literal true) (LinesWith other true) n f l = ap (λ x. LinesWith x true) l
+same_job (LinesWith literal true) (LinesWith other false) n f l = absurd (omega (arith, f))
+same_job (LinesWith literal false) (LinesWith other true) n f l = absurd (omega (arith, f))
+same_job (LinesWith literal false) (LinesWith other false) n f l = ap (λ x. LinesWith x false) l
+same_job (LinesWith literal fold) Resources n f l = absurd (omega (arith, n))
+same_job Resources (WordCount k) n f l = absurd (omega (arith, n))
+same_job Resources (LinesWith literal fold) n f l = absurd (omega (arith, n))
+same_job Resources Resources n f l = refl
+
+-- the same, with another number of records that may be left out
+abbrev letting : RequestSpec → ℕ → RequestSpec
+letting r skips = record { job = r.job; parts = r.parts; split = r.split; skips = skips }
+
+same_request : (v : Told) (r q : RequestSpec) → Asks v r → Asks v q → letting r q.skips ≡ q
+same_request v r q a b =
+    let job : r.job ≡ q.job = same_job r.job q.job (sym a.0 ∙ b.0) (sym a.1 ∙ b.1) (sym a.2 ∙ b.2) in
+    let parts : r.parts ≡ q.parts = sym a.3 ∙ b.3 in
+    let split : r.split ≡ q.split = sym a.4 ∙ b.4 in
+    λ i. record { job = job i; parts = parts i; split = split i; skips = q.skips }
+
+asks_all : (r : RequestSpec) (skips : ℕ) (vs : List Told) → AllByRecursion (λ v. Asks v r) vs → AllByRecursion (λ v. Asks v (letting r skips)) vs
+asks_all r skips [] h = tt
+asks_all r skips (v ∷ vs) h = (h.0, asks_all r skips vs h.1)
+
+joined_letting : (r : RequestSpec) (skips : ℕ) (vs : List Told) (m : Told) → IsJoined r vs m → IsJoined (letting r skips) vs m
+joined_letting r skips vs m j = record {
+  asks = j.asks;
+  alike = asks_all r skips vs j.alike;
+  counted = j.counted;
+  inputs_are = j.inputs_are;
+  left_out_is = j.left_out_is;
+  pairs_are = j.pairs_are;
+}
+
+first_asks : (r q : RequestSpec) (vs : List Told) (files parts : List (List (List ℕ))) → 0 < length vs → AllByRecursion (λ v. Asks v r) vs → AreTrueOf q vs files parts → letting r q.skips ≡ q
+first_asks r q [] files parts some h t = absurd (omega (arith, some))
+first_asks r q (v ∷ vs) [] parts some h t = absurd t
+first_asks r q (v ∷ vs) (f ∷ files) [] some h t = absurd t
+first_asks r q (v ∷ vs) (f ∷ files) (p ∷ parts) some h t = same_request v r q h.0 t.0.asks
+
+pub true_of_all : (r : RequestSpec) (vs : List Told) (m : Told) (parts : List (List (List ℕ))) (outputs : List (List ℕ)) → 0 < r.split → 0 < length vs
+    → IsJoined r vs m → AreNotesOf m.outputs outputs → length outputs ≡ r.parts → AreMerged r vs parts outputs → IsTrueOfAll vs parts m outputs
+true_of_all r vs m parts outputs split some j notes count merged q files t =
+    let same = first_asks r q vs files parts some j.alike t in
+    subst (λ (x : RequestSpec). IsTrueOf x m (all_files files) outputs) same
+    (joined_is_true (letting r q.skips) vs m files parts outputs split (joined_letting r q.skips vs m j) notes count merged
+    (subst (λ (x : RequestSpec). AreTrueOf x vs files parts) (sym same) t))

@@ -1,0 +1,149 @@
+-- Why shards are not merged, stage by stage: what is told of one verdict, one part or one partition is told of all by its
+-- place.
+use Rattle.std.specs.Prelude.{◌≡◌, ◌⊎◌, ℕ, ◌+◌, ◌<◌, ◌^◌, ⊤, List, [], ◌∷◌, ◌++◌, length, map, slice_index_or, string_bytes, take}
+use Rattle.mr_input.specs.Files.{total_size}
+use Rattle.mr_files.specs.Folders.{IsFolderOf}
+use Rattle.mr_files.specs.Holding.{ChangesAmong, Faulty, Holding, Stored}
+use Rattle.mr_files.specs.Names.{merged_names, name_of_part}
+use Rattle.mr_files.specs.Refusals.{IsUnwrittenAt}
+use Rattle.mr_jobs.specs.JobSpec.{JobSpec, RequestSpec}
+use Rattle.mr_shards.specs.declared.fault.MergeFault.{MergeFault}
+use Rattle.mr_shards.specs.declared.fault.MergeFault.TheVariants as merge
+use Rattle.mr_shards.specs.declared.merge.Output.{Output}
+use Rattle.mr_shards.specs.Refused.{Blames}
+use Rattle.mr_verdict.specs.declared.joining.JoinFault.TheVariants as join
+use Rattle.mr_verdict.specs.Joined.{IsJoinFault, IsRepeated, inputs_of, verdict_at}
+use Rattle.mr_verdict.specs.Reading.{Fits}
+use Rattle.mr_verdict.specs.Truth.{Asks, AsksNone}
+use Rattle.mr_verdict.specs.Verdict.{Told, spelling}
+use Rattle.mr_shard_files.specs.declared.fault.ShardFault.{ShardFault}
+use Rattle.mr_shard_files.specs.declared.fault.ShardFault.TheVariants.{BadLine, BadVerdict, CannotRead, CannotWrite, NoRequest, NoShards, OtherPart, OtherRequest, OutOfMemory, RepeatedInput, TooLarge, TooManyFiles, TooManyPairs, TooManySplits, TotalTooLarge}
+use Rattle.mr_shard_files.specs.Beside.{AreOutputs, StandsBeside, TellsOf}
+use Rattle.mr_shard_files.specs.Merging.{IsMerging}
+
+abbrev pub name_at : List (List ℕ) → ℕ → List ℕ
+name_at names i = slice_index_or names i []
+
+-- ---- verdicts
+
+-- what stands under the name is the text of no verdict
+abbrev pub IsNoVerdict : Stored → List ℕ → Type 0
+IsNoVerdict holds name = (text : List ℕ) × holds name text × ((v : Told) → Fits v → text ≡ spelling v → ⊥)
+
+-- the verdict of that shard, under that name, is not read
+abbrev pub IsUnheard : Stored → Faulty → ℕ → List ℕ → ShardFault → Type 0
+IsUnheard holds unreadable at name (CannotRead told) = unreadable name × (string_bytes told ≡ name)
+IsUnheard holds unreadable at name (BadVerdict shard line) = (shard ≡ at) × IsNoVerdict holds name
+IsUnheard holds unreadable at name OutOfMemory = ⊤
+IsUnheard holds unreadable at name fault = ⊥
+
+-- the verdicts are not all read
+abbrev pub IsUngathered : Stored → Faulty → List (List ℕ) → ShardFault → Type 0
+IsUngathered holds unreadable names fault = (fault ≡ OutOfMemory)
+    ⊎ ((at : ℕ) × (at < length names) × IsUnheard holds unreadable at (name_at names at) fault)
+
+-- ---- parts
+
+-- a part beside the verdict of that name can't be read
+abbrev pub IsPartUnread : Faulty → ℕ → List ℕ → List ℕ → Type 0
+IsPartUnread unreadable p name told = (folder : List ℕ) × IsFolderOf name folder × (told ≡ name_of_part folder p) × unreadable told
+
+-- a part stands there that is not the one that the verdict tells of
+abbrev pub IsOtherPart : Stored → ℕ → List ℕ → Told → Type 0
+IsOtherPart holds p name v = (text : List ℕ) × StandsBeside holds p name text × (TellsOf p v text → ⊥)
+
+-- a part stands there that has more bytes than that
+abbrev pub IsPastLimit : Stored → ℕ → List ℕ → ℕ → Type 0
+IsPastLimit holds p name limit = (text : List ℕ) × StandsBeside holds p name text × (limit < length text)
+
+-- the part of that shard is not read
+abbrev pub IsPartFault : Stored → Faulty → ℕ → ℕ → List ℕ → Told → ℕ → ShardFault → Type 0
+IsPartFault holds unreadable p at name v limit (CannotRead told) = IsPartUnread unreadable p name (string_bytes told)
+IsPartFault holds unreadable p at name v limit (OtherPart shard partition) = (shard ≡ at) × (partition ≡ p) × IsOtherPart holds p name v
+IsPartFault holds unreadable p at name v limit (TooLarge partition) = (partition ≡ p) × IsPastLimit holds p name limit
+IsPartFault holds unreadable p at name v limit OutOfMemory = ⊤
+IsPartFault holds unreadable p at name v limit fault = ⊥
+
+-- those before it were read, and what they leave of 2 GiB is its limit
+pub record IsPartAt (holds : Stored) (unreadable : Faulty) (p : ℕ) (names : List (List ℕ)) (vs : List Told) (fault : ShardFault) : Type 0 where
+  pub at : ℕ
+  pub read : List (List ℕ)
+  pub limit : ℕ
+  pub within : at < length names
+  pub stand : Holding (StandsBeside holds p) (take at names) read
+  pub room : total_size read + limit ≡ 2 ^ 31
+  pub why : IsPartFault holds unreadable p at (name_at names at) (verdict_at vs at) limit fault
+
+-- the parts of a partition are not all read
+abbrev pub IsTextsFault : Stored → Faulty → ℕ → List (List ℕ) → List Told → ShardFault → Type 0
+IsTextsFault holds unreadable p names vs fault = (fault ≡ OutOfMemory) ⊎ IsPartAt holds unreadable p names vs fault
+
+-- what stands beside the verdicts for a partition can't be merged, or not numbered
+abbrev pub IsBlamed : JobSpec → List Output → ℕ → ShardFault → Type 0
+IsBlamed job os p (BadLine shard partition line) = (partition ≡ p) × Blames job os (merge.BadLine shard line)
+IsBlamed job os p (TotalTooLarge partition) = (partition ≡ p) × Blames job os merge.TotalTooLarge
+IsBlamed job os p TooManyFiles = ⊤
+IsBlamed job os p OutOfMemory = ⊤
+IsBlamed job os p fault = ⊥
+
+pub record IsUnmergedAt (holds : Stored) (job : JobSpec) (names : List (List ℕ)) (vs : List Told) (p : ℕ) (fault : ShardFault) : Type 0 where
+  pub parts : List (List ℕ)
+  pub outputs : List Output
+  pub stand : Holding (StandsBeside holds p) names parts
+  pub outputs_are : AreOutputs vs parts outputs
+  pub why : IsBlamed job outputs p fault
+
+-- the parts of a partition are not merged
+abbrev pub IsPartitionFault : Stored → Faulty → JobSpec → List (List ℕ) → List Told → ℕ → ShardFault → Type 0
+IsPartitionFault holds unreadable job names vs p fault =
+    (fault ≡ TooManyFiles) ⊎ (IsTextsFault holds unreadable p names vs fault ⊎ IsUnmergedAt holds job names vs p fault)
+
+-- the partitions are not all merged
+abbrev pub IsPartitionsFault : Stored → Faulty → RequestSpec → List (List ℕ) → List Told → ShardFault → Type 0
+IsPartitionsFault holds unreadable request names vs fault = (fault ≡ OutOfMemory)
+    ⊎ ((p : ℕ) × (p < request.parts) × IsPartitionFault holds unreadable request.job names vs p fault)
+
+-- ---- all
+
+-- there is no request
+abbrev pub IsFirstFault : List Told → ShardFault → Type 0
+IsFirstFault vs NoShards = vs ≡ []
+IsFirstFault vs NoRequest = (0 < length vs) × AsksNone (verdict_at vs 0)
+IsFirstFault vs OutOfMemory = ⊤
+IsFirstFault vs fault = ⊥
+
+-- the verdicts are not joined
+abbrev pub IsJoinedFault : RequestSpec → List Told → ShardFault → Type 0
+IsJoinedFault request vs (OtherRequest shard) = IsJoinFault request vs (join.OtherRequest shard)
+IsJoinedFault request vs (TooManySplits shard) = IsJoinFault request vs (join.TooManySplits shard)
+IsJoinedFault request vs TooManyPairs = IsJoinFault request vs join.TooManyPairs
+IsJoinedFault request vs (RepeatedInput input) = IsRepeated (inputs_of vs) input
+IsJoinedFault request vs OutOfMemory = ⊤
+IsJoinedFault request vs fault = ⊥
+
+-- nothing is merged: there is no request; or, under that of the first verdict, they are not joined, or the parts not merged
+abbrev pub IsMergingFault : Stored → Faulty → List (List ℕ) → List Told → ShardFault → Type 0
+IsMergingFault holds unreadable names vs fault = (fault ≡ OutOfMemory) ⊎ (IsFirstFault vs fault
+    ⊎ ((request : RequestSpec) × Asks (verdict_at vs 0) request × (IsJoinedFault request vs fault ⊎ IsPartitionsFault holds unreadable request names vs fault)))
+
+-- nothing changed, as the verdicts are not all read, or what stands beside them is not merged
+abbrev pub IsUnmerged : Stored → Stored → Faulty → List (List ℕ) → ShardFault → Type 0
+IsUnmerged old new unreadable names fault = ChangesAmong old new []
+    × (IsUngathered old unreadable names fault ⊎ ((vs : List Told) × Holding old names (map spelling vs) × IsMergingFault old unreadable names vs fault))
+
+-- a file of the result can't be written: those before it stand whole, and the verdict is the last
+pub record IsStopped (old new : Stored) (unwritable : Faulty) (names : List (List ℕ)) (dir told : List ℕ) : Type 0 where
+  pub verdicts : List Told
+  pub joined : Told
+  pub outputs : List (List ℕ)
+  pub held : Holding old names (map spelling verdicts)
+  pub merging : IsMerging old names verdicts joined outputs
+  pub stopped : IsUnwrittenAt old new unwritable (merged_names dir (length outputs)) (outputs ++ spelling joined ∷ []) told
+
+abbrev pub IsUnfinished : Stored → Stored → Faulty → List (List ℕ) → List ℕ → ShardFault → Type 0
+IsUnfinished old new unwritable names dir (CannotWrite told) = IsStopped old new unwritable names dir (string_bytes told)
+IsUnfinished old new unwritable names dir OutOfMemory = ⊤
+IsUnfinished old new unwritable names dir fault = ⊥
+
+abbrev pub IsShardRefusal : Stored → Stored → Faulty → Faulty → List (List ℕ) → List ℕ → ShardFault → Type 0
+IsShardRefusal old new unreadable unwritable names dir fault = IsUnmerged old new unreadable names fault ⊎ IsUnfinished old new unwritable names dir fault

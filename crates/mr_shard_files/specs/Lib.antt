@@ -1,0 +1,4 @@
+pub mod Told
+pub mod Beside
+pub mod Merging
+pub mod Faults

@@ -1,0 +1,35 @@
+-- How the faults of what a merge calls are told.
+use Rattle.std.specs.Prelude.{ℕ}
+use Rattle.mr_files.specs.declared.store.FileFault.{FileFault}
+use Rattle.mr_files.specs.declared.store.FileFault.TheVariants as file
+use Rattle.mr_shards.specs.declared.fault.MergeFault.{MergeFault}
+use Rattle.mr_shards.specs.declared.fault.MergeFault.TheVariants as merge
+use Rattle.mr_verdict.specs.declared.fault.VerdictFault.{VerdictFault}
+use Rattle.mr_verdict.specs.declared.fault.VerdictFault.TheVariants as text
+use Rattle.mr_verdict.specs.declared.joining.JoinFault.{JoinFault}
+use Rattle.mr_verdict.specs.declared.joining.JoinFault.TheVariants as join
+use Rattle.mr_shard_files.specs.declared.fault.ShardFault.{ShardFault}
+use Rattle.mr_shard_files.specs.declared.fault.ShardFault.TheVariants.{BadLine, BadVerdict, CannotRead, CannotWrite, OtherRequest, OutOfMemory, TooManyFiles, TooManyPairs, TooManySplits, TotalTooLarge}
+
+abbrev pub told_of_file : FileFault → ShardFault
+told_of_file (file.CannotRead name) = CannotRead name
+told_of_file (file.CannotWrite name) = CannotWrite name
+told_of_file file.OutOfMemory = OutOfMemory
+
+abbrev pub told_of_join : JoinFault → ShardFault
+told_of_join (join.OtherRequest shard) = OtherRequest shard
+told_of_join (join.TooManySplits shard) = TooManySplits shard
+told_of_join join.TooManyPairs = TooManyPairs
+told_of_join join.OutOfMemory = OutOfMemory
+
+-- of the verdict of a shard
+abbrev pub told_of_verdict : ℕ → VerdictFault → ShardFault
+told_of_verdict shard (text.BadLine line) = BadVerdict shard line
+told_of_verdict shard text.OutOfMemory = OutOfMemory
+
+-- of the outputs that shards have for a partition
+abbrev pub told_of_merge : ℕ → MergeFault → ShardFault
+told_of_merge partition (merge.BadLine shard line) = BadLine shard partition line
+told_of_merge partition merge.TotalTooLarge = TotalTooLarge partition
+told_of_merge partition merge.TooManyFiles = TooManyFiles
+told_of_merge partition merge.OutOfMemory = OutOfMemory

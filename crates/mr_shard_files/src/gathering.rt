@@ -1,0 +1,44 @@
+//! The verdicts of shards, read.
+ghost use Rattle.std.specs.Prelude.{◌≡◌, IfErr, IfOk, map};
+ghost use Rattle.mr_files.specs.Holding.{Holding};
+ghost use Rattle.mr_verdict.specs.Verdict.{spelling};
+ghost use Rattle.mr_shard_files.specs.Faults.{IsUnheard, IsUngathered};
+
+use crate::fault::{ShardFault, of_verdict};
+use mr_files::{Store, read_file};
+use mr_verdict::{Verdict, read_verdict};
+use std::alloc::{AllocError, Global};
+
+/// The verdict that stands under a name.
+fn verdict_under<S: Store>(
+    store: &S,
+    alloc: Global,
+    name: &str,
+    shard: usize,
+) -> Result<Verdict, ShardFault>
+    ensures ok { IfOk result (λ v. S.holds store.now name.now (spelling v)) }
+    ensures err { IfErr result (IsUnheard (S.holds store.now) (S.unreadable store.now) shard name.now) }
+{
+    let text = read_file(store, alloc, name)?;
+    match read_verdict(alloc, text.as_slice()) {
+        Ok(verdict) => Ok(verdict),
+        Err(fault) => Err(of_verdict(shard, fault)),
+    }
+}
+
+/// The verdicts that stand under these names, in order.
+pub(crate) fn read_verdicts<S: Store>(
+    store: &S,
+    alloc: Global,
+    names: &[&str],
+) -> Result<Vec<Verdict>, ShardFault>
+    ensures ok { IfOk result (λ vs. Holding (S.holds store.now) (map (λ s. s.now) names.now) (map spelling vs.items)) }
+    ensures err { IfErr result (IsUngathered (S.holds store.now) (S.unreadable store.now) (map (λ s. s.now) names.now)) }
+{
+    let mut verdicts = Vec::new(alloc);
+    for (shard, name) in names.iter().enumerate() {
+        let verdict = verdict_under(store, alloc, name, shard)?;
+        verdicts.push(verdict).map_err(AllocError::from)?;
+    }
+    Ok(verdicts)
+}

@@ -1,0 +1,14 @@
+//! The results of shards, over a store of files: each shard has a folder with its parts and the verdict on them, and they
+//! are merged to the result of the whole.
+#![tactic(auto)]
+
+mod fault;
+mod gathering;
+mod merging;
+mod noting;
+mod partition;
+mod texts;
+
+pub use crate::fault::ShardFault;
+pub use crate::merging::merge_shards;
+pub use crate::noting::part_notes;

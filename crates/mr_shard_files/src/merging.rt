@@ -1,0 +1,96 @@
+//! Shards, merged.
+ghost use Rattle.std.specs.Prelude.{◌≡◌, ◌<◌, IfErr, IfOk, length, map};
+ghost use Rattle.mr_input.specs.Files.{contents};
+ghost use Rattle.mr_verdict.specs.Joined.{AreOnce, IsJoined, verdict_at};
+ghost use Rattle.mr_verdict.specs.Truth.{Asks};
+ghost use Rattle.mr_shard_files.specs.Merging.{ChangesResult, IsMerged, IsMerging, with_outputs as with_notes};
+ghost use Rattle.mr_shard_files.specs.Faults.{IsFirstFault, IsJoinedFault, IsMergingFault, IsShardRefusal};
+
+use crate::fault::ShardFault;
+use crate::gathering::read_verdicts;
+use crate::noting::part_notes;
+use crate::partition::partitions_merged;
+use mr_files::{Store, write_merged};
+use mr_jobs::Request;
+use mr_verdict::{FileNote, Verdict, first_repeat, join_verdicts, request_of, write_verdict};
+use std::alloc::Global;
+
+/// The request that the first verdict is about.
+fn first_request(alloc: Global, verdicts: &[Verdict]) -> Result<Request, ShardFault>
+    ensures ok { IfOk result (λ r. Asks (verdict_at verdicts.now 0) r) }
+    ensures some { IfOk result (λ _. 0 < length verdicts.now) }
+    ensures split { IfOk result (λ r. 0 < r.split) }
+    ensures err { IfErr result (IsFirstFault verdicts.now) }
+{
+    let Some(first) = verdicts.first() else {
+        return Err(ShardFault::NoShards);
+    };
+    match request_of(alloc, first)? {
+        Some(request) => {
+            // A split has some bytes.
+            let _size = request.split_size();
+            Ok(request)
+        }
+        None => Err(ShardFault::NoRequest),
+    }
+}
+
+/// What the verdicts are together, where no input is named twice.
+fn joined_once(alloc: Global, request: &Request, verdicts: &[Verdict]) -> Result<Verdict, ShardFault>
+    ensures joined { IfOk result (IsJoined request.now verdicts.now) }
+    ensures once { IfOk result (λ m. AreOnce m.inputs) }
+    ensures err { IfErr result (IsJoinedFault request.now verdicts.now) }
+{
+    let joined = join_verdicts(alloc, request, verdicts)?;
+    match first_repeat(alloc, joined.inputs.as_slice())? {
+        Some(input) => Err(ShardFault::RepeatedInput { input }),
+        None => Ok(joined),
+    }
+}
+
+/// The verdict with these notes of its outputs.
+fn noted(verdict: Verdict, outputs: Vec<FileNote>) -> Verdict
+    ensures { result ≡ with_notes verdict outputs.items }
+{
+    Verdict {
+        outputs,
+        ..verdict
+    }
+}
+
+/// The parts that stand beside these verdicts, merged, and the verdict on them.
+fn merged_under<S: Store>(
+    store: &S,
+    alloc: Global,
+    names: &[&str],
+    verdicts: &[Verdict],
+) -> Result<(Verdict, Vec<Vec<u8>>), ShardFault>
+    requires { length names.now ≡ length verdicts.now }
+    ensures ok { IfOk result (λ r. IsMerging (S.holds store.now) (map (λ s. s.now) names.now) verdicts.now r.0 (contents r.1.items)) }
+    ensures err { IfErr result (IsMergingFault (S.holds store.now) (S.unreadable store.now) (map (λ s. s.now) names.now) verdicts.now) }
+{
+    let request = first_request(alloc, verdicts)?;
+    let joined = joined_once(alloc, &request, verdicts)?;
+    let outputs = partitions_merged(store, alloc, &request, names, verdicts)?;
+    let notes = part_notes(alloc, outputs.as_slice())?;
+    Ok((noted(joined, notes), outputs))
+}
+
+/// Merges shards: under each name stands a verdict, beside it the parts that it tells of. The merged parts are written to
+/// the folder, and then their verdict, which is given back. Nothing is written before all is merged.
+pub fn merge_shards<S: Store>(
+    store: &mut S,
+    alloc: Global,
+    names: &[&str],
+    out: &str,
+) -> Result<Verdict, ShardFault>
+    ensures ok { IfOk result (IsMerged (S.holds store.old) (S.holds store.new) (map (λ s. s.now) names.now) out.now) }
+    ensures others { ChangesResult (S.holds store.old) (S.holds store.new) out.now }
+    ensures refused { IfErr result (IsShardRefusal (S.holds store.old) (S.holds store.new) (S.unreadable store.old) (S.unwritable store.old) (map (λ s. s.now) names.now) out.now) }
+{
+    let verdicts = read_verdicts(store, alloc, names)?;
+    let (joined, outputs) = merged_under(store, alloc, names, verdicts.as_slice())?;
+    let text = write_verdict(alloc, &joined)?;
+    write_merged(store, alloc, out, outputs.as_slice(), text.as_slice())?;
+    Ok(joined)
+}
