@@ -1,6 +1,11 @@
 -- The notes of outputs, one behind another.
-use Rattle.std.proofs.Common.{◌≡◌, ℕ, zero, suc, ◌+◌, ◌++◌, List, [], ◌∷◌, length, length-append, refl, ap, sym, ◌∙◌, arith}
+use Rattle.std.proofs.Common.{◌≡◌, ℕ, zero, suc, ◌+◌, ◌<◌, ◌++◌, List, [], ◌∷◌, get_or, length, length-append, refl, ap, sym, ◌∙◌, arith, take}
+use Rattle.std.proofs.lemmas.List.{length-map, length-take-le}
+use Rattle.std.specs.Prelude.{Vec}
+use Rattle.std.specs.Global.{Global}
+use Rattle.mr_input.specs.Files.{contents}
 use Rattle.mr_files.specs.Names.{part_file, part_files}
+use Rattle.mr_files.proofs.Lists.{names_more}
 use Rattle.mr_verdict.specs.Verdict.{Note}
 use Rattle.mr_verdict.specs.Truth.{AreNotesOf, note_for, notes_for}
 
@@ -30,3 +35,17 @@ notes_of [] [] e = tt
 notes_of [] (f ∷ fs) e = absurd (omega (arith, e))
 notes_of (n ∷ ns) [] e = absurd (omega (arith, e))
 notes_of (n ∷ ns) (f ∷ fs) e = ((refl, refl), notes_of ns fs (omega (arith, e)))
+
+pub notes_none : notes_for (part_files 0) [] ≡ []
+unfolding part_files
+notes_none = refl
+
+pub notes_pushed : (outputs : List (Vec ℕ Global)) (i : ℕ) (d : Vec ℕ Global) (notes after : List Note) (note : Note) (text : List ℕ) → i < length outputs → text ≡ (get_or outputs i d).items
+    → note ≡ note_for (part_file i) text → after ≡ notes ++ note ∷ [] → notes ≡ notes_for (part_files i) (contents (take i outputs))
+    → after ≡ notes_for (part_files (i + 1)) (contents (take (i + 1) outputs))
+notes_pushed outputs i d notes after note text less is one more was =
+    let before : List (List ℕ) = contents (take i outputs) in
+    let here : List ℕ = (get_or outputs i d).items in
+    let count : length before ≡ i = omega (arith, length-map (take i outputs) (λ o. o.items), length-take-le i outputs (omega (arith, less))) in
+    more ∙ ap (λ (l : List Note). l ++ note ∷ []) was ∙ ap (λ (n : Note). notes_for (part_files i) before ++ n ∷ []) (one ∙ ap (note_for (part_file i)) is)
+    ∙ sym (notes_next before here i count) ∙ ap (notes_for (part_files (i + 1))) (sym (names_more (λ o. o.items) outputs i d less))

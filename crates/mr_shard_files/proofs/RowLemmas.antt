@@ -78,7 +78,7 @@ module _ (holds : Stored) (job : JobSpec) where
   outputs_new n (m ∷ ns) (v ∷ vs) (ps ∷ pss) (t ∷ ts) [] a o = absurd o
   outputs_new n (m ∷ ns) (v ∷ vs) (ps ∷ pss) (t ∷ ts) (q ∷ os) a o =
       let at : nth_file (ps ++ t ∷ []) n ≡ t = ap (λ k. nth_file (ps ++ t ∷ []) k) (sym a.0.count_is) ∙ get_or-append_seam ps t [] [] in
-      (o.0, (o.1 ∙ sym at, outputs_new n ns vs pss ts os a.1 o.2))
+      (o.0, o.1 ∙ sym at, outputs_new n ns vs pss ts os a.1 o.2)
 
   outputs_kept : (p n : ℕ) (ns : List (List ℕ)) (vs : List Told) (pss : List (List (List ℕ))) (ts : List (List ℕ)) (os : List Output) → p < n → ArePartsOf holds job n ns vs pss
       → Tells n vs ts → AreOutputsAt p vs pss os → AreOutputsAt p vs (grown pss ts) os
@@ -91,7 +91,7 @@ module _ (holds : Stored) (job : JobSpec) where
   outputs_kept p n (m ∷ ns) (v ∷ vs) (ps ∷ pss) (t ∷ ts) [] less a k o = absurd o
   outputs_kept p n (m ∷ ns) (v ∷ vs) (ps ∷ pss) (t ∷ ts) (q ∷ os) less a k o =
       let at : nth_file (ps ++ t ∷ []) p ≡ nth_file ps p = get_or_append_left ps (t ∷ []) [] p (omega (arith, less, a.0.count_is)) in
-      (o.0, (o.1 ∙ sym at, outputs_kept p n ns vs pss ts os less a.1 k.1 o.2))
+      (o.0, o.1 ∙ sym at, outputs_kept p n ns vs pss ts os less a.1 k.1 o.2)
 
   -- the parts of each shard, where those of the first partitions were merged to these texts
   pub record AreRows (names : List (List ℕ)) (vs : List Told) (texts : List (List ℕ)) (n : ℕ) : Type 0 where
@@ -105,15 +105,15 @@ module _ (holds : Stored) (job : JobSpec) where
       parts_are = parts_more n names vs r.parts h.parts h.outputs r.parts_are h.stand h.told h.outputs_are h.lines;
       merged = λ p less. by p (cases_lt p n) less;
     }
-  where
-    by : (p : ℕ) → (p < n) ⊎ (n ≤ p) → p < n + 1 → IsMergedAt job vs (grown r.parts h.parts) p (nth_file texts p)
-    by p (inl l) less =
-        let m = r.merged p l in
-        (m.0, (outputs_kept p n names vs r.parts h.parts m.0 l r.parts_are h.told m.1, m.2))
-    by p (inr g) less =
-        let same : n ≡ p = omega (arith, g, less) in
-        subst (λ k. IsMergedAt job vs (grown r.parts h.parts) k (nth_file texts k)) same
-        (h.outputs, (outputs_new n names vs r.parts h.parts h.outputs r.parts_are h.outputs_are, (h.merged, h.whole)))
+    where
+      by : (p : ℕ) → (p < n) ⊎ (n ≤ p) → p < n + 1 → IsMergedAt job vs (grown r.parts h.parts) p (nth_file texts p)
+      by p (inl l) less =
+          let m = r.merged p l in
+          (m.0, outputs_kept p n names vs r.parts h.parts m.0 l r.parts_are h.told m.1, m.2, m.3)
+      by p (inr g) less =
+          let same : n ≡ p = omega (arith, g, less) in
+          subst (λ k. IsMergedAt job vs (grown r.parts h.parts) k (nth_file texts k)) same
+          (h.outputs, outputs_new n names vs r.parts h.parts h.outputs r.parts_are h.outputs_are, h.merged, h.whole)
 
   pub rows : (names : List (List ℕ)) (vs : List Told) (texts : List (List ℕ)) (n : ℕ) → length names ≡ length vs
       → ((p : ℕ) → p < n → IsPartition holds job names vs p (nth_file texts p)) → AreRows names vs texts n

@@ -99,7 +99,8 @@ pub(crate) fn outputs_of<'a>(
 {
     let mut outputs = Vec::new(alloc);
     for shard in 0..texts.len() {
-        let Ok(files) = u32::try_from(verdicts[shard].inputs.len()) else {
+        let verdict = &verdicts[shard];
+        let Ok(files) = u32::try_from(verdict.inputs.len()) else {
             return Err(ShardFault::TooManyFiles);
         };
         keep(&mut outputs, files, texts[shard].as_slice())?;
