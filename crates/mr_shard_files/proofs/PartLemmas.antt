@@ -1,17 +1,22 @@
 -- The parts of shards for one partition, one behind another.
-use Rattle.std.proofs.Common.{◌≡◌, ℕ, ◌+◌, ◌<◌, ◌^◌, ◌++◌, inr, List, [], ◌∷◌, length, get_or, map, take, ap, sym, ◌∙◌, subst, arith}
+use Rattle.std.proofs.Common.{◌≡◌, ℕ, suc, ◌+◌, ◌<◌, ◌^◌, ◌++◌, inr, List, [], ◌∷◌, length, get_or, map, take, refl, ap, sym, ◌∙◌, subst, arith}
 use Rattle.std.proofs.lemmas.List.{get_or-map, get_or_default, length-map, map-append, take-map, take_more}
 use Rattle.std.specs.Prelude.{Vec}
 use Rattle.std.specs.Global.{Global}
 use Rattle.mr_input.specs.Files.{contents, total_size}
+use Rattle.mr_jobs.specs.JobSpec.{JobSpec}
+use Rattle.mr_shards.specs.declared.fault.MergeFault.{MergeFault}
 use Rattle.mr_shards.specs.declared.merge.Output.{Output}
+use Rattle.mr_shards.specs.Refused.{Blames}
 use Rattle.mr_verdict.specs.Joined.{no_verdict, verdict_at}
 use Rattle.mr_verdict.specs.Verdict.{Told, spelling}
 use Rattle.mr_files.specs.Holding.{Faulty, Holding, Stored}
 use Rattle.mr_files.proofs.Lists.{contents_more, holding_more, names_more}
 use Rattle.mr_shard_files.specs.declared.fault.ShardFault.{ShardFault}
 use Rattle.mr_shard_files.specs.Beside.{AreOutputs, StandsBeside, Tells, TellsOf}
-use Rattle.mr_shard_files.specs.Faults.{IsPartAt, IsPartFault, IsUngathered, IsUnheard, name_at}
+use Rattle.mr_shard_files.specs.Told.{told_of_merge}
+use Rattle.mr_shard_files.proofs.FaultLemmas.{blamed}
+use Rattle.mr_shard_files.specs.Faults.{IsPartAt, IsPartFault, IsPartitionFault, IsUngathered, IsUnheard, name_at}
 
 tells_more : (p : ℕ) (vs : List Told) (ts : List (List ℕ)) (v : Told) (t : List ℕ) → Tells p vs ts → TellsOf p v t → Tells p (vs ++ v ∷ []) (ts ++ t ∷ [])
 tells_more p [] [] v t h k = (k, tt)
@@ -72,3 +77,27 @@ part_at f holds unreadable p xs vs i d w v read left e less same is h room u =
       why = subst (λ (n : List ℕ). IsPartFault holds unreadable p i n (verdict_at vs i) left e) name
           (subst (λ (x : Told). IsPartFault holds unreadable p i (f (get_or xs i d)) x left e) verdict u);
     }
+
+pub tells_count : (p : ℕ) (vs : List Told) (ts : List (List ℕ)) → Tells p vs ts → length ts ≡ length vs
+tells_count p [] [] h = refl
+tells_count p [] (t ∷ ts) h = absurd h
+tells_count p (v ∷ vs) [] h = absurd h
+tells_count p (v ∷ vs) (t ∷ ts) h = ap (λ k. suc k) (tells_count p vs ts h.1)
+
+pub held_count : (holds : Stored) (ns bs : List (List ℕ)) → Holding holds ns bs → length ns ≡ length bs
+held_count holds [] [] h = refl
+held_count holds [] (b ∷ bs) h = absurd h
+held_count holds (n ∷ ns) [] h = absurd h
+held_count holds (n ∷ ns) (b ∷ bs) h = ap (λ k. suc k) (held_count holds ns bs h.1)
+
+-- what was read for a partition is not merged
+pub unmerged_at : (holds : Stored) (unreadable : Faulty) (job : JobSpec) (names : List (List ℕ)) (vs : List Told) (p : ℕ) (texts was : List (Vec ℕ Global)) (os now : List Output) (e : MergeFault)
+    → Holding (StandsBeside holds p) names (contents texts) → was ≡ texts → AreOutputs vs (contents was) os → now ≡ os → Blames job now e
+    → IsPartitionFault holds unreadable job names vs p (told_of_merge p e)
+unmerged_at holds unreadable job names vs p texts was os now e stand same outputs is why = inr (inr (record {
+  parts = contents texts;
+  outputs = os;
+  stand = stand;
+  outputs_are = subst (λ (l : List (Vec ℕ Global)). AreOutputs vs (contents l) os) same outputs;
+  why = blamed job os p e (subst (λ (l : List Output). Blames job l e) is why);
+}))

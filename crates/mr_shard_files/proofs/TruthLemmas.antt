@@ -1,12 +1,21 @@
 -- What the joined verdict is worth, whatever request the verdicts are about.
-use Rattle.std.proofs.Common.{◌≡◌, ℕ, ◌<◌, List, [], ◌∷◌, length, refl, ap, sym, ◌∙◌, subst, arith, Bool, true, false}
+use Rattle.std.proofs.Common.{◌≡◌, ℕ, ◌<◌, List, [], ◌∷◌, length, map, refl, ap, sym, ◌∙◌, subst, arith, Bool, true, false}
+use Rattle.std.proofs.lemmas.List.{length-map}
+use Rattle.std.specs.Prelude.{Vec}
+use Rattle.std.specs.Global.{Global}
 use Rattle.std.specs.List.{AllByRecursion}
+use Rattle.mr_input.specs.Files.{contents}
+use Rattle.mr_files.specs.Holding.{ChangesAmong, Holding, Stored}
+use Rattle.mr_files.specs.Names.{merged_names, name_of_verdict, part_files, part_names}
 use Rattle.mr_jobs.specs.JobSpec.{JobSpec, LinesWith, RequestSpec, Resources, WordCount, job_flags, job_literal, job_number}
-use Rattle.mr_verdict.specs.Joined.{AreMerged, AreTrueOf, IsJoined, all_files}
-use Rattle.mr_verdict.specs.Truth.{AreNotesOf, Asks, IsTrueOf}
-use Rattle.mr_verdict.specs.Verdict.{Told}
+use Rattle.mr_verdict.specs.Joined.{AreMerged, AreOnce, AreTrueOf, IsJoined, all_files}
+use Rattle.mr_verdict.specs.Truth.{AreNotesOf, Asks, IsTrueOf, notes_for}
+use Rattle.mr_verdict.specs.Verdict.{Note, Told, spelling}
 use Rattle.mr_verdict.proofs.JoinedLaws.{joined_is_true}
-use Rattle.mr_shard_files.specs.Merging.{IsTrueOfAll}
+use Rattle.mr_shard_files.specs.Beside.{ArePartitions}
+use Rattle.mr_shard_files.specs.Merging.{IsMerged, IsMerging, IsTrueOfAll, with_outputs}
+use Rattle.mr_shard_files.proofs.NoteLemmas.{files_count, notes_of}
+use Rattle.mr_shard_files.proofs.RowLemmas.{rows}
 
 -- a job is known by its number, its flags and its literal
 same_job : (a b : JobSpec) → job_number a ≡ job_number b → job_flags a ≡ job_flags b → job_literal a ≡ job_literal b → a ≡ b
@@ -64,3 +73,46 @@ true_of_all r vs m parts outputs split some j notes count merged q files t =
     subst (λ (x : RequestSpec). IsTrueOf x m (all_files files) outputs) same
     (joined_is_true (letting r q.skips) vs m files parts outputs split (joined_letting r q.skips vs m j) notes count merged
     (subst (λ (x : RequestSpec). AreTrueOf x vs files parts) (sym same) t))
+
+-- what is merged of the parts of all partitions, with the notes of the outputs
+pub merging : (holds : Stored) (names : List (List ℕ)) (vs : List Told) (r : RequestSpec) (m : Told) (outputs : List (List ℕ)) (notes : List Note) → 0 < r.split → 0 < length vs → length names ≡ length vs
+    → length outputs ≡ r.parts → ArePartitions holds r.job names vs outputs → IsJoined r vs m → AreOnce m.inputs → notes ≡ notes_for (part_files r.parts) outputs
+    → IsMerging holds names vs (with_outputs m notes) outputs
+merging holds names vs r m outputs notes split some names_are count all joined once told =
+    let row = rows holds r.job names vs outputs r.parts names_are (λ p less. all p (omega (arith, less, count))) in
+    let whole : IsJoined r vs (with_outputs m notes) = record {
+      asks = joined.asks;
+      alike = joined.alike;
+      counted = joined.counted;
+      inputs_are = joined.inputs_are;
+      left_out_is = joined.left_out_is;
+      pairs_are = joined.pairs_are;
+    } in
+    let noted : AreNotesOf notes outputs = subst (λ (l : List Note). AreNotesOf l outputs) (sym told) (notes_of (part_files r.parts) outputs (files_count r.parts ∙ sym count)) in
+    record {
+      request = r;
+      parts = row.parts;
+      parts_are = row.parts_are;
+      joined = whole;
+      once = once;
+      count = count;
+      merged = row.merged;
+      notes_are = told;
+      true_of = true_of_all r vs (with_outputs m notes) row.parts outputs split some whole noted count row.merged;
+    }
+
+-- the merged result was written
+pub written : (old new : Stored) (names : List (List ℕ)) (dir : List ℕ) (vs was_vs : List Told) (m : Told) (outputs was : List (Vec ℕ Global)) (text : List ℕ)
+    → was_vs ≡ vs → was ≡ outputs → text ≡ spelling m → Holding old names (map spelling vs) → IsMerging old names was_vs m (contents outputs)
+    → Holding new (part_names dir (length was)) (contents was) → new (name_of_verdict dir) text → ChangesAmong old new (merged_names dir (length was)) → IsMerged old new names dir m
+written old new names dir vs was_vs m outputs was text v o t held merging parts verdict others =
+    let count : length was ≡ length (contents was) = sym (length-map was (λ f. f.items)) in
+    record {
+      verdicts = was_vs;
+      outputs = contents was;
+      held = subst (λ (l : List Told). Holding old names (map spelling l)) (sym v) held;
+      merging = subst (λ (l : List (Vec ℕ Global)). IsMerging old names was_vs m (contents l)) (sym o) merging;
+      parts = subst (λ (k : ℕ). Holding new (part_names dir k) (contents was)) count parts;
+      verdict = subst (new (name_of_verdict dir)) t verdict;
+      others = subst (λ (k : ℕ). ChangesAmong old new (merged_names dir k)) count others;
+    }

@@ -1,0 +1,19 @@
+use Rattle.std.proofs.Common.{◌≡◌, ◌∙◌, ap, length, map}
+use Rattle.std.proofs.lemmas.List.{length-map}
+use Rattle.mr_input.specs.Files.{contents}
+use Rattle.mr_files.specs.Names.{part_files}
+use Rattle.mr_verdict.specs.Truth.{notes_for}
+use Rattle.mr_shard_files.proofs.TruthLemmas.{merging}
+use Rattle.mr_shard_files.proofs.merging.merged_under.Goals as goal
+
+pub returns-clause-ok : goal.returns-clause-ok
+returns-clause-ok g c =
+    let request = c.in_ok-request.request in
+    let outputs = c.in_ok-outputs.outputs.items in
+    let names = c.args.names.now in
+    let notes = c.in_ok-notes.notes.items in
+    let told : notes ≡ notes_for (part_files request.parts) (contents outputs) =
+    c.in_ok-notes.ensures ∙ ap (λ l. notes_for (part_files (length l)) (contents l)) c.as_slice.ensures.value ∙ ap (λ k. notes_for (part_files k) (contents outputs)) c.in_ok-outputs.ensures.count in
+    rw c.noted.ensures (merging (g.S.Store.holds c.args.store.now) (map (λ s. s.now) names) c.args.verdicts.now request c.in_ok-joined.joined (contents outputs) notes
+    c.in_ok-request.ensures.split c.in_ok-request.ensures.some (length-map names (λ s. s.now) ∙ c.requires) (length-map outputs (λ o. o.items) ∙ c.in_ok-outputs.ensures.count) c.in_ok-outputs.ensures.ok
+    c.in_ok-joined.ensures.joined c.in_ok-joined.ensures.once told)
