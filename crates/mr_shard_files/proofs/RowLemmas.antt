@@ -101,10 +101,10 @@ module _ (holds : Stored) (job : JobSpec) where
 
   row_more : (names : List (List ℕ)) (vs : List Told) (texts : List (List ℕ)) (n : ℕ) → AreRows names vs texts n → IsPartition holds job names vs n (nth_file texts n) → AreRows names vs texts (n + 1)
   row_more names vs texts n r h = record {
-      parts = grown r.parts h.parts;
-      parts_are = parts_more n names vs r.parts h.parts h.outputs r.parts_are h.stand h.told h.outputs_are h.lines;
-      merged = λ p less. by p (cases_lt p n) less;
-    }
+    parts = grown r.parts h.parts;
+    parts_are = parts_more n names vs r.parts h.parts h.outputs r.parts_are h.stand h.told h.outputs_are h.lines;
+    merged = λ p less. by p (cases_lt p n) less;
+  }
     where
       by : (p : ℕ) → (p < n) ⊎ (n ≤ p) → p < n + 1 → IsMergedAt job vs (grown r.parts h.parts) p (nth_file texts p)
       by p (inl l) less =

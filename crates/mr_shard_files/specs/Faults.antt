@@ -7,7 +7,6 @@ use Rattle.mr_files.specs.Holding.{ChangesAmong, Faulty, Holding, Stored}
 use Rattle.mr_files.specs.Names.{merged_names, name_of_part}
 use Rattle.mr_files.specs.Refusals.{IsUnwrittenAt}
 use Rattle.mr_jobs.specs.JobSpec.{JobSpec, RequestSpec}
-use Rattle.mr_shards.specs.declared.fault.MergeFault.{MergeFault}
 use Rattle.mr_shards.specs.declared.fault.MergeFault.TheVariants as merge
 use Rattle.mr_shards.specs.declared.merge.Output.{Output}
 use Rattle.mr_shards.specs.Refused.{Blames}

@@ -16,34 +16,54 @@ pub enum ShardFault {
     NoShards,
     /// A text is that of no verdict: its lines from this one on differ from those of the verdict that its lines tell.
     #[error("BadVerdict shard {shard} line {line}")]
-    BadVerdict { shard: usize, line: u64 },
+    BadVerdict {
+        shard: usize,
+        line: u64,
+    },
     /// The first verdict is about no request.
     #[error("NoRequest")]
     NoRequest,
     /// A verdict is about another request than the first.
     #[error("OtherRequest shard {shard}")]
-    OtherRequest { shard: usize },
+    OtherRequest {
+        shard: usize,
+    },
     /// The number of a left-out record's split would not fit in 32 bits, or that of the splits not in 64.
     #[error("TooManySplits shard {shard}")]
-    TooManySplits { shard: usize },
+    TooManySplits {
+        shard: usize,
+    },
     /// The pairs of all don't fit in 64 bits.
     #[error("TooManyPairs")]
     TooManyPairs,
     /// An input has the name of one before it. Inputs are numbered through all shards.
     #[error("RepeatedInput input {input}")]
-    RepeatedInput { input: usize },
+    RepeatedInput {
+        input: usize,
+    },
     /// A part is not the one that its verdict tells of, by its length or its digest.
     #[error("OtherPart shard {shard} partition {partition}")]
-    OtherPart { shard: usize, partition: usize },
+    OtherPart {
+        shard: usize,
+        partition: usize,
+    },
     /// The parts that the shards have for a partition are more than 2 GiB together.
     #[error("TooLarge partition {partition}")]
-    TooLarge { partition: usize },
+    TooLarge {
+        partition: usize,
+    },
     /// A line isn't of the form that the job's outputs have, or its key isn't past that of the line before.
     #[error("BadLine shard {shard} partition {partition} line {line}")]
-    BadLine { shard: usize, partition: usize, line: u64 },
+    BadLine {
+        shard: usize,
+        partition: usize,
+        line: u64,
+    },
     /// The total of a key doesn't fit in 64 bits.
     #[error("TotalTooLarge partition {partition}")]
-    TotalTooLarge { partition: usize },
+    TotalTooLarge {
+        partition: usize,
+    },
     /// There are 4,294,967,296 files or more, or a place has a file's number as large.
     #[error("TooManyFiles")]
     TooManyFiles,

@@ -36,7 +36,11 @@ fn first_request(alloc: Global, verdicts: &[Verdict]) -> Result<Request, ShardFa
 }
 
 /// What the verdicts are together, where no input is named twice.
-fn joined_once(alloc: Global, request: &Request, verdicts: &[Verdict]) -> Result<Verdict, ShardFault>
+fn joined_once(
+    alloc: Global,
+    request: &Request,
+    verdicts: &[Verdict],
+) -> Result<Verdict, ShardFault>
     ensures joined { IfOk result (IsJoined request.now verdicts.now) }
     ensures once { IfOk result (λ m. AreOnce m.inputs) }
     ensures err { IfErr result (IsJoinedFault request.now verdicts.now) }
@@ -52,10 +56,7 @@ fn joined_once(alloc: Global, request: &Request, verdicts: &[Verdict]) -> Result
 fn noted(verdict: Verdict, outputs: Vec<FileNote>) -> Verdict
     ensures { result ≡ with_notes verdict outputs.items }
 {
-    Verdict {
-        outputs,
-        ..verdict
-    }
+    Verdict { outputs, ..verdict }
 }
 
 /// The parts that stand beside these verdicts, merged, and the verdict on them.

@@ -72,7 +72,15 @@ pub(crate) fn part_texts<S: Store>(
     let mut texts = Vec::new(alloc);
     let mut left = MAX_PARTS_BYTES;
     for shard in 0..names.len() {
-        let text = part_text(store, alloc, names[shard], &verdicts[shard], shard, partition, left)?;
+        let text = part_text(
+            store,
+            alloc,
+            names[shard],
+            &verdicts[shard],
+            shard,
+            partition,
+            left,
+        )?;
         left -= text.len() as u64;
         texts.push(text).map_err(AllocError::from)?;
     }
@@ -83,7 +91,9 @@ pub(crate) fn part_texts<S: Store>(
 fn keep<'a>(outputs: &mut Vec<Output<'a>>, files: u32, text: &'a [u8]) -> Result<(), AllocError>
     ensures { OnOk result (outputs.new.items ≡ outputs.old.items ++ record { files = files; text = text.entry } ∷ []) }
 {
-    outputs.push(Output { files, text }).map_err(AllocError::from)?;
+    outputs
+        .push(Output { files, text })
+        .map_err(AllocError::from)?;
     Ok(())
 }
 
