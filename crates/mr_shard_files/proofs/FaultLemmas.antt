@@ -22,7 +22,7 @@ use Rattle.mr_shard_files.specs.Faults.{IsBlamed, IsUnfinished}
 pub blamed : (job : JobSpec) (os : List Output) (p : ℕ) (e : MergeFault) → Blames job os e → IsBlamed job os p (told_of_merge p e)
 blamed job os p (merge.BadLine shard line) h = (refl, h)
 blamed job os p merge.TotalTooLarge h = (refl, h)
-blamed job os p merge.TooManyFiles h = tt
+blamed job os p merge.TooManyFiles h = refl
 blamed job os p merge.OutOfMemory h = tt
 
 -- a file of the result that can't be written

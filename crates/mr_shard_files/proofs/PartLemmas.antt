@@ -1,5 +1,5 @@
 -- The parts of shards for one partition, one behind another.
-use Rattle.std.proofs.Common.{◌≡◌, ℕ, suc, ◌+◌, ◌<◌, ◌^◌, ◌++◌, inr, List, [], ◌∷◌, length, get_or, map, take, refl, ap, sym, ◌∙◌, subst, arith}
+use Rattle.std.proofs.Common.{◌≡◌, ℕ, zero, suc, ◌+◌, ◌<◌, ◌≤◌, ◌^◌, ◌++◌, inr, List, [], ◌∷◌, length, length-append, get_or, map, take, refl, ap, sym, ◌∙◌, subst, arith}
 use Rattle.std.proofs.lemmas.List.{get_or-map, get_or_default, length-map, map-append, take-map, take_more}
 use Rattle.std.specs.Prelude.{Vec}
 use Rattle.std.specs.Global.{Global}
@@ -8,14 +8,15 @@ use Rattle.mr_jobs.specs.JobSpec.{JobSpec}
 use Rattle.mr_shards.specs.declared.fault.MergeFault.{MergeFault}
 use Rattle.mr_shards.specs.declared.merge.Output.{Output}
 use Rattle.mr_shards.specs.Refused.{Blames}
-use Rattle.mr_verdict.specs.Joined.{no_verdict, verdict_at}
+use Rattle.mr_verdict.specs.Joined.{inputs_of, no_verdict, verdict_at}
 use Rattle.mr_verdict.specs.Verdict.{Told, spelling}
 use Rattle.mr_files.specs.Holding.{Faulty, Holding, Stored}
 use Rattle.mr_files.proofs.Lists.{contents_more, holding_more, names_more}
 use Rattle.mr_shard_files.specs.declared.fault.ShardFault.{ShardFault}
-use Rattle.mr_shard_files.specs.Beside.{AreOutputs, StandsBeside, Tells, TellsOf}
+use Rattle.mr_shard_files.specs.Beside.{AreOutputs, ArePartitions, IsPartition, StandsBeside, Tells, TellsOf}
 use Rattle.mr_shard_files.specs.Told.{told_of_merge}
 use Rattle.mr_shard_files.proofs.FaultLemmas.{blamed}
+use Rattle.mr_shard_files.proofs.ListLemmas.{each_more}
 use Rattle.mr_shard_files.specs.Faults.{IsPartAt, IsPartFault, IsPartitionFault, IsUngathered, IsUnheard, name_at}
 
 tells_more : (p : ℕ) (vs : List Told) (ts : List (List ℕ)) (v : Told) (t : List ℕ) → Tells p vs ts → TellsOf p v t → Tells p (vs ++ v ∷ []) (ts ++ t ∷ [])
@@ -101,3 +102,19 @@ unmerged_at holds unreadable job names vs p texts was os now e stand same output
   outputs_are = subst (λ (l : List (Vec ℕ Global)). AreOutputs vs (contents l) os) same outputs;
   why = blamed job os p e (subst (λ (l : List Output). Blames job l e) is why);
 }))
+
+-- the inputs of one are no more than those of all
+pub inputs_count : (vs : List Told) (i : ℕ) (d : Told) → i < length vs → length (get_or vs i d).inputs ≤ length (inputs_of vs)
+inputs_count [] i d less = absurd (omega (arith, less))
+inputs_count (v ∷ vs) zero d less = let e = length-append v.inputs (inputs_of vs) in omega (arith, e)
+inputs_count (v ∷ vs) (suc i) d less = let e = length-append v.inputs (inputs_of vs) in let rest = inputs_count vs i d (omega (arith, less)) in omega (arith, e, rest)
+
+-- one partition more
+pub partitions_next : (holds : Stored) (job : JobSpec) (names : List (List ℕ)) (vs : List Told) (texts after : List (Vec ℕ Global)) (text : Vec ℕ Global) (n : ℕ) → length texts ≡ n → after ≡ texts ++ text ∷ []
+    → ArePartitions holds job names vs (contents texts) → IsPartition holds job names vs n text.items → ArePartitions holds job names vs (contents after)
+partitions_next holds job names vs texts after text n count more all here =
+    let before : length (contents texts) ≡ n = length-map texts (λ t. t.items) ∙ count in
+    let whole : contents after ≡ contents texts ++ text.items ∷ [] = ap contents more ∙ contents_more texts text in
+    subst (ArePartitions holds job names vs) (sym whole)
+    (λ p less. each_more (λ q t. IsPartition holds job names vs q t) (contents texts) text.items n before (λ q l. all q (omega (arith, l, before))) here p
+    (let e = length-append (contents texts) (text.items ∷ []) in omega (arith, less, e, before)))

@@ -1,5 +1,5 @@
 -- What the joined verdict is worth, whatever request the verdicts are about.
-use Rattle.std.proofs.Common.{◌≡◌, ℕ, ◌<◌, List, [], ◌∷◌, length, map, refl, ap, sym, ◌∙◌, subst, arith, true, false}
+use Rattle.std.proofs.Common.{◌≡◌, ℕ, ◌<◌, ◌^◌, List, [], ◌∷◌, length, map, refl, ap, sym, ◌∙◌, subst, arith, true, false}
 use Rattle.std.proofs.lemmas.List.{length-map}
 use Rattle.std.specs.Prelude.{Vec}
 use Rattle.std.specs.Global.{Global}
@@ -76,9 +76,9 @@ true_of_all r vs m parts outputs split some j notes count merged q files t =
 
 -- what is merged of the parts of all partitions, with the notes of the outputs
 pub merging : (holds : Stored) (names : List (List ℕ)) (vs : List Told) (r : RequestSpec) (m : Told) (outputs : List (List ℕ)) (notes : List Note) → 0 < r.split → 0 < length vs → length names ≡ length vs
-    → length outputs ≡ r.parts → ArePartitions holds r.job names vs outputs → IsJoined r vs m → AreOnce m.inputs → notes ≡ notes_for (part_files r.parts) outputs
+    → length outputs ≡ r.parts → ArePartitions holds r.job names vs outputs → IsJoined r vs m → AllByRecursion (λ v. length v.outputs ≡ r.parts) vs → AreOnce m.inputs → length m.inputs < 2 ^ 32 → notes ≡ notes_for (part_files r.parts) outputs
     → IsMerging holds names vs (with_outputs m notes) outputs
-merging holds names vs r m outputs notes split some names_are count all joined once told =
+merging holds names vs r m outputs notes split some names_are count all joined outputs_are once few told =
     let row = rows holds r.job names vs outputs r.parts names_are (λ p less. all p (omega (arith, less, count))) in
     let whole : IsJoined r vs (with_outputs m notes) = record {
       asks = joined.asks;
@@ -94,7 +94,9 @@ merging holds names vs r m outputs notes split some names_are count all joined o
       parts = row.parts;
       parts_are = row.parts_are;
       joined = whole;
+      told = outputs_are;
       once = once;
+      few = few;
       count = count;
       merged = row.merged;
       notes_are = told;

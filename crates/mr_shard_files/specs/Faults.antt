@@ -1,6 +1,6 @@
 -- Why shards are not merged, stage by stage: what is told of one verdict, one part or one partition is told of all by its
 -- place.
-use Rattle.std.specs.Prelude.{◌≡◌, ◌⊎◌, ℕ, ◌+◌, ◌<◌, ◌^◌, ⊤, List, [], ◌∷◌, ◌++◌, length, map, slice_index_or, string_bytes, take}
+use Rattle.std.specs.Prelude.{◌≡◌, ◌≢◌, ◌⊎◌, ℕ, ◌+◌, ◌<◌, ◌≤◌, ◌^◌, ⊤, List, [], ◌∷◌, ◌++◌, length, map, slice_index_or, string_bytes, take}
 use Rattle.mr_input.specs.Files.{total_size}
 use Rattle.mr_files.specs.Folders.{IsFolderOf}
 use Rattle.mr_files.specs.Holding.{ChangesAmong, Faulty, Holding, Stored}
@@ -14,9 +14,9 @@ use Rattle.mr_verdict.specs.declared.joining.JoinFault.TheVariants as join
 use Rattle.mr_verdict.specs.Joined.{IsJoinFault, IsRepeated, inputs_of, verdict_at}
 use Rattle.mr_verdict.specs.Reading.{Fits}
 use Rattle.mr_verdict.specs.Truth.{Asks, AsksNone}
-use Rattle.mr_verdict.specs.Verdict.{Told, spelling}
+use Rattle.mr_verdict.specs.Verdict.{Note, Told, spelling}
 use Rattle.mr_shard_files.specs.declared.fault.ShardFault.{ShardFault}
-use Rattle.mr_shard_files.specs.declared.fault.ShardFault.TheVariants.{BadLine, BadVerdict, CannotRead, CannotWrite, NoRequest, NoShards, OtherPart, OtherRequest, OutOfMemory, RepeatedInput, TooLarge, TooManyFiles, TooManyPairs, TooManySplits, TotalTooLarge}
+use Rattle.mr_shard_files.specs.declared.fault.ShardFault.TheVariants.{BadLine, BadVerdict, CannotRead, CannotWrite, FileTooFar, NoRequest, NoShards, OtherOutputs, OtherPart, OtherRequest, OutOfMemory, RepeatedInput, TooLarge, TooManyFiles, TooManyPairs, TooManySplits, TotalTooLarge}
 use Rattle.mr_shard_files.specs.Beside.{AreOutputs, StandsBeside, TellsOf}
 use Rattle.mr_shard_files.specs.Merging.{IsMerging}
 
@@ -77,11 +77,11 @@ pub record IsPartAt (holds : Stored) (unreadable : Faulty) (p : ℕ) (names : Li
 abbrev pub IsTextsFault : Stored → Faulty → ℕ → List (List ℕ) → List Told → ShardFault → Type 0
 IsTextsFault holds unreadable p names vs fault = (fault ≡ OutOfMemory) ⊎ IsPartAt holds unreadable p names vs fault
 
--- what stands beside the verdicts for a partition can't be merged, or not numbered
+-- what stands beside the verdicts for a partition can't be merged
 abbrev pub IsBlamed : JobSpec → List Output → ℕ → ShardFault → Type 0
 IsBlamed job os p (BadLine shard partition line) = (partition ≡ p) × Blames job os (merge.BadLine shard line)
 IsBlamed job os p (TotalTooLarge partition) = (partition ≡ p) × Blames job os merge.TotalTooLarge
-IsBlamed job os p TooManyFiles = ⊤
+IsBlamed job os p (FileTooFar partition) = partition ≡ p
 IsBlamed job os p OutOfMemory = ⊤
 IsBlamed job os p fault = ⊥
 
@@ -92,10 +92,14 @@ pub record IsUnmergedAt (holds : Stored) (job : JobSpec) (names : List (List ℕ
   pub outputs_are : AreOutputs vs parts outputs
   pub why : IsBlamed job outputs p fault
 
+-- there are more files than 32 bits number
+abbrev pub AreTooManyFiles : List Told → Type 0
+AreTooManyFiles vs = 2 ^ 32 ≤ length (inputs_of vs)
+
 -- the parts of a partition are not merged
 abbrev pub IsPartitionFault : Stored → Faulty → JobSpec → List (List ℕ) → List Told → ℕ → ShardFault → Type 0
 IsPartitionFault holds unreadable job names vs p fault =
-    (fault ≡ TooManyFiles) ⊎ (IsTextsFault holds unreadable p names vs fault ⊎ IsUnmergedAt holds job names vs p fault)
+    ((fault ≡ TooManyFiles) × AreTooManyFiles vs) ⊎ (IsTextsFault holds unreadable p names vs fault ⊎ IsUnmergedAt holds job names vs p fault)
 
 -- the partitions are not all merged
 abbrev pub IsPartitionsFault : Stored → Faulty → RequestSpec → List (List ℕ) → List Told → ShardFault → Type 0
@@ -111,14 +115,29 @@ IsFirstFault vs NoRequest = (0 < length vs) × AsksNone (verdict_at vs 0)
 IsFirstFault vs OutOfMemory = ⊤
 IsFirstFault vs fault = ⊥
 
+-- a verdict tells of more outputs than there are partitions, or of fewer
+abbrev pub IsMiscounted : List Told → ℕ → ShardFault → Type 0
+IsMiscounted vs parts (OtherOutputs shard) = (shard < length vs) × (length (verdict_at vs shard).outputs ≢ parts)
+IsMiscounted vs parts fault = ⊥
+
+-- the inputs can't be numbered, or one has the name of another
+abbrev pub IsInputsFault : List Note → ShardFault → Type 0
+IsInputsFault inputs TooManyFiles = 2 ^ 32 ≤ length inputs
+IsInputsFault inputs (RepeatedInput input) = IsRepeated inputs input
+IsInputsFault inputs OutOfMemory = ⊤
+IsInputsFault inputs fault = ⊥
+
 -- the verdicts are not joined
+abbrev pub IsUnjoined : RequestSpec → List Told → ShardFault → Type 0
+IsUnjoined request vs (OtherRequest shard) = IsJoinFault request vs (join.OtherRequest shard)
+IsUnjoined request vs (TooManySplits shard) = IsJoinFault request vs (join.TooManySplits shard)
+IsUnjoined request vs TooManyPairs = IsJoinFault request vs join.TooManyPairs
+IsUnjoined request vs OutOfMemory = ⊤
+IsUnjoined request vs fault = ⊥
+
+-- they are not joined, or tell of other outputs, or of inputs that can't be told apart
 abbrev pub IsJoinedFault : RequestSpec → List Told → ShardFault → Type 0
-IsJoinedFault request vs (OtherRequest shard) = IsJoinFault request vs (join.OtherRequest shard)
-IsJoinedFault request vs (TooManySplits shard) = IsJoinFault request vs (join.TooManySplits shard)
-IsJoinedFault request vs TooManyPairs = IsJoinFault request vs join.TooManyPairs
-IsJoinedFault request vs (RepeatedInput input) = IsRepeated (inputs_of vs) input
-IsJoinedFault request vs OutOfMemory = ⊤
-IsJoinedFault request vs fault = ⊥
+IsJoinedFault request vs fault = IsUnjoined request vs fault ⊎ (IsMiscounted vs request.parts fault ⊎ IsInputsFault (inputs_of vs) fault)
 
 -- nothing is merged: there is no request; or, under that of the first verdict, they are not joined, or the parts not merged
 abbrev pub IsMergingFault : Stored → Faulty → List (List ℕ) → List Told → ShardFault → Type 0

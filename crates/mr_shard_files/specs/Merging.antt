@@ -1,5 +1,6 @@
 -- What shards are merged to, and what that is worth.
-use Rattle.std.specs.Prelude.{◌≡◌, ℕ, ◌<◌, List, [], ◌∷◌, None, length, map}
+use Rattle.std.specs.Prelude.{◌≡◌, ℕ, ◌<◌, ◌^◌, List, [], ◌∷◌, None, length, map}
+use Rattle.std.specs.List.{AllByRecursion}
 use Rattle.mr_input.specs.Files.{nth_file}
 use Rattle.mr_files.specs.Holding.{ChangesAmong, Holding, Stored}
 use Rattle.mr_files.specs.Names.{merged_names, name_of_verdict, part_files, part_names}
@@ -49,7 +50,9 @@ pub record IsMerging (holds : Stored) (names : List (List ℕ)) (vs : List Told)
   pub parts : List (List (List ℕ))
   pub parts_are : ArePartsOf holds request.job request.parts names vs parts
   pub joined : IsJoined request vs m
+  pub told : AllByRecursion (λ v. length v.outputs ≡ request.parts) vs
   pub once : AreOnce m.inputs
+  pub few : length m.inputs < 2 ^ 32
   pub count : length outputs ≡ request.parts
   pub merged : AreMerged request vs parts outputs
   pub notes_are : m.outputs ≡ notes_for (part_files request.parts) outputs

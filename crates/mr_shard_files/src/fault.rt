@@ -64,9 +64,19 @@ pub enum ShardFault {
     TotalTooLarge {
         partition: usize,
     },
-    /// There are 4,294,967,296 files or more, or a place has a file's number as large.
+    /// There are 4,294,967,296 files or more.
     #[error("TooManyFiles")]
     TooManyFiles,
+    /// A verdict does not tell of one output for each partition.
+    #[error("OtherOutputs shard {shard}")]
+    OtherOutputs {
+        shard: usize,
+    },
+    /// A place in a part of the partition has the number of a file that would not fit in 32 bits.
+    #[error("FileTooFar partition {partition}")]
+    FileTooFar {
+        partition: usize,
+    },
     #[error("cannot read {0}")]
     CannotRead(String),
     #[error("cannot write {0}")]
@@ -136,7 +146,7 @@ pub(crate) fn of_merge(partition: usize, fault: MergeFault) -> ShardFault
             line,
         },
         MergeFault::TotalTooLarge => ShardFault::TotalTooLarge { partition },
-        MergeFault::TooManyFiles => ShardFault::TooManyFiles,
+        MergeFault::TooManyFiles => ShardFault::FileTooFar { partition },
         MergeFault::OutOfMemory => ShardFault::OutOfMemory,
     }
 }

@@ -1,10 +1,11 @@
 //! Shards, merged.
-ghost use Rattle.std.specs.Prelude.{◌≡◌, ◌<◌, IfErr, IfOk, length, map};
+ghost use Rattle.std.specs.Prelude.{◌≡◌, ◌<◌, ◌^◌, IfErr, IfOk, OnOk, length, map};
+ghost use Rattle.std.specs.List.{AllByRecursion};
 ghost use Rattle.mr_input.specs.Files.{contents};
 ghost use Rattle.mr_verdict.specs.Joined.{AreOnce, IsJoined, verdict_at};
 ghost use Rattle.mr_verdict.specs.Truth.{Asks};
 ghost use Rattle.mr_shard_files.specs.Merging.{ChangesResult, IsMerged, IsMerging, with_outputs as with_notes};
-ghost use Rattle.mr_shard_files.specs.Faults.{IsFirstFault, IsJoinedFault, IsMergingFault, IsShardRefusal};
+ghost use Rattle.mr_shard_files.specs.Faults.{IsFirstFault, IsInputsFault, IsJoinedFault, IsMergingFault, IsMiscounted, IsShardRefusal};
 
 use crate::fault::ShardFault;
 use crate::gathering::read_verdicts;
@@ -35,21 +36,50 @@ fn first_request(alloc: Global, verdicts: &[Verdict]) -> Result<Request, ShardFa
     }
 }
 
-/// What the verdicts are together, where no input is named twice.
+/// Each verdict tells of one output for each partition.
+fn expect_outputs(verdicts: &[Verdict], parts: u32) -> Result<(), ShardFault>
+    ensures ok { OnOk result (AllByRecursion (λ v. length v.outputs ≡ parts) verdicts.now) }
+    ensures err { IfErr result (IsMiscounted verdicts.now parts) }
+{
+    for (shard, verdict) in verdicts.iter().enumerate() {
+        if verdict.outputs.len() != parts as usize {
+            return Err(ShardFault::OtherOutputs { shard });
+        }
+    }
+    Ok(())
+}
+
+/// The inputs can be numbered in 32 bits, and none has the name of one before it.
+fn expect_once(alloc: Global, inputs: &[FileNote]) -> Result<(), ShardFault>
+    ensures few { OnOk result (length inputs.now < 2 ^ 32) }
+    ensures once { OnOk result (AreOnce inputs.now) }
+    ensures err { IfErr result (IsInputsFault inputs.now) }
+{
+    if u32::try_from(inputs.len()).is_err() {
+        return Err(ShardFault::TooManyFiles);
+    }
+    match first_repeat(alloc, inputs)? {
+        Some(input) => Err(ShardFault::RepeatedInput { input }),
+        None => Ok(()),
+    }
+}
+
+/// What the verdicts are together, where each tells of one output for each partition, and no input is named twice.
 fn joined_once(
     alloc: Global,
     request: &Request,
     verdicts: &[Verdict],
 ) -> Result<Verdict, ShardFault>
     ensures joined { IfOk result (IsJoined request.now verdicts.now) }
+    ensures told { IfOk result (λ _. AllByRecursion (λ v. length v.outputs ≡ request.now.parts) verdicts.now) }
     ensures once { IfOk result (λ m. AreOnce m.inputs) }
+    ensures few { IfOk result (λ m. length m.inputs < 2 ^ 32) }
     ensures err { IfErr result (IsJoinedFault request.now verdicts.now) }
 {
     let joined = join_verdicts(alloc, request, verdicts)?;
-    match first_repeat(alloc, joined.inputs.as_slice())? {
-        Some(input) => Err(ShardFault::RepeatedInput { input }),
-        None => Ok(joined),
-    }
+    expect_outputs(verdicts, request.parts())?;
+    expect_once(alloc, joined.inputs.as_slice())?;
+    Ok(joined)
 }
 
 /// The verdict with these notes of its outputs.

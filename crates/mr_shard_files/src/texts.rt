@@ -3,7 +3,7 @@ ghost use Rattle.std.specs.Prelude.{◌≡◌, ◌↔◌, ◌⊎◌, ◌≤◌, 
 ghost use Rattle.mr_input.specs.Files.{contents};
 ghost use Rattle.mr_files.specs.Holding.{Holding};
 ghost use Rattle.mr_shard_files.specs.Beside.{AreOutputs, StandsBeside, Tells, TellsOf};
-ghost use Rattle.mr_shard_files.specs.Faults.{IsPartFault, IsTextsFault};
+ghost use Rattle.mr_shard_files.specs.Faults.{AreTooManyFiles, IsPartFault, IsTextsFault};
 
 use crate::fault::ShardFault;
 use mr_files::{Store, WithinFault, folder_of, part_name, read_file_within};
@@ -105,7 +105,7 @@ pub(crate) fn outputs_of<'a>(
 ) -> Result<Vec<Output<'a>>, ShardFault>
     requires { length texts.now ≡ length verdicts.now }
     ensures ok { IfOk result (λ os. AreOutputs verdicts.now (contents texts.entry.now) os.items) }
-    ensures err { IfErr result (λ e. (e ≡ ShardFault.TooManyFiles) ⊎ (e ≡ ShardFault.OutOfMemory)) }
+    ensures err { IfErr result (λ e. ((e ≡ ShardFault.TooManyFiles) × AreTooManyFiles verdicts.now) ⊎ (e ≡ ShardFault.OutOfMemory)) }
 {
     let mut outputs = Vec::new(alloc);
     for shard in 0..texts.len() {

@@ -1,4 +1,5 @@
-use Rattle.std.proofs.Common.{◌≡◌, ◌∙◌, ap, length, map}
+use Rattle.std.proofs.Common.{◌≡◌, ◌∙◌, ap, inl, inr, length, map}
+use Rattle.std.proofs.lemmas.Result.{err_from_is_err_and}
 use Rattle.std.proofs.lemmas.List.{length-map}
 use Rattle.mr_input.specs.Files.{contents}
 use Rattle.mr_files.specs.Names.{part_files}
@@ -16,4 +17,14 @@ returns-clause-ok g c =
     c.in_ok-notes.ensures ∙ ap (λ l. notes_for (part_files (length l)) (contents l)) c.as_slice.ensures.value ∙ ap (λ k. notes_for (part_files k) (contents outputs)) c.in_ok-outputs.ensures.count in
     rw c.noted.ensures (merging (g.S.Store.holds c.args.store.now) (map (λ s. s.now) names) c.args.verdicts.now request c.in_ok-joined.joined (contents outputs) notes
     c.in_ok-request.ensures.split c.in_ok-request.ensures.some (length-map names (λ s. s.now) ∙ c.requires) (length-map outputs (λ o. o.items) ∙ c.in_ok-outputs.ensures.count) c.in_ok-outputs.ensures.ok
-    c.in_ok-joined.ensures.joined c.in_ok-joined.ensures.once told)
+    c.in_ok-joined.ensures.joined c.in_ok-joined.ensures.told c.in_ok-joined.ensures.once c.in_ok-joined.ensures.few told)
+
+pub returns-in_err-joined-clause-err : goal.returns-in_err-joined-clause-err
+returns-in_err-joined-clause-err g c =
+    let p = err_from_is_err_and c.from_residual-in_err-joined.result c.from_residual-in_err-joined.ensures.1 in
+    rw p.1 (rw p.2 (inr (inr (c.in_ok-request.request, c.in_ok-request.ensures.ok, inl c.in_err-joined.ensures.err))))
+
+pub returns-in_err-outputs-clause-err : goal.returns-in_err-outputs-clause-err
+returns-in_err-outputs-clause-err g c =
+    let p = err_from_is_err_and c.from_residual-in_err-outputs.result c.from_residual-in_err-outputs.ensures.1 in
+    rw p.1 (rw p.2 (inr (inr (c.in_ok-request.request, c.in_ok-request.ensures.ok, inr c.in_err-outputs.ensures.err))))
