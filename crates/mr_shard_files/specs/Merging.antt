@@ -41,7 +41,8 @@ ArePartsOf holds job count _ _ _ = ⊥
 -- whatever the request and the inputs, where each verdict is true of its files and its parts, the one verdict is true of
 -- all files and of the outputs: each is that of the sequential execution over all files, without all left-out records
 abbrev pub IsTrueOfAll : List Told → List (List (List ℕ)) → Told → List (List ℕ) → Type 0
-IsTrueOfAll vs parts m outputs = (request : RequestSpec) (files : List (List (List ℕ))) → AreTrueOf request vs files parts → IsTrueOf request m (all_files files) outputs
+IsTrueOfAll vs parts m outputs = (request : RequestSpec) (files : List (List (List ℕ)))
+    → AreTrueOf request vs files parts → IsTrueOf request m (all_files files) outputs
 
 -- outputs are merged of the parts that stand beside the verdicts, and one verdict is joined of these, with the notes of the
 -- outputs; it names no input twice

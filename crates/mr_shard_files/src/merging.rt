@@ -117,7 +117,8 @@ pub fn merge_shards<S: Store>(
 ) -> Result<Verdict, ShardFault>
     ensures ok { IfOk result (IsMerged (S.holds store.old) (S.holds store.new) (map (λ s. s.now) names.now) out.now) }
     ensures others { ChangesResult (S.holds store.old) (S.holds store.new) out.now }
-    ensures refused { IfErr result (IsShardRefusal (S.holds store.old) (S.holds store.new) (S.unreadable store.old) (S.unwritable store.old) (map (λ s. s.now) names.now) out.now) }
+    ensures refused { IfErr result (IsShardRefusal (S.holds store.old) (S.holds store.new) (S.unreadable store.old) (S.unwritable store.old)
+        (map (λ s. s.now) names.now) out.now) }
 {
     let verdicts = read_verdicts(store, alloc, names)?;
     let (joined, outputs) = merged_under(store, alloc, names, verdicts.as_slice())?;
