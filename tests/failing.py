@@ -54,7 +54,7 @@ def failing_calls(harness):
         whole, _ = with_failing(harness, library, "none", seq, files)
         harness.check(f"{name} without a failing call", whole[0] == 0 and b"done: " in whole[1], repr(whole))
         judged_files = whole[3]
-        for words, given in ((seq, files), (["check", *options, "--out", ".", *files], judged_files)):
+        for words, given in ((seq, files), (["check", *options, "--out", ".", *files], judged_files), (["check", *options, "--verdict", "verdict", "--out", ".", *files], judged_files)):
             whole, _ = with_failing(harness, library, "none", words, given)
             short, _ = with_failing(harness, library, "short 0", words, given)
             harness.check(f"{words[0]} {name} a byte a call", short == whole and whole[0] == 0, repr(short))

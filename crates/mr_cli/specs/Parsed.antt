@@ -49,6 +49,7 @@ pub record AreRunOptionsOf (found : Found) (o : RunOptions) : Type 0 where
 pub record AreCheckOptionsOf (found : Found) (o : CheckOptions) : Type 0 where
   pub options : AreOptionsOf found o.options
   pub threads : IsNumberOf (one_text found (codes "threads")) 1 o.threads
+  pub verdict : option_map (λ s. s.now) o.verdict ≡ first_value found (codes "verdict")
 
 -- the subcommand is that of its own name, and its options are those of its matches
 abbrev pub IsAskedBy : Option (List ℕ) → Option (List Row) → Subcommand → Type 0

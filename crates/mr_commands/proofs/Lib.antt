@@ -1,5 +1,7 @@
 pub mod Inputs
-pub mod Judged
+pub mod Ends
 pub mod SkipLists
 pub mod Refused
 pub mod Kept
+pub mod Noted
+pub mod Told

@@ -14,11 +14,10 @@ use Rattle.mr_commands.specs.declared.fault.Fault.TheVariants.{OtherJobsOption, 
 use Rattle.mr_commands.specs.declared.asked.CheckOptions.{CheckOptions}
 use Rattle.mr_commands.specs.declared.asked.Options.{Options}
 use Rattle.mr_jobs.specs.JobSpec.{RequestSpec}
-use Rattle.mr_files.specs.Names.{result_names, part_names, name_of_certificate}
-use Rattle.mr_files.specs.Holding.{Holding}
-use Rattle.mr_commands.specs.Outcomes.{IsJudged, IsSequentialResult, done_line}
+use Rattle.mr_files.specs.Names.{result_names}
+use Rattle.mr_commands.specs.Outcomes.{IsSequentialResult, done_line}
 use Rattle.mr_commands.specs.Asked.{AsksForOtherJob, WithinLimits, request_asked}
-use Rattle.mr_commands.specs.Answers.{AreBadThreads, TellsFile, IsResultRefusal, IsAsked, IsInput, IsInputRefusal, IsCheckRefusal, IsRunRefusal, IsWorkRefusal, IsSeqRefusal, IsStopped, AnswersCheck, WorksOut, input_names}
+use Rattle.mr_commands.specs.Answers.{AreBadThreads, TellsFile, IsResultRefusal, IsAsked, IsInput, IsInputRefusal, IsNameRefusal, IsCheckRefusal, IsRunRefusal, IsWorkRefusal, IsSeqRefusal, IsStopped, WorksOut, input_names}
 use Rattle.mr_bytes.specs.declared.RecordName.{RecordName}
 use Rattle.mr_sequential.specs.Skips.{skip_fault}
 use Rattle.mr_sequential.specs.declared.fault.RunFault.{RunFault}
@@ -38,30 +37,21 @@ pub threads_stage : (holds : List ℕ → List ℕ → Type 0) (unreadable : Lis
     → IsAsked asked.options → (e ≡ BadThreads) × AreBadThreads asked.threads → IsCheckRefusal holds unreadable asked e
 threads_stage holds unreadable asked e a h = inr (inl (a, h.0, h.1))
 
+pub names_stage : (holds : List ℕ → List ℕ → Type 0) (unreadable : List ℕ → Type 0) (asked : CheckOptions) (e : Fault)
+    → IsAsked asked.options → IsNameRefusal asked e → IsCheckRefusal holds unreadable asked e
+names_stage holds unreadable asked e a h = inr (inr (inl (a, h)))
+
 pub input_stage : (holds : List ℕ → List ℕ → Type 0) (unreadable : List ℕ → Type 0) (asked : CheckOptions) (names : List (List ℕ)) (request : RequestSpec) (e : Fault)
     → names ≡ input_names asked.options → request ≡ request_asked asked.options → IsAsked asked.options → IsInputRefusal holds unreadable names request.split e → IsCheckRefusal holds unreadable asked e
 input_stage holds unreadable asked names request e n r a h =
-    inr (inr (inl (a, subst (λ (s : ℕ). IsInputRefusal holds unreadable (input_names asked.options) s e) (ap (λ (v : RequestSpec). v.split) r) (subst (λ (v : List (List ℕ)). IsInputRefusal holds unreadable v request.split e) n h))))
+    inr (inr (inr (inl (a, subst (λ (s : ℕ). IsInputRefusal holds unreadable (input_names asked.options) s e) (ap (λ (v : RequestSpec). v.split) r) (subst (λ (v : List (List ℕ)). IsInputRefusal holds unreadable v request.split e) n h)))))
 
 pub result_stage : (holds : List ℕ → List ℕ → Type 0) (unreadable : List ℕ → Type 0) (asked : CheckOptions) (names files : List (List ℕ)) (request : RequestSpec) (e : FileFault) (f : Fault)
     → names ≡ input_names asked.options → request ≡ request_asked asked.options → IsAsked asked.options → IsInput holds names request.split files
     → IsOneUnread unreadable (result_names asked.options.out.now asked.options.parts) e → TellsFile e f → IsCheckRefusal holds unreadable asked f
 result_stage holds unreadable asked names files request e f n r a i h t =
     let o = asked.options in
-    inr (inr (inr (a, (files, subst (λ (s : ℕ). IsInput holds (input_names o) s files) (ap (λ (v : RequestSpec). v.split) r) (subst (λ (v : List (List ℕ)). IsInput holds v request.split files) n i)), result_refused unreadable (result_names o.out.now o.parts) e f h t)))
-
-pub answered : (holds : List ℕ → List ℕ → Type 0) (o : Options) (names files outputs was_outputs : List (List ℕ)) (bytes was_bytes : List ℕ) (request : RequestSpec) (text : List ℕ) (status : ℕ)
-    → names ≡ input_names o → request ≡ request_asked o → IsInput holds names request.split files → was_outputs ≡ outputs → was_bytes ≡ bytes
-    → Holding holds (part_names o.out.now o.parts) outputs → holds (name_of_certificate o.out.now) bytes → IsJudged request files was_outputs was_bytes text status → AnswersCheck holds o text status
-answered holds o names files outputs was_outputs bytes was_bytes request text status n r i same_outputs same_bytes parts certificate judged = record {
-  files = files;
-  outputs = outputs;
-  bytes = bytes;
-  input = subst (λ (s : ℕ). IsInput holds (input_names o) s files) (ap (λ (v : RequestSpec). v.split) r) (subst (λ (v : List (List ℕ)). IsInput holds v request.split files) n i);
-  parts = parts;
-  certificate = certificate;
-  judged = subst (λ (v : RequestSpec). IsJudged v files outputs bytes text status) r (subst (λ (v : List ℕ). IsJudged request files outputs v text status) same_bytes (subst (λ (v : List (List ℕ)). IsJudged request files v was_bytes text status) same_outputs judged));
-}
+    inr (inr (inr (inr (a, (files, subst (λ (s : ℕ). IsInput holds (input_names o) s files) (ap (λ (v : RequestSpec). v.split) r) (subst (λ (v : List (List ℕ)). IsInput holds v request.split files) n i)), result_refused unreadable (result_names o.out.now o.parts) e f h t))))
 
 pub run_stage : (request : RequestSpec) (files : List (List ℕ)) (names : List RecordName) (e : RunFault) (f : Fault)
     → (e ≡ run.OutOfMemory) ⊎ (skip_fault request files names ≡ Some e) → TellsRun e f → IsRunRefusal request files names f
@@ -104,7 +94,7 @@ pub both_ok : {W E : Type 0} (r : Result W E) (P Q R : W → Type 0) → ((w : W
 both_ok (Ok w) P Q R f p q = f w p q
 both_ok (Err e) P Q R f p q = tt
 
-stopped_as : (old new : List ℕ → List ℕ → Type 0) (unwritable : List ℕ → Type 0) (names texts : List (List ℕ)) (e : FileFault) (f : Fault) → IsWriteRefusal old new unwritable names texts e → TellsFile e f → IsStopped old new unwritable names texts f
+pub stopped_as : (old new : List ℕ → List ℕ → Type 0) (unwritable : List ℕ → Type 0) (names texts : List (List ℕ)) (e : FileFault) (f : Fault) → IsWriteRefusal old new unwritable names texts e → TellsFile e f → IsStopped old new unwritable names texts f
 stopped_as old new unwritable names texts (file.CannotRead name) f h t = absurd h
 stopped_as old new unwritable names texts (file.CannotWrite name) f h t = rw t h
 stopped_as old new unwritable names texts file.OutOfMemory f h t = rw t tt

@@ -1,5 +1,5 @@
 -- What the program answers, over the files of a store.
-use Rattle.std.specs.Prelude.{◌≡◌, ◌⊎◌, ℕ, ◌∷◌, ◌++◌, ◌<◌, ◌≤◌, ◌^◌, Some, List, [], map, length, ⊤, string_bytes}
+use Rattle.std.specs.Prelude.{◌≡◌, ◌⊎◌, ℕ, ◌∷◌, ◌++◌, ◌<◌, ◌≤◌, ◌^◌, Some, IsSome, List, [], map, length, slice_index_or, Contains, ⊤, string_bytes}
 use Rattle.mr_bytes.specs.declared.RecordName.{RecordName}
 use Rattle.mr_input.specs.Files.{split_total}
 use Rattle.mr_input.specs.declared.InputFault.{InputFault}
@@ -13,7 +13,7 @@ use Rattle.mr_files.specs.Refusals.{IsFirstUnread, IsPassed, IsUnwrittenAt}
 use Rattle.mr_files.specs.declared.store.FileFault.{FileFault}
 use Rattle.mr_files.specs.declared.store.FileFault.TheVariants as file
 use Rattle.mr_commands.specs.declared.fault.Fault.{Fault}
-use Rattle.mr_commands.specs.declared.fault.Fault.TheVariants.{Input, TooManySplits, BadSkipList, BadThreads, Run, CannotRead, CannotWrite, OutOfMemory}
+use Rattle.mr_commands.specs.declared.fault.Fault.TheVariants.{Input, TooManySplits, BadSkipList, BadThreads, LineEndInName, Run, CannotRead, CannotWrite, OutOfMemory}
 use Rattle.mr_commands.specs.declared.asked.CheckOptions.{CheckOptions}
 use Rattle.mr_commands.specs.declared.asked.Options.{Options}
 use Rattle.mr_commands.specs.Asked.{AsksForOtherJob, WithinLimits, IsRequestRefusal, request_asked}
@@ -68,12 +68,25 @@ pub record AnswersCheck (holds : Stored) (o : Options) (text : List ℕ) (status
 abbrev pub AreBadThreads : ℕ → Type 0
 AreBadThreads n = (n ≡ 0) ⊎ (64 < n)
 
--- why `check` says nothing: the request, then the number of threads, then the input, then the files of the result
+-- the first of the names that holds a line feed has this number
+pub record IsFirstLineEnd (names : List (List ℕ)) (at : ℕ) : Type 0 where
+  pub within : at < length names
+  pub ends : Contains (slice_index_or names at []) 10
+  pub first : (k : ℕ) → k < at → ¬ Contains (slice_index_or names k []) 10
+
+-- a verdict is to be written, and can't tell the name of this file of the input
+abbrev pub IsNameRefusal : CheckOptions → Fault → Type 0
+IsNameRefusal asked (LineEndInName file) = IsSome asked.verdict × IsFirstLineEnd (input_names asked.options) file
+IsNameRefusal asked fault = ⊥
+
+-- why `check` says nothing: the request, then the number of threads, then the names that a verdict is to tell, then the
+-- input, then the files of the result
 abbrev pub IsCheckRefusal : Stored → Faulty → CheckOptions → Fault → Type 0
 IsCheckRefusal holds unreadable asked fault =
     let o = asked.options in
     IsRequestRefusal o fault
     ⊎ (IsAsked o × (fault ≡ BadThreads) × AreBadThreads asked.threads)
+    ⊎ (IsAsked o × IsNameRefusal asked fault)
     ⊎ (IsAsked o × IsInputRefusal holds unreadable (input_names o) o.split fault)
     ⊎ (IsAsked o × ((files : List (List ℕ)) × IsInput holds (input_names o) o.split files) × IsResultRefusal unreadable (result_names o.out.now o.parts) fault)
 

@@ -6,4 +6,5 @@ pub mod Outcomes
 pub mod Answers
 pub mod HistoryLines
 pub mod Runs
+pub mod Verdicts
 pub mod Commands

@@ -1,5 +1,5 @@
 -- What the answers of the program are worth.
-use Rattle.std.specs.Prelude.{◌≡◌, ◌≢◌, ◌⊎◌, ℕ, ◌<◌, None, Result, Ok, Err, List, ◌++◌, length, codes, decimal}
+use Rattle.std.specs.Prelude.{◌≡◌, ◌⊎◌, ℕ, ◌<◌, None, Err, List, ◌++◌, length, codes, decimal}
 use Rattle.std.specs.List.{flat_map}
 use Rattle.mr_bytes.specs.declared.RecordName.{RecordName}
 use Rattle.mr_input.specs.Files.{nth_file}
@@ -9,8 +9,6 @@ use Rattle.mr_sequential.specs.Certified.{certificate_of}
 use Rattle.mr_sequential.specs.Sequential.{sequential}
 use Rattle.mr_sequential.specs.Skips.{skip_fault}
 use Rattle.mr_check.specs.declared.fault.No.{No}
-use Rattle.mr_check.specs.declared.fault.No.TheVariants as no
-use Rattle.mr_check.specs.declared.judge.Yes.{Yes}
 use Rattle.mr_check.specs.Headline.{IsCertified}
 use Rattle.mr_check.specs.Verdict.{verdict_of}
 use Rattle.mr_commands.specs.NoLines.{no_line}
@@ -29,11 +27,6 @@ yes_text pairs skips = yes_line pairs (length skips) ++ flat_map left_out_line s
 abbrev pub done_line : ℕ → ℕ → ℕ → List ℕ
 done_line files pairs left_out =
     codes "done: " ++ (decimal files ++ (codes " files, " ++ (decimal pairs ++ (codes " pairs, " ++ (decimal left_out ++ codes " left out\n")))))
-
--- a yes is said and ends with 0, and a no is said by its fault and ends with 1; want of memory is no verdict
-abbrev pub TellsVerdict : Result Yes No → List ℕ → ℕ → Type 0
-TellsVerdict (Ok told) text status = (status ≡ 0) × (text ≡ yes_text told.pairs told.skips.items)
-TellsVerdict (Err told) text status = (told ≢ no.OutOfMemory) × (status ≡ 1) × (text ≡ no_line told)
 
 -- 0 says that the result is certified under the request, with the pairs and the left-out records that are told, and 1
 -- that the judge refuses it for the fault that is told

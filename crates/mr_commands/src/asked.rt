@@ -42,6 +42,8 @@ pub struct CheckOptions<'a> {
     pub options: Options<'a>,
     /// How many threads judge, 1 to 64.
     pub threads: u32,
+    /// The name under which the verdict of a yes is written.
+    pub verdict: Option<&'a str>,
 }
 
 /// The command that is asked for.

@@ -27,6 +27,8 @@ pub enum Fault {
     BadAttempts,
     /// No thread judges, or more than 64.
     BadThreads,
+    /// The name of this file of the input, numbered from 0, holds a line feed, and so no verdict can tell it.
+    LineEndInName { file: usize },
     Script(ScriptFault),
     CannotRead(String),
     CannotWrite(String),
@@ -122,6 +124,7 @@ impl fmt::Display for Fault {
             Fault::BadWorkers => write!(f, "mapred: BadWorkers\n"),
             Fault::BadAttempts => write!(f, "mapred: BadAttempts\n"),
             Fault::BadThreads => write!(f, "mapred: BadThreads\n"),
+            Fault::LineEndInName { file } => write!(f, "mapred: LineEndInName file {file}\n"),
             Fault::Script(fault) => write!(f, "mapred: {fault}\n"),
             Fault::CannotRead(name) => write!(f, "mapred: cannot read {name}\n"),
             Fault::CannotWrite(name) => write!(f, "mapred: cannot write {name}\n"),

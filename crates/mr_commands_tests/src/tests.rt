@@ -30,6 +30,7 @@ fn judged(options: Options<'_>) -> Subcommand<'_> {
     Subcommand::Check(CheckOptions {
         options,
         threads: 1,
+        verdict: None,
     })
 }
 

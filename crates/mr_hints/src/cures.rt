@@ -66,6 +66,8 @@ fn cure(fault: &Fault) -> &'static str {
         Fault::BadWorkers => "--workers is 1 to 64",
         Fault::BadAttempts => "--attempts is 1 to 16",
         Fault::BadThreads => "--threads is 1 to 64",
+        Fault::LineEndInName { .. } =>
+            "--verdict tells each name in one line: give the file another name, or a link",
         Fault::Script(_) =>
             "a line is `lose W after N`, `zombie W after N`, `bad S R`, `flaky S R N`, `hold W` or `spoil P B`",
         Fault::CannotRead(_) | Fault::CannotWrite(_) => "",

@@ -1,11 +1,12 @@
 use Rattle.std.proofs.Common.{map, ap}
-use Rattle.std.specs.Prelude.{string_bytes}
+use Rattle.std.specs.Prelude.{option_map, string_bytes}
 use Rattle.std.proofs.lemmas.Result.{err_from_is_err_and, IfOk-weaker}
 use Rattle.mr_input.specs.Files.{contents}
-use Rattle.mr_commands.specs.Answers.{AnswersCheck}
-use Rattle.mr_commands.specs.Outcomes.{IsJudged}
-use Rattle.mr_commands.proofs.Refused.{asked, input_stage, result_stage, threads_stage, answered}
-use Rattle.mr_commands.proofs.commands.check.Goals as goal
+use Rattle.mr_commands.specs.Answers.{input_names}
+use Rattle.mr_commands.specs.Verdicts.{IsJudgement, Judges, verdict_file}
+use Rattle.mr_commands.proofs.Refused.{asked, input_stage, names_stage, result_stage, threads_stage}
+use Rattle.mr_commands.proofs.Told.{judges}
+use Rattle.mr_commands.proofs.judging.checked.Goals as goal
 
 pub returns-in_err-expect_threads-clause-refused : goal.returns-in_err-expect_threads-clause-refused
 returns-in_err-expect_threads-clause-refused g c =
@@ -13,6 +14,13 @@ returns-in_err-expect_threads-clause-refused g c =
     let asked_for = c.args.asked.now in
     let a = asked asked_for.options c.in_ok-request.request c.in_ok-request.ensures.other c.in_ok-request.ensures.within in
     rw p.1 (rw p.2 (threads_stage (g.S.Store.holds c.args.store.now) (g.S.Store.unreadable c.args.store.now) asked_for c.in_err-expect_threads.field-0.0 a c.in_err-expect_threads.ensures.refused))
+
+pub returns-in_err-expect_names-clause-refused : goal.returns-in_err-expect_names-clause-refused
+returns-in_err-expect_names-clause-refused g c =
+    let p = err_from_is_err_and c.from_residual-in_err-expect_names.result c.from_residual-in_err-expect_names.ensures.1 in
+    let asked_for = c.args.asked.now in
+    let a = asked asked_for.options c.in_ok-request.request c.in_ok-request.ensures.other c.in_ok-request.ensures.within in
+    rw p.1 (rw p.2 (names_stage (g.S.Store.holds c.args.store.now) (g.S.Store.unreadable c.args.store.now) asked_for c.in_err-expect_names.field-0.0 a c.in_err-expect_names.ensures.refused))
 
 pub returns-in_err-input-clause-refused : goal.returns-in_err-input-clause-refused
 returns-in_err-input-clause-refused g c =
@@ -30,13 +38,16 @@ returns-in_err-outputs-clause-refused g c =
     let a = asked o c.in_ok-request.request c.in_ok-request.ensures.other c.in_ok-request.ensures.within in
     rw p.1 (result_stage (g.S.Store.holds c.args.store.now) (g.S.Store.unreadable c.args.store.now) asked_for (map (λ s. s.now) c.as_slice.result.now) c.in_ok-input.input c.in_ok-request.request c.in_err-outputs.field-0.0 p.0 (ap (map (λ s. s.now)) c.as_slice.ensures.value) c.in_ok-request.ensures.request a c.in_ok-input.ensures.input c.in_err-outputs.ensures.refused p.2)
 
-pub returns-clause-answer : goal.returns-clause-answer
-returns-clause-answer g c =
+pub returns-clause-judges : goal.returns-clause-judges
+returns-clause-judges g c =
     let asked_for = c.args.asked.now in
-    let o = asked_for.options in
+    let holds = g.S.Store.holds c.args.store.now in
+    let request = c.in_ok-request.request in
+    let files = c.in_ok-input.input in
     let outputs = contents c.as_slice-2.result.now in
     let bytes = c.as_slice-3.result.now in
-    IfOk-weaker c.judgement.result (λ said. IsJudged c.in_ok-request.request c.in_ok-input.input outputs bytes (string_bytes said.text) said.status) (λ said. AnswersCheck (g.S.Store.holds c.args.store.now) o (string_bytes said.text) said.status)
-    (λ said h. answered (g.S.Store.holds c.args.store.now) o (map (λ s. s.now) c.as_slice.result.now) c.in_ok-input.input (contents c.in_ok-outputs.outputs.items) outputs c.in_ok-outputs.certificate.items bytes c.in_ok-request.request (string_bytes said.text) said.status
-    (ap (map (λ s. s.now)) c.as_slice.ensures.value) c.in_ok-request.ensures.request c.in_ok-input.ensures.input (ap contents c.as_slice-2.ensures.value) c.as_slice-3.ensures.value c.in_ok-outputs.ensures.outputs c.in_ok-outputs.ensures.certificate h)
+    IfOk-weaker c.judgement.result (λ j. IsJudgement request (verdict_file asked_for) (input_names asked_for.options) files outputs bytes (string_bytes j.said.text) j.said.status (option_map (λ v. v.items) j.verdict))
+    (λ j. Judges holds asked_for (string_bytes j.said.text) j.said.status (option_map (λ v. v.items) j.verdict))
+    (λ j h. judges holds asked_for (map (λ s. s.now) c.as_slice.result.now) files (contents c.in_ok-outputs.outputs.items) outputs c.in_ok-outputs.certificate.items bytes request (string_bytes j.said.text) j.said.status (option_map (λ v. v.items) j.verdict)
+    (ap (map (λ s. s.now)) c.as_slice.ensures.value) c.in_ok-request.ensures.request c.in_ok-input.ensures.input (ap contents c.as_slice-2.ensures.value) c.as_slice-3.ensures.value c.in_ok-outputs.ensures.outputs c.in_ok-outputs.ensures.certificate c.in_ok-expect_names.ensures.clear h)
     c.judgement.ensures.judged
