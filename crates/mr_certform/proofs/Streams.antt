@@ -10,12 +10,13 @@ use Rattle.mr_certform.specs.declared.item.Item.{Item}
 use Rattle.mr_certform.specs.declared.item.Item.TheVariants.{Magic, Job, Flags, LiteralLength, LiteralByte, Parts, SplitSize, Files, FileLength, Skips, Skip, Groups, Entries, Entry, End}
 use Rattle.mr_certform.specs.declared.place.Place.{Place}
 use Rattle.mr_certform.specs.declared.place.Place.TheVariants.{AtMagic, AtJob, AtFlags, AtLiteralLength, AtLiteralByte, AtParts, AtSplitSize, AtFiles, AtFileLength, AtSkips, AtSkip, AtGroups, AtEntries, AtEntry, AtEnd, Behind}
-use Rattle.std.specs.Prelude.{Result, Ok, Err}
+use Rattle.std.specs.Prelude.{IfSome, Result, Ok, Err}
 use Rattle.std.specs.Io.KnownBytes.{Consumes, Keeps, IsAtEnd}
 use Rattle.mr_certform.specs.declared.stream.StreamFault.{StreamFault}
 use Rattle.mr_certform.specs.declared.stream.StreamFault.TheVariants.{Malformed, Device}
 use Rattle.mr_certform.specs.Places.{onward, behind}
-use Rattle.mr_certform.specs.Streaming.{Stream, coming_from, Agrees, IsToCome, Gives, Told}
+use Rattle.mr_certform.specs.Grammar.{AreBytes}
+use Rattle.mr_certform.specs.Streaming.{Stream, coming_from, Agrees, MayCome, IsToCome, Gives, Told}
 use Rattle.mr_certform.specs.Spelling.{Front, magic, number, any, of_bytes, at, skip_at, name_at, standing, left_behind, items_from, items_of, bytes_at, bytes_from, stop}
 use Rattle.mr_certform.proofs.Fuel.{chosen, not_chosen, items_none, items_end, item_step, end_step, taken_step, sized_here}
 
@@ -220,21 +221,61 @@ no_bytes : (xs : List ℕ) → length xs ≡ 0 → xs ≡ []
 no_bytes [] e = refl
 no_bytes (x ∷ xs) e = absurd (omega (arith, e))
 
+-- none are bytes
+pub none_are : AreBytes []
+none_are i = omega arith
+
+pub both_are : (xs ys : List ℕ) → AreBytes xs → AreBytes ys → AreBytes (xs ++ ys)
+both_are [] ys h k i = k i
+both_are (x ∷ xs) ys h k zero = h 0
+both_are (x ∷ xs) ys h k (suc i) = both_are xs ys (λ j. h (suc j)) k i
+
+-- where what is known are bytes, bytes may come
+pub come_bytes : (known : Option (List ℕ)) (more : List ℕ) → IfSome known AreBytes → MayCome known more → AreBytes more
+come_bytes None more k m = m
+come_bytes (Some xs) more k m = subst AreBytes (sym m) k
+
+pub come_agrees : (known : Option (List ℕ)) (more : List ℕ) → MayCome known more → Agrees known more
+come_agrees None more m = tt
+come_agrees (Some xs) more m = m
+
+come_read : (known left : Option (List ℕ)) (got more : List ℕ) → Consumes known left got → AreBytes got → IfSome left AreBytes → MayCome left more → MayCome known (got ++ more)
+come_read None left got more c are k m = both_are got more are (come_bytes left more k m)
+come_read (Some xs) None got more c are k m = absurd c
+come_read (Some xs) (Some ys) got more c are k m = ap (λ w. got ++ w) m ∙ sym c
+
+come_kept : (known left : Option (List ℕ)) (more : List ℕ) → Keeps known left → IfSome left AreBytes → MayCome left more → MayCome known more
+come_kept None left more c k m = come_bytes left more k m
+come_kept (Some xs) None more c k m = absurd c
+come_kept (Some xs) (Some ys) more c k m = m ∙ c
+
+come_end : (left : Option (List ℕ)) → IsAtEnd left → MayCome left []
+come_end None e = none_are
+come_end (Some xs) e = sym e
+
 -- more is read
-pub to_come_read : (old new : Stream) (got : List ℕ) → new.held ≡ old.held ++ got → Consumes old.coming new.coming got → (bytes : List ℕ) → IsToCome new bytes → IsToCome old bytes
-to_come_read old new got h c bytes t =
-    (got ++ t.0, t.1 ∙ (ap (λ w. w ++ t.0) h ∙ append_assoc old.held got t.0), agrees_read old.coming new.coming got t.0 c t.2)
+pub to_come_read : (old new : Stream) (got : List ℕ) → new.held ≡ old.held ++ got → AreBytes got → Consumes old.coming new.coming got → IfSome new.coming AreBytes → (bytes : List ℕ) → IsToCome new bytes → IsToCome old bytes
+to_come_read old new got h are c k bytes t =
+    (got ++ t.0, t.1 ∙ (ap (λ w. w ++ t.0) h ∙ append_assoc old.held got t.0), come_read old.coming new.coming got t.0 c are k t.2)
+
+-- more is read by a walker that knows of no end
+pub filled_more : (old new : Stream) (exhausted : Bool) (known left : Option (List ℕ)) (got : List ℕ) → exhausted ≡ false → old.coming ≡ coming_from exhausted known → new.coming ≡ coming_from exhausted left → new.held ≡ old.held ++ got → AreBytes got
+    → Consumes known left got → IfSome left AreBytes → (bytes : List ℕ) → IsToCome new bytes → IsToCome old bytes
+filled_more old new exhausted known left got none was is h are c k =
+    let before : old.coming ≡ known = was ∙ ap (λ b. coming_from b known) none in
+    let behind : new.coming ≡ left = is ∙ ap (λ b. coming_from b left) none in
+    to_come_read old new got h are (subst (λ w. Consumes w new.coming got) (sym before) (subst (λ w. Consumes known w got) (sym behind) c)) (subst (λ (w : Option (List ℕ)). IfSome w AreBytes) (sym behind) k)
 
 -- the end is read
-pub to_come_end : (old new : Stream) (left : Option (List ℕ)) (got : List ℕ) → new.held ≡ old.held ++ got → length got ≡ 0 → Consumes old.coming left got → IsAtEnd left → new.coming ≡ Some [] → (bytes : List ℕ) → IsToCome new bytes → IsToCome old bytes
-to_come_end old new left got h none c e now bytes t =
-    let rest : t.0 ≡ [] = subst (λ w. Agrees w t.0) now t.2 in
-    let here : Agrees left t.0 = subst (Agrees left) (sym rest) (agrees_end left e) in
-    (got ++ t.0, t.1 ∙ (ap (λ w. w ++ t.0) h ∙ append_assoc old.held got t.0), agrees_read old.coming left got t.0 c here)
+pub to_come_end : (old new : Stream) (left : Option (List ℕ)) (got : List ℕ) → new.held ≡ old.held ++ got → AreBytes got → Consumes old.coming left got → IfSome left AreBytes → IsAtEnd left → new.coming ≡ Some [] → (bytes : List ℕ) → IsToCome new bytes → IsToCome old bytes
+to_come_end old new left got h are c k e now bytes t =
+    let rest : t.0 ≡ [] = subst (λ w. MayCome w t.0) now t.2 in
+    let here : MayCome left t.0 = subst (MayCome left) (sym rest) (come_end left e) in
+    (got ++ t.0, t.1 ∙ (ap (λ w. w ++ t.0) h ∙ append_assoc old.held got t.0), come_read old.coming left got t.0 c are k here)
 
 -- a read fails
-pub to_come_kept : (old new : Stream) → new.held ≡ old.held → Keeps old.coming new.coming → (bytes : List ℕ) → IsToCome new bytes → IsToCome old bytes
-to_come_kept old new h c bytes t = (t.0, t.1 ∙ ap (λ w. w ++ t.0) h, agrees_kept old.coming new.coming t.0 c t.2)
+pub to_come_kept : (old new : Stream) → new.held ≡ old.held → Keeps old.coming new.coming → IfSome new.coming AreBytes → (bytes : List ℕ) → IsToCome new bytes → IsToCome old bytes
+to_come_kept old new h c k bytes t = (t.0, t.1 ∙ ap (λ w. w ++ t.0) h, come_kept old.coming new.coming t.0 c k t.2)
 
 -- ---- an answer
 
@@ -256,9 +297,9 @@ pub filled_stream : (s : Stream) (exhausted : Bool) (known : Option (List ℕ)) 
 filled_stream s exhausted known e (inl h) = inl h
 filled_stream s exhausted known e (inr h) = inr (e ∙ ap (λ w. coming_from w known) h)
 
-filled_with : (s : Stream) (more : List ℕ) → Filled s → Agrees s.coming more → (12 ≤ length s.held) ⊎ (more ≡ [])
+filled_with : (s : Stream) (more : List ℕ) → Filled s → MayCome s.coming more → (12 ≤ length s.held) ⊎ (more ≡ [])
 filled_with s more (inl h) a = inl h
-filled_with s more (inr e) a = inr (subst (λ w. Agrees w more) e a)
+filled_with s more (inr e) a = inr (subst (λ w. MayCome w more) e a)
 
 record Stepped (old new : Stream) (i : Item) : Type 0 where
   rest : List ℕ
@@ -272,12 +313,12 @@ record Stepped (old new : Stream) (i : Item) : Type 0 where
 shorter_rest : (p : Place) (xs : List ℕ) (f : Front) → standing p xs ≡ Some f → length f.rest ≤ length xs
 shorter_rest p xs f e = let c = cut p xs f e in omega (arith, ap length c.2, length-drop c.0 xs)
 
-stands_more : (old new : Stream) (i : Item) (s : Stepped old new i) (more : List ℕ) → Agrees old.coming more → standing old.place (old.held ++ more) ≡ Some (record { item = i; rest = s.rest ++ more })
+stands_more : (old new : Stream) (i : Item) (s : Stepped old new i) (more : List ℕ) → MayCome old.coming more → standing old.place (old.held ++ more) ≡ Some (record { item = i; rest = s.rest ++ more })
 stands_more old new i s more a = seen old.place old.held more (filled_with old more s.filled a) ∙ ap (before more) s.stands
 
 step_gives : (old new : Stream) (i : Item) → Stepped old new i → (is : List Item) (stopped : ℕ) → Gives new is stopped → Gives old (i ∷ left_behind i is) stopped
 step_gives old new i s is stopped (bytes, (more, eb, a), ei, ea) =
-    let here : Agrees old.coming more = subst (λ w. Agrees w more) s.coming a in
+    let here : MayCome old.coming more = subst (λ w. MayCome w more) s.coming a in
     let ahead : List ℕ = old.held ++ more in
     let behind : List ℕ = s.rest ++ more in
     let st : standing old.place (old.held ++ more) ≡ Some (record { item = i; rest = s.rest ++ more }) = stands_more old new i s more here in
@@ -303,7 +344,7 @@ step_gives old new i s is stopped (bytes, (more, eb, a), ei, ea) =
 
 end_left : (old new : Stream) (i : Item) → Stepped old new i → i ≡ End → (is : List Item) (stopped : ℕ) → Gives new is stopped → is ≡ End ∷ []
 end_left old new i s e is stopped (bytes, (more, eb, a), ei, ea) =
-    let here : Agrees old.coming more = subst (λ w. Agrees w more) s.coming a in
+    let here : MayCome old.coming more = subst (λ w. MayCome w more) s.coming a in
     let st : standing old.place (old.held ++ more) ≡ Some (record { item = i; rest = s.rest ++ more }) = stands_more old new i s more here in
     ei
     ∙ (ap (items_from new.place) (eb ∙ ap (λ w. w ++ more) s.held)
@@ -320,7 +361,7 @@ told_item old new i rest st filled place held coming passed = stepped old new i 
 
 pub told_none : (old : Stream) → standing old.place old.held ≡ None → Filled old → Told old old (Err (Malformed old.passed))
 told_none old st filled = λ is stopped g. (
-    let a : Agrees old.coming g.1.0 = g.1.2 in
+    let a : MayCome old.coming g.1.0 = g.1.2 in
     let none : standing old.place (old.held ++ g.1.0) ≡ None = seen old.place old.held g.1.0 (filled_with old g.1.0 filled a) ∙ ap (before g.1.0) st in
     let empty : is ≡ [] = g.2 ∙ (ap (items_from old.place) g.1.1 ∙ items_none old.place (old.held ++ g.1.0) none) in
     (g, empty, omega (arith, g.3, ap (λ w. length (bytes_from old.place w)) empty))
@@ -336,13 +377,13 @@ rest_told p xs rest i st =
 
 -- at the front
 pub begun : (new : Stream) (known : Option (List ℕ)) → new.place ≡ AtMagic → new.passed ≡ 0 → new.held ≡ [] → new.coming ≡ known → (is : List Item) (stopped : ℕ) → Gives new is stopped
-    → (bytes : List ℕ) × Agrees known bytes × (is ≡ items_of bytes) × (stopped ≡ stop bytes)
+    → (bytes : List ℕ) × MayCome known bytes × (is ≡ items_of bytes) × (stopped ≡ stop bytes)
 unfolding items_of stop
 begun new known p n h c is stopped (bytes, (more, eb, a), ei, ea) =
     let all : bytes ≡ more = eb ∙ ap (λ w. w ++ more) h in
     let items : is ≡ items_from AtMagic bytes = ei ∙ ap (λ w. items_from w bytes) p in (
       bytes,
-      subst (Agrees known) (sym all) (subst (λ w. Agrees w more) c a),
+      subst (MayCome known) (sym all) (subst (λ w. MayCome w more) c a),
       items,
       omega (arith, ea, n, ap (λ w. length (bytes_from w is)) p, ap (λ w. length (bytes_from AtMagic w)) items),
     )
@@ -358,6 +399,6 @@ onward_end p i h = sym (ap (onward p) h)
 pub some_given : (s : Stream) → (is : List Item) × ((stopped : ℕ) × Gives s is stopped)
 some_given s = by s.coming (λ more a. (items_from s.place (s.held ++ more), (s.passed + length (bytes_from s.place (items_from s.place (s.held ++ more))), (s.held ++ more, (more, refl, a), refl, refl))))
   where
-    by : (known : Option (List ℕ)) → ((more : List ℕ) → Agrees known more → (is : List Item) × ((stopped : ℕ) × Gives s is stopped)) → (is : List Item) × ((stopped : ℕ) × Gives s is stopped)
-    by None found = found [] tt
+    by : (known : Option (List ℕ)) → ((more : List ℕ) → MayCome known more → (is : List Item) × ((stopped : ℕ) × Gives s is stopped)) → (is : List Item) × ((stopped : ℕ) × Gives s is stopped)
+    by None found = found [] none_are
     by (Some xs) found = found xs refl

@@ -1,7 +1,6 @@
 -- What the definitions of certificates mean, in the words of the subject.
 use Rattle.std.specs.Prelude.{◌≡◌, ℕ, List, [], ◌++◌, Some, true, length, take, map}
 use Rattle.std.specs.List.{flat_map}
-use Rattle.mr_bytes.specs.declared.Name.{Name}
 use Rattle.mr_certform.specs.declared.item.Item.{Item}
 use Rattle.mr_certform.specs.declared.item.Item.TheVariants.{End}
 use Rattle.mr_certform.specs.declared.place.Place.{Place}

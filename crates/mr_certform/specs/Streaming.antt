@@ -1,6 +1,7 @@
 -- What a walker over a reader has before it.
-use Rattle.std.specs.Prelude.{◌≡◌, ℕ, ◌+◌, Bool, List, [], ◌∷◌, ◌++◌, length, Option, Some, IfSome, Result, Ok, Err, if◌then◌else◌}
+use Rattle.std.specs.Prelude.{◌≡◌, ℕ, ◌+◌, Bool, List, [], ◌∷◌, ◌++◌, length, Option, None, Some, IfSome, Result, Ok, Err, if◌then◌else◌}
 use Rattle.mr_store.specs.Devices.{counted}
+use Rattle.mr_certform.specs.Grammar.{AreBytes}
 use Rattle.mr_certform.specs.declared.item.Item.{Item}
 use Rattle.mr_certform.specs.declared.item.Item.TheVariants.{End}
 use Rattle.mr_certform.specs.declared.place.Place.{Place}
@@ -29,9 +30,14 @@ stream remaining w = record { place = w.place; passed = w.passed; held = w.held;
 abbrev pub Agrees : Option (List ℕ) → List ℕ → Type 0
 Agrees known bytes = IfSome known (λ xs. bytes ≡ xs)
 
+-- these may be what a reader is still to give: where it is known, what is known; else any bytes
+abbrev pub MayCome : Option (List ℕ) → List ℕ → Type 0
+MayCome None bytes = AreBytes bytes
+MayCome (Some xs) bytes = bytes ≡ xs
+
 -- these bytes may be still to be told
 abbrev pub IsToCome : Stream → List ℕ → Type 0
-IsToCome s bytes = (more : List ℕ) × (bytes ≡ s.held ++ more) × Agrees s.coming more
+IsToCome s bytes = (more : List ℕ) × (bytes ≡ s.held ++ more) × MayCome s.coming more
 
 -- these items may be still to be told, and the place behind the last of them
 abbrev pub Gives : Stream → List Item → ℕ → Type 0

@@ -1,7 +1,8 @@
 //! Bytes of a reader that were read and aren't told yet, in a buffer of one size.
-ghost use Rattle.std.specs.Prelude.{◌≡◌, ℕ, ◌≤◌, ◌<◌, ◌+◌, ◌-◌, ◌++◌, [], List, IfOk, MatchResult, length, take, drop};
+ghost use Rattle.std.specs.Prelude.{◌≡◌, ℕ, ◌≤◌, ◌<◌, ◌+◌, ◌-◌, ◌++◌, [], List, IfOk, IfSome, MatchResult, length, take, drop};
 ghost use Rattle.std.specs.Io.KnownBytes.{Consumes, Keeps, IsAtEnd, ReadConsumes};
 ghost use Rattle.mr_store.specs.Devices.{Counts, FailsOnly};
+ghost use Rattle.mr_certform.specs.Grammar.{AreBytes};
 
 use mr_store::{CountedRead, Device};
 use std::alloc::{AllocError, Global};
@@ -45,6 +46,8 @@ fn read_behind<R: CountedRead>(
     ensures front { take (to - from) buffer.new ≡ drop from (take to buffer.old) }
     ensures bound { IfOk result (λ n. to - from + n ≤ length buffer.new) }
     ensures bytes { ReadConsumes (R.remaining reader.old) (R.remaining reader.new) result (drop (to - from) buffer.new) }
+    ensures known { IfSome (R.remaining reader.new) AreBytes }
+    ensures given { AreBytes buffer.new }
     ensures count { Counts (R.failed reader.old) (R.failed reader.new) result }
     ensures fails { FailsOnly (R.can_fail reader.old) (R.lacked reader.new) result }
     ensures later { R.can_fail reader.new → R.can_fail reader.old }
@@ -86,8 +89,10 @@ impl Held {
     pub fn read_more<R: CountedRead>(&mut self, reader: &mut R) -> Result<usize, Device>
         requires few { length self.old < 12 }
         ensures more { MatchResult result
-            (λ n. (got : List ℕ) × (length got ≡ n) × (self.new ≡ self.old ++ got) × Consumes (R.remaining reader.old) (R.remaining reader.new) got × (n ≡ 0 → IsAtEnd (R.remaining reader.new)))
+            (λ n. (got : List ℕ) × (length got ≡ n) × (self.new ≡ self.old ++ got) × AreBytes got
+            × Consumes (R.remaining reader.old) (R.remaining reader.new) got × (n ≡ 0 → IsAtEnd (R.remaining reader.new)))
             (λ _. (self.new ≡ self.old) × Keeps (R.remaining reader.old) (R.remaining reader.new)) }
+        ensures known { IfSome (R.remaining reader.new) AreBytes }
         ensures count { Counts (R.failed reader.old) (R.failed reader.new) result }
         ensures fails { FailsOnly (R.can_fail reader.old) (R.lacked reader.new) result }
         ensures later { R.can_fail reader.new → R.can_fail reader.old }

@@ -5,7 +5,7 @@ ghost use Rattle.mr_certform.specs.declared.item.Item.{Item as Read};
 ghost use Rattle.mr_certform.specs.declared.place.Place.TheVariants.{AtMagic};
 ghost use Rattle.mr_certform.specs.Places.{onward};
 ghost use Rattle.mr_certform.specs.Spelling.{items_of, stop, bytes_at};
-ghost use Rattle.mr_certform.specs.Streaming.{stream, Agrees, IsToCome, Gives, Told, Counted};
+ghost use Rattle.mr_certform.specs.Streaming.{stream, MayCome, IsToCome, Gives, Told, Counted};
 
 use crate::front::front_of;
 use crate::held::Held;
@@ -55,7 +55,7 @@ impl<R: CountedRead + Drop> StreamWalker<R> {
     /// At the front of the bytes that the reader gives. All its memory is taken here.
     pub fn new(alloc: Global, reader: R) -> Result<StreamWalker<R>, AllocError>
         ensures items { IfOk result (λ w. (is : List Read) (at : ℕ) → Gives (stream R.remaining w) is at
-            → (bytes : List ℕ) × Agrees (R.remaining reader) bytes × (is ≡ items_of bytes) × (at ≡ stop bytes)) }
+            → (bytes : List ℕ) × MayCome (R.remaining reader) bytes × (is ≡ items_of bytes) × (at ≡ stop bytes)) }
         ensures place { IfOk result (λ w. w.passed ≡ 0) }
         ensures fault { IfOk result (λ w. w.fault ≡ None) }
         ensures reader { IfOk result (λ w. w.reader ≡ reader) }

@@ -11,7 +11,8 @@ use Rattle.mr_input.specs.Files.{nth_file}
 use Rattle.mr_check.specs.Outputs.{counted_at, Opens, Compares, Ends, CanCome}
 use Rattle.mr_certform.specs.Streaming.{Agrees}
 use Rattle.mr_certform.proofs.Streams.{agrees_read, agrees_kept, agrees_end}
-use Rattle.mr_check.specs.Reading.{Reading, AgreeAll, IsLeft, IsToCome, known_at, coming}
+use Rattle.mr_check.specs.From.{AgreeAll}
+use Rattle.mr_check.specs.Reading.{Reading, IsLeft, IsToCome, known_at, coming}
 
 -- ---- of a list of readers one is read
 
@@ -116,7 +117,7 @@ agreeing : (k : Option (List ℕ)) → (more : List ℕ) × Agrees k more
 agreeing None = ([], tt)
 agreeing (Some xs) = (xs, refl)
 
-all_agreeing : (ks : List (Option (List ℕ))) → (later : List (List ℕ)) × AgreeAll ks later
+pub all_agreeing : (ks : List (Option (List ℕ))) → (later : List (List ℕ)) × AgreeAll ks later
 all_agreeing [] = ([], tt)
 all_agreeing (k ∷ ks) = let first = agreeing k in let behind = all_agreeing ks in (first.0 ∷ behind.0, (first.1, behind.1))
 

@@ -20,8 +20,9 @@ use Rattle.mr_bytes.specs.Pairs.{Triple}
 use Rattle.mr_sequential.specs.Rules.{Text}
 use Rattle.mr_sequential.specs.Good.{named, text_under}
 use Rattle.mr_check.specs.declared.fault.No.{No}
+use Rattle.mr_check.specs.declared.fault.Source.{Source}
 use Rattle.mr_check.specs.declared.fault.No.TheVariants.{OutputCount, Malformed, OtherJob, OtherInput, SkipOrder, NoSuchRecord, TooManySkips, NoSuchPair}
-use Rattle.mr_check.specs.declared.fault.No.TheVariants.{EntryOrder, KeyDiffers, WrongPartition, KeyOrder, OutputDiffers, Unnamed}
+use Rattle.mr_check.specs.declared.fault.No.TheVariants.{EntryOrder, KeyDiffers, WrongPartition, KeyOrder, OutputDiffers, Unnamed, OutOfMemory, Device}
 use Rattle.mr_check.specs.Verdict.{Case, Subject, subject_of, job_wanted, input_wanted, entries_in, case_of, verdict_of}
 use Rattle.mr_check.specs.VerdictLaws.{skips_in, parts_in}
 
@@ -224,3 +225,8 @@ IsTrueOf c is fault = IsWrongSomewhere (subject_of c (skips_in is)) (parts_read 
 abbrev pub FaultsAreTrue : Type 0
 FaultsAreTrue = (request : RequestSpec) (files outputs : List (List ℕ)) (bytes : List ℕ) (fault : No) → AreBytes bytes
     → verdict_of request files outputs bytes ≡ Err fault → IsTrueOf (case_of request files outputs bytes) (items_of bytes) fault
+
+-- no verdict tells want of memory, and none a failed read: these aren't of the bytes
+abbrev pub TellsOfBytes : Type 0
+TellsOfBytes = (request : RequestSpec) (files outputs : List (List ℕ)) (bytes : List ℕ) → AreBytes bytes
+    → (verdict_of request files outputs bytes ≡ Err OutOfMemory → ⊥) × ((s : Source) → verdict_of request files outputs bytes ≡ Err (Device s) → ⊥)

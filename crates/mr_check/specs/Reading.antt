@@ -2,6 +2,7 @@
 use Rattle.std.specs.Prelude.{◌≡◌, ℕ, zero, suc, ◌-◌, Bool, List, [], ◌∷◌, ◌++◌, drop, Option, Some, if◌then◌else◌}
 use Rattle.mr_input.specs.Files.{nth_file}
 use Rattle.mr_certform.specs.Streaming.{Agrees}
+use Rattle.mr_check.specs.From.{AgreeAll}
 
 -- how many outputs were opened; which bytes of the open one were read and aren't passed; whether its reader told its end;
 -- and what each reader is still to give, where that is known
@@ -20,12 +21,6 @@ known_at (k ∷ ks) (suc p) = known_at ks p
 -- what the reader of the open one is still to give
 abbrev pub coming : Reading → Option (List ℕ)
 coming r = if r.exhausted then Some [] else known_at r.known (r.opened - 1)
-
--- each of these outputs may be what its reader is still to give
-abbrev pub AgreeAll : List (Option (List ℕ)) → List (List ℕ) → Type 0
-AgreeAll [] [] = Unit {0}
-AgreeAll (k ∷ ks) (l ∷ ls) = Agrees k l × AgreeAll ks ls
-AgreeAll _ _ = ⊥
 
 -- this may be left of the open one; before one is open it is the first of those to come
 abbrev pub IsLeft : ℕ → Reading → List ℕ → List (List ℕ) → Type 0

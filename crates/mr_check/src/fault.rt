@@ -5,6 +5,14 @@ use mr_certform::Malformed;
 use std::alloc::AllocError;
 use thiserror::Error;
 
+/// What a read failed of.
+#[derive(Clone, Copy, Debug, PartialEq, Eq, Drop)]
+pub enum Source {
+    Certificate,
+    /// The output of this partition, numbered from 0.
+    Output(u64),
+}
+
 /// Why a result is not good: the first of the judge's tests that fails. Partitions, groups, entries and left-out
 /// records are numbered from 0, places are in bytes from the front.
 #[derive(Clone, Copy, Debug, PartialEq, Eq, Drop, Error)]
@@ -88,6 +96,9 @@ pub enum No {
     /// The machine refused memory; nothing is said of the result.
     #[error("OutOfMemory")]
     OutOfMemory,
+    /// A read failed; nothing is said of the result. Told by `check_from` alone.
+    #[error("Device")]
+    Device(Source),
 }
 
 impl From<Malformed> for No {

@@ -1,12 +1,14 @@
 //! The judge of a result that readers give.
-ghost use Rattle.std.specs.Prelude.{◌≡◌, ◌⊎◌, ◌<◌, ◌≤◌, ◌^◌, ℕ, List, IfOk, MatchOption, map, length, get_or};
+ghost use Rattle.std.specs.Prelude.{◌≡◌, ◌⊎◌, ◌<◌, ◌≤◌, ◌^◌, ℕ, List, Err, IfOk, IfErr, IfSome, MatchOption, map, length, get_or};
 ghost use Rattle.mr_input.specs.Files.{split_total};
 ghost use Rattle.mr_jobs.specs.JobSpec.{RequestSpec};
+ghost use Rattle.mr_certform.specs.Grammar.{AreBytes};
 ghost use Rattle.mr_check.specs.Headline.{IsCertified};
 ghost use Rattle.mr_check.specs.Outputs.{IsVerdict};
-ghost use Rattle.mr_check.specs.From.{Give, IsVerdictFrom, IsDevice};
+ghost use Rattle.mr_check.specs.From.{Give, Judged, VerdictOfSome, IsVerdictFrom, IsDevice};
+ghost use Rattle.mr_check.specs.Readers.{StopOfSome, TellsNoRead};
 
-use crate::fault::No;
+use crate::fault::{No, Source};
 use crate::items::Stop;
 use crate::judge::{Yes, judge_all};
 use crate::lent::Lent;
@@ -18,37 +20,6 @@ use mr_jobs::Request;
 use mr_store::CountedRead;
 use mr_watch::{Unwatched, Watch};
 use std::alloc::{AllocError, Global};
-use thiserror::Error;
-
-/// What a read failed of.
-#[derive(Clone, Copy, Debug, PartialEq, Eq, Drop)]
-pub enum Source {
-    Certificate,
-    /// The output of this partition, numbered from 0.
-    Output(u64),
-}
-
-/// Why a result that readers give isn't accepted.
-#[derive(Clone, Copy, Debug, PartialEq, Eq, Drop, Error)]
-pub enum NoFrom {
-    /// It isn't good, or memory was refused.
-    #[error("{0}")]
-    No(No),
-    /// A read failed; nothing is said of the result.
-    #[error("Device")]
-    Device(Source),
-}
-
-impl From<AllocError> for NoFrom {
-    ghost use Rattle.mr_check.specs.declared.fault.No.TheVariants.{OutOfMemory as no_memory};
-    ghost use Rattle.mr_check.specs.declared.from.NoFrom.TheVariants.{No as at_no};
-
-    ghost from_gives = { λ _ f. f ≡ at_no no_memory };
-
-    fn from(_fault: AllocError) -> NoFrom {
-        NoFrom::No(No::OutOfMemory)
-    }
-}
 
 /// How many reads of each have failed.
 fn failures_of<R: CountedRead>(alloc: Global, readers: &[R]) -> Result<Vec<u64>, AllocError>
@@ -86,8 +57,8 @@ fn judge_lent<R: CountedRead, C: CountedRead>(
 ) -> Result<Yes, Stop>
     requires fits { split_total request.now.split input.now ≤ 2 ^ 20 }
     requires parts { length outputs.old ≡ request.now.parts }
-    ensures verdict { (outs : List (List ℕ)) (bytes : List ℕ) → Give (map R.remaining outputs.old) (C.remaining certificate.old) outs bytes
-        → IsVerdict request.now input.now outs bytes result }
+    requires known { IfSome (C.remaining certificate.old) AreBytes }
+    ensures { StopOfSome request.now input.now (map R.remaining outputs.old) (C.remaining certificate.old) result }
 {
     let mut outputs = FromReaders::new(alloc, outputs)?;
     let mut walker = StreamWalker::new(
@@ -111,19 +82,30 @@ fn judge_lent<R: CountedRead, C: CountedRead>(
     )
 }
 
-/// The answer, where no read has failed. Of an output or a certificate of 2^63 bytes or more nothing is said but that it
-/// is too long for the memory of a machine.
-fn told(answer: Result<Yes, Stop>) -> Result<Yes, NoFrom>
+/// The fault, where no read has failed and no fault tells of one. Of an output or a certificate of 2^63 bytes or more
+/// nothing is said but that it is too long for the memory of a machine.
+fn fault_of(stop: Stop) -> No
+    requires { TellsNoRead stop }
+    ensures verdict { (o : RequestSpec) (files outs : List (List ℕ)) (bytes : List ℕ)
+        → IsVerdict o files outs bytes (Err stop) → IsVerdictFrom o files outs bytes (Err result) }
+    ensures device { (outs : List ℕ) (cert : ℕ) → IsDevice outs outs cert cert (Err result) }
+{
+    match stop {
+        Stop::Fault(fault) => fault,
+        Stop::Device | Stop::TooLong | Stop::Output { .. } | Stop::LongOutput => No::OutOfMemory,
+    }
+}
+
+/// The answer, where no read has failed and no fault tells of one.
+fn told(answer: Result<Yes, Stop>) -> Result<Yes, No>
+    requires { IfErr answer TellsNoRead }
     ensures verdict { (o : RequestSpec) (files outs : List (List ℕ)) (bytes : List ℕ)
         → IsVerdict o files outs bytes answer → IsVerdictFrom o files outs bytes result }
     ensures device { (outs : List ℕ) (cert : ℕ) → IsDevice outs outs cert cert result }
 {
     match answer {
         Ok(yes) => Ok(yes),
-        Err(Stop::Fault(fault)) => Err(NoFrom::No(fault)),
-        Err(Stop::Device | Stop::TooLong | Stop::Output { .. } | Stop::LongOutput) => Err(
-            NoFrom::No(No::OutOfMemory),
-        ),
+        Err(stop) => Err(fault_of(stop)),
     }
 }
 
@@ -135,41 +117,42 @@ fn judge_from<R: CountedRead, C: CountedRead>(
     outputs: &mut [R],
     certificate: &mut C,
     watch: &dyn Watch,
-) -> Result<Yes, NoFrom>
+) -> Result<Yes, No>
     requires fits { split_total request.now.split input.now ≤ 2 ^ 20 }
-    ensures verdict { (outs : List (List ℕ)) (bytes : List ℕ) → Give (map R.remaining outputs.old) (C.remaining certificate.old) outs bytes
-        → IsVerdictFrom request.now input.now outs bytes result }
+    ensures judged { VerdictOfSome request.now input.now (map R.remaining outputs.old) (C.remaining certificate.old) result }
     ensures device { IsDevice (map R.failed outputs.old) (map R.failed outputs.new) (C.failed certificate.old) (C.failed certificate.new) result }
 {
+    let certificate_failures = certificate.failures();
     if outputs.len() != request.parts() as usize {
-        return Err(NoFrom::No(No::OutputCount));
+        return Err(No::OutputCount);
     }
     let failures = failures_of(alloc, outputs)?;
-    let certificate_failures = certificate.failures();
     let answer = judge_lent(alloc, request, input, outputs, certificate, watch);
     if certificate.failures() != certificate_failures {
-        return Err(NoFrom::Device(Source::Certificate));
+        return Err(No::Device(Source::Certificate));
     }
     match first_failed(outputs, &failures) {
-        Some(partition) => Err(NoFrom::Device(Source::Output(partition))),
+        Some(partition) => Err(No::Device(Source::Output(partition))),
         None => told(answer),
     }
 }
 
 /// Judges a result as `check` does, where readers give it: an output for each partition, in order, and the bytes of the
-/// certificate. The answer is the verdict over the bytes that they give; `Device` is told just where a read failed in
-/// this call, and at once; an interrupted read is a failed one. The certificate and each output are read in pieces of at
-/// most 65,536 bytes, into buffers that are taken at the start. An output's reader is asked for nothing before those
-/// ahead of it were read to their ends; so where each opens what it reads at its first call and closes it at its end, one
-/// output at most is open. After a no it isn't said how far they were read.
+/// certificate. The answer is the verdict over the bytes that they give: over bytes that they may give, where these
+/// aren't known before. `Device` is told just where a read failed in this call, and at once; an interrupted read is a
+/// failed one. The certificate and each output are read in pieces of at most 65,536 bytes, into buffers that are taken at
+/// the start. An output's reader is asked for nothing before those ahead of it were read to their ends; so where each
+/// opens what it reads at its first call and closes it at its end, one output at most is open. After a no it isn't said
+/// how far they were read.
 pub fn check_from<R: CountedRead, C: CountedRead>(
     alloc: Global,
     request: &Request,
     input: &Input,
     outputs: &mut [R],
     certificate: &mut C,
-) -> Result<Yes, NoFrom>
+) -> Result<Yes, No>
     requires { split_total request.now.split input.now ≤ 2 ^ 20 }
+    ensures judged { Judged request.now input.now (map R.remaining outputs.old) (C.remaining certificate.old) result }
     ensures headline { IfOk result (λ y. (outs : List (List ℕ)) (bytes : List ℕ) → Give (map R.remaining outputs.old) (C.remaining certificate.old) outs bytes
         → IsCertified request.now input.now outs bytes y.skips.items y.pairs) }
     ensures verdict { (outs : List (List ℕ)) (bytes : List ℕ) → Give (map R.remaining outputs.old) (C.remaining certificate.old) outs bytes
@@ -187,8 +170,9 @@ pub fn check_from_watched<R: CountedRead, C: CountedRead>(
     outputs: &mut [R],
     certificate: &mut C,
     watch: &dyn Watch,
-) -> Result<Yes, NoFrom>
+) -> Result<Yes, No>
     requires { split_total request.now.split input.now ≤ 2 ^ 20 }
+    ensures judged { Judged request.now input.now (map R.remaining outputs.old) (C.remaining certificate.old) result }
     ensures headline { IfOk result (λ y. (outs : List (List ℕ)) (bytes : List ℕ) → Give (map R.remaining outputs.old) (C.remaining certificate.old) outs bytes
         → IsCertified request.now input.now outs bytes y.skips.items y.pairs) }
     ensures verdict { (outs : List (List ℕ)) (bytes : List ℕ) → Give (map R.remaining outputs.old) (C.remaining certificate.old) outs bytes

@@ -3,7 +3,7 @@ ghost use Rattle.std.specs.Prelude.{◌≡◌, ◌∷◌, [], ◌++◌, take, tr
 ghost use Rattle.mr_jobs.specs.JobSpec.{WordCount};
 ghost use Rattle.mr_check.specs.declared.fault.No.{No};
 ghost use Rattle.mr_check.specs.Verdict.{verdict_of};
-ghost use Rattle.mr_check.specs.FaultLaws.{EndedIsSpelled, FaultsAreTrue, ReadIsSpelled};
+ghost use Rattle.mr_check.specs.FaultLaws.{EndedIsSpelled, FaultsAreTrue, ReadIsSpelled, TellsOfBytes};
 ghost use Rattle.mr_check.specs.VerdictLaws.{YesIsGood, GoodIsYes, FaultByPlace, LaterItemsDontMatter, LaterOutputsDontMatter, OnlyComparedMatters};
 ghost use Rattle.mr_check.specs.VerdictLaws.{OtherOutputsDontMatter, BytesBehindDontMatter};
 ghost use Rattle.mr_check.specs.VerdictRows.{words, a_b_a, a_b_aa, line, a2_b1, name, certificate, of_groups, good_bytes, says, of_a, last_name};
@@ -37,9 +37,11 @@ pub fn partition_law()
 {}
 
 /// What each fault means: it is true of the certificate that was read, as far as its items stand, in the partition, the
-/// group and the entry that it names. Of bytes that spell a certificate what was read is that certificate.
+/// group and the entry that it names. Of bytes that spell a certificate what was read is that certificate. Want of memory
+/// and a failed read are never the verdict over bytes.
 pub fn fault_law()
     ensures faults { FaultsAreTrue }
+    ensures bytes { TellsOfBytes }
     ensures read { ReadIsSpelled }
     ensures ended { EndedIsSpelled }
 {}

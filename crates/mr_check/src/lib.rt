@@ -24,8 +24,8 @@ mod readers;
 mod skips;
 mod threads;
 
-pub use fault::{No, is_same_fault};
-pub use from::{NoFrom, Source, check_from, check_from_watched};
+pub use fault::{No, Source, is_same_fault};
+pub use from::{check_from, check_from_watched};
 pub use judge::{Yes, check, check_metered, check_watched};
 pub use laws::{
     fault_law, locality_law, partition_law, place_law, worked_places, worked_rows, yes_law,

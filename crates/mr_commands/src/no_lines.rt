@@ -61,6 +61,7 @@ pub(crate) fn fault_text(alloc: Global, no: &No) -> Result<String, AllocError>
             format!(in alloc; "Unnamed emitted {emitted} named {named}")
         }
         No::OutOfMemory => String::from_str(alloc, "OutOfMemory"),
+        No::Device(_) => String::from_str(alloc, "Device"),
     }
 }
 

@@ -1,8 +1,8 @@
 -- Steps of what is written piece by piece.
 use Rattle.std.proofs.Common.{◌≡◌, ℕ, zero, suc, ◌+◌, ◌≤◌, ◌<◌, List, [], ◌∷◌, ◌++◌, Option, Some, None, length, take, drop, refl, ap, sym, ◌∙◌, arith, append_assoc, append-nil}
-use Rattle.std.proofs.lemmas.List.{length-drop, drop-drop, take_all}
+use Rattle.std.proofs.lemmas.List.{get_or-drop, length-drop, drop-drop, take_all}
 use Rattle.std.specs.Io.KnownBytes.{append_known}
-use Rattle.mr_store.specs.Devices.{Seen, with_bytes}
+use Rattle.mr_store.specs.Devices.{AreBytes, Seen, with_bytes}
 
 take_add : (m n : ℕ) (xs : List ℕ) → take m xs ++ take n (drop m xs) ≡ take (m + n) xs
 take_add zero n xs = ap (λ k. take k xs) (let e : n ≡ 0 + n = omega arith in e)
@@ -48,3 +48,8 @@ nothing_left zero [] h = refl
 nothing_left zero (x ∷ xs) h = absurd (omega arith)
 nothing_left (suc n) [] h = refl
 nothing_left (suc n) (x ∷ xs) h = nothing_left n xs (omega arith)
+
+-- ---- what is left of bytes are bytes
+
+pub bytes_left : (n : ℕ) (bytes : List ℕ) → AreBytes bytes → AreBytes (drop n bytes)
+bytes_left n bytes h i = rw get_or-drop (h (n + i))

@@ -1,7 +1,7 @@
 //! Readers and writers, each with a count of its failed calls.
-ghost use Rattle.std.specs.Prelude.{◌≡◌, ℕ, ◌≤◌, ◌<◌, ⊤, Bool, List, Option, None, IfOk, MatchResult, length, take};
+ghost use Rattle.std.specs.Prelude.{◌≡◌, ℕ, ◌≤◌, ◌<◌, ⊤, Bool, List, Option, None, IfOk, IfSome, MatchResult, length, take};
 ghost use Rattle.std.specs.Io.KnownBytes.{ReadConsumes};
-ghost use Rattle.mr_store.specs.Devices.{Counts, FailsOnly, Seen, with_bytes, flushed, once_failed};
+ghost use Rattle.mr_store.specs.Devices.{AreBytes, Counts, FailsOnly, Seen, with_bytes, flushed, once_failed};
 
 use thiserror::Error;
 
@@ -12,7 +12,7 @@ pub struct Device;
 
 /// A reader that counts its failed calls. An interrupted call is a failed one.
 pub trait CountedRead {
-    // The bytes that reads will give from here on, where they are known.
+    // The bytes that reads will give from here on, where they are known: each is below 256.
     ghost remaining: { Self → Option (List ℕ) } = { λ _. None };
 
     // How many calls have failed; the count has 64 bits.
@@ -29,13 +29,15 @@ pub trait CountedRead {
     fn read(&mut self, buffer: &mut [u8]) -> Result<usize, Device>
         ensures bound { IfOk result (λ n. n ≤ length buffer.new) }
         ensures bytes { ReadConsumes (remaining self.old) (remaining self.new) result buffer.new }
+        ensures known { IfSome (remaining self.new) AreBytes }
         ensures count { Counts (failed self.old) (failed self.new) result }
         ensures fails { FailsOnly (can_fail self.old) (lacked self.new) result }
         ensures later { can_fail self.new → can_fail self.old };
 
     /// How many calls have failed.
     fn failures(&self) -> u64
-        ensures { result ≡ failed self.now };
+        ensures count { result ≡ failed self.now }
+        ensures known { IfSome (remaining self.now) AreBytes };
 
     /// Whether a call was refused memory.
     fn lacked_memory(&self) -> bool

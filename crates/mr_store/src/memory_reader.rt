@@ -1,7 +1,7 @@
 //! A reader over bytes in memory, for tests of what reads.
 ghost use Rattle.std.specs.Prelude.{◌≡◌, ℕ, ◌≤◌, List, Option, Some, IsSome, IfSome, IfOk, IsErr, OnErr, length, take, drop, min, true, false};
 ghost use Rattle.std.specs.Io.KnownBytes.{ReadConsumes};
-ghost use Rattle.mr_store.specs.Devices.{Counts, FailsOnly};
+ghost use Rattle.mr_store.specs.Devices.{AreBytes, Counts, FailsOnly};
 ghost use Rattle.mr_store.specs.Memory.{fails_now as does_fail, behind_call as what_is_behind};
 
 use crate::device::{CountedRead, Device};
@@ -18,6 +18,13 @@ fn give(buffer: &mut [u8], bytes: &[u8], most: usize) -> usize
     let (given, _) = bytes.split_at(count);
     piece.copy_from_slice(given);
     count
+}
+
+/// Whether there are none; each is below 256.
+fn are_none(bytes: &[u8]) -> bool
+    ensures { AreBytes bytes.now }
+{
+    bytes.is_empty()
 }
 
 /// A reader over bytes in memory, which gives at most a set number of them a call, and can fail once.
@@ -81,6 +88,7 @@ impl CountedRead for MemoryReader {
     fn read(&mut self, buffer: &mut [u8]) -> Result<usize, Device>
         ensures bound { IfOk result (λ n. n ≤ length buffer.new) }
         ensures bytes { ReadConsumes (Some self.old.bytes) (Some self.new.bytes) result buffer.new }
+        ensures known { AreBytes self.new.bytes }
         ensures count { Counts self.old.failed self.new.failed result }
         ensures fails { FailsOnly (IsSome self.old.failing) false result }
         ensures later { IsSome self.new.failing → IsSome self.old.failing }
@@ -89,6 +97,7 @@ impl CountedRead for MemoryReader {
         ensures fails_now { does_fail self.old.failing ≡ true → IsErr result }
         ensures behind { (self.new.failing ≡ what_is_behind self.old.failing) × (self.new.most ≡ self.old.most) }
     {
+        let _known = are_none(&self.bytes);
         let fails = fails_now(self.failing);
         self.failing = behind_call(self.failing);
         if fails {
@@ -101,6 +110,7 @@ impl CountedRead for MemoryReader {
     }
 
     fn failures(&self) -> u64 {
+        let _known = are_none(&self.bytes);
         self.failed
     }
 

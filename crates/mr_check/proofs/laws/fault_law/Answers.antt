@@ -1,5 +1,5 @@
 use Rattle.mr_check.proofs.FaultRead.{read_is_spelled, ended_is_spelled}
-use Rattle.mr_check.proofs.FaultTruth.{faults_are_true}
+use Rattle.mr_check.proofs.FaultTruth.{faults_are_true, tells_of_bytes}
 use Rattle.mr_check.proofs.laws.fault_law.Goals as goal
 
 pub returns-clause-faults : goal.returns-clause-faults
@@ -10,3 +10,6 @@ returns-clause-read c = read_is_spelled
 
 pub returns-clause-ended : goal.returns-clause-ended
 returns-clause-ended c = ended_is_spelled
+
+pub returns-clause-bytes : goal.returns-clause-bytes
+returns-clause-bytes c = tells_of_bytes

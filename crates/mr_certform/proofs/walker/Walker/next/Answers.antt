@@ -1,4 +1,4 @@
-use Rattle.std.proofs.Common.{refl, subst, length, ◌≤◌}
+use Rattle.std.proofs.Common.{subst, length, ◌≤◌}
 use Rattle.mr_certform.specs.Walking.{items_left, halt}
 use Rattle.mr_certform.proofs.Fuel.{stepped_items, stepped_end, stepped_halt}
 use Rattle.mr_certform.proofs.walker.Walker.next.Goals as goal

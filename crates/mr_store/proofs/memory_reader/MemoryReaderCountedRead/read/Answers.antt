@@ -1,7 +1,8 @@
-use Rattle.std.proofs.Common.{◌≡◌, ◌≤◌, ◌<◌, ◌+◌, ◌-◌, ◌++◌, ℕ, List, [], length, take, drop, min, ap, sym, ◌∙◌, arith}
+use Rattle.std.proofs.Common.{◌≡◌, ◌≤◌, ◌<◌, ◌+◌, ◌-◌, ◌++◌, ℕ, List, [], length, take, drop, min, ap, sym, subst, ◌∙◌, arith}
 use Rattle.std.proofs.lemmas.List.{length-drop, take_all, drop-drop, take-append-drop}
+use Rattle.mr_store.specs.Devices.{AreBytes}
 use Rattle.mr_store.specs.Memory.{Memory}
-use Rattle.mr_store.proofs.Steps.{nothing_left}
+use Rattle.mr_store.proofs.Steps.{nothing_left, bytes_left}
 use Rattle.mr_store.proofs.memory_reader.MemoryReaderCountedRead.read.Goals as goal
 
 given : (all d : List ℕ) (at n most room : ℕ) (buffer : List ℕ) → d ≡ all → at ≤ length all → 1 ≤ most → length buffer ≡ room → n ≡ min most (min room (length (take (length d - at) (drop at d)))) → take n buffer ≡ take n (take (length d - at) (drop at d)) → (drop at all ≡ take n buffer ++ drop (at + n) all) × (n ≡ 0 → 0 < length buffer → drop (at + n) all ≡ [])
@@ -16,5 +17,11 @@ given all d at n most room buffer same within some size count piece =
 
 pub returns-clause-bytes : goal.returns-clause-bytes
 returns-clause-bytes c =
-    let r = given c.self.inside.bytes.items c.deref.result.now c.self.inside.at c.give-count.result c.self.inside.most (length c.args.buffer.now) c.give-count.new.buffer c.deref.ensures.value c.self.invariant.within c.self.invariant.some c.give-count.auto.buffer c.give-count.ensures.count c.give-count.ensures.given in
+    let r = given c.self.inside.bytes.items c.deref-2.result.now c.self.inside.at c.give-count.result c.self.inside.most (length c.args.buffer.now) c.give-count.new.buffer c.deref-2.ensures.value c.self.invariant.within c.self.invariant.some c.give-count.auto.buffer c.give-count.ensures.count c.give-count.ensures.given in
     (ap (λ (m : Memory). m.bytes) (sym c.self.view_is) ∙ r.0, r.1)
+
+pub returns-then-fails-clause-known : goal.returns-then-fails-clause-known
+returns-then-fails-clause-known c = bytes_left c.self.inside.at c.self.inside.bytes.items (subst (λ (bytes : List ℕ). AreBytes bytes) c.deref.ensures.value c.are_none-known.ensures)
+
+pub returns-clause-known : goal.returns-clause-known
+returns-clause-known c = bytes_left (c.self.inside.at + c.give-count.result) c.self.inside.bytes.items (subst (λ (bytes : List ℕ). AreBytes bytes) c.deref.ensures.value c.are_none-known.ensures)

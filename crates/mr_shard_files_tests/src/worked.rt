@@ -1,0 +1,82 @@
+//! A worked merge, and merges that are refused.
+use mr_files::{MemoryFiles, Store};
+use mr_shard_files::{ShardFault, merge_shards};
+use mr_store::read_all;
+use mr_verdict::Verdict;
+use std::alloc::Global;
+use std::test::Fail;
+
+// Word count, one partition, splits of 64 bytes: `the cat` in one shard, `the dog` in the other, whose second record, `the`,
+// is left out. Digests by another program.
+const FIRST: &[u8] =
+    b"verdict 1\njob 1\nflags 0\nliteral \npartitions 1\nsplit 64\ninput 02b7c307a807a8778845e8c0f2d1fa6e27d1e03cc18c4d30288d17f8e3f8ce84 8 x\noutput aa7a5d3fb3bc6e5f4ee9901ad667ad65d631c2eb22dc97dbe15e595f2461d471 12 part-00000\nemitted 2\n";
+
+const SECOND: &[u8] =
+    b"verdict 1\njob 1\nflags 0\nliteral \npartitions 1\nsplit 64\ninput b79f3ceed99acb6ce37f852e5d07cc03ffcbb43654e266c62a5edef19b4fd7de 12 y\noutput 4242a9afa591972d412f1e311fb8931e59073ffbcb584b5067bb2b6e7138e248 12 part-00000\nwithout 0 1\nemitted 2\n";
+
+const WHOLE: &[u8] =
+    b"verdict 1\njob 1\nflags 0\nliteral \npartitions 1\nsplit 64\ninput 02b7c307a807a8778845e8c0f2d1fa6e27d1e03cc18c4d30288d17f8e3f8ce84 8 x\ninput b79f3ceed99acb6ce37f852e5d07cc03ffcbb43654e266c62a5edef19b4fd7de 12 y\noutput 46a3d1d21d4f204172938d3c7b62bba9fb6f1c7a19f2b4b6345d11ac9a31acf6 18 part-00000\nwithout 1 1\nemitted 4\n";
+
+// Of a part whose second line has the key of the first.
+const TWICE: &[u8] =
+    b"verdict 1\njob 1\nflags 0\nliteral \npartitions 1\nsplit 64\ninput b79f3ceed99acb6ce37f852e5d07cc03ffcbb43654e266c62a5edef19b4fd7de 12 y\noutput 349992decc87ee3785c5605c737907807d9fd211838c4e5e0f055c4c53758eb8 12 part-00000\nwithout 0 1\nemitted 2\n";
+
+/// Two shards, the second with this verdict and this part.
+fn shards(alloc: Global, verdict: &[u8], part: &[u8]) -> Result<MemoryFiles, Fail> {
+    let mut store = MemoryFiles::new(alloc);
+    store.put("a/verdict", FIRST, false)?;
+    store.put("a/part-00000", b"cat\t1\nthe\t1\n", false)?;
+    store.put("b/verdict", verdict, false)?;
+    store.put("b/part-00000", part, false)?;
+    Ok(store)
+}
+
+/// Whether these bytes stand under the name.
+fn stands(alloc: Global, store: &MemoryFiles, name: &str, text: &[u8]) -> Result<bool, Fail> {
+    let Ok(mut reader) = store.reader(alloc, name) else {
+        return Ok(false);
+    };
+    let mut bytes = Vec::new(alloc);
+    Ok(read_all(&mut reader, &mut bytes).is_ok() && bytes.as_slice() == text)
+}
+
+/// Whether a merge was refused with this text.
+fn tells(alloc: Global, answer: Result<Verdict, ShardFault>, text: &str) -> Result<bool, Fail> {
+    match answer {
+        Ok(_) => Ok(false),
+        Err(fault) => Ok(format!(in alloc; "{fault}")?.as_str() == text),
+    }
+}
+
+#[test]
+fn a_worked_merge(rt: HostRuntime) -> Result<(), Fail> {
+    let alloc = rt.alloc();
+    let mut store = shards(alloc, SECOND, b"dog\t1\nthe\t1\n")?;
+    let Ok(verdict) = merge_shards(&mut store, alloc, &["a/verdict", "b/verdict"], "m") else {
+        assert!(rt; false);
+        return Ok(());
+    };
+    assert!(rt; verdict.pairs == 4);
+    assert!(rt; stands(alloc, &store, "m/part-00000", b"cat\t1\ndog\t1\nthe\t2\n")?);
+    assert!(rt; stands(alloc, &store, "m/verdict", WHOLE)?);
+    Ok(())
+}
+
+#[test]
+fn refused_merges(rt: HostRuntime) -> Result<(), Fail> {
+    let alloc = rt.alloc();
+    let mut store = shards(alloc, SECOND, b"dog\t1\nthe\t2\n")?;
+    let both = ["a/verdict", "b/verdict"];
+    let other = merge_shards(&mut store, alloc, &both, "m");
+    assert!(rt; tells(alloc, other, "OtherPart shard 1 partition 0")?);
+    let repeated = merge_shards(&mut store, alloc, &["a/verdict", "a/verdict"], "m");
+    assert!(rt; tells(alloc, repeated, "RepeatedInput input 1")?);
+    let mut store = shards(alloc, TWICE, b"dog\t1\ndog\t1\n")?;
+    let bad = merge_shards(&mut store, alloc, &both, "m");
+    assert!(rt; tells(alloc, bad, "BadLine shard 1 partition 0 line 1")?);
+    let mut store = shards(alloc, b"verdict 2\n", b"")?;
+    let unread = merge_shards(&mut store, alloc, &both, "m");
+    assert!(rt; tells(alloc, unread, "BadVerdict shard 1 line 0")?);
+    assert!(rt; !stands(alloc, &store, "m/part-00000", b"")?);
+    Ok(())
+}
