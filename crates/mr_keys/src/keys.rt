@@ -110,7 +110,7 @@ impl Keys {
         Ok(())
     }
 
-    /// Numbers the waiting keys where no more may wait.
+    /// Gives the waiting keys their numbers where no more should wait, so that one more may.
     #[inline(always)]
     pub fn make_way(
         &mut self,
@@ -122,10 +122,10 @@ impl Keys {
         ensures numbered { AreNumbered self.old self.new numbers.old.items numbers.new.items waiting.old waiting.new }
         ensures way { OnOk result (length waiting.new < 64) }
     {
-        if waiting.len() < BLOCK {
-            return Ok(());
+        if waiting.is_full() {
+            return self.number_all(alloc, waiting, numbers);
         }
-        self.number_all(alloc, waiting, numbers)
+        Ok(())
     }
 
     /// No keys any more. What they took stays for later ones.

@@ -1,5 +1,5 @@
 //! Keys that wait for their numbers.
-ghost use Rattle.std.specs.Prelude.{◌≡◌, ◌↔◌, ℕ, ◌<◌, ◌≤◌, ◌++◌, ◌∷◌, [], IsTrue, OnOk, OnErr, drop, length, slice_index_or};
+ghost use Rattle.std.specs.Prelude.{◌≡◌, ℕ, ◌<◌, ◌≤◌, ◌++◌, ◌∷◌, [], IsFalse, OnOk, OnErr, drop, length, slice_index_or};
 ghost use Rattle.mr_keys.specs.Front.{IsFront};
 ghost use Rattle.mr_keys.specs.Keys.{key_at};
 ghost use Rattle.mr_keys.specs.declared.front.Front.{Front};
@@ -9,6 +9,9 @@ use crate::slots::BLOCK;
 use crate::texts::Texts;
 use std::alloc::{AllocError, Global};
 use std::marker::Model;
+
+/// Keys of so many bytes don't wait for others: so the second copy of each takes little room, but where a key is long.
+const MANY_BYTES: usize = 1 << 16;
 
 /// Keys that wait for their numbers, at most 64: so many are looked up together. The list that a contract sees is that
 /// of the keys, in their order.
@@ -50,6 +53,14 @@ impl Waiting {
         ensures few { result ≤ 64 }
     {
         self.texts.len() - self.from
+    }
+
+    /// Whether no more should wait: as many keys wait as are looked up together, or they take much memory.
+    #[inline(always)]
+    pub(crate) fn is_full(&self) -> bool
+        ensures { IsFalse result → length self.now < 64 }
+    {
+        BLOCK <= self.len() || MANY_BYTES <= self.texts.size()
     }
 
     /// One more key, at the end. It fails only for want of memory, and then nothing has changed.
