@@ -68,6 +68,11 @@ numbered-more ks ls ls' ws vs rest is ms w i old next grew last found =
       few = omega (arith, behind.2, old.few, length-append old.given (i ∷ []));
     }
 
+-- a key alone has got its number
+pub numbered-one : (ks ls : List (List ℕ)) (is : List ℕ) (key : List ℕ) (i : ℕ) → Grew ks ls key → (ls ≡ ks) ⊎ (i ≡ length ks) → IsKeyAt ls i key
+    → AreNumbered ks ls is (is ++ i ∷ []) (key ∷ []) []
+numbered-one ks ls is key i grew last found = numbered-more ks ks ls (key ∷ []) (key ∷ []) [] is is key i (numbered-none ks (key ∷ []) is) refl grew last found
+
 -- the first of some keys, and the rest
 pub first-rest : (ws : List (List ℕ)) → 0 < length ws → ws ≡ key_at ws 0 ∷ drop 1 ws
 first-rest [] h = absurd (omega (arith, h))

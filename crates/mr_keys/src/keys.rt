@@ -32,6 +32,10 @@ impl Model for Keys {
 /// How many slots there are at least: a block of keys takes at most half of them.
 const LEAST_SLOTS: usize = 2 * BLOCK;
 
+/// A table of fewer slots is looked up one key after another: it fits so near the processor that to look ahead costs more
+/// than it gains.
+const SEVERAL_SLOTS: usize = 1 << 14;
+
 /// A table of so many slots or more doesn't fit near the processor: to fill it anew is dear.
 const MANY_SLOTS: usize = 1 << 20;
 
@@ -110,9 +114,62 @@ impl Keys {
         Ok(())
     }
 
-    /// Gives the waiting keys their numbers where no more should wait, so that one more may.
+    /// One more key behind those that wait: it waits too, or has got its number with all of them. A small table stands near
+    /// the processor, so nothing waits for that. Where it fails, for want of memory alone, the key doesn't wait.
     #[inline(always)]
-    pub fn make_way(
+    pub fn enter(
+        &mut self,
+        alloc: Global,
+        key: &[u8],
+        waiting: &mut Waiting,
+        numbers: &mut Vec<u32>,
+    ) -> Result<(), AllocError>
+        requires few { length self.old + length waiting.old < 2 ^ 32 }
+        ensures ok { OnOk result (AreNumbered self.old self.new numbers.old.items numbers.new.items (waiting.old ++ key.now ∷ []) waiting.new) }
+        ensures err { OnErr result (AreNumbered self.old self.new numbers.old.items numbers.new.items waiting.old waiting.new) }
+    {
+        if self.is_small() && waiting.len() == 0 {
+            return self.number_now(alloc, key, numbers);
+        }
+        self.make_way(alloc, waiting, numbers)?;
+        waiting.push(key)
+    }
+
+    /// No keys any more. What they took stays for later ones.
+    pub fn clear(&mut self)
+        ensures { self.new ≡ [] }
+    {
+        self.texts.clear();
+        empty_all(&mut self.slots);
+    }
+
+    /// Whether the table is so small that it stands near the processor.
+    #[inline(always)]
+    fn is_small(&self) -> bool {
+        self.slots.len() < SEVERAL_SLOTS
+    }
+
+    /// Gives the key its number, behind the others.
+    #[inline(always)]
+    fn number_now(
+        &mut self,
+        alloc: Global,
+        key: &[u8],
+        numbers: &mut Vec<u32>,
+    ) -> Result<(), AllocError>
+        requires few { length self.old < 2 ^ 32 }
+        ensures ok { OnOk result (AreNumbered self.old self.new numbers.old.items numbers.new.items (key.now ∷ []) []) }
+        ensures keys { OnErr result (self.new ≡ self.old) }
+        ensures numbers { OnErr result (numbers.new.items ≡ numbers.old.items) }
+    {
+        numbers.reserve(1)?;
+        let number = self.number_of(alloc, key)?;
+        numbers.push_reserved(number);
+        Ok(())
+    }
+
+    /// Gives the waiting keys their numbers where no more should wait, so that one more may.
+    fn make_way(
         &mut self,
         alloc: Global,
         waiting: &mut Waiting,
@@ -126,14 +183,6 @@ impl Keys {
             return self.number_all(alloc, waiting, numbers);
         }
         Ok(())
-    }
-
-    /// No keys any more. What they took stays for later ones.
-    pub fn clear(&mut self)
-        ensures { self.new ≡ [] }
-    {
-        self.texts.clear();
-        empty_all(&mut self.slots);
     }
 
     /// Makes sure that at most half of the slots are taken when so many keys have come.

@@ -1,5 +1,5 @@
 -- Pairs as numbers of keys and values, and pairs whose keys wait for numbers.
-use Rattle.std.proofs.Common.{◌≡◌, ℕ, ◌+◌, ◌<◌, ◌≤◌, List, [], ◌∷◌, ◌++◌, append-nil, append_assoc, length, length-append, refl, sym, ◌∙◌, ap, arith, suc, inl, inr, subst, map, All, Result, Ok, Err, OnErr}
+use Rattle.std.proofs.Common.{◌≡◌, ℕ, ◌+◌, ◌<◌, ◌≤◌, List, [], ◌∷◌, ◌++◌, append-nil, append_assoc, length, length-append, refl, sym, ◌∙◌, ap, arith, suc, inl, inr, subst, map, All}
 use Rattle.std.proofs.lemmas.Bool.{cases_lt}
 use Rattle.std.proofs.lemmas.List.{get_or_append_left, length-map, map-append}
 use Rattle.std.proofs.lemmas.List.Elements.{All-append}
@@ -97,8 +97,3 @@ count-still ks ls is ms ws us n =
       length-append (map (key_at ls) n.given) us,
       length-map n.given (key_at ls),
     )
-
--- what holds whatever came out holds of an error
-pub on-error : {T X P : Type 0} (r : Result T X) → P → OnErr r P
-on-error (Ok x) p = tt
-on-error (Err e) p = p

@@ -59,11 +59,12 @@ impl Gathering {
         ensures ok { OnOk result (self.new ≡ self.old ++ (key.now, value) ∷ []) }
         ensures err { OnErr result (self.new ≡ self.old) }
     {
-        self.keys
-            .make_way(alloc, &mut self.waiting, &mut self.numbers)?;
         let before = self.values.len();
         self.values.push(value)?;
-        match self.waiting.push(key) {
+        match self
+            .keys
+            .enter(alloc, key, &mut self.waiting, &mut self.numbers)
+        {
             Ok(()) => Ok(()),
             Err(fault) => {
                 self.values.truncate(before);
