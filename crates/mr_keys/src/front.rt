@@ -11,6 +11,14 @@ pub(crate) struct Front {
     pub second: u64,
 }
 
+impl Front {
+    /// The front of a key of no bytes.
+    pub const EMPTY: Front = Front {
+        first: 0,
+        second: 0,
+    };
+}
+
 /// Byte `i` of the key, and 0 past its end.
 #[inline(always)]
 fn byte_at(key: &[u8], i: usize) -> u8

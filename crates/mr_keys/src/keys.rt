@@ -2,10 +2,12 @@
 ghost use Rattle.std.specs.Prelude.{◌≡◌, ℕ, ◌+◌, ◌<◌, ◌≤◌, ◌^◌, ◌++◌, ◌∷◌, ◌⊎◌, [], All, IfOk, OnOk, OnErr, length};
 ghost use Rattle.mr_keys.specs.Front.{IsFront};
 ghost use Rattle.mr_keys.specs.Keys.{IsKeyAt, IsSlot, key_at};
+ghost use Rattle.mr_keys.specs.Waiting.{AreNumbered};
 
-use crate::front::{Front, front_of};
-use crate::slots::{Slot, empty_all, look, slot_of, slots_of};
+use crate::front::{Front, front_of, hash_of};
+use crate::slots::{BLOCK, Slot, empty_all, look, slot_of, slots_of, step_past_others};
 use crate::texts::Texts;
+use crate::waiting::Waiting;
 use std::alloc::{AllocError, Global};
 use std::marker::Model;
 
@@ -27,8 +29,12 @@ impl Model for Keys {
     ghost invariant = { λ k. All (IsSlot k.texts) k.slots.items };
 }
 
-/// How many slots there are at least.
-const LEAST_SLOTS: usize = 64;
+/// How many slots there are at least: a block of keys takes at most half of them.
+const LEAST_SLOTS: usize = 2 * BLOCK;
+
+/// A table of fewer slots is looked up one key after another: it fits so near the processor that to look ahead costs more
+/// than it gains.
+const SEVERAL_SLOTS: usize = 1 << 14;
 
 /// A table of so many slots or more doesn't fit near the processor: to fill it anew is dear.
 const MANY_SLOTS: usize = 1 << 20;
@@ -75,12 +81,58 @@ impl Keys {
         ensures next { IfOk result (λ n. (self.new ≡ self.old) ⊎ (n ≡ length self.old)) }
         ensures err { OnErr result (self.new ≡ self.old) }
     {
-        self.make_room(alloc)?;
+        self.make_room(alloc, 1)?;
         let front = front_of(key);
-        match look(self.slots.as_slice(), &self.texts, front, key) {
-            Ok(number) => Ok(number),
-            Err(at) => self.add(at, front, key),
+        self.number_from(hash_of(front, key), front, key)
+    }
+
+    /// Gives the waiting keys their numbers, in their order, each as `number_of` does; where that fails, for want of memory
+    /// alone, those that got none still wait. The slots where the table begins to look are read side by side.
+    pub fn number_all(
+        &mut self,
+        alloc: Global,
+        waiting: &mut Waiting,
+        numbers: &mut Vec<u32>,
+    ) -> Result<(), AllocError>
+        requires few { length self.old + length waiting.old ≤ 2 ^ 32 }
+        ensures numbered { AreNumbered self.old self.new numbers.old.items numbers.new.items waiting.old waiting.new }
+        ensures all { OnOk result (waiting.new ≡ []) }
+    {
+        let count = waiting.len();
+        numbers.reserve(count)?;
+        self.make_room(alloc, count)?;
+        let mut fronts = [Front::EMPTY; BLOCK];
+        let mut hashes = [0; BLOCK];
+        waiting.look_ahead(&mut fronts, &mut hashes);
+        self.step_past(&fronts, &mut hashes);
+        for lane in 0..count {
+            let number = self.number_from(hashes[lane], fronts[lane], waiting.get(0))?;
+            numbers.push_reserved(number);
+            waiting.pass();
         }
+        waiting.clear();
+        Ok(())
+    }
+
+    /// One more key behind those that wait: it waits too, or has got its number with all of them. A small table stands near
+    /// the processor, so nothing waits for that. Where it fails, for want of memory alone, the key doesn't wait.
+    #[inline(always)]
+    pub fn enter(
+        &mut self,
+        alloc: Global,
+        key: &[u8],
+        waiting: &mut Waiting,
+        numbers: &mut Vec<u32>,
+    ) -> Result<(), AllocError>
+        requires few { length self.old + length waiting.old < 2 ^ 32 }
+        ensures ok { OnOk result (AreNumbered self.old self.new numbers.old.items numbers.new.items (waiting.old ++ key.now ∷ []) waiting.new) }
+        ensures err { OnErr result (AreNumbered self.old self.new numbers.old.items numbers.new.items waiting.old waiting.new) }
+    {
+        if self.is_small() && waiting.len() == 0 {
+            return self.number_now(alloc, key, numbers);
+        }
+        self.make_way(alloc, waiting, numbers)?;
+        waiting.push(key)
     }
 
     /// No keys any more. What they took stays for later ones.
@@ -91,15 +143,78 @@ impl Keys {
         empty_all(&mut self.slots);
     }
 
-    /// Makes sure that at most half of the slots are taken.
+    /// Whether the table is so small that it stands near the processor.
     #[inline(always)]
-    fn make_room(&mut self, alloc: Global) -> Result<(), AllocError>
+    fn is_small(&self) -> bool {
+        self.slots.len() < SEVERAL_SLOTS
+    }
+
+    /// Gives the key its number, behind the others.
+    #[inline(always)]
+    fn number_now(
+        &mut self,
+        alloc: Global,
+        key: &[u8],
+        numbers: &mut Vec<u32>,
+    ) -> Result<(), AllocError>
+        requires few { length self.old < 2 ^ 32 }
+        ensures ok { OnOk result (AreNumbered self.old self.new numbers.old.items numbers.new.items (key.now ∷ []) []) }
+        ensures keys { OnErr result (self.new ≡ self.old) }
+        ensures numbers { OnErr result (numbers.new.items ≡ numbers.old.items) }
+    {
+        numbers.reserve(1)?;
+        let number = self.number_of(alloc, key)?;
+        numbers.push_reserved(number);
+        Ok(())
+    }
+
+    /// Gives the waiting keys their numbers where no more should wait, so that one more may.
+    fn make_way(
+        &mut self,
+        alloc: Global,
+        waiting: &mut Waiting,
+        numbers: &mut Vec<u32>,
+    ) -> Result<(), AllocError>
+        requires few { length self.old + length waiting.old ≤ 2 ^ 32 }
+        ensures numbered { AreNumbered self.old self.new numbers.old.items numbers.new.items waiting.old waiting.new }
+        ensures way { OnOk result (length waiting.new < 64) }
+    {
+        if waiting.is_full() {
+            return self.number_all(alloc, waiting, numbers);
+        }
+        Ok(())
+    }
+
+    /// Makes sure that at most half of the slots are taken when so many keys have come.
+    #[inline(always)]
+    fn make_room(&mut self, alloc: Global, count: usize) -> Result<(), AllocError>
         ensures { self.new ≡ self.old }
     {
-        if self.slots.len() / 2 <= self.texts.len() {
+        if self.slots.len() / 2 < self.texts.len().saturating_add(count) {
             self.slots = slots_of(alloc, &self.texts, more_slots(self.slots.len()))?;
         }
         Ok(())
+    }
+
+    /// Reads the slots where the table begins to look for a block of keys.
+    fn step_past(&self, fronts: &[Front; BLOCK], hashes: &mut [u64; BLOCK]) {
+        step_past_others(self.slots.as_slice(), fronts, hashes);
+    }
+
+    /// A number of the key, as `number_of` gives it, where room was made; the table is looked at from the hash on.
+    #[inline(always)]
+    fn number_from(&mut self, hash: u64, front: Front, key: &[u8]) -> Result<u32, AllocError>
+        requires few { length self.old < 2 ^ 32 }
+        requires front { IsFront front key.now }
+        ensures is { IfOk result (λ n. IsKeyAt self.new n key.now) }
+        ensures grows { OnOk result ((self.new ≡ self.old) ⊎ (self.new ≡ self.old ++ key.now ∷ [])) }
+        ensures next { IfOk result (λ n. (self.new ≡ self.old) ⊎ (n ≡ length self.old)) }
+        ensures err { OnErr result (self.new ≡ self.old) }
+    {
+        match look(self.slots.as_slice(), &self.texts, hash, front, key) {
+            Ok(number) => Ok(number),
+            Err(at) => self.add(at, front, key),
+        }
     }
 
     /// Adds a key, of which the slot at this place tells from now on, where there is one.

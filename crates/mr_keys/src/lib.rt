@@ -13,5 +13,7 @@ mod front;
 mod keys;
 mod slots;
 mod texts;
+mod waiting;
 
 pub use keys::Keys;
+pub use waiting::Waiting;

@@ -19,6 +19,14 @@ pub(crate) struct Slot {
     pub mark: u32,
 }
 
+impl Slot {
+    /// Whether the slot tells of a key with another front.
+    #[inline(always)]
+    fn is_of_another(self, front: Front) -> bool {
+        (self.mark != 0) & ((self.front.first != front.first) | (self.front.second != front.second))
+    }
+}
+
 /// A slot of no key.
 fn empty_slot() -> Slot
     ensures { result.mark ≡ 0 }
@@ -67,15 +75,22 @@ fn is_of(slot: Slot, texts: &Texts, front: Front, key: &[u8]) -> bool
     key.len() <= 16 || texts.get(slot.mark as usize - 1) == key
 }
 
-/// The number of the key where the table finds it, else the slot that has room for it; where none has, one past the end.
+/// The number of the key where the table finds it from its hash on, else the slot that has room for it; where none has,
+/// one past the end. Nothing rests on the hash but time.
 #[inline(always)]
-pub(crate) fn look(slots: &[Slot], texts: &Texts, front: Front, key: &[u8]) -> Result<u32, usize>
+pub(crate) fn look(
+    slots: &[Slot],
+    texts: &Texts,
+    hash: u64,
+    front: Front,
+    key: &[u8],
+) -> Result<u32, usize>
     requires slots { All (IsSlot texts.now) slots.now }
     requires front { IsFront front key.now }
     ensures { IfOk result (λ n. IsKeyAt texts.now n key.now) }
 {
     let mask = slots.len().wrapping_sub(1);
-    let mut at = hash_of(front, key) as usize & mask;
+    let mut at = hash as usize & mask;
     for _ in 0..MOST_LOOKS {
         if slots.len() <= at {
             return Err(at);
@@ -119,8 +134,8 @@ pub(crate) fn empty_all(slots: &mut Vec<Slot>)
     }
 }
 
-/// How many texts are put into a table together.
-const BLOCK: usize = 64;
+/// How many texts are looked up, or put into a table, together.
+pub(crate) const BLOCK: usize = 64;
 
 /// The hashes of the texts from this one on, as many as there are in a block.
 fn hash_ahead(texts: &Texts, from: usize, hashes: &mut [u64; BLOCK]) {
@@ -139,6 +154,19 @@ fn step_past(slots: &[Slot], hashes: &mut [u64; BLOCK]) {
         let at = *hash as usize & mask;
         if at < slots.len() {
             *hash = hash.wrapping_add(u64::from(slots[at].mark != 0));
+        }
+    }
+}
+
+/// Steps past the first slot of each hash where that is taken by a key with another front, and so reads these slots side by
+/// side, as `step_past` does.
+pub(crate) fn step_past_others(slots: &[Slot], fronts: &[Front; BLOCK], hashes: &mut [u64; BLOCK]) {
+    let mask = slots.len().wrapping_sub(1);
+    for lane in 0..BLOCK {
+        let at = hashes[lane] as usize & mask;
+        if at < slots.len() {
+            let other = slots[at].is_of_another(fronts[lane]);
+            hashes[lane] = hashes[lane].wrapping_add(u64::from(other));
         }
     }
 }

@@ -60,6 +60,12 @@ impl Texts {
         self.spans.len()
     }
 
+    /// How many bytes the texts take together.
+    #[inline(always)]
+    pub fn size(&self) -> usize {
+        self.bytes.len()
+    }
+
     /// Text `i`, from 0.
     pub fn get(&self, i: usize) -> &[u8]
         requires { i < length self.now }

@@ -1,5 +1,5 @@
 -- Of no public promise: pairs without their names, and how they are gathered: distinct keys, and for each pair its key's number and its value.
-use Rattle.std.specs.Prelude.{ℕ, if◌then◌else◌, List, [], map, filter}
+use Rattle.std.specs.Prelude.{ℕ, if◌then◌else◌, List, [], ◌++◌, map, filter}
 use Rattle.std.specs.List.{flat_map, range_with_len, zip}
 use Rattle.std.specs.Str.{bytes_eq}
 use Rattle.mr_bytes.specs.declared.Value.{Value}
@@ -18,6 +18,10 @@ pair_at keys e = (key_at keys e.0, e.1)
 -- the pairs that numbers of keys and values stand for
 abbrev pub paired : List (List ℕ) → List ℕ → List Value → List Emission
 paired keys numbers values = map (pair_at keys) (zip numbers values)
+
+-- the same, where the keys of the last pairs have no numbers yet: those wait
+abbrev pub waited : List (List ℕ) → List ℕ → List (List ℕ) → List Value → List Emission
+waited keys numbers waiting values = zip (map (key_at keys) numbers ++ waiting) values
 
 -- the buckets of the numbers below n
 abbrev pub buckets : {X : Type 0} → ℕ → List (ℕ × X) → List (List X)

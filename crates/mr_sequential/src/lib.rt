@@ -7,6 +7,7 @@ ghost use Rattle.mr_sequential.specs.Skips.{GoodSkips};
 mod distribute;
 mod fault;
 mod gathered;
+mod gathering;
 mod good;
 mod groups;
 mod names;

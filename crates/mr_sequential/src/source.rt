@@ -8,6 +8,7 @@ ghost use Rattle.mr_sequential.specs.Names.{kept_names, names_from};
 ghost use Rattle.mr_sequential.specs.Pairs.{kept_pairs};
 
 use crate::gathered::Gathered;
+use crate::gathering::Gathering;
 use crate::names::Names;
 use mr_bytes::RecordName;
 use mr_jobs::{Job, Mapper};
@@ -21,18 +22,18 @@ fn gather_record(
     mapper: &mut Mapper<'_, '_>,
     line: Located<'_>,
     buffer: &mut Vec<u8>,
-    gathered: &mut Gathered,
+    gathering: &mut Gathering,
 ) -> Result<(), AllocError>
     requires small { length line.bytes.now ≤ 2 ^ 30 }
     requires line { IsLine mapper.old.files line.file line.start line.bytes.now }
-    requires few { length gathered.old + length (emissions mapper.old.job line.file line.start line.bytes.now) < 2 ^ 32 }
+    requires few { length gathering.old + length (emissions mapper.old.job line.file line.start line.bytes.now) < 2 ^ 32 }
     ensures same { mapper.new ≡ mapper.old }
-    ensures pairs { OnOk result (gathered.new ≡ gathered.old ++ emissions mapper.old.job line.entry.file line.entry.start line.entry.bytes.now) }
+    ensures pairs { OnOk result (gathering.new ≡ gathering.old ++ emissions mapper.old.job line.entry.file line.entry.start line.entry.bytes.now) }
 {
     mapper.job().prepare(line.bytes, buffer)?;
     let mut emitter = mapper.emit(line.file, line.start, line.bytes, buffer.as_slice());
     while let Some((key, value)) = emitter.next() {
-        gathered.push(alloc, key, value)?;
+        gathering.push(alloc, key, value)?;
     }
     Ok(())
 }
@@ -44,6 +45,13 @@ pub(crate) struct Emitted {
     pub names: Names,
 }
 
+/// The same, while they are emitted.
+#[derive(Drop)]
+struct Emitting {
+    pairs: Gathering,
+    names: Names,
+}
+
 /// Adds what a job emits for a record, each pair with its name.
 fn gather_one(
     alloc: Global,
@@ -51,20 +59,20 @@ fn gather_one(
     name: RecordName,
     line: Located<'_>,
     buffer: &mut Vec<u8>,
-    emitted: &mut Emitted,
+    emitting: &mut Emitting,
 ) -> Result<(), AllocError>
     requires small { length line.bytes.now ≤ 2 ^ 30 }
     requires line { IsLine mapper.old.files line.file line.start line.bytes.now }
-    requires few { length emitted.old.pairs + length (emissions mapper.old.job line.file line.start line.bytes.now) < 2 ^ 32 }
+    requires few { length emitting.old.pairs + length (emissions mapper.old.job line.file line.start line.bytes.now) < 2 ^ 32 }
     ensures same { mapper.new ≡ mapper.old }
-    ensures pairs { OnOk result (emitted.new.pairs ≡ emitted.old.pairs ++ emissions mapper.old.job line.entry.file line.entry.start line.entry.bytes.now) }
-    ensures names { OnOk result (emitted.new.names
-        ≡ emitted.old.names ++ names_from name 0 (length (emissions mapper.old.job line.entry.file line.entry.start line.entry.bytes.now))) }
+    ensures pairs { OnOk result (emitting.new.pairs ≡ emitting.old.pairs ++ emissions mapper.old.job line.entry.file line.entry.start line.entry.bytes.now) }
+    ensures names { OnOk result (emitting.new.names
+        ≡ emitting.old.names ++ names_from name 0 (length (emissions mapper.old.job line.entry.file line.entry.start line.entry.bytes.now))) }
 {
-    let before = emitted.pairs.len();
-    gather_record(alloc, mapper, line, buffer, &mut emitted.pairs)?;
-    let count = emitted.pairs.len() - before;
-    emitted.names.add(name, count as u32)
+    let before = emitting.pairs.len();
+    gather_record(alloc, mapper, line, buffer, &mut emitting.pairs)?;
+    let count = emitting.pairs.len() - before;
+    emitting.names.add(name, count as u32)
 }
 
 /// All that a job emits over a plan's input, in order, without the left-out records. The watch is told how many of the
@@ -83,8 +91,8 @@ pub(crate) fn gather(
     let kept = plan.kept(alloc, skips)?;
     let mut left = kept.records();
     let mut buffer = Vec::new(alloc);
-    let mut emitted = Emitted {
-        pairs: Gathered::new(alloc),
+    let mut emitting = Emitting {
+        pairs: Gathering::new(alloc),
         names: Names::new(alloc),
     };
     let mut pace = Pace::new(Phase::Mapping, plan.count() as u64);
@@ -93,7 +101,11 @@ pub(crate) fn gather(
     while let Some((name, line)) = left.next() {
         pace.reach(done, watch);
         done = done.saturating_add(1);
-        gather_one(alloc, &mut mapper, name, line, &mut buffer, &mut emitted)?;
+        gather_one(alloc, &mut mapper, name, line, &mut buffer, &mut emitting)?;
     }
-    Ok(emitted)
+    let Emitting { pairs, names } = emitting;
+    Ok(Emitted {
+        pairs: pairs.finish(alloc)?,
+        names,
+    })
 }

@@ -1,14 +1,16 @@
-use Rattle.std.proofs.Common.{◌≡◌, ℕ, ◌++◌, ◌∷◌, not, List, All, length, refl, sym, subst, ap, ◌∙◌, arith}
+use Rattle.std.proofs.Common.{◌≡◌, ℕ, ◌++◌, ◌∷◌, [], not, List, All, length, refl, sym, subst, ap, ◌∙◌, arith}
 use Rattle.std.proofs.lemmas.List.Elements.{All-filter, All-head, All-tail}
 use Rattle.std.specs.List.{flat_map}
 use Rattle.mr_bytes.specs.declared.Name.{Name}
+use Rattle.mr_bytes.specs.declared.RecordName.{RecordName}
+use Rattle.mr_jobs.specs.JobSpec.{JobSpec}
 use Rattle.mr_jobs.specs.Emissions.{Emission, emissions}
 use Rattle.mr_jobs.specs.Hits.{Source, IsLine}
 use Rattle.mr_splits.specs.Named.{NamedRecord, is_left_out}
 use Rattle.mr_splits.specs.Cut.{records_of}
 use Rattle.mr_splits.specs.Kept.{Choice, kept_records}
 use Rattle.mr_sequential.specs.Names.{names_from, record_names}
-use Rattle.mr_sequential.specs.Pairs.{record_pairs}
+use Rattle.mr_sequential.specs.Pairs.{kept_pairs, record_pairs}
 use Rattle.mr_ranks.proofs.ListLemmas.{length-append}
 use Rattle.mr_sequential.proofs.LineLemmas.{Stands, records-stand}
 use Rattle.mr_sequential.proofs.SourceLemmas.{kept-pairs, kept-names, next_gathered, last_gathered}
@@ -49,7 +51,7 @@ gather_one-requires-clause-few g c =
       arith,
       ap (λ (m : Source). length (emissions m.job line.file line.start line.bytes.now)) c.loop-name.invariant.mapper,
       ap length c.loop-name.invariant.pairs,
-      length-append c.loop-name.emitted.pairs (flat_map f c.loop-name.left),
+      length-append c.loop-name.emitting.pairs (flat_map f c.loop-name.left),
       ap length (ap (flat_map f) c.in-Some.ensures.next),
       length-append (f r) (flat_map f c.next.new.self),
       ap length (kept-pairs c.args.job.now c.args.skips.now (records_of c.args.plan.now)),
@@ -66,27 +68,42 @@ loop-name-preserved g c =
     let files : List (List ℕ) = c.args.plan.now.files in
     let job : c.loop-name.mapper.job ≡ c.args.job.now = ap (λ (m : Source). m.job) c.loop-name.invariant.mapper in
     let pairs = c.in_ok-gather_one.ensures.pairs
-    ∙ ap (λ j. c.loop-name.emitted.pairs ++ emissions j line.file line.start line.bytes.now) job in
+    ∙ ap (λ j. c.loop-name.emitting.pairs ++ emissions j line.file line.start line.bytes.now) job in
     let names = c.in_ok-gather_one.ensures.names
-    ∙ ap (λ j. c.loop-name.emitted.names ++ names_from c.in-Some.name 0 (length (emissions j line.file line.start line.bytes.now))) job in
+    ∙ ap (λ j. c.loop-name.emitting.names ++ names_from c.in-Some.name 0 (length (emissions j line.file line.start line.bytes.now))) job in
     record {
       lines = All-tail (Stands files) r c.next.new.self (subst (All (Stands files)) c.in-Some.ensures.next c.loop-name.invariant.lines);
       mapper = c.gather_one.ensures.same ∙ c.loop-name.invariant.mapper;
-      pairs = next_gathered f c.loop-name.emitted.pairs c.gather_one.new.emitted.pairs (f r) (flat_map f rs) c.loop-name.left c.next.new.self r
+      pairs = next_gathered f c.loop-name.emitting.pairs c.gather_one.new.emitting.pairs (f r) (flat_map f rs) c.loop-name.left c.next.new.self r
           c.in-Some.ensures.next refl pairs c.loop-name.invariant.pairs;
-      names = next_gathered g c.loop-name.emitted.names c.gather_one.new.emitted.names (g r) (flat_map g rs) c.loop-name.left c.next.new.self r
+      names = next_gathered g c.loop-name.emitting.names c.gather_one.new.emitting.names (g r) (flat_map g rs) c.loop-name.left c.next.new.self r
           c.in-Some.ensures.next refl names c.loop-name.invariant.names;
     }
 
+-- what was emitted when no record is left
+all_pairs : (job : JobSpec) (skips : List RecordName) (rs left : List NamedRecord) (pairs : List Emission) → left ≡ []
+    → pairs ++ flat_map (record_pairs job) left ≡ flat_map (record_pairs job) (kept_records skips rs) → pairs ≡ flat_map (kept_pairs job skips) rs
+all_pairs job skips rs left pairs none so =
+    let f : NamedRecord → List Emission = record_pairs job in
+    last_gathered f pairs (flat_map f (kept_records skips rs)) left none so ∙ kept-pairs job skips rs
+
+pub finish-requires : goal.finish-requires
+finish-requires g c =
+    omega (
+      arith,
+      ap length (all_pairs c.args.job.now c.args.skips.now (records_of c.args.plan.now) c.loop-name.left c.loop-name.emitting.pairs c.in_default.ensures.next
+          c.loop-name.invariant.pairs),
+      c.requires.few,
+    )
+
 pub returns : goal.returns
 returns g c =
-    let f : NamedRecord → List Emission = record_pairs c.args.job.now in
     let g : NamedRecord → List Name = record_names c.args.job.now in
     let rs : List NamedRecord = records_of c.args.plan.now in
     let skips = c.args.skips.now in
     record {
-      pairs = last_gathered f c.loop-name.emitted.pairs (flat_map f (kept_records skips rs)) c.loop-name.left c.in_default.ensures.next c.loop-name.invariant.pairs
-          ∙ kept-pairs c.args.job.now skips rs;
-      names = last_gathered g c.loop-name.emitted.names (flat_map g (kept_records skips rs)) c.loop-name.left c.in_default.ensures.next c.loop-name.invariant.names
+      pairs = c.in_ok-finish.ensures
+          ∙ all_pairs c.args.job.now skips rs c.loop-name.left c.loop-name.emitting.pairs c.in_default.ensures.next c.loop-name.invariant.pairs;
+      names = last_gathered g c.loop-name.emitting.names (flat_map g (kept_records skips rs)) c.loop-name.left c.in_default.ensures.next c.loop-name.invariant.names
           ∙ kept-names c.args.job.now skips rs;
     }

@@ -9,10 +9,10 @@ use Rattle.mr_sequential.proofs.source.gather.Given as goal
 
 abbrev pub invariant-loop-name : goal.invariant-loop-name
 invariant-loop-name g l = record {
-  pairs : l.emitted.pairs ++ flat_map (record_pairs l.job) l.left ≡ flat_map (record_pairs l.job) (kept_records l.fn.skips (records_of l.fn.plan));
+  pairs : l.emitting.pairs ++ flat_map (record_pairs l.job) l.left ≡ flat_map (record_pairs l.job) (kept_records l.fn.skips (records_of l.fn.plan));
   lines : All (Stands l.fn.plan.files) l.left;
   mapper : l.mapper ≡ record { job = l.fn.job; files = l.fn.plan.files };
-  names : l.emitted.names ++ flat_map (record_names l.job) l.left ≡ flat_map (record_names l.job) (kept_records l.fn.skips (records_of l.fn.plan));
+  names : l.emitting.names ++ flat_map (record_names l.job) l.left ≡ flat_map (record_names l.job) (kept_records l.fn.skips (records_of l.fn.plan));
 }
 
 abbrev pub decreases-loop-name : goal.decreases-loop-name
