@@ -1,4 +1,4 @@
-use Rattle.std.proofs.Common.{◌≡◌, ◌≤◌, ◌<◌, ◌^◌, ◌∙◌, ap, get_or, inl, inr, length, refl, rules, arith}
+use Rattle.std.proofs.Common.{◌≡◌, ◌≤◌, ◌<◌, ◌^◌, ◌∙◌, ap, get_or, inl, length, refl, rules, arith}
 use Rattle.mr_shards.specs.declared.merge.Output.{Output}
 use Rattle.mr_shard_files.proofs.PartLemmas.{inputs_count, outputs_next}
 use Rattle.mr_shard_files.proofs.texts.outputs_of.Goals as goal
