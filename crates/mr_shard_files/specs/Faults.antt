@@ -9,7 +9,7 @@ use Rattle.mr_files.specs.Refusals.{IsUnwrittenAt}
 use Rattle.mr_jobs.specs.JobSpec.{JobSpec, RequestSpec}
 use Rattle.mr_shards.specs.declared.fault.MergeFault.TheVariants as merge
 use Rattle.mr_shards.specs.declared.merge.Output.{Output}
-use Rattle.mr_shards.specs.Refused.{Blames}
+use Rattle.mr_shards.specs.Refused.{Blames, HasFarLine}
 use Rattle.mr_verdict.specs.declared.joining.JoinFault.TheVariants as join
 use Rattle.mr_verdict.specs.Joined.{IsJoinFault, IsRepeated, inputs_of, verdict_at}
 use Rattle.mr_verdict.specs.Reading.{Fits}
@@ -87,7 +87,7 @@ IsTextsFault holds unreadable p names vs fault = (fault ≡ OutOfMemory) ⊎ IsP
 abbrev pub IsBlamed : JobSpec → List Output → ℕ → ShardFault → Type 0
 IsBlamed job os p (BadLine shard partition line) = (partition ≡ p) × Blames job os (merge.BadLine shard line)
 IsBlamed job os p (TotalTooLarge partition) = (partition ≡ p) × Blames job os merge.TotalTooLarge
-IsBlamed job os p (FileTooFar partition) = partition ≡ p
+IsBlamed job os p (FileTooFar partition) = (partition ≡ p) × HasFarLine job os
 IsBlamed job os p OutOfMemory = ⊤
 IsBlamed job os p fault = ⊥
 
@@ -98,14 +98,9 @@ pub record IsUnmergedAt (holds : Stored) (job : JobSpec) (names : List (List ℕ
   pub outputs_are : AreOutputs vs parts outputs
   pub why : IsBlamed job outputs p fault
 
--- there are more files than 32 bits number
-abbrev pub AreTooManyFiles : List Told → Type 0
-AreTooManyFiles vs = 2 ^ 32 ≤ length (inputs_of vs)
-
 -- the parts of a partition are not merged
 abbrev pub IsPartitionFault : Stored → Faulty → JobSpec → List (List ℕ) → List Told → ℕ → ShardFault → Type 0
-IsPartitionFault holds unreadable job names vs p fault =
-    ((fault ≡ TooManyFiles) × AreTooManyFiles vs) ⊎ (IsTextsFault holds unreadable p names vs fault ⊎ IsUnmergedAt holds job names vs p fault)
+IsPartitionFault holds unreadable job names vs p fault = IsTextsFault holds unreadable p names vs fault ⊎ IsUnmergedAt holds job names vs p fault
 
 -- the partitions are not all merged
 abbrev pub IsPartitionsFault : Stored → Faulty → RequestSpec → List (List ℕ) → List Told → ShardFault → Type 0

@@ -1,13 +1,16 @@
-use Rattle.std.proofs.Common.{◌≡◌, ◌∙◌, ap, inl, inr, length, map, option_map, subst}
+use Rattle.std.proofs.Common.{◌≡◌, ◌<◌, ◌^◌, List, ◌∙◌, ap, inl, inr, length, map, option_map, subst}
 use Rattle.std.proofs.lemmas.Result.{err_from_is_err_and}
 use Rattle.std.proofs.lemmas.List.{length-map}
 use Rattle.mr_input.specs.Files.{contents}
 use Rattle.mr_files.specs.Names.{part_files}
 use Rattle.mr_verdict.specs.Truth.{notes_for}
-use Rattle.mr_verdict.specs.Verdict.{Told}
+use Rattle.mr_verdict.specs.Verdict.{Note, Told}
 use Rattle.mr_shard_files.specs.Listing.{IsListed}
 use Rattle.mr_shard_files.proofs.TruthLemmas.{merging}
 use Rattle.mr_shard_files.proofs.merging.merged_under.Goals as goal
+
+pub partitions_merged-requires-clause-few : goal.partitions_merged-requires-clause-few
+partitions_merged-requires-clause-few g c = subst (λ (l : List Note). length l < 2 ^ 32) c.in_ok-joined.ensures.joined.inputs_are c.in_ok-joined.ensures.few
 
 pub returns-clause-ok : goal.returns-clause-ok
 returns-clause-ok g c =
