@@ -93,15 +93,15 @@ held_count holds (n ∷ ns) (b ∷ bs) h = ap (λ k. suc k) (held_count holds ns
 
 -- what was read for a partition is not merged
 pub unmerged_at : (holds : Stored) (unreadable : Faulty) (job : JobSpec) (names : List (List ℕ)) (vs : List Told) (p : ℕ) (texts was : List (Vec ℕ Global)) (os now : List Output) (e : MergeFault)
-    → Holding (StandsBeside holds p) names (contents texts) → was ≡ texts → AreOutputs vs (contents was) os → now ≡ os → Blames job now e
+    → length (inputs_of vs) < 2 ^ 32 → Holding (StandsBeside holds p) names (contents texts) → was ≡ texts → AreOutputs vs (contents was) os → now ≡ os → Blames job now e
     → IsPartitionFault holds unreadable job names vs p (told_of_merge p e)
-unmerged_at holds unreadable job names vs p texts was os now e stand same outputs is why = inr (inr (record {
+unmerged_at holds unreadable job names vs p texts was os now e few stand same outputs is why = inr (record {
   parts = contents texts;
   outputs = os;
   stand = stand;
   outputs_are = subst (λ (l : List (Vec ℕ Global)). AreOutputs vs (contents l) os) same outputs;
-  why = blamed job os p e (subst (λ (l : List Output). Blames job l e) is why);
-}))
+  why = blamed job vs (contents was) os p e few outputs (subst (λ (l : List Output). Blames job l e) is why);
+})
 
 -- the inputs of one are no more than those of all
 pub inputs_count : (vs : List Told) (i : ℕ) (d : Told) → i < length vs → length (get_or vs i d).inputs ≤ length (inputs_of vs)

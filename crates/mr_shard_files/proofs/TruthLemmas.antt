@@ -1,7 +1,7 @@
 -- What the joined verdict is worth, whatever request the verdicts are about.
 use Rattle.std.proofs.Common.{◌≡◌, ℕ, ◌<◌, ◌^◌, List, [], ◌∷◌, length, map, refl, ap, sym, ◌∙◌, subst, arith, true, false}
 use Rattle.std.proofs.lemmas.List.{length-map}
-use Rattle.std.specs.Prelude.{Vec}
+use Rattle.std.specs.Prelude.{Option, Vec}
 use Rattle.std.specs.Global.{Global}
 use Rattle.std.specs.List.{AllByRecursion}
 use Rattle.mr_input.specs.Files.{contents}
@@ -13,6 +13,7 @@ use Rattle.mr_verdict.specs.Truth.{AreNotesOf, Asks, IsTrueOf, notes_for}
 use Rattle.mr_verdict.specs.Verdict.{Note, Told, spelling}
 use Rattle.mr_verdict.proofs.JoinedLaws.{joined_is_true}
 use Rattle.mr_shard_files.specs.Beside.{ArePartitions}
+use Rattle.mr_shard_files.specs.Listing.{IsListed}
 use Rattle.mr_shard_files.specs.Merging.{IsMerged, IsMerging, IsTrueOfAll, with_outputs}
 use Rattle.mr_shard_files.proofs.NoteLemmas.{files_count, notes_of}
 use Rattle.mr_shard_files.proofs.RowLemmas.{rows}
@@ -75,10 +76,10 @@ true_of_all r vs m parts outputs split some j notes count merged q files t =
     (subst (λ (x : RequestSpec). AreTrueOf x vs files parts) (sym same) t))
 
 -- what is merged of the parts of all partitions, with the notes of the outputs
-pub merging : (holds : Stored) (names : List (List ℕ)) (vs : List Told) (r : RequestSpec) (m : Told) (outputs : List (List ℕ)) (notes : List Note) → 0 < r.split → 0 < length vs → length names ≡ length vs
-    → length outputs ≡ r.parts → ArePartitions holds r.job names vs outputs → IsJoined r vs m → AllByRecursion (λ v. length v.outputs ≡ r.parts) vs → AreOnce m.inputs → length m.inputs < 2 ^ 32 → notes ≡ notes_for (part_files r.parts) outputs
-    → IsMerging holds names vs (with_outputs m notes) outputs
-merging holds names vs r m outputs notes split some names_are count all joined outputs_are once few told =
+pub merging : (holds : Stored) (names : List (List ℕ)) (list : Option (List ℕ)) (vs : List Told) (r : RequestSpec) (m : Told) (outputs : List (List ℕ)) (notes : List Note) → 0 < r.split → 0 < length vs → length names ≡ length vs
+    → length outputs ≡ r.parts → ArePartitions holds r.job names vs outputs → IsJoined r vs m → AllByRecursion (λ v. length v.outputs ≡ r.parts) vs → AreOnce m.inputs → length m.inputs < 2 ^ 32 → IsListed holds list m.inputs → notes ≡ notes_for (part_files r.parts) outputs
+    → IsMerging holds names list vs (with_outputs m notes) outputs
+merging holds names list vs r m outputs notes split some names_are count all joined outputs_are once few listed told =
     let row = rows holds r.job names vs outputs r.parts names_are (λ p less. all p (omega (arith, less, count))) in
     let whole : IsJoined r vs (with_outputs m notes) = record {
       asks = joined.asks;
@@ -97,6 +98,7 @@ merging holds names vs r m outputs notes split some names_are count all joined o
       told = outputs_are;
       once = once;
       few = few;
+      listed = listed;
       count = count;
       merged = row.merged;
       notes_are = told;
@@ -104,16 +106,16 @@ merging holds names vs r m outputs notes split some names_are count all joined o
     }
 
 -- the merged result was written
-pub written : (old new : Stored) (names : List (List ℕ)) (dir : List ℕ) (vs was_vs : List Told) (m : Told) (outputs was : List (Vec ℕ Global)) (text : List ℕ)
-    → was_vs ≡ vs → was ≡ outputs → text ≡ spelling m → Holding old names (map spelling vs) → IsMerging old names was_vs m (contents outputs)
-    → Holding new (part_names dir (length was)) (contents was) → new (name_of_verdict dir) text → ChangesAmong old new (merged_names dir (length was)) → IsMerged old new names dir m
-written old new names dir vs was_vs m outputs was text v o t held merging parts verdict others =
+pub written : (old new : Stored) (names : List (List ℕ)) (list : Option (List ℕ)) (dir : List ℕ) (vs was_vs : List Told) (m : Told) (outputs was : List (Vec ℕ Global)) (text : List ℕ)
+    → was_vs ≡ vs → was ≡ outputs → text ≡ spelling m → Holding old names (map spelling vs) → IsMerging old names list was_vs m (contents outputs)
+    → Holding new (part_names dir (length was)) (contents was) → new (name_of_verdict dir) text → ChangesAmong old new (merged_names dir (length was)) → IsMerged old new names list dir m
+written old new names list dir vs was_vs m outputs was text v o t held merging parts verdict others =
     let count : length was ≡ length (contents was) = sym (length-map was (λ f. f.items)) in
     record {
       verdicts = was_vs;
       outputs = contents was;
       held = subst (λ (l : List Told). Holding old names (map spelling l)) (sym v) held;
-      merging = subst (λ (l : List (Vec ℕ Global)). IsMerging old names was_vs m (contents l)) (sym o) merging;
+      merging = subst (λ (l : List (Vec ℕ Global)). IsMerging old names list was_vs m (contents l)) (sym o) merging;
       parts = subst (λ (k : ℕ). Holding new (part_names dir k) (contents was)) count parts;
       verdict = subst (new (name_of_verdict dir)) t verdict;
       others = subst (λ (k : ℕ). ChangesAmong old new (merged_names dir k)) count others;

@@ -1,6 +1,6 @@
 -- Why shards are not merged, stage by stage: what is told of one verdict, one part or one partition is told of all by its
 -- place.
-use Rattle.std.specs.Prelude.{◌≡◌, ◌≢◌, ◌⊎◌, ℕ, ◌+◌, ◌<◌, ◌≤◌, ◌^◌, ⊤, List, [], ◌∷◌, ◌++◌, length, map, slice_index_or, string_bytes, take}
+use Rattle.std.specs.Prelude.{◌≡◌, ◌≢◌, ◌⊎◌, ℕ, ◌+◌, ◌<◌, ◌≤◌, ◌^◌, ⊤, List, [], ◌∷◌, ◌++◌, Option, None, Some, length, map, slice_index_or, string_bytes, take}
 use Rattle.mr_input.specs.Files.{total_size}
 use Rattle.mr_files.specs.Folders.{IsFolderOf}
 use Rattle.mr_files.specs.Holding.{ChangesAmong, Faulty, Holding, Stored}
@@ -9,21 +9,26 @@ use Rattle.mr_files.specs.Refusals.{IsUnwrittenAt}
 use Rattle.mr_jobs.specs.JobSpec.{JobSpec, RequestSpec}
 use Rattle.mr_shards.specs.declared.fault.MergeFault.TheVariants as merge
 use Rattle.mr_shards.specs.declared.merge.Output.{Output}
-use Rattle.mr_shards.specs.Refused.{Blames}
+use Rattle.mr_shards.specs.Refused.{Blames, HasFarLine}
 use Rattle.mr_verdict.specs.declared.joining.JoinFault.TheVariants as join
 use Rattle.mr_verdict.specs.Joined.{IsJoinFault, IsRepeated, inputs_of, verdict_at}
 use Rattle.mr_verdict.specs.Reading.{Fits}
 use Rattle.mr_verdict.specs.Truth.{Asks, AsksNone}
 use Rattle.mr_verdict.specs.Verdict.{Note, Told, spelling}
 use Rattle.mr_shard_files.specs.declared.fault.ShardFault.{ShardFault}
-use Rattle.mr_shard_files.specs.declared.fault.ShardFault.TheVariants.{BadLine, BadVerdict, CannotRead, CannotWrite, FileTooFar, NoRequest, NoShards, OtherOutputs, OtherPart, OtherRequest, OutOfMemory, RepeatedInput, TooLarge, TooManyFiles, TooManyPairs, TooManySplits, TotalTooLarge}
+use Rattle.mr_shard_files.specs.declared.fault.ShardFault.TheVariants.{BadLine, BadVerdict, CannotRead, CannotWrite, FileTooFar, LongList, LongVerdict, NoRequest, NoShards, OtherInputs, OtherOutputs, OtherPart, OtherRequest, OutOfMemory, RepeatedInput, TooLarge, TooManyFiles, TooManyPairs, TooManySplits, TotalTooLarge}
 use Rattle.mr_shard_files.specs.Beside.{AreOutputs, StandsBeside, TellsOf}
+use Rattle.mr_shard_files.specs.Listing.{DifferIn, listing}
 use Rattle.mr_shard_files.specs.Merging.{IsMerging}
 
 abbrev pub name_at : List (List ℕ) → ℕ → List ℕ
 name_at names i = slice_index_or names i []
 
 -- ---- verdicts
+
+-- a text of more than 1 GiB stands under the name
+abbrev pub IsLong : Stored → List ℕ → Type 0
+IsLong holds name = (text : List ℕ) × holds name text × (2 ^ 30 < length text)
 
 -- what stands under the name is the text of no verdict
 abbrev pub IsNoVerdict : Stored → List ℕ → Type 0
@@ -32,6 +37,7 @@ IsNoVerdict holds name = (text : List ℕ) × holds name text × ((v : Told) →
 -- the verdict of that shard, under that name, is not read
 abbrev pub IsUnheard : Stored → Faulty → ℕ → List ℕ → ShardFault → Type 0
 IsUnheard holds unreadable at name (CannotRead told) = unreadable name × (string_bytes told ≡ name)
+IsUnheard holds unreadable at name (LongVerdict shard) = (shard ≡ at) × IsLong holds name
 IsUnheard holds unreadable at name (BadVerdict shard line) = (shard ≡ at) × IsNoVerdict holds name
 IsUnheard holds unreadable at name OutOfMemory = ⊤
 IsUnheard holds unreadable at name fault = ⊥
@@ -81,7 +87,7 @@ IsTextsFault holds unreadable p names vs fault = (fault ≡ OutOfMemory) ⊎ IsP
 abbrev pub IsBlamed : JobSpec → List Output → ℕ → ShardFault → Type 0
 IsBlamed job os p (BadLine shard partition line) = (partition ≡ p) × Blames job os (merge.BadLine shard line)
 IsBlamed job os p (TotalTooLarge partition) = (partition ≡ p) × Blames job os merge.TotalTooLarge
-IsBlamed job os p (FileTooFar partition) = partition ≡ p
+IsBlamed job os p (FileTooFar partition) = (partition ≡ p) × HasFarLine job os
 IsBlamed job os p OutOfMemory = ⊤
 IsBlamed job os p fault = ⊥
 
@@ -92,19 +98,34 @@ pub record IsUnmergedAt (holds : Stored) (job : JobSpec) (names : List (List ℕ
   pub outputs_are : AreOutputs vs parts outputs
   pub why : IsBlamed job outputs p fault
 
--- there are more files than 32 bits number
-abbrev pub AreTooManyFiles : List Told → Type 0
-AreTooManyFiles vs = 2 ^ 32 ≤ length (inputs_of vs)
-
 -- the parts of a partition are not merged
 abbrev pub IsPartitionFault : Stored → Faulty → JobSpec → List (List ℕ) → List Told → ℕ → ShardFault → Type 0
-IsPartitionFault holds unreadable job names vs p fault =
-    ((fault ≡ TooManyFiles) × AreTooManyFiles vs) ⊎ (IsTextsFault holds unreadable p names vs fault ⊎ IsUnmergedAt holds job names vs p fault)
+IsPartitionFault holds unreadable job names vs p fault = IsTextsFault holds unreadable p names vs fault ⊎ IsUnmergedAt holds job names vs p fault
 
 -- the partitions are not all merged
 abbrev pub IsPartitionsFault : Stored → Faulty → RequestSpec → List (List ℕ) → List Told → ShardFault → Type 0
 IsPartitionsFault holds unreadable request names vs fault = (fault ≡ OutOfMemory)
     ⊎ ((p : ℕ) × (p < request.parts) × IsPartitionFault holds unreadable request.job names vs p fault)
+
+-- ---- the list of inputs
+
+-- the list under that name is not read
+abbrev pub IsListUnread : Stored → Faulty → List ℕ → ShardFault → Type 0
+IsListUnread holds unreadable name (CannotRead told) = unreadable name × (string_bytes told ≡ name)
+IsListUnread holds unreadable name LongList = IsLong holds name
+IsListUnread holds unreadable name OutOfMemory = ⊤
+IsListUnread holds unreadable name fault = ⊥
+
+-- the text under that name is not that of these inputs: the first line is told in which it differs
+abbrev pub IsOtherList : Stored → List ℕ → List Note → ShardFault → Type 0
+IsOtherList holds name inputs (OtherInputs line) = (text : List ℕ) × holds name text × DifferIn text (listing inputs) line
+IsOtherList holds name inputs OutOfMemory = ⊤
+IsOtherList holds name inputs fault = ⊥
+
+-- a list is named, and is not read or is another
+abbrev pub IsListFault : Stored → Faulty → Option (List ℕ) → List Note → ShardFault → Type 0
+IsListFault holds unreadable None inputs fault = ⊥
+IsListFault holds unreadable (Some name) inputs fault = IsListUnread holds unreadable name fault ⊎ IsOtherList holds name inputs fault
 
 -- ---- all
 
@@ -139,29 +160,35 @@ IsUnjoined request vs fault = ⊥
 abbrev pub IsJoinedFault : RequestSpec → List Told → ShardFault → Type 0
 IsJoinedFault request vs fault = IsUnjoined request vs fault ⊎ (IsMiscounted vs request.parts fault ⊎ IsInputsFault (inputs_of vs) fault)
 
--- nothing is merged: there is no request; or, under that of the first verdict, they are not joined, or the parts not merged
-abbrev pub IsMergingFault : Stored → Faulty → List (List ℕ) → List Told → ShardFault → Type 0
-IsMergingFault holds unreadable names vs fault = (fault ≡ OutOfMemory) ⊎ (IsFirstFault vs fault
-    ⊎ ((request : RequestSpec) × Asks (verdict_at vs 0) request × (IsJoinedFault request vs fault ⊎ IsPartitionsFault holds unreadable request names vs fault)))
+-- they are not joined, or other inputs were meant, or the parts are not merged
+abbrev pub IsRequestFault : Stored → Faulty → RequestSpec → List (List ℕ) → Option (List ℕ) → List Told → ShardFault → Type 0
+IsRequestFault holds unreadable request names list vs fault =
+    IsJoinedFault request vs fault ⊎ (IsListFault holds unreadable list (inputs_of vs) fault ⊎ IsPartitionsFault holds unreadable request names vs fault)
+
+-- nothing is merged: there is no request, or under that of the first verdict there is no merge
+abbrev pub IsMergingFault : Stored → Faulty → List (List ℕ) → Option (List ℕ) → List Told → ShardFault → Type 0
+IsMergingFault holds unreadable names list vs fault = (fault ≡ OutOfMemory) ⊎ (IsFirstFault vs fault
+    ⊎ ((request : RequestSpec) × Asks (verdict_at vs 0) request × IsRequestFault holds unreadable request names list vs fault))
 
 -- nothing changed, as the verdicts are not all read, or what stands beside them is not merged
-abbrev pub IsUnmerged : Stored → Stored → Faulty → List (List ℕ) → ShardFault → Type 0
-IsUnmerged old new unreadable names fault = ChangesAmong old new []
-    × (IsUngathered old unreadable names fault ⊎ ((vs : List Told) × Holding old names (map spelling vs) × IsMergingFault old unreadable names vs fault))
+abbrev pub IsUnmerged : Stored → Stored → Faulty → List (List ℕ) → Option (List ℕ) → ShardFault → Type 0
+IsUnmerged old new unreadable names list fault = ChangesAmong old new []
+    × (IsUngathered old unreadable names fault ⊎ ((vs : List Told) × Holding old names (map spelling vs) × IsMergingFault old unreadable names list vs fault))
 
 -- a file of the result can't be written: those before it stand whole, and the verdict is the last
-pub record IsStopped (old new : Stored) (unwritable : Faulty) (names : List (List ℕ)) (dir told : List ℕ) : Type 0 where
+pub record IsStopped (old new : Stored) (unwritable : Faulty) (names : List (List ℕ)) (list : Option (List ℕ)) (dir told : List ℕ) : Type 0 where
   pub verdicts : List Told
   pub joined : Told
   pub outputs : List (List ℕ)
   pub held : Holding old names (map spelling verdicts)
-  pub merging : IsMerging old names verdicts joined outputs
+  pub merging : IsMerging old names list verdicts joined outputs
   pub stopped : IsUnwrittenAt old new unwritable (merged_names dir (length outputs)) (outputs ++ spelling joined ∷ []) told
 
-abbrev pub IsUnfinished : Stored → Stored → Faulty → List (List ℕ) → List ℕ → ShardFault → Type 0
-IsUnfinished old new unwritable names dir (CannotWrite told) = IsStopped old new unwritable names dir (string_bytes told)
-IsUnfinished old new unwritable names dir OutOfMemory = ⊤
-IsUnfinished old new unwritable names dir fault = ⊥
+abbrev pub IsUnfinished : Stored → Stored → Faulty → List (List ℕ) → Option (List ℕ) → List ℕ → ShardFault → Type 0
+IsUnfinished old new unwritable names list dir (CannotWrite told) = IsStopped old new unwritable names list dir (string_bytes told)
+IsUnfinished old new unwritable names list dir OutOfMemory = ⊤
+IsUnfinished old new unwritable names list dir fault = ⊥
 
-abbrev pub IsShardRefusal : Stored → Stored → Faulty → Faulty → List (List ℕ) → List ℕ → ShardFault → Type 0
-IsShardRefusal old new unreadable unwritable names dir fault = IsUnmerged old new unreadable names fault ⊎ IsUnfinished old new unwritable names dir fault
+abbrev pub IsShardRefusal : Stored → Stored → Faulty → Faulty → List (List ℕ) → Option (List ℕ) → List ℕ → ShardFault → Type 0
+IsShardRefusal old new unreadable unwritable names list dir fault =
+    IsUnmerged old new unreadable names list fault ⊎ IsUnfinished old new unwritable names list dir fault

@@ -1,4 +1,5 @@
 pub mod Told
 pub mod Beside
+pub mod Listing
 pub mod Merging
 pub mod Faults

@@ -1,5 +1,5 @@
 -- What shards are merged to, and what that is worth.
-use Rattle.std.specs.Prelude.{◌≡◌, ℕ, ◌<◌, ◌^◌, List, [], ◌∷◌, None, length, map}
+use Rattle.std.specs.Prelude.{◌≡◌, ℕ, ◌<◌, ◌^◌, List, [], ◌∷◌, Option, None, length, map}
 use Rattle.std.specs.List.{AllByRecursion}
 use Rattle.mr_input.specs.Files.{nth_file}
 use Rattle.mr_files.specs.Holding.{ChangesAmong, Holding, Stored}
@@ -10,6 +10,7 @@ use Rattle.mr_verdict.specs.Joined.{AreMerged, AreOnce, AreTrueOf, IsJoined, all
 use Rattle.mr_verdict.specs.Truth.{IsTrueOf, notes_for}
 use Rattle.mr_verdict.specs.Verdict.{Note, Told, spelling}
 use Rattle.mr_shard_files.specs.Beside.{StandsBeside, TellsOf}
+use Rattle.mr_shard_files.specs.Listing.{IsListed}
 
 -- the verdict with these notes of its outputs
 abbrev pub with_outputs : Told → List Note → Told
@@ -45,8 +46,8 @@ IsTrueOfAll vs parts m outputs = (request : RequestSpec) (files : List (List (Li
     → AreTrueOf request vs files parts → IsTrueOf request m (all_files files) outputs
 
 -- outputs are merged of the parts that stand beside the verdicts, and one verdict is joined of these, with the notes of the
--- outputs; it names no input twice
-pub record IsMerging (holds : Stored) (names : List (List ℕ)) (vs : List Told) (m : Told) (outputs : List (List ℕ)) : Type 0 where
+-- outputs; it names no input twice, and where a list is named, just its inputs
+pub record IsMerging (holds : Stored) (names : List (List ℕ)) (list : Option (List ℕ)) (vs : List Told) (m : Told) (outputs : List (List ℕ)) : Type 0 where
   pub request : RequestSpec
   pub parts : List (List (List ℕ))
   pub parts_are : ArePartsOf holds request.job request.parts names vs parts
@@ -54,6 +55,7 @@ pub record IsMerging (holds : Stored) (names : List (List ℕ)) (vs : List Told)
   pub told : AllByRecursion (λ v. length v.outputs ≡ request.parts) vs
   pub once : AreOnce m.inputs
   pub few : length m.inputs < 2 ^ 32
+  pub listed : IsListed holds list m.inputs
   pub count : length outputs ≡ request.parts
   pub merged : AreMerged request vs parts outputs
   pub notes_are : m.outputs ≡ notes_for (part_files request.parts) outputs
@@ -61,11 +63,11 @@ pub record IsMerging (holds : Stored) (names : List (List ℕ)) (vs : List Told)
 
 -- under the names stood verdicts that were merged to this one; now the outputs stand in the folder, and the text of the
 -- verdict, and all else as before
-pub record IsMerged (old new : Stored) (names : List (List ℕ)) (dir : List ℕ) (m : Told) : Type 0 where
+pub record IsMerged (old new : Stored) (names : List (List ℕ)) (list : Option (List ℕ)) (dir : List ℕ) (m : Told) : Type 0 where
   pub verdicts : List Told
   pub outputs : List (List ℕ)
   pub held : Holding old names (map spelling verdicts)
-  pub merging : IsMerging old names verdicts m outputs
+  pub merging : IsMerging old names list verdicts m outputs
   pub parts : Holding new (part_names dir (length outputs)) outputs
   pub verdict : new (name_of_verdict dir) (spelling m)
   pub others : ChangesAmong old new (merged_names dir (length outputs))

@@ -20,6 +20,11 @@ pub enum ShardFault {
         shard: usize,
         line: u64,
     },
+    /// A text that is to be a verdict has more than 1 GiB.
+    #[error("LongVerdict shard {shard}")]
+    LongVerdict {
+        shard: usize,
+    },
     /// The first verdict is about no request.
     #[error("NoRequest")]
     NoRequest,
@@ -40,6 +45,14 @@ pub enum ShardFault {
     #[error("RepeatedInput input {input}")]
     RepeatedInput {
         input: usize,
+    },
+    /// The list of inputs has more than 1 GiB.
+    #[error("LongList")]
+    LongList,
+    /// The list of inputs isn't that of the inputs that the verdicts tell of: in this line it differs first.
+    #[error("OtherInputs line {line}")]
+    OtherInputs {
+        line: u64,
     },
     /// A part is not the one that its verdict tells of, by its length or its digest.
     #[error("OtherPart shard {shard} partition {partition}")]

@@ -5,9 +5,15 @@ ghost use Rattle.mr_verdict.specs.Verdict.{spelling};
 ghost use Rattle.mr_shard_files.specs.Faults.{IsUnheard, IsUngathered};
 
 use crate::fault::{ShardFault, of_verdict};
-use mr_files::{Store, read_file};
+use mr_files::{Store, WithinFault, read_file_within};
 use mr_verdict::{Verdict, read_verdict};
 use std::alloc::{AllocError, Global};
+
+/// The most bytes of a verdict's text, and of the list of inputs: 1 GiB.
+pub const MAX_TEXT_BYTES: u64 = 1_073_741_824;
+
+// The number that the clauses give.
+const _: () = prove!(MAX_TEXT_BYTES == 1_073_741_824);
 
 /// The verdict that stands under a name.
 fn verdict_under<S: Store>(
@@ -19,7 +25,11 @@ fn verdict_under<S: Store>(
     ensures ok { IfOk result (λ v. S.holds store.now name.now (spelling v)) }
     ensures err { IfErr result (IsUnheard (S.holds store.now) (S.unreadable store.now) shard name.now) }
 {
-    let text = read_file(store, alloc, name)?;
+    let text = match read_file_within(store, alloc, name, MAX_TEXT_BYTES) {
+        Ok(text) => text,
+        Err(WithinFault::TooLong) => return Err(ShardFault::LongVerdict { shard }),
+        Err(WithinFault::File(fault)) => return Err(ShardFault::from(fault)),
+    };
     match read_verdict(alloc, text.as_slice()) {
         Ok(verdict) => Ok(verdict),
         Err(fault) => Err(of_verdict(shard, fault)),

@@ -4,6 +4,7 @@
 
 mod fault;
 mod gathering;
+mod listing;
 mod merging;
 mod noting;
 mod partition;

@@ -1,5 +1,5 @@
 //! Shards, merged.
-ghost use Rattle.std.specs.Prelude.{◌≡◌, ◌<◌, ◌^◌, IfErr, IfOk, OnOk, length, map};
+ghost use Rattle.std.specs.Prelude.{◌≡◌, ◌<◌, ◌^◌, IfErr, IfOk, OnOk, length, map, option_map};
 ghost use Rattle.std.specs.List.{AllByRecursion};
 ghost use Rattle.mr_input.specs.Files.{contents};
 ghost use Rattle.mr_verdict.specs.Joined.{AreOnce, IsJoined, verdict_at};
@@ -9,6 +9,7 @@ ghost use Rattle.mr_shard_files.specs.Faults.{IsFirstFault, IsInputsFault, IsJoi
 
 use crate::fault::ShardFault;
 use crate::gathering::read_verdicts;
+use crate::listing::expect_listed;
 use crate::noting::part_notes;
 use crate::partition::partitions_merged;
 use mr_files::{Store, write_merged};
@@ -94,34 +95,41 @@ fn merged_under<S: Store>(
     store: &S,
     alloc: Global,
     names: &[&str],
+    inputs: Option<&str>,
     verdicts: &[Verdict],
 ) -> Result<(Verdict, Vec<Vec<u8>>), ShardFault>
     requires { length names.now ≡ length verdicts.now }
-    ensures ok { IfOk result (λ r. IsMerging (S.holds store.now) (map (λ s. s.now) names.now) verdicts.now r.0 (contents r.1.items)) }
-    ensures err { IfErr result (IsMergingFault (S.holds store.now) (S.unreadable store.now) (map (λ s. s.now) names.now) verdicts.now) }
+    ensures ok { IfOk result (λ r. IsMerging (S.holds store.now) (map (λ s. s.now) names.now) (option_map (λ n. n.now) inputs.entry)
+        verdicts.now r.0 (contents r.1.items)) }
+    ensures err { IfErr result (IsMergingFault (S.holds store.now) (S.unreadable store.now) (map (λ s. s.now) names.now)
+        (option_map (λ n. n.now) inputs.entry) verdicts.now) }
 {
     let request = first_request(alloc, verdicts)?;
     let joined = joined_once(alloc, &request, verdicts)?;
+    expect_listed(store, alloc, inputs, joined.inputs.as_slice())?;
     let outputs = partitions_merged(store, alloc, &request, names, verdicts)?;
     let notes = part_notes(alloc, outputs.as_slice())?;
     Ok((noted(joined, notes), outputs))
 }
 
 /// Merges shards: under each name stands a verdict, beside it the parts that it tells of. The merged parts are written to
-/// the folder, and then their verdict, which is given back. Nothing is written before all is merged.
+/// the folder, and then their verdict, which is given back. Nothing is written before all is merged. Where a name is given
+/// for it, a file lists the inputs that are meant, in the form of `sha256sum`: just those of the verdicts, in their order.
 pub fn merge_shards<S: Store>(
     store: &mut S,
     alloc: Global,
     names: &[&str],
+    inputs: Option<&str>,
     out: &str,
 ) -> Result<Verdict, ShardFault>
-    ensures ok { IfOk result (IsMerged (S.holds store.old) (S.holds store.new) (map (λ s. s.now) names.now) out.now) }
+    ensures ok { IfOk result (IsMerged (S.holds store.old) (S.holds store.new) (map (λ s. s.now) names.now)
+        (option_map (λ n. n.now) inputs.entry) out.now) }
     ensures others { ChangesResult (S.holds store.old) (S.holds store.new) out.now }
     ensures refused { IfErr result (IsShardRefusal (S.holds store.old) (S.holds store.new) (S.unreadable store.old) (S.unwritable store.old)
-        (map (λ s. s.now) names.now) out.now) }
+        (map (λ s. s.now) names.now) (option_map (λ n. n.now) inputs.entry) out.now) }
 {
     let verdicts = read_verdicts(store, alloc, names)?;
-    let (joined, outputs) = merged_under(store, alloc, names, verdicts.as_slice())?;
+    let (joined, outputs) = merged_under(store, alloc, names, inputs, verdicts.as_slice())?;
     let text = write_verdict(alloc, &joined)?;
     write_merged(store, alloc, out, outputs.as_slice(), text.as_slice())?;
     Ok(joined)

@@ -1,6 +1,7 @@
 //! The parts of shards, merged partition by partition.
-ghost use Rattle.std.specs.Prelude.{◌≡◌, IfErr, IfOk, length, map};
+ghost use Rattle.std.specs.Prelude.{◌≡◌, ◌<◌, ◌^◌, IfErr, IfOk, length, map};
 ghost use Rattle.mr_input.specs.Files.{contents};
+ghost use Rattle.mr_verdict.specs.Joined.{inputs_of};
 ghost use Rattle.mr_shard_files.specs.Beside.{ArePartitions, IsPartition};
 ghost use Rattle.mr_shard_files.specs.Faults.{IsPartitionFault, IsPartitionsFault};
 
@@ -21,7 +22,8 @@ fn partition_merged<S: Store>(
     verdicts: &[Verdict],
     partition: usize,
 ) -> Result<Vec<u8>, ShardFault>
-    requires { length names.now ≡ length verdicts.now }
+    requires count { length names.now ≡ length verdicts.now }
+    requires few { length (inputs_of verdicts.now) < 2 ^ 32 }
     ensures ok { IfOk result (λ t. IsPartition (S.holds store.now) job.now (map (λ s. s.now) names.now) verdicts.now partition t.items) }
     ensures err { IfErr result (IsPartitionFault (S.holds store.now) (S.unreadable store.now) job.now (map (λ s. s.now) names.now) verdicts.now partition) }
 {
@@ -41,7 +43,8 @@ pub(crate) fn partitions_merged<S: Store>(
     names: &[&str],
     verdicts: &[Verdict],
 ) -> Result<Vec<Vec<u8>>, ShardFault>
-    requires { length names.now ≡ length verdicts.now }
+    requires count { length names.now ≡ length verdicts.now }
+    requires few { length (inputs_of verdicts.now) < 2 ^ 32 }
     ensures count { IfOk result (λ ts. length ts.items ≡ request.now.parts) }
     ensures ok { IfOk result (λ ts. ArePartitions (S.holds store.now) request.now.job (map (λ s. s.now) names.now) verdicts.now (contents ts.items)) }
     ensures err { IfErr result (IsPartitionsFault (S.holds store.now) (S.unreadable store.now) request.now (map (λ s. s.now) names.now) verdicts.now) }

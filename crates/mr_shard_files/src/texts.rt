@@ -1,9 +1,10 @@
 //! The parts that shards have for one partition, read.
-ghost use Rattle.std.specs.Prelude.{◌≡◌, ◌↔◌, ◌⊎◌, ◌≤◌, ◌++◌, ◌∷◌, [], IfErr, IfOk, IsTrue, OnOk, length, map};
+ghost use Rattle.std.specs.Prelude.{◌≡◌, ◌↔◌, ◌<◌, ◌≤◌, ◌^◌, ◌++◌, ◌∷◌, [], IfErr, IfOk, IsTrue, OnOk, length, map};
 ghost use Rattle.mr_input.specs.Files.{contents};
 ghost use Rattle.mr_files.specs.Holding.{Holding};
 ghost use Rattle.mr_shard_files.specs.Beside.{AreOutputs, StandsBeside, Tells, TellsOf};
-ghost use Rattle.mr_shard_files.specs.Faults.{AreTooManyFiles, IsPartFault, IsTextsFault};
+ghost use Rattle.mr_verdict.specs.Joined.{inputs_of};
+ghost use Rattle.mr_shard_files.specs.Faults.{IsPartFault, IsTextsFault};
 
 use crate::fault::ShardFault;
 use mr_files::{Store, WithinFault, folder_of, part_name, read_file_within};
@@ -97,22 +98,20 @@ fn keep<'a>(outputs: &mut Vec<Output<'a>>, files: u32, text: &'a [u8]) -> Result
     Ok(())
 }
 
-/// The texts as outputs of shards, each with the number of the shard's files.
+/// The texts as outputs of shards, each with the number of the shard's files; 32 bits hold that of all.
 pub(crate) fn outputs_of<'a>(
     alloc: Global,
     verdicts: &[Verdict],
     texts: &'a [Vec<u8>],
-) -> Result<Vec<Output<'a>>, ShardFault>
-    requires { length texts.now ≡ length verdicts.now }
-    ensures ok { IfOk result (λ os. AreOutputs verdicts.now (contents texts.entry.now) os.items) }
-    ensures err { IfErr result (λ e. ((e ≡ ShardFault.TooManyFiles) × AreTooManyFiles verdicts.now) ⊎ (e ≡ ShardFault.OutOfMemory)) }
+) -> Result<Vec<Output<'a>>, AllocError>
+    requires count { length texts.now ≡ length verdicts.now }
+    requires few { length (inputs_of verdicts.now) < 2 ^ 32 }
+    ensures { IfOk result (λ os. AreOutputs verdicts.now (contents texts.entry.now) os.items) }
 {
     let mut outputs = Vec::new(alloc);
     for shard in 0..texts.len() {
         let verdict = &verdicts[shard];
-        let Ok(files) = u32::try_from(verdict.inputs.len()) else {
-            return Err(ShardFault::TooManyFiles);
-        };
+        let files = verdict.inputs.len() as u32;
         keep(&mut outputs, files, texts[shard].as_slice())?;
     }
     Ok(outputs)

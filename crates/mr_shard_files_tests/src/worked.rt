@@ -21,6 +21,20 @@ const WHOLE: &[u8] =
 const TWICE: &[u8] =
     b"verdict 1\njob 1\nflags 0\nliteral \npartitions 1\nsplit 64\ninput b79f3ceed99acb6ce37f852e5d07cc03ffcbb43654e266c62a5edef19b4fd7de 12 y\noutput 349992decc87ee3785c5605c737907807d9fd211838c4e5e0f055c4c53758eb8 12 part-00000\nwithout 0 1\nemitted 2\n";
 
+// What `sha256sum x y` writes.
+const LIST: &[u8] =
+    b"02b7c307a807a8778845e8c0f2d1fa6e27d1e03cc18c4d30288d17f8e3f8ce84  x\nb79f3ceed99acb6ce37f852e5d07cc03ffcbb43654e266c62a5edef19b4fd7de  y\n";
+
+// The first shard's verdict where its input has a backslash and a carriage return in its name, and what `sha256sum` writes
+// of that file.
+const ODD: &[u8] =
+    b"verdict 1\njob 1\nflags 0\nliteral \npartitions 1\nsplit 64\ninput 02b7c307a807a8778845e8c0f2d1fa6e27d1e03cc18c4d30288d17f8e3f8ce84 8 a\\b\r\noutput aa7a5d3fb3bc6e5f4ee9901ad667ad65d631c2eb22dc97dbe15e595f2461d471 12 part-00000\nemitted 2\n";
+
+const ODD_LIST: &[u8] =
+    b"\\02b7c307a807a8778845e8c0f2d1fa6e27d1e03cc18c4d30288d17f8e3f8ce84  a\\\\b\\r\n";
+
+const BOTH: [&str; 2] = ["a/verdict", "b/verdict"];
+
 /// Two shards, the second with this verdict and this part.
 fn shards(alloc: Global, verdict: &[u8], part: &[u8]) -> Result<MemoryFiles, Fail> {
     let mut store = MemoryFiles::new(alloc);
@@ -52,7 +66,7 @@ fn tells(alloc: Global, answer: Result<Verdict, ShardFault>, text: &str) -> Resu
 fn a_worked_merge(rt: HostRuntime) -> Result<(), Fail> {
     let alloc = rt.alloc();
     let mut store = shards(alloc, SECOND, b"dog\t1\nthe\t1\n")?;
-    let Ok(verdict) = merge_shards(&mut store, alloc, &["a/verdict", "b/verdict"], "m") else {
+    let Ok(verdict) = merge_shards(&mut store, alloc, &BOTH, None, "m") else {
         assert!(rt; false);
         return Ok(());
     };
@@ -66,17 +80,56 @@ fn a_worked_merge(rt: HostRuntime) -> Result<(), Fail> {
 fn refused_merges(rt: HostRuntime) -> Result<(), Fail> {
     let alloc = rt.alloc();
     let mut store = shards(alloc, SECOND, b"dog\t1\nthe\t2\n")?;
-    let both = ["a/verdict", "b/verdict"];
-    let other = merge_shards(&mut store, alloc, &both, "m");
+    let other = merge_shards(&mut store, alloc, &BOTH, None, "m");
     assert!(rt; tells(alloc, other, "OtherPart shard 1 partition 0")?);
-    let repeated = merge_shards(&mut store, alloc, &["a/verdict", "a/verdict"], "m");
+    let repeated = merge_shards(&mut store, alloc, &["a/verdict", "a/verdict"], None, "m");
     assert!(rt; tells(alloc, repeated, "RepeatedInput input 1")?);
     let mut store = shards(alloc, TWICE, b"dog\t1\ndog\t1\n")?;
-    let bad = merge_shards(&mut store, alloc, &both, "m");
+    let bad = merge_shards(&mut store, alloc, &BOTH, None, "m");
     assert!(rt; tells(alloc, bad, "BadLine shard 1 partition 0 line 1")?);
     let mut store = shards(alloc, b"verdict 2\n", b"")?;
-    let unread = merge_shards(&mut store, alloc, &both, "m");
+    let unread = merge_shards(&mut store, alloc, &BOTH, None, "m");
     assert!(rt; tells(alloc, unread, "BadVerdict shard 1 line 0")?);
     assert!(rt; !stands(alloc, &store, "m/part-00000", b"")?);
+    Ok(())
+}
+
+/// What is said of a merge of the two shards where this list is given; nothing where they are merged.
+fn said_of(alloc: Global, list: &[u8]) -> Result<String, Fail> {
+    let mut store = shards(alloc, SECOND, b"dog\t1\nthe\t1\n")?;
+    store.put("list", list, false)?;
+    match merge_shards(&mut store, alloc, &BOTH, Some("list"), "m") {
+        Ok(_) => Ok(String::new(alloc)),
+        Err(fault) => Ok(format!(in alloc; "{fault}")?),
+    }
+}
+
+#[test]
+fn inputs_that_are_meant(rt: HostRuntime) -> Result<(), Fail> {
+    let alloc = rt.alloc();
+    let first = &LIST[..68];
+    let second = &LIST[68..];
+    assert!(rt; said_of(alloc, LIST)?.as_str() == "");
+    assert!(rt; said_of(alloc, b"")?.as_str() == "OtherInputs line 0");
+    assert!(rt; said_of(alloc, first)?.as_str() == "OtherInputs line 1");
+    assert!(rt; said_of(alloc, second)?.as_str() == "OtherInputs line 0");
+    assert!(rt; said_of(alloc, &LIST[..LIST.len() - 1])?.as_str() == "OtherInputs line 1");
+    let mut more = Vec::from_slice(alloc, LIST)?;
+    more.extend_from_slice(first)?;
+    assert!(rt; said_of(alloc, more.as_slice())?.as_str() == "OtherInputs line 2");
+    Ok(())
+}
+
+#[test]
+fn lists_of_odd_names(rt: HostRuntime) -> Result<(), Fail> {
+    let alloc = rt.alloc();
+    let mut store = MemoryFiles::new(alloc);
+    store.put("a/verdict", ODD, false)?;
+    store.put("a/part-00000", b"cat\t1\nthe\t1\n", false)?;
+    store.put("list", ODD_LIST, false)?;
+    let unread = merge_shards(&mut store, alloc, &["a/verdict"], Some("none"), "m");
+    assert!(rt; tells(alloc, unread, "cannot read none")?);
+    let answer = merge_shards(&mut store, alloc, &["a/verdict"], Some("list"), "m");
+    assert!(rt; answer.is_ok());
     Ok(())
 }

@@ -1,6 +1,7 @@
 -- Texts of lines with keys in turn, line by line.
-use Rattle.std.proofs.Common.{Result, Err, ◌≤◌, ◌≡◌, ℕ, ◌+◌, ◌<◌, ◌%◌, ◌^◌, ◌++◌, List, [], ◌∷◌, length, get_or, set, refl, ap, sym, ◌∙◌, subst, inl, inr, arith, Option, None, Some, map, replicate}
-use Rattle.std.proofs.lemmas.Bool.{cases_eq}
+use Rattle.std.proofs.Common.{◌⊎◌, Result, Err, ◌≤◌, ◌≡◌, ℕ, ◌+◌, ◌<◌, ◌%◌, ◌^◌, ◌++◌, List, [], ◌∷◌, length, get_or, set, refl, ap, sym, ◌∙◌, subst, inl, inr, arith, Option, None, Some, map, replicate, take}
+use Rattle.std.proofs.lemmas.Bool.{cases_eq, cases_lt}
+use Rattle.std.proofs.lemmas.List.Sums.{sum_by_more, sum_by-take-le}
 use Rattle.std.proofs.lemmas.List.{append_assoc, append-nil, append_cancel_left, get_or-set_same, get_or-set_other, get_or_append_left, get_or_at, length-set, length-replicate, length_push, get_or-map}
 use Rattle.std.specs.Prelude.{IfErr}
 use Rattle.std.specs.List.{AllByRecursion}
@@ -20,7 +21,7 @@ use Rattle.mr_sequential.proofs.SourceLemmas.{flat_map-append}
 use Rattle.mr_shards.specs.Lines.{HasLine, groups_in, group_in}
 use Rattle.mr_shards.specs.Views.{BeginsWithLine, IsTold, group_of, values_of}
 use Rattle.mr_shards.specs.Cursors.{ReadsOn}
-use Rattle.mr_shards.specs.Refused.{AreRead, Blames, BlamesOnly, InTurn, IsBadLine, IsLineOf, IsReadOf, IsReadTo, IsRest, MayFollow, NoLineFollows, Overflows, TakesNot, last_key, last_of, text_at, total_of}
+use Rattle.mr_shards.specs.Refused.{AreRead, Blames, BlamesOnly, InTurn, IsBadLine, IsFarLine, IsFarPlace, IsLineOf, IsReadAt, IsReadOf, IsReadTo, IsRest, MayFollow, NoLineFollows, Overflows, TakesNot, files_in, last_key, last_of, text_at, total_of}
 use Rattle.mr_shards.proofs.LineLemmas.{IsCut, begun, cut-read, cut-text}
 use Rattle.mr_shards.proofs.ReadingLemmas.{lines-none}
 
@@ -160,57 +161,126 @@ pub text-at : (os : List Output) (i : ℕ) (d : Output) → i < length os → te
 text-at os i d h = get_or-map (λ (o : Output). o.text.now) os i d [] h
 
 pub read-push : (job : JobSpec) (cs : List Cursor) (os : List Output) (i : ℕ) (d : Output) (c : Cursor) → length cs ≡ i → i < length os → AreRead job cs os
-    → ((text : List ℕ) → IsReadTo job text None (get_or os i d).text.now 0 → IsReadOf job text c) → AreRead job (cs ++ c ∷ []) os
-read-push job cs os i d c same h read here j e l =
+    → ((text : List ℕ) → IsReadTo job text None (get_or os i d).text.now 0 → IsReadOf job text c) → c.before ≡ files_in (take i os) → AreRead job (cs ++ c ∷ []) os
+read-push job cs os i d c same h read here behind j e l =
     elim (cases_eq j i) [
       | inl at ↦
           (let one : get_or (cs ++ c ∷ []) j e ≡ c = get_or_at cs c [] e j (omega (arith, same, at)) in
           let t : List ℕ = (get_or os i d).text.now in
           let text : text_at os j ≡ t = ap (text_at os) at ∙ text-at os i d h in
-          subst (IsReadOf job (text_at os j)) (sym one) (here (text_at os j) (subst (λ (u : List ℕ). IsReadTo job u None t 0) (sym text) (read-none job t))))
+          let now : IsReadOf job (text_at os j) c = here (text_at os j) (subst (λ (u : List ℕ). IsReadTo job u None t 0) (sym text) (read-none job t)) in
+          subst (IsReadAt job os j) (sym one) (now, behind ∙ ap (λ k. files_in (take k os)) (sym at)))
       | inr other ↦
           (let low : j < length cs = omega (arith, l, length_push cs c, same, other) in
-          subst (IsReadOf job (text_at os j)) (sym (get_or_append_left cs (c ∷ []) e j low)) (read j e low))
+          subst (IsReadAt job os j) (sym (get_or_append_left cs (c ∷ []) e j low)) (read j e low))
     ]
 
 read-set : (job : JobSpec) (cs : List Cursor) (os : List Output) (at : ℕ) (one next : Cursor) → at < length cs → get_or cs at one ≡ one → AreRead job cs os
-    → ((text : List ℕ) → IsReadOf job text one → IsReadOf job text next) → AreRead job (set cs at next) os
-read-set job cs os at one next h is read here j d l =
+    → ((text : List ℕ) → IsReadOf job text one → IsReadOf job text next) → next.before ≡ one.before → AreRead job (set cs at next) os
+read-set job cs os at one next h is read here stays j d l =
     elim (cases_eq j at) [
       | inl same ↦
           (let now : get_or (set cs at next) j d ≡ next = ap (λ k. get_or (set cs at next) k d) same ∙ get_or-set_same cs at next d h in
-          let was : IsReadOf job (text_at os at) one = subst (IsReadOf job (text_at os at)) is (read at one h) in
-          subst (λ (c : Cursor). IsReadOf job (text_at os j) c) (sym now) (here (text_at os j) (subst (λ k. IsReadOf job (text_at os k) one) (sym same) was)))
+          let was : IsReadAt job os j one = subst (λ k. IsReadAt job os k one) (sym same) (subst (IsReadAt job os at) is (read at one h)) in
+          subst (IsReadAt job os j) (sym now) (here (text_at os j) was.0, stays ∙ was.1))
       | inr other ↦
           (let low : j < length cs = omega (arith, l, length-set cs at next) in
-          subst (IsReadOf job (text_at os j)) (sym (get_or-set_other cs at j next d other)) (read j d low))
+          subst (IsReadAt job os j) (sym (get_or-set_other cs at j next d other)) (read j d low))
     ]
 
 pub read-step : (job : JobSpec) (os : List Output) (at : ℕ) (old new : List Cursor) → at < length old → ReadsOn job at old new → AreRead job old os → AreRead job new os
-read-step job os at old new h r read = subst (λ (cs : List Cursor). AreRead job cs os) (sym r.set) (read-set job old os at r.one r.next h r.was read r.read)
+read-step job os at old new h r read = subst (λ (cs : List Cursor). AreRead job cs os) (sym r.set) (read-set job old os at r.one r.next h r.was read r.read r.before)
+
+-- ---- places that are too far
+
+-- a line that tells one, in front of the text
+pub far-line : (job : JobSpec) (text : List ℕ) (files : ℕ) (line : Line) (rest : List ℕ) → IsLineOf job (group_of line) → text ≡ group_text job (group_of line) ++ rest
+    → IsFarPlace files line.tally → IsFarLine job text files
+far-line job text files line rest l e far = by line.tally refl far
+  where
+    by : (t : Tally) → line.tally ≡ t → IsFarPlace files t → IsFarLine job text files
+    by (Total n) is past = absurd past
+    by (Place file offset) is past = record {
+      before = [];
+      line = group_of line;
+      rest = rest;
+      file = file;
+      offset = offset;
+      text_is = e;
+      lines = tt;
+      is_line = l;
+      place = ap values_of is;
+      far = past;
+    }
+
+lines-join : (job : JobSpec) (gs hs : List Group) → AllByRecursion (IsLineOf job) gs → AllByRecursion (IsLineOf job) hs → AllByRecursion (IsLineOf job) (gs ++ hs)
+lines-join job [] hs all more = more
+lines-join job (g ∷ gs) hs all more = (all.0, lines-join job gs hs all.1 more)
+
+-- and behind lines of the job
+far-behind : (job : JobSpec) (text rest : List ℕ) (files : ℕ) (gs : List Group) → text ≡ texts job gs ++ rest → AllByRecursion (IsLineOf job) gs → IsFarLine job rest files → IsFarLine job text files
+far-behind job text rest files gs e all f = record {
+  before = gs ++ f.before;
+  line = f.line;
+  rest = f.rest;
+  file = f.file;
+  offset = f.offset;
+  text_is = e ∙ ap (λ (t : List ℕ). texts job gs ++ t) f.text_is
+      ∙ sym (append_assoc (texts job gs) (texts job f.before) (group_text job f.line ++ f.rest))
+      ∙ ap (λ (t : List ℕ). t ++ (group_text job f.line ++ f.rest)) (sym (flat_map-append (group_text job) gs f.before));
+  lines = lines-join job gs f.before all f.lines;
+  is_line = f.is_line;
+  place = f.place;
+  far = f.far;
+}
+
+-- ---- blame
 
 -- who blames a line of what is left blames the output
-blames-all : (job : JobSpec) (at : ℕ) (os : List Output) (last : Option (List ℕ)) (text : List ℕ) (number : ℕ) (e : MergeFault) → IsReadTo job (text_at os at) last text number
-    → BlamesOnly job at last text number e → Blames job os e
-blames-all job at os last text number (BadLine shard line) read b =
+blames-all : (job : JobSpec) (at files : ℕ) (os : List Output) (last : Option (List ℕ)) (text : List ℕ) (number : ℕ) (e : MergeFault) → IsReadTo job (text_at os at) last text number
+    → files ≡ files_in (take at os) → BlamesOnly job at files last text number e → Blames job os e
+blames-all job at files os last text number (BadLine shard line) read behind b =
     let bad : IsBadLine job (text_at os at) number = record { last = last; rest = text; before = read; some = b.2; bad = b.3 } in
     let here : IsBadLine job (text_at os shard) line = subst (IsBadLine job (text_at os shard)) (sym b.1) (subst (λ k. IsBadLine job (text_at os k) number) (sym b.0) bad) in
     (here, bad-text job (text_at os shard) line here)
-blames-all job at os last text number TotalTooLarge read b = absurd b
-blames-all job at os last text number TooManyFiles read b = tt
-blames-all job at os last text number OutOfMemory read b = tt
+blames-all job at files os last text number TotalTooLarge read behind b = absurd b
+blames-all job at files os last text number TooManyFiles read behind b =
+    inr (at, subst (IsFarLine job (text_at os at)) behind (far-behind job (text_at os at) text files read.groups read.text_is read.lines b))
+blames-all job at files os last text number OutOfMemory read behind b = tt
 
-pub blames-opening : (job : JobSpec) (i : ℕ) (os : List Output) (d : Output) (e : MergeFault) → i < length os → BlamesOnly job i None (get_or os i d).text.now 0 e → Blames job os e
-blames-opening job i os d e h b =
-    blames-all job i os None (get_or os i d).text.now 0 e
-    (subst (λ (t : List ℕ). IsReadTo job t None (get_or os i d).text.now 0) (sym (text-at os i d h)) (read-none job (get_or os i d).text.now)) b
+pub blames-opening : (job : JobSpec) (i files : ℕ) (os : List Output) (d : Output) (e : MergeFault) → i < length os → files ≡ files_in (take i os)
+    → BlamesOnly job i files None (get_or os i d).text.now 0 e → Blames job os e
+blames-opening job i files os d e h behind b =
+    blames-all job i files os None (get_or os i d).text.now 0 e
+    (subst (λ (t : List ℕ). IsReadTo job t None (get_or os i d).text.now 0) (sym (text-at os i d h)) (read-none job (get_or os i d).text.now)) behind b
 
 pub blames-left : (job : JobSpec) (at : ℕ) (cs : List Cursor) (os : List Output) (one : Cursor) (e : MergeFault) → at < length cs → get_or cs at one ≡ one → AreRead job cs os
-    → BlamesOnly job at (last_key one.head) one.rest.now one.lines e → Blames job os e
+    → BlamesOnly job at one.before (last_key one.head) one.rest.now one.lines e → Blames job os e
 blames-left job at cs os one e h is read b =
-    blames-all job at os (last_key one.head) one.rest.now one.lines e (subst (IsReadOf job (text_at os at)) is (read at one h)) b
+    let here : IsReadAt job os at one = subst (IsReadAt job os at) is (read at one h) in
+    blames-all job at one.before os (last_key one.head) one.rest.now one.lines e here.0 here.1 b
+
+-- ---- how many files
+
+pub files-next : (os : List Output) (i : ℕ) (d : Output) (before files : ℕ) → i < length os → before ≡ files_in (take i os) → files ≡ before + (get_or os i d).files
+    → files ≡ files_in (take (i + 1) os)
+files-next os i d before files less behind sum = sum ∙ ap (λ k. k + (get_or os i d).files) behind ∙ sym (sum_by_more (λ (o : Output). o.files) os i d less)
+
+pub files-over : (os : List Output) (i : ℕ) (d : Output) (before : ℕ) → i < length os → before ≡ files_in (take i os) → (before + (get_or os i d).files < 2 ^ 32 → ⊥) → 2 ^ 32 ≤ files_in os
+files-over os i d before less behind over =
+    let next = files-next os i d before (before + (get_or os i d).files) less behind refl in
+    let all = sum_by-take-le (λ (o : Output). o.files) os (i + 1) in
+    by (cases_lt (before + (get_or os i d).files) (2 ^ 32)) next all
+  where
+    by : (before + (get_or os i d).files < 2 ^ 32) ⊎ (2 ^ 32 ≤ before + (get_or os i d).files) → before + (get_or os i d).files ≡ files_in (take (i + 1) os)
+        → files_in (take (i + 1) os) ≤ files_in os → 2 ^ 32 ≤ files_in os
+    by (inl small) next all = absurd (over small)
+    by (inr large) next all = omega (arith, large, next, all)
 
 -- the error that is handed on
+pub handed : {T : Type 0} (P : MergeFault → Type 0) (r : Result T MergeFault) (e : MergeFault) → (y : MergeFault) × (r ≡ Err y) × (y ≡ e) → P e → IfErr r P
+handed {T} P r e w b = subst (λ (q : Result T MergeFault). IfErr q P) (sym w.1) (subst P (sym w.2) b)
+
 pub blamed : {T : Type 0} (job : JobSpec) (os : List Output) (r : Result T MergeFault) (e : MergeFault) → (y : MergeFault) × (r ≡ Err y) × (y ≡ e) → Blames job os e → IfErr r (Blames job os)
 blamed {T} job os r e w b = subst (λ (q : Result T MergeFault). IfErr q (Blames job os)) (sym w.1) (subst (Blames job os) (sym w.2) b)
 
@@ -218,7 +288,7 @@ pub blames-taken : (job : JobSpec) (os : List Output) (waiting : Option Line) (l
     → (Overflows waiting line → (key : List ℕ) × (2 ^ 64 ≤ total_of job os key)) → Blames job os e
 blames-taken job os waiting line (BadLine shard at) b f = absurd b
 blames-taken job os waiting line TotalTooLarge b f = f b
-blames-taken job os waiting line TooManyFiles b f = tt
+blames-taken job os waiting line TooManyFiles b f = absurd b
 blames-taken job os waiting line OutOfMemory b f = tt
 
 -- the same from behind: a line of the job in front of such a text

@@ -74,9 +74,10 @@ pub record ReadsOn (job : JobSpec) (at : ℕ) (old new : List Cursor) : Type 0 w
   pub order : IfSome next.head (λ l. DoesNotFall one.head l)
   pub behind : IsRestOf job next → IsRestOf job one
   pub read : (text : List ℕ) → IsReadOf job text one → IsReadOf job text next
+  pub before : next.before ≡ one.before
 
 -- a line of the cursor's shard is blamed, or none
 pub record BlamesAt (job : JobSpec) (at : ℕ) (cs : List Cursor) (e : MergeFault) : Type 0 where
   pub one : Cursor
   pub is : slice_index_or cs at one ≡ one
-  pub blames : BlamesOnly job at (last_key one.head) one.rest.now one.lines e
+  pub blames : BlamesOnly job at one.before (last_key one.head) one.rest.now one.lines e

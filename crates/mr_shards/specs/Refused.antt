@@ -1,9 +1,10 @@
 -- What outputs are taken, and what a refused one is not.
-use Rattle.std.specs.Prelude.{◌≡◌, ℕ, ◌+◌, ◌<◌, ◌≤◌, ◌^◌, ◌%◌, if◌then◌else◌, true, List, [], ◌∷◌, ◌++◌, Option, None, Some, length, map, slice_index_or}
+use Rattle.std.specs.Prelude.{◌≡◌, ℕ, ◌+◌, ◌<◌, ◌≤◌, ◌^◌, ◌%◌, if◌then◌else◌, true, List, [], ◌∷◌, ◌++◌, Option, None, Some, length, map, slice_index_or, sum_by, take, ◌⊎◌}
 use Rattle.std.specs.Str.{bytes_eq}
 use Rattle.std.specs.List.{AllByRecursion}
 use Rattle.std.specs.declared.cmp.Ordering.TheVariants.{Less, Equal}
 use Rattle.mr_bytes.specs.Order.{key_order}
+use Rattle.mr_bytes.specs.declared.Value.TheVariants.{At}
 use Rattle.mr_jobs.specs.JobSpec.{JobSpec, counts}
 use Rattle.mr_bytes.specs.Cut.{Lacks}
 use Rattle.mr_shards.specs.declared.cursor.Cursor.{Cursor}
@@ -11,6 +12,7 @@ use Rattle.mr_shards.specs.declared.fault.MergeFault.{MergeFault}
 use Rattle.mr_shards.specs.declared.fault.MergeFault.TheVariants.{BadLine, TotalTooLarge, TooManyFiles, OutOfMemory}
 use Rattle.mr_shards.specs.declared.line.Line.{Line}
 use Rattle.mr_shards.specs.declared.line.Tally.{Tally}
+use Rattle.mr_shards.specs.declared.line.Tally.TheVariants.{Total, Place}
 use Rattle.mr_shards.specs.declared.merge.Output.{Output}
 use Rattle.mr_shards.specs.Merged.{Group, group_text, texts}
 use Rattle.mr_shards.specs.Lines.{groups_in}
@@ -91,12 +93,27 @@ values_among key (gs ∷ gss) = values_with key gs + values_among key gss
 abbrev pub total_of : JobSpec → List Output → List ℕ → ℕ
 total_of job os key = values_among key (map (λ (o : Output). groups_in job o.text.now) os)
 
--- no line is blamed, and no total
-abbrev pub IsBlameless : MergeFault → Type 0
-IsBlameless (BadLine shard line) = ⊥
-IsBlameless TotalTooLarge = ⊥
-IsBlameless TooManyFiles = Unit {0}
-IsBlameless OutOfMemory = Unit {0}
+-- how many files the outputs are of
+abbrev pub files_in : List Output → ℕ
+files_in os = sum_by (λ (o : Output). o.files) os
+
+-- behind so many files, the number of that file doesn't fit in 32 bits
+abbrev pub IsFarPlace : ℕ → Tally → Type 0
+IsFarPlace files (Total n) = ⊥
+IsFarPlace files (Place file offset) = 2 ^ 32 ≤ files + file
+
+-- behind lines of the job stands one that tells such a place
+pub record IsFarLine (job : JobSpec) (text : List ℕ) (files : ℕ) : Type 0 where
+  pub before : List Group
+  pub line : Group
+  pub rest : List ℕ
+  pub file : ℕ
+  pub offset : ℕ
+  pub text_is : text ≡ texts job before ++ (group_text job line ++ rest)
+  pub lines : AllByRecursion (IsLineOf job) before
+  pub is_line : IsLineOf job line
+  pub place : line.values ≡ At file offset ∷ []
+  pub far : 2 ^ 32 ≤ files + file
 
 -- two totals of one key, which together don't fit
 abbrev pub Overflows : Option Line → Line → Type 0
@@ -107,28 +124,38 @@ Overflows (Some w) line = (w.key.now ≡ line.key.now) × (2 ^ 64 ≤ length (va
 abbrev pub TakesNot : Option Line → Line → MergeFault → Type 0
 TakesNot waiting line (BadLine shard at) = ⊥
 TakesNot waiting line TotalTooLarge = Overflows waiting line
-TakesNot waiting line TooManyFiles = Unit {0}
+TakesNot waiting line TooManyFiles = ⊥
 TakesNot waiting line OutOfMemory = Unit {0}
 
--- a line is blamed only in that shard, by its number there, and only where what is left begins with no line that may follow
-abbrev pub BlamesOnly : JobSpec → ℕ → Option (List ℕ) → List ℕ → ℕ → MergeFault → Type 0
-BlamesOnly job at last text number (BadLine shard line) = (shard ≡ at) × (line ≡ number) × (text ≡ [] → ⊥) × NoLineFollows job last text
-BlamesOnly job at last text number TotalTooLarge = ⊥
-BlamesOnly job at last text number TooManyFiles = Unit {0}
-BlamesOnly job at last text number OutOfMemory = Unit {0}
+-- a line is blamed only in that shard, by its number there, and only where what is left begins with no line that may follow;
+-- and a place only where a line that is left tells it, behind so many files
+abbrev pub BlamesOnly : JobSpec → ℕ → ℕ → Option (List ℕ) → List ℕ → ℕ → MergeFault → Type 0
+BlamesOnly job at files last text number (BadLine shard line) = (shard ≡ at) × (line ≡ number) × (text ≡ [] → ⊥) × NoLineFollows job last text
+BlamesOnly job at files last text number TotalTooLarge = ⊥
+BlamesOnly job at files last text number TooManyFiles = IsFarLine job text files
+BlamesOnly job at files last text number OutOfMemory = Unit {0}
 
 -- the bytes of an output by its number
 abbrev pub text_at : List Output → ℕ → List ℕ
 text_at os i = slice_index_or (map (λ (o : Output). o.text.now) os) i []
 
+-- a line of some output tells a place in a file whose number, behind the files of the outputs before, doesn't fit in 32 bits
+abbrev pub HasFarLine : JobSpec → List Output → Type 0
+HasFarLine job os = (shard : ℕ) × IsFarLine job (text_at os shard) (files_in (take shard os))
+
 -- a line is blamed only where it is the first of that shard's output that doesn't stand, so that the output isn't lines of
--- the job with keys in turn; and a total only where the outputs tell 2^64 values or more of some key
+-- the job with keys in turn; a total only where the outputs tell 2^64 values or more of some key; and the number of files
+-- only where 32 bits don't hold that of all files, or that of a file which a line tells
 abbrev pub Blames : JobSpec → List Output → MergeFault → Type 0
 Blames job os (BadLine shard line) = IsBadLine job (text_at os shard) line × (IsRest job None (text_at os shard) → ⊥)
 Blames job os TotalTooLarge = (key : List ℕ) × (2 ^ 64 ≤ total_of job os key)
-Blames job os TooManyFiles = Unit {0}
+Blames job os TooManyFiles = (2 ^ 32 ≤ files_in os) ⊎ HasFarLine job os
 Blames job os OutOfMemory = Unit {0}
 
--- what was read of each output
+-- what was read of that output, behind the files of those before it
+abbrev pub IsReadAt : JobSpec → List Output → ℕ → Cursor → Type 0
+IsReadAt job os i c = IsReadOf job (text_at os i) c × (c.before ≡ files_in (take i os))
+
+-- and of each
 abbrev pub AreRead : JobSpec → List Cursor → List Output → Type 0
-AreRead job cs os = (i : ℕ) (d : Cursor) → i < length cs → IsReadOf job (text_at os i) (slice_index_or cs i d)
+AreRead job cs os = (i : ℕ) (d : Cursor) → i < length cs → IsReadAt job os i (slice_index_or cs i d)

@@ -5,7 +5,7 @@ ghost use Rattle.mr_bytes.specs.Cut.{Lacks};
 ghost use Rattle.mr_shards.specs.Lines.{groups_in};
 ghost use Rattle.mr_shards.specs.Merged.{group_text, moved_group, moved_value};
 ghost use Rattle.mr_shards.specs.declared.line.Tally.{Tally};
-ghost use Rattle.mr_shards.specs.Refused.{IsBlameless, IsLineOf, Overflows};
+ghost use Rattle.mr_shards.specs.Refused.{IsFarPlace, IsLineOf, Overflows};
 ghost use Rattle.mr_shards.specs.Views.{BeginsWithLine, Combines, IsFor, IsSameKind, IsTold, group_of, values_of};
 
 use crate::fault::MergeFault;
@@ -130,7 +130,7 @@ pub(crate) fn first_line<'a>(job: &Job, text: &'a [u8]) -> Option<(Line<'a>, &'a
 fn moved_tally(tally: Tally, files: u32) -> Result<Tally, MergeFault>
     ensures values { IfOk result (λ t. values_of t ≡ map (moved_value files) (values_of tally)) }
     ensures kind { IfOk result (λ t. IsSameKind tally t) }
-    ensures err { IfErr result IsBlameless }
+    ensures err { IfErr result (λ e. (e ≡ MergeFault.TooManyFiles) × IsFarPlace files tally) }
 {
     match tally {
         Tally::Total(total) => Ok(Tally::Total(total)),
@@ -145,7 +145,7 @@ fn moved_tally(tally: Tally, files: u32) -> Result<Tally, MergeFault>
 pub(crate) fn moved<'a>(line: Line<'a>, files: u32) -> Result<Line<'a>, MergeFault>
     ensures group { IfOk result (λ l. group_of l ≡ moved_group files (group_of line.entry)) }
     ensures kind { IfOk result (λ l. IsSameKind line.entry.tally l.tally) }
-    ensures err { IfErr result IsBlameless }
+    ensures err { IfErr result (λ e. (e ≡ MergeFault.TooManyFiles) × IsFarPlace files line.entry.tally) }
 {
     Ok(Line {
         key: line.key,

@@ -3,7 +3,7 @@ ghost use Rattle.std.specs.Prelude.{IfErr, ◌≡◌, ℕ, ◌<◌, ◌++◌, []
 ghost use Rattle.std.specs.List.{AllByRecursion};
 ghost use Rattle.mr_shards.specs.Cursors.{BlamesAt, Goes, IsHeadFor, ReadsOn, left, with_waiting};
 ghost use Rattle.mr_shards.specs.Merged.{merged_parts, texts};
-ghost use Rattle.mr_shards.specs.Refused.{AreRead, Blames, IsBlameless, IsRest, TakesNot};
+ghost use Rattle.mr_shards.specs.Refused.{AreRead, Blames, IsRest, TakesNot};
 ghost use Rattle.mr_shards.specs.Outputs.{AreOpened, IsOutputOfAll, moved_parts, parts_in};
 
 use crate::cursor::{Cursor, advanced, first_least};
@@ -22,7 +22,7 @@ pub struct Output<'a> {
 /// Keeps a cursor behind the others.
 fn keep<'a>(cursors: &mut Vec<Cursor<'a>>, cursor: Cursor<'a>) -> Result<(), MergeFault>
     ensures ok { OnOk result (cursors.new.items ≡ cursors.old.items ++ cursor.entry ∷ []) }
-    ensures err { IfErr result IsBlameless }
+    ensures err { IfErr result (λ e. e ≡ MergeFault.OutOfMemory) }
 {
     cursors.push(cursor).map_err(AllocError::from)?;
     Ok(())

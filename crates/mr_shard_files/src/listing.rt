@@ -1,0 +1,145 @@
+//! The inputs of a merge, held against the list that a user means.
+ghost use Rattle.std.specs.Prelude.{◌≡◌, ◌==◌, [], ◌∷◌, ◌++◌, ◌⊎◌, IfErr, IfOk, MatchOption, OnOk, count_by, option_map};
+ghost use Rattle.hex.specs.Hex.{encode_lower};
+ghost use Rattle.mr_shard_files.specs.Faults.{IsListFault, IsListUnread, IsOtherList};
+ghost use Rattle.mr_shard_files.specs.Listing.{DifferIn, IsListed, escaped as escaped_name, escaped_byte, listed_line, listing, mark_of};
+
+use crate::fault::ShardFault;
+use crate::gathering::MAX_TEXT_BYTES;
+use hex::encode_to_slice;
+use mr_files::{Store, WithinFault, read_file_within};
+use mr_lanes::first_difference;
+use mr_verdict::FileNote;
+use std::alloc::{AllocError, Global};
+
+/// Appends a byte of a name.
+fn put_byte(byte: u8, out: &mut Vec<u8>) -> Result<(), AllocError>
+    ensures { OnOk result (out.new.items ≡ out.old.items ++ escaped_byte byte) }
+{
+    match byte {
+        b'\\' => out.extend_from_slice(b"\\\\"),
+        b'\n' => out.extend_from_slice(b"\\n"),
+        b'\r' => out.extend_from_slice(b"\\r"),
+        _ => out.extend_from_slice(&[byte]),
+    }
+}
+
+/// A name as a line of the list has it.
+fn escaped(alloc: Global, name: &[u8]) -> Result<Vec<u8>, AllocError>
+    ensures { IfOk result (λ text. text.items ≡ escaped_name name.now) }
+{
+    let mut text = Vec::new(alloc);
+    for byte in name {
+        put_byte(*byte, &mut text)?;
+    }
+    Ok(text)
+}
+
+/// Appends the mark of a line whose name is written otherwise than it is.
+fn put_mark(name: &[u8], written: &[u8], out: &mut Vec<u8>) -> Result<(), AllocError>
+    requires { written.now ≡ escaped_name name.now }
+    ensures { OnOk result (out.new.items ≡ out.old.items ++ mark_of name.now) }
+{
+    if written == name {
+        Ok(())
+    } else {
+        out.extend_from_slice(b"\\")
+    }
+}
+
+/// Appends a digest as hexadecimal digits, and two spaces.
+fn put_digest(digest: &[u8; 32], out: &mut Vec<u8>) -> Result<(), AllocError>
+    ensures { OnOk result (out.new.items ≡ out.old.items ++ encode_lower digest.now ++ 32 ∷ 32 ∷ []) }
+{
+    let mut text = [0u8; 64];
+    let _ = encode_to_slice(digest.as_slice(), &mut text);
+    out.extend_from_slice(&text)?;
+    out.extend_from_slice(b"  ")?;
+    Ok(())
+}
+
+/// Appends the line of an input.
+fn put_line(alloc: Global, note: &FileNote, out: &mut Vec<u8>) -> Result<(), AllocError>
+    ensures { OnOk result (out.new.items ≡ out.old.items ++ listed_line note.now) }
+{
+    let name = escaped(alloc, note.name.as_slice())?;
+    put_mark(note.name.as_slice(), name.as_slice(), out)?;
+    put_digest(&note.digest, out)?;
+    out.extend_from_slice(name.as_slice())?;
+    out.push(b'\n')?;
+    Ok(())
+}
+
+/// The text of the list of these inputs.
+fn list_of(alloc: Global, inputs: &[FileNote]) -> Result<Vec<u8>, AllocError>
+    ensures { IfOk result (λ text. text.items ≡ listing inputs.now) }
+{
+    let mut text = Vec::new(alloc);
+    for note in inputs {
+        put_line(alloc, note, &mut text)?;
+    }
+    Ok(text)
+}
+
+/// How many line feeds the bytes hold.
+fn line_feeds(bytes: &[u8]) -> u64
+    ensures { result ≡ count_by (λ b. b == 10) bytes.now }
+{
+    bytes.iter().filter(|byte| **byte == b'\n').count() as u64
+}
+
+/// The line, from 0, in which two texts differ first; none where they are one.
+fn first_other_line(given: &[u8], told: &[u8]) -> Option<u64>
+    ensures { MatchOption result (given.now ≡ told.now) (DifferIn given.now told.now) }
+{
+    match first_difference(given, told) {
+        Some(at) => Some(line_feeds(&given[..at])),
+        None => None,
+    }
+}
+
+/// The text that stands under the name of the list.
+fn list_text<S: Store>(store: &S, alloc: Global, name: &str) -> Result<Vec<u8>, ShardFault>
+    ensures ok { IfOk result (λ text. S.holds store.now name.now text.items) }
+    ensures err { IfErr result (IsListUnread (S.holds store.now) (S.unreadable store.now) name.now) }
+{
+    match read_file_within(store, alloc, name, MAX_TEXT_BYTES) {
+        Ok(text) => Ok(text),
+        Err(WithinFault::TooLong) => Err(ShardFault::LongList),
+        Err(WithinFault::File(fault)) => Err(ShardFault::from(fault)),
+    }
+}
+
+/// The list that stands under the name is that of these inputs.
+fn expect_list<S: Store>(
+    store: &S,
+    alloc: Global,
+    name: &str,
+    inputs: &[FileNote],
+) -> Result<(), ShardFault>
+    ensures ok { OnOk result (S.holds store.now name.now (listing inputs.now)) }
+    ensures err { IfErr result (λ e. IsListUnread (S.holds store.now) (S.unreadable store.now) name.now e ⊎ IsOtherList (S.holds store.now) name.now inputs.now e) }
+{
+    let given = list_text(store, alloc, name)?;
+    let told = list_of(alloc, inputs)?;
+    match first_other_line(given.as_slice(), told.as_slice()) {
+        None => Ok(()),
+        Some(line) => Err(ShardFault::OtherInputs { line }),
+    }
+}
+
+/// Where a list is named, it is that of these inputs.
+pub(crate) fn expect_listed<S: Store>(
+    store: &S,
+    alloc: Global,
+    list: Option<&str>,
+    inputs: &[FileNote],
+) -> Result<(), ShardFault>
+    ensures ok { OnOk result (IsListed (S.holds store.now) (option_map (λ n. n.now) list.entry) inputs.now) }
+    ensures err { IfErr result (IsListFault (S.holds store.now) (S.unreadable store.now) (option_map (λ n. n.now) list.entry) inputs.now) }
+{
+    match list {
+        Some(name) => expect_list(store, alloc, name, inputs),
+        None => Ok(()),
+    }
+}
