@@ -6,6 +6,8 @@ mod bytes;
 #[cfg(test)]
 mod input;
 #[cfg(test)]
+mod keys;
+#[cfg(test)]
 mod partition;
 #[cfg(test)]
 mod records;

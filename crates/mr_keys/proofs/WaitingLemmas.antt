@@ -12,7 +12,8 @@ use Rattle.mr_keys.specs.Waiting.{AreNumbered}
 use Rattle.mr_keys.proofs.KeyLemmas.{Grew, grew-stay, grew-count, grew-last}
 
 -- the same numbers stand for the same keys where those stay
-pub keys-stay : (ks ls : List (List ℕ)) (n : ℕ) (is : List ℕ) → All (λ i. i < n) is → ((j : ℕ) → j < n → key_at ls j ≡ key_at ks j) → map (key_at ls) is ≡ map (key_at ks) is
+pub keys-stay : (ks ls : List (List ℕ)) (n : ℕ) (is : List ℕ) → All (λ i. i < n) is → ((j : ℕ) → j < n → key_at ls j ≡ key_at ks j)
+    → map (key_at ls) is ≡ map (key_at ks) is
 keys-stay ks ls n [] all same = refl
 keys-stay ks ls n (i ∷ is) all same =
     ap (λ (k : List ℕ). k ∷ map (key_at ls) is) (same i (All-head (λ j. j < n) i is all))

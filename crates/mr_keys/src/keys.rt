@@ -32,9 +32,9 @@ impl Model for Keys {
 /// How many slots there are at least: a block of keys takes at most half of them.
 const LEAST_SLOTS: usize = 2 * BLOCK;
 
-/// A table of fewer slots is looked up one key after another: it fits so near the processor that to look ahead costs more
-/// than it gains.
-const SEVERAL_SLOTS: usize = 1 << 14;
+/// In a table of fewer slots keys are looked up one after another: what is looked for often stands near the processor,
+/// and to look ahead costs more than it gains.
+const SEVERAL_SLOTS: usize = 1 << 18;
 
 /// A table of so many slots or more doesn't fit near the processor: to fill it anew is dear.
 const MANY_SLOTS: usize = 1 << 20;
@@ -86,8 +86,8 @@ impl Keys {
         self.number_from(hash_of(front, key), front, key)
     }
 
-    /// Gives the waiting keys their numbers, in their order, each as `number_of` does; where that fails, for want of memory
-    /// alone, those that got none still wait. The slots where the table begins to look are read side by side.
+    /// Gives the waiting keys their numbers, in their order, each as `number_of` does; where that fails, for want of
+    /// memory alone, those that got none still wait. The slots where the table begins to look are read side by side.
     pub fn number_all(
         &mut self,
         alloc: Global,
@@ -114,8 +114,8 @@ impl Keys {
         Ok(())
     }
 
-    /// One more key behind those that wait: it waits too, or has got its number with all of them. A small table stands near
-    /// the processor, so nothing waits for that. Where it fails, for want of memory alone, the key doesn't wait.
+    /// One more key behind those that wait: it waits too, or, where none waits and the table is small, gets its number at
+    /// once. Those before it may get theirs. Where that fails, for want of memory alone, the key doesn't wait.
     #[inline(always)]
     pub fn enter(
         &mut self,

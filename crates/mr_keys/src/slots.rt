@@ -158,8 +158,8 @@ fn step_past(slots: &[Slot], hashes: &mut [u64; BLOCK]) {
     }
 }
 
-/// Steps past the first slot of each hash where that is taken by a key with another front, and so reads these slots side by
-/// side, as `step_past` does.
+/// Steps past the first slot of each hash where that is taken by a key with another front, and so reads these slots side
+/// by side, as `step_past` does.
 pub(crate) fn step_past_others(slots: &[Slot], fronts: &[Front; BLOCK], hashes: &mut [u64; BLOCK]) {
     let mask = slots.len().wrapping_sub(1);
     for lane in 0..BLOCK {

@@ -24,7 +24,8 @@ length-beside [] (v ∷ vs) same = absurd (omega (arith, same))
 length-beside (k ∷ ks) [] same = absurd (omega (arith, same))
 length-beside (k ∷ ks) (v ∷ vs) same = ap suc (length-beside ks vs (omega (arith, same)))
 
-beside-push : (ks : List (List ℕ)) (vs : List Value) (k : List ℕ) (v : Value) → length vs ≡ length ks → zip (ks ++ k ∷ []) (vs ++ v ∷ []) ≡ zip ks vs ++ (k, v) ∷ []
+beside-push : (ks : List (List ℕ)) (vs : List Value) (k : List ℕ) (v : Value) → length vs ≡ length ks
+    → zip (ks ++ k ∷ []) (vs ++ v ∷ []) ≡ zip ks vs ++ (k, v) ∷ []
 beside-push [] [] k v same = refl
 beside-push [] (w ∷ vs) k v same = absurd (omega (arith, same))
 beside-push (j ∷ ks) [] k v same = absurd (omega (arith, same))
@@ -33,7 +34,8 @@ beside-push (j ∷ ks) (w ∷ vs) k v same = ap (λ l. (j, w) ∷ l) (beside-pus
 count-named : (ks : List (List ℕ)) (is : List ℕ) (ws : List (List ℕ)) → length (map (key_at ks) is ++ ws) ≡ length is + length ws
 count-named ks is ws = length-append (map (key_at ks) is) ws ∙ ap (λ n. n + length ws) (length-map is (key_at ks))
 
-pub length-waited : (ks : List (List ℕ)) (is : List ℕ) (ws : List (List ℕ)) (vs : List Value) → length vs ≡ length is + length ws → length (waited ks is ws vs) ≡ length vs
+pub length-waited : (ks : List (List ℕ)) (is : List ℕ) (ws : List (List ℕ)) (vs : List Value) → length vs ≡ length is + length ws
+    → length (waited ks is ws vs) ≡ length vs
 length-waited ks is ws vs same = length-beside (map (key_at ks) is ++ ws) vs (same ∙ sym (count-named ks is ws))
 
 pub waited-push : (ks : List (List ℕ)) (is : List ℕ) (ws : List (List ℕ)) (vs : List Value) (key : List ℕ) (v : Value) → length vs ≡ length is + length ws
@@ -64,11 +66,13 @@ named-still ks ls is ms ws us all n =
     ∙ ap (λ (l : List (List ℕ)). map (key_at ls) is ++ l) n.in_order
     ∙ ap (λ (l : List (List ℕ)). l ++ ws) (keys-stay ks ls (length ks) is all stay)
 
-pub waited-still : (ks ls : List (List ℕ)) (is ms : List ℕ) (ws us : List (List ℕ)) (vs : List Value) → All (λ i. i < length ks) is → AreNumbered ks ls is ms ws us
+pub waited-still : (ks ls : List (List ℕ)) (is ms : List ℕ) (ws us : List (List ℕ)) (vs : List Value) → All (λ i. i < length ks) is
+    → AreNumbered ks ls is ms ws us
     → waited ls ms us vs ≡ waited ks is ws vs
 waited-still ks ls is ms ws us vs all n = ap (λ (l : List (List ℕ)). zip l vs) (named-still ks ls is ms ws us all n)
 
-pub inside-still : (ks ls : List (List ℕ)) (is ms : List ℕ) (ws us : List (List ℕ)) → All (λ i. i < length ks) is → AreNumbered ks ls is ms ws us → All (λ i. i < length ls) ms
+pub inside-still : (ks ls : List (List ℕ)) (is ms : List ℕ) (ws us : List (List ℕ)) → All (λ i. i < length ks) is → AreNumbered ks ls is ms ws us
+    → All (λ i. i < length ls) ms
 inside-still ks ls is ms ws us all n =
     let more : length ks ≤ length ls = omega (arith, ap length n.keys_stay, length-append ks n.more) in
     let old : All (λ i. i < length ls) is = λ k d h. omega (arith, all k d h, more) in
@@ -87,7 +91,8 @@ pub few-still : (ks ls : List (List ℕ)) (is ms : List ℕ) (ws us : List (List
 few-still ks ls is ms ws us few n =
     omega (arith, few, n.few, ap length n.keys_stay, length-append ks n.more, ap length n.numbers_stay, length-append is n.given)
 
-pub count-still : (ks ls : List (List ℕ)) (is ms : List ℕ) (ws us : List (List ℕ)) → AreNumbered ks ls is ms ws us → length ms + length us ≡ length is + length ws
+pub count-still : (ks ls : List (List ℕ)) (is ms : List ℕ) (ws us : List (List ℕ)) → AreNumbered ks ls is ms ws us
+    → length ms + length us ≡ length is + length ws
 count-still ks ls is ms ws us n =
     omega (
       arith,

@@ -101,9 +101,9 @@ returns g c =
     let g : NamedRecord → List Name = record_names c.args.job.now in
     let rs : List NamedRecord = records_of c.args.plan.now in
     let skips = c.args.skips.now in
+    let l = c.loop-name in
     record {
-      pairs = c.in_ok-finish.ensures
-          ∙ all_pairs c.args.job.now skips rs c.loop-name.left c.loop-name.emitting.pairs c.in_default.ensures.next c.loop-name.invariant.pairs;
-      names = last_gathered g c.loop-name.emitting.names (flat_map g (kept_records skips rs)) c.loop-name.left c.in_default.ensures.next c.loop-name.invariant.names
+      pairs = c.in_ok-finish.ensures ∙ all_pairs c.args.job.now skips rs l.left l.emitting.pairs c.in_default.ensures.next l.invariant.pairs;
+      names = last_gathered g l.emitting.names (flat_map g (kept_records skips rs)) l.left c.in_default.ensures.next l.invariant.names
           ∙ kept-names c.args.job.now skips rs;
     }

@@ -6,10 +6,8 @@ use Rattle.mr_sequential.proofs.gathering.Gathering.finish.Goals as goal
 pub number_all-requires : goal.number_all-requires
 number_all-requires c =
     let g = c.self.inside in
-    record {
-      few =
-          omega (arith, length-waited g.keys g.numbers.items g.waiting g.values c.self.invariant.same, ap length c.self.view_is, c.requires, c.self.invariant.few, c.self.invariant.same);
-    }
+    let all = length-waited g.keys g.numbers.items g.waiting g.values c.self.invariant.same in
+    record { few = omega (arith, all, ap length c.self.view_is, c.requires, c.self.invariant.few, c.self.invariant.same) }
 
 pub invariant_of-result : goal.invariant_of-result
 invariant_of-result c =

@@ -7,8 +7,8 @@ use Rattle.mr_sequential.proofs.GatheredLemmas.{count-still, few-still, inside-s
 use Rattle.mr_sequential.proofs.gathering.Gathering.push.Goals as goal
 
 -- how many pairs there are
-seen : (ks : List (List ℕ)) (is : List ℕ) (ws : List (List ℕ)) (vs : List Value) (es : List Emission) → waited ks is ws vs ≡ es → length vs ≡ length is + length ws
-    → length es ≡ length is + length ws
+seen : (ks : List (List ℕ)) (is : List ℕ) (ws : List (List ℕ)) (vs : List Value) (es : List Emission)
+    → waited ks is ws vs ≡ es → length vs ≡ length is + length ws → length es ≡ length is + length ws
 seen ks is ws vs es view even = ap length (sym view) ∙ length-waited ks is ws vs even ∙ even
 
 pub push-requires : goal.push-requires
