@@ -42,6 +42,7 @@ def each_runs(harness):
     for name in folders():
         where = harness.directory()
         os.symlink(harness.program, os.path.join(where, "mapred"))
+        os.symlink(os.path.join(TOP, "engines"), os.path.join(where, "engines"))
         text = open(os.path.join(FOLDER, name, "run.sh"), encoding="utf-8").read()
         for command, wanted in steps(text):
             ran = subprocess.run(["bash", "-c", command], cwd=where, stdout=subprocess.PIPE, stderr=subprocess.STDOUT)

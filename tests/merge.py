@@ -1,0 +1,312 @@
+"""Shards that were judged apart, merged: parts byte for byte those of one execution over all files, whose verdict names all
+inputs; each refusal with its text, and what it leaves; merges of merges; and the runner of engines/."""
+import hashlib
+import os
+import shutil
+import subprocess
+import sys
+
+from harness import TOP, parts_of, seeded
+from plain import Request, named_records, produced
+from producer import options_of, random_job
+from verdicts import contents, verdict_text
+
+ONE = {"a": b"The cat saw the dog.\nThe dog saw nothing.\n"}
+TWO = {"b": b"a cat\n\nthe end\n"}
+WORDS = Request("words", 2, 16)
+
+
+def cuts(rnd, count):
+    """A list of so many files, cut into 1 to 5 shards in order, some of them perhaps without a file."""
+    places = sorted(rnd.randint(0, count) for _ in range(rnd.randint(0, 4)))
+    return list(zip([0, *places], [*places, count]))
+
+
+def shards_of(request, files, skips, ranges):
+    """For each shard its names, its files and its left-out records, by the splits that it has."""
+    out = []
+    for low, high in ranges:
+        first = sum((len(data) + request.split - 1) // request.split for data in files[:low])
+        known = {name for name, *_ in named_records(files[low:high], request.split)}
+        left = [(s - first, r) for s, r in skips if (s - first, r) in known]
+        out.append(([f"f{i}" for i in range(low, high)], files[low:high], left))
+    return out
+
+
+def write_shard(harness, request, names, files, skips):
+    """A shard as the rules make it: its parts, and the verdict on them. The directory."""
+    outputs, _, pairs = produced(request, files, skips)
+    text = verdict_text(request, zip(names, files), outputs, skips, pairs)
+    return harness.directory({**{f"part-{p:05}": data for p, data in enumerate(outputs)}, "verdict": text})
+
+
+def run_shard(harness, request, names, files, skips):
+    """The same by the program: executed, and judged."""
+    given = dict(zip(names, files))
+    executed = harness.run([*options_of(request, "seq", skips), "--out", ".", *names], given)
+    judged = harness.run([*options_of(request, "check"), "--out", ".", "--verdict", "verdict", *names], cwd=executed[3])
+    harness.check(f"shard {names} of {request}", (executed[0], judged[0]) == (0, 0), repr((executed[:3], judged[:3])))
+    return executed[3]
+
+
+def merged(harness, where, shards, more=()):
+    """One merge of the shards in these directories."""
+    return harness.run(["merge", "--out", ".", *more, *(os.path.join(shard, "verdict") for shard in shards)], cwd=where)[:3]
+
+
+def said(outputs, pairs, skips):
+    return f"merged: {len(outputs)} files, {pairs} pairs, {len(skips)} left out\n".encode()
+
+
+def result(outputs, verdict):
+    """The files of a merged result."""
+    return {**{f"part-{p:05}": data for p, data in enumerate(outputs)}, "verdict": verdict}
+
+
+def random_jobs(harness):
+    """Random jobs, cut into 1 to 5 shards: what is merged is what one execution over all files gives."""
+    rnd = seeded("merge")
+    seen = set()
+    for turn in range(500):
+        request, files, skips = random_job(rnd)
+        request.split = rnd.choice([3, 16, 100, 67108864])
+        names = [name for name, *_ in named_records(files, request.split)]
+        skips = sorted(rnd.sample(names, min(len(names), rnd.choice([0, 0, 1, 4]))))
+        request.most = len(skips)
+        ranges = cuts(rnd, len(files))
+        make = run_shard if turn % 5 == 0 else write_shard
+        shards = [make(harness, request, *shard) for shard in shards_of(request, files, skips, ranges)]
+        outputs, _, pairs = produced(request, files, skips)
+        verdict = verdict_text(request, [(f"f{i}", data) for i, data in enumerate(files)], outputs, skips, pairs)
+        where = harness.directory()
+        got = merged(harness, where, shards)
+        harness.check(f"{turn} {request} in {len(shards)}", got == (0, said(outputs, pairs, skips), b""), repr(got))
+        harness.check(f"{turn} {request} in {len(shards)}, files", contents(where) == result(outputs, verdict), repr((contents(where), outputs)))
+        seen.add((request.job, len(shards)))
+    harness.check("each job was cut into 1 to 5 shards", seen == {(job, n) for job in ("words", "grep", "url") for n in range(1, 6)}, repr(sorted(seen)))
+
+
+def by_seq(harness):
+    """The same against the program's own execution over all files, which is judged; and a merge of merges."""
+    rnd = seeded("merge by seq")
+    for turn in range(20):
+        request, files, _ = random_job(rnd)
+        files = (files + [b"the a 42\n", b"", b"a -"])[:4]
+        request.most = 0
+        names = [f"f{i}" for i in range(len(files))]
+        whole = run_shard(harness, request, names, files, [])
+        one, two, three = (run_shard(harness, request, *shard) for shard in shards_of(request, files, [], [(0, 1), (1, 3), (3, 4)]))
+        flat, pair, nested = (harness.directory() for _ in range(3))
+        got = [merged(harness, flat, [one, two, three]), merged(harness, pair, [one, two]), merged(harness, nested, [pair, three])]
+        harness.check(f"{turn} {request}", [g[0] for g in got] == [0, 0, 0] and parts_of(flat) == parts_of(whole), repr(got))
+        harness.check(f"{turn} {request}, its verdict is that of the whole", contents(flat)["verdict"] == contents(whole)["verdict"])
+        harness.check(f"{turn} {request}, merges merge", contents(nested) == contents(flat))
+
+
+def two_shards(harness):
+    return [write_shard(harness, WORDS, [*given], [*given.values()], []) for given in (ONE, TWO)]
+
+
+def changed(shard, name, old, new):
+    """Puts other bytes in a file of a shard, the first that stand there."""
+    path = os.path.join(shard, name)
+    data = open(path, "rb").read()
+    assert old in data, (old, data)
+    with open(path, "wb") as file:
+        file.write(data.replace(old, new, 1))
+
+
+def renoted(shard, part, data):
+    """Gives a shard another part, and its verdict the note of it: a judge who lies."""
+    path = os.path.join(shard, part)
+    old = open(path, "rb").read()
+    note = lambda bytes_: b"%s %d %s\n" % (hashlib.sha256(bytes_).hexdigest().encode(), len(bytes_), part.encode())
+    changed(shard, "verdict", note(old), note(data))
+    with open(path, "wb") as file:
+        file.write(data)
+
+
+def edit(name, old, new):
+    return lambda shards: changed(shards[1], name, old, new)
+
+
+def other_request(shards):
+    for shard in shards:
+        changed(shard, "verdict", b"job 1\n", b"job 9\n")
+
+
+def both_emit(shards):
+    changed(shards[0], "verdict", b"emitted 9\n", b"emitted 18446744073709551615\n")
+
+
+def one_less(shards):
+    verdict = open(os.path.join(shards[1], "verdict"), "rb").read()
+    last = [line for line in verdict.splitlines(True) if line.startswith(b"output ")][-1]
+    changed(shards[1], "verdict", last, b"")
+
+
+def far_record(shards):
+    changed(shards[1], "verdict", b"emitted ", b"without 4294967295 0\nemitted ")
+
+
+REFUSED = [
+    ("a text that is no verdict", edit("verdict", b"verdict 1", b"verdict 2"), 1, b"BadVerdict shard 1 line 0"),
+    ("a line too much", edit("verdict", b"emitted", b"more 1\nemitted"), 1, b"BadVerdict shard 1 line 9"),
+    ("nothing at all", lambda shards: os.truncate(os.path.join(shards[0], "verdict"), 0), 1, b"BadVerdict shard 0 line 0"),
+    ("no job of that number", other_request, 1, b"NoRequest"),
+    ("another split size", edit("verdict", b"split 16\n", b"split 17\n"), 1, b"OtherRequest shard 1"),
+    ("another number of partitions", edit("verdict", b"partitions 2\n", b"partitions 3\n"), 1, b"OtherRequest shard 1"),
+    ("an output too few", one_less, 1, b"OtherOutputs shard 1"),
+    ("an input that came before", edit("verdict", b" b\n", b" a\n"), 1, b"RepeatedInput input 1"),
+    ("a record too far", far_record, 2, b"TooManySplits shard 1"),
+    ("more pairs than 64 bits", both_emit, 2, b"TooManyPairs"),
+    ("a part of another length", edit("part-00000", b"\n", b"\n\n"), 1, b"OtherPart shard 1 partition 0"),
+    ("a part with another digit", edit("part-00001", b"\t1", b"\t2"), 1, b"OtherPart shard 1 partition 1"),
+    ("a part of another shard", lambda shards: shutil.copy(os.path.join(shards[0], "part-00001"), os.path.join(shards[1], "part-00001")), 1, b"OtherPart shard 1 partition 1"),
+    ("no line end", lambda shards: renoted(shards[0], "part-00000", b"cat\t1"), 1, b"BadLine shard 0 partition 0 line 0"),
+    ("no tab", lambda shards: renoted(shards[1], "part-00001", b"cat 1\n"), 1, b"BadLine shard 1 partition 1 line 0"),
+    ("a number with a zero before it", lambda shards: renoted(shards[1], "part-00001", b"a\t1\ncat\t01\n"), 1, b"BadLine shard 1 partition 1 line 1"),
+    ("a total past 64 bits", lambda shards: renoted(shards[1], "part-00001", b"cat\t18446744073709551616\n"), 1, b"BadLine shard 1 partition 1 line 0"),
+    ("keys that fall", lambda shards: renoted(shards[1], "part-00001", b"dog\t1\ncat\t1\n"), 1, b"BadLine shard 1 partition 1 line 1"),
+    ("a key twice", lambda shards: renoted(shards[1], "part-00001", b"cat\t1\ncat\t1\n"), 1, b"BadLine shard 1 partition 1 line 1"),
+    ("totals past 64 bits", lambda shards: [renoted(shard, "part-00001", b"cat\t9223372036854775808\n") for shard in shards], 2, b"TotalTooLarge partition 1"),
+]
+
+
+def refusals(harness):
+    """Each cause by its text; nothing is written, and what stood in the directory stands."""
+    for name, spoil, status, text in REFUSED:
+        shards = two_shards(harness)
+        spoil(shards)
+        where = harness.directory({"part-00000": b"old", "verdict": b"old"})
+        got = merged(harness, where, shards)
+        harness.check(name, got == (status, b"", b"mapred: " + text + b"\n") and contents(where) == {"part-00000": b"old", "verdict": b"old"}, repr((got, contents(where))))
+    shards = two_shards(harness)
+    got = merged(harness, harness.directory(), [*shards, shards[0]])
+    harness.check("a shard twice", got == (1, b"", b"mapred: RepeatedInput input 2\n"), repr(got))
+    renoted(shards[1], "part-00000", b"")
+    got = merged(harness, harness.directory(), shards)
+    harness.check("who lies about a part is believed: the merge tests that verdicts and parts agree", got[0] == 0, repr(got))
+
+
+def files(harness):
+    """Files that can't be read or written."""
+    for gone in ("verdict", "part-00001"):
+        shards = two_shards(harness)
+        path = os.path.join(shards[1], gone)
+        os.remove(path)
+        where = harness.directory()
+        got = merged(harness, where, shards)
+        harness.check(f"no {gone}", got == (3, b"", f"mapred: cannot read {path}\n".encode()) and contents(where) == {}, repr(got))
+    shards = two_shards(harness)
+    where = harness.directory()
+    os.mkdir(os.path.join(where, "part-00001"))
+    got = merged(harness, where, shards)
+    harness.check("a part that can't be written", got == (3, b"", b"mapred: cannot write ./part-00001\n") and "verdict" not in os.listdir(where), repr(got))
+    got = harness.run(["merge", "--out", "missing", *(os.path.join(shard, "verdict") for shard in shards)], cwd=harness.directory())[:3]
+    harness.check("no directory", got == (3, b"", b"mapred: cannot write missing/part-00000\n"), repr(got))
+    got = harness.run(["merge", "--out", "."], cwd=harness.directory())[:3]
+    harness.check("no verdict is a fault of the line", got[:2] == (2, b""), repr(got))
+    got = merged(harness, shards[0], shards)
+    want = merged(harness, apart := harness.directory(), two_shards(harness))
+    harness.check("over a shard", got == want and parts_of(shards[0]) == parts_of(apart), repr(got))
+
+
+def listing(given):
+    """What sha256sum tells of files."""
+    return b"".join(b"%s  %s\n" % (hashlib.sha256(data).hexdigest().encode(), name.encode()) for name, data in given)
+
+
+def lists(harness):
+    """The list of the inputs that are meant."""
+    given = [*ONE.items(), *TWO.items()]
+    rows = [
+        ("the list of all", listing(given), 0, None),
+        ("one too few", listing(given[:1]), 1, 1),
+        ("none", b"", 1, 0),
+        ("one too many", listing([*given, ("c", b"")]), 1, 2),
+        ("another order", listing(given[::-1]), 1, 0),
+        ("another name", listing([given[0], ("c", given[1][1])]), 1, 1),
+        ("other bytes", listing([given[0], ("b", b"a dog\n")]), 1, 1),
+        ("no last line end", listing(given)[:-1], 1, 1),
+        ("an empty line behind", listing(given) + b"\n", 1, 2),
+        ("a binary file's star", listing(given).replace(b"  b", b" *b"), 1, 1),
+    ]
+    for name, text, status, line in rows:
+        where = harness.directory({"list": text})
+        got = merged(harness, where, two_shards(harness), ["--inputs", "list"])
+        if status == 0:
+            harness.check(name, got[0] == 0 and "part-00001" in os.listdir(where), repr(got))
+        else:
+            harness.check(name, got == (status, b"", b"mapred: OtherInputs line %d\n" % line) and contents(where) == {"list": text}, repr(got))
+    got = merged(harness, where, two_shards(harness), ["--inputs", "missing"])
+    harness.check("no list", got == (3, b"", b"mapred: cannot read missing\n"), repr(got))
+
+
+# A program that is killed, or kills who started it, at its first attempt at a name, and then is mapred.
+LOSING = """#!/bin/sh
+for last; do :; done
+if [ "$1" = seq ] && mkdir "{room}/{name}" 2>/dev/null; then kill -9 {whom}; fi
+exec {program} "$@"
+"""
+
+
+def losing(harness, name, whom):
+    """Such a program, and the directory that tells what was lost."""
+    room = harness.directory()
+    path = os.path.join(harness.directory(), "losing")
+    with open(path, "w") as file:
+        file.write(LOSING.format(room=room, name=name, whom=whom, program=harness.program))
+    os.chmod(path, 0o755)
+    return path, room
+
+
+def by_runner(words, where):
+    """One run of the runner."""
+    ran = subprocess.run([sys.executable, os.path.join(TOP, "engines", "shards.py"), *words], cwd=where, capture_output=True)
+    return ran.returncode, ran.stdout, ran.stderr
+
+
+def runner(harness):
+    """The runner of engines/: the result of one execution, also where each shard is lost once, and what is done again."""
+    rnd = seeded("runner")
+    given = {f"f{i}": b"".join(rnd.choice([b"the ", b"cat ", b"a\n"]) for _ in range(300)) for i in range(7)}
+    job = ["--job", "words", "--parts", "3", "--out"]
+    whole = harness.run(["seq", *job, ".", *given], given)[3]
+    once, room = losing(harness, "$last", "$$")
+    for name, program in (("by processes", harness.program), ("each shard lost once", once)):
+        where = harness.directory(given)
+        words = ["--program", program, "--progress", *job, "out", "--shard-size", "2K", *given]
+        first, second = by_runner(words, where), by_runner(words, where)
+        harness.check(name, first[0] == 0 and parts_of(os.path.join(where, "out")) == parts_of(whole), repr(first))
+        harness.check(f"{name}, once more", second[:2] == first[:2] and b"0 to do" in second[2], repr(second))
+    harness.check("shards were lost", len(os.listdir(room)) > 1 and b"again" in first[2], repr(first))
+    given["f3"] += b"another\n"
+    harness.directory({"f3": given["f3"]}, where)
+    now = harness.run(["seq", *job, ".", *given], given)[3]
+    third = by_runner(words, where)
+    harness.check("a shard whose file changed is done anew", third[0] == 0 and b"1 to do" in third[2] and parts_of(os.path.join(where, "out")) == parts_of(now), repr(third))
+    dask(harness, words, where, now)
+    got = by_runner(["--program", harness.program, "--job", "grep", "--out", "other", *given], where)
+    harness.check("a fault of the options is told, once", got[0] == 1 and got[2].count(b"EmptyLiteral") == 1, repr(got))
+    many = {f"g{i:03}": b"the %d\n" % (i % 7) for i in range(150)}
+    where = harness.directory(many)
+    got = by_runner(["--program", harness.program, *job, "out", "--shard-size", "8", *many], where)
+    whole = harness.run(["seq", *job, ".", *many], many)[3]
+    harness.check("many shards, merged in turn", got[0] == 0 and parts_of(os.path.join(where, "out")) == parts_of(whole), repr(got))
+
+
+def dask(harness, words, where, whole):
+    """The same by Dask, of which a worker is killed in the middle."""
+    has = lambda python: subprocess.run([python, "-c", "import distributed"], capture_output=True).returncode == 0
+    python = next((python for python in (sys.executable, "/usr/bin/python3") if os.path.exists(python) and has(python)), None)
+    if python is None:
+        print("shards by a runner: Dask isn't installed, so nothing of it was checked", flush=True)
+        return
+    shutil.rmtree(os.path.join(where, "out"))
+    program, room = losing(harness, "worker", "$PPID")
+    ran = subprocess.run([python, os.path.join(TOP, "engines", "shards.py"), *words, "--program", program, "--dask", "--processes", "2"], cwd=where, capture_output=True)
+    harness.check("by Dask, a worker killed", ran.returncode == 0 and os.listdir(room) == ["worker"] and parts_of(os.path.join(where, "out")) == parts_of(whole), repr(ran))
+
+
+GROUPS = {"shards merged": random_jobs, "shards and one execution": by_seq, "shards refused": refusals, "shards in files": files, "shards' inputs": lists, "shards by a runner": runner}
