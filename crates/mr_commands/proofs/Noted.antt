@@ -1,5 +1,5 @@
 -- Notes of files, one by one, and what a verdict of them is true of.
-use Rattle.std.proofs.Common.{◌≡◌, ℕ, zero, suc, ◌+◌, ◌<◌, ◌≤◌, List, [], ◌∷◌, ◌++◌, length, take, get_or, min, refl, ap, sym, ◌∙◌, arith}
+use Rattle.std.proofs.Common.{◌≡◌, ℕ, zero, suc, ◌+◌, ◌<◌, List, [], ◌∷◌, ◌++◌, length, take, get_or, min, refl, ap, sym, ◌∙◌, arith}
 use Rattle.std.proofs.Math.Seq.{take-suc}
 use Rattle.std.proofs.lemmas.List.{length-append, length-take-le}
 use Rattle.mr_bytes.specs.declared.RecordName.{RecordName}
@@ -42,36 +42,12 @@ all_notes (suc k) [] fs e = refl
 all_notes (suc k) (n ∷ ns) [] e = refl
 all_notes (suc k) (n ∷ ns) (f ∷ fs) e = ap (λ (v : List Note). note_for n f ∷ v) (all_notes k ns fs (omega (arith, e)))
 
--- ---- of parts
+-- ---- the verdict
 
-pub files_count : (n : ℕ) → length (part_files n) ≡ n
+files_count : (n : ℕ) → length (part_files n) ≡ n
 unfolding part_files
 files_count zero = refl
 files_count (suc n) = length-append (part_files n) (part_file n ∷ []) ∙ omega (arith, files_count n)
-
-files_more : (n : ℕ) → part_files (n + 1) ≡ part_files n ++ part_file n ∷ []
-unfolding part_files
-files_more n = let e : n + 1 ≡ suc n = omega arith in ap part_files e
-
-pub no_files : part_files 0 ≡ []
-unfolding part_files
-no_files = refl
-
-next_part : (outputs : List (List ℕ)) (p : ℕ) (b name output : List ℕ) → p < length outputs → name ≡ part_file p → output ≡ get_or outputs p b
-    → notes_for (part_files (p + 1)) (take (p + 1) outputs) ≡ notes_for (part_files p) (take p outputs) ++ note_for name output ∷ []
-next_part outputs p b name output few is_name is_output =
-    let next : p + 1 ≡ suc p = omega arith in
-    let more_names : part_files (p + 1) ≡ part_files p ++ name ∷ [] = files_more p ∙ ap (λ (x : List ℕ). part_files p ++ x ∷ []) (sym is_name) in
-    let more_outputs : take (p + 1) outputs ≡ take p outputs ++ output ∷ [] = ap (λ (k : ℕ). take k outputs) next ∙ (take-suc outputs p b few ∙ ap (λ (x : List ℕ). take p outputs ++ x ∷ []) (sym is_output)) in
-    ap (λ (v : List (List ℕ)). notes_for v (take (p + 1) outputs)) more_names ∙ (ap (λ (v : List (List ℕ)). notes_for (part_files p ++ name ∷ []) v) more_outputs
-    ∙ one_more (part_files p) (take p outputs) name output (files_count p ∙ sym (length-take-le p outputs (omega arith))))
-
-pub more_parts : (outputs : List (List ℕ)) (p : ℕ) (b name output : List ℕ) (before after : List Note) → p < length outputs → name ≡ part_file p → output ≡ get_or outputs p b
-    → after ≡ before ++ note_for name output ∷ [] → before ≡ notes_for (part_files p) (take p outputs) → after ≡ notes_for (part_files (p + 1)) (take (p + 1) outputs)
-more_parts outputs p b name output before after few is_name is_output added so_far =
-    added ∙ (ap (λ (v : List Note). v ++ note_for name output ∷ []) so_far ∙ sym (next_part outputs p b name output few is_name is_output))
-
--- ---- the verdict
 
 are_notes : (ns fs : List (List ℕ)) → length ns ≡ length fs → AreNotesOf (notes_for ns fs) fs
 are_notes [] [] e = tt

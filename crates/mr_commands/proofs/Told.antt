@@ -1,11 +1,9 @@
 -- What is said of a judgement, what is kept of it, and what stands then.
-use Rattle.std.proofs.Common.{◌≡◌, ◌⊎◌, ℕ, List, [], ◌∷◌, Option, None, Some, Err, length, refl, ap, sym, ◌∙◌, subst, inl, inr, arith}
-use Rattle.std.specs.Prelude.{IfSome, option_map, string_bytes}
+use Rattle.std.proofs.Common.{◌≡◌, ℕ, List, [], ◌∷◌, Option, None, Some, refl, ap, sym, subst, inl, inr, arith}
+use Rattle.std.specs.Prelude.{IfSome, option_map}
 use Rattle.mr_bytes.specs.declared.RecordName.{RecordName}
 use Rattle.mr_jobs.specs.JobSpec.{RequestSpec}
-use Rattle.mr_check.specs.declared.fault.No.{No}
 use Rattle.mr_check.specs.Headline.{IsCertified}
-use Rattle.mr_check.specs.Verdict.{verdict_of}
 use Rattle.mr_verdict.specs.Verdict.{Told, spelling}
 use Rattle.mr_files.specs.Holding.{Begins, ChangesAmong, ChangesOnly, Holding}
 use Rattle.mr_files.specs.Names.{name_of_certificate, part_names}
@@ -16,10 +14,9 @@ use Rattle.mr_commands.specs.declared.fault.Fault.{Fault}
 use Rattle.mr_commands.specs.declared.asked.CheckOptions.{CheckOptions}
 use Rattle.mr_commands.specs.Asked.{request_asked}
 use Rattle.mr_commands.specs.Answers.{AnswersCheck, IsInput, IsStopped, TellsFile, input_names}
-use Rattle.mr_commands.specs.NoLines.{no_line}
 use Rattle.mr_commands.specs.Outcomes.{IsJudged, yes_text}
 use Rattle.mr_commands.specs.Runs.{named}
-use Rattle.mr_commands.specs.Verdicts.{AreClear, IsCheckUnanswered, IsJudgement, IsKeptUnder, IsTextRefused, IsVerdictOf, IsVerdictStopped, Judges, KeepsVerdict, Leaves, names_kept, verdict_about, verdict_file, written_by_check}
+use Rattle.mr_commands.specs.Verdicts.{AreClear, IsCheckUnanswered, IsJudgement, IsKeptUnder, IsTextRefused, IsVerdictOf, Judges, KeepsVerdict, names_kept, verdict_about, verdict_file}
 use Rattle.mr_commands.proofs.Inputs.{holding_lengths}
 use Rattle.mr_commands.proofs.Noted.{true_of}
 use Rattle.mr_commands.proofs.Refused.{stopped_as}

@@ -7,4 +7,5 @@ pub mod Answers
 pub mod HistoryLines
 pub mod Runs
 pub mod Verdicts
+pub mod Merges
 pub mod Commands

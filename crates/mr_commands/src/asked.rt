@@ -46,6 +46,15 @@ pub struct CheckOptions<'a> {
     pub verdict: Option<&'a str>,
 }
 
+/// What a merge of shards is asked for.
+#[derive(Drop)]
+pub struct MergeOptions<'a> {
+    /// The directory of the merged result.
+    pub out: &'a str,
+    /// The names of the shards' verdicts, in the order of the shards.
+    pub verdicts: Vec<&'a str>,
+}
+
 /// The command that is asked for.
 #[derive(Drop)]
 pub enum Subcommand<'a> {
@@ -53,4 +62,5 @@ pub enum Subcommand<'a> {
     Seq(Options<'a>, &'a str),
     Run(RunOptions<'a>),
     Check(CheckOptions<'a>),
+    Merge(MergeOptions<'a>),
 }

@@ -5,7 +5,7 @@ ghost use Rattle.mr_input.specs.Files.{contents, split_total};
 ghost use Rattle.mr_sequential.specs.Emitted.{emitted};
 ghost use Rattle.mr_commands.specs.Outcomes.{IsSequentialResult, done_line};
 ghost use Rattle.mr_commands.specs.Answers.{AnswersSeq, IsRunRefusal, IsSeqRefusal, IsWorkRefusal, WorksOut};
-ghost use Rattle.mr_commands.specs.Commands.{Answers, IsRefusal, written_by};
+ghost use Rattle.mr_commands.specs.Commands.{Answers, ChangesOwn, IsRefusal};
 ghost use Rattle.mr_files.specs.Holding.{ChangesAmong};
 ghost use Rattle.mr_files.specs.Names.{result_names};
 
@@ -13,6 +13,7 @@ use crate::asked::{Options, Subcommand};
 use crate::fault::Fault;
 use crate::input::input_of;
 use crate::judging::check;
+use crate::merging::merge;
 use crate::request::request_of;
 use crate::running::run as run_by_workers;
 use crate::said::done_line;
@@ -125,12 +126,13 @@ pub fn done<S: Store, R: Threads + Wait + Sync>(
     watch: &dyn Watch,
 ) -> Result<Said, Fault>
     ensures answers { IfOk result (λ said. Answers (S.holds store.old) (S.holds store.new) asked.now (string_bytes said.text) said.status) }
-    ensures others { ChangesAmong (S.holds store.old) (S.holds store.new) (written_by asked.now) }
+    ensures others { ChangesOwn (S.holds store.old) (S.holds store.new) asked.now }
     ensures refused { IfErr result (λ e. IsRefusal (S.holds store.old) (S.holds store.new) (S.unreadable store.old) (S.unwritable store.old) asked.now e) }
 {
     match asked {
         Subcommand::Check(asked) => check(rt, store, alloc, asked, watch),
         Subcommand::Seq(options, skips) => seq(store, alloc, options, skips, watch),
         Subcommand::Run(asked) => run_by_workers(rt, store, alloc, asked, watch),
+        Subcommand::Merge(asked) => merge(store, alloc, asked),
     }
 }

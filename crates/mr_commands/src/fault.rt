@@ -1,12 +1,13 @@
 //! Why a command does not do what it is asked for, with the exit status and what is said of it.
 ghost use Rattle.std.specs.Prelude.{◌≡◌};
-ghost use Rattle.mr_commands.specs.Statuses.{status_of};
+ghost use Rattle.mr_commands.specs.Statuses.{status_of, status_of_shards};
 
 use mr_files::FileFault;
 use mr_input::InputFault;
 use mr_jobs::{JobFault, RequestFault};
 use mr_script::ScriptFault;
 use mr_sequential::RunFault;
+use mr_shard_files::ShardFault;
 use std::alloc::AllocError;
 use std::fmt;
 
@@ -30,6 +31,8 @@ pub enum Fault {
     /// The name of this file of the input, numbered from 0, holds a line feed, and so no verdict can tell it.
     LineEndInName { file: usize },
     Script(ScriptFault),
+    /// Why shards are not merged; faults of files and want of memory are told as themselves.
+    Shards(ShardFault),
     CannotRead(String),
     CannotWrite(String),
     OutOfMemory,
@@ -98,14 +101,47 @@ impl From<FileFault> for Fault {
     }
 }
 
+impl From<ShardFault> for Fault {
+    ghost use Rattle.mr_commands.specs.Statuses.{TellsShards};
+
+    ghost from_gives = { λ e f. TellsShards e f };
+
+    fn from(fault: ShardFault) -> Fault {
+        match fault {
+            ShardFault::CannotRead(name) => Fault::CannotRead(name),
+            ShardFault::CannotWrite(name) => Fault::CannotWrite(name),
+            ShardFault::OutOfMemory => Fault::OutOfMemory,
+            other => Fault::Shards(other),
+        }
+    }
+}
+
+/// The exit status of shards that are not merged: 1 where they aren't what their verdicts say, or not shards of one whole.
+fn shards_status(fault: &ShardFault) -> u8
+    ensures { result ≡ status_of_shards fault.now }
+{
+    match fault {
+        ShardFault::BadVerdict { .. }
+        | ShardFault::NoRequest
+        | ShardFault::OtherRequest { .. }
+        | ShardFault::RepeatedInput { .. }
+        | ShardFault::OtherPart { .. }
+        | ShardFault::BadLine { .. }
+        | ShardFault::OtherOutputs { .. } => 1,
+        _ => 2,
+    }
+}
+
 impl Fault {
-    /// The exit status: 2 for usage or a limit, 3 for a file, 4 for want of memory.
+    /// The exit status: 1 for shards that aren't those of one whole, 2 for usage or a limit, 3 for a file, 4 for want of
+    /// memory.
     pub fn status(&self) -> u8
         ensures { result ≡ status_of self.now }
     {
         match self {
             Fault::CannotRead(_) | Fault::CannotWrite(_) => 3,
             Fault::OutOfMemory => 4,
+            Fault::Shards(fault) => shards_status(fault),
             _ => 2,
         }
     }
@@ -126,6 +162,7 @@ impl fmt::Display for Fault {
             Fault::BadThreads => write!(f, "mapred: BadThreads\n"),
             Fault::LineEndInName { file } => write!(f, "mapred: LineEndInName file {file}\n"),
             Fault::Script(fault) => write!(f, "mapred: {fault}\n"),
+            Fault::Shards(fault) => write!(f, "mapred: {fault}\n"),
             Fault::CannotRead(name) => write!(f, "mapred: cannot read {name}\n"),
             Fault::CannotWrite(name) => write!(f, "mapred: cannot write {name}\n"),
             Fault::OutOfMemory => write!(f, "mapred: out of memory\n"),

@@ -1,5 +1,6 @@
 //! The judgement of a result, and the verdict of a yes, kept under a name.
-ghost use Rattle.std.specs.Prelude.{◌≡◌, ◌≢◌, ℕ, [], ◌∷◌, ◌++◌, ◌⊎◌, ◌<◌, ◌≤◌, ◌^◌, Err, IfErr, IfOk, IfSome, MatchOption, None, OnOk, Contains, length, map, option_map, slice_index_or, string_bytes};
+ghost use Rattle.std.specs.Prelude.{◌≡◌, ◌≢◌, ℕ, [], ◌∷◌, ◌++◌, ◌⊎◌, ◌<◌, ◌≤◌, ◌^◌, Err, IfErr, IfOk, IfSome, MatchOption, None, OnOk};
+ghost use Rattle.std.specs.Prelude.{Contains, map, option_map, slice_index_or, length, string_bytes};
 ghost use Rattle.mr_input.specs.Files.{contents, split_total};
 ghost use Rattle.mr_check.specs.declared.fault.No.{No};
 ghost use Rattle.mr_check.specs.Headline.{IsCertified};
@@ -7,11 +8,11 @@ ghost use Rattle.mr_check.specs.Verdict.{verdict_of};
 ghost use Rattle.mr_verdict.specs.Verdict.{spelling};
 ghost use Rattle.mr_verdict.specs.Truth.{note_for as note_of, notes_for};
 ghost use Rattle.mr_files.specs.Holding.{ChangesAmong};
-ghost use Rattle.mr_files.specs.Names.{part_files};
 ghost use Rattle.mr_commands.specs.NoLines.{no_line as line_of_no};
 ghost use Rattle.mr_commands.specs.Outcomes.{yes_text as text_of_yes};
 ghost use Rattle.mr_commands.specs.Answers.{AreBadThreads, IsCheckRefusal, IsFirstLineEnd, IsNameRefusal, input_names};
-ghost use Rattle.mr_commands.specs.Verdicts.{AreClear, KeepsVerdict, IsCheckUnanswered, IsJudgement, IsKeptUnder, IsTextRefused, Judges, names_kept, verdict_about, verdict_file, written_by_check};
+ghost use Rattle.mr_commands.specs.Verdicts.{AreClear, KeepsVerdict, IsCheckUnanswered, IsJudgement, IsKeptUnder, IsTextRefused, Judges};
+ghost use Rattle.mr_commands.specs.Verdicts.{names_kept, verdict_about, verdict_file, written_by_check};
 
 use crate::asked::CheckOptions;
 use crate::commands::Said;
@@ -22,9 +23,10 @@ use crate::request::request_of;
 use crate::said::yes_text;
 use mr_bytes::OpenGate;
 use mr_check::{No, Yes, check_gated_watched, check_watched};
-use mr_files::{FileFault, Store, part_file, read_result, write_named};
+use mr_files::{FileFault, Store, read_result, write_named};
 use mr_input::Input;
 use mr_jobs::Request;
+use mr_shard_files::part_notes;
 use mr_verdict::{FileNote, note_for, verdict_for, write_verdict};
 use mr_watch::Watch;
 use std::alloc::{AllocError, Global};
@@ -133,18 +135,6 @@ fn input_notes(alloc: Global, names: &[&str], input: &Input) -> Result<Vec<FileN
     let mut notes = Vec::new(alloc);
     for file in 0..names.len().min(input.files()) {
         add_note(alloc, &mut notes, names[file], input.file(file))?;
-    }
-    Ok(notes)
-}
-
-/// The notes of outputs by the names of their parts in a folder.
-fn part_notes(alloc: Global, outputs: &[Vec<u8>]) -> Result<Vec<FileNote>, AllocError>
-    ensures { IfOk result (λ notes. notes.items ≡ notes_for (part_files (length outputs.now)) (contents outputs.now)) }
-{
-    let mut notes = Vec::new(alloc);
-    for part in 0..outputs.len() {
-        let name = part_file(alloc, part)?;
-        add_note(alloc, &mut notes, name.as_str(), outputs[part].as_slice())?;
     }
     Ok(notes)
 }

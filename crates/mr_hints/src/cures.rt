@@ -4,6 +4,7 @@ use mr_files::Look;
 use mr_input::InputFault;
 use mr_jobs::{JobFault, RequestFault};
 use mr_sequential::RunFault;
+use mr_shard_files::ShardFault;
 use std::alloc::{AllocError, Global};
 
 /// About a word of the command line that is not UTF-8.
@@ -51,6 +52,34 @@ fn list_cure(fault: &RunFault) -> &'static str {
     }
 }
 
+/// About shards that are not merged; nothing where only smaller inputs would help.
+fn shards_cure(fault: &ShardFault) -> &'static str {
+    match fault {
+        ShardFault::NoShards => "name the verdict of each shard",
+        ShardFault::BadVerdict { .. } | ShardFault::NoRequest =>
+            "this isn't a verdict as check --verdict writes it: judge the shard again",
+        ShardFault::OtherRequest { .. } =>
+            "all shards have the options of the first: run this one again with those, and judge it",
+        ShardFault::OtherOutputs { .. } =>
+            "the verdict doesn't tell of one part for each partition: judge the shard again",
+        ShardFault::RepeatedInput { .. } =>
+            "name each verdict once; where two shards have a file of one name, give one another name and judge its shard again",
+        ShardFault::OtherPart { .. } =>
+            "this part isn't the one that was judged: judge the shard again",
+        ShardFault::BadLine { .. } =>
+            "the part isn't as the job writes it: run the shard again, and judge it",
+        ShardFault::TooLarge { .. } =>
+            "at most 2 GiB in a partition's parts together: run the shards with more --parts",
+        ShardFault::TooManySplits { .. } =>
+            "splits of all shards are numbered in 32 bits: run the shards with a greater --split",
+        ShardFault::TooManyFiles | ShardFault::FileTooFar { .. } =>
+            "files of all shards are numbered in 32 bits: merge fewer shards",
+        ShardFault::TooManyPairs | ShardFault::TotalTooLarge { .. } => "",
+        ShardFault::CannotRead(_) | ShardFault::CannotWrite(_) => "",
+        ShardFault::OutOfMemory => MEMORY,
+    }
+}
+
 /// What can be done about a fault of a command; nothing about a file, of which the system has its reason.
 fn cure(fault: &Fault) -> &'static str {
     match fault {
@@ -70,6 +99,7 @@ fn cure(fault: &Fault) -> &'static str {
             "--verdict tells each name in one line: give the file another name, or a link",
         Fault::Script(_) =>
             "a line is `lose W after N`, `zombie W after N`, `bad S R`, `flaky S R N`, `hold W` or `spoil P B`",
+        Fault::Shards(fault) => shards_cure(fault),
         Fault::CannotRead(_) | Fault::CannotWrite(_) => "",
         Fault::OutOfMemory => MEMORY,
     }

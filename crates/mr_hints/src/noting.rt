@@ -1,7 +1,7 @@
 //! What is told of the directory of the result before the work: that it isn't there, that a result stands in it, that
 //! other parts lie beside those of this one.
 use mr_commands::{Options, Subcommand};
-use mr_files::{Look, Standing, certificate_name, part_name};
+use mr_files::{Look, Standing, certificate_name, part_name, verdict_name};
 use std::alloc::{AllocError, Global};
 
 /// A result has at most so many parts.
@@ -29,16 +29,16 @@ fn note_directory<L: Look>(
     lines.push(line).map_err(AllocError::from)
 }
 
-/// Where a result stands there already.
+/// Where a result stands there already, by its first part or by the file that is written last.
 fn note_result<L: Look>(
     look: &L,
     alloc: Global,
     dir: &str,
+    last: &str,
     lines: &mut Vec<String>,
 ) -> Result<(), AllocError> {
-    let certificate = certificate_name(alloc, dir)?;
     let part = part_name(alloc, dir, 0)?;
-    if stands(look, certificate.as_str()) || stands(look, part.as_str()) {
+    if stands(look, last) || stands(look, part.as_str()) {
         let line = format!(in alloc;
             "note: {dir} has a result already, which will be written over"
         )?;
@@ -86,9 +86,22 @@ fn seq_notes<L: Look>(
     options: &Options<'_>,
     lines: &mut Vec<String>,
 ) -> Result<(), AllocError> {
+    let certificate = certificate_name(alloc, options.out)?;
     note_directory(look, alloc, options.out, lines)?;
-    note_result(look, alloc, options.out, lines)?;
+    note_result(look, alloc, options.out, certificate.as_str(), lines)?;
     note_others(look, alloc, options.out, options.parts as usize, lines)
+}
+
+/// How many parts a merge writes its verdicts tell, so that other parts can't be told from these.
+fn merge_notes<L: Look>(
+    look: &L,
+    alloc: Global,
+    dir: &str,
+    lines: &mut Vec<String>,
+) -> Result<(), AllocError> {
+    let verdict = verdict_name(alloc, dir)?;
+    note_directory(look, alloc, dir, lines)?;
+    note_result(look, alloc, dir, verdict.as_str(), lines)
 }
 
 /// Whether so many parts can be had. If not, nothing will be done.
@@ -97,6 +110,7 @@ fn asks_for_parts(asked: &Subcommand<'_>) -> bool {
         Subcommand::Seq(options, _) => options,
         Subcommand::Run(asked) => &asked.options,
         Subcommand::Check(asked) => &asked.options,
+        Subcommand::Merge(_) => return true,
     };
     0 < options.parts && options.parts as usize <= MOST_PARTS
 }
@@ -118,6 +132,7 @@ pub fn notes<L: Look>(
             let Options { out, parts, .. } = &asked.options;
             note_others(look, alloc, out, *parts as usize, &mut lines)?
         }
+        Subcommand::Merge(asked) => merge_notes(look, alloc, asked.out, &mut lines)?,
     }
     Ok(lines)
 }

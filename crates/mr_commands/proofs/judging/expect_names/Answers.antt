@@ -1,4 +1,4 @@
-use Rattle.std.proofs.Common.{List, ℕ, length, map, ap, subst, arith}
+use Rattle.std.proofs.Common.{List, ℕ, map, ap, subst, arith}
 use Rattle.std.specs.List.{AllByRecursion}
 use Rattle.std.proofs.lemmas.List.{length-map}
 use Rattle.mr_bytes.specs.Cut.{Lacks}

@@ -1,4 +1,4 @@
-use Rattle.std.proofs.Common.{◌≡◌, ◌<◌, ◌≤◌, ◌∙◌, [], length, map, min, sym, arith}
+use Rattle.std.proofs.Common.{◌≡◌, ◌<◌, ◌∙◌, [], length, map, min, sym, arith}
 use Rattle.std.proofs.lemmas.List.{get_or-map, length-map}
 use Rattle.mr_commands.proofs.Noted.{all_notes, more_notes}
 use Rattle.mr_commands.proofs.judging.input_notes.Goals as goal

@@ -1,0 +1,32 @@
+-- What `merge` answers, over the files of a store.
+use Rattle.std.specs.Prelude.{◌≡◌, ℕ, ◌++◌, List, codes, decimal, length, map}
+use Rattle.mr_files.specs.Holding.{Faulty, Stored}
+use Rattle.mr_verdict.specs.Verdict.{Told}
+use Rattle.mr_shard_files.specs.Faults.{IsShardRefusal}
+use Rattle.mr_shard_files.specs.Merging.{IsMerged}
+use Rattle.mr_shard_files.specs.declared.fault.ShardFault.{ShardFault}
+use Rattle.mr_commands.specs.declared.asked.MergeOptions.{MergeOptions}
+use Rattle.mr_commands.specs.declared.fault.Fault.{Fault}
+use Rattle.mr_commands.specs.Statuses.{TellsShards}
+
+-- what is said of merged shards
+abbrev pub merged_line : ℕ → ℕ → ℕ → List ℕ
+merged_line files pairs left_out =
+    codes "merged: " ++ (decimal files ++ (codes " files, " ++ (decimal pairs ++ (codes " pairs, " ++ (decimal left_out ++ codes " left out\n")))))
+
+-- the names of the verdicts, in order
+abbrev pub verdict_names : MergeOptions → List (List ℕ)
+verdict_names o = map (λ s. s.now) o.verdicts.items
+
+-- what `merge` did where it answers: the shards whose verdicts are named were merged in their order, the result stands in the
+-- directory that is named, and the text tells the outputs, the pairs and the left-out records of its verdict
+pub record AnswersMerge (old new : Stored) (o : MergeOptions) (text : List ℕ) : Type 0 where
+  pub joined : Told
+  pub merged : IsMerged old new (verdict_names o) o.out.now joined
+  pub said : text ≡ merged_line (length joined.outputs) joined.pairs (length joined.left_out)
+
+-- why `merge` doesn't answer, as the merge of these shards tells it, and what stands then: once all is written, nothing more
+-- is asked for that could be refused
+abbrev pub IsMergeUnanswered : Stored → Stored → Faulty → Faulty → MergeOptions → Fault → Type 0
+IsMergeUnanswered old new unreadable unwritable o fault =
+    (e : ShardFault) × TellsShards e fault × IsShardRefusal old new unreadable unwritable (verdict_names o) o.out.now e

@@ -1,0 +1,71 @@
+//! The merge of shards.
+ghost use Rattle.std.specs.Prelude.{◌≡◌, ◌+◌, ◌≤◌, ◌++◌, [], IfErr, IfOk, length, string_bytes, string_capacity, string_len};
+ghost use Rattle.mr_shard_files.specs.Merging.{ChangesResult};
+ghost use Rattle.mr_commands.specs.Merges.{AnswersMerge, IsMergeUnanswered, merged_line as line_of_merged};
+
+use crate::asked::MergeOptions;
+use crate::commands::Said;
+use crate::fault::Fault;
+use itoa::Buffer;
+use mr_files::Store;
+use mr_shard_files::merge_shards;
+use std::alloc::Global;
+
+/// The bytes of the line, where each of its numbers has 20 digits.
+const LINE_ROOM: usize = 94;
+
+// The number that the clauses give.
+const _: () = prove!(LINE_ROOM == 94);
+
+/// Adds a text that there is room for, so that no memory is asked for.
+fn add_within(line: &mut String, text: &str)
+    requires { string_len line.old + length text.now ≤ string_capacity line.old }
+    ensures bytes { string_bytes line.new ≡ string_bytes line.old ++ text.now }
+    ensures len { string_len line.new ≡ string_len line.old + length text.now }
+    ensures room { string_capacity line.old ≤ string_capacity line.new }
+{
+    let _ = line.push_str(text);
+}
+
+/// The line of merged shards, written where there is room for it.
+fn merged_line(room: String, files: usize, pairs: u64, left_out: usize) -> String
+    requires empty { string_len room ≡ 0 }
+    requires nothing { string_bytes room ≡ [] }
+    requires room { 94 ≤ string_capacity room }
+    ensures { string_bytes result ≡ line_of_merged files pairs left_out }
+{
+    let mut line = room;
+    let mut digits = Buffer::new();
+    add_within(&mut line, "merged: ");
+    add_within(&mut line, digits.format(files));
+    add_within(&mut line, " files, ");
+    add_within(&mut line, digits.format(pairs));
+    add_within(&mut line, " pairs, ");
+    add_within(&mut line, digits.format(left_out));
+    add_within(&mut line, " left out\n");
+    line
+}
+
+/// Merges shards, whose verdicts are named, and writes the result. The room for the line is had before a file is written, so
+/// that nothing fails behind the last one.
+pub fn merge<S: Store>(
+    store: &mut S,
+    alloc: Global,
+    asked: &MergeOptions<'_>,
+) -> Result<Said, Fault>
+    ensures status { IfOk result (λ said. said.status ≡ 0) }
+    ensures done { IfOk result (λ said. AnswersMerge (S.holds store.old) (S.holds store.new) asked.now (string_bytes said.text)) }
+    ensures others { ChangesResult (S.holds store.old) (S.holds store.new) asked.now.out.now }
+    ensures refused { IfErr result (λ e. IsMergeUnanswered (S.holds store.old) (S.holds store.new) (S.unreadable store.old) (S.unwritable store.old)
+        asked.now e) }
+{
+    let room = String::with_capacity(alloc, LINE_ROOM)?;
+    let joined = merge_shards(store, alloc, asked.verdicts.as_slice(), asked.out)?;
+    let text = merged_line(
+        room,
+        joined.outputs.len(),
+        joined.pairs,
+        joined.left_out.len(),
+    );
+    Ok(Said { text, status: 0 })
+}
