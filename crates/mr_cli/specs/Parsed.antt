@@ -7,9 +7,10 @@ use Rattle.clap.specs.declared.parser.matches.Found.{Found}
 use Rattle.clap.specs.Walk.{Row, rows_of}
 use Rattle.mr_commands.specs.declared.asked.Options.{Options}
 use Rattle.mr_commands.specs.declared.asked.CheckOptions.{CheckOptions}
+use Rattle.mr_commands.specs.declared.asked.MergeOptions.{MergeOptions}
 use Rattle.mr_commands.specs.declared.asked.RunOptions.{RunOptions}
 use Rattle.mr_commands.specs.declared.asked.Subcommand.{Subcommand}
-use Rattle.mr_commands.specs.declared.asked.Subcommand.TheVariants.{Seq, Run, Check}
+use Rattle.mr_commands.specs.declared.asked.Subcommand.TheVariants.{Seq, Run, Check, Merge}
 use Rattle.mr_commands.specs.Asked.{Names}
 
 -- decimal digits, a plus allowed in front, whose number fits in 32 bits
@@ -51,9 +52,15 @@ pub record AreCheckOptionsOf (found : Found) (o : CheckOptions) : Type 0 where
   pub threads : IsNumberOf (one_text found (codes "threads")) 1 o.threads
   pub verdict : option_map (λ s. s.now) o.verdict ≡ first_value found (codes "verdict")
 
+-- the same of a merge
+pub record AreMergeOptionsOf (found : Found) (o : MergeOptions) : Type 0 where
+  pub out : o.out.now ≡ unwrap_or (first_value found (codes "out")) (codes ".")
+  pub verdicts : map (λ s. s.now) o.verdicts.items ≡ option_map_or raw_values (matched_of found (codes "verdicts")) []
+
 -- the subcommand is that of its own name, and its options are those of its matches
 abbrev pub IsAskedBy : Option (List ℕ) → Option (List Row) → Subcommand → Type 0
 IsAskedBy name rows (Seq o skips) = (name ≡ Some (codes "seq"))
     × ((found : Found) × (rows ≡ Some (rows_of found)) × AreOptionsOf found o × (skips.now ≡ unwrap_or (first_value found (codes "skips")) []))
 IsAskedBy name rows (Run o) = (name ≡ Some (codes "run")) × ((found : Found) × (rows ≡ Some (rows_of found)) × AreRunOptionsOf found o)
 IsAskedBy name rows (Check o) = (name ≡ Some (codes "check")) × ((found : Found) × (rows ≡ Some (rows_of found)) × AreCheckOptionsOf found o)
+IsAskedBy name rows (Merge o) = (name ≡ Some (codes "merge")) × ((found : Found) × (rows ≡ Some (rows_of found)) × AreMergeOptionsOf found o)

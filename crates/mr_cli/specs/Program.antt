@@ -6,7 +6,7 @@ use Rattle.clap.specs.declared.parser.matches.ArgMatches.{ArgMatches}
 use Rattle.mr_files.specs.Holding.{ChangesAmong, Faulty, Stored}
 use Rattle.mr_commands.specs.declared.asked.Subcommand.{Subcommand}
 use Rattle.mr_commands.specs.declared.fault.Fault.{Fault}
-use Rattle.mr_commands.specs.Commands.{Answers, IsRefusal, written_by}
+use Rattle.mr_commands.specs.Commands.{Answers, ChangesOwn, IsRefusal}
 use Rattle.mr_cli.specs.declared.failure.Failure.{Failure}
 use Rattle.mr_cli.specs.declared.failure.Failure.TheVariants.{Line, NotUtf8, NoCommand, Command}
 use Rattle.mr_cli.specs.Parsed.{IsAskedBy}
@@ -22,7 +22,7 @@ pub record IsDone (old new : Stored) (text : List ℕ) (status : ℕ) : Type 0 w
   pub asked : Subcommand
   pub named : IsAskedIn parsed asked
   pub answers : Answers old new asked text status
-  pub others : ChangesAmong old new (written_by asked)
+  pub others : ChangesOwn old new asked
 
 -- the parsed command was refused, by this fault
 pub record IsRefused (old new : Stored) (unreadable unwritable : Faulty) (fault : Fault) : Type 0 where
