@@ -55,6 +55,7 @@ pub record AreCheckOptionsOf (found : Found) (o : CheckOptions) : Type 0 where
 -- the same of a merge
 pub record AreMergeOptionsOf (found : Found) (o : MergeOptions) : Type 0 where
   pub out : o.out.now ≡ unwrap_or (first_value found (codes "out")) (codes ".")
+  pub inputs : option_map (λ s. s.now) o.inputs ≡ first_value found (codes "inputs")
   pub verdicts : map (λ s. s.now) o.verdicts.items ≡ option_map_or raw_values (matched_of found (codes "verdicts")) []
 
 -- the subcommand is that of its own name, and its options are those of its matches

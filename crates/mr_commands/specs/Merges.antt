@@ -1,5 +1,5 @@
 -- What `merge` answers, over the files of a store.
-use Rattle.std.specs.Prelude.{◌≡◌, ℕ, ◌++◌, List, codes, decimal, length, map}
+use Rattle.std.specs.Prelude.{◌≡◌, ℕ, ◌++◌, List, Option, codes, decimal, length, map, option_map}
 use Rattle.mr_files.specs.Holding.{Faulty, Stored}
 use Rattle.mr_verdict.specs.Verdict.{Told}
 use Rattle.mr_shard_files.specs.Faults.{IsShardRefusal}
@@ -18,15 +18,19 @@ merged_line files pairs left_out =
 abbrev pub verdict_names : MergeOptions → List (List ℕ)
 verdict_names o = map (λ s. s.now) o.verdicts.items
 
+-- the name of the list of the inputs that are meant, where one is given
+abbrev pub list_name : MergeOptions → Option (List ℕ)
+list_name o = option_map (λ s. s.now) o.inputs
+
 -- what `merge` did where it answers: the shards whose verdicts are named were merged in their order, the result stands in the
 -- directory that is named, and the text tells the outputs, the pairs and the left-out records of its verdict
 pub record AnswersMerge (old new : Stored) (o : MergeOptions) (text : List ℕ) : Type 0 where
   pub joined : Told
-  pub merged : IsMerged old new (verdict_names o) o.out.now joined
+  pub merged : IsMerged old new (verdict_names o) (list_name o) o.out.now joined
   pub said : text ≡ merged_line (length joined.outputs) joined.pairs (length joined.left_out)
 
 -- why `merge` doesn't answer, as the merge of these shards tells it, and what stands then: once all is written, nothing more
 -- is asked for that could be refused
 abbrev pub IsMergeUnanswered : Stored → Stored → Faulty → Faulty → MergeOptions → Fault → Type 0
 IsMergeUnanswered old new unreadable unwritable o fault =
-    (e : ShardFault) × TellsShards e fault × IsShardRefusal old new unreadable unwritable (verdict_names o) o.out.now e
+    (e : ShardFault) × TellsShards e fault × IsShardRefusal old new unreadable unwritable (verdict_names o) (list_name o) o.out.now e

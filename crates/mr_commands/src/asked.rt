@@ -51,6 +51,8 @@ pub struct CheckOptions<'a> {
 pub struct MergeOptions<'a> {
     /// The directory of the merged result.
     pub out: &'a str,
+    /// The name of the list of the inputs that are meant.
+    pub inputs: Option<&'a str>,
     /// The names of the shards' verdicts, in the order of the shards.
     pub verdicts: Vec<&'a str>,
 }

@@ -116,7 +116,8 @@ impl From<ShardFault> for Fault {
     }
 }
 
-/// The exit status of shards that are not merged: 1 where they aren't what their verdicts say, or not shards of one whole.
+/// The exit status of shards that are not merged: 1 where they aren't what their verdicts say, or not shards of the whole
+/// that is meant.
 fn shards_status(fault: &ShardFault) -> u8
     ensures { result ≡ status_of_shards fault.now }
 {
@@ -125,6 +126,7 @@ fn shards_status(fault: &ShardFault) -> u8
         | ShardFault::NoRequest
         | ShardFault::OtherRequest { .. }
         | ShardFault::RepeatedInput { .. }
+        | ShardFault::OtherInputs { .. }
         | ShardFault::OtherPart { .. }
         | ShardFault::BadLine { .. }
         | ShardFault::OtherOutputs { .. } => 1,

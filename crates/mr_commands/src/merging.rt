@@ -60,7 +60,13 @@ pub fn merge<S: Store>(
         asked.now e) }
 {
     let room = String::with_capacity(alloc, LINE_ROOM)?;
-    let joined = merge_shards(store, alloc, asked.verdicts.as_slice(), asked.out)?;
+    let joined = merge_shards(
+        store,
+        alloc,
+        asked.verdicts.as_slice(),
+        asked.inputs,
+        asked.out,
+    )?;
     let text = merged_line(
         room,
         joined.outputs.len(),

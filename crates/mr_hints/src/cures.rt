@@ -64,10 +64,14 @@ fn shards_cure(fault: &ShardFault) -> &'static str {
             "the verdict doesn't tell of one part for each partition: judge the shard again",
         ShardFault::RepeatedInput { .. } =>
             "name each verdict once; where two shards have a file of one name, give one another name and judge its shard again",
+        ShardFault::OtherInputs { .. } =>
+            "the verdicts tell of other inputs than --inputs lists, by a name, by bytes or by their order",
         ShardFault::OtherPart { .. } =>
             "this part isn't the one that was judged: judge the shard again",
         ShardFault::BadLine { .. } =>
             "the part isn't as the job writes it: run the shard again, and judge it",
+        ShardFault::LongVerdict { .. } => "a verdict has at most 1 GiB",
+        ShardFault::LongList => "the list of inputs has at most 1 GiB",
         ShardFault::TooLarge { .. } =>
             "at most 2 GiB in a partition's parts together: run the shards with more --parts",
         ShardFault::TooManySplits { .. } =>
