@@ -29,8 +29,7 @@ pub record AnswersMerge (old new : Stored) (o : MergeOptions) (text : List ℕ) 
   pub merged : IsMerged old new (verdict_names o) (list_name o) o.out.now joined
   pub said : text ≡ merged_line (length joined.outputs) joined.pairs (length joined.left_out)
 
--- why `merge` doesn't answer, as the merge of these shards tells it, and what stands then: once all is written, nothing more
--- is asked for that could be refused
+-- why `merge` doesn't answer, as the merge of these shards tells it, and what stands then
 abbrev pub IsMergeUnanswered : Stored → Stored → Faulty → Faulty → MergeOptions → Fault → Type 0
 IsMergeUnanswered old new unreadable unwritable o fault =
     (e : ShardFault) × TellsShards e fault × IsShardRefusal old new unreadable unwritable (verdict_names o) (list_name o) o.out.now e
