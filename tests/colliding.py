@@ -4,8 +4,10 @@ The table looks at few slots and then gives a word another number, so words that
 several numbers; the sort of the keys takes them together again. No other input shows that this is done."""
 import random
 import struct
+from collections import Counter
 
-from harness import read_result
+from harness import parts_of, read_result
+from plain import fnv
 from rows import plain
 
 FACTOR, MASK = 0x9E3779B97F4A7C15, 2**64 - 1
@@ -47,4 +49,22 @@ def counted_once(harness):
         harness.check(f"colliding words, {times} times each, judged", (status, err) == (0, b"") and out.startswith(b"yes: "), repr((status, out, err)))
 
 
-GROUPS = {"colliding words": counted_once}
+def waiting_keys(harness):
+    """So many words that those of a block wait for one another: new ones and known ones in one block, the same one twice in a
+    block, words longer than a slot tells of, and lines of many words and of few."""
+    draw = random.Random(64)
+    words = [b"%x" % draw.getrandbits(40) + draw.choice((b"", b"", b"0123456789abcdef")) for _ in range(150_000)]
+    told = words + draw.choices(words, k=60_000) + draw.choices(words[:50], k=40_000)
+    draw.shuffle(told)
+    told += [word for word in words[:500] for _ in range(3)]
+    data = b"".join(word + draw.choice((b" ", b" ", b" ", b"\n", b"\n\n")) for word in told)
+    counts, parts = Counter(told), 3
+    wanted = [b"".join(b"%s\t%d\n" % (word, counts[word]) for word in sorted(counts) if fnv(word) % parts == p) for p in range(parts)]
+    options = ["--job", "words", "--parts", str(parts), "--out", ".", "input"]
+    status, out, err, where = harness.run(["seq", *options], {"input": data})
+    harness.check("many words", (status, err) == (0, b"") and parts_of(where) == wanted, repr((status, out, err)))
+    status, out, err, _ = harness.run(["check", *options], cwd=where)
+    harness.check("many words, judged", (status, out, err) == (0, b"yes: %d pairs, 0 left out\n" % len(told), b""), repr((status, out, err)))
+
+
+GROUPS = {"colliding words": counted_once, "words that wait": waiting_keys}

@@ -91,7 +91,7 @@ def by_seq(harness):
     rnd = seeded("merge by seq")
     for turn in range(20):
         request, files, _ = random_job(rnd)
-        files = (files + [b"the a 42\n", b"", b"a -"])[:4]
+        files = (files + [b"the a 42\n", b"", b"a -", b"42 the\n"])[:4]
         request.most = 0
         names = [f"f{i}" for i in range(len(files))]
         whole = run_shard(harness, request, names, files, [])
