@@ -113,11 +113,9 @@ def spoiled_bytes(rnd, data):
     return data[:at] + bytes([rnd.randrange(256)]) + data[at:]
 
 
-def one_spoiled(rnd):
-    """A request, files, and a result that was good and is spoiled, or was left alone."""
-    request, files, skips = random_job(rnd)
-    outputs, certificate, _ = produced(request, files, skips)
-    kind, asked = rnd.randrange(10), request
+def spoiled(rnd, request, files, outputs, certificate):
+    """The request that is judged under, files, and a good result that is spoiled, or is left alone. The certificate is changed."""
+    kind, asked, outputs = rnd.randrange(10), request, list(outputs)
     if kind < 5:
         spoiled_groups(rnd, request, files, certificate)
         if rnd.random() < 0.8:
@@ -139,6 +137,13 @@ def one_spoiled(rnd):
         if rnd.random() < 0.4 and files:
             files = [*files[:-1], rnd.choice([files[-1] + b"x", files[-1][:-1], b""])]
     return asked, files, outputs, data
+
+
+def one_spoiled(rnd):
+    """A request, files, and a result that was good and is spoiled, or was left alone."""
+    request, files, skips = random_job(rnd)
+    outputs, certificate, _ = produced(request, files, skips)
+    return spoiled(rnd, request, files, outputs, certificate)
 
 
 def by_threads(harness, words, where):
