@@ -260,7 +260,7 @@ module _ (job : JobSpec) (old new : List Cursor) (line : Line) (s : Step job old
   pub step-for : AllByRecursion (IsHeadFor job) old → IsFor job line.tally
   step-for all =
       let r = all-split (IsHeadFor job) s.front (s.one ∷ s.back) (subst (AllByRecursion (IsHeadFor job)) s.was all) in
-      subst (λ (o : Option Line). IsHead job o s.one.rest.now) s.head r.1.0
+      (subst (λ (o : Option Line). IsHead job o s.one.rest.now) s.head r.1.0).0
 
   step-stands_one : Stands job s.next → Stands job s.one
   step-stands_one h = record {

@@ -4,6 +4,7 @@ use Rattle.std.specs.Ordering.{is_lt}
 use Rattle.std.specs.declared.cmp.Ordering.TheVariants.{Less}
 use Rattle.mr_bytes.specs.Order.{key_order}
 use Rattle.mr_jobs.specs.JobSpec.{JobSpec}
+use Rattle.mr_ranks.specs.Front.{AreBytes, first_bytes}
 use Rattle.mr_shards.specs.declared.cursor.Cursor.{Cursor}
 use Rattle.mr_shards.specs.declared.line.Line.{Line}
 use Rattle.mr_shards.specs.Merged.{Group, group_text, moved_group, joined, with_group}
@@ -37,6 +38,18 @@ unfoldable pub least_from : Option (ℕ × Line) → ℕ → List Cursor → Opt
 least_from least at [] = least
 least_from least at (c ∷ cs) = least_from (lesser least at c.head) (at + 1) cs
 
+-- the line's number is that of its key's first bytes
+abbrev pub HasFront : Line → Type 0
+HasFront l = (l.front ≡ first_bytes 8 l.key.now) × AreBytes l.key.now
+
+abbrev pub IsFronted : Option Line → Type 0
+IsFronted None = Unit {0}
+IsFronted (Some l) = HasFront l
+
+abbrev pub IsFound : Option (ℕ × Line) → Type 0
+IsFound None = Unit {0}
+IsFound (Some b) = HasFront b.1
+
 -- the line is one of the job's
 abbrev pub IsLineFor : JobSpec → Option Line → Type 0
 IsLineFor job None = Unit {0}
@@ -45,7 +58,7 @@ IsLineFor job (Some l) = IsFor job l.tally
 -- the next line is one of the job's, and there is one where bytes are left
 abbrev pub IsHead : JobSpec → Option Line → List ℕ → Type 0
 IsHead job None rest = rest ≡ []
-IsHead job (Some l) rest = IsFor job l.tally
+IsHead job (Some l) rest = IsFor job l.tally × HasFront l
 
 abbrev pub IsHeadFor : JobSpec → Cursor → Type 0
 IsHeadFor job c = IsHead job c.head c.rest.now

@@ -2,7 +2,10 @@
 ghost use Rattle.std.specs.Prelude.{◌≡◌, ℕ, List, IfOk, IfSome, IsTrue, map, None, ◌↔◌, IfErr};
 ghost use Rattle.mr_shards.specs.Lines.{groups_in};
 ghost use Rattle.mr_shards.specs.Merged.{moved_group};
-ghost use Rattle.mr_shards.specs.Cursors.{DoesNotFall, IsHeadFor, left, least_from, lesser};
+ghost use Rattle.std.specs.List.{AllByRecursion};
+ghost use Rattle.std.specs.Ordering.{is_lt};
+ghost use Rattle.mr_bytes.specs.Order.{key_order};
+ghost use Rattle.mr_shards.specs.Cursors.{DoesNotFall, HasFront, IsFound, IsFronted, IsHeadFor, left, least_from, lesser};
 ghost use Rattle.mr_shards.specs.Refused.{BlamesOnly, IsReadOf, IsRestOf, MayFollow, last_key};
 
 use crate::fault::MergeFault;
@@ -78,12 +81,27 @@ pub(crate) fn advanced<'a>(
     })
 }
 
+/// Whether the key of a line is before that of another. Where their first bytes differ, those tell it.
+fn is_before(line: Line<'_>, other: Line<'_>) -> bool
+    requires line { HasFront line }
+    requires other { HasFront other }
+    ensures { result ≡ is_lt (key_order line.entry.key.now other.entry.key.now) }
+{
+    if line.front == other.front {
+        compare_keys(line.key, other.key).is_lt()
+    } else {
+        line.front < other.front
+    }
+}
+
 /// The line of the lesser key, with its place; the one found before, where they are alike.
 fn lesser<'a>(
     least: Option<(usize, Line<'a>)>,
     at: usize,
     head: Option<Line<'a>>,
 ) -> Option<(usize, Line<'a>)>
+    requires least { IsFound least }
+    requires head { IsFronted head }
     ensures { result ≡ lesser least.entry at head.entry }
 {
     let Some(line) = head else {
@@ -92,7 +110,7 @@ fn lesser<'a>(
     let Some((_, best)) = least else {
         return Some((at, line));
     };
-    if compare_keys(line.key, best.key).is_lt() {
+    if is_before(line, best) {
         Some((at, line))
     } else {
         least
@@ -101,6 +119,7 @@ fn lesser<'a>(
 
 /// The first of the cursors whose next line has the least key, and that line.
 pub(crate) fn first_least<'a>(cursors: &[Cursor<'a>]) -> Option<(usize, Line<'a>)>
+    requires { AllByRecursion (λ c. IsFronted c.head) cursors.now }
     ensures { result ≡ least_from None 0 cursors.entry.now }
 {
     let mut least = None;

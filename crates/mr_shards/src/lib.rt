@@ -3,6 +3,7 @@
 
 mod cursor;
 mod fault;
+mod front;
 mod line;
 mod merge;
 

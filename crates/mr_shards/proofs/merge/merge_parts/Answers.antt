@@ -1,7 +1,9 @@
-use Rattle.std.proofs.Common.{◌≡◌, ◌∙◌, ap, sym, Some, None, ℕ, List, Option}
+use Rattle.std.proofs.Common.{◌≡◌, ◌∙◌, ap, sym, subst, Some, None, ℕ, List, Option}
 use Rattle.mr_shards.specs.declared.cursor.Cursor.{Cursor}
 use Rattle.mr_shards.specs.declared.line.Line.{Line}
-use Rattle.mr_shards.specs.Cursors.{least_from}
+use Rattle.std.specs.List.{AllByRecursion}
+use Rattle.mr_shards.specs.Cursors.{IsFronted, least_from}
+use Rattle.mr_shards.proofs.FrontLemmas.{all-fronted}
 use Rattle.mr_shards.proofs.StepLemmas.{best-of, IsLeast, IsBest, step-of, step-less}
 use Rattle.mr_shards.proofs.LoopLemmas.{kept-first, kept-step, kept-end, least-within}
 use Rattle.mr_shards.proofs.RefusedLemmas.{blamed, blames-left, blames-taken, read-step}
@@ -17,6 +19,10 @@ least cs seen o at line same found is = best-of cs (Some (at, line)) (sym is ∙
 pub loop-at-init : goal.loop-at-init
 loop-at-init c =
     kept-first c.args.job.now c.args.outputs.now c.in_ok-cursors.cursors.items c.new-out.result.items c.in_ok-cursors.ensures.kinds c.in_ok-cursors.ensures.read c.in_ok-cursors.ensures.opened c.in_ok-cursors.ensures.lefts c.new-out.ensures.items
+
+pub first_least-requires : goal.first_least-requires
+first_least-requires c =
+    subst (AllByRecursion (λ (q : Cursor). IsFronted q.head)) (sym c.deref.ensures.value) (all-fronted c.args.job.now c.loop-at.cursors.items c.loop-at.invariant.kinds)
 
 pub go_on-requires : goal.go_on-requires
 go_on-requires c =
