@@ -4,3 +4,4 @@ pub mod Lists
 pub mod Digits
 pub mod Written
 pub mod Stopped
+pub mod Readers

@@ -8,7 +8,7 @@ use Rattle.std.specs.Global.{Global}
 use Rattle.mr_input.specs.Files.{contents}
 use Rattle.mr_files.specs.Holding.{Holding, Differs, ChangesOnly, ChangesAmong}
 use Rattle.mr_files.specs.Names.{part_names, name_of_part, name_of_certificate, result_names}
-use Rattle.mr_files.specs.Refusals.{IsReadRefusal, IsUnread, IsOneUnread}
+use Rattle.mr_files.specs.Refusals.{IsReadRefusal, IsUnread, IsOneUnread, IsUnreadAmong}
 use Rattle.mr_files.specs.declared.store.FileFault.{FileFault}
 use Rattle.mr_files.specs.declared.store.FileFault.TheVariants.{CannotRead, CannotWrite, OutOfMemory}
 
@@ -83,6 +83,18 @@ one_part unreadable dir k n e h u =
 
 pub one_certificate : (unreadable : List ℕ → Type 0) (dir : List ℕ) (n : ℕ) (e : FileFault) → IsUnread unreadable (name_of_certificate dir) e → IsOneUnread unreadable (result_names dir n) e
 one_certificate unreadable dir n e u = one_at unreadable (result_names dir n) (part_names dir n) [] (name_of_certificate dir) e refl u
+
+pub part_unread : (unreadable : List ℕ → Type 0) (dir : List ℕ) (k n : ℕ) → k < n → unreadable (name_of_part dir k) → IsUnreadAmong unreadable (result_names dir n) (name_of_part dir k)
+part_unread unreadable dir k n h u =
+    let (after, is) = part_among dir k n h in (
+      part_names dir k,
+      after ++ name_of_certificate dir ∷ [],
+      ap (λ (v : List (List ℕ)). v ++ name_of_certificate dir ∷ []) is ∙ append_assoc (part_names dir k) (name_of_part dir k ∷ after) (name_of_certificate dir ∷ []),
+      u,
+    )
+
+pub certificate_unread : (unreadable : List ℕ → Type 0) (dir : List ℕ) (n : ℕ) → unreadable (name_of_certificate dir) → IsUnreadAmong unreadable (result_names dir n) (name_of_certificate dir)
+certificate_unread unreadable dir n u = (part_names dir n, [], refl, u)
 
 -- a write under a name that these all differ from keeps what stands under these
 pub holding_kept : (old new : List ℕ → List ℕ → Type 0) (name : List ℕ) (names bs : List (List ℕ)) → ChangesOnly old new name → Differs name names → Holding old names bs → Holding new names bs

@@ -5,6 +5,12 @@ use Rattle.std.specs.Prelude.{◌≡◌, ◌≢◌, ◌⊎◌, ◌↔◌, ℕ, �
 abbrev pub Agrees : Option (List ℕ) → List ℕ → Type 0
 Agrees known bytes = IfSome known (λ xs. xs ≡ bytes)
 
+-- and so of several, one for one
+abbrev pub AllAgree : List (Option (List ℕ)) → List (List ℕ) → Type 0
+AllAgree [] [] = ⊤
+AllAgree (k ∷ ks) (b ∷ bs) = Agrees k b × AllAgree ks bs
+AllAgree _ _ = ⊥
+
 -- which bytes stand under which name
 abbrev pub Stored : Type 1
 Stored = List ℕ → List ℕ → Type 0

@@ -32,6 +32,12 @@ IsUnread unreadable name (CannotRead told) = unreadable name × (string_bytes to
 IsUnread unreadable name (CannotWrite told) = ⊥
 IsUnread unreadable name OutOfMemory = ⊤
 
+-- a fault of reading that names a file of which this is known, or want of memory
+abbrev pub TellsOf : (List ℕ → Type 0) → FileFault → Type 0
+TellsOf cause (CannotRead told) = cause (string_bytes told)
+TellsOf cause (CannotWrite told) = ⊥
+TellsOf cause OutOfMemory = ⊤
+
 -- the file can't be read, or has more bytes than that
 abbrev pub IsUnreadWithin : Stored → Faulty → List ℕ → ℕ → WithinFault → Type 0
 IsUnreadWithin holds unreadable name limit (File fault) = IsUnread unreadable name fault
@@ -48,8 +54,12 @@ IsReadRefusalWithin holds unreadable names limit (File fault) = IsReadRefusal ho
 IsReadRefusalWithin holds unreadable names limit TooLong = IsPassed holds names limit
 
 -- the name is one of these and can't be read
+abbrev pub IsUnreadAmong : Faulty → List (List ℕ) → List ℕ → Type 0
+IsUnreadAmong unreadable names name = (before after : List (List ℕ)) × (names ≡ before ++ name ∷ after) × unreadable name
+
+-- such a name is told
 abbrev pub IsOneUnread : Faulty → List (List ℕ) → FileFault → Type 0
-IsOneUnread unreadable names (CannotRead told) = (before after : List (List ℕ)) × (names ≡ before ++ string_bytes told ∷ after) × unreadable (string_bytes told)
+IsOneUnread unreadable names (CannotRead told) = IsUnreadAmong unreadable names (string_bytes told)
 IsOneUnread unreadable names (CannotWrite told) = ⊥
 IsOneUnread unreadable names OutOfMemory = ⊤
 

@@ -20,6 +20,8 @@ use std::rt::Files;
 enum Handle<F> {
     Unopened,
     Open(F),
+    /// It was read to its end.
+    Ended,
     Closed,
 }
 
@@ -40,7 +42,8 @@ fn closed<F>() -> io::Result<F> {
     Err(io::Error::from(ErrorKind::Other))
 }
 
-/// A file that is opened at its first read. Where a call fails it is closed, and each call from then on fails.
+/// A file that is opened at its first read and closed at its end. Where a call fails it is closed, and each call from then
+/// on fails.
 #[derive(Drop)]
 pub struct FileReader<'a, R: Files> {
     rt: &'a R,
@@ -57,7 +60,7 @@ impl<'a, R: Files> FileReader<'a, R> {
         match mem::replace(&mut self.handle, Handle::Closed) {
             Handle::Unopened => File::open(self.rt, self.name.as_str()),
             Handle::Open(file) => Ok(file),
-            Handle::Closed => closed(),
+            Handle::Ended | Handle::Closed => closed(),
         }
     }
 
@@ -65,9 +68,16 @@ impl<'a, R: Files> FileReader<'a, R> {
         ensures bound { IfOk result (λ n. n ≤ length buffer.new) }
         ensures same { self.new.failures ≡ self.old.failures }
     {
+        if let Handle::Ended = self.handle {
+            return Ok(0);
+        }
         let mut file = self.open()?;
         let count = read_some(&mut file, buffer)?;
-        self.handle = Handle::Open(file);
+        if count > 0 || buffer.is_empty() {
+            self.handle = Handle::Open(file);
+        } else {
+            self.handle = Handle::Ended;
+        }
         Ok(count)
     }
 }
@@ -109,7 +119,7 @@ impl<'a, R: Files> FileWriter<'a, R> {
         match mem::replace(&mut self.handle, Handle::Closed) {
             Handle::Unopened => File::create(self.rt, self.name.as_str()),
             Handle::Open(file) => Ok(file),
-            Handle::Closed => closed(),
+            Handle::Ended | Handle::Closed => closed(),
         }
     }
 
@@ -170,6 +180,14 @@ impl<'a, R: Files> DiskFiles<'a, R> {
     }
 }
 
+/// Whether it is a pipe, a socket or a device, whose bytes who opens it takes from whoever opens it next.
+fn is_stream<R: Files>(rt: &R, name: &str) -> bool {
+    match fs::metadata(rt, name) {
+        Ok(seen) => !seen.is_file() && !seen.is_dir(),
+        Err(_) => false,
+    }
+}
+
 impl<'a, R: Files> Store for DiskFiles<'a, R> {
     type Reader = FileReader<'a, R>;
 
@@ -182,6 +200,9 @@ impl<'a, R: Files> Store for DiskFiles<'a, R> {
     ghost unwritable = { λ _ _. ⊤ };
 
     fn try_open(&self, name: &str) -> Result<(), ReadFault> {
+        if is_stream(self.rt, name) {
+            return Ok(());
+        }
         match noted(self.last, File::open(self.rt, name)) {
             Ok(_) => Ok(()),
             Err(error) if error.kind() == ErrorKind::OutOfMemory => Err(ReadFault::OutOfMemory),

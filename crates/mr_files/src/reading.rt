@@ -58,7 +58,7 @@ pub fn read_files<S: Store>(
 }
 
 /// Whether the file of that name can be opened.
-fn try_file<S: Store>(store: &S, alloc: Global, name: &str) -> Result<(), FileFault>
+pub(crate) fn try_file<S: Store>(store: &S, alloc: Global, name: &str) -> Result<(), FileFault>
     ensures { IfErr result (λ e. IsUnread (S.unreadable store.now) name.now e) }
 {
     match store.try_open(name) {
@@ -88,7 +88,12 @@ fn read_part<S: Store>(
 }
 
 /// Each part can be opened, tried in order.
-fn try_parts<S: Store>(store: &S, alloc: Global, dir: &str, parts: usize) -> Result<(), FileFault>
+pub(crate) fn try_parts<S: Store>(
+    store: &S,
+    alloc: Global,
+    dir: &str,
+    parts: usize,
+) -> Result<(), FileFault>
     ensures { IfErr result (λ e. IsOneUnread (S.unreadable store.now) (result_names dir.now parts) e) }
 {
     for part in 0..parts {
