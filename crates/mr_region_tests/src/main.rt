@@ -1,9 +1,11 @@
 //! Regions as bytes, as a program for the checks from outside. Each line of standard input has a split, a partition, and
-//! bytes, all as decimal numbers. A line answers it: the fault, or whether the pairs that were read are spelled so again,
-//! and their keys, values and names.
+//! bytes, all as decimal numbers. A line answers it: the fault, or whether the pairs that were read are spelled so again
+//! and a walk over the bytes gives the same ones, and their keys, values and names.
 #![tactic(auto)]
 
-use mr_spill::{Pairs, read_region, write_region};
+ghost use Rattle.std.specs.Prelude.{◌<◌, length};
+
+use mr_spill::{Pairs, RegionPair, open_region, read_region, write_region};
 use std::alloc::{AllocError, Global};
 use std::io;
 
@@ -38,13 +40,51 @@ fn show_pairs(rt: &HostRuntime, pairs: &Pairs) -> io::Result<()> {
     println!(rt; "")
 }
 
-/// Tells what the bytes spell.
+/// Whether a pair of a walk is pair `i`.
+fn is_same(pair: &RegionPair<'_>, pairs: &Pairs, i: usize) -> bool
+    requires { i < length pairs.now }
+{
+    pair.key == pairs.key(i) && pair.value == pairs.value(i) && pair.name == pairs.name(i)
+}
+
+/// Whether a walk over the bytes gives these pairs, and then is at its end.
+fn walks_as(bytes: &[u8], split: u32, partition: u32, pairs: &Pairs) -> bool {
+    let Some(mut walk) = open_region(bytes, split, partition) else {
+        return false;
+    };
+    for i in 0..pairs.len() {
+        let Some(pair) = walk.next() else {
+            return false;
+        };
+        if !is_same(&pair, pairs, i) {
+            return false;
+        }
+    }
+    walk.is_at_end()
+}
+
+/// Whether a walk over the bytes comes to its end.
+fn walks_on(bytes: &[u8], split: u32, partition: u32) -> bool {
+    let Some(mut walk) = open_region(bytes, split, partition) else {
+        return false;
+    };
+    for _ in 0..walk.left() {
+        if walk.next().is_none() {
+            return false;
+        }
+    }
+    walk.is_at_end()
+}
+
+/// Tells what the bytes spell, and where a walk over them tells something else.
 fn show(rt: &HostRuntime, bytes: &[u8], split: u32, partition: u32) -> io::Result<()> {
     match read_region(rt.alloc(), bytes, split, partition) {
+        Err(_) if walks_on(bytes, split, partition) => println!(rt; "walked to its end"),
         Err(fault) => println!(rt; "{:?}", fault),
         Ok(pairs) => {
             let again = write_region(rt.alloc(), &pairs, split, partition)?;
-            print!(rt; "{}", again.as_slice() == bytes)?;
+            let same = walks_as(bytes, split, partition, &pairs);
+            print!(rt; "{}", same && again.as_slice() == bytes)?;
             show_pairs(rt, &pairs)
         }
     }

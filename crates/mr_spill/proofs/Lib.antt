@@ -1,4 +1,5 @@
 pub mod ColumnLemmas
+pub mod CursorLemmas
 pub mod CutLemmas
 pub mod EntryLemmas
 pub mod ListsLemmas

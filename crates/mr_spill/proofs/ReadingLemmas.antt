@@ -11,7 +11,7 @@ use Rattle.mr_bytes.specs.Lists.{Rises}
 use Rattle.mr_bytes.specs.Pairs.{Triple, pair_order}
 use Rattle.mr_spill.specs.Column.{nth_pair}
 use Rattle.mr_spill.specs.Reading.{AreRead, MayFollow}
-use Rattle.mr_spill.specs.Spelling.{PairFits, ValueFits, header, magic, name_bytes, pair_bytes, u32, u64, value_bytes}
+use Rattle.mr_spill.specs.Spelling.{PairFits, SpellsRegion, ValueFits, header, magic, name_bytes, pair_bytes, u32, u64, value_bytes}
 use Rattle.mr_spill.proofs.RegionLaws.{pair_total}
 
 pub front-cut : (a b xs ys : List ℕ) → length a ≡ length b → a ++ xs ≡ b ++ ys → (a ≡ b) × (xs ≡ ys)
@@ -193,3 +193,27 @@ pub all-last : (ts : List Triple) (n : ℕ) (t : Triple) → n < length ts → A
 all-last [] n t h a = absurd (omega arith)
 all-last (u ∷ ts) zero t h a = a.0
 all-last (u ∷ ts) (suc n) t h a = all-last ts n t (omega (arith, h)) a.1
+
+-- ---- one spelling, one list of pairs
+
+one-list : (ts us : List Triple) → AllByRecursion PairFits ts → AllByRecursion PairFits us → length ts ≡ length us → flat_map pair_bytes ts ≡ flat_map pair_bytes us → ts ≡ us
+one-list [] [] f g l e = refl
+one-list [] (u ∷ us) f g l e = absurd (omega (arith, l))
+one-list (t ∷ ts) [] f g l e = absurd (omega (arith, l))
+one-list (t ∷ ts) (u ∷ us) f g l e =
+    let c = pair-front t u (flat_map pair_bytes ts) (flat_map pair_bytes us) f.0 g.0 e in
+    let r = one-list ts us f.1 g.1 (omega (arith, l)) c.1 in
+    (λ i. c.0 i ∷ r i)
+
+pub spells-one : (bytes : List ℕ) (split p q : ℕ) (ts us : List Triple) → SpellsRegion bytes split p ts → SpellsRegion bytes split q us → us ≡ ts
+spells-one bytes split p q ts us a b =
+    let m : ℕ = length us in
+    let n : ℕ = length ts in
+    let xs : List ℕ = flat_map pair_bytes us in
+    let ys : List ℕ = flat_map pair_bytes ts in
+    let e = sym (header-parts split q m xs) ∙ sym b.is ∙ a.is ∙ header-parts split p n ys in
+    let f = front-cut magic magic (u32 split ++ (u32 q ++ (u32 m ++ xs))) (u32 split ++ (u32 p ++ (u32 n ++ ys))) refl e in
+    let g = front-cut (u32 split) (u32 split) (u32 q ++ (u32 m ++ xs)) (u32 p ++ (u32 n ++ ys)) refl f.1 in
+    let h = front-cut (u32 q) (u32 p) (u32 m ++ xs) (u32 n ++ ys) refl g.1 in
+    let k = number-front m n xs ys b.few a.few h.1 in
+    one-list us ts b.fit a.fit k.0 k.1

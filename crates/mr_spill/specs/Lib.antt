@@ -1,7 +1,9 @@
 pub mod Buckets
 pub mod Column
+pub mod Cursor
 pub mod Buffer
 pub mod Entries
+pub mod Lent
 pub mod Reading
 pub mod Regions
 pub mod Rows

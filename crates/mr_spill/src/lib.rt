@@ -10,8 +10,10 @@
 
 mod buffer;
 mod column;
+mod cursor;
 mod distribute;
 mod entries;
+mod lent;
 mod lists;
 mod numbered;
 mod reading;
@@ -20,6 +22,9 @@ mod spelling;
 
 pub use buffer::{Buffer, PushFault, PushRefusal};
 pub use column::Pairs;
+pub use cursor::{RegionCursor, RegionPair, open_region};
+pub use lent::Region;
+pub use numbered::Numbered;
 pub use reading::{RegionFault, read_region};
-pub use regions::{gathered, spill_law};
+pub use regions::{cut, gathered, spill_law};
 pub use spelling::{worked_regions, write_region};

@@ -1,10 +1,12 @@
 //! Pairs whose keys are numbered.
-ghost use Rattle.std.specs.Prelude.{◌≡◌, ℕ, ◌-◌, ◌≤◌, ◌<◌, ◌^◌, ◌++◌, ◌∷◌, [], IfOk, OnOk, OnErr, length};
+ghost use Rattle.std.specs.Prelude.{◌≡◌, ℕ, ◌-◌, ◌≤◌, ◌<◌, ◌^◌, ◌++◌, ◌∷◌, [], IfOk, IsTrue, OnOk, OnErr, length};
 ghost use Rattle.mr_keys.specs.Keys.{IsKeyAt, key_at};
 ghost use Rattle.mr_spill.specs.Column.{nth_pair};
+ghost use Rattle.mr_spill.specs.Cursor.{EndsWithKey, lent_pair};
 ghost use Rattle.mr_spill.specs.Table.{columns_of};
 
 use crate::column::Pairs;
+use crate::cursor::RegionPair;
 use crate::entries::Entries;
 use mr_bytes::{Name, Value};
 use mr_keys::Keys;
@@ -14,11 +16,11 @@ use std::marker::Model;
 /// Pairs with their names: the keys by number, and a pair is the number of its key with what it has beside it. Some keys may
 /// have more than one number. There is no memory for 4 Gi pairs.
 #[derive(Drop)]
-pub(crate) struct Numbered {
+pub struct Numbered {
     alloc: Global,
-    pub keys: Keys,
-    pub numbers: Vec<u32>,
-    pub entries: Entries,
+    pub(crate) keys: Keys,
+    pub(crate) numbers: Vec<u32>,
+    pub(crate) entries: Entries,
 }
 
 impl Model for Numbered {
@@ -67,7 +69,7 @@ impl Numbered {
     }
 
     /// No pairs, and room for so many. It fails only for want of memory.
-    fn with_room(alloc: Global, count: usize) -> Result<Numbered, AllocError>
+    pub fn with_room(alloc: Global, count: usize) -> Result<Numbered, AllocError>
         ensures { IfOk result (λ n. n ≡ []) }
     {
         Ok(Numbered {
@@ -140,6 +142,19 @@ impl Numbered {
             return self.push_again(value, name);
         }
         self.push(column.key(i), value, name)
+    }
+
+    /// Takes a pair of a region, at the end: one that has the key of the pair before it takes no look-up. It fails only for
+    /// want of memory.
+    pub fn take(&mut self, pair: RegionPair<'_>) -> Result<(), AllocError>
+        requires { IsTrue pair.again → EndsWithKey self.old pair.key.now }
+        ensures pair { OnOk result (self.new ≡ self.old ++ lent_pair pair.entry ∷ []) }
+        ensures last { OnOk result (EndsWithKey self.new pair.entry.key.now) }
+    {
+        if pair.again {
+            return self.push_again(pair.value, pair.name);
+        }
+        self.push(pair.key, pair.value, pair.name)
     }
 
     /// Takes the pairs of a column, at the end.

@@ -41,11 +41,11 @@ impl From<AllocError> for RegionFault {
 
 /// A pair that stands in front of bytes, and the bytes behind it.
 #[derive(Drop)]
-struct Front<'a> {
-    key: &'a [u8],
-    value: Value,
-    name: Name,
-    rest: &'a [u8],
+pub(crate) struct Front<'a> {
+    pub key: &'a [u8],
+    pub value: Value,
+    pub name: Name,
+    pub rest: &'a [u8],
 }
 
 /// The number that the first four bytes spell, and the bytes behind them.
@@ -109,7 +109,7 @@ fn take_value<'a>(bytes: &'a [u8]) -> Option<(Value, &'a [u8])>
 }
 
 /// The pair in front, and the bytes behind it.
-fn take_pair<'a>(bytes: &'a [u8]) -> Option<Front<'a>>
+pub(crate) fn take_pair<'a>(bytes: &'a [u8]) -> Option<Front<'a>>
     ensures { MatchOption result ((t : Triple) (rest : List ℕ) → PairFits t → bytes.entry.now ≡ pair_bytes t ++ rest → ⊥)
         (λ f. (bytes.entry.now ≡ pair_bytes (pair_of f) ++ f.rest.now) × PairFits (pair_of f)) }
 {
@@ -146,7 +146,11 @@ fn take_this<'a>(bytes: &'a [u8], number: u32) -> Option<&'a [u8]>
 }
 
 /// How many pairs the header tells, if it is that of this split and partition, and the bytes behind it.
-fn take_header<'a>(bytes: &'a [u8], split: u32, partition: u32) -> Option<(u32, &'a [u8])>
+pub(crate) fn take_header<'a>(
+    bytes: &'a [u8],
+    split: u32,
+    partition: u32,
+) -> Option<(u32, &'a [u8])>
     ensures { MatchOption result ((n : ℕ) (rest : List ℕ) → bytes.entry.now ≡ header split partition n ++ rest → ⊥)
         (λ r. (bytes.entry.now ≡ header split partition (r.0) ++ r.1.now) × (r.0 < 2 ^ 32)) }
 {

@@ -1,8 +1,8 @@
 //! A region spelled as bytes.
-ghost use Rattle.std.specs.Prelude.{◌≡◌, ℕ, ◌<◌, ◌^◌, ◌++◌, IfOk, OnOk, length};
+ghost use Rattle.std.specs.Prelude.{◌≡◌, ℕ, ◌<◌, ◌^◌, ◌++◌, List, IfOk, OnOk, length};
 ghost use Rattle.std.specs.List.{AllByRecursion};
 ghost use Rattle.mr_bytes.specs.Lists.{Rises};
-ghost use Rattle.mr_bytes.specs.Pairs.{pair_order};
+ghost use Rattle.mr_bytes.specs.Pairs.{Triple, pair_order};
 ghost use Rattle.mr_spill.specs.Column.{nth_pair};
 ghost use Rattle.mr_spill.specs.Spelling.{PairFits, SpellsRegion, ValueFits, header, name_bytes, pair_bytes, u32 as four, u64 as eight, value_bytes};
 ghost use Rattle.mr_spill.specs.WorkedBytes.{WorkedFalling, WorkedOther, WorkedRegion, WorkedSizes};
@@ -94,7 +94,8 @@ pub fn write_region(
     requires rise { Rises pair_order pairs.now }
     requires own { AllByRecursion (λ t. t.name.split ≡ split) pairs.now }
     requires few { length pairs.now < 2 ^ 32 }
-    ensures { IfOk result (λ v. SpellsRegion v.items split partition pairs.now) }
+    ensures spelled { IfOk result (λ v. SpellsRegion v.items split partition pairs.now) }
+    ensures nothing_else { IfOk result (λ v. (other : ℕ) (ts : List Triple) → SpellsRegion v.items split other ts → ts ≡ pairs.now) }
 {
     let mut out = Vec::new(alloc);
     let count = pairs.len();

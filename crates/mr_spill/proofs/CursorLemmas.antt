@@ -1,0 +1,77 @@
+-- A pair taken from the front of what is still to come.
+use Rattle.std.proofs.Common.{◌≡◌, ℕ, suc, List, [], ◌∷◌, ◌++◌, Option, Some, None, refl, sym, ◌∙◌, ap, subst, arith}
+use Rattle.std.specs.List.{AllByRecursion, flat_map}
+use Rattle.std.specs.Cmp.Lexicographic.{bytes_decides, texts_ties}
+use Rattle.std.specs.Ordering.{is_eq}
+use Rattle.std.specs.declared.cmp.Ordering.TheVariants.{Less, Equal}
+use Rattle.mr_bytes.specs.Lists.{Rises}
+use Rattle.mr_bytes.specs.Order.{key_order}
+use Rattle.mr_bytes.specs.Pairs.{Triple, pair_order}
+use Rattle.mr_bytes.proofs.ListLaws.{Has-all, all_from_Has}
+use Rattle.mr_spill.specs.declared.cursor.RegionPair.{RegionPair}
+use Rattle.mr_spill.specs.declared.cursor.RegionCursor.{RegionCursor}
+use Rattle.mr_spill.specs.Cursor.{AreAhead, IsBehind, IsNextOf, RiseBehind, lent_pair}
+use Rattle.mr_spill.specs.Spelling.{PairFits, pair_bytes}
+use Rattle.mr_spill.proofs.ReadingLemmas.{pair-front}
+use Rattle.mr_spill.proofs.RegionLaws.{pair_total}
+
+pub same-key : (j k : List ℕ) → key_order j k ≡ Equal → j ≡ k
+same-key j k e = (bytes_decides j k).0 (texts_ties j k ∙ ap is_eq e)
+
+-- ---- rising behind the last pair
+
+rise-more : (last : Option RegionPair) (t : Triple) (us : List Triple) → IsBehind last t.key t.name → Rises pair_order (t ∷ us) → RiseBehind last (t ∷ us)
+rise-more None t us b r = r
+rise-more (Some l) t us b r =
+    ((b, all_from_Has (λ u. pair_order (lent_pair l) u ≡ Less) us (λ u h. pair_total.trans (lent_pair l) t u b (Has-all (λ w. pair_order t w ≡ Less) us u r.0 h))), r)
+
+rise-on : (last : Option RegionPair) (t : Triple) (us : List Triple) → RiseBehind last (t ∷ us) → Rises pair_order (t ∷ us)
+rise-on None t us r = r
+rise-on (Some l) t us r = r.1
+
+rise-first : (last : Option RegionPair) (t : Triple) (us : List Triple) → RiseBehind last (t ∷ us) → IsBehind last t.key t.name
+rise-first None t us r = tt
+rise-first (Some l) t us r = r.0.0
+
+-- ---- the next pair
+
+pub none-left : (old : RegionCursor) → ((t : Triple) (rest : List ℕ) → PairFits t → old.rest.now ≡ pair_bytes t ++ rest → ⊥)
+    → (ts : List Triple) → AreAhead old ts → ts ≡ []
+none-left old refused [] a = refl
+none-left old refused (u ∷ us) a = absurd (refused u (flat_map pair_bytes us) a.fit.0 a.text)
+
+pub not-next : (old : RegionCursor) (t : Triple) (rest : List ℕ) → old.rest.now ≡ pair_bytes t ++ rest → PairFits t
+    → (t.name.split ≡ old.split → IsBehind old.last t.key t.name → ⊥) → (ts : List Triple) → AreAhead old ts → ts ≡ []
+not-next old t rest text fit refused [] a = refl
+not-next old t rest text fit refused (u ∷ us) a =
+    let f = pair-front u t (flat_map pair_bytes us) rest a.fit.0 fit (sym a.text ∙ text) in
+    absurd (subst (λ (w : Triple). (w.name.split ≡ old.split → IsBehind old.last w.key w.name → ⊥)) (sym f.0) refused a.own.0 (rise-first old.last u us a.rise))
+
+pub next-of : (p : RegionPair) (old new : RegionCursor) → new.last ≡ Some p → new.split ≡ old.split → old.left ≡ suc new.left
+    → old.rest.now ≡ pair_bytes (lent_pair p) ++ new.rest.now → PairFits (lent_pair p) → p.name.split ≡ old.split → IsBehind old.last p.key.now p.name
+    → IsNextOf (lent_pair p) old new
+next-of p old new last split left text fit own behind = record { on = on; only = only }
+  where
+    on : (us : List Triple) → AreAhead new us → AreAhead old (lent_pair p ∷ us)
+    on us a = record {
+      text = text ∙ ap (λ (l : List ℕ). pair_bytes (lent_pair p) ++ l) a.text;
+      all = omega (arith, a.all, left);
+      rise = rise-more old.last (lent_pair p) us behind (subst (λ (l : Option RegionPair). RiseBehind l us) last a.rise);
+      own = (own, subst (λ (s : ℕ). AllByRecursion (λ (u : Triple). u.name.split ≡ s) us) split a.own);
+      fit = (fit, a.fit);
+    }
+
+    only : (ts : List Triple) → AreAhead old ts → (us : List Triple) × (ts ≡ lent_pair p ∷ us) × AreAhead new us
+    only [] a = absurd (omega (arith, a.all, left))
+    only (u ∷ us) a =
+        let f = pair-front u (lent_pair p) (flat_map pair_bytes us) new.rest.now a.fit.0 fit (sym a.text ∙ text) in (
+          us,
+          (λ i. f.0 i ∷ us),
+          record {
+            text = sym f.1;
+            all = omega (arith, a.all, left);
+            rise = subst (λ (l : Option RegionPair). RiseBehind l us) (sym last) (subst (λ (w : Triple). Rises pair_order (w ∷ us)) f.0 (rise-on old.last u us a.rise));
+            own = subst (λ (s : ℕ). AllByRecursion (λ (w : Triple). w.name.split ≡ s) us) (sym split) a.own.1;
+            fit = a.fit.1;
+          },
+        )

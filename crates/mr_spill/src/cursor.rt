@@ -1,0 +1,117 @@
+//! A region walked pair by pair over its bytes: nothing is copied, and nothing believed that the bytes don't spell.
+ghost use Rattle.std.specs.Prelude.{◌≡◌, ◌↔◌, ℕ, ◌<◌, ◌≤◌, ◌^◌, ◌∷◌, [], List, Some, IsTrue, MatchOption, length};
+ghost use Rattle.mr_bytes.specs.Pairs.{Triple};
+ghost use Rattle.mr_spill.specs.Cursor.{AreAhead, IsBehind, IsKeyOf, IsNextOf, IsOpened, lent_pair};
+ghost use Rattle.mr_spill.specs.Spelling.{SpellsRegion};
+
+use crate::reading::{Front, take_header, take_pair};
+use mr_bytes::{Name, Value, compare_keys, compare_names};
+use std::cmp::Ordering;
+
+/// A pair of a region; its key lies in the region's bytes.
+#[derive(Clone, Copy, Drop)]
+pub struct RegionPair<'a> {
+    pub key: &'a [u8],
+    pub value: Value,
+    pub name: Name,
+    /// It has the key of the pair before it, so it takes no look-up.
+    pub again: bool,
+}
+
+/// The pairs of a region that are still to come.
+#[derive(Drop)]
+pub struct RegionCursor<'a> {
+    rest: &'a [u8],
+    split: u32,
+    left: u32,
+    last: Option<RegionPair<'a>>,
+}
+
+/// Whether a pair has the key of the last one; `None` where it may not stand behind it.
+fn turn_of(last: Option<RegionPair<'_>>, key: &[u8], name: Name) -> Option<bool>
+    ensures { MatchOption result (IsBehind last.entry key.now name → ⊥)
+        (λ again. IsBehind last.entry key.now name × (IsTrue again → IsKeyOf last.entry key.now)) }
+{
+    let Some(last) = last else {
+        return Some(false);
+    };
+    match compare_keys(last.key, key) {
+        Ordering::Less => Some(false),
+        Ordering::Equal => match compare_names(last.name, name) {
+            Ordering::Less => Some(true),
+            _ => None,
+        },
+        Ordering::Greater => None,
+    }
+}
+
+/// A walk over the bytes of a region of this split and partition; `None` where they don't begin as one.
+pub fn open_region<'a>(bytes: &'a [u8], split: u32, partition: u32) -> Option<RegionCursor<'a>>
+    ensures { MatchOption result ((ts : List Triple) → SpellsRegion bytes.entry.now split partition ts → ⊥)
+        (IsOpened bytes.entry.now split partition) }
+{
+    let Some((count, rest)) = take_header(bytes, split, partition) else {
+        return None;
+    };
+    Some(RegionCursor {
+        rest,
+        split,
+        left: count,
+        last: None,
+    })
+}
+
+impl<'a> RegionCursor<'a> {
+    /// How many pairs are still to come, as the header tells.
+    pub fn left(&self) -> u32
+        ensures { (ts : List Triple) → AreAhead self.now ts → result ≡ length ts }
+    {
+        self.left
+    }
+
+    /// Whether no pair and no byte is left: else, where no next pair stands, the region is damaged.
+    pub fn is_at_end(&self) -> bool
+        ensures { IsTrue result ↔ AreAhead self.now [] }
+    {
+        self.left == 0 && self.rest.is_empty()
+    }
+
+    /// The next pair; `None` where none stands that may come next, and then the walk is where it was.
+    pub fn next(&mut self) -> Option<RegionPair<'a>>
+        ensures none { MatchOption result ((self.new ≡ self.old) × ((ts : List Triple) → AreAhead self.old ts → ts ≡ []))
+            (λ p. IsNextOf (lent_pair p) self.old self.new) }
+        ensures last { MatchOption result Unit (λ p. self.new.last ≡ Some p) }
+        ensures again { MatchOption result Unit (λ p. IsTrue p.again → IsKeyOf self.old.last p.key.now) }
+    {
+        if self.left == 0 {
+            return None;
+        }
+        let Some(
+            Front {
+                key,
+                value,
+                name,
+                rest,
+            },
+        ) = take_pair(self.rest)
+        else {
+            return None;
+        };
+        if name.split != self.split {
+            return None;
+        }
+        let Some(again) = turn_of(self.last, key, name) else {
+            return None;
+        };
+        let pair = RegionPair {
+            key,
+            value,
+            name,
+            again,
+        };
+        self.rest = rest;
+        self.left -= 1;
+        self.last = Some(pair);
+        Some(pair)
+    }
+}
