@@ -1,7 +1,8 @@
-"""Files: directories, sizes at their limits, full disks, closed streams, few open files."""
+"""Files: directories, sizes at their limits, full disks, closed streams, few open files, pipes."""
 import os
 import resource
 import subprocess
+import threading
 
 from harness import parts_of, read_result as result_of, write_result
 from rows import compared, plain
@@ -122,4 +123,44 @@ def few_open_files(harness):
     harness.check("the files of many parts", result_of(where) == (stands[0], stands[2]))
 
 
-GROUPS = {"directories": directories, "sizes": sizes, "streams and disks": streams_and_disks, "few open files": few_open_files}
+def fed(path, data):
+    """A thread that writes this into a pipe, once somebody reads it; what is left when nobody reads any more is let go."""
+    def feed():
+        try:
+            with open(path, "wb") as pipe:
+                pipe.write(data)
+        except BrokenPipeError:
+            pass
+
+    thread = threading.Thread(target=feed, daemon=True)
+    thread.start()
+    return thread
+
+
+def pipes(harness):
+    """Parts and a certificate that are pipes are judged as files of these bytes, each read once."""
+    data = b" ".join(b"w%d" % (i * 7919 % 9000) for i in range(60_000)) + b"\n"
+    outputs, pairs, certificate = plain("words", [data], 2)
+    files = {"part-00000": outputs[0], "part-00001": outputs[1], "certificate": certificate}
+    spoiled = {**files, "part-00001": outputs[1][:-2] + b"x\n"}
+    longer = {**files, "part-00000": outputs[0] + b"x"}
+    words = ["check", "--job", "words", "--parts", "2", "--out", ".", "a"]
+    for more in ([], ["--threads", "2"], ["--verdict", "verdict"]):
+        for name, held in (("good", files), ("spoiled", spoiled), ("longer", longer), ("cut", {**files, "certificate": certificate[:-1]})):
+            want = harness.run([*words[:-1], *more, "a"], {**held, "a": data})
+            for piped in (["part-00000"], ["part-00001"], ["certificate"], [*files]):
+                where = harness.directory({**{n: text for n, text in held.items() if n not in piped}, "a": data})
+                for pipe in piped:
+                    os.mkfifo(os.path.join(where, pipe))
+                feeding = [(os.path.join(where, pipe), fed(os.path.join(where, pipe), held[pipe])) for pipe in piped]
+                got = harness.run([*words[:-1], *more, "a"], cwd=where, timeout=60)
+                harness.check(f"{name} with pipes {piped} {more}", got[:3] == want[:3], repr(got[:3]) + repr(want[:3]))
+                for path, thread in feeding:
+                    # one that nobody opened waits for a reader
+                    end = os.open(path, os.O_RDONLY | os.O_NONBLOCK)
+                    os.close(end)
+                    thread.join(10)
+        harness.check(f"a good result is judged good {more}", harness.run([*words[:-1], *more, "a"], {**files, "a": data})[:3] == (0, b"yes: %d pairs, 0 left out\n" % pairs, b""))
+
+
+GROUPS = {"directories": directories, "sizes": sizes, "streams and disks": streams_and_disks, "few open files": few_open_files, "pipes": pipes}

@@ -5,3 +5,4 @@ pub mod Refused
 pub mod Kept
 pub mod Noted
 pub mod Told
+pub mod Streamed

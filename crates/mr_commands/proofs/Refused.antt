@@ -46,12 +46,12 @@ pub input_stage : (holds : List ℕ → List ℕ → Type 0) (unreadable : List 
 input_stage holds unreadable asked names request e n r a h =
     inr (inr (inr (inl (a, subst (λ (s : ℕ). IsInputRefusal holds unreadable (input_names asked.options) s e) (ap (λ (v : RequestSpec). v.split) r) (subst (λ (v : List (List ℕ)). IsInputRefusal holds unreadable v request.split e) n h)))))
 
-pub result_stage : (holds : List ℕ → List ℕ → Type 0) (unreadable : List ℕ → Type 0) (asked : CheckOptions) (names files : List (List ℕ)) (request : RequestSpec) (e : FileFault) (f : Fault)
+pub result_stage : (holds : List ℕ → List ℕ → Type 0) (unreadable : List ℕ → Type 0) (asked : CheckOptions) (names files : List (List ℕ)) (request : RequestSpec) (f : Fault)
     → names ≡ input_names asked.options → request ≡ request_asked asked.options → IsAsked asked.options → IsInput holds names request.split files
-    → IsOneUnread unreadable (result_names asked.options.out.now asked.options.parts) e → TellsFile e f → IsCheckRefusal holds unreadable asked f
-result_stage holds unreadable asked names files request e f n r a i h t =
+    → IsResultRefusal unreadable (result_names asked.options.out.now asked.options.parts) f → IsCheckRefusal holds unreadable asked f
+result_stage holds unreadable asked names files request f n r a i h =
     let o = asked.options in
-    inr (inr (inr (inr (a, (files, subst (λ (s : ℕ). IsInput holds (input_names o) s files) (ap (λ (v : RequestSpec). v.split) r) (subst (λ (v : List (List ℕ)). IsInput holds v request.split files) n i)), result_refused unreadable (result_names o.out.now o.parts) e f h t))))
+    inr (inr (inr (inr (a, (files, subst (λ (s : ℕ). IsInput holds (input_names o) s files) (ap (λ (v : RequestSpec). v.split) r) (subst (λ (v : List (List ℕ)). IsInput holds v request.split files) n i)), h))))
 
 pub run_stage : (request : RequestSpec) (files : List (List ℕ)) (names : List RecordName) (e : RunFault) (f : Fault)
     → (e ≡ run.OutOfMemory) ⊎ (skip_fault request files names ≡ Some e) → TellsRun e f → IsRunRefusal request files names f

@@ -16,32 +16,41 @@ use Rattle.mr_commands.specs.Asked.{request_asked}
 use Rattle.mr_commands.specs.Answers.{AnswersCheck, IsInput, IsStopped, TellsFile, input_names}
 use Rattle.mr_commands.specs.Outcomes.{IsJudged, yes_text}
 use Rattle.mr_commands.specs.Runs.{named}
-use Rattle.mr_commands.specs.Verdicts.{AreClear, IsCheckUnanswered, IsJudgement, IsKeptUnder, IsTextRefused, IsVerdictOf, Judges, KeepsVerdict, names_kept, verdict_about, verdict_file}
+use Rattle.mr_commands.specs.Verdicts.{AreClear, IsCheckUnanswered, IsJudgement, IsKeptUnder, IsTextRefused, IsVerdictOf, Judges, JudgesResult, KeepsVerdict, names_kept, verdict_about, verdict_file}
 use Rattle.mr_commands.proofs.Inputs.{holding_lengths}
 use Rattle.mr_commands.proofs.Noted.{true_of}
 use Rattle.mr_commands.proofs.Refused.{stopped_as}
 
--- a judgement of what was read, under the request that was asked for
-pub judges : (holds : List ℕ → List ℕ → Type 0) (asked : CheckOptions) (names files outputs was_outputs : List (List ℕ)) (bytes was_bytes : List ℕ) (request : RequestSpec) (text : List ℕ) (status : ℕ) (kept : Option (List ℕ))
-    → names ≡ input_names asked.options → request ≡ request_asked asked.options → IsInput holds names request.split files → was_outputs ≡ outputs → was_bytes ≡ bytes
-    → Holding holds (part_names asked.options.out.now asked.options.parts) outputs → holds (name_of_certificate asked.options.out.now) bytes
-    → IfSome (verdict_file asked) (λ name. AreClear asked.options)
-    → IsJudgement request (verdict_file asked) (input_names asked.options) files was_outputs was_bytes text status kept → Judges holds asked text status kept
-judges holds asked names files outputs was_outputs bytes was_bytes request text status kept n r i same_outputs same_bytes parts certificate clear judged =
+-- a judgement under the request that was asked for
+pub judges : (holds : List ℕ → List ℕ → Type 0) (asked : CheckOptions) (names files : List (List ℕ)) (request : RequestSpec) (text : List ℕ) (status : ℕ) (kept : Option (List ℕ))
+    → names ≡ input_names asked.options → request ≡ request_asked asked.options → IsInput holds names request.split files
+    → IfSome (verdict_file asked) (λ name. AreClear asked.options) → JudgesResult holds request asked files text status kept → Judges holds asked text status kept
+judges holds asked names files request text status kept n r i clear judged =
     let o = asked.options in
     let given = verdict_file asked in
     record {
       files = files;
-      outputs = outputs;
-      bytes = bytes;
+      outputs = judged.outputs;
+      bytes = judged.bytes;
       input = subst (λ (s : ℕ). IsInput holds (input_names o) s files) (ap (λ (v : RequestSpec). v.split) r) (subst (λ (v : List (List ℕ)). IsInput holds v request.split files) n i);
-      parts = parts;
-      certificate = certificate;
+      parts = judged.parts;
+      certificate = judged.certificate;
       clear = clear;
-      judgement = subst (λ (v : RequestSpec). IsJudgement v given (input_names o) files outputs bytes text status kept) r
-          (subst (λ (v : List ℕ). IsJudgement request given (input_names o) files outputs v text status kept) same_bytes
-          (subst (λ (v : List (List ℕ)). IsJudgement request given (input_names o) files v was_bytes text status kept) same_outputs judged));
+      judgement = subst (λ (v : RequestSpec). IsJudgement v given (input_names o) files judged.outputs judged.bytes text status kept) r judged.judgement;
     }
+
+-- a judgement of what was read whole
+pub judges_held : (holds : List ℕ → List ℕ → Type 0) (asked : CheckOptions) (files outputs was_outputs : List (List ℕ)) (bytes was_bytes : List ℕ) (request : RequestSpec) (text : List ℕ) (status : ℕ) (kept : Option (List ℕ))
+    → was_outputs ≡ outputs → was_bytes ≡ bytes → Holding holds (part_names asked.options.out.now asked.options.parts) outputs → holds (name_of_certificate asked.options.out.now) bytes
+    → IsJudgement request (verdict_file asked) (input_names asked.options) files was_outputs was_bytes text status kept → JudgesResult holds request asked files text status kept
+judges_held holds asked files outputs was_outputs bytes was_bytes request text status kept same_outputs same_bytes parts certificate judged = record {
+  outputs = outputs;
+  bytes = bytes;
+  parts = parts;
+  certificate = certificate;
+  judgement = subst (λ (v : List ℕ). IsJudgement request (verdict_file asked) (input_names asked.options) files outputs v text status kept) same_bytes
+      (subst (λ (v : List (List ℕ)). IsJudgement request (verdict_file asked) (input_names asked.options) files v was_bytes text status kept) same_outputs judged);
+}
 
 if_some : {A B : Type 0} (o : Option (List ℕ)) → (A → B) → IfSome o (λ name. A) → IfSome o (λ name. B)
 if_some None f h = tt

@@ -7,5 +7,6 @@ pub mod Answers
 pub mod HistoryLines
 pub mod Runs
 pub mod Verdicts
+pub mod Streamed
 pub mod Merges
 pub mod Commands

@@ -80,6 +80,14 @@ IsJudgement request given names files outputs bytes text status kept =
     × (kept ≡ option_map (λ name. spelling (verdict_about request names files outputs skips pairs)) given))
     ⊎ ((status ≡ 1) × (fault : No) × (text ≡ no_line fault) × (verdict_of request files outputs bytes ≡ Err fault) × (kept ≡ None))
 
+-- the judgement of what stands under the names of the parts and of the certificate, against files
+pub record JudgesResult (holds : Stored) (request : RequestSpec) (asked : CheckOptions) (files : List (List ℕ)) (text : List ℕ) (status : ℕ) (kept : Option (List ℕ)) : Type 0 where
+  pub outputs : List (List ℕ)
+  pub bytes : List ℕ
+  pub parts : Holding holds (part_names asked.options.out.now asked.options.parts) outputs
+  pub certificate : holds (name_of_certificate asked.options.out.now) bytes
+  pub judgement : IsJudgement request (verdict_file asked) (input_names asked.options) files outputs bytes text status kept
+
 -- the judgement of what stands under the names of the input, of the parts and of the certificate
 pub record Judges (holds : Stored) (asked : CheckOptions) (text : List ℕ) (status : ℕ) (kept : Option (List ℕ)) : Type 0 where
   pub files : List (List ℕ)

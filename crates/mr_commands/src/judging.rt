@@ -8,10 +8,11 @@ ghost use Rattle.mr_check.specs.Verdict.{verdict_of};
 ghost use Rattle.mr_verdict.specs.Verdict.{spelling};
 ghost use Rattle.mr_verdict.specs.Truth.{note_for as note_of, notes_for};
 ghost use Rattle.mr_files.specs.Holding.{ChangesAmong};
+ghost use Rattle.mr_files.specs.Names.{result_names};
 ghost use Rattle.mr_commands.specs.NoLines.{no_line as line_of_no};
 ghost use Rattle.mr_commands.specs.Outcomes.{yes_text as text_of_yes};
-ghost use Rattle.mr_commands.specs.Answers.{AreBadThreads, IsCheckRefusal, IsFirstLineEnd, IsNameRefusal, input_names};
-ghost use Rattle.mr_commands.specs.Verdicts.{AreClear, KeepsVerdict, IsCheckUnanswered, IsJudgement, IsKeptUnder, IsTextRefused, Judges};
+ghost use Rattle.mr_commands.specs.Answers.{AreBadThreads, IsCheckRefusal, IsFirstLineEnd, IsNameRefusal, IsResultRefusal, input_names};
+ghost use Rattle.mr_commands.specs.Verdicts.{AreClear, KeepsVerdict, IsCheckUnanswered, IsJudgement, IsKeptUnder, IsTextRefused, Judges, JudgesResult};
 ghost use Rattle.mr_commands.specs.Verdicts.{names_kept, verdict_about, verdict_file, written_by_check};
 
 use crate::asked::CheckOptions;
@@ -21,6 +22,7 @@ use crate::input::input_of;
 use crate::no_lines::no_line;
 use crate::request::request_of;
 use crate::said::yes_text;
+use crate::streaming::judged_as_read;
 use mr_bytes::OpenGate;
 use mr_check::{No, Yes, check_gated_watched, check_watched};
 use mr_files::{FileFault, Store, read_result, write_named};
@@ -30,6 +32,7 @@ use mr_shard_files::part_notes;
 use mr_verdict::{FileNote, note_for, verdict_for, write_verdict};
 use mr_watch::Watch;
 use std::alloc::{AllocError, Global};
+use std::marker::Brand;
 use std::thread::Threads;
 
 /// The most threads that judge.
@@ -40,9 +43,9 @@ const _: () = prove!(MAX_THREADS == 64);
 
 /// What is said of a result, and the text of the verdict where it is to be kept.
 #[derive(Drop)]
-struct Judged {
-    said: Said,
-    verdict: Option<Vec<u8>>,
+pub(crate) struct Judged {
+    pub said: Said,
+    pub verdict: Option<Vec<u8>>,
 }
 
 /// The number of threads is within its limits.
@@ -189,7 +192,7 @@ fn yes_judged(
 }
 
 /// What is said of a no. Want of memory is none, and nothing is kept.
-fn no_judged(alloc: Global, no: &No) -> Result<Judged, Fault>
+pub(crate) fn no_judged(alloc: Global, no: &No) -> Result<Judged, Fault>
     ensures memory { IfErr result (λ e. e ≡ Fault.OutOfMemory) }
     ensures no { OnOk result (no.now ≢ No.OutOfMemory) }
     ensures status { IfOk result (λ j. j.said.status ≡ 1) }
@@ -240,6 +243,58 @@ fn judgement<R: Threads + Sync>(
     }
 }
 
+/// Reads the result whole, and judges it.
+fn judged_held<S: Store, R: Threads + Sync>(
+    rt: &R,
+    store: &S,
+    alloc: Global,
+    request: &Request,
+    asked: &CheckOptions<'_>,
+    input: &Input,
+    watch: &dyn Watch,
+) -> Result<Judged, Fault>
+    requires fits { split_total request.now.split input.now ≤ 2 ^ 20 }
+    requires threads { (1 ≤ asked.now.threads) × (asked.now.threads ≤ 64) }
+    ensures judged { IfOk result (λ j. JudgesResult (S.holds store.now) request.now asked.now input.now (string_bytes j.said.text) j.said.status
+        (option_map (λ v. v.items) j.verdict)) }
+    ensures refused { IfErr result (λ e. IsResultRefusal (S.unreadable store.now) (result_names asked.now.options.out.now asked.now.options.parts) e) }
+{
+    let options = &asked.options;
+    let (outputs, certificate) = read_result(store, alloc, options.out, options.parts as usize)?;
+    judgement(
+        rt,
+        alloc,
+        request,
+        asked,
+        input,
+        outputs.as_slice(),
+        certificate.as_slice(),
+        watch,
+    )
+}
+
+/// Judges a result: as it is read, where one thread judges and no verdict is to be written; else it is read whole first.
+fn result_judged<S: Store, R: Threads + Sync>(
+    rt: &R,
+    store: &S,
+    alloc: Global,
+    request: &Request,
+    asked: &CheckOptions<'_>,
+    input: &Input,
+    watch: &dyn Watch,
+) -> Result<Judged, Fault>
+    requires fits { split_total request.now.split input.now ≤ 2 ^ 20 }
+    requires threads { (1 ≤ asked.now.threads) × (asked.now.threads ≤ 64) }
+    ensures judged { IfOk result (λ j. JudgesResult (S.holds store.now) request.now asked.now input.now (string_bytes j.said.text) j.said.status
+        (option_map (λ v. v.items) j.verdict)) }
+    ensures refused { IfErr result (λ e. IsResultRefusal (S.unreadable store.now) (result_names asked.now.options.out.now asked.now.options.parts) e) }
+{
+    if asked.threads == 1 && asked.verdict.is_none() {
+        return judged_as_read::<S, Brand>(store, alloc, request, asked, input, watch);
+    }
+    judged_held(rt, store, alloc, request, asked, input, watch)
+}
+
 /// Tests the request, the number of threads and the names that a verdict is to tell, then reads the input, then the
 /// result, and judges it; nothing is written.
 fn checked<S: Store, R: Threads + Sync>(
@@ -257,17 +312,7 @@ fn checked<S: Store, R: Threads + Sync>(
     expect_threads(asked.threads)?;
     expect_names(asked)?;
     let input = input_of(store, alloc, &request, options.files.as_slice())?;
-    let (outputs, certificate) = read_result(store, alloc, options.out, options.parts as usize)?;
-    judgement(
-        rt,
-        alloc,
-        &request,
-        asked,
-        &input,
-        outputs.as_slice(),
-        certificate.as_slice(),
-        watch,
-    )
+    result_judged(rt, store, alloc, &request, asked, &input, watch)
 }
 
 /// Writes the text under the name, where there are both.

@@ -15,6 +15,7 @@ mod request;
 mod running;
 mod said;
 mod skips;
+mod streaming;
 
 pub use crate::asked::{CheckOptions, JobKind, MergeOptions, Options, RunOptions, Subcommand};
 pub use crate::commands::{Said, done, seq};

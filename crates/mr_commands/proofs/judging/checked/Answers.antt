@@ -1,9 +1,9 @@
 use Rattle.std.proofs.Common.{map, ap}
 use Rattle.std.specs.Prelude.{option_map, string_bytes}
-use Rattle.std.proofs.lemmas.Result.{err_from_is_err_and, IfOk-weaker}
-use Rattle.mr_input.specs.Files.{contents}
-use Rattle.mr_commands.specs.Answers.{input_names}
-use Rattle.mr_commands.specs.Verdicts.{IsJudgement, Judges, verdict_file}
+use Rattle.std.proofs.lemmas.Result.{err_from_is_err_and, IfErr-weaker, IfOk-weaker}
+use Rattle.mr_files.specs.Names.{result_names}
+use Rattle.mr_commands.specs.Answers.{IsCheckRefusal, IsResultRefusal}
+use Rattle.mr_commands.specs.Verdicts.{Judges, JudgesResult}
 use Rattle.mr_commands.proofs.Refused.{asked, input_stage, names_stage, result_stage, threads_stage}
 use Rattle.mr_commands.proofs.Told.{judges}
 use Rattle.mr_commands.proofs.judging.checked.Goals as goal
@@ -30,13 +30,14 @@ returns-in_err-input-clause-refused g c =
     let a = asked o c.in_ok-request.request c.in_ok-request.ensures.other c.in_ok-request.ensures.within in
     rw p.1 (rw p.2 (input_stage (g.S.Store.holds c.args.store.now) (g.S.Store.unreadable c.args.store.now) asked_for (map (λ s. s.now) c.as_slice.result.now) c.in_ok-request.request c.in_err-input.field-0.0 (ap (map (λ s. s.now)) c.as_slice.ensures.value) c.in_ok-request.ensures.request a c.in_err-input.ensures.refused))
 
-pub returns-in_err-outputs-clause-refused : goal.returns-in_err-outputs-clause-refused
-returns-in_err-outputs-clause-refused g c =
-    let p = err_from_is_err_and c.from_residual-in_err-outputs.result c.from_residual-in_err-outputs.ensures.1 in
+pub returns-clause-refused : goal.returns-clause-refused
+returns-clause-refused g c =
     let asked_for = c.args.asked.now in
-    let o = asked_for.options in
-    let a = asked o c.in_ok-request.request c.in_ok-request.ensures.other c.in_ok-request.ensures.within in
-    rw p.1 (result_stage (g.S.Store.holds c.args.store.now) (g.S.Store.unreadable c.args.store.now) asked_for (map (λ s. s.now) c.as_slice.result.now) c.in_ok-input.input c.in_ok-request.request c.in_err-outputs.field-0.0 p.0 (ap (map (λ s. s.now)) c.as_slice.ensures.value) c.in_ok-request.ensures.request a c.in_ok-input.ensures.input c.in_err-outputs.ensures.refused p.2)
+    let a = asked asked_for.options c.in_ok-request.request c.in_ok-request.ensures.other c.in_ok-request.ensures.within in
+    IfErr-weaker c.result_judged.result (λ e. IsResultRefusal (g.S.Store.unreadable c.args.store.now) (result_names asked_for.options.out.now asked_for.options.parts) e)
+    (λ e. IsCheckRefusal (g.S.Store.holds c.args.store.now) (g.S.Store.unreadable c.args.store.now) asked_for e)
+    (λ e h. result_stage (g.S.Store.holds c.args.store.now) (g.S.Store.unreadable c.args.store.now) asked_for (map (λ s. s.now) c.as_slice.result.now) c.in_ok-input.input c.in_ok-request.request e (ap (map (λ s. s.now)) c.as_slice.ensures.value) c.in_ok-request.ensures.request a c.in_ok-input.ensures.input h)
+    c.result_judged.ensures.refused
 
 pub returns-clause-judges : goal.returns-clause-judges
 returns-clause-judges g c =
@@ -44,10 +45,8 @@ returns-clause-judges g c =
     let holds = g.S.Store.holds c.args.store.now in
     let request = c.in_ok-request.request in
     let files = c.in_ok-input.input in
-    let outputs = contents c.as_slice-2.result.now in
-    let bytes = c.as_slice-3.result.now in
-    IfOk-weaker c.judgement.result (λ j. IsJudgement request (verdict_file asked_for) (input_names asked_for.options) files outputs bytes (string_bytes j.said.text) j.said.status (option_map (λ v. v.items) j.verdict))
+    IfOk-weaker c.result_judged.result (λ j. JudgesResult holds request asked_for files (string_bytes j.said.text) j.said.status (option_map (λ v. v.items) j.verdict))
     (λ j. Judges holds asked_for (string_bytes j.said.text) j.said.status (option_map (λ v. v.items) j.verdict))
-    (λ j h. judges holds asked_for (map (λ s. s.now) c.as_slice.result.now) files (contents c.in_ok-outputs.outputs.items) outputs c.in_ok-outputs.certificate.items bytes request (string_bytes j.said.text) j.said.status (option_map (λ v. v.items) j.verdict)
-    (ap (map (λ s. s.now)) c.as_slice.ensures.value) c.in_ok-request.ensures.request c.in_ok-input.ensures.input (ap contents c.as_slice-2.ensures.value) c.as_slice-3.ensures.value c.in_ok-outputs.ensures.outputs c.in_ok-outputs.ensures.certificate c.in_ok-expect_names.ensures.clear h)
-    c.judgement.ensures.judged
+    (λ j h. judges holds asked_for (map (λ s. s.now) c.as_slice.result.now) files request (string_bytes j.said.text) j.said.status (option_map (λ v. v.items) j.verdict)
+    (ap (map (λ s. s.now)) c.as_slice.ensures.value) c.in_ok-request.ensures.request c.in_ok-input.ensures.input c.in_ok-expect_names.ensures.clear h)
+    c.result_judged.ensures.judged
