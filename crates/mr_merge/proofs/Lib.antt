@@ -4,3 +4,4 @@ pub mod SoundLemmas
 pub mod GroupLemmas
 pub mod LawLemmas
 pub mod GatherLemmas
+pub mod TakingLemmas

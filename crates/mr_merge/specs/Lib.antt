@@ -3,3 +3,5 @@ pub mod Laws
 pub mod Worked
 pub mod Groups
 pub mod Merging
+pub mod Bytes
+pub mod Taking

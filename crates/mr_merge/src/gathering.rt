@@ -15,7 +15,7 @@ use std::alloc::{AllocError, Global};
 use std::cmp::Ordering;
 
 /// Whether the name is past this one, if there is one.
-fn is_past(last: Option<Name>, name: Name) -> bool
+pub(crate) fn is_past(last: Option<Name>, name: Name) -> bool
     ensures { IsTrue result ↔ IsPast last name }
 {
     match last {
@@ -37,7 +37,7 @@ fn are_past(names: &[Name], last: Option<Name>) -> bool
 }
 
 /// The later one of two names.
-fn later(last: Option<Name>, name: Name) -> Option<Name>
+pub(crate) fn later(last: Option<Name>, name: Name) -> Option<Name>
     ensures up_to { (n : Name) → IsUpTo last n → IsUpTo result n }
     ensures it { IsUpTo result name }
 {
@@ -78,7 +78,7 @@ pub(crate) fn names_follow(regions: &[&Pairs]) -> bool
 }
 
 /// The one region of a list.
-fn only(mut regions: Vec<Pairs>) -> Pairs
+pub(crate) fn only(mut regions: Vec<Pairs>) -> Pairs
     requires { length regions.items ≡ 1 }
     ensures { regions.items ≡ result ∷ [] }
 {

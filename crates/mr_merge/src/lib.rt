@@ -5,14 +5,17 @@
 //! distinct keys are sorted, and each pair is copied twice. Else the names are sorted, n log n comparisons; and where the names
 //! of regions don't follow one another, each pair takes one comparison of keys and one copy for each doubling of the number of
 //! regions. Memory beside the regions: 12 bytes for each name while names are compared, and then the pairs once or twice, with
-//! a copy of each distinct key.
+//! a copy of each distinct key. Regions as bytes are walked and merged so too; where that can't be, each is read whole first.
 #![tactic(auto)]
 
+mod bytes;
 mod gathering;
 mod groups;
 mod merged;
 mod merging;
 mod sound;
+mod taking;
 
+pub use bytes::merge_regions;
 pub use groups::Groups;
 pub use merged::{MergeFault, merge, merge_law, worked_groups};

@@ -1,0 +1,126 @@
+-- Regions taken pair by pair over their bytes.
+use Rattle.std.proofs.Common.{◌≡◌, ℕ, zero, suc, ◌<◌, arith, get_or, Option, Some, None, List, [], ◌∷◌, ◌++◌, length, refl, sym, ◌∙◌, ap, subst, append_assoc}
+use Rattle.std.proofs.lemmas.List.{append-nil, flat_map_more, map-append}
+use Rattle.std.specs.List.{AllByRecursion}
+use Rattle.std.specs.Prelude.{MatchOption}
+use Rattle.mr_bytes.specs.declared.Name.{Name}
+use Rattle.mr_bytes.specs.Lists.{Has, Rises}
+use Rattle.mr_bytes.specs.Pairs.{Triple, pair_order}
+use Rattle.mr_spill.specs.declared.cursor.RegionCursor.{RegionCursor}
+use Rattle.mr_spill.specs.declared.cursor.RegionPair.{RegionPair}
+use Rattle.mr_spill.specs.Column.{names_of}
+use Rattle.mr_spill.specs.Cursor.{AreAhead, EndsWithKey, IsKeyOf, IsNextOf, IsOpened, lent_pair}
+use Rattle.mr_spill.specs.Lent.{HaveDistinctNames, RegionText}
+use Rattle.mr_spill.specs.Regions.{RisesUnderKeys}
+use Rattle.mr_spill.specs.Spelling.{SpellsRegion}
+use Rattle.mr_spill.proofs.ReadingLemmas.{spells-one}
+use Rattle.mr_merge.specs.declared.taking.Gathering.{Gathering}
+use Rattle.mr_merge.specs.Bytes.{AreSpelled}
+use Rattle.mr_merge.specs.Merged.{AreSound, joined}
+use Rattle.mr_merge.specs.Merging.{IsPast, IsUpTo, NamesDiffer}
+use Rattle.mr_merge.specs.Taking.{AreTaken, IsBegun, IsTaken}
+use Rattle.mr_merge.proofs.GatherLemmas.{All-weaker, differs, follows, later-last}
+use Rattle.mr_merge.proofs.MergeLemmas.{All-more}
+
+-- ---- a pair of a region
+
+All-names : (P : Name → Type 0) (ts : List Triple) (t : Triple) → AllByRecursion P (names_of ts) → P t.name → AllByRecursion P (names_of (ts ++ t ∷ []))
+All-names P ts t all p = subst (AllByRecursion P) (sym (map-append (λ (u : Triple). u.name) ts (t ∷ []))) (All-more P (names_of ts) t.name all p)
+
+pub again-key : (ts : List Triple) (last : Option RegionPair) (key : List ℕ) → ((p : RegionPair) → last ≡ Some p → EndsWithKey ts p.key.now) → IsKeyOf last key → EndsWithKey ts key
+again-key ts None key f h = absurd h
+again-key ts (Some p) key f h = subst (EndsWithKey ts) h (f p refl)
+
+none-some : (p : RegionPair) → ◌≡◌ {A = Option RegionPair} None (Some p) → ⊥
+none-some p e = cc e
+
+some-is : (p q : RegionPair) → Some p ≡ Some q → p ≡ q
+some-is p q e = cc e
+
+pub begun-more : (partition : ℕ) (region : RegionText) (old now new : Gathering) (cursor later : RegionCursor) (p : RegionPair)
+    → IsBegun partition region old now cursor → IsNextOf (lent_pair p) cursor later → later.last ≡ Some p
+    → new.pairs ≡ now.pairs ++ lent_pair p ∷ [] → EndsWithKey new.pairs p.key.now → IsPast old.last p.name
+    → ((n : Name) → IsUpTo now.last n → IsUpTo new.last n) → IsUpTo new.last p.name → IsBegun partition region old new later
+begun-more partition region old now new cursor later p b next last is key past up it = record {
+  taken = b.taken ++ lent_pair p ∷ [];
+  takes = record {
+    is = is ∙ ap (λ (l : List Triple). l ++ lent_pair p ∷ []) b.takes.is ∙ append_assoc old.pairs b.taken (lent_pair p ∷ []);
+    past = All-names (IsPast old.last) b.taken (lent_pair p) b.takes.past past;
+    before = λ n h. up n (b.takes.before n h);
+    up_to = All-names (IsUpTo new.last) b.taken (lent_pair p) (All-weaker (IsUpTo now.last) (IsUpTo new.last) (names_of b.taken) up b.takes.up_to) it;
+  };
+  on = λ us a. subst (SpellsRegion region.bytes region.split partition) (sym (append_assoc b.taken (lent_pair p ∷ []) us)) (b.on (lent_pair p ∷ us) (next.on us a));
+  key = λ q e. subst (λ (r : RegionPair). EndsWithKey new.pairs r.key.now) (some-is p q (sym last ∙ e)) key;
+}
+
+-- none was taken yet
+pub begun-start : (partition : ℕ) (region : RegionText) (all : Gathering) (cursor : RegionCursor) (bytes : List ℕ) (split : ℕ)
+    → IsOpened bytes split partition cursor → bytes ≡ region.bytes → split ≡ region.split → IsBegun partition region all all cursor
+begun-start partition region all cursor bytes split o b s = record {
+  taken = [];
+  takes = record { is = sym (append-nil all.pairs); past = tt; before = λ n h. h; up_to = tt };
+  on = λ us a. subst (λ (w : ℕ). SpellsRegion region.bytes w partition us) s (subst (λ (l : List ℕ). SpellsRegion l split partition us) b (o.on us a));
+  key = λ p e. absurd (none-some p (sym o.none ∙ e));
+}
+
+-- and here all were
+pub begun-end : (partition : ℕ) (region : RegionText) (old new : Gathering) (cursor : RegionCursor) → IsBegun partition region old new cursor → AreAhead cursor []
+    → HaveDistinctNames region.bytes region.split → IsTaken partition region old new
+begun-end partition region old new cursor b a d =
+    let spelled : SpellsRegion region.bytes region.split partition b.taken = subst (SpellsRegion region.bytes region.split partition) (append-nil b.taken) (b.on [] a) in
+    record { value = b.taken; takes = b.takes; spelled = spelled; differ = d partition b.taken spelled }
+
+-- ---- a region
+
+pub spelled-more : (partition : ℕ) (rs : List RegionText) (r : RegionText) (vs : List (List Triple)) (ts : List Triple) → AreSpelled partition rs vs
+    → SpellsRegion r.bytes r.split partition ts → AreSpelled partition (rs ++ r ∷ []) (vs ++ ts ∷ [])
+spelled-more partition [] r [] ts a s = (s, tt)
+spelled-more partition [] r (v ∷ vs) ts a s = absurd a
+spelled-more partition (q ∷ rs) r [] ts a s = absurd a
+spelled-more partition (q ∷ rs) r (v ∷ vs) ts a s = (a.0, spelled-more partition rs r vs ts a.1 s)
+
+pub taken-more : (partition : ℕ) (rs : List RegionText) (r : RegionText) (old new : Gathering) → AreTaken partition rs old → IsTaken partition r old new
+    → AreTaken partition (rs ++ r ∷ []) new
+taken-more partition rs r old new a t =
+    let more : joined a.values ++ t.value ≡ joined (a.values ++ t.value ∷ []) = flat_map_more (λ (l : List Triple). l) [] a.values t.value in
+    record {
+      values = a.values ++ t.value ∷ [];
+      spelled = spelled-more partition rs r a.values t.value a.spelled t.spelled;
+      is = t.takes.is ∙ ap (λ (l : List Triple). l ++ t.value) a.is ∙ more;
+      rise = subst RisesUnderKeys more (follows (joined a.values) t.value old.last a.rise t.spelled.rise a.up_to (names_of t.value) refl t.takes.past);
+      differ = subst NamesDiffer more (differs (joined a.values) t.value old.last a.differ t.differ a.up_to (names_of t.value) refl t.takes.past);
+      up_to = λ u h. later-last (joined a.values) t.value old.last new.last (names_of t.value) refl t.takes.before a.up_to t.takes.up_to u
+          (subst (λ (l : List Triple). Has l u) (sym more) h);
+    }
+
+-- ---- what regions spell
+
+pub spelled-one : (partition : ℕ) (rs : List RegionText) (vs ws : List (List Triple)) → AreSpelled partition rs vs → AreSpelled partition rs ws → ws ≡ vs
+spelled-one partition [] [] [] a b = refl
+spelled-one partition [] [] (w ∷ ws) a b = absurd b
+spelled-one partition [] (v ∷ vs) ws a b = absurd a
+spelled-one partition (r ∷ rs) [] ws a b = absurd a
+spelled-one partition (r ∷ rs) (v ∷ vs) [] a b = absurd b
+spelled-one partition (r ∷ rs) (v ∷ vs) (w ∷ ws) a b =
+    let e = spells-one r.bytes r.split partition partition v w a.0 b.0 in
+    let f = spelled-one partition rs vs ws a.1 b.1 in
+    (λ i. e i ∷ f i)
+
+pub spelled-at : (partition : ℕ) (rs : List RegionText) (i : ℕ) (r : RegionText) (vs : List (List Triple)) → i < length rs → r ≡ get_or rs i r → AreSpelled partition rs vs
+    → (ts : List Triple) × SpellsRegion r.bytes r.split partition ts
+spelled-at partition [] i r vs h e a = absurd (omega (arith, h))
+spelled-at partition (q ∷ rs) i r [] h e a = absurd a
+spelled-at partition (q ∷ rs) zero r (v ∷ vs) h e a = (v, subst (λ (w : RegionText). SpellsRegion w.bytes w.split partition v) (sym e) a.0)
+spelled-at partition (q ∷ rs) (suc i) r (v ∷ vs) h e a = spelled-at partition rs i r vs (omega (arith, h)) e a.1
+
+spelled-rise : (partition : ℕ) (rs : List RegionText) (vs : List (List Triple)) → AreSpelled partition rs vs → AllByRecursion (Rises pair_order) vs
+spelled-rise partition [] [] a = tt
+spelled-rise partition [] (v ∷ vs) a = absurd a
+spelled-rise partition (r ∷ rs) [] a = absurd a
+spelled-rise partition (r ∷ rs) (v ∷ vs) a = (a.0.rise, spelled-rise partition rs vs a.1)
+
+pub spelled-sound : (partition : ℕ) (rs : List RegionText) (vs : List (List Triple)) → AreSpelled partition rs vs → NamesDiffer (joined vs) → AreSound vs
+spelled-sound partition rs vs a d = record { in_order = spelled-rise partition rs vs a; names_differ = d }
+
+pub matched : (partition : ℕ) (rs : List RegionText) (o : Option Gathering) (all : Gathering) → o ≡ Some all → MatchOption o (Unit {0}) (AreTaken partition rs) → AreTaken partition rs all
+matched partition rs o all e m = subst (λ (w : Option Gathering). MatchOption w (Unit {0}) (AreTaken partition rs)) e m

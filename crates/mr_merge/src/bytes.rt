@@ -1,0 +1,107 @@
+//! All regions of a partition, merged over their bytes.
+ghost use Rattle.std.specs.Prelude.{◌≡◌, ◌++◌, ◌∷◌, [], List, IfErr, IfOk, OnOk};
+ghost use Rattle.mr_bytes.specs.Pairs.{Triple, pair_order};
+ghost use Rattle.mr_bytes.specs.Lists.{sorted};
+ghost use Rattle.mr_spill.specs.Regions.{RisesUnderKeys};
+ghost use Rattle.mr_merge.specs.Bytes.{AreMerged, AreSpelled};
+ghost use Rattle.mr_merge.specs.Merged.{AreSound, values_of};
+ghost use Rattle.mr_merge.specs.Merging.{NamesDiffer};
+ghost use Rattle.mr_merge.specs.declared.merged.MergeFault.TheVariants.{RegionDamaged};
+ghost use Rattle.mr_spill.specs.declared.reading.RegionFault.TheVariants.{RegionDamaged as CantRead};
+
+use crate::gathering::only;
+use crate::groups::{Groups, grouped};
+use crate::merged::{MergeFault, merge};
+use crate::taking::{Gathering, taken_regions};
+use mr_spill::{Pairs, Region, RegionFault, cut, read_region};
+use std::alloc::{AllocError, Global};
+
+impl From<RegionFault> for MergeFault {
+    ghost use Rattle.std.specs.Prelude.{◌≡◌, ◌↔◌};
+    ghost use Rattle.mr_merge.specs.declared.merged.MergeFault.TheVariants.{RegionDamaged as told_damage};
+    ghost use Rattle.mr_spill.specs.declared.reading.RegionFault.TheVariants.{RegionDamaged as found_damage};
+
+    ghost from_gives = { λ e f. (f ≡ told_damage) ↔ (e ≡ found_damage) };
+
+    fn from(fault: RegionFault) -> MergeFault {
+        match fault {
+            RegionFault::OutOfMemory => MergeFault::OutOfMemory,
+            RegionFault::RegionDamaged => MergeFault::RegionDamaged,
+        }
+    }
+}
+
+/// Puts pairs behind those before.
+fn put(all: &mut Vec<Pairs>, pairs: Pairs) -> Result<(), AllocError>
+    ensures { OnOk result (all.new.items ≡ all.old.items ++ pairs ∷ []) }
+{
+    all.push(pairs)?;
+    Ok(())
+}
+
+/// The pairs of each region.
+fn read_all(
+    alloc: Global,
+    regions: &[Region<'_>],
+    partition: u32,
+) -> Result<Vec<Pairs>, RegionFault>
+    ensures read { IfOk result (λ v. AreSpelled partition regions.now v.items) }
+    ensures damaged { IfErr result (λ e. e ≡ CantRead → (values : List (List Triple)) → AreSpelled partition regions.now values → ⊥) }
+{
+    let mut all = Vec::new(alloc);
+    for region in regions {
+        let pairs = read_region(alloc, region.bytes(), region.split(), partition)?;
+        put(&mut all, pairs)?;
+    }
+    Ok(all)
+}
+
+/// Each of the columns, lent.
+fn lent<'a>(alloc: Global, columns: &'a [Pairs]) -> Result<Vec<&'a Pairs>, AllocError>
+    ensures { IfOk result (λ v. values_of v.items ≡ columns.entry.now) }
+{
+    let mut all = Vec::new(alloc);
+    for column in columns {
+        all.push(column)?;
+    }
+    Ok(all)
+}
+
+/// The regions merged, each read whole first.
+fn merged_whole(alloc: Global, regions: &[Region<'_>], partition: u32) -> Result<Groups, MergeFault>
+    ensures merged { IfOk result (AreMerged partition regions.now) }
+    ensures damaged { IfErr result (λ e. e ≡ RegionDamaged → (values : List (List Triple)) → AreSpelled partition regions.now values → AreSound values → ⊥) }
+{
+    let read = read_all(alloc, regions, partition)?;
+    let columns = lent(alloc, read.as_slice())?;
+    let groups = merge(alloc, columns.as_slice())?;
+    Ok(groups)
+}
+
+/// The pairs that were taken, in order.
+fn in_order(alloc: Global, all: &Gathering) -> Result<Pairs, AllocError>
+    requires rise { RisesUnderKeys all.now.pairs }
+    requires differ { NamesDiffer all.now.pairs }
+    ensures { IfOk result (λ p. p ≡ sorted pair_order all.now.pairs) }
+{
+    Ok(only(cut(alloc, &all.pairs, 1)?))
+}
+
+/// The regions of one partition, merged over their bytes: each key once, rising, with its pairs by name. Bytes that spell no
+/// region of the partition and of the split that they are told to be of, and regions in which a name stands twice, under one key
+/// or two, are `RegionDamaged`.
+pub fn merge_regions(
+    alloc: Global,
+    regions: &[Region<'_>],
+    partition: u32,
+) -> Result<Groups, MergeFault>
+    ensures merged { IfOk result (AreMerged partition regions.now) }
+    ensures damaged { IfErr result (λ e. e ≡ RegionDamaged → (values : List (List Triple)) → AreSpelled partition regions.now values → AreSound values → ⊥) }
+{
+    let taken = taken_regions(alloc, regions, partition)?;
+    let Some(all) = taken else {
+        return merged_whole(alloc, regions, partition);
+    };
+    let pairs = in_order(alloc, &all)?;
+    Ok(grouped(alloc, pairs)?)
+}

@@ -1,0 +1,73 @@
+//! Regions taken over their bytes, pair by pair, one region behind another.
+ghost use Rattle.std.specs.Prelude.{◌≡◌, [], IfOk, IsTrue, MatchOption};
+ghost use Rattle.mr_merge.specs.Taking.{AreTaken, IsTaken};
+
+use crate::gathering::{is_past, later};
+use mr_bytes::Name;
+use mr_spill::{Numbered, Region, open_region};
+use std::alloc::{AllocError, Global};
+
+/// What was taken of regions, and the last of its names.
+#[derive(Drop)]
+pub(crate) struct Gathering {
+    pub pairs: Numbered,
+    pub last: Option<Name>,
+}
+
+/// The fewest bytes that a pair of a region has.
+const PAIR_BYTES: usize = 17;
+
+/// Room for as many pairs as the bytes of the regions can have.
+fn room_for(regions: &[Region<'_>]) -> usize {
+    let mut bytes = 0usize;
+    for region in regions {
+        bytes = bytes.saturating_add(region.bytes().len());
+    }
+    bytes / PAIR_BYTES
+}
+
+/// Takes the pairs of a region. It is taken only where it is known that its names differ, and where each is past those of all
+/// regions before; else, as where the bytes are damaged, what was taken counts for nothing.
+fn take_region(all: &mut Gathering, region: &Region<'_>, partition: u32) -> Result<bool, AllocError>
+    ensures { IfOk result (λ b. IsTrue b → IsTaken partition region.now all.old all.new) }
+{
+    if !region.is_sealed() {
+        return Ok(false);
+    }
+    let Some(mut cursor) = open_region(region.bytes(), region.split(), partition) else {
+        return Ok(false);
+    };
+    let before = all.last;
+    for _ in 0..cursor.left() {
+        let Some(pair) = cursor.next() else {
+            return Ok(false);
+        };
+        if !is_past(before, pair.name) {
+            return Ok(false);
+        }
+        all.last = later(all.last, pair.name);
+        all.pairs.take(pair)?;
+    }
+    Ok(cursor.is_at_end())
+}
+
+/// The pairs of all regions, one region behind another, where it is known that the names of each differ and those of each are
+/// past those of all before.
+pub(crate) fn taken_regions(
+    alloc: Global,
+    regions: &[Region<'_>],
+    partition: u32,
+) -> Result<Option<Gathering>, AllocError>
+    ensures { IfOk result (λ o. MatchOption o Unit (AreTaken partition regions.now)) }
+{
+    let mut all = Gathering {
+        pairs: Numbered::with_room(alloc, room_for(regions))?,
+        last: None,
+    };
+    for region in regions {
+        if !take_region(&mut all, region, partition)? {
+            return Ok(None);
+        }
+    }
+    Ok(Some(all))
+}
