@@ -64,8 +64,11 @@ def check_faults(harness):
         harness.check("judging " + name, got[:3] == (status, b"", b"mapred: " + said + b"\n"), repr(got[:3]))
     got = harness.run([*words, "--split", "1", "a"], {"a": b"a" * 1048577})
     harness.check("judging too many splits", got[:3] == (2, b"", b"mapred: TooManySplits\n"), repr(got[:3]))
-    where = harness.run(["seq", *words[1:], "a"], one)[3]
+    where = harness.run(["seq", *words[1:], "--parts", "2", "a"], one)[3]
+    os.remove(os.path.join(where, "part-00001"))
     os.mkdir(os.path.join(where, "part-00001"))
+    got = harness.run([*words, "a"], cwd=where)
+    harness.check("another job is told before a part that is a directory", got[:3] == (1, b"no: OtherJob\n", b""), repr(got[:3]))
     got = harness.run([*words, "--parts", "2", "a"], cwd=where)
     harness.check("a part that is a directory", got[:3] == (3, b"", b"mapred: cannot read ./part-00001\n"), repr(got[:3]))
     os.remove(os.path.join(where, "certificate"))
