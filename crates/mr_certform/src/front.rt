@@ -1,11 +1,12 @@
 //! The item that stands at the front of bytes, at a place of the grammar. One look at a few bytes; no memory.
 ghost use Rattle.std.specs.Prelude.{◌≡◌, ◌≤◌, ◌-◌, ◌<◌, Some, None, MatchOption, IfSome, length, take, drop};
 ghost use Rattle.std.specs.Int.{w32, w64, from_be_bytes};
-ghost use Rattle.mr_certform.specs.Spelling.{standing, entry_at, of_bytes, skip_at};
+ghost use Rattle.mr_certform.specs.Places.{onward};
+ghost use Rattle.mr_certform.specs.Spelling.{standing, entry_at, name_at, of_bytes, skip_at};
 
 use crate::item::Item;
 use crate::number::{number_of_eight, number_of_four};
-use crate::place::Place;
+use crate::place::{Place, entries_to_come};
 use mr_bytes::{Name, RecordName};
 
 const MAGIC: [u8; 8] = *b"MRCERT1\n";
@@ -60,10 +61,10 @@ fn skip_of(bytes: &[u8]) -> Option<(Item, &[u8])>
     Some((Item::Skip(RecordName { split, rec }), &bytes[8..]))
 }
 
-/// One entry behind the name before it, and the bytes behind it.
-fn entry_of(before: Name, bytes: &[u8]) -> Option<(Item, &[u8])>
-    ensures read { MatchOption result (entry_at before bytes.now ≡ None) (λ r. entry_at before bytes.now ≡ Some (record { item = r.0; rest = r.1.now })) }
-    ensures shorter { IfSome result (λ r. length r.1.now ≤ length bytes.now) }
+/// The name of the first twelve bytes, and the bytes behind it.
+#[inline(always)]
+fn twelve(bytes: &[u8]) -> Option<(Name, &[u8])>
+    ensures { MatchOption result (length bytes.now < 12) (λ r. (12 ≤ length bytes.now) × (r.0 ≡ name_at bytes.now) × (r.1.now ≡ drop 12 bytes.now)) }
 {
     if bytes.len() < 12 {
         return None;
@@ -71,7 +72,16 @@ fn entry_of(before: Name, bytes: &[u8]) -> Option<(Item, &[u8])>
     let split = number_of_four(bytes);
     let rec = number_of_four(&bytes[4..]);
     let place = number_of_four(&bytes[8..]);
-    Some((Item::Entry(Name { split, rec, place }), &bytes[12..]))
+    Some((Name { split, rec, place }, &bytes[12..]))
+}
+
+/// One entry behind the name before it, and the bytes behind it.
+fn entry_of(before: Name, bytes: &[u8]) -> Option<(Item, &[u8])>
+    ensures read { MatchOption result (entry_at before bytes.now ≡ None) (λ r. entry_at before bytes.now ≡ Some (record { item = r.0; rest = r.1.now })) }
+    ensures shorter { IfSome result (λ r. length r.1.now ≤ length bytes.now) }
+{
+    let (name, rest) = twelve(bytes)?;
+    Some((Item::Entry(name), rest))
 }
 
 /// The item that stands at the front of the bytes, and the bytes behind it.
@@ -152,4 +162,31 @@ pub fn front_of(place: Place, bytes: &[u8]) -> Option<(Item, &[u8])>
         }
         Place::Behind => None,
     }
+}
+
+/// The item that stands at the front of the bytes, the bytes behind it, and the place there; behind `End` the place is the
+/// same. Nearly all items are entries, so these come first and by themselves: a walk costs a few steps for each.
+#[inline(always)]
+pub(crate) fn step_of(place: Place, bytes: &[u8]) -> Option<(Item, &[u8], Place)>
+    ensures read { MatchOption result (standing place bytes.now ≡ None) (λ r. standing place bytes.now ≡ Some (record { item = r.0; rest = r.1.now })) }
+    ensures shorter { IfSome result (λ r. length r.1.now ≤ length bytes.now) }
+    ensures place { IfSome result (λ r. r.2 ≡ onward place r.0) }
+{
+    if let Place::AtEntry {
+        parts,
+        groups,
+        more,
+        ..
+    } = place
+    {
+        let (name, rest) = twelve(bytes)?;
+        let behind = entries_to_come(parts, groups, more, name);
+        return Some((Item::Entry(name), rest, behind));
+    }
+    let (item, rest) = front_of(place, bytes)?;
+    let behind = match item {
+        Item::End => place,
+        _ => place.behind(item),
+    };
+    Some((item, rest, behind))
 }

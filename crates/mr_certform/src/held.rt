@@ -71,6 +71,7 @@ impl Held {
     }
 
     /// The bytes.
+    #[inline]
     pub fn bytes(&self) -> &[u8]
         ensures { result.now ≡ self.now }
     {
@@ -78,6 +79,7 @@ impl Held {
     }
 
     /// So many of them are told.
+    #[inline]
     pub fn pass(&mut self, count: usize)
         requires { count ≤ length self.old }
         ensures { self.new ≡ drop count self.old }
@@ -86,6 +88,7 @@ impl Held {
     }
 
     /// Reads some more behind them and answers how many: none only at the reader's end.
+    #[inline(never)]
     pub fn read_more<R: CountedRead>(&mut self, reader: &mut R) -> Result<usize, Device>
         requires few { length self.old < 12 }
         ensures more { MatchResult result

@@ -96,6 +96,7 @@ fn skips_to_come(parts: u32, n: u32) -> Place
 }
 
 /// The place where `n` groups of this partition are to come.
+#[inline]
 pub(crate) fn groups_to_come(parts: u32, n: u32) -> Place
     ensures { result ≡ groups_from parts n }
 {
@@ -110,7 +111,8 @@ pub(crate) fn groups_to_come(parts: u32, n: u32) -> Place
 }
 
 /// The place where `n` entries of this group are to come.
-fn entries_to_come(parts: u32, groups: u32, n: u32, before: Name) -> Place
+#[inline]
+pub(crate) fn entries_to_come(parts: u32, groups: u32, n: u32, before: Name) -> Place
     ensures { result ≡ entries parts groups n before }
 {
     if n == 0 {

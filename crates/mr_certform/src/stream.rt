@@ -7,7 +7,7 @@ ghost use Rattle.mr_certform.specs.Places.{onward};
 ghost use Rattle.mr_certform.specs.Spelling.{items_of, stop, bytes_at};
 ghost use Rattle.mr_certform.specs.Streaming.{stream, MayCome, IsToCome, Gives, Told, Counted};
 
-use crate::front::front_of;
+use crate::front::step_of;
 use crate::held::Held;
 use crate::item::Item;
 use crate::place::Place;
@@ -86,6 +86,7 @@ impl<R: CountedRead + Drop> StreamWalker<R> {
     }
 
     /// Reads until an item's bytes are held, or the reader is at its end.
+    #[inline]
     fn fill(&mut self) -> Result<(), Device>
         ensures filled { OnOk result ((12 ≤ length self.new.held) ⊎ (self.new.exhausted ≡ true)) }
         ensures bytes { (bytes : List ℕ) → IsToCome (stream R.remaining self.new) bytes → IsToCome (stream R.remaining self.old) bytes }
@@ -108,6 +109,7 @@ impl<R: CountedRead + Drop> StreamWalker<R> {
     }
 
     /// The item that the held bytes begin with.
+    #[inline]
     fn step(&mut self) -> Result<Item, StreamFault>
         requires filled { (12 ≤ length self.old.held) ⊎ (self.old.exhausted ≡ true) }
         requires few { self.old.passed ≤ 2 ^ 63 }
@@ -119,21 +121,20 @@ impl<R: CountedRead + Drop> StreamWalker<R> {
         ensures same { (self.new.reader ≡ self.old.reader) × (self.new.fault ≡ self.old.fault) }
     {
         let held = self.held.bytes();
-        match front_of(self.place, held) {
+        match step_of(self.place, held) {
             None => Err(StreamFault::Malformed { at: self.passed }),
-            Some((item, rest)) => {
+            Some((item, rest, place)) => {
                 let count = held.len() - rest.len();
                 self.held.pass(count);
                 self.passed += count as u64;
-                if let Item::End = item {} else {
-                    self.place = self.place.behind(item);
-                }
+                self.place = place;
                 Ok(item)
             }
         }
     }
 
     /// The next item, where no fault was told.
+    #[inline]
     fn read_item(&mut self) -> Result<Item, StreamFault>
         requires few { self.old.passed ≤ 2 ^ 63 }
         ensures told { Told (stream R.remaining self.old) (stream R.remaining self.new) result }
@@ -152,6 +153,7 @@ impl<R: CountedRead + Drop> StreamWalker<R> {
     /// The next of the items of the bytes that the reader gives, the last being `End`; asked again after `End` it gives
     /// `End`. Malformed where no item of the grammar stands, Device where a read fails, an interrupted one too; and the
     /// same answer from then on. It takes no memory. The items before have at most 2^63 bytes, as `place` tells.
+    #[inline]
     pub fn next(&mut self) -> Result<Item, StreamFault>
         requires few { self.old.passed ≤ 2 ^ 63 }
         ensures told { self.old.fault ≡ None → Told (stream R.remaining self.old) (stream R.remaining self.new) result }

@@ -4,7 +4,7 @@ ghost use Rattle.mr_certform.specs.Places.{onward};
 ghost use Rattle.mr_certform.specs.Spelling.{standing, items_of, stop, left_behind};
 ghost use Rattle.mr_certform.specs.Rows.{entries_ahead, behind_entries};
 
-use crate::front::front_of;
+use crate::front::step_of;
 use crate::item::{Item, Malformed};
 use crate::place::{Place, groups_to_come};
 
@@ -41,21 +41,20 @@ impl<'a> Walker<'a> {
     }
 
     /// The item that stands here, seen by the rest of the bytes.
+    #[inline]
     fn step(&mut self) -> Result<Item, Malformed>
         ensures item { MatchResult result
             (λ i. (standing self.old.place self.old.rest.now ≡ Some (record { item = i; rest = self.new.rest.now })) × (self.new.place ≡ onward self.old.place i))
             (λ e. (standing self.old.place self.old.rest.now ≡ None) × (self.new.place ≡ self.old.place) × (self.new.rest.now ≡ self.old.rest.now) × (e.at ≡ self.old.whole - length self.old.rest.now)) }
         ensures same { self.new.whole ≡ self.old.whole }
     {
-        match front_of(self.place, self.rest) {
+        match step_of(self.place, self.rest) {
             None => Err(Malformed {
                 at: self.whole - self.rest.len() as u64,
             }),
-            Some((item, rest)) => {
+            Some((item, rest, place)) => {
                 self.rest = rest;
-                if let Item::End = item {} else {
-                    self.place = self.place.behind(item);
-                }
+                self.place = place;
                 Ok(item)
             }
         }
@@ -63,6 +62,7 @@ impl<'a> Walker<'a> {
 
     /// The next of the items, the last being `End`; asked again after `End` it gives `End`. Malformed where no item
     /// of the grammar stands, and the same answer from then on.
+    #[inline]
     pub fn next(&mut self) -> Result<Item, Malformed>
         ensures item { MatchResult result
             (λ i. items_left self.old ≡ i ∷ left_behind i (items_left self.new))

@@ -119,6 +119,7 @@ impl<'a> Items for Walker<'a> {
 
     ghost steady = { ⊤ };
 
+    #[inline]
     fn next_item(&mut self) -> Result<Item, Halt> {
         match self.next() {
             Ok(item) => Ok(item),
@@ -138,6 +139,7 @@ impl<R: CountedRead + Drop> Items for StreamWalker<R> {
 
     ghost steady = { ⊥ };
 
+    #[inline]
     fn next_item(&mut self) -> Result<Item, Halt> {
         if self.place() >= 1 << 63 {
             return Err(Halt::TooLong);
