@@ -5,6 +5,7 @@ pub mod ReadingLemmas
 pub mod ShardLaws
 pub mod SkipLaws
 pub mod LineLemmas
+pub mod NumberLemmas
 pub mod FrontLemmas
 pub mod CursorLemmas
 pub mod StepLemmas

@@ -18,7 +18,7 @@ use Rattle.mr_shards.specs.declared.line.Line.{Line}
 use Rattle.mr_shards.specs.Merged.{Group, with_group, merged, moved_group}
 use Rattle.mr_shards.specs.Lines.{groups_in, NoneFalls}
 use Rattle.mr_shards.specs.Views.{group_of, IsFor}
-use Rattle.mr_shards.specs.Cursors.{least_from, lesser, headed, left, IsHead, IsHeadFor, DoesNotFall, ReadsOn}
+use Rattle.mr_shards.specs.Cursors.{AreBehind, AreBeyond, Differs, HasFront, NotBefore, Past, least_from, lesser, headed, left, IsHead, IsHeadFor, DoesNotFall, ReadsOn}
 use Rattle.mr_shards.specs.Refused.{IsRestOf}
 use Rattle.mr_shards.specs.Outputs.{Stands}
 use Rattle.mr_shards.proofs.MergedLaws.{keys, merged-keys, with_keys-cases}
@@ -76,14 +76,6 @@ none-later : (j k : List ℕ) (gs : List Group) → NotLess k j → NoneBefore k
 none-later j k gs h all = all-map (λ g. NotLess g.key k) (λ g. NotLess g.key j) gs (λ g f. not_less-trans g.key k j f h) all
 
 -- ---- the least of cursors
-
-abbrev pub Past : Line → Option Line → Type 0
-Past line None = Unit {0}
-Past line (Some l) = key_order line.key.now l.key.now ≡ Less
-
-abbrev pub NotBefore : Line → Option Line → Type 0
-NotBefore line None = Unit {0}
-NotBefore line (Some l) = NotLess l.key.now line.key.now
 
 pub record IsLeast (cs : List Cursor) (at : ℕ) (line : Line) : Type 0 where
   pub front : List Cursor
@@ -324,3 +316,110 @@ module _ (job : JobSpec) (old new : List Cursor) (line : Line) (s : Step job old
       ap (sum_by size) s.now ∙ sum_by-append size s.front (s.next ∷ s.back) ∙ ap (λ n. sum_by size s.front + n) (sum_by-cons size s.next s.back) in
       let more : size s.one ≡ suc (size s.next) = ap length s.left_one in
       omega (arith, one, two, more)
+
+-- ---- behind a step
+
+has-front : (job : JobSpec) (cs : List Cursor) (at : ℕ) (line : Line) → IsLeast cs at line → AllByRecursion (IsHeadFor job) cs → HasFront line
+has-front job cs at line b all =
+    let r = all-split (IsHeadFor job) b.front (b.one ∷ b.back) (subst (AllByRecursion (IsHeadFor job)) b.is all) in
+    (subst (λ (o : Option Line). IsHead job o b.one.rest.now) b.head r.1.0).1
+
+-- the line that was taken is not behind any that is next, and before those in front of its place
+pub behind-step : (job : JobSpec) (at : ℕ) (old new : List Cursor) (line : Line) → IsLeast old at line → ReadsOn job at old new → AllByRecursion (IsHeadFor job) old
+    → AreBehind (Some (at, line)) new
+unfolding step-of
+behind-step job at old new line b r all =
+    let s : Step job old new line = step-of job at old new line b r in (
+      has-front job old at line b all,
+      record { front = b.front; back = s.next ∷ b.back; is = s.now; place = b.place; past = b.past; not_before = (s.order, b.not_before) },
+    )
+
+abbrev PastFound : Line → Option (ℕ × Line) → Type 0
+PastFound line None = Unit {0}
+PastFound line (Some b) = key_order line.key.now b.1.key.now ≡ Less
+
+past-lesser : (line : Line) (m : Option (ℕ × Line)) (n : ℕ) (o : Option Line) → PastFound line m → Past line o → PastFound line (lesser m n o)
+past-lesser line m n None f p = f
+past-lesser line None n (Some l) f p = p
+past-lesser line (Some b) n (Some l) f p = by (is_lt (key_order l.key.now b.1.key.now))
+  where
+    by : (t : Bool) → PastFound line (cond t (Some (n, l)) (Some b))
+    by true = p
+    by false = f
+
+lesser-here : (line : Line) (m : Option (ℕ × Line)) (n : ℕ) (o : Option Line) → o ≡ Some line → PastFound line m → lesser m n o ≡ Some (n, line)
+lesser-here line m n None is f = absurd (cc is)
+lesser-here line None n (Some l) is f = ap (λ (x : Option Line). lesser None n x) is
+lesser-here line (Some b) n (Some l) is f =
+    ap (λ (x : Option Line). lesser (Some b) n x) is
+    ∙ ap (λ (t : Ordering). cond (is_lt t) (Some (n, line)) (Some b)) f
+
+is_lt-not : (o : Ordering) → (o ≡ Less → ⊥) → is_lt o ≡ false
+is_lt-not Less f = absurd (f refl)
+is_lt-not Equal f = refl
+is_lt-not Greater f = refl
+
+lesser-kept : (line : Line) (at n : ℕ) (o : Option Line) → NotBefore line o → lesser (Some (at, line)) n o ≡ Some (at, line)
+lesser-kept line at n None f = refl
+lesser-kept line at n (Some l) f = ap (λ (t : Bool). cond t (Some (n, l)) (Some (at, line))) (is_lt-not (key_order l.key.now line.key.now) f)
+
+least-kept : (line : Line) (at n : ℕ) (cs : List Cursor) → AllByRecursion (λ c. NotBefore line c.head) cs → least_from (Some (at, line)) n cs ≡ Some (at, line)
+unfolding least_from
+least-kept line at n [] all = refl
+least-kept line at n (c ∷ cs) all =
+    ap (λ (m : Option (ℕ × Line)). least_from m (n + 1) cs) (lesser-kept line at n c.head all.0) ∙ least-kept line at (n + 1) cs all.1
+
+-- behind cursors that are past the line, the one at it is the least
+least-found : (line : Line) (m : Option (ℕ × Line)) (n at : ℕ) (front : List Cursor) (one : Cursor) (back : List Cursor) → PastFound line m → n + length front ≡ at
+    → AllByRecursion (λ c. Past line c.head) front → one.head ≡ Some line → AllByRecursion (λ c. NotBefore line c.head) back
+    → Some (at, line) ≡ least_from m n (front ++ one ∷ back)
+unfolding least_from
+least-found line m n at [] one back f place past is rest =
+    let here : n ≡ at = omega (arith, place) in
+    sym (ap (λ (x : Option (ℕ × Line)). least_from x (n + 1) back) (lesser-here line m n one.head is f) ∙ least-kept line n (n + 1) back rest ∙ ap (λ k. Some (k, line)) here)
+least-found line m n at (c ∷ front) one back f place past is rest =
+    least-found line (lesser m n c.head) (n + 1) at front one back (past-lesser line m n c.head f past.0) (omega (arith, place)) past.1 is rest
+
+past-alike : (line l : Line) (o : Option Line) → l.key.now ≡ line.key.now → Past line o → Past l o
+past-alike line l None e p = tt
+past-alike line l (Some q) e p = ap (λ k. key_order k q.key.now) e ∙ p
+
+not_before-alike : (line l : Line) (o : Option Line) → l.key.now ≡ line.key.now → NotBefore line o → NotBefore l o
+not_before-alike line l None e p = tt
+not_before-alike line l (Some q) e p = λ h. p (ap (key_order q.key.now) (sym e) ∙ h)
+
+-- what stands at a place behind others
+split-at : (cs front back : List Cursor) (at : ℕ) (d : Cursor) → cs ≡ front ++ back → length front ≡ at → at < length cs
+    → (rest : List Cursor) × (back ≡ get_or cs at d ∷ rest)
+split-at cs front [] at d is place less = absurd (omega (arith, less, place, ap length is, ap length (append-nil front)))
+split-at cs front (c ∷ back) at d is place less =
+    (back, ap (λ (q : Cursor). q ∷ back) (sym (ap (λ (xs : List Cursor). get_or xs at d) is ∙ get_or_at front c back d at place)))
+
+-- a line of the same key, at that place, is the least
+pub found-alike : (cs : List Cursor) (at : ℕ) (d : Cursor) (line l : Line) → AreBeyond at line cs → at < length cs → (get_or cs at d).head ≡ Some l → l.key.now ≡ line.key.now
+    → Some (at, l) ≡ least_from None 0 cs
+found-alike cs at d line l b less is e =
+    let w = split-at cs b.front b.back at d b.is b.place less in
+    let rest = subst (AllByRecursion (λ (c : Cursor). NotBefore line c.head)) w.1 b.not_before in
+    least-found l None 0 at b.front (get_or cs at d) w.0 tt (omega (arith, b.place))
+    (all-map (λ (c : Cursor). Past line c.head) (λ (c : Cursor). Past l c.head) b.front (λ c p. past-alike line l c.head e p) b.past) is
+    (all-map (λ (c : Cursor). NotBefore line c.head) (λ (c : Cursor). NotBefore l c.head) w.0 (λ c p. not_before-alike line l c.head e p) rest.1)
+    ∙ ap (least_from None 0) (ap (λ (xs : List Cursor). b.front ++ xs) (sym w.1) ∙ sym b.is)
+
+past-differs : (line : Line) (o : Option Line) → NotBefore line o → Differs line o → Past line o
+past-differs line None f ne = tt
+past-differs line (Some l) f ne = not_less-differs l.key.now line.key.now f (λ e. ne (sym e))
+
+-- past a cursor at another key
+pub beyond-more : (cs : List Cursor) (at : ℕ) (d : Cursor) (line : Line) → AreBeyond at line cs → at < length cs → Differs line (get_or cs at d).head → AreBeyond (at + 1) line cs
+beyond-more cs at d line b less ne =
+    let w = split-at cs b.front b.back at d b.is b.place less in
+    let rest = subst (AllByRecursion (λ (c : Cursor). NotBefore line c.head)) w.1 b.not_before in
+    record {
+      front = b.front ++ get_or cs at d ∷ [];
+      back = w.0;
+      is = b.is ∙ ap (λ (xs : List Cursor). b.front ++ xs) w.1 ∙ sym (append_assoc b.front (get_or cs at d ∷ []) w.0);
+      place = length_push b.front (get_or cs at d) ∙ ap (λ k. k + 1) b.place;
+      past = all-append (λ (c : Cursor). Past line c.head) b.front (get_or cs at d ∷ []) b.past (past-differs line (get_or cs at d).head rest.0 ne, tt);
+      not_before = rest.1;
+    }

@@ -1,5 +1,6 @@
 -- Where a merge stands in the outputs of shards.
-use Rattle.std.specs.Prelude.{◌≡◌, ◌⊎◌, ℕ, ◌+◌, if◌then◌else◌, List, [], ◌∷◌, ◌++◌, Option, None, Some, IfSome, map, slice_index_or, slice_set}
+use Rattle.std.specs.Prelude.{◌≡◌, ◌⊎◌, ℕ, ◌+◌, if◌then◌else◌, List, [], ◌∷◌, ◌++◌, Option, None, Some, IfSome, length, map, slice_index_or, slice_set}
+use Rattle.std.specs.List.{AllByRecursion}
 use Rattle.std.specs.Ordering.{is_lt}
 use Rattle.std.specs.declared.cmp.Ordering.TheVariants.{Less}
 use Rattle.mr_bytes.specs.Order.{key_order}
@@ -49,6 +50,34 @@ IsFronted (Some l) = HasFront l
 abbrev pub IsFound : Option (ℕ × Line) → Type 0
 IsFound None = Unit {0}
 IsFound (Some b) = HasFront b.1
+
+-- the key is before that of the next line, and is not behind it
+abbrev pub Past : Line → Option Line → Type 0
+Past line None = Unit {0}
+Past line (Some l) = key_order line.key.now l.key.now ≡ Less
+
+abbrev pub NotBefore : Line → Option Line → Type 0
+NotBefore line None = Unit {0}
+NotBefore line (Some l) = key_order l.key.now line.key.now ≡ Less → ⊥
+
+-- the next line has another key
+abbrev pub Differs : Line → Option Line → Type 0
+Differs line None = Unit {0}
+Differs line (Some l) = l.key.now ≡ line.key.now → ⊥
+
+-- the line's key is before those of the cursors in front of that place, and is not behind any
+pub record AreBeyond (at : ℕ) (line : Line) (cs : List Cursor) : Type 0 where
+  pub front : List Cursor
+  pub back : List Cursor
+  pub is : cs ≡ front ++ back
+  pub place : length front ≡ at
+  pub past : AllByRecursion (λ c. Past line c.head) front
+  pub not_before : AllByRecursion (λ c. NotBefore line c.head) back
+
+-- the cursors stand so behind the last line that was taken
+abbrev pub AreBehind : Option (ℕ × Line) → List Cursor → Type 0
+AreBehind None cs = Unit {0}
+AreBehind (Some b) cs = HasFront b.1 × AreBeyond b.0 b.1 cs
 
 -- the line is one of the job's
 abbrev pub IsLineFor : JobSpec → Option Line → Type 0

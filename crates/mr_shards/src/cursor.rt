@@ -1,11 +1,11 @@
 //! Where a merge stands in the outputs of shards.
-ghost use Rattle.std.specs.Prelude.{◌≡◌, ℕ, List, IfOk, IfSome, IsTrue, map, None, ◌↔◌, IfErr};
+ghost use Rattle.std.specs.Prelude.{◌≡◌, ℕ, List, IfOk, IfSome, IsTrue, MatchOption, Some, map, None, ◌↔◌, IfErr};
 ghost use Rattle.mr_shards.specs.Lines.{groups_in};
 ghost use Rattle.mr_shards.specs.Merged.{moved_group};
 ghost use Rattle.std.specs.List.{AllByRecursion};
 ghost use Rattle.std.specs.Ordering.{is_lt};
 ghost use Rattle.mr_bytes.specs.Order.{key_order};
-ghost use Rattle.mr_shards.specs.Cursors.{DoesNotFall, HasFront, IsFound, IsFronted, IsHeadFor, left, least_from, lesser};
+ghost use Rattle.mr_shards.specs.Cursors.{AreBeyond, AreBehind, Differs, DoesNotFall, HasFront, IsFound, IsFronted, IsHeadFor, left, least_from, lesser};
 ghost use Rattle.mr_shards.specs.Refused.{BlamesOnly, IsReadOf, IsRestOf, MayFollow, last_key};
 
 use crate::fault::MergeFault;
@@ -25,14 +25,20 @@ pub(crate) struct Cursor<'a> {
     pub lines: u64,
 }
 
-/// Whether a line may come behind the one before it: with totals, keys rise strictly.
+/// Whether a line may come behind the one before it: with totals, keys rise strictly. Where their first bytes differ, those
+/// tell it.
 fn may_follow(job: &Job, last: Option<Line<'_>>, line: Line<'_>) -> bool
+    requires last { IsFronted last }
+    requires line { HasFront line }
     ensures order { IsTrue result → DoesNotFall last.entry line.entry }
     ensures turn { IsTrue result ↔ MayFollow job.now (last_key last.entry) line.entry.key.now }
 {
     let Some(last) = last else {
         return true;
     };
+    if line.front != last.front {
+        return last.front < line.front;
+    }
     match compare_keys(line.key, last.key) {
         Ordering::Less => false,
         Ordering::Equal => !job.counts(),
@@ -46,6 +52,7 @@ pub(crate) fn advanced<'a>(
     shard: usize,
     cursor: Cursor<'a>,
 ) -> Result<Cursor<'a>, MergeFault>
+    requires { IsFronted cursor.head }
     ensures left { IfOk result (λ n. left job.now n ≡ map (moved_group cursor.entry.before) (groups_in job.now cursor.entry.rest.now)) }
     ensures before { IfOk result (λ n. n.before ≡ cursor.entry.before) }
     ensures kind { IfOk result (IsHeadFor job.now) }
@@ -81,14 +88,15 @@ pub(crate) fn advanced<'a>(
     })
 }
 
-/// Whether the key of a line is before that of another. Where their first bytes differ, those tell it.
+/// Whether the key of a line is before that of another. Where their first bytes differ, those tell it; where they are alike,
+/// so are most of the keys.
 fn is_before(line: Line<'_>, other: Line<'_>) -> bool
     requires line { HasFront line }
     requires other { HasFront other }
     ensures { result ≡ is_lt (key_order line.entry.key.now other.entry.key.now) }
 {
     if line.front == other.front {
-        compare_keys(line.key, other.key).is_lt()
+        line.key != other.key && compare_keys(line.key, other.key).is_lt()
     } else {
         line.front < other.front
     }
@@ -118,7 +126,7 @@ fn lesser<'a>(
 }
 
 /// The first of the cursors whose next line has the least key, and that line.
-pub(crate) fn first_least<'a>(cursors: &[Cursor<'a>]) -> Option<(usize, Line<'a>)>
+fn first_least<'a>(cursors: &[Cursor<'a>]) -> Option<(usize, Line<'a>)>
     requires { AllByRecursion (λ c. IsFronted c.head) cursors.now }
     ensures { result ≡ least_from None 0 cursors.entry.now }
 {
@@ -127,4 +135,53 @@ pub(crate) fn first_least<'a>(cursors: &[Cursor<'a>]) -> Option<(usize, Line<'a>
         least = lesser(least, at, cursor.head);
     }
     least
+}
+
+/// A cursor's next line, where it has the key of that line.
+fn alike<'a>(head: Option<Line<'a>>, last: Line<'_>) -> Option<Line<'a>>
+    requires head { IsFronted head }
+    requires last { HasFront last }
+    ensures { MatchOption result (Differs last.entry head.entry) (λ l. (head.entry ≡ Some l) × (l.key.now ≡ last.entry.key.now)) }
+{
+    let Some(line) = head else {
+        return None;
+    };
+    if line.front == last.front && line.key == last.key {
+        Some(line)
+    } else {
+        None
+    }
+}
+
+/// The first of the cursors from that place on whose next line has the key of the last one, and that line.
+fn first_alike<'a>(cursors: &[Cursor<'a>], from: usize, last: Line<'_>) -> Option<(usize, Line<'a>)>
+    requires heads { AllByRecursion (λ c. IsFronted c.head) cursors.now }
+    requires last { HasFront last }
+    requires beyond { AreBeyond from last cursors.now }
+    ensures { IfSome result (λ r. Some r ≡ least_from None 0 cursors.entry.now) }
+{
+    for at in from..cursors.len() {
+        if let Some(line) = alike(cursors[at].head, last) {
+            return Some((at, line));
+        }
+    }
+    None
+}
+
+/// The first of the cursors whose next line has the least key, and that line. Those with the key of the last line that was
+/// taken come first, and stand no further in front than that one did.
+pub(crate) fn next_line<'a>(
+    cursors: &[Cursor<'a>],
+    last: Option<(usize, Line<'_>)>,
+) -> Option<(usize, Line<'a>)>
+    requires heads { AllByRecursion (λ c. IsFronted c.head) cursors.now }
+    requires behind { AreBehind last cursors.now }
+    ensures { result ≡ least_from None 0 cursors.entry.now }
+{
+    if let Some((from, line)) = last {
+        if let Some(found) = first_alike(cursors, from, line) {
+            return Some(found);
+        }
+    }
+    first_least(cursors)
 }

@@ -1,5 +1,5 @@
 //! One line of an output.
-ghost use Rattle.std.specs.Prelude.{◌≡◌, ◌<◌, ◌^◌, ◌++◌, ℕ, [], ◌∷◌, IfErr, IfOk, IfSome, MatchOption, None, Some, OnOk, decimal, map};
+ghost use Rattle.std.specs.Prelude.{◌≡◌, ◌<◌, ◌≤◌, ◌+◌, ◌*◌, ◌^◌, ◌++◌, ℕ, [], ◌∷◌, IfErr, IfOk, IfSome, MatchOption, None, Some, OnOk, decimal, map};
 ghost use Rattle.mr_jobs.specs.JobSpec.{counts};
 ghost use Rattle.mr_bytes.specs.Cut.{Lacks};
 ghost use Rattle.mr_shards.specs.Lines.{groups_in};
@@ -54,8 +54,41 @@ fn cut_last(text: &[u8], mark: u8) -> Option<(&[u8], &[u8])>
     }
 }
 
-/// The number that these digits write, as an output writes it: without leading zeros, and below 2^64.
-pub fn number_of(digits: &[u8]) -> Option<u64>
+/// The number with a digit behind it; none where the byte is no digit, or where the number may be too large.
+#[inline(always)]
+fn with_digit(value: u64, digit: u8) -> Option<u64>
+    ensures { IfSome result (λ n. (48 ≤ digit) × (digit ≤ 57) × (n + 48 ≡ value * 10 + digit) × (n < 2 ^ 64)) }
+{
+    if value > 1_000_000_000_000_000_000 || digit < b'0' || digit > b'9' {
+        None
+    } else {
+        Some(value * 10 + u64::from(digit - b'0'))
+    }
+}
+
+/// The number that these digits write, read in one pass. There is none for some of the texts that write one: zero, and the
+/// largest numbers.
+fn read_number(digits: &[u8]) -> Option<u64>
+    ensures { IfSome result (λ n. digits.now ≡ decimal n) }
+{
+    if digits.is_empty() {
+        return None;
+    }
+    if digits[0] == b'0' {
+        return None;
+    }
+    let mut value = 0;
+    for at in 0..digits.len() {
+        let Some(next) = with_digit(value, digits[at]) else {
+            return None;
+        };
+        value = next;
+    }
+    Some(value)
+}
+
+/// The number that these digits write, by way of its own text.
+fn checked_number(digits: &[u8]) -> Option<u64>
     ensures { MatchOption result ((n : ℕ) → n < 2 ^ 64 → digits.now ≡ decimal n → ⊥) (λ n. digits.now ≡ decimal n) }
 {
     let Ok(text) = str::from_utf8(digits) else {
@@ -69,6 +102,16 @@ pub fn number_of(digits: &[u8]) -> Option<u64>
         Some(value)
     } else {
         None
+    }
+}
+
+/// The number that these digits write, as an output writes it: without leading zeros, and below 2^64.
+pub fn number_of(digits: &[u8]) -> Option<u64>
+    ensures { MatchOption result ((n : ℕ) → n < 2 ^ 64 → digits.now ≡ decimal n → ⊥) (λ n. digits.now ≡ decimal n) }
+{
+    match read_number(digits) {
+        Some(value) => Some(value),
+        None => checked_number(digits),
     }
 }
 

@@ -1,12 +1,12 @@
 //! The merge of the outputs that shards have for one partition.
 ghost use Rattle.std.specs.Prelude.{IfErr, ◌≡◌, ℕ, ◌<◌, ◌++◌, [], ◌∷◌, None, All, IfOk, OnOk, length, map};
 ghost use Rattle.std.specs.List.{AllByRecursion};
-ghost use Rattle.mr_shards.specs.Cursors.{BlamesAt, Goes, IsHeadFor, ReadsOn, left, with_waiting};
+ghost use Rattle.mr_shards.specs.Cursors.{BlamesAt, Goes, IsFronted, IsHeadFor, ReadsOn, left, with_waiting};
 ghost use Rattle.mr_shards.specs.Merged.{merged_parts, texts};
 ghost use Rattle.mr_shards.specs.Refused.{AreRead, Blames, IsRest, TakesNot};
 ghost use Rattle.mr_shards.specs.Outputs.{AreOpened, IsOutputOfAll, moved_parts, parts_in};
 
-use crate::cursor::{Cursor, advanced, first_least};
+use crate::cursor::{Cursor, advanced, next_line};
 use crate::fault::MergeFault;
 use crate::line::{Line, combined, put};
 use mr_jobs::Job;
@@ -90,7 +90,8 @@ fn put_last(job: &Job, waiting: Option<Line<'_>>, out: &mut Vec<u8>) -> Result<(
 
 /// Reads on in the output of one cursor.
 fn go_on<'a>(job: &Job, cursors: &mut Vec<Cursor<'a>>, at: usize) -> Result<(), MergeFault>
-    requires { at < length cursors.old.items }
+    requires within { at < length cursors.old.items }
+    requires heads { AllByRecursion (λ c. IsFronted c.head) cursors.old.items }
     ensures ok { OnOk result (ReadsOn job.now at cursors.old.items cursors.new.items) }
     ensures err { IfErr result (BlamesAt job.now at cursors.old.items) }
 {
@@ -110,9 +111,11 @@ pub fn merge_parts(alloc: Global, job: &Job, outputs: &[Output<'_>]) -> Result<V
     let mut cursors = open_all(alloc, job, outputs)?;
     let mut out = Vec::new(alloc);
     let mut waiting = None;
-    while let Some((at, line)) = first_least(&cursors) {
+    let mut last = None;
+    while let Some((at, line)) = next_line(&cursors, last) {
         go_on(job, &mut cursors, at)?;
         waiting = Some(taken(job, waiting, line, &mut out)?);
+        last = Some((at, line));
     }
     put_last(job, waiting, &mut out)?;
     Ok(out)
