@@ -100,4 +100,36 @@ def input_without_end(harness):
             harness.check(f"{command} of {files}", got == (2, b"", b"mapred: TooLarge\n", [b""], b""), repr(got)[:300])
 
 
-GROUPS = {"an input without end": input_without_end, "little memory": little_memory, "little memory of a run": little_memory_of_a_run, "little memory of threads": little_memory_of_threads}
+def result_without_end(harness):
+    """A result with a file longer than a good one's is not held, however it is judged: the answer is as ever."""
+    where = harness.directory({"small": b"a\n" * 1000})
+    options = ["--job", "words", "--parts", "1", "--out", ".", "small"]
+    subprocess.run([harness.program, "seq", *options], cwd=where, capture_output=True, timeout=120)
+    (part,), certificate = result_of(where)
+
+    def endless(name):
+        os.remove(os.path.join(where, name))
+        os.symlink("/dev/zero", os.path.join(where, name))
+
+    def lengthened(name):
+        with open(os.path.join(where, name), "r+b") as file:
+            file.truncate(3 << 30)
+
+    limit = lambda: resource.setrlimit(resource.RLIMIT_AS, (5 << 28, 5 << 28))
+    for change, name, no in (
+        (endless, "certificate", "Malformed at 0"),
+        (lengthened, "certificate", f"Malformed at {len(certificate)}"),
+        (endless, "part-00000", "OutputDiffers partition 0 at 0"),
+        (lengthened, "part-00000", f"OutputDiffers partition 0 at {len(part)}"),
+    ):
+        for more in ([], ["--threads", "4"], ["--verdict", "verdict"], ["--threads", "4", "--verdict", "verdict"]):
+            for old in ("part-00000", "certificate"):
+                os.remove(os.path.join(where, old))
+            write_result(where, [part], certificate)
+            change(name)
+            ran = subprocess.run([harness.program, "check", *more, *options], cwd=where, capture_output=True, preexec_fn=limit, timeout=120)
+            got = (ran.returncode, ran.stdout, ran.stderr, os.path.exists(os.path.join(where, "verdict")))
+            harness.check(f"check {' '.join(more)} of a {name} that is {change.__name__}", got == (1, b"no: %s\n" % no.encode(), b"", False), repr(got)[:300])
+
+
+GROUPS = {"a result without end": result_without_end, "an input without end": input_without_end, "little memory": little_memory, "little memory of a run": little_memory_of_a_run, "little memory of threads": little_memory_of_threads}

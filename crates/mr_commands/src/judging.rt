@@ -9,6 +9,7 @@ ghost use Rattle.mr_verdict.specs.Verdict.{spelling};
 ghost use Rattle.mr_verdict.specs.Truth.{note_for as note_of, notes_for};
 ghost use Rattle.mr_files.specs.Holding.{ChangesAmong};
 ghost use Rattle.mr_files.specs.Names.{result_names};
+ghost use Rattle.mr_files.specs.Refusals.{IsOneLonger};
 ghost use Rattle.mr_commands.specs.NoLines.{no_line as line_of_no};
 ghost use Rattle.mr_commands.specs.Outcomes.{yes_text as text_of_yes};
 ghost use Rattle.mr_commands.specs.Answers.{AreBadThreads, IsCheckRefusal, IsFirstLineEnd, IsNameRefusal, IsResultRefusal, input_names};
@@ -22,10 +23,10 @@ use crate::input::input_of;
 use crate::no_lines::no_line;
 use crate::request::request_of;
 use crate::said::yes_text;
-use crate::streaming::judged_as_read;
+use crate::streaming::{judged_as_read, refused_as_read};
 use mr_bytes::OpenGate;
 use mr_check::{No, Yes, check_gated_watched, check_watched};
-use mr_files::{FileFault, Store, read_result, write_named};
+use mr_files::{FileFault, Store, WithinFault, read_result_within, write_named};
 use mr_input::Input;
 use mr_jobs::Request;
 use mr_shard_files::part_notes;
@@ -243,8 +244,59 @@ fn judgement<R: Threads + Sync>(
     }
 }
 
-/// Reads the result whole, and judges it.
+/// The most bytes that a file of a good result has, over this input. A pair takes two bytes of the input at least, one of
+/// its key and one that ends its word or its line; and of a part at most 16 besides its key, where the place of a line is
+/// told, of the certificate at most 16, where it is a group of its own. The rest is for what stands in front of the
+/// partitions. No clause tells that a good result is never past it: one that is past it is judged all the same.
+fn most_bytes(input: &Input) -> u64 {
+    let mut bytes = 0u64;
+    for file in 0..input.files() {
+        bytes = bytes.saturating_add(input.len(file) as u64);
+    }
+    bytes.saturating_mul(9).saturating_add(65_536)
+}
+
+/// Reads the result whole and judges it, where none of its files has more than so many bytes; nothing else.
 fn judged_held<S: Store, R: Threads + Sync>(
+    rt: &R,
+    store: &S,
+    alloc: Global,
+    request: &Request,
+    asked: &CheckOptions<'_>,
+    input: &Input,
+    most: u64,
+    watch: &dyn Watch,
+) -> Result<Option<Judged>, Fault>
+    requires fits { split_total request.now.split input.now ≤ 2 ^ 20 }
+    requires threads { (1 ≤ asked.now.threads) × (asked.now.threads ≤ 64) }
+    ensures judged { IfOk result (λ r. IfSome r (λ j. JudgesResult (S.holds store.now) request.now asked.now input.now (string_bytes j.said.text)
+        j.said.status (option_map (λ v. v.items) j.verdict))) }
+    ensures longer { IfOk result (λ r. r ≡ None → IsOneLonger (S.holds store.now) (result_names asked.now.options.out.now asked.now.options.parts) most) }
+    ensures refused { IfErr result (λ e. IsResultRefusal (S.unreadable store.now) (result_names asked.now.options.out.now asked.now.options.parts) e) }
+{
+    let options = &asked.options;
+    let parts = options.parts as usize;
+    let (outputs, certificate) = match read_result_within(store, alloc, options.out, parts, most) {
+        Ok(held) => held,
+        Err(WithinFault::TooLong) => return Ok(None),
+        Err(WithinFault::File(fault)) => return Err(Fault::from(fault)),
+    };
+    let judged = judgement(
+        rt,
+        alloc,
+        request,
+        asked,
+        input,
+        outputs.as_slice(),
+        certificate.as_slice(),
+        watch,
+    )?;
+    Ok(Some(judged))
+}
+
+/// Judges a result with a file that is longer than a good one's: as it is read, so that it isn't held, however long it is.
+/// A yes isn't awaited there; should one come, the whole is held for its verdict.
+fn judged_longer<S: Store, R: Threads + Sync>(
     rt: &R,
     store: &S,
     alloc: Global,
@@ -259,21 +311,18 @@ fn judged_held<S: Store, R: Threads + Sync>(
         (option_map (λ v. v.items) j.verdict)) }
     ensures refused { IfErr result (λ e. IsResultRefusal (S.unreadable store.now) (result_names asked.now.options.out.now asked.now.options.parts) e) }
 {
-    let options = &asked.options;
-    let (outputs, certificate) = read_result(store, alloc, options.out, options.parts as usize)?;
-    judgement(
-        rt,
-        alloc,
-        request,
-        asked,
-        input,
-        outputs.as_slice(),
-        certificate.as_slice(),
-        watch,
-    )
+    if let Some(no) = refused_as_read::<S, Brand>(store, alloc, request, asked, input, watch)? {
+        return Ok(no);
+    }
+    match judged_held(rt, store, alloc, request, asked, input, u64::MAX, watch)? {
+        Some(judged) => Ok(judged),
+        // More than a machine holds.
+        None => Err(Fault::OutOfMemory),
+    }
 }
 
-/// Judges a result: as it is read, where one thread judges and no verdict is to be written; else it is read whole first.
+/// Judges a result: as it is read, where one thread judges and no verdict is to be written; else it is read whole first,
+/// unless a file has more bytes than a good one's.
 fn result_judged<S: Store, R: Threads + Sync>(
     rt: &R,
     store: &S,
@@ -292,7 +341,11 @@ fn result_judged<S: Store, R: Threads + Sync>(
     if asked.threads == 1 && asked.verdict.is_none() {
         return judged_as_read::<S, Brand>(store, alloc, request, asked, input, watch);
     }
-    judged_held(rt, store, alloc, request, asked, input, watch)
+    let most = most_bytes(input);
+    match judged_held(rt, store, alloc, request, asked, input, most, watch)? {
+        Some(judged) => Ok(judged),
+        None => judged_longer(rt, store, alloc, request, asked, input, watch),
+    }
 }
 
 /// Tests the request, the number of threads and the names that a verdict is to tell, then reads the input, then the

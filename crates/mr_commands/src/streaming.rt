@@ -1,5 +1,5 @@
 //! The judgement of a result whose files are read as they are judged, so that none of them is held.
-ghost use Rattle.std.specs.Prelude.{◌≡◌, ◌≤◌, ◌<◌, ◌^◌, ℕ, List, IfOk, IfErr, MatchResult, None, get_or, length, map, option_map, string_bytes};
+ghost use Rattle.std.specs.Prelude.{◌≡◌, ◌≤◌, ◌<◌, ◌^◌, ℕ, List, IfOk, IfErr, IfSome, MatchResult, None, get_or, length, map, option_map, string_bytes};
 ghost use Rattle.mr_input.specs.Files.{split_total};
 ghost use Rattle.mr_files.specs.Names.{result_names};
 ghost use Rattle.mr_files.specs.Refusals.{IsUnreadAmong, TellsOf};
@@ -117,4 +117,27 @@ pub(crate) fn judged_as_read<S: Store, C: Cause>(
     let parts = asked.options.parts as usize;
     let answer = answer_of::<S, C>(store, alloc, request, input, dir, parts, watch)?;
     judged_of(alloc, answer)
+}
+
+/// What is said of a no on a result that is judged as it is read; nothing on a yes.
+pub(crate) fn refused_as_read<S: Store, C: Cause>(
+    store: &S,
+    alloc: Global,
+    request: &Request,
+    asked: &CheckOptions<'_>,
+    input: &Input,
+    watch: &dyn Watch,
+) -> Result<Option<Judged>, Fault>
+    requires fits { split_total request.now.split input.now ≤ 2 ^ 20 }
+    requires cause { (n : List ℕ) → IsUnreadAmong (S.unreadable store.now) (result_names asked.now.options.out.now asked.now.options.parts) n → C.cause n }
+    ensures judged { IfOk result (λ r. IfSome r (λ j. JudgesResult (S.holds store.now) request.now asked.now input.now (string_bytes j.said.text)
+        j.said.status (option_map (λ v. v.items) j.verdict))) }
+    ensures refused { IfErr result (λ e. TellsRead C.cause e) }
+{
+    let dir = asked.options.out;
+    let parts = asked.options.parts as usize;
+    match answer_of::<S, C>(store, alloc, request, input, dir, parts, watch)? {
+        Ok(_) => Ok(None),
+        Err(no) => Ok(Some(no_judged(alloc, &no)?)),
+    }
 }

@@ -63,6 +63,16 @@ IsOneUnread unreadable names (CannotRead told) = IsUnreadAmong unreadable names 
 IsOneUnread unreadable names (CannotWrite told) = ⊥
 IsOneUnread unreadable names OutOfMemory = ⊤
 
+-- under one of these names stand more bytes than that
+abbrev pub IsOneLonger : Stored → List (List ℕ) → ℕ → Type 0
+IsOneLonger holds names limit =
+    (before after : List (List ℕ)) × (name bytes : List ℕ) × (names ≡ before ++ name ∷ after) × holds name bytes × (limit < length bytes)
+
+-- one of these can't be read, or has more bytes than that
+abbrev pub IsOneUnreadWithin : Stored → Faulty → List (List ℕ) → ℕ → WithinFault → Type 0
+IsOneUnreadWithin holds unreadable names limit (File fault) = IsOneUnread unreadable names fault
+IsOneUnreadWithin holds unreadable names limit TooLong = IsOneLonger holds names limit
+
 -- this file can't be written
 abbrev pub IsUnwritten : Faulty → List ℕ → FileFault → Type 0
 IsUnwritten unwritable name (CannotRead told) = ⊥

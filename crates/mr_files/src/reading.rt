@@ -74,19 +74,6 @@ fn try_part<S: Store>(store: &S, alloc: Global, dir: &str, part: usize) -> Resul
     try_file(store, alloc, name.as_str())
 }
 
-fn read_part<S: Store>(
-    store: &S,
-    alloc: Global,
-    dir: &str,
-    part: usize,
-) -> Result<Vec<u8>, FileFault>
-    ensures bytes { IfOk result (λ v. S.holds store.now (name_of_part dir.now part) v.items) }
-    ensures refused { IfErr result (λ e. IsUnread (S.unreadable store.now) (name_of_part dir.now part) e) }
-{
-    let name = part_name(alloc, dir, part)?;
-    read_file(store, alloc, name.as_str())
-}
-
 /// Each part can be opened, tried in order.
 pub(crate) fn try_parts<S: Store>(
     store: &S,
@@ -100,42 +87,4 @@ pub(crate) fn try_parts<S: Store>(
         try_part(store, alloc, dir, part)?;
     }
     Ok(())
-}
-
-/// The bytes of the parts, in order.
-fn read_parts<S: Store>(
-    store: &S,
-    alloc: Global,
-    dir: &str,
-    parts: usize,
-) -> Result<Vec<Vec<u8>>, FileFault>
-    ensures bytes { IfOk result (λ v. Holding (S.holds store.now) (part_names dir.now parts) (contents v.items)) }
-    ensures refused { IfErr result (λ e. IsOneUnread (S.unreadable store.now) (result_names dir.now parts) e) }
-{
-    let mut files = Vec::new(alloc);
-    for part in 0..parts {
-        let bytes = read_part(store, alloc, dir, part)?;
-        files.push(bytes).map_err(AllocError::from)?;
-    }
-    Ok(files)
-}
-
-/// The bytes of the parts, in order, and those of the certificate. Each of the files is opened once before one is
-/// read, so that a missing file is told before one that can't be read.
-pub fn read_result<S: Store>(
-    store: &S,
-    alloc: Global,
-    dir: &str,
-    parts: usize,
-) -> Result<(Vec<Vec<u8>>, Vec<u8>), FileFault>
-    ensures outputs { IfOk result (λ r. Holding (S.holds store.now) (part_names dir.now parts) (contents r.0.items)) }
-    ensures certificate { IfOk result (λ r. S.holds store.now (name_of_certificate dir.now) r.1.items) }
-    ensures refused { IfErr result (λ e. IsOneUnread (S.unreadable store.now) (result_names dir.now parts) e) }
-{
-    try_parts(store, alloc, dir, parts)?;
-    let last = certificate_name(alloc, dir)?;
-    try_file(store, alloc, last.as_str())?;
-    let outputs = read_parts(store, alloc, dir, parts)?;
-    let certificate = read_file(store, alloc, last.as_str())?;
-    Ok((outputs, certificate))
 }

@@ -1,10 +1,13 @@
 //! Files read in order, where their bytes together have a limit.
 ghost use Rattle.std.specs.Prelude.{◌≡◌, ◌≤◌, ◌∷◌, [], ◌++◌, map, IfOk, IfErr, length};
+ghost use Rattle.std.specs.List.{AllByRecursion};
 ghost use Rattle.mr_input.specs.Files.{contents, total_size};
 ghost use Rattle.mr_files.specs.Holding.{Holding};
-ghost use Rattle.mr_files.specs.Refusals.{IsReadRefusalWithin, IsUnreadWithin};
+ghost use Rattle.mr_files.specs.Names.{name_of_certificate, name_of_part, part_names, result_names};
+ghost use Rattle.mr_files.specs.Refusals.{IsOneUnreadWithin, IsReadRefusalWithin, IsUnreadWithin};
 
-use crate::reading::fault_of;
+use crate::names::{certificate_name, part_name};
+use crate::reading::{fault_of, try_file, try_parts};
 use crate::store::{FileFault, Store};
 use mr_store::{CountedRead, LimitedFault, ReadFault, read_limited};
 use std::alloc::{AllocError, Global};
@@ -15,6 +18,16 @@ pub enum WithinFault {
     File(FileFault),
     /// Together they have more bytes than that.
     TooLong,
+}
+
+impl From<FileFault> for WithinFault {
+    ghost use Rattle.mr_files.specs.declared.within.WithinFault.TheVariants.{File};
+
+    ghost from_gives = { λ e f. f ≡ File e };
+
+    fn from(fault: FileFault) -> WithinFault {
+        WithinFault::File(fault)
+    }
 }
 
 impl From<AllocError> for WithinFault {
@@ -76,4 +89,63 @@ pub fn read_files_within<S: Store>(
         files.push(bytes).map_err(AllocError::from)?;
     }
     Ok(files)
+}
+
+/// The bytes of a part, where they are at most so many.
+fn read_part_within<S: Store>(
+    store: &S,
+    alloc: Global,
+    dir: &str,
+    part: usize,
+    limit: u64,
+) -> Result<Vec<u8>, WithinFault>
+    ensures bytes { IfOk result (λ v. S.holds store.now (name_of_part dir.now part) v.items) }
+    ensures within { IfOk result (λ v. length v.items ≤ limit) }
+    ensures refused { IfErr result (λ e. IsUnreadWithin (S.holds store.now) (S.unreadable store.now) (name_of_part dir.now part) limit e) }
+{
+    let name = part_name(alloc, dir, part)?;
+    read_file_within(store, alloc, name.as_str(), limit)
+}
+
+/// The bytes of the parts, in order, where none has more than so many.
+fn read_parts_within<S: Store>(
+    store: &S,
+    alloc: Global,
+    dir: &str,
+    parts: usize,
+    limit: u64,
+) -> Result<Vec<Vec<u8>>, WithinFault>
+    ensures bytes { IfOk result (λ v. Holding (S.holds store.now) (part_names dir.now parts) (contents v.items)) }
+    ensures within { IfOk result (λ v. AllByRecursion (λ b. length b ≤ limit) (contents v.items)) }
+    ensures refused { IfErr result (λ e. IsOneUnreadWithin (S.holds store.now) (S.unreadable store.now) (result_names dir.now parts) limit e) }
+{
+    let mut files = Vec::new(alloc);
+    for part in 0..parts {
+        let bytes = read_part_within(store, alloc, dir, part, limit)?;
+        files.push(bytes).map_err(AllocError::from)?;
+    }
+    Ok(files)
+}
+
+/// The bytes of the parts, in order, and those of the certificate, where no file has more than so many. Each of the files
+/// is opened once before one is read, so that a missing file is told before one that can't be read. Of a file past the
+/// limit no more than one byte past it is read.
+pub fn read_result_within<S: Store>(
+    store: &S,
+    alloc: Global,
+    dir: &str,
+    parts: usize,
+    limit: u64,
+) -> Result<(Vec<Vec<u8>>, Vec<u8>), WithinFault>
+    ensures outputs { IfOk result (λ r. Holding (S.holds store.now) (part_names dir.now parts) (contents r.0.items)) }
+    ensures certificate { IfOk result (λ r. S.holds store.now (name_of_certificate dir.now) r.1.items) }
+    ensures within { IfOk result (λ r. AllByRecursion (λ b. length b ≤ limit) (contents r.0.items) × (length r.1.items ≤ limit)) }
+    ensures refused { IfErr result (λ e. IsOneUnreadWithin (S.holds store.now) (S.unreadable store.now) (result_names dir.now parts) limit e) }
+{
+    try_parts(store, alloc, dir, parts)?;
+    let last = certificate_name(alloc, dir)?;
+    try_file(store, alloc, last.as_str())?;
+    let outputs = read_parts_within(store, alloc, dir, parts, limit)?;
+    let certificate = read_file_within(store, alloc, last.as_str(), limit)?;
+    Ok((outputs, certificate))
 }
