@@ -4,7 +4,7 @@ use Rattle.std.proofs.lemmas.List.{drop-append-le, take-append-le, drop_at, take
 use Rattle.mr_bytes.specs.declared.Value.{Value}
 use Rattle.mr_bytes.specs.declared.Value.TheVariants.{One}
 use Rattle.mr_jobs.specs.Emissions.{Emission}
-use Rattle.mr_index.specs.Pairs.{pairs_from, EndsRise, pairs_seen, Sound}
+use Rattle.mr_index.specs.Pairs.{pairs_from, EndsRise, pairs_seen, shifted, Sound}
 use Rattle.mr_index.specs.declared.pairs.Pairs.{Pairs}
 
 -- a part of a list that has grown behind it
@@ -61,3 +61,7 @@ pairs-more at keys key (e ∷ ends) (w ∷ values) v r h =
 
 pub length-seen : (p : Pairs) → Sound p → length (pairs_seen p) ≡ length p.ends.items
 length-seen p s = length-pairs 0 p.keys.items p.ends.items p.values s.values
+
+pub length-shifted : (by : ℕ) (es : List ℕ) → length (shifted by es) ≡ length es
+length-shifted by [] = refl
+length-shifted by (e ∷ es) = ap suc (length-shifted by es)

@@ -99,10 +99,10 @@ left-none gives skips (x ∷ xs) each none =
     let parts = all-left skips x xs none in
     ap (λ l. l ++ flat_map gives xs) (each x parts.0) ∙ left-none gives skips xs each parts.1
 
-left-pairs : (job : JobSpec) (skips : List RecordName) (r : NamedRecord) → is_left_out skips r.name ≡ true → kept_pairs job skips r ≡ []
+pub left-pairs : (job : JobSpec) (skips : List RecordName) (r : NamedRecord) → is_left_out skips r.name ≡ true → kept_pairs job skips r ≡ []
 left-pairs job skips r h = ap (λ b. cond b [] (emissions job r.file r.start r.bytes)) h
 
-left-triples : (job : JobSpec) (skips : List RecordName) (r : NamedRecord) → is_left_out skips r.name ≡ true → record_triples job skips r ≡ []
+pub left-triples : (job : JobSpec) (skips : List RecordName) (r : NamedRecord) → is_left_out skips r.name ≡ true → record_triples job skips r ≡ []
 left-triples job skips r h = ap (λ b. cond b [] (placed_from r.name 0 (emissions job r.file r.start r.bytes))) h
 
 -- what the records give up to one that comes behind some that give nothing
@@ -168,55 +168,55 @@ next-placed job skips split rs ends pairs left more r numbers m is =
     let next = next-at skips split rs m.count r more numbers f in
     omega (arith, next.within, ap (λ (x : RecordName). x.rec) next.name)
 
--- the tables once a record's pairs are there too
-record Ended (split number : ℕ) (name : RecordName) (ends ends' : List ℕ) (pairs more pairs' : List Emission) : Type 0 where
-  few : length ends' ≤ suc number
-  rise : EndsRise 0 (length pairs') ends'
-  shows : numbered split 0 0 ends' pairs' ≡ numbered split 0 0 ends pairs ++ placed_from name 0 more
+-- the tables of the records from `first` on, once a record's pairs are there too
+pub record Ended (split first number : ℕ) (name : RecordName) (ends ends' : List ℕ) (pairs more pairs' : List Emission) : Type 0 where
+  pub few : length ends' ≤ suc number
+  pub rise : EndsRise 0 (length pairs') ends'
+  pub shows : numbered split first 0 ends' pairs' ≡ numbered split first 0 ends pairs ++ placed_from name 0 more
 
-end-none : (split number : ℕ) (name : RecordName) (ends : List ℕ) (pairs more : List Emission) → length ends ≤ number → EndsRise 0 (length pairs) ends
-    → length pairs ≡ length (pairs ++ more) → Ended split number name ends ends pairs more (pairs ++ more)
+end-none : (split first number : ℕ) (name : RecordName) (ends : List ℕ) (pairs more : List Emission) → length ends ≤ number → EndsRise 0 (length pairs) ends
+    → length pairs ≡ length (pairs ++ more) → Ended split first number name ends ends pairs more (pairs ++ more)
 unfolding placed_from
-end-none split number name ends pairs more few rise same =
+end-none split first number name ends pairs more few rise same =
     let none : more ≡ [] = nil_from_length more (omega (arith, same, length-append pairs more)) in
-    subst (λ (es : List Emission). Ended split number name ends ends pairs es (pairs ++ es)) (sym none)
-    (subst (λ (es : List Emission). Ended split number name ends ends pairs [] es) (sym (append-nil pairs))
-    (record { few = omega (arith, few); rise = rise; shows = sym (append-nil (numbered split 0 0 ends pairs)) }))
+    subst (λ (es : List Emission). Ended split first number name ends ends pairs es (pairs ++ es)) (sym none)
+    (subst (λ (es : List Emission). Ended split first number name ends ends pairs [] es) (sym (append-nil pairs))
+    (record { few = omega (arith, few); rise = rise; shows = sym (append-nil (numbered split first 0 ends pairs)) }))
 
-end-some : (split number : ℕ) (name : RecordName) (ends : List ℕ) (pairs more : List Emission) → length ends ≤ number → EndsRise 0 (length pairs) ends
-    → name ≡ record { split = split; rec = number }
-    → Ended split number name ends (filled number (length pairs) ends ++ length (pairs ++ more) ∷ []) pairs more (pairs ++ more)
-end-some split number name ends pairs more few rise is =
+end-some : (split first number : ℕ) (name : RecordName) (ends : List ℕ) (pairs more : List Emission) → length ends ≤ number → EndsRise 0 (length pairs) ends
+    → name ≡ record { split = split; rec = first + number }
+    → Ended split first number name ends (filled number (length pairs) ends ++ length (pairs ++ more) ∷ []) pairs more (pairs ++ more)
+end-some split first number name ends pairs more few rise is =
     let missing : ℕ = number - length ends in
     let padded : List ℕ = ends ++ replicate missing (length pairs) in
     let long : length padded ≡ number = omega (arith, few, length-append ends (replicate missing (length pairs)), length-replicate missing (length pairs)) in
     let padded-rise : EndsRise 0 (length pairs) padded = rise-pad 0 (length pairs) missing ends rise in
-    let here : 0 + length padded ≡ number = omega (arith, long) in
+    let here : first + length padded ≡ first + number = omega (arith, long) in
     record {
       few = omega (arith, long, length_push padded (length (pairs ++ more)));
       rise = rise-push 0 (length pairs) (length (pairs ++ more)) padded padded-rise (omega (arith, length-append pairs more));
-      shows = numbered-push split 0 0 padded pairs more padded-rise
-          ∙ ap (λ (ts : List Triple). ts ++ placed_from (record { split = split; rec = 0 + length padded }) 0 more) (numbered-pad split 0 0 missing ends pairs rise)
-          ∙ ap (λ (r : RecordName). numbered split 0 0 ends pairs ++ placed_from r 0 more) (ap (λ (k : ℕ). record { split = split; rec = k }) here ∙ sym is);
+      shows = numbered-push split first 0 padded pairs more padded-rise
+          ∙ ap (λ (ts : List Triple). ts ++ placed_from (record { split = split; rec = first + length padded }) 0 more) (numbered-pad split first 0 missing ends pairs rise)
+          ∙ ap (λ (r : RecordName). numbered split first 0 ends pairs ++ placed_from r 0 more) (ap (λ (k : ℕ). record { split = split; rec = k }) here ∙ sym is);
     }
 
-end-next : (split number : ℕ) (name : RecordName) (ends ends' : List ℕ) (pairs more pairs' : List Emission) → length ends ≤ number → EndsRise 0 (length pairs) ends
-    → name ≡ record { split = split; rec = number } → pairs' ≡ pairs ++ more → ends' ≡ ended number (length pairs) (length pairs') ends
-    → Ended split number name ends ends' pairs more pairs'
-end-next split number name ends ends' pairs more pairs' few rise is grown ends-are =
+pub end-next : (split first number : ℕ) (name : RecordName) (ends ends' : List ℕ) (pairs more pairs' : List Emission) → length ends ≤ number → EndsRise 0 (length pairs) ends
+    → name ≡ record { split = split; rec = first + number } → pairs' ≡ pairs ++ more → ends' ≡ ended number (length pairs) (length pairs') ends
+    → Ended split first number name ends ends' pairs more pairs'
+end-next split first number name ends ends' pairs more pairs' few rise is grown ends-are =
     let after : List Emission = pairs ++ more in
     let are : ends' ≡ ended number (length pairs) (length after) ends = ends-are ∙ ap (λ (es : List Emission). ended number (length pairs) (length es) ends) grown in
     let new : List ℕ = filled number (length pairs) ends ++ length after ∷ [] in
-    subst (λ (es : List Emission). Ended split number name ends ends' pairs more es) (sym grown)
+    subst (λ (es : List Emission). Ended split first number name ends ends' pairs more es) (sym grown)
     (elim (cases_eq (length pairs) (length after)) [
       | inl same ↦
-          subst (λ (l : List ℕ). Ended split number name ends l pairs more after)
+          subst (λ (l : List ℕ). Ended split first number name ends l pairs more after)
           (sym (are ∙ ap (λ b. cond b ends new) (eq-eqb (length pairs) (length after) same)))
-          (end-none split number name ends pairs more few rise same)
+          (end-none split first number name ends pairs more few rise same)
       | inr other ↦
-          subst (λ (l : List ℕ). Ended split number name ends l pairs more after)
+          subst (λ (l : List ℕ). Ended split first number name ends l pairs more after)
           (sym (are ∙ ap (λ b. cond b ends new) (ne_eqb (length pairs) (length after) other)))
-          (end-some split number name ends pairs more few rise is)
+          (end-some split first number name ends pairs more few rise is)
     ])
 
 -- one more kept record is mapped
@@ -230,7 +230,8 @@ mapped-next job skips split rs ends ends' pairs pairs' left more r numbers m fir
     let number : r.name.rec ≡ n + f.at = ap (λ (x : RecordName). x.rec) next.name in
     let gave : kept_pairs job skips r ≡ record_pairs job r = ap (λ b. cond b [] (record_pairs job r)) f.kept in
     let named : record_triples job skips r ≡ placed_from r.name 0 (record_pairs job r) = ap (λ b. cond b [] (placed_from r.name 0 (record_pairs job r))) f.kept in
-    let after = end-next split (n + f.at) r.name ends ends' pairs (record_pairs job r) pairs' (omega (arith, m.few)) m.rise next.name grown
+    let name : r.name ≡ record { split = split; rec = 0 + (n + f.at) } = next.name ∙ ap (λ (k : ℕ). record { split = split; rec = k }) (omega arith) in
+    let after = end-next split 0 (n + f.at) r.name ends ends' pairs (record_pairs job r) pairs' (omega (arith, m.few)) m.rise name grown
     (ends-are ∙ ap (λ (k : ℕ). ended k (length pairs) (length pairs') ends) number) in
     record {
       count = n + suc f.at;

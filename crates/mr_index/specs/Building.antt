@@ -1,10 +1,11 @@
 -- Of no public promise: the triples that a part's tables show, and parts one after another.
-use Rattle.std.specs.Prelude.{◌≡◌, ℕ, ◌+◌, ◌==◌, if◌then◌else◌, List, [], ◌∷◌, ◌++◌, slice_range}
+use Rattle.std.specs.Prelude.{◌≡◌, ℕ, ◌+◌, ◌≤◌, ◌==◌, if◌then◌else◌, List, [], ◌∷◌, ◌++◌, length, slice_range}
 use Rattle.std.specs.List.{AllByRecursion, flat_map}
 use Rattle.mr_bytes.specs.Pairs.{Triple}
 use Rattle.mr_jobs.specs.Emissions.{Emission}
 use Rattle.mr_sequential.specs.Emitted.{placed_from}
-use Rattle.mr_index.specs.Pairs.{filled}
+use Rattle.mr_index.specs.Pairs.{EndsRise, filled, shifted}
+use Rattle.mr_index.specs.Pieces.{PieceView}
 
 -- the pairs of the records of a split, from `number` on, each record's from the end of those of the one before
 unfoldable pub numbered : ℕ → ℕ → ℕ → List ℕ → List Emission → List Triple
@@ -25,3 +26,16 @@ joined parts = flat_map (λ p. p) parts
 abbrev pub AreApart : ℕ → List (List Triple) → Type 0
 AreApart split [] = Unit {0}
 AreApart split (p ∷ parts) = AllByRecursion (λ t. t.name.split ≡ split) p × AreApart (split + 1) parts
+
+-- the ends once a piece is appended that begins with the record `from`, behind so many pairs; a piece that emits nothing
+-- has none
+abbrev pub appended : ℕ → ℕ → List ℕ → List ℕ → List ℕ
+appended from before [] ends = ends
+appended from before (e ∷ more) ends = filled from before ends ++ shifted before (e ∷ more)
+
+-- tables that show what a piece gives
+pub record Shows (p : PieceView) (ends : List ℕ) (es : List Emission) : Type 0 where
+  pub rise : EndsRise 0 (length es) ends
+  pub few : p.from + length ends ≤ p.end
+  pub pairs : es ≡ p.pairs
+  pub triples : numbered p.split p.from 0 ends es ≡ p.triples

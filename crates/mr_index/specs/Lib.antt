@@ -1,3 +1,4 @@
 pub mod Index
 pub mod Pairs
 pub mod Building
+pub mod Pieces

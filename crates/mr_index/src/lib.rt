@@ -1,9 +1,13 @@
 //! All that a job emits over an input, looked up by name.
 #![tactic(auto)]
 
+mod divided;
 mod index;
 mod pairs;
 mod part;
+mod piece;
 
+pub use divided::DividedSplit;
 pub use index::{EmissionIndex, Meter};
 pub use part::{Found, Part};
+pub use piece::Piece;

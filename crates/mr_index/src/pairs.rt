@@ -1,9 +1,9 @@
 //! Keys with their values, in one buffer.
-ghost use Rattle.std.specs.Prelude.{◌≡◌, ℕ, ◌+◌, ◌≤◌, ◌<◌, ◌^◌, ◌++◌, [], ◌∷◌, IfOk, OnOk, MatchOption, length, slice_index, slice_index_or};
+ghost use Rattle.std.specs.Prelude.{◌≡◌, ℕ, ◌+◌, ◌≤◌, ◌<◌, ◌^◌, ◌++◌, [], ◌∷◌, All, IfOk, OnOk, MatchOption, length, slice_index, slice_index_or};
 ghost use Rattle.mr_bytes.specs.declared.Value.TheVariants.{One};
 ghost use Rattle.mr_jobs.specs.Emissions.{emissions};
 ghost use Rattle.mr_jobs.specs.Hits.{IsLine};
-ghost use Rattle.mr_index.specs.Pairs.{pairs_seen, filled, Sound, Fits};
+ghost use Rattle.mr_index.specs.Pairs.{pairs_seen, filled, shifted, Sound, Fits};
 
 use mr_bytes::{Value, Values};
 use mr_jobs::{Emitter, Mapper};
@@ -41,6 +41,28 @@ pub(crate) fn fill(ends: &mut Vec<u32>, count: usize, end: usize) -> Result<(), 
     Ok(())
 }
 
+/// Adds ends, each by so much further. It fails only for want of memory.
+pub(crate) fn push_shifted(ends: &mut Vec<u32>, more: &[u32], by: usize) -> Result<(), AllocError>
+    requires { All (λ e. by + e < 2 ^ 32) more.now }
+    ensures { OnOk result (ends.new.items ≡ ends.old.items ++ shifted by more.now) }
+{
+    for end in more {
+        push_end(ends, by + *end as usize)?;
+    }
+    Ok(())
+}
+
+/// Adds values, in their order. It fails only for want of memory.
+fn push_values(values: &mut Values, more: &Values) -> Result<(), AllocError>
+    requires { length values.old + length more.now < 2 ^ 64 }
+    ensures { OnOk result (values.new ≡ values.old ++ more.now) }
+{
+    for i in 0..more.len() {
+        values.push(more.get(i))?;
+    }
+    Ok(())
+}
+
 /// Where item `i` starts, given where each ends.
 pub(crate) fn start_of(ends: &[u32], i: usize) -> usize
     requires { i ≤ length ends.now }
@@ -71,6 +93,32 @@ impl Pairs {
     {
         self.keys.reserve(bytes)?;
         self.ends.reserve(bytes / 8)
+    }
+
+    /// Makes room for so many pairs in all, with so many bytes of keys, and no more than that.
+    pub(crate) fn reserve_exactly(&mut self, pairs: usize, bytes: usize) -> Result<(), AllocError>
+        requires sound { Sound self.old }
+        ensures sound { OnOk result (Sound self.new) }
+        ensures pairs { OnOk result (pairs_seen self.new ≡ pairs_seen self.old) }
+    {
+        self.keys
+            .reserve_exact(bytes.saturating_sub(self.keys.len()))?;
+        self.ends
+            .reserve_exact(pairs.saturating_sub(self.ends.len()))
+    }
+
+    /// Appends the pairs of others, in their order.
+    pub(crate) fn append(&mut self, more: &Pairs) -> Result<(), AllocError>
+        requires sound { Sound self.old }
+        requires more { Sound more.now }
+        requires fits { Fits (pairs_seen self.old ++ pairs_seen more.now) }
+        ensures sound { OnOk result (Sound self.new) }
+        ensures pairs { OnOk result (pairs_seen self.new ≡ pairs_seen self.old ++ pairs_seen more.now) }
+    {
+        push_shifted(&mut self.ends, more.ends.as_slice(), self.keys.len())?;
+        push_values(&mut self.values, &more.values)?;
+        self.keys.extend_from_slice(more.keys.as_slice())?;
+        Ok(())
     }
 
     pub(crate) fn len(&self) -> usize

@@ -81,6 +81,17 @@ impl<'a> Found<'a> {
 }
 
 impl Part {
+    /// What the tables show of that split.
+    pub(crate) fn of_tables(split: u32, tables: Tables) -> Part
+        requires sound { Sound tables.pairs }
+        requires rise { EndsRise 0 (length (pairs_seen tables.pairs)) tables.ends.items }
+        requires few { length (pairs_seen tables.pairs) < 2 ^ 32 }
+        ensures { result ≡ numbered split 0 0 tables.ends.items (pairs_seen tables.pairs) }
+    {
+        let Tables { ends, pairs } = tables;
+        Part { split, ends, pairs }
+    }
+
     /// How many pairs there are.
     pub(crate) fn len(&self) -> usize
         ensures count { result ≡ length self.now }
@@ -110,11 +121,11 @@ impl Part {
     }
 }
 
-/// How much room the tables of a split are given at once: for its records, and for the bytes of keys.
+/// How much room the tables of some records are given at once: for the records, and for the bytes of keys.
 #[derive(Clone, Copy)]
-struct Room {
-    records: usize,
-    bytes: usize,
+pub(crate) struct Room {
+    pub records: usize,
+    pub bytes: usize,
 }
 
 impl Room {
@@ -129,15 +140,15 @@ impl Room {
     }
 }
 
-/// The tables of a part as it grows.
+/// The tables of a part, or of a piece of one, as they grow.
 #[derive(Drop)]
-struct Tables {
-    ends: Vec<u32>,
-    pairs: Pairs,
+pub(crate) struct Tables {
+    pub ends: Vec<u32>,
+    pub pairs: Pairs,
 }
 
 impl Tables {
-    fn new(alloc: Global) -> Tables
+    pub(crate) fn new(alloc: Global) -> Tables
         ensures sound { Sound result.pairs }
         ensures none { (pairs_seen result.pairs ≡ []) × (result.ends.items ≡ []) }
     {
@@ -178,7 +189,7 @@ impl Tables {
     }
 
     /// Appends what the record of that number emits, and counts it. Those before it that have no end yet gave nothing.
-    fn map_record(
+    pub(crate) fn map_record(
         &mut self,
         mapper: &mut Mapper<'_, '_>,
         number: usize,
@@ -271,6 +282,5 @@ pub(crate) fn map_split(
     let _files = kept.plan().input().files();
     let mut tables = Tables::new(alloc);
     tables.map_all(kept, job, split, buffer, pace, mapped, watch)?;
-    let Tables { ends, pairs } = tables;
-    Ok(Part { split, ends, pairs })
+    Ok(Part::of_tables(split, tables))
 }

@@ -16,4 +16,4 @@ map_all-requires-clause-fits g c =
 
 pub returns-clause-part : goal.returns-clause-part
 returns-clause-part g c =
-    c.in_ok-map_all.ensures.shows ∙ sym (in-split c.args.job.now c.args.kept.now.skips c.args.split (records_of c.args.kept.now.cut))
+    c.of_tables.ensures ∙ c.in_ok-map_all.ensures.shows ∙ sym (in-split c.args.job.now c.args.kept.now.skips c.args.split (records_of c.args.kept.now.cut))

@@ -1,4 +1,4 @@
-use Rattle.std.proofs.Common.{◌≡◌, ℕ, ◌∷◌, ◌++◌, eqb, not, arith, ap, sym, ◌∙◌, subst, ◌+◌, ◌<◌, All, List, length}
+use Rattle.std.proofs.Common.{◌≡◌, ℕ, ◌++◌, eqb, not, arith, ap, sym, ◌∙◌, subst, ◌+◌, ◌<◌, All, List, length}
 use Rattle.std.proofs.lemmas.List.Elements.{All-filter, All-head, All-tail}
 use Rattle.mr_jobs.specs.Emissions.{emissions}
 use Rattle.mr_jobs.specs.Hits.{IsLine, Source}

@@ -1,0 +1,259 @@
+//! A split that is divided in pieces, for several threads to map.
+ghost use Rattle.std.specs.Prelude.{◌≡◌, ℕ, ◌+◌, ◌≤◌, ◌<◌, ◌^◌, [], ◌∷◌, IfOk, OnOk, length, slice_index_or};
+ghost use Rattle.mr_input.specs.Files.{split_total};
+ghost use Rattle.mr_jobs.specs.Hits.{IsLine};
+ghost use Rattle.mr_splits.specs.Named.{is_left_out, of_split};
+ghost use Rattle.mr_splits.specs.Cut.{records_of, nth_named};
+ghost use Rattle.mr_index.specs.Index.{triples_in, triples_of};
+ghost use Rattle.mr_index.specs.Pairs.{pairs_seen, EndsRise, Sound};
+ghost use Rattle.mr_index.specs.Building.{Shows};
+ghost use Rattle.mr_index.specs.Pieces.{Divides, ArePieces, records_divided, piece_between, piece_at};
+
+use crate::part::{Part, Room, Tables};
+use crate::piece::{Piece, Sizes};
+use mr_bytes::RecordName;
+use mr_jobs::{Job, Mapper};
+use mr_splits::{LeftOut, Located, Plan};
+use std::alloc::{AllocError, Global};
+use std::marker::Model;
+
+/// A split of a plan, divided in pieces of about as many bytes each. Several threads may map them at once; what they give
+/// is put together to what the split gives.
+#[derive(Drop)]
+pub struct DividedSplit<'a> {
+    plan: &'a Plan<'a>,
+    job: &'a Job,
+    skips: &'a [RecordName],
+    left_out: LeftOut,
+    split: u32,
+    /// Before the record of which number each piece ends.
+    ends: Vec<u32>,
+}
+
+impl<'a> Model for DividedSplit<'a> {
+    ghost use Rattle.std.specs.Prelude.{◌≡◌, ◌<◌, length};
+    ghost use Rattle.mr_input.specs.Files.{split_total};
+    ghost use Rattle.mr_splits.specs.Named.{of_split};
+    ghost use Rattle.mr_splits.specs.Cut.{left_out_flags, records_of};
+    ghost use Rattle.mr_index.specs.Pairs.{EndsRise};
+    ghost use Rattle.mr_index.specs.Pieces.{Division};
+
+    ghost Value = { Division };
+
+    ghost view = { λ d. record { job = d.job.now; cut = d.plan.now; skips = d.skips.now; split = d.split; ends = d.ends.items } };
+
+    ghost invariant = { λ d. record {
+      left_out : d.left_out ≡ left_out_flags d.skips.now (records_of d.plan.now);
+      within : d.split < split_total d.plan.now.size d.plan.now.files;
+      some : 0 < length d.ends.items;
+      rise : EndsRise 0 (length (of_split d.split (records_of d.plan.now))) d.ends.items;
+    } };
+}
+
+/// The first of a split's records from `first` on and before `end` that starts at that place of its file or behind it, and
+/// `end` where none does.
+fn first_from(plan: &Plan<'_>, split: u32, first: u32, end: u32, place: u64) -> u32
+    requires split { split < split_total plan.now.size plan.now.files }
+    requires within { (first ≤ end) × (end ≤ length (of_split split (records_of plan.now))) }
+    ensures { (first ≤ result) × (result ≤ end) }
+{
+    let mut low = first;
+    let mut high = end;
+    while low < high {
+        let middle = low + (high - low) / 2;
+        if u64::from(plan.located(split, middle).start) < place {
+            low = middle + 1;
+        } else {
+            high = middle;
+        }
+    }
+    low
+}
+
+/// Where the pieces of a split end, so many, each of about as many bytes.
+fn piece_ends(
+    alloc: Global,
+    plan: &Plan<'_>,
+    split: u32,
+    count: u32,
+) -> Result<Vec<u32>, AllocError>
+    requires split { split < split_total plan.now.size plan.now.files }
+    requires some { 0 < count }
+    ensures count { IfOk result (λ v. length v.items ≡ count) }
+    ensures rise { IfOk result (λ v. EndsRise 0 (length (of_split split (records_of plan.now))) v.items) }
+{
+    let records = plan.records_in(split);
+    let place = plan.split(split);
+    let start = u64::from(place.start);
+    let bytes = u64::from(place.end.saturating_sub(place.start));
+    let mut ends = Vec::with_capacity(alloc, count as usize)?;
+    let mut last = 0;
+    for number in 1..count {
+        let share = bytes.saturating_mul(u64::from(number)) / u64::from(count);
+        last = first_from(plan, split, last, records, start.saturating_add(share));
+        ends.push(last)?;
+    }
+    ends.push(records)?;
+    Ok(ends)
+}
+
+/// The item before item `i`, and 0 before the first.
+fn before(ends: &[u32], i: usize) -> u32
+    requires { i ≤ length ends.now }
+    ensures { result ≡ slice_index_or (0 ∷ ends.now) i 0 }
+{
+    if i == 0 { 0 } else { ends[i - 1] }
+}
+
+impl<'a> DividedSplit<'a> {
+    /// Divides a split of a plan in so many pieces, without the records that the list leaves out. Pieces may be empty. It
+    /// fails only for want of memory.
+    pub fn of(
+        alloc: Global,
+        plan: &'a Plan<'a>,
+        job: &'a Job,
+        skips: &'a [RecordName],
+        split: u32,
+        count: u32,
+    ) -> Result<DividedSplit<'a>, AllocError>
+        requires split { split < split_total plan.now.size plan.now.files }
+        requires some { 0 < count }
+        ensures { IfOk result (λ d. Divides job.entry.now plan.entry.now skips.entry.now split count d) }
+    {
+        let left_out = plan.left_out(alloc, skips)?;
+        let ends = piece_ends(alloc, plan, split, count)?;
+        Ok(DividedSplit {
+            plan,
+            job,
+            skips,
+            left_out,
+            split,
+            ends,
+        })
+    }
+
+    /// What the kept records of one piece emit, from 0. It fails only for want of memory.
+    pub fn piece(&self, alloc: Global, number: u32) -> Result<Piece, AllocError>
+        requires { number < length self.now.ends }
+        ensures { IfOk result (λ p. p ≡ piece_at self.now number) }
+    {
+        let from = before(self.ends.as_slice(), number as usize);
+        self.map_between(alloc, from, self.ends[number as usize])
+    }
+
+    /// What all pieces together emit: the part of the split. The tables of the first piece grow by those of the others,
+    /// each of which is let go once it is appended; where there is one piece, nothing is copied. It fails only for want
+    /// of memory.
+    pub fn join(&self, pieces: Vec<Piece>) -> Result<Part, AllocError>
+        requires { ArePieces self.now pieces.items }
+        ensures { IfOk result (λ r. r ≡ triples_in self.now.split (triples_of self.now.job self.now.cut self.now.skips)) }
+    {
+        // Files within the limits of an input emit few enough pairs, with few enough bytes of keys, for the tables.
+        let _files = self.plan.input().files();
+        let sizes = Sizes::of(pieces.as_slice());
+        let mut rest = pieces.into_iter();
+        let Some(first) = rest.next() else {
+            unreachable!()
+        };
+        let mut tables = first.into_tables();
+        tables.reserve(sizes)?;
+        while let Some(piece) = rest.next() {
+            tables.append(piece.from(), piece.tables())?;
+        }
+        Ok(Part::of_tables(self.split, tables))
+    }
+
+    /// Whether the record of that number is left out.
+    fn leaves_out(&self, number: u32) -> bool
+        requires { number < length (records_divided self.now) }
+        ensures { result ≡ is_left_out self.now.skips (nth_named (records_divided self.now) number).name }
+    {
+        self.left_out.has(self.plan.number_of(self.split, number))
+    }
+
+    fn located(&self, number: u32) -> Located<'a>
+        requires { number < length (records_divided self.now) }
+        ensures record { nth_named (records_divided self.now) number
+            ≡ record { name = record { split = self.now.split; rec = number }; file = result.file; start = result.start; bytes = result.bytes.now } }
+        ensures line { IsLine self.now.cut.files result.file result.start result.bytes.now }
+        ensures small { length result.bytes.now ≤ 2 ^ 30 }
+    {
+        self.plan.located(self.split, number)
+    }
+
+    /// The room for the records from one number and before another.
+    fn room(&self, from: u32, end: u32) -> Room
+        requires { (from ≤ end) × (end ≤ length (records_divided self.now)) }
+    {
+        if from == end {
+            return Room {
+                records: 0,
+                bytes: 0,
+            };
+        }
+        let last = self.located(end - 1);
+        let bytes = (last.start as usize)
+            .saturating_add(last.bytes.len())
+            .saturating_sub(self.located(from).start as usize);
+        Room {
+            records: (end - from) as usize,
+            bytes,
+        }
+    }
+
+    /// Appends what the record of that number emits to the tables of the records from `from` on, if it is kept.
+    fn map_one(
+        &self,
+        tables: &mut Tables,
+        mapper: &mut Mapper<'_, '_>,
+        from: u32,
+        number: u32,
+        room: Room,
+        buffer: &mut Vec<u8>,
+        mapped: &mut u64,
+    ) -> Result<(), AllocError>
+        requires mapper { mapper.old ≡ record { job = self.now.job; files = self.now.cut.files } }
+        requires within { (from ≤ number) × (number < length (records_divided self.now)) }
+        requires sound { Sound tables.old.pairs }
+        requires shows { Shows (piece_between self.now from number) tables.old.ends.items (pairs_seen tables.old.pairs) }
+        requires few { mapped.old ≤ number }
+        ensures same { mapper.new ≡ mapper.old }
+        ensures sound { OnOk result (Sound tables.new.pairs) }
+        ensures shows { OnOk result (Shows (piece_between self.now from (number + 1)) tables.new.ends.items (pairs_seen tables.new.pairs)) }
+        ensures few { OnOk result (mapped.new ≤ number + 1) }
+    {
+        if self.leaves_out(number) {
+            return Ok(());
+        }
+        // Files within the limits of an input emit few enough pairs, with few enough bytes of keys, for the tables.
+        let _files = self.plan.input().files();
+        let line = self.located(number);
+        let place = (number - from) as usize;
+        tables.map_record(mapper, place, line, room, buffer, mapped)?;
+        Ok(())
+    }
+
+    /// What the kept records from one number and before another emit.
+    fn map_between(&self, alloc: Global, from: u32, end: u32) -> Result<Piece, AllocError>
+        requires { (from ≤ end) × (end ≤ length (records_divided self.now)) }
+        ensures { IfOk result (λ p. p ≡ piece_between self.now from end) }
+    {
+        let room = self.room(from, end);
+        let mut mapper = self.job.over(self.plan.input());
+        let mut buffer = Vec::new(alloc);
+        let mut mapped = 0;
+        let mut tables = Tables::new(alloc);
+        for number in from..end {
+            self.map_one(
+                &mut tables,
+                &mut mapper,
+                from,
+                number,
+                room,
+                &mut buffer,
+                &mut mapped,
+            )?;
+        }
+        Ok(Piece::of_tables(self.split, from, end, tables))
+    }
+}
