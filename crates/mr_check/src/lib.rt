@@ -16,6 +16,7 @@ mod items;
 mod judge;
 mod laws;
 mod lent;
+mod mapping;
 mod outputs;
 mod parts;
 mod piece;

@@ -1,7 +1,6 @@
 //! The judge on many threads.
 ghost use Rattle.std.specs.Prelude.{◌≡◌, ◌⊎◌, ◌<◌, ◌≤◌, ◌+◌, ◌^◌, [], IfOk, IfErr, MatchResult, None, Some, length};
 ghost use Rattle.mr_input.specs.Files.{contents, split_total};
-ghost use Rattle.mr_index.specs.Index.{triples_of};
 ghost use Rattle.mr_certform.specs.declared.place.Place.TheVariants.{AtSkips};
 ghost use Rattle.mr_certform.specs.Grammar.{InOrder};
 ghost use Rattle.mr_certform.specs.Places.{partitions};
@@ -21,52 +20,16 @@ use crate::front::{Front, Fronts};
 use crate::front_bytes::{expect_count_of, expect_header_of, take_skips_of};
 use crate::fronts::fronts_of;
 use crate::judge::{Yes, plan_of, walk};
+use crate::mapping::{Crew, Mapped, Source, index_of};
 use mr_bytes::{Gate, OpenGate, RecordName};
 use mr_certform::Walker;
-use mr_index::{EmissionIndex, Part};
 use mr_input::Input;
-use mr_jobs::{Job, Request};
-use mr_splits::{Kept, Plan};
+use mr_jobs::Request;
+use mr_splits::Plan;
 use mr_tickets::{Pieces, draw_all};
 use mr_watch::{Phase, Unwatched, Watch};
 use std::alloc::{AllocError, Global};
 use std::thread::Threads;
-
-/// How many threads judge, the gate that they pass, and who looks on.
-#[derive(Drop)]
-struct Crew<'a, G: Gate, W: Watch> {
-    threads: u32,
-    gate: &'a G,
-    watch: &'a W,
-    ghost some: { 0 < threads },
-}
-
-/// The splits of a plan, to be mapped each by itself.
-#[derive(Drop)]
-struct Mapping<'a, W: Watch> {
-    kept: &'a Kept<'a>,
-    job: &'a Job,
-    splits: u32,
-    watch: &'a W,
-}
-
-impl<'a, W: Watch> Pieces for Mapping<'a, W> {
-    ghost use Rattle.std.specs.Prelude.{◌≡◌, ◌<◌};
-    ghost use Rattle.mr_input.specs.Files.{split_total};
-    ghost use Rattle.mr_index.specs.Index.{triples_in, triples_of};
-
-    type Out = Part;
-
-    ghost has = { λ m s. s < split_total m.kept.now.cut.size m.kept.now.cut.files };
-
-    ghost gives = { λ m s out. out ≡ triples_in s (triples_of m.job.now m.kept.now.cut m.kept.now.skips) };
-
-    fn piece(&self, alloc: Global, number: u32) -> Result<Part, AllocError> {
-        self.watch
-            .tell(Phase::Mapping, u64::from(number), u64::from(self.splits));
-        EmissionIndex::part_of(alloc, self.kept, self.job, number)
-    }
-}
 
 /// Partitions, to be judged each by itself.
 #[derive(Drop)]
@@ -105,30 +68,6 @@ fn fault_at(
     ensures { IfOk result (λ o. o ≡ part_fault (subject facts.now) number (part_at fronts.now number)) }
 {
     fault_in(alloc, facts, number, &fronts[number as usize])
-}
-
-/// All that the job emits over a plan without its left-out records, the splits being mapped by threads.
-fn index_of<R: Threads + Sync, G: Gate, W: Watch>(
-    rt: &R,
-    alloc: Global,
-    crew: &Crew<'_, G, W>,
-    kept: &Kept<'_>,
-    job: &Job,
-) -> Result<EmissionIndex, AllocError>
-    ensures { IfOk result (λ i. i ≡ triples_of job.now kept.now.cut kept.now.skips) }
-{
-    let plan = kept.plan();
-    // A plan's splits have at least one byte.
-    let _size = plan.size();
-    let splits = plan.splits();
-    let mapping = Mapping {
-        kept,
-        job,
-        splits,
-        watch: crew.watch,
-    };
-    let parts = draw_all(rt, alloc, splits, crew.threads, &mapping, crew.gate, 0)?;
-    Ok(EmissionIndex::join(parts))
 }
 
 /// The first fault that there is.
@@ -214,7 +153,7 @@ fn check_parts<R: Threads + Sync, G: Gate, W: Watch>(
 }
 
 /// Maps the splits and judges the partitions, given the left-out records: how many pairs there are, or the first fault.
-/// The pieces of the partitions are numbered on from those of the splits.
+/// The pieces of the partitions are numbered on from those of the first phase.
 fn check_with<R: Threads + Sync, G: Gate, W: Watch>(
     rt: &R,
     alloc: Global,
@@ -234,14 +173,14 @@ fn check_with<R: Threads + Sync, G: Gate, W: Watch>(
 {
     // A request has few parts.
     let _parts = request.parts();
-    let kept = plan.kept(alloc, skips)?;
-    let index = index_of(rt, alloc, crew, &kept, request.job())?;
+    let job = request.job();
+    let Mapped { index, pieces } = index_of(rt, alloc, crew, &Source { plan, job, skips })?;
     let facts = Facts {
         request,
         index: &index,
         outputs,
     };
-    check_parts(rt, alloc, crew, &facts, walker, plan.splits())
+    check_parts(rt, alloc, crew, &facts, walker, pieces)
 }
 
 /// Judges what stands behind the items of the request and of the input.
@@ -292,7 +231,8 @@ fn judge_all<R: Threads + Sync, G: Gate, W: Watch>(
 }
 
 /// The same as `check`, by so many threads, from 1 to 64: they draw the splits and map them, and then the partitions and
-/// judge each by itself. What they answer is what one thread answers, memory aside. Where a thread can't be started, the calling thread does its share.
+/// judge each by itself. Where there are few splits for the threads, the last ones are drawn in pieces. What they answer
+/// is what one thread answers, memory aside. Where a thread can't be started, the calling thread does its share.
 pub fn check_threads<R: Threads + Sync>(
     rt: &R,
     alloc: Global,
@@ -323,7 +263,8 @@ pub fn check_threads<R: Threads + Sync>(
 }
 
 /// The same as `check_threads`, where each thread passes the gate round each piece of work that it draws. Its number is
-/// the place of its seat, from 0; the piece of split `s` is `s`, that of partition `p` the number of the splits, and `p`.
+/// the place of its seat, from 0. The pieces of work are numbered from 0: first those of the splits, in order, each of
+/// which is one piece, or several where splits are few and large; and behind them the partitions.
 pub fn check_gated<R: Threads + Sync, G: Gate>(
     rt: &R,
     alloc: Global,

@@ -1,0 +1,241 @@
+//! What a job emits over the splits of a plan, mapped by threads.
+ghost use Rattle.std.specs.Prelude.{◌≡◌, ◌<◌, ◌≤◌, ◌+◌, ◌*◌, ◌^◌, ℕ, [], IfOk, length, slice_index_or};
+ghost use Rattle.mr_input.specs.Files.{split_total};
+ghost use Rattle.mr_index.specs.Index.{triples_in, triples_of};
+
+use mr_bytes::{Gate, RecordName};
+use mr_index::{DividedSplit, EmissionIndex, Part, Piece};
+use mr_jobs::Job;
+use mr_splits::{Kept, Plan};
+use mr_tickets::{Pieces, draw_all};
+use mr_watch::{Phase, Watch};
+use std::alloc::{AllocError, Global};
+use std::thread::Threads;
+
+/// The fewest bytes of a split for each of its pieces.
+const PIECE_BYTES: u32 = 65_536;
+
+/// How many threads judge, the gate that they pass, and who looks on.
+#[derive(Drop)]
+pub(crate) struct Crew<'a, G: Gate, W: Watch> {
+    pub threads: u32,
+    pub gate: &'a G,
+    pub watch: &'a W,
+    ghost some: { 0 < threads },
+    ghost few: { threads ≤ 64 },
+}
+
+/// A plan, a job, and the records that are left out.
+#[derive(Clone, Copy)]
+pub(crate) struct Source<'a> {
+    pub plan: &'a Plan<'a>,
+    pub job: &'a Job,
+    pub skips: &'a [RecordName],
+}
+
+/// All that the job emits, and in how many pieces of work it was mapped.
+#[derive(Drop)]
+pub(crate) struct Mapped {
+    pub index: EmissionIndex,
+    pub pieces: u32,
+}
+
+/// How threads share splits: so many are drawn whole, and each of the others in so many pieces.
+#[derive(Clone, Copy)]
+struct Shares {
+    whole: u32,
+    pieces: u32,
+    /// How many pieces of work there are in all.
+    all: u64,
+}
+
+/// The first splits of a plan, to be mapped each by itself.
+#[derive(Drop)]
+struct Mapping<'a, W: Watch> {
+    kept: &'a Kept<'a>,
+    job: &'a Job,
+    all: u64,
+    watch: &'a W,
+}
+
+impl<'a, W: Watch> Pieces for Mapping<'a, W> {
+    ghost use Rattle.std.specs.Prelude.{◌≡◌, ◌<◌};
+    ghost use Rattle.mr_input.specs.Files.{split_total};
+    ghost use Rattle.mr_index.specs.Index.{triples_in, triples_of};
+
+    type Out = Part;
+
+    ghost has = { λ m s. s < split_total m.kept.now.cut.size m.kept.now.cut.files };
+
+    ghost gives = { λ m s out. out ≡ triples_in s (triples_of m.job.now m.kept.now.cut m.kept.now.skips) };
+
+    fn piece(&self, alloc: Global, number: u32) -> Result<Part, AllocError> {
+        self.watch.tell(Phase::Mapping, u64::from(number), self.all);
+        EmissionIndex::part_of(alloc, self.kept, self.job, number)
+    }
+}
+
+/// The pieces of a split, to be mapped each by itself.
+#[derive(Drop)]
+struct Dividing<'a, W: Watch> {
+    divided: &'a DividedSplit<'a>,
+    first_piece: u32,
+    all: u64,
+    watch: &'a W,
+}
+
+impl<'a, W: Watch> Pieces for Dividing<'a, W> {
+    ghost use Rattle.std.specs.Prelude.{◌≡◌, ◌<◌, length};
+    ghost use Rattle.mr_index.specs.Pieces.{piece_at};
+
+    type Out = Piece;
+
+    ghost has = { λ d n. n < length d.divided.now.ends };
+
+    ghost gives = { λ d n out. out ≡ piece_at d.divided.now n };
+
+    fn piece(&self, alloc: Global, number: u32) -> Result<Piece, AllocError> {
+        let before = u64::from(self.first_piece) + u64::from(number);
+        self.watch.tell(Phase::Mapping, before, self.all);
+        self.divided.piece(alloc, number)
+    }
+}
+
+/// In how many pieces a split is divided: up to four for each thread, so that those that are done early draw again.
+fn pieces_of(plan: &Plan<'_>, split: u32, threads: u32) -> u32
+    requires split { split < split_total plan.now.size plan.now.files }
+    requires threads { (0 < threads) × (threads ≤ 64) }
+    ensures { (1 ≤ result) × (result ≤ 256) }
+{
+    let place = plan.split(split);
+    let bytes = place.end.saturating_sub(place.start);
+    (bytes / PIECE_BYTES).max(1).min(4 * threads)
+}
+
+/// How threads share the splits of a plan. Whole splits are drawn in rounds of as many as there are threads; those that
+/// are left for a last round, in which some threads had nothing to do, are divided. Of many splits the last round is a
+/// small part, and pieces are put together by one thread, in about a tenth of the time that mapping them takes one thread:
+/// where that would take longer than the round, all splits stay whole.
+fn shares_of(plan: &Plan<'_>, threads: u32) -> Shares
+    requires threads { (0 < threads) × (threads ≤ 64) }
+    ensures whole { result.whole ≤ split_total plan.now.size plan.now.files }
+    ensures few { split_total plan.now.size plan.now.files ≤ result.whole + 64 }
+    ensures pieces { (1 ≤ result.pieces) × (result.pieces ≤ 256) }
+{
+    let splits = plan.splits();
+    let left = splits % threads;
+    let none = Shares {
+        whole: splits,
+        pieces: 1,
+        all: u64::from(splits),
+    };
+    if left == 0 || 4 * threads <= splits || 10 * threads < left.saturating_mul(threads + 10) {
+        return none;
+    }
+    let whole = splits - left;
+    let pieces = pieces_of(plan, whole, threads);
+    if pieces == 1 {
+        return none;
+    }
+    let divided = u64::from(left).saturating_mul(u64::from(pieces));
+    Shares {
+        whole,
+        pieces,
+        all: u64::from(whole).saturating_add(divided),
+    }
+}
+
+/// The parts of the first splits, so many, each of them mapped by a thread that draws it.
+fn map_whole<R: Threads + Sync, G: Gate, W: Watch>(
+    rt: &R,
+    alloc: Global,
+    crew: &Crew<'_, G, W>,
+    source: &Source<'_>,
+    shares: Shares,
+) -> Result<Vec<Part>, AllocError>
+    requires { shares.whole ≤ split_total source.now.plan.now.size source.now.plan.now.files }
+    ensures len { IfOk result (λ v. length v.items ≡ shares.whole) }
+    ensures each { IfOk result (λ v. (s : ℕ) → s < length v.items
+        → slice_index_or v.items s [] ≡ triples_in s (triples_of source.now.job.now source.now.plan.now source.now.skips.now)) }
+{
+    if shares.whole == 0 {
+        return Ok(Vec::new(alloc));
+    }
+    let kept = source.plan.kept(alloc, source.skips)?;
+    let mapping = Mapping {
+        kept: &kept,
+        job: source.job,
+        all: shares.all,
+        watch: crew.watch,
+    };
+    draw_all(
+        rt,
+        alloc,
+        shares.whole,
+        crew.threads,
+        &mapping,
+        crew.gate,
+        0,
+    )
+}
+
+/// The part of a split whose pieces are mapped by threads that draw them, and are numbered from `first_piece`.
+fn map_divided<R: Threads + Sync, G: Gate, W: Watch>(
+    rt: &R,
+    alloc: Global,
+    crew: &Crew<'_, G, W>,
+    source: &Source<'_>,
+    split: u32,
+    shares: Shares,
+    first_piece: u32,
+) -> Result<Part, AllocError>
+    requires split { split < split_total source.now.plan.now.size source.now.plan.now.files }
+    requires some { 1 ≤ shares.pieces }
+    requires room { first_piece + shares.pieces < 2 ^ 32 }
+    ensures { IfOk result (λ p. p ≡ triples_in split (triples_of source.now.job.now source.now.plan.now source.now.skips.now)) }
+{
+    let Shares { pieces, all, .. } = shares;
+    let Source { plan, job, skips } = *source;
+    let divided = DividedSplit::of(alloc, plan, job, skips, split, pieces)?;
+    let dividing = Dividing {
+        divided: &divided,
+        first_piece,
+        all,
+        watch: crew.watch,
+    };
+    let mapped = draw_all(
+        rt,
+        alloc,
+        pieces,
+        crew.threads,
+        &dividing,
+        crew.gate,
+        first_piece,
+    )?;
+    divided.join(mapped)
+}
+
+/// All that the job emits over a plan without its left-out records, the splits being mapped by threads.
+pub(crate) fn index_of<R: Threads + Sync, G: Gate, W: Watch>(
+    rt: &R,
+    alloc: Global,
+    crew: &Crew<'_, G, W>,
+    source: &Source<'_>,
+) -> Result<Mapped, AllocError>
+    ensures all { IfOk result (λ m. m.index ≡ triples_of source.now.job.now source.now.plan.now source.now.skips.now) }
+    ensures few { IfOk result (λ m. m.pieces < 2 ^ 21) }
+{
+    // A plan's splits have at least one byte.
+    let _size = source.plan.size();
+    let splits = source.plan.splits();
+    let shares = shares_of(source.plan, crew.threads);
+    let mut parts = map_whole(rt, alloc, crew, source, shares)?;
+    let mut pieces = shares.whole;
+    for split in shares.whole..splits {
+        let part = map_divided(rt, alloc, crew, source, split, shares, pieces)?;
+        parts.push(part)?;
+        pieces += shares.pieces;
+    }
+    let index = EmissionIndex::join(parts);
+    Ok(Mapped { index, pieces })
+}
