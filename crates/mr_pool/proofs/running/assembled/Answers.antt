@@ -15,19 +15,19 @@ returns-else-is_same_fault-clause-fault g c =
     let h = c.close-history.result in
     let e = c.close-history.ensures in
     let same = sym e.reduces in
-    let done : IsDoneRun c.args.terms.request.now c.args.terms.input.now b.shape h (contents c.in_ok-outputs.outputs.items) c.in_ok-certificate.certificate.items =
+    let done : IsDoneRun c.args.terms.request.now c.args.terms.input.now b.shape h (contents c.in_ok-outputs.outputs.items) c.in_ok-outputs.certificate.items =
     record {
       state = b.state;
       history = is_history b h e.shape e.entries e.maps e.reduces e.kept e.promises;
       ends = c.requires.ends;
       outputs_are = c.in_ok-outputs.ensures.outputs ∙ ap (λ rs. assembled_outputs (reduced_under rs) b.state) same;
-      certificate_is = subst (λ v. Spells c.in_ok-certificate.certificate.items v)
-          (c.in_ok-outputs.ensures.certificate ∙ ap (λ rs. assembled_certificate c.args.terms.request.now c.args.terms.input.now (reduced_under rs) b.state) same)
-          c.in_ok-certificate.ensures;
+      certificate_is = subst (λ rs. Spells c.in_ok-outputs.certificate.items
+          (assembled_certificate c.args.terms.request.now c.args.terms.input.now (reduced_under rs) b.state)) same
+          c.in_ok-outputs.ensures.certificate;
     } in
     inl (record {
       outputs = contents c.in_ok-outputs.outputs.items;
-      bytes = c.in_ok-certificate.certificate.items;
+      bytes = c.in_ok-outputs.certificate.items;
       done = done;
-      refused = elim c.in-Err.ensures.no [ inl e ↦ absurd (false≢true (sym c.if-is_same_fault.false ∙ c.is_same_fault.ensures.1 e)) | inr v ↦ ap (λ o. verdict_of c.args.terms.request.now c.args.terms.input.now (contents o) c.in_ok-certificate.certificate.items) (sym c.as_slice.ensures.value) ∙ (ap (λ bytes. verdict_of c.args.terms.request.now c.args.terms.input.now (contents c.as_slice.result.now) bytes) (sym c.as_slice-2.ensures.value) ∙ v) ];
+      refused = elim c.in-Err.ensures.no [ inl e ↦ absurd (false≢true (sym c.if-is_same_fault.false ∙ c.is_same_fault.ensures.1 e)) | inr v ↦ ap (λ o. verdict_of c.args.terms.request.now c.args.terms.input.now (contents o) c.in_ok-outputs.certificate.items) (sym c.as_slice.ensures.value) ∙ (ap (λ bytes. verdict_of c.args.terms.request.now c.args.terms.input.now (contents c.as_slice.result.now) bytes) (sym c.as_slice-2.ensures.value) ∙ v) ];
     })
