@@ -7,3 +7,4 @@ pub mod ReadingLemmas
 pub mod RegionLaws
 pub mod RowLemmas
 pub mod TableLemmas
+pub mod SealedLemmas

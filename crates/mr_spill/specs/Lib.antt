@@ -10,3 +10,4 @@ pub mod Rows
 pub mod Spelling
 pub mod Table
 pub mod WorkedBytes
+pub mod Sealed

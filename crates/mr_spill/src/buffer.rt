@@ -18,8 +18,8 @@ use thiserror::Error;
 /// Pairs by rising name, up to a limit. Each distinct key is stored once, and looked up once a pair.
 #[derive(Drop)]
 pub struct Buffer {
-    pairs: Numbered,
-    limit: usize,
+    pub(crate) pairs: Numbered,
+    pub(crate) limit: usize,
 }
 
 impl Model for Buffer {

@@ -18,6 +18,7 @@ mod lists;
 mod numbered;
 mod reading;
 mod regions;
+mod sealed;
 mod spelling;
 
 pub use buffer::{Buffer, PushFault, PushRefusal};
@@ -27,4 +28,5 @@ pub use lent::Region;
 pub use numbered::Numbered;
 pub use reading::{RegionFault, read_region};
 pub use regions::{cut, gathered, spill_law};
+pub use sealed::SealedRun;
 pub use spelling::{worked_regions, write_region};

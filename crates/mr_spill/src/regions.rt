@@ -16,7 +16,7 @@ use mr_ranks::{Row, ranked};
 use std::alloc::{AllocError, Global};
 
 /// The row at this place, if it has this partition.
-fn row_in<'a>(rows: &[Row<'a>], at: usize, part: u32) -> Option<Row<'a>>
+pub(crate) fn row_in<'a>(rows: &[Row<'a>], at: usize, part: u32) -> Option<Row<'a>>
     requires { at ≤ length rows.now }
     ensures { MatchOption result ((front part (drop at rows.now) ≡ []) × (behind part (drop at rows.now) ≡ drop at rows.now))
         (λ r. (at < length rows.now) × (drop at rows.now ≡ r ∷ drop (at + 1) rows.now) × (r.part ≡ part)) }

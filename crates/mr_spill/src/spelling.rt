@@ -39,7 +39,12 @@ fn put_value(out: &mut Vec<u8>, value: Value) -> Result<(), AllocError>
 }
 
 /// The header: the magic bytes, the split, the partition, and how many pairs there are.
-fn put_header(out: &mut Vec<u8>, split: u32, partition: u32, count: u32) -> Result<(), AllocError>
+pub(crate) fn put_header(
+    out: &mut Vec<u8>,
+    split: u32,
+    partition: u32,
+    count: u32,
+) -> Result<(), AllocError>
     ensures { OnOk result (out.new.items ≡ out.old.items ++ header split partition count) }
 {
     out.extend_from_slice(b"MRREGN1\n")?;
@@ -59,7 +64,12 @@ fn put_name(out: &mut Vec<u8>, name: Name) -> Result<(), AllocError>
 }
 
 /// A pair. There is no memory for a key of 4 GiB.
-fn put_pair(out: &mut Vec<u8>, key: &[u8], value: Value, name: Name) -> Result<(), AllocError>
+pub(crate) fn put_pair(
+    out: &mut Vec<u8>,
+    key: &[u8],
+    value: Value,
+    name: Name,
+) -> Result<(), AllocError>
     ensures text { OnOk result (out.new.items ≡ out.old.items ++ pair_bytes (record { key = key.now; value = value; name = name })) }
     ensures fits { OnOk result (PairFits (record { key = key.now; value = value; name = name })) }
 {

@@ -59,6 +59,25 @@ fn two_partitions(rt: HostRuntime) -> Result<(), Fail> {
     Ok(())
 }
 
+#[test]
+fn sealed_run(rt: HostRuntime) -> Result<(), Fail> {
+    let mut buffer = Buffer::new(rt.alloc(), 3);
+    buffer
+        .push_key(b"b", Value::One, name(0))
+        .expect(&rt, "memory");
+    buffer
+        .push_key(b"a", Value::One, name(1))
+        .expect(&rt, "memory");
+    buffer
+        .push_key(b"b", Value::One, name(2))
+        .expect(&rt, "memory");
+    let run = buffer.seal_run(rt.alloc(), 0, 2)?;
+    assert!(rt; run.split() == 0 && run.parts() == 2 && buffer.len() == 0);
+    assert!(rt; run.region(0).bytes().len() == 38 && run.region(1).bytes().len() == 56);
+    assert!(rt; run.region(0).is_sealed() && run.region(1).split() == 0);
+    Ok(())
+}
+
 /// What a buffer of one pair answers to a second one.
 fn second(alloc: Global, first: Pair, second: Pair) -> Option<PushFault>
     requires names { (first.name ≡ record { split = 0; rec = 0; place = 4 }) × (second.name ≡ record { split = 0; rec = 0; place = 5 }) }

@@ -1,33 +1,18 @@
-use Rattle.std.proofs.Common.{◌≡◌, ◌<◌, ℕ, List, [], arith, length, map, ap, sym, ◌∙◌, subst, get_or, IfOk}
-use Rattle.std.specs.List.{range_with_len, zip}
+use Rattle.std.proofs.Common.{◌≡◌, ◌<◌, ℕ, List, arith, length, map, ap, sym, ◌∙◌, subst, get_or, IfOk}
+use Rattle.std.specs.List.{range_with_len}
 use Rattle.mr_bytes.specs.Pairs.{Triple}
 use Rattle.mr_partition.specs.Partition.{partition_of}
 use Rattle.mr_ranks.specs.declared.rows.Row.{Row}
-use Rattle.mr_ranks.specs.Buckets.{bucket}
-use Rattle.mr_ranks.specs.Rows.{AreRows, IsRanked, row_key, row_number}
+use Rattle.mr_ranks.specs.Rows.{AreRows, row_key}
 use Rattle.mr_ranks.proofs.ListLemmas.{same_length}
 use Rattle.mr_spill.specs.Column.{IsSealed}
 use Rattle.mr_spill.specs.Rows.{IsRowAt, pairs_in}
 use Rattle.mr_spill.specs.Entries.{Entry}
-use Rattle.mr_spill.specs.Table.{IsTable, numbered}
-use Rattle.mr_spill.proofs.CutLemmas.{ranked-table, rows-at}
+use Rattle.mr_spill.specs.Table.{IsTable}
+use Rattle.mr_spill.proofs.CutLemmas.{ranks-of, rows-at, table-of}
 use Rattle.mr_spill.proofs.RegionLaws.{region-sealed}
 use Rattle.mr_spill.proofs.RowLemmas.{rows-region, rows-regions}
 use Rattle.mr_spill.proofs.regions.cut.Goals as goal
-
--- the lists of the ranks put the pairs together, under the names that the steps give them
-table-of : (keys : List (List ℕ)) (parts : ℕ) (rows shown : List Row) (is copied rs seen : List ℕ) (es : List Entry) (ls : List (List Entry)) (ts : List Triple)
-    → AreRows keys parts rows → IsRanked keys rows copied rs → shown ≡ rows → copied ≡ is → seen ≡ rs → numbered keys is es ≡ ts
-    → length ls ≡ length shown → ((k : ℕ) → k < length shown → get_or ls k [] ≡ bucket k (zip seen es)) → IsTable ts (map row_key rows) ls
-table-of keys parts rows shown is copied rs seen es ls ts are ranks same even read view len each =
-    subst (λ (us : List Triple). IsTable us (map row_key rows) ls) view
-    (ranked-table keys parts rows is rs es ls are (subst (λ (l : List ℕ). IsRanked keys rows l rs) even ranks)
-    (len ∙ ap length same)
-    (λ k h. each k (omega (arith, h, ap length same)) ∙ ap (λ (l : List ℕ). bucket k (zip l es)) read))
-
--- each rank is that of its row
-ranks-of : (keys : List (List ℕ)) (parts : ℕ) (rows : List Row) → AreRows keys parts rows → map row_number rows ≡ range_with_len 0 (length (map row_key rows))
-ranks-of keys parts rows are = are.ranks_are ∙ ap (range_with_len 0) (sym (same_length row_key rows))
 
 pub regions_of-requires-clause-inside : goal.regions_of-requires-clause-inside
 regions_of-requires-clause-inside c = λ k d h.

@@ -1,0 +1,81 @@
+-- Regions spelled one behind another.
+use Rattle.std.proofs.Common.{◌≡◌, ℕ, zero, suc, ◌+◌, ◌<◌, List, [], ◌∷◌, ◌++◌, length, filter, get_or, map, take, refl, sym, ◌∙◌, ap, subst, arith, inl, inr, ◌==◌}
+use Rattle.std.proofs.lemmas.Bool.{cases_lt}
+use Rattle.std.proofs.lemmas.Grind.{flat_map-append}
+use Rattle.std.proofs.lemmas.List.{append-nil, get_or_push, length-append, map-append, take_more}
+use Rattle.std.specs.List.{AllByRecursion, flat_map}
+use Rattle.mr_bytes.specs.Lists.{Distinct}
+use Rattle.mr_bytes.proofs.SortLaws.{sorted-Has_from}
+use Rattle.mr_bytes.specs.Pairs.{Triple, pair_order}
+use Rattle.mr_bytes.proofs.ListLaws.{Has-all, Has-filter_from, all_from_Has}
+use Rattle.mr_spill.specs.Column.{names_of}
+use Rattle.mr_spill.specs.Entries.{Entry, nth_entry, under_key}
+use Rattle.mr_spill.specs.Lent.{HaveDistinctNames}
+use Rattle.mr_spill.specs.Regions.{region}
+use Rattle.mr_spill.specs.Sealed.{AreFor, IsText}
+use Rattle.mr_spill.specs.Spelling.{SpellsRegion, pair_bytes}
+use Rattle.mr_spill.proofs.ReadingLemmas.{spells-one}
+use Rattle.mr_spill.proofs.RegionLaws.{region-sealed}
+
+pub all-append : {X : Type 0} (P : X → Type 0) (xs ys : List X) → AllByRecursion P xs → AllByRecursion P ys → AllByRecursion P (xs ++ ys)
+all-append P [] ys a b = b
+all-append P (x ∷ xs) ys a b = (a.0, all-append P xs ys a.1 b)
+
+pub all-at : {X : Type 0} (P : X → Type 0) (xs : List X) (i : ℕ) (d : X) → AllByRecursion P xs → i < length xs → P (get_or xs i d)
+all-at P [] i d a h = absurd (omega (arith, h))
+all-at P (x ∷ xs) zero d a h = a.0
+all-at P (x ∷ xs) (suc i) d a h = all-at P xs i d a.1 (omega (arith, h))
+
+pub all-each : {X : Type 0} (P : X → Type 0) (xs : List X) → ((i : ℕ) (d : X) → i < length xs → P (get_or xs i d)) → AllByRecursion P xs
+all-each P [] f = tt
+all-each P (x ∷ xs) f = (f 0 x (omega arith), all-each P xs (λ i d h. f (suc i) d (omega (arith, h))))
+
+-- ---- pairs one behind another
+
+pub pairs-more : (key : List ℕ) (es : List Entry) (i : ℕ) (e : Entry) → i < length es → e ≡ nth_entry es i
+    → map (under_key key) (take (i + 1) es) ≡ map (under_key key) (take i es) ++ under_key key e ∷ []
+pairs-more key es i e h is =
+    ap (map (under_key key)) (take_more es i (nth_entry [] 0) h)
+    ∙ map-append (under_key key) (take i es) (nth_entry es i ∷ [])
+    ∙ ap (λ (x : Entry). map (under_key key) (take i es) ++ under_key key x ∷ []) (sym is)
+
+pub bytes-more : (ts : List Triple) (t : Triple) → flat_map pair_bytes (ts ++ t ∷ []) ≡ flat_map pair_bytes ts ++ pair_bytes t
+bytes-more ts t = flat_map-append pair_bytes ts (t ∷ []) ∙ ap (λ (l : List ℕ). flat_map pair_bytes ts ++ l) (append-nil (pair_bytes t))
+
+-- ---- texts one behind another
+
+at-front : {X : Type 0} (xs : List X) (y d : X) (i : ℕ) → i < length xs → get_or (xs ++ y ∷ []) i d ≡ get_or xs i d
+at-front [] y d i h = absurd (omega (arith, h))
+at-front (x ∷ xs) y d zero h = refl
+at-front (x ∷ xs) y d (suc i) h = at-front xs y d i (omega (arith, h))
+
+pub are-more : (F : ℕ → List ℕ → Type 0) (n : ℕ) (texts : List (List ℕ)) (text : List ℕ) → AreFor F n texts → F n text → AreFor F (n + 1) (texts ++ text ∷ [])
+are-more F n texts text are new = record {
+  many = length-append texts (text ∷ []) ∙ ap (λ m. m + 1) are.many;
+  each = λ p h. elim (cases_lt p n) [
+    | inl low ↦ subst (F p) (sym (at-front texts text [] p (omega (arith, low, are.many)))) (are.each p low)
+    | inr high ↦ (let same : n ≡ p = omega (arith, h, high) in
+        subst (λ q. F q (get_or (texts ++ text ∷ []) q [])) same (subst (F n) (sym (get_or_push texts text [] n are.many)) new))
+  ];
+}
+
+-- ---- the text of a region
+
+pub region-spells : (part : List ℕ → ℕ) (ts : List Triple) (split p : ℕ) (text : List ℕ) → Distinct (names_of ts) → AllByRecursion (λ (t : Triple). t.name.split ≡ split) ts
+    → IsText split p (region part ts p) text → SpellsRegion text split p (region part ts p)
+region-spells part ts split p text differ own is = record {
+  is = is.is;
+  rise = (region-sealed part ts p differ).rise;
+  own = all_from_Has (λ (t : Triple). t.name.split ≡ split) (region part ts p)
+      (λ t h. Has-all (λ (u : Triple). u.name.split ≡ split) ts t own
+      (Has-filter_from (λ (u : Triple). part u.key == p) ts t (sorted-Has_from pair_order (filter (λ (u : Triple). part u.key == p) ts) t h)).0);
+  fit = is.fit;
+  few = is.few;
+}
+
+pub region-distinct : (part : List ℕ → ℕ) (ts : List Triple) (split p : ℕ) (text : List ℕ) → Distinct (names_of ts) → AllByRecursion (λ (t : Triple). t.name.split ≡ split) ts
+    → IsText split p (region part ts p) text → HaveDistinctNames text split
+region-distinct part ts split p text differ own is = λ q us s.
+    subst (λ (l : List Triple). Distinct (names_of l))
+    (sym (spells-one text split p q (region part ts p) us (region-spells part ts split p text differ own is) s))
+    (region-sealed part ts p differ).differ

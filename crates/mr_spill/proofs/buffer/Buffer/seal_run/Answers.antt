@@ -1,0 +1,55 @@
+use Rattle.std.proofs.Common.{◌≡◌, ◌<◌, ℕ, List, [], map, get_or, refl, ap, sym, subst, arith}
+use Rattle.std.proofs.lemmas.List.{get_or-map}
+use Rattle.std.specs.List.{AllByRecursion}
+use Rattle.mr_bytes.specs.Lists.{Distinct}
+use Rattle.mr_bytes.specs.Pairs.{Triple}
+use Rattle.mr_bytes.proofs.ListLaws.{Distinct-rises}
+use Rattle.mr_partition.specs.Partition.{partition_of}
+use Rattle.mr_ranks.proofs.ListLemmas.{same_length}
+use Rattle.mr_spill.specs.Buffer.{Buffered}
+use Rattle.mr_spill.specs.Column.{names_of}
+use Rattle.mr_spill.specs.Lent.{HaveDistinctNames}
+use Rattle.mr_spill.specs.Regions.{region}
+use Rattle.mr_spill.specs.Sealed.{RunText, SpellsRun}
+use Rattle.mr_spill.proofs.RegionLaws.{names_total}
+use Rattle.mr_spill.proofs.RowLemmas.{names-under}
+use Rattle.mr_spill.proofs.SealedLemmas.{all-each, region-distinct, region-spells}
+use Rattle.mr_spill.proofs.buffer.Buffer.seal_run.Goals as goal
+
+pub cut_texts-requires-clause-rise : goal.cut_texts-requires-clause-rise
+cut_texts-requires-clause-rise c = names-under c.self.inside.pairs c.self.invariant.rise
+
+pub cut_texts-requires-clause-differ : goal.cut_texts-requires-clause-differ
+cut_texts-requires-clause-differ c = Distinct-rises names_total (names_of c.self.inside.pairs) c.self.invariant.rise
+
+pub invariant_of-result : goal.invariant_of-result
+invariant_of-result c =
+    let ts : List Triple = c.self.inside.pairs in
+    let split : ℕ = c.args.split in
+    let texts = c.in_ok-regions.regions.items in
+    let differ : Distinct (names_of ts) = Distinct-rises names_total (names_of ts) c.self.invariant.rise in
+    let own : AllByRecursion (λ (t : Triple). t.name.split ≡ split) ts =
+    subst (AllByRecursion (λ (t : Triple). t.name.split ≡ split)) (sym (ap (λ (b : Buffered). b.pairs) c.self.view_is)) c.requires.own in
+    all-each (λ b. HaveDistinctNames b.items split) texts
+    (λ i d h.
+    let inside : i < c.args.parts = omega (arith, h, same_length (λ b. b.items) texts, c.in_ok-regions.ensures.many) in
+    subst (λ (l : List ℕ). HaveDistinctNames l split) (get_or-map (λ b. b.items) texts i d [] h)
+    (region-distinct (λ k. partition_of k c.args.parts) ts split i (get_or (map (λ b. b.items) texts) i []) differ own (c.in_ok-regions.ensures.each i inside)))
+
+pub returns-clause-ok : goal.returns-clause-ok
+returns-clause-ok c =
+    let ts : List Triple = c.self.inside.pairs in
+    let split : ℕ = c.args.split in
+    let parts : ℕ = c.args.parts in
+    let texts = c.in_ok-regions.regions.items in
+    let same : ts ≡ c.args.self.now.pairs = ap (λ (b : Buffered). b.pairs) c.self.view_is in
+    let differ : Distinct (names_of ts) = Distinct-rises names_total (names_of ts) c.self.invariant.rise in
+    let own : AllByRecursion (λ (t : Triple). t.name.split ≡ split) ts =
+    subst (AllByRecursion (λ (t : Triple). t.name.split ≡ split)) (sym same) c.requires.own in
+    let run : RunText = record { split = split; regions = map (λ b. b.items) texts } in
+    subst (λ (us : List Triple). SpellsRun run split parts (region (λ k. partition_of k parts) us)) same
+    (record {
+      own = refl;
+      count = c.in_ok-regions.ensures.many;
+      each = λ p h. region-spells (λ k. partition_of k parts) ts split p (get_or (map (λ b. b.items) texts) p []) differ own (c.in_ok-regions.ensures.each p h);
+    })

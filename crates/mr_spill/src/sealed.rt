@@ -1,0 +1,252 @@
+//! The pairs of a run, cut by partition into sorted regions that are spelled at once.
+ghost use Rattle.std.specs.Prelude.{◌≡◌, ℕ, ◌+◌, ◌<◌, ◌≤◌, ◌++◌, [], IfOk, OnOk, OnErr, All, length, map, drop, slice_index_or};
+ghost use Rattle.std.specs.List.{AllByRecursion, flat_map, range_with_len};
+ghost use Rattle.mr_bytes.specs.Lists.{Distinct, Rises};
+ghost use Rattle.mr_partition.specs.Partition.{partition_of};
+ghost use Rattle.mr_ranks.specs.Rows.{row_cmp};
+ghost use Rattle.mr_spill.specs.Column.{names_of};
+ghost use Rattle.mr_spill.specs.Regions.{RisesUnderKeys, region};
+ghost use Rattle.mr_spill.specs.Rows.{behind, front, pairs_in, row_pairs};
+ghost use Rattle.mr_spill.specs.Sealed.{AreFor, IsText, SpellsRun};
+ghost use Rattle.mr_spill.specs.Spelling.{PairFits, pair_bytes, value_bytes};
+ghost use Rattle.mr_spill.specs.Table.{pairs_under};
+
+use crate::buffer::Buffer;
+use crate::lent::Region;
+use crate::lists::{Lists, lists_of};
+use crate::numbered::Numbered;
+use crate::regions::row_in;
+use crate::spelling::{put_header, put_pair};
+use mr_bytes::Value;
+use mr_ranks::{Row, ranked};
+use std::alloc::{AllocError, Global};
+use std::marker::Model;
+
+/// The regions of a run of a split, spelled: one for each partition. In none a name stands twice.
+#[derive(Drop)]
+pub struct SealedRun {
+    split: u32,
+    regions: Vec<Vec<u8>>,
+}
+
+impl Model for SealedRun {
+    ghost use Rattle.std.specs.Prelude.{map};
+    ghost use Rattle.std.specs.List.{AllByRecursion};
+    ghost use Rattle.mr_spill.specs.Lent.{HaveDistinctNames};
+    ghost use Rattle.mr_spill.specs.Sealed.{RunText};
+
+    ghost Value = { RunText };
+
+    ghost view = { λ r. record { split = r.split; regions = map (λ b. b.items) r.regions.items } };
+
+    ghost invariant = { λ r. AllByRecursion (λ b. HaveDistinctNames b.items r.split) r.regions.items };
+}
+
+impl SealedRun {
+    /// The split whose run it is.
+    pub fn split(&self) -> u32
+        ensures { result ≡ self.now.split }
+    {
+        self.split
+    }
+
+    /// How many partitions there are.
+    pub fn parts(&self) -> usize
+        ensures { result ≡ length self.now.regions }
+    {
+        self.regions.len()
+    }
+
+    /// The region of partition `p`, from 0.
+    pub fn region(&self, p: usize) -> Region<'_>
+        requires { p < length self.now.regions }
+        ensures { result ≡ record { split = self.now.split; bytes = slice_index_or self.now.regions p [] } }
+    {
+        Region::of_sealed(self.regions[p].as_slice(), self.split)
+    }
+}
+
+/// Appends the pairs of a key, whose rank is told, as they are spelled. It fails only for want of memory.
+fn spell_under(
+    out: &mut Vec<u8>,
+    key: &[u8],
+    lists: &Lists<'_>,
+    number: usize,
+) -> Result<(), AllocError>
+    requires { number < length lists.now }
+    ensures text { OnOk result (out.new.items ≡ out.old.items ++ flat_map pair_bytes (pairs_under lists.now key.now number)) }
+    ensures fit { OnOk result (AllByRecursion PairFits (pairs_under lists.now key.now number)) }
+{
+    for i in 0..lists.count(number) {
+        let (value, name) = lists.get(number, i);
+        put_pair(out, key, value, name)?;
+    }
+    Ok(())
+}
+
+/// Appends the pairs of the rows of a partition, which begin at `from`, as they are spelled: the place behind these rows.
+fn spell_rows(
+    out: &mut Vec<u8>,
+    lists: &Lists<'_>,
+    rows: &[Row<'_>],
+    from: usize,
+    part: u32,
+) -> Result<usize, AllocError>
+    requires inside { All (λ r. r.number < length lists.now) rows.now }
+    requires from { from ≤ length rows.now }
+    ensures text { OnOk result (out.new.items ≡ out.old.items ++ flat_map pair_bytes (row_pairs lists.now (front part (drop from rows.now)))) }
+    ensures fit { OnOk result (AllByRecursion PairFits (row_pairs lists.now (front part (drop from rows.now)))) }
+    ensures rest { IfOk result (λ at. (at ≤ length rows.now) × (drop at rows.now ≡ behind part (drop from rows.now))) }
+{
+    let mut at = from;
+    while let Some(row) = row_in(rows, at, part) {
+        spell_under(out, row.key, lists, row.number as usize)?;
+        at += 1;
+    }
+    Ok(at)
+}
+
+/// How many bytes spell a value.
+fn value_size(value: Value) -> usize
+    ensures { result ≡ length (value_bytes value) }
+{
+    match value {
+        Value::One => 1,
+        Value::At { .. } => 13,
+    }
+}
+
+/// How many bytes the pairs of a key are spelled in, all values being of one kind; no more than can be counted.
+fn room_under(key: &[u8], lists: &Lists<'_>, number: usize) -> usize
+    requires { number < length lists.now }
+{
+    let count = lists.count(number);
+    if count == 0 {
+        return 0;
+    }
+    let (value, _) = lists.get(number, 0);
+    let each = key.len().saturating_add(16 + value_size(value));
+    count.saturating_mul(each)
+}
+
+/// How many pairs the rows of a partition have that begin at `from`, and how many bytes they are spelled in. There is no
+/// memory for 4 Gi pairs.
+fn size_at(
+    lists: &Lists<'_>,
+    rows: &[Row<'_>],
+    from: usize,
+    part: u32,
+) -> Result<(u32, usize), AllocError>
+    requires inside { All (λ r. r.number < length lists.now) rows.now }
+    requires from { from ≤ length rows.now }
+    ensures { IfOk result (λ r. r.0 ≡ length (row_pairs lists.now (front part (drop from rows.now)))) }
+{
+    let mut count = 0u32;
+    let mut room = 20usize;
+    let mut at = from;
+    while let Some(row) = row_in(rows, at, part) {
+        count = counted(count, lists.count(row.number as usize))?;
+        room = room.saturating_add(room_under(row.key, lists, row.number as usize));
+        at += 1;
+    }
+    Ok((count, room))
+}
+
+/// So many pairs, and more. There is no memory for 4 Gi pairs.
+fn counted(count: u32, more: usize) -> Result<u32, AllocError>
+    ensures { IfOk result (λ n. n ≡ count + more) }
+{
+    if more > (u32::MAX - count) as usize {
+        return Err(AllocError);
+    }
+    Ok(count + more as u32)
+}
+
+/// The region of a partition, whose rows begin at `from`, spelled, and the place behind them.
+fn text_at(
+    alloc: Global,
+    lists: &Lists<'_>,
+    rows: &[Row<'_>],
+    from: usize,
+    split: u32,
+    part: u32,
+) -> Result<(Vec<u8>, usize), AllocError>
+    requires inside { All (λ r. r.number < length lists.now) rows.now }
+    requires from { from ≤ length rows.now }
+    ensures text { IfOk result (λ r. IsText split part (row_pairs lists.now (front part (drop from rows.now))) r.0.items) }
+    ensures rest { IfOk result (λ r. (r.1 ≤ length rows.now) × (drop (r.1) rows.now ≡ behind part (drop from rows.now))) }
+{
+    let (count, room) = size_at(lists, rows, from, part)?;
+    let mut out = Vec::with_capacity(alloc, room)?;
+    put_header(&mut out, split, part, count)?;
+    let next = spell_rows(&mut out, lists, rows, from, part)?;
+    Ok((out, next))
+}
+
+/// The regions of all partitions, spelled, given what each key has and the rows of the keys in their order.
+fn texts_of(
+    alloc: Global,
+    lists: &Lists<'_>,
+    rows: &[Row<'_>],
+    split: u32,
+    parts: u32,
+) -> Result<Vec<Vec<u8>>, AllocError>
+    requires inside { All (λ r. r.number < length lists.now) rows.now }
+    requires rise { Rises row_cmp rows.now }
+    ensures { IfOk result (λ v. AreFor (λ p. IsText split p (pairs_in lists.now rows.now p)) parts (map (λ b. b.items) v.items)) }
+{
+    let mut texts = Vec::with_capacity(alloc, parts as usize)?;
+    let mut at = 0;
+    for part in 0..parts {
+        let (text, next) = text_at(alloc, lists, rows, at, split, part)?;
+        texts.push(text)?;
+        at = next;
+    }
+    Ok(texts)
+}
+
+/// For each partition, in order, the pairs that belong to it, by key and then name, spelled as the region of a run of that
+/// split. Under each key the names rise already, and no name stands twice. Keys are sorted once each.
+fn cut_texts(
+    alloc: Global,
+    pairs: &Numbered,
+    split: u32,
+    parts: u32,
+) -> Result<Vec<Vec<u8>>, AllocError>
+    requires some { 0 < parts }
+    requires rise { RisesUnderKeys pairs.now }
+    requires differ { Distinct (names_of pairs.now) }
+    ensures { IfOk result (λ v. AreFor (λ p. IsText split p (region (λ k. partition_of k parts) pairs.now p)) parts (map (λ b. b.items) v.items)) }
+{
+    let numbers = Vec::from_slice(alloc, pairs.numbers.as_slice())?;
+    let by_rank = ranked(alloc, &pairs.keys, parts, numbers)?;
+    let rows = by_rank.rows.as_slice();
+    let lists = lists_of(
+        alloc,
+        by_rank.numbers.as_slice(),
+        &pairs.entries,
+        rows.len(),
+    )?;
+    texts_of(alloc, &lists, rows, split, parts)
+}
+
+impl Buffer {
+    /// The same as bytes: the regions of a run of this split, of which all pairs are. It holds none then. It fails only for
+    /// want of memory, and then leaves the buffer as it was.
+    pub fn seal_run(
+        &mut self,
+        alloc: Global,
+        split: u32,
+        parts: u32,
+    ) -> Result<SealedRun, AllocError>
+        requires some { 0 < parts }
+        requires own { AllByRecursion (λ t. t.name.split ≡ split) self.old.pairs }
+        ensures ok { IfOk result (λ r. SpellsRun r split parts (region (λ k. partition_of k parts) self.old.pairs)) }
+        ensures empty { OnOk result (self.new ≡ record { limit = self.old.limit; pairs = [] }) }
+        ensures err { OnErr result (self.new ≡ self.old) }
+    {
+        let regions = cut_texts(alloc, &self.pairs, split, parts)?;
+        self.pairs.clear();
+        Ok(SealedRun { split, regions })
+    }
+}
