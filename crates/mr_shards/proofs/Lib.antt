@@ -15,3 +15,10 @@ pub mod WholeLaws
 pub mod RefusedLemmas
 pub mod TotalLemmas
 pub mod JudgedLaws
+pub mod WindowLemmas
+pub mod PieceLemmas
+pub mod ApartLaws
+pub mod CutLemmas
+pub mod TurnLemmas
+pub mod BlameLemmas
+pub mod StepLaws

@@ -75,7 +75,7 @@ front-place (LinesWith literal fold) (Place file offset) g gs f p all = front-pl
 front-place Resources (Place file offset) g gs f p all = absurd f
 
 -- keys of a group and those behind it
-with_group-behind : (k : List ℕ) (g : Group) (gs : List Group) (P : List ℕ → Type 0) → P g.key → AllByRecursion P (keys gs) → AllByRecursion P (keys (with_group g gs))
+pub with_group-behind : (k : List ℕ) (g : Group) (gs : List Group) (P : List ℕ → Type 0) → P g.key → AllByRecursion P (keys gs) → AllByRecursion P (keys (with_group g gs))
 with_group-behind k g gs P here all =
     all_from_Has P (keys (with_group g gs)) (λ q h.
     elim (with_key-cases g.key (keys gs) q (subst (λ (l : List (List ℕ)). Has l q) (with_group-keys g gs) h)) [

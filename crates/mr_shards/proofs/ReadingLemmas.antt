@@ -16,7 +16,7 @@ use Rattle.mr_reduce.specs.Text.{total_line, place_line}
 use Rattle.mr_shards.specs.Merged.{Group, group_text, texts}
 use Rattle.mr_shards.specs.Lines.{longer, lines, has_byte, before_last, after_last, after_first, values_in, group_in, groups_in, HasLine, OneReading}
 
-lines-next : (l rest : List ℕ) → Lacks 10 l → lines (l ++ 10 ∷ rest) ≡ l ∷ lines rest
+pub lines-next : (l rest : List ℕ) → Lacks 10 l → lines (l ++ 10 ∷ rest) ≡ l ∷ lines rest
 unfolding lines longer
 lines-next [] rest clear = refl
 lines-next (b ∷ l) rest clear =
@@ -55,11 +55,11 @@ has-there : (b : ℕ) (xs ys : List ℕ) → has_byte b (xs ++ b ∷ ys) ≡ tru
 has-there b [] ys = ap (λ t. t || has_byte b ys) (eq-eqb b b refl)
 has-there b (x ∷ xs) ys = ap (λ t. eqb x b || t) (has-there b xs ys) ∙ or_true (eqb x b)
 
-has-none : (b : ℕ) (xs : List ℕ) → Lacks b xs → has_byte b xs ≡ false
+pub has-none : (b : ℕ) (xs : List ℕ) → Lacks b xs → has_byte b xs ≡ false
 has-none b [] h = refl
 has-none b (x ∷ xs) h = ap (λ t. t || has_byte b xs) (ne_eqb x b h.0) ∙ has-none b xs h.1
 
-before-last : (b : ℕ) (xs ys : List ℕ) → Lacks b ys → before_last b (xs ++ b ∷ ys) ≡ xs
+pub before-last : (b : ℕ) (xs ys : List ℕ) → Lacks b ys → before_last b (xs ++ b ∷ ys) ≡ xs
 unfolding before_last
 before-last b [] ys h = ap (λ t. cond t (b ∷ before_last b ys) []) (has-none b ys h)
 before-last b (x ∷ xs) ys h =

@@ -37,7 +37,7 @@ has-line Resources g (Total n) told clear is e =
     (clear, omega (arith, l, is.1), e ∙ ap (λ k. replicate k One) (sym l))
 has-line Resources g (Place file offset) told clear is e = absurd is
 
-have-lines : (job : JobSpec) (gs : List Group) → AllByRecursion (IsLineOf job) gs → AllByRecursion (HasLine job) gs
+pub have-lines : (job : JobSpec) (gs : List Group) → AllByRecursion (IsLineOf job) gs → AllByRecursion (HasLine job) gs
 have-lines job [] all = tt
 have-lines job (g ∷ gs) all = (has-line job g all.0.tally all.0.told all.0.clear all.0.tells all.0.values, have-lines job gs all.1)
 
@@ -51,13 +51,13 @@ line-cut job g l more = record { first = refl; clear = begun job l.tally g.key l
 as-told : (job : JobSpec) (g : Group) (l : IsLineOf job g) → g ≡ record { key = g.key; values = values_of l.tally }
 as-told job g l = λ i. record { key = g.key; values = l.values i }
 
-front-text : (job : JobSpec) (g : Group) (l : IsLineOf job g) (more : List ℕ) → group_text job g ++ more ≡ (g.key ++ 9 ∷ l.told) ++ 10 ∷ more
+pub front-text : (job : JobSpec) (g : Group) (l : IsLineOf job g) (more : List ℕ) → group_text job g ++ more ≡ (g.key ++ 9 ∷ l.told) ++ 10 ∷ more
 front-text job g l more =
     ap (λ (h : Group). group_text job h ++ more) (as-told job g l)
     ∙ sym (cut-text job l.tally ((g.key ++ 9 ∷ l.told) ++ 10 ∷ more) (g.key ++ 9 ∷ l.told) g.key l.told more (line-cut job g l more) l.tells)
 
 -- it is read first
-front-read : (job : JobSpec) (g : Group) (more : List ℕ) → IsLineOf job g → groups_in job (group_text job g ++ more) ≡ g ∷ groups_in job more
+pub front-read : (job : JobSpec) (g : Group) (more : List ℕ) → IsLineOf job g → groups_in job (group_text job g ++ more) ≡ g ∷ groups_in job more
 front-read job g more l =
     ap (groups_in job) (front-text job g l more)
     ∙ cut-read job l.tally ((g.key ++ 9 ∷ l.told) ++ 10 ∷ more) (g.key ++ 9 ∷ l.told) g.key l.told more (line-cut job g l more) l.tells
@@ -213,12 +213,12 @@ far-line job text files line rest l e far = by line.tally refl far
       far = past;
     }
 
-lines-join : (job : JobSpec) (gs hs : List Group) → AllByRecursion (IsLineOf job) gs → AllByRecursion (IsLineOf job) hs → AllByRecursion (IsLineOf job) (gs ++ hs)
+pub lines-join : (job : JobSpec) (gs hs : List Group) → AllByRecursion (IsLineOf job) gs → AllByRecursion (IsLineOf job) hs → AllByRecursion (IsLineOf job) (gs ++ hs)
 lines-join job [] hs all more = more
 lines-join job (g ∷ gs) hs all more = (all.0, lines-join job gs hs all.1 more)
 
 -- and behind lines of the job
-far-behind : (job : JobSpec) (text rest : List ℕ) (files : ℕ) (gs : List Group) → text ≡ texts job gs ++ rest → AllByRecursion (IsLineOf job) gs → IsFarLine job rest files → IsFarLine job text files
+pub far-behind : (job : JobSpec) (text rest : List ℕ) (files : ℕ) (gs : List Group) → text ≡ texts job gs ++ rest → AllByRecursion (IsLineOf job) gs → IsFarLine job rest files → IsFarLine job text files
 far-behind job text rest files gs e all f = record {
   before = gs ++ f.before;
   line = f.line;

@@ -45,7 +45,7 @@ less-not l k j lk jk = by (key_order j k) refl
     by Equal e = ap (key_order l) (key_tie j k e) ∙ lk
     by Greater e = nat_list_cmp_total.trans l k j lk (turned j k e)
 
-not_less-trans : (a b c : List ℕ) → NotLess a b → NotLess b c → NotLess a c
+pub not_less-trans : (a b c : List ℕ) → NotLess a b → NotLess b c → NotLess a c
 not_less-trans a b c ab bc ac = ab (less-not a c b ac bc)
 
 pub not_less-differs : (a b : List ℕ) → NotLess a b → (b ≡ a → ⊥) → key_order b a ≡ Less
@@ -60,7 +60,7 @@ not_less-differs a b h ne = by (key_order b a) refl
 abbrev pub NoneBefore : List ℕ → List Group → Type 0
 NoneBefore k gs = AllByRecursion (λ g. NotLess g.key k) gs
 
-all-map : {X : Type 0} (P Q : X → Type 0) (xs : List X) → ((x : X) → P x → Q x) → AllByRecursion P xs → AllByRecursion Q xs
+pub all-map : {X : Type 0} (P Q : X → Type 0) (xs : List X) → ((x : X) → P x → Q x) → AllByRecursion P xs → AllByRecursion Q xs
 all-map P Q [] f all = tt
 all-map P Q (x ∷ xs) f all = (f x all.0, all-map P Q xs f all.1)
 
@@ -68,7 +68,7 @@ pub all-append : {X : Type 0} (P : X → Type 0) (xs ys : List X) → AllByRecur
 all-append P [] ys a b = b
 all-append P (x ∷ xs) ys a b = (a.0, all-append P xs ys a.1 b)
 
-all-split : {X : Type 0} (P : X → Type 0) (xs ys : List X) → AllByRecursion P (xs ++ ys) → AllByRecursion P xs × AllByRecursion P ys
+pub all-split : {X : Type 0} (P : X → Type 0) (xs ys : List X) → AllByRecursion P (xs ++ ys) → AllByRecursion P xs × AllByRecursion P ys
 all-split P [] ys a = (tt, a)
 all-split P (x ∷ xs) ys a = let r = all-split P xs ys a.1 in ((a.0, r.0), r.1)
 
@@ -102,7 +102,7 @@ past-not_before : (line best : Line) (o : Option Line) → key_order line.key.no
 past-not_before line best None h p = tt
 past-not_before line best (Some l) h p = less-not line.key.now best.key.now l.key.now h p
 
-is_lt-less : (o : Ordering) → is_lt o ≡ true → o ≡ Less
+pub is_lt-less : (o : Ordering) → is_lt o ≡ true → o ≡ Less
 is_lt-less Less e = refl
 is_lt-less Equal e = absurd (cc e)
 is_lt-less Greater e = absurd (cc e)

@@ -28,11 +28,11 @@ IsWithin job outputs cursors waiting = (key : List ℕ) → waits_with key waiti
 
 -- ---- sums
 
-with-cons : (key : List ℕ) (g : Group) (gs : List Group) → values_with key (g ∷ gs) ≡ one_of key g + values_with key gs
+pub with-cons : (key : List ℕ) (g : Group) (gs : List Group) → values_with key (g ∷ gs) ≡ one_of key g + values_with key gs
 unfolding values_with
 with-cons key g gs = refl
 
-among-cons : (key : List ℕ) (gs : List Group) (gss : List (List Group)) → values_among key (gs ∷ gss) ≡ values_with key gs + values_among key gss
+pub among-cons : (key : List ℕ) (gs : List Group) (gss : List (List Group)) → values_among key (gs ∷ gss) ≡ values_with key gs + values_among key gss
 unfolding values_among
 among-cons key gs gss = refl
 

@@ -157,7 +157,7 @@ lines-read job gs all = ap (groups_in job) (sym (lines-text job gs)) ∙ one_rea
 
 -- ---- lines merge as their groups do
 
-merged-append : (xs ys hs : List Group) → merged (xs ++ ys) hs ≡ merged xs (merged ys hs)
+pub merged-append : (xs ys hs : List Group) → merged (xs ++ ys) hs ≡ merged xs (merged ys hs)
 merged-append [] ys hs = refl
 merged-append (x ∷ xs) ys hs = ap (with_group x) (merged-append xs ys hs)
 

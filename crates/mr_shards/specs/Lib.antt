@@ -3,6 +3,7 @@ pub mod Judged
 pub mod Lines
 pub mod Merged
 pub mod Outputs
+pub mod Pieces
 pub mod Refused
 pub mod Shards
 pub mod Views

@@ -6,6 +6,9 @@ mod fault;
 mod front;
 mod line;
 mod merge;
+mod merger;
+mod piece;
+mod window;
 
 ghost use Rattle.mr_shards.specs.Judged.{GoodIsJudged};
 ghost use Rattle.mr_shards.specs.Lines.{OneReading};
@@ -14,6 +17,8 @@ ghost use Rattle.mr_shards.specs.Shards.{MergedAreSequential, OutputsAreTexts, S
 pub use fault::MergeFault;
 pub use line::number_of;
 pub use merge::{Output, merge_parts};
+pub use merger::Merger;
+pub use window::Window;
 
 /// The text of the merged groups of shards is the output of the sequential execution over all their files, without the
 /// records that the shards left out; where those rise and exist in each shard, so they do in the whole.

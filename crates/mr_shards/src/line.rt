@@ -35,7 +35,7 @@ pub(crate) struct Line<'a> {
 }
 
 /// The bytes before the first `mark`, and those behind it.
-fn cut_first(text: &[u8], mark: u8) -> Option<(&[u8], &[u8])>
+pub(crate) fn cut_first(text: &[u8], mark: u8) -> Option<(&[u8], &[u8])>
     ensures { MatchOption result (Lacks mark text.now) (λ r. (text.now ≡ r.0.now ++ mark ∷ r.1.now) × Lacks mark r.0.now) }
 {
     match memchr(mark, text) {
@@ -45,7 +45,7 @@ fn cut_first(text: &[u8], mark: u8) -> Option<(&[u8], &[u8])>
 }
 
 /// The bytes before the last `mark`, and those behind it.
-fn cut_last(text: &[u8], mark: u8) -> Option<(&[u8], &[u8])>
+pub(crate) fn cut_last(text: &[u8], mark: u8) -> Option<(&[u8], &[u8])>
     ensures { MatchOption result (Lacks mark text.now) (λ r. (text.now ≡ r.0.now ++ mark ∷ r.1.now) × Lacks mark r.1.now) }
 {
     match memrchr(mark, text) {

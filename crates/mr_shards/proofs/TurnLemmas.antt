@@ -1,0 +1,311 @@
+-- What is taken of each window goes on what was taken before.
+use Rattle.std.proofs.Common.{◌≡◌, ℕ, ◌+◌, ◌≤◌, ◌%◌, ◌^◌, ◌++◌, List, [], ◌∷◌, length, take, drop, get_or, refl, ap, sym, ◌∙◌, subst, Bool, true, false, ◌&&◌, map, arith, append_assoc, Option, None, Some}
+use Rattle.std.proofs.lemmas.List.{append-nil, length-append, length-drop, length-map, length-take-le, map-append, take-append-drop, take-append-le, drop-append-le, take_all}
+use Rattle.std.proofs.Math.Nat.{mod-add-mod}
+use Rattle.std.proofs.Math.Seq.{drop-append-add, take-add}
+use Rattle.std.specs.List.{AllByRecursion}
+use Rattle.std.specs.declared.cmp.Ordering.TheVariants.{Less}
+use Rattle.mr_bytes.specs.Order.{key_order}
+use Rattle.mr_jobs.specs.JobSpec.{JobSpec}
+use Rattle.mr_sequential.proofs.SourceLemmas.{flat_map-append}
+use Rattle.mr_shards.specs.declared.merge.Output.{Output}
+use Rattle.mr_shards.specs.declared.window.Held.{Held}
+use Rattle.mr_shards.specs.declared.window.Window.{Window}
+use Rattle.mr_shards.specs.Merged.{Group, group_text, merged, merged_parts, moved_group, texts}
+use Rattle.mr_shards.specs.Lines.{group_in, groups_in, lines}
+use Rattle.mr_shards.specs.Outputs.{parts_in}
+use Rattle.mr_shards.specs.Refused.{InTurn, IsLineOf, IsRest, MayFollow}
+use Rattle.mr_shards.specs.Pieces.{AreTaken, AreWindows, AreWithin, BeginsBehind, IsBefore, IsTaken, IsWindow, Reading, all_read_on, are_last, behind, cut_before, front, nothing, outputs_of, part_taken, pieces_of, read_on, taken_on, text_taken, told, whole_window}
+use Rattle.mr_shards.proofs.ReadingLemmas.{one_reading}
+use Rattle.mr_shards.proofs.RefusedLemmas.{front-read, have-lines, lines-join}
+use Rattle.mr_shards.proofs.StepLemmas.{all-append, all-map, not_less-trans}
+use Rattle.mr_shards.proofs.ApartLaws.{High, Low, all-keys, all-moved, apart, merged-all, merged-apart, not-both, not-equal}
+use Rattle.mr_shards.proofs.CutLemmas.{Ends, Parts, begins, groups-before, parts}
+
+-- ---- texts of lines
+
+pub texts-read : (job : JobSpec) (gs : List Group) (more : List ℕ) → AllByRecursion (IsLineOf job) gs → groups_in job (texts job gs ++ more) ≡ gs ++ groups_in job more
+texts-read job [] more all = refl
+texts-read job (g ∷ gs) more all =
+    ap (groups_in job) (append_assoc (group_text job g) (texts job gs) more) ∙ front-read job g (texts job gs ++ more) all.0
+    ∙ ap (λ (hs : List Group). g ∷ hs) (texts-read job gs more all.1)
+
+pub rest-groups : (job : JobSpec) (last : Option (List ℕ)) (text : List ℕ) → (r : IsRest job last text) → groups_in job text ≡ r.groups
+rest-groups job last text r = ap (groups_in job) r.text_is ∙ one_reading job r.groups (have-lines job r.groups r.lines)
+
+pub rest-join : (job : JobSpec) (last : Option (List ℕ)) (text more : List ℕ) → IsRest job last text → groups_in job (text ++ more) ≡ groups_in job text ++ groups_in job more
+rest-join job last text more r =
+    ap (λ (t : List ℕ). groups_in job (t ++ more)) r.text_is ∙ texts-read job r.groups more r.lines
+    ∙ ap (λ (gs : List Group). gs ++ groups_in job more) (sym (rest-groups job last text r))
+
+pub begins-front : (b : Option (List ℕ)) (gs hs : List Group) → BeginsBehind b (gs ++ hs) → BeginsBehind b gs
+begins-front b [] hs h = tt
+begins-front b (g ∷ gs) hs h = h
+
+-- ---- keys in turn
+
+behind-next : (b : Option (List ℕ)) (j k : List ℕ) → (IsBefore b j → ⊥) → (key_order k j ≡ Less → ⊥) → IsBefore b k → ⊥
+behind-next None j k high later low = low
+behind-next (Some c) j k high later low = not_less-trans k j c later high low
+
+begins-next : (job : JobSpec) (b : Option (List ℕ)) (g : Group) (gs : List Group) → (IsBefore b g.key → ⊥) → InTurn job (Some g.key) gs → BeginsBehind b gs
+begins-next job b g [] high turn = tt
+begins-next job b g (h ∷ hs) high turn = behind-next b g.key h.key high turn.0.0
+
+pub all-high : (job : JobSpec) (b last : Option (List ℕ)) (gs : List Group) → BeginsBehind b gs → InTurn job last gs → High b gs
+all-high job b last [] h turn = tt
+all-high job b last (g ∷ gs) h turn = (h, all-high job b (Some g.key) gs (begins-next job b g gs h turn.1) turn.1)
+
+abbrev IsLow : Option (List ℕ) → Option (List ℕ) → Type 0
+IsLow b None = Unit {0}
+IsLow b (Some k) = IsBefore b k
+
+follows : (job : JobSpec) (b last : Option (List ℕ)) (k : List ℕ) → IsLow b last → (IsBefore b k → ⊥) → MayFollow job last k
+follows job b None k low high = tt
+follows job b (Some l) k low high =
+    let less : key_order l k ≡ Less = apart b l k low high in
+    (λ back. not-both l k less back, λ counts same. not-equal l k less same)
+
+turn-behind : (job : JobSpec) (b last : Option (List ℕ)) (hs : List Group) → IsLow b last → InTurn job None hs → BeginsBehind b hs → InTurn job last hs
+turn-behind job b last [] low turn h = tt
+turn-behind job b last (g ∷ gs) low turn h = (follows job b last g.key low h, turn.1)
+
+pub turn-join : (job : JobSpec) (b last : Option (List ℕ)) (gs hs : List Group) → IsLow b last → InTurn job last gs → AllByRecursion (λ (g : Group). IsBefore b g.key) gs
+    → InTurn job None hs → BeginsBehind b hs → InTurn job last (gs ++ hs)
+turn-join job b last [] hs low turn all more h = turn-behind job b last hs low more h
+turn-join job b last (g ∷ gs) hs low turn all more h = (turn.0, turn-join job b (Some g.key) gs hs all.0 turn.1 all.1 more h)
+
+-- ---- one shard
+
+drop-on_from : (m n : ℕ) (text : List ℕ) → m ≤ length text → drop (m + n) text ≡ drop n (drop m text)
+drop-on_from m n text h =
+    let e : m + n ≡ length (take m text) + n = omega (arith, length-take-le m text h) in
+    (λ i. drop (e i) (sym (take-append-drop m text) i)) ∙ drop-append-add (take m text) (drop m text) n
+
+abbrev pub IsPiece : Held → Window → ℕ → Output → Type 0
+IsPiece h w n o = told o ≡ (h.files, take n w.bytes.now)
+
+pub piece-text : (h : Held) (w : Window) (n : ℕ) (o : Output) → IsPiece h w n o → o.text.now ≡ take n w.bytes.now
+piece-text h w n o e = ap (λ (p : ℕ × List ℕ). p.1) e
+
+abbrev pub on : Reading → ℕ → Reading
+on r n = record { output = r.output; taken = r.taken + n }
+
+module _ (job : JobSpec) (b : Option (List ℕ)) (h : Held) (r : Reading) (w : Window) (n : ℕ) (o : Output)
+    (t : IsTaken job b h r) (v : IsWindow r w) (fits : n ≤ length w.bytes.now) (piece : IsPiece h w n o) where
+  front-on : front (on r n) ≡ front r ++ o.text.now
+  front-on =
+      take-add r.taken n r.output.text.now
+      ∙ ap (λ (l : List ℕ). front r ++ l) (ap (take n) v.is ∙ take-append-le n w.bytes.now v.more fits ∙ sym (piece-text h w n o piece))
+
+  pub behind-on : behind r ≡ o.text.now ++ (drop n w.bytes.now ++ v.more)
+  behind-on =
+      v.is ∙ ap (λ (l : List ℕ). l ++ v.more) (sym (take-append-drop n w.bytes.now)) ∙ append_assoc (take n w.bytes.now) (drop n w.bytes.now) v.more
+      ∙ ap (λ (l : List ℕ). l ++ (drop n w.bytes.now ++ v.more)) (sym (piece-text h w n o piece))
+
+  pub whole-text : r.output.text.now ≡ front r ++ (o.text.now ++ (drop n w.bytes.now ++ v.more))
+  whole-text = sym (take-append-drop r.taken r.output.text.now) ∙ ap (λ (l : List ℕ). front r ++ l) behind-on
+
+  groups-on : groups_in job (front (on r n)) ≡ groups_in job (front r) ++ groups_in job o.text.now
+  groups-on = ap (groups_in job) front-on ∙ rest-join job None (front r) o.text.now t.stands
+
+  module _ (stands : IsRest job None o.text.now) where
+    next-on : BeginsBehind b (groups_in job o.text.now)
+    next-on =
+        begins-front b (groups_in job o.text.now) (groups_in job (drop n w.bytes.now ++ v.more))
+        (subst (BeginsBehind b) (ap (groups_in job) behind-on ∙ rest-join job None o.text.now (drop n w.bytes.now ++ v.more) stands) t.next)
+
+    high-on : High b (groups_in job o.text.now)
+    high-on =
+        let e = rest-groups job None o.text.now stands in
+        subst (High b) (sym e) (all-high job b None stands.groups (subst (BeginsBehind b) e next-on) stands.in_turn)
+
+    stands-on : IsRest job None (front (on r n))
+    stands-on = record {
+      groups = t.stands.groups ++ stands.groups;
+      text_is = front-on ∙ ap (λ (l : List ℕ). l ++ o.text.now) t.stands.text_is ∙ ap (λ (l : List ℕ). texts job t.stands.groups ++ l) stands.text_is
+          ∙ sym (flat_map-append (group_text job) t.stands.groups stands.groups);
+      lines = lines-join job t.stands.groups stands.groups t.stands.lines stands.lines;
+      in_turn = turn-join job b None t.stands.groups stands.groups tt t.stands.in_turn
+          (subst (AllByRecursion (λ (g : Group). IsBefore b g.key)) (rest-groups job None (front r) t.stands) t.before)
+          stands.in_turn (subst (BeginsBehind b) (rest-groups job None o.text.now stands) next-on);
+    }
+
+    count-on : (read_on h (take n w.bytes.now)).lines ≡ length (groups_in job (front (on r n))) % 2 ^ 64
+    count-on =
+        ap (λ k. (k + length (lines (take n w.bytes.now))) % 2 ^ 64) t.count
+        ∙ mod-add-mod (length (groups_in job (front r))) (2 ^ 64) (length (lines (take n w.bytes.now)))
+        ∙ ap (λ k. k % 2 ^ 64) (ap (λ k. length (groups_in job (front r)) + k) (sym (length-map (lines (take n w.bytes.now)) (group_in job)) ∙ ap (λ (l : List ℕ). length (groups_in job l)) (sym (piece-text h w n o piece)))
+        ∙ sym (length-append (groups_in job (front r)) (groups_in job o.text.now)) ∙ ap length (sym groups-on))
+
+    within-on : r.taken + n ≤ length r.output.text.now
+    within-on =
+        omega (arith, t.within, fits, length-drop r.taken r.output.text.now, ap length v.is, length-append w.bytes.now v.more)
+
+    drop-on : behind (on r n) ≡ drop n w.bytes.now ++ v.more
+    drop-on = drop-on_from r.taken n r.output.text.now t.within ∙ ap (drop n) v.is ∙ drop-append-le n w.bytes.now v.more fits
+
+    pub taken-next : (k : List ℕ) → Parts k w.bytes.now n → Ends k w → ((x : List ℕ) → IsBefore b x → IsBefore (Some k) x)
+        → IsTaken job (Some k) (read_on h (take n w.bytes.now)) (on r n)
+    taken-next k p ends past = record {
+      files = t.files;
+      within = within-on;
+      stands = stands-on;
+      before = subst (AllByRecursion (λ (g : Group). IsBefore (Some k) g.key)) (sym groups-on)
+          (all-append (λ (g : Group). IsBefore (Some k) g.key) (groups_in job (front r)) (groups_in job o.text.now)
+          (all-map (λ (g : Group). IsBefore b g.key) (λ (g : Group). IsBefore (Some k) g.key) (groups_in job (front r)) (λ g l. past g.key l) t.before)
+          (subst (λ (l : List ℕ). AllByRecursion (λ (g : Group). IsBefore (Some k) g.key) (groups_in job l)) (sym (piece-text h w n o piece))
+          (groups-before job k (lines (take n w.bytes.now)) p.before)));
+      next = subst (λ (l : List ℕ). BeginsBehind (Some k) (groups_in job l)) (sym drop-on) (begins job k w n v.more p ends v.none_more);
+      count = count-on;
+    }
+
+    pub record Grows : Type 0 where
+      pub groups : groups_in job (front (on r n)) ≡ groups_in job (front r) ++ groups_in job o.text.now
+      pub low : Low b (groups_in job (front r))
+      pub high : High b (groups_in job o.text.now)
+      pub files : o.files ≡ r.output.files
+      pub stands_on : IsRest job None (front (on r n))
+
+    pub grows : Grows
+    grows = record {
+      groups = groups-on;
+      low = all-keys (IsBefore b) (groups_in job (front r)) t.before;
+      high = high-on;
+      files = ap (λ (p : ℕ × List ℕ). p.0) piece ∙ t.files;
+      stands_on = stands-on;
+    }
+
+    -- all of the output, where the window is the last one
+    pub whole-on : n ≡ length w.bytes.now → w.is_last ≡ true → front (on r n) ≡ r.output.text.now
+    whole-on all is =
+        front-on ∙ ap (λ (l : List ℕ). front r ++ l) (piece-text h w n o piece ∙ take_all n w.bytes.now (omega (arith, all)) ∙ sym (v.is ∙ ap (λ (l : List ℕ). w.bytes.now ++ l) (v.none_more is) ∙ append-nil w.bytes.now))
+        ∙ take-append-drop r.taken r.output.text.now
+
+-- ---- all shards
+
+pub first-of : {X : Type 0} (x y : X) (xs ys : List X) → x ∷ xs ≡ y ∷ ys → x ≡ y
+first-of x y xs ys e = ap (λ l. get_or l 0 x) e
+
+pub rest-of : {X : Type 0} (x y : X) (xs ys : List X) → x ∷ xs ≡ y ∷ ys → xs ≡ ys
+rest-of x y xs ys e = ap (λ l. drop 1 l) e
+
+pub record Sums (job : JobSpec) (b : Option (List ℕ)) (f : Window → ℕ) (rs : List Reading) (ws : List Window) (os : List Output) : Type 0 where
+  pub merged_is : merged_parts (map (part_taken job) (taken_on (map f ws) rs)) ≡ merged_parts (map (part_taken job) rs) ++ merged_parts (parts_in job os)
+  pub low : Low b (merged_parts (map (part_taken job) rs))
+  pub high : High b (merged_parts (parts_in job os))
+
+sum-more : (job : JobSpec) (b : Option (List ℕ)) (n : ℕ) (gs hs new : List Group) (xs ys all : List Group) (files files' : ℕ) → new ≡ gs ++ hs → all ≡ xs ++ ys → files' ≡ files
+    → Low b gs → High b hs → Low b xs → High b ys
+    → merged new (map (moved_group files) all) ≡ merged gs (map (moved_group files) xs) ++ merged hs (map (moved_group files') ys)
+sum-more job b n gs hs new xs ys all files files' e s same lg hh lx hy =
+    (λ i. merged (e i) (map (moved_group files) (s i)))
+    ∙ ap (merged (gs ++ hs)) (map-append (moved_group files) xs ys)
+    ∙ merged-apart b gs hs (map (moved_group files) xs) (map (moved_group files) ys) lg hh (all-moved (IsBefore b) files xs lx) (all-moved (λ k. IsBefore b k → ⊥) files ys hy)
+    ∙ ap (λ k. merged gs (map (moved_group files) xs) ++ merged hs (map (moved_group k) ys)) (sym same)
+
+module _ (job : JobSpec) (b : Option (List ℕ)) (f : Window → ℕ) where
+  pub sums : (hs : List Held) (rs : List Reading) (ws : List Window) (os : List Output) → AreTaken job b hs rs → AreWindows rs ws → AreWithin (map f ws) ws
+      → map told os ≡ pieces_of hs ws (map f ws) → AllByRecursion (λ (o : Output). IsRest job None o.text.now) os → Sums job b f rs ws os
+  sums [] [] [] [] t v fits e all = record { merged_is = refl; low = tt; high = tt }
+  sums [] [] [] (o ∷ os) t v fits e all = absurd (cc e)
+  sums [] [] (w ∷ ws) os t v fits e all = absurd v
+  sums [] (r ∷ rs) ws os t v fits e all = absurd t
+  sums (h ∷ hs) [] ws os t v fits e all = absurd t
+  sums (h ∷ hs) (r ∷ rs) [] os t v fits e all = absurd v
+  sums (h ∷ hs) (r ∷ rs) (w ∷ ws) [] t v fits e all = absurd (cc e)
+  sums (h ∷ hs) (r ∷ rs) (w ∷ ws) (o ∷ os) t v fits e all =
+      let g = grows job b h r w (f w) o t.0 v.0 fits.0 (first-of (told o) (h.files, take (f w) w.bytes.now) (map told os) (pieces_of hs ws (map f ws)) e) all.0 in
+      let s = sums hs rs ws os t.1 v.1 fits.1 (rest-of (told o) (h.files, take (f w) w.bytes.now) (map told os) (pieces_of hs ws (map f ws)) e) all.1 in
+      let xs : List Group = merged_parts (map (part_taken job) rs) in
+      let ys : List Group = merged_parts (parts_in job os) in
+      record {
+        merged_is = sum-more job b (f w) (groups_in job (front r)) (groups_in job o.text.now) (groups_in job (front (on r (f w)))) xs ys
+            (merged_parts (map (part_taken job) (taken_on (map f ws) rs))) r.output.files o.files g.groups s.merged_is g.files g.low g.high s.low s.high;
+        low = merged-all (IsBefore b) (groups_in job (front r)) (map (moved_group r.output.files) xs) g.low (all-moved (IsBefore b) r.output.files xs s.low);
+        high = merged-all (λ k. IsBefore b k → ⊥) (groups_in job o.text.now) (map (moved_group o.files) ys) g.high (all-moved (λ k. IsBefore b k → ⊥) o.files ys s.high);
+      }
+
+  pub text-on : (hs : List Held) (rs : List Reading) (ws : List Window) (os : List Output) → AreTaken job b hs rs → AreWindows rs ws → AreWithin (map f ws) ws
+      → map told os ≡ pieces_of hs ws (map f ws) → AllByRecursion (λ (o : Output). IsRest job None o.text.now) os
+      → text_taken job (taken_on (map f ws) rs) ≡ text_taken job rs ++ texts job (merged_parts (parts_in job os))
+  text-on hs rs ws os t v fits e all =
+      ap (texts job) (sums hs rs ws os t v fits e all).merged_is
+      ∙ flat_map-append (group_text job) (merged_parts (map (part_taken job) rs)) (merged_parts (parts_in job os))
+
+module _ (job : JobSpec) (b : Option (List ℕ)) (k : List ℕ) (past : (x : List ℕ) → IsBefore b x → IsBefore (Some k) x) where
+  pub after-key : (hs : List Held) (rs : List Reading) (ws : List Window) (os : List Output) → AreTaken job b hs rs → AreWindows rs ws
+      → map told os ≡ pieces_of hs ws (map (cut_before k) ws) → AllByRecursion (λ (o : Output). IsRest job None o.text.now) os → AllByRecursion (Ends k) ws
+      → AreTaken job (Some k) (all_read_on hs ws (map (cut_before k) ws)) (taken_on (map (cut_before k) ws) rs)
+  after-key [] [] [] [] t v e all ends = tt
+  after-key [] [] [] (o ∷ os) t v e all ends = absurd (cc e)
+  after-key [] [] (w ∷ ws) os t v e all ends = absurd v
+  after-key [] (r ∷ rs) ws os t v e all ends = absurd t
+  after-key (h ∷ hs) [] ws os t v e all ends = absurd t
+  after-key (h ∷ hs) (r ∷ rs) [] os t v e all ends = absurd v
+  after-key (h ∷ hs) (r ∷ rs) (w ∷ ws) [] t v e all ends = absurd (cc e)
+  after-key (h ∷ hs) (r ∷ rs) (w ∷ ws) (o ∷ os) t v e all ends =
+      let p = parts k w.bytes.now (lines w.bytes.now) refl in
+      let here = first-of (told o) (h.files, take (cut_before k w) w.bytes.now) (map told os) (pieces_of hs ws (map (cut_before k) ws)) e in
+      let more = rest-of (told o) (h.files, take (cut_before k w) w.bytes.now) (map told os) (pieces_of hs ws (map (cut_before k) ws)) e in (
+        taken-next job b h r w (cut_before k w) o t.0 v.0 p.within here all.0 k p ends.0 past,
+        after-key hs rs ws os t.1 v.1 more all.1 ends.1,
+      )
+
+-- ---- windows that are all the last ones
+
+pub both-true : (s t : Bool) → (s && t) ≡ true → (s ≡ true) × (t ≡ true)
+both-true true t e = (refl, e)
+both-true false t e = absurd (cc e)
+
+pub within-whole : (ws : List Window) → AreWithin (map whole_window ws) ws
+within-whole [] = tt
+within-whole (w ∷ ws) = (omega arith, within-whole ws)
+
+pub within-nothing : (ws : List Window) → AreWithin (map nothing ws) ws
+within-nothing [] = tt
+within-nothing (w ∷ ws) = (omega arith, within-nothing ws)
+
+pub within-key : (k : List ℕ) (ws : List Window) → AreWithin (map (cut_before k) ws) ws
+within-key k [] = tt
+within-key k (w ∷ ws) = ((parts k w.bytes.now (lines w.bytes.now) refl).within, within-key k ws)
+
+pub record Wholes (job : JobSpec) (rs : List Reading) (ws : List Window) : Type 0 where
+  pub stands : AllByRecursion (λ (o : Output). IsRest job None o.text.now) (outputs_of rs)
+  pub parts_are : map (part_taken job) (taken_on (map whole_window ws) rs) ≡ parts_in job (outputs_of rs)
+
+pub wholes : (job : JobSpec) (b : Option (List ℕ)) (hs : List Held) (rs : List Reading) (ws : List Window) (os : List Output) → AreTaken job b hs rs → AreWindows rs ws
+    → map told os ≡ pieces_of hs ws (map whole_window ws) → AllByRecursion (λ (o : Output). IsRest job None o.text.now) os → are_last ws ≡ true → Wholes job rs ws
+wholes job b [] [] [] [] t v e all last = record { stands = tt; parts_are = refl }
+wholes job b [] [] [] (o ∷ os) t v e all last = absurd (cc e)
+wholes job b [] [] (w ∷ ws) os t v e all last = absurd v
+wholes job b [] (r ∷ rs) ws os t v e all last = absurd t
+wholes job b (h ∷ hs) [] ws os t v e all last = absurd t
+wholes job b (h ∷ hs) (r ∷ rs) [] os t v e all last = absurd v
+wholes job b (h ∷ hs) (r ∷ rs) (w ∷ ws) [] t v e all last = absurd (cc e)
+wholes job b (h ∷ hs) (r ∷ rs) (w ∷ ws) (o ∷ os) t v e all last =
+    let both = both-true w.is_last (are_last ws) last in
+    let here = first-of (told o) (h.files, take (whole_window w) w.bytes.now) (map told os) (pieces_of hs ws (map whole_window ws)) e in
+    let more = rest-of (told o) (h.files, take (whole_window w) w.bytes.now) (map told os) (pieces_of hs ws (map whole_window ws)) e in
+    let s = wholes job b hs rs ws os t.1 v.1 more all.1 both.1 in
+    let fits : whole_window w ≤ length w.bytes.now = omega arith in
+    let is : front (on r (whole_window w)) ≡ r.output.text.now = whole-on job b h r w (whole_window w) o t.0 v.0 fits here all.0 refl both.0 in
+    let one : IsRest job None (front (on r (whole_window w))) = (grows job b h r w (whole_window w) o t.0 v.0 fits here all.0).stands_on in
+    record {
+      stands = (subst (IsRest job None) is one, s.stands);
+      parts_are = λ i. record { files = r.output.files; groups = groups_in job (is i) } ∷ s.parts_are i;
+    }
+
+-- ---- nothing taken
+
+still : (rs : List Reading) (ws : List Window) → AreWindows rs ws → taken_on (map nothing ws) rs ≡ rs
+still [] [] v = refl
+still [] (w ∷ ws) v = absurd v
+still (r ∷ rs) [] v = absurd v
+still (r ∷ rs) (w ∷ ws) v =
+    let e : r.taken + 0 ≡ r.taken = omega arith in
+    let more = still rs ws v.1 in
+    λ i. record { output = r.output; taken = e i } ∷ more i
+
+pub still-taken : (rs : List Reading) (ws : List Window) → AreWindows rs ws → taken_on (map nothing ws) rs ≡ rs
+still-taken rs ws v = still rs ws v

@@ -1,0 +1,226 @@
+-- Outputs of shards, merged piece by piece.
+use Rattle.std.specs.Prelude.{◌≡◌, ℕ, ◌+◌, ◌%◌, ◌^◌, ◌≤◌, Bool, true, false, if◌then◌else◌, ◌&&◌, List, [], ◌∷◌, ◌++◌, Option, None, Some, length, map, slice_index_or, take, drop}
+use Rattle.std.specs.List.{AllByRecursion}
+use Rattle.std.specs.Ordering.{is_lt}
+use Rattle.std.specs.declared.cmp.Ordering.TheVariants.{Less}
+use Rattle.mr_bytes.specs.Order.{key_order}
+use Rattle.mr_jobs.specs.JobSpec.{JobSpec}
+use Rattle.mr_shards.specs.declared.fault.MergeFault.{MergeFault}
+use Rattle.mr_shards.specs.declared.fault.MergeFault.TheVariants.{BadLine, TotalTooLarge, TooManyFiles, OutOfMemory}
+use Rattle.mr_shards.specs.declared.merge.Output.{Output}
+use Rattle.mr_shards.specs.declared.window.Held.{Held}
+use Rattle.mr_shards.specs.declared.window.Window.{Window}
+use Rattle.mr_shards.specs.Merged.{Group, Part, merged_parts, texts}
+use Rattle.mr_shards.specs.Lines.{before_last, groups_in, lines}
+use Rattle.mr_shards.specs.Outputs.{IsOutputOfAll, parts_in}
+use Rattle.mr_shards.specs.Refused.{Blames, IsRest}
+
+-- what a merger keeps: of each shard how many files it has and how many lines of its output were taken, which has 64 bits;
+-- and a key that all keys taken are before, or none where nothing was taken
+pub record Standing : Type 0 where
+  pub held : List Held
+  pub bound : Option (List ℕ)
+
+abbrev pub fresh : ℕ → Held
+fresh files = record { files = files; lines = 0 }
+
+-- nothing is taken yet
+abbrev pub fresh_all : List ℕ → Standing
+fresh_all files = record { held = map fresh files; bound = None }
+
+-- a shard's output, and how many of its bytes were taken
+pub record Reading : Type 0 where
+  pub output : Output
+  pub taken : ℕ
+
+-- an output with these bytes
+abbrev pub output_with : ℕ → List ℕ → Output
+output_with files text = record { files = files; text = record { ref_ptr = (0, 0); now = text } }
+
+abbrev pub outputs_of : List Reading → List Output
+outputs_of rs = map (λ (r : Reading). r.output) rs
+
+-- the bytes that were taken, and those that were not
+abbrev pub front : Reading → List ℕ
+front r = take r.taken r.output.text.now
+
+abbrev pub behind : Reading → List ℕ
+behind r = drop r.taken r.output.text.now
+
+-- the part that was taken, and the text of all
+abbrev pub part_taken : JobSpec → Reading → Part
+part_taken job r = record { files = r.output.files; groups = groups_in job (front r) }
+
+abbrev pub text_taken : JobSpec → List Reading → List ℕ
+text_taken job rs = texts job (merged_parts (map (part_taken job) rs))
+
+-- the key is before the bound; where there is none, no key is
+abbrev pub IsBefore : Option (List ℕ) → List ℕ → Type 0
+IsBefore None key = ⊥
+IsBefore (Some bound) key = key_order key bound ≡ Less
+
+-- the first of the groups is not before the bound
+abbrev pub BeginsBehind : Option (List ℕ) → List Group → Type 0
+BeginsBehind bound [] = Unit {0}
+BeginsBehind bound (g ∷ gs) = IsBefore bound g.key → ⊥
+
+-- lines of the job with keys in turn were taken, so many; each has a key before the bound, and the next one has not
+pub record IsTaken (job : JobSpec) (bound : Option (List ℕ)) (h : Held) (r : Reading) : Type 0 where
+  pub files : h.files ≡ r.output.files
+  pub within : r.taken ≤ length r.output.text.now
+  pub stands : IsRest job None (front r)
+  pub before : AllByRecursion (λ (g : Group). IsBefore bound g.key) (groups_in job (front r))
+  pub next : BeginsBehind bound (groups_in job (behind r))
+  pub count : h.lines ≡ length (groups_in job (front r)) % 2 ^ 64
+
+abbrev pub AreTaken : JobSpec → Option (List ℕ) → List Held → List Reading → Type 0
+AreTaken job bound [] [] = Unit {0}
+AreTaken job bound [] (r ∷ rs) = ⊥
+AreTaken job bound (h ∷ hs) [] = ⊥
+AreTaken job bound (h ∷ hs) (r ∷ rs) = IsTaken job bound h r × AreTaken job bound hs rs
+
+-- the merger stands where so much of each output was taken
+abbrev pub IsAfter : JobSpec → List Reading → Standing → Type 0
+IsAfter job rs m = AreTaken job m.bound m.held rs
+
+-- a window holds what comes next in the output, and all of it where it is the last
+pub record IsWindow (r : Reading) (w : Window) : Type 0 where
+  pub more : List ℕ
+  pub is : behind r ≡ w.bytes.now ++ more
+  pub none_more : w.is_last ≡ true → more ≡ []
+
+abbrev pub AreWindows : List Reading → List Window → Type 0
+AreWindows [] [] = Unit {0}
+AreWindows [] (w ∷ ws) = ⊥
+AreWindows (r ∷ rs) [] = ⊥
+AreWindows (r ∷ rs) (w ∷ ws) = IsWindow r w × AreWindows rs ws
+
+abbrev pub are_last : List Window → Bool
+are_last [] = true
+are_last (w ∷ ws) = w.is_last && are_last ws
+
+-- ---- how much is taken of each window
+
+-- the key of the last of the lines, or the one before them
+abbrev pub last_key_in : Option (List ℕ) → List (List ℕ) → Option (List ℕ)
+last_key_in last [] = last
+last_key_in last (l ∷ ls) = last_key_in (Some (before_last 9 l)) ls
+
+abbrev pub lesser_key : Option (List ℕ) → List ℕ → List ℕ
+lesser_key None j = j
+lesser_key (Some k) j = if is_lt (key_order j k) then j else k
+
+-- a key and the least of the last keys of the windows that more comes behind; none where one of these has no whole line, or
+-- where there is no key
+abbrev pub where_some : Option (List ℕ) → (List ℕ → Option (List ℕ)) → Option (List ℕ)
+where_some None f = None
+where_some (Some k) f = f k
+
+unfoldable pub least_last : Option (List ℕ) → List Window → Option (List ℕ)
+least_last least [] = least
+least_last least (w ∷ ws) = if w.is_last then least_last least ws else where_some (last_key_in None (lines w.bytes.now)) (λ k. least_last (Some (lesser_key least k)) ws)
+
+-- how many bytes the first lines have, with their line feeds, whose keys are before that one
+abbrev pub bytes_before : List ℕ → List (List ℕ) → ℕ
+bytes_before k [] = 0
+bytes_before k (l ∷ ls) = if is_lt (key_order (before_last 9 l) k) then (length l + 1) + bytes_before k ls else 0
+
+abbrev pub cut_before : List ℕ → Window → ℕ
+cut_before k w = bytes_before k (lines w.bytes.now)
+
+abbrev pub whole_window : Window → ℕ
+whole_window w = length w.bytes.now
+
+abbrev pub nothing : Window → ℕ
+nothing w = 0
+
+-- the key is past the bound
+abbrev pub is_past : Option (List ℕ) → List ℕ → Bool
+is_past None k = true
+is_past (Some bound) k = is_lt (key_order bound k)
+
+-- the lines whose keys are before the least last key, where that is past the bound
+abbrev pub cuts_to : Option (List ℕ) → Option (List ℕ) → List Window → List ℕ
+cuts_to bound None ws = map nothing ws
+cuts_to bound (Some k) ws = if is_past bound k then map (cut_before k) ws else map nothing ws
+
+-- so much is taken of each window: all where all are the last ones
+abbrev pub cuts_of : Option (List ℕ) → List Window → List ℕ
+cuts_of bound ws = if are_last ws then map whole_window ws else cuts_to bound (least_last None ws) ws
+
+abbrev pub AreWithin : List ℕ → List Window → Type 0
+AreWithin [] [] = Unit {0}
+AreWithin [] (w ∷ ws) = ⊥
+AreWithin (c ∷ cs) [] = ⊥
+AreWithin (c ∷ cs) (w ∷ ws) = (c ≤ length w.bytes.now) × AreWithin cs ws
+
+-- the pieces that are cut off: how many files each shard has, and the bytes
+abbrev pub pieces_of : List Held → List Window → List ℕ → List (ℕ × List ℕ)
+pieces_of (h ∷ hs) (w ∷ ws) (c ∷ cs) = (h.files, take c w.bytes.now) ∷ pieces_of hs ws cs
+pieces_of _ _ _ = []
+
+abbrev pub told : Output → ℕ × List ℕ
+told o = (o.files, o.text.now)
+
+-- more lines were taken
+abbrev pub read_on : Held → List ℕ → Held
+read_on h text = record { files = h.files; lines = (h.lines + length (lines text)) % 2 ^ 64 }
+
+abbrev pub all_read_on : List Held → List Window → List ℕ → List Held
+all_read_on (h ∷ hs) (w ∷ ws) (c ∷ cs) = read_on h (take c w.bytes.now) ∷ all_read_on hs ws cs
+all_read_on _ _ _ = []
+
+-- the line's number in the whole output
+abbrev pub numbered : List Held → MergeFault → MergeFault
+numbered hs (BadLine shard line) = BadLine shard (((slice_index_or hs shard (fresh 0)).lines + line) % 2 ^ 64)
+numbered hs TotalTooLarge = TotalTooLarge
+numbered hs TooManyFiles = TooManyFiles
+numbered hs OutOfMemory = OutOfMemory
+
+-- the pieces are merged, or refused
+pub record ArePut (job : JobSpec) (pieces : List (ℕ × List ℕ)) (out out' : List ℕ) : Type 0 where
+  pub outputs : List Output
+  pub are : map told outputs ≡ pieces
+  pub stands : AllByRecursion (λ (o : Output). IsRest job None o.text.now) outputs
+  pub out_is : out' ≡ out ++ texts job (merged_parts (parts_in job outputs))
+
+pub record AreBlamed (job : JobSpec) (hs : List Held) (pieces : List (ℕ × List ℕ)) (e : MergeFault) : Type 0 where
+  pub outputs : List Output
+  pub are : map told outputs ≡ pieces
+  pub fault : MergeFault
+  pub is : e ≡ numbered hs fault
+  pub blames : Blames job outputs fault
+
+-- ---- what a step does
+
+-- nothing is taken of outputs with so many files
+abbrev pub AreFresh : List ℕ → List Reading → Type 0
+AreFresh [] [] = Unit {0}
+AreFresh [] (r ∷ rs) = ⊥
+AreFresh (f ∷ fs) [] = ⊥
+AreFresh (f ∷ fs) (r ∷ rs) = (r.output.files ≡ f) × (r.taken ≡ 0) × AreFresh fs rs
+
+-- so many bytes more were taken
+abbrev pub taken_on : List ℕ → List Reading → List Reading
+taken_on [] rs = rs
+taken_on (c ∷ cs) [] = []
+taken_on (c ∷ cs) (r ∷ rs) = record { output = r.output; taken = r.taken + c } ∷ taken_on cs rs
+
+-- the text is that of all outputs, each of which stands
+pub record IsMerged (job : JobSpec) (os : List Output) (text : List ℕ) : Type 0 where
+  pub stands : AllByRecursion (λ (o : Output). IsRest job None o.text.now) os
+  pub text_is : text ≡ texts job (merged_parts (parts_in job os))
+  pub whole : IsOutputOfAll job os text
+
+-- from these readings, so much is taken of each window: the text grows by just what was added; where no window is more than
+-- the last of its output, it is that of the whole outputs, and otherwise the merger stands behind what was taken
+pub record Takes (job : JobSpec) (rs : List Reading) (ws : List Window) (cuts : List ℕ) (m : Standing) (added : List ℕ) : Type 0 where
+  pub text_is : text_taken job (taken_on cuts rs) ≡ text_taken job rs ++ added
+  pub after : are_last ws ≡ false → IsAfter job (taken_on cuts rs) m
+  pub whole : are_last ws ≡ true → IsMerged job (outputs_of rs) (text_taken job rs ++ added)
+
+-- what is added; it is that whatever the outputs are, of which these are windows
+pub record Adds (job : JobSpec) (ws : List Window) (cuts : List ℕ) (old new : Standing) (out out' : List ℕ) : Type 0 where
+  pub added : List ℕ
+  pub out_is : out' ≡ out ++ added
+  pub takes : (rs : List Reading) → IsAfter job rs old → AreWindows rs ws → Takes job rs ws cuts new added

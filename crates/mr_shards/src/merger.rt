@@ -1,0 +1,96 @@
+//! The outputs that shards have for one partition, merged as they are read.
+ghost use Rattle.std.specs.Prelude.{◌≡◌, ℕ, ◌≤◌, ◌++◌, ◌∷◌, [], IfErr, IfOk, OnErr, OnOk, length, map, option_map, List, Some, MatchOption, true, false};
+ghost use Rattle.mr_shards.specs.Pieces.{Standing, fresh_all, is_past};
+
+use crate::fault::MergeFault;
+use crate::piece::{all_read, cuts_before, held_of, merge_pieces, no_bytes, whole_windows};
+use crate::window::{Held, Window, all_last, least_key};
+use mr_bytes::compare_keys;
+use mr_jobs::Job;
+use std::alloc::{AllocError, Global};
+use std::marker::Model;
+
+/// The outputs that shards have for one partition, merged as they are read.
+#[derive(Drop)]
+pub struct Merger {
+    held: Vec<Held>,
+    /// The key that all keys taken are before.
+    bound: Option<Vec<u8>>,
+}
+
+impl Model for Merger {
+    ghost Value = { Standing };
+
+    ghost view = { λ m. record { held = m.held.items; bound = option_map (λ k. k.items) m.bound } };
+}
+
+/// The key, where there is one and it is past the bound.
+fn key_past<'a>(bound: &Option<Vec<u8>>, key: Option<&'a [u8]>) -> Option<&'a [u8]>
+    ensures { MatchOption result
+        (MatchOption key.entry (Unit {0}) (λ k. is_past (option_map (λ b. b.items) bound.now) k.now ≡ false))
+        (λ r. (key.entry ≡ Some r) × (is_past (option_map (λ b. b.items) bound.now) r.now ≡ true)) }
+{
+    let found = key?;
+    let Some(least) = bound else {
+        return Some(found);
+    };
+    if compare_keys(least, found).is_lt() {
+        Some(found)
+    } else {
+        None
+    }
+}
+
+impl Merger {
+    ghost use Rattle.mr_jobs.specs.JobSpec.{JobSpec};
+    ghost use Rattle.mr_shards.specs.Pieces.{Adds, AreFresh, AreWindows, AreWithin, IsAfter, Reading, cuts_of, outputs_of, text_taken};
+    ghost use Rattle.mr_shards.specs.Refused.{Blames};
+
+    /// A merger of as many shards as numbers; each is how many files a shard has. Nothing is taken yet.
+    pub fn new(alloc: Global, files: &[u32]) -> Result<Merger, AllocError>
+        ensures fresh { IfOk result (λ m. m ≡ fresh_all files.now) }
+        ensures begins { IfOk result (λ m. (job : JobSpec) (rs : List Reading) → AreFresh files.now rs → IsAfter job rs m × (text_taken job rs ≡ [])) }
+    {
+        Ok(Merger {
+            held: held_of(alloc, files)?,
+            bound: None,
+        })
+    }
+
+    /// Merges what the windows hold and appends the text, and tells how many bytes were taken of each window. Where all are
+    /// the last ones, all is taken. Else only the lines are taken whose key is before the least of the keys of the last whole
+    /// lines, so that no line to come belongs before them, and lines of one key stay together; where a window that more comes
+    /// behind has no whole line, nothing is. It is refused where an output isn't lines of the job with keys in their order;
+    /// lines are numbered in the whole output.
+    pub fn step(
+        &mut self,
+        alloc: Global,
+        job: &Job,
+        windows: &[Window<'_>],
+        out: &mut Vec<u8>,
+    ) -> Result<Vec<usize>, MergeFault>
+        requires count { length windows.now ≡ length self.old.held }
+        ensures shards { length self.new.held ≡ length self.old.held }
+        ensures cuts { IfOk result (λ cuts. cuts.items ≡ cuts_of self.old.bound windows.now) }
+        ensures within { IfOk result (λ cuts. AreWithin cuts.items windows.now) }
+        ensures ok { IfOk result (λ cuts. Adds job.now windows.now cuts.items self.old self.new out.old.items out.new.items) }
+        ensures err { IfErr result (λ e. (rs : List Reading) → IsAfter job.now rs self.old → AreWindows rs windows.now → Blames job.now (outputs_of rs) e) }
+        ensures kept { OnErr result ((self.new ≡ self.old) × (out.new.items ≡ out.old.items)) }
+    {
+        if all_last(windows) {
+            let cuts = whole_windows(alloc, windows)?;
+            merge_pieces(alloc, job, &self.held, windows, &cuts, out)?;
+            return Ok(cuts);
+        }
+        let Some(key) = key_past(&self.bound, least_key(windows)) else {
+            return Ok(no_bytes(alloc, windows)?);
+        };
+        let cuts = cuts_before(alloc, windows, key)?;
+        let bound = Vec::from_slice(alloc, key)?;
+        let held = all_read(alloc, &self.held, windows, &cuts)?;
+        merge_pieces(alloc, job, &self.held, windows, &cuts, out)?;
+        self.held = held;
+        self.bound = Some(bound);
+        Ok(cuts)
+    }
+}

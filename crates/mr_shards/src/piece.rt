@@ -1,0 +1,202 @@
+//! Pieces that are cut off windows, and their merge.
+ghost use Rattle.std.specs.Prelude.{◌≡◌, ℕ, ◌≤◌, ◌++◌, ◌∷◌, [], IfErr, IfOk, OnErr, OnOk, length, map, option_map, List, Some, None, replicate, MatchOption, false, true, take, slice_index_or};
+ghost use Rattle.mr_shards.specs.Pieces.{ArePut, AreBlamed, AreWithin, all_read_on, cut_before, fresh, is_past, nothing, numbered, pieces_of, read_on, told, whole_window};
+
+use crate::fault::MergeFault;
+use crate::merge::{Output, merge_parts};
+use crate::window::{Held, Window, bytes_to, line_count};
+use mr_bytes::compare_keys;
+use mr_jobs::Job;
+use std::alloc::{AllocError, Global};
+
+/// Keeps a number behind the others.
+fn keep_cut(cuts: &mut Vec<usize>, cut: usize) -> Result<(), AllocError>
+    ensures { OnOk result (cuts.new.items ≡ cuts.old.items ++ cut ∷ []) }
+{
+    cuts.push(cut).map_err(AllocError::from)?;
+    Ok(())
+}
+
+/// Keeps a shard behind the others.
+fn keep_held(all: &mut Vec<Held>, held: Held) -> Result<(), AllocError>
+    ensures { OnOk result (all.new.items ≡ all.old.items ++ held ∷ []) }
+{
+    all.push(held).map_err(AllocError::from)?;
+    Ok(())
+}
+
+/// Keeps a piece behind the others.
+fn keep_piece<'a>(
+    pieces: &mut Vec<Output<'a>>,
+    held: Held,
+    window: Window<'a>,
+    cut: usize,
+) -> Result<(), AllocError>
+    requires { cut ≤ length window.bytes.now }
+    ensures { OnOk result (map told pieces.new.items ≡ map told pieces.old.items ++ (held.files, take cut window.entry.bytes.now) ∷ []) }
+{
+    let piece = Output {
+        files: held.files,
+        text: &window.bytes[..cut],
+    };
+    pieces.push(piece).map_err(AllocError::from)?;
+    Ok(())
+}
+
+/// Shards of which nothing was taken.
+pub(crate) fn held_of(alloc: Global, files: &[u32]) -> Result<Vec<Held>, AllocError>
+    ensures { IfOk result (λ held. held.items ≡ map fresh files.now) }
+{
+    let mut all = Vec::new(alloc);
+    for at in 0..files.len() {
+        let held = Held {
+            files: files[at],
+            lines: 0,
+        };
+        keep_held(&mut all, held)?;
+    }
+    Ok(all)
+}
+
+/// Cuts that take all of each window.
+pub(crate) fn whole_windows(alloc: Global, windows: &[Window<'_>]) -> Result<Vec<usize>, AllocError>
+    ensures is { IfOk result (λ cuts. cuts.items ≡ map whole_window windows.now) }
+{
+    let mut cuts = Vec::new(alloc);
+    for at in 0..windows.len() {
+        keep_cut(&mut cuts, windows[at].bytes.len())?;
+    }
+    Ok(cuts)
+}
+
+/// Cuts that take the lines of each window whose keys are before that one.
+pub(crate) fn cuts_before(
+    alloc: Global,
+    windows: &[Window<'_>],
+    key: &[u8],
+) -> Result<Vec<usize>, AllocError>
+    ensures is { IfOk result (λ cuts. cuts.items ≡ map (cut_before key.now) windows.now) }
+{
+    let mut cuts = Vec::new(alloc);
+    for at in 0..windows.len() {
+        keep_cut(&mut cuts, bytes_to(windows[at], key))?;
+    }
+    Ok(cuts)
+}
+
+/// Cuts that take nothing of each window.
+pub(crate) fn no_bytes(alloc: Global, windows: &[Window<'_>]) -> Result<Vec<usize>, AllocError>
+    ensures is { IfOk result (λ cuts. cuts.items ≡ map nothing windows.now) }
+{
+    let mut cuts = Vec::new(alloc);
+    for at in 0..windows.len() {
+        keep_cut(&mut cuts, 0)?;
+    }
+    Ok(cuts)
+}
+
+/// A shard, where more lines were taken.
+fn read_more(held: Held, text: &[u8]) -> Held
+    ensures { result ≡ read_on held text.now }
+{
+    Held {
+        files: held.files,
+        lines: held.lines.wrapping_add(line_count(text)),
+    }
+}
+
+/// The shards, where so much was taken of each window.
+pub(crate) fn all_read(
+    alloc: Global,
+    held: &[Held],
+    windows: &[Window<'_>],
+    cuts: &[usize],
+) -> Result<Vec<Held>, AllocError>
+    requires shards { length held.now ≡ length windows.now }
+    requires count { length cuts.now ≡ length windows.now }
+    requires within { AreWithin cuts.now windows.now }
+    ensures { IfOk result (λ all. all.items ≡ all_read_on held.now windows.now cuts.now) }
+{
+    let mut all = Vec::new(alloc);
+    for at in 0..windows.len() {
+        let text = &windows[at].bytes[..cuts[at]];
+        keep_held(&mut all, read_more(held[at], text))?;
+    }
+    Ok(all)
+}
+
+/// The pieces that are cut off the windows.
+fn cut_off<'a>(
+    alloc: Global,
+    held: &[Held],
+    windows: &[Window<'a>],
+    cuts: &[usize],
+) -> Result<Vec<Output<'a>>, AllocError>
+    requires shards { length held.now ≡ length windows.now }
+    requires count { length cuts.now ≡ length windows.now }
+    requires within { AreWithin cuts.now windows.now }
+    ensures { IfOk result (λ os. map told os.items ≡ pieces_of held.now windows.entry.now cuts.now) }
+{
+    let mut pieces = Vec::new(alloc);
+    for at in 0..windows.len() {
+        keep_piece(&mut pieces, held[at], windows[at], cuts[at])?;
+    }
+    Ok(pieces)
+}
+
+/// How many lines of a shard's output were taken.
+fn lines_of(held: &[Held], shard: usize) -> u64
+    ensures { result ≡ (slice_index_or held.now shard (fresh 0)).lines }
+{
+    if shard < held.len() {
+        held[shard].lines
+    } else {
+        0
+    }
+}
+
+/// The fault, with the line's number in the whole output.
+fn in_whole(fault: MergeFault, held: &[Held]) -> MergeFault
+    ensures { result ≡ numbered held.now fault }
+{
+    match fault {
+        MergeFault::BadLine { shard, line } => MergeFault::BadLine {
+            shard,
+            line: lines_of(held, shard).wrapping_add(line),
+        },
+        other => other,
+    }
+}
+
+/// Appends a text.
+fn append(out: &mut Vec<u8>, text: &[u8]) -> Result<(), MergeFault>
+    ensures ok { OnOk result (out.new.items ≡ out.old.items ++ text.now) }
+    ensures err { IfErr result (λ e. e ≡ MergeFault.OutOfMemory) }
+    ensures kept { OnErr result (out.new.items ≡ out.old.items) }
+{
+    out.extend_from_slice(text)?;
+    Ok(())
+}
+
+/// Merges the pieces that are cut off the windows, and appends the text.
+pub(crate) fn merge_pieces(
+    alloc: Global,
+    job: &Job,
+    held: &[Held],
+    windows: &[Window<'_>],
+    cuts: &[usize],
+    out: &mut Vec<u8>,
+) -> Result<(), MergeFault>
+    requires shards { length held.now ≡ length windows.now }
+    requires count { length cuts.now ≡ length windows.now }
+    requires within { AreWithin cuts.now windows.now }
+    ensures ok { OnOk result (ArePut job.now (pieces_of held.now windows.now cuts.now) out.old.items out.new.items) }
+    ensures err { IfErr result (AreBlamed job.now held.now (pieces_of held.now windows.now cuts.now)) }
+    ensures kept { OnErr result (out.new.items ≡ out.old.items) }
+{
+    let pieces = cut_off(alloc, held, windows, cuts)?;
+    match merge_parts(alloc, job, &pieces) {
+        Ok(text) => append(out, &text),
+        Err(fault) => Err(in_whole(fault, held)),
+    }
+}
