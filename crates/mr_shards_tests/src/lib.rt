@@ -3,3 +3,5 @@
 
 #[cfg(test)]
 mod merging;
+#[cfg(test)]
+mod pieces;
