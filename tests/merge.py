@@ -162,6 +162,8 @@ REFUSED = [
     ("more pairs than 64 bits", both_emit, 2, b"TooManyPairs"),
     ("a part of another length", edit("part-00000", b"\n", b"\n\n"), 1, b"OtherPart shard 1 partition 0"),
     ("a part with another digit", edit("part-00001", b"\t1", b"\t2"), 1, b"OtherPart shard 1 partition 1"),
+    ("a part that goes on", edit("part-00001", b"\n", b"\nzoo\t1\n"), 1, b"OtherPart shard 1 partition 1"),
+    ("another part is told rather than its line", edit("part-00001", b"\t", b" "), 1, b"OtherPart shard 1 partition 1"),
     ("a part of another shard", lambda shards: shutil.copy(os.path.join(shards[0], "part-00001"), os.path.join(shards[1], "part-00001")), 1, b"OtherPart shard 1 partition 1"),
     ("no line end", lambda shards: renoted(shards[0], "part-00000", b"cat\t1"), 1, b"BadLine shard 0 partition 0 line 0"),
     ("no tab", lambda shards: renoted(shards[1], "part-00001", b"cat 1\n"), 1, b"BadLine shard 1 partition 1 line 0"),

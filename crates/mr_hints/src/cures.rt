@@ -72,8 +72,6 @@ fn shards_cure(fault: &ShardFault) -> &'static str {
             "the part isn't as the job writes it: run the shard again, and judge it",
         ShardFault::LongVerdict { .. } => "a verdict has at most 1 GiB",
         ShardFault::LongList => "the list of inputs has at most 1 GiB",
-        ShardFault::TooLarge { .. } =>
-            "at most 2 GiB in a partition's parts together: run the shards with more --parts",
         ShardFault::TooManySplits { .. } =>
             "splits of all shards are numbered in 32 bits: run the shards with a greater --split",
         ShardFault::TooManyFiles | ShardFault::FileTooFar { .. } =>

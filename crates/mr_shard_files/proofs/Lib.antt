@@ -5,3 +5,8 @@ pub mod PartLemmas
 pub mod NoteLemmas
 pub mod RowLemmas
 pub mod TruthLemmas
+pub mod StreamLemmas
+pub mod AllLemmas
+pub mod ShownLemmas
+pub mod TurnLemmas
+pub mod SettleLemmas

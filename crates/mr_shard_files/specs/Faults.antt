@@ -1,7 +1,6 @@
 -- Why shards are not merged, stage by stage: what is told of one verdict, one part or one partition is told of all by its
 -- place.
-use Rattle.std.specs.Prelude.{◌≡◌, ◌≢◌, ◌⊎◌, ℕ, ◌+◌, ◌<◌, ◌≤◌, ◌^◌, ⊤, List, [], ◌∷◌, ◌++◌, Option, None, Some, length, map, slice_index_or, string_bytes, take}
-use Rattle.mr_input.specs.Files.{total_size}
+use Rattle.std.specs.Prelude.{◌≡◌, ◌≢◌, ◌⊎◌, ℕ, ◌<◌, ◌≤◌, ◌^◌, ⊤, List, [], ◌∷◌, ◌++◌, Option, None, Some, length, map, slice_index_or, string_bytes, take}
 use Rattle.mr_files.specs.Folders.{IsFolderOf}
 use Rattle.mr_files.specs.Holding.{ChangesAmong, Faulty, Holding, Stored}
 use Rattle.mr_files.specs.Names.{merged_names, name_of_part}
@@ -16,7 +15,7 @@ use Rattle.mr_verdict.specs.Reading.{Fits}
 use Rattle.mr_verdict.specs.Truth.{Asks, AsksNone}
 use Rattle.mr_verdict.specs.Verdict.{Note, Told, spelling}
 use Rattle.mr_shard_files.specs.declared.fault.ShardFault.{ShardFault}
-use Rattle.mr_shard_files.specs.declared.fault.ShardFault.TheVariants.{BadLine, BadVerdict, CannotRead, CannotWrite, FileTooFar, LongList, LongVerdict, NoRequest, NoShards, OtherInputs, OtherOutputs, OtherPart, OtherRequest, OutOfMemory, RepeatedInput, TooLarge, TooManyFiles, TooManyPairs, TooManySplits, TotalTooLarge}
+use Rattle.mr_shard_files.specs.declared.fault.ShardFault.TheVariants.{BadLine, BadVerdict, CannotRead, CannotWrite, FileTooFar, LongList, LongVerdict, NoRequest, NoShards, OtherInputs, OtherOutputs, OtherPart, OtherRequest, OutOfMemory, RepeatedInput, TooManyFiles, TooManyPairs, TooManySplits, TotalTooLarge}
 use Rattle.mr_shard_files.specs.Beside.{AreOutputs, StandsBeside, TellsOf}
 use Rattle.mr_shard_files.specs.Listing.{DifferIn, listing}
 use Rattle.mr_shard_files.specs.Merging.{IsMerging}
@@ -57,27 +56,26 @@ IsPartUnread unreadable p name told = (folder : List ℕ) × IsFolderOf name fol
 abbrev pub IsOtherPart : Stored → ℕ → List ℕ → Told → Type 0
 IsOtherPart holds p name v = (text : List ℕ) × StandsBeside holds p name text × (TellsOf p v text → ⊥)
 
--- a part stands there that has more bytes than that
-abbrev pub IsPastLimit : Stored → ℕ → List ℕ → ℕ → Type 0
-IsPastLimit holds p name limit = (text : List ℕ) × StandsBeside holds p name text × (limit < length text)
-
 -- the part of that shard is not read
-abbrev pub IsPartFault : Stored → Faulty → ℕ → ℕ → List ℕ → Told → ℕ → ShardFault → Type 0
-IsPartFault holds unreadable p at name v limit (CannotRead told) = IsPartUnread unreadable p name (string_bytes told)
-IsPartFault holds unreadable p at name v limit (OtherPart shard partition) = (shard ≡ at) × (partition ≡ p) × IsOtherPart holds p name v
-IsPartFault holds unreadable p at name v limit (TooLarge partition) = (partition ≡ p) × IsPastLimit holds p name limit
-IsPartFault holds unreadable p at name v limit OutOfMemory = ⊤
-IsPartFault holds unreadable p at name v limit fault = ⊥
+abbrev pub IsPartFault : Stored → Faulty → ℕ → ℕ → List ℕ → Told → ShardFault → Type 0
+IsPartFault holds unreadable p at name v (CannotRead told) = IsPartUnread unreadable p name (string_bytes told)
+IsPartFault holds unreadable p at name v (OtherPart shard partition) = (shard ≡ at) × (partition ≡ p) × IsOtherPart holds p name v
+IsPartFault holds unreadable p at name v OutOfMemory = ⊤
+IsPartFault holds unreadable p at name v fault = ⊥
 
--- those before it were read, and what they leave of 2 GiB is its limit
+-- the part beside the verdict of that name can't be opened
+abbrev pub IsUnopened : Faulty → ℕ → List ℕ → ShardFault → Type 0
+IsUnopened unreadable p name (CannotRead told) = IsPartUnread unreadable p name (string_bytes told)
+IsUnopened unreadable p name OutOfMemory = ⊤
+IsUnopened unreadable p name fault = ⊥
+
+-- those before it stand there
 pub record IsPartAt (holds : Stored) (unreadable : Faulty) (p : ℕ) (names : List (List ℕ)) (vs : List Told) (fault : ShardFault) : Type 0 where
   pub at : ℕ
   pub read : List (List ℕ)
-  pub limit : ℕ
   pub within : at < length names
   pub stand : Holding (StandsBeside holds p) (take at names) read
-  pub room : total_size read + limit ≡ 2 ^ 31
-  pub why : IsPartFault holds unreadable p at (name_at names at) (verdict_at vs at) limit fault
+  pub why : IsPartFault holds unreadable p at (name_at names at) (verdict_at vs at) fault
 
 -- the parts of a partition are not all read
 abbrev pub IsTextsFault : Stored → Faulty → ℕ → List (List ℕ) → List Told → ShardFault → Type 0

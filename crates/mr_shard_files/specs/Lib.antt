@@ -3,3 +3,4 @@ pub mod Beside
 pub mod Listing
 pub mod Merging
 pub mod Faults
+pub mod Streams

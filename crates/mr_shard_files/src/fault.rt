@@ -60,11 +60,6 @@ pub enum ShardFault {
         shard: usize,
         partition: usize,
     },
-    /// The parts that the shards have for a partition are more than 2 GiB together.
-    #[error("TooLarge partition {partition}")]
-    TooLarge {
-        partition: usize,
-    },
     /// A line isn't of the form that the job's outputs have, or its key isn't past that of the line before.
     #[error("BadLine shard {shard} partition {partition} line {line}")]
     BadLine {

@@ -4,11 +4,15 @@
 
 mod fault;
 mod gathering;
+mod held;
 mod listing;
 mod merging;
 mod noting;
+mod opening;
 mod partition;
-mod texts;
+mod stream;
+mod streams;
+mod turns;
 
 pub use crate::fault::ShardFault;
 pub use crate::merging::merge_shards;

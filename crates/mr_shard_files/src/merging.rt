@@ -115,6 +115,10 @@ fn merged_under<S: Store>(
 /// Merges shards: under each name stands a verdict, beside it the parts that it tells of. The merged parts are written to
 /// the folder, and then their verdict, which is given back. Nothing is written before all is merged. Where a name is given
 /// for it, a file lists the inputs that are meant, in the form of `sha256sum`: just those of the verdicts, in their order.
+///
+/// All parts of a partition are open at once, and are read as they are merged: of each some 256 KiB are in memory, and lines
+/// of one key together. A line without an end is held as far as its part goes on, but no further than the length that the
+/// verdict tells, which ends in want of memory where that is too much.
 pub fn merge_shards<S: Store>(
     store: &mut S,
     alloc: Global,

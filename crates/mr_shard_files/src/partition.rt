@@ -5,15 +5,15 @@ ghost use Rattle.mr_verdict.specs.Joined.{inputs_of};
 ghost use Rattle.mr_shard_files.specs.Beside.{ArePartitions, IsPartition};
 ghost use Rattle.mr_shard_files.specs.Faults.{IsPartitionFault, IsPartitionsFault};
 
-use crate::fault::{ShardFault, of_merge};
-use crate::texts::{outputs_of, part_texts};
+use crate::fault::ShardFault;
+use crate::opening::{file_counts, open_parts};
+use crate::turns::joined;
 use mr_files::Store;
 use mr_jobs::{Job, Request};
-use mr_shards::merge_parts;
 use mr_verdict::Verdict;
 use std::alloc::{AllocError, Global};
 
-/// The parts of one partition that stand beside the verdicts of these names, merged.
+/// The parts of one partition that stand beside the verdicts of these names, merged as they are read.
 fn partition_merged<S: Store>(
     store: &S,
     alloc: Global,
@@ -27,15 +27,13 @@ fn partition_merged<S: Store>(
     ensures ok { IfOk result (λ t. IsPartition (S.holds store.now) job.now (map (λ s. s.now) names.now) verdicts.now partition t.items) }
     ensures err { IfErr result (IsPartitionFault (S.holds store.now) (S.unreadable store.now) job.now (map (λ s. s.now) names.now) verdicts.now partition) }
 {
-    let texts = part_texts(store, alloc, names, verdicts, partition)?;
-    let outputs = outputs_of(alloc, verdicts, texts.as_slice())?;
-    match merge_parts(alloc, job, outputs.as_slice()) {
-        Ok(merged) => Ok(merged),
-        Err(fault) => Err(of_merge(partition, fault)),
-    }
+    let files = file_counts(alloc, verdicts)?;
+    let mut parts = open_parts(store, alloc, names, verdicts, partition)?;
+    let parts = parts.as_mut_slice();
+    joined(alloc, job, files.as_slice(), parts, verdicts, partition)
 }
 
-/// All partitions, merged in order. The parts of one are let go before those of the next are read.
+/// All partitions, merged in order. The parts of one are closed before those of the next are opened.
 pub(crate) fn partitions_merged<S: Store>(
     store: &S,
     alloc: Global,

@@ -82,6 +82,12 @@ fn refused_merges(rt: HostRuntime) -> Result<(), Fail> {
     let mut store = shards(alloc, SECOND, b"dog\t1\nthe\t2\n")?;
     let other = merge_shards(&mut store, alloc, &BOTH, None, "m");
     assert!(rt; tells(alloc, other, "OtherPart shard 1 partition 0")?);
+    let mut store = shards(alloc, SECOND, b"dog\t1\ndog\t1\n")?;
+    let bad_other = merge_shards(&mut store, alloc, &BOTH, None, "m");
+    assert!(rt; tells(alloc, bad_other, "OtherPart shard 1 partition 0")?);
+    let mut store = shards(alloc, SECOND, b"dog\t1\nthe\t1\nzoo\t1\n")?;
+    let longer = merge_shards(&mut store, alloc, &BOTH, None, "m");
+    assert!(rt; tells(alloc, longer, "OtherPart shard 1 partition 0")?);
     let repeated = merge_shards(&mut store, alloc, &["a/verdict", "a/verdict"], None, "m");
     assert!(rt; tells(alloc, repeated, "RepeatedInput input 1")?);
     let mut store = shards(alloc, TWICE, b"dog\t1\ndog\t1\n")?;

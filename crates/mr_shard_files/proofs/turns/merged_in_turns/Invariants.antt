@@ -1,0 +1,12 @@
+use Rattle.std.proofs.Common.{◌≡◌, ℕ, List, length}
+use Rattle.mr_shard_files.specs.Streams.{AllAre, Moves}
+use Rattle.mr_shard_files.proofs.TurnLemmas.{Stands}
+use Rattle.mr_shard_files.proofs.turns.merged_in_turns.Given as goal
+
+abbrev pub invariant-loop : goal.invariant-loop
+invariant-loop g l = record {
+  count : length l.parts ≡ length l.merger.held;
+  passed : List (List ℕ);
+  moved : AllAre (Moves g.R.CountedRead.remaining g.R.CountedRead.can_fail) passed l.initial.parts l.parts;
+  stands : Stands g.R.CountedRead.remaining g.R.CountedRead.can_fail l.job l.files passed l.parts l.merger l.out.items;
+}

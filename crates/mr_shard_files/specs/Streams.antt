@@ -1,0 +1,212 @@
+-- Parts of shards that are read in pieces.
+use Rattle.std.specs.Prelude.{◌≡◌, ℕ, ◌+◌, ◌<◌, ◌≤◌, ◌&&◌, ◌||◌, ◌⊎◌, Bool, true, false, ⊤, List, [], ◌∷◌, ◌++◌, Option, length, slice_index_or, string_bytes}
+use Rattle.std.specs.Io.KnownBytes.{Consumes, IsAtEnd}
+use Rattle.sha2.specs.Hashers.{Holds256}
+use Rattle.mr_files.specs.Folders.{IsFolderOf}
+use Rattle.mr_files.specs.Holding.{Agrees, Faulty, Stored}
+use Rattle.mr_files.specs.Names.{name_of_part}
+use Rattle.mr_jobs.specs.JobSpec.{JobSpec}
+use Rattle.mr_shards.specs.declared.fault.MergeFault.{MergeFault}
+use Rattle.mr_shards.specs.declared.fault.MergeFault.TheVariants as merge
+use Rattle.mr_shards.specs.declared.window.Window.{Window}
+use Rattle.mr_shards.specs.Pieces.{Adds, AreWindows, AreWithin, IsAfter, IsMerged, Reading, Standing, outputs_of}
+use Rattle.mr_shards.specs.Refused.{Blames}
+use Rattle.mr_verdict.specs.Joined.{verdict_at}
+use Rattle.mr_verdict.specs.Verdict.{Told}
+use Rattle.mr_shard_files.specs.Beside.{TellsOf, no_note}
+use Rattle.mr_shard_files.specs.Told.{told_of_merge}
+use Rattle.mr_shard_files.specs.declared.fault.ShardFault.{ShardFault}
+use Rattle.mr_shard_files.specs.declared.fault.ShardFault.TheVariants.{CannotRead, OtherPart, OutOfMemory}
+use Rattle.mr_shard_files.specs.declared.stream.Part.{Part}
+use Rattle.mr_shard_files.specs.declared.turns.Stop.{Stop}
+use Rattle.mr_shard_files.specs.declared.turns.Stop.TheVariants as stop
+
+-- ---- a part
+
+-- of so many bytes that are told, so many are left behind those that were read; or more were read
+abbrev pub CountsDown : ℕ → ℕ → Bool → ℕ → Type 0
+CountsDown told left false read = read + left ≡ told
+CountsDown told left true read = told < read
+
+-- these bytes were read of the part, of so many that its verdict tells
+abbrev pub HasRead : {R : Type 0} → ℕ → Part R → List ℕ → Type 0
+HasRead told part bytes = Holds256 part.hasher bytes × CountsDown told part.left part.longer (length bytes)
+
+-- nothing more is read of it: it is at its end, or has more bytes than its verdict tells
+abbrev pub is_done : {R : Type 0} → Part R → Bool
+is_done part = part.ended || part.longer
+
+-- how much of it may be read yet, its end with it
+abbrev pub unread : {R : Type 0} → Part R → ℕ
+unread part = left_of part.ended part.longer part.left
+  where
+    left_of : Bool → Bool → ℕ → ℕ
+    left_of true longer left = 0
+    left_of false true left = 0
+    left_of false false left = left + 1
+
+-- some bytes more were read of the part, and these of those that it held were passed
+pub record Moves {R : Type 0} (remaining : R → Option (List ℕ)) (can_fail : R → Type 0) (passed : List ℕ) (old new : Part R) : Type 0 where
+  pub got : List ℕ
+  pub consumes : Consumes (remaining old.reader) (remaining new.reader) got
+  pub held : old.held ++ got ≡ passed ++ new.held
+  pub read : (told : ℕ) (bytes : List ℕ) → HasRead told old bytes → HasRead told new (bytes ++ got)
+  pub still : is_done old ≡ true → got ≡ []
+  pub done : is_done old ≡ true → is_done new ≡ true
+  pub at_end : (old.ended ≡ true → IsAtEnd (remaining old.reader)) → new.ended ≡ true → IsAtEnd (remaining new.reader)
+  pub name : new.name ≡ old.name
+  pub later : can_fail new.reader → can_fail old.reader
+
+-- a file of that name can't be read, which happens only so, or memory is wanting
+abbrev pub TellsUnread : Type 0 → List ℕ → ShardFault → Type 0
+TellsUnread can_fail name (CannotRead told) = can_fail × (string_bytes told ≡ name)
+TellsUnread can_fail name OutOfMemory = ⊤
+TellsUnread can_fail name fault = ⊥
+
+-- how many bytes the verdict tells of that output
+abbrev pub length_told : ℕ → Told → ℕ
+length_told p v = (slice_index_or v.outputs p no_note).length
+
+-- a part beside the verdict of that name, of which these bytes were read and passed
+pub record IsStream {R : Type 0} (holds : Stored) (unreadable : Faulty) (remaining : R → Option (List ℕ)) (can_fail : R → Type 0) (p : ℕ) (name : List ℕ) (v : Told) (passed : List ℕ) (part : Part R) : Type 0 where
+  pub folder : List ℕ
+  pub is_folder : IsFolderOf name folder
+  pub named : string_bytes part.name ≡ name_of_part folder p
+  pub stands : (b : List ℕ) → Agrees (remaining part.reader) b → holds (name_of_part folder p) (passed ++ (part.held ++ b))
+  pub fails : can_fail part.reader → unreadable (name_of_part folder p)
+  pub read : HasRead (length_told p v) part (passed ++ part.held)
+  pub at_end : part.ended ≡ true → IsAtEnd (remaining part.reader)
+
+-- one that was opened: nothing was read of it
+abbrev pub IsOpened : {R : Type 0} → Stored → Faulty → (R → Option (List ℕ)) → (R → Type 0) → ℕ → List ℕ → Told → Part R → Type 0
+IsOpened holds unreadable remaining can_fail p name v part = IsStream holds unreadable remaining can_fail p name v [] part × (part.held ≡ [])
+
+-- it was read as far as it goes, and is the part that the verdict tells of
+pub record IsSettled {R : Type 0} (remaining : R → Option (List ℕ)) (can_fail : R → Type 0) (p : ℕ) (v : Told) (old new : Part R) : Type 0 where
+  pub passed : List ℕ
+  pub moves : Moves remaining can_fail passed old new
+  pub done : is_done new ≡ true
+  pub told : (bytes : List ℕ) → HasRead (length_told p v) new bytes → TellsOf p v bytes
+
+-- it was read as far as it goes, and is another
+pub record IsOther {R : Type 0} (remaining : R → Option (List ℕ)) (can_fail : R → Type 0) (p : ℕ) (v : Told) (old : Part R) : Type 0 where
+  pub new : Part R
+  pub passed : List ℕ
+  pub moves : Moves remaining can_fail passed old new
+  pub done : is_done new ≡ true
+  pub other : (bytes : List ℕ) → HasRead (length_told p v) new bytes → TellsOf p v bytes → ⊥
+
+-- ---- the parts of all shards
+
+-- the relation holds of each, one for one
+abbrev pub AllAre : {X A : Type 0} → (X → A → A → Type 0) → List X → List A → List A → Type 0
+AllAre P [] [] [] = Unit {0}
+AllAre P (x ∷ xs) (o ∷ os) (n ∷ ns) = P x o n × AllAre P xs os ns
+AllAre P _ _ _ = ⊥
+
+-- the fact holds of one of them
+abbrev pub OneIs : {A : Type 0} → (ℕ → A → Type 0) → List A → Type 0
+OneIs {A} P xs = (i : ℕ) × (d : A) × (i < length xs) × P i (slice_index_or xs i d)
+
+abbrev pub AreOpened : {R : Type 0} → Stored → Faulty → (R → Option (List ℕ)) → (R → Type 0) → ℕ → List (List ℕ) → List Told → List (Part R) → Type 0
+AreOpened holds unreadable remaining can_fail p [] [] [] = Unit {0}
+AreOpened holds unreadable remaining can_fail p (n ∷ ns) (v ∷ vs) (q ∷ qs) = IsOpened holds unreadable remaining can_fail p n v q × AreOpened holds unreadable remaining can_fail p ns vs qs
+AreOpened holds unreadable remaining can_fail p _ _ _ = ⊥
+
+-- a window shows what is held of its part
+abbrev pub AreWindowsOf : {R : Type 0} → List (Part R) → List Window → Type 0
+AreWindowsOf [] [] = Unit {0}
+AreWindowsOf (q ∷ qs) (w ∷ ws) = (w.bytes.now ≡ q.held) × (w.is_last ≡ is_done q) × AreWindowsOf qs ws
+AreWindowsOf _ _ = ⊥
+
+-- so many bytes are no more than are held
+abbrev pub AreHeld : {R : Type 0} → List ℕ → List (Part R) → Type 0
+AreHeld [] [] = Unit {0}
+AreHeld (c ∷ cs) (q ∷ qs) = (c ≤ length q.held) × AreHeld cs qs
+AreHeld _ _ = ⊥
+
+abbrev pub all_done : {R : Type 0} → List (Part R) → Bool
+all_done [] = true
+all_done (q ∷ qs) = is_done q && all_done qs
+
+-- an output may be the whole of the part, of which these bytes were passed
+pub record MayBe {R : Type 0} (files : ℕ) (passed : List ℕ) (part : Part R) (r : Reading) : Type 0 where
+  pub files_are : r.output.files ≡ files
+  pub taken_is : r.taken ≡ length passed
+  pub more : List ℕ
+  pub text_is : r.output.text.now ≡ passed ++ (part.held ++ more)
+  pub none_more : is_done part ≡ true → more ≡ []
+
+abbrev pub AllMayBe : {R : Type 0} → List ℕ → List (List ℕ) → List (Part R) → List Reading → Type 0
+AllMayBe [] [] [] [] = Unit {0}
+AllMayBe (f ∷ fs) (x ∷ xs) (q ∷ qs) (r ∷ rs) = MayBe f x q r × AllMayBe fs xs qs rs
+AllMayBe _ _ _ _ = ⊥
+
+-- the text is merged of whatever the parts may be
+pub record AreMergedTo {R : Type 0} (remaining : R → Option (List ℕ)) (can_fail : R → Type 0) (job : JobSpec) (files : List ℕ) (old new : List (Part R)) (text : List ℕ) : Type 0 where
+  pub passed : List (List ℕ)
+  pub moved : AllAre (Moves remaining can_fail) passed old new
+  pub merged : (rs : List Reading) → AllMayBe files passed new rs → IsMerged job (outputs_of rs) text
+
+-- whatever the parts may be, they can't be merged
+pub record AreBlamed {R : Type 0} (remaining : R → Option (List ℕ)) (can_fail : R → Type 0) (job : JobSpec) (files : List ℕ) (old new : List (Part R)) (fault : MergeFault) : Type 0 where
+  pub passed : List (List ℕ)
+  pub moved : AllAre (Moves remaining can_fail) passed old new
+  pub blamed : (rs : List Reading) → AllMayBe files passed new rs → Blames job (outputs_of rs) fault
+
+-- what is told where a part was read as far as it goes: it is the one that the verdict tells of, or another
+abbrev pub Ends : {R : Type 0} → (R → Option (List ℕ)) → (R → Type 0) → ℕ → Told → Bool → Part R → Part R → Type 0
+Ends remaining can_fail p v true old new = IsSettled remaining can_fail p v old new
+Ends remaining can_fail p v false old new = IsOther remaining can_fail p v old
+
+-- one of the parts is another, or can't be read
+abbrev pub AreUnsettled : {R : Type 0} → (R → Option (List ℕ)) → (R → Type 0) → ℕ → List Told → List (Part R) → ShardFault → Type 0
+AreUnsettled remaining can_fail p vs qs (OtherPart shard partition) = (partition ≡ p) × OneIs (λ i q. (shard ≡ i) × IsOther remaining can_fail p (verdict_at vs i) q) qs
+AreUnsettled remaining can_fail p vs qs fault = OneIs (λ _ q. TellsUnread (can_fail q.reader) (string_bytes q.name) fault) qs
+
+-- ---- a turn
+
+-- windows on the parts were stepped over
+pub record StepsOver {R : Type 0} (job : JobSpec) (parts : List (Part R)) (cuts : List ℕ) (old new : Standing) (out out' : List ℕ) : Type 0 where
+  pub windows : List Window
+  pub shown : AreWindowsOf parts windows
+  pub within : AreWithin cuts windows
+  pub adds : Adds job windows cuts old new out out'
+
+-- windows on the parts are blamed, or memory is wanting
+abbrev pub IsBlamedOver : {R : Type 0} → JobSpec → List (Part R) → Standing → MergeFault → Type 0
+IsBlamedOver job parts m e = (e ≡ merge.OutOfMemory)
+    ⊎ ((ws : List Window) × AreWindowsOf parts ws × ((rs : List Reading) → IsAfter job rs m → AreWindows rs ws → Blames job (outputs_of rs) e))
+
+-- parts are not merged as they are read
+abbrev pub IsStopped : {R : Type 0} → (R → Option (List ℕ)) → (R → Type 0) → JobSpec → List ℕ → List (Part R) → List (Part R) → Stop → Type 0
+IsStopped remaining can_fail job files old new (stop.Part fault) = (fault ≡ OutOfMemory) ⊎ OneIs (λ _ q. TellsUnread (can_fail q.reader) (string_bytes q.name) fault) old
+IsStopped remaining can_fail job files old new (stop.Merge fault) = AreBlamed remaining can_fail job files old new fault
+
+-- the parts were merged to the text, and each is the one that its verdict tells of
+pub record AreJoined {R : Type 0} (remaining : R → Option (List ℕ)) (can_fail : R → Type 0) (job : JobSpec) (files : List ℕ) (p : ℕ) (vs : List Told) (old : List (Part R)) (text : List ℕ) : Type 0 where
+  pub mid : List (Part R)
+  pub new : List (Part R)
+  pub merged : AreMergedTo remaining can_fail job files old mid text
+  pub settled : AllAre (IsSettled remaining can_fail p) vs mid new
+
+-- each is, and they can't be merged
+pub record AreUnjoined {R : Type 0} (remaining : R → Option (List ℕ)) (can_fail : R → Type 0) (job : JobSpec) (files : List ℕ) (p : ℕ) (vs : List Told) (old : List (Part R)) (fault : ShardFault) : Type 0 where
+  pub mid : List (Part R)
+  pub new : List (Part R)
+  pub cause : MergeFault
+  pub told : fault ≡ told_of_merge p cause
+  pub merged : AreBlamed remaining can_fail job files old mid cause
+  pub settled : AllAre (IsSettled remaining can_fail p) vs mid new
+
+-- one is another, or can't be read, when some of their bytes were passed
+pub record IsOneUnsettled {R : Type 0} (remaining : R → Option (List ℕ)) (can_fail : R → Type 0) (p : ℕ) (vs : List Told) (old : List (Part R)) (fault : ShardFault) : Type 0 where
+  pub mid : List (Part R)
+  pub passed : List (List ℕ)
+  pub moved : AllAre (Moves remaining can_fail) passed old mid
+  pub why : AreUnsettled remaining can_fail p vs mid fault
+
+-- why parts are not joined
+abbrev pub IsRefused : {R : Type 0} → (R → Option (List ℕ)) → (R → Type 0) → JobSpec → List ℕ → ℕ → List Told → List (Part R) → ShardFault → Type 0
+IsRefused remaining can_fail job files p vs old fault = (fault ≡ OutOfMemory) ⊎ (OneIs (λ _ q. TellsUnread (can_fail q.reader) (string_bytes q.name) fault) old
+    ⊎ (IsOneUnsettled remaining can_fail p vs old fault ⊎ AreUnjoined remaining can_fail job files p vs old fault))

@@ -1,0 +1,154 @@
+//! Parts of shards, read in pieces.
+ghost use Rattle.std.specs.Prelude.{◌≡◌, ◌⊎◌, ◌↔◌, ℕ, ◌<◌, ◌≤◌, [], ◌++◌, List, IfErr, IfOk, IsTrue, OnOk, true, false, length, take, string_bytes};
+ghost use Rattle.std.specs.Io.KnownBytes.{Consumes, IsAtEnd};
+ghost use Rattle.sha2.specs.Sha256.{sha256};
+ghost use Rattle.mr_shard_files.specs.Streams.{HasRead, Moves, TellsUnread, is_done as no_more, unread};
+
+use crate::fault::ShardFault;
+use crate::held::Held;
+use mr_store::CountedRead;
+use sha2::{Digest, Sha256};
+use std::alloc::{AllocError, Global};
+
+/// The most bytes that one read asks for.
+const PIECE: usize = 65_536;
+
+/// A part that is read in pieces. Of what was read it keeps the bytes that aren't passed yet, the digest of all, and how many
+/// are left of those that its verdict tells; no more is read once there are more than these.
+#[derive(Drop)]
+pub(crate) struct Part<R: CountedRead + Drop> {
+    name: String,
+    reader: R,
+    held: Held,
+    hasher: Sha256,
+    left: u64,
+    longer: bool,
+    ended: bool,
+}
+
+/// The fault of a file of that name, of which a read failed.
+pub(crate) fn fault_of(alloc: Global, name: &str, lacked_memory: bool) -> ShardFault
+    ensures { TellsUnread (lacked_memory ≡ false) name.now result }
+{
+    if lacked_memory {
+        return ShardFault::OutOfMemory;
+    }
+    match String::from_str(alloc, name) {
+        Ok(name) => ShardFault::CannotRead(name),
+        Err(_) => ShardFault::OutOfMemory,
+    }
+}
+
+impl<R: CountedRead + Drop> Part<R> {
+    /// Of the file of that name, of which a verdict tells so many bytes; none is read yet.
+    pub fn new(alloc: Global, name: String, reader: R, told: u64) -> Part<R>
+        ensures name { result.name ≡ name }
+        ensures reader { result.reader ≡ reader }
+        ensures held { result.held ≡ [] }
+        ensures read { HasRead told result [] }
+        ensures ended { result.ended ≡ false }
+    {
+        Part {
+            name,
+            reader,
+            held: Held::new(alloc),
+            hasher: Sha256::new(),
+            left: told,
+            longer: false,
+            ended: false,
+        }
+    }
+
+    /// The bytes that were read and aren't passed yet.
+    pub fn bytes(&self) -> &[u8]
+        ensures { result.now ≡ self.now.held }
+    {
+        self.held.bytes()
+    }
+
+    /// Whether nothing more is read of it.
+    pub fn is_done(&self) -> bool
+        ensures { result ≡ no_more self.now }
+    {
+        self.ended || self.longer
+    }
+
+    /// Takes note of a piece that was read.
+    fn note(&mut self, piece: &[u8])
+        ensures read { (told : ℕ) (bytes : List ℕ) → HasRead told self.old bytes → HasRead told self.new (bytes ++ piece.now) }
+        ensures falls { 0 < length piece.now → no_more self.old ≡ false → unread self.new < unread self.old }
+        ensures longer { self.old.longer ≡ true → self.new.longer ≡ true }
+        ensures same { (self.new.name ≡ self.old.name) × (self.new.reader ≡ self.old.reader) × (self.new.held ≡ self.old.held) × (self.new.ended ≡ self.old.ended) }
+    {
+        self.hasher.update(piece);
+        match self.left.checked_sub(piece.len() as u64) {
+            Some(left) => self.left = left,
+            None => self.longer = true,
+        }
+    }
+
+    /// Reads a piece behind those that are held, or finds that there is none.
+    fn read_piece(&mut self, alloc: Global) -> Result<(), ShardFault>
+        requires { no_more self.old ≡ false }
+        ensures moves { OnOk result (Moves R.remaining R.can_fail [] self.old self.new) }
+        ensures falls { OnOk result (unread self.new < unread self.old) }
+        ensures err { IfErr result (TellsUnread (R.can_fail self.old.reader) (string_bytes self.old.name)) }
+    {
+        let mut buffer = [0u8; PIECE];
+        let Ok(count) = self.reader.read(&mut buffer) else {
+            return Err(fault_of(alloc, self.name.as_str(), self.reader.lacked_memory()));
+        };
+        if count == 0 {
+            self.ended = true;
+            return Ok(());
+        }
+        let piece = &buffer[..count];
+        self.held.push(piece)?;
+        self.note(piece);
+        Ok(())
+    }
+
+    /// Reads until so many bytes are held, or nothing more is read.
+    pub fn fill(&mut self, alloc: Global, size: usize) -> Result<(), ShardFault>
+        ensures moves { OnOk result (Moves R.remaining R.can_fail [] self.old self.new) }
+        ensures err { IfErr result (TellsUnread (R.can_fail self.old.reader) (string_bytes self.old.name)) }
+    {
+        while self.bytes().len() < size && !self.is_done() {
+            self.read_piece(alloc)?;
+        }
+        Ok(())
+    }
+
+    /// So many of the bytes that are held are passed.
+    pub fn pass(&mut self, count: usize)
+        requires { count ≤ length self.old.held }
+        ensures { Moves R.remaining R.can_fail (take count self.old.held) self.old self.new }
+    {
+        self.held.pass(count);
+    }
+
+    /// Reads on until nothing more is read, and holds no more than a piece of it.
+    pub fn finish(&mut self, alloc: Global) -> Result<(), ShardFault>
+        ensures moves { OnOk result ((passed : List ℕ) × Moves R.remaining R.can_fail passed self.old self.new) }
+        ensures done { OnOk result (no_more self.new ≡ true) }
+        ensures err { IfErr result (TellsUnread (R.can_fail self.old.reader) (string_bytes self.old.name)) }
+    {
+        while !self.is_done() {
+            self.held.clear();
+            self.read_piece(alloc)?;
+        }
+        Ok(())
+    }
+
+    /// Whether what was read has the length that its verdict tells, and this digest.
+    pub fn has_digest(&self, digest: &[u8; 32]) -> Result<bool, AllocError>
+        ensures { IfOk result (λ b. (told : ℕ) (bytes : List ℕ) → HasRead told self.now bytes
+            → IsTrue b ↔ ((told ≡ length bytes) × (digest.now ≡ sha256 bytes))) }
+    {
+        if self.longer || self.left != 0 {
+            return Ok(false);
+        }
+        let read = self.hasher.clone()?.finalize();
+        Ok(read.as_slice() == digest.as_slice())
+    }
+}

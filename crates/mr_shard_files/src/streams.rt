@@ -1,0 +1,125 @@
+//! The parts that shards have for one partition, read in pieces.
+ghost use Rattle.std.specs.Prelude.{◌≡◌, ◌↔◌, ℕ, [], ◌∷◌, ◌++◌, List, IfErr, IfOk, IsTrue, OnOk, length, string_bytes, take};
+ghost use Rattle.mr_shard_files.specs.Streams.{AllAre, AreHeld, AreUnsettled, AreWindowsOf, Ends, HasRead, IsSettled, Moves, OneIs, TellsUnread, all_done, length_told};
+ghost use Rattle.mr_shard_files.specs.Beside.{TellsOf};
+
+use crate::fault::ShardFault;
+use crate::stream::Part;
+use mr_shards::Window;
+use mr_store::CountedRead;
+use mr_verdict::Verdict;
+use std::alloc::{AllocError, Global};
+
+/// Reads of each part until so many bytes are held, or nothing more is read.
+pub(crate) fn fill_all<R: CountedRead + Drop>(
+    alloc: Global,
+    parts: &mut [Part<R>],
+    size: usize,
+) -> Result<(), ShardFault>
+    ensures ok { OnOk result (AllAre (λ _ o n. Moves R.remaining R.can_fail [] o n) parts.old parts.old parts.new) }
+    ensures err { IfErr result (λ e. OneIs (λ _ q. TellsUnread (R.can_fail q.reader) (string_bytes q.name) e) parts.old) }
+{
+    for shard in 0..parts.len() {
+        let part = &mut parts[shard];
+        part.fill(alloc, size)?;
+    }
+    Ok(())
+}
+
+/// Whether nothing more is read of any part.
+pub(crate) fn are_done<R: CountedRead + Drop>(parts: &[Part<R>]) -> bool
+    ensures { result ≡ all_done parts.now }
+{
+    for part in parts {
+        if !part.is_done() {
+            return false;
+        }
+    }
+    true
+}
+
+/// Keeps a window behind the others.
+fn keep<'a>(windows: &mut Vec<Window<'a>>, bytes: &'a [u8], is_last: bool) -> Result<(), AllocError>
+    ensures { OnOk result (windows.new.items ≡ windows.old.items ++ record { bytes = bytes.entry; is_last = is_last } ∷ []) }
+{
+    windows
+        .push(Window { bytes, is_last })
+        .map_err(AllocError::from)?;
+    Ok(())
+}
+
+/// What is held of the parts.
+pub(crate) fn windows_of<'a, R: CountedRead + Drop>(
+    alloc: Global,
+    parts: &'a [Part<R>],
+) -> Result<Vec<Window<'a>>, AllocError>
+    ensures { IfOk result (λ ws. AreWindowsOf parts.entry.now ws.items) }
+{
+    let mut windows = Vec::new(alloc);
+    for shard in 0..parts.len() {
+        let part = &parts[shard];
+        keep(&mut windows, part.bytes(), part.is_done())?;
+    }
+    Ok(windows)
+}
+
+/// So many of the bytes that are held of each part are passed.
+pub(crate) fn pass_all<R: CountedRead + Drop>(parts: &mut [Part<R>], cuts: &[usize])
+    requires { AreHeld cuts.now parts.old }
+    ensures { AllAre (λ c o n. Moves R.remaining R.can_fail (take c o.held) o n) cuts.now parts.old parts.new }
+{
+    for shard in 0..parts.len() {
+        let part = &mut parts[shard];
+        part.pass(cuts[shard]);
+    }
+}
+
+/// Whether what was read of a part, which is all that may be read, is what the verdict tells of.
+fn has_note<R: CountedRead + Drop>(
+    part: &Part<R>,
+    verdict: &Verdict,
+    partition: usize,
+) -> Result<bool, AllocError>
+    ensures { IfOk result (λ b. (bytes : List ℕ) → HasRead (length_told partition verdict.now) part.now bytes
+        → IsTrue b ↔ TellsOf partition verdict.now bytes) }
+{
+    match verdict.outputs.get(partition) {
+        Some(note) => part.has_digest(&note.digest),
+        None => Ok(false),
+    }
+}
+
+/// Reads a part as far as it goes, and tells whether it is the one that the verdict tells of.
+fn settle<R: CountedRead + Drop>(
+    alloc: Global,
+    part: &mut Part<R>,
+    verdict: &Verdict,
+    partition: usize,
+) -> Result<bool, ShardFault>
+    ensures ends { IfOk result (λ b. Ends R.remaining R.can_fail partition verdict.now b part.old part.new) }
+    ensures err { IfErr result (TellsUnread (R.can_fail part.old.reader) (string_bytes part.old.name)) }
+{
+    part.finish(alloc)?;
+    Ok(has_note(part, verdict, partition)?)
+}
+
+/// Reads the parts as far as they go, one after another, and compares each with what its verdict tells: the first is told
+/// that is another.
+pub(crate) fn settle_all<R: CountedRead + Drop>(
+    alloc: Global,
+    parts: &mut [Part<R>],
+    verdicts: &[Verdict],
+    partition: usize,
+) -> Result<(), ShardFault>
+    requires { length parts.old ≡ length verdicts.now }
+    ensures ok { OnOk result (AllAre (IsSettled R.remaining R.can_fail partition) verdicts.now parts.old parts.new) }
+    ensures err { IfErr result (AreUnsettled R.remaining R.can_fail partition verdicts.now parts.old) }
+{
+    for shard in 0..parts.len() {
+        let part = &mut parts[shard];
+        if !settle(alloc, part, &verdicts[shard], partition)? {
+            return Err(ShardFault::OtherPart { shard, partition });
+        }
+    }
+    Ok(())
+}

@@ -1,0 +1,137 @@
+//! Parts of shards, merged as they are read.
+ghost use Rattle.std.specs.Prelude.{◌≡◌, IfErr, IfOk, length};
+ghost use Rattle.mr_shard_files.specs.Streams.{AreJoined, AreMergedTo, IsBlamedOver, IsRefused, IsStopped, StepsOver};
+
+use crate::fault::{ShardFault, of_merge};
+use crate::stream::Part;
+use crate::streams::{are_done, fill_all, pass_all, settle_all, windows_of};
+use mr_jobs::Job;
+use mr_shards::{MergeFault, Merger};
+use mr_store::CountedRead;
+use mr_verdict::Verdict;
+use std::alloc::{AllocError, Global};
+
+/// How many bytes of each part are held for a turn: 256 KiB.
+const WINDOW: usize = 262_144;
+
+/// Why parts are not merged as they are read.
+#[derive(Drop)]
+pub(crate) enum Stop {
+    /// A part can't be read, or memory is wanting.
+    Part(ShardFault),
+    /// What was read can't be merged.
+    Merge(MergeFault),
+}
+
+impl From<AllocError> for Stop {
+    ghost use Rattle.mr_shard_files.specs.declared.turns.Stop.TheVariants.{Part as told_part};
+    ghost use Rattle.mr_shard_files.specs.declared.fault.ShardFault.TheVariants.{OutOfMemory as told_memory};
+
+    ghost from_gives = { λ _ f. f ≡ told_part told_memory };
+
+    fn from(_fault: AllocError) -> Stop {
+        Stop::Part(ShardFault::OutOfMemory)
+    }
+}
+
+impl From<ShardFault> for Stop {
+    ghost use Rattle.mr_shard_files.specs.declared.turns.Stop.TheVariants.{Part as told_part};
+
+    ghost from_gives = { λ e f. f ≡ told_part e };
+
+    fn from(fault: ShardFault) -> Stop {
+        Stop::Part(fault)
+    }
+}
+
+impl From<MergeFault> for Stop {
+    ghost use Rattle.mr_shard_files.specs.declared.turns.Stop.TheVariants.{Merge as told_merge};
+
+    ghost from_gives = { λ e f. f ≡ told_merge e };
+
+    fn from(fault: MergeFault) -> Stop {
+        Stop::Merge(fault)
+    }
+}
+
+/// Merges what is held of the parts, as far as it goes, and tells how many bytes of each were taken.
+fn step_over<R: CountedRead + Drop>(
+    alloc: Global,
+    job: &Job,
+    parts: &[Part<R>],
+    merger: &mut Merger,
+    out: &mut Vec<u8>,
+) -> Result<Vec<usize>, MergeFault>
+    requires { length parts.now ≡ length merger.old.held }
+    ensures shards { length merger.new.held ≡ length merger.old.held }
+    ensures ok { IfOk result (λ cuts. StepsOver job.now parts.now cuts.items merger.old merger.new out.old.items out.new.items) }
+    ensures err { IfErr result (IsBlamedOver job.now parts.now merger.old) }
+{
+    let windows = windows_of(alloc, parts)?;
+    merger.step(alloc, job, windows.as_slice(), out)
+}
+
+/// How many bytes are to be held in the next turn: twice as many where these were not enough to take one.
+fn next_size(size: usize, cuts: &[usize]) -> usize {
+    if cuts.iter().all(|cut| *cut == 0) {
+        size.saturating_mul(2)
+    } else {
+        WINDOW
+    }
+}
+
+/// Merges the parts in turns: in each, some bytes of each are read, and the lines taken that no line to come belongs before.
+pub(crate) fn merged_in_turns<R: CountedRead + Drop>(
+    alloc: Global,
+    job: &Job,
+    files: &[u32],
+    parts: &mut [Part<R>],
+) -> Result<Vec<u8>, Stop>
+    requires { length files.now ≡ length parts.old }
+    ensures ok { IfOk result (λ text. AreMergedTo R.remaining R.can_fail job.now files.now parts.old parts.new text.items) }
+    ensures err { IfErr result (IsStopped R.remaining R.can_fail job.now files.now parts.old parts.new) }
+{
+    let mut merger = Merger::new(alloc, files)?;
+    let mut out = Vec::new(alloc);
+    let mut size = WINDOW;
+    for _ in 0..u64::MAX {
+        fill_all(alloc, parts, size)?;
+        let cuts = step_over(alloc, job, parts, &mut merger, &mut out)?;
+        if are_done(parts) {
+            return Ok(out);
+        }
+        pass_all(parts, cuts.as_slice());
+        size = next_size(size, cuts.as_slice());
+    }
+    // More turns than 64 bits count: no machine has the memory for what they would merge.
+    Err(Stop::Part(ShardFault::OutOfMemory))
+}
+
+/// Merges parts as they are read, and compares each, once it is read as far as it goes, with what its verdict tells. Where
+/// they can't be merged they are read as far as they go too: that one is another is told rather than a line of it.
+pub(crate) fn joined<R: CountedRead + Drop>(
+    alloc: Global,
+    job: &Job,
+    files: &[u32],
+    parts: &mut [Part<R>],
+    verdicts: &[Verdict],
+    partition: usize,
+) -> Result<Vec<u8>, ShardFault>
+    requires files { length files.now ≡ length parts.old }
+    requires count { length parts.old ≡ length verdicts.now }
+    ensures ok { IfOk result (λ text. AreJoined R.remaining R.can_fail job.now files.now partition verdicts.now parts.old text.items) }
+    ensures err { IfErr result (IsRefused R.remaining R.can_fail job.now files.now partition verdicts.now parts.old) }
+{
+    match merged_in_turns(alloc, job, files, parts) {
+        Ok(text) => {
+            settle_all(alloc, parts, verdicts, partition)?;
+            Ok(text)
+        }
+        Err(Stop::Part(fault)) => Err(fault),
+        Err(Stop::Merge(MergeFault::OutOfMemory)) => Err(ShardFault::OutOfMemory),
+        Err(Stop::Merge(fault)) => {
+            settle_all(alloc, parts, verdicts, partition)?;
+            Err(of_merge(partition, fault))
+        }
+    }
+}
