@@ -114,7 +114,7 @@ fn pieces_of(plan: &Plan<'_>, split: u32, threads: u32) -> u32
 
 /// How threads share the splits of a plan. Whole splits are drawn in rounds of as many as there are threads; those that
 /// are left for a last round, in which some threads had nothing to do, are divided. Of many splits the last round is a
-/// small part, and pieces are put together by one thread, in about a tenth of the time that mapping them takes one thread:
+/// small part, and pieces are put together by one thread, in about a fifth of the time that mapping them takes one thread:
 /// where that would take longer than the round, all splits stay whole.
 fn shares_of(plan: &Plan<'_>, threads: u32) -> Shares
     requires threads { (0 < threads) × (threads ≤ 64) }
@@ -129,7 +129,7 @@ fn shares_of(plan: &Plan<'_>, threads: u32) -> Shares
         pieces: 1,
         all: u64::from(splits),
     };
-    if left == 0 || 4 * threads <= splits || 10 * threads < left.saturating_mul(threads + 10) {
+    if left == 0 || 4 * threads <= splits || 5 * threads < left.saturating_mul(threads + 5) {
         return none;
     }
     let whole = splits - left;
