@@ -2,8 +2,9 @@
 use mr_files::{MemoryFiles, Store};
 use mr_shard_files::{ShardFault, merge_shards};
 use mr_store::read_all;
-use mr_verdict::Verdict;
+use mr_verdict::{Verdict, note_for, read_verdict, write_verdict};
 use std::alloc::Global;
+use std::ops::Range;
 use std::test::Fail;
 
 // Word count, one partition, splits of 64 bytes: `the cat` in one shard, `the dog` in the other, whose second record, `the`,
@@ -137,5 +138,44 @@ fn lists_of_odd_names(rt: HostRuntime) -> Result<(), Fail> {
     assert!(rt; tells(alloc, unread, "cannot read none")?);
     let answer = merge_shards(&mut store, alloc, &["a/verdict"], Some("list"), "m");
     assert!(rt; answer.is_ok());
+    Ok(())
+}
+
+/// A verdict like this one, on another part.
+fn renoted(alloc: Global, text: &[u8], part: &[u8]) -> Result<Vec<u8>, Fail> {
+    let Ok(mut verdict) = read_verdict(alloc, text) else {
+        return Ok(Vec::new(alloc));
+    };
+    let mut outputs = Vec::new(alloc);
+    outputs.push(note_for(alloc, b"part-00000", part)?)?;
+    verdict.outputs = outputs;
+    Ok(write_verdict(alloc, &verdict)?)
+}
+
+/// Lines with these totals, one for each number.
+fn counted(alloc: Global, numbers: Range<u32>, total: u32) -> Result<Vec<u8>, Fail> {
+    let mut text = Vec::new(alloc);
+    for number in numbers {
+        text.extend_from_slice(format!(in alloc; "{number}\t{total}\n")?.as_bytes())?;
+    }
+    Ok(text)
+}
+
+#[test]
+fn parts_of_several_windows(rt: HostRuntime) -> Result<(), Fail> {
+    let alloc = rt.alloc();
+    let part = counted(alloc, 100_000..170_000, 1)?;
+    let second = renoted(alloc, SECOND, part.as_slice())?;
+    let mut store = shards(alloc, second.as_slice(), part.as_slice())?;
+    store.put(
+        "a/verdict",
+        renoted(alloc, FIRST, part.as_slice())?.as_slice(),
+        false,
+    )?;
+    store.put("a/part-00000", part.as_slice(), false)?;
+    let answer = merge_shards(&mut store, alloc, &BOTH, None, "m");
+    assert!(rt; answer.is_ok());
+    let whole = counted(alloc, 100_000..170_000, 2)?;
+    assert!(rt; stands(alloc, &store, "m/part-00000", whole.as_slice())?);
     Ok(())
 }
