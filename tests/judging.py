@@ -5,7 +5,7 @@ from concurrent.futures import ThreadPoolExecutor
 from dataclasses import replace
 
 from failing import shim, with_failing
-from harness import seeded, write_result
+from harness import random_log, random_text, seeded, write_result
 from plain import Request, judged, named_records, pairs_of, produced, text_of
 from producer import options_of, random_job
 
@@ -175,6 +175,55 @@ def against_a_plain_judge(harness):
     harness.check("each fault was met", missing == [], repr(missing))
 
 
+def large_file(rnd, job, size):
+    """At least so many bytes of records that differ much in length: empty ones, lines, and now and then a very long one."""
+    text = []
+    while sum(map(len, text)) < size:
+        kind = rnd.randrange(4)
+        if kind == 0:
+            text.append(b"\n" * rnd.choice([1, 30, 3000]))
+        elif kind == 1 and rnd.random() < 0.3:
+            text.append((b"the cat 42 " if job != "url" else b'"GET /long HTTP/1.0" ') * 4000 + b"\n")
+        else:
+            text.append(random_log(rnd, 300) if job == "url" else random_text(rnd, 8000) + b"\n")
+    return b"".join(text)
+
+
+def at_borders(rnd, request, files, names):
+    """Records round the places at which threads may divide the splits."""
+    first, chosen = 0, set()
+    for data in files:
+        own = [(name, start) for name, number, start, _ in names if name[0] == first]
+        for count in (2, 4, 8):
+            place = len(data) * rnd.randrange(1, count) // count
+            at = next((i for i, (_, start) in enumerate(own) if place <= start), len(own) - 1)
+            chosen.update(own[max(0, i)][0] for i in range(at - 1, at + 2) if i < len(own) and rnd.random() < 0.5)
+        first += (len(data) + request.split - 1) // request.split
+    return sorted(chosen)
+
+
+def few_large_splits(harness):
+    """Splits that are few and large are mapped in pieces by several threads, which say what one thread says."""
+    rnd = seeded("large splits")
+    for turn in range(30):
+        job = ("words", "grep", "url")[turn % 3]
+        request = Request(job, rnd.choice([1, 3, 7]), literal=b"the" if job == "grep" else b"")
+        files = [large_file(rnd, job, rnd.choice([140_000, 300_000, 600_000])) for _ in range(rnd.choice([1, 1, 1, 2, 5]))]
+        skips = at_borders(rnd, request, files, named_records(files, request.split)) if turn % 2 else []
+        request.most = len(skips)
+        outputs, certificate, pairs = produced(request, files, skips)
+        good = "".join([f"yes: {pairs} pairs, {len(skips)} left out\n", *(f"left out {s} {r}\n" for s, r in skips)]).encode()
+        asked, files, outputs, data = (request, files, outputs, certificate.bytes()) if turn < 9 else spoiled(rnd, request, files, outputs, certificate)
+        names = {f"f{i}": text for i, text in enumerate(files)}
+        where = harness.directory(names)
+        write_result(where, outputs, data)
+        words = [*options_of(asked, "check"), "--out", ".", *names]
+        alone = harness.run(words, cwd=where)[:3]
+        harness.check(f"large splits {turn} {asked}, by one thread", alone[0] in (0, 1) and (turn >= 9 or alone == (0, good, b"")), repr((alone, good)))
+        for threads, answer in by_threads(harness, words, where):
+            harness.check(f"large splits {turn} {asked}, by {threads} threads", answer == alone, f"got {answer!r} wanted {alone!r}")
+
+
 def the_same_each_time(harness):
     """Faults in several partitions of a result of many splits: eight threads tell the same of them each time, and so that of
     one, while four runs at once keep the processors busy."""
@@ -226,4 +275,4 @@ def threads_refused(harness):
         harness.check(f"a run, from thread {number} on none is made", marked and got == run and got[0] == 0, repr(got))
 
 
-GROUPS = {"judging": against_a_plain_judge, "judging by threads each time": the_same_each_time, "threads that can't be made": threads_refused}
+GROUPS = {"judging": against_a_plain_judge, "judging few large splits": few_large_splits, "judging by threads each time": the_same_each_time, "threads that can't be made": threads_refused}
