@@ -77,7 +77,7 @@ turn-join job b last (g ∷ gs) hs low turn all more h = (turn.0, turn-join job 
 
 -- ---- one shard
 
-pub drop-on_from : (m n : ℕ) (text : List ℕ) → m ≤ length text → drop (m + n) text ≡ drop n (drop m text)
+drop-on_from : (m n : ℕ) (text : List ℕ) → m ≤ length text → drop (m + n) text ≡ drop n (drop m text)
 drop-on_from m n text h =
     let e : m + n ≡ length (take m text) + n = omega (arith, length-take-le m text h) in
     (λ i. drop (e i) (sym (take-append-drop m text) i)) ∙ drop-append-add (take m text) (drop m text) n
@@ -309,14 +309,3 @@ still (r ∷ rs) (w ∷ ws) v =
 
 pub still-taken : (rs : List Reading) (ws : List Window) → AreWindows rs ws → taken_on (map nothing ws) rs ≡ rs
 still-taken rs ws v = still rs ws v
-
--- the same outputs
-pub outputs-stay : (cs : List ℕ) (rs : List Reading) (ws : List Window) → AreWindows rs ws → AreWithin cs ws → outputs_of (taken_on cs rs) ≡ outputs_of rs
-outputs-stay [] rs ws v fits = refl
-outputs-stay (c ∷ cs) [] ws v fits = refl
-outputs-stay (c ∷ cs) (r ∷ rs) [] v fits = absurd v
-outputs-stay (c ∷ cs) (r ∷ rs) (w ∷ ws) v fits = ap (λ (os : List Output). r.output ∷ os) (outputs-stay cs rs ws v.1 fits.1)
-
--- what was behind a window is behind what is left of it
-pub left-on : (r : Reading) (bytes more : List ℕ) (c : ℕ) → r.taken ≤ length r.output.text.now → c ≤ length bytes → behind r ≡ bytes ++ more → behind (on r c) ≡ drop c bytes ++ more
-left-on r bytes more c within fits e = drop-on_from r.taken c r.output.text.now within ∙ ap (drop c) e ∙ drop-append-le c bytes more fits
