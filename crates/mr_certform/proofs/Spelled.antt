@@ -64,7 +64,7 @@ all_spelled c one = sym (
 
 -- ---- what fits
 
-group_fits : (es : List ℕ) (ns : List Name) → total es ≤ length ns → AllByRecursion (λ n. 1 ≤ n) es → AllByRecursion (λ n. n < 2 ^ 32) es → AllByRecursion (AllByRecursion NameFits) (chunks es ns) → AllByRecursion GroupFits (chunks es ns)
+pub group_fits : (es : List ℕ) (ns : List Name) → total es ≤ length ns → AllByRecursion (λ n. 1 ≤ n) es → AllByRecursion (λ n. n < 2 ^ 32) es → AllByRecursion (AllByRecursion NameFits) (chunks es ns) → AllByRecursion GroupFits (chunks es ns)
 group_fits [] ns room some small fits = tt
 group_fits (e ∷ es) ns room some small fits = (
   record { some_entry = omega (arith, length-take e ns, some.0); count = omega (arith, length-take e ns, small.0); names = fits.0 },

@@ -8,7 +8,7 @@ use Rattle.mr_certform.specs.declared.place.Place.TheVariants.{AtMagic}
 use Rattle.mr_certform.specs.Spelling.{Front, standing, bytes_at, bytes_from, items_of, is_ended, stop}
 use Rattle.mr_certform.specs.Flat.{total, chunks}
 use Rattle.mr_certform.specs.Value.{Contents, certificate_items, Spells}
-use Rattle.mr_certform.specs.Pieces.{all_bytes}
+use Rattle.mr_certform.specs.Pieces.{SpellsSoFar, all_bytes}
 use Rattle.mr_certform.specs.Grammar.{MayStand, InOrder, AreBytes}
 
 -- the item that stands in front may stand there, and the bytes begin with its spelling
@@ -57,3 +57,7 @@ ItemsAreLongest = (bytes : List ℕ) (is : List Item) (more : List ℕ) → InOr
 abbrev pub CutByCounts : Type 0 → Type 0
 CutByCounts X = (counts : List ℕ) (xs : List X) → total counts ≡ length xs
     → (map length (chunks counts xs) ≡ counts) × (flat_map (λ piece. piece) (chunks counts xs) ≡ xs)
+
+-- bytes that spell a certificate as far as its partitions go spell it, where it has all of them
+abbrev pub SpelledSoFarIsSpelled : Type 0
+SpelledSoFarIsSpelled = (bytes : List ℕ) (c : Contents) → SpellsSoFar bytes c → length c.groups ≡ c.parts → Spells bytes c

@@ -1,10 +1,10 @@
 -- The bytes of a certificate, part by part: its job, its input, its left-out records, its groups.
-use Rattle.std.specs.Prelude.{List, [], ◌∷◌, ◌++◌, ℕ, length}
-use Rattle.std.specs.List.{flat_map}
+use Rattle.std.specs.Prelude.{◌≡◌, List, [], ◌∷◌, ◌++◌, ℕ, length}
+use Rattle.std.specs.List.{AllByRecursion, flat_map}
 use Rattle.mr_bytes.specs.declared.Name.{Name}
 use Rattle.mr_certform.specs.Places.{first_name}
 use Rattle.mr_certform.specs.Spelling.{u32, u64, magic, name_bytes, skip_bytes}
-use Rattle.mr_certform.specs.Value.{Contents}
+use Rattle.mr_certform.specs.Value.{Contents, Fits, PartFits}
 
 -- the names of a group, one behind another
 abbrev pub names_bytes : Name → List Name → List ℕ
@@ -29,5 +29,15 @@ skips_bytes c = u32 (length c.skips) ++ flat_map skip_bytes c.skips
 abbrev pub groups_bytes : Contents → List ℕ
 groups_bytes c = flat_map part_bytes c.groups
 
+-- what stands in front of the partitions
+abbrev pub front_bytes : Contents → List ℕ
+front_bytes c = job_bytes c ++ input_bytes c ++ skips_bytes c
+
 abbrev pub all_bytes : Contents → List ℕ
-all_bytes c = job_bytes c ++ input_bytes c ++ skips_bytes c ++ groups_bytes c
+all_bytes c = front_bytes c ++ groups_bytes c
+
+-- the bytes spell the certificate as far as its partitions go, of which some may be still to come
+pub record SpellsSoFar (bytes : List ℕ) (c : Contents) : Type 0 where
+  pub text : bytes ≡ all_bytes c
+  pub front : (groups : List (List (List Name))) → length groups ≡ c.parts → AllByRecursion PartFits groups → Fits (record c { groups = groups })
+  pub groups : AllByRecursion PartFits c.groups

@@ -35,7 +35,7 @@ fn spelled_skip(skip: RecordName) -> [u8; 8]
     bytes
 }
 
-fn put_number(out: &mut Vec<u8>, n: u32) -> Result<(), AllocError>
+pub(crate) fn put_number(out: &mut Vec<u8>, n: u32) -> Result<(), AllocError>
     ensures { OnOk result (out.new.items ≡ out.old.items ++ four n) }
 {
     let mut bytes = [0u8; 4];
@@ -61,7 +61,7 @@ fn put_names(out: &mut Vec<u8>, names: &[Name]) -> Result<(), AllocError>
 }
 
 /// The groups of these counts, from the front of the names; the names behind them are given back.
-fn put_groups<'a>(
+pub(crate) fn put_groups<'a>(
     out: &mut Vec<u8>,
     counts: &[u32],
     names: &'a [Name],
@@ -122,7 +122,7 @@ fn put_skips(out: &mut Vec<u8>, skips: &[RecordName]) -> Result<(), AllocError>
 }
 
 /// The magic and the job, up to the bytes of a split.
-fn put_job(out: &mut Vec<u8>, flat: &Flat) -> Result<(), AllocError>
+pub(crate) fn put_job(out: &mut Vec<u8>, flat: &Flat) -> Result<(), AllocError>
     requires { length flat.now.literal < 2 ^ 32 }
     ensures { OnOk result (out.new.items ≡ out.old.items ++ job_bytes (contents_of flat.now)) }
 {
@@ -136,7 +136,7 @@ fn put_job(out: &mut Vec<u8>, flat: &Flat) -> Result<(), AllocError>
 }
 
 /// The number of files, then the length of each.
-fn put_input(out: &mut Vec<u8>, lengths: &[u64]) -> Result<(), AllocError>
+pub(crate) fn put_input(out: &mut Vec<u8>, lengths: &[u64]) -> Result<(), AllocError>
     requires { length lengths.now < 2 ^ 32 }
     ensures { OnOk result (out.new.items ≡ out.old.items ++ (four (length lengths.now) ++ flat_map eight lengths.now)) }
 {
@@ -145,7 +145,7 @@ fn put_input(out: &mut Vec<u8>, lengths: &[u64]) -> Result<(), AllocError>
 }
 
 /// The number of left-out records, then each of them.
-fn put_left_out(out: &mut Vec<u8>, skips: &[RecordName]) -> Result<(), AllocError>
+pub(crate) fn put_left_out(out: &mut Vec<u8>, skips: &[RecordName]) -> Result<(), AllocError>
     requires { length skips.now < 2 ^ 32 }
     ensures { OnOk result ((out.new.items ≡ out.old.items ++ (four (length skips.now) ++ flat_map skip_bytes skips.now)) × AllByRecursion SkipFits skips.now) }
 {
@@ -154,7 +154,7 @@ fn put_left_out(out: &mut Vec<u8>, skips: &[RecordName]) -> Result<(), AllocErro
 }
 
 /// How many bytes the spelling has; no more than can be counted.
-fn size_of(flat: &Flat) -> usize {
+pub(crate) fn size_of(flat: &Flat) -> usize {
     let names = flat.names.len().saturating_mul(12);
     let counts = (flat
         .entry_counts
@@ -193,7 +193,7 @@ fn bytes_fit(bytes: &[u8])
     let _ = bytes.len();
 }
 
-fn counts_fit(counts: &[u32])
+pub(crate) fn counts_fit(counts: &[u32])
     ensures { AllByRecursion (λ n. n < 2 ^ 32) counts.now }
 {
     let _ = counts.len();
@@ -206,7 +206,7 @@ fn lengths_fit(lengths: &[u64])
 }
 
 /// Each number fits the bytes of its type. This does nothing when it runs.
-fn numbers_fit(flat: &Flat)
+pub(crate) fn numbers_fit(flat: &Flat)
     ensures { HasNumbers flat.now }
 {
     let _job = flat.job;

@@ -1,0 +1,87 @@
+//! A certificate spelled piece by piece: what stands in front of its partitions, and then one partition behind another.
+//! No list of all names is made for it.
+ghost use Rattle.std.specs.Prelude.{◌≡◌, ◌≤◌, ◌<◌, ◌^◌, ◌++◌, ◌∷◌, [], OnOk, IfOk, length};
+ghost use Rattle.std.specs.List.{AllByRecursion};
+ghost use Rattle.mr_certform.specs.Flat.{total, chunks};
+ghost use Rattle.mr_certform.specs.Pieces.{SpellsSoFar};
+ghost use Rattle.mr_certform.specs.Value.{Contents};
+
+use crate::building::Header;
+use crate::certificate::Flat;
+use crate::writing::{
+    counts_fit, numbers_fit, put_groups, put_input, put_job, put_left_out, put_number, size_of,
+};
+use mr_bytes::Name;
+use std::alloc::{AllocError, Global};
+
+/// The bytes of what stands in front of the partitions of a certificate, of which there are so many, with room for so many
+/// bytes behind them.
+pub fn write_front(
+    alloc: Global,
+    header: Header,
+    parts: u32,
+    room: usize,
+) -> Result<Vec<u8>, AllocError>
+    requires literal { length header.literal.items ≤ 4096 }
+    requires files { length header.lengths.items ≤ 1024 }
+    requires skips { length header.skips.items < 2 ^ 32 }
+    requires parts { (1 ≤ parts) × (parts ≤ 1024) }
+    ensures { IfOk result (λ v. SpellsSoFar v.items (record {
+      job = header.job;
+      flags = header.flags;
+      literal = header.literal.items;
+      parts = parts;
+      split_size = header.split_size;
+      lengths = header.lengths.items;
+      skips = header.skips.items;
+      groups = [];
+    })) }
+{
+    let Header {
+        job,
+        flags,
+        literal,
+        split_size,
+        lengths,
+        skips,
+    } = header;
+    let flat = Flat {
+        job,
+        flags,
+        literal,
+        parts,
+        split_size,
+        lengths,
+        skips,
+        group_counts: Vec::new(alloc),
+        entry_counts: Vec::new(alloc),
+        names: Vec::new(alloc),
+    };
+    numbers_fit(&flat);
+    let mut out = Vec::with_capacity(alloc, size_of(&flat).saturating_add(room))?;
+    put_job(&mut out, &flat)?;
+    put_input(&mut out, &flat.lengths)?;
+    put_left_out(&mut out, &flat.skips)?;
+    Ok(out)
+}
+
+/// How many bytes a partition of so many groups and names is spelled in; no more than can be counted.
+pub fn size_of_partition(groups: usize, names: usize) -> usize {
+    (names.saturating_mul(12))
+        .saturating_add(groups.saturating_mul(4))
+        .saturating_add(4)
+}
+
+/// Appends the next partition of a certificate: how many entries each of its groups has, and the names of all of them.
+pub fn write_partition(out: &mut Vec<u8>, counts: &[u32], names: &[Name]) -> Result<(), AllocError>
+    requires some { AllByRecursion (λ n. 1 ≤ n) counts.now }
+    requires few { length counts.now < 2 ^ 32 }
+    requires entries { total counts.now ≡ length names.now }
+    ensures { OnOk result ((c : Contents) → SpellsSoFar out.old.items c
+        → SpellsSoFar out.new.items (record c { groups = c.groups ++ chunks counts.now names.now ∷ [] })) }
+{
+    counts_fit(counts);
+    put_number(out, counts.len() as u32)?;
+    put_groups(out, counts, names)?;
+    Ok(())
+}
