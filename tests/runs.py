@@ -1,8 +1,8 @@
 """Map tasks in runs of few pairs: whatever the limit, a reduce task gives what the rules give in plain Python.
 
 The library `mr_task` is reached through the small program `mr_runs_tests`, which the gate leaves beside the checked one:
-it reads a file on standard input, and prints how many regions each split has for each partition, and then the text, the
-counts and the names that the reduce task of each partition gives over all of them."""
+it reads a file on standard input, and prints the bytes of the regions that each split has, run by run and partition by
+partition, and then the text, the counts and the names that the reduce task of each partition gives over all of them."""
 import os
 import random
 import re
@@ -10,6 +10,7 @@ import subprocess
 
 from libraries import built
 import plain
+import regions
 
 TOP = os.path.dirname(os.path.dirname(os.path.abspath(__file__)))
 PROGRAM = os.path.join(TOP, "crates", "mr_runs_tests", "out", "mr_runs_tests")
@@ -19,11 +20,15 @@ LIMITS = [1, 2, 3, 7, 65536]
 
 
 def told(request, data, limit):
-    """How many regions each partition has of each split, and what the reduce tasks give, as text and groups."""
+    """The bytes of each split's regions, and what the reduce tasks give, as text and groups."""
     words = [PROGRAM, *(str(n) for n in (NUMBER[request.job], request.parts, request.split, limit))]
     lines = subprocess.run(words, input=data, capture_output=True).stdout.decode().splitlines()
-    counts = [[int(n) for n in line.split()] for line in lines if "|" not in line]
-    return counts, [reduced(line) for line in lines if "|" in line]
+    sealed = [[bytes_of(text) for text in line.split(";")[:-1]] for line in lines if "|" not in line]
+    return sealed, [reduced(line) for line in lines if "|" in line]
+
+
+def bytes_of(text):
+    return bytes(int(n) for n in re.findall(r"\d+", text))
 
 
 def reduced(line):
@@ -33,16 +38,22 @@ def reduced(line):
     for count in (int(n) for n in re.findall(r"\d+", counts)):
         groups.append(flat[at : at + count])
         at += count
-    return bytes(int(n) for n in re.findall(r"\d+", text)), groups
+    return bytes_of(text), groups
 
 
-def runs_of(request, data, limit):
-    """How many runs the map task of each split has."""
+def regions_of(request, data, limit):
+    """The regions of each split by docs/FORMATS.md: pairs are taken run by run, and each run is cut by partition."""
     splits = (len(data) + request.split - 1) // request.split
-    pairs = [0] * splits
-    for split, _, _ in plain.pairs_of(request, [data]):
-        pairs[split] += 1
-    return [[(n + limit - 1) // limit] * request.parts for n in pairs]
+    pairs = [[] for _ in range(splits)]
+    for name, (key, value) in plain.pairs_of(request, [data]).items():
+        pairs[name[0]].append((key, value, name))
+    runs = lambda own: [own[at : at + limit] for at in range(0, len(own), limit)]
+    return [[region(request, split, p, run) for run in runs(own) for p in range(request.parts)] for split, own in enumerate(pairs)]
+
+
+def region(request, split, partition, run):
+    own = [pair for pair in run if plain.fnv(pair[0]) % request.parts == partition]
+    return regions.spelled(split, partition, sorted(own, key=lambda pair: (pair[0], pair[2])))
 
 
 def text_of(rnd):
@@ -55,8 +66,11 @@ def text_of(rnd):
 def worked(harness):
     request = plain.Request("words", split=64)
     output = (b"a\t1\nb\t2\n", [[(0, 0, 1)], [(0, 0, 0), (0, 0, 2)]])
-    for limit, runs in [(65536, 1), (3, 1), (2, 2), (1, 3)]:
-        harness.check(f"b a b in runs of {limit}", told(request, b"b a b\n", limit) == ([[runs]], [output]))
+    for limit, sizes in [(65536, [74]), (3, [74]), (2, [56, 38]), (1, [38, 38, 38])]:
+        sealed, reduced_to = told(request, b"b a b\n", limit)
+        harness.check(f"b a b in runs of {limit}", [[len(one) for one in split] for split in sealed] == [sizes] and reduced_to == [output])
+    sealed, _ = told(plain.Request("words", parts=2, split=64), b"a\n", 65536)
+    harness.check("a region without pairs has 20 bytes", [sorted(len(one) for one in split) for split in sealed] == [[20, 38]])
 
 
 def random_runs(harness):
@@ -67,7 +81,7 @@ def random_runs(harness):
         texts, certificate, _ = plain.produced(request, [data])
         wanted = list(zip(texts, certificate.partitions))
         for limit in LIMITS:
-            harness.check(f"input {number} in runs of {limit}", told(request, data, limit) == (runs_of(request, data, limit), wanted))
+            harness.check(f"input {number} in runs of {limit}", told(request, data, limit) == (regions_of(request, data, limit), wanted))
 
 
 GROUPS = {"runs of a map task": built("mr_runs_tests", worked), "random runs of map tasks": built("mr_runs_tests", random_runs)}

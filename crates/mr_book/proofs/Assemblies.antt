@@ -141,6 +141,10 @@ gathering_more vs p g v l is one =
       groups = map-append (λ (v : Reduced). v.groups) (take p vs) (slice_index_or vs p nothing ∷ []) i;
     }))
 
+pub mapped_more : {X : Type 0} (f : Reduced → X) (vs : List Reduced) (p : ℕ) (xs : List X) (v : Reduced) → p < length vs → xs ≡ map f (take p vs) → v ≡ slice_index_or vs p nothing
+    → xs ++ f v ∷ [] ≡ map f (take (p + 1) vs)
+mapped_more f vs p xs v l is one = (λ i. is i ++ f (one i) ∷ []) ∙ sym (ap (map f) (take_more vs p nothing l) ∙ map-append f (take p vs) (slice_index_or vs p nothing ∷ []))
+
 pub parts_count : (sh : Shape) (h : List (Event × Reply)) (st : State) (reduces : List (ℕ × Reduced)) → 1 ≤ sh.parts → 1 ≤ sh.limits.attempts → Run sh (opening sh) h st
     → length (committed_values (reduced_under reduces) st) ≡ sh.parts
 parts_count sh h st reduces parts attempts run = length-map st.committed (λ o. option_map_or (reduced_under reduces) o nothing) ∙ (sum_parts sh h st parts attempts run).sound.parts_long

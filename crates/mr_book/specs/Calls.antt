@@ -10,7 +10,8 @@ use Rattle.mr_core.specs.declared.event.Reply.{Reply}
 use Rattle.mr_core.specs.declared.event.Reply.TheVariants.{Wait, Region}
 use Rattle.mr_core.specs.Master.{Step}
 use Rattle.mr_book.specs.Stored.{stored_at}
-use Rattle.mr_book.specs.View.{BookView, Regions}
+use Rattle.mr_book.specs.View.{BookView}
+use Rattle.mr_task.specs.Mapped.{Mapped}
 
 -- the call appends its event with this reply, which is a step of the master from the state before to the state after
 pub record Calls (old : BookView) (event : Event) (reply : Reply) (new : BookView) : Type 0 where
@@ -29,13 +30,13 @@ region_in (Region output) = Some output
 region_in _ = None
 
 -- with a number comes the output that is stored under it, and with none comes none
-abbrev pub Shares : List (ℕ × Regions) → Option ℕ → Option (Arc Regions Global) → Type 0
+abbrev pub Shares : List (ℕ × Mapped) → Option ℕ → Option (Arc Mapped Global) → Type 0
 Shares maps (Some number) (Some share) = stored_at maps number ≡ Some (arc_value share)
 Shares maps (Some number) None = ⊥
 Shares maps None share = share ≡ None
 
 -- what comes with a reply
-abbrev pub Hands : List (ℕ × Regions) → Reply → Option (Arc Regions Global) → Type 0
+abbrev pub Hands : List (ℕ × Mapped) → Reply → Option (Arc Mapped Global) → Type 0
 Hands maps reply share = Shares maps (region_in reply) share
 
 -- a worker asks and has to wait

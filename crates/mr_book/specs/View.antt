@@ -1,7 +1,7 @@
 -- What contracts see of a book, and what every book keeps.
 use Rattle.std.specs.Prelude.{◌≡◌, ℕ, suc, List, [], ◌∷◌, Option, Some, None, IfSome}
 use Rattle.std.specs.List.{flat_map}
-use Rattle.mr_bytes.specs.Pairs.{Triple}
+use Rattle.mr_task.specs.Mapped.{Mapped}
 use Rattle.mr_task.specs.Values.{Reduced}
 use Rattle.mr_core.specs.declared.event.Shape.{Shape}
 use Rattle.mr_core.specs.declared.event.Event.{Event}
@@ -11,16 +11,12 @@ use Rattle.mr_core.specs.declared.event.Reply.TheVariants.{Accepted}
 use Rattle.mr_core.specs.Master.{State, Run, opening}
 use Rattle.mr_book.specs.Stored.{numbers}
 
--- what a map task gives: for each partition its regions
-abbrev pub Regions : Type 0
-Regions = List (List (List Triple))
-
 -- what it was opened with, where the master stands, all that it was told with its replies, and the outputs that it stores
 pub record BookView : Type 0 where
   pub shape : Shape
   pub state : State
   pub history : List (Event × Reply)
-  pub maps : List (ℕ × Regions)
+  pub maps : List (ℕ × Mapped)
   pub reduces : List (ℕ × Reduced)
 
 -- ---- what histories accept
@@ -57,9 +53,9 @@ AreNumbered place (x ∷ h) = IfSome (output_with (x.0)) (λ output. output ≡ 
 -- ---- what every book keeps
 
 -- each output is numbered by its place in the history, and the outputs stored are just those that the history accepted
-pub record StoresAccepted (history : List (Event × Reply)) (regions : List (ℕ × Regions)) (reduced : List (ℕ × Reduced)) : Type 0 where
+pub record StoresAccepted (history : List (Event × Reply)) (mapped : List (ℕ × Mapped)) (reduced : List (ℕ × Reduced)) : Type 0 where
   pub numbered : AreNumbered 0 history
-  pub maps : numbers regions ≡ accepted_maps history
+  pub maps : numbers mapped ≡ accepted_maps history
   pub reduces : numbers reduced ≡ accepted_reduces history
 
 -- the history is a run of the master, which leads to its state

@@ -38,7 +38,7 @@ fn push_records(
 
 impl<L: Ledger> Book<L> {
     /// The records that the left-out sets of all splits have.
-    fn records_left_out(&self, alloc: Global) -> Result<Vec<RecordName>, AllocError>
+    pub(crate) fn records_left_out(&self, alloc: Global) -> Result<Vec<RecordName>, AllocError>
         ensures { IfOk result (λ v. v.items ≡ records_from 0 (sets_of self.now.state)) }
     {
         let core = self.core();
@@ -52,7 +52,7 @@ impl<L: Ledger> Book<L> {
     }
 
     /// The committed output of a partition.
-    fn committed(&self, partition: u32) -> &ReduceOutput
+    pub(crate) fn committed(&self, partition: u32) -> &ReduceOutput
         requires done { self.now.state.end ≡ Some End.Done }
         requires partition { partition < self.now.shape.parts }
         ensures { result.now ≡ slice_index_or (committed_values (reduced_under self.now.reduces) self.now.state) partition nothing }
@@ -68,6 +68,19 @@ impl<L: Ledger> Book<L> {
         self.reduce_output(number)
     }
 
+    /// How many groups and how many names the committed outputs of all partitions have.
+    fn sizes(&self) -> (usize, usize)
+        requires { self.now.state.end ≡ Some End.Done }
+    {
+        let (mut groups, mut names) = (0usize, 0usize);
+        for partition in 0..self.shape().parts {
+            let (counts, members) = self.committed(partition).flat_groups();
+            groups = groups.saturating_add(counts.len());
+            names = names.saturating_add(members.len());
+        }
+        (groups, names)
+    }
+
     /// The committed outputs of all partitions, put together.
     fn gathered(&self, alloc: Global) -> Result<Gathering, AllocError>
         requires { self.now.state.end ≡ Some End.Done }
@@ -75,8 +88,10 @@ impl<L: Ledger> Book<L> {
     {
         // As above: that there are as many commits as partitions rests on that.
         let _limits = self.core().limits();
-        let mut gathering = Gathering::new(alloc);
-        for partition in 0..self.shape().parts {
+        let (groups, names) = self.sizes();
+        let parts = self.shape().parts;
+        let mut gathering = Gathering::with_room(alloc, parts as usize, groups, names)?;
+        for partition in 0..parts {
             gathering = gathering.with(alloc, self.committed(partition))?;
         }
         Ok(gathering)

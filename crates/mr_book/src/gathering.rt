@@ -35,18 +35,24 @@ impl Model for Gathering {
 }
 
 impl Gathering {
-    /// No partitions. It takes no memory.
-    pub(crate) fn new(alloc: Global) -> Gathering
-        ensures { result ≡ record { outputs = []; groups = [] } }
+    /// No partitions, with room for so many and for their groups and names: without it lists as long as the input would
+    /// be copied as they grow.
+    pub(crate) fn with_room(
+        alloc: Global,
+        partitions: usize,
+        groups: usize,
+        names: usize,
+    ) -> Result<Gathering, AllocError>
+        ensures { IfOk result (λ g. g ≡ record { outputs = []; groups = [] }) }
     {
-        Gathering {
-            outputs: Vec::new(alloc),
+        Ok(Gathering {
+            outputs: Vec::with_capacity(alloc, partitions)?,
             groups: FlatGroups {
-                group_counts: Vec::new(alloc),
-                entry_counts: Vec::new(alloc),
-                names: Vec::new(alloc),
+                group_counts: Vec::with_capacity(alloc, partitions)?,
+                entry_counts: Vec::with_capacity(alloc, groups)?,
+                names: Vec::with_capacity(alloc, names)?,
             },
-        }
+        })
     }
 
     /// One partition more.

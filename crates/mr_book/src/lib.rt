@@ -9,6 +9,7 @@ mod laws;
 mod log;
 mod seat;
 mod shelf;
+mod spelling;
 
 pub use book::{Book, History};
 pub use entry::Entry;

@@ -1,6 +1,7 @@
 //! Outputs that tell a number.
 use mr_input::Input;
 use mr_jobs::Job;
+use mr_spill::{Region, RegionPair, open_region};
 use mr_splits::Plan;
 use mr_task::{MapOutput, ReduceOutput, map_task, reduce_task};
 use std::alloc::Global;
@@ -26,10 +27,16 @@ pub fn reduce_output(alloc: Global, number: u32) -> Option<ReduceOutput> {
         return None;
     }
     let mut regions = Vec::new(alloc);
-    for region in output.regions(0) {
-        regions.push(region).ok()?;
+    for run in 0..output.runs() {
+        regions.push(output.region(0, run)).ok()?;
     }
     reduce_task(alloc, &Job::words(false), 0, regions.as_slice()).ok()
+}
+
+/// The first pair of a region of partition 0.
+fn first_pair<'a>(region: &Region<'a>) -> Option<RegionPair<'a>> {
+    let mut cursor = open_region(region.bytes(), region.split(), 0)?;
+    cursor.next()
 }
 
 /// Tells the first word of the output.
@@ -37,9 +44,9 @@ pub fn show_map(rt: &HostRuntime, output: &MapOutput) -> io::Result<()> {
     if output.parts() == 0 {
         return Ok(());
     }
-    for region in output.regions(0) {
-        if region.len() > 0 {
-            print!(rt; "{:?}", region.key(0))?;
+    for run in 0..output.runs() {
+        if let Some(pair) = first_pair(&output.region(0, run)) {
+            print!(rt; "{:?}", pair.key)?;
         }
     }
     Ok(())

@@ -3,10 +3,7 @@ ghost use Rattle.std.specs.Prelude.{◌≡◌, ◌↔◌, ◌⊎◌, ℕ, Err, �
 ghost use Rattle.mr_pool.specs.Endings.{ending_of};
 ghost use Rattle.mr_input.specs.Files.{contents, split_total};
 ghost use Rattle.mr_core.specs.declared.event.End.{End as Ended};
-ghost use Rattle.mr_assembled.specs.Assembled.{assembled_certificate, assembled_outputs};
 ghost use Rattle.mr_assembled.specs.Faithful.{IsOpenedFor};
-ghost use Rattle.mr_book.specs.Assembling.{reduced_under};
-ghost use Rattle.mr_certform.specs.Value.{Spells};
 ghost use Rattle.mr_core.specs.Core.{InLimits};
 ghost use Rattle.mr_check.specs.declared.fault.No.{No};
 ghost use Rattle.mr_check.specs.Headline.{IsCertified};
@@ -19,7 +16,6 @@ use crate::shared::Shared;
 use crate::worker::{Left, Worker};
 use mr_book::{Book, History, Seat};
 use mr_bytes::{Gate, OpenGate, RecordName};
-use mr_certform::write;
 use mr_check::{No, Yes, check_gated_watched, is_same_fault};
 use mr_core::{End, JobFault, Limits, Shape};
 use mr_input::Input;
@@ -176,23 +172,6 @@ fn judged_by_all<W: Watch, R: Threads + Sync>(
     )
 }
 
-/// The files of a done job, and the bytes of its certificate, whose lists are let go once they are spelled.
-fn assembled_bytes<L: Ledger>(
-    alloc: Global,
-    terms: Terms<'_>,
-    book: &Book<L>,
-) -> Result<(Vec<Vec<u8>>, Vec<u8>), AllocError>
-    requires ends { book.now.state.end ≡ Some Ended.Done }
-    requires opened { IsOpenedFor terms.request.now terms.input.now book.now.shape }
-    ensures outputs { IfOk result (λ r. contents r.0.items ≡ assembled_outputs (reduced_under book.now.reduces) book.now.state) }
-    ensures certificate { IfOk result (λ r. Spells r.1.items
-        (assembled_certificate terms.entry.request.now terms.entry.input.now (reduced_under book.now.reduces) book.now.state)) }
-{
-    let (outputs, certificate) = book.assemble(alloc, terms.request, terms.input)?;
-    let bytes = write(alloc, &certificate)?;
-    Ok((outputs, bytes))
-}
-
 /// The result of a done job is assembled and judged.
 fn assembled<L: Ledger, W: Watch, R: Threads + Sync>(
     rt: &R,
@@ -210,7 +189,7 @@ fn assembled<L: Ledger, W: Watch, R: Threads + Sync>(
     ensures certified { IfOk result (IsCertifiedRun terms.entry.request.now terms.entry.input.now book.shape) }
     ensures fault { IfErr result (IsRunFault terms.entry.request.now terms.entry.input.now terms.entry.script.now book.shape) }
 {
-    let (outputs, certificate) = assembled_bytes(alloc, terms, &book)?;
+    let (outputs, certificate) = book.assemble_bytes(alloc, terms.request, terms.input)?;
     watch.tell(Phase::Judging, 0, 1);
     let judged = judged_by_all(
         rt,

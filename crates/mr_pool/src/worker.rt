@@ -7,7 +7,7 @@ use mr_book::Seat;
 use mr_bytes::Gate;
 use mr_core::{Reply, Skips, Task};
 use mr_script::Directive;
-use mr_spill::Pairs;
+use mr_spill::Region;
 use mr_task::{MapOutput, TaskFault, map_task, reduce_task};
 use mr_watch::Watch;
 use std::alloc::{AllocError, Global};
@@ -61,12 +61,12 @@ fn regions_of<'o>(
     alloc: Global,
     outputs: &'o [Arc<MapOutput>],
     partition: u32,
-) -> Result<Vec<&'o Pairs>, AllocError> {
+) -> Result<Vec<Region<'o>>, AllocError> {
     let mut regions = Vec::new(alloc);
     for output in outputs {
-        if (partition as usize) < output.parts() {
-            for region in output.regions(partition) {
-                regions.push(region)?;
+        if partition < output.parts() {
+            for run in 0..output.runs() {
+                regions.push(output.region(partition, run))?;
             }
         }
     }

@@ -1,12 +1,12 @@
 //! Tasks whose runs end at a limit, as a program for the checks from outside. Its arguments are the job (0 for words, 1 for
 //! lines with `b`, 2 for links), how many partitions there are, the size of a split, and how many pairs a run has at most.
-//! Standard input is the one file, each line ended by LF. For each split a line tells how many regions each partition
-//! has, and for each partition a line its text, how many names each group has, and all names.
+//! Standard input is the one file, each line ended by LF. For each split a line tells the bytes of its regions,
+//! those of all partitions run by run; and for each partition a line its text, how many names each group has, and all names.
 #![tactic(auto)]
 
 use mr_input::Input;
 use mr_jobs::Job;
-use mr_spill::Pairs;
+use mr_spill::Region;
 use mr_splits::Plan;
 use mr_task::{MapOutput, map_task_with, reduce_task};
 use std::alloc::{AllocError, Global};
@@ -70,23 +70,23 @@ fn regions_of(
     alloc: Global,
     outputs: &[MapOutput],
     partition: u32,
-) -> Result<Vec<&Pairs>, AllocError> {
+) -> Result<Vec<Region<'_>>, AllocError> {
     let mut regions = Vec::new(alloc);
     for output in outputs {
-        if (partition as usize) < output.parts() {
-            for region in output.regions(partition) {
-                regions.push(region)?;
+        if partition < output.parts() {
+            for run in 0..output.runs() {
+                regions.push(output.region(partition, run))?;
             }
         }
     }
     Ok(regions)
 }
 
-/// Tells how many regions each partition has.
-fn show_counts(rt: &HostRuntime, output: &MapOutput, parts: u32) -> io::Result<()> {
-    for partition in 0..parts {
-        if (partition as usize) < output.parts() {
-            print!(rt; "{} ", output.regions(partition).len())?;
+/// Tells the bytes of the regions, run by run.
+fn show_regions(rt: &HostRuntime, output: &MapOutput) -> io::Result<()> {
+    for run in 0..output.runs() {
+        for partition in 0..output.parts() {
+            print!(rt; "{:?};", output.region(partition, run).bytes())?;
         }
     }
     println!(rt; "")
@@ -112,7 +112,7 @@ fn show_reduced(
 fn work(rt: &HostRuntime, plan: &Plan<'_>, job: &Job, parts: u32, limit: u32) -> io::Result<()> {
     let outputs = mapped(rt.alloc(), plan, job, parts, limit as usize)?;
     for output in &outputs {
-        show_counts(rt, output, parts)?;
+        show_regions(rt, output)?;
     }
     for partition in 0..parts {
         show_reduced(rt, job, outputs.as_slice(), partition)?;

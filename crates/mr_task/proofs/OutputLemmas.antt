@@ -1,6 +1,5 @@
 -- Groups that are added to an output, one by one.
-use denote.Ref.{Bor}
-use Rattle.std.proofs.Common.{◌≡◌, ℕ, zero, suc, ◌+◌, ◌<◌, ◌≤◌, Bool, true, false, cond, All, Some, List, [], ◌∷◌, ◌++◌, length, get_or, take, drop, map, filter, refl, sym, ap, ◌∙◌, arith, length-append, length-drop}
+use Rattle.std.proofs.Common.{◌≡◌, ℕ, zero, suc, ◌+◌, ◌<◌, ◌≤◌, Bool, true, false, cond, All, List, [], ◌∷◌, ◌++◌, length, get_or, take, drop, map, filter, refl, sym, ap, ◌∙◌, arith, length-append, length-drop}
 use Rattle.std.proofs.lemmas.List.{append-nil, length-map, drop-append-le, map-append, take-append-drop, take-append-le, take_all, take_more}
 use Rattle.std.proofs.lemmas.List.Elements.{All-map}
 use Rattle.std.specs.Ordering.{match_ordering}
@@ -13,14 +12,17 @@ use Rattle.mr_bytes.specs.Pairs.{Triple, pair_order}
 use Rattle.std.specs.List.{AllByRecursion, flat_map}
 use Rattle.mr_bytes.specs.declared.Value.{Value}
 use Rattle.mr_certform.specs.Flat.{chunks, total}
-use Rattle.mr_merge.specs.Merged.{Group, group_of, joined, merged, values_of}
+use Rattle.mr_merge.specs.Bytes.{AreSpelled}
+use Rattle.mr_merge.specs.Merged.{Group, group_of, joined, merged}
 use Rattle.mr_merge.specs.Groups.{no_group, nth_group}
 use Rattle.mr_sequential.specs.Rules.{Key, Text}
 use Rattle.mr_sequential.proofs.SourceLemmas.{flat_map-append}
 use Rattle.mr_spill.specs.Column.{names_of}
+use Rattle.mr_spill.specs.Lent.{RegionText}
+use Rattle.mr_spill.specs.Spelling.{SpellsRegion}
 use Rattle.std.specs.Prelude.{slice_index_or, slice_set}
 use Rattle.mr_task.specs.Outputs.{flipped, with_other_bit}
-use Rattle.mr_task.specs.Values.{group_text, read, reduced}
+use Rattle.mr_task.specs.Values.{group_text, reduced}
 
 -- ---- counts with names
 
@@ -60,24 +62,36 @@ reduced-more text gs g h =
 
 -- ---- how many pairs there are
 
-pub joined-more : (rs : List (Bor (List Triple))) (i : ℕ) (d : Bor (List Triple)) → i < length rs
-    → length (joined (values_of (take (i + 1) rs))) ≡ length (joined (values_of (take i rs))) + length (get_or rs i d).now
-joined-more rs i d h =
-    let one : Bor (List Triple) = get_or rs i d in
-    let all : joined (values_of (take (i + 1) rs)) ≡ joined (values_of (take i rs)) ++ one.now =
-    ap (λ (l : List (Bor (List Triple))). joined (values_of l)) (take_more rs i d h)
-    ∙ ap joined (map-append (λ (r : Bor (List Triple)). r.now) (take i rs) (one ∷ []))
-    ∙ flat_map-append (λ (l : List Triple). l) (values_of (take i rs)) (one.now ∷ [])
-    ∙ ap (λ (l : List Triple). joined (values_of (take i rs)) ++ l) (append-nil one.now) in
-    ap length all ∙ length-append (joined (values_of (take i rs))) one.now
+pub joined-more : (rs : List (List Triple)) (i : ℕ) → i < length rs
+    → length (joined (take (i + 1) rs)) ≡ length (joined (take i rs)) + length (get_or rs i [])
+joined-more rs i h =
+    let one : List Triple = get_or rs i [] in
+    let all : joined (take (i + 1) rs) ≡ joined (take i rs) ++ one =
+    ap joined (take_more rs i [] h)
+    ∙ flat_map-append (λ (l : List Triple). l) (take i rs) (one ∷ [])
+    ∙ ap (λ (l : List Triple). joined (take i rs) ++ l) (append-nil one) in
+    ap length all ∙ length-append (joined (take i rs)) one
 
-pub joined-all : (rs : List (Bor (List Triple))) (i : ℕ) → length (joined (values_of (take i rs))) ≤ length (joined (values_of rs))
+pub joined-all : (rs : List (List Triple)) (i : ℕ) → length (joined (take i rs)) ≤ length (joined rs)
 joined-all rs i =
-    let all : joined (values_of rs) ≡ joined (values_of (take i rs)) ++ joined (values_of (drop i rs)) =
-    ap (λ (l : List (Bor (List Triple))). joined (values_of l)) (sym (take-append-drop i rs))
-    ∙ ap joined (map-append (λ (r : Bor (List Triple)). r.now) (take i rs) (drop i rs))
-    ∙ flat_map-append (λ (l : List Triple). l) (values_of (take i rs)) (values_of (drop i rs)) in
-    omega (arith, ap length all, length-append (joined (values_of (take i rs))) (joined (values_of (drop i rs))))
+    let all : joined rs ≡ joined (take i rs) ++ joined (drop i rs) =
+    ap joined (sym (take-append-drop i rs)) ∙ flat_map-append (λ (l : List Triple). l) (take i rs) (drop i rs) in
+    omega (arith, ap length all, length-append (joined (take i rs)) (joined (drop i rs)))
+
+-- ---- what regions spell
+
+pub spelled-length : (partition : ℕ) (rs : List RegionText) (values : List (List Triple)) → AreSpelled partition rs values → length values ≡ length rs
+spelled-length partition [] [] s = refl
+spelled-length partition [] (v ∷ vs) s = absurd s
+spelled-length partition (r ∷ rs) [] s = absurd s
+spelled-length partition (r ∷ rs) (v ∷ vs) s = omega (arith, spelled-length partition rs vs s.1)
+
+pub spelled-item : (partition : ℕ) (rs : List RegionText) (values : List (List Triple)) (i : ℕ) (d : RegionText) → AreSpelled partition rs values → i < length rs
+    → SpellsRegion (get_or rs i d).bytes (get_or rs i d).split partition (get_or values i [])
+spelled-item partition [] values i d s h = absurd (omega (arith, h))
+spelled-item partition (r ∷ rs) [] i d s h = absurd s
+spelled-item partition (r ∷ rs) (v ∷ vs) zero d s h = s.0
+spelled-item partition (r ∷ rs) (v ∷ vs) (suc i) d s h = spelled-item partition rs vs i d s.1 (omega (arith, h))
 
 placed-length : {X : Type 0} (cmp : X → X → Ordering) (x : X) (ys : List X) → length (placed cmp x ys) ≤ length ys + 1
 placed-length cmp x [] = omega arith
@@ -106,20 +120,6 @@ groups-few pairs n h =
     let ts : List Triple = sorted pair_order pairs in
     All-map (λ (g : Group). length g.pairs < n) (group_of ts) (sorted key_order (map (λ (t : Triple). t.key) pairs))
     (λ i d k. omega (arith, filter-length (λ (t : Triple). bytes_eq t.key (get_or (sorted key_order (map (λ (u : Triple). u.key) pairs)) i d)) ts, sorted-length pair_order pairs, h))
-
--- regions that are kept as pairs are read as they are
-pub read-same : (partition : ℕ) (regions values : List (List Triple)) → map (read partition) regions ≡ map Some values → regions ≡ values
-read-same partition [] [] e = refl
-read-same partition [] (v ∷ vs) e = absurd (cc e)
-read-same partition (r ∷ rs) [] e = absurd (cc e)
-read-same partition (r ∷ rs) (v ∷ vs) e =
-    let one : Some r ≡ Some v = cc e in
-    let here : r ≡ v = cc one in
-    let rest : map (read partition) rs ≡ map Some vs = cc e in
-    cc (here, read-same partition rs vs rest)
-
-pub read-all : (partition : ℕ) (regions : List (List Triple)) → map (read partition) regions ≡ map Some regions
-read-all partition regions = refl
 
 -- ---- how many groups there are
 

@@ -1,7 +1,8 @@
 -- Pairs taken run by run: one run more, one pair more, and the end.
-use Rattle.std.proofs.Common.{◌≡◌, ℕ, zero, suc, ◌+◌, ◌<◌, ◌≤◌, List, [], ◌∷◌, ◌++◌, length, get_or, set, map, take, drop, refl, sym, ap, ◌∙◌, subst, arith, Vec, Global, append_assoc, inl, inr}
-use Rattle.std.proofs.lemmas.List.{append-nil, flat_map_more, get_or-map, map-append, map-set}
-use Rattle.std.proofs.lemmas.List.FromFn.{get_or-map-range_with_len}
+use Rattle.std.proofs.Common.{◌≡◌, ℕ, zero, suc, ◌+◌, ◌<◌, ◌≤◌, List, [], ◌∷◌, ◌++◌, length, get_or, map, take, drop, refl, sym, ap, ◌∙◌, subst, arith, append_assoc, inl, inr}
+use Rattle.std.proofs.lemmas.List.{append-nil, map-append}
+use Rattle.std.proofs.lemmas.List.FromFn.{get_or-map-range_with_len, length-map-range_with_len}
+use Rattle.std.specs.List.{range_with_len}
 use Rattle.std.specs.declared.cmp.Ordering.TheVariants.{Less}
 use Rattle.mr_bytes.specs.declared.Name.{Name}
 use Rattle.mr_bytes.specs.Lists.{Rises}
@@ -9,53 +10,65 @@ use Rattle.mr_bytes.specs.Order.{name_order}
 use Rattle.mr_bytes.specs.Pairs.{Triple}
 use Rattle.mr_bytes.proofs.ListLaws.{all_from_Has, Has-all, Has-append_left}
 use Rattle.mr_partition.specs.Partition.{partition_of}
+use Rattle.mr_sequential.proofs.SourceLemmas.{flat_map-append}
 use Rattle.mr_spill.specs.Column.{names_of}
-use Rattle.mr_spill.specs.Regions.{region, regions}
+use Rattle.mr_spill.specs.Regions.{region}
 use Rattle.mr_task.specs.declared.runs.Runs.{Runs}
-use Rattle.mr_task.specs.Outputs.{lists_of}
-use Rattle.mr_task.specs.Runs.{AreNext, HasTaken, Takes}
-use Rattle.mr_task.specs.Values.{IsCutOf}
+use Rattle.mr_spill.specs.Sealed.{RunText, SpellsRun}
+use Rattle.mr_spill.specs.Spelling.{SpellsRegion}
+use Rattle.mr_spill.proofs.SealedLemmas.{all-append}
+use Rattle.mr_merge.specs.Bytes.{AreSpelled}
+use Rattle.mr_merge.specs.Merged.{joined}
+use Rattle.mr_task.specs.Mapped.{IsMapped, regions_at}
+use Rattle.mr_task.specs.Runs.{AreNext, AreOf, AreRuns, HasTaken, Takes}
 
--- no run gives no regions
-pub cut-none : (part : List ℕ → ℕ) (parts : ℕ) (lists : List (List (List Triple))) → length lists ≡ parts
-    → ((p : ℕ) → get_or lists p [] ≡ []) → IsCutOf part parts [] lists
-cut-none part parts lists count empty = record { runs = []; all = refl; one_each = count; each = λ p h. empty p }
+-- one run more
+pub runs-more : (split parts : ℕ) (sealed : List (List Triple)) (ts : List Triple) (runs : List RunText) (run : RunText) → AreRuns split parts sealed runs
+    → SpellsRun run split parts (region (λ k. partition_of k parts) ts) → AreRuns split parts (sealed ++ ts ∷ []) (runs ++ run ∷ [])
+runs-more split parts [] ts [] run all one = (one, tt)
+runs-more split parts [] ts (r ∷ rs) run all one = absurd all
+runs-more split parts (s ∷ ss) ts [] run all one = absurd all
+runs-more split parts (s ∷ ss) ts (r ∷ rs) run all one = (all.0, runs-more split parts ss ts rs run all.1 one)
 
--- one run more gives each partition its region
-pub cut-more : (part : List ℕ → ℕ) (parts : ℕ) (sealed run : List Triple) (old new : List (List (List Triple))) (given : List (List Triple))
-    → IsCutOf part parts sealed old → length new ≡ parts → given ≡ regions part parts run
-    → ((p : ℕ) → p < parts → get_or new p [] ≡ get_or old p [] ++ get_or given p [] ∷ [])
-    → IsCutOf part parts (sealed ++ run) new
-cut-more part parts sealed run old new given cut count is put = record {
-  runs = cut.runs ++ run ∷ [];
-  all = sym (flat_map_more (λ (r : List Triple). r) [] cut.runs run) ∙ ap (λ (l : List Triple). l ++ run) cut.all;
-  one_each = count;
-  each = λ p h.
-      let one : get_or given p [] ≡ region part run p =
-      ap (λ (l : List (List Triple)). get_or l p []) is ∙ get_or-map-range_with_len (region part run) 0 parts p p [] h (omega arith) in
-      put p h
-      ∙ ap (λ (l : List (List Triple)). l ++ get_or given p [] ∷ []) (cut.each p h)
-      ∙ ap (λ (r : List Triple). map (λ run. region part run p) cut.runs ++ r ∷ []) one
-      ∙ sym (map-append (λ run. region part run p) cut.runs (run ∷ []));
-}
+-- its pairs come behind
+pub joined-one : (sealed : List (List Triple)) (ts : List Triple) → joined (sealed ++ ts ∷ []) ≡ joined sealed ++ ts
+joined-one sealed ts = flat_map-append (λ (l : List Triple). l) sealed (ts ∷ []) ∙ ap (λ (l : List Triple). joined sealed ++ l) (append-nil ts)
 
--- one list of many gets one region more
-pub lists-set : {X : Type 0} (vs : List (Vec X Global)) (i : ℕ) (was now : Vec X Global) (more : X) → i < length vs
-    → was ≡ get_or vs i was → now.items ≡ was.items ++ more ∷ []
-    → lists_of (set vs i now) ≡ set (lists_of vs) i (get_or (lists_of vs) i [] ++ more ∷ [])
-lists-set {X} vs i was now more h is grown =
-    let old : get_or (lists_of vs) i [] ≡ was.items =
-    get_or-map (λ (v : Vec X Global). v.items) vs i was [] h ∙ ap (λ (v : Vec X Global). v.items) (sym is) in
-    map-set (λ (v : Vec X Global). v.items) vs i now
-    ∙ ap (λ l. set (lists_of vs) i l) (grown ∙ ap (λ (l : List X). l ++ more ∷ []) (sym old))
+-- the runs spell the regions of a partition
+spelled-at : (split parts : ℕ) (sealed : List (List Triple)) (runs : List RunText) (p : ℕ) → p < parts → AreRuns split parts sealed runs
+    → AreSpelled p (regions_at p runs) (map (λ ts. region (λ k. partition_of k parts) ts p) sealed)
+spelled-at split parts [] [] p h all = tt
+spelled-at split parts [] (r ∷ rs) p h all = absurd all
+spelled-at split parts (s ∷ ss) [] p h all = absurd all
+spelled-at split parts (s ∷ ss) (r ∷ rs) p h all = (
+  subst (λ n. SpellsRegion (get_or r.regions p []) n p (region (λ k. partition_of k parts) s p)) (sym all.0.own) (all.0.each p h),
+  spelled-at split parts ss rs p h all.1,
+)
 
--- where nothing waits, all that was taken is in the regions
-pub all-sealed : (pairs : List Triple) (r : Runs) (parts : ℕ) → HasTaken pairs r → r.buffer.pairs ≡ [] → r.parts ≡ parts
-    → IsCutOf (λ k. partition_of k parts) parts pairs (lists_of r.lists.items)
-all-sealed pairs r parts h none e =
-    let same : h.sealed ≡ pairs = sym (append-nil h.sealed) ∙ ap (λ (l : List Triple). h.sealed ++ l) (sym none) ∙ h.all in
-    subst (λ (n : ℕ). IsCutOf (λ k. partition_of k n) n pairs (lists_of r.lists.items)) e
-    (subst (λ (l : List Triple). IsCutOf (λ k. partition_of k r.parts) r.parts l (lists_of r.lists.items)) same h.cut)
+mapped-by : (pairs : List Triple) (split parts : ℕ) (sealed : List (List Triple)) (runs : List RunText) → AreRuns split parts sealed runs → joined sealed ≡ pairs
+    → IsMapped (λ k. partition_of k parts) parts pairs (record { parts = parts; runs = runs })
+mapped-by pairs split parts sealed runs all is =
+    let regions_for : ℕ → List (List Triple) = λ p. map (λ ts. region (λ k. partition_of k parts) ts p) sealed in
+    let at : (p : ℕ) → p < parts → get_or (map regions_for (range_with_len 0 parts)) p [] ≡ regions_for p =
+    λ p h. get_or-map-range_with_len regions_for 0 parts p p [] h (omega arith) in
+    record {
+      regions = map regions_for (range_with_len 0 parts);
+      parts_are = refl;
+      cut = record { runs = sealed; all = is; one_each = length-map-range_with_len regions_for 0 parts; each = at };
+      spelled = λ p h. subst (AreSpelled p (regions_at p runs)) (sym (at p h)) (spelled-at split parts sealed runs p h all);
+    }
+
+-- where nothing waits, all that was taken is in the runs
+pub all-mapped : (pairs : List Triple) (r : Runs) (parts : ℕ) → HasTaken pairs r → r.buffer.pairs ≡ [] → r.sealed.parts ≡ parts
+    → IsMapped (λ k. partition_of k parts) parts pairs r.sealed
+all-mapped pairs r parts h none e =
+    let same : joined h.sealed ≡ pairs = sym (append-nil (joined h.sealed)) ∙ ap (λ (l : List Triple). joined h.sealed ++ l) (sym none) ∙ h.all in
+    subst (λ (n : ℕ). IsMapped (λ k. partition_of k n) n pairs r.sealed) e (mapped-by pairs r.split r.sealed.parts h.sealed r.sealed.runs h.each same)
+
+-- a pair more that is of the split
+pub next-own : (split : ℕ) (old new : List Triple) (t : Triple) → AreNext t old new → AreOf split old → t.name.split ≡ split → AreOf split new
+next-own split old new t (inl e) own here = subst (AreOf split) (sym e) (all-append (λ (u : Triple). u.name.split ≡ split) old (t ∷ []) own (here, tt))
+next-own split old new t (inr e) own here = subst (AreOf split) (sym e) (here, tt)
 
 pub takes-none : (r : Runs) → Takes [] r r
 takes-none r pairs h = subst (λ (l : List Triple). HasTaken l r) (sym (append-nil pairs)) h

@@ -3,3 +3,4 @@ pub mod Outputs
 pub mod Runs
 pub mod Values
 pub mod Worked
+pub mod Mapped

@@ -1,10 +1,5 @@
--- Of no public promise: regions as they are kept.
-use Rattle.std.specs.Prelude.{ℕ, zero, suc, ◌+◌, ◌-◌, ◌%◌, ◌==◌, if◌then◌else◌, List, [], ◌∷◌, map, Vec}
-use Rattle.std.specs.Global.{Global}
-
--- lists in place of what holds them
-abbrev pub lists_of : {X : Type 0} → List (Vec X Global) → List (List X)
-lists_of vs = map (λ v. v.items) vs
+-- Of no public promise: bytes with a bit changed.
+use Rattle.std.specs.Prelude.{ℕ, zero, suc, ◌+◌, ◌-◌, ◌%◌, ◌==◌, if◌then◌else◌, List, [], ◌∷◌}
 
 -- a byte with its lowest bit changed
 abbrev pub with_other_bit : ℕ → ℕ

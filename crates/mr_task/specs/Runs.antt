@@ -1,20 +1,34 @@
 -- Of no public promise: what a map task has of the pairs that it was given, and what its records give.
 use Rattle.std.specs.Prelude.{◌≡◌, ℕ, if◌then◌else◌, List, [], ◌∷◌, ◌++◌, ◌⊎◌}
+use Rattle.std.specs.List.{AllByRecursion}
 use Rattle.mr_bytes.specs.Pairs.{Triple}
 use Rattle.mr_jobs.specs.JobSpec.{JobSpec}
 use Rattle.mr_jobs.specs.Emissions.{emissions}
+use Rattle.mr_merge.specs.Merged.{joined}
 use Rattle.mr_partition.specs.Partition.{partition_of}
 use Rattle.mr_sequential.specs.Emitted.{placed_from}
+use Rattle.mr_spill.specs.Regions.{region}
+use Rattle.mr_spill.specs.Sealed.{RunText, SpellsRun}
 use Rattle.mr_splits.specs.Named.{NamedRecord}
 use Rattle.mr_task.specs.declared.runs.Runs.{Runs}
-use Rattle.mr_task.specs.Outputs.{lists_of}
-use Rattle.mr_task.specs.Values.{IsCutOf, has_number}
+use Rattle.mr_task.specs.Values.{has_number}
 
--- the pairs are those of the sealed runs, of which the lists have the regions, with those that wait in the buffer
+-- each run spells the regions of its pairs
+abbrev pub AreRuns : ℕ → ℕ → List (List Triple) → List RunText → Type 0
+AreRuns split parts [] [] = Unit {0}
+AreRuns split parts [] (run ∷ runs) = ⊥
+AreRuns split parts (ts ∷ sealed) [] = ⊥
+AreRuns split parts (ts ∷ sealed) (run ∷ runs) = SpellsRun run split parts (region (λ k. partition_of k parts) ts) × AreRuns split parts sealed runs
+
+-- the pairs are those of the sealed runs, with those that wait in the buffer
 pub record HasTaken (pairs : List Triple) (runs : Runs) : Type 0 where
-  pub sealed : List Triple
-  pub cut : IsCutOf (λ k. partition_of k runs.parts) runs.parts sealed (lists_of runs.lists.items)
-  pub all : sealed ++ runs.buffer.pairs ≡ pairs
+  pub sealed : List (List Triple)
+  pub each : AreRuns runs.split runs.sealed.parts sealed runs.sealed.runs
+  pub all : joined sealed ++ runs.buffer.pairs ≡ pairs
+
+-- all pairs are of the split
+abbrev pub AreOf : ℕ → List Triple → Type 0
+AreOf split ts = AllByRecursion (λ t. t.name.split ≡ split) ts
 
 -- whatever was taken before, these came behind
 abbrev pub Takes : List Triple → Runs → Runs → Type 0

@@ -1,11 +1,13 @@
 -- The values of map and reduce tasks: what they give, however the work is cut (OSDI 2004, sections 3.1, 4.1 and 4.2).
-use Rattle.std.specs.Prelude.{◌≡◌, ℕ, ◌<◌, ◌≤◌, ◌==◌, Bool, not, ◌&&◌, Option, Some, List, [], length, map, filter, slice_index_or}
+use Rattle.std.specs.Prelude.{◌≡◌, ℕ, ◌<◌, ◌≤◌, ◌==◌, Bool, not, ◌&&◌, List, [], length, map, filter, slice_index_or}
 use Rattle.std.specs.List.{flat_map, list_any}
 use Rattle.mr_bytes.specs.declared.Name.{Name}
 use Rattle.mr_bytes.specs.declared.Value.{Value}
 use Rattle.mr_bytes.specs.Pairs.{Triple}
 use Rattle.mr_spill.specs.Regions.{region}
 use Rattle.mr_spill.specs.Column.{names_of}
+use Rattle.mr_spill.specs.Lent.{RegionText}
+use Rattle.mr_merge.specs.Bytes.{AreSpelled}
 use Rattle.mr_merge.specs.Merged.{Group, AreSound, joined, merged}
 use Rattle.mr_sequential.specs.Rules.{Key, Text}
 
@@ -53,19 +55,15 @@ reduced text groups = record { output = flat_map (group_text text) groups; group
 abbrev pub reduce_value : (Key → List Value → Text) → List (List Triple) → Reduced
 reduce_value text values = reduced text (merged (joined values))
 
--- a region as it is handed in: its pairs for the partition, where it can be read; kept as pairs it always can
-abbrev pub read : ℕ → List Triple → Option (List Triple)
-read partition pairs = Some pairs
-
--- the regions can be read, each is in order, no name stands twice, and there are no more pairs than the splits of an
--- input emit
-pub record CanMerge (partition : ℕ) (regions : List (List Triple)) : Type 0 where
+-- the regions spell pairs of the partition, each in order, no name stands twice, and there are no more pairs than the
+-- splits of an input emit
+pub record CanMerge (partition : ℕ) (regions : List RegionText) : Type 0 where
   pub values : List (List Triple)
-  pub read_as : map (read partition) regions ≡ map Some values
+  pub spelled : AreSpelled partition regions values
   pub sound : AreSound values
   pub few : length (joined values) ≤ 1073741824
 
 -- the value over what was read
-pub record IsReduced (text : Key → List Value → Text) (partition : ℕ) (regions : List (List Triple)) (out : Reduced) : Type 0 where
+pub record IsReduced (text : Key → List Value → Text) (partition : ℕ) (regions : List RegionText) (out : Reduced) : Type 0 where
   pub can : CanMerge partition regions
   pub is : out ≡ reduce_value text can.values

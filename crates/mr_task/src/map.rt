@@ -3,7 +3,8 @@ ghost use Rattle.std.specs.Prelude.{◌≡◌, ◌≤◌, ◌<◌, [], IfOk, OnO
 ghost use Rattle.mr_input.specs.Files.{split_total};
 ghost use Rattle.mr_partition.specs.Partition.{partition_of};
 ghost use Rattle.mr_sequential.specs.Emitted.{emitted};
-ghost use Rattle.mr_task.specs.Values.{IsCutOf, emitted_in};
+ghost use Rattle.mr_task.specs.Mapped.{IsMapped};
+ghost use Rattle.mr_task.specs.Values.{emitted_in};
 
 use crate::left_out::{has, in_order};
 use crate::output::MapOutput;
@@ -17,8 +18,8 @@ use std::alloc::{AllocError, Global};
 /// stands in few runs.
 const RUN_PAIRS: usize = 65_536;
 
-/// What a job emits for the records of a split, without those whose numbers are listed, as sorted regions by partition: a
-/// region for each run of at most 65,536 pairs. Numbers may stand in any order, more than once, and need not be those of
+/// What a job emits for the records of a split, without those whose numbers are listed, as sorted regions by partition,
+/// spelled as bytes: a region for each run of at most 65,536 pairs. Numbers may stand in any order, more than once, and need not be those of
 /// records. It fails only for want of memory.
 pub fn map_task(
     alloc: Global,
@@ -30,7 +31,7 @@ pub fn map_task(
 ) -> Result<MapOutput, AllocError>
     requires parts { 1 ≤ parts }
     requires split { split < split_total plan.now.size plan.now.files }
-    ensures { IfOk result (IsCutOf (λ k. partition_of k parts) parts (emitted_in (emitted job.now plan.now.size plan.now.files []) split skips.now)) }
+    ensures { IfOk result (IsMapped (λ k. partition_of k parts) parts (emitted_in (emitted job.now plan.now.size plan.now.files []) split skips.now)) }
 {
     map_task_with(alloc, plan, job, parts, split, skips, RUN_PAIRS)
 }
@@ -49,12 +50,12 @@ pub fn map_task_with(
     requires parts { 1 ≤ parts }
     requires split { split < split_total plan.now.size plan.now.files }
     requires limit { 1 ≤ limit }
-    ensures { IfOk result (IsCutOf (λ k. partition_of k parts) parts (emitted_in (emitted job.now plan.now.size plan.now.files []) split skips.now)) }
+    ensures { IfOk result (IsMapped (λ k. partition_of k parts) parts (emitted_in (emitted job.now plan.now.size plan.now.files []) split skips.now)) }
 {
     // A plan's size is at least 1: that names rise rests on that.
     let _size = plan.size();
     let left_out = in_order(alloc, skips)?;
-    let mut runs = Runs::new(alloc, parts, limit)?;
+    let mut runs = Runs::new(alloc, split, parts, limit);
     let mut folded = Vec::new(alloc);
     let mut mapper = job.over(plan.input());
     let count = plan.records_in(split);

@@ -1,10 +1,11 @@
 //! What tasks give.
-ghost use Rattle.std.specs.Prelude.{◌≡◌, ◌+◌, ◌<◌, ◌^◌, ◌≤◌, ◌++◌, ◌∷◌, [], IfOk, MatchOption, OnOk, length, map, slice_index_or};
+ghost use Rattle.std.specs.Prelude.{◌≡◌, ◌+◌, ◌<◌, ◌^◌, ◌≤◌, ◌++◌, ◌∷◌, [], IfOk, MatchOption, OnOk, length, map};
 ghost use Rattle.std.specs.List.{AllByRecursion};
 ghost use Rattle.mr_certform.specs.Flat.{chunks, total};
 ghost use Rattle.mr_merge.specs.Groups.{nth_group};
 ghost use Rattle.mr_reduce.specs.Text.{text_of};
 ghost use Rattle.mr_spill.specs.Column.{names_of};
+ghost use Rattle.mr_task.specs.Mapped.{nth_run, region_of};
 ghost use Rattle.mr_task.specs.Outputs.{flipped, with_other_bit};
 ghost use Rattle.mr_task.specs.Values.{group_text};
 
@@ -12,40 +13,70 @@ use mr_bytes::{Name, Values};
 use mr_jobs::Job;
 use mr_merge::Groups;
 use mr_reduce::{column_text, total_text};
-use mr_spill::Pairs;
+use mr_spill::{Region, SealedRun};
 use std::alloc::{AllocError, Global};
 use std::marker::Model;
 
-/// What a map task gives: for each partition a list of regions, each by key and then name.
+/// What a map task gives: the runs of its pairs, each sealed into a region for each partition.
 #[derive(Drop)]
 pub struct MapOutput {
-    pub(crate) regions: Vec<Vec<Pairs>>,
+    parts: u32,
+    runs: Vec<SealedRun>,
 }
 
 impl Model for MapOutput {
-    ghost use Rattle.std.specs.Prelude.{List};
-    ghost use Rattle.mr_bytes.specs.Pairs.{Triple};
-    ghost use Rattle.mr_task.specs.Outputs.{lists_of};
+    ghost use Rattle.std.specs.Prelude.{◌≡◌, length};
+    ghost use Rattle.std.specs.List.{AllByRecursion};
+    ghost use Rattle.mr_task.specs.Mapped.{Mapped};
 
-    ghost Value = { List (List (List Triple)) };
+    ghost Value = { Mapped };
 
-    ghost view = { λ o. lists_of o.regions.items };
+    ghost view = { λ o. record { parts = o.parts; runs = o.runs.items } };
+
+    ghost invariant = { λ o. AllByRecursion (λ r. length r.regions ≡ o.parts) o.runs.items };
 }
 
 impl MapOutput {
-    /// How many partitions there are.
-    pub fn parts(&self) -> usize
-        ensures { result ≡ length self.now }
+    /// No runs, of so many partitions. It takes no memory.
+    pub(crate) fn new(alloc: Global, parts: u32) -> MapOutput
+        ensures { result ≡ record { parts = parts; runs = [] } }
     {
-        self.regions.len()
+        MapOutput {
+            parts,
+            runs: Vec::new(alloc),
+        }
     }
 
-    /// The regions of partition `p`, from 0.
-    pub fn regions(&self, p: u32) -> &[Pairs]
-        requires { p < length self.now }
-        ensures { result.now ≡ slice_index_or self.now p [] }
+    /// Appends a run.
+    pub(crate) fn push(&mut self, run: SealedRun) -> Result<(), AllocError>
+        requires each { length run.regions ≡ self.old.parts }
+        ensures { OnOk result (self.new ≡ record { parts = self.old.parts; runs = self.old.runs ++ run ∷ [] }) }
     {
-        &self.regions[p as usize]
+        self.runs.push(run)?;
+        Ok(())
+    }
+
+    /// How many partitions there are.
+    pub fn parts(&self) -> u32
+        ensures { result ≡ self.now.parts }
+    {
+        self.parts
+    }
+
+    /// How many runs there are.
+    pub fn runs(&self) -> usize
+        ensures { result ≡ length self.now.runs }
+    {
+        self.runs.len()
+    }
+
+    /// The region that run `i` has for partition `p`, both from 0.
+    pub fn region(&self, p: u32, i: usize) -> Region<'_>
+        requires partition { p < self.now.parts }
+        requires run { i < length self.now.runs }
+        ensures { result ≡ region_of p (nth_run self.now.runs i) }
+    {
+        self.runs[i].region(p as usize)
     }
 }
 
@@ -114,15 +145,19 @@ fn flipped_bit(byte: u8) -> u8
 }
 
 impl ReduceOutput {
-    /// No text and no groups. It takes no memory.
-    pub(crate) fn new(alloc: Global) -> ReduceOutput
-        ensures { result ≡ record { output = []; groups = [] } }
+    /// No text and no groups, with room for so many groups and names.
+    pub(crate) fn with_room(
+        alloc: Global,
+        groups: usize,
+        names: usize,
+    ) -> Result<ReduceOutput, AllocError>
+        ensures { IfOk result (λ o. o ≡ record { output = []; groups = [] }) }
     {
-        ReduceOutput {
+        Ok(ReduceOutput {
             text: Vec::new(alloc),
-            counts: Vec::new(alloc),
-            names: Vec::new(alloc),
-        }
+            counts: Vec::with_capacity(alloc, groups)?,
+            names: Vec::with_capacity(alloc, names)?,
+        })
     }
 
     /// Appends a group: its text, and the names of its pairs. The column of values is one for all groups.

@@ -1,15 +1,18 @@
 //! Reduce tasks.
-ghost use Rattle.std.specs.Prelude.{◌≡◌, ◌≤◌, ◌<◌, ◌^◌, [], All, IfErr, IfOk, OnOk, length};
-ghost use Rattle.mr_merge.specs.Merged.{joined, values_of};
+ghost use Rattle.std.specs.Prelude.{◌≡◌, ◌≤◌, ◌<◌, ◌^◌, [], List, All, IfErr, IfOk, MatchOption, OnOk, length};
+ghost use Rattle.mr_bytes.specs.Pairs.{Triple};
+ghost use Rattle.mr_merge.specs.Bytes.{AreSpelled};
+ghost use Rattle.mr_merge.specs.Merged.{joined};
 ghost use Rattle.mr_reduce.specs.Text.{text_of};
+ghost use Rattle.mr_spill.specs.Spelling.{SpellsRegion};
 ghost use Rattle.mr_task.specs.Values.{CanMerge, IsReduced, reduced};
 
 use crate::fault::TaskFault;
 use crate::output::ReduceOutput;
 use mr_bytes::Values;
 use mr_jobs::Job;
-use mr_merge::{Groups, merge};
-use mr_spill::Pairs;
+use mr_merge::{Groups, merge_regions};
+use mr_spill::{Region, open_region};
 use std::alloc::{AllocError, Global};
 
 /// The most pairs that a reduce task takes: an input within its limits emits no more.
@@ -20,20 +23,36 @@ const _: () = prove!(MAX_PAIRS == 1073741824);
 
 ghost use Rattle.mr_task.specs.declared.fault.TaskFault.TheVariants.{RegionDamaged};
 
-/// Refuses more pairs than a reduce task takes.
-fn check_count(regions: &[&Pairs]) -> Result<(), TaskFault>
-    ensures few { OnOk result (length (joined (values_of regions.now)) ≤ 1073741824) }
-    ensures many { IfErr result (λ e. (e ≡ RegionDamaged) × (1073741824 < length (joined (values_of regions.now)))) }
+/// How many pairs a region of the partition has by its header; `None` where the bytes don't begin as one.
+fn count_in(region: &Region<'_>, partition: u32) -> Option<usize>
+    ensures { MatchOption result ((ts : List Triple) → SpellsRegion region.now.bytes region.now.split partition ts → ⊥)
+        (λ n. (ts : List Triple) → SpellsRegion region.now.bytes region.now.split partition ts → n ≡ length ts) }
 {
-    let mut room = MAX_PAIRS;
+    let Some(cursor) = open_region(region.bytes(), region.split(), partition) else {
+        return None;
+    };
+    Some(cursor.left() as usize)
+}
+
+/// How many pairs the regions have together. More than a reduce task takes are refused, and so are bytes that don't begin
+/// as regions of the partition.
+fn count_all(regions: &[Region<'_>], partition: u32) -> Result<usize, TaskFault>
+    ensures count { IfOk result (λ n. (values : List (List Triple)) → AreSpelled partition regions.now values → n ≡ length (joined values)) }
+    ensures few { IfOk result (λ n. n ≤ 1073741824) }
+    ensures many { IfErr result (λ e. (e ≡ RegionDamaged)
+        × ((values : List (List Triple)) → AreSpelled partition regions.now values → 1073741824 < length (joined values))) }
+{
+    let mut total = 0;
     for region in regions {
-        let count = region.len();
-        if room < count {
+        let Some(count) = count_in(region, partition) else {
+            return Err(TaskFault::RegionDamaged);
+        };
+        if MAX_PAIRS - total < count {
             return Err(TaskFault::RegionDamaged);
         }
-        room -= count;
+        total += count;
     }
-    Ok(())
+    Ok(total)
 }
 
 /// Appends all groups, in their order.
@@ -55,21 +74,22 @@ fn push_groups(
     Ok(())
 }
 
-/// What a job makes of the pairs that the map tasks have for a partition, in whatever lists they are: for each key, in
-/// order, the text of the list of all its values, and the names of its pairs. Regions that are not in order, in which a
-/// name stands twice, or that have more than 1,073,741,824 pairs together, are `RegionDamaged`.
+/// What a job makes of the pairs that the map tasks have for a partition, in whatever regions they are: for each key, in
+/// order, the text of the list of all its values, and the names of its pairs. Bytes that are no region of the partition and
+/// of the split that they are told to be of, regions in which a name stands twice, and such that have more than
+/// 1,073,741,824 pairs together, are `RegionDamaged`.
 pub fn reduce_task(
     alloc: Global,
     job: &Job,
     partition: u32,
-    regions: &[&Pairs],
+    regions: &[Region<'_>],
 ) -> Result<ReduceOutput, TaskFault>
-    ensures reduced { IfOk result (IsReduced (text_of job.now) partition (values_of regions.now)) }
-    ensures damaged { IfErr result (λ e. e ≡ RegionDamaged → CanMerge partition (values_of regions.now) → ⊥) }
+    ensures reduced { IfOk result (IsReduced (text_of job.now) partition regions.now) }
+    ensures damaged { IfErr result (λ e. e ≡ RegionDamaged → CanMerge partition regions.now → ⊥) }
 {
-    check_count(regions)?;
-    let groups = merge(alloc, regions)?;
-    let mut output = ReduceOutput::new(alloc);
+    let count = count_all(regions, partition)?;
+    let groups = merge_regions(alloc, regions, partition)?;
+    let mut output = ReduceOutput::with_room(alloc, groups.len(), count)?;
     push_groups(alloc, job, &groups, &mut output)?;
     Ok(output)
 }

@@ -2,7 +2,7 @@
 use mr_bytes::{Name, Value};
 use mr_input::Input;
 use mr_jobs::Job;
-use mr_spill::Pairs;
+use mr_spill::{Pairs, Region, read_region};
 use mr_splits::Plan;
 use mr_task::{MapOutput, ReduceOutput, TaskFault, map_task, map_task_with, reduce_task};
 use std::alloc::{AllocError, Global};
@@ -29,6 +29,11 @@ fn mapped_by_two(alloc: Global, plan: &Plan<'_>, job: &Job) -> Option<MapOutput>
         return None;
     }
     map_task_with(alloc, plan, job, 1, 0, &[], 2).ok()
+}
+
+/// The pairs that a region of partition 0 spells.
+fn pairs_of(alloc: Global, region: &Region<'_>) -> Option<Pairs> {
+    read_region(alloc, region.bytes(), region.split(), 0).ok()
 }
 
 /// Whether pair `i` of the region has this key, and this place in record 0 of split 0.
@@ -62,18 +67,19 @@ fn one_run(rt: HostRuntime) -> Result<(), Fail> {
     let plan = Plan::of(alloc, &input, 64)?;
     let job = Job::words(false);
     let output = mapped(alloc, &plan, &job, &[]).expect(&rt, "memory");
-    assert!(rt; output.parts() == 1);
-    let regions = output.regions(0);
-    assert!(rt; regions.len() == 1);
-    let region = &regions[0];
-    assert!(rt; region.len() == 3);
+    assert!(rt; output.parts() == 1 && output.runs() == 1);
+    let region = output.region(0, 0);
+    assert!(rt; region.split() == 0 && region.bytes().len() == 74);
+    let pairs = pairs_of(alloc, &region).expect(&rt, "a region");
+    assert!(rt; pairs.len() == 3);
     assert!(rt;
-        is_pair(region, 0, b"a", 1) && is_pair(region, 1, b"b", 0) && is_pair(region, 2, b"b", 2)
+        is_pair(&pairs, 0, b"a", 1) && is_pair(&pairs, 1, b"b", 0) && is_pair(&pairs, 2, b"b", 2)
     );
     let reduced = reduce_task(alloc, &job, 0, &[region]).expect(&rt, "sound");
     assert!(rt; is_counted(&reduced));
-    let twice = reduce_task(alloc, &job, 0, &[region, region]).err();
-    assert!(rt; twice == Some(TaskFault::RegionDamaged));
+    let twice = [output.region(0, 0), output.region(0, 0)];
+    let fault = reduce_task(alloc, &job, 0, &twice).err();
+    assert!(rt; fault == Some(TaskFault::RegionDamaged));
     Ok(())
 }
 
@@ -84,13 +90,14 @@ fn two_runs(rt: HostRuntime) -> Result<(), Fail> {
     let plan = Plan::of(alloc, &input, 64)?;
     let job = Job::words(false);
     let output = mapped_by_two(alloc, &plan, &job).expect(&rt, "memory");
-    assert!(rt; output.parts() == 1);
-    let regions = output.regions(0);
-    assert!(rt; regions.len() == 2);
-    let first = &regions[0];
-    let second = &regions[1];
-    assert!(rt; first.len() == 2 && is_pair(first, 0, b"a", 1) && is_pair(first, 1, b"b", 0));
-    assert!(rt; second.len() == 1 && is_pair(second, 0, b"b", 2));
+    assert!(rt; output.parts() == 1 && output.runs() == 2);
+    let first = output.region(0, 0);
+    let second = output.region(0, 1);
+    assert!(rt; first.bytes().len() == 56 && second.bytes().len() == 38);
+    let pairs = pairs_of(alloc, &first).expect(&rt, "a region");
+    assert!(rt; pairs.len() == 2 && is_pair(&pairs, 0, b"a", 1) && is_pair(&pairs, 1, b"b", 0));
+    let pairs = pairs_of(alloc, &second).expect(&rt, "a region");
+    assert!(rt; pairs.len() == 1 && is_pair(&pairs, 0, b"b", 2));
     let reduced = reduce_task(alloc, &job, 0, &[second, first]).expect(&rt, "sound");
     assert!(rt; is_counted(&reduced));
     Ok(())
@@ -103,8 +110,7 @@ fn nothing_to_reduce(rt: HostRuntime) -> Result<(), Fail> {
     let plan = Plan::of(alloc, &input, 64)?;
     let job = Job::words(false);
     let output = mapped(alloc, &plan, &job, &[3, 0]).expect(&rt, "memory");
-    assert!(rt; output.parts() == 1);
-    assert!(rt; output.regions(0).len() == 0);
+    assert!(rt; output.parts() == 1 && output.runs() == 0);
     let reduced = reduce_task(alloc, &job, 0, &[]).expect(&rt, "sound");
     assert!(rt; reduced.text().is_empty() && reduced.groups().next().is_none());
     Ok(())
@@ -117,10 +123,13 @@ fn lines_with_a_literal(rt: HostRuntime) -> Result<(), Fail> {
     let plan = Plan::of(alloc, &input, 64)?;
     let job = Job::grep(alloc, b"b", false)?;
     let output = mapped(alloc, &plan, &job, &[]).expect(&rt, "memory");
-    assert!(rt; output.parts() == 1);
-    let regions = output.regions(0);
-    assert!(rt; regions.len() == 1);
-    let reduced = reduce_task(alloc, &job, 0, &[&regions[0]]).expect(&rt, "sound");
+    assert!(rt; output.parts() == 1 && output.runs() == 1);
+    let region = output.region(0, 0);
+    let (_, cut) = region.bytes().split_first().expect(&rt, "a byte");
+    let damaged = Region::of(cut, 0);
+    let fault = reduce_task(alloc, &job, 0, &[damaged]).err();
+    assert!(rt; fault == Some(TaskFault::RegionDamaged));
+    let reduced = reduce_task(alloc, &job, 0, &[region]).expect(&rt, "sound");
     let mut groups = reduced.groups();
     let first = groups.next().expect(&rt, "a group");
     assert!(rt; first.len() == 2 && first[0].rec == 0 && first[1].rec == 2);

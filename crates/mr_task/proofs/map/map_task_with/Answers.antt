@@ -15,8 +15,10 @@ use Rattle.mr_splits.specs.Cut.{nth_named, records_of}
 use Rattle.mr_splits.specs.Named.{NamedRecord, of_split}
 use Rattle.mr_spill.specs.Column.{names_of}
 use Rattle.mr_task.specs.declared.runs.Runs.{Runs}
-use Rattle.mr_task.specs.Runs.{HasTaken, Takes, record_gives}
-use Rattle.mr_task.specs.Values.{IsCutOf, emitted_in, has_number}
+use Rattle.mr_merge.specs.Merged.{joined}
+use Rattle.mr_task.specs.Mapped.{IsMapped}
+use Rattle.mr_task.specs.Runs.{AreOf, HasTaken, Takes, record_gives}
+use Rattle.mr_task.specs.Values.{emitted_in, has_number}
 use Rattle.mr_task.proofs.SourceLemmas.{emitted-gives, gives-kept, gives-more, gives-nothing, record-rises, task-rises}
 use Rattle.mr_task.proofs.map.map_task_with.Goals.{then-not-has+in_ok-take_record, else-not-has}
 use Rattle.mr_task.proofs.map.map_task_with.Goals as goal
@@ -50,22 +52,24 @@ take_record-requires-clause-rise c =
     subst (λ (l : List Triple). Rises name_order (names_of (c.loop-rec.runs.buffer.pairs ++ l)))
     (gives-kept c.args.job.now skips (nth_named rs i) is c.located-line.ensures.record kept
     ∙ ap (λ (m : Source). placed_from is.name 0 (emissions m.job line.file line.start line.bytes.now)) (sym c.loop-rec.invariant.mapper))
-    (record-rises (record_gives c.args.job.now skips) rs i no_record taken.sealed c.loop-rec.runs.buffer.pairs within taken.all
+    (record-rises (record_gives c.args.job.now skips) rs i no_record (joined taken.sealed) c.loop-rec.runs.buffer.pairs within taken.all
     (task-rises c.args.job.now c.args.plan.now.size c.args.plan.now.files c.args.split skips (omega (arith, c.size-size.ensures.same, c.size-size.ensures.within.0))))
 
 -- what the loop knows after some records
-abbrev IsSoFar : ℕ → Source → List Triple → Runs → Source → Type 0
-IsSoFar n source pairs r m =
-    record { parts : r.parts ≡ n; lists : length r.lists.items ≡ n; mapper : m ≡ source; taken : HasTaken pairs r }
+abbrev IsSoFar : ℕ → ℕ → Source → List Triple → Runs → Source → Type 0
+IsSoFar s n source pairs r m =
+    record { parts : r.sealed.parts ≡ n; split : r.split ≡ s; own : AreOf r.split r.buffer.pairs; mapper : m ≡ source; taken : HasTaken pairs r }
 
-kept-step : (parts : ℕ) (source : Source) (all so_far more : List Triple) (old new now : Runs) (m m_new m_now : Source) → now ≡ new → m_now ≡ m_new → m_new ≡ m
-    → all ≡ so_far ++ more → IsSoFar parts source so_far old m
-    → record { parts : new.parts ≡ old.parts; lists : length new.lists.items ≡ old.parts; taken : Takes more old new } → IsSoFar parts source all now m_now
-kept-step parts source all so_far more old new now m m_new m_now is m_is same e before step =
-    subst (λ (r : Runs). IsSoFar parts source all r m_now) (sym is)
+kept-step : (split parts : ℕ) (source : Source) (all so_far more : List Triple) (old new now : Runs) (m m_new m_now : Source) → now ≡ new → m_now ≡ m_new → m_new ≡ m
+    → all ≡ so_far ++ more → IsSoFar split parts source so_far old m
+    → record { parts : new.sealed.parts ≡ old.sealed.parts; split : new.split ≡ old.split; own : AreOf new.split new.buffer.pairs; taken : Takes more old new }
+    → IsSoFar split parts source all now m_now
+kept-step split parts source all so_far more old new now m m_new m_now is m_is same e before step =
+    subst (λ (r : Runs). IsSoFar split parts source all r m_now) (sym is)
     (record {
       parts = step.parts ∙ before.parts;
-      lists = step.lists ∙ before.parts;
+      split = step.split ∙ before.split;
+      own = step.own;
       mapper = m_is ∙ same ∙ before.mapper;
       taken = subst (λ (l : List Triple). HasTaken l new) (sym e) (step.taken so_far before.taken);
     })
@@ -89,17 +93,17 @@ loop-rec-preserved c =
           let gave : gives (nth_named rs i) ≡ placed_from is.name 0 (emissions c.loop-rec.mapper.job line.file line.start line.bytes.now) =
           gives-kept c.args.job.now skips (nth_named rs i) is c.located-line.ensures.record kept
           ∙ ap (λ (m : Source). placed_from is.name 0 (emissions m.job line.file line.start line.bytes.now)) (sym c.loop-rec.invariant.mapper) in
-          kept-step c.args.parts source (flat_map gives (take (i + 1) rs)) so_far (placed_from is.name 0 (emissions c.loop-rec.mapper.job line.file line.start line.bytes.now))
+          kept-step c.args.split c.args.parts source (flat_map gives (take (i + 1) rs)) so_far (placed_from is.name 0 (emissions c.loop-rec.mapper.job line.file line.start line.bytes.now))
           c.loop-rec.runs w.take_record.new.self c.if-not-has.runs c.loop-rec.mapper w.take_record.new.mapper c.if-not-has.mapper
           w.runs-is w.mapper-is w.take_record.ensures.same (more ∙ ap (λ (l : List Triple). so_far ++ l) gave)
-          c.loop-rec.invariant (let step = w.in_ok-take_record.ensures in record { parts = step.parts; lists = step.lists; taken = step.taken })
+          c.loop-rec.invariant (let step = w.in_ok-take_record.ensures in record { parts = step.parts; split = step.split; own = step.own; taken = step.taken })
       | else-not-has w ↦
           let out : has_number skips i ≡ true = sym has ∙ w.if-not-has.false in
           let nothing : flat_map gives (take (i + 1) rs) ≡ so_far =
           more ∙ ap (λ (l : List Triple). so_far ++ l) (gives-nothing c.args.job.now skips (nth_named rs i) is c.located-line.ensures.record out) ∙ append-nil so_far in
-          subst (λ (r : Runs). IsSoFar c.args.parts source (flat_map gives (take (i + 1) rs)) r c.if-not-has.mapper) (sym w.runs-is)
-          (subst (λ (m : Source). IsSoFar c.args.parts source (flat_map gives (take (i + 1) rs)) c.loop-rec.runs m) (sym w.mapper-is)
-          (subst (λ (l : List Triple). IsSoFar c.args.parts source l c.loop-rec.runs c.loop-rec.mapper) (sym nothing) c.loop-rec.invariant))
+          subst (λ (r : Runs). IsSoFar c.args.split c.args.parts source (flat_map gives (take (i + 1) rs)) r c.if-not-has.mapper) (sym w.runs-is)
+          (subst (λ (m : Source). IsSoFar c.args.split c.args.parts source (flat_map gives (take (i + 1) rs)) c.loop-rec.runs m) (sym w.mapper-is)
+          (subst (λ (l : List Triple). IsSoFar c.args.split c.args.parts source l c.loop-rec.runs c.loop-rec.mapper) (sym nothing) c.loop-rec.invariant))
     ]
 
 pub returns : goal.returns
@@ -113,8 +117,8 @@ returns c =
     let taken : HasTaken (flat_map gives rs) c.loop-rec.runs = subst (λ (l : List Triple). HasTaken l c.loop-rec.runs) all c.loop-rec.invariant.taken in
     let gave = emitted-gives c.args.job.now c.args.plan.now.size c.args.plan.now.files c.args.split skips in
     IfOk-weaker c.finish.result
-    (λ out. (pairs : List Triple) → HasTaken pairs c.loop-rec.runs → IsCutOf (λ k. partition_of k c.loop-rec.runs.parts) c.loop-rec.runs.parts pairs out)
-    (λ out. IsCutOf (λ k. partition_of k c.args.parts) c.args.parts (emitted_in (emitted c.args.job.now c.args.plan.now.size c.args.plan.now.files []) c.args.split skips) out)
-    (λ out f. subst (λ (n : ℕ). IsCutOf (λ k. partition_of k n) n (emitted_in (emitted c.args.job.now c.args.plan.now.size c.args.plan.now.files []) c.args.split skips) out) c.loop-rec.invariant.parts
-    (subst (λ (l : List Triple). IsCutOf (λ k. partition_of k c.loop-rec.runs.parts) c.loop-rec.runs.parts l out) (sym gave) (f (flat_map gives rs) taken)))
+    (λ out. (pairs : List Triple) → HasTaken pairs c.loop-rec.runs → IsMapped (λ k. partition_of k c.loop-rec.runs.sealed.parts) c.loop-rec.runs.sealed.parts pairs out)
+    (λ out. IsMapped (λ k. partition_of k c.args.parts) c.args.parts (emitted_in (emitted c.args.job.now c.args.plan.now.size c.args.plan.now.files []) c.args.split skips) out)
+    (λ out f. subst (λ (n : ℕ). IsMapped (λ k. partition_of k n) n (emitted_in (emitted c.args.job.now c.args.plan.now.size c.args.plan.now.files []) c.args.split skips) out) c.loop-rec.invariant.parts
+    (subst (λ (l : List Triple). IsMapped (λ k. partition_of k c.loop-rec.runs.sealed.parts) c.loop-rec.runs.sealed.parts l out) (sym gave) (f (flat_map gives rs) taken)))
     c.finish.ensures

@@ -16,8 +16,8 @@ loop-partition-preserved g c =
     let count : length vs ≡ b.shape.parts =
     subst (λ (v : CoreView). length (committed_values (reduced_under b.reduces) v.state) ≡ v.shape.parts) c.core.ensures.core
     (parts_count k.shape b.history k.state b.reduces c.limits-limits.ensures.within.parts.0 c.limits-limits.ensures.within.attempts.0 c.core.ensures.run.0) in
-    let within : c.loop-partition.partition < length vs = omega (arith, c.loop-partition-test.true, ap (λ (s : Shape). s.parts) c.shape-partition-end.ensures.shape, count) in
-    c.in_ok-gathering.ensures
+    let within : c.loop-partition.partition < length vs = omega (arith, c.loop-partition-test.true, ap (λ (s : Shape). s.parts) c.shape-parts.ensures.shape, count) in
+    c.in_ok-gathering-2.ensures
     ∙ gathering_more vs c.loop-partition.partition c.loop-partition.gathering c.committed.result.now within c.loop-partition.invariant c.committed.ensures
 
 pub returns : goal.returns
@@ -28,5 +28,5 @@ returns g c =
     let count : length vs ≡ b.shape.parts =
     subst (λ (v : CoreView). length (committed_values (reduced_under b.reduces) v.state) ≡ v.shape.parts) c.core.ensures.core
     (parts_count k.shape b.history k.state b.reduces c.limits-limits.ensures.within.parts.0 c.limits-limits.ensures.within.attempts.0 c.core.ensures.run.0) in
-    let all : length vs ≤ c.loop-partition.partition = omega (arith, c.loop-partition-test.false, ap (λ (s : Shape). s.parts) c.shape-partition-end.ensures.shape, count) in
+    let all : length vs ≤ c.loop-partition.partition = omega (arith, c.loop-partition-test.false, ap (λ (s : Shape). s.parts) c.shape-parts.ensures.shape, count) in
     c.loop-partition.invariant ∙ ap gathering_of (take_all c.loop-partition.partition vs all)

@@ -34,7 +34,8 @@ left name place ts now later key value e is = e ∙ ap (placed_from name place) 
 pub loop-key-init : goal.loop-key-init
 loop-key-init c = record {
   parts = refl;
-  lists = c.requires.lists;
+  split = refl;
+  own = c.requires.own;
   count = omega (arith, ap length c.emit-emitter.ensures.emissions);
   left = ap (placed_from c.args.number 0) (sym c.emit-emitter.ensures.emissions);
   rise = c.requires.rise;
@@ -68,7 +69,8 @@ loop-key-preserved c =
     let later : drop (place + 1) ts ≡ rest = next-left ts place t rest is in
     record {
       parts = c.in_ok-push.ensures.parts ∙ c.loop-key.invariant.parts;
-      lists = c.in_ok-push.ensures.lists ∙ c.loop-key.invariant.parts;
+      split = c.in_ok-push.ensures.split ∙ c.loop-key.invariant.split;
+      own = c.in_ok-push.ensures.own;
       count = omega (arith, c.loop-key.invariant.count, ap length c.in-Some.ensures.next);
       left = later;
       rise = subst (λ (l : List Triple). Rises name_order (names_of (c.push.new.self.buffer.pairs ++ l))) (sym later)

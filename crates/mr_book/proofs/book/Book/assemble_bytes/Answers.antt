@@ -1,0 +1,38 @@
+use Rattle.std.proofs.Common.{ℕ, List, length, map, ap, sym, ◌∙◌, subst, arith}
+use Rattle.std.proofs.lemmas.List.{length-map}
+use Rattle.mr_certform.specs.Value.{Spells}
+use Rattle.mr_core.specs.Core.{CoreView, InLimits}
+use Rattle.mr_task.specs.Values.{Reduced}
+use Rattle.mr_assembled.specs.Assembled.{committed_values, records_from}
+use Rattle.mr_assembled.proofs.Done.{done_sets_are_fixed}
+use Rattle.mr_book.specs.Assembling.{reduced_under, sets_of}
+use Rattle.mr_book.proofs.Assemblies.{few_left_out}
+use Rattle.mr_book.proofs.book.Book.assemble_bytes.Goals as goal
+
+pub spelled-requires-clause-files : goal.spelled-requires-clause-files
+spelled-requires-clause-files g c = omega (arith, ap length c.in_ok-header.ensures.lengths, length-map c.args.input.now (λ (f : List ℕ). length f), c.files-files.ensures.count, c.files-files.ensures.few)
+
+pub spelled-requires-clause-skips : goal.spelled-requires-clause-skips
+spelled-requires-clause-skips g c =
+    let b = c.args.self.now in
+    let k = c.core.result.now in
+    let few = few_left_out k.shape b.history k.state c.core.ensures.run.1.skips c.limits-limits.ensures.within.skips in
+    omega (arith, few, ap length c.in_ok-header.ensures.skips, ap length c.as_slice.ensures.value, ap length c.in_ok-skips.ensures, ap (λ (v : CoreView). length (records_from 0 (sets_of v.state))) c.core.ensures.core)
+
+pub returns-clause-certificate : goal.returns-clause-certificate
+returns-clause-certificate g c =
+    let b = c.args.self.now in
+    let limits : InLimits b.shape = subst (λ (v : CoreView). InLimits v.shape) c.core.ensures.core c.limits-limits.ensures.within in
+    let vs : List Reduced = committed_values (reduced_under b.reduces) b.state in
+    let skips = c.in_ok-header.ensures.skips ∙ c.as_slice.ensures.value ∙ c.in_ok-skips.ensures ∙ sym (done_sets_are_fixed b.shape b.history b.state limits.parts.0 limits.attempts.0 c.shape-shape.ensures.kept.run c.requires.done) in
+    subst (Spells c.in_ok-certificate.certificate.items) (λ i. record {
+      job = c.in_ok-header.ensures.job i;
+      flags = c.in_ok-header.ensures.flags i;
+      literal = c.in_ok-header.ensures.literal i;
+      parts = c.requires.opened.parts i;
+      split_size = c.in_ok-header.ensures.split i;
+      lengths = c.in_ok-header.ensures.lengths i;
+      skips = skips i;
+      groups = map (λ (v : Reduced). v.groups) vs;
+    })
+    c.in_ok-certificate.ensures

@@ -1,0 +1,37 @@
+use Rattle.std.proofs.Common.{◌≡◌, ◌<◌, ◌≤◌, List, [], ◌∷◌, ◌++◌, length, map, ap, ◌∙◌, subst, arith}
+use Rattle.std.proofs.lemmas.List.{map-append, take_all}
+use Rattle.mr_input.specs.Files.{contents}
+use Rattle.mr_core.specs.Core.{CoreView}
+use Rattle.mr_core.specs.declared.event.Shape.{Shape}
+use Rattle.mr_task.specs.Values.{Reduced}
+use Rattle.mr_sequential.specs.Rules.{Text}
+use Rattle.mr_assembled.specs.Assembled.{committed_values}
+use Rattle.mr_book.specs.Assembling.{reduced_under}
+use Rattle.mr_book.proofs.Assemblies.{mapped_more, parts_count}
+use Rattle.mr_book.proofs.book.Book.committed_texts.Goals as goal
+
+pub loop-partition-preserved : goal.loop-partition-preserved
+loop-partition-preserved g c =
+    let b = c.args.self.now in
+    let k = c.core.result.now in
+    let vs : List Reduced = committed_values (reduced_under b.reduces) b.state in
+    let count : length vs ≡ b.shape.parts =
+    subst (λ (v : CoreView). length (committed_values (reduced_under b.reduces) v.state) ≡ v.shape.parts) c.core.ensures.core
+    (parts_count k.shape b.history k.state b.reduces c.limits-limits.ensures.within.parts.0 c.limits-limits.ensures.within.attempts.0 c.core.ensures.run.0) in
+    let within : c.loop-partition.partition < length vs = omega (arith, c.loop-partition-test.true, ap (λ (s : Shape). s.parts) c.shape-parts.ensures.shape, count) in
+    let texts : List Text = contents c.loop-partition.texts.items in
+    ap contents c.in_ok-push.ensures.items
+    ∙ map-append (λ f. f.items) c.loop-partition.texts.items (c.in_ok-from_slice.field-0 ∷ [])
+    ∙ ap (λ (t : Text). texts ++ t ∷ []) (c.in_ok-from_slice.ensures.items ∙ c.text.ensures)
+    ∙ mapped_more (λ (v : Reduced). v.output) vs c.loop-partition.partition texts c.committed-output.result.now within c.loop-partition.invariant c.committed-output.ensures
+
+pub returns : goal.returns
+returns g c =
+    let b = c.args.self.now in
+    let k = c.core.result.now in
+    let vs : List Reduced = committed_values (reduced_under b.reduces) b.state in
+    let count : length vs ≡ b.shape.parts =
+    subst (λ (v : CoreView). length (committed_values (reduced_under b.reduces) v.state) ≡ v.shape.parts) c.core.ensures.core
+    (parts_count k.shape b.history k.state b.reduces c.limits-limits.ensures.within.parts.0 c.limits-limits.ensures.within.attempts.0 c.core.ensures.run.0) in
+    let all : length vs ≤ c.loop-partition.partition = omega (arith, c.loop-partition-test.false, ap (λ (s : Shape). s.parts) c.shape-parts.ensures.shape, count) in
+    c.loop-partition.invariant ∙ ap (map (λ (v : Reduced). v.output)) (take_all c.loop-partition.partition vs all)

@@ -1,0 +1,101 @@
+//! The result of a book whose job is done, spelled from the outputs that it stores.
+ghost use Rattle.std.specs.Prelude.{◌≡◌, ◌<◌, ◌≤◌, ◌^◌, Some, IfOk, length, map};
+ghost use Rattle.mr_input.specs.Files.{contents};
+ghost use Rattle.mr_certform.specs.Value.{Spells};
+ghost use Rattle.mr_core.specs.declared.event.End.{End};
+ghost use Rattle.mr_assembled.specs.Assembled.{assembled_certificate, assembled_outputs, committed_values};
+ghost use Rattle.mr_assembled.specs.Faithful.{IsOpenedFor};
+ghost use Rattle.mr_book.specs.Assembling.{reduced_under};
+
+use crate::book::Book;
+use mr_certform::{Header, size_of_partition, write_front, write_partition};
+use mr_input::Input;
+use mr_jobs::Request;
+use mr_sequential::header_of;
+use std::alloc::{AllocError, Global};
+use std::sync::ledger::Ledger;
+
+impl<L: Ledger> Book<L> {
+    /// The files of all partitions.
+    fn committed_texts(&self, alloc: Global) -> Result<Vec<Vec<u8>>, AllocError>
+        requires { self.now.state.end ≡ Some End.Done }
+        ensures { IfOk result (λ v. contents v.items ≡ assembled_outputs (reduced_under self.now.reduces) self.now.state) }
+    {
+        // That there are as many commits as partitions rests on that.
+        let _limits = self.core().limits();
+        let parts = self.shape().parts;
+        let mut texts = Vec::with_capacity(alloc, parts as usize)?;
+        for partition in 0..parts {
+            let output = self.committed(partition);
+            texts.push(Vec::from_slice(alloc, output.text())?)?;
+        }
+        Ok(texts)
+    }
+
+    /// How many bytes the partitions are spelled in; no more than can be counted.
+    fn size_of_groups(&self) -> usize
+        requires { self.now.state.end ≡ Some End.Done }
+    {
+        let mut size = 0usize;
+        for partition in 0..self.shape().parts {
+            let (counts, names) = self.committed(partition).flat_groups();
+            size = size.saturating_add(size_of_partition(counts.len(), names.len()));
+        }
+        size
+    }
+
+    /// The bytes of the certificate that begins so.
+    fn spelled(&self, alloc: Global, header: Header) -> Result<Vec<u8>, AllocError>
+        requires done { self.now.state.end ≡ Some End.Done }
+        requires literal { length header.literal.items ≤ 4096 }
+        requires files { length header.lengths.items ≤ 1024 }
+        requires skips { length header.skips.items < 2 ^ 32 }
+        ensures { IfOk result (λ v. Spells v.items (record {
+          job = header.job;
+          flags = header.flags;
+          literal = header.literal.items;
+          parts = self.now.shape.parts;
+          split_size = header.split_size;
+          lengths = header.lengths.items;
+          skips = header.skips.items;
+          groups = map (λ v. v.groups) (committed_values (reduced_under self.now.reduces) self.now.state);
+        })) }
+    {
+        // As above.
+        let _limits = self.core().limits();
+        let parts = self.shape().parts;
+        let room = self.size_of_groups();
+        let mut out = write_front(alloc, header, parts, room)?;
+        for partition in 0..parts {
+            let (counts, names) = self.committed(partition).flat_groups();
+            write_partition(&mut out, counts, names)?;
+        }
+        Ok(out)
+    }
+
+    /// The files of a job that is done, and the bytes of its certificate: what `assemble` gives, spelled. Each name is
+    /// spelled from where it is stored, and no list of all names is made.
+    pub fn assemble_bytes(
+        &self,
+        alloc: Global,
+        request: &Request,
+        input: &Input,
+    ) -> Result<(Vec<Vec<u8>>, Vec<u8>), AllocError>
+        requires done { self.now.state.end ≡ Some End.Done }
+        requires opened { IsOpenedFor request.now input.now self.now.shape }
+        ensures outputs { IfOk result (λ r. contents r.0.items ≡ assembled_outputs (reduced_under self.now.reduces) self.now.state) }
+        ensures certificate { IfOk result
+            (λ r. Spells r.1.items (assembled_certificate request.now input.now (reduced_under self.now.reduces) self.now.state)) }
+    {
+        // Book and input are within their limits, and the book keeps a run: that there is a certificate of them rests on
+        // that.
+        let _limits = self.core().limits();
+        let _shape = self.shape();
+        let _files = input.files();
+        let skips = self.records_left_out(alloc)?;
+        let header = header_of(alloc, request, input, skips.as_slice())?;
+        let texts = self.committed_texts(alloc)?;
+        let certificate = self.spelled(alloc, header)?;
+        Ok((texts, certificate))
+    }
+}
