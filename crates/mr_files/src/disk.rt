@@ -13,6 +13,7 @@ use std::cell::Cell;
 use std::fs::{self, File};
 use std::io::{self, ErrorKind, Write};
 use std::mem;
+use std::os::unix::fs::MetadataExt;
 use std::rt::Files;
 
 /// A file from before its first use to behind its last. Taken out, it is closed where it isn't put back.
@@ -188,6 +189,14 @@ fn is_stream<R: Files>(rt: &R, name: &str) -> bool {
     }
 }
 
+/// Whether the system has one file, or one folder, under both names.
+fn are_one_file<R: Files>(rt: &R, name: &str, other: &str) -> bool {
+    match (fs::metadata(rt, name), fs::metadata(rt, other)) {
+        (Ok(one), Ok(two)) => one.dev() == two.dev() && one.ino() == two.ino(),
+        _ => false,
+    }
+}
+
 impl<'a, R: Files> Store for DiskFiles<'a, R> {
     type Reader = FileReader<'a, R>;
 
@@ -198,6 +207,12 @@ impl<'a, R: Files> Store for DiskFiles<'a, R> {
     ghost unreadable = { λ _ _. ⊤ };
 
     ghost unwritable = { λ _ _. ⊤ };
+
+    ghost alike = { λ _ _ _. ⊤ };
+
+    fn is_same_folder(&self, name: &str, other: &str) -> bool {
+        name == other || are_one_file(self.rt, name, other)
+    }
 
     fn try_open(&self, name: &str) -> Result<(), ReadFault> {
         if is_stream(self.rt, name) {

@@ -101,6 +101,12 @@ impl Store for MemoryFiles {
 
     ghost unwritable = { λ m name. IsUnwritable m.entries.items name };
 
+    ghost alike = { λ _ name other. name ≡ other };
+
+    fn is_same_folder(&self, name: &str, other: &str) -> bool {
+        name == other
+    }
+
     fn try_open(&self, name: &str) -> Result<(), ReadFault> {
         match bytes_of(&self.entries, name) {
             Some(_) => Ok(()),

@@ -1,5 +1,5 @@
 //! What a store of files is: files by their names, each read and written by a counted reader and writer.
-ghost use Rattle.std.specs.Prelude.{◌≡◌, ◌⊎◌, ℕ, Some, List, [], OnOk, IfOk};
+ghost use Rattle.std.specs.Prelude.{◌≡◌, ◌≢◌, ◌⊎◌, ℕ, Some, List, [], OnOk, IfOk, false, true};
 ghost use Rattle.mr_files.specs.Holding.{Agrees, ChangesOnly, Shrinks};
 ghost use Rattle.mr_store.specs.Devices.{Seen};
 
@@ -38,6 +38,14 @@ pub trait Store {
     ghost unreadable: { Self → List ℕ → Type 0 };
 
     ghost unwritable: { Self → List ℕ → Type 0 };
+
+    // Two names may lead to one folder.
+    ghost alike: { Self → List ℕ → List ℕ → Type 0 };
+
+    /// Whether two names lead to one folder, as far as it can be told; a name leads where it leads itself.
+    fn is_same_folder(&self, name: &str, other: &str) -> bool
+        ensures same { result ≡ true → alike self.now name.now other.now }
+        ensures apart { result ≡ false → name.now ≢ other.now };
 
     /// Whether the file can be opened; it is closed again.
     fn try_open(&self, name: &str) -> Result<(), ReadFault>
