@@ -22,4 +22,4 @@ pub use crate::reading::{read_file, read_files};
 pub use crate::result::{ResultReaders, result_readers};
 pub use crate::store::{FileFault, Store, WriteFault};
 pub use crate::within::{WithinFault, read_file_within, read_files_within, read_result_within};
-pub use crate::writing::{write_files, write_merged, write_named};
+pub use crate::writing::{write_files, write_named};

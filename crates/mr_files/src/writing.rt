@@ -3,9 +3,9 @@ ghost use Rattle.std.specs.Prelude.{◌≡◌, ◌∷◌, [], ◌++◌, ℕ, Lis
 ghost use Rattle.mr_files.specs.Refusals.{IsUnwritten, IsWriteRefusal};
 ghost use Rattle.mr_input.specs.Files.{contents};
 ghost use Rattle.mr_files.specs.Holding.{Begins, Holding, ChangesOnly, ChangesAmong};
-ghost use Rattle.mr_files.specs.Names.{part_names, name_of_part, name_of_certificate, name_of_verdict, merged_names, result_names};
+ghost use Rattle.mr_files.specs.Names.{part_names, name_of_part, name_of_certificate, result_names};
 
-use crate::names::{certificate_name, part_name, verdict_name};
+use crate::names::{certificate_name, part_name};
 use crate::store::{FileFault, Store, WriteFault};
 use mr_store::{CountedWrite, Device, write_whole};
 use std::alloc::Global;
@@ -123,38 +123,4 @@ pub fn write_files<S: Store>(
 {
     write_parts(store, alloc, dir, outputs)?;
     write_certificate(store, alloc, dir, certificate)
-}
-
-fn write_verdict<S: Store>(
-    store: &mut S,
-    alloc: Global,
-    dir: &str,
-    bytes: &[u8],
-) -> Result<(), FileFault>
-    ensures whole { OnOk result (S.holds store.new (name_of_verdict dir.now) bytes.now) }
-    ensures begins { Begins (S.holds store.old) (S.holds store.new) (name_of_verdict dir.now) bytes.now }
-    ensures others { ChangesOnly (S.holds store.old) (S.holds store.new) (name_of_verdict dir.now) }
-    ensures refused { IfErr result (λ e. IsUnwritten (S.unwritable store.old) (name_of_verdict dir.now) e) }
-{
-    let name = verdict_name(alloc, dir)?;
-    write_file(store, alloc, name, bytes)
-}
-
-/// Writes the outputs to `part-00000` and so on, in order, and then `verdict`. Behind it they all stand whole, and all
-/// else as before.
-pub fn write_merged<S: Store>(
-    store: &mut S,
-    alloc: Global,
-    dir: &str,
-    outputs: &[Vec<u8>],
-    verdict: &[u8],
-) -> Result<(), FileFault>
-    ensures outputs { OnOk result (Holding (S.holds store.new) (part_names dir.now (length outputs.now)) (contents outputs.now)) }
-    ensures verdict { OnOk result (S.holds store.new (name_of_verdict dir.now) verdict.now) }
-    ensures others { ChangesAmong (S.holds store.old) (S.holds store.new) (merged_names dir.now (length outputs.now)) }
-    ensures refused { IfErr result (λ e. IsWriteRefusal (S.holds store.old) (S.holds store.new) (S.unwritable store.old)
-        (merged_names dir.now (length outputs.now)) (contents outputs.now ++ verdict.now ∷ []) e) }
-{
-    write_parts(store, alloc, dir, outputs)?;
-    write_verdict(store, alloc, dir, verdict)
 }
