@@ -6,7 +6,10 @@ pub mod NoteLemmas
 pub mod RowLemmas
 pub mod TruthLemmas
 pub mod StreamLemmas
+pub mod MadeLemmas
 pub mod AllLemmas
 pub mod ShownLemmas
 pub mod TurnLemmas
 pub mod SettleLemmas
+pub mod RestLemmas
+pub mod ResultLemmas

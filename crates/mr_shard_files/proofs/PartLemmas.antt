@@ -1,14 +1,11 @@
 -- The parts of shards for one partition, one behind another.
 use Rattle.std.proofs.Common.{◌≡◌, ℕ, zero, suc, ◌<◌, ◌≤◌, ◌++◌, inr, List, [], ◌∷◌, length, length-append, get_or, map, refl, ap, sym, ◌∙◌, subst, arith}
 use Rattle.std.proofs.lemmas.List.{get_or-map, length-map, map-append}
-use Rattle.std.specs.Prelude.{Vec}
-use Rattle.std.specs.Global.{Global}
-use Rattle.mr_input.specs.Files.{contents}
 use Rattle.mr_jobs.specs.JobSpec.{JobSpec}
 use Rattle.mr_verdict.specs.Joined.{inputs_of}
 use Rattle.mr_verdict.specs.Verdict.{Told, spelling}
 use Rattle.mr_files.specs.Holding.{Faulty, Holding, Stored}
-use Rattle.mr_files.proofs.Lists.{contents_more, holding_more}
+use Rattle.mr_files.proofs.Lists.{holding_more}
 use Rattle.mr_shard_files.specs.declared.fault.ShardFault.{ShardFault}
 use Rattle.mr_shard_files.specs.Beside.{ArePartitions, IsPartition}
 use Rattle.mr_shard_files.proofs.ListLemmas.{each_more}
@@ -39,11 +36,8 @@ inputs_count (v ∷ vs) zero d less = let e = length-append v.inputs (inputs_of 
 inputs_count (v ∷ vs) (suc i) d less = let e = length-append v.inputs (inputs_of vs) in let rest = inputs_count vs i d (omega (arith, less)) in omega (arith, e, rest)
 
 -- one partition more
-pub partitions_next : (holds : Stored) (job : JobSpec) (names : List (List ℕ)) (vs : List Told) (texts after : List (Vec ℕ Global)) (text : Vec ℕ Global) (n : ℕ) → length texts ≡ n → after ≡ texts ++ text ∷ []
-    → ArePartitions holds job names vs (contents texts) → IsPartition holds job names vs n text.items → ArePartitions holds job names vs (contents after)
-partitions_next holds job names vs texts after text n count more all here =
-    let before : length (contents texts) ≡ n = length-map texts (λ t. t.items) ∙ count in
-    let whole : contents after ≡ contents texts ++ text.items ∷ [] = ap contents more ∙ contents_more texts text in
-    subst (ArePartitions holds job names vs) (sym whole)
-    (λ p less. each_more (λ q t. IsPartition holds job names vs q t) (contents texts) text.items n before (λ q l. all q (omega (arith, l, before))) here p
-    (let e = length-append (contents texts) (text.items ∷ []) in omega (arith, less, e, before)))
+pub partitions_next : (holds : Stored) (job : JobSpec) (names : List (List ℕ)) (vs : List Told) (texts : List (List ℕ)) (text : List ℕ) (n : ℕ) → length texts ≡ n
+    → ArePartitions holds job names vs texts → IsPartition holds job names vs n text → ArePartitions holds job names vs (texts ++ text ∷ [])
+partitions_next holds job names vs texts text n count all here p less =
+    each_more (λ q t. IsPartition holds job names vs q t) texts text n count (λ q l. all q (omega (arith, l, count))) here p
+    (let e = length-append texts (text ∷ []) in omega (arith, less, e, count))

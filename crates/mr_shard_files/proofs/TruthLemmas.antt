@@ -1,20 +1,17 @@
 -- What the joined verdict is worth, whatever request the verdicts are about.
-use Rattle.std.proofs.Common.{◌≡◌, ℕ, ◌<◌, ◌^◌, List, [], ◌∷◌, length, map, refl, ap, sym, ◌∙◌, subst, arith, true, false}
-use Rattle.std.proofs.lemmas.List.{length-map}
-use Rattle.std.specs.Prelude.{Option, Vec}
-use Rattle.std.specs.Global.{Global}
+use Rattle.std.proofs.Common.{◌≡◌, ℕ, ◌<◌, ◌^◌, List, [], ◌∷◌, length, refl, ap, sym, ◌∙◌, subst, arith, true, false}
+use Rattle.std.specs.Prelude.{Option}
 use Rattle.std.specs.List.{AllByRecursion}
-use Rattle.mr_input.specs.Files.{contents}
-use Rattle.mr_files.specs.Holding.{ChangesAmong, Holding, Stored}
-use Rattle.mr_files.specs.Names.{merged_names, name_of_verdict, part_files, part_names}
+use Rattle.mr_files.specs.Holding.{Stored}
+use Rattle.mr_files.specs.Names.{part_files}
 use Rattle.mr_jobs.specs.JobSpec.{JobSpec, LinesWith, RequestSpec, Resources, WordCount, job_flags, job_literal, job_number}
 use Rattle.mr_verdict.specs.Joined.{AreMerged, AreOnce, AreTrueOf, IsJoined, all_files}
 use Rattle.mr_verdict.specs.Truth.{AreNotesOf, Asks, IsTrueOf, notes_for}
-use Rattle.mr_verdict.specs.Verdict.{Note, Told, spelling}
+use Rattle.mr_verdict.specs.Verdict.{Note, Told}
 use Rattle.mr_verdict.proofs.JoinedLaws.{joined_is_true}
 use Rattle.mr_shard_files.specs.Beside.{ArePartitions}
 use Rattle.mr_shard_files.specs.Listing.{IsListed}
-use Rattle.mr_shard_files.specs.Merging.{IsMerged, IsMerging, IsTrueOfAll, with_outputs}
+use Rattle.mr_shard_files.specs.Merging.{ArePartsWritten, IsMerging, IsReady, IsTrueOfAll, with_outputs}
 use Rattle.mr_shard_files.proofs.NoteLemmas.{files_count, notes_of}
 use Rattle.mr_shard_files.proofs.RowLemmas.{rows}
 
@@ -105,18 +102,8 @@ merging holds names list vs r m outputs notes split some names_are count all joi
       true_of = true_of_all r vs (with_outputs m notes) row.parts outputs split some whole noted count row.merged;
     }
 
--- the merged result was written
-pub written : (old new : Stored) (names : List (List ℕ)) (list : Option (List ℕ)) (dir : List ℕ) (vs was_vs : List Told) (m : Told) (outputs was : List (Vec ℕ Global)) (text : List ℕ)
-    → was_vs ≡ vs → was ≡ outputs → text ≡ spelling m → Holding old names (map spelling vs) → IsMerging old names list was_vs m (contents outputs)
-    → Holding new (part_names dir (length was)) (contents was) → new (name_of_verdict dir) text → ChangesAmong old new (merged_names dir (length was)) → IsMerged old new names list dir m
-written old new names list dir vs was_vs m outputs was text v o t held merging parts verdict others =
-    let count : length was ≡ length (contents was) = sym (length-map was (λ f. f.items)) in
-    record {
-      verdicts = was_vs;
-      outputs = contents was;
-      held = subst (λ (l : List Told). Holding old names (map spelling l)) (sym v) held;
-      merging = subst (λ (l : List (Vec ℕ Global)). IsMerging old names list was_vs m (contents l)) (sym o) merging;
-      parts = subst (λ (k : ℕ). Holding new (part_names dir k) (contents was)) count parts;
-      verdict = subst (new (name_of_verdict dir)) t verdict;
-      others = subst (λ (k : ℕ). ChangesAmong old new (merged_names dir k)) count others;
-    }
+-- what is merged of verdicts that can be, where the parts of all partitions were written
+pub merging_ready : (old new : Stored) (names : List (List ℕ)) (list : Option (List ℕ)) (dir : List ℕ) (vs : List Told) (r : RequestSpec) (m : Told) (notes : List Note) → length names ≡ length vs
+    → IsReady old names list dir vs r m → (w : ArePartsWritten old new r names vs dir notes) → IsMerging old names list vs (with_outputs m notes) w.texts
+merging_ready old new names list dir vs r m notes same k w =
+    merging old names list vs r m w.texts notes k.split k.some same w.count w.merged k.joined k.told k.once k.few k.listed w.notes_are

@@ -188,6 +188,19 @@ module _ {R : Type 0} (remaining : R → Option (List ℕ)) (can_fail : R → Ty
   abbrev pub Stands : JobSpec → List ℕ → List (List ℕ) → List (Part R) → Standing → List ℕ → Type 0
   Stands job fs xs qs m out = (rs : List Reading) → AllMayBe fs xs qs rs → IsAfter job rs m × (text_taken job rs ≡ out)
 
+  -- a step that adds to nothing adds the same to any text
+  pub steps_on : (job : JobSpec) (qs : List (Part R)) (cs : List ℕ) (m m' : Standing) (none out before : List ℕ) → none ≡ [] → StepsOver job qs cs m m' none out → StepsOver job qs cs m m' before (before ++ out)
+  steps_on job qs cs m m' none out before is s = record {
+    windows = s.windows;
+    shown = s.shown;
+    within = s.within;
+    adds = record {
+      added = s.adds.added;
+      out_is = ap (λ v. before ++ v) (s.adds.out_is ∙ ap (λ v. v ++ s.adds.added) is);
+      takes = s.adds.takes;
+    };
+  }
+
   -- it stands so behind a turn
   pub turn : (job : JobSpec) (fs : List ℕ) (xs : List (List ℕ)) (bs os ns zs : List (Part R)) (cs : List ℕ) (m m' : Standing) (out out' : List ℕ)
       → AllAre (Moves remaining can_fail) xs bs os → Stands job fs xs os m out → (filled : List (Part R)) → AllAre Fills zs os filled → StepsOver job filled cs m m' out out' → all_done filled ≡ false

@@ -1,10 +1,9 @@
 -- Why shards are not merged, stage by stage: what is told of one verdict, one part or one partition is told of all by its
 -- place.
-use Rattle.std.specs.Prelude.{◌≡◌, ◌≢◌, ◌⊎◌, ℕ, ◌<◌, ◌≤◌, ◌^◌, ⊤, List, [], ◌∷◌, ◌++◌, Option, None, Some, length, map, slice_index_or, string_bytes, take}
+use Rattle.std.specs.Prelude.{◌≡◌, ◌≢◌, ◌⊎◌, ℕ, ◌+◌, ◌<◌, ◌≤◌, ◌^◌, ⊤, List, [], ◌∷◌, Option, None, Some, length, map, slice_index_or, string_bytes, take}
 use Rattle.mr_files.specs.Folders.{IsFolderOf}
-use Rattle.mr_files.specs.Holding.{ChangesAmong, Faulty, Holding, Stored}
-use Rattle.mr_files.specs.Names.{merged_names, name_of_part}
-use Rattle.mr_files.specs.Refusals.{IsUnwrittenAt}
+use Rattle.mr_files.specs.Holding.{Begins, ChangesAmong, Faulty, Holding, Stored}
+use Rattle.mr_files.specs.Names.{merged_names, name_of_part, name_of_verdict, part_names}
 use Rattle.mr_jobs.specs.JobSpec.{JobSpec, RequestSpec}
 use Rattle.mr_shards.specs.declared.fault.MergeFault.TheVariants as merge
 use Rattle.mr_shards.specs.declared.merge.Output.{Output}
@@ -15,9 +14,11 @@ use Rattle.mr_verdict.specs.Reading.{Fits}
 use Rattle.mr_verdict.specs.Truth.{Asks, AsksNone}
 use Rattle.mr_verdict.specs.Verdict.{Note, Told, spelling}
 use Rattle.mr_shard_files.specs.declared.fault.ShardFault.{ShardFault}
-use Rattle.mr_shard_files.specs.declared.fault.ShardFault.TheVariants.{BadLine, BadVerdict, CannotRead, CannotWrite, FileTooFar, LongList, LongVerdict, NoRequest, NoShards, OtherInputs, OtherOutputs, OtherPart, OtherRequest, OutOfMemory, RepeatedInput, TooManyFiles, TooManyPairs, TooManySplits, TotalTooLarge}
-use Rattle.mr_shard_files.specs.Beside.{AreOutputs, StandsBeside, TellsOf}
+use Rattle.mr_shard_files.specs.declared.fault.ShardFault.TheVariants.{BadLine, BadVerdict, CannotRead, FileTooFar, LongList, LongVerdict, NoRequest, NoShards, OtherInputs, OtherOutputs, OtherPart, OtherRequest, OutOfMemory, RepeatedInput, TooManyFiles, TooManyPairs, TooManySplits, TotalTooLarge}
+use Rattle.mr_shard_files.specs.Apart.{AreApart, IsSameFolder}
+use Rattle.mr_shard_files.specs.Beside.{AreOutputs, ArePartitions, StandsBeside, TellsOf}
 use Rattle.mr_shard_files.specs.Listing.{DifferIn, listing}
+use Rattle.mr_shard_files.specs.Made.{TellsUnwritten}
 use Rattle.mr_shard_files.specs.Merging.{IsMerging}
 
 abbrev pub name_at : List (List ℕ) → ℕ → List ℕ
@@ -81,6 +82,10 @@ pub record IsPartAt (holds : Stored) (unreadable : Faulty) (p : ℕ) (names : Li
 abbrev pub IsTextsFault : Stored → Faulty → ℕ → List (List ℕ) → List Told → ShardFault → Type 0
 IsTextsFault holds unreadable p names vs fault = (fault ≡ OutOfMemory) ⊎ IsPartAt holds unreadable p names vs fault
 
+-- those of so many partitions are not all opened
+abbrev pub AreUnopened : Stored → Faulty → ℕ → List (List ℕ) → List Told → ShardFault → Type 0
+AreUnopened holds unreadable count names vs fault = (fault ≡ OutOfMemory) ⊎ ((p : ℕ) × (p < count) × IsTextsFault holds unreadable p names vs fault)
+
 -- what stands beside the verdicts for a partition can't be merged
 abbrev pub IsBlamed : JobSpec → List Output → ℕ → ShardFault → Type 0
 IsBlamed job os p (BadLine shard partition line) = (partition ≡ p) × Blames job os (merge.BadLine shard line)
@@ -99,11 +104,6 @@ pub record IsUnmergedAt (holds : Stored) (job : JobSpec) (names : List (List ℕ
 -- the parts of a partition are not merged
 abbrev pub IsPartitionFault : Stored → Faulty → JobSpec → List (List ℕ) → List Told → ℕ → ShardFault → Type 0
 IsPartitionFault holds unreadable job names vs p fault = IsTextsFault holds unreadable p names vs fault ⊎ IsUnmergedAt holds job names vs p fault
-
--- the partitions are not all merged
-abbrev pub IsPartitionsFault : Stored → Faulty → RequestSpec → List (List ℕ) → List Told → ShardFault → Type 0
-IsPartitionsFault holds unreadable request names vs fault = (fault ≡ OutOfMemory)
-    ⊎ ((p : ℕ) × (p < request.parts) × IsPartitionFault holds unreadable request.job names vs p fault)
 
 -- ---- the list of inputs
 
@@ -158,35 +158,69 @@ IsUnjoined request vs fault = ⊥
 abbrev pub IsJoinedFault : RequestSpec → List Told → ShardFault → Type 0
 IsJoinedFault request vs fault = IsUnjoined request vs fault ⊎ (IsMiscounted vs request.parts fault ⊎ IsInputsFault (inputs_of vs) fault)
 
--- they are not joined, or other inputs were meant, or the parts are not merged
-abbrev pub IsRequestFault : Stored → Faulty → RequestSpec → List (List ℕ) → Option (List ℕ) → List Told → ShardFault → Type 0
-IsRequestFault holds unreadable request names list vs fault =
-    IsJoinedFault request vs fault ⊎ (IsListFault holds unreadable list (inputs_of vs) fault ⊎ IsPartitionsFault holds unreadable request names vs fault)
+-- they are not joined, or other inputs were meant, or the result would stand in a shard's folder
+abbrev pub IsRequestFault : Stored → Faulty → (List ℕ → List ℕ → Type 0) → RequestSpec → List (List ℕ) → Option (List ℕ) → List ℕ → List Told → ShardFault → Type 0
+IsRequestFault holds unreadable alike request names list dir vs fault =
+    IsJoinedFault request vs fault ⊎ (IsListFault holds unreadable list (inputs_of vs) fault ⊎ IsSameFolder alike names dir fault)
 
 -- nothing is merged: there is no request, or under that of the first verdict there is no merge
-abbrev pub IsMergingFault : Stored → Faulty → List (List ℕ) → Option (List ℕ) → List Told → ShardFault → Type 0
-IsMergingFault holds unreadable names list vs fault = (fault ≡ OutOfMemory) ⊎ (IsFirstFault vs fault
-    ⊎ ((request : RequestSpec) × Asks (verdict_at vs 0) request × IsRequestFault holds unreadable request names list vs fault))
+abbrev pub IsMergingFault : Stored → Faulty → (List ℕ → List ℕ → Type 0) → List (List ℕ) → Option (List ℕ) → List ℕ → List Told → ShardFault → Type 0
+IsMergingFault holds unreadable alike names list dir vs fault = (fault ≡ OutOfMemory) ⊎ (IsFirstFault vs fault
+    ⊎ ((request : RequestSpec) × Asks (verdict_at vs 0) request × IsRequestFault holds unreadable alike request names list dir vs fault))
 
--- nothing changed, as the verdicts are not all read, or what stands beside them is not merged
-abbrev pub IsUnmerged : Stored → Stored → Faulty → List (List ℕ) → Option (List ℕ) → ShardFault → Type 0
-IsUnmerged old new unreadable names list fault = ChangesAmong old new []
-    × (IsUngathered old unreadable names fault ⊎ ((vs : List Told) × Holding old names (map spelling vs) × IsMergingFault old unreadable names list vs fault))
+-- ---- the result
 
--- a file of the result can't be written: those before it stand whole, and the verdict is the last
-pub record IsStopped (old new : Stored) (unwritable : Faulty) (names : List (List ℕ)) (list : Option (List ℕ)) (dir told : List ℕ) : Type 0 where
-  pub verdicts : List Told
+-- nothing changed, as not all parts can be opened
+abbrev pub IsUnbegun : Stored → Stored → Faulty → RequestSpec → List (List ℕ) → List Told → ShardFault → Type 0
+IsUnbegun old new unreadable request names vs fault = ChangesAmong old new [] × AreUnopened old unreadable request.parts names vs fault
+
+-- the verdict that stood in the folder is not emptied, and nothing else changed
+abbrev pub IsUnemptied : Stored → Stored → Faulty → List ℕ → ShardFault → Type 0
+IsUnemptied old new unwritable dir fault =
+    ChangesAmong old new (name_of_verdict dir ∷ []) × TellsUnwritten (unwritable (name_of_verdict dir)) (name_of_verdict dir) fault
+
+-- the first partitions are merged, and their parts stand whole; the next one is not merged, or not written; the verdict is
+-- empty, and all else stands as before
+pub record IsCutShort (old new : Stored) (unreadable unwritable : Faulty) (request : RequestSpec) (names : List (List ℕ)) (vs : List Told) (dir : List ℕ) (fault : ShardFault) : Type 0 where
+  pub texts : List (List ℕ)
+  pub few : length texts < request.parts
+  pub merged : ArePartitions old request.job names vs texts
+  pub whole : Holding new (part_names dir (length texts)) texts
+  pub emptied : new (name_of_verdict dir) []
+  pub others : ChangesAmong old new (merged_names dir (length texts + 1))
+  pub why : IsPartitionFault old unreadable request.job names vs (length texts) fault
+      ⊎ TellsUnwritten (unwritable (name_of_part dir (length texts))) (name_of_part dir (length texts)) fault
+
+-- why the parts of the result are not all written
+abbrev pub IsPartsFault : Stored → Stored → Faulty → Faulty → RequestSpec → List (List ℕ) → List Told → List ℕ → ShardFault → Type 0
+IsPartsFault old new unreadable unwritable request names vs dir fault = IsUnbegun old new unreadable request names vs fault
+    ⊎ (IsUnemptied old new unwritable dir fault ⊎ IsCutShort old new unreadable unwritable request names vs dir fault)
+
+-- all is merged and the parts stand whole, and the verdict is not written: there stands what stood there, or a beginning of
+-- its text
+pub record IsUnnamed (old new : Stored) (unwritable : Faulty) (names : List (List ℕ)) (list : Option (List ℕ)) (vs : List Told) (dir : List ℕ) (fault : ShardFault) : Type 0 where
   pub joined : Told
-  pub outputs : List (List ℕ)
+  pub texts : List (List ℕ)
+  pub merging : IsMerging old names list vs joined texts
+  pub whole : Holding new (part_names dir (length texts)) texts
+  pub begins : Begins old new (name_of_verdict dir) (spelling joined)
+  pub others : ChangesAmong old new (merged_names dir (length texts))
+  pub why : TellsUnwritten (unwritable (name_of_verdict dir)) (name_of_verdict dir) fault
+
+-- nothing changed, as the verdicts are not all read, or are not of shards that can be merged
+abbrev pub IsUnmerged : Stored → Stored → Faulty → (List ℕ → List ℕ → Type 0) → List (List ℕ) → Option (List ℕ) → List ℕ → ShardFault → Type 0
+IsUnmerged old new unreadable alike names list dir fault = ChangesAmong old new []
+    × (IsUngathered old unreadable names fault ⊎ ((vs : List Told) × Holding old names (map spelling vs) × IsMergingFault old unreadable alike names list dir vs fault))
+
+-- the result is not all written, in a folder that is no shard's
+pub record IsUnfinished (old new : Stored) (unreadable unwritable : Faulty) (names : List (List ℕ)) (list : Option (List ℕ)) (dir : List ℕ) (fault : ShardFault) : Type 0 where
+  pub verdicts : List Told
+  pub request : RequestSpec
   pub held : Holding old names (map spelling verdicts)
-  pub merging : IsMerging old names list verdicts joined outputs
-  pub stopped : IsUnwrittenAt old new unwritable (merged_names dir (length outputs)) (outputs ++ spelling joined ∷ []) told
+  pub asks : Asks (verdict_at verdicts 0) request
+  pub apart : AreApart names dir
+  pub why : IsPartsFault old new unreadable unwritable request names verdicts dir fault ⊎ IsUnnamed old new unwritable names list verdicts dir fault
 
-abbrev pub IsUnfinished : Stored → Stored → Faulty → List (List ℕ) → Option (List ℕ) → List ℕ → ShardFault → Type 0
-IsUnfinished old new unwritable names list dir (CannotWrite told) = IsStopped old new unwritable names list dir (string_bytes told)
-IsUnfinished old new unwritable names list dir OutOfMemory = ⊤
-IsUnfinished old new unwritable names list dir fault = ⊥
-
-abbrev pub IsShardRefusal : Stored → Stored → Faulty → Faulty → List (List ℕ) → Option (List ℕ) → List ℕ → ShardFault → Type 0
-IsShardRefusal old new unreadable unwritable names list dir fault =
-    IsUnmerged old new unreadable names list fault ⊎ IsUnfinished old new unwritable names list dir fault
+abbrev pub IsShardRefusal : Stored → Stored → Faulty → Faulty → (List ℕ → List ℕ → Type 0) → List (List ℕ) → Option (List ℕ) → List ℕ → ShardFault → Type 0
+IsShardRefusal old new unreadable unwritable alike names list dir fault =
+    IsUnmerged old new unreadable alike names list dir fault ⊎ IsUnfinished old new unreadable unwritable names list dir fault

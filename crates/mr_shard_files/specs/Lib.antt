@@ -4,3 +4,5 @@ pub mod Listing
 pub mod Merging
 pub mod Faults
 pub mod Streams
+pub mod Made
+pub mod Apart

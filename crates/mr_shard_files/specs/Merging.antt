@@ -2,14 +2,15 @@
 use Rattle.std.specs.Prelude.{◌≡◌, ℕ, ◌<◌, ◌^◌, List, [], ◌∷◌, Option, None, length, map}
 use Rattle.std.specs.List.{AllByRecursion}
 use Rattle.mr_input.specs.Files.{nth_file}
-use Rattle.mr_files.specs.Holding.{ChangesAmong, Holding, Stored}
+use Rattle.mr_files.specs.Holding.{Begins, ChangesAmong, Holding, Stored}
 use Rattle.mr_files.specs.Names.{merged_names, name_of_verdict, part_files, part_names}
 use Rattle.mr_jobs.specs.JobSpec.{JobSpec, RequestSpec}
 use Rattle.mr_shards.specs.Refused.{IsRest}
-use Rattle.mr_verdict.specs.Joined.{AreMerged, AreOnce, AreTrueOf, IsJoined, all_files}
-use Rattle.mr_verdict.specs.Truth.{IsTrueOf, notes_for}
+use Rattle.mr_verdict.specs.Joined.{AreMerged, AreOnce, AreTrueOf, IsJoined, all_files, verdict_at}
+use Rattle.mr_verdict.specs.Truth.{Asks, IsTrueOf, notes_for}
 use Rattle.mr_verdict.specs.Verdict.{Note, Told, spelling}
-use Rattle.mr_shard_files.specs.Beside.{StandsBeside, TellsOf}
+use Rattle.mr_shard_files.specs.Apart.{AreApart}
+use Rattle.mr_shard_files.specs.Beside.{ArePartitions, StandsBeside, TellsOf}
 use Rattle.mr_shard_files.specs.Listing.{IsListed}
 
 -- the verdict with these notes of its outputs
@@ -45,6 +46,30 @@ abbrev pub IsTrueOfAll : List Told → List (List (List ℕ)) → Told → List 
 IsTrueOfAll vs parts m outputs = (request : RequestSpec) (files : List (List (List ℕ)))
     → AreTrueOf request vs files parts → IsTrueOf request m (all_files files) outputs
 
+-- verdicts can be merged: they are about one request, each tells of one output for each partition, no input is named twice,
+-- where a list is named it has just these inputs, and none stands in the folder that is to hold the result
+pub record IsReady (holds : Stored) (names : List (List ℕ)) (list : Option (List ℕ)) (dir : List ℕ) (vs : List Told) (request : RequestSpec) (m : Told) : Type 0 where
+  pub asks : Asks (verdict_at vs 0) request
+  pub some : 0 < length vs
+  pub split : 0 < request.split
+  pub joined : IsJoined request vs m
+  pub told : AllByRecursion (λ v. length v.outputs ≡ request.parts) vs
+  pub once : AreOnce m.inputs
+  pub few : length m.inputs < 2 ^ 32
+  pub listed : IsListed holds list m.inputs
+  pub apart : AreApart names dir
+
+-- each partition was merged to its text, which stands in the folder and has its note; the verdict there was emptied, and all
+-- else stands as before
+pub record ArePartsWritten (old new : Stored) (request : RequestSpec) (names : List (List ℕ)) (vs : List Told) (dir : List ℕ) (notes : List Note) : Type 0 where
+  pub texts : List (List ℕ)
+  pub count : length texts ≡ request.parts
+  pub merged : ArePartitions old request.job names vs texts
+  pub notes_are : notes ≡ notes_for (part_files request.parts) texts
+  pub whole : Holding new (part_names dir request.parts) texts
+  pub begins : Begins old new (name_of_verdict dir) []
+  pub others : ChangesAmong old new (merged_names dir request.parts)
+
 -- outputs are merged of the parts that stand beside the verdicts, and one verdict is joined of these, with the notes of the
 -- outputs; it names no input twice, and where a list is named, just its inputs
 pub record IsMerging (holds : Stored) (names : List (List ℕ)) (list : Option (List ℕ)) (vs : List Told) (m : Told) (outputs : List (List ℕ)) : Type 0 where
@@ -61,12 +86,13 @@ pub record IsMerging (holds : Stored) (names : List (List ℕ)) (list : Option (
   pub notes_are : m.outputs ≡ notes_for (part_files request.parts) outputs
   pub true_of : IsTrueOfAll vs parts m outputs
 
--- under the names stood verdicts that were merged to this one; now the outputs stand in the folder, and the text of the
+-- under the names stood verdicts, in other folders than this, that were merged to this one; now the outputs stand in the folder, and the text of the
 -- verdict, and all else as before
 pub record IsMerged (old new : Stored) (names : List (List ℕ)) (list : Option (List ℕ)) (dir : List ℕ) (m : Told) : Type 0 where
   pub verdicts : List Told
   pub outputs : List (List ℕ)
   pub held : Holding old names (map spelling verdicts)
+  pub apart : AreApart names dir
   pub merging : IsMerging old names list verdicts m outputs
   pub parts : Holding new (part_names dir (length outputs)) outputs
   pub verdict : new (name_of_verdict dir) (spelling m)

@@ -1,5 +1,6 @@
 -- Parts of shards that are read in pieces.
-use Rattle.std.specs.Prelude.{◌≡◌, ℕ, ◌+◌, ◌<◌, ◌≤◌, ◌&&◌, ◌||◌, ◌⊎◌, Bool, true, false, ⊤, List, [], ◌∷◌, ◌++◌, Option, length, slice_index_or, string_bytes}
+use Rattle.std.specs.Prelude.{◌≡◌, ℕ, ◌+◌, ◌<◌, ◌≤◌, ◌&&◌, ◌||◌, ◌⊎◌, Bool, true, false, ⊤, List, [], ◌∷◌, ◌++◌, Option, Vec, length, slice_index_or, string_bytes}
+use Rattle.std.specs.Global.{Global}
 use Rattle.std.specs.Io.KnownBytes.{Consumes, IsAtEnd}
 use Rattle.sha2.specs.Hashers.{Holds256}
 use Rattle.mr_files.specs.Folders.{IsFolderOf}
@@ -113,6 +114,11 @@ AreOpened holds unreadable remaining can_fail p [] [] [] = Unit {0}
 AreOpened holds unreadable remaining can_fail p (n ∷ ns) (v ∷ vs) (q ∷ qs) = IsOpened holds unreadable remaining can_fail p n v q × AreOpened holds unreadable remaining can_fail p ns vs qs
 AreOpened holds unreadable remaining can_fail p _ _ _ = ⊥
 
+-- those for each partition from that one on; the rows are numbered by it
+abbrev pub AreRows : {R : Type 0} → Stored → Faulty → (R → Option (List ℕ)) → (R → Type 0) → List (List ℕ) → List Told → ℕ → List (Vec (Part R) Global) → Type 0
+AreRows {R} holds unreadable remaining can_fail names vs from rows =
+    (p : ℕ) (d : Vec (Part R) Global) → from ≤ p → p < length rows → AreOpened holds unreadable remaining can_fail p names vs (slice_index_or rows p d).items
+
 -- a window shows what is held of its part
 abbrev pub AreWindowsOf : {R : Type 0} → List (Part R) → List Window → Type 0
 AreWindowsOf [] [] = Unit {0}
@@ -178,10 +184,11 @@ abbrev pub IsBlamedOver : {R : Type 0} → JobSpec → List (Part R) → Standin
 IsBlamedOver job parts m e = (e ≡ merge.OutOfMemory)
     ⊎ ((ws : List Window) × AreWindowsOf parts ws × ((rs : List Reading) → IsAfter job rs m → AreWindows rs ws → Blames job (outputs_of rs) e))
 
--- parts are not merged as they are read
-abbrev pub IsStopped : {R : Type 0} → (R → Option (List ℕ)) → (R → Type 0) → JobSpec → List ℕ → List (Part R) → List (Part R) → Stop → Type 0
-IsStopped remaining can_fail job files old new (stop.Part fault) = (fault ≡ OutOfMemory) ⊎ OneIs (λ _ q. TellsUnread (can_fail q.reader) (string_bytes q.name) fault) old
-IsStopped remaining can_fail job files old new (stop.Merge fault) = AreBlamed remaining can_fail job files old new fault
+-- parts are not merged as they are read, or what they are merged to is not written
+abbrev pub IsStopped : {R : Type 0} → (R → Option (List ℕ)) → (R → Type 0) → (ShardFault → Type 0) → JobSpec → List ℕ → List (Part R) → List (Part R) → Stop → Type 0
+IsStopped remaining can_fail unwritten job files old new (stop.Part fault) =
+    (fault ≡ OutOfMemory) ⊎ (OneIs (λ _ q. TellsUnread (can_fail q.reader) (string_bytes q.name) fault) old ⊎ unwritten fault)
+IsStopped remaining can_fail unwritten job files old new (stop.Merge fault) = AreBlamed remaining can_fail job files old new fault
 
 -- the parts were merged to the text, and each is the one that its verdict tells of
 pub record AreJoined {R : Type 0} (remaining : R → Option (List ℕ)) (can_fail : R → Type 0) (job : JobSpec) (files : List ℕ) (p : ℕ) (vs : List Told) (old : List (Part R)) (text : List ℕ) : Type 0 where

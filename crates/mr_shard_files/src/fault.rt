@@ -75,6 +75,11 @@ pub enum ShardFault {
     /// There are 4,294,967,296 files or more.
     #[error("TooManyFiles")]
     TooManyFiles,
+    /// The folder that is to hold the result is that of a shard, whose parts would be written over while they are read.
+    #[error("SameFolder shard {shard}")]
+    SameFolder {
+        shard: usize,
+    },
     /// A verdict does not tell of one output for each partition.
     #[error("OtherOutputs shard {shard}")]
     OtherOutputs {

@@ -2,11 +2,14 @@
 //! are merged to the result of the whole.
 #![tactic(auto)]
 
+mod apart;
 mod fault;
 mod gathering;
 mod held;
 mod listing;
+mod made;
 mod merging;
+mod naming;
 mod noting;
 mod opening;
 mod partition;

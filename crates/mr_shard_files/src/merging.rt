@@ -1,18 +1,18 @@
 //! Shards, merged.
 ghost use Rattle.std.specs.Prelude.{◌≡◌, ◌<◌, ◌^◌, IfErr, IfOk, OnOk, length, map, option_map};
 ghost use Rattle.std.specs.List.{AllByRecursion};
-ghost use Rattle.mr_input.specs.Files.{contents};
 ghost use Rattle.mr_verdict.specs.Joined.{AreOnce, IsJoined, verdict_at};
 ghost use Rattle.mr_verdict.specs.Truth.{Asks};
-ghost use Rattle.mr_shard_files.specs.Merging.{ChangesResult, IsMerged, IsMerging, with_outputs as with_notes};
+ghost use Rattle.mr_shard_files.specs.Merging.{ChangesResult, IsMerged, IsReady, with_outputs as with_notes};
 ghost use Rattle.mr_shard_files.specs.Faults.{IsFirstFault, IsInputsFault, IsJoinedFault, IsMergingFault, IsMiscounted, IsShardRefusal};
 
+use crate::apart::expect_apart;
 use crate::fault::ShardFault;
 use crate::gathering::read_verdicts;
 use crate::listing::expect_listed;
-use crate::noting::part_notes;
-use crate::partition::partitions_merged;
-use mr_files::{Store, write_merged};
+use crate::naming::put_verdict;
+use crate::partition::partitions_written;
+use mr_files::Store;
 use mr_jobs::Request;
 use mr_verdict::{FileNote, Verdict, first_repeat, join_verdicts, request_of, write_verdict};
 use std::alloc::Global;
@@ -90,35 +90,36 @@ fn noted(verdict: Verdict, outputs: Vec<FileNote>) -> Verdict
     Verdict { outputs, ..verdict }
 }
 
-/// The parts that stand beside these verdicts, merged, and the verdict on them.
-fn merged_under<S: Store>(
+/// The request of verdicts that can be merged to that folder, and what they are together.
+fn prepared<S: Store>(
     store: &S,
     alloc: Global,
     names: &[&str],
     inputs: Option<&str>,
     verdicts: &[Verdict],
-) -> Result<(Verdict, Vec<Vec<u8>>), ShardFault>
-    requires { length names.now ≡ length verdicts.now }
-    ensures ok { IfOk result (λ r. IsMerging (S.holds store.now) (map (λ s. s.now) names.now) (option_map (λ n. n.now) inputs.entry)
-        verdicts.now r.0 (contents r.1.items)) }
-    ensures err { IfErr result (IsMergingFault (S.holds store.now) (S.unreadable store.now) (map (λ s. s.now) names.now)
-        (option_map (λ n. n.now) inputs.entry) verdicts.now) }
+    out: &str,
+) -> Result<(Request, Verdict), ShardFault>
+    ensures ok { IfOk result (λ r. IsReady (S.holds store.now) (map (λ s. s.now) names.now) (option_map (λ n. n.now) inputs.entry)
+        out.now verdicts.now r.0 r.1) }
+    ensures err { IfErr result (IsMergingFault (S.holds store.now) (S.unreadable store.now) (S.alike store.now) (map (λ s. s.now) names.now)
+        (option_map (λ n. n.now) inputs.entry) out.now verdicts.now) }
 {
     let request = first_request(alloc, verdicts)?;
     let joined = joined_once(alloc, &request, verdicts)?;
     expect_listed(store, alloc, inputs, joined.inputs.as_slice())?;
-    let outputs = partitions_merged(store, alloc, &request, names, verdicts)?;
-    let notes = part_notes(alloc, outputs.as_slice())?;
-    Ok((noted(joined, notes), outputs))
+    expect_apart(store, names, out)?;
+    Ok((request, joined))
 }
 
 /// Merges shards: under each name stands a verdict, beside it the parts that it tells of. The merged parts are written to
-/// the folder, and then their verdict, which is given back. Nothing is written before all is merged. Where a name is given
-/// for it, a file lists the inputs that are meant, in the form of `sha256sum`: just those of the verdicts, in their order.
+/// the folder as they are merged, and last their verdict, which is given back; what stood there for a verdict is emptied
+/// before the first, so where a part turns out to be another than its verdict tells, none stands there. Where a name is
+/// given for it, a file lists the inputs that are meant, in the form of `sha256sum`: just those of the verdicts, in their
+/// order.
 ///
-/// All parts of a partition are open at once, and are read as they are merged: of each some 256 KiB are in memory, and lines
-/// of one key together. A line without an end is held as far as its part goes on, but no further than the length that the
-/// verdict tells, which ends in want of memory where that is too much.
+/// The parts of a partition are open at once, and are read as they are merged: of each some 256 KiB are in memory, and what
+/// these are merged to, and lines of one key together. A line without an end is held as far as its part goes on, but no
+/// further than the length that the verdict tells, which ends in want of memory where that is too much.
 pub fn merge_shards<S: Store>(
     store: &mut S,
     alloc: Global,
@@ -130,11 +131,14 @@ pub fn merge_shards<S: Store>(
         (option_map (λ n. n.now) inputs.entry) out.now) }
     ensures others { ChangesResult (S.holds store.old) (S.holds store.new) out.now }
     ensures refused { IfErr result (IsShardRefusal (S.holds store.old) (S.holds store.new) (S.unreadable store.old) (S.unwritable store.old)
-        (map (λ s. s.now) names.now) (option_map (λ n. n.now) inputs.entry) out.now) }
+        (S.alike store.old) (map (λ s. s.now) names.now) (option_map (λ n. n.now) inputs.entry) out.now) }
 {
     let verdicts = read_verdicts(store, alloc, names)?;
-    let (joined, outputs) = merged_under(store, alloc, names, inputs, verdicts.as_slice())?;
-    let text = write_verdict(alloc, &joined)?;
-    write_merged(store, alloc, out, outputs.as_slice(), text.as_slice())?;
-    Ok(joined)
+    let verdicts = verdicts.as_slice();
+    let (request, joined) = prepared(store, alloc, names, inputs, verdicts, out)?;
+    let notes = partitions_written(store, alloc, &request, names, verdicts, out)?;
+    let merged = noted(joined, notes);
+    let text = write_verdict(alloc, &merged)?;
+    put_verdict(store, alloc, out, text.as_slice())?;
+    Ok(merged)
 }

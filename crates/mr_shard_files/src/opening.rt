@@ -1,8 +1,8 @@
 //! The parts that stand beside the verdicts of shards, opened.
 ghost use Rattle.std.specs.Prelude.{◌≡◌, ◌<◌, ◌^◌, IfErr, IfOk, length, map};
 ghost use Rattle.mr_verdict.specs.Joined.{inputs_of};
-ghost use Rattle.mr_shard_files.specs.Faults.{IsTextsFault, IsUnopened};
-ghost use Rattle.mr_shard_files.specs.Streams.{AreOpened, IsOpened, length_told as length_of};
+ghost use Rattle.mr_shard_files.specs.Faults.{AreUnopened, IsTextsFault, IsUnopened};
+ghost use Rattle.mr_shard_files.specs.Streams.{AreOpened, AreRows, IsOpened, length_told as length_of};
 
 use crate::fault::ShardFault;
 use crate::stream::{Part, fault_of};
@@ -43,8 +43,8 @@ fn open_part<S: Store>(
     }
 }
 
-/// The parts that stand beside the verdicts of these names for one partition, all open at once.
-pub(crate) fn open_parts<S: Store>(
+/// The parts that stand beside the verdicts of these names for one partition.
+fn open_parts<S: Store>(
     store: &S,
     alloc: Global,
     names: &[&str],
@@ -61,6 +61,27 @@ pub(crate) fn open_parts<S: Store>(
         parts.push(part).map_err(AllocError::from)?;
     }
     Ok(parts)
+}
+
+/// The parts for each of so many partitions. None is read yet, so it is in the nature of the store which are open.
+pub(crate) fn open_all<S: Store>(
+    store: &S,
+    alloc: Global,
+    names: &[&str],
+    verdicts: &[Verdict],
+    count: usize,
+) -> Result<Vec<Vec<Part<S::Reader>>>, ShardFault>
+    requires { length names.now ≡ length verdicts.now }
+    ensures count { IfOk result (λ rows. length rows.items ≡ count) }
+    ensures ok { IfOk result (λ rows. AreRows (S.holds store.now) (S.unreadable store.now) S.Reader.remaining S.Reader.can_fail (map (λ s. s.now) names.now) verdicts.now 0 rows.items) }
+    ensures err { IfErr result (AreUnopened (S.holds store.now) (S.unreadable store.now) count (map (λ s. s.now) names.now) verdicts.now) }
+{
+    let mut rows = Vec::new(alloc);
+    for partition in 0..count {
+        let parts = open_parts(store, alloc, names, verdicts, partition)?;
+        rows.push(parts).map_err(AllocError::from)?;
+    }
+    Ok(rows)
 }
 
 /// How many files each shard has; 32 bits hold how many all have.

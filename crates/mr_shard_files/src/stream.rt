@@ -127,7 +127,7 @@ impl<R: CountedRead + Drop> Part<R> {
         self.held.pass(count);
     }
 
-    /// Reads on until nothing more is read, and holds no more than a piece of it.
+    /// Reads on until nothing more is read, holding no more than a piece of it, and nothing at the end.
     pub fn finish(&mut self, alloc: Global) -> Result<(), ShardFault>
         ensures moves { OnOk result ((passed : List ℕ) × Moves R.remaining R.can_fail passed self.old self.new) }
         ensures done { OnOk result (no_more self.new ≡ true) }
@@ -137,6 +137,7 @@ impl<R: CountedRead + Drop> Part<R> {
             self.held.clear();
             self.read_piece(alloc)?;
         }
+        self.held.release(alloc);
         Ok(())
     }
 

@@ -1,13 +1,15 @@
 //! Parts of shards, merged as they are read.
-ghost use Rattle.std.specs.Prelude.{◌≡◌, IfErr, IfOk, length};
-ghost use Rattle.mr_shard_files.specs.Streams.{AreJoined, AreMergedTo, IsBlamedOver, IsRefused, IsStopped, StepsOver};
+ghost use Rattle.std.specs.Prelude.{◌≡◌, ◌⊎◌, [], ℕ, List, IfErr, IfOk, OnOk, length, string_bytes};
+ghost use Rattle.mr_shard_files.specs.Streams.{AreBlamed, AreJoined, AreMergedTo, IsBlamedOver, IsRefused, IsStopped, StepsOver};
+ghost use Rattle.mr_shard_files.specs.Made.{HasWritten, TellsUnwritten};
 
 use crate::fault::{ShardFault, of_merge};
+use crate::made::Made;
 use crate::stream::Part;
 use crate::streams::{are_done, fill_all, pass_all, settle_all, windows_of};
 use mr_jobs::Job;
 use mr_shards::{MergeFault, Merger};
-use mr_store::CountedRead;
+use mr_store::{CountedRead, CountedWrite};
 use mr_verdict::Verdict;
 use std::alloc::{AllocError, Global};
 
@@ -17,7 +19,7 @@ const WINDOW: usize = 262_144;
 /// Why parts are not merged as they are read.
 #[derive(Drop)]
 pub(crate) enum Stop {
-    /// A part can't be read, or memory is wanting.
+    /// A part can't be read or written, or memory is wanting.
     Part(ShardFault),
     /// What was read can't be merged.
     Merge(MergeFault),
@@ -80,25 +82,32 @@ fn next_size(size: usize, cuts: &[usize]) -> usize {
     }
 }
 
-/// Merges the parts in turns: in each, some bytes of each are read, and the lines taken that no line to come belongs before.
-pub(crate) fn merged_in_turns<R: CountedRead + Drop>(
+/// Merges the parts in turns: in each, some bytes of each are read, the lines taken that no line to come belongs before, and
+/// what these are merged to is written.
+pub(crate) fn merged_in_turns<R: CountedRead + Drop, W: CountedWrite + Drop>(
     alloc: Global,
     job: &Job,
     files: &[u32],
     parts: &mut [Part<R>],
-) -> Result<Vec<u8>, Stop>
-    requires { length files.now ≡ length parts.old }
-    ensures ok { IfOk result (λ text. AreMergedTo R.remaining R.can_fail job.now files.now parts.old parts.new text.items) }
-    ensures err { IfErr result (IsStopped R.remaining R.can_fail job.now files.now parts.old parts.new) }
+    made: &mut Made<W>,
+) -> Result<(), Stop>
+    requires count { length files.now ≡ length parts.old }
+    requires fresh { HasWritten W.seen [] made.old }
+    ensures ok { OnOk result ((text : List ℕ) × AreMergedTo R.remaining R.can_fail job.now files.now parts.old parts.new text × HasWritten W.seen text made.new) }
+    ensures err { IfErr result (λ e. IsStopped R.remaining R.can_fail (TellsUnwritten (W.can_fail made.old.writer) (string_bytes made.old.name)) job.now files.now parts.old parts.new e) }
+    ensures later { W.can_fail made.new.writer → W.can_fail made.old.writer }
+    ensures name { made.new.name ≡ made.old.name }
 {
     let mut merger = Merger::new(alloc, files)?;
-    let mut out = Vec::new(alloc);
+    let mut text = Vec::new(alloc);
     let mut size = WINDOW;
     for _ in 0..u64::MAX {
         fill_all(alloc, parts, size)?;
-        let cuts = step_over(alloc, job, parts, &mut merger, &mut out)?;
+        text.clear();
+        let cuts = step_over(alloc, job, parts, &mut merger, &mut text)?;
+        made.put(alloc, text.as_slice())?;
         if are_done(parts) {
-            return Ok(out);
+            return Ok(());
         }
         pass_all(parts, cuts.as_slice());
         size = next_size(size, cuts.as_slice());
@@ -107,26 +116,29 @@ pub(crate) fn merged_in_turns<R: CountedRead + Drop>(
     Err(Stop::Part(ShardFault::OutOfMemory))
 }
 
-/// Merges parts as they are read, and compares each, once it is read as far as it goes, with what its verdict tells. Where
-/// they can't be merged they are read as far as they go too: that one is another is told rather than a line of it.
-pub(crate) fn joined<R: CountedRead + Drop>(
+/// Merges parts as they are read, writes what they are merged to, and compares each, once it is read as far as it goes, with
+/// what its verdict tells. Where they can't be merged they are read as far as they go too: that one is another is told
+/// rather than a line of it.
+pub(crate) fn joined<R: CountedRead + Drop, W: CountedWrite + Drop>(
     alloc: Global,
     job: &Job,
     files: &[u32],
     parts: &mut [Part<R>],
     verdicts: &[Verdict],
     partition: usize,
-) -> Result<Vec<u8>, ShardFault>
+    made: &mut Made<W>,
+) -> Result<(), ShardFault>
     requires files { length files.now ≡ length parts.old }
     requires count { length parts.old ≡ length verdicts.now }
-    ensures ok { IfOk result (λ text. AreJoined R.remaining R.can_fail job.now files.now partition verdicts.now parts.old text.items) }
-    ensures err { IfErr result (IsRefused R.remaining R.can_fail job.now files.now partition verdicts.now parts.old) }
+    requires fresh { HasWritten W.seen [] made.old }
+    ensures ok { OnOk result ((text : List ℕ) × AreJoined R.remaining R.can_fail job.now files.now partition verdicts.now parts.old text × HasWritten W.seen text made.new) }
+    ensures err { IfErr result (λ e. IsRefused R.remaining R.can_fail job.now files.now partition verdicts.now parts.old e
+        ⊎ TellsUnwritten (W.can_fail made.old.writer) (string_bytes made.old.name) e) }
+    ensures later { W.can_fail made.new.writer → W.can_fail made.old.writer }
+    ensures name { made.new.name ≡ made.old.name }
 {
-    match merged_in_turns(alloc, job, files, parts) {
-        Ok(text) => {
-            settle_all(alloc, parts, verdicts, partition)?;
-            Ok(text)
-        }
+    match merged_in_turns(alloc, job, files, parts, made) {
+        Ok(()) => settle_all(alloc, parts, verdicts, partition),
         Err(Stop::Part(fault)) => Err(fault),
         Err(Stop::Merge(MergeFault::OutOfMemory)) => Err(ShardFault::OutOfMemory),
         Err(Stop::Merge(fault)) => {

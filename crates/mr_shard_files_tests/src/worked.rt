@@ -101,6 +101,22 @@ fn refused_merges(rt: HostRuntime) -> Result<(), Fail> {
     Ok(())
 }
 
+#[test]
+fn what_refused_merges_leave(rt: HostRuntime) -> Result<(), Fail> {
+    let alloc = rt.alloc();
+    let part = b"dog\t1\nthe\t2\n";
+    let mut store = shards(alloc, SECOND, part)?;
+    store.put("m/verdict", WHOLE, false)?;
+    let other = merge_shards(&mut store, alloc, &BOTH, None, "m");
+    assert!(rt; tells(alloc, other, "OtherPart shard 1 partition 0")?);
+    assert!(rt; stands(alloc, &store, "m/verdict", b"")?);
+    let over = merge_shards(&mut store, alloc, &BOTH, None, "b");
+    assert!(rt; tells(alloc, over, "SameFolder shard 1")?);
+    assert!(rt; stands(alloc, &store, "b/part-00000", part)?);
+    assert!(rt; stands(alloc, &store, "b/verdict", SECOND)?);
+    Ok(())
+}
+
 /// What is said of a merge of the two shards where this list is given; nothing where they are merged.
 fn said_of(alloc: Global, list: &[u8]) -> Result<String, Fail> {
     let mut store = shards(alloc, SECOND, b"dog\t1\nthe\t1\n")?;

@@ -1,4 +1,5 @@
 use Rattle.std.proofs.Common.{◌≡◌, ℕ, List, length}
+use Rattle.mr_shard_files.specs.Made.{HasWritten}
 use Rattle.mr_shard_files.specs.Streams.{AllAre, Moves}
 use Rattle.mr_shard_files.proofs.TurnLemmas.{Stands}
 use Rattle.mr_shard_files.proofs.turns.merged_in_turns.Given as goal
@@ -8,5 +9,9 @@ invariant-loop g l = record {
   count : length l.parts ≡ length l.merger.held;
   passed : List (List ℕ);
   moved : AllAre (Moves g.R.CountedRead.remaining g.R.CountedRead.can_fail) passed l.initial.parts l.parts;
-  stands : Stands g.R.CountedRead.remaining g.R.CountedRead.can_fail l.job l.files passed l.parts l.merger l.out.items;
+  written : List ℕ;
+  stands : Stands g.R.CountedRead.remaining g.R.CountedRead.can_fail l.job l.files passed l.parts l.merger written;
+  made : HasWritten g.W.CountedWrite.seen written l.made;
+  later : g.W.CountedWrite.can_fail l.made.writer → g.W.CountedWrite.can_fail l.initial.made.writer;
+  named : l.made.name ≡ l.initial.made.name;
 }

@@ -1,0 +1,144 @@
+use Rattle.std.proofs.Common.{◌≡◌, ◌∷◌, ◌++◌, ◌<◌, ◌^◌, ◌∙◌, List, [], ap, inl, inr, length, length-append, map, refl, rules, subst, sym, arith}
+use Rattle.std.proofs.lemmas.List.{length-map}
+use Rattle.std.proofs.lemmas.Result.{err_from_is_err_and}
+use Rattle.mr_files.specs.Names.{part_files}
+use Rattle.mr_jobs.specs.JobSpec.{JobSpec}
+use Rattle.mr_verdict.specs.Truth.{notes_for}
+use Rattle.mr_verdict.specs.Verdict.{Note, Told}
+use Rattle.mr_shard_files.specs.Beside.{IsPartition}
+use Rattle.mr_shard_files.specs.Faults.{IsPartitionFault}
+use Rattle.mr_files.proofs.Written.{either}
+use Rattle.mr_shard_files.specs.declared.fault.ShardFault.TheVariants.{OutOfMemory}
+use Rattle.mr_shard_files.proofs.NoteLemmas.{notes_next, notes_none}
+use Rattle.mr_shard_files.proofs.PartLemmas.{partitions_next}
+use Rattle.mr_shard_files.proofs.RestLemmas.{row_at, rows_rest, set_length}
+use Rattle.mr_shard_files.proofs.ResultLemmas.{among_first, among_part, begun_kept, cut_short, empty_kept, whole_more, whole_none}
+use Rattle.mr_shard_files.proofs.SettleLemmas.{opened_count, partition_joined, partition_refused}
+use Rattle.mr_shard_files.proofs.partition.partitions_written.Goals as goal
+
+pub loop-partition-init : goal.loop-partition-init
+loop-partition-init g c =
+    let first = g.S.Store.holds c.args.store.now in
+    let now = g.S.Store.holds c.put_verdict.new.store in
+    let dir = c.args.dir.now in
+    record {
+      texts = [];
+      count = refl;
+      all = omega (arith, c.in_ok-rows.ensures.count, c.parts-count.ensures.same);
+      opened = c.in_ok-rows.ensures.ok;
+      merged = λ p less. absurd (omega (arith, less));
+      notes_are = c.new-notes.ensures.items ∙ sym notes_none;
+      whole = whole_none first first now dir;
+      emptied = c.in_ok-put_verdict.ensures.whole;
+      begins = c.in_ok-put_verdict.ensures.begins;
+      others = among_first first first now dir c.in_ok-put_verdict.ensures.others;
+      still = c.in_ok-put_verdict.ensures.still;
+    }
+
+pub part_written-requires-clause-files : goal.part_written-requires-clause-files
+part_written-requires-clause-files g c =
+    let remaining = g.S.Reader.CountedRead.remaining in
+    let can_fail = g.S.Reader.CountedRead.can_fail in
+    let holds = g.S.Store.holds c.args.store.now in
+    let unreadable = g.S.Store.unreadable c.args.store.now in
+    let names = map (λ s. s.now) c.args.names.now in
+    let vs = c.args.verdicts.now in
+    let i = c.loop-partition.partition in
+    let here : i < length c.loop-partition.rows.items = omega (arith, c.loop-partition-test.true, c.loop-partition.invariant.all, c.parts-count.ensures.same) in
+    let opened = row_at holds unreadable remaining can_fail names vs c.loop-partition.rows.items i c.index_mut.result.now c.index_mut.result.now c.as_mut_slice-parts.result.now here c.index_mut.ensures.value c.as_mut_slice-parts.ensures.value c.loop-partition.invariant.opened in
+    let files : c.as_slice-files.result.now ≡ map (λ (v : Told). length v.inputs) vs = c.as_slice-files.ensures.value ∙ c.in_ok-files.ensures in
+    ap length files ∙ length-map vs (λ v. length v.inputs) ∙ sym (opened_count remaining can_fail holds unreadable i names vs c.as_mut_slice-parts.result.now opened)
+
+pub part_written-requires-clause-count : goal.part_written-requires-clause-count
+part_written-requires-clause-count g c =
+    let remaining = g.S.Reader.CountedRead.remaining in
+    let can_fail = g.S.Reader.CountedRead.can_fail in
+    let holds = g.S.Store.holds c.args.store.now in
+    let unreadable = g.S.Store.unreadable c.args.store.now in
+    let names = map (λ s. s.now) c.args.names.now in
+    let vs = c.args.verdicts.now in
+    let i = c.loop-partition.partition in
+    let here : i < length c.loop-partition.rows.items = omega (arith, c.loop-partition-test.true, c.loop-partition.invariant.all, c.parts-count.ensures.same) in
+    let opened = row_at holds unreadable remaining can_fail names vs c.loop-partition.rows.items i c.index_mut.result.now c.index_mut.result.now c.as_mut_slice-parts.result.now here c.index_mut.ensures.value c.as_mut_slice-parts.ensures.value c.loop-partition.invariant.opened in
+    opened_count remaining can_fail holds unreadable i names vs c.as_mut_slice-parts.result.now opened
+
+pub returns-in_err-note-clause-still : goal.returns-in_err-note-clause-still
+returns-in_err-note-clause-still g c n h = c.loop-partition.invariant.still n (c.part_written.ensures.still n h)
+
+pub returns-in_err-map_err-clause-still : goal.returns-in_err-map_err-clause-still
+returns-in_err-map_err-clause-still g c n h = c.loop-partition.invariant.still n (c.part_written.ensures.still n h)
+
+pub returns-in_err-note-clause-err : goal.returns-in_err-note-clause-err
+returns-in_err-note-clause-err g c =
+    let p = err_from_is_err_and c.from_residual-in_err-note.result c.from_residual-in_err-note.ensures.1 in
+    let remaining = g.S.Reader.CountedRead.remaining in
+    let can_fail = g.S.Reader.CountedRead.can_fail in
+    let holds = g.S.Store.holds c.args.store.now in
+    let unreadable = g.S.Store.unreadable c.args.store.now in
+    let names = map (λ s. s.now) c.args.names.now in
+    let vs = c.args.verdicts.now in
+    let i = c.loop-partition.partition in
+    let here : i < length c.loop-partition.rows.items = omega (arith, c.loop-partition-test.true, c.loop-partition.invariant.all, c.parts-count.ensures.same) in
+    let opened = row_at holds unreadable remaining can_fail names vs c.loop-partition.rows.items i c.index_mut.result.now c.index_mut.result.now c.as_mut_slice-parts.result.now here c.index_mut.ensures.value c.as_mut_slice-parts.ensures.value c.loop-partition.invariant.opened in
+    let files : c.as_slice-files.result.now ≡ map (λ (v : Told). length v.inputs) vs = c.as_slice-files.ensures.value ∙ c.in_ok-files.ensures in
+    let mid = g.S.Store.holds c.loop-partition.store in
+    let new = g.S.Store.holds c.part_written.new.store in
+    let dir = c.args.dir.now in
+    let e = c.in_err-note.field-0.0 in
+    let held = c.loop-partition.invariant in
+    let fits : i < 2 ^ 64 = omega arith in
+    let only = c.in_err-note.ensures.others in
+    let less : i < c.args.request.now.parts = omega (arith, c.loop-partition-test.true, c.parts-count.ensures.same) in
+    rw p.1 (rw p.2 (inr (inr (cut_short holds mid new unreadable (g.S.Store.unwritable c.args.store.now) (g.S.Store.unwritable c.loop-partition.store) c.args.request.now names vs dir held.texts i e held.count less fits held.merged held.whole held.emptied held.others held.still only
+    (either (λ r. subst (λ (j : JobSpec). IsPartitionFault holds unreadable j names vs i e) c.job-job.ensures.same
+    (partition_refused remaining can_fail holds unreadable i c.job-job.result.now names vs c.as_mut_slice-parts.result.now c.as_slice-files.result.now e c.requires.few files opened r)) (λ u. u) c.in_err-note.ensures.err)))))
+
+pub returns-in_err-map_err-clause-err : goal.returns-in_err-map_err-clause-err
+returns-in_err-map_err-clause-err g c =
+    let p = err_from_is_err_and c.from_residual-in_err-map_err.result c.from_residual-in_err-map_err.ensures.1 in
+    let holds = g.S.Store.holds c.args.store.now in
+    let mid = g.S.Store.holds c.loop-partition.store in
+    let new = g.S.Store.holds c.part_written.new.store in
+    let i = c.loop-partition.partition in
+    let held = c.loop-partition.invariant in
+    let fits : i < 2 ^ 64 = omega arith in
+    let less : i < c.args.request.now.parts = omega (arith, c.loop-partition-test.true, c.parts-count.ensures.same) in
+    rw p.1 (rw p.2 (inr (inr (cut_short holds mid new (g.S.Store.unreadable c.args.store.now) (g.S.Store.unwritable c.args.store.now) (g.S.Store.unwritable c.loop-partition.store) c.args.request.now (map (λ s. s.now) c.args.names.now) c.args.verdicts.now c.args.dir.now held.texts i OutOfMemory
+    held.count less fits held.merged held.whole held.emptied held.others held.still c.in_ok-note.ensures.others (inl (inl (inl refl)))))))
+
+pub loop-partition-preserved : goal.loop-partition-preserved
+loop-partition-preserved g c =
+    let remaining = g.S.Reader.CountedRead.remaining in
+    let can_fail = g.S.Reader.CountedRead.can_fail in
+    let holds = g.S.Store.holds c.args.store.now in
+    let unreadable = g.S.Store.unreadable c.args.store.now in
+    let names = map (λ s. s.now) c.args.names.now in
+    let vs = c.args.verdicts.now in
+    let i = c.loop-partition.partition in
+    let here : i < length c.loop-partition.rows.items = omega (arith, c.loop-partition-test.true, c.loop-partition.invariant.all, c.parts-count.ensures.same) in
+    let opened = row_at holds unreadable remaining can_fail names vs c.loop-partition.rows.items i c.index_mut.result.now c.index_mut.result.now c.as_mut_slice-parts.result.now here c.index_mut.ensures.value c.as_mut_slice-parts.ensures.value c.loop-partition.invariant.opened in
+    let files : c.as_slice-files.result.now ≡ map (λ (v : Told). length v.inputs) vs = c.as_slice-files.ensures.value ∙ c.in_ok-files.ensures in
+    let mid = g.S.Store.holds c.loop-partition.store in
+    let new = g.S.Store.holds c.part_written.new.store in
+    let dir = c.args.dir.now in
+    let held = c.loop-partition.invariant in
+    let fits : i < 2 ^ 64 = omega arith in
+    let only = c.in_ok-note.ensures.others in
+    let (text, joined, stands, told) = c.in_ok-note.ensures.ok in
+    let merged = subst (λ (j : JobSpec). IsPartition holds j names vs i text) c.job-job.ensures.same
+    (partition_joined remaining can_fail holds unreadable i c.job-job.result.now names vs c.as_mut_slice-parts.result.now c.as_slice-files.result.now text files opened joined) in
+    let pushed : c.push.new.self.items ≡ c.loop-partition.notes.items ++ c.in_ok-note.note ∷ [] = search rules in
+    record {
+      texts = held.texts ++ text ∷ [];
+      count = (let e = length-append held.texts (text ∷ []) in omega (arith, e, held.count));
+      all = set_length c.loop-partition.rows.items i _ ∙ held.all;
+      opened = rows_rest holds unreadable remaining can_fail names vs c.loop-partition.rows.items i _ held.opened;
+      merged = partitions_next holds c.args.request.now.job names vs held.texts text i held.count held.merged merged;
+      notes_are = pushed ∙ ap (λ (l : List Note). l ++ c.in_ok-note.note ∷ []) held.notes_are ∙ ap (λ (n : Note). notes_for (part_files i) held.texts ++ n ∷ []) told
+          ∙ sym (notes_next held.texts text i held.count);
+      whole = whole_more holds mid new dir i held.texts text fits only held.whole stands;
+      emptied = empty_kept holds mid new dir i only held.emptied;
+      begins = begun_kept holds mid new dir i [] only held.begins;
+      others = among_part holds mid new dir i held.others only;
+      still = λ n h. held.still n (c.part_written.ensures.still n h);
+    }

@@ -1,0 +1,20 @@
+-- Parts of the result that are written in pieces.
+use Rattle.std.specs.Prelude.{◌≡◌, ℕ, ⊤, List, length, string_bytes}
+use Rattle.sha2.specs.Hashers.{Holds256}
+use Rattle.mr_files.specs.Holding.{Agrees}
+use Rattle.mr_store.specs.Devices.{Seen}
+use Rattle.mr_shard_files.specs.declared.fault.ShardFault.{ShardFault}
+use Rattle.mr_shard_files.specs.declared.fault.ShardFault.TheVariants.{CannotWrite, OutOfMemory}
+use Rattle.mr_shard_files.specs.declared.made.Made.{Made}
+
+-- just these bytes were written
+pub record HasWritten {W : Type 0} (seen : W → Seen) (bytes : List ℕ) (made : Made W) : Type 0 where
+  pub contents : Agrees (seen made.writer).contents bytes
+  pub digest : Holds256 made.hasher bytes
+  pub count : made.length ≡ length bytes
+
+-- a file of that name can't be written, which happens only so, or memory is wanting
+abbrev pub TellsUnwritten : Type 0 → List ℕ → ShardFault → Type 0
+TellsUnwritten can_fail name (CannotWrite told) = can_fail × (string_bytes told ≡ name)
+TellsUnwritten can_fail name OutOfMemory = ⊤
+TellsUnwritten can_fail name fault = ⊥

@@ -1,0 +1,97 @@
+//! A part of the result, written in pieces.
+ghost use Rattle.std.specs.Prelude.{◌≡◌, ℕ, [], ◌++◌, List, IfErr, IfOk, OnOk, false, string_bytes};
+ghost use Rattle.mr_files.specs.Holding.{Agrees};
+ghost use Rattle.mr_files.specs.Names.{part_file as file_of_part};
+ghost use Rattle.mr_verdict.specs.Truth.{note_for};
+ghost use Rattle.mr_shard_files.specs.Made.{HasWritten, TellsUnwritten};
+
+use crate::fault::ShardFault;
+use mr_files::part_file;
+use mr_store::{CountedWrite, write_all};
+use mr_verdict::FileNote;
+use sha2::{Digest, Sha256};
+use std::alloc::{AllocError, Global};
+
+/// A part of the result that is written in pieces. Of what was written it keeps the digest and the length.
+#[derive(Drop)]
+pub(crate) struct Made<W: CountedWrite + Drop> {
+    pub name: String,
+    pub writer: W,
+    hasher: Sha256,
+    length: u64,
+}
+
+/// The fault of a file of that name, of which a write failed.
+pub(crate) fn unwritten(alloc: Global, name: &str, lacked_memory: bool) -> ShardFault
+    ensures { TellsUnwritten (lacked_memory ≡ false) name.now result }
+{
+    if lacked_memory {
+        return ShardFault::OutOfMemory;
+    }
+    match String::from_str(alloc, name) {
+        Ok(name) => ShardFault::CannotWrite(name),
+        Err(_) => ShardFault::OutOfMemory,
+    }
+}
+
+impl<W: CountedWrite + Drop> Made<W> {
+    /// The part of that name; nothing is written yet.
+    pub fn new(name: String, writer: W) -> Made<W>
+        ensures name { result.name ≡ name }
+        ensures writer { result.writer ≡ writer }
+        ensures begins { Agrees (W.seen writer).contents [] → HasWritten W.seen [] result }
+    {
+        Made {
+            name,
+            writer,
+            hasher: Sha256::new(),
+            length: 0,
+        }
+    }
+
+    /// Writes a piece behind those before.
+    pub fn put(&mut self, alloc: Global, piece: &[u8]) -> Result<(), ShardFault>
+        ensures ok { OnOk result ((bytes : List ℕ) → HasWritten W.seen bytes self.old → HasWritten W.seen (bytes ++ piece.now) self.new) }
+        ensures err { IfErr result (TellsUnwritten (W.can_fail self.old.writer) (string_bytes self.old.name)) }
+        ensures later { W.can_fail self.new.writer → W.can_fail self.old.writer }
+        ensures name { self.new.name ≡ self.old.name }
+    {
+        let Some(length) = self.length.checked_add(piece.len() as u64) else {
+            // More bytes than 64 bits count: no machine has the room for them.
+            return Err(ShardFault::OutOfMemory);
+        };
+        if write_all(&mut self.writer, piece).is_err() {
+            let lacked = self.writer.lacked_memory();
+            return Err(unwritten(alloc, self.name.as_str(), lacked));
+        }
+        self.hasher.update(piece);
+        self.length = length;
+        Ok(())
+    }
+
+    /// Hands on what was written.
+    pub fn flush(&mut self, alloc: Global) -> Result<(), ShardFault>
+        ensures handed { OnOk result ((W.seen self.new.writer).handed_on ≡ (W.seen self.new.writer).contents) }
+        ensures ok { OnOk result ((bytes : List ℕ) → HasWritten W.seen bytes self.old → HasWritten W.seen bytes self.new) }
+        ensures err { IfErr result (TellsUnwritten (W.can_fail self.old.writer) (string_bytes self.old.name)) }
+        ensures name { self.new.name ≡ self.old.name }
+    {
+        if self.writer.flush().is_err() {
+            let lacked = self.writer.lacked_memory();
+            return Err(unwritten(alloc, self.name.as_str(), lacked));
+        }
+        Ok(())
+    }
+
+    /// The note of what was written, as the part of that partition.
+    pub fn note(&self, alloc: Global, partition: usize) -> Result<FileNote, AllocError>
+        ensures { IfOk result (λ n. (bytes : List ℕ) → HasWritten W.seen bytes self.now → n ≡ note_for (file_of_part partition) bytes) }
+    {
+        let file = part_file(alloc, partition)?;
+        Ok(FileNote {
+            name: Vec::from_slice(alloc, file.as_bytes())?,
+            length: self.length,
+            digest: self.hasher.clone()?.finalize(),
+        })
+    }
+}
