@@ -27,8 +27,8 @@ Answers old new (Check o) text status = KeepsVerdict old new o text status
 Answers old new (Merge o) text status = (status ≡ 0) × AnswersMerge old new o text
 
 -- why nothing is answered, and what was changed then
-abbrev pub IsRefusal : Stored → Stored → Faulty → Faulty → Subcommand → Fault → Type 0
-IsRefusal old new unreadable unwritable (Seq o skips) fault = IsSeqRefusal old new unreadable unwritable o skips.now fault
-IsRefusal old new unreadable unwritable (Run o) fault = IsRunUnanswered old new unreadable unwritable o fault
-IsRefusal old new unreadable unwritable (Check o) fault = IsCheckUnanswered old new unreadable unwritable o fault
-IsRefusal old new unreadable unwritable (Merge o) fault = IsMergeUnanswered old new unreadable unwritable o fault
+abbrev pub IsRefusal : Stored → Stored → Faulty → Faulty → (List ℕ → List ℕ → Type 0) → Subcommand → Fault → Type 0
+IsRefusal old new unreadable unwritable alike (Seq o skips) fault = IsSeqRefusal old new unreadable unwritable o skips.now fault
+IsRefusal old new unreadable unwritable alike (Run o) fault = IsRunUnanswered old new unreadable unwritable o fault
+IsRefusal old new unreadable unwritable alike (Check o) fault = IsCheckUnanswered old new unreadable unwritable o fault
+IsRefusal old new unreadable unwritable alike (Merge o) fault = IsMergeUnanswered old new unreadable unwritable alike o fault

@@ -30,6 +30,6 @@ pub record AnswersMerge (old new : Stored) (o : MergeOptions) (text : List ℕ) 
   pub said : text ≡ merged_line (length joined.outputs) joined.pairs (length joined.left_out)
 
 -- why `merge` doesn't answer, as the merge of these shards tells it, and what stands then
-abbrev pub IsMergeUnanswered : Stored → Stored → Faulty → Faulty → MergeOptions → Fault → Type 0
-IsMergeUnanswered old new unreadable unwritable o fault =
-    (e : ShardFault) × TellsShards e fault × IsShardRefusal old new unreadable unwritable (verdict_names o) (list_name o) o.out.now e
+abbrev pub IsMergeUnanswered : Stored → Stored → Faulty → Faulty → (List ℕ → List ℕ → Type 0) → MergeOptions → Fault → Type 0
+IsMergeUnanswered old new unreadable unwritable alike o fault =
+    (e : ShardFault) × TellsShards e fault × IsShardRefusal old new unreadable unwritable alike (verdict_names o) (list_name o) o.out.now e

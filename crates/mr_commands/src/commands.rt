@@ -127,7 +127,7 @@ pub fn done<S: Store, R: Threads + Wait + Sync>(
 ) -> Result<Said, Fault>
     ensures answers { IfOk result (λ said. Answers (S.holds store.old) (S.holds store.new) asked.now (string_bytes said.text) said.status) }
     ensures others { ChangesOwn (S.holds store.old) (S.holds store.new) asked.now }
-    ensures refused { IfErr result (λ e. IsRefusal (S.holds store.old) (S.holds store.new) (S.unreadable store.old) (S.unwritable store.old) asked.now e) }
+    ensures refused { IfErr result (λ e. IsRefusal (S.holds store.old) (S.holds store.new) (S.unreadable store.old) (S.unwritable store.old) (S.alike store.old) asked.now e) }
 {
     match asked {
         Subcommand::Check(asked) => check(rt, store, alloc, asked, watch),

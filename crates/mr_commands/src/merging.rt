@@ -57,7 +57,7 @@ pub fn merge<S: Store>(
     ensures done { IfOk result (λ said. AnswersMerge (S.holds store.old) (S.holds store.new) asked.now (string_bytes said.text)) }
     ensures others { ChangesResult (S.holds store.old) (S.holds store.new) asked.now.out.now }
     ensures refused { IfErr result (λ e. IsMergeUnanswered (S.holds store.old) (S.holds store.new) (S.unreadable store.old) (S.unwritable store.old)
-        asked.now e) }
+        (S.alike store.old) asked.now e) }
 {
     let room = String::with_capacity(alloc, LINE_ROOM)?;
     let joined = merge_shards(
