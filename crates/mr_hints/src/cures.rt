@@ -70,6 +70,8 @@ fn shards_cure(fault: &ShardFault) -> &'static str {
             "this part isn't the one that was judged: judge the shard again",
         ShardFault::BadLine { .. } =>
             "the part isn't as the job writes it: run the shard again, and judge it",
+        ShardFault::SameFolder { .. } =>
+            "--out is the folder of that shard, whose parts are read while the result is written: name another",
         ShardFault::LongVerdict { .. } => "a verdict has at most 1 GiB",
         ShardFault::LongList => "the list of inputs has at most 1 GiB",
         ShardFault::TooManySplits { .. } =>
