@@ -25,16 +25,16 @@ pub record IsDone (old new : Stored) (text : List ℕ) (status : ℕ) : Type 0 w
   pub others : ChangesOwn old new asked
 
 -- the parsed command was refused, by this fault
-pub record IsRefused (old new : Stored) (unreadable unwritable : Faulty) (fault : Fault) : Type 0 where
+pub record IsRefused (old new : Stored) (unreadable unwritable : Faulty) (alike : List ℕ → List ℕ → Type 0) (fault : Fault) : Type 0 where
   pub parsed : ArgMatches
   pub asked : Subcommand
   pub named : IsAskedIn parsed asked
-  pub refused : IsRefusal old new unreadable unwritable asked fault
+  pub refused : IsRefusal old new unreadable unwritable alike asked fault
 
 -- why nothing is answered: the line is told before a fault of what it asks for, and nothing is changed then
-abbrev pub IsUnanswered : Stored → Stored → Faulty → Faulty → Failure → Type 0
-IsUnanswered old new unreadable unwritable (Command fault) =
-    ((Command fault ≡ no_memory_left) × ChangesAmong old new []) ⊎ IsRefused old new unreadable unwritable fault
-IsUnanswered old new unreadable unwritable (Line error) = ChangesAmong old new []
-IsUnanswered old new unreadable unwritable NotUtf8 = ⊥
-IsUnanswered old new unreadable unwritable NoCommand = ChangesAmong old new []
+abbrev pub IsUnanswered : Stored → Stored → Faulty → Faulty → (List ℕ → List ℕ → Type 0) → Failure → Type 0
+IsUnanswered old new unreadable unwritable alike (Command fault) =
+    ((Command fault ≡ no_memory_left) × ChangesAmong old new []) ⊎ IsRefused old new unreadable unwritable alike fault
+IsUnanswered old new unreadable unwritable alike (Line error) = ChangesAmong old new []
+IsUnanswered old new unreadable unwritable alike NotUtf8 = ⊥
+IsUnanswered old new unreadable unwritable alike NoCommand = ChangesAmong old new []
