@@ -2,6 +2,7 @@
 inputs; each refusal with its text, and what it leaves; merges of merges; and the runner of engines/."""
 import hashlib
 import os
+import resource
 import shutil
 import subprocess
 import sys
@@ -175,14 +176,23 @@ REFUSED = [
 ]
 
 
+def leaves(text, left, whole):
+    """What is to stand behind a refusal: all as before where it comes before a part is read, and otherwise the partitions
+    before whole, and an empty verdict."""
+    if text.split()[0] not in (b"OtherPart", b"BadLine", b"TotalTooLarge"):
+        return left == {"part-00000": b"old", "verdict": b"old"}
+    return left["verdict"] == b"" and set(left) <= set(whole) and (b"partition 0" in text or left["part-00000"] == whole["part-00000"])
+
+
 def refusals(harness):
-    """Each cause by its text; nothing is written, and what stood in the directory stands."""
+    """Each cause by its text, and what it leaves."""
+    merged(harness, whole := harness.directory(), two_shards(harness))
     for name, spoil, status, text in REFUSED:
         shards = two_shards(harness)
         spoil(shards)
         where = harness.directory({"part-00000": b"old", "verdict": b"old"})
         got = merged(harness, where, shards)
-        harness.check(name, got == (status, b"", b"mapred: " + text + b"\n") and contents(where) == {"part-00000": b"old", "verdict": b"old"}, repr((got, contents(where))))
+        harness.check(name, got == (status, b"", b"mapred: " + text + b"\n") and leaves(text, contents(where), contents(whole)), repr((got, contents(where))))
     shards = two_shards(harness)
     got = merged(harness, harness.directory(), [*shards, shards[0]])
     harness.check("a shard twice", got == (1, b"", b"mapred: RepeatedInput input 2\n"), repr(got))
@@ -199,19 +209,48 @@ def files(harness):
         os.remove(path)
         where = harness.directory()
         got = merged(harness, where, shards)
-        harness.check(f"no {gone}", got == (3, b"", f"mapred: cannot read {path}\n".encode()) and contents(where) == {}, repr(got))
+        left = contents(where).get("verdict") if gone == "verdict" else contents(where)["verdict"] or None
+        harness.check(f"no {gone}", got == (3, b"", f"mapred: cannot read {path}\n".encode()) and left is None, repr(got))
     shards = two_shards(harness)
     where = harness.directory()
     os.mkdir(os.path.join(where, "part-00001"))
     got = merged(harness, where, shards)
-    harness.check("a part that can't be written", got == (3, b"", b"mapred: cannot write ./part-00001\n") and "verdict" not in os.listdir(where), repr(got))
+    verdict = open(os.path.join(where, "verdict"), "rb").read()
+    harness.check("a part that can't be written", got == (3, b"", b"mapred: cannot write ./part-00001\n") and verdict == b"", repr((got, verdict)))
     got = harness.run(["merge", "--out", "missing", *(os.path.join(shard, "verdict") for shard in shards)], cwd=harness.directory())[:3]
-    harness.check("no directory", got == (3, b"", b"mapred: cannot write missing/part-00000\n"), repr(got))
+    harness.check("no directory", got == (3, b"", b"mapred: cannot write missing/verdict\n"), repr(got))
     got = harness.run(["merge", "--out", "."], cwd=harness.directory())[:3]
     harness.check("no verdict is a fault of the line", got[:2] == (2, b""), repr(got))
-    got = merged(harness, shards[0], shards)
-    want = merged(harness, apart := harness.directory(), two_shards(harness))
-    harness.check("over a shard", got == want and parts_of(shards[0]) == parts_of(apart), repr(got))
+    over_a_shard(harness)
+
+
+def over_a_shard(harness):
+    """The folder of a shard is refused for the result, by its name and by others, and nothing in it changes."""
+    shards = two_shards(harness)
+    before = [contents(shard) for shard in shards]
+    where = harness.directory()
+    os.symlink(shards[1], os.path.join(where, "link"))
+    verdicts = [os.path.join(shard, "verdict") for shard in shards]
+    for out, shard in ((shards[1], 1), (shards[0] + "/", 0), (os.path.relpath(shards[1], where), 1), ("link", 1), (shards[0] + "/../" + os.path.basename(shards[0]), 0)):
+        got = harness.run(["merge", "--out", out, *verdicts], cwd=where)[:3]
+        harness.check(f"over a shard, {out}", got == (2, b"", b"mapred: SameFolder shard %d\n" % shard) and [contents(s) for s in shards] == before, repr(got))
+
+
+def little_memory(harness):
+    """22 MB of parts, merged to as much in 16 MiB of address space."""
+    count, shards, verdicts = 500_000, 4, []
+    for shard in range(shards):
+        part = b"".join(b"%08d\t1\n" % number for number in range(shard, shards * count, shards))
+        name = f"f{shard}"
+        text = verdict_text(Request("words", 1, 16), [(name, b"")], [part], [], count)
+        verdicts.append(os.path.join(harness.directory({"part-00000": part, "verdict": text}), "verdict"))
+    where = harness.directory()
+    limit = lambda: resource.setrlimit(resource.RLIMIT_AS, (16 << 20, 16 << 20))
+    ran = subprocess.run([harness.program, "merge", "--out", ".", *verdicts], cwd=where, capture_output=True, preexec_fn=limit)
+    got = (ran.returncode, ran.stdout, ran.stderr)
+    whole = b"".join(b"%08d\t1\n" % number for number in range(shards * count))
+    want = (0, b"merged: 1 files, %d pairs, 0 left out\n" % (shards * count), b"")
+    harness.check("large parts in little memory", got == want and contents(where)["part-00000"] == whole, repr(got))
 
 
 def listing(given):
@@ -311,4 +350,4 @@ def dask(harness, words, where, whole):
     harness.check("by Dask, a worker killed", ran.returncode == 0 and os.listdir(room) == ["worker"] and parts_of(os.path.join(where, "out")) == parts_of(whole), repr(ran))
 
 
-GROUPS = {"shards merged": random_jobs, "shards and one execution": by_seq, "shards refused": refusals, "shards in files": files, "shards' inputs": lists, "shards by a runner": runner}
+GROUPS = {"shards merged": random_jobs, "shards and one execution": by_seq, "shards refused": refusals, "shards in files": files, "shards' inputs": lists, "shards in little memory": little_memory, "shards by a runner": runner}
