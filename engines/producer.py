@@ -1,0 +1,141 @@
+#!/usr/bin/env python3
+"""Makes a result with its certificate in Python: producer.py --out DIR --job JOB [options of the job] FILE..
+
+For those whose engine must make outputs itself: what it writes to DIR, part-00000 and so on and certificate, is byte for
+byte what `mapred seq` writes, by docs/FORMATS.md alone. Whoever makes them, `mapred check` decides. It holds the input
+and all names in memory and takes many times the processor time of `mapred seq`: where you can, let your engine start
+that in place of this."""
+import argparse
+import os
+import re
+import struct
+import sys
+
+WORD = re.compile(rb"[0-9A-Za-z\x80-\xff]+")
+FOLD = bytes(b + 32 if 0x41 <= b <= 0x5A else b for b in range(256))
+JOBS = {"words": 1, "grep": 2, "url": 3}
+name_bytes = struct.Struct(">III").pack
+
+
+def named_records(files, split):
+    """(split, number in it, file, start, bytes) of each record: a split has the records whose first byte it has."""
+    first = 0
+    for file, data in enumerate(files):
+        start, here, number = 0, -1, 0
+        while start < len(data):
+            end = data.find(b"\n", start)
+            end = len(data) if end < 0 else end
+            if start // split != here:
+                here, number = start // split, 0
+            yield first + here, number, file, start, data[start:end]
+            number += 1
+            start = end + 1
+        first += -(-len(data) // split)
+
+
+def resource_of(line):
+    """The resource that a line of a log requests, or none: the second word of its first text in quotes."""
+    open_quote = line.find(b'"')
+    at = open_quote + 1
+    while open_quote >= 0 and at < len(line):
+        if line[at] == 0x22:
+            words = line[open_quote + 1 : at].split(b" ")
+            return words[1] if len(words) > 1 and words[1] else None
+        at += 2 if line[at] == 0x5C else 1
+    return None
+
+
+def mapper_of(asked):
+    """What the job emits for a record: keys, each with the end of its line where that isn't a total."""
+    if asked.job == "words":
+        fold = None if asked.keep_case else FOLD
+        return lambda file, start, line: [(word.translate(fold), None) for word in WORD.findall(line)]
+    if asked.job == "grep":
+        table = FOLD if asked.fold else None
+        literal = os.fsencode(asked.literal).translate(table)
+        return lambda file, start, line: [(line, b"%d:%d" % (file, start))] if literal in line.translate(table) else []
+    return lambda file, start, line: [(key, None) for key in [resource_of(line)] if key is not None]
+
+
+def partition_of(key, parts):
+    """FNV-1a in 64 bits, modulo the number of partitions."""
+    h = 0xCBF29CE484222325
+    for byte in key:
+        h = ((h ^ byte) * 0x100000001B3) & 0xFFFFFFFFFFFFFFFF
+    return h % parts
+
+
+def grouped(asked, files, skips):
+    """Of each key the names of its pairs, spelled one behind another in their order, and the ends of its lines."""
+    emitted, groups = mapper_of(asked), {}
+    for split, number, file, start, line in named_records(files, asked.split):
+        if (split, number) in skips:
+            continue
+        for place, (key, end) in enumerate(emitted(file, start, line)):
+            names, ends = groups.setdefault(key, (bytearray(), []))
+            names += name_bytes(split, number, place)
+            if end is not None:
+                ends.append(end)
+    return groups
+
+
+def front_of(asked, files, skips):
+    """What stands in a certificate before its partitions."""
+    literal = os.fsencode(asked.literal or "")
+    flags = (1 if asked.keep_case else 0) + (2 if asked.fold else 0)
+    front = b"MRCERT1\n" + struct.pack(">III", JOBS[asked.job], flags, len(literal)) + literal
+    front += struct.pack(">III", asked.parts, asked.split, len(files)) + b"".join(struct.pack(">Q", len(data)) for data in files)
+    return front + struct.pack(">I", len(skips)) + b"".join(struct.pack(">II", *skip) for skip in skips)
+
+
+def partition(keys, groups):
+    """The output of a partition, and what the certificate says of it, given its keys in their order."""
+    out, names = [], [struct.pack(">I", len(keys))]
+    for key in keys:
+        spelled, ends = groups[key]
+        lines = ends or [b"%d" % (len(spelled) // 12)]
+        out += [key + b"\t" + end + b"\n" for end in lines]
+        names += [struct.pack(">I", len(spelled) // 12), spelled]
+    return b"".join(out), b"".join(names)
+
+
+def produce(asked):
+    files = []
+    for name in asked.files:
+        with open(name, "rb") as file:
+            files.append(file.read())
+    skips = [tuple(map(int, skip.split(":"))) for skip in asked.skips.split(",") if skip]
+    groups = grouped(asked, files, set(skips))
+    own = [[] for _ in range(asked.parts)]
+    for key in sorted(groups):
+        own[partition_of(key, asked.parts)].append(key)
+    with open(os.path.join(asked.out, "certificate"), "wb") as certificate:
+        certificate.write(front_of(asked, files, skips))
+        for number, keys in enumerate(own):
+            output, names = partition(keys, groups)
+            with open(os.path.join(asked.out, f"part-{number:05}"), "wb") as part:
+                part.write(output)
+            certificate.write(names)
+    return sum(len(names) // 12 for names, _ in groups.values())
+
+
+def main():
+    parser = argparse.ArgumentParser(description=__doc__, formatter_class=argparse.RawDescriptionHelpFormatter)
+    parser.add_argument("--out", required=True, metavar="DIR", help="a directory that exists")
+    parser.add_argument("--job", required=True, choices=JOBS)
+    parser.add_argument("--literal", help="what grep looks for")
+    parser.add_argument("--fold", action="store_true", help="grep: letters in either case")
+    parser.add_argument("--keep-case", action="store_true", help="words: capitals are not folded")
+    parser.add_argument("--parts", type=int, default=1, help="partitions, one file each")
+    parser.add_argument("--split", type=int, default=67108864, help="bytes of a split")
+    parser.add_argument("--skips", default="", help="records to leave out, rising, as SPLIT:RECORD,SPLIT:RECORD")
+    parser.add_argument("files", nargs="*", metavar="FILE")
+    asked = parser.parse_args()
+    if asked.job == "grep" and not asked.literal:
+        parser.error("grep needs --literal TEXT")
+    print(f"made: {asked.parts} files, {produce(asked)} pairs")
+    return 0
+
+
+if __name__ == "__main__":
+    sys.exit(main())
