@@ -1,12 +1,14 @@
 -- Pairs that rise, cut into groups; groups kept flat.
 use Rattle.std.proofs.Common.{◌≡◌, ◌≢◌, ℕ, zero, suc, ◌+◌, ◌-◌, ◌<◌, ◌≤◌, Bool, true, false, cond, List, [], ◌∷◌, ◌++◌, length, get_or, take, drop, map, filter, slice_range, refl, ap, sym, ◌∙◌, subst, arith, inl, inr, ◌⊎◌}
-use Rattle.std.proofs.lemmas.List.{drop-map, drop_more, take-map}
+use Rattle.std.proofs.lemmas.List.{drop-map, drop_all, drop_more, map-append, take-map}
 use Rattle.std.proofs.lemmas.Cmp.{nat_list_cmp_total, tied_itself}
+use Rattle.std.specs.List.{flat_map}
 use Rattle.std.specs.Str.{bytes_eq}
 use Rattle.std.specs.Cmp.Lexicographic.{bytes_decides, texts_ties}
 use Rattle.std.specs.Ordering.{is_eq, ordering_then}
 use Rattle.std.specs.declared.cmp.Ordering.{Ordering}
 use Rattle.std.specs.declared.cmp.Ordering.TheVariants.{Less, Equal, Greater}
+use Rattle.mr_bytes.specs.declared.Name.{Name}
 use Rattle.mr_bytes.specs.Lists.{Has, HasNoTies, Rises, sorted}
 use Rattle.mr_bytes.specs.Order.{key_order, name_order}
 use Rattle.mr_bytes.specs.Pairs.{Triple, pair_order}
@@ -205,3 +207,13 @@ group-at from (suc g) ts (x ∷ ends) l = group-at x g ts ends (omega (arith, l)
 pub names-range : (ts : List Triple) (from to : ℕ) → slice_range (names_of ts) from to ≡ names_of (slice_range ts from to)
 names-range ts from to =
     ap (take (to - from)) (drop-map (λ (t : Triple). t.name) from ts) ∙ take-map (λ (t : Triple). t.name) (to - from) (drop from ts)
+
+-- the names of groups that end with the pairs, one group behind another
+pub names-groups : (from : ℕ) (ts : List Triple) (ends : List ℕ) → EndsGrow from (length ts) ends
+    → flat_map (λ (g : Group). names_of g.pairs) (groups_from from ts ends) ≡ names_of (drop from ts)
+names-groups from ts [] h = ap names_of (sym (drop_all from ts (omega (arith, h))))
+names-groups from ts (e ∷ ends) h =
+    let cut : slice_range ts from e ++ drop e ts ≡ drop from ts = cut-at ts from e (omega (arith, h.0)) in
+    ap (λ (l : List Name). names_of (slice_range ts from e) ++ l) (names-groups e ts ends h.1)
+    ∙ sym (map-append (λ (t : Triple). t.name) (slice_range ts from e) (drop e ts))
+    ∙ ap names_of cut

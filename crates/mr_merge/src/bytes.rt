@@ -78,11 +78,11 @@ fn merged_whole(alloc: Global, regions: &[Region<'_>], partition: u32) -> Result
     Ok(groups)
 }
 
-/// The pairs that were taken, in order.
-fn in_order(alloc: Global, all: &Gathering) -> Result<Pairs, AllocError>
-    requires rise { RisesUnderKeys all.now.pairs }
-    requires differ { NamesDiffer all.now.pairs }
-    ensures { IfOk result (λ p. p ≡ sorted pair_order all.now.pairs) }
+/// The pairs that were taken, in order. What they were taken into is let go.
+fn in_order(alloc: Global, all: Gathering) -> Result<Pairs, AllocError>
+    requires rise { RisesUnderKeys all.pairs }
+    requires differ { NamesDiffer all.pairs }
+    ensures { IfOk result (λ p. p ≡ sorted pair_order all.pairs) }
 {
     Ok(only(cut(alloc, &all.pairs, 1)?))
 }
@@ -102,6 +102,6 @@ pub fn merge_regions(
     let Some(all) = taken else {
         return merged_whole(alloc, regions, partition);
     };
-    let pairs = in_order(alloc, &all)?;
+    let pairs = in_order(alloc, all)?;
     Ok(grouped(alloc, pairs)?)
 }

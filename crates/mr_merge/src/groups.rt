@@ -1,5 +1,6 @@
 //! The groups of merged pairs.
 ghost use Rattle.std.specs.Prelude.{◌≡◌, ◌≢◌, ℕ, ◌+◌, ◌<◌, ◌≤◌, ◌∷◌, IfOk, length, slice_index};
+ghost use Rattle.std.specs.List.{flat_map};
 ghost use Rattle.mr_bytes.specs.Lists.{Rises};
 ghost use Rattle.mr_bytes.specs.Pairs.{pair_order};
 ghost use Rattle.mr_spill.specs.Column.{names_of, nth_pair};
@@ -71,6 +72,14 @@ impl Groups {
         let start = start_of(self.ends.as_slice(), g);
         let names = self.pairs.names();
         &names[start..self.ends[g]]
+    }
+
+    /// The names of all groups, one group behind another; the rest is let go.
+    pub fn into_names(self) -> Vec<Name>
+        ensures { result.items ≡ flat_map (λ g. names_of g.pairs) self }
+    {
+        let Groups { pairs, .. } = self;
+        pairs.into_names()
     }
 
     /// Value `i` of group `g`, both from 0.

@@ -141,6 +141,14 @@ impl Pairs {
         &self.names
     }
 
+    /// The names of all pairs, in their order; the rest is let go.
+    pub fn into_names(self) -> Vec<Name>
+        ensures { result.items ≡ names_of self }
+    {
+        let Pairs { names, .. } = self;
+        names
+    }
+
     /// One more pair, at the end. It fails only for want of memory, and then nothing has changed.
     pub fn push(&mut self, key: &[u8], value: Value, name: Name) -> Result<(), AllocError>
         ensures ok { OnOk result (self.new ≡ self.old ++ record { key = key.now; value = value; name = name } ∷ []) }
