@@ -1,6 +1,6 @@
 -- Pairs that rise, cut into groups; groups kept flat.
 use Rattle.std.proofs.Common.{◌≡◌, ◌≢◌, ℕ, zero, suc, ◌+◌, ◌-◌, ◌<◌, ◌≤◌, Bool, true, false, cond, List, [], ◌∷◌, ◌++◌, length, get_or, take, drop, map, filter, slice_range, refl, ap, sym, ◌∙◌, subst, arith, inl, inr, ◌⊎◌}
-use Rattle.std.proofs.lemmas.List.{drop-map, drop_all, drop_more, map-append, take-map}
+use Rattle.std.proofs.lemmas.List.{drop_all, drop_more, map-append}
 use Rattle.std.proofs.lemmas.Cmp.{nat_list_cmp_total, tied_itself}
 use Rattle.std.specs.List.{flat_map}
 use Rattle.std.specs.Str.{bytes_eq}
@@ -203,10 +203,6 @@ pub group-at : (from g : ℕ) (ts : List Triple) (ends : List ℕ) → g < lengt
 group-at from g ts [] l = absurd (omega arith)
 group-at from zero ts (x ∷ ends) l = refl
 group-at from (suc g) ts (x ∷ ends) l = group-at x g ts ends (omega (arith, l))
-
-pub names-range : (ts : List Triple) (from to : ℕ) → slice_range (names_of ts) from to ≡ names_of (slice_range ts from to)
-names-range ts from to =
-    ap (take (to - from)) (drop-map (λ (t : Triple). t.name) from ts) ∙ take-map (λ (t : Triple). t.name) (to - from) (drop from ts)
 
 -- the names of groups that end with the pairs, one group behind another
 pub names-groups : (from : ℕ) (ts : List Triple) (ends : List ℕ) → EndsGrow from (length ts) ends

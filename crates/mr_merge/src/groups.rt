@@ -64,16 +64,6 @@ impl Groups {
         self.ends[g] - start_of(self.ends.as_slice(), g)
     }
 
-    /// The names of the pairs of group `g`, in their order.
-    pub fn names(&self, g: usize) -> &[Name]
-        requires { g < length self.now }
-        ensures { result.now ≡ names_of (nth_group self.now g).pairs }
-    {
-        let start = start_of(self.ends.as_slice(), g);
-        let names = self.pairs.names();
-        &names[start..self.ends[g]]
-    }
-
     /// The names of all groups, one group behind another; the rest is let go.
     pub fn into_names(self) -> Vec<Name>
         ensures { result.items ≡ flat_map (λ g. names_of g.pairs) self }

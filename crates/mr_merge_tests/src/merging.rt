@@ -31,18 +31,12 @@ fn first(alloc: Global) -> Result<Pairs, AllocError> {
 
 /// Whether group `g` has this key, and these many pairs.
 fn is_group(groups: &Groups, g: usize, key: &[u8], count: usize) -> bool {
-    g < groups.len()
-        && groups.key(g) == key
-        && groups.count(g) == count
-        && groups.names(g).len() == count
+    g < groups.len() && groups.key(g) == key && groups.count(g) == count
 }
 
-/// Whether pair `i` of group `g` has this name and value.
-fn is_pair(groups: &Groups, g: usize, i: usize, name: Name, value: Value) -> bool {
-    g < groups.len()
-        && i < groups.count(g)
-        && groups.names(g)[i] == name
-        && groups.value(g, i) == value
+/// Whether pair `i` of group `g` has this value.
+fn is_value(groups: &Groups, g: usize, i: usize, value: Value) -> bool {
+    g < groups.len() && i < groups.count(g) && groups.value(g, i) == value
 }
 
 #[test]
@@ -51,9 +45,10 @@ fn one_region(rt: HostRuntime) -> Result<(), Fail> {
     let groups = merge(rt.alloc(), &[&only]).expect(&rt, "sound");
     assert!(rt; groups.len() == 2);
     assert!(rt; is_group(&groups, 0, b"a", 1) && is_group(&groups, 1, b"b", 2));
-    assert!(rt; is_pair(&groups, 0, 0, name(0, 1), Value::One));
-    assert!(rt; is_pair(&groups, 1, 0, name(0, 0), Value::One));
-    assert!(rt; is_pair(&groups, 1, 1, name(0, 2), Value::At { file: 3, offset: 9 }));
+    assert!(rt; is_value(&groups, 0, 0, Value::One) && is_value(&groups, 1, 0, Value::One));
+    assert!(rt; is_value(&groups, 1, 1, Value::At { file: 3, offset: 9 }));
+    let names = groups.into_names();
+    assert!(rt; names.as_slice() == [name(0, 1), name(0, 0), name(0, 2)].as_slice());
     Ok(())
 }
 
@@ -65,9 +60,11 @@ fn three_regions(rt: HostRuntime) -> Result<(), Fail> {
     let groups = merge(rt.alloc(), &[&late, &early, &middle]).expect(&rt, "sound");
     assert!(rt; groups.len() == 2);
     assert!(rt; is_group(&groups, 0, b"a", 1) && is_group(&groups, 1, b"b", 4));
-    assert!(rt; is_pair(&groups, 1, 1, name(0, 2), Value::At { file: 3, offset: 9 }));
-    assert!(rt; is_pair(&groups, 1, 2, name(1, 5), Value::One));
-    assert!(rt; is_pair(&groups, 1, 3, name(2, 0), Value::One));
+    assert!(rt; is_value(&groups, 1, 1, Value::At { file: 3, offset: 9 }));
+    assert!(rt; is_value(&groups, 1, 2, Value::One) && is_value(&groups, 1, 3, Value::One));
+    let names = groups.into_names();
+    assert!(rt; names.len() == 5 && names[0] == name(0, 1) && names[1] == name(0, 0));
+    assert!(rt; names[2] == name(0, 2) && names[3] == name(1, 5) && names[4] == name(2, 0));
     Ok(())
 }
 
@@ -77,7 +74,7 @@ fn no_region(rt: HostRuntime) -> Result<(), Fail> {
     assert!(rt; none.len() == 0);
     let empty = Pairs::new(rt.alloc());
     let groups = merge(rt.alloc(), &[&empty, &empty]).expect(&rt, "sound");
-    assert!(rt; groups.len() == 0);
+    assert!(rt; groups.len() == 0 && groups.into_names().is_empty());
     Ok(())
 }
 

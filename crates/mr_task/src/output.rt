@@ -137,6 +137,31 @@ fn put_text(
     column_text(job, key, values, text)
 }
 
+/// The texts of all groups, one behind another. The column of values is one for all.
+fn texts(alloc: Global, job: &Job, groups: &Groups) -> Result<Vec<u8>, AllocError>
+    ensures { IfOk result (λ v. v.items ≡ flat_map (group_text (text_of job.now)) groups.now) }
+{
+    let mut text = Vec::new(alloc);
+    let mut values = Values::new(alloc);
+    for g in 0..groups.len() {
+        put_text(job, groups, g, &mut values, &mut text)?;
+    }
+    Ok(text)
+}
+
+/// How many pairs each group has: at least one.
+fn pair_counts(alloc: Global, groups: &Groups) -> Result<Vec<u32>, AllocError>
+    requires { All (λ g. length g.pairs < 2 ^ 32) groups.now }
+    ensures counts { IfOk result (λ v. v.items ≡ map (λ g. length g.pairs) groups.now) }
+    ensures some { IfOk result (λ v. AllByRecursion (λ n. 1 ≤ n) v.items) }
+{
+    let mut counts = Vec::with_capacity(alloc, groups.len())?;
+    for g in 0..groups.len() {
+        counts.push(groups.count(g) as u32)?;
+    }
+    Ok(counts)
+}
+
 /// The byte with its lowest bit changed.
 fn flipped_bit(byte: u8) -> u8
     ensures { result ≡ with_other_bit byte }
@@ -145,43 +170,20 @@ fn flipped_bit(byte: u8) -> u8
 }
 
 impl ReduceOutput {
-    /// No text and no groups, with room for so many groups and names.
-    pub(crate) fn with_room(
-        alloc: Global,
-        groups: usize,
-        names: usize,
-    ) -> Result<ReduceOutput, AllocError>
-        ensures { IfOk result (λ o. o ≡ record { output = []; groups = [] }) }
+    /// What a job makes of groups: the text of each, and the names of its pairs. The names are moved, not copied.
+    pub(crate) fn of(alloc: Global, job: &Job, groups: Groups) -> Result<ReduceOutput, AllocError>
+        requires few { All (λ g. length g.pairs < 2 ^ 32) groups }
+        requires count { length groups < 2 ^ 32 }
+        ensures { IfOk result (λ o. o ≡ reduced (text_of job.now) groups) }
     {
+        let text = texts(alloc, job, &groups)?;
+        let counts = pair_counts(alloc, &groups)?;
+        let names = groups.into_names();
         Ok(ReduceOutput {
-            text: Vec::new(alloc),
-            counts: Vec::with_capacity(alloc, groups)?,
-            names: Vec::with_capacity(alloc, names)?,
+            text,
+            counts,
+            names,
         })
-    }
-
-    /// Appends a group: its text, and the names of its pairs. The column of values is one for all groups.
-    pub(crate) fn push_group(
-        &mut self,
-        job: &Job,
-        groups: &Groups,
-        g: usize,
-        values: &mut Values,
-    ) -> Result<(), AllocError>
-        requires group { g < length groups.now }
-        requires few { length (nth_group groups.now g).pairs < 2 ^ 32 }
-        requires room { length self.old.groups + 1 < 2 ^ 32 }
-        ensures { OnOk result (self.new ≡ record {
-          output = self.old.output ++ group_text (text_of job.now) (nth_group groups.now g);
-          groups = self.old.groups ++ names_of (nth_group groups.now g).pairs ∷ [];
-        }) }
-    {
-        put_text(job, groups, g, values, &mut self.text)?;
-        let count = groups.count(g);
-        self.counts.reserve(1)?;
-        self.names.extend_from_slice(groups.names(g))?;
-        self.counts.push_reserved(count as u32);
-        Ok(())
     }
 
     /// The text of the partition.

@@ -55,25 +55,6 @@ fn count_all(regions: &[Region<'_>], partition: u32) -> Result<usize, TaskFault>
     Ok(total)
 }
 
-/// Appends all groups, in their order.
-fn push_groups(
-    alloc: Global,
-    job: &Job,
-    groups: &Groups,
-    output: &mut ReduceOutput,
-) -> Result<(), AllocError>
-    requires none { output.old ≡ record { output = []; groups = [] } }
-    requires few { All (λ g. length g.pairs < 2 ^ 32) groups.now }
-    requires count { length groups.now < 2 ^ 32 }
-    ensures { OnOk result (output.new ≡ reduced (text_of job.now) groups.now) }
-{
-    let mut values = Values::new(alloc);
-    for g in 0..groups.len() {
-        output.push_group(job, groups, g, &mut values)?;
-    }
-    Ok(())
-}
-
 /// What a job makes of the pairs that the map tasks have for a partition, in whatever regions they are: for each key, in
 /// order, the text of the list of all its values, and the names of its pairs. Bytes that are no region of the partition and
 /// of the split that they are told to be of, regions in which a name stands twice, and such that have more than
@@ -87,9 +68,7 @@ pub fn reduce_task(
     ensures reduced { IfOk result (IsReduced (text_of job.now) partition regions.now) }
     ensures damaged { IfErr result (λ e. e ≡ RegionDamaged → CanMerge partition regions.now → ⊥) }
 {
-    let count = count_all(regions, partition)?;
+    let _count = count_all(regions, partition)?;
     let groups = merge_regions(alloc, regions, partition)?;
-    let mut output = ReduceOutput::with_room(alloc, groups.len(), count)?;
-    push_groups(alloc, job, &groups, &mut output)?;
-    Ok(output)
+    Ok(ReduceOutput::of(alloc, job, groups)?)
 }
