@@ -1,7 +1,8 @@
--- Groups that are added to an output, one by one.
+-- What a reduce task gives: texts, counts and names of groups.
 use Rattle.std.proofs.Common.{◌≡◌, ℕ, zero, suc, ◌+◌, ◌<◌, ◌≤◌, Bool, true, false, cond, All, List, [], ◌∷◌, ◌++◌, length, get_or, take, drop, map, filter, refl, sym, ap, ◌∙◌, arith, length-append, length-drop}
-use Rattle.std.proofs.lemmas.List.{append-nil, length-map, drop-append-le, map-append, take-append-drop, take-append-le, take_all, take_more}
+use Rattle.std.proofs.lemmas.List.{append-nil, length-map, take-append-drop, take_more}
 use Rattle.std.proofs.lemmas.List.Elements.{All-map}
+use Rattle.std.proofs.Math.Seq.{drop-append_seam, take-append_seam}
 use Rattle.std.specs.Ordering.{match_ordering}
 use Rattle.std.specs.Str.{bytes_eq}
 use Rattle.std.specs.declared.cmp.Ordering.{Ordering}
@@ -10,6 +11,7 @@ use Rattle.mr_bytes.specs.Lists.{placed, sorted}
 use Rattle.mr_bytes.specs.Order.{key_order}
 use Rattle.mr_bytes.specs.Pairs.{Triple, pair_order}
 use Rattle.std.specs.List.{AllByRecursion, flat_map}
+use Rattle.mr_bytes.specs.declared.Name.{Name}
 use Rattle.mr_bytes.specs.declared.Value.{Value}
 use Rattle.mr_certform.specs.Flat.{chunks, total}
 use Rattle.mr_merge.specs.Bytes.{AreSpelled}
@@ -26,39 +28,41 @@ use Rattle.mr_task.specs.Values.{group_text, reduced}
 
 -- ---- counts with names
 
-pub total-more : (cs : List ℕ) (n : ℕ) → total (cs ++ n ∷ []) ≡ total cs + n
-total-more [] n = omega arith
-total-more (c ∷ cs) n = omega (arith, total-more cs n)
-
 pub some-more : (cs : List ℕ) (n : ℕ) → AllByRecursion (λ m. 1 ≤ m) cs → 1 ≤ n → AllByRecursion (λ m. 1 ≤ m) (cs ++ n ∷ [])
 some-more [] n all h = (h, tt)
 some-more (c ∷ cs) n all h = (all.0, some-more cs n all.1 h)
 
-pub chunks-more : {X : Type 0} (cs : List ℕ) (n : ℕ) (xs ys : List X) → total cs ≡ length xs → n ≡ length ys
-    → chunks (cs ++ n ∷ []) (xs ++ ys) ≡ chunks cs xs ++ ys ∷ []
-chunks-more [] n [] ys e is = ap (λ l. l ∷ []) (take_all n ys (omega (arith, is)))
-chunks-more [] n (x ∷ xs) ys e is = absurd (omega (arith, e))
-chunks-more {X} (c ∷ cs) n xs ys e is =
-    let within : c ≤ length xs = omega (arith, e) in
-    ap (λ (l : List X). l ∷ chunks (cs ++ n ∷ []) (drop c (xs ++ ys))) (take-append-le c xs ys within)
-    ∙ ap (λ (l : List X). take c xs ∷ chunks (cs ++ n ∷ []) l) (drop-append-le c xs ys within)
-    ∙ ap (λ (l : List (List X)). take c xs ∷ l) (chunks-more cs n (drop c xs) ys (omega (arith, e, length-drop c xs)) is)
+-- the names of all groups, cut by how many pairs each has, are those of each
+pub chunks-counted : (gs : List Group)
+    → chunks (map (λ (g : Group). length g.pairs) gs) (flat_map (λ (g : Group). names_of g.pairs) gs) ≡ map (λ (g : Group). names_of g.pairs) gs
+chunks-counted [] = refl
+chunks-counted (g ∷ gs) =
+    let rest : List Name = flat_map (λ (x : Group). names_of x.pairs) gs in
+    let names : List Name = names_of g.pairs in
+    let long : length g.pairs ≡ length names = sym (length-map g.pairs (λ (t : Triple). t.name)) in
+    ap (λ (n : ℕ). take n (names ++ rest) ∷ chunks (map (λ (x : Group). length x.pairs) gs) (drop n (names ++ rest))) long
+    ∙ ap (λ (l : List Name). l ∷ chunks (map (λ (x : Group). length x.pairs) gs) (drop (length names) (names ++ rest))) (take-append_seam names rest)
+    ∙ ap (λ (l : List Name). names ∷ chunks (map (λ (x : Group). length x.pairs) gs) l) (drop-append_seam names rest)
+    ∙ ap (λ (l : List (List Name)). names ∷ l) (chunks-counted gs)
+
+pub total-counted : (gs : List Group) → total (map (λ (g : Group). length g.pairs) gs) ≡ length (flat_map (λ (g : Group). names_of g.pairs) gs)
+total-counted [] = refl
+total-counted (g ∷ gs) = omega (
+  arith,
+  total-counted gs,
+  length-append (names_of g.pairs) (flat_map (λ (x : Group). names_of x.pairs) gs),
+  length-map g.pairs (λ (t : Triple). t.name),
+)
 
 -- ---- one group more
 
-pub reduced-more : (text : Key → List Value → Text) (gs : List Group) (g : ℕ) → g < length gs
-    → reduced text (take (g + 1) gs)
-    ≡ record {
-      output = (reduced text (take g gs)).output ++ group_text text (nth_group gs g);
-      groups = (reduced text (take g gs)).groups ++ names_of (nth_group gs g).pairs ∷ [];
-    }
-reduced-more text gs g h =
+pub texts-more : (text : Key → List Value → Text) (gs : List Group) (g : ℕ) → g < length gs
+    → flat_map (group_text text) (take (g + 1) gs) ≡ flat_map (group_text text) (take g gs) ++ group_text text (nth_group gs g)
+texts-more text gs g h =
     let one : Group = nth_group gs g in
-    ap (reduced text) (take_more gs g no_group h)
-    ∙ (λ i. record {
-      output = (flat_map-append (group_text text) (take g gs) (one ∷ []) ∙ ap (λ (l : Text). flat_map (group_text text) (take g gs) ++ l) (append-nil (group_text text one))) i;
-      groups = map-append (λ (x : Group). names_of x.pairs) (take g gs) (one ∷ []) i;
-    })
+    ap (flat_map (group_text text)) (take_more gs g no_group h)
+    ∙ flat_map-append (group_text text) (take g gs) (one ∷ [])
+    ∙ ap (λ (l : Text). flat_map (group_text text) (take g gs) ++ l) (append-nil (group_text text one))
 
 -- ---- how many pairs there are
 
@@ -153,10 +157,3 @@ pub flipped-past : (place : ℕ) (bs : List ℕ) → length bs ≤ place → fli
 flipped-past place [] l = refl
 flipped-past zero (b ∷ bs) l = absurd (omega arith)
 flipped-past (suc place) (b ∷ bs) l = ap (λ (xs : List ℕ). b ∷ xs) (flipped-past place bs (omega arith))
-
-length-chunks : {X : Type 0} (cs : List ℕ) (xs : List X) → length (chunks cs xs) ≡ length cs
-length-chunks [] xs = refl
-length-chunks (c ∷ cs) xs = ap suc (length-chunks cs (drop c xs))
-
-pub counts-are : {X : Type 0} (cs : List ℕ) (xs : List X) → length cs ≡ length (chunks cs xs)
-counts-are cs xs = sym (length-chunks cs xs)

@@ -1,13 +1,12 @@
 //! What tasks give.
-ghost use Rattle.std.specs.Prelude.{◌≡◌, ◌+◌, ◌<◌, ◌^◌, ◌≤◌, ◌++◌, ◌∷◌, [], IfOk, MatchOption, OnOk, length, map};
-ghost use Rattle.std.specs.List.{AllByRecursion};
+ghost use Rattle.std.specs.Prelude.{◌≡◌, ◌<◌, ◌^◌, ◌≤◌, ◌++◌, ◌∷◌, [], All, IfOk, MatchOption, OnOk, length, map};
+ghost use Rattle.std.specs.List.{AllByRecursion, flat_map};
 ghost use Rattle.mr_certform.specs.Flat.{chunks, total};
 ghost use Rattle.mr_merge.specs.Groups.{nth_group};
 ghost use Rattle.mr_reduce.specs.Text.{text_of};
-ghost use Rattle.mr_spill.specs.Column.{names_of};
 ghost use Rattle.mr_task.specs.Mapped.{nth_run, region_of};
 ghost use Rattle.mr_task.specs.Outputs.{flipped, with_other_bit};
-ghost use Rattle.mr_task.specs.Values.{group_text};
+ghost use Rattle.mr_task.specs.Values.{group_text, reduced};
 
 use mr_bytes::{Name, Values};
 use mr_jobs::Job;

@@ -1,19 +1,18 @@
 //! Reduce tasks.
-ghost use Rattle.std.specs.Prelude.{◌≡◌, ◌≤◌, ◌<◌, ◌^◌, [], List, All, IfErr, IfOk, MatchOption, OnOk, length};
+ghost use Rattle.std.specs.Prelude.{◌≡◌, ◌≤◌, ◌<◌, List, IfErr, IfOk, MatchOption, length};
 ghost use Rattle.mr_bytes.specs.Pairs.{Triple};
 ghost use Rattle.mr_merge.specs.Bytes.{AreSpelled};
 ghost use Rattle.mr_merge.specs.Merged.{joined};
 ghost use Rattle.mr_reduce.specs.Text.{text_of};
 ghost use Rattle.mr_spill.specs.Spelling.{SpellsRegion};
-ghost use Rattle.mr_task.specs.Values.{CanMerge, IsReduced, reduced};
+ghost use Rattle.mr_task.specs.Values.{CanMerge, IsReduced};
 
 use crate::fault::TaskFault;
 use crate::output::ReduceOutput;
-use mr_bytes::Values;
 use mr_jobs::Job;
-use mr_merge::{Groups, merge_regions};
+use mr_merge::merge_regions;
 use mr_spill::{Region, open_region};
-use std::alloc::{AllocError, Global};
+use std::alloc::Global;
 
 /// The most pairs that a reduce task takes: an input within its limits emits no more.
 const MAX_PAIRS: usize = 1_073_741_824;
@@ -68,7 +67,8 @@ pub fn reduce_task(
     ensures reduced { IfOk result (IsReduced (text_of job.now) partition regions.now) }
     ensures damaged { IfErr result (λ e. e ≡ RegionDamaged → CanMerge partition regions.now → ⊥) }
 {
-    let _count = count_all(regions, partition)?;
+    // The pairs are so few that a u32 counts those of each group, and the groups.
+    count_all(regions, partition)?;
     let groups = merge_regions(alloc, regions, partition)?;
     Ok(ReduceOutput::of(alloc, job, groups)?)
 }

@@ -6,26 +6,26 @@ use Rattle.mr_task.specs.Values.{reduced}
 use Rattle.mr_task.proofs.OutputLemmas.{groups-count, groups-few}
 use Rattle.mr_task.proofs.reduce.reduce_task.Goals as goal
 
-pub returns-in_err-count-clause-damaged : goal.returns-in_err-count-clause-damaged
-returns-in_err-count-clause-damaged c =
+pub returns-in_err-count_all-clause-damaged : goal.returns-in_err-count_all-clause-damaged
+returns-in_err-count_all-clause-damaged c =
     let p = err_from_is_err_and c.from_residual.result c.from_residual.ensures.1 in
-    rw p.1 (λ e can. omega (arith, c.in_err-count.ensures.many.1 can.values can.spelled, can.few))
+    rw p.1 (λ e can. omega (arith, c.in_err-count_all.ensures.many.1 can.values can.spelled, can.few))
 
 pub returns-in_err-groups-clause-damaged : goal.returns-in_err-groups-clause-damaged
 returns-in_err-groups-clause-damaged c =
     let p = err_from_is_err_and c.from_residual-in_err-groups.result c.from_residual-in_err-groups.ensures.1 in
     rw p.1 (λ e can. c.in_err-groups.ensures.damaged (p.2.0 e) can.values can.spelled can.sound)
 
-pub push_groups-requires-clause-few : goal.push_groups-requires-clause-few
-push_groups-requires-clause-few c =
+pub of-requires-clause-few : goal.of-requires-clause-few
+of-requires-clause-few c =
     let m = c.in_ok-groups.ensures.merged in
     subst (λ (gs : List Group). All (λ (g : Group). length g.pairs < 4294967296) gs) (sym m.is)
-    (groups-few (joined m.values) 4294967296 (omega (arith, c.in_ok-count.ensures.few, c.in_ok-count.ensures.count m.values m.spelled)))
+    (groups-few (joined m.values) 4294967296 (omega (arith, c.in_ok-count_all.ensures.few, c.in_ok-count_all.ensures.count m.values m.spelled)))
 
-pub push_groups-requires-clause-count : goal.push_groups-requires-clause-count
-push_groups-requires-clause-count c =
+pub of-requires-clause-count : goal.of-requires-clause-count
+of-requires-clause-count c =
     let m = c.in_ok-groups.ensures.merged in
-    let few : length (joined m.values) ≤ 1073741824 = omega (arith, c.in_ok-count.ensures.few, c.in_ok-count.ensures.count m.values m.spelled) in
+    let few : length (joined m.values) ≤ 1073741824 = omega (arith, c.in_ok-count_all.ensures.few, c.in_ok-count_all.ensures.count m.values m.spelled) in
     subst (λ (gs : List Group). length gs < 4294967296) (sym m.is) (omega (arith, few, groups-count (joined m.values)))
 
 pub returns-clause-reduced : goal.returns-clause-reduced
@@ -36,7 +36,7 @@ returns-clause-reduced c =
         values = m.values;
         spelled = m.spelled;
         sound = m.sound;
-        few = omega (arith, c.in_ok-count.ensures.few, c.in_ok-count.ensures.count m.values m.spelled);
+        few = omega (arith, c.in_ok-count_all.ensures.few, c.in_ok-count_all.ensures.count m.values m.spelled);
       };
-      is = c.in_ok-push_groups.ensures ∙ ap (reduced (text_of c.args.job.now)) m.is;
+      is = c.in_ok-of.ensures ∙ ap (reduced (text_of c.args.job.now)) m.is;
     }
