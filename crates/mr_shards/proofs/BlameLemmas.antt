@@ -16,7 +16,7 @@ use Rattle.mr_shards.specs.declared.window.Window.{Window}
 use Rattle.mr_shards.specs.Merged.{Group, group_text, texts}
 use Rattle.mr_shards.specs.Lines.{group_in, groups_in}
 use Rattle.mr_shards.specs.Refused.{Blames, IsBadLine, IsFarLine, IsLineOf, MayFollow, NoLineFollows, files_in, last_of, text_at, total_of, values_with}
-use Rattle.mr_shards.specs.Pieces.{AreBlamed, AreTaken, AreWindows, AreWithin, BeginsBehind, IsBefore, IsTaken, IsWindow, Reading, behind, fresh, front, numbered, outputs_of, pieces_of, told}
+use Rattle.mr_shards.specs.Pieces.{AreBlamed, AreTaken, AreWindows, AreWithin, BeginsBehind, Bound, IsBefore, next_bound, IsTaken, IsWindow, Reading, behind, fresh, front, numbered, outputs_of, pieces_of, told}
 use Rattle.mr_shards.proofs.LineLemmas.{begun}
 use Rattle.mr_shards.proofs.ReadingLemmas.{before-first, lines-none}
 use Rattle.mr_shards.proofs.RefusedLemmas.{bad-text, far-behind, front-text, lines-join}
@@ -94,7 +94,7 @@ none-more job gs hs last piece rest more (inr (inr w)) is some same bad g x l m 
 mod-both : (a m n w k : ℕ) → a ≡ m % w → k ≡ n % w → (a + k) % w ≡ (m + n) % w
 mod-both a m n w k e f = (λ i. (e i + f i) % w) ∙ mod-add-mod m w (n % w) ∙ add-mod-mod m n w
 
-module _ (job : JobSpec) (b : Option (List ℕ)) (h : Held) (r : Reading) (piece more : List ℕ) (t : IsTaken job b h r) (is : behind r ≡ piece ++ more)
+module _ (job : JobSpec) (b : Option Bound) (h : Held) (r : Reading) (piece more : List ℕ) (t : IsTaken job b h r) (is : behind r ≡ piece ++ more)
     (text_is : r.output.text.now ≡ front r ++ (piece ++ more)) (closed : IsClosed piece more) where
   bad-on : (line : ℕ) → IsBadLine job piece line → IsBadLine job r.output.text.now ((h.lines + line) % 2 ^ 64)
   bad-on line bad =
@@ -113,9 +113,9 @@ module _ (job : JobSpec) (b : Option (List ℕ)) (h : Held) (r : Reading) (piece
               ∙ sym (append_assoc (texts job T) (texts job G) (bad.rest ++ more))
               ∙ ap (λ (l : List ℕ). l ++ (bad.rest ++ more)) (sym (flat_map-append (group_text job) T G));
           lines = lines-join job T G t.stands.lines bad.before.lines;
-          in_turn = turn-join job b None T G tt t.stands.in_turn
+          in_turn = turn-join job b None T G t.together tt t.stands.in_turn
               (subst (AllByRecursion (λ (g : Group). IsBefore b g.key)) (rest-groups job None (front r) t.stands) t.before)
-              bad.before.in_turn (begins-front b G (groups_in job (bad.rest ++ more)) (subst (BeginsBehind b) begun_so t.next));
+              bad.before.in_turn (begins-front (next_bound b) G (groups_in job (bad.rest ++ more)) (subst (BeginsBehind (next_bound b)) begun_so t.next));
           last_is = λ _. refl;
           number_is = mod-both h.lines (length T) (length G) (2 ^ 64) line (t.count ∙ ap (λ (gs : List Group). length gs % 2 ^ 64) (rest-groups job None (front r) t.stands)) bad.before.number_is
               ∙ ap (λ k. k % 2 ^ 64) (sym (length-append T G));
@@ -158,10 +158,6 @@ module _ (job : JobSpec) (b : Option (List ℕ)) (h : Held) (r : Reading) (piece
       omega (arith, ap (values_with key) groups-all, with-append key gs (hs ++ ks), with-append key hs ks)
 
 -- ---- all shards
-
--- each piece is closed
-abbrev pub AreClosed : (Window → ℕ) → List Reading → List Window → Type 0
-AreClosed f rs ws = (r : Reading) (w : Window) (v : IsWindow r w) → IsClosed (take (f w) w.bytes.now) (drop (f w) w.bytes.now ++ v.more)
 
 bad-empty : (job : JobSpec) (line : ℕ) → IsBadLine job [] line → ⊥
 bad-empty job line bad = by (texts job bad.before.groups) bad.rest bad.before.text_is bad.some
@@ -223,32 +219,39 @@ worse-more job h r o hs rs os bad far few files w = record {
     far-at (suc i) n f = w.far i n f
 
 -- the cut closes the piece, whatever comes behind the window
-abbrev pub Closes : (Window → ℕ) → Window → Type 0
-Closes f w = (more : List ℕ) → (w.is_last ≡ true → more ≡ []) → IsClosed (take (f w) w.bytes.now) (drop (f w) w.bytes.now ++ more)
+abbrev pub Closes : ℕ → Window → Type 0
+Closes c w = (more : List ℕ) → (w.is_last ≡ true → more ≡ []) → IsClosed (take c w.bytes.now) (drop c w.bytes.now ++ more)
 
-module _ (job : JobSpec) (b : Option (List ℕ)) (f : Window → ℕ) where
-  pub worse : (hs : List Held) (rs : List Reading) (ws : List Window) (os : List Output) → AreTaken job b hs rs → AreWindows rs ws → AreWithin (map f ws) ws
-      → AllByRecursion (Closes f) ws → map told os ≡ pieces_of hs ws (map f ws) → AreWorse job hs rs os
-  worse [] [] [] [] t v fits all e = worse-none job
-  worse [] [] [] (o ∷ os) t v fits all e = absurd (cc e)
-  worse [] [] (w ∷ ws) os t v fits all e = absurd v
-  worse [] (r ∷ rs) ws os t v fits all e = absurd t
-  worse (h ∷ hs) [] ws os t v fits all e = absurd t
-  worse (h ∷ hs) (r ∷ rs) [] os t v fits all e = absurd v
-  worse (h ∷ hs) (r ∷ rs) (w ∷ ws) [] t v fits all e = absurd (cc e)
-  worse (h ∷ hs) (r ∷ rs) (w ∷ ws) (o ∷ os) t v fits all e =
-      let piece = first-of (told o) (h.files, take (f w) w.bytes.now) (map told os) (pieces_of hs ws (map f ws)) e in
-      let more = rest-of (told o) (h.files, take (f w) w.bytes.now) (map told os) (pieces_of hs ws (map f ws)) e in
-      let behind-it : List ℕ = drop (f w) w.bytes.now ++ v.0.more in
-      let is = behind-on job b h r w (f w) o t.0 v.0 fits.0 piece in
-      let text = whole-text job b h r w (f w) o t.0 v.0 fits.0 piece in
-      let closed : IsClosed o.text.now behind-it = subst (λ (l : List ℕ). IsClosed l behind-it) (sym (piece-text h w (f w) o piece)) (all.0 v.0.more v.0.none_more) in
+abbrev pub AreClosing : List ℕ → List Window → Type 0
+AreClosing [] ws = Unit {0}
+AreClosing (c ∷ cs) [] = Unit {0}
+AreClosing (c ∷ cs) (w ∷ ws) = Closes c w × AreClosing cs ws
+
+module _ (job : JobSpec) where
+  pub worse : (b : Option Bound) (hs : List Held) (rs : List Reading) (ws : List Window) (cs : List ℕ) (os : List Output) → AreTaken job b hs rs → AreWindows rs ws → AreWithin cs ws
+      → AreClosing cs ws → map told os ≡ pieces_of hs ws cs → AreWorse job hs rs os
+  worse b [] [] [] [] [] t v fits all e = worse-none job
+  worse b [] [] [] [] (o ∷ os) t v fits all e = absurd (cc e)
+  worse b [] [] [] (c ∷ cs) os t v fits all e = absurd fits
+  worse b [] [] (w ∷ ws) cs os t v fits all e = absurd v
+  worse b [] (r ∷ rs) ws cs os t v fits all e = absurd t
+  worse b (h ∷ hs) [] ws cs os t v fits all e = absurd t
+  worse b (h ∷ hs) (r ∷ rs) [] cs os t v fits all e = absurd v
+  worse b (h ∷ hs) (r ∷ rs) (w ∷ ws) [] os t v fits all e = absurd fits
+  worse b (h ∷ hs) (r ∷ rs) (w ∷ ws) (c ∷ cs) [] t v fits all e = absurd (cc e)
+  worse b (h ∷ hs) (r ∷ rs) (w ∷ ws) (c ∷ cs) (o ∷ os) t v fits all e =
+      let piece = first-of (told o) (h.files, take c w.bytes.now) (map told os) (pieces_of hs ws cs) e in
+      let more = rest-of (told o) (h.files, take c w.bytes.now) (map told os) (pieces_of hs ws cs) e in
+      let behind-it : List ℕ = drop c w.bytes.now ++ v.0.more in
+      let is = behind-on job b h r w c o t.0 v.0 fits.0 piece in
+      let text = whole-text job b h r w c o t.0 v.0 fits.0 piece in
+      let closed : IsClosed o.text.now behind-it = subst (λ (l : List ℕ). IsClosed l behind-it) (sym (piece-text h w c o piece)) (all.0 v.0.more v.0.none_more) in
       worse-more job h r o hs rs os
       (bad-on job b h r o.text.now behind-it t.0 is text closed)
       (far-on job b h r o.text.now behind-it t.0 is text closed)
       (few-on job b h r o.text.now behind-it t.0 is text closed)
       (ap (λ (p : ℕ × List ℕ). p.0) piece ∙ t.0.files)
-      (worse hs rs ws os t.1 v.1 fits.1 all.1 more)
+      (worse (next_bound b) hs rs ws cs os t.1 v.1 fits.1 all.1 more)
 
 files-same : (xs ys : List Output) → map (λ (o : Output). o.files) xs ≡ map (λ (o : Output). o.files) ys → files_in xs ≡ files_in ys
 files-same xs ys e = sym (sum-map (λ (o : Output). o.files) xs) ∙ ap sum e ∙ sum-map (λ (o : Output). o.files) ys
@@ -268,8 +271,8 @@ blames-fault job hs rs os TooManyFiles w (inr far) =
     inr (far.0, subst (IsFarLine job (text_at (outputs_of rs) far.0)) (files-front far.0 os (outputs_of rs) w.files) (w.far far.0 (files_in (take far.0 os)) far.1))
 blames-fault job hs rs os OutOfMemory w b = tt
 
-pub blames-so : (job : JobSpec) (b : Option (List ℕ)) (f : Window → ℕ) (hs : List Held) (rs : List Reading) (ws : List Window) (e : MergeFault) → AreTaken job b hs rs → AreWindows rs ws
-    → AreWithin (map f ws) ws → AllByRecursion (Closes f) ws → AreBlamed job hs (pieces_of hs ws (map f ws)) e → Blames job (outputs_of rs) e
-blames-so job b f hs rs ws e t v fits all a =
+pub blames-so : (job : JobSpec) (b : Option Bound) (hs : List Held) (rs : List Reading) (ws : List Window) (cs : List ℕ) (e : MergeFault) → AreTaken job b hs rs → AreWindows rs ws
+    → AreWithin cs ws → AreClosing cs ws → AreBlamed job hs (pieces_of hs ws cs) e → Blames job (outputs_of rs) e
+blames-so job b hs rs ws cs e t v fits all a =
     subst (Blames job (outputs_of rs)) (sym a.is)
-    (blames-fault job hs rs a.outputs a.fault (worse job b f hs rs ws a.outputs t v fits all a.are) a.blames)
+    (blames-fault job hs rs a.outputs a.fault (worse job b hs rs ws cs a.outputs t v fits all a.are) a.blames)

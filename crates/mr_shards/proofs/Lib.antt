@@ -17,6 +17,8 @@ pub mod TotalLemmas
 pub mod JudgedLaws
 pub mod WindowLemmas
 pub mod PieceLemmas
+pub mod PlaceLemmas
+pub mod WovenLaws
 pub mod ApartLaws
 pub mod CutLemmas
 pub mod TurnLemmas

@@ -1,10 +1,11 @@
 -- What a step of a merge by pieces does, and what it refuses.
-use Rattle.std.proofs.Common.{◌≡◌, ℕ, ◌%◌, ◌^◌, ◌++◌, List, [], ◌∷◌, length, take, refl, ap, sym, ◌∙◌, subst, inl, inr, Bool, true, false, map, arith, Option, None, Some}
+use Rattle.std.proofs.Common.{◌≡◌, ℕ, ◌%◌, ◌^◌, ◌++◌, List, [], ◌∷◌, length, take, refl, ap, sym, ◌∙◌, subst, inl, inr, Bool, true, false, cond, map, arith, Option, None, Some}
+use Rattle.std.specs.Prelude.{option_map}
 use Rattle.std.proofs.lemmas.List.{append-nil, drop_all}
 use Rattle.std.proofs.lemmas.Cmp.{nat_list_cmp_total}
 use Rattle.std.specs.List.{AllByRecursion}
 use Rattle.mr_bytes.specs.Order.{key_order}
-use Rattle.mr_jobs.specs.JobSpec.{JobSpec}
+use Rattle.mr_jobs.specs.JobSpec.{JobSpec, counts}
 use Rattle.mr_shards.specs.declared.fault.MergeFault.{MergeFault}
 use Rattle.mr_shards.specs.declared.window.Held.{Held}
 use Rattle.mr_shards.specs.declared.window.Window.{Window}
@@ -12,13 +13,12 @@ use Rattle.mr_shards.specs.Merged.{Group, merged, merged_parts, moved_group, tex
 use Rattle.mr_shards.specs.Lines.{group_in, groups_in, lines}
 use Rattle.mr_shards.specs.Outputs.{parts_in}
 use Rattle.mr_shards.specs.Refused.{Blames}
-use Rattle.mr_shards.specs.Pieces.{Adds, AreBlamed, AreFresh, ArePut, AreTaken, AreWindows, AreWithin, BeginsBehind, IsAfter, IsBefore, IsTaken, Reading, Standing, all_read_on, are_last, cut_before, fresh, front, behind, is_past, least_last, nothing, outputs_of, part_taken, pieces_of, taken_on, text_taken, whole_window}
+use Rattle.mr_shards.specs.Pieces.{Adds, AreBlamed, AreFresh, ArePut, AreTaken, AreWindows, AreWithin, BeginsBehind, Bound, IsAfter, IsBefore, IsTaken, Reading, Standing, all_read_on, are_last, cuts_before, fresh, front, behind, is_past, least_last, next_place, nothing, outputs_of, part_taken, pieces_of, place_for, taken_on, text_taken, whole_window}
 use Rattle.mr_shards.proofs.ReadingLemmas.{lines-none}
-use Rattle.mr_shards.proofs.StepLemmas.{is_lt-less}
 use Rattle.mr_shards.proofs.WholeLaws.{output-of_all}
-use Rattle.mr_shards.proofs.CutLemmas.{bounds, parts}
-use Rattle.mr_shards.proofs.TurnLemmas.{after-key, both-true, still-taken, text-on, wholes, within-key, within-whole}
-use Rattle.mr_shards.proofs.BlameLemmas.{Closes, blames-so}
+use Rattle.mr_shards.proofs.CutLemmas.{AreEnding, bounds, cut-of, ending-for}
+use Rattle.mr_shards.proofs.TurnLemmas.{Suits, after-place, both-true, still-taken, text-on, wholes, within-place, within-whole}
+use Rattle.mr_shards.proofs.BlameLemmas.{AreClosing, blames-so}
 
 -- ---- nothing is taken yet
 
@@ -42,6 +42,7 @@ fresh-taken job files r e none =
       before = subst (AllByRecursion (λ (g : Group). IsBefore None g.key)) (sym read) tt;
       next = none-before (groups_in job (behind r));
       count = ap (λ (gs : List Group). length gs % 2 ^ 64) (sym read);
+      together = λ _. tt;
     }
 
 pub fresh-after : (job : JobSpec) (files : List ℕ) (rs : List Reading) → AreFresh files rs → AreTaken job None (map fresh files) rs
@@ -64,11 +65,11 @@ fresh-text job files rs f = ap (texts job) (fresh-parts job files rs f)
 
 -- ---- cuts close their pieces
 
-pub closes-key : (k : List ℕ) (ws : List Window) → AllByRecursion (Closes (cut_before k)) ws
-closes-key k [] = tt
-closes-key k (w ∷ ws) = (λ more none. inr (parts k w.bytes.now (lines w.bytes.now) refl).whole, closes-key k ws)
+pub closes-place : (p : Bound) (ws : List Window) → AreClosing (cuts_before p ws) ws
+closes-place p [] = tt
+closes-place p (w ∷ ws) = (λ more none. inr (cut-of p w).parts.whole, closes-place (next_place p) ws)
 
-pub closes-whole : (ws : List Window) → are_last ws ≡ true → AllByRecursion (Closes whole_window) ws
+pub closes-whole : (ws : List Window) → are_last ws ≡ true → AreClosing (map whole_window ws) ws
 closes-whole [] e = tt
 closes-whole (w ∷ ws) e =
     let both = both-true w.is_last (are_last ws) e in
@@ -76,16 +77,17 @@ closes-whole (w ∷ ws) e =
 
 -- ---- the step
 
-pub refuses : (job : JobSpec) (f : Window → ℕ) (m : Standing) (hs : List Held) (ws : List Window) (cuts : List ℕ) (e : MergeFault) → hs ≡ m.held → cuts ≡ map f ws
-    → AreWithin (map f ws) ws → AllByRecursion (Closes f) ws → AreBlamed job hs (pieces_of hs ws cuts) e
+pub refuses : (job : JobSpec) (m : Standing) (hs : List Held) (ws : List Window) (cs cuts : List ℕ) (e : MergeFault) → hs ≡ m.held → cuts ≡ cs
+    → AreWithin cs ws → AreClosing cs ws → AreBlamed job hs (pieces_of hs ws cuts) e
     → (rs : List Reading) → IsAfter job rs m → AreWindows rs ws → Blames job (outputs_of rs) e
-refuses job f m hs ws cuts e same are fits all a rs t v =
-    blames-so job m.bound f m.held rs ws e t v fits all (subst (λ (cs : List ℕ). AreBlamed job m.held (pieces_of m.held ws cs) e) are (subst (λ (xs : List Held). AreBlamed job xs (pieces_of xs ws cuts) e) same a))
+refuses job m hs ws cs cuts e same are fits all a rs t v =
+    blames-so job m.bound m.held rs ws cs e t v fits all
+    (subst (λ (xs : List ℕ). AreBlamed job m.held (pieces_of m.held ws xs) e) are (subst (λ (xs : List Held). AreBlamed job xs (pieces_of xs ws cuts) e) same a))
 
-put-for : (job : JobSpec) (m : Standing) (f : Window → ℕ) (hs : List Held) (ws : List Window) (cuts out out' : List ℕ) → hs ≡ m.held → cuts ≡ map f ws
-    → ArePut job (pieces_of hs ws cuts) out out' → ArePut job (pieces_of m.held ws (map f ws)) out out'
-put-for job m f hs ws cuts out out' same are p =
-    subst (λ (cs : List ℕ). ArePut job (pieces_of m.held ws cs) out out') are (subst (λ (xs : List Held). ArePut job (pieces_of xs ws cuts) out out') same p)
+put-for : (job : JobSpec) (m : Standing) (hs : List Held) (ws : List Window) (cs cuts out out' : List ℕ) → hs ≡ m.held → cuts ≡ cs
+    → ArePut job (pieces_of hs ws cuts) out out' → ArePut job (pieces_of m.held ws cs) out out'
+put-for job m hs ws cs cuts out out' same are p =
+    subst (λ (xs : List ℕ). ArePut job (pieces_of m.held ws xs) out out') are (subst (λ (xs : List Held). ArePut job (pieces_of xs ws cuts) out out') same p)
 
 opposite : (t : Bool) → t ≡ true → t ≡ false → ⊥
 opposite t e f = cc (sym e, f)
@@ -94,14 +96,14 @@ module _ (job : JobSpec) (m : Standing) (hs : List Held) (ws : List Window) (sam
   pub adds-whole : (m' : Standing) (seen cuts out out' : List ℕ) → are_last ws ≡ true → seen ≡ map whole_window ws → cuts ≡ map whole_window ws
       → ArePut job (pieces_of hs ws seen) out out' → Adds job ws cuts m m' out out'
   adds-whole m' seen cuts out out' last is are p =
-      let q = put-for job m whole_window hs ws seen out out' same is p in
+      let q = put-for job m hs ws (map whole_window ws) seen out out' same is p in
       let added : List ℕ = texts job (merged_parts (parts_in job q.outputs)) in
       record {
         added = added;
         out_is = q.out_is;
         takes = λ rs t v.
             (let text : text_taken job (taken_on (map whole_window ws) rs) ≡ text_taken job rs ++ added =
-            text-on job m.bound whole_window m.held rs ws q.outputs t v (within-whole ws) q.are q.stands in
+            text-on job m.bound m.held rs ws (map whole_window ws) q.outputs t v (within-whole ws) q.are q.stands in
             let w = wholes job m.bound m.held rs ws q.outputs t v q.are q.stands last in
             let all : text_taken job rs ++ added ≡ texts job (merged_parts (parts_in job (outputs_of rs))) = sym text ∙ ap (λ ps. texts job (merged_parts ps)) w.parts_are in
             record {
@@ -111,27 +113,29 @@ module _ (job : JobSpec) (m : Standing) (hs : List Held) (ws : List Window) (sam
             });
       }
 
-  past-so : (b : Option (List ℕ)) (k : List ℕ) → is_past b k ≡ true → (x : List ℕ) → IsBefore b x → IsBefore (Some k) x
-  past-so None k e x low = absurd low
-  past-so (Some c) k e x low = nat_list_cmp_total.trans x c k low (is_lt-less (key_order c k) e)
+  suits-for : (q : Bound) → Suits job (Some (place_for job q))
+  suits-for q counted = ap (λ (t : Bool). cond t 0 q.shards) counted
 
-  pub adds-key : (k : List ℕ) (m' : Standing) (seen shown cuts out out' : List ℕ) → are_last ws ≡ false → least_last None ws ≡ Some k → is_past m.bound k ≡ true
-      → seen ≡ map (cut_before k) ws → shown ≡ map (cut_before k) ws → cuts ≡ map (cut_before k) ws → m'.held ≡ all_read_on hs ws shown → m'.bound ≡ Some k
+  pub adds-place : (q p : Bound) (m' : Standing) (seen shown cuts out out' : List ℕ) → are_last ws ≡ false → least_last None 0 ws ≡ Some q → p ≡ place_for job q → is_past m.bound p ≡ true
+      → seen ≡ cuts_before p ws → shown ≡ cuts_before p ws → cuts ≡ cuts_before p ws → m'.held ≡ all_read_on hs ws shown → m'.bound ≡ Some p
       → ArePut job (pieces_of hs ws seen) out out' → Adds job ws cuts m m' out out'
-  adds-key k m' seen shown cuts out out' more least past is read are now bound p =
-      let q = put-for job m (cut_before k) hs ws seen out out' same is p in
-      let added : List ℕ = texts job (merged_parts (parts_in job q.outputs)) in
+  adds-place q p m' seen shown cuts out out' more least found past is read are now bound put =
+      let u = put-for job m hs ws (cuts_before p ws) seen out out' same is put in
+      let added : List ℕ = texts job (merged_parts (parts_in job u.outputs)) in
+      let suits : Suits job (Some p) = subst (λ (b : Bound). Suits job (Some b)) (sym found) (suits-for q) in
+      let ends : AreEnding p ws = subst (λ (b : Bound). AreEnding b ws) (sym found) (ending-for job q ws (bounds q ws least)) in
       record {
         added = added;
-        out_is = q.out_is;
+        out_is = u.out_is;
         takes = λ rs t v. record {
-          text_is = ap (λ (cs : List ℕ). text_taken job (taken_on cs rs)) are ∙ text-on job m.bound (cut_before k) m.held rs ws q.outputs t v (within-key k ws) q.are q.stands;
+          text_is = ap (λ (cs : List ℕ). text_taken job (taken_on cs rs)) are
+              ∙ text-on job m.bound m.held rs ws (cuts_before p ws) u.outputs t v (within-place p ws) u.are u.stands;
           after = λ _.
-              (let step = after-key job m.bound k (past-so m.bound k past) m.held rs ws q.outputs t v q.are q.stands (bounds k ws least) in
-              let held : m'.held ≡ all_read_on m.held ws (map (cut_before k) ws) = now ∙ (λ i. all_read_on (same i) ws (read i)) in
+              (let step = after-place job m.bound p m.held rs ws u.outputs past suits t v u.are u.stands ends in
+              let held : m'.held ≡ all_read_on m.held ws (cuts_before p ws) = now ∙ (λ i. all_read_on (same i) ws (read i)) in
               subst (λ (cs : List ℕ). IsAfter job (taken_on cs rs) m') (sym are)
-              (subst (λ (b : Option (List ℕ)). AreTaken job b m'.held (taken_on (map (cut_before k) ws) rs)) (sym bound)
-              (subst (λ (xs : List Held). AreTaken job (Some k) xs (taken_on (map (cut_before k) ws) rs)) (sym held) step)));
+              (subst (λ (b : Option Bound). AreTaken job b m'.held (taken_on (cuts_before p ws) rs)) (sym bound)
+              (subst (λ (xs : List Held). AreTaken job (Some p) xs (taken_on (cuts_before p ws) rs)) (sym held) step)));
           whole = λ last. absurd (opposite (are_last ws) last more);
         };
       }
@@ -149,8 +153,8 @@ adds-nothing job m ws cuts out more are = record {
       });
 }
 
-pub within-so : (f : Window → ℕ) (ws : List Window) (cuts : List ℕ) → cuts ≡ map f ws → AreWithin (map f ws) ws → AreWithin cuts ws
-within-so f ws cuts e fits = subst (λ (cs : List ℕ). AreWithin cs ws) (sym e) fits
+pub within-so : (ws : List Window) (cs cuts : List ℕ) → cuts ≡ cs → AreWithin cs ws → AreWithin cuts ws
+within-so ws cs cuts e fits = subst (λ (xs : List ℕ). AreWithin xs ws) (sym e) fits
 
 -- ---- as many shards as before
 
@@ -160,3 +164,12 @@ read-length (h ∷ hs) [] cs e f = absurd (omega (arith, e))
 read-length (h ∷ hs) (w ∷ ws) [] e f = absurd (omega (arith, f))
 read-length (h ∷ hs) (w ∷ ws) (c ∷ cs) e f =
     omega (arith, read-length hs ws cs (omega (arith, e)) (omega (arith, f)))
+
+pub cuts-length : (p : Bound) (ws : List Window) → length (cuts_before p ws) ≡ length ws
+cuts-length p [] = refl
+cuts-length p (w ∷ ws) = omega (arith, cuts-length (next_place p) ws)
+
+-- the place that is found is that of the least last key, as the job's lines are taken to it
+pub found-place : (job : JobSpec) (o : Option Bound) (p : Bound) → option_map (place_for job) o ≡ Some p → (q : Bound) × (o ≡ Some q) × (p ≡ place_for job q)
+found-place job None p e = absurd (cc e)
+found-place job (Some q) p e = (q, refl, (let same : place_for job q ≡ p = cc e in sym same))

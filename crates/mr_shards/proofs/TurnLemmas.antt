@@ -1,26 +1,29 @@
 -- What is taken of each window goes on what was taken before.
-use Rattle.std.proofs.Common.{◌≡◌, ℕ, ◌+◌, ◌≤◌, ◌%◌, ◌^◌, ◌++◌, List, [], ◌∷◌, length, take, drop, get_or, refl, ap, sym, ◌∙◌, subst, Bool, true, false, ◌&&◌, map, arith, append_assoc, Option, None, Some}
+use Rattle.std.proofs.Common.{◌≡◌, ℕ, pred, ◌+◌, ◌≤◌, ◌%◌, ◌^◌, ◌++◌, List, [], ◌∷◌, length, take, drop, get_or, refl, ap, sym, ◌∙◌, subst, Bool, true, false, ◌&&◌, map, arith, append_assoc, Option, None, Some}
 use Rattle.std.proofs.lemmas.List.{append-nil, length-append, length-drop, length-map, length-take-le, map-append, take-append-drop, take-append-le, drop-append-le, take_all}
 use Rattle.std.proofs.Math.Nat.{mod-add-mod}
 use Rattle.std.proofs.Math.Seq.{drop-append-add, take-add}
 use Rattle.std.specs.List.{AllByRecursion}
 use Rattle.std.specs.declared.cmp.Ordering.TheVariants.{Less}
 use Rattle.mr_bytes.specs.Order.{key_order}
-use Rattle.mr_jobs.specs.JobSpec.{JobSpec}
+use Rattle.mr_jobs.specs.JobSpec.{JobSpec, counts}
 use Rattle.mr_sequential.proofs.SourceLemmas.{flat_map-append}
 use Rattle.mr_shards.specs.declared.merge.Output.{Output}
 use Rattle.mr_shards.specs.declared.window.Held.{Held}
 use Rattle.mr_shards.specs.declared.window.Window.{Window}
-use Rattle.mr_shards.specs.Merged.{Group, group_text, merged, merged_parts, moved_group, texts}
+use Rattle.mr_shards.specs.Merged.{Group, group_text, merged_parts, moved_group, texts}
 use Rattle.mr_shards.specs.Lines.{group_in, groups_in, lines}
 use Rattle.mr_shards.specs.Outputs.{parts_in}
 use Rattle.mr_shards.specs.Refused.{InTurn, IsLineOf, IsRest, MayFollow}
-use Rattle.mr_shards.specs.Pieces.{AreTaken, AreWindows, AreWithin, BeginsBehind, IsBefore, IsTaken, IsWindow, Reading, all_read_on, are_last, behind, cut_before, front, nothing, outputs_of, part_taken, pieces_of, read_on, taken_on, text_taken, told, whole_window}
+use Rattle.mr_shards.specs.Pieces.{AreTaken, AreWindows, AreWithin, BeginsBehind, Bound, IsBefore, IsTaken, IsWindow, PartsNoKey, Reading, all_read_on, are_last, behind, cut_before, cuts_before, front, is_past, next_bound, next_place, nothing, outputs_of, part_taken, pieces_of, read_on, taken_on, text_taken, told, whole_window}
+use Rattle.mr_shards.proofs.MergedLaws.{keys}
 use Rattle.mr_shards.proofs.ReadingLemmas.{one_reading}
 use Rattle.mr_shards.proofs.RefusedLemmas.{front-read, have-lines, lines-join}
-use Rattle.mr_shards.proofs.StepLemmas.{all-append, all-map, not_less-trans}
-use Rattle.mr_shards.proofs.ApartLaws.{High, Low, all-keys, all-moved, apart, merged-all, merged-apart, not-both, not-equal}
-use Rattle.mr_shards.proofs.CutLemmas.{Ends, Parts, begins, groups-before, parts}
+use Rattle.mr_shards.proofs.StepLemmas.{all-append, all-map}
+use Rattle.mr_shards.proofs.PlaceLemmas.{down, follows, next-before, past-before, past-next, strict, strict-before, strict-next}
+use Rattle.mr_shards.proofs.WovenLaws.{IsRead, woven, woven-all, woven-text, woven_parts}
+use Rattle.mr_shards.proofs.ApartLaws.{High, Low, all-keys, all-moved, high-strict, woven-apart}
+use Rattle.mr_shards.proofs.CutLemmas.{AreEnding, Ends, IsCut, begins, cut-of, groups-before}
 
 -- ---- texts of lines
 
@@ -38,42 +41,44 @@ rest-join job last text more r =
     ap (λ (t : List ℕ). groups_in job (t ++ more)) r.text_is ∙ texts-read job r.groups more r.lines
     ∙ ap (λ (gs : List Group). gs ++ groups_in job more) (sym (rest-groups job last text r))
 
-pub begins-front : (b : Option (List ℕ)) (gs hs : List Group) → BeginsBehind b (gs ++ hs) → BeginsBehind b gs
+pub begins-front : (b : Option Bound) (gs hs : List Group) → BeginsBehind b (gs ++ hs) → BeginsBehind b gs
 begins-front b [] hs h = tt
 begins-front b (g ∷ gs) hs h = h
 
 -- ---- keys in turn
 
-behind-next : (b : Option (List ℕ)) (j k : List ℕ) → (IsBefore b j → ⊥) → (key_order k j ≡ Less → ⊥) → IsBefore b k → ⊥
-behind-next None j k high later low = low
-behind-next (Some c) j k high later low = not_less-trans k j c later high low
-
-begins-next : (job : JobSpec) (b : Option (List ℕ)) (g : Group) (gs : List Group) → (IsBefore b g.key → ⊥) → InTurn job (Some g.key) gs → BeginsBehind b gs
+begins-next : (job : JobSpec) (b : Option Bound) (g : Group) (gs : List Group) → (IsBefore b g.key → ⊥) → InTurn job (Some g.key) gs → BeginsBehind b gs
 begins-next job b g [] high turn = tt
-begins-next job b g (h ∷ hs) high turn = behind-next b g.key h.key high turn.0.0
+begins-next job b g (h ∷ hs) high turn = λ low. high (down b g.key h.key low turn.0.0)
 
-pub all-high : (job : JobSpec) (b last : Option (List ℕ)) (gs : List Group) → BeginsBehind b gs → InTurn job last gs → High b gs
+pub all-high : (job : JobSpec) (b : Option Bound) (last : Option (List ℕ)) (gs : List Group) → BeginsBehind b gs → InTurn job last gs → High b gs
 all-high job b last [] h turn = tt
 all-high job b last (g ∷ gs) h turn = (h, all-high job b (Some g.key) gs (begins-next job b g gs h turn.1) turn.1)
 
-abbrev IsLow : Option (List ℕ) → Option (List ℕ) → Type 0
+abbrev IsLow : Option Bound → Option (List ℕ) → Type 0
 IsLow b None = Unit {0}
 IsLow b (Some k) = IsBefore b k
 
-follows : (job : JobSpec) (b last : Option (List ℕ)) (k : List ℕ) → IsLow b last → (IsBefore b k → ⊥) → MayFollow job last k
-follows job b None k low high = tt
-follows job b (Some l) k low high =
-    let less : key_order l k ≡ Less = apart b l k low high in
-    (λ back. not-both l k less back, λ counts same. not-equal l k less same)
+-- of a job that counts, the bound parts no lines of one key
+abbrev pub Suits : JobSpec → Option Bound → Type 0
+Suits job b = counts job ≡ true → PartsNoKey b
 
-turn-behind : (job : JobSpec) (b last : Option (List ℕ)) (hs : List Group) → IsLow b last → InTurn job None hs → BeginsBehind b hs → InTurn job last hs
-turn-behind job b last [] low turn h = tt
-turn-behind job b last (g ∷ gs) low turn h = (follows job b last g.key low h, turn.1)
+pub suits-next : (job : JobSpec) (b : Option Bound) → Suits job b → Suits job (next_bound b)
+suits-next job None s counted = tt
+suits-next job (Some b) s counted = ap pred (s counted)
 
-pub turn-join : (job : JobSpec) (b last : Option (List ℕ)) (gs hs : List Group) → IsLow b last → InTurn job last gs → AllByRecursion (λ (g : Group). IsBefore b g.key) gs
-    → InTurn job None hs → BeginsBehind b hs → InTurn job last (gs ++ hs)
-turn-join job b last [] hs low turn all more h = turn-behind job b last hs low more h
-turn-join job b last (g ∷ gs) hs low turn all more h = (turn.0, turn-join job b (Some g.key) gs hs all.0 turn.1 all.1 more h)
+follows-last : (job : JobSpec) (b : Option Bound) (last : Option (List ℕ)) (k : List ℕ) → Suits job b → IsLow b last → (IsBefore (next_bound b) k → ⊥) → MayFollow job last k
+follows-last job b None k suits low high = tt
+follows-last job b (Some l) k suits low high = follows job b l k suits low (λ before. high (strict-before b k before))
+
+turn-behind : (job : JobSpec) (b : Option Bound) (last : Option (List ℕ)) (hs : List Group) → Suits job b → IsLow b last → InTurn job None hs → BeginsBehind (next_bound b) hs → InTurn job last hs
+turn-behind job b last [] suits low turn h = tt
+turn-behind job b last (g ∷ gs) suits low turn h = (follows-last job b last g.key suits low h, turn.1)
+
+pub turn-join : (job : JobSpec) (b : Option Bound) (last : Option (List ℕ)) (gs hs : List Group) → Suits job b → IsLow b last → InTurn job last gs
+    → AllByRecursion (λ (g : Group). IsBefore b g.key) gs → InTurn job None hs → BeginsBehind (next_bound b) hs → InTurn job last (gs ++ hs)
+turn-join job b last [] hs suits low turn all more h = turn-behind job b last hs suits low more h
+turn-join job b last (g ∷ gs) hs suits low turn all more h = (turn.0, turn-join job b (Some g.key) gs hs suits all.0 turn.1 all.1 more h)
 
 -- ---- one shard
 
@@ -91,7 +96,7 @@ piece-text h w n o e = ap (λ (p : ℕ × List ℕ). p.1) e
 abbrev pub on : Reading → ℕ → Reading
 on r n = record { output = r.output; taken = r.taken + n }
 
-module _ (job : JobSpec) (b : Option (List ℕ)) (h : Held) (r : Reading) (w : Window) (n : ℕ) (o : Output)
+module _ (job : JobSpec) (b : Option Bound) (h : Held) (r : Reading) (w : Window) (n : ℕ) (o : Output)
     (t : IsTaken job b h r) (v : IsWindow r w) (fits : n ≤ length w.bytes.now) (piece : IsPiece h w n o) where
   front-on : front (on r n) ≡ front r ++ o.text.now
   front-on =
@@ -110,15 +115,15 @@ module _ (job : JobSpec) (b : Option (List ℕ)) (h : Held) (r : Reading) (w : W
   groups-on = ap (groups_in job) front-on ∙ rest-join job None (front r) o.text.now t.stands
 
   module _ (stands : IsRest job None o.text.now) where
-    next-on : BeginsBehind b (groups_in job o.text.now)
+    next-on : BeginsBehind (next_bound b) (groups_in job o.text.now)
     next-on =
-        begins-front b (groups_in job o.text.now) (groups_in job (drop n w.bytes.now ++ v.more))
-        (subst (BeginsBehind b) (ap (groups_in job) behind-on ∙ rest-join job None o.text.now (drop n w.bytes.now ++ v.more) stands) t.next)
+        begins-front (next_bound b) (groups_in job o.text.now) (groups_in job (drop n w.bytes.now ++ v.more))
+        (subst (BeginsBehind (next_bound b)) (ap (groups_in job) behind-on ∙ rest-join job None o.text.now (drop n w.bytes.now ++ v.more) stands) t.next)
 
-    high-on : High b (groups_in job o.text.now)
+    high-on : High (next_bound b) (groups_in job o.text.now)
     high-on =
         let e = rest-groups job None o.text.now stands in
-        subst (High b) (sym e) (all-high job b None stands.groups (subst (BeginsBehind b) e next-on) stands.in_turn)
+        subst (High (next_bound b)) (sym e) (all-high job (next_bound b) None stands.groups (subst (BeginsBehind (next_bound b)) e next-on) stands.in_turn)
 
     stands-on : IsRest job None (front (on r n))
     stands-on = record {
@@ -126,9 +131,9 @@ module _ (job : JobSpec) (b : Option (List ℕ)) (h : Held) (r : Reading) (w : W
       text_is = front-on ∙ ap (λ (l : List ℕ). l ++ o.text.now) t.stands.text_is ∙ ap (λ (l : List ℕ). texts job t.stands.groups ++ l) stands.text_is
           ∙ sym (flat_map-append (group_text job) t.stands.groups stands.groups);
       lines = lines-join job t.stands.groups stands.groups t.stands.lines stands.lines;
-      in_turn = turn-join job b None t.stands.groups stands.groups tt t.stands.in_turn
+      in_turn = turn-join job b None t.stands.groups stands.groups t.together tt t.stands.in_turn
           (subst (AllByRecursion (λ (g : Group). IsBefore b g.key)) (rest-groups job None (front r) t.stands) t.before)
-          stands.in_turn (subst (BeginsBehind b) (rest-groups job None o.text.now stands) next-on);
+          stands.in_turn (subst (BeginsBehind (next_bound b)) (rest-groups job None o.text.now stands) next-on);
     }
 
     count-on : (read_on h (take n w.bytes.now)).lines ≡ length (groups_in job (front (on r n))) % 2 ^ 64
@@ -145,25 +150,26 @@ module _ (job : JobSpec) (b : Option (List ℕ)) (h : Held) (r : Reading) (w : W
     drop-on : behind (on r n) ≡ drop n w.bytes.now ++ v.more
     drop-on = drop-on_from r.taken n r.output.text.now t.within ∙ ap (drop n) v.is ∙ drop-append-le n w.bytes.now v.more fits
 
-    pub taken-next : (k : List ℕ) → Parts k w.bytes.now n → Ends k w → ((x : List ℕ) → IsBefore b x → IsBefore (Some k) x)
-        → IsTaken job (Some k) (read_on h (take n w.bytes.now)) (on r n)
-    taken-next k p ends past = record {
+    pub taken-next : (p : Bound) → IsCut p w n → Ends p w → Suits job (Some p) → ((x : List ℕ) → IsBefore b x → IsBefore (Some p) x)
+        → IsTaken job (Some p) (read_on h (take n w.bytes.now)) (on r n)
+    taken-next p cut ends suits past = record {
       files = t.files;
       within = within-on;
       stands = stands-on;
-      before = subst (AllByRecursion (λ (g : Group). IsBefore (Some k) g.key)) (sym groups-on)
-          (all-append (λ (g : Group). IsBefore (Some k) g.key) (groups_in job (front r)) (groups_in job o.text.now)
-          (all-map (λ (g : Group). IsBefore b g.key) (λ (g : Group). IsBefore (Some k) g.key) (groups_in job (front r)) (λ g l. past g.key l) t.before)
-          (subst (λ (l : List ℕ). AllByRecursion (λ (g : Group). IsBefore (Some k) g.key) (groups_in job l)) (sym (piece-text h w n o piece))
-          (groups-before job k (lines (take n w.bytes.now)) p.before)));
-      next = subst (λ (l : List ℕ). BeginsBehind (Some k) (groups_in job l)) (sym drop-on) (begins job k w n v.more p ends v.none_more);
+      before = subst (AllByRecursion (λ (g : Group). IsBefore (Some p) g.key)) (sym groups-on)
+          (all-append (λ (g : Group). IsBefore (Some p) g.key) (groups_in job (front r)) (groups_in job o.text.now)
+          (all-map (λ (g : Group). IsBefore b g.key) (λ (g : Group). IsBefore (Some p) g.key) (groups_in job (front r)) (λ g l. past g.key l) t.before)
+          (subst (λ (l : List ℕ). AllByRecursion (λ (g : Group). IsBefore (Some p) g.key) (groups_in job l)) (sym (piece-text h w n o piece))
+          (groups-before job p (lines (take n w.bytes.now)) cut.parts.before)));
+      next = subst (λ (l : List ℕ). BeginsBehind (Some (next_place p)) (groups_in job l)) (sym drop-on) (begins job p w n v.more cut ends v.none_more);
       count = count-on;
+      together = suits;
     }
 
     pub record Grows : Type 0 where
       pub groups : groups_in job (front (on r n)) ≡ groups_in job (front r) ++ groups_in job o.text.now
       pub low : Low b (groups_in job (front r))
-      pub high : High b (groups_in job o.text.now)
+      pub high : High (next_bound b) (groups_in job o.text.now)
       pub files : o.files ≡ r.output.files
       pub stands_on : IsRest job None (front (on r n))
 
@@ -190,66 +196,93 @@ first-of x y xs ys e = ap (λ l. get_or l 0 x) e
 pub rest-of : {X : Type 0} (x y : X) (xs ys : List X) → x ∷ xs ≡ y ∷ ys → xs ≡ ys
 rest-of x y xs ys e = ap (λ l. drop 1 l) e
 
-pub record Sums (job : JobSpec) (b : Option (List ℕ)) (f : Window → ℕ) (rs : List Reading) (ws : List Window) (os : List Output) : Type 0 where
-  pub merged_is : merged_parts (map (part_taken job) (taken_on (map f ws) rs)) ≡ merged_parts (map (part_taken job) rs) ++ merged_parts (parts_in job os)
-  pub low : Low b (merged_parts (map (part_taken job) rs))
-  pub high : High b (merged_parts (parts_in job os))
+abbrev pub AllStand : JobSpec → List Output → Type 0
+AllStand job os = AllByRecursion (λ (o : Output). IsRest job None o.text.now) os
 
-sum-more : (job : JobSpec) (b : Option (List ℕ)) (n : ℕ) (gs hs new : List Group) (xs ys all : List Group) (files files' : ℕ) → new ≡ gs ++ hs → all ≡ xs ++ ys → files' ≡ files
-    → Low b gs → High b hs → Low b xs → High b ys
-    → merged new (map (moved_group files) all) ≡ merged gs (map (moved_group files) xs) ++ merged hs (map (moved_group files') ys)
-sum-more job b n gs hs new xs ys all files files' e s same lg hh lx hy =
-    (λ i. merged (e i) (map (moved_group files) (s i)))
-    ∙ ap (merged (gs ++ hs)) (map-append (moved_group files) xs ys)
-    ∙ merged-apart b gs hs (map (moved_group files) xs) (map (moved_group files) ys) lg hh (all-moved (IsBefore b) files xs lx) (all-moved (λ k. IsBefore b k → ⊥) files ys hy)
-    ∙ ap (λ k. merged gs (map (moved_group files) xs) ++ merged hs (map (moved_group k) ys)) (sym same)
+abbrev pub woven_taken : JobSpec → List Reading → List Group
+woven_taken job rs = woven_parts (counts job) (map (part_taken job) rs)
 
-module _ (job : JobSpec) (b : Option (List ℕ)) (f : Window → ℕ) where
-  pub sums : (hs : List Held) (rs : List Reading) (ws : List Window) (os : List Output) → AreTaken job b hs rs → AreWindows rs ws → AreWithin (map f ws) ws
-      → map told os ≡ pieces_of hs ws (map f ws) → AllByRecursion (λ (o : Output). IsRest job None o.text.now) os → Sums job b f rs ws os
-  sums [] [] [] [] t v fits e all = record { merged_is = refl; low = tt; high = tt }
-  sums [] [] [] (o ∷ os) t v fits e all = absurd (cc e)
-  sums [] [] (w ∷ ws) os t v fits e all = absurd v
-  sums [] (r ∷ rs) ws os t v fits e all = absurd t
-  sums (h ∷ hs) [] ws os t v fits e all = absurd t
-  sums (h ∷ hs) (r ∷ rs) [] os t v fits e all = absurd v
-  sums (h ∷ hs) (r ∷ rs) (w ∷ ws) [] t v fits e all = absurd (cc e)
-  sums (h ∷ hs) (r ∷ rs) (w ∷ ws) (o ∷ os) t v fits e all =
-      let g = grows job b h r w (f w) o t.0 v.0 fits.0 (first-of (told o) (h.files, take (f w) w.bytes.now) (map told os) (pieces_of hs ws (map f ws)) e) all.0 in
-      let s = sums hs rs ws os t.1 v.1 fits.1 (rest-of (told o) (h.files, take (f w) w.bytes.now) (map told os) (pieces_of hs ws (map f ws)) e) all.1 in
-      let xs : List Group = merged_parts (map (part_taken job) rs) in
-      let ys : List Group = merged_parts (parts_in job os) in
+abbrev pub woven_in : JobSpec → List Output → List Group
+woven_in job os = woven_parts (counts job) (parts_in job os)
+
+pub record Sums (job : JobSpec) (b : Option Bound) (rs : List Reading) (cs : List ℕ) (os : List Output) : Type 0 where
+  pub woven_is : woven_taken job (taken_on cs rs) ≡ woven_taken job rs ++ woven_in job os
+  pub low : Low b (woven_taken job rs)
+  pub high : High (strict b) (woven_in job os)
+
+sum-more : (job : JobSpec) (b : Option Bound) (gs hs new : List Group) (xs ys all : List Group) (files files' : ℕ) → Suits job b → new ≡ gs ++ hs → all ≡ xs ++ ys → files' ≡ files
+    → Low b gs → High (next_bound b) hs → Low (next_bound b) xs → High (strict b) ys
+    → woven (counts job) new (map (moved_group files) all)
+    ≡ woven (counts job) gs (map (moved_group files) xs) ++ woven (counts job) hs (map (moved_group files') ys)
+sum-more job b gs hs new xs ys all files files' suits e s same lg hh lx hy =
+    (λ i. woven (counts job) (e i) (map (moved_group files) (s i)))
+    ∙ ap (woven (counts job) (gs ++ hs)) (map-append (moved_group files) xs ys)
+    ∙ woven-apart job b suits gs hs (map (moved_group files) xs) (map (moved_group files) ys) lg hh
+    (all-moved (IsBefore (next_bound b)) files xs lx) (all-moved (λ k. IsBefore (strict b) k → ⊥) files ys hy)
+    ∙ ap (λ k. woven (counts job) gs (map (moved_group files) xs) ++ woven (counts job) hs (map (moved_group k) ys)) (sym same)
+
+read-taken : (job : JobSpec) (rs : List Reading) → AllByRecursion (IsRead job) (map (part_taken job) rs)
+read-taken job [] = tt
+read-taken job (r ∷ rs) = ((front r, refl), read-taken job rs)
+
+read-in : (job : JobSpec) (os : List Output) → AllByRecursion (IsRead job) (parts_in job os)
+read-in job [] = tt
+read-in job (o ∷ os) = ((o.text.now, refl), read-in job os)
+
+module _ (job : JobSpec) where
+  pub sums : (b : Option Bound) (hs : List Held) (rs : List Reading) (ws : List Window) (cs : List ℕ) (os : List Output) → AreTaken job b hs rs → AreWindows rs ws → AreWithin cs ws
+      → map told os ≡ pieces_of hs ws cs → AllStand job os → Sums job b rs cs os
+  sums b [] [] [] [] [] t v fits e all = record { woven_is = refl; low = tt; high = tt }
+  sums b [] [] [] [] (o ∷ os) t v fits e all = absurd (cc e)
+  sums b [] [] [] (c ∷ cs) os t v fits e all = absurd fits
+  sums b [] [] (w ∷ ws) cs os t v fits e all = absurd v
+  sums b [] (r ∷ rs) ws cs os t v fits e all = absurd t
+  sums b (h ∷ hs) [] ws cs os t v fits e all = absurd t
+  sums b (h ∷ hs) (r ∷ rs) [] cs os t v fits e all = absurd v
+  sums b (h ∷ hs) (r ∷ rs) (w ∷ ws) [] os t v fits e all = absurd fits
+  sums b (h ∷ hs) (r ∷ rs) (w ∷ ws) (c ∷ cs) [] t v fits e all = absurd (cc e)
+  sums b (h ∷ hs) (r ∷ rs) (w ∷ ws) (c ∷ cs) (o ∷ os) t v fits e all =
+      let g = grows job b h r w c o t.0 v.0 fits.0 (first-of (told o) (h.files, take c w.bytes.now) (map told os) (pieces_of hs ws cs) e) all.0 in
+      let s = sums (next_bound b) hs rs ws cs os t.1 v.1 fits.1 (rest-of (told o) (h.files, take c w.bytes.now) (map told os) (pieces_of hs ws cs) e) all.1 in
+      let xs : List Group = woven_taken job rs in
+      let ys : List Group = woven_in job os in
+      let high : High (strict b) ys = subst (λ (p : Option Bound). High p ys) (strict-next b) s.high in
       record {
-        merged_is = sum-more job b (f w) (groups_in job (front r)) (groups_in job o.text.now) (groups_in job (front (on r (f w)))) xs ys
-            (merged_parts (map (part_taken job) (taken_on (map f ws) rs))) r.output.files o.files g.groups s.merged_is g.files g.low g.high s.low s.high;
-        low = merged-all (IsBefore b) (groups_in job (front r)) (map (moved_group r.output.files) xs) g.low (all-moved (IsBefore b) r.output.files xs s.low);
-        high = merged-all (λ k. IsBefore b k → ⊥) (groups_in job o.text.now) (map (moved_group o.files) ys) g.high (all-moved (λ k. IsBefore b k → ⊥) o.files ys s.high);
+        woven_is = sum-more job b (groups_in job (front r)) (groups_in job o.text.now) (groups_in job (front (on r c))) xs ys
+            (woven_taken job (taken_on cs rs)) r.output.files o.files t.0.together g.groups s.woven_is g.files g.low g.high s.low high;
+        low = woven-all (counts job) (IsBefore b) (groups_in job (front r)) (map (moved_group r.output.files) xs) g.low
+            (all-moved (IsBefore b) r.output.files xs (all-map (IsBefore (next_bound b)) (IsBefore b) (keys xs) (λ k low. next-before b k low) s.low));
+        high = woven-all (counts job) (λ k. IsBefore (strict b) k → ⊥) (groups_in job o.text.now) (map (moved_group o.files) ys) (high-strict b (groups_in job o.text.now) g.high)
+            (all-moved (λ k. IsBefore (strict b) k → ⊥) o.files ys high);
       }
 
-  pub text-on : (hs : List Held) (rs : List Reading) (ws : List Window) (os : List Output) → AreTaken job b hs rs → AreWindows rs ws → AreWithin (map f ws) ws
-      → map told os ≡ pieces_of hs ws (map f ws) → AllByRecursion (λ (o : Output). IsRest job None o.text.now) os
-      → text_taken job (taken_on (map f ws) rs) ≡ text_taken job rs ++ texts job (merged_parts (parts_in job os))
-  text-on hs rs ws os t v fits e all =
-      ap (texts job) (sums hs rs ws os t v fits e all).merged_is
-      ∙ flat_map-append (group_text job) (merged_parts (map (part_taken job) rs)) (merged_parts (parts_in job os))
+  pub text-on : (b : Option Bound) (hs : List Held) (rs : List Reading) (ws : List Window) (cs : List ℕ) (os : List Output) → AreTaken job b hs rs → AreWindows rs ws → AreWithin cs ws
+      → map told os ≡ pieces_of hs ws cs → AllStand job os
+      → text_taken job (taken_on cs rs) ≡ text_taken job rs ++ texts job (merged_parts (parts_in job os))
+  text-on b hs rs ws cs os t v fits e all =
+      woven-text job (map (part_taken job) (taken_on cs rs)) (read-taken job (taken_on cs rs))
+      ∙ ap (texts job) (sums b hs rs ws cs os t v fits e all).woven_is
+      ∙ flat_map-append (group_text job) (woven_taken job rs) (woven_in job os)
+      ∙ ap (λ (l : List ℕ). l ++ texts job (woven_in job os)) (sym (woven-text job (map (part_taken job) rs) (read-taken job rs)))
+      ∙ ap (λ (l : List ℕ). text_taken job rs ++ l) (sym (woven-text job (parts_in job os) (read-in job os)))
 
-module _ (job : JobSpec) (b : Option (List ℕ)) (k : List ℕ) (past : (x : List ℕ) → IsBefore b x → IsBefore (Some k) x) where
-  pub after-key : (hs : List Held) (rs : List Reading) (ws : List Window) (os : List Output) → AreTaken job b hs rs → AreWindows rs ws
-      → map told os ≡ pieces_of hs ws (map (cut_before k) ws) → AllByRecursion (λ (o : Output). IsRest job None o.text.now) os → AllByRecursion (Ends k) ws
-      → AreTaken job (Some k) (all_read_on hs ws (map (cut_before k) ws)) (taken_on (map (cut_before k) ws) rs)
-  after-key [] [] [] [] t v e all ends = tt
-  after-key [] [] [] (o ∷ os) t v e all ends = absurd (cc e)
-  after-key [] [] (w ∷ ws) os t v e all ends = absurd v
-  after-key [] (r ∷ rs) ws os t v e all ends = absurd t
-  after-key (h ∷ hs) [] ws os t v e all ends = absurd t
-  after-key (h ∷ hs) (r ∷ rs) [] os t v e all ends = absurd v
-  after-key (h ∷ hs) (r ∷ rs) (w ∷ ws) [] t v e all ends = absurd (cc e)
-  after-key (h ∷ hs) (r ∷ rs) (w ∷ ws) (o ∷ os) t v e all ends =
-      let p = parts k w.bytes.now (lines w.bytes.now) refl in
-      let here = first-of (told o) (h.files, take (cut_before k w) w.bytes.now) (map told os) (pieces_of hs ws (map (cut_before k) ws)) e in
-      let more = rest-of (told o) (h.files, take (cut_before k w) w.bytes.now) (map told os) (pieces_of hs ws (map (cut_before k) ws)) e in (
-        taken-next job b h r w (cut_before k w) o t.0 v.0 p.within here all.0 k p ends.0 past,
-        after-key hs rs ws os t.1 v.1 more all.1 ends.1,
+  pub after-place : (b : Option Bound) (p : Bound) (hs : List Held) (rs : List Reading) (ws : List Window) (os : List Output) → is_past b p ≡ true → Suits job (Some p)
+      → AreTaken job b hs rs → AreWindows rs ws → map told os ≡ pieces_of hs ws (cuts_before p ws) → AllStand job os → AreEnding p ws
+      → AreTaken job (Some p) (all_read_on hs ws (cuts_before p ws)) (taken_on (cuts_before p ws) rs)
+  after-place b p [] [] [] [] past suits t v e all ends = tt
+  after-place b p [] [] [] (o ∷ os) past suits t v e all ends = absurd (cc e)
+  after-place b p [] [] (w ∷ ws) os past suits t v e all ends = absurd v
+  after-place b p [] (r ∷ rs) ws os past suits t v e all ends = absurd t
+  after-place b p (h ∷ hs) [] ws os past suits t v e all ends = absurd t
+  after-place b p (h ∷ hs) (r ∷ rs) [] os past suits t v e all ends = absurd v
+  after-place b p (h ∷ hs) (r ∷ rs) (w ∷ ws) [] past suits t v e all ends = absurd (cc e)
+  after-place b p (h ∷ hs) (r ∷ rs) (w ∷ ws) (o ∷ os) past suits t v e all ends =
+      let cs : List ℕ = cuts_before (next_place p) ws in
+      let cut = cut-of p w in
+      let here = first-of (told o) (h.files, take (cut_before p w) w.bytes.now) (map told os) (pieces_of hs ws cs) e in
+      let more = rest-of (told o) (h.files, take (cut_before p w) w.bytes.now) (map told os) (pieces_of hs ws cs) e in (
+        taken-next job b h r w (cut_before p w) o t.0 v.0 cut.parts.within here all.0 p cut ends.0 suits (past-before b p past),
+        after-place (next_bound b) (next_place p) hs rs ws os (past-next b p past) (suits-next job (Some p) suits) t.1 v.1 more all.1 ends.1,
       )
 
 -- ---- windows that are all the last ones
@@ -266,15 +299,15 @@ pub within-nothing : (ws : List Window) → AreWithin (map nothing ws) ws
 within-nothing [] = tt
 within-nothing (w ∷ ws) = (omega arith, within-nothing ws)
 
-pub within-key : (k : List ℕ) (ws : List Window) → AreWithin (map (cut_before k) ws) ws
-within-key k [] = tt
-within-key k (w ∷ ws) = ((parts k w.bytes.now (lines w.bytes.now) refl).within, within-key k ws)
+pub within-place : (p : Bound) (ws : List Window) → AreWithin (cuts_before p ws) ws
+within-place p [] = tt
+within-place p (w ∷ ws) = ((cut-of p w).parts.within, within-place (next_place p) ws)
 
 pub record Wholes (job : JobSpec) (rs : List Reading) (ws : List Window) : Type 0 where
   pub stands : AllByRecursion (λ (o : Output). IsRest job None o.text.now) (outputs_of rs)
   pub parts_are : map (part_taken job) (taken_on (map whole_window ws) rs) ≡ parts_in job (outputs_of rs)
 
-pub wholes : (job : JobSpec) (b : Option (List ℕ)) (hs : List Held) (rs : List Reading) (ws : List Window) (os : List Output) → AreTaken job b hs rs → AreWindows rs ws
+pub wholes : (job : JobSpec) (b : Option Bound) (hs : List Held) (rs : List Reading) (ws : List Window) (os : List Output) → AreTaken job b hs rs → AreWindows rs ws
     → map told os ≡ pieces_of hs ws (map whole_window ws) → AllByRecursion (λ (o : Output). IsRest job None o.text.now) os → are_last ws ≡ true → Wholes job rs ws
 wholes job b [] [] [] [] t v e all last = record { stands = tt; parts_are = refl }
 wholes job b [] [] [] (o ∷ os) t v e all last = absurd (cc e)
@@ -287,7 +320,7 @@ wholes job b (h ∷ hs) (r ∷ rs) (w ∷ ws) (o ∷ os) t v e all last =
     let both = both-true w.is_last (are_last ws) last in
     let here = first-of (told o) (h.files, take (whole_window w) w.bytes.now) (map told os) (pieces_of hs ws (map whole_window ws)) e in
     let more = rest-of (told o) (h.files, take (whole_window w) w.bytes.now) (map told os) (pieces_of hs ws (map whole_window ws)) e in
-    let s = wholes job b hs rs ws os t.1 v.1 more all.1 both.1 in
+    let s = wholes job (next_bound b) hs rs ws os t.1 v.1 more all.1 both.1 in
     let fits : whole_window w ≤ length w.bytes.now = omega arith in
     let is : front (on r (whole_window w)) ≡ r.output.text.now = whole-on job b h r w (whole_window w) o t.0 v.0 fits here all.0 refl both.0 in
     let one : IsRest job None (front (on r (whole_window w))) = (grows job b h r w (whole_window w) o t.0 v.0 fits here all.0).stands_on in

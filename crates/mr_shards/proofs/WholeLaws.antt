@@ -93,7 +93,7 @@ groups-fine request s p some judged =
 
 -- ---- the lines of groups: of a total one for each group, of places one for each value
 
-one-each : List ℕ → List Value → List Group
+unfoldable pub one-each : List ℕ → List Value → List Group
 one-each k [] = []
 one-each k (v ∷ vs) = record { key = k; values = v ∷ [] } ∷ one-each k vs
 
@@ -108,7 +108,7 @@ each-text literal fold k [] = refl
 each-text literal fold k (v ∷ vs) =
     ap (λ (l : List ℕ). l ++ texts (LinesWith literal fold) (one-each k vs)) (append-nil (place_line k v)) ∙ ap (λ (l : List ℕ). place_line k v ++ l) (each-text literal fold k vs)
 
-all-texts : (literal : List ℕ) (fold : Bool) (gs : List Group) → texts (LinesWith literal fold) (flat_map (λ (g : Group). one-each g.key g.values) gs) ≡ texts (LinesWith literal fold) gs
+pub all-texts : (literal : List ℕ) (fold : Bool) (gs : List Group) → texts (LinesWith literal fold) (flat_map (λ (g : Group). one-each g.key g.values) gs) ≡ texts (LinesWith literal fold) gs
 all-texts literal fold [] = refl
 all-texts literal fold (g ∷ gs) =
     flat_map-append (group_text (LinesWith literal fold)) (one-each g.key g.values) (flat_map (λ (h : Group). one-each h.key h.values) gs)
@@ -192,7 +192,7 @@ merged-lines Resources gs hs all rise = refl
 
 -- ---- the whole
 
-moved-rise : (n : ℕ) (parts : List Part) → Rises key_order (keys (map (moved_group n) (merged_parts parts)))
+pub moved-rise : (n : ℕ) (parts : List Part) → Rises key_order (keys (map (moved_group n) (merged_parts parts)))
 moved-rise n parts = subst (λ (gs : List Group). Rises key_order (keys gs)) (sym (parts-moved n parts)) (merged_all-rise (moved_parts n parts))
 
 parts-whole : (request : RequestSpec) (shards : List Shard) (p : ℕ) (os : List Output) → 0 < request.split → AllByRecursion (IsJudged request) shards → AreOutputsOf request p shards os

@@ -7,3 +7,4 @@ pub mod Pieces
 pub mod Refused
 pub mod Shards
 pub mod Views
+pub mod Places

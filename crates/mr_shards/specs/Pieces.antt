@@ -1,10 +1,9 @@
 -- Outputs of shards, merged piece by piece.
-use Rattle.std.specs.Prelude.{◌≡◌, ℕ, ◌+◌, ◌%◌, ◌^◌, ◌≤◌, Bool, true, false, if◌then◌else◌, ◌&&◌, List, [], ◌∷◌, ◌++◌, Option, None, Some, length, map, slice_index_or, take, drop}
+use Rattle.std.specs.Prelude.{◌≡◌, ℕ, zero, suc, pred, ◌+◌, ◌%◌, ◌^◌, ◌≤◌, Bool, true, false, not, if◌then◌else◌, ◌&&◌, nat_le, List, [], ◌∷◌, ◌++◌, Option, None, Some, length, map, option_map, slice_index_or, take, drop}
 use Rattle.std.specs.List.{AllByRecursion}
-use Rattle.std.specs.Ordering.{is_lt}
-use Rattle.std.specs.declared.cmp.Ordering.TheVariants.{Less}
+use Rattle.std.specs.Ordering.{is_lt, match_ordering}
 use Rattle.mr_bytes.specs.Order.{key_order}
-use Rattle.mr_jobs.specs.JobSpec.{JobSpec}
+use Rattle.mr_jobs.specs.JobSpec.{JobSpec, counts}
 use Rattle.mr_shards.specs.declared.fault.MergeFault.{MergeFault}
 use Rattle.mr_shards.specs.declared.fault.MergeFault.TheVariants.{BadLine, TotalTooLarge, TooManyFiles, OutOfMemory}
 use Rattle.mr_shards.specs.declared.merge.Output.{Output}
@@ -15,11 +14,17 @@ use Rattle.mr_shards.specs.Lines.{before_last, groups_in, lines}
 use Rattle.mr_shards.specs.Outputs.{IsOutputOfAll, parts_in}
 use Rattle.mr_shards.specs.Refused.{Blames, IsRest}
 
+-- a place among the merged lines: behind those with lesser keys, and, of those with this key, behind all of the first shards
+-- but the last of these, which it stands in; where it is of no shards, it is before all lines with this key
+pub record Bound : Type 0 where
+  pub key : List ℕ
+  pub shards : ℕ
+
 -- what a merger keeps: of each shard how many files it has and how many lines of its output were taken, which has 64 bits;
--- and a key that all keys taken are before, or none where nothing was taken
+-- and a place that all lines taken are before, or none where nothing was taken
 pub record Standing : Type 0 where
   pub held : List Held
-  pub bound : Option (List ℕ)
+  pub bound : Option Bound
 
 abbrev pub fresh : ℕ → Held
 fresh files = record { files = files; lines = 0 }
@@ -54,30 +59,54 @@ part_taken job r = record { files = r.output.files; groups = groups_in job (fron
 abbrev pub text_taken : JobSpec → List Reading → List ℕ
 text_taken job rs = texts job (merged_parts (map (part_taken job) rs))
 
--- the key is before the bound; where there is none, no key is
-abbrev pub IsBefore : Option (List ℕ) → List ℕ → Type 0
+-- a line of the first shard with this key is before the place, which is of so many shards: where of none, lines with lesser
+-- keys alone are, and else those with its own key too
+abbrev pub before_at : ℕ → List ℕ → List ℕ → Bool
+before_at zero k key = is_lt (key_order key k)
+before_at (suc shards) k key = not (is_lt (key_order k key))
+
+abbrev pub is_before : Bound → List ℕ → Bool
+is_before b key = before_at b.shards b.key key
+
+-- a line of the first shard with this key is before the bound; where there is none, no line is
+abbrev pub IsBefore : Option Bound → List ℕ → Type 0
 IsBefore None key = ⊥
-IsBefore (Some bound) key = key_order key bound ≡ Less
+IsBefore (Some b) key = is_before b key ≡ true
+
+-- the place, as the shards behind the first have it
+abbrev pub next_place : Bound → Bound
+next_place b = record { key = b.key; shards = pred b.shards }
+
+abbrev pub next_bound : Option Bound → Option Bound
+next_bound None = None
+next_bound (Some b) = Some (next_place b)
 
 -- the first of the groups is not before the bound
-abbrev pub BeginsBehind : Option (List ℕ) → List Group → Type 0
+abbrev pub BeginsBehind : Option Bound → List Group → Type 0
 BeginsBehind bound [] = Unit {0}
 BeginsBehind bound (g ∷ gs) = IsBefore bound g.key → ⊥
 
--- lines of the job with keys in turn were taken, so many; each has a key before the bound, and the next one has not
-pub record IsTaken (job : JobSpec) (bound : Option (List ℕ)) (h : Held) (r : Reading) : Type 0 where
+-- the bound parts no lines of one key
+abbrev pub PartsNoKey : Option Bound → Type 0
+PartsNoKey None = Unit {0}
+PartsNoKey (Some b) = b.shards ≡ 0
+
+-- lines of the job with keys in turn were taken of the first shard, so many; each is before the bound, and the next one would
+-- not be so in the next shard; of a job that counts, a key's lines are taken together
+pub record IsTaken (job : JobSpec) (bound : Option Bound) (h : Held) (r : Reading) : Type 0 where
   pub files : h.files ≡ r.output.files
   pub within : r.taken ≤ length r.output.text.now
   pub stands : IsRest job None (front r)
   pub before : AllByRecursion (λ (g : Group). IsBefore bound g.key) (groups_in job (front r))
-  pub next : BeginsBehind bound (groups_in job (behind r))
+  pub next : BeginsBehind (next_bound bound) (groups_in job (behind r))
   pub count : h.lines ≡ length (groups_in job (front r)) % 2 ^ 64
+  pub together : counts job ≡ true → PartsNoKey bound
 
-abbrev pub AreTaken : JobSpec → Option (List ℕ) → List Held → List Reading → Type 0
+abbrev pub AreTaken : JobSpec → Option Bound → List Held → List Reading → Type 0
 AreTaken job bound [] [] = Unit {0}
 AreTaken job bound [] (r ∷ rs) = ⊥
 AreTaken job bound (h ∷ hs) [] = ⊥
-AreTaken job bound (h ∷ hs) (r ∷ rs) = IsTaken job bound h r × AreTaken job bound hs rs
+AreTaken job bound (h ∷ hs) (r ∷ rs) = IsTaken job bound h r × AreTaken job (next_bound bound) hs rs
 
 -- the merger stands where so much of each output was taken
 abbrev pub IsAfter : JobSpec → List Reading → Standing → Type 0
@@ -106,27 +135,49 @@ abbrev pub last_key_in : Option (List ℕ) → List (List ℕ) → Option (List 
 last_key_in last [] = last
 last_key_in last (l ∷ ls) = last_key_in (Some (before_last 9 l)) ls
 
-abbrev pub lesser_key : Option (List ℕ) → List ℕ → List ℕ
-lesser_key None j = j
-lesser_key (Some k) j = if is_lt (key_order j k) then j else k
+-- the lesser of two places; of two with one key the first
+abbrev pub lesser_place : Option Bound → Bound → Bound
+lesser_place None c = c
+lesser_place (Some b) c = if is_lt (key_order c.key b.key) then c else b
 
--- a key and the least of the last keys of the windows that more comes behind; none where one of these has no whole line, or
--- where there is no key
-abbrev pub where_some : Option (List ℕ) → (List ℕ → Option (List ℕ)) → Option (List ℕ)
+-- the place of the least of the last keys of the windows that more comes behind, in the first shard that has it, behind so many
+-- others; none where one of these windows has no whole line, or where there is none
+abbrev pub where_some : Option (List ℕ) → (List ℕ → Option Bound) → Option Bound
 where_some None f = None
 where_some (Some k) f = f k
 
-unfoldable pub least_last : Option (List ℕ) → List Window → Option (List ℕ)
-least_last least [] = least
-least_last least (w ∷ ws) = if w.is_last then least_last least ws else where_some (last_key_in None (lines w.bytes.now)) (λ k. least_last (Some (lesser_key least k)) ws)
+unfoldable pub least_last : Option Bound → ℕ → List Window → Option Bound
+least_last least n [] = least
+least_last least n (w ∷ ws) =
+    if w.is_last then least_last least (n + 1) ws
+    else where_some (last_key_in None (lines w.bytes.now)) (λ k. least_last (Some (lesser_place least (record { key = k; shards = n + 1 }))) (n + 1) ws)
 
--- how many bytes the first lines have, with their line feeds, whose keys are before that one
-abbrev pub bytes_before : List ℕ → List (List ℕ) → ℕ
-bytes_before k [] = 0
-bytes_before k (l ∷ ls) = if is_lt (key_order (before_last 9 l) k) then (length l + 1) + bytes_before k ls else 0
+-- the place that a job's lines are taken to: where it counts, it is before all lines with the key
+abbrev pub place_for : JobSpec → Bound → Bound
+place_for job b = record { key = b.key; shards = if counts job then 0 else b.shards }
 
-abbrev pub cut_before : List ℕ → Window → ℕ
-cut_before k w = bytes_before k (lines w.bytes.now)
+-- all but the last
+abbrev pub but_last : List (List ℕ) → List (List ℕ)
+but_last [] = []
+but_last (l ∷ []) = []
+but_last (l ∷ m ∷ ls) = l ∷ but_last (m ∷ ls)
+
+-- the lines that may be taken of a window: the last one only where nothing comes behind it, so that the next line is there
+abbrev pub lines_to_take : Window → List (List ℕ)
+lines_to_take w = if w.is_last then lines w.bytes.now else but_last (lines w.bytes.now)
+
+-- how many bytes the first lines have, with their line feeds, that are before the place
+abbrev pub bytes_before : Bound → List (List ℕ) → ℕ
+bytes_before b [] = 0
+bytes_before b (l ∷ ls) = if is_before b (before_last 9 l) then (length l + 1) + bytes_before b ls else 0
+
+abbrev pub cut_before : Bound → Window → ℕ
+cut_before b w = bytes_before b (lines_to_take w)
+
+-- the lines of each shard that are before the place
+abbrev pub cuts_before : Bound → List Window → List ℕ
+cuts_before b [] = []
+cuts_before b (w ∷ ws) = cut_before b w ∷ cuts_before (next_place b) ws
 
 abbrev pub whole_window : Window → ℕ
 whole_window w = length w.bytes.now
@@ -134,19 +185,19 @@ whole_window w = length w.bytes.now
 abbrev pub nothing : Window → ℕ
 nothing w = 0
 
--- the key is past the bound
-abbrev pub is_past : Option (List ℕ) → List ℕ → Bool
-is_past None k = true
-is_past (Some bound) k = is_lt (key_order bound k)
+-- the place is not before the bound
+abbrev pub is_past : Option Bound → Bound → Bool
+is_past None b = true
+is_past (Some bound) b = match_ordering (key_order bound.key b.key) true (nat_le bound.shards b.shards) false
 
--- the lines whose keys are before the least last key, where that is past the bound
-abbrev pub cuts_to : Option (List ℕ) → Option (List ℕ) → List Window → List ℕ
+-- the lines before the place of the least last key, where that is not before the bound
+abbrev pub cuts_to : Option Bound → Option Bound → List Window → List ℕ
 cuts_to bound None ws = map nothing ws
-cuts_to bound (Some k) ws = if is_past bound k then map (cut_before k) ws else map nothing ws
+cuts_to bound (Some b) ws = if is_past bound b then cuts_before b ws else map nothing ws
 
 -- so much is taken of each window: all where all are the last ones
-abbrev pub cuts_of : Option (List ℕ) → List Window → List ℕ
-cuts_of bound ws = if are_last ws then map whole_window ws else cuts_to bound (least_last None ws) ws
+abbrev pub cuts_of : JobSpec → Option Bound → List Window → List ℕ
+cuts_of job bound ws = if are_last ws then map whole_window ws else cuts_to bound (option_map (place_for job) (least_last None 0 ws)) ws
 
 abbrev pub AreWithin : List ℕ → List Window → Type 0
 AreWithin [] [] = Unit {0}

@@ -1,43 +1,52 @@
 //! The outputs that shards have for one partition, merged as they are read.
 ghost use Rattle.std.specs.Prelude.{◌≡◌, ℕ, ◌≤◌, ◌++◌, ◌∷◌, [], IfErr, IfOk, OnErr, OnOk, length, map, option_map, List, Some, MatchOption, true, false};
 ghost use Rattle.mr_shards.specs.Pieces.{Standing, fresh_all, is_past};
+ghost use Rattle.mr_shards.specs.Places.{kept, shown};
 
 use crate::fault::MergeFault;
 use crate::piece::{all_read, cuts_before, held_of, merge_pieces, no_bytes, whole_windows};
-use crate::window::{Held, Window, all_last, least_key};
+use crate::window::{Held, Place, Window, all_last, place_of};
 use mr_bytes::compare_keys;
 use mr_jobs::Job;
 use std::alloc::{AllocError, Global};
+use std::cmp::Ordering;
 use std::marker::Model;
+
+/// A place among the merged lines, with a key of its own.
+#[derive(Drop)]
+pub(crate) struct Bound {
+    pub key: Vec<u8>,
+    pub shards: usize,
+}
 
 /// The outputs that shards have for one partition, merged as they are read.
 #[derive(Drop)]
 pub struct Merger {
     held: Vec<Held>,
-    /// The key that all keys taken are before.
-    bound: Option<Vec<u8>>,
+    /// The place that all lines taken are before.
+    bound: Option<Bound>,
 }
 
 impl Model for Merger {
     ghost Value = { Standing };
 
-    ghost view = { λ m. record { held = m.held.items; bound = option_map (λ k. k.items) m.bound } };
+    ghost view = { λ m. record { held = m.held.items; bound = option_map kept m.bound } };
 }
 
-/// The key, where there is one and it is past the bound.
-fn key_past<'a>(bound: &Option<Vec<u8>>, key: Option<&'a [u8]>) -> Option<&'a [u8]>
+/// The place, where there is one and it is not before the bound.
+fn place_past<'a>(bound: &Option<Bound>, place: Option<Place<'a>>) -> Option<Place<'a>>
     ensures { MatchOption result
-        (MatchOption key.entry (Unit {0}) (λ k. is_past (option_map (λ b. b.items) bound.now) k.now ≡ false))
-        (λ r. (key.entry ≡ Some r) × (is_past (option_map (λ b. b.items) bound.now) r.now ≡ true)) }
+        (MatchOption place.entry (Unit {0}) (λ p. is_past (option_map kept bound.now) (shown p) ≡ false))
+        (λ r. (place.entry ≡ Some r) × (is_past (option_map kept bound.now) (shown r) ≡ true)) }
 {
-    let found = key?;
+    let found = place?;
     let Some(least) = bound else {
         return Some(found);
     };
-    if compare_keys(least, found).is_lt() {
-        Some(found)
-    } else {
-        None
+    match compare_keys(&least.key, found.key) {
+        Ordering::Less => Some(found),
+        Ordering::Equal if least.shards <= found.shards => Some(found),
+        _ => None,
     }
 }
 
@@ -58,10 +67,12 @@ impl Merger {
     }
 
     /// Merges what the windows hold and appends the text, and tells how many bytes were taken of each window. Where all are
-    /// the last ones, all is taken. Else only the lines are taken whose key is before the least of the keys of the last whole
-    /// lines, so that no line to come belongs before them, and lines of one key stay together; where a window that more comes
-    /// behind has no whole line, nothing is. It is refused where an output isn't lines of the job with keys in their order;
-    /// lines are numbered in the whole output.
+    /// the last ones, all is taken. Else only the lines are taken that are before the least of the keys of the last whole lines,
+    /// so that no line to come belongs before them. Of a job that counts, lines with that key are left, so that lines of one key
+    /// stay together. Of another job, they are taken up to the first shard that has it as its last key: all of the shards before
+    /// that one, and of that one all but the last line. So whole windows go, however many lines of one key there are. Where a
+    /// window that more comes behind has no whole line, nothing is taken. It is refused where an output isn't lines of the job
+    /// with keys in their order; lines are numbered in the whole output.
     pub fn step(
         &mut self,
         alloc: Global,
@@ -71,7 +82,7 @@ impl Merger {
     ) -> Result<Vec<usize>, MergeFault>
         requires count { length windows.now ≡ length self.old.held }
         ensures shards { length self.new.held ≡ length self.old.held }
-        ensures cuts { IfOk result (λ cuts. cuts.items ≡ cuts_of self.old.bound windows.now) }
+        ensures cuts { IfOk result (λ cuts. cuts.items ≡ cuts_of job.now self.old.bound windows.now) }
         ensures within { IfOk result (λ cuts. AreWithin cuts.items windows.now) }
         ensures ok { IfOk result (λ cuts. Adds job.now windows.now cuts.items self.old self.new out.old.items out.new.items) }
         ensures err { IfErr result (λ e. (rs : List Reading) → IsAfter job.now rs self.old → AreWindows rs windows.now → Blames job.now (outputs_of rs) e) }
@@ -82,15 +93,18 @@ impl Merger {
             merge_pieces(alloc, job, &self.held, windows, &cuts, out)?;
             return Ok(cuts);
         }
-        let Some(key) = key_past(&self.bound, least_key(windows)) else {
+        let Some(place) = place_past(&self.bound, place_of(job, windows)) else {
             return Ok(no_bytes(alloc, windows)?);
         };
-        let cuts = cuts_before(alloc, windows, key)?;
-        let bound = Vec::from_slice(alloc, key)?;
+        let cuts = cuts_before(alloc, windows, place)?;
+        let key = Vec::from_slice(alloc, place.key)?;
         let held = all_read(alloc, &self.held, windows, &cuts)?;
         merge_pieces(alloc, job, &self.held, windows, &cuts, out)?;
         self.held = held;
-        self.bound = Some(bound);
+        self.bound = Some(Bound {
+            key,
+            shards: place.shards,
+        });
         Ok(cuts)
     }
 }

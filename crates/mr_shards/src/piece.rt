@@ -1,11 +1,11 @@
 //! Pieces that are cut off windows, and their merge.
 ghost use Rattle.std.specs.Prelude.{◌≡◌, ℕ, ◌≤◌, ◌++◌, ◌∷◌, [], IfErr, IfOk, OnErr, OnOk, length, map, option_map, List, Some, None, replicate, MatchOption, false, true, take, slice_index_or};
-ghost use Rattle.mr_shards.specs.Pieces.{ArePut, AreBlamed, AreWithin, all_read_on, cut_before, fresh, is_past, nothing, numbered, pieces_of, read_on, told, whole_window};
+ghost use Rattle.mr_shards.specs.Pieces.{ArePut, AreBlamed, AreWithin, all_read_on, cuts_before, fresh, nothing, numbered, pieces_of, read_on, told, whole_window};
+ghost use Rattle.mr_shards.specs.Places.{shown};
 
 use crate::fault::MergeFault;
 use crate::merge::{Output, merge_parts};
-use crate::window::{Held, Window, bytes_to, line_count};
-use mr_bytes::compare_keys;
+use crate::window::{Held, Place, Window, bytes_to, in_next, line_count};
 use mr_jobs::Job;
 use std::alloc::{AllocError, Global};
 
@@ -69,17 +69,19 @@ pub(crate) fn whole_windows(alloc: Global, windows: &[Window<'_>]) -> Result<Vec
     Ok(cuts)
 }
 
-/// Cuts that take the lines of each window whose keys are before that one.
+/// Cuts that take the lines of each window that are before the place.
 pub(crate) fn cuts_before(
     alloc: Global,
     windows: &[Window<'_>],
-    key: &[u8],
+    place: Place<'_>,
 ) -> Result<Vec<usize>, AllocError>
-    ensures is { IfOk result (λ cuts. cuts.items ≡ map (cut_before key.now) windows.now) }
+    ensures is { IfOk result (λ cuts. cuts.items ≡ cuts_before (shown place.entry) windows.now) }
 {
     let mut cuts = Vec::new(alloc);
+    let mut here = place;
     for at in 0..windows.len() {
-        keep_cut(&mut cuts, bytes_to(windows[at], key))?;
+        keep_cut(&mut cuts, bytes_to(windows[at], here))?;
+        here = in_next(here);
     }
     Ok(cuts)
 }

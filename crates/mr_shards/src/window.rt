@@ -1,17 +1,27 @@
 //! What was read of the outputs of shards and isn't merged yet.
-ghost use Rattle.std.specs.Prelude.{◌≡◌, ℕ, ◌+◌, ◌<◌, ◌≤◌, List, [], ◌∷◌, None, Some, MatchOption, drop, length, option_map};
+ghost use Rattle.std.specs.Prelude.{◌≡◌, ℕ, ◌+◌, ◌^◌, ◌<◌, ◌≤◌, List, [], ◌∷◌, None, Some, MatchOption, drop, length, option_map};
 ghost use Rattle.mr_shards.specs.declared.window.Window.{Window};
 ghost use Rattle.mr_shards.specs.Lines.{before_last, lines};
-ghost use Rattle.mr_shards.specs.Pieces.{are_last, bytes_before, cut_before, last_key_in, least_last, lesser_key};
+ghost use Rattle.mr_shards.specs.Pieces.{are_last, but_last, bytes_before, cut_before, is_before, last_key_in, least_last, lesser_place, lines_to_take, next_place, place_for};
+ghost use Rattle.mr_shards.specs.Places.{shown};
 
 use crate::line::{cut_first, cut_last};
 use mr_bytes::compare_keys;
+use mr_jobs::Job;
 
 /// What was read of a shard's output and isn't merged yet, and whether the output ends with it.
 #[derive(Clone, Copy)]
 pub struct Window<'a> {
     pub bytes: &'a [u8],
     pub is_last: bool,
+}
+
+/// A place among the merged lines: behind those with lesser keys, and, of those with its own key, behind all of the first
+/// shards but the last of these, in which it stands. Where it is of no shards, it is before all lines with its key.
+#[derive(Clone, Copy)]
+pub(crate) struct Place<'a> {
+    pub key: &'a [u8],
+    pub shards: usize,
 }
 
 /// How many files a shard has, and how many lines of its output were taken; the count has 64 bits.
@@ -44,47 +54,81 @@ fn last_key(text: &[u8]) -> Option<&[u8]>
     }
 }
 
-/// The lesser of two keys.
-fn lesser<'a>(least: Option<&'a [u8]>, key: &'a [u8]) -> &'a [u8]
-    ensures { result.now ≡ lesser_key (option_map (λ k. k.now) least.entry) key.entry.now }
+/// The lesser of two places; of two with one key the first.
+fn lesser<'a>(least: Option<Place<'a>>, place: Place<'a>) -> Place<'a>
+    ensures { shown result ≡ lesser_place (option_map shown least.entry) (shown place.entry) }
 {
     let Some(best) = least else {
-        return key;
+        return place;
     };
-    if compare_keys(key, best).is_lt() {
-        key
+    if compare_keys(place.key, best.key).is_lt() {
+        place
     } else {
         best
     }
 }
 
-/// The least key with that of one more window; none where more comes behind the window, and it has no whole line.
-fn with_window<'a>(least: Option<&'a [u8]>, window: Window<'a>) -> Option<Option<&'a [u8]>>
+/// The least place with that of one more window, behind so many others; none where more comes behind the window, and it has
+/// no whole line.
+fn with_window<'a>(
+    least: Option<Place<'a>>,
+    at: usize,
+    window: Window<'a>,
+) -> Option<Option<Place<'a>>>
+    requires { at + 1 < 2 ^ 64 }
     ensures { MatchOption result
-        ((ws : List Window) → least_last (option_map (λ k. k.now) least.entry) (window.entry ∷ ws) ≡ None)
-        (λ n. (ws : List Window) → least_last (option_map (λ k. k.now) least.entry) (window.entry ∷ ws) ≡ least_last (option_map (λ k. k.now) n) ws) }
+        ((ws : List Window) → least_last (option_map shown least.entry) at (window.entry ∷ ws) ≡ None)
+        (λ n. (ws : List Window) → least_last (option_map shown least.entry) at (window.entry ∷ ws) ≡ least_last (option_map shown n) (at + 1) ws) }
 {
     if window.is_last {
         return Some(least);
     }
     match last_key(window.bytes) {
-        Some(key) => Some(Some(lesser(least, key))),
+        Some(key) => Some(Some(lesser(
+            least,
+            Place {
+                key,
+                shards: at + 1,
+            },
+        ))),
         None => None,
     }
 }
 
-/// The least of the keys of the last whole lines, of the windows that more comes behind.
-pub(crate) fn least_key<'a>(windows: &[Window<'a>]) -> Option<&'a [u8]>
-    ensures { least_last None windows.entry.now ≡ option_map (λ k. k.now) result }
+/// The place of the least of the keys of the last whole lines, of the windows that more comes behind: in the first shard that
+/// has it.
+fn least_place<'a>(windows: &[Window<'a>]) -> Option<Place<'a>>
+    ensures { least_last None 0 windows.entry.now ≡ option_map shown result }
 {
     let mut least = None;
     for at in 0..windows.len() {
-        match with_window(least, windows[at]) {
+        match with_window(least, at, windows[at]) {
             Some(next) => least = next,
             None => return None,
         }
     }
     least
+}
+
+/// The place that the job's lines may be taken to. Where it counts, a key's lines stay together.
+pub(crate) fn place_of<'a>(job: &Job, windows: &[Window<'a>]) -> Option<Place<'a>>
+    ensures { option_map shown result ≡ option_map (place_for job.now) (least_last None 0 windows.entry.now) }
+{
+    let least = least_place(windows)?;
+    Some(Place {
+        key: least.key,
+        shards: if job.counts() { 0 } else { least.shards },
+    })
+}
+
+/// The place, as the shards behind the first have it.
+pub(crate) fn in_next(place: Place<'_>) -> Place<'_>
+    ensures { shown result ≡ next_place (shown place.entry) }
+{
+    Place {
+        key: place.key,
+        shards: place.shards.saturating_sub(1),
+    }
 }
 
 /// Whether each output ends with its window.
@@ -99,28 +143,66 @@ pub(crate) fn all_last(windows: &[Window<'_>]) -> bool
     true
 }
 
-/// The length of the first line with its line feed, where its key is before that one.
-fn line_before(text: &[u8], key: &[u8]) -> Option<usize>
-    ensures { MatchOption result (bytes_before key.now (lines text.now) ≡ 0)
-        (λ n. (0 < n) × (n ≤ length text.now) × (bytes_before key.now (lines text.now) ≡ n + bytes_before key.now (lines (drop n text.now)))) }
+/// Whether a line of the first shard with that key is before the place.
+fn is_before(place: Place<'_>, key: &[u8]) -> bool
+    ensures { result ≡ is_before (shown place.entry) key.now }
+{
+    if place.shards == 0 {
+        compare_keys(key, place.key).is_lt()
+    } else {
+        !compare_keys(place.key, key).is_lt()
+    }
+}
+
+/// The length of the first line with its line feed, where it is before the place.
+fn line_before(text: &[u8], place: Place<'_>) -> Option<usize>
+    ensures { MatchOption result (bytes_before (shown place.entry) (lines text.now) ≡ 0)
+        (λ n. (0 < n) × (n ≤ length text.now) × (bytes_before (shown place.entry) (lines text.now) ≡ n + bytes_before (shown place.entry) (lines (drop n text.now)))) }
 {
     let Some((line, _)) = cut_first(text, b'\n') else {
         return None;
     };
-    if compare_keys(key_of(line), key).is_lt() {
+    if is_before(place, key_of(line)) {
         Some(line.len() + 1)
     } else {
         None
     }
 }
 
-/// How many bytes the first lines have whose keys are before that one.
-pub(crate) fn bytes_to(window: Window<'_>, key: &[u8]) -> usize
-    ensures is { result ≡ cut_before key.now window.entry }
-    ensures within { result ≤ length window.entry.bytes.now }
+/// The bytes in front of the last whole line.
+fn before_last_line(text: &[u8]) -> &[u8]
+    ensures lines { lines result.now ≡ but_last (lines text.now) }
+    ensures within { length result.now ≤ length text.now }
 {
+    let Some((front, _)) = cut_last(text, b'\n') else {
+        return &text[..0];
+    };
+    match cut_last(front, b'\n') {
+        Some((before, _)) => &text[..before.len() + 1],
+        None => &text[..0],
+    }
+}
+
+/// The bytes whose lines may be taken: those in front of the last whole line, where more comes behind the window, so that the
+/// next line is always seen.
+fn bytes_to_take(window: Window<'_>) -> &[u8]
+    ensures lines { lines result.now ≡ lines_to_take window.entry }
+    ensures within { length result.now ≤ length window.entry.bytes.now }
+{
+    if window.is_last {
+        window.bytes
+    } else {
+        before_last_line(window.bytes)
+    }
+}
+
+/// How many bytes the first lines have that may be taken and are before the place.
+pub(crate) fn bytes_to(window: Window<'_>, place: Place<'_>) -> usize
+    ensures { result ≡ cut_before (shown place.entry) window.entry }
+{
+    let text = bytes_to_take(window);
     let mut at = 0;
-    while let Some(line) = line_before(&window.bytes[at..], key) {
+    while let Some(line) = line_before(&text[at..], place) {
         at += line;
     }
     at
