@@ -70,7 +70,7 @@ whole-behind : (line text : List ℕ) → IsWhole text → IsWhole (line ++ 10 �
 whole-behind line text (inl e) = inr (line, ap (λ t. line ++ 10 ∷ t) e)
 whole-behind line text (inr w) = inr (line ++ 10 ∷ w.0, ap (λ t. line ++ 10 ∷ t) w.1 ∙ sym (append_assoc line (10 ∷ w.0) (10 ∷ [])))
 
-lines-join : (text more : List ℕ) → IsWhole text → lines (text ++ more) ≡ lines text ++ lines more
+pub lines-join : (text more : List ℕ) → IsWhole text → lines (text ++ more) ≡ lines text ++ lines more
 lines-join text more (inl e) =
     ap (λ t. lines (t ++ more)) e ∙ ap (λ ls. ls ++ lines more) (sym lines-none) ∙ ap (λ t. lines t ++ lines more) (sym e)
 lines-join text more (inr w) =
@@ -292,7 +292,7 @@ bounded b least n m (w ∷ ws) early place e =
           own = both.0;
           all = (
             λ no_last. subst (HasLast (record { key = b.key; shards = pred m })) (sym last)
-            (later-not b j (pred m) both.1.0 (λ some. both.1.1 (some-left m n b.shards place some))),
+                (later-not b j (pred m) both.1.0 (λ some. both.1.1 (some-left m n b.shards place some))),
             r.all,
           );
         }

@@ -23,4 +23,5 @@ pub mod ApartLaws
 pub mod CutLemmas
 pub mod TurnLemmas
 pub mod BlameLemmas
+pub mod GoesLaws
 pub mod StepLaws

@@ -100,7 +100,7 @@ follows job None last k together low high = absurd low
 follows job (Some b) last k together low high = (
   λ less. high (less-is (key_order k b.key) (less-not k last b.key less (at-most b.shards b.key last low))),
   λ counted same. (let before : before_at 0 b.key last ≡ true = subst (λ n. before_at n b.key last ≡ true) (together counted) low in
-  high (ap (λ (q : List ℕ). is_lt (key_order q b.key)) (key_tie k last same) ∙ before)),
+      high (ap (λ (q : List ℕ). is_lt (key_order q b.key)) (key_tie k last same) ∙ before)),
 )
 
 -- ---- places that go on

@@ -1,5 +1,5 @@
 -- Outputs of shards, merged piece by piece.
-use Rattle.std.specs.Prelude.{◌≡◌, ℕ, zero, suc, pred, ◌+◌, ◌%◌, ◌^◌, ◌≤◌, Bool, true, false, not, if◌then◌else◌, ◌&&◌, nat_le, List, [], ◌∷◌, ◌++◌, Option, None, Some, length, map, option_map, slice_index_or, take, drop}
+use Rattle.std.specs.Prelude.{◌≡◌, ◌⊎◌, ℕ, zero, suc, pred, ◌+◌, ◌%◌, ◌^◌, ◌≤◌, Bool, true, false, not, if◌then◌else◌, ◌&&◌, nat_le, List, [], ◌∷◌, ◌++◌, Option, None, Some, length, map, option_map, slice_index_or, take, drop}
 use Rattle.std.specs.List.{AllByRecursion}
 use Rattle.std.specs.Ordering.{is_lt, match_ordering}
 use Rattle.mr_bytes.specs.Order.{key_order}
@@ -14,8 +14,8 @@ use Rattle.mr_shards.specs.Lines.{before_last, groups_in, lines}
 use Rattle.mr_shards.specs.Outputs.{IsOutputOfAll, parts_in}
 use Rattle.mr_shards.specs.Refused.{Blames, IsRest}
 
--- a place among the merged lines: behind those with lesser keys, and, of those with this key, behind all of the first shards
--- but the last of these, which it stands in; where it is of no shards, it is before all lines with this key
+-- a place among the merged lines: all lines with lesser keys are before it, and of those with this key all of the first shards,
+-- so many, but of the last of these only some; where it is of no shards, it is before all lines with this key
 pub record Bound : Type 0 where
   pub key : List ℕ
   pub shards : ℕ
@@ -140,8 +140,8 @@ abbrev pub lesser_place : Option Bound → Bound → Bound
 lesser_place None c = c
 lesser_place (Some b) c = if is_lt (key_order c.key b.key) then c else b
 
--- the place of the least of the last keys of the windows that more comes behind, in the first shard that has it, behind so many
--- others; none where one of these windows has no whole line, or where there is none
+-- the place of the least of the last keys of the windows that more comes behind, in the first shard that has it, where so many
+-- shards stand before these; none where one of these windows has no whole line, or where there is none
 abbrev pub where_some : Option (List ℕ) → (List ℕ → Option Bound) → Option Bound
 where_some None f = None
 where_some (Some k) f = f k
@@ -269,6 +269,22 @@ pub record Takes (job : JobSpec) (rs : List Reading) (ws : List Window) (cuts : 
   pub text_is : text_taken job (taken_on cuts rs) ≡ text_taken job rs ++ added
   pub after : are_last ws ≡ false → IsAfter job (taken_on cuts rs) m
   pub whole : are_last ws ≡ true → IsMerged job (outputs_of rs) (text_taken job rs ++ added)
+
+-- each window that more comes behind has a whole line
+abbrev pub HaveLines : List Window → Type 0
+HaveLines [] = Unit {0}
+HaveLines (w ∷ ws) = (w.is_last ≡ false → lines w.bytes.now ≡ [] → ⊥) × HaveLines ws
+
+-- of some window that more comes behind, all whole lines but the last are taken
+abbrev pub OneGoes : List Window → List ℕ → Type 0
+OneGoes [] cs = ⊥
+OneGoes (w ∷ ws) [] = ⊥
+OneGoes (w ∷ ws) (c ∷ cs) = ((w.is_last ≡ false) × (lines (take c w.bytes.now) ≡ but_last (lines w.bytes.now))) ⊎ OneGoes ws cs
+
+-- of a job that does not count, one window goes of outputs that stand, however many lines of one key there are
+abbrev pub GoesOn : JobSpec → List Window → List ℕ → Standing → Type 0
+GoesOn job ws cuts old = counts job ≡ false → are_last ws ≡ false → HaveLines ws → (rs : List Reading) → IsAfter job rs old → AreWindows rs ws
+    → AllByRecursion (λ (o : Output). IsRest job None o.text.now) (outputs_of rs) → OneGoes ws cuts
 
 -- what is added; it is that whatever the outputs are, of which these are windows
 pub record Adds (job : JobSpec) (ws : List Window) (cuts : List ℕ) (old new : Standing) (out out' : List ℕ) : Type 0 where

@@ -52,7 +52,7 @@ fn place_past<'a>(bound: &Option<Bound>, place: Option<Place<'a>>) -> Option<Pla
 
 impl Merger {
     ghost use Rattle.mr_jobs.specs.JobSpec.{JobSpec};
-    ghost use Rattle.mr_shards.specs.Pieces.{Adds, AreFresh, AreWindows, AreWithin, IsAfter, Reading, cuts_of, outputs_of, text_taken};
+    ghost use Rattle.mr_shards.specs.Pieces.{Adds, AreFresh, AreWindows, AreWithin, GoesOn, IsAfter, Reading, cuts_of, outputs_of, text_taken};
     ghost use Rattle.mr_shards.specs.Refused.{Blames};
 
     /// A merger of as many shards as numbers; each is how many files a shard has. Nothing is taken yet.
@@ -84,6 +84,7 @@ impl Merger {
         ensures shards { length self.new.held ≡ length self.old.held }
         ensures cuts { IfOk result (λ cuts. cuts.items ≡ cuts_of job.now self.old.bound windows.now) }
         ensures within { IfOk result (λ cuts. AreWithin cuts.items windows.now) }
+        ensures goes { IfOk result (λ cuts. GoesOn job.now windows.now cuts.items self.old) }
         ensures ok { IfOk result (λ cuts. Adds job.now windows.now cuts.items self.old self.new out.old.items out.new.items) }
         ensures err { IfErr result (λ e. (rs : List Reading) → IsAfter job.now rs self.old → AreWindows rs windows.now → Blames job.now (outputs_of rs) e) }
         ensures kept { OnErr result ((self.new ≡ self.old) × (out.new.items ≡ out.old.items)) }

@@ -1,10 +1,11 @@
-use Rattle.std.proofs.Common.{◌∙◌, ap, sym, length, map, List, None, Option, Some}
-use Rattle.std.specs.Prelude.{option_map}
+use Rattle.std.proofs.Common.{◌≡◌, ◌∙◌, ap, sym, subst, length, false, map, List, None, Option, Some}
+use Rattle.std.specs.Prelude.{MatchOption, option_map}
 use Rattle.std.proofs.lemmas.Result.{err_from_is_err_and}
 use Rattle.mr_shards.specs.declared.window.Held.{Held}
-use Rattle.mr_shards.specs.Pieces.{Bound, Standing, all_read_on, cuts_before, is_past, least_last, nothing, whole_window}
+use Rattle.mr_shards.specs.Pieces.{Bound, OneGoes, Standing, all_read_on, cuts_before, is_past, least_last, nothing, whole_window}
 use Rattle.mr_shards.specs.Places.{shown}
 use Rattle.mr_shards.proofs.TurnLemmas.{within-nothing, within-place, within-whole}
+use Rattle.mr_shards.proofs.GoesLaws.{goes-to, not-stuck}
 use Rattle.mr_shards.proofs.StepLaws.{adds-nothing, adds-place, adds-whole, closes-place, closes-whole, cuts-length, found-place, read-length, refuses, within-so}
 use Rattle.mr_shards.proofs.merger.Merger.step.Goals as goal
 
@@ -32,6 +33,11 @@ returns-then-all_last-clause-ok c =
 pub returns-in_default-clause-within : goal.returns-in_default-clause-within
 returns-in_default-clause-within c =
     within-so c.args.windows.now (map nothing c.args.windows.now) c.in_ok-no_bytes.field-0.items c.in_ok-no_bytes.ensures.is (within-nothing c.args.windows.now)
+
+pub returns-in_default-clause-goes : goal.returns-in_default-clause-goes
+returns-in_default-clause-goes c = λ parted more have rs t v all.
+    absurd (not-stuck c.args.job.now c.args.self.now.bound c.args.self.now.held rs c.args.windows.now parted more have t v all c.place_of.result (sym c.place_of.ensures)
+    (subst (λ (s : Standing). MatchOption c.place_of.result (Unit {0}) (λ p. is_past s.bound (shown p) ≡ false)) c.self.view_is c.in_default.ensures))
 
 pub returns-in_default-clause-ok : goal.returns-in_default-clause-ok
 returns-in_default-clause-ok c =
@@ -72,6 +78,12 @@ returns-clause-shards c =
 pub returns-clause-within : goal.returns-clause-within
 returns-clause-within c =
     within-so c.args.windows.now (cuts_before (shown c.in-Some.place) c.args.windows.now) c.in_ok-cuts-2.cuts.items c.in_ok-cuts-2.ensures.is (within-place (shown c.in-Some.place) c.args.windows.now)
+
+pub returns-clause-goes : goal.returns-clause-goes
+returns-clause-goes c = λ parted more have rs t v all.
+    subst (OneGoes c.args.windows.now) (sym c.in_ok-cuts-2.ensures.is)
+    (goes-to c.args.job.now c.args.self.now.bound c.args.self.now.held rs c.args.windows.now parted more have t v all (shown c.in-Some.place)
+    (sym c.place_of.ensures ∙ ap (option_map shown) c.in-Some.ensures.0)).goes
 
 pub returns-clause-ok : goal.returns-clause-ok
 returns-clause-ok c =
