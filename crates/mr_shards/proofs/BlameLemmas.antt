@@ -56,7 +56,8 @@ ends-so (x ∷ xs) rest [] e some = absurd (some (nothing-left xs rest (rest-of 
 ends-so (x ∷ xs) rest (y ∷ q) e some = ends-so xs rest q (rest-of x y (xs ++ rest) (q ++ 10 ∷ []) e) some
 
 -- a line in front of such bytes, with others behind them, is in front of them
-line-there : (job : JobSpec) (g : Group) (rest p more x : List ℕ) → IsLineOf job g → rest ≡ p ++ 10 ∷ [] → rest ++ more ≡ group_text job g ++ x → (y : List ℕ) × (rest ≡ group_text job g ++ y)
+line-there : (job : JobSpec) (g : Group) (rest p more x : List ℕ) → IsLineOf job g → rest ≡ p ++ 10 ∷ [] → rest ++ more ≡ group_text job g ++ x
+    → (y : List ℕ) × (rest ≡ group_text job g ++ y)
 line-there job g rest p more x l e whole =
     let s = some-line p [] in
     let f = first-line (p ++ 10 ∷ []) s.first s.rest s.is in
@@ -76,7 +77,8 @@ may-alone job gs [] key m = tt
 may-alone job gs (h ∷ hs) key m = subst (λ (o : Option (List ℕ)). MayFollow job o key) (last-join None gs h hs) m
 
 -- no line follows in the piece, and so none in the whole
-none-more : (job : JobSpec) (gs hs : List Group) (last : Option (List ℕ)) (piece rest more : List ℕ) → IsClosed piece more → piece ≡ texts job hs ++ rest → (rest ≡ [] → ⊥) → last_of None hs ≡ last
+none-more : (job : JobSpec) (gs hs : List Group) (last : Option (List ℕ)) (piece rest more : List ℕ) → IsClosed piece more → piece ≡ texts job hs ++ rest
+    → (rest ≡ [] → ⊥) → last_of None hs ≡ last
     → NoLineFollows job last rest → NoLineFollows job (last_of None (gs ++ hs)) (rest ++ more)
 none-more job gs hs last piece rest more (inl e) is some same bad g x l m whole =
     bad g x l (subst (λ (o : Option (List ℕ)). MayFollow job o g.key) same (may-alone job gs hs g.key m))
@@ -210,7 +212,8 @@ worse-more job h r o hs rs os bad far few files w = record {
   files = λ i. files i ∷ w.files i;
 }
   where
-    bad-at : (i line : ℕ) → IsBadLine job (text_at (o ∷ os) i) line → IsBadLine job (text_at (outputs_of (r ∷ rs)) i) (((get_or (h ∷ hs) i (fresh 0)).lines + line) % 2 ^ 64)
+    bad-at : (i line : ℕ) → IsBadLine job (text_at (o ∷ os) i) line
+        → IsBadLine job (text_at (outputs_of (r ∷ rs)) i) (((get_or (h ∷ hs) i (fresh 0)).lines + line) % 2 ^ 64)
     bad-at zero line b = bad line b
     bad-at (suc i) line b = w.bad i line b
 
@@ -228,7 +231,8 @@ AreClosing (c ∷ cs) [] = Unit {0}
 AreClosing (c ∷ cs) (w ∷ ws) = Closes c w × AreClosing cs ws
 
 module _ (job : JobSpec) where
-  pub worse : (b : Option Bound) (hs : List Held) (rs : List Reading) (ws : List Window) (cs : List ℕ) (os : List Output) → AreTaken job b hs rs → AreWindows rs ws → AreWithin cs ws
+  pub worse : (b : Option Bound) (hs : List Held) (rs : List Reading) (ws : List Window) (cs : List ℕ) (os : List Output) → AreTaken job b hs rs
+      → AreWindows rs ws → AreWithin cs ws
       → AreClosing cs ws → map told os ≡ pieces_of hs ws cs → AreWorse job hs rs os
   worse b [] [] [] [] [] t v fits all e = worse-none job
   worse b [] [] [] [] (o ∷ os) t v fits all e = absurd (cc e)
@@ -261,7 +265,8 @@ files-front i xs ys e =
     files-same (take i xs) (take i ys)
     (sym (take-map (λ (o : Output). o.files) i xs) ∙ ap (take i) e ∙ take-map (λ (o : Output). o.files) i ys)
 
-blames-fault : (job : JobSpec) (hs : List Held) (rs : List Reading) (os : List Output) (e : MergeFault) → AreWorse job hs rs os → Blames job os e → Blames job (outputs_of rs) (numbered hs e)
+blames-fault : (job : JobSpec) (hs : List Held) (rs : List Reading) (os : List Output) (e : MergeFault) → AreWorse job hs rs os → Blames job os e
+    → Blames job (outputs_of rs) (numbered hs e)
 blames-fault job hs rs os (BadLine shard line) w b =
     let bad = w.bad shard line b.0 in
     (bad, bad-text job (text_at (outputs_of rs) shard) (((get_or hs shard (fresh 0)).lines + line) % 2 ^ 64) bad)
@@ -271,7 +276,8 @@ blames-fault job hs rs os TooManyFiles w (inr far) =
     inr (far.0, subst (IsFarLine job (text_at (outputs_of rs) far.0)) (files-front far.0 os (outputs_of rs) w.files) (w.far far.0 (files_in (take far.0 os)) far.1))
 blames-fault job hs rs os OutOfMemory w b = tt
 
-pub blames-so : (job : JobSpec) (b : Option Bound) (hs : List Held) (rs : List Reading) (ws : List Window) (cs : List ℕ) (e : MergeFault) → AreTaken job b hs rs → AreWindows rs ws
+pub blames-so : (job : JobSpec) (b : Option Bound) (hs : List Held) (rs : List Reading) (ws : List Window) (cs : List ℕ) (e : MergeFault)
+    → AreTaken job b hs rs → AreWindows rs ws
     → AreWithin cs ws → AreClosing cs ws → AreBlamed job hs (pieces_of hs ws cs) e → Blames job (outputs_of rs) e
 blames-so job b hs rs ws cs e t v fits all a =
     subst (Blames job (outputs_of rs)) (sym a.is)

@@ -30,7 +30,8 @@ pub record IsFirstLine (text line : List ℕ) (ls : List (List ℕ)) : Type 0 wh
 abbrev pub Finds : List ℕ → Type 0
 Finds text = (line : List ℕ) (ls : List (List ℕ)) → lines text ≡ line ∷ ls → IsFirstLine text line ls
 
-first-longer : (b : ℕ) (text line : List ℕ) (ls ms : List (List ℕ)) → (b ≡ 10 → ⊥) → lines text ≡ ms → Finds text → longer b ms ≡ line ∷ ls → IsFirstLine (b ∷ text) line ls
+first-longer : (b : ℕ) (text line : List ℕ) (ls ms : List (List ℕ)) → (b ≡ 10 → ⊥) → lines text ≡ ms → Finds text → longer b ms ≡ line ∷ ls
+    → IsFirstLine (b ∷ text) line ls
 unfolding longer
 first-longer b text line ls [] ne same rec e = absurd (cc e)
 first-longer b text line ls (m ∷ ms) ne same rec e =
@@ -44,7 +45,8 @@ first-longer b text line ls (m ∷ ms) ne same rec e =
       behind = r.behind ∙ more;
     }
 
-first-byte : (b : ℕ) (text line : List ℕ) (ls : List (List ℕ)) (t : Bool) → eqb b 10 ≡ t → Finds text → cond t ([] ∷ lines text) (longer b (lines text)) ≡ line ∷ ls → IsFirstLine (b ∷ text) line ls
+first-byte : (b : ℕ) (text line : List ℕ) (ls : List (List ℕ)) (t : Bool) → eqb b 10 ≡ t → Finds text
+    → cond t ([] ∷ lines text) (longer b (lines text)) ≡ line ∷ ls → IsFirstLine (b ∷ text) line ls
 first-byte b text line ls true is rec e =
     let l : [] ≡ line = cc e in
     let more : lines text ≡ ls = cc e in
@@ -110,7 +112,8 @@ drop-lines : (line rest : List ℕ) (n : ℕ) → drop ((length line + 1) + n) (
 drop-lines line rest n =
     (λ i. drop (line-length line n i) (sym (append_assoc line (10 ∷ []) rest) i)) ∙ drop-append-add (line ++ 10 ∷ []) rest n
 
-parts-line : (b : Bound) (text line : List ℕ) (ls left : List (List ℕ)) (n : ℕ) (t : Bool) → is_before b (before_last 9 line) ≡ t → lines text ≡ line ∷ ls → (f : IsFirstLine text line ls)
+parts-line : (b : Bound) (text line : List ℕ) (ls left : List (List ℕ)) (n : ℕ) (t : Bool) → is_before b (before_last 9 line) ≡ t → lines text ≡ line ∷ ls
+    → (f : IsFirstLine text line ls)
     → Parts b left f.rest n → Parts b left text (cond t ((length line + 1) + n) 0)
 parts-line b text line ls left n true is e f p =
     let front : take ((length line + 1) + n) text ≡ line ++ 10 ∷ take n f.rest = ap (take ((length line + 1) + n)) f.text_is ∙ take-line line f.rest n in
@@ -139,7 +142,8 @@ parts b text (l ∷ ls) left e =
     let f = first-line text l (ls ++ left) e in
     parts-line b text l (ls ++ left) left (bytes_before b ls) (is_before b (before_last 9 l)) refl e f (parts b f.rest ls left f.behind)
 
-pub groups-before : (job : JobSpec) (b : Bound) (ls : List (List ℕ)) → AreBefore b ls → AllByRecursion (λ (g : Group). IsBefore (Some b) g.key) (map (group_in job) ls)
+pub groups-before : (job : JobSpec) (b : Bound) (ls : List (List ℕ)) → AreBefore b ls
+    → AllByRecursion (λ (g : Group). IsBefore (Some b) g.key) (map (group_in job) ls)
 groups-before job b [] all = tt
 groups-before job b (l ∷ ls) all = (all.0, groups-before job b ls all.1)
 
@@ -225,11 +229,13 @@ record Bounded (b : Bound) (least : Option Bound) (m : ℕ) (ws : List Window) :
 is_lt-no : (a b : List ℕ) → is_lt (key_order a b) ≡ false → NotLess a b
 is_lt-no a b e less = cc (sym e ∙ ap is_lt less)
 
-lesser-own : (b : Bound) (j : List ℕ) (n : ℕ) (least : Option Bound) → Early least n → Own b (Some (lesser_place least (record { key = j; shards = n + 1 }))) → Own b least × IsLater b j (n + 1)
+lesser-own : (b : Bound) (j : List ℕ) (n : ℕ) (least : Option Bound) → Early least n → Own b (Some (lesser_place least (record { key = j; shards = n + 1 })))
+    → Own b least × IsLater b j (n + 1)
 lesser-own b j n None early h = (tt, h)
 lesser-own b j n (Some l) early h = by (is_lt (key_order j l.key)) refl h
   where
-    by : (t : Bool) → is_lt (key_order j l.key) ≡ t → Own b (Some (cond t (record { key = j; shards = n + 1 }) l)) → IsLater b l.key l.shards × IsLater b j (n + 1)
+    by : (t : Bool) → is_lt (key_order j l.key) ≡ t → Own b (Some (cond t (record { key = j; shards = n + 1 }) l))
+        → IsLater b l.key l.shards × IsLater b j (n + 1)
     by true e own =
         let less : key_order j l.key ≡ Less = is_lt-less (key_order j l.key) e in (
           (λ back. own.0 (nat_list_cmp_total.trans j l.key b.key less back), λ few. not-less b.key j l.key own.0 less),
@@ -254,7 +260,8 @@ some-left : (m n s : ℕ) → m ≡ s - n → 0 < pred m → n + 1 < s
 some-left zero n s e h = absurd (omega (arith, h))
 some-left (suc m) n s e h = omega (arith, e, h)
 
-bounded : (b : Bound) (least : Option Bound) (n m : ℕ) (ws : List Window) → Early least n → m ≡ b.shards - n → least_last least n ws ≡ Some b → Bounded b least m ws
+bounded : (b : Bound) (least : Option Bound) (n m : ℕ) (ws : List Window) → Early least n → m ≡ b.shards - n → least_last least n ws ≡ Some b
+    → Bounded b least m ws
 bounded b least n m [] early place e = record { own = by least (sym (least-nil least n) ∙ e); all = tt }
   where
     by : (o : Option Bound) → o ≡ Some b → Own b o
@@ -286,7 +293,8 @@ bounded b least n m (w ∷ ws) early place e =
         record { own = r.own; all = (λ no_last. absurd (cc (sym is ∙ no_last)), r.all) }
     by false is None last rec = absurd (cc (sym (least-key least n None w ws is last) ∙ e))
     by false is (Some j) last rec =
-        let r = rec (Some (lesser_place least (record { key = j; shards = n + 1 }))) (lesser-early j least early) (sym (least-key least n (Some j) w ws is last) ∙ e) in
+        let r = rec (Some (lesser_place least (record { key = j; shards = n + 1 }))) (lesser-early j least early)
+        (sym (least-key least n (Some j) w ws is last) ∙ e) in
         let both = lesser-own b j n least early r.own in
         record {
           own = both.0;

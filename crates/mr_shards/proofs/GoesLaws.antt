@@ -39,7 +39,8 @@ found : (least : Option Bound) (n : ℕ) (ws : List Window) (q : Bound) → leas
 found least n [] q e = inl (sym (least-nil least n) ∙ e)
 found least n (w ∷ ws) q e = by w.is_last refl (last_key_in None (lines w.bytes.now)) refl (λ l h. found l (n + 1) ws q h)
   where
-    chosen : (j : List ℕ) → w.is_last ≡ false → last_key_in None (lines w.bytes.now) ≡ Some j → (o : Option Bound) → lesser_place o (record { key = j; shards = n + 1 }) ≡ q
+    chosen : (j : List ℕ) → w.is_last ≡ false → last_key_in None (lines w.bytes.now) ≡ Some j → (o : Option Bound)
+        → lesser_place o (record { key = j; shards = n + 1 }) ≡ q
         → (o ≡ Some q) ⊎ FoundIn n q (w ∷ ws)
     chosen j is last None same = inr (inl (is, last ∙ ap (λ (b : Bound). Some b.key) same, sym (ap (λ (b : Bound). b.shards) same)))
     chosen j is last (Some l) same = cases (is_lt (key_order j l.key)) same
@@ -74,7 +75,8 @@ some-kept : (l : Bound) (n : ℕ) (ws : List Window) → HaveLines ws → (q : B
 some-kept l n [] have = (l, least-nil (Some l) n)
 some-kept l n (w ∷ ws) have = by w.is_last refl (λ b. some-kept b (n + 1) ws have.1)
   where
-    by : (t : Bool) → w.is_last ≡ t → ((b : Bound) → (q : Bound) × (least_last (Some b) (n + 1) ws ≡ Some q)) → (q : Bound) × (least_last (Some l) n (w ∷ ws) ≡ Some q)
+    by : (t : Bool) → w.is_last ≡ t → ((b : Bound) → (q : Bound) × (least_last (Some b) (n + 1) ws ≡ Some q))
+        → (q : Bound) × (least_last (Some l) n (w ∷ ws) ≡ Some q)
     by true is rec = let r = rec l in (r.0, least-last (Some l) n w ws is ∙ r.1)
     by false is rec =
         let j = has-last (lines w.bytes.now) (have.0 is) in
@@ -85,7 +87,8 @@ some-least : (n : ℕ) (ws : List Window) → are_last ws ≡ false → HaveLine
 some-least n [] more have = absurd (cc more)
 some-least n (w ∷ ws) more have = by w.is_last refl more (λ h. some-least (n + 1) ws h have.1)
   where
-    by : (t : Bool) → w.is_last ≡ t → (t && are_last ws) ≡ false → (are_last ws ≡ false → (q : Bound) × (least_last None (n + 1) ws ≡ Some q)) → (q : Bound) × (least_last None n (w ∷ ws) ≡ Some q)
+    by : (t : Bool) → w.is_last ≡ t → (t && are_last ws) ≡ false → (are_last ws ≡ false → (q : Bound) × (least_last None (n + 1) ws ≡ Some q))
+        → (q : Bound) × (least_last None n (w ∷ ws) ≡ Some q)
     by true is h rec = let r = rec h in (r.0, least-last None n w ws is ∙ r.1)
     by false is h rec =
         let j = has-last (lines w.bytes.now) (have.0 is) in
@@ -119,12 +122,14 @@ lines-prefix text more (l ∷ ls) e =
 abbrev groups_seen : JobSpec → Window → List Group
 groups_seen job w = map (group_in job) (lines w.bytes.now)
 
-module _ (job : JobSpec) (b : Option Bound) (h : Held) (r : Reading) (w : Window) (t : IsTaken job b h r) (v : IsWindow r w) (stands : IsRest job None r.output.text.now) where
+module _ (job : JobSpec) (b : Option Bound) (h : Held) (r : Reading) (w : Window) (t : IsTaken job b h r) (v : IsWindow r w)
+    (stands : IsRest job None r.output.text.now) where
   turn-behind : InTurn job None (groups_in job (behind r))
   turn-behind =
       turn-drop job None (groups_in job (front r)) (groups_in job (behind r))
       (subst (InTurn job None)
-      (sym (rest-groups job None r.output.text.now stands) ∙ ap (groups_in job) (sym (take-append-drop r.taken r.output.text.now)) ∙ rest-join job None (front r) (behind r) t.stands)
+      (sym (rest-groups job None r.output.text.now stands) ∙ ap (groups_in job) (sym (take-append-drop r.taken r.output.text.now))
+      ∙ rest-join job None (front r) (behind r) t.stands)
       stands.in_turn)
 
   seen : (hs : List Group) × (groups_in job (behind r) ≡ groups_seen job w ++ hs)
@@ -141,20 +146,24 @@ module _ (job : JobSpec) (b : Option Bound) (h : Held) (r : Reading) (w : Window
       (all-split (λ k. IsBefore (next_bound b) k → ⊥) (keys (groups_seen job w)) (keys seen.0)
       (subst (AllByRecursion (λ k. IsBefore (next_bound b) k → ⊥)) (ap keys seen.1 ∙ map-append (λ (g : Group). g.key) (groups_seen job w) seen.0) all)).0
 
-last-in : (job : JobSpec) (P : List ℕ → Type 0) (ls : List (List ℕ)) (k j : List ℕ) → P k → AllByRecursion P (keys (map (group_in job) ls)) → last_key_in (Some k) ls ≡ Some j → P j
+last-in : (job : JobSpec) (P : List ℕ → Type 0) (ls : List (List ℕ)) (k j : List ℕ) → P k → AllByRecursion P (keys (map (group_in job) ls))
+    → last_key_in (Some k) ls ≡ Some j → P j
 last-in job P [] k j here all e = subst P (cc e) here
 last-in job P (l ∷ ls) k j here all e = last-in job P ls (before_last 9 l) j all.0 all.1 e
 
-last-all : (job : JobSpec) (P : List ℕ → Type 0) (ls : List (List ℕ)) (j : List ℕ) → AllByRecursion P (keys (map (group_in job) ls)) → last_key_in None ls ≡ Some j → P j
+last-all : (job : JobSpec) (P : List ℕ → Type 0) (ls : List (List ℕ)) (j : List ℕ) → AllByRecursion P (keys (map (group_in job) ls))
+    → last_key_in None ls ≡ Some j → P j
 last-all job P [] j all e = absurd (cc e)
 last-all job P (l ∷ ls) j all e = last-in job P ls (before_last 9 l) j all.0 all.1 e
 
 -- the last key is not before an earlier one
-last-not_less : (job : JobSpec) (ls : List (List ℕ)) (k j : List ℕ) → InTurn job (Some k) (map (group_in job) ls) → last_key_in (Some k) ls ≡ Some j → NotLess j k
+last-not_less : (job : JobSpec) (ls : List (List ℕ)) (k j : List ℕ) → InTurn job (Some k) (map (group_in job) ls) → last_key_in (Some k) ls ≡ Some j
+    → NotLess j k
 last-not_less job [] k j turn e = subst (λ (q : List ℕ). NotLess q k) (cc e) (not_less-itself k)
 last-not_less job (l ∷ ls) k j turn e = not_less-trans j (before_last 9 l) k (last-not_less job ls (before_last 9 l) j turn.1 e) turn.0.0
 
-last-behind : (job : JobSpec) (ls ms : List (List ℕ)) (l j : List ℕ) (last before : Option (List ℕ)) → InTurn job before (map (group_in job) (ls ++ l ∷ ms)) → last_key_in last (ls ++ l ∷ ms) ≡ Some j
+last-behind : (job : JobSpec) (ls ms : List (List ℕ)) (l j : List ℕ) (last before : Option (List ℕ)) → InTurn job before (map (group_in job) (ls ++ l ∷ ms))
+    → last_key_in last (ls ++ l ∷ ms) ≡ Some j
     → NotLess j (before_last 9 l)
 last-behind job [] ms l j last before turn e = last-not_less job ms (before_last 9 l) j turn.1 e
 last-behind job (k ∷ ls) ms l j last before turn e = last-behind job ls ms l j (Some (before_last 9 k)) (Some (before_last 9 k)) turn.1 e
@@ -191,7 +200,8 @@ past-back (Some c) p some past = by (key_order c.key p.key) past
 
 -- ---- the window goes
 
-goes-here : (job : JobSpec) (w : Window) (k : List ℕ) (n : ℕ) → IsCut (record { key = k; shards = 1 }) w n → InTurn job None (groups_seen job w) → w.is_last ≡ false
+goes-here : (job : JobSpec) (w : Window) (k : List ℕ) (n : ℕ) → IsCut (record { key = k; shards = 1 }) w n → InTurn job None (groups_seen job w)
+    → w.is_last ≡ false
     → last_key_in None (lines w.bytes.now) ≡ Some k → lines (take n w.bytes.now) ≡ but_last (lines w.bytes.now)
 goes-here job w k n c turn more last =
     elim c.parts.next [
@@ -222,9 +232,11 @@ pub record Goes (b : Option Bound) (p : Bound) (ws : List Window) : Type 0 where
   pub past : is_past b p ≡ true
   pub goes : OneGoes ws (cuts_before p ws)
 
-here-goes : (k : List ℕ) (m : ℕ) (b : Option Bound) (w : Window) (ws : List Window) → m ≡ 1 → is_past b (record { key = k; shards = 1 }) ≡ true → w.is_last ≡ false
+here-goes : (k : List ℕ) (m : ℕ) (b : Option Bound) (w : Window) (ws : List Window) → m ≡ 1 → is_past b (record { key = k; shards = 1 }) ≡ true
+    → w.is_last ≡ false
     → lines (take (cut_before (record { key = k; shards = 1 }) w) w.bytes.now) ≡ but_last (lines w.bytes.now) → Goes b (record { key = k; shards = m }) (w ∷ ws)
-here-goes k m b w ws e past is goes = subst (λ (n : ℕ). Goes b (record { key = k; shards = n }) (w ∷ ws)) (sym e) (record { past = past; goes = inl (is, goes) })
+here-goes k m b w ws e past is goes =
+    subst (λ (n : ℕ). Goes b (record { key = k; shards = n }) (w ∷ ws)) (sym e) (record { past = past; goes = inl (is, goes) })
 
 found-behind : (n : ℕ) (q : Bound) (ws : List Window) → FoundIn n q ws → n < q.shards
 found-behind n q [] f = absurd f
@@ -236,7 +248,8 @@ next-left zero n s e = omega (arith, e)
 next-left (suc m) n s e = omega (arith, e)
 
 module _ (job : JobSpec) where
-  pub goes : (n m : ℕ) (q : Bound) (b : Option Bound) (hs : List Held) (rs : List Reading) (ws : List Window) → m ≡ q.shards - n → AreTaken job b hs rs → AreWindows rs ws
+  pub goes : (n m : ℕ) (q : Bound) (b : Option Bound) (hs : List Held) (rs : List Reading) (ws : List Window) → m ≡ q.shards - n → AreTaken job b hs rs
+      → AreWindows rs ws
       → AllByRecursion (λ (o : Output). IsRest job None o.text.now) (outputs_of rs) → FoundIn n q ws → Goes b (record { key = q.key; shards = m }) ws
   goes n m q b hs rs [] place t v all f = absurd f
   goes n m q b hs [] (w ∷ ws) place t v all f = absurd v
@@ -244,7 +257,8 @@ module _ (job : JobSpec) where
   goes n m q b (h ∷ hs) (r ∷ rs) (w ∷ ws) place t v all (inl here) =
       here-goes q.key m b w ws (omega (arith, place, here.2))
       (past-here b q.key (last-all job (λ k. IsBefore (next_bound b) k → ⊥) (lines w.bytes.now) q.key (high-seen job b h r w t.0 v.0 all.0) here.1))
-      here.0 (goes-here job w q.key (cut_before (record { key = q.key; shards = 1 }) w) (cut-of (record { key = q.key; shards = 1 }) w) (turn-seen job b h r w t.0 v.0 all.0) here.0 here.1)
+      here.0 (goes-here job w q.key (cut_before (record { key = q.key; shards = 1 }) w) (cut-of (record { key = q.key; shards = 1 }) w)
+      (turn-seen job b h r w t.0 v.0 all.0) here.0 here.1)
   goes n m q b (h ∷ hs) (r ∷ rs) (w ∷ ws) place t v all (inr later) =
       let s = goes (n + 1) (pred m) q (next_bound b) hs rs ws (next-left m n q.shards place) t.1 v.1 all.1 later in
       let more : n + 1 < q.shards = found-behind (n + 1) q ws later in
@@ -253,7 +267,8 @@ module _ (job : JobSpec) where
         goes = inr s.goes;
       }
 
-  module _ (b : Option Bound) (hs : List Held) (rs : List Reading) (ws : List Window) (parted : counts job ≡ false) (more : are_last ws ≡ false) (have : HaveLines ws)
+  module _ (b : Option Bound) (hs : List Held) (rs : List Reading) (ws : List Window) (parted : counts job ≡ false)
+      (more : are_last ws ≡ false) (have : HaveLines ws)
       (t : AreTaken job b hs rs) (v : AreWindows rs ws) (all : AllByRecursion (λ (o : Output). IsRest job None o.text.now) (outputs_of rs)) where
     pub goes-to : (p : Bound) → option_map (place_for job) (least_last None 0 ws) ≡ Some p → Goes b p ws
     goes-to p e =
@@ -266,6 +281,7 @@ module _ (job : JobSpec) where
         ]
 
     -- there is such a place
-    pub not-stuck : (o : Option Place) → option_map (place_for job) (least_last None 0 ws) ≡ option_map shown o → MatchOption o (Unit {0}) (λ p. is_past b (shown p) ≡ false) → ⊥
+    pub not-stuck : (o : Option Place) → option_map (place_for job) (least_last None 0 ws) ≡ option_map shown o
+        → MatchOption o (Unit {0}) (λ p. is_past b (shown p) ≡ false) → ⊥
     not-stuck None e h = let s = some-least 0 ws more have in cc (sym (ap (option_map (place_for job)) s.1) ∙ e)
     not-stuck (Some p) e h = cc (sym (goes-to (shown p) e).past ∙ h)

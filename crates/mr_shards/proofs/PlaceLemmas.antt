@@ -95,7 +95,8 @@ apart b x y low high = by (key_order x y) refl
     by Greater e = absurd (high (down b y x low (λ less. cc (sym e ∙ less))))
 
 -- a key that is not before the key of the bound may follow one that is before the bound
-pub follows : (job : JobSpec) (b : Option Bound) (last k : List ℕ) → (counts job ≡ true → PartsNoKey b) → IsBefore b last → (IsBefore (strict b) k → ⊥) → MayFollow job (Some last) k
+pub follows : (job : JobSpec) (b : Option Bound) (last k : List ℕ) → (counts job ≡ true → PartsNoKey b) → IsBefore b last → (IsBefore (strict b) k → ⊥)
+    → MayFollow job (Some last) k
 follows job None last k together low high = absurd low
 follows job (Some b) last k together low high = (
   λ less. high (less-is (key_order k b.key) (less-not k last b.key less (at-most b.shards b.key last low))),
@@ -111,7 +112,9 @@ past-before (Some c) b past x low = by (key_order c.key b.key) refl past
   where
     by : (o : Ordering) → key_order c.key b.key ≡ o → match_ordering o true (leb c.shards b.shards) false ≡ true → before_at b.shards b.key x ≡ true
     by Less e h = more-shards 0 b.shards b.key x (omega arith) (less-is (key_order x b.key) (not-less x c.key b.key (at-most c.shards c.key x low) e))
-    by Equal e h = more-shards c.shards b.shards b.key x (leb-true c.shards b.shards h) (subst (λ (q : List ℕ). before_at c.shards q x ≡ true) (key_tie c.key b.key e) low)
+    by Equal e h =
+        more-shards c.shards b.shards b.key x (leb-true c.shards b.shards h)
+        (subst (λ (q : List ℕ). before_at c.shards q x ≡ true) (key_tie c.key b.key e) low)
     by Greater e h = absurd (cc h)
 
 pub past-next : (old : Option Bound) (b : Bound) → is_past old b ≡ true → is_past (next_bound old) (next_place b) ≡ true

@@ -82,7 +82,8 @@ pub refuses : (job : JobSpec) (m : Standing) (hs : List Held) (ws : List Window)
     → (rs : List Reading) → IsAfter job rs m → AreWindows rs ws → Blames job (outputs_of rs) e
 refuses job m hs ws cs cuts e same are fits all a rs t v =
     blames-so job m.bound m.held rs ws cs e t v fits all
-    (subst (λ (xs : List ℕ). AreBlamed job m.held (pieces_of m.held ws xs) e) are (subst (λ (xs : List Held). AreBlamed job xs (pieces_of xs ws cuts) e) same a))
+    (subst (λ (xs : List ℕ). AreBlamed job m.held (pieces_of m.held ws xs) e) are
+    (subst (λ (xs : List Held). AreBlamed job xs (pieces_of xs ws cuts) e) same a))
 
 put-for : (job : JobSpec) (m : Standing) (hs : List Held) (ws : List Window) (cs cuts out out' : List ℕ) → hs ≡ m.held → cuts ≡ cs
     → ArePut job (pieces_of hs ws cuts) out out' → ArePut job (pieces_of m.held ws cs) out out'
@@ -116,7 +117,8 @@ module _ (job : JobSpec) (m : Standing) (hs : List Held) (ws : List Window) (sam
   suits-for : (q : Bound) → Suits job (Some (place_for job q))
   suits-for q counted = ap (λ (t : Bool). cond t 0 q.shards) counted
 
-  pub adds-place : (q p : Bound) (m' : Standing) (seen shown cuts out out' : List ℕ) → are_last ws ≡ false → least_last None 0 ws ≡ Some q → p ≡ place_for job q → is_past m.bound p ≡ true
+  pub adds-place : (q p : Bound) (m' : Standing) (seen shown cuts out out' : List ℕ) → are_last ws ≡ false → least_last None 0 ws ≡ Some q
+      → p ≡ place_for job q → is_past m.bound p ≡ true
       → seen ≡ cuts_before p ws → shown ≡ cuts_before p ws → cuts ≡ cuts_before p ws → m'.held ≡ all_read_on hs ws shown → m'.bound ≡ Some p
       → ArePut job (pieces_of hs ws seen) out out' → Adds job ws cuts m m' out out'
   adds-place q p m' seen shown cuts out out' more least found past is read are now bound put =
@@ -140,7 +142,8 @@ module _ (job : JobSpec) (m : Standing) (hs : List Held) (ws : List Window) (sam
         };
       }
 
-pub adds-nothing : (job : JobSpec) (m : Standing) (ws : List Window) (cuts out : List ℕ) → are_last ws ≡ false → cuts ≡ map nothing ws → Adds job ws cuts m m out out
+pub adds-nothing : (job : JobSpec) (m : Standing) (ws : List Window) (cuts out : List ℕ) → are_last ws ≡ false → cuts ≡ map nothing ws
+    → Adds job ws cuts m m out out
 adds-nothing job m ws cuts out more are = record {
   added = [];
   out_is = sym (append-nil out);

@@ -27,7 +27,8 @@ use Rattle.mr_shards.proofs.CutLemmas.{AreEnding, Ends, IsCut, begins, cut-of, g
 
 -- ---- texts of lines
 
-pub texts-read : (job : JobSpec) (gs : List Group) (more : List ℕ) → AllByRecursion (IsLineOf job) gs → groups_in job (texts job gs ++ more) ≡ gs ++ groups_in job more
+pub texts-read : (job : JobSpec) (gs : List Group) (more : List ℕ) → AllByRecursion (IsLineOf job) gs
+    → groups_in job (texts job gs ++ more) ≡ gs ++ groups_in job more
 texts-read job [] more all = refl
 texts-read job (g ∷ gs) more all =
     ap (groups_in job) (append_assoc (group_text job g) (texts job gs) more) ∙ front-read job g (texts job gs ++ more) all.0
@@ -36,7 +37,8 @@ texts-read job (g ∷ gs) more all =
 pub rest-groups : (job : JobSpec) (last : Option (List ℕ)) (text : List ℕ) → (r : IsRest job last text) → groups_in job text ≡ r.groups
 rest-groups job last text r = ap (groups_in job) r.text_is ∙ one_reading job r.groups (have-lines job r.groups r.lines)
 
-pub rest-join : (job : JobSpec) (last : Option (List ℕ)) (text more : List ℕ) → IsRest job last text → groups_in job (text ++ more) ≡ groups_in job text ++ groups_in job more
+pub rest-join : (job : JobSpec) (last : Option (List ℕ)) (text more : List ℕ) → IsRest job last text
+    → groups_in job (text ++ more) ≡ groups_in job text ++ groups_in job more
 rest-join job last text more r =
     ap (λ (t : List ℕ). groups_in job (t ++ more)) r.text_is ∙ texts-read job r.groups more r.lines
     ∙ ap (λ (gs : List Group). gs ++ groups_in job more) (sym (rest-groups job last text r))
@@ -67,11 +69,13 @@ pub suits-next : (job : JobSpec) (b : Option Bound) → Suits job b → Suits jo
 suits-next job None s counted = tt
 suits-next job (Some b) s counted = ap pred (s counted)
 
-follows-last : (job : JobSpec) (b : Option Bound) (last : Option (List ℕ)) (k : List ℕ) → Suits job b → IsLow b last → (IsBefore (next_bound b) k → ⊥) → MayFollow job last k
+follows-last : (job : JobSpec) (b : Option Bound) (last : Option (List ℕ)) (k : List ℕ) → Suits job b → IsLow b last → (IsBefore (next_bound b) k → ⊥)
+    → MayFollow job last k
 follows-last job b None k suits low high = tt
 follows-last job b (Some l) k suits low high = follows job b l k suits low (λ before. high (strict-before b k before))
 
-turn-behind : (job : JobSpec) (b : Option Bound) (last : Option (List ℕ)) (hs : List Group) → Suits job b → IsLow b last → InTurn job None hs → BeginsBehind (next_bound b) hs → InTurn job last hs
+turn-behind : (job : JobSpec) (b : Option Bound) (last : Option (List ℕ)) (hs : List Group) → Suits job b → IsLow b last → InTurn job None hs
+    → BeginsBehind (next_bound b) hs → InTurn job last hs
 turn-behind job b last [] suits low turn h = tt
 turn-behind job b last (g ∷ gs) suits low turn h = (follows-last job b last g.key suits low h, turn.1)
 
@@ -210,7 +214,8 @@ pub record Sums (job : JobSpec) (b : Option Bound) (rs : List Reading) (cs : Lis
   pub low : Low b (woven_taken job rs)
   pub high : High (strict b) (woven_in job os)
 
-sum-more : (job : JobSpec) (b : Option Bound) (gs hs new : List Group) (xs ys all : List Group) (files files' : ℕ) → Suits job b → new ≡ gs ++ hs → all ≡ xs ++ ys → files' ≡ files
+sum-more : (job : JobSpec) (b : Option Bound) (gs hs new : List Group) (xs ys all : List Group) (files files' : ℕ) → Suits job b → new ≡ gs ++ hs
+    → all ≡ xs ++ ys → files' ≡ files
     → Low b gs → High (next_bound b) hs → Low (next_bound b) xs → High (strict b) ys
     → woven (counts job) new (map (moved_group files) all)
     ≡ woven (counts job) gs (map (moved_group files) xs) ++ woven (counts job) hs (map (moved_group files') ys)
@@ -230,7 +235,8 @@ read-in job [] = tt
 read-in job (o ∷ os) = ((o.text.now, refl), read-in job os)
 
 module _ (job : JobSpec) where
-  pub sums : (b : Option Bound) (hs : List Held) (rs : List Reading) (ws : List Window) (cs : List ℕ) (os : List Output) → AreTaken job b hs rs → AreWindows rs ws → AreWithin cs ws
+  pub sums : (b : Option Bound) (hs : List Held) (rs : List Reading) (ws : List Window) (cs : List ℕ) (os : List Output) → AreTaken job b hs rs
+      → AreWindows rs ws → AreWithin cs ws
       → map told os ≡ pieces_of hs ws cs → AllStand job os → Sums job b rs cs os
   sums b [] [] [] [] [] t v fits e all = record { woven_is = refl; low = tt; high = tt }
   sums b [] [] [] [] (o ∷ os) t v fits e all = absurd (cc e)
@@ -252,11 +258,13 @@ module _ (job : JobSpec) where
             (woven_taken job (taken_on cs rs)) r.output.files o.files t.0.together g.groups s.woven_is g.files g.low g.high s.low high;
         low = woven-all (counts job) (IsBefore b) (groups_in job (front r)) (map (moved_group r.output.files) xs) g.low
             (all-moved (IsBefore b) r.output.files xs (all-map (IsBefore (next_bound b)) (IsBefore b) (keys xs) (λ k low. next-before b k low) s.low));
-        high = woven-all (counts job) (λ k. IsBefore (strict b) k → ⊥) (groups_in job o.text.now) (map (moved_group o.files) ys) (high-strict b (groups_in job o.text.now) g.high)
+        high = woven-all (counts job) (λ k. IsBefore (strict b) k → ⊥) (groups_in job o.text.now) (map (moved_group o.files) ys)
+            (high-strict b (groups_in job o.text.now) g.high)
             (all-moved (λ k. IsBefore (strict b) k → ⊥) o.files ys high);
       }
 
-  pub text-on : (b : Option Bound) (hs : List Held) (rs : List Reading) (ws : List Window) (cs : List ℕ) (os : List Output) → AreTaken job b hs rs → AreWindows rs ws → AreWithin cs ws
+  pub text-on : (b : Option Bound) (hs : List Held) (rs : List Reading) (ws : List Window) (cs : List ℕ) (os : List Output) → AreTaken job b hs rs
+      → AreWindows rs ws → AreWithin cs ws
       → map told os ≡ pieces_of hs ws cs → AllStand job os
       → text_taken job (taken_on cs rs) ≡ text_taken job rs ++ texts job (merged_parts (parts_in job os))
   text-on b hs rs ws cs os t v fits e all =
@@ -266,7 +274,8 @@ module _ (job : JobSpec) where
       ∙ ap (λ (l : List ℕ). l ++ texts job (woven_in job os)) (sym (woven-text job (map (part_taken job) rs) (read-taken job rs)))
       ∙ ap (λ (l : List ℕ). text_taken job rs ++ l) (sym (woven-text job (parts_in job os) (read-in job os)))
 
-  pub after-place : (b : Option Bound) (p : Bound) (hs : List Held) (rs : List Reading) (ws : List Window) (os : List Output) → is_past b p ≡ true → Suits job (Some p)
+  pub after-place : (b : Option Bound) (p : Bound) (hs : List Held) (rs : List Reading) (ws : List Window) (os : List Output) → is_past b p ≡ true
+      → Suits job (Some p)
       → AreTaken job b hs rs → AreWindows rs ws → map told os ≡ pieces_of hs ws (cuts_before p ws) → AllStand job os → AreEnding p ws
       → AreTaken job (Some p) (all_read_on hs ws (cuts_before p ws)) (taken_on (cuts_before p ws) rs)
   after-place b p [] [] [] [] past suits t v e all ends = tt
@@ -307,8 +316,10 @@ pub record Wholes (job : JobSpec) (rs : List Reading) (ws : List Window) : Type 
   pub stands : AllByRecursion (λ (o : Output). IsRest job None o.text.now) (outputs_of rs)
   pub parts_are : map (part_taken job) (taken_on (map whole_window ws) rs) ≡ parts_in job (outputs_of rs)
 
-pub wholes : (job : JobSpec) (b : Option Bound) (hs : List Held) (rs : List Reading) (ws : List Window) (os : List Output) → AreTaken job b hs rs → AreWindows rs ws
-    → map told os ≡ pieces_of hs ws (map whole_window ws) → AllByRecursion (λ (o : Output). IsRest job None o.text.now) os → are_last ws ≡ true → Wholes job rs ws
+pub wholes : (job : JobSpec) (b : Option Bound) (hs : List Held) (rs : List Reading) (ws : List Window) (os : List Output) → AreTaken job b hs rs
+    → AreWindows rs ws
+    → map told os ≡ pieces_of hs ws (map whole_window ws) → AllByRecursion (λ (o : Output). IsRest job None o.text.now) os → are_last ws ≡ true
+    → Wholes job rs ws
 wholes job b [] [] [] [] t v e all last = record { stands = tt; parts_are = refl }
 wholes job b [] [] [] (o ∷ os) t v e all last = absurd (cc e)
 wholes job b [] [] (w ∷ ws) os t v e all last = absurd v

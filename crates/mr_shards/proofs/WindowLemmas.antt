@@ -69,7 +69,8 @@ last-behind text before line front tail e h f k =
     ∙ ap (last_key_in None) (lines-split before (line ++ 10 ∷ tail) ∙ ap (λ ls. lines (before ++ 10 ∷ []) ++ ls) (one-line line tail k h))
     ∙ last-more None (lines (before ++ 10 ∷ [])) line
 
-pub last-alone : (text front tail : List ℕ) → text ≡ front ++ 10 ∷ tail → Lacks 10 tail → Lacks 10 front → last_key_in None (lines text) ≡ Some (before_last 9 front)
+pub last-alone : (text front tail : List ℕ) → text ≡ front ++ 10 ∷ tail → Lacks 10 tail → Lacks 10 front
+    → last_key_in None (lines text) ≡ Some (before_last 9 front)
 last-alone text front tail e h k = ap (λ t. last_key_in None (lines t)) e ∙ ap (last_key_in None) (one-line front tail k h)
 
 -- ---- the least of the last keys
@@ -80,7 +81,8 @@ least-last least n w ws e =
     ap (λ t. cond t (least_last least (n + 1) ws)
     (where_some (last_key_in None (lines w.bytes.now)) (λ k. least_last (Some (lesser_place least (record { key = k; shards = n + 1 }))) (n + 1) ws))) e
 
-pub least-key : (least : Option Bound) (n : ℕ) (found : Option (List ℕ)) (w : Window) (ws : List Window) → w.is_last ≡ false → last_key_in None (lines w.bytes.now) ≡ found
+pub least-key : (least : Option Bound) (n : ℕ) (found : Option (List ℕ)) (w : Window) (ws : List Window) → w.is_last ≡ false
+    → last_key_in None (lines w.bytes.now) ≡ found
     → least_last least n (w ∷ ws) ≡ where_some found (λ k. least_last (Some (lesser_place least (record { key = k; shards = n + 1 }))) (n + 1) ws)
 unfolding least_last
 least-key least n found w ws e f =
@@ -88,7 +90,8 @@ least-key least n found w ws e f =
     (where_some (last_key_in None (lines w.bytes.now)) (λ k. least_last (Some (lesser_place least (record { key = k; shards = n + 1 }))) (n + 1) ws))) e
     ∙ ap (λ o. where_some o (λ k. least_last (Some (lesser_place least (record { key = k; shards = n + 1 }))) (n + 1) ws)) f
 
-pub least-more : (least : Option Bound) (n : ℕ) (ws : List Window) (i : ℕ) (d : Window) → i < length ws → least_last least n (drop i ws) ≡ least_last least n (get_or ws i d ∷ drop (i + 1) ws)
+pub least-more : (least : Option Bound) (n : ℕ) (ws : List Window) (i : ℕ) (d : Window) → i < length ws
+    → least_last least n (drop i ws) ≡ least_last least n (get_or ws i d ∷ drop (i + 1) ws)
 least-more least n ws i d h = at_drop_more (least_last least n) ws i d h
 
 pub least-nil : (least : Option Bound) (n : ℕ) → least_last least n [] ≡ least
@@ -139,7 +142,8 @@ pub record IsFirst (b : Bound) (text : List ℕ) (n : ℕ) : Type 0 where
   pub within : n ≤ length text
   pub is : bytes_before b (lines text) ≡ n + bytes_before b (lines (drop n text))
 
-pub bytes-first : (b : Bound) (text line rest : List ℕ) → text ≡ line ++ 10 ∷ rest → Lacks 10 line → is_before b (before_last 9 line) ≡ true → IsFirst b text (length line + 1)
+pub bytes-first : (b : Bound) (text line rest : List ℕ) → text ≡ line ++ 10 ∷ rest → Lacks 10 line → is_before b (before_last 9 line) ≡ true
+    → IsFirst b text (length line + 1)
 bytes-first b text line rest e h less = record {
   some = omega arith;
   within = omega (arith, ap length e, length-append line (10 ∷ rest));
@@ -148,14 +152,16 @@ bytes-first b text line rest e h less = record {
       ∙ ap (λ t. (length line + 1) + bytes_before b (lines t)) (sym (drop-line line rest) ∙ ap (drop (length line + 1)) (sym e));
 }
 
-pub bytes-not : (b : Bound) (text line rest : List ℕ) → text ≡ line ++ 10 ∷ rest → Lacks 10 line → is_before b (before_last 9 line) ≡ false → bytes_before b (lines text) ≡ 0
+pub bytes-not : (b : Bound) (text line rest : List ℕ) → text ≡ line ++ 10 ∷ rest → Lacks 10 line → is_before b (before_last 9 line) ≡ false
+    → bytes_before b (lines text) ≡ 0
 bytes-not b text line rest e h less =
     ap (λ t. bytes_before b (lines t)) e ∙ ap (bytes_before b) (lines-next line rest h)
     ∙ ap (λ t. cond t ((length line + 1) + bytes_before b (lines rest)) 0) less
 
 -- ---- loops over windows
 
-pub mapped-more : {X Y : Type 0} (f : X → Y) (xs : List X) (i : ℕ) (d : X) (ys : List Y) → i < length xs → ys ≡ map f (take i xs) → ys ++ f (get_or xs i d) ∷ [] ≡ map f (take (i + 1) xs)
+pub mapped-more : {X Y : Type 0} (f : X → Y) (xs : List X) (i : ℕ) (d : X) (ys : List Y) → i < length xs → ys ≡ map f (take i xs)
+    → ys ++ f (get_or xs i d) ∷ [] ≡ map f (take (i + 1) xs)
 mapped-more f xs i d ys h e =
     ap (λ l. l ++ f (get_or xs i d) ∷ []) e ∙ sym (map-append f (take i xs) (get_or xs i d ∷ [])) ∙ ap (map f) (sym (take_more xs i d h))
 

@@ -56,7 +56,8 @@ line-front joins g (y ∷ ys) all = by (key_order g.key y.key) refl joins refl
     by Equal e false is = refl
     by Greater e t is = absurd (all.0.0 (turned g.key y.key e))
 
-pub with-front : (joins : Bool) (g : Group) (xs ys : List Group) → AllByRecursion (Precedes joins g.key) (keys ys) → with_line joins g (xs ++ ys) ≡ with_line joins g xs ++ ys
+pub with-front : (joins : Bool) (g : Group) (xs ys : List Group) → AllByRecursion (Precedes joins g.key) (keys ys)
+    → with_line joins g (xs ++ ys) ≡ with_line joins g xs ++ ys
 with-front joins g [] ys all = line-front joins g ys all
 with-front joins g (x ∷ xs) ys all = by (key_order g.key x.key) joins (with-front joins g xs ys all)
   where
@@ -76,13 +77,16 @@ greater j k less = by (key_order k j) refl
     by Equal e = absurd (cc (sym (swapped k j e) ∙ less))
     by Greater e = e
 
-pub with-behind : (joins : Bool) (g : Group) (xs ys : List Group) → AllByRecursion (λ k. key_order k g.key ≡ Less) (keys xs) → with_line joins g (xs ++ ys) ≡ xs ++ with_line joins g ys
+pub with-behind : (joins : Bool) (g : Group) (xs ys : List Group) → AllByRecursion (λ k. key_order k g.key ≡ Less) (keys xs)
+    → with_line joins g (xs ++ ys) ≡ xs ++ with_line joins g ys
 with-behind joins g [] ys all = refl
 with-behind joins g (x ∷ xs) ys all =
-    ap (λ o. match_ordering o (g ∷ x ∷ (xs ++ ys)) (cond joins (joined g x ∷ (xs ++ ys)) (g ∷ x ∷ (xs ++ ys))) (x ∷ with_line joins g (xs ++ ys))) (greater x.key g.key all.0)
+    ap (λ o. match_ordering o (g ∷ x ∷ (xs ++ ys)) (cond joins (joined g x ∷ (xs ++ ys)) (g ∷ x ∷ (xs ++ ys))) (x ∷ with_line joins g (xs ++ ys)))
+    (greater x.key g.key all.0)
     ∙ ap (λ (l : List Group). x ∷ l) (with-behind joins g xs ys all.1)
 
-with_line-all : (joins : Bool) (P : List ℕ → Type 0) (g : Group) (hs : List Group) → P g.key → AllByRecursion P (keys hs) → AllByRecursion P (keys (with_line joins g hs))
+with_line-all : (joins : Bool) (P : List ℕ → Type 0) (g : Group) (hs : List Group) → P g.key → AllByRecursion P (keys hs)
+    → AllByRecursion P (keys (with_line joins g hs))
 with_line-all joins P g [] here all = (here, tt)
 with_line-all joins P g (h ∷ hs) here all = by (key_order g.key h.key) joins (with_line-all joins P g hs here all.1)
   where
@@ -93,7 +97,8 @@ with_line-all joins P g (h ∷ hs) here all = by (key_order g.key h.key) joins (
     by Equal false rest = (here, all)
     by Greater t rest = (all.0, rest)
 
-pub woven-all : (joins : Bool) (P : List ℕ → Type 0) (gs hs : List Group) → AllByRecursion P (keys gs) → AllByRecursion P (keys hs) → AllByRecursion P (keys (woven joins gs hs))
+pub woven-all : (joins : Bool) (P : List ℕ → Type 0) (gs hs : List Group) → AllByRecursion P (keys gs) → AllByRecursion P (keys hs)
+    → AllByRecursion P (keys (woven joins gs hs))
 woven-all joins P [] hs a b = b
 woven-all joins P (g ∷ gs) hs a b = with_line-all joins P g (woven joins gs hs) a.0 (woven-all joins P gs hs a.1 b)
 
@@ -131,7 +136,8 @@ each-keys : (P : List ℕ → Type 0) (gs : List Group) → AllByRecursion P (ke
 each-keys P [] all = tt
 each-keys P (g ∷ gs) all = keys-join P (one-each g.key g.values) (each gs) (one-keys P g.key g.values all.0) (each-keys P gs all.1)
 
-one-front : (k : List ℕ) (vs : List Value) (hs : List Group) → AllByRecursion (λ q. NotLess q k) (keys hs) → woven false (one-each k vs) hs ≡ one-each k vs ++ hs
+one-front : (k : List ℕ) (vs : List Value) (hs : List Group) → AllByRecursion (λ q. NotLess q k) (keys hs)
+    → woven false (one-each k vs) hs ≡ one-each k vs ++ hs
 unfolding one-each
 one-front k [] hs all = refl
 one-front k (v ∷ vs) hs all =
@@ -140,7 +146,8 @@ one-front k (v ∷ vs) hs all =
     (all-map (λ q. NotLess q k) (Precedes false k) (keys (one-each k vs ++ hs)) (λ q h. (h, λ joins same. cc joins))
     (keys-join (λ q. NotLess q k) (one-each k vs) hs (one-keys (λ q. NotLess q k) k vs (not_less-itself k)) all))
 
-one-behind : (k : List ℕ) (vs : List Value) (xs ys : List Group) → AllByRecursion (λ q. key_order q k ≡ Less) (keys xs) → woven false (one-each k vs) (xs ++ ys) ≡ xs ++ woven false (one-each k vs) ys
+one-behind : (k : List ℕ) (vs : List Value) (xs ys : List Group) → AllByRecursion (λ q. key_order q k ≡ Less) (keys xs)
+    → woven false (one-each k vs) (xs ++ ys) ≡ xs ++ woven false (one-each k vs) ys
 unfolding one-each
 one-behind k [] xs ys all = refl
 one-behind k (v ∷ vs) xs ys all =
@@ -159,13 +166,15 @@ each-with g (h ∷ hs) rise = by (key_order g.key h.key) refl (each-with g hs ri
     less-all : key_order g.key h.key ≡ Less → AllByRecursion (λ q. NotLess q g.key) (keys (h ∷ hs))
     less-all less = (
       not-back g.key h.key less,
-      all-map (λ q. key_order h.key q ≡ Less) (λ q. NotLess q g.key) (keys hs) (λ q later. not-back g.key q (nat_list_cmp_total.trans g.key h.key q less later)) rise.0,
+      all-map (λ q. key_order h.key q ≡ Less) (λ q. NotLess q g.key) (keys hs)
+          (λ q later. not-back g.key q (nat_list_cmp_total.trans g.key h.key q less later)) rise.0,
     )
 
     same-all : h.key ≡ g.key → AllByRecursion (λ q. NotLess q g.key) (keys (h ∷ hs))
     same-all same = (
       subst (λ (q : List ℕ). NotLess q g.key) (sym same) (not_less-itself g.key),
-      all-map (λ q. key_order h.key q ≡ Less) (λ q. NotLess q g.key) (keys hs) (λ q later. not-back g.key q (ap (λ (j : List ℕ). key_order j q) (sym same) ∙ later)) rise.0,
+      all-map (λ q. key_order h.key q ≡ Less) (λ q. NotLess q g.key) (keys hs)
+          (λ q later. not-back g.key q (ap (λ (j : List ℕ). key_order j q) (sym same) ∙ later)) rise.0,
     )
 
     by : (o : Ordering) → key_order g.key h.key ≡ o → each (with_group g hs) ≡ woven false (one-each g.key g.values) (each hs)
@@ -211,12 +220,14 @@ each-parts (a ∷ rest) all =
 abbrev pub IsRead : JobSpec → Part → Type 0
 IsRead job p = (text : List ℕ) × (p.groups ≡ groups_in job text)
 
-each-lines : (literal : List ℕ) (fold : Bool) (ls : List (List ℕ)) → each (map (group_in (LinesWith literal fold)) ls) ≡ map (group_in (LinesWith literal fold)) ls
+each-lines : (literal : List ℕ) (fold : Bool) (ls : List (List ℕ))
+    → each (map (group_in (LinesWith literal fold)) ls) ≡ map (group_in (LinesWith literal fold)) ls
 unfolding one-each
 each-lines literal fold [] = refl
 each-lines literal fold (l ∷ ls) = ap (λ (gs : List Group). group_in (LinesWith literal fold) l ∷ gs) (each-lines literal fold ls)
 
-each-read : (literal : List ℕ) (fold : Bool) (ps : List Part) → AllByRecursion (IsRead (LinesWith literal fold)) ps → AllByRecursion (λ (p : Part). each p.groups ≡ p.groups) ps
+each-read : (literal : List ℕ) (fold : Bool) (ps : List Part) → AllByRecursion (IsRead (LinesWith literal fold)) ps
+    → AllByRecursion (λ (p : Part). each p.groups ≡ p.groups) ps
 each-read literal fold [] all = tt
 each-read literal fold (p ∷ ps) all = (
   ap each all.0.1 ∙ each-lines literal fold (lines all.0.0) ∙ sym all.0.1,

@@ -157,7 +157,8 @@ fn is_before(place: Place<'_>, key: &[u8]) -> bool
 /// The length of the first line with its line feed, where it is before the place.
 fn line_before(text: &[u8], place: Place<'_>) -> Option<usize>
     ensures { MatchOption result (bytes_before (shown place.entry) (lines text.now) ≡ 0)
-        (λ n. (0 < n) × (n ≤ length text.now) × (bytes_before (shown place.entry) (lines text.now) ≡ n + bytes_before (shown place.entry) (lines (drop n text.now)))) }
+        (λ n. (0 < n) × (n ≤ length text.now)
+        × (bytes_before (shown place.entry) (lines text.now) ≡ n + bytes_before (shown place.entry) (lines (drop n text.now)))) }
 {
     let Some((line, _)) = cut_first(text, b'\n') else {
         return None;
