@@ -16,7 +16,7 @@ use Rattle.mr_shards.specs.declared.window.Window.{Window}
 use Rattle.mr_shards.specs.Merged.{Group, group_text, texts}
 use Rattle.mr_shards.specs.Lines.{group_in, groups_in}
 use Rattle.mr_shards.specs.Refused.{Blames, IsBadLine, IsFarLine, IsLineOf, MayFollow, NoLineFollows, files_in, last_of, text_at, total_of, values_with}
-use Rattle.mr_shards.specs.Pieces.{AreBlamed, AreTaken, AreWindows, AreWithin, BeginsBehind, Bound, IsBefore, next_bound, IsTaken, IsWindow, Reading, behind, fresh, front, numbered, outputs_of, pieces_of, told}
+use Rattle.mr_shards.specs.Pieces.{AreBlamed, AreTaken, AreWindows, AreWithin, BeginsBehind, Bound, IsBefore, next_bound, IsTaken, Reading, behind, fresh, front, numbered, outputs_of, pieces_of, told}
 use Rattle.mr_shards.proofs.LineLemmas.{begun}
 use Rattle.mr_shards.proofs.ReadingLemmas.{before-first, lines-none}
 use Rattle.mr_shards.proofs.RefusedLemmas.{bad-text, far-behind, front-text, lines-join}

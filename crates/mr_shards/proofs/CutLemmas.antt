@@ -1,7 +1,7 @@
 -- What a cut parts: whole lines in front, and what begins behind them.
 use Rattle.std.proofs.Common.{◌⊎◌, ◌≡◌, ℕ, zero, suc, pred, ◌+◌, ◌-◌, ◌<◌, ◌≤◌, ◌++◌, List, [], ◌∷◌, length, take, drop, refl, ap, sym, ◌∙◌, subst, inl, inr, Bool, true, false, cond, eqb, map, arith, append_assoc, Option, None, Some}
 use Rattle.std.proofs.lemmas.Bool.{eqb-true, eqb-false}
-use Rattle.std.proofs.lemmas.List.{append-nil, length-append, length_push, map-append, take-append-drop}
+use Rattle.std.proofs.lemmas.List.{append-nil, length-append, length_push, map-append}
 use Rattle.std.proofs.Math.Seq.{drop-append-add, take-append-add}
 use Rattle.std.proofs.lemmas.Cmp.{nat_list_cmp_total}
 use Rattle.std.specs.List.{AllByRecursion}
@@ -16,7 +16,7 @@ use Rattle.mr_shards.specs.Lines.{before_last, group_in, groups_in, lines, longe
 use Rattle.mr_shards.specs.Pieces.{BeginsBehind, Bound, IsBefore, before_at, but_last, bytes_before, cut_before, is_before, last_key_in, least_last, lesser_place, next_place, place_for}
 use Rattle.mr_shards.proofs.ReadingLemmas.{lines-next, lines-none}
 use Rattle.mr_shards.proofs.StepLemmas.{NotLess, is_lt-less, less-not, not_less-itself, not_less-trans}
-use Rattle.mr_shards.proofs.PlaceLemmas.{less-is, more-shards, next-before, not-less, not_lt-not, pred-both}
+use Rattle.mr_shards.proofs.PlaceLemmas.{more-shards, next-before, not-less, not_lt-not, pred-both}
 use Rattle.mr_shards.proofs.WindowLemmas.{last-more, least-key, least-last, least-nil, lines-split}
 
 -- ---- the first line

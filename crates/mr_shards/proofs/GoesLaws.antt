@@ -1,9 +1,8 @@
 -- Of outputs that stand, a step takes one window whole, up to its last line.
-use Rattle.std.proofs.Common.{◌⊎◌, ◌≡◌, ℕ, zero, suc, pred, ◌+◌, ◌-◌, ◌<◌, ◌≤◌, ◌++◌, List, [], ◌∷◌, length, take, drop, refl, ap, sym, ◌∙◌, subst, inl, inr, Bool, true, false, cond, ◌&&◌, not, leb, leb-true, map, arith, append_assoc, Option, None, Some}
+use Rattle.std.proofs.Common.{◌⊎◌, ◌≡◌, ℕ, zero, suc, pred, ◌+◌, ◌-◌, ◌<◌, ◌≤◌, ◌++◌, List, [], ◌∷◌, take, drop, refl, ap, sym, ◌∙◌, subst, inl, inr, Bool, true, false, cond, ◌&&◌, leb, leb-true, map, arith, append_assoc, Option, None, Some}
 use Rattle.std.specs.Prelude.{MatchOption, option_map}
 use Rattle.std.proofs.lemmas.Bool.{le-leb}
-use Rattle.std.proofs.lemmas.Cmp.{tied_itself, nat_list_cmp_total}
-use Rattle.std.proofs.lemmas.List.{append-nil, map-append, take-append-drop}
+use Rattle.std.proofs.lemmas.List.{map-append, take-append-drop}
 use Rattle.std.specs.List.{AllByRecursion}
 use Rattle.std.specs.Ordering.{is_lt, match_ordering}
 use Rattle.std.specs.declared.cmp.Ordering.{Ordering}
@@ -18,12 +17,12 @@ use Rattle.mr_shards.specs.declared.window.Window.{Window}
 use Rattle.mr_shards.specs.Merged.{Group}
 use Rattle.mr_shards.specs.Lines.{before_last, group_in, groups_in, lines}
 use Rattle.mr_shards.specs.Refused.{InTurn, IsRest}
-use Rattle.mr_shards.specs.Pieces.{AreTaken, AreWindows, Bound, HaveLines, IsBefore, IsTaken, IsWindow, OneGoes, Reading, are_last, before_at, behind, but_last, cut_before, cuts_before, front, is_before, is_past, last_key_in, least_last, lesser_place, next_bound, next_place, outputs_of, place_for}
+use Rattle.mr_shards.specs.Pieces.{AreTaken, AreWindows, Bound, HaveLines, IsBefore, IsTaken, IsWindow, OneGoes, Reading, are_last, before_at, behind, but_last, cut_before, cuts_before, front, is_past, last_key_in, least_last, lesser_place, next_bound, next_place, outputs_of, place_for}
 use Rattle.mr_shards.specs.Places.{shown}
 use Rattle.mr_shards.proofs.MergedLaws.{keys}
 use Rattle.mr_shards.proofs.ReadingLemmas.{lines-next}
-use Rattle.mr_shards.proofs.StepLemmas.{NotLess, all-split, is_lt-less, not_less-itself, not_less-trans, turned}
-use Rattle.mr_shards.proofs.PlaceLemmas.{less-is, more-shards, not-back, not-not_lt}
+use Rattle.mr_shards.proofs.StepLemmas.{NotLess, all-split, not_less-itself, not_less-trans, turned}
+use Rattle.mr_shards.proofs.PlaceLemmas.{less-is, more-shards, not-not_lt}
 use Rattle.mr_shards.proofs.CutLemmas.{IsCut, IsLeft, Stops, cut-of, first-line, lines-join}
 use Rattle.mr_shards.proofs.WindowLemmas.{but-more, least-key, least-last, least-nil}
 use Rattle.mr_shards.proofs.TurnLemmas.{all-high, rest-groups, rest-join}

@@ -4,8 +4,6 @@ use Rattle.std.proofs.lemmas.List.{append-nil, length-append, length-drop, lengt
 use Rattle.std.proofs.Math.Nat.{mod-add-mod}
 use Rattle.std.proofs.Math.Seq.{drop-append-add, take-add}
 use Rattle.std.specs.List.{AllByRecursion}
-use Rattle.std.specs.declared.cmp.Ordering.TheVariants.{Less}
-use Rattle.mr_bytes.specs.Order.{key_order}
 use Rattle.mr_jobs.specs.JobSpec.{JobSpec, counts}
 use Rattle.mr_sequential.proofs.SourceLemmas.{flat_map-append}
 use Rattle.mr_shards.specs.declared.merge.Output.{Output}

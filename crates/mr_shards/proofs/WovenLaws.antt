@@ -1,6 +1,6 @@
 -- Lines of parts, merged without joining those of one key where they tell places: their text is that of the merged groups.
-use Rattle.std.proofs.Common.{◌≡◌, ℕ, ◌++◌, List, [], ◌∷◌, refl, ap, sym, ◌∙◌, subst, Bool, true, false, cond, map, append_assoc, Option, None, Some}
-use Rattle.std.proofs.lemmas.List.{append-nil, map-append}
+use Rattle.std.proofs.Common.{◌≡◌, ℕ, ◌++◌, List, [], ◌∷◌, refl, ap, sym, ◌∙◌, subst, Bool, true, false, cond, map, append_assoc}
+use Rattle.std.proofs.lemmas.List.{map-append}
 use Rattle.std.proofs.lemmas.Cmp.{nat_list_cmp_total, tied_itself}
 use Rattle.std.specs.List.{AllByRecursion, flat_map}
 use Rattle.std.specs.Ordering.{match_ordering}
@@ -11,7 +11,6 @@ use Rattle.mr_bytes.specs.Lists.{Rises}
 use Rattle.mr_bytes.specs.Order.{key_order}
 use Rattle.mr_jobs.specs.JobSpec.{JobSpec, WordCount, LinesWith, Resources, counts}
 use Rattle.mr_sequential.proofs.KeyLaws.{key_tie}
-use Rattle.mr_sequential.proofs.SourceLemmas.{flat_map-append}
 use Rattle.mr_shards.specs.Merged.{Group, Part, joined, merged, merged_parts, moved_group, moved_value, texts, with_group}
 use Rattle.mr_shards.specs.Lines.{group_in, groups_in, lines}
 use Rattle.mr_shards.proofs.MergedLaws.{keys, merged-rise}
