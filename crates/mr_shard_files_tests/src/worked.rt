@@ -195,3 +195,46 @@ fn parts_of_several_windows(rt: HostRuntime) -> Result<(), Fail> {
     assert!(rt; stands(alloc, &store, "m/part-00000", whole.as_slice())?);
     Ok(())
 }
+
+/// A verdict like this one, of a search for `x`, on another part.
+fn searched(alloc: Global, text: &[u8], part: &[u8]) -> Result<Vec<u8>, Fail> {
+    let Ok(mut verdict) = read_verdict(alloc, text) else {
+        return Ok(Vec::new(alloc));
+    };
+    verdict.job = 2;
+    verdict.literal = Vec::from_slice(alloc, b"x")?;
+    let mut outputs = Vec::new(alloc);
+    outputs.push(note_for(alloc, b"part-00000", part)?)?;
+    verdict.outputs = outputs;
+    Ok(write_verdict(alloc, &verdict)?)
+}
+
+/// Puts equal lines behind the text, at these places of that file.
+fn put_places(
+    text: &mut Vec<u8>,
+    alloc: Global,
+    file: u32,
+    places: Range<u32>,
+) -> Result<(), Fail> {
+    for place in places {
+        text.extend_from_slice(format!(in alloc; "x\t{file}:{place}\n")?.as_bytes())?;
+    }
+    Ok(())
+}
+
+#[test]
+fn equal_lines_in_several_windows(rt: HostRuntime) -> Result<(), Fail> {
+    let alloc = rt.alloc();
+    let mut part = Vec::new(alloc);
+    put_places(&mut part, alloc, 0, 100_000..150_000)?;
+    let first = searched(alloc, FIRST, part.as_slice())?;
+    let second = searched(alloc, SECOND, part.as_slice())?;
+    let mut store = shards(alloc, second.as_slice(), part.as_slice())?;
+    store.put("a/verdict", first.as_slice(), false)?;
+    store.put("a/part-00000", part.as_slice(), false)?;
+    let answer = merge_shards(&mut store, alloc, &BOTH, None, "m");
+    assert!(rt; answer.is_ok());
+    put_places(&mut part, alloc, 1, 100_000..150_000)?;
+    assert!(rt; stands(alloc, &store, "m/part-00000", part.as_slice())?);
+    Ok(())
+}
