@@ -109,8 +109,7 @@ fn equal_lines_in_windows_of_two(rt: HostRuntime) -> Result<(), Fail> {
         let merged = in_windows(alloc, &job, first, second, width, 0)?;
         assert_eq!(rt;
             merged.as_slice(),
-            b"a\t2:8\nx\t0:0\nx\t0:2\nx\t0:4\nx\t1:0\nx\t1:2\nx\t1:4\nx\t2:0\nx\t2:2\nx\t2:4\nx\t2:6\ny\t0:6\n"
-                .as_slice()
+            b"a\t2:8\nx\t0:0\nx\t0:2\nx\t0:4\nx\t1:0\nx\t1:2\nx\t1:4\nx\t2:0\nx\t2:2\nx\t2:4\nx\t2:6\ny\t0:6\n".as_slice()
         );
     }
     Ok(())
