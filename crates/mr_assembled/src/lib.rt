@@ -18,9 +18,9 @@ pub fn attempts_law()
     ensures some { CommittedHaveAValue }
 {}
 
-/// Once a job is done, the left-out set of each split is fixed. Over every run that ends done, where each committed reduce output is its attempt's value and each accepted failure
-/// names a record of its split, the assembled files are those of the sequential execution without the fixed sets, and
-/// with the assembled certificate they are good.
+/// Once a job is done, the left-out set of each split is fixed. Over every run that ends done, where each committed reduce
+/// output is its attempt's value and each accepted failure names a record of its split, the assembled files are those of
+/// the sequential execution without the fixed sets, and with the assembled certificate they are good.
 pub fn done_law()
     ensures fixed { DoneSetsAreFixed }
     ensures sequential { DoneIsSequential }

@@ -68,19 +68,6 @@ impl<L: Ledger> Book<L> {
         self.reduce_output(number)
     }
 
-    /// How many groups and how many names the committed outputs of all partitions have.
-    fn sizes(&self) -> (usize, usize)
-        requires { self.now.state.end ≡ Some End.Done }
-    {
-        let (mut groups, mut names) = (0usize, 0usize);
-        for partition in 0..self.shape().parts {
-            let (counts, members) = self.committed(partition).flat_groups();
-            groups = groups.saturating_add(counts.len());
-            names = names.saturating_add(members.len());
-        }
-        (groups, names)
-    }
-
     /// The committed outputs of all partitions, put together.
     fn gathered(&self, alloc: Global) -> Result<Gathering, AllocError>
         requires { self.now.state.end ≡ Some End.Done }
@@ -88,9 +75,8 @@ impl<L: Ledger> Book<L> {
     {
         // As above: that there are as many commits as partitions rests on that.
         let _limits = self.core().limits();
-        let (groups, names) = self.sizes();
         let parts = self.shape().parts;
-        let mut gathering = Gathering::with_room(alloc, parts as usize, groups, names)?;
+        let mut gathering = Gathering::new(alloc);
         for partition in 0..parts {
             gathering = gathering.with(alloc, self.committed(partition))?;
         }

@@ -35,24 +35,18 @@ impl Model for Gathering {
 }
 
 impl Gathering {
-    /// No partitions, with room for so many and for their groups and names: without it lists as long as the input would
-    /// be copied as they grow.
-    pub(crate) fn with_room(
-        alloc: Global,
-        partitions: usize,
-        groups: usize,
-        names: usize,
-    ) -> Result<Gathering, AllocError>
-        ensures { IfOk result (λ g. g ≡ record { outputs = []; groups = [] }) }
+    /// No partitions. It takes no memory.
+    pub(crate) fn new(alloc: Global) -> Gathering
+        ensures { result ≡ record { outputs = []; groups = [] } }
     {
-        Ok(Gathering {
-            outputs: Vec::with_capacity(alloc, partitions)?,
+        Gathering {
+            outputs: Vec::new(alloc),
             groups: FlatGroups {
-                group_counts: Vec::with_capacity(alloc, partitions)?,
-                entry_counts: Vec::with_capacity(alloc, groups)?,
-                names: Vec::with_capacity(alloc, names)?,
+                group_counts: Vec::new(alloc),
+                entry_counts: Vec::new(alloc),
+                names: Vec::new(alloc),
             },
-        })
+        }
     }
 
     /// One partition more.

@@ -156,8 +156,10 @@ fn judged_by_all<W: Watch, R: Threads + Sync>(
 ) -> Result<Yes, No>
     requires fits { split_total terms.request.now.split terms.input.now ≤ 2 ^ 20 }
     requires limits { InLimits terms.shape }
-    ensures headline { IfOk result (λ y. IsCertified terms.entry.request.now terms.entry.input.now (contents outputs.now) certificate.now y.skips.items y.pairs) }
-    ensures no { IfErr result (λ e. (e ≡ No.OutOfMemory) ⊎ (verdict_of terms.entry.request.now terms.entry.input.now (contents outputs.now) certificate.now ≡ Err e)) }
+    ensures headline { IfOk result (λ y. IsCertified terms.entry.request.now terms.entry.input.now (contents outputs.now) certificate.now
+        y.skips.items y.pairs) }
+    ensures no { IfErr result (λ e. (e ≡ No.OutOfMemory)
+        ⊎ (verdict_of terms.entry.request.now terms.entry.input.now (contents outputs.now) certificate.now ≡ Err e)) }
 {
     check_gated_watched(
         rt,
