@@ -17,7 +17,7 @@ loop-partition-preserved g c =
     subst (λ (v : CoreView). length (committed_values (reduced_under b.reduces) v.state) ≡ v.shape.parts) c.core.ensures.core
     (parts_count k.shape b.history k.state b.reduces c.limits-limits.ensures.within.parts.0 c.limits-limits.ensures.within.attempts.0 c.core.ensures.run.0) in
     let within : c.loop-partition.partition < length vs = omega (arith, c.loop-partition-test.true, ap (λ (s : Shape). s.parts) c.shape-parts.ensures.shape, count) in
-    c.in_ok-gathering-2.ensures
+    c.in_ok-gathering.ensures
     ∙ gathering_more vs c.loop-partition.partition c.loop-partition.gathering c.committed.result.now within c.loop-partition.invariant c.committed.ensures
 
 pub returns : goal.returns
