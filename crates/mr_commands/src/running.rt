@@ -27,7 +27,8 @@ use mr_script::Script;
 use mr_watch::Watch;
 use std::alloc::{AllocError, Global};
 use std::sync::Wait;
-use std::thread::Threads;
+use std::thread;
+use std::thread::{JoinHandle, Threads};
 
 /// The most workers.
 const MAX_WORKERS: u32 = 64;
@@ -190,25 +191,43 @@ fn keep_history<S: Store>(
     Ok(())
 }
 
-/// Writes the result, where it is certified.
-fn keep_result<S: Store>(
+/// Gives back what a history holds, in a thread of its own where one can be made.
+fn let_go<R: Threads>(rt: &R, history: History) -> Option<JoinHandle<()>> {
+    thread::spawn(rt, move || drop(history)).ok()
+}
+
+/// Writes the result, where it is certified. The memory of the run's history, which is most of what it takes, is given back
+/// meanwhile.
+fn keep_result<S: Store, R: Threads>(
+    rt: &R,
     store: &mut S,
     alloc: Global,
     out: &str,
-    ran: &Ran,
+    ran: Ran,
 ) -> Result<(), FileFault>
-    ensures kept { OnOk result (IsResultKept (S.holds store.new) out.now ran.now) }
-    ensures others { ChangesAmong (S.holds store.old) (S.holds store.new) (names_left out.now ran.now) }
-    ensures refused { IfErr result (λ e. IsResultRefused (S.holds store.old) (S.holds store.new) (S.unwritable store.old) out.now ran.now e) }
+    ensures kept { OnOk result (IsResultKept (S.holds store.new) out.now ran) }
+    ensures others { ChangesAmong (S.holds store.old) (S.holds store.new) (names_left out.now ran) }
+    ensures refused { IfErr result (λ e. IsResultRefused (S.holds store.old) (S.holds store.new) (S.unwritable store.old) out.now ran e) }
 {
-    if let Ran::Certified(done) = ran {
-        write_files(
-            store,
-            alloc,
-            out,
-            done.outputs.as_slice(),
-            done.certificate.as_slice(),
-        )?;
+    let Ran::Certified(done) = ran else {
+        return Ok(());
+    };
+    let Certified {
+        outputs,
+        certificate,
+        history,
+        ..
+    } = done;
+    let freeing = let_go(rt, history);
+    write_files(
+        store,
+        alloc,
+        out,
+        outputs.as_slice(),
+        certificate.as_slice(),
+    )?;
+    if let Some(handle) = freeing {
+        handle.join(rt);
     }
     Ok(())
 }
@@ -224,11 +243,12 @@ pub fn run<S: Store, R: Threads + Wait + Sync>(
 ) -> Result<Said, Fault>
     ensures done { IfOk result (λ said. AnswersRun (S.holds store.old) (S.holds store.new) asked.now (string_bytes said.text) said.status) }
     ensures others { ChangesAmong (S.holds store.old) (S.holds store.new) (written_by_run asked.now) }
-    ensures refused { IfErr result (λ e. IsRunUnanswered (S.holds store.old) (S.holds store.new) (S.unreadable store.old) (S.unwritable store.old) asked.now e) }
+    ensures refused { IfErr result (λ e. IsRunUnanswered (S.holds store.old) (S.holds store.new) (S.unreadable store.old)
+        (S.unwritable store.old) asked.now e) }
 {
     let ran = executed(rt, store, alloc, asked, watch)?;
     let said = said_of(alloc, &ran)?;
     keep_history(store, alloc, asked.history, history_of(&ran))?;
-    keep_result(store, alloc, asked.options.out, &ran)?;
+    keep_result(rt, store, alloc, asked.options.out, ran)?;
     Ok(said)
 }
