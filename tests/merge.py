@@ -236,21 +236,38 @@ def over_a_shard(harness):
         harness.check(f"over a shard, {out}", got == (2, b"", b"mapred: SameFolder shard %d\n" % shard) and [contents(s) for s in shards] == before, repr(got))
 
 
-def little_memory(harness):
-    """22 MB of parts, merged to as much in 16 MiB of address space."""
-    count, shards, verdicts = 500_000, 4, []
-    for shard in range(shards):
-        part = b"".join(b"%08d\t1\n" % number for number in range(shard, shards * count, shards))
-        name = f"f{shard}"
-        text = verdict_text(Request("words", 1, 16), [(name, b"")], [part], [], count)
+def in_little_memory(harness, shards):
+    """A merge in 16 MiB of address space of shards, each the request, its part, the length of its one file, and how many pairs."""
+    verdicts = []
+    for number, (request, part, length, pairs) in enumerate(shards):
+        text = verdict_text(request, [(f"f{number}", bytes(length))], [part], [], pairs)
         verdicts.append(os.path.join(harness.directory({"part-00000": part, "verdict": text}), "verdict"))
     where = harness.directory()
     limit = lambda: resource.setrlimit(resource.RLIMIT_AS, (16 << 20, 16 << 20))
     ran = subprocess.run([harness.program, "merge", "--out", ".", *verdicts], cwd=where, capture_output=True, preexec_fn=limit)
-    got = (ran.returncode, ran.stdout, ran.stderr)
-    whole = b"".join(b"%08d\t1\n" % number for number in range(shards * count))
+    return (ran.returncode, ran.stdout, ran.stderr), contents(where).get("part-00000")
+
+
+def little_memory(harness):
+    """22 MB of parts, merged to as much in 16 MiB of address space."""
+    count, shards, words = 500_000, 4, Request("words", 1, 16)
+    numbered = lambda numbers: b"".join(b"%08d\t1\n" % number for number in numbers)
+    got = in_little_memory(harness, [(words, numbered(range(shard, shards * count, shards)), 0, count) for shard in range(shards)])
     want = (0, b"merged: 1 files, %d pairs, 0 left out\n" % (shards * count), b"")
-    harness.check("large parts in little memory", got == want and contents(where)["part-00000"] == whole, repr(got))
+    harness.check("large parts in little memory", got == (want, numbered(range(shards * count))), repr(got[0]))
+
+
+def equal_lines(harness):
+    """19 MB of parts in 16 MiB of address space, in which almost all lines found are equal: a merge goes on within a key."""
+    count, grep = 400_000, Request("grep", 1, 16, literal=b"a")
+    places = lambda file: b"".join(b"a line\t%d:%d\n" % (file, 7 * number) for number in range(count))
+    ends = lambda file: (b"a\t%d:2800000\n" % file, b"a maze\t%d:2800002\n" % file)
+    front, back = zip(*map(ends, range(3)))
+    parts = [ends(0)[0] + places(0) + ends(0)[1]] * 3
+    got = in_little_memory(harness, [(grep, part, 2_800_009, count + 2) for part in parts])
+    want = (0, b"merged: 1 files, %d pairs, 0 left out\n" % (3 * count + 6), b"")
+    whole = b"".join(front) + b"".join(map(places, range(3))) + b"".join(back)
+    harness.check("equal lines in little memory", got == (want, whole), repr(got[0]))
 
 
 def listing(given):
@@ -350,4 +367,4 @@ def dask(harness, words, where, whole):
     harness.check("by Dask, a worker killed", ran.returncode == 0 and os.listdir(room) == ["worker"] and parts_of(os.path.join(where, "out")) == parts_of(whole), repr(ran))
 
 
-GROUPS = {"shards merged": random_jobs, "shards and one execution": by_seq, "shards refused": refusals, "shards in files": files, "shards' inputs": lists, "shards in little memory": little_memory, "shards by a runner": runner}
+GROUPS = {"shards merged": random_jobs, "shards and one execution": by_seq, "shards refused": refusals, "shards in files": files, "shards' inputs": lists, "shards in little memory": little_memory, "equal lines of shards": equal_lines, "shards by a runner": runner}

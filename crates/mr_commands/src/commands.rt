@@ -55,7 +55,8 @@ fn worked(
 ) -> Result<Work, Fault>
     requires { split_total request.now.split input ≤ 2 ^ 20 }
     ensures result { IfOk result (λ w. IsSequentialResult request.now input skips.now (contents w.outputs.items) w.certificate.items) }
-    ensures line { IfOk result (λ w. string_bytes w.line ≡ done_line request.now.parts (length (emitted request.now.job request.now.split input skips.now)) (length skips.now)) }
+    ensures line { IfOk result (λ w. string_bytes w.line ≡ done_line request.now.parts
+        (length (emitted request.now.job request.now.split input skips.now)) (length skips.now)) }
     ensures refused { IfErr result (λ e. IsRunRefusal request.now input skips.now e) }
 {
     let (outputs, certificate) = run_watched(alloc, request, &input, skips, watch)?;
@@ -127,12 +128,13 @@ pub fn done<S: Store, R: Threads + Wait + Sync>(
 ) -> Result<Said, Fault>
     ensures answers { IfOk result (λ said. Answers (S.holds store.old) (S.holds store.new) asked.now (string_bytes said.text) said.status) }
     ensures others { ChangesOwn (S.holds store.old) (S.holds store.new) asked.now }
-    ensures refused { IfErr result (λ e. IsRefusal (S.holds store.old) (S.holds store.new) (S.unreadable store.old) (S.unwritable store.old) (S.alike store.old) asked.now e) }
+    ensures refused { IfErr result (λ e. IsRefusal (S.holds store.old) (S.holds store.new) (S.unreadable store.old) (S.unwritable store.old)
+        (S.alike store.old) asked.now e) }
 {
     match asked {
         Subcommand::Check(asked) => check(rt, store, alloc, asked, watch),
         Subcommand::Seq(options, skips) => seq(store, alloc, options, skips, watch),
         Subcommand::Run(asked) => run_by_workers(rt, store, alloc, asked, watch),
-        Subcommand::Merge(asked) => merge(store, alloc, asked),
+        Subcommand::Merge(asked) => merge(rt, store, alloc, asked),
     }
 }

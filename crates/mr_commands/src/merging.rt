@@ -10,6 +10,7 @@ use itoa::Buffer;
 use mr_files::Store;
 use mr_shard_files::merge_shards;
 use std::alloc::Global;
+use std::thread::Threads;
 
 /// The bytes of the line, where each of its numbers has 20 digits.
 const LINE_ROOM: usize = 94;
@@ -48,7 +49,8 @@ fn merged_line(room: String, files: usize, pairs: u64, left_out: usize) -> Strin
 
 /// Merges shards, whose verdicts are named, and writes the result. The room for the line is had before a file is written, so
 /// that nothing fails behind the last one.
-pub fn merge<S: Store>(
+pub fn merge<S: Store, T: Threads>(
+    rt: &T,
     store: &mut S,
     alloc: Global,
     asked: &MergeOptions<'_>,
@@ -61,6 +63,7 @@ pub fn merge<S: Store>(
 {
     let room = String::with_capacity(alloc, LINE_ROOM)?;
     let joined = merge_shards(
+        rt,
         store,
         alloc,
         asked.verdicts.as_slice(),

@@ -48,7 +48,8 @@ fn answer_from<R: CountedRead + Drop, C: Cause>(
     requires fits { split_total request.now.split input.now ≤ 2 ^ 20 }
     requires parts { (p : ℕ) → get_or (map (λ r. r.failed) parts.old) p 0 ≡ 0 }
     requires certificate { certificate.old.failed ≡ 0 }
-    ensures answer { IfOk result (λ answer. GivesAnswer request.now input.now (map (λ r. R.remaining r.reader) parts.old) (R.remaining certificate.old.reader) answer) }
+    ensures answer { IfOk result (λ answer. GivesAnswer request.now input.now (map (λ r. R.remaining r.reader) parts.old)
+        (R.remaining certificate.old.reader) answer) }
     ensures refused { IfErr result (λ f. TellsOf C.cause f) }
 {
     match check_from_watched(alloc, request, input, parts, certificate, watch) {

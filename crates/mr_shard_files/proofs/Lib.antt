@@ -6,6 +6,7 @@ pub mod NoteLemmas
 pub mod RowLemmas
 pub mod TruthLemmas
 pub mod StreamLemmas
+pub mod TailLemmas
 pub mod MadeLemmas
 pub mod AllLemmas
 pub mod ShownLemmas

@@ -8,7 +8,9 @@ use Rattle.mr_shards.specs.declared.fault.MergeFault.{MergeFault}
 use Rattle.mr_shards.specs.Refused.{Blames}
 use Rattle.mr_shards.specs.Pieces.{AreFresh, AreWindows, AreWithin, IsAfter, IsMerged, IsWindow, Reading, Standing, are_last, outputs_of, taken_on, text_taken}
 use Rattle.mr_shard_files.specs.declared.stream.Part.{Part}
-use Rattle.mr_shard_files.specs.Streams.{AllAre, AllMayBe, AreBlamed, AreHeld, AreWindowsOf, IsBlamedOver, MayBe, Moves, OneIs, StepsOver, TellsUnread, all_done, is_done}
+use Rattle.mr_shard_files.specs.declared.turns.Stop.{Stop}
+use Rattle.mr_shard_files.specs.declared.turns.Stop.TheVariants as stop
+use Rattle.mr_shard_files.specs.Streams.{AllAre, AllMayBe, AreBlamed, AreHeld, AreWindowsOf, IsBlamedOver, IsStopped, IsStoppedAt, MayBe, Moves, OneIs, StepsOver, TellsUnread, all_done, is_done}
 use Rattle.mr_shard_files.specs.declared.fault.ShardFault.{ShardFault}
 use Rattle.mr_shard_files.specs.declared.fault.ShardFault.TheVariants.{CannotRead, OutOfMemory}
 use Rattle.mr_shard_files.proofs.StreamLemmas.{moves_none, moves_on}
@@ -260,3 +262,9 @@ module _ {R : Type 0} (remaining : R → Option (List ℕ)) (can_fail : R → Ty
       by : (rs : List Reading) → AllMayBe fs xs filled rs → IsBlamedOver job filled m e → Blames job (outputs_of rs) e
       by rs h (inl none) = subst (Blames job (outputs_of rs)) (sym none) tt
       by rs h (inr (ws, shown, f)) = f rs (stands rs (fill_back fs xs os filled zs rs k h)).0 (windows_are fs xs filled ws rs h shown)
+
+  -- so is what a turn is stopped at
+  pub stopped_turn : (unwritten : ShardFault → Type 0) (job : JobSpec) (fs : List ℕ) (xs : List (List ℕ)) (bs os zs : List (Part R)) (m : Standing) (out : List ℕ) (filled : List (Part R)) (e : Stop)
+      → AllAre (Moves remaining can_fail) xs bs os → Stands job fs xs os m out → AllAre Fills zs os filled → IsStoppedAt job filled m e → IsStopped remaining can_fail unwritten job fs bs filled e
+  stopped_turn unwritten job fs xs bs os zs m out filled (stop.Part fault) moved stands k b = inl b
+  stopped_turn unwritten job fs xs bs os zs m out filled (stop.Merge fault) moved stands k b = blamed_turn job fs xs bs os zs m out filled fault moved stands k b

@@ -1,5 +1,5 @@
 -- Parts of shards that are read in pieces.
-use Rattle.std.specs.Prelude.{◌≡◌, ℕ, ◌+◌, ◌<◌, ◌≤◌, ◌&&◌, ◌||◌, ◌⊎◌, Bool, true, false, ⊤, List, [], ◌∷◌, ◌++◌, Option, Vec, length, slice_index_or, string_bytes}
+use Rattle.std.specs.Prelude.{◌≡◌, ℕ, ◌+◌, ◌<◌, ◌≤◌, ◌&&◌, ◌||◌, ◌⊎◌, Bool, true, false, ⊤, List, [], ◌∷◌, ◌++◌, Option, Vec, drop, length, slice_index_or, string_bytes}
 use Rattle.std.specs.Global.{Global}
 use Rattle.std.specs.Io.KnownBytes.{Consumes, IsAtEnd}
 use Rattle.sha2.specs.Hashers.{Holds256}
@@ -19,6 +19,8 @@ use Rattle.mr_shard_files.specs.Told.{told_of_merge}
 use Rattle.mr_shard_files.specs.declared.fault.ShardFault.{ShardFault}
 use Rattle.mr_shard_files.specs.declared.fault.ShardFault.TheVariants.{CannotRead, OtherPart, OutOfMemory}
 use Rattle.mr_shard_files.specs.declared.stream.Part.{Part}
+use Rattle.mr_shard_files.specs.declared.tails.Tail.{Tail}
+use Rattle.sha2.specs.declared.Sha256.{Sha256}
 use Rattle.mr_shard_files.specs.declared.turns.Stop.{Stop}
 use Rattle.mr_shard_files.specs.declared.turns.Stop.TheVariants as stop
 
@@ -29,9 +31,27 @@ abbrev pub CountsDown : ℕ → ℕ → Bool → ℕ → Type 0
 CountsDown told left false read = read + left ≡ told
 CountsDown told left true read = told < read
 
+-- the digest has these bytes but for some of those that are held
+pub record Digests {R : Type 0} (part : Part R) (bytes : List ℕ) : Type 0 where
+  pub front : List ℕ
+  pub is : bytes ≡ front ++ drop part.digested part.held
+  pub within : part.digested ≤ length part.held
+  pub holds : Holds256 part.hasher front
+
 -- these bytes were read of the part, of so many that its verdict tells
 abbrev pub HasRead : {R : Type 0} → ℕ → Part R → List ℕ → Type 0
-HasRead told part bytes = Holds256 part.hasher bytes × CountsDown told part.left part.longer (length bytes)
+HasRead told part bytes = Digests part bytes × CountsDown told part.left part.longer (length bytes)
+
+-- the digest lacks none of those that are held, and else all is as before
+pub record IsDigested {R : Type 0} (old new : Part R) : Type 0 where
+  pub all : new.digested ≡ length new.held
+  pub digests : (bytes : List ℕ) → Digests old bytes → Digests new bytes
+  pub name : new.name ≡ old.name
+  pub reader : new.reader ≡ old.reader
+  pub held : new.held ≡ old.held
+  pub left : new.left ≡ old.left
+  pub longer : new.longer ≡ old.longer
+  pub ended : new.ended ≡ old.ended
 
 -- nothing more is read of it: it is at its end, or has more bytes than its verdict tells
 abbrev pub is_done : {R : Type 0} → Part R → Bool
@@ -125,6 +145,28 @@ AreWindowsOf [] [] = Unit {0}
 AreWindowsOf (q ∷ qs) (w ∷ ws) = (w.bytes.now ≡ q.held) × (w.is_last ≡ is_done q) × AreWindowsOf qs ws
 AreWindowsOf _ _ = ⊥
 
+-- a tail shows the digest of its part, and what that lacks
+abbrev pub AreTailsOf : {R : Type 0} → List (Part R) → List Tail → Type 0
+AreTailsOf [] [] = Unit {0}
+AreTailsOf (q ∷ qs) (t ∷ ts) = (t.hasher.now ≡ q.hasher) × (t.bytes.now ≡ drop q.digested q.held) × AreTailsOf qs ts
+AreTailsOf _ _ = ⊥
+
+-- a digest has some bytes more than another
+abbrev pub HasMore : Sha256 → List ℕ → Sha256 → Type 0
+HasMore old bytes new = (m : List ℕ) → Holds256 old m → Holds256 new (m ++ bytes)
+
+-- the digests of tails, with what these lacked
+abbrev pub AreTaken : List Tail → List Sha256 → Type 0
+AreTaken [] [] = Unit {0}
+AreTaken (t ∷ ts) (h ∷ hs) = HasMore t.hasher.now t.bytes.now h × AreTaken ts hs
+AreTaken _ _ = ⊥
+
+-- digests that parts may have next
+abbrev pub AreNext : {R : Type 0} → List (Part R) → List Sha256 → Type 0
+AreNext [] [] = Unit {0}
+AreNext (q ∷ qs) (h ∷ hs) = HasMore q.hasher (drop q.digested q.held) h × AreNext qs hs
+AreNext _ _ = ⊥
+
 -- so many bytes are no more than are held
 abbrev pub AreHeld : {R : Type 0} → List ℕ → List (Part R) → Type 0
 AreHeld [] [] = Unit {0}
@@ -183,6 +225,11 @@ pub record StepsOver {R : Type 0} (job : JobSpec) (parts : List (Part R)) (cuts 
 abbrev pub IsBlamedOver : {R : Type 0} → JobSpec → List (Part R) → Standing → MergeFault → Type 0
 IsBlamedOver job parts m e = (e ≡ merge.OutOfMemory)
     ⊎ ((ws : List Window) × AreWindowsOf parts ws × ((rs : List Reading) → IsAfter job rs m → AreWindows rs ws → Blames job (outputs_of rs) e))
+
+-- windows on the parts are not stepped over
+abbrev pub IsStoppedAt : {R : Type 0} → JobSpec → List (Part R) → Standing → Stop → Type 0
+IsStoppedAt job parts m (stop.Part fault) = fault ≡ OutOfMemory
+IsStoppedAt job parts m (stop.Merge fault) = IsBlamedOver job parts m fault
 
 -- parts are not merged as they are read, or what they are merged to is not written
 abbrev pub IsStopped : {R : Type 0} → (R → Option (List ℕ)) → (R → Type 0) → (ShardFault → Type 0) → JobSpec → List ℕ → List (Part R) → List (Part R) → Stop → Type 0

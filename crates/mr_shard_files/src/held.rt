@@ -57,20 +57,6 @@ impl Held {
         self.from += count;
     }
 
-    /// All of them are passed.
-    pub fn clear(&mut self)
-        ensures { self.new ≡ [] }
-    {
-        self.from = self.bytes.len();
-    }
-
-    /// All of them are passed, and the memory for them is given back.
-    pub fn release(&mut self, alloc: Global)
-        ensures { self.new ≡ [] }
-    {
-        *self = Held::new(alloc);
-    }
-
     /// Lets go what was passed, once that is as much as is held: so no byte moves more often than one is passed.
     fn make_room(&mut self)
         ensures { self.new ≡ self.old }

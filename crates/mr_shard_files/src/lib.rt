@@ -15,6 +15,7 @@ mod opening;
 mod partition;
 mod stream;
 mod streams;
+mod tails;
 mod turns;
 
 pub use crate::fault::ShardFault;

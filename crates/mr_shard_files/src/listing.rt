@@ -118,7 +118,8 @@ fn expect_list<S: Store>(
     inputs: &[FileNote],
 ) -> Result<(), ShardFault>
     ensures ok { OnOk result (S.holds store.now name.now (listing inputs.now)) }
-    ensures err { IfErr result (λ e. IsListUnread (S.holds store.now) (S.unreadable store.now) name.now e ⊎ IsOtherList (S.holds store.now) name.now inputs.now e) }
+    ensures err { IfErr result (λ e. IsListUnread (S.holds store.now) (S.unreadable store.now) name.now e
+        ⊎ IsOtherList (S.holds store.now) name.now inputs.now e) }
 {
     let given = list_text(store, alloc, name)?;
     let told = list_of(alloc, inputs)?;

@@ -16,6 +16,7 @@ use mr_files::Store;
 use mr_jobs::Request;
 use mr_verdict::{FileNote, Verdict, first_repeat, join_verdicts, request_of, write_verdict};
 use std::alloc::Global;
+use std::thread::Threads;
 
 /// The request that the first verdict is about.
 fn first_request(alloc: Global, verdicts: &[Verdict]) -> Result<Request, ShardFault>
@@ -118,9 +119,11 @@ fn prepared<S: Store>(
 /// order.
 ///
 /// The parts of a partition are open at once, and are read as they are merged: of each some 256 KiB are in memory, and what
-/// these are merged to, and lines of one key together. A line without an end is held as far as its part goes on, but no
-/// further than the length that the verdict tells, which ends in want of memory where that is too much.
-pub fn merge_shards<S: Store>(
+/// these are merged to; another thread, where one can be made, takes their digests meanwhile. A line without an end is held
+/// as far as its part goes on, but no further than the length that the verdict tells, which ends in want of memory where
+/// that is too much.
+pub fn merge_shards<S: Store, T: Threads>(
+    rt: &T,
     store: &mut S,
     alloc: Global,
     names: &[&str],
@@ -136,7 +139,7 @@ pub fn merge_shards<S: Store>(
     let verdicts = read_verdicts(store, alloc, names)?;
     let verdicts = verdicts.as_slice();
     let (request, joined) = prepared(store, alloc, names, inputs, verdicts, out)?;
-    let notes = partitions_written(store, alloc, &request, names, verdicts, out)?;
+    let notes = partitions_written(rt, store, alloc, &request, names, verdicts, out)?;
     let merged = noted(joined, notes);
     let text = write_verdict(alloc, &merged)?;
     put_verdict(store, alloc, out, text.as_slice())?;

@@ -52,7 +52,8 @@ fn open_parts<S: Store>(
     partition: usize,
 ) -> Result<Vec<Part<S::Reader>>, ShardFault>
     requires { length names.now ≡ length verdicts.now }
-    ensures ok { IfOk result (λ qs. AreOpened (S.holds store.now) (S.unreadable store.now) S.Reader.remaining S.Reader.can_fail partition (map (λ s. s.now) names.now) verdicts.now qs.items) }
+    ensures ok { IfOk result (λ qs. AreOpened (S.holds store.now) (S.unreadable store.now) S.Reader.remaining S.Reader.can_fail
+        partition (map (λ s. s.now) names.now) verdicts.now qs.items) }
     ensures err { IfErr result (IsTextsFault (S.holds store.now) (S.unreadable store.now) partition (map (λ s. s.now) names.now) verdicts.now) }
 {
     let mut parts = Vec::new(alloc);
@@ -73,7 +74,8 @@ pub(crate) fn open_all<S: Store>(
 ) -> Result<Vec<Vec<Part<S::Reader>>>, ShardFault>
     requires { length names.now ≡ length verdicts.now }
     ensures count { IfOk result (λ rows. length rows.items ≡ count) }
-    ensures ok { IfOk result (λ rows. AreRows (S.holds store.now) (S.unreadable store.now) S.Reader.remaining S.Reader.can_fail (map (λ s. s.now) names.now) verdicts.now 0 rows.items) }
+    ensures ok { IfOk result (λ rows. AreRows (S.holds store.now) (S.unreadable store.now) S.Reader.remaining S.Reader.can_fail
+        (map (λ s. s.now) names.now) verdicts.now 0 rows.items) }
     ensures err { IfErr result (AreUnopened (S.holds store.now) (S.unreadable store.now) count (map (λ s. s.now) names.now) verdicts.now) }
 {
     let mut rows = Vec::new(alloc);

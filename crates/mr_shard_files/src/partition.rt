@@ -20,6 +20,7 @@ use mr_jobs::{Job, Request};
 use mr_store::{CountedRead, CountedWrite};
 use mr_verdict::{FileNote, Verdict};
 use std::alloc::{AllocError, Global};
+use std::thread::Threads;
 
 /// The part of the result for a partition, of which nothing is written yet.
 fn begin_part<S: Store>(
@@ -44,7 +45,8 @@ fn begin_part<S: Store>(
 }
 
 /// Merges the parts of a partition as they are read, writes what they are merged to and hands it on, and gives its note.
-fn part_filled<R: CountedRead + Drop, W: CountedWrite + Drop>(
+fn part_filled<R: CountedRead + Drop, W: CountedWrite + Drop, T: Threads>(
+    rt: &T,
     alloc: Global,
     job: &Job,
     files: &[u32],
@@ -63,13 +65,14 @@ fn part_filled<R: CountedRead + Drop, W: CountedWrite + Drop>(
         ⊎ TellsUnwritten (W.can_fail made.old.writer) (string_bytes made.old.name) e) }
     ensures name { made.new.name ≡ made.old.name }
 {
-    joined(alloc, job, files, parts, verdicts, partition, made)?;
+    joined(rt, alloc, job, files, parts, verdicts, partition, made)?;
     made.flush(alloc)?;
     Ok(made.note(alloc, partition)?)
 }
 
 /// Merges the parts of a partition as they are read to the part of the result, and gives its note.
-fn part_written<S: Store>(
+fn part_written<S: Store, T: Threads>(
+    rt: &T,
     store: &mut S,
     alloc: Global,
     job: &Job,
@@ -89,7 +92,7 @@ fn part_written<S: Store>(
         ⊎ TellsUnwritten (S.unwritable store.old (name_of_part dir.now partition)) (name_of_part dir.now partition) e) }
 {
     let mut made = begin_part(store, alloc, dir, partition)?;
-    let answer = part_filled(alloc, job, files, parts, verdicts, partition, &mut made);
+    let answer = part_filled(rt, alloc, job, files, parts, verdicts, partition, &mut made);
     let Made { name, writer, .. } = made;
     store.close(name.as_str(), writer)?;
     answer
@@ -98,7 +101,8 @@ fn part_written<S: Store>(
 /// The partitions, merged in order, each to its part of the result, whose notes are given. What stood there for a verdict is
 /// emptied before the first, so that none stands on parts that it isn't about. The parts of one partition are read to their
 /// ends, where they are closed, before those of the next.
-pub(crate) fn partitions_written<S: Store>(
+pub(crate) fn partitions_written<S: Store, T: Threads>(
+    rt: &T,
     store: &mut S,
     alloc: Global,
     request: &Request,
@@ -108,7 +112,8 @@ pub(crate) fn partitions_written<S: Store>(
 ) -> Result<Vec<FileNote>, ShardFault>
     requires count { length names.now ≡ length verdicts.now }
     requires few { length (inputs_of verdicts.now) < 2 ^ 32 }
-    ensures ok { IfOk result (λ ns. ArePartsWritten (S.holds store.old) (S.holds store.new) request.now (map (λ s. s.now) names.now) verdicts.now dir.now ns.items) }
+    ensures ok { IfOk result (λ ns. ArePartsWritten (S.holds store.old) (S.holds store.new) request.now
+        (map (λ s. s.now) names.now) verdicts.now dir.now ns.items) }
     ensures still { (n : List ℕ) → S.unwritable store.new n → S.unwritable store.old n }
     ensures err { IfErr result (IsPartsFault (S.holds store.old) (S.holds store.new) (S.unreadable store.old) (S.unwritable store.old)
         request.now (map (λ s. s.now) names.now) verdicts.now dir.now) }
@@ -122,7 +127,9 @@ pub(crate) fn partitions_written<S: Store>(
         let parts = rows[partition].as_mut_slice();
         let job = request.job();
         let files = files.as_slice();
-        let note = part_written(store, alloc, job, files, parts, verdicts, partition, dir)?;
+        let note = part_written(
+            rt, store, alloc, job, files, parts, verdicts, partition, dir,
+        )?;
         notes.push(note).map_err(AllocError::from)?;
     }
     Ok(notes)

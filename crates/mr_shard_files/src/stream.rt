@@ -1,8 +1,8 @@
 //! Parts of shards, read in pieces.
-ghost use Rattle.std.specs.Prelude.{◌≡◌, ◌⊎◌, ◌↔◌, ℕ, ◌<◌, ◌≤◌, [], ◌++◌, List, IfErr, IfOk, IsTrue, OnOk, true, false, length, take, string_bytes};
+ghost use Rattle.std.specs.Prelude.{◌≡◌, ◌⊎◌, ◌↔◌, ℕ, ◌+◌, ◌<◌, ◌≤◌, [], ◌++◌, List, IfErr, IfOk, IsTrue, OnOk, true, false, drop, length, take, string_bytes};
 ghost use Rattle.std.specs.Io.KnownBytes.{Consumes, IsAtEnd};
 ghost use Rattle.sha2.specs.Sha256.{sha256};
-ghost use Rattle.mr_shard_files.specs.Streams.{HasRead, Moves, TellsUnread, is_done as no_more, unread};
+ghost use Rattle.mr_shard_files.specs.Streams.{CountsDown, HasMore, HasRead, IsDigested, Moves, TellsUnread, is_done as no_more, unread};
 
 use crate::fault::ShardFault;
 use crate::held::Held;
@@ -13,14 +13,17 @@ use std::alloc::{AllocError, Global};
 /// The most bytes that one read asks for.
 const PIECE: usize = 65_536;
 
-/// A part that is read in pieces. Of what was read it keeps the bytes that aren't passed yet, the digest of all, and how many
-/// are left of those that its verdict tells; no more is read once there are more than these.
+/// A part that is read in pieces. Of what was read it keeps the bytes that aren't passed yet, the digest, and how many are
+/// left of those that its verdict tells; no more is read once there are more than these. The digest may lack bytes that
+/// are held, so that another thread can take it.
 #[derive(Drop)]
 pub(crate) struct Part<R: CountedRead + Drop> {
     name: String,
     reader: R,
     held: Held,
-    hasher: Sha256,
+    pub hasher: Sha256,
+    /// How many of the bytes that are held the digest has.
+    digested: usize,
     left: u64,
     longer: bool,
     ended: bool,
@@ -53,6 +56,7 @@ impl<R: CountedRead + Drop> Part<R> {
             reader,
             held: Held::new(alloc),
             hasher: Sha256::new(),
+            digested: 0,
             left: told,
             longer: false,
             ended: false,
@@ -73,18 +77,39 @@ impl<R: CountedRead + Drop> Part<R> {
         self.ended || self.longer
     }
 
-    /// Takes note of a piece that was read.
-    fn note(&mut self, piece: &[u8])
-        ensures read { (told : ℕ) (bytes : List ℕ) → HasRead told self.old bytes → HasRead told self.new (bytes ++ piece.now) }
-        ensures falls { 0 < length piece.now → no_more self.old ≡ false → unread self.new < unread self.old }
-        ensures longer { self.old.longer ≡ true → self.new.longer ≡ true }
-        ensures same { (self.new.name ≡ self.old.name) × (self.new.reader ≡ self.old.reader) × (self.new.held ≡ self.old.held) × (self.new.ended ≡ self.old.ended) }
+    /// The bytes that are held and that the digest lacks.
+    pub fn undigested(&self) -> &[u8]
+        ensures { result.now ≡ drop self.now.digested self.now.held }
     {
-        self.hasher.update(piece);
-        match self.left.checked_sub(piece.len() as u64) {
+        let bytes = self.held.bytes();
+        &bytes[self.digested.min(bytes.len())..]
+    }
+
+    /// Counts bytes that were read.
+    fn count(&mut self, piece: usize)
+        ensures counts { (told read : ℕ) → CountsDown told self.old.left self.old.longer read → CountsDown told self.new.left self.new.longer (read + piece) }
+        ensures falls { 0 < piece → no_more self.old ≡ false → unread self.new < unread self.old }
+        ensures longer { self.old.longer ≡ true → self.new.longer ≡ true }
+        ensures same { (self.new.name ≡ self.old.name) × (self.new.reader ≡ self.old.reader) × (self.new.held ≡ self.old.held)
+            × (self.new.hasher ≡ self.old.hasher) × (self.new.digested ≡ self.old.digested) × (self.new.ended ≡ self.old.ended) }
+    {
+        match self.left.checked_sub(piece as u64) {
             Some(left) => self.left = left,
             None => self.longer = true,
         }
+    }
+
+    /// Holds a piece that was read. The digest lacks it.
+    fn note(&mut self, piece: &[u8]) -> Result<(), AllocError>
+        ensures read { OnOk result ((told : ℕ) (bytes : List ℕ) → HasRead told self.old bytes → HasRead told self.new (bytes ++ piece.now)) }
+        ensures held { OnOk result (self.new.held ≡ self.old.held ++ piece.now) }
+        ensures falls { OnOk result (0 < length piece.now → no_more self.old ≡ false → unread self.new < unread self.old) }
+        ensures longer { OnOk result (self.old.longer ≡ true → self.new.longer ≡ true) }
+        ensures same { OnOk result ((self.new.name ≡ self.old.name) × (self.new.reader ≡ self.old.reader) × (self.new.ended ≡ self.old.ended)) }
+    {
+        self.held.push(piece)?;
+        self.count(piece.len());
+        Ok(())
     }
 
     /// Reads a piece behind those that are held, or finds that there is none.
@@ -102,9 +127,7 @@ impl<R: CountedRead + Drop> Part<R> {
             self.ended = true;
             return Ok(());
         }
-        let piece = &buffer[..count];
-        self.held.push(piece)?;
-        self.note(piece);
+        self.note(&buffer[..count])?;
         Ok(())
     }
 
@@ -119,12 +142,55 @@ impl<R: CountedRead + Drop> Part<R> {
         Ok(())
     }
 
+    /// Takes what the digest lacks.
+    fn digest_held(&mut self)
+        ensures { IsDigested self.old self.new }
+    {
+        let bytes = self.held.bytes();
+        self.hasher.update(&bytes[self.digested.min(bytes.len())..]);
+        self.digested = bytes.len();
+    }
+
+    /// Keeps a digest that was taken of what this one lacks.
+    pub fn keep_digest(&mut self, hasher: Sha256)
+        requires { HasMore self.old.hasher (drop self.old.digested self.old.held) hasher }
+        ensures { IsDigested self.old self.new }
+    {
+        self.hasher = hasher;
+        self.digested = self.held.bytes().len();
+    }
+
     /// So many of the bytes that are held are passed.
     pub fn pass(&mut self, count: usize)
         requires { count ≤ length self.old.held }
         ensures { Moves R.remaining R.can_fail (take count self.old.held) self.old self.new }
     {
+        self.digest_held();
+        self.drop_front(count);
+    }
+
+    /// So many of the bytes that are held, all of which the digest has, are let go.
+    fn drop_front(&mut self, count: usize)
+        requires within { count ≤ length self.old.held }
+        ensures held { self.new.held ≡ drop count self.old.held }
+        ensures digested { self.new.digested ≡ length self.new.held }
+        ensures hasher { self.new.hasher ≡ self.old.hasher }
+        ensures counts { (self.new.left ≡ self.old.left) × (self.new.longer ≡ self.old.longer) }
+        ensures same { (self.new.ended ≡ self.old.ended) × (self.new.name ≡ self.old.name) × (self.new.reader ≡ self.old.reader) }
+    {
         self.held.pass(count);
+        self.digested = self.held.bytes().len();
+    }
+
+    /// All that is held is passed, and the memory for it is given back.
+    fn let_go(&mut self, alloc: Global)
+        ensures moves { Moves R.remaining R.can_fail self.old.held self.old self.new }
+        ensures still { no_more self.new ≡ no_more self.old }
+        ensures unread { unread self.new ≡ unread self.old }
+    {
+        self.digest_held();
+        self.held = Held::new(alloc);
+        self.digested = 0;
     }
 
     /// Reads on until nothing more is read, holding no more than a piece of it, and nothing at the end.
@@ -134,10 +200,10 @@ impl<R: CountedRead + Drop> Part<R> {
         ensures err { IfErr result (TellsUnread (R.can_fail self.old.reader) (string_bytes self.old.name)) }
     {
         while !self.is_done() {
-            self.held.clear();
+            self.let_go(alloc);
             self.read_piece(alloc)?;
         }
-        self.held.release(alloc);
+        self.let_go(alloc);
         Ok(())
     }
 
@@ -149,7 +215,9 @@ impl<R: CountedRead + Drop> Part<R> {
         if self.longer || self.left != 0 {
             return Ok(false);
         }
-        let read = self.hasher.clone()?.finalize();
+        let mut hasher = self.hasher.clone()?;
+        hasher.update(self.undigested());
+        let read = hasher.finalize();
         Ok(read.as_slice() == digest.as_slice())
     }
 }

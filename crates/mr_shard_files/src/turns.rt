@@ -1,17 +1,21 @@
 //! Parts of shards, merged as they are read.
 ghost use Rattle.std.specs.Prelude.{◌≡◌, ◌⊎◌, [], ℕ, List, IfErr, IfOk, OnOk, length, string_bytes};
-ghost use Rattle.mr_shard_files.specs.Streams.{AreBlamed, AreJoined, AreMergedTo, IsBlamedOver, IsRefused, IsStopped, StepsOver};
+ghost use Rattle.mr_shard_files.specs.Streams.{AreBlamed, AreJoined, AreMergedTo, AreNext, AreTaken, IsBlamedOver, IsRefused, IsStopped, IsStoppedAt, StepsOver};
 ghost use Rattle.mr_shard_files.specs.Made.{HasWritten, TellsUnwritten};
 
 use crate::fault::{ShardFault, of_merge};
 use crate::made::Made;
 use crate::stream::Part;
 use crate::streams::{are_done, fill_all, pass_all, settle_all, windows_of};
+use crate::tails::{all_taken, keep_all, tails_of};
 use mr_jobs::Job;
 use mr_shards::{MergeFault, Merger};
 use mr_store::{CountedRead, CountedWrite};
 use mr_verdict::Verdict;
+use sha2::Sha256;
 use std::alloc::{AllocError, Global};
+use std::thread;
+use std::thread::Threads;
 
 /// How many bytes of each part are held for a turn: 256 KiB.
 const WINDOW: usize = 262_144;
@@ -56,21 +60,66 @@ impl From<MergeFault> for Stop {
     }
 }
 
-/// Merges what is held of the parts, as far as it goes, and tells how many bytes of each were taken.
-fn step_over<R: CountedRead + Drop>(
+/// What a turn gives.
+#[derive(Drop)]
+struct Turn {
+    /// The merger behind the step.
+    merger: Merger,
+    /// The text before it, with what was merged.
+    text: Vec<u8>,
+    /// How many bytes of each part were taken.
+    cuts: Vec<usize>,
+}
+
+/// Merges what is held of the parts, as far as it goes.
+fn stepped<R: CountedRead + Drop>(
     alloc: Global,
     job: &Job,
     parts: &[Part<R>],
-    merger: &mut Merger,
-    out: &mut Vec<u8>,
-) -> Result<Vec<usize>, MergeFault>
-    requires { length parts.now ≡ length merger.old.held }
-    ensures shards { length merger.new.held ≡ length merger.old.held }
-    ensures ok { IfOk result (λ cuts. StepsOver job.now parts.now cuts.items merger.old merger.new out.old.items out.new.items) }
-    ensures err { IfErr result (IsBlamedOver job.now parts.now merger.old) }
+    merger: Merger,
+    text: Vec<u8>,
+) -> Result<Turn, MergeFault>
+    requires { length parts.now ≡ length merger.held }
+    ensures shards { IfOk result (λ s. length s.merger.held ≡ length merger.held) }
+    ensures ok { IfOk result (λ s. StepsOver job.now parts.now s.cuts.items merger s.merger text.items s.text.items) }
+    ensures err { IfErr result (IsBlamedOver job.now parts.now merger) }
 {
+    let (mut merger, mut text) = (merger, text);
     let windows = windows_of(alloc, parts)?;
-    merger.step(alloc, job, windows.as_slice(), out)
+    let cuts = merger.step(alloc, job, windows.as_slice(), &mut text)?;
+    Ok(Turn { merger, text, cuts })
+}
+
+/// Merges what is held of the parts, as far as it goes, while another thread, where one can be made, takes what their
+/// digests lack.
+fn stepped_beside<R: CountedRead + Drop, T: Threads>(
+    rt: &T,
+    alloc: Global,
+    job: &Job,
+    parts: &[Part<R>],
+    merger: Merger,
+    text: Vec<u8>,
+) -> Result<(Turn, Vec<Sha256>), Stop>
+    requires { length parts.now ≡ length merger.held }
+    ensures shards { IfOk result (λ r. length r.0.merger.held ≡ length merger.held) }
+    ensures ok { IfOk result (λ r. StepsOver job.now parts.now r.0.cuts.items merger r.0.merger text.items r.0.text.items) }
+    ensures digests { IfOk result (λ r. AreNext parts.now r.1.items) }
+    ensures err { IfErr result (λ e. IsStoppedAt job.now parts.now merger e) }
+{
+    let tails = tails_of(alloc, parts)?;
+    let lacking = tails.as_slice();
+    let digesting = move || -> Result<Vec<Sha256>, AllocError>
+        ensures { IfOk result (λ hs. AreTaken lacking.entry.now hs.items) }
+    { all_taken(alloc, lacking) };
+    let merging = move || -> Result<Turn, MergeFault>
+        requires { length parts.now ≡ length merger.held }
+        ensures shards { IfOk result (λ s. length s.merger.held ≡ length merger.held) }
+        ensures ok { IfOk result (λ s. StepsOver job.entry.now parts.entry.now s.cuts.items merger s.merger text.items s.text.items) }
+        ensures err { IfErr result (IsBlamedOver job.entry.now parts.entry.now merger) }
+    { stepped(alloc, job, parts, merger, text) };
+    let (digests, merged) = thread::join(rt, digesting, merging);
+    let merged = merged?;
+    Ok((merged, digests?))
 }
 
 /// How many bytes are to be held in the next turn: twice as many where these were not enough to take one.
@@ -84,7 +133,8 @@ fn next_size(size: usize, cuts: &[usize]) -> usize {
 
 /// Merges the parts in turns: in each, some bytes of each are read, the lines taken that no line to come belongs before, and
 /// what these are merged to is written.
-pub(crate) fn merged_in_turns<R: CountedRead + Drop, W: CountedWrite + Drop>(
+pub(crate) fn merged_in_turns<R: CountedRead + Drop, W: CountedWrite + Drop, T: Threads>(
+    rt: &T,
     alloc: Global,
     job: &Job,
     files: &[u32],
@@ -93,8 +143,10 @@ pub(crate) fn merged_in_turns<R: CountedRead + Drop, W: CountedWrite + Drop>(
 ) -> Result<(), Stop>
     requires count { length files.now ≡ length parts.old }
     requires fresh { HasWritten W.seen [] made.old }
-    ensures ok { OnOk result ((text : List ℕ) × AreMergedTo R.remaining R.can_fail job.now files.now parts.old parts.new text × HasWritten W.seen text made.new) }
-    ensures err { IfErr result (λ e. IsStopped R.remaining R.can_fail (TellsUnwritten (W.can_fail made.old.writer) (string_bytes made.old.name)) job.now files.now parts.old parts.new e) }
+    ensures ok { OnOk result ((text : List ℕ) × AreMergedTo R.remaining R.can_fail job.now files.now parts.old parts.new text
+        × HasWritten W.seen text made.new) }
+    ensures err { IfErr result (λ e. IsStopped R.remaining R.can_fail (TellsUnwritten (W.can_fail made.old.writer) (string_bytes made.old.name))
+        job.now files.now parts.old parts.new e) }
     ensures later { W.can_fail made.new.writer → W.can_fail made.old.writer }
     ensures name { made.new.name ≡ made.old.name }
 {
@@ -104,7 +156,11 @@ pub(crate) fn merged_in_turns<R: CountedRead + Drop, W: CountedWrite + Drop>(
     for _ in 0..u64::MAX {
         fill_all(alloc, parts, size)?;
         text.clear();
-        let cuts = step_over(alloc, job, parts, &mut merger, &mut text)?;
+        let (step, digests) = stepped_beside(rt, alloc, job, parts, merger, text)?;
+        keep_all(parts, digests.as_slice())?;
+        let cuts = step.cuts;
+        merger = step.merger;
+        text = step.text;
         made.put(alloc, text.as_slice())?;
         if are_done(parts) {
             return Ok(());
@@ -119,7 +175,8 @@ pub(crate) fn merged_in_turns<R: CountedRead + Drop, W: CountedWrite + Drop>(
 /// Merges parts as they are read, writes what they are merged to, and compares each, once it is read as far as it goes, with
 /// what its verdict tells. Where they can't be merged they are read as far as they go too: that one is another is told
 /// rather than a line of it.
-pub(crate) fn joined<R: CountedRead + Drop, W: CountedWrite + Drop>(
+pub(crate) fn joined<R: CountedRead + Drop, W: CountedWrite + Drop, T: Threads>(
+    rt: &T,
     alloc: Global,
     job: &Job,
     files: &[u32],
@@ -131,13 +188,14 @@ pub(crate) fn joined<R: CountedRead + Drop, W: CountedWrite + Drop>(
     requires files { length files.now ≡ length parts.old }
     requires count { length parts.old ≡ length verdicts.now }
     requires fresh { HasWritten W.seen [] made.old }
-    ensures ok { OnOk result ((text : List ℕ) × AreJoined R.remaining R.can_fail job.now files.now partition verdicts.now parts.old text × HasWritten W.seen text made.new) }
+    ensures ok { OnOk result ((text : List ℕ) × AreJoined R.remaining R.can_fail job.now files.now partition verdicts.now parts.old text
+        × HasWritten W.seen text made.new) }
     ensures err { IfErr result (λ e. IsRefused R.remaining R.can_fail job.now files.now partition verdicts.now parts.old e
         ⊎ TellsUnwritten (W.can_fail made.old.writer) (string_bytes made.old.name) e) }
     ensures later { W.can_fail made.new.writer → W.can_fail made.old.writer }
     ensures name { made.new.name ≡ made.old.name }
 {
-    match merged_in_turns(alloc, job, files, parts, made) {
+    match merged_in_turns(rt, alloc, job, files, parts, made) {
         Ok(()) => settle_all(alloc, parts, verdicts, partition),
         Err(Stop::Part(fault)) => Err(fault),
         Err(Stop::Merge(MergeFault::OutOfMemory)) => Err(ShardFault::OutOfMemory),

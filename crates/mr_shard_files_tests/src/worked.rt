@@ -6,6 +6,7 @@ use mr_verdict::{Verdict, note_for, read_verdict, write_verdict};
 use std::alloc::Global;
 use std::ops::Range;
 use std::test::Fail;
+use std::thread::Threads;
 
 // Word count, one partition, splits of 64 bytes: `the cat` in one shard, `the dog` in the other, whose second record, `the`,
 // is left out. Digests by another program.
@@ -67,7 +68,7 @@ fn tells(alloc: Global, answer: Result<Verdict, ShardFault>, text: &str) -> Resu
 fn a_worked_merge(rt: HostRuntime) -> Result<(), Fail> {
     let alloc = rt.alloc();
     let mut store = shards(alloc, SECOND, b"dog\t1\nthe\t1\n")?;
-    let Ok(verdict) = merge_shards(&mut store, alloc, &BOTH, None, "m") else {
+    let Ok(verdict) = merge_shards(&rt, &mut store, alloc, &BOTH, None, "m") else {
         assert!(rt; false);
         return Ok(());
     };
@@ -81,21 +82,28 @@ fn a_worked_merge(rt: HostRuntime) -> Result<(), Fail> {
 fn refused_merges(rt: HostRuntime) -> Result<(), Fail> {
     let alloc = rt.alloc();
     let mut store = shards(alloc, SECOND, b"dog\t1\nthe\t2\n")?;
-    let other = merge_shards(&mut store, alloc, &BOTH, None, "m");
+    let other = merge_shards(&rt, &mut store, alloc, &BOTH, None, "m");
     assert!(rt; tells(alloc, other, "OtherPart shard 1 partition 0")?);
     let mut store = shards(alloc, SECOND, b"dog\t1\ndog\t1\n")?;
-    let bad_other = merge_shards(&mut store, alloc, &BOTH, None, "m");
+    let bad_other = merge_shards(&rt, &mut store, alloc, &BOTH, None, "m");
     assert!(rt; tells(alloc, bad_other, "OtherPart shard 1 partition 0")?);
     let mut store = shards(alloc, SECOND, b"dog\t1\nthe\t1\nzoo\t1\n")?;
-    let longer = merge_shards(&mut store, alloc, &BOTH, None, "m");
+    let longer = merge_shards(&rt, &mut store, alloc, &BOTH, None, "m");
     assert!(rt; tells(alloc, longer, "OtherPart shard 1 partition 0")?);
-    let repeated = merge_shards(&mut store, alloc, &["a/verdict", "a/verdict"], None, "m");
+    let repeated = merge_shards(
+        &rt,
+        &mut store,
+        alloc,
+        &["a/verdict", "a/verdict"],
+        None,
+        "m",
+    );
     assert!(rt; tells(alloc, repeated, "RepeatedInput input 1")?);
     let mut store = shards(alloc, TWICE, b"dog\t1\ndog\t1\n")?;
-    let bad = merge_shards(&mut store, alloc, &BOTH, None, "m");
+    let bad = merge_shards(&rt, &mut store, alloc, &BOTH, None, "m");
     assert!(rt; tells(alloc, bad, "BadLine shard 1 partition 0 line 1")?);
     let mut store = shards(alloc, b"verdict 2\n", b"")?;
-    let unread = merge_shards(&mut store, alloc, &BOTH, None, "m");
+    let unread = merge_shards(&rt, &mut store, alloc, &BOTH, None, "m");
     assert!(rt; tells(alloc, unread, "BadVerdict shard 1 line 0")?);
     assert!(rt; !stands(alloc, &store, "m/part-00000", b"")?);
     Ok(())
@@ -107,10 +115,10 @@ fn what_refused_merges_leave(rt: HostRuntime) -> Result<(), Fail> {
     let part = b"dog\t1\nthe\t2\n";
     let mut store = shards(alloc, SECOND, part)?;
     store.put("m/verdict", WHOLE, false)?;
-    let other = merge_shards(&mut store, alloc, &BOTH, None, "m");
+    let other = merge_shards(&rt, &mut store, alloc, &BOTH, None, "m");
     assert!(rt; tells(alloc, other, "OtherPart shard 1 partition 0")?);
     assert!(rt; stands(alloc, &store, "m/verdict", b"")?);
-    let over = merge_shards(&mut store, alloc, &BOTH, None, "b");
+    let over = merge_shards(&rt, &mut store, alloc, &BOTH, None, "b");
     assert!(rt; tells(alloc, over, "SameFolder shard 1")?);
     assert!(rt; stands(alloc, &store, "b/part-00000", part)?);
     assert!(rt; stands(alloc, &store, "b/verdict", SECOND)?);
@@ -118,10 +126,10 @@ fn what_refused_merges_leave(rt: HostRuntime) -> Result<(), Fail> {
 }
 
 /// What is said of a merge of the two shards where this list is given; nothing where they are merged.
-fn said_of(alloc: Global, list: &[u8]) -> Result<String, Fail> {
+fn said_of<T: Threads>(rt: &T, alloc: Global, list: &[u8]) -> Result<String, Fail> {
     let mut store = shards(alloc, SECOND, b"dog\t1\nthe\t1\n")?;
     store.put("list", list, false)?;
-    match merge_shards(&mut store, alloc, &BOTH, Some("list"), "m") {
+    match merge_shards(rt, &mut store, alloc, &BOTH, Some("list"), "m") {
         Ok(_) => Ok(String::new(alloc)),
         Err(fault) => Ok(format!(in alloc; "{fault}")?),
     }
@@ -132,14 +140,14 @@ fn inputs_that_are_meant(rt: HostRuntime) -> Result<(), Fail> {
     let alloc = rt.alloc();
     let first = &LIST[..68];
     let second = &LIST[68..];
-    assert!(rt; said_of(alloc, LIST)?.as_str() == "");
-    assert!(rt; said_of(alloc, b"")?.as_str() == "OtherInputs line 0");
-    assert!(rt; said_of(alloc, first)?.as_str() == "OtherInputs line 1");
-    assert!(rt; said_of(alloc, second)?.as_str() == "OtherInputs line 0");
-    assert!(rt; said_of(alloc, &LIST[..LIST.len() - 1])?.as_str() == "OtherInputs line 1");
+    assert!(rt; said_of(&rt, alloc, LIST)?.as_str() == "");
+    assert!(rt; said_of(&rt, alloc, b"")?.as_str() == "OtherInputs line 0");
+    assert!(rt; said_of(&rt, alloc, first)?.as_str() == "OtherInputs line 1");
+    assert!(rt; said_of(&rt, alloc, second)?.as_str() == "OtherInputs line 0");
+    assert!(rt; said_of(&rt, alloc, &LIST[..LIST.len() - 1])?.as_str() == "OtherInputs line 1");
     let mut more = Vec::from_slice(alloc, LIST)?;
     more.extend_from_slice(first)?;
-    assert!(rt; said_of(alloc, more.as_slice())?.as_str() == "OtherInputs line 2");
+    assert!(rt; said_of(&rt, alloc, more.as_slice())?.as_str() == "OtherInputs line 2");
     Ok(())
 }
 
@@ -150,9 +158,9 @@ fn lists_of_odd_names(rt: HostRuntime) -> Result<(), Fail> {
     store.put("a/verdict", ODD, false)?;
     store.put("a/part-00000", b"cat\t1\nthe\t1\n", false)?;
     store.put("list", ODD_LIST, false)?;
-    let unread = merge_shards(&mut store, alloc, &["a/verdict"], Some("none"), "m");
+    let unread = merge_shards(&rt, &mut store, alloc, &["a/verdict"], Some("none"), "m");
     assert!(rt; tells(alloc, unread, "cannot read none")?);
-    let answer = merge_shards(&mut store, alloc, &["a/verdict"], Some("list"), "m");
+    let answer = merge_shards(&rt, &mut store, alloc, &["a/verdict"], Some("list"), "m");
     assert!(rt; answer.is_ok());
     Ok(())
 }
@@ -189,7 +197,7 @@ fn parts_of_several_windows(rt: HostRuntime) -> Result<(), Fail> {
         false,
     )?;
     store.put("a/part-00000", part.as_slice(), false)?;
-    let answer = merge_shards(&mut store, alloc, &BOTH, None, "m");
+    let answer = merge_shards(&rt, &mut store, alloc, &BOTH, None, "m");
     assert!(rt; answer.is_ok());
     let whole = counted(alloc, 100_000..170_000, 2)?;
     assert!(rt; stands(alloc, &store, "m/part-00000", whole.as_slice())?);
@@ -232,7 +240,7 @@ fn equal_lines_in_several_windows(rt: HostRuntime) -> Result<(), Fail> {
     let mut store = shards(alloc, second.as_slice(), part.as_slice())?;
     store.put("a/verdict", first.as_slice(), false)?;
     store.put("a/part-00000", part.as_slice(), false)?;
-    let answer = merge_shards(&mut store, alloc, &BOTH, None, "m");
+    let answer = merge_shards(&rt, &mut store, alloc, &BOTH, None, "m");
     assert!(rt; answer.is_ok());
     put_places(&mut part, alloc, 1, 100_000..150_000)?;
     assert!(rt; stands(alloc, &store, "m/part-00000", part.as_slice())?);

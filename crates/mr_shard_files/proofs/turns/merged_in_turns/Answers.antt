@@ -2,11 +2,12 @@ use Rattle.std.proofs.Common.{◌≡◌, ◌∙◌, ◌++◌, ℕ, List, [], ap,
 use Rattle.std.proofs.lemmas.List.{length-map}
 use Rattle.std.proofs.lemmas.Result.{err_from_is_err_and}
 use Rattle.mr_shards.specs.Pieces.{fresh, fresh_all}
-use Rattle.mr_shard_files.specs.Made.{HasWritten}
-use Rattle.mr_shard_files.specs.Streams.{AllAre, AreHeld, Moves}
+use Rattle.mr_shard_files.specs.Made.{HasWritten, TellsUnwritten}
+use Rattle.mr_shard_files.specs.Streams.{AllAre, AreHeld, IsDigested, Moves}
 use Rattle.mr_shard_files.proofs.AllLemmas.{all_length}
 use Rattle.mr_shard_files.proofs.MadeLemmas.{unwritten_back}
-use Rattle.mr_shard_files.proofs.TurnLemmas.{all_filled, all_none, all_passed, are_fresh, blamed_turn, fronts, grown, held_within, nothings, one_back, steps_on, turn, turned}
+use Rattle.mr_shard_files.proofs.TailLemmas.{digested_moves, fills_on, steps_digested}
+use Rattle.mr_shard_files.proofs.TurnLemmas.{all_filled, all_none, all_passed, are_fresh, fronts, grown, held_within, nothings, one_back, steps_on, stopped_turn, turn, turned}
 use Rattle.mr_shard_files.proofs.turns.merged_in_turns.Goals as goal
 
 pub loop-init : goal.loop-init
@@ -33,15 +34,15 @@ returns-in_err-fill_all-clause-err g c =
     let p = err_from_is_err_and c.from_residual-in_err-fill_all.result c.from_residual-in_err-fill_all.ensures.1 in
     rw p.1 (rw p.2 (inr (inl (one_back g.R.CountedRead.remaining g.R.CountedRead.can_fail c.loop.invariant.passed c.args.parts.now c.loop.parts c.in_err-fill_all.field-0.0 c.loop.invariant.moved c.in_err-fill_all.ensures.err))))
 
-pub step_over-requires : goal.step_over-requires
-step_over-requires g c =
+pub stepped_beside-requires : goal.stepped_beside-requires
+stepped_beside-requires g c =
     all_length (λ _ o n. Moves g.R.CountedRead.remaining g.R.CountedRead.can_fail [] o n) c.loop.parts c.loop.parts c.fill_all.new.parts c.in_ok-fill_all.ensures.ok ∙ c.loop.invariant.count
 
-pub returns-in_err-cuts-clause-err : goal.returns-in_err-cuts-clause-err
-returns-in_err-cuts-clause-err g c =
-    let p = err_from_is_err_and c.from_residual-in_err-cuts.result c.from_residual-in_err-cuts.ensures.1 in
-    rw p.1 (rw p.2 (blamed_turn g.R.CountedRead.remaining g.R.CountedRead.can_fail c.args.job.now c.args.files.now c.loop.invariant.passed c.args.parts.now c.loop.parts c.loop.parts c.loop.merger c.loop.invariant.written c.fill_all.new.parts
-    c.in_err-cuts.field-0.0 c.loop.invariant.moved c.loop.invariant.stands c.in_ok-fill_all.ensures.ok c.in_err-cuts.ensures.err))
+pub returns-in_err-step-clause-err : goal.returns-in_err-step-clause-err
+returns-in_err-step-clause-err g c =
+    let p = err_from_is_err_and c.from_residual-in_err-step.result c.from_residual-in_err-step.ensures.1 in
+    rw p.1 (rw p.2 (stopped_turn g.R.CountedRead.remaining g.R.CountedRead.can_fail (TellsUnwritten (g.W.CountedWrite.can_fail c.args.made.now.writer) (string_bytes c.args.made.now.name)) c.args.job.now c.args.files.now c.loop.invariant.passed c.args.parts.now c.loop.parts c.loop.parts c.loop.merger c.loop.invariant.written c.fill_all.new.parts
+    c.in_err-step.field-0.0 c.loop.invariant.moved c.loop.invariant.stands c.in_ok-fill_all.ensures.ok c.in_err-step.ensures.err))
 
 pub returns-in_err-put-clause-err : goal.returns-in_err-put-clause-err
 returns-in_err-put-clause-err g c =
@@ -54,25 +55,36 @@ pub returns-then-are_done-clause-ok : goal.returns-then-are_done-clause-ok
 returns-then-are_done-clause-ok g c =
     let remaining = g.R.CountedRead.remaining in
     let can_fail = g.R.CountedRead.can_fail in
+    let parts = c.loop.parts in
     let filled = c.fill_all.new.parts in
+    let kept = c.keep_all.new.parts in
     let written = c.loop.invariant.written in
-    let added = c.step_over.new.out.items in
-    let steps = steps_on remaining can_fail c.args.job.now filled c.in_ok-cuts.cuts.items c.loop.merger c.step_over.new.merger c.clear.new.self.items added written c.clear.ensures.items c.in_ok-cuts.ensures.ok in (
+    let turn = c.in_ok-step.step in
+    let hashers = c.in_ok-step.digests.items in
+    let digested = subst (λ hs. AllAre (λ _ o n. IsDigested o n) hs filled kept) c.as_slice.ensures.value c.in_ok-keep_all.ensures in
+    let fills = fills_on remaining can_fail parts filled parts filled kept c.in_ok-fill_all.ensures.ok (digested_moves remaining can_fail hashers filled kept digested) in
+    let added = turn.text.items in
+    let steps = steps_on remaining can_fail c.args.job.now kept turn.cuts.items c.loop.merger turn.merger c.clear.new.self.items added written c.clear.ensures.items
+    (steps_digested c.args.job.now hashers filled kept turn.cuts.items c.loop.merger turn.merger c.clear.new.self.items added digested c.in_ok-step.ensures.ok) in (
       written ++ added,
       record {
         passed = c.loop.invariant.passed;
-        moved = all_filled remaining can_fail c.loop.invariant.passed c.args.parts.now c.loop.parts filled c.loop.parts c.loop.invariant.moved c.in_ok-fill_all.ensures.ok;
-        merged = turned remaining can_fail c.args.job.now c.args.files.now c.loop.invariant.passed c.loop.parts c.loop.parts c.in_ok-cuts.cuts.items c.loop.merger c.step_over.new.merger written (written ++ added)
-            c.loop.invariant.stands filled c.in_ok-fill_all.ensures.ok steps (sym c.are_done.ensures ∙ c.if-are_done.true);
+        moved = all_filled remaining can_fail c.loop.invariant.passed c.args.parts.now parts kept parts c.loop.invariant.moved fills;
+        merged = turned remaining can_fail c.args.job.now c.args.files.now c.loop.invariant.passed parts parts turn.cuts.items c.loop.merger turn.merger written (written ++ added)
+            c.loop.invariant.stands kept fills steps (sym c.are_done.ensures ∙ c.if-are_done.true);
       },
-      subst (λ (t : List ℕ). HasWritten g.W.CountedWrite.seen (written ++ t) c.put.new.self) c.as_slice.ensures.value (c.in_ok-put.ensures.ok written c.loop.invariant.made),
+      subst (λ (t : List ℕ). HasWritten g.W.CountedWrite.seen (written ++ t) c.put.new.self) c.as_slice-in-loop.ensures.value (c.in_ok-put.ensures.ok written c.loop.invariant.made),
     )
 
 pub pass_all-requires : goal.pass_all-requires
 pass_all-requires g c =
-    let s = c.in_ok-cuts.ensures.ok in
     let filled = c.fill_all.new.parts in
-    subst (λ cs. AreHeld cs filled) (sym c.as_slice-in-loop.ensures.value) (held_within g.R.CountedRead.remaining g.R.CountedRead.can_fail c.in_ok-cuts.cuts.items filled s.windows s.shown s.within)
+    let kept = c.keep_all.new.parts in
+    let turn = c.in_ok-step.step in
+    let hashers = c.in_ok-step.digests.items in
+    let digested = subst (λ hs. AllAre (λ _ o n. IsDigested o n) hs filled kept) c.as_slice.ensures.value c.in_ok-keep_all.ensures in
+    let s = steps_digested c.args.job.now hashers filled kept turn.cuts.items c.loop.merger turn.merger c.clear.new.self.items turn.text.items digested c.in_ok-step.ensures.ok in
+    subst (λ cs. AreHeld cs kept) (sym c.as_slice-in-loop-2.ensures.value) (held_within g.R.CountedRead.remaining g.R.CountedRead.can_fail turn.cuts.items kept s.windows s.shown s.within)
 
 pub loop-preserved : goal.loop-preserved
 loop-preserved g c =
@@ -81,22 +93,27 @@ loop-preserved g c =
     let initial = c.args.parts.now in
     let parts = c.loop.parts in
     let filled = c.fill_all.new.parts in
+    let kept = c.keep_all.new.parts in
     let after = c.pass_all.new.parts in
-    let cuts = c.in_ok-cuts.cuts.items in
+    let step = c.in_ok-step.step in
+    let cuts = step.cuts.items in
+    let hashers = c.in_ok-step.digests.items in
     let held = c.loop.invariant in
-    let passes = subst (λ cs. AllAre (λ k o n. Moves remaining can_fail (take k o.held) o n) cs filled after) c.as_slice-in-loop.ensures.value c.pass_all.ensures in
-    let fills = c.in_ok-fill_all.ensures.ok in
-    let added = c.step_over.new.out.items in
-    let steps = steps_on remaining can_fail c.args.job.now filled cuts c.loop.merger c.step_over.new.merger c.clear.new.self.items added held.written c.clear.ensures.items c.in_ok-cuts.ensures.ok in
+    let digested = subst (λ hs. AllAre (λ _ o n. IsDigested o n) hs filled kept) c.as_slice.ensures.value c.in_ok-keep_all.ensures in
+    let passes = subst (λ cs. AllAre (λ k o n. Moves remaining can_fail (take k o.held) o n) cs kept after) c.as_slice-in-loop-2.ensures.value c.pass_all.ensures in
+    let fills = fills_on remaining can_fail parts filled parts filled kept c.in_ok-fill_all.ensures.ok (digested_moves remaining can_fail hashers filled kept digested) in
+    let added = step.text.items in
+    let steps = steps_on remaining can_fail c.args.job.now kept cuts c.loop.merger step.merger c.clear.new.self.items added held.written c.clear.ensures.items
+    (steps_digested c.args.job.now hashers filled kept cuts c.loop.merger step.merger c.clear.new.self.items added digested c.in_ok-step.ensures.ok) in
     record {
-      count = all_length (λ k o n. Moves remaining can_fail (take k o.held) o n) cuts filled after passes ∙ all_length (λ _ o n. Moves remaining can_fail [] o n) parts parts filled fills
-          ∙ held.count ∙ sym c.in_ok-cuts.ensures.shards;
-      passed = grown held.passed (fronts cuts filled);
-      moved = all_passed remaining can_fail held.passed initial filled after cuts (all_filled remaining can_fail held.passed initial parts filled parts held.moved fills) passes;
+      count = all_length (λ k o n. Moves remaining can_fail (take k o.held) o n) cuts kept after passes ∙ all_length (λ _ o n. Moves remaining can_fail [] o n) parts parts kept fills
+          ∙ held.count ∙ sym c.in_ok-step.ensures.shards;
+      passed = grown held.passed (fronts cuts kept);
+      moved = all_passed remaining can_fail held.passed initial kept after cuts (all_filled remaining can_fail held.passed initial parts kept parts held.moved fills) passes;
       written = held.written ++ added;
-      stands = turn remaining can_fail c.args.job.now c.args.files.now held.passed initial parts after parts cuts c.loop.merger c.step_over.new.merger held.written (held.written ++ added)
-          held.moved held.stands filled fills steps (sym c.are_done.ensures ∙ c.if-are_done.false) passes;
-      made = subst (λ (t : List ℕ). HasWritten g.W.CountedWrite.seen (held.written ++ t) c.put.new.self) c.as_slice.ensures.value (c.in_ok-put.ensures.ok held.written held.made);
+      stands = turn remaining can_fail c.args.job.now c.args.files.now held.passed initial parts after parts cuts c.loop.merger step.merger held.written (held.written ++ added)
+          held.moved held.stands kept fills steps (sym c.are_done.ensures ∙ c.if-are_done.false) passes;
+      made = subst (λ (t : List ℕ). HasWritten g.W.CountedWrite.seen (held.written ++ t) c.put.new.self) c.as_slice-in-loop.ensures.value (c.in_ok-put.ensures.ok held.written held.made);
       later = λ f. held.later (c.put.ensures.later f);
       named = c.put.ensures.name ∙ held.named;
     }

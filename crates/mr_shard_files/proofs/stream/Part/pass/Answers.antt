@@ -1,21 +1,8 @@
-use Rattle.std.proofs.Common.{[], ◌++◌, append-nil, ap, refl, sym, ◌∙◌, subst, take}
-use Rattle.std.proofs.KnownBytes.{Consumes-nil}
-use Rattle.std.proofs.lemmas.List.{take-append-drop}
-use Rattle.mr_shard_files.specs.Streams.{HasRead}
+use Rattle.mr_shard_files.proofs.StreamLemmas.{moves_passed}
 use Rattle.mr_shard_files.proofs.stream.Part.pass.Goals as goal
 
 pub returns : goal.returns
 returns g c =
-    let p = c.args.self.now in
-    let n = c.args.count in
-    record {
-      got = [];
-      consumes = Consumes-nil (g.R.CountedRead.remaining p.reader);
-      held = append-nil p.held ∙ sym (take-append-drop n p.held) ∙ ap (λ v. take n p.held ++ v) (sym c.pass.ensures);
-      read = λ told bytes h. subst (HasRead told p) (sym (append-nil bytes)) h;
-      still = λ d. refl;
-      done = λ d. d;
-      at_end = λ e d. e d;
-      name = refl;
-      later = λ f. f;
-    }
+    let e = c.drop_front.ensures in
+    moves_passed g.R.CountedRead.remaining g.R.CountedRead.can_fail c.args.self.now c.digest_held.new.self c.drop_front.new.self c.args.count c.requires c.digest_held.ensures e.held e.digested e.hasher
+    e.counts.0 e.counts.1 e.same.0 e.same.1 e.same.2
