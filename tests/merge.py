@@ -237,20 +237,21 @@ def over_a_shard(harness):
 
 
 def in_little_memory(harness, shards):
-    """A merge in 16 MiB of address space of shards, each the request, its part, the length of its one file, and how many pairs."""
+    """A merge in 24 MiB of address space, 8 of which are the stack of its second thread, of shards: each the request, its part, the
+    length of its one file, and how many pairs."""
     verdicts = []
     for number, (request, part, length, pairs) in enumerate(shards):
         text = verdict_text(request, [(f"f{number}", bytes(length))], [part], [], pairs)
         verdicts.append(os.path.join(harness.directory({"part-00000": part, "verdict": text}), "verdict"))
     where = harness.directory()
-    limit = lambda: resource.setrlimit(resource.RLIMIT_AS, (16 << 20, 16 << 20))
+    limit = lambda: resource.setrlimit(resource.RLIMIT_AS, (24 << 20, 24 << 20))
     ran = subprocess.run([harness.program, "merge", "--out", ".", *verdicts], cwd=where, capture_output=True, preexec_fn=limit)
     return (ran.returncode, ran.stdout, ran.stderr), contents(where).get("part-00000")
 
 
 def little_memory(harness):
-    """22 MB of parts, merged to as much in 16 MiB of address space."""
-    count, shards, words = 500_000, 4, Request("words", 1, 16)
+    """44 MB of parts, merged to as much in 24 MiB of address space."""
+    count, shards, words = 1_000_000, 4, Request("words", 1, 16)
     numbered = lambda numbers: b"".join(b"%08d\t1\n" % number for number in numbers)
     got = in_little_memory(harness, [(words, numbered(range(shard, shards * count, shards)), 0, count) for shard in range(shards)])
     want = (0, b"merged: 1 files, %d pairs, 0 left out\n" % (shards * count), b"")
@@ -258,13 +259,13 @@ def little_memory(harness):
 
 
 def equal_lines(harness):
-    """19 MB of parts in 16 MiB of address space, in which almost all lines found are equal: a merge goes on within a key."""
-    count, grep = 400_000, Request("grep", 1, 16, literal=b"a")
+    """33 MB of parts in 24 MiB of address space, in which almost all lines found are equal: a merge goes on within a key."""
+    count, grep = 700_000, Request("grep", 1, 16, literal=b"a")
     places = lambda file: b"".join(b"a line\t%d:%d\n" % (file, 7 * number) for number in range(count))
-    ends = lambda file: (b"a\t%d:2800000\n" % file, b"a maze\t%d:2800002\n" % file)
+    ends = lambda file: (b"a\t%d:4900000\n" % file, b"a maze\t%d:4900002\n" % file)
     front, back = zip(*map(ends, range(3)))
     parts = [ends(0)[0] + places(0) + ends(0)[1]] * 3
-    got = in_little_memory(harness, [(grep, part, 2_800_009, count + 2) for part in parts])
+    got = in_little_memory(harness, [(grep, part, 4_900_009, count + 2) for part in parts])
     want = (0, b"merged: 1 files, %d pairs, 0 left out\n" % (3 * count + 6), b"")
     whole = b"".join(front) + b"".join(map(places, range(3))) + b"".join(back)
     harness.check("equal lines in little memory", got == (want, whole), repr(got[0]))
