@@ -1,5 +1,5 @@
 -- Digests that are taken beside a step, and kept behind it.
-use Rattle.std.proofs.Common.{◌≡◌, ℕ, zero, suc, ◌+◌, ◌<◌, List, [], ◌∷◌, ◌++◌, Option, append-nil, length, get_or, drop, take, refl, ap, sym, ◌∙◌, subst, arith}
+use Rattle.std.proofs.Common.{◌≡◌, ℕ, zero, suc, ◌+◌, ◌<◌, List, [], ◌∷◌, ◌++◌, Option, length, get_or, drop, take, refl, ap, sym, ◌∙◌, subst, arith}
 use Rattle.std.proofs.lemmas.List.{take_more}
 use Rattle.sha2.specs.declared.Sha256.{Sha256}
 use Rattle.mr_jobs.specs.JobSpec.{JobSpec}
@@ -7,7 +7,7 @@ use Rattle.mr_shards.specs.declared.window.Window.{Window}
 use Rattle.mr_shards.specs.Pieces.{Standing}
 use Rattle.mr_shard_files.specs.declared.stream.Part.{Part}
 use Rattle.mr_shard_files.specs.declared.tails.Tail.{Tail}
-use Rattle.mr_shard_files.specs.Streams.{AllAre, AreNext, AreTailsOf, AreTaken, AreWindowsOf, HasMore, IsDigested, Moves, StepsOver, is_done}
+use Rattle.mr_shard_files.specs.Streams.{AllAre, AreNext, AreTailsOf, AreTaken, AreWindowsOf, HasMore, IsDigested, Moves, StepsOver}
 use Rattle.mr_shard_files.proofs.StreamLemmas.{done_so, moves_digested, moves_on}
 
 -- ---- tails
@@ -34,6 +34,13 @@ module _ {R : Type 0} where
   tails_taken (q ∷ qs) (t ∷ ts) [] a b = absurd b
   tails_taken (q ∷ qs) (t ∷ ts) (h ∷ hs) a b =
       (subst (λ (x : Sha256). HasMore x (drop q.digested q.held) h) a.0 (subst (λ (x : List ℕ). HasMore t.hasher.now x h) a.1 b.0), tails_taken qs ts hs a.2 b.1)
+
+  -- and those of two lists of parts are those of both
+  pub next_both : (qs rs : List (Part R)) (hs ks : List Sha256) → AreNext qs hs → AreNext rs ks → AreNext (qs ++ rs) (hs ++ ks)
+  next_both [] rs [] ks a b = b
+  next_both [] rs (h ∷ hs) ks a b = absurd a
+  next_both (q ∷ qs) rs [] ks a b = absurd a
+  next_both (q ∷ qs) rs (h ∷ hs) ks a b = (a.0, next_both qs rs hs ks a.1 b)
 
   pub next_count : (qs : List (Part R)) (hs : List Sha256) → AreNext qs hs → length hs ≡ length qs
   next_count [] [] a = refl

@@ -6,6 +6,7 @@ ghost use Rattle.mr_shard_files.specs.Streams.{CountsDown, HasMore, HasRead, IsD
 
 use crate::fault::ShardFault;
 use crate::held::Held;
+use memchr::memchr;
 use mr_store::CountedRead;
 use sha2::{Digest, Sha256};
 use std::alloc::{AllocError, Global};
@@ -27,6 +28,16 @@ pub(crate) struct Part<R: CountedRead + Drop> {
     left: u64,
     longer: bool,
     ended: bool,
+}
+
+/// How many lines end behind that place; no more than two are counted.
+fn ends_in(bytes: &[u8], from: usize) -> u8 {
+    let behind = &bytes[from.min(bytes.len())..];
+    match memchr(b'\n', behind) {
+        None => 0,
+        Some(at) if memchr(b'\n', &behind[at + 1..]).is_some() => 2,
+        Some(_) => 1,
+    }
 }
 
 /// The fault of a file of that name, of which a read failed.
@@ -131,13 +142,17 @@ impl<R: CountedRead + Drop> Part<R> {
         Ok(())
     }
 
-    /// Reads until so many bytes are held, or nothing more is read.
+    /// Reads until so many bytes and the ends of two lines are held, or nothing more is read. Of two lines the merge takes one
+    /// where the part stands, so no window grows but by a long line of its own. Each byte is looked at once for a line's end.
     pub fn fill(&mut self, alloc: Global, size: usize) -> Result<(), ShardFault>
         ensures moves { OnOk result (Moves R.remaining R.can_fail [] self.old self.new) }
         ensures err { IfErr result (TellsUnread (R.can_fail self.old.reader) (string_bytes self.old.name)) }
     {
-        while self.bytes().len() < size && !self.is_done() {
+        let mut ends = ends_in(self.bytes(), 0);
+        while (self.bytes().len() < size || ends < 2) && !self.is_done() {
+            let before = self.bytes().len();
             self.read_piece(alloc)?;
+            ends = ends.saturating_add(ends_in(self.bytes(), before));
         }
         Ok(())
     }

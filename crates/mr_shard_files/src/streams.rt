@@ -26,6 +26,21 @@ pub(crate) fn fill_all<R: CountedRead + Drop>(
     Ok(())
 }
 
+/// The most bytes that are held of any part.
+fn longest_held<R: CountedRead + Drop>(parts: &[Part<R>]) -> usize {
+    let mut longest = 0;
+    for part in parts {
+        longest = part.bytes().len().max(longest);
+    }
+    longest
+}
+
+/// How many bytes of each part a turn is to have: no less than this share of the most that are held. A long line is looked
+/// through in each turn that it waits, so its turns are to be few; and the shares together have no more bytes than it has.
+pub(crate) fn share_of<R: CountedRead + Drop>(parts: &[Part<R>]) -> usize {
+    longest_held(parts) / parts.len().max(1)
+}
+
 /// Whether nothing more is read of any part.
 pub(crate) fn are_done<R: CountedRead + Drop>(parts: &[Part<R>]) -> bool
     ensures { result ≡ all_done parts.now }

@@ -1,5 +1,5 @@
 //! What the digests of parts lack, taken by itself.
-ghost use Rattle.std.specs.Prelude.{◌≡◌, List, [], ◌∷◌, ◌++◌, drop, IfOk, OnOk};
+ghost use Rattle.std.specs.Prelude.{◌≡◌, ◌≤◌, List, [], ◌∷◌, ◌++◌, drop, length, IfOk, OnOk};
 ghost use Rattle.sha2.specs.declared.Sha256.{Sha256 as Digested};
 ghost use Rattle.mr_shard_files.specs.Streams.{AllAre, AreNext, AreTailsOf, AreTaken, HasMore, IsDigested};
 
@@ -77,6 +77,36 @@ pub(crate) fn all_taken(alloc: Global, tails: &[Tail<'_>]) -> Result<Vec<Sha256>
         keep_hasher(&mut hashers, hasher)?;
     }
     Ok(hashers)
+}
+
+/// Where the parts are divided, so that the digests on both sides lack about as many bytes.
+pub(crate) fn middle_of<R: CountedRead + Drop>(parts: &[Part<R>]) -> usize
+    ensures { result ≤ length parts.now }
+{
+    let (mut low, mut high) = (0, parts.len());
+    let (mut before, mut behind) = (0usize, 0usize);
+    while low < high {
+        if before <= behind {
+            before = before.saturating_add(parts[low].undigested().len());
+            low += 1;
+        } else {
+            high -= 1;
+            behind = behind.saturating_add(parts[high].undigested().len());
+        }
+    }
+    low
+}
+
+/// Digests, and more behind them.
+pub(crate) fn taken_of_both(
+    front: Vec<Sha256>,
+    back: Vec<Sha256>,
+) -> Result<Vec<Sha256>, AllocError>
+    ensures { IfOk result (λ hs. hs.items ≡ front.items ++ back.items) }
+{
+    let (mut all, mut back) = (front, back);
+    all.append(&mut back).map_err(AllocError::from)?;
+    Ok(all)
 }
 
 /// A part keeps a copy of its digest.

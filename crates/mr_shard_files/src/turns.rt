@@ -6,8 +6,8 @@ ghost use Rattle.mr_shard_files.specs.Made.{HasWritten, TellsUnwritten};
 use crate::fault::{ShardFault, of_merge};
 use crate::made::Made;
 use crate::stream::Part;
-use crate::streams::{are_done, fill_all, pass_all, settle_all, windows_of};
-use crate::tails::{all_taken, keep_all, tails_of};
+use crate::streams::{are_done, fill_all, pass_all, settle_all, share_of, windows_of};
+use crate::tails::{all_taken, keep_all, middle_of, tails_of, taken_of_both};
 use mr_jobs::Job;
 use mr_shards::{MergeFault, Merger};
 use mr_store::{CountedRead, CountedWrite};
@@ -90,8 +90,51 @@ fn stepped<R: CountedRead + Drop>(
     Ok(Turn { merger, text, cuts })
 }
 
-/// Merges what is held of the parts, as far as it goes, while another thread, where one can be made, takes what their
-/// digests lack.
+/// A turn, and digests that were taken beside it.
+#[derive(Drop)]
+struct Beside {
+    turn: Turn,
+    digests: Vec<Sha256>,
+}
+
+/// Merges what is held of the parts, as far as it goes, while another thread, where one can be made, takes what some of
+/// the digests of some of them lack.
+fn stepped_beside_one<R: CountedRead + Drop, T: Threads>(
+    rt: &T,
+    alloc: Global,
+    job: &Job,
+    parts: &[Part<R>],
+    some: &[Part<R>],
+    merger: Merger,
+    text: Vec<u8>,
+) -> Result<Beside, Stop>
+    requires { length parts.now ≡ length merger.held }
+    ensures shards { IfOk result (λ b. length b.turn.merger.held ≡ length merger.held) }
+    ensures ok { IfOk result (λ b. StepsOver job.now parts.now b.turn.cuts.items merger b.turn.merger text.items b.turn.text.items) }
+    ensures digests { IfOk result (λ b. AreNext some.now b.digests.items) }
+    ensures err { IfErr result (λ e. IsStoppedAt job.now parts.now merger e) }
+{
+    let tails = tails_of(alloc, some)?;
+    let lacking = tails.as_slice();
+    let digesting = move || -> Result<Vec<Sha256>, AllocError>
+        ensures { IfOk result (λ hs. AreTaken lacking.entry.now hs.items) }
+    { all_taken(alloc, lacking) };
+    let merging = move || -> Result<Turn, MergeFault>
+        requires { length parts.now ≡ length merger.held }
+        ensures shards { IfOk result (λ s. length s.merger.held ≡ length merger.held) }
+        ensures ok { IfOk result (λ s. StepsOver job.entry.now parts.entry.now s.cuts.items merger s.merger text.items s.text.items) }
+        ensures err { IfErr result (IsBlamedOver job.entry.now parts.entry.now merger) }
+    { stepped(alloc, job, parts, merger, text) };
+    let (digests, merged) = thread::join(rt, digesting, merging);
+    let turn = merged?;
+    Ok(Beside {
+        turn,
+        digests: digests?,
+    })
+}
+
+/// Merges what is held of the parts, as far as it goes, while two other threads, where they can be made, take what their
+/// digests lack, about half of the bytes each: SHA-256 of all is more work than their merge.
 fn stepped_beside<R: CountedRead + Drop, T: Threads>(
     rt: &T,
     alloc: Global,
@@ -106,23 +149,27 @@ fn stepped_beside<R: CountedRead + Drop, T: Threads>(
     ensures digests { IfOk result (λ r. AreNext parts.now r.1.items) }
     ensures err { IfErr result (λ e. IsStoppedAt job.now parts.now merger e) }
 {
-    let tails = tails_of(alloc, parts)?;
+    let (front, back) = parts.split_at(middle_of(parts));
+    let tails = tails_of(alloc, front)?;
     let lacking = tails.as_slice();
     let digesting = move || -> Result<Vec<Sha256>, AllocError>
         ensures { IfOk result (λ hs. AreTaken lacking.entry.now hs.items) }
     { all_taken(alloc, lacking) };
-    let merging = move || -> Result<Turn, MergeFault>
+    let stepping = move || -> Result<Beside, Stop>
         requires { length parts.now ≡ length merger.held }
-        ensures shards { IfOk result (λ s. length s.merger.held ≡ length merger.held) }
-        ensures ok { IfOk result (λ s. StepsOver job.entry.now parts.entry.now s.cuts.items merger s.merger text.items s.text.items) }
-        ensures err { IfErr result (IsBlamedOver job.entry.now parts.entry.now merger) }
-    { stepped(alloc, job, parts, merger, text) };
-    let (digests, merged) = thread::join(rt, digesting, merging);
-    let merged = merged?;
-    Ok((merged, digests?))
+        ensures shards { IfOk result (λ b. length b.turn.merger.held ≡ length merger.held) }
+        ensures ok { IfOk result (λ b. StepsOver job.entry.now parts.entry.now b.turn.cuts.items merger b.turn.merger text.items b.turn.text.items) }
+        ensures digests { IfOk result (λ b. AreNext back.entry.now b.digests.items) }
+        ensures err { IfErr result (λ e. IsStoppedAt job.entry.now parts.entry.now merger e) }
+    { stepped_beside_one(rt, alloc, job, parts, back, merger, text) };
+    let (first, beside) = thread::join(rt, digesting, stepping);
+    let beside = beside?;
+    let digests = taken_of_both(first?, beside.digests)?;
+    Ok((beside.turn, digests))
 }
 
-/// How many bytes are to be held in the next turn: twice as many where these were not enough to take one.
+/// How many bytes are to be held in the next turn: twice as many where these were not enough to take one, which no two lines
+/// of each part are.
 fn next_size(size: usize, cuts: &[usize]) -> usize {
     if cuts.iter().all(|cut| *cut == 0) {
         size.saturating_mul(2)
@@ -154,7 +201,7 @@ pub(crate) fn merged_in_turns<R: CountedRead + Drop, W: CountedWrite + Drop, T: 
     let mut text = Vec::new(alloc);
     let mut size = WINDOW;
     for _ in 0..u64::MAX {
-        fill_all(alloc, parts, size)?;
+        fill_all(alloc, parts, size.max(share_of(parts)))?;
         text.clear();
         let (step, digests) = stepped_beside(rt, alloc, job, parts, merger, text)?;
         keep_all(parts, digests.as_slice())?;

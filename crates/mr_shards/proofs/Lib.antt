@@ -25,3 +25,4 @@ pub mod TurnLemmas
 pub mod BlameLemmas
 pub mod GoesLaws
 pub mod StepLaws
+pub mod OrderLemmas

@@ -83,6 +83,13 @@ refuses job m hs ws cs cuts e same are fits all a rs t v =
     (subst (λ (xs : List ℕ). AreBlamed job m.held (pieces_of m.held ws xs) e) are
     (subst (λ (xs : List Held). AreBlamed job xs (pieces_of xs ws cuts) e) same a))
 
+-- what is blamed whatever the bound is, is blamed by this one
+pub ordered : (job : JobSpec) (m : Standing) (hs : List Held) (ws : List Window) (e : MergeFault) → hs ≡ m.held
+    → ((b : Option Bound) (rs : List Reading) → AreTaken job b hs rs → AreWindows rs ws → Blames job (outputs_of rs) e)
+    → (rs : List Reading) → IsAfter job rs m → AreWindows rs ws → Blames job (outputs_of rs) e
+ordered job m hs ws e same all rs t v =
+    all m.bound rs (subst (λ (xs : List Held). AreTaken job m.bound xs rs) (sym same) t) v
+
 put-for : (job : JobSpec) (m : Standing) (hs : List Held) (ws : List Window) (cs cuts out out' : List ℕ) → hs ≡ m.held → cuts ≡ cs
     → ArePut job (pieces_of hs ws cuts) out out' → ArePut job (pieces_of m.held ws cs) out out'
 put-for job m hs ws cs cuts out out' same are p =

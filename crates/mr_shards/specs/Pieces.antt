@@ -205,6 +205,17 @@ AreWithin [] (w ∷ ws) = ⊥
 AreWithin (c ∷ cs) [] = ⊥
 AreWithin (c ∷ cs) (w ∷ ws) = (c ≤ length w.bytes.now) × AreWithin cs ws
 
+-- the bytes end with a line, or there are none
+abbrev pub EndsLine : List ℕ → Type 0
+EndsLine text = (text ≡ []) ⊎ ((first : List ℕ) × (text ≡ first ++ 10 ∷ []))
+
+-- whole lines are taken of each window
+abbrev pub AreLines : List ℕ → List Window → Type 0
+AreLines [] [] = Unit {0}
+AreLines [] (w ∷ ws) = ⊥
+AreLines (c ∷ cs) [] = ⊥
+AreLines (c ∷ cs) (w ∷ ws) = (c ≤ length w.bytes.now) × EndsLine (take c w.bytes.now) × AreLines cs ws
+
 -- the pieces that are cut off: how many files each shard has, and the bytes
 abbrev pub pieces_of : List Held → List Window → List ℕ → List (ℕ × List ℕ)
 pieces_of (h ∷ hs) (w ∷ ws) (c ∷ cs) = (h.files, take c w.bytes.now) ∷ pieces_of hs ws cs

@@ -4,7 +4,9 @@ ghost use Rattle.mr_shards.specs.Pieces.{Standing, fresh_all, is_past};
 ghost use Rattle.mr_shards.specs.Places.{kept, shown};
 
 use crate::fault::MergeFault;
-use crate::piece::{all_read, cuts_before, held_of, merge_pieces, no_bytes, whole_windows};
+use crate::piece::{
+    all_read, cuts_before, expect_order, held_of, merge_pieces, no_bytes, whole_windows,
+};
 use crate::window::{Held, Place, Window, all_last, place_of};
 use mr_bytes::compare_keys;
 use mr_jobs::Job;
@@ -72,7 +74,9 @@ impl Merger {
     /// stay together. Of another job, they are taken up to the first shard that has it as its last key: all of the shards before
     /// that one, and of that one all but the last line. So whole windows go, however many lines of one key there are. Where a
     /// window that more comes behind has no whole line, nothing is taken. It is refused where an output isn't lines of the job
-    /// with keys in their order; lines are numbered in the whole output.
+    /// with keys in their order; lines are numbered in the whole output. Of outputs that stand something is taken wherever each
+    /// window that more comes behind has two whole lines; so where nothing is, the lines of the windows are looked through at
+    /// once for the one to refuse, and no window need grow for it.
     pub fn step(
         &mut self,
         alloc: Global,
@@ -95,9 +99,12 @@ impl Merger {
             return Ok(cuts);
         }
         let Some(place) = place_past(&self.bound, place_of(job, windows)) else {
-            return Ok(no_bytes(alloc, windows)?);
+            let cuts = no_bytes(alloc, windows)?;
+            expect_order(alloc, job, &self.held, windows, &cuts)?;
+            return Ok(cuts);
         };
         let cuts = cuts_before(alloc, windows, place)?;
+        expect_order(alloc, job, &self.held, windows, &cuts)?;
         let key = Vec::from_slice(alloc, place.key)?;
         let held = all_read(alloc, &self.held, windows, &cuts)?;
         merge_pieces(alloc, job, &self.held, windows, &cuts, out)?;

@@ -1,11 +1,13 @@
 //! Pieces that are cut off windows, and their merge.
-ghost use Rattle.std.specs.Prelude.{◌≡◌, ℕ, ◌≤◌, ◌++◌, ◌∷◌, [], IfErr, IfOk, OnErr, OnOk, length, map, option_map, List, Some, None, replicate, MatchOption, false, true, take, slice_index_or};
-ghost use Rattle.mr_shards.specs.Pieces.{ArePut, AreBlamed, AreWithin, all_read_on, cuts_before, fresh, nothing, numbered, pieces_of, read_on, told, whole_window};
+ghost use Rattle.std.specs.Prelude.{◌≡◌, ℕ, ◌≤◌, ◌++◌, ◌∷◌, [], IfErr, IfOk, OnErr, OnOk, length, map, option_map, List, Option, Some, None, replicate, MatchOption, false, true, take, slice_index_or};
+ghost use Rattle.mr_shards.specs.Pieces.{AreLines, ArePut, AreBlamed, AreTaken, AreWindows, AreWithin, Bound, EndsLine, Reading, all_read_on, cuts_before, fresh, nothing, numbered, outputs_of, pieces_of, read_on, told, whole_window};
 ghost use Rattle.mr_shards.specs.Places.{shown};
+ghost use Rattle.mr_shards.specs.Refused.{Blames};
 
 use crate::fault::MergeFault;
+use crate::line::cut_last;
 use crate::merge::{Output, merge_parts};
-use crate::window::{Held, Place, Window, bytes_to, in_next, line_count};
+use crate::window::{Held, Place, Window, bytes_to, in_next, line_count, place_of};
 use mr_jobs::Job;
 use std::alloc::{AllocError, Global};
 
@@ -93,6 +95,28 @@ pub(crate) fn no_bytes(alloc: Global, windows: &[Window<'_>]) -> Result<Vec<usiz
     let mut cuts = Vec::new(alloc);
     for at in 0..windows.len() {
         keep_cut(&mut cuts, 0)?;
+    }
+    Ok(cuts)
+}
+
+/// How many bytes the whole lines of a text have.
+fn line_bytes(text: &[u8]) -> usize
+    ensures within { result ≤ length text.now }
+    ensures whole { EndsLine (take result text.now) }
+{
+    match cut_last(text, b'\n') {
+        Some((front, _)) => front.len() + 1,
+        None => 0,
+    }
+}
+
+/// Cuts that take the whole lines of each window.
+fn whole_lines(alloc: Global, windows: &[Window<'_>]) -> Result<Vec<usize>, AllocError>
+    ensures { IfOk result (λ cuts. AreLines cuts.items windows.now) }
+{
+    let mut cuts = Vec::new(alloc);
+    for at in 0..windows.len() {
+        keep_cut(&mut cuts, line_bytes(windows[at].bytes))?;
     }
     Ok(cuts)
 }
@@ -201,4 +225,25 @@ pub(crate) fn merge_pieces(
         Ok(text) => append(out, &text),
         Err(fault) => Err(in_whole(fault, held)),
     }
+}
+
+/// Where the cuts take nothing of windows with whole lines, looks for one that doesn't stand where it does: of outputs that
+/// stand, the first lines of two in each window are not all behind the last of some window.
+pub(crate) fn expect_order(
+    alloc: Global,
+    job: &Job,
+    held: &[Held],
+    windows: &[Window<'_>],
+    cuts: &[usize],
+) -> Result<(), MergeFault>
+    requires shards { length held.now ≡ length windows.now }
+    ensures err { IfErr result (λ e. (bound : Option Bound) (rs : List Reading) → AreTaken job.now bound held.now rs → AreWindows rs windows.now
+        → Blames job.now (outputs_of rs) e) }
+{
+    if cuts.iter().any(|cut| *cut != 0) || place_of(job, windows).is_none() {
+        return Ok(());
+    }
+    let lines = whole_lines(alloc, windows)?;
+    let mut text = Vec::new(alloc);
+    merge_pieces(alloc, job, held, windows, &lines, &mut text)
 }

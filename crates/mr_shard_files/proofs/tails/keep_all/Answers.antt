@@ -1,4 +1,4 @@
-use Rattle.std.proofs.Common.{◌≡◌, ◌+◌, ◌<◌, suc, length, subst, sym, arith}
+use Rattle.std.proofs.Common.{◌≡◌, ◌+◌, ◌<◌, suc, length, subst, arith}
 use Rattle.std.proofs.Math.ListN.{set}
 use Rattle.mr_shard_files.specs.Streams.{IsDigested}
 use Rattle.mr_shard_files.proofs.AllLemmas.{KeptTo, kept_all, kept_more, kept_same}
