@@ -236,21 +236,21 @@ def over_a_shard(harness):
         harness.check(f"over a shard, {out}", got == (2, b"", b"mapred: SameFolder shard %d\n" % shard) and [contents(s) for s in shards] == before, repr(got))
 
 
-def in_little_memory(harness, shards):
-    """A merge in 24 MiB of address space, 8 of which are the stack of its second thread, of shards: each the request, its part, the
-    length of its one file, and how many pairs."""
+def in_little_memory(harness, shards, size=32):
+    """A merge in so many MiB of address space, 16 of which are the stacks of its two other threads, of shards: each the request, its
+    part, the length of its one file, and how many pairs."""
     verdicts = []
     for number, (request, part, length, pairs) in enumerate(shards):
         text = verdict_text(request, [(f"f{number}", bytes(length))], [part], [], pairs)
         verdicts.append(os.path.join(harness.directory({"part-00000": part, "verdict": text}), "verdict"))
     where = harness.directory()
-    limit = lambda: resource.setrlimit(resource.RLIMIT_AS, (24 << 20, 24 << 20))
+    limit = lambda: resource.setrlimit(resource.RLIMIT_AS, (size << 20, size << 20))
     ran = subprocess.run([harness.program, "merge", "--out", ".", *verdicts], cwd=where, capture_output=True, preexec_fn=limit)
     return (ran.returncode, ran.stdout, ran.stderr), contents(where).get("part-00000")
 
 
 def little_memory(harness):
-    """44 MB of parts, merged to as much in 24 MiB of address space."""
+    """44 MB of parts, merged to as much in 32 MiB of address space."""
     count, shards, words = 1_000_000, 4, Request("words", 1, 16)
     numbered = lambda numbers: b"".join(b"%08d\t1\n" % number for number in numbers)
     got = in_little_memory(harness, [(words, numbered(range(shard, shards * count, shards)), 0, count) for shard in range(shards)])
@@ -259,7 +259,7 @@ def little_memory(harness):
 
 
 def equal_lines(harness):
-    """33 MB of parts in 24 MiB of address space, in which almost all lines found are equal: a merge goes on within a key."""
+    """33 MB of parts in 32 MiB of address space, in which almost all lines found are equal: a merge goes on within a key."""
     count, grep = 700_000, Request("grep", 1, 16, literal=b"a")
     places = lambda file: b"".join(b"a line\t%d:%d\n" % (file, 7 * number) for number in range(count))
     ends = lambda file: (b"a\t%d:4900000\n" % file, b"a maze\t%d:4900002\n" % file)
@@ -269,6 +269,42 @@ def equal_lines(harness):
     want = (0, b"merged: 1 files, %d pairs, 0 left out\n" % (3 * count + 6), b"")
     whole = b"".join(front) + b"".join(map(places, range(3))) + b"".join(back)
     harness.check("equal lines in little memory", got == (want, whole), repr(got[0]))
+
+
+def lines_of(numbers):
+    """A line for each number, as words has it."""
+    return b"".join(b"%08d\t1\n" % number for number in numbers)
+
+
+def falling_keys(harness):
+    """Keys that fall in one of two parts of 17 MB are told in 32 MiB of address space, in each of the ways in which a merge may come
+    to stand: the least of the last keys before the lines that were taken, or with no line before it. A job that counts, and grep."""
+    count, words, grep = 1_500_000, Request("words", 1, 16), Request("grep", 1, 16, literal=b"0")
+    good = lines_of(range(0, 2 * count, 2))
+    placed = lambda text: text.replace(b"\t1\n", b"\t0:7\n")
+    rising = lines_of(range(1, 200_001, 2))
+    for name, behind in (("fall to the front", range(1, 2 * count, 2)), ("fall by one line", [150_000, *range(200_001, 2 * count, 2)])):
+        for job, request, shape in (("words", words, bytes), ("grep", grep, placed)):
+            for shard in (0, 1):
+                shards = [(request, shape(good), 16 * count, count)]
+                shards.insert(shard, (request, shape(rising + lines_of(behind)), 16 * count, count))
+                got = in_little_memory(harness, shards)[0]
+                want = (1, b"", b"mapred: BadLine shard %d partition 0 line 100000\n" % shard)
+                harness.check(f"{job}, keys that {name} in shard {shard}", got == want, repr(got))
+
+
+def long_lines(harness):
+    """A line of 4 MiB, and two of them, in one of eight parts of 3 MB: the windows of the others don't grow by as much."""
+    count, words = 250_000, Request("words", 1, 16)
+    for lines in (1, 2):
+        long = [b"%d" % line + b"x" * (4 << 20) + b"\t1\n" for line in range(lines)]
+        parts = [lines_of(range(shard, 8 * count, 8)) for shard in range(8)]
+        parts[3] = b"".join(sorted([*parts[3].splitlines(True), *long]))
+        pairs = [part.count(b"\n") for part in parts]
+        got = in_little_memory(harness, [(words, part, 9 << 20, number) for part, number in zip(parts, pairs)], 60)
+        want = (0, b"merged: 1 files, %d pairs, 0 left out\n" % sum(pairs), b"")
+        whole = b"".join(sorted(b"".join(parts).splitlines(True)))
+        harness.check(f"{lines} lines of 4 MiB in little memory", got == (want, whole), repr(got[0]))
 
 
 def listing(given):
@@ -368,4 +404,4 @@ def dask(harness, words, where, whole):
     harness.check("by Dask, a worker killed", ran.returncode == 0 and os.listdir(room) == ["worker"] and parts_of(os.path.join(where, "out")) == parts_of(whole), repr(ran))
 
 
-GROUPS = {"shards merged": random_jobs, "shards and one execution": by_seq, "shards refused": refusals, "shards in files": files, "shards' inputs": lists, "shards in little memory": little_memory, "equal lines of shards": equal_lines, "shards by a runner": runner}
+GROUPS = {"shards merged": random_jobs, "shards and one execution": by_seq, "shards refused": refusals, "shards in files": files, "shards' inputs": lists, "shards in little memory": little_memory, "equal lines of shards": equal_lines, "keys that fall in shards": falling_keys, "long lines of shards": long_lines, "shards by a runner": runner}
