@@ -97,8 +97,8 @@ struct Beside {
     digests: Vec<Sha256>,
 }
 
-/// Merges what is held of the parts, as far as it goes, while another thread, where one can be made, takes what some of
-/// the digests of some of them lack.
+/// Merges what is held of the parts, as far as it goes, while another thread, where one can be made, takes what the
+/// digests of some of them lack.
 fn stepped_beside_one<R: CountedRead + Drop, T: Threads>(
     rt: &T,
     alloc: Global,
