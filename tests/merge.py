@@ -301,7 +301,7 @@ def long_lines(harness):
         parts = [lines_of(range(shard, 8 * count, 8)) for shard in range(8)]
         parts[3] = b"".join(sorted([*parts[3].splitlines(True), *long]))
         pairs = [part.count(b"\n") for part in parts]
-        got = in_little_memory(harness, [(words, part, 9 << 20, number) for part, number in zip(parts, pairs)], 60)
+        got = in_little_memory(harness, [(words, part, 9 << 20, number) for part, number in zip(parts, pairs)], 80)
         want = (0, b"merged: 1 files, %d pairs, 0 left out\n" % sum(pairs), b"")
         whole = b"".join(sorted(b"".join(parts).splitlines(True)))
         harness.check(f"{lines} lines of 4 MiB in little memory", got == (want, whole), repr(got[0]))
