@@ -1,11 +1,16 @@
--- Values in a list of which those in front that are One are counted, and the rest stored.
-use Rattle.std.specs.Prelude.{◌≡◌, ℕ, List, [], ◌∷◌, ◌++◌, replicate, length}
+-- Values in a list of which those in front that are One are counted, places in one file behind them stored as offsets, and
+-- the rest as it is.
+use Rattle.std.specs.Prelude.{◌≡◌, ℕ, List, [], ◌∷◌, ◌++◌, map, replicate, length}
 use Rattle.mr_bytes.specs.declared.Value.{Value}
 use Rattle.mr_bytes.specs.declared.Value.TheVariants.{One, At}
 
--- so many times One, and then the rest
-abbrev pub ones_then : ℕ → List Value → List Value
-ones_then ones rest = replicate ones One ++ rest
+-- places in a file, by their offsets
+abbrev pub places : ℕ → List ℕ → List Value
+places file offsets = map (λ offset. At file offset) offsets
+
+-- so many times One, then places in a file, and then the rest
+abbrev pub column : ℕ → ℕ → List ℕ → List Value → List Value
+column ones file offsets rest = replicate ones One ++ (places file offsets ++ rest)
 
 -- each value is One
 abbrev pub AreOnes : List Value → Type 0

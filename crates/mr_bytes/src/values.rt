@@ -1,39 +1,48 @@
-//! A list of values that takes little room where they are `One`: those in front are counted, the rest stored.
-ghost use Rattle.std.specs.Prelude.{◌≡◌, ◌+◌, ◌-◌, ◌<◌, ◌^◌, ◌++◌, ◌∷◌, [], IfOk, OnOk, OnErr, IsOk, IsTrue, ◌↔◌, length, take, slice_index_or, vec_len};
+//! A list of values that takes little room where they are `One`, or places in one file: the former are counted, of the latter
+//! the offsets are stored, four bytes each, and the rest as it is.
+ghost use Rattle.std.specs.Prelude.{◌≡◌, ◌⊎◌, ◌+◌, ◌-◌, ◌<◌, ◌^◌, ◌++◌, ◌∷◌, [], IfOk, IfSome, OnOk, OnErr, IsOk, IsTrue, ◌↔◌, length, take, slice_index_or, vec_len};
 ghost use Rattle.mr_bytes.specs.declared.Value.TheVariants.{One};
-ghost use Rattle.mr_bytes.specs.Values.{AreOnes, ones_then};
+ghost use Rattle.mr_bytes.specs.Values.{AreOnes};
 
 use crate::Value;
 use std::alloc::{AllocError, Global};
 use std::marker::Model;
 
-/// Values, in order. Those `One` in front are counted and not stored, so that a job that counts stores none.
+/// Values, in order. Those `One` in front are counted and not stored, so that a job that counts stores none. Places behind
+/// them, as long as all are in one file of less than 4 GiB, are stored as their offsets there.
 #[derive(Drop)]
 pub struct Values {
     ones: usize,
+    file: u32,
+    offsets: Vec<u32>,
     rest: Vec<Value>,
 }
 
 impl Model for Values {
-    ghost use Rattle.std.specs.Prelude.{List, length, ◌+◌, ◌<◌, ◌^◌};
+    ghost use Rattle.std.specs.Prelude.{List, length, ◌+◌, ◌++◌, ◌<◌, ◌^◌};
     ghost use Rattle.mr_bytes.specs.declared.Value.{Value as Emitted};
 
     ghost Value = { List Emitted };
 
-    ghost use Rattle.mr_bytes.specs.Values.{BeginsOtherwise, ones_then};
+    ghost use Rattle.mr_bytes.specs.Values.{BeginsOtherwise, column, places};
 
-    ghost view = { λ v. ones_then v.ones v.rest.items };
+    ghost view = { λ v. column v.ones v.file v.offsets.items v.rest.items };
 
     ghost invariant = { λ v. record {
-      counted : BeginsOtherwise v.rest.items;
-      few : v.ones + length v.rest.items < 2 ^ 64;
+      counted : BeginsOtherwise (places v.file v.offsets.items ++ v.rest.items);
+      few : v.ones + (length v.offsets.items + length v.rest.items) < 2 ^ 64;
     } };
 }
 
-fn is_one(value: Value) -> bool
-    ensures { IsTrue result ↔ (value ≡ One) }
+/// The offset of a place that may stand behind these of a file.
+fn offset_behind(offsets: &[u32], here: u32, file: u32, offset: u64) -> Option<u32>
+    ensures { IfSome result (λ o. (o ≡ offset) × ((offsets.now ≡ []) ⊎ (here ≡ file))) }
 {
-    matches!(value, Value::One)
+    if offsets.is_empty() || here == file {
+        u32::try_from(offset).ok()
+    } else {
+        None
+    }
 }
 
 impl Values {
@@ -43,6 +52,8 @@ impl Values {
     {
         Values {
             ones: 0,
+            file: 0,
+            offsets: Vec::new(alloc),
             rest: Vec::new(alloc),
         }
     }
@@ -51,7 +62,7 @@ impl Values {
     pub fn len(&self) -> usize
         ensures { result ≡ length self.now }
     {
-        self.ones + self.rest.len()
+        self.ones + (self.offsets.len() + self.rest.len())
     }
 
     /// Value `i`, from 0.
@@ -60,9 +71,16 @@ impl Values {
         ensures { result ≡ slice_index_or self.now i One }
     {
         if i < self.ones {
-            Value::One
+            return Value::One;
+        }
+        let behind = i - self.ones;
+        if behind < self.offsets.len() {
+            Value::At {
+                file: self.file,
+                offset: self.offsets[behind] as u64,
+            }
         } else {
-            self.rest[i - self.ones]
+            self.rest[behind - self.offsets.len()]
         }
     }
 
@@ -74,11 +92,23 @@ impl Values {
         ensures err { OnErr result (self.new ≡ self.old) }
         ensures none { AreOnes self.old → value ≡ One → IsOk result }
     {
-        if self.rest.is_empty() && is_one(value) {
-            self.ones += 1;
+        if !self.rest.is_empty() {
+            self.rest.push(value)?;
             return Ok(());
         }
-        self.rest.push(value)?;
+        match value {
+            Value::One if self.offsets.is_empty() => self.ones += 1,
+            Value::One => self.rest.push(value)?,
+            Value::At { file, offset } => {
+                match offset_behind(self.offsets.as_slice(), self.file, file, offset) {
+                    Some(offset) => {
+                        self.offsets.push(offset)?;
+                        self.file = file;
+                    }
+                    None => self.rest.push(value)?,
+                }
+            }
+        }
         Ok(())
     }
 
@@ -88,9 +118,16 @@ impl Values {
     {
         if count <= self.ones {
             self.ones = count;
+            self.offsets.clear();
+            self.rest.clear();
+            return;
+        }
+        let behind = count - self.ones;
+        if behind <= self.offsets.len() {
+            self.offsets.truncate(behind);
             self.rest.clear();
         } else {
-            self.rest.truncate(count - self.ones);
+            self.rest.truncate(behind - self.offsets.len());
         }
     }
 
@@ -99,26 +136,7 @@ impl Values {
         ensures { self.new ≡ [] }
     {
         self.ones = 0;
+        self.offsets.clear();
         self.rest.clear();
-    }
-
-    /// The values from the first on that isn't `One`.
-    pub fn stored(&self) -> &[Value]
-        ensures { self.now ≡ ones_then (length self.now - length result.now) result.now }
-    {
-        &self.rest
-    }
-
-    /// All values in one list. It fails only for want of memory.
-    pub fn into_vec(self, alloc: Global) -> Result<Vec<Value>, AllocError>
-        ensures { IfOk result (λ v. v.items ≡ self) }
-    {
-        let Values { ones, rest } = self;
-        if ones == 0 {
-            return Ok(rest);
-        }
-        let mut values = vec![in alloc; Value::One; ones]?;
-        values.extend_from_slice(rest.as_slice())?;
-        Ok(values)
     }
 }

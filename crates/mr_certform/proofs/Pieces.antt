@@ -92,3 +92,18 @@ names_flat before (n ∷ ns) = ap (λ w. name_bytes first_name n ++ w) (names_fl
 -- one more that is written
 pub one_put : {X : Type 0} (f : X → List ℕ) (xs : List X) (x : X) (ys : List X) (was piece now all : List ℕ) → xs ≡ x ∷ ys → piece ≡ f x → now ≡ was ++ piece → was ++ flat_map f xs ≡ all → now ++ flat_map f ys ≡ all
 one_put f xs x ys was piece now all e p n h = ap (λ w. w ++ flat_map f ys) (n ∙ ap (λ w. was ++ w) p) ∙ (append_assoc was (f x) (flat_map f ys) ∙ (ap (λ w. was ++ flat_map f w) (sym e) ∙ h))
+
+-- ---- what a sink takes, one piece behind another
+
+-- a piece more that is put in front of what is to come
+pub put_piece : {S : Type 0} (takes : S → S → List ℕ → Type 0) (joined : (a b c : S) (xs ys : List ℕ) → takes a b xs → takes b c ys → takes a c (xs ++ ys))
+    (start was now : S) (piece more all whole : List ℕ) → takes was now piece → piece ++ more ≡ all
+    → ((new : S) → takes was new all → takes start new whole) → (new : S) → takes now new more → takes start new whole
+put_piece takes joined start was now piece more all whole h e k new t = k new (subst (takes was new) e (joined was now new piece more h t))
+
+-- the next of a list
+pub put_next : {S X : Type 0} (takes : S → S → List ℕ → Type 0) (joined : (a b c : S) (xs ys : List ℕ) → takes a b xs → takes b c ys → takes a c (xs ++ ys))
+    (f : X → List ℕ) (xs : List X) (x : X) (ys : List X) (start was now : S) (piece whole : List ℕ) → xs ≡ x ∷ ys → piece ≡ f x → takes was now piece
+    → ((new : S) → takes was new (flat_map f xs) → takes start new whole) → (new : S) → takes now new (flat_map f ys) → takes start new whole
+put_next takes joined f xs x ys start was now piece whole e p h k =
+    put_piece takes joined start was now piece (flat_map f ys) (flat_map f xs) whole h (ap (λ w. w ++ flat_map f ys) p ∙ sym (ap (flat_map f) e)) k

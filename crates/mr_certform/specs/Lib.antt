@@ -7,6 +7,8 @@ pub mod Rows
 pub mod Streaming
 pub mod Flat
 pub mod Pieces
+pub mod Sinks
+pub mod Buffers
 pub mod Building
 pub mod Reading
 pub mod Laws

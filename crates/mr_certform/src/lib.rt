@@ -1,6 +1,7 @@
 //! The certificate of a result: its items, its walker, its value, its spelling.
 #![tactic(auto)]
 
+mod buffered;
 mod building;
 mod certificate;
 mod front;
@@ -9,12 +10,15 @@ mod held;
 mod item;
 mod laws;
 mod number;
+mod piece;
 mod piecewise;
 mod place;
 mod reading;
+mod sink;
 mod stream;
 mod walker;
 mod writing;
+mod written;
 
 pub use crate::building::{Builder, FlatGroups, Header};
 pub use crate::certificate::Certificate;
@@ -27,3 +31,4 @@ pub use crate::reading::{ReadFault, read};
 pub use crate::stream::{StreamFault, StreamWalker};
 pub use crate::walker::Walker;
 pub use crate::writing::write;
+pub use crate::written::text_law;

@@ -1,4 +1,4 @@
-//! A certificate spelled in one buffer, which is made at its whole size at once; each number is written once.
+//! A certificate spelled, number by number, into whatever takes bytes: a list, or a writer behind a buffer.
 ghost use Rattle.std.specs.Prelude.{◌≡◌, ◌≤◌, ◌<◌, ◌^◌, ◌++◌, OnOk, IfOk, length, drop};
 ghost use Rattle.std.specs.List.{flat_map, AllByRecursion};
 ghost use Rattle.mr_certform.specs.Places.{first_name};
@@ -8,6 +8,7 @@ ghost use Rattle.mr_certform.specs.Flat.{total, chunks, contents_of, IsWhole, Ha
 ghost use Rattle.mr_certform.specs.Pieces.{names_bytes, group_bytes, part_bytes, job_bytes, all_bytes};
 
 use crate::certificate::{Certificate, Flat};
+use crate::sink::Sink;
 use byteorder::{BigEndian, ByteOrder};
 use mr_bytes::{Name, RecordName};
 use std::alloc::{AllocError, Global};
@@ -35,39 +36,39 @@ fn spelled_skip(skip: RecordName) -> [u8; 8]
     bytes
 }
 
-pub(crate) fn put_number(out: &mut Vec<u8>, n: u32) -> Result<(), AllocError>
-    ensures { OnOk result (out.new.items ≡ out.old.items ++ four n) }
+pub(crate) fn put_number<O: Sink>(out: &mut O, n: u32) -> Result<(), O::Fault>
+    ensures { OnOk result (O.takes out.old out.new (four n)) }
 {
     let mut bytes = [0u8; 4];
     BigEndian::write_u32(&mut bytes, n);
-    out.extend_from_slice(&bytes)
+    out.put(&bytes)
 }
 
-fn put_long(out: &mut Vec<u8>, n: u64) -> Result<(), AllocError>
-    ensures { OnOk result (out.new.items ≡ out.old.items ++ eight n) }
+fn put_long<O: Sink>(out: &mut O, n: u64) -> Result<(), O::Fault>
+    ensures { OnOk result (O.takes out.old out.new (eight n)) }
 {
     let mut bytes = [0u8; 8];
     BigEndian::write_u64(&mut bytes, n);
-    out.extend_from_slice(&bytes)
+    out.put(&bytes)
 }
 
-fn put_names(out: &mut Vec<u8>, names: &[Name]) -> Result<(), AllocError>
-    ensures { OnOk result ((out.new.items ≡ out.old.items ++ flat_map (name_bytes first_name) names.now) × AllByRecursion NameFits names.now) }
+fn put_names<O: Sink>(out: &mut O, names: &[Name]) -> Result<(), O::Fault>
+    ensures { OnOk result (O.takes out.old out.new (flat_map (name_bytes first_name) names.now) × AllByRecursion NameFits names.now) }
 {
     for name in names {
-        out.extend_from_slice(&spelled_name(*name))?;
+        out.put(&spelled_name(*name))?;
     }
     Ok(())
 }
 
 /// The groups of these counts, from the front of the names; the names behind them are given back.
-pub(crate) fn put_groups<'a>(
-    out: &mut Vec<u8>,
+pub(crate) fn put_groups<'a, O: Sink>(
+    out: &mut O,
     counts: &[u32],
     names: &'a [Name],
-) -> Result<&'a [Name], AllocError>
+) -> Result<&'a [Name], O::Fault>
     requires { total counts.now ≤ length names.now }
-    ensures { IfOk result (λ rest. (out.new.items ≡ out.old.items ++ flat_map group_bytes (chunks counts.now names.entry.now))
+    ensures { IfOk result (λ rest. O.takes out.old out.new (flat_map group_bytes (chunks counts.now names.entry.now))
         × (rest.now ≡ drop (total counts.now) names.entry.now)
         × AllByRecursion (AllByRecursion NameFits) (chunks counts.now names.entry.now)) }
 {
@@ -81,30 +82,30 @@ pub(crate) fn put_groups<'a>(
     Ok(rest)
 }
 
-fn put_parts(
-    out: &mut Vec<u8>,
+fn put_parts<O: Sink>(
+    out: &mut O,
     group_counts: &[u32],
     entry_counts: &[u32],
     names: &[Name],
-) -> Result<(), AllocError>
+) -> Result<(), O::Fault>
     requires groups { total group_counts.now ≡ length entry_counts.now }
     requires room { total entry_counts.now ≤ length names.now }
-    ensures { OnOk result ((out.new.items ≡ out.old.items ++ flat_map part_bytes (chunks group_counts.now (chunks entry_counts.now names.now)))
+    ensures { OnOk result (O.takes out.old out.new (flat_map part_bytes (chunks group_counts.now (chunks entry_counts.now names.now)))
         × AllByRecursion (AllByRecursion NameFits) (chunks entry_counts.now names.now)) }
 {
     let mut counts = entry_counts;
     let mut rest = names;
-    for count in group_counts {
-        let (here, more) = counts.split_at(*count as usize);
-        put_number(out, *count)?;
+    for groups in group_counts {
+        let (here, more) = counts.split_at(*groups as usize);
+        put_number(out, *groups)?;
         rest = put_groups(out, here, rest)?;
         counts = more;
     }
     Ok(())
 }
 
-fn put_lengths(out: &mut Vec<u8>, lengths: &[u64]) -> Result<(), AllocError>
-    ensures { OnOk result (out.new.items ≡ out.old.items ++ flat_map eight lengths.now) }
+fn put_lengths<O: Sink>(out: &mut O, lengths: &[u64]) -> Result<(), O::Fault>
+    ensures { OnOk result (O.takes out.old out.new (flat_map eight lengths.now)) }
 {
     for length in lengths {
         put_long(out, *length)?;
@@ -112,42 +113,42 @@ fn put_lengths(out: &mut Vec<u8>, lengths: &[u64]) -> Result<(), AllocError>
     Ok(())
 }
 
-fn put_skips(out: &mut Vec<u8>, skips: &[RecordName]) -> Result<(), AllocError>
-    ensures { OnOk result ((out.new.items ≡ out.old.items ++ flat_map skip_bytes skips.now) × AllByRecursion SkipFits skips.now) }
+fn put_skips<O: Sink>(out: &mut O, skips: &[RecordName]) -> Result<(), O::Fault>
+    ensures { OnOk result (O.takes out.old out.new (flat_map skip_bytes skips.now) × AllByRecursion SkipFits skips.now) }
 {
     for skip in skips {
-        out.extend_from_slice(&spelled_skip(*skip))?;
+        out.put(&spelled_skip(*skip))?;
     }
     Ok(())
 }
 
 /// The magic and the job, up to the bytes of a split.
-pub(crate) fn put_job(out: &mut Vec<u8>, flat: &Flat) -> Result<(), AllocError>
+pub(crate) fn put_job<O: Sink>(out: &mut O, flat: &Flat) -> Result<(), O::Fault>
     requires { length flat.now.literal < 2 ^ 32 }
-    ensures { OnOk result (out.new.items ≡ out.old.items ++ job_bytes (contents_of flat.now)) }
+    ensures { OnOk result (O.takes out.old out.new (job_bytes (contents_of flat.now))) }
 {
-    out.extend_from_slice(b"MRCERT1\n")?;
+    out.put(b"MRCERT1\n")?;
     put_number(out, flat.job)?;
     put_number(out, flat.flags)?;
     put_number(out, flat.literal.len() as u32)?;
-    out.extend_from_slice(&flat.literal)?;
+    out.put(&flat.literal)?;
     put_number(out, flat.parts)?;
     put_number(out, flat.split_size)
 }
 
 /// The number of files, then the length of each.
-pub(crate) fn put_input(out: &mut Vec<u8>, lengths: &[u64]) -> Result<(), AllocError>
+pub(crate) fn put_input<O: Sink>(out: &mut O, lengths: &[u64]) -> Result<(), O::Fault>
     requires { length lengths.now < 2 ^ 32 }
-    ensures { OnOk result (out.new.items ≡ out.old.items ++ (four (length lengths.now) ++ flat_map eight lengths.now)) }
+    ensures { OnOk result (O.takes out.old out.new (four (length lengths.now) ++ flat_map eight lengths.now)) }
 {
     put_number(out, lengths.len() as u32)?;
     put_lengths(out, lengths)
 }
 
 /// The number of left-out records, then each of them.
-pub(crate) fn put_left_out(out: &mut Vec<u8>, skips: &[RecordName]) -> Result<(), AllocError>
+pub(crate) fn put_left_out<O: Sink>(out: &mut O, skips: &[RecordName]) -> Result<(), O::Fault>
     requires { length skips.now < 2 ^ 32 }
-    ensures { OnOk result ((out.new.items ≡ out.old.items ++ (four (length skips.now) ++ flat_map skip_bytes skips.now)) × AllByRecursion SkipFits skips.now) }
+    ensures { OnOk result (O.takes out.old out.new (four (length skips.now) ++ flat_map skip_bytes skips.now) × AllByRecursion SkipFits skips.now) }
 {
     put_number(out, skips.len() as u32)?;
     put_skips(out, skips)
@@ -170,20 +171,23 @@ pub(crate) fn size_of(flat: &Flat) -> usize {
 }
 
 /// The spelling of these values.
+pub(crate) fn put_values<O: Sink>(out: &mut O, flat: &Flat) -> Result<(), O::Fault>
+    requires { IsWhole flat.now }
+    ensures { OnOk result (O.takes out.old out.new (all_bytes (contents_of flat.now)) × HasNames flat.now) }
+{
+    put_job(out, flat)?;
+    put_input(out, &flat.lengths)?;
+    put_left_out(out, &flat.skips)?;
+    put_parts(out, &flat.group_counts, &flat.entry_counts, &flat.names)
+}
+
+/// The spelling of these values in one list, which is made at its whole size at once.
 fn spelled_values(alloc: Global, flat: &Flat) -> Result<Vec<u8>, AllocError>
     requires { IsWhole flat.now }
     ensures { IfOk result (λ v. (v.items ≡ all_bytes (contents_of flat.now)) × HasNames flat.now) }
 {
     let mut out = Vec::with_capacity(alloc, size_of(flat))?;
-    put_job(&mut out, flat)?;
-    put_input(&mut out, &flat.lengths)?;
-    put_left_out(&mut out, &flat.skips)?;
-    put_parts(
-        &mut out,
-        &flat.group_counts,
-        &flat.entry_counts,
-        &flat.names,
-    )?;
+    put_values(&mut out, flat)?;
     Ok(out)
 }
 

@@ -4,10 +4,13 @@
 //! of it fails, if one does, it tells the items that the walk over that reader gives.
 #![tactic(auto)]
 
+#[cfg(test)]
+mod spelled;
 mod streaming;
 
 use mr_bytes::Name;
 use mr_certform::{Builder, Certificate, Groups, Header, Item, ReadFault, Walker, read, write};
+use mr_store::{MemoryWriter, write_spelled};
 use std::alloc::{AllocError, Global};
 use std::io::Read;
 use std::{env, io};
@@ -115,6 +118,18 @@ fn show_partitions(rt: &HostRuntime, certificate: &Certificate) -> io::Result<()
     Ok(())
 }
 
+/// Whether the certificate is written as these bytes, in a list and onto a writer, which is given them piece by piece.
+fn is_written_again(
+    alloc: Global,
+    certificate: &Certificate,
+    bytes: &[u8],
+) -> Result<bool, AllocError> {
+    let written = write(alloc, certificate)?;
+    let mut writer = MemoryWriter::new(alloc, 50_000, None);
+    let done = write_spelled(&mut writer, certificate).is_ok();
+    Ok(done && written.as_slice() == bytes && writer.handed_on() == bytes)
+}
+
 /// Tells the certificate that the bytes spell, and whether it is written as they are.
 fn tell(rt: &HostRuntime, bytes: &[u8]) -> io::Result<()> {
     let certificate = match read(rt.alloc(), bytes) {
@@ -122,8 +137,8 @@ fn tell(rt: &HostRuntime, bytes: &[u8]) -> io::Result<()> {
         Err(fault) => return println!(rt; "{fault}"),
     };
     show(rt, &certificate)?;
-    let written = write(rt.alloc(), &certificate)?;
-    println!(rt; "written again: {}", written.as_slice() == bytes)?;
+    let again = is_written_again(rt.alloc(), &certificate, bytes)?;
+    println!(rt; "written again: {again}")?;
     if bytes.len() <= SHORT {
         show_partitions(rt, &certificate)?;
     }

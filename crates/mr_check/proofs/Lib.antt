@@ -14,13 +14,13 @@ mod KindLemmas
 pub mod JudgingLemmas
 pub mod MetLemmas
 pub mod MeterLemmas
+pub mod LineLemmas
 pub mod OutputLemmas
 pub mod OwnLemmas
 pub mod PartLemmas
 pub mod RestLemmas
 pub mod RowLemmas
 pub mod SkipLemmas
-pub mod ValueLemmas
 pub mod VerdictCompared
 pub mod VerdictGroups
 pub mod VerdictHeader

@@ -10,20 +10,9 @@ use mr_bytes::{Name, Values};
 use mr_index::{EmissionIndex, Found, Meter};
 use mr_jobs::{Job, Request};
 use mr_partition::partition;
-use mr_reduce::{group_text, total_text};
+use mr_reduce::column_text;
 use std::alloc::AllocError;
 use std::marker::Model;
-
-/// Appends the text of a key with these values.
-fn put_text(job: &Job, key: &[u8], values: &Values, out: &mut Vec<u8>) -> Result<(), AllocError>
-    ensures { OnOk result (out.new.items ≡ out.old.items ++ text_of job.now key.now values.now) }
-{
-    if job.counts() {
-        total_text(key, values.len() as u64, out)
-    } else {
-        group_text(job, key, values.stored(), out)
-    }
-}
 
 /// What the groups are judged against: all that is emitted, and the request.
 #[derive(Drop)]
@@ -48,12 +37,19 @@ impl<'a> Basis<'a> {
         u64::from(partition(key, self.request.parts()))
     }
 
+    /// The job.
+    pub fn job(&self) -> &'a Job
+        ensures { result.now ≡ self.now.request.job }
+    {
+        self.request.job()
+    }
+
     /// The text of a group, in place of what the buffer held.
     pub fn text(&self, key: &[u8], values: &Values, out: &mut Vec<u8>) -> Result<(), AllocError>
         ensures { OnOk result (out.new.items ≡ text_of self.now.request.job key.now values.now) }
     {
         out.clear();
-        put_text(self.request.job(), key, values, out)
+        column_text(self.request.job(), key, values, out)
     }
 
     /// The pair of that name among all that is emitted, or none where there is no such pair.

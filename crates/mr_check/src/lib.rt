@@ -16,6 +16,7 @@ mod items;
 mod judge;
 mod laws;
 mod lent;
+mod lines;
 mod mapping;
 mod outputs;
 mod parts;

@@ -12,10 +12,11 @@ ghost use Rattle.mr_check.specs.Fronts.{opens};
 ghost use Rattle.mr_check.specs.Outputs.{CanCome, Tested, Halts};
 
 use crate::blocks::FoundItem;
-use crate::entry_tests::{test_end, test_first, test_later, test_named, test_text};
+use crate::entry_tests::{test_end, test_first, test_later, test_named};
 use crate::facts::Basis;
 use crate::fault::No;
 use crate::items::Stop;
+use crate::lines::test_group;
 use crate::outputs::Outputs;
 use mr_bytes::{Name, Value, Values};
 use mr_certform::Item;
@@ -25,7 +26,7 @@ use std::marker::Model;
 /// How far the judge has come in the partitions: the next partition; of this one how many groups are still to come,
 /// and the group; of this group how many entries are still to come, and the entry; the key of the group before, and of
 /// this one; the name before; the values so far; where in the output the next text is to stand; how many entries there
-/// were; and a buffer for the texts.
+/// were; and a buffer for a line.
 #[derive(Drop)]
 pub(crate) struct Progress<'a> {
     next: u64,
@@ -198,8 +199,7 @@ impl<'a> Progress<'a> {
         ensures begun { O.begun outputs.new }
         ensures halts { Halts O.steady (O.failed outputs.old) (O.failed outputs.new) result }
     {
-        basis.text(self.key, &self.values, &mut self.text)?;
-        test_text(outputs, p, &self.text)?;
+        test_group(outputs, basis, p, self.key, &self.values, &mut self.text)?;
         test_end(outputs, p, self.groups.saturating_sub(1))?;
         self.close_group(outputs.place());
         Ok(())

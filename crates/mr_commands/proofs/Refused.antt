@@ -100,10 +100,10 @@ stopped_as old new unwritable names texts (file.CannotWrite name) f h t = rw t h
 stopped_as old new unwritable names texts file.OutOfMemory f h t = rw t tt
 
 -- the result was not all written
-pub stopped_stage : (old new : List ℕ → List ℕ → Type 0) (unreadable unwritable : List ℕ → Type 0) (o : Options) (list : List ℕ) (outputs given : List (Vec ℕ Global)) (bytes given_bytes line : List ℕ) (e : FileFault) (f : Fault)
-    → WorksOut old o list (contents outputs) bytes line → given ≡ outputs → given_bytes ≡ bytes
-    → IsWriteRefusal old new unwritable (result_names o.out.now (length given)) (contents given ++ given_bytes ∷ []) e → TellsFile e f → IsSeqRefusal old new unreadable unwritable o list f
-stopped_stage old new unreadable unwritable o list outputs given bytes given_bytes line e f work same same_bytes h t =
+pub stopped_stage : (old new : List ℕ → List ℕ → Type 0) (unreadable unwritable : List ℕ → Type 0) (o : Options) (list : List ℕ) (outputs given : List (Vec ℕ Global)) (bytes line : List ℕ) (e : FileFault) (f : Fault)
+    → WorksOut old o list (contents outputs) bytes line → given ≡ outputs
+    → IsWriteRefusal old new unwritable (result_names o.out.now (length given)) (contents given ++ bytes ∷ []) e → TellsFile e f → IsSeqRefusal old new unreadable unwritable o list f
+stopped_stage old new unreadable unwritable o list outputs given bytes line e f work same h t =
     let all : length given ≡ o.parts = ap length same ∙ (sym (length-map outputs (λ o. o.items)) ∙ work.result.count) in
-    let texts : contents given ++ given_bytes ∷ [] ≡ contents outputs ++ bytes ∷ [] = ap (λ (v : List (Vec ℕ Global)). contents v ++ given_bytes ∷ []) same ∙ ap (λ (v : List ℕ). contents outputs ++ v ∷ []) same_bytes in
-    inr (contents outputs, bytes, line, work, stopped_as old new unwritable (result_names o.out.now o.parts) (contents outputs ++ bytes ∷ []) e f (subst (λ (v : List (List ℕ)). IsWriteRefusal old new unwritable (result_names o.out.now o.parts) v e) texts (subst (λ (n : ℕ). IsWriteRefusal old new unwritable (result_names o.out.now n) (contents given ++ given_bytes ∷ []) e) all h)) t)
+    let texts : contents given ++ bytes ∷ [] ≡ contents outputs ++ bytes ∷ [] = ap (λ (v : List (Vec ℕ Global)). contents v ++ bytes ∷ []) same in
+    inr (contents outputs, bytes, line, work, stopped_as old new unwritable (result_names o.out.now o.parts) (contents outputs ++ bytes ∷ []) e f (subst (λ (v : List (List ℕ)). IsWriteRefusal old new unwritable (result_names o.out.now o.parts) v e) texts (subst (λ (n : ℕ). IsWriteRefusal old new unwritable (result_names o.out.now n) (contents given ++ bytes ∷ []) e) all h)) t)

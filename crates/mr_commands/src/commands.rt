@@ -8,6 +8,7 @@ ghost use Rattle.mr_commands.specs.Answers.{AnswersSeq, IsRunRefusal, IsSeqRefus
 ghost use Rattle.mr_commands.specs.Commands.{Answers, ChangesOwn, IsRefusal};
 ghost use Rattle.mr_files.specs.Holding.{ChangesAmong};
 ghost use Rattle.mr_files.specs.Names.{result_names};
+ghost use Rattle.mr_certform.specs.Pieces.{all_bytes};
 
 use crate::asked::{Options, Subcommand};
 use crate::fault::Fault;
@@ -19,7 +20,7 @@ use crate::running::run as run_by_workers;
 use crate::said::done_line;
 use crate::skips::skips_of;
 use mr_bytes::RecordName;
-use mr_certform::write as written;
+use mr_certform::{Certificate, text_law};
 use mr_files::{Store, write_files};
 use mr_input::Input;
 use mr_jobs::Request;
@@ -36,11 +37,12 @@ pub struct Said {
     pub status: u8,
 }
 
-/// What a sequential execution leaves to be written, and the line that is said of it.
+/// What a sequential execution leaves to be written, and the line that is said of it. The certificate is spelled only
+/// while it is written: its bytes would take as much memory once more.
 #[derive(Drop)]
 struct Work {
     outputs: Vec<Vec<u8>>,
-    certificate: Vec<u8>,
+    certificate: Certificate,
     line: String,
 }
 
@@ -54,7 +56,7 @@ fn worked(
     watch: &dyn Watch,
 ) -> Result<Work, Fault>
     requires { split_total request.now.split input ≤ 2 ^ 20 }
-    ensures result { IfOk result (λ w. IsSequentialResult request.now input skips.now (contents w.outputs.items) w.certificate.items) }
+    ensures result { IfOk result (λ w. IsSequentialResult request.now input skips.now (contents w.outputs.items) (all_bytes w.certificate)) }
     ensures line { IfOk result (λ w. string_bytes w.line ≡ done_line request.now.parts
         (length (emitted request.now.job request.now.split input skips.now)) (length skips.now)) }
     ensures refused { IfErr result (λ e. IsRunRefusal request.now input skips.now e) }
@@ -62,13 +64,11 @@ fn worked(
     let (outputs, certificate) = run_watched(alloc, request, &input, skips, watch)?;
     // What is done with is given back before memory is asked for again.
     drop(input);
-    let pairs = certificate.total();
-    let bytes = written(alloc, &certificate)?;
-    drop(certificate);
-    let line = done_line(alloc, outputs.len(), pairs, skips.len())?;
+    text_law(&certificate);
+    let line = done_line(alloc, outputs.len(), certificate.total(), skips.len())?;
     Ok(Work {
         outputs,
-        certificate: bytes,
+        certificate,
         line,
     })
 }
@@ -81,7 +81,7 @@ fn worked_out<S: Store>(
     skips: &str,
     watch: &dyn Watch,
 ) -> Result<Work, Fault>
-    ensures work { IfOk result (λ w. WorksOut (S.holds store.now) options.now skips.now (contents w.outputs.items) w.certificate.items (string_bytes w.line)) }
+    ensures work { IfOk result (λ w. WorksOut (S.holds store.now) options.now skips.now (contents w.outputs.items) (all_bytes w.certificate) (string_bytes w.line)) }
     ensures refused { IfErr result (λ e. IsWorkRefusal (S.holds store.now) (S.unreadable store.now) options.now skips.now e) }
 {
     let request = request_of(alloc, options)?;
@@ -110,7 +110,7 @@ pub fn seq<S: Store>(
         alloc,
         options.out,
         work.outputs.as_slice(),
-        work.certificate.as_slice(),
+        &work.certificate,
     )?;
     Ok(Said {
         text: work.line,

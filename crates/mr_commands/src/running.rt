@@ -24,6 +24,7 @@ use mr_input::Input;
 use mr_jobs::Request;
 use mr_pool::{Certified, RunFault, run_watched as pooled};
 use mr_script::Script;
+use mr_store::Bytes;
 use mr_watch::Watch;
 use std::alloc::{AllocError, Global};
 use std::sync::Wait;
@@ -224,7 +225,7 @@ fn keep_result<S: Store, R: Threads>(
         alloc,
         out,
         outputs.as_slice(),
-        certificate.as_slice(),
+        &Bytes(certificate.as_slice()),
     )?;
     if let Some(handle) = freeing {
         handle.join(rt);

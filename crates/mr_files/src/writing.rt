@@ -7,18 +7,18 @@ ghost use Rattle.mr_files.specs.Names.{part_names, name_of_part, name_of_certifi
 
 use crate::names::{certificate_name, part_name};
 use crate::store::{FileFault, Store, WriteFault};
-use mr_store::{CountedWrite, Device, write_whole};
+use mr_store::{Bytes, CountedWrite, Device, Spelled, write_spelled};
 use std::alloc::Global;
 
 /// Writes a file, and tells its name where that fails.
-fn write_file<S: Store>(
+fn write_file<S: Store, C: Spelled>(
     store: &mut S,
     alloc: Global,
     name: String,
-    bytes: &[u8],
+    content: &C,
 ) -> Result<(), FileFault>
-    ensures whole { OnOk result (S.holds store.new (string_bytes name) bytes.now) }
-    ensures begins { Begins (S.holds store.old) (S.holds store.new) (string_bytes name) bytes.now }
+    ensures whole { OnOk result (S.holds store.new (string_bytes name) (C.text content.now)) }
+    ensures begins { Begins (S.holds store.old) (S.holds store.new) (string_bytes name) (C.text content.now) }
     ensures others { ChangesOnly (S.holds store.old) (S.holds store.new) (string_bytes name) }
     ensures refused { IfErr result (λ e. IsUnwritten (S.unwritable store.old) (string_bytes name) e) }
     ensures still { (n : List ℕ) → S.unwritable store.new n → S.unwritable store.old n }
@@ -28,7 +28,7 @@ fn write_file<S: Store>(
         Err(WriteFault::OutOfMemory) => return Err(FileFault::OutOfMemory),
         Err(WriteFault::Device) => return Err(FileFault::CannotWrite(name)),
     };
-    let answer = write_whole(&mut writer, bytes);
+    let answer = write_spelled(&mut writer, content);
     let lacked_memory = writer.lacked_memory();
     store.close(name.as_str(), writer)?;
     match answer {
@@ -52,7 +52,7 @@ pub fn write_named<S: Store>(
     ensures still { (n : List ℕ) → S.unwritable store.new n → S.unwritable store.old n }
 {
     let name = String::from_str(alloc, name)?;
-    write_file(store, alloc, name, bytes)
+    write_file(store, alloc, name, &Bytes(bytes))
 }
 
 fn write_part<S: Store>(
@@ -69,22 +69,22 @@ fn write_part<S: Store>(
     ensures still { (n : List ℕ) → S.unwritable store.new n → S.unwritable store.old n }
 {
     let name = part_name(alloc, dir, part)?;
-    write_file(store, alloc, name, bytes)
+    write_file(store, alloc, name, &Bytes(bytes))
 }
 
-fn write_certificate<S: Store>(
+fn write_certificate<S: Store, C: Spelled>(
     store: &mut S,
     alloc: Global,
     dir: &str,
-    bytes: &[u8],
+    certificate: &C,
 ) -> Result<(), FileFault>
-    ensures whole { OnOk result (S.holds store.new (name_of_certificate dir.now) bytes.now) }
-    ensures begins { Begins (S.holds store.old) (S.holds store.new) (name_of_certificate dir.now) bytes.now }
+    ensures whole { OnOk result (S.holds store.new (name_of_certificate dir.now) (C.text certificate.now)) }
+    ensures begins { Begins (S.holds store.old) (S.holds store.new) (name_of_certificate dir.now) (C.text certificate.now) }
     ensures others { ChangesOnly (S.holds store.old) (S.holds store.new) (name_of_certificate dir.now) }
     ensures refused { IfErr result (λ e. IsUnwritten (S.unwritable store.old) (name_of_certificate dir.now) e) }
 {
     let name = certificate_name(alloc, dir)?;
-    write_file(store, alloc, name, bytes)
+    write_file(store, alloc, name, certificate)
 }
 
 /// Writes each output under the name of its part, in order.
@@ -106,20 +106,20 @@ fn write_parts<S: Store>(
     Ok(())
 }
 
-/// Writes the outputs to `part-00000` and so on, in order, and then `certificate`. Behind it they all stand whole, and
-/// all else as before.
-pub fn write_files<S: Store>(
+/// Writes the outputs to `part-00000` and so on, in order, and then `certificate`, which may be spelled while it is
+/// written. Behind it they all stand whole, and all else as before.
+pub fn write_files<S: Store, C: Spelled>(
     store: &mut S,
     alloc: Global,
     dir: &str,
     outputs: &[Vec<u8>],
-    certificate: &[u8],
+    certificate: &C,
 ) -> Result<(), FileFault>
     ensures outputs { OnOk result (Holding (S.holds store.new) (part_names dir.now (length outputs.now)) (contents outputs.now)) }
-    ensures certificate { OnOk result (S.holds store.new (name_of_certificate dir.now) certificate.now) }
+    ensures certificate { OnOk result (S.holds store.new (name_of_certificate dir.now) (C.text certificate.now)) }
     ensures others { ChangesAmong (S.holds store.old) (S.holds store.new) (result_names dir.now (length outputs.now)) }
     ensures refused { IfErr result (λ e. IsWriteRefusal (S.holds store.old) (S.holds store.new) (S.unwritable store.old)
-        (result_names dir.now (length outputs.now)) (contents outputs.now ++ certificate.now ∷ []) e) }
+        (result_names dir.now (length outputs.now)) (contents outputs.now ++ C.text certificate.now ∷ []) e) }
 {
     write_parts(store, alloc, dir, outputs)?;
     write_certificate(store, alloc, dir, certificate)

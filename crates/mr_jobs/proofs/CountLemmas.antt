@@ -10,8 +10,8 @@ use Rattle.std.proofs.lemmas.List.Sums.{sum_by-cons}
 use Rattle.mr_bytes.specs.declared.Value.{Value}
 use Rattle.mr_bytes.specs.declared.Value.TheVariants.{One, At}
 use Rattle.mr_bytes.proofs.WordLemmas.{word_spans_from-cons, word_spans_from-nil}
-use Rattle.mr_jobs.specs.Emissions.{Emission, emissions, one_for, word_key, word_emission}
-use Rattle.mr_jobs.specs.Laws.{FewEmissions, ShortKeys, KeysFitTheRecord, CountersEmitOnes}
+use Rattle.mr_jobs.specs.Emissions.{Emission, emissions, one_for, value_at, word_key, word_emission}
+use Rattle.mr_jobs.specs.Laws.{FewEmissions, ShortKeys, KeysFitTheRecord, CountersEmitOnes, OneValueEach}
 use Rattle.mr_jobs.specs.Literal.{holds, begins_with}
 use Rattle.mr_jobs.specs.JobSpec.{JobSpec, WordCount, LinesWith, Resources}
 use Rattle.mr_jobs.specs.Url.{IsRequestFor, url_of, piece_bytes}
@@ -190,3 +190,23 @@ pub counters_emit_ones : CountersEmitOnes
 counters_emit_ones (WordCount keep_case) file start line is = All-map IsOne (word_emission keep_case line) (word_spans line) (λ k d less. refl)
 counters_emit_ones (LinesWith literal fold) file start line is = absurd (let no : false ≡ true = is in cc)
 counters_emit_ones Resources file start line is = ones_one (url_of line)
+
+-- values
+abbrev Has : JobSpec → ℕ → ℕ → Emission → Type 0
+Has job file start e = e.1 ≡ value_at job file start
+
+has_one : (file start : ℕ) (key : Option (List ℕ)) → All (Has Resources file start) (one_for key)
+has_one file start None = All-nil (Has Resources file start)
+has_one file start (Some key) = All-cons (Has Resources file start) (key, One) [] refl (All-nil (Has Resources file start))
+
+has_if : (job : JobSpec) (file start : ℕ) (t : Bool) (one : Emission) → Has job file start one → All (Has job file start) (cond t (one ∷ []) [])
+has_if job file start true one h = All-cons (Has job file start) one [] h (All-nil (Has job file start))
+has_if job file start false one h = All-nil (Has job file start)
+
+pub one_value_each : OneValueEach
+one_value_each (WordCount keep_case) file start line =
+    All-map (Has (WordCount keep_case) file start) (word_emission keep_case line) (word_spans line) (λ k d less. refl)
+one_value_each (LinesWith literal fold) file start line =
+    let one : Emission = (line, At file start) in
+    has_if (LinesWith literal fold) file start (holds fold line literal) one refl
+one_value_each Resources file start line = has_one file start (url_of line)

@@ -1,12 +1,12 @@
 -- What is known of the places of a literal, from one line of a text to the next.
-use Rattle.std.proofs.Common.{leb, ◌≡◌, ℕ, ◌+◌, ◌-◌, ◌<◌, ◌≤◌, Bool, true, false, List, length, get_or, take, drop, refl, sym, ◌∙◌, ap, arith, slice_range, IsTrue, Option, None, Some, inl, inr, ◌⊎◌, subst}
+use Rattle.std.proofs.Common.{leb, ◌≡◌, ℕ, ◌+◌, ◌-◌, ◌<◌, ◌≤◌, Bool, true, false, List, length, get_or, drop, refl, sym, ◌∙◌, ap, arith, slice_range, IsTrue, Option, None, Some, inl, inr, ◌⊎◌}
 use Rattle.std.proofs.lemmas.List.{get_or-take, get_or-drop, length-take, length-drop}
 use Rattle.std.proofs.lemmas.Bool.{false_from_ne_true, false≢true}
 use Rattle.std.proofs.lemmas.Bool.Decides.{leb_tells}
 use Rattle.memchr.specs.Find.{FindsNeedle}
 use Rattle.mr_lanes.specs.Find.{FindsFolded}
 use Rattle.mr_jobs.specs.declared.hits.Known.{Known}
-use Rattle.mr_jobs.specs.Literal.{compared, StandsAt, Holds, holds}
+use Rattle.mr_jobs.specs.Literal.{compared, StandsAt, holds}
 use Rattle.mr_jobs.specs.Hits.{Sought, StandsNowhere, IsFirstPlace, AreSo}
 use Rattle.mr_jobs.proofs.LiteralLemmas.{found_place, place_found}
 

@@ -35,6 +35,12 @@ emissions Resources file start line = one_for (url_of line)
 abbrev pub words_from : List ℕ → ℕ → List Emission
 words_from text from = map (λ w. (span_bytes text w, One)) (word_spans_from from (drop from text))
 
+-- the value that all pairs of a record have which begins at the place `start` of the file `file`
+abbrev pub value_at : JobSpec → ℕ → ℕ → Value
+value_at (WordCount keep_case) file start = One
+value_at (LinesWith literal fold) file start = At file start
+value_at Resources file start = One
+
 -- what is left of an emitter: one pair with the whole text, or the words from a place on
 abbrev pub still_emitted : List ℕ → ℕ → Option Value → List Emission
 still_emitted text from (Some value) = (text, value) ∷ []

@@ -2,7 +2,7 @@
 use Rattle.std.specs.Prelude.{◌≡◌, ◌↔◌, ℕ, ◌≤◌, Bool, List, Some, IsTrue, All, length, sum_by}
 use Rattle.mr_bytes.specs.declared.Value.TheVariants.{One}
 use Rattle.mr_jobs.specs.JobSpec.{JobSpec, JobFits, counts}
-use Rattle.mr_jobs.specs.Emissions.{emissions}
+use Rattle.mr_jobs.specs.Emissions.{emissions, value_at}
 use Rattle.mr_jobs.specs.Literal.{Holds, holds}
 use Rattle.mr_jobs.specs.Url.{IsRequestFor, url_of}
 
@@ -32,3 +32,7 @@ KeysFitTheRecord = (job : JobSpec) (file start : ℕ) (line : List ℕ) → sum_
 -- a job that counts emits no other value than One
 abbrev pub CountersEmitOnes : Type 0
 CountersEmitOnes = (job : JobSpec) (file start : ℕ) (line : List ℕ) → IsTrue (counts job) → All (λ e. e.1 ≡ One) (emissions job file start line)
+
+-- all pairs of a record have the value that its job and its place tell
+abbrev pub OneValueEach : Type 0
+OneValueEach = (job : JobSpec) (file start : ℕ) (line : List ℕ) → All (λ e. e.1 ≡ value_at job file start) (emissions job file start line)

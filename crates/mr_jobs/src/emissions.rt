@@ -1,7 +1,7 @@
 //! What a job emits for a record.
 ghost use Rattle.std.specs.Prelude.{◌≡◌, ◌↔◌, IsTrue, ℕ, ◌+◌, ◌≤◌, ◌<◌, ◌^◌, ◌++◌, [], ◌∷◌, All, OnOk, OnErr, if◌then◌else◌, is_ok, length, take, vec_len};
 ghost use Rattle.mr_jobs.specs.Emissions.{emissions, nth_emission};
-ghost use Rattle.mr_jobs.specs.Laws.{FewEmissions, ShortKeys, KeysFitTheRecord, CountersEmitOnes};
+ghost use Rattle.mr_jobs.specs.Laws.{FewEmissions, ShortKeys, KeysFitTheRecord, CountersEmitOnes, OneValueEach};
 ghost use Rattle.mr_jobs.specs.Views.{IsIn, entries_seen, entry_for};
 
 use crate::emitter::Emitter;
@@ -155,10 +155,12 @@ pub fn map(
 }
 
 /// What callers may rest on for every record: it has no more emissions than bytes, its keys are no longer than the
-/// record, one by one and together, and a job that counts emits no other value than `One`.
+/// record, one by one and together, a job that counts emits no other value than `One`, and all pairs have the value that
+/// `Job::value_at` tells.
 pub fn emission_law()
     ensures few { FewEmissions }
     ensures short { ShortKeys }
     ensures together { KeysFitTheRecord }
     ensures ones { CountersEmitOnes }
+    ensures values { OneValueEach }
 {}

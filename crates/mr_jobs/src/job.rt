@@ -1,7 +1,9 @@
 //! What is done with each record.
 ghost use Rattle.std.specs.Prelude.{◌≡◌, ◌↔◌, ℕ, ◌≤◌, ◌<◌, IfOk, OnOk, IsOkUnless, length, [], Contains};
 ghost use Rattle.mr_jobs.specs.JobSpec.{WordCount, LinesWith, Resources, JobFits, LiteralFits, counts, job_number, job_flags, job_literal};
+ghost use Rattle.mr_jobs.specs.Emissions.{value_at};
 
+use mr_bytes::Value;
 use std::alloc::Global;
 use std::marker::Model;
 use thiserror::Error;
@@ -108,6 +110,19 @@ impl Job {
         match &self.kind {
             Kind::Words { .. } | Kind::Url => true,
             Kind::Grep { .. } => false,
+        }
+    }
+
+    /// The value of each pair that the job emits for a record which begins at the place `start` of the file `file`.
+    pub fn value_at(&self, file: u32, start: u32) -> Value
+        ensures { result ≡ value_at self.now file start }
+    {
+        match &self.kind {
+            Kind::Words { .. } | Kind::Url => Value::One,
+            Kind::Grep { .. } => Value::At {
+                file,
+                offset: start as u64,
+            },
         }
     }
 

@@ -2,10 +2,7 @@
 use Rattle.std.proofs.Common.{◌≡◌, ℕ, zero, suc, ◌+◌, ◌<◌, ◌≤◌, ◌++◌, true, false, List, [], ◌∷◌, length, get_or, take, drop, arith, length-append, refl, ap, ◌∙◌, sym}
 use Rattle.std.proofs.lemmas.List.{take-append-le, take-append-drop, take_all}
 use Rattle.std.specs.List.{flat_map}
-use Rattle.mr_bytes.specs.declared.Value.{Value}
-use Rattle.mr_bytes.specs.Values.{ones_then}
-use Rattle.mr_jobs.specs.JobSpec.{JobSpec, WordCount, LinesWith, Resources, counts}
-use Rattle.mr_reduce.specs.Text.{place_line, text_of}
+use Rattle.mr_jobs.specs.JobSpec.{WordCount, LinesWith, Resources}
 use Rattle.mr_reduce.specs.Laws.{CountersTellTheNumber}
 
 pub counters_tell_the_number : CountersTellTheNumber
@@ -30,14 +27,3 @@ flat-part f (x ∷ xs) zero d h = omega (arith, length-append (f x) (flat_map f 
 flat-part f (x ∷ xs) (suc i) d h =
     let inside : i < length xs = omega arith in
     omega (arith, flat-part f xs i d inside, length-append (f x) (flat_map f xs), length-append (f x) (flat_map f (take i xs)))
-
-ones-give-nothing : (key : List ℕ) (ones : ℕ) (rest : List Value) → flat_map (place_line key) (ones_then ones rest) ≡ flat_map (place_line key) rest
-ones-give-nothing key zero rest = refl
-ones-give-nothing key (suc ones) rest = ones-give-nothing key ones rest
-
--- where a job doesn't count, the ones in front give nothing
-pub text-stored : (job : JobSpec) (key : List ℕ) (values rest : List Value) (ones : ℕ) → counts job ≡ false → values ≡ ones_then ones rest
-    → text_of job key values ≡ text_of job key rest
-text-stored (WordCount keep_case) key values rest ones other is = absurd (let e : true ≡ false = other in cc)
-text-stored (LinesWith literal fold) key values rest ones other is = ap (flat_map (place_line key)) is ∙ ones-give-nothing key ones rest
-text-stored Resources key values rest ones other is = absurd (let e : true ≡ false = other in cc)

@@ -48,7 +48,12 @@ pub fn column_text(
     ensures full { OnErr result (vec_capacity out.old < vec_len out.old + length (text_of job.now key.now values.now)) }
 {
     if !job.counts() {
-        return group_text(job, key, values.stored(), out);
+        let before = out.len();
+        let done = put_column(key, values, out);
+        if done.is_err() {
+            out.truncate(before);
+        }
+        return done;
     }
     let total = values.len();
     total_text(key, total as u64, out)
@@ -113,6 +118,18 @@ fn put_places(key: &[u8], values: &[Value], out: &mut Vec<u8>) -> Result<(), All
 {
     for value in values {
         put_place(key, *value, out)?;
+    }
+    Ok(())
+}
+
+/// Appends the lines of a key with the places of a column. Where it fails, what stood before still stands in front.
+fn put_column(key: &[u8], values: &Values, out: &mut Vec<u8>) -> Result<(), AllocError>
+    ensures kept { take (vec_len out.old) out.new.items ≡ out.old.items }
+    ensures ok { OnOk result (out.new.items ≡ out.old.items ++ flat_map (place_line key.now) values.now) }
+    ensures full { OnErr result (vec_capacity out.old < vec_len out.old + length (flat_map (place_line key.now) values.now)) }
+{
+    for i in 0..values.len() {
+        put_place(key, values.get(i), out)?;
     }
     Ok(())
 }

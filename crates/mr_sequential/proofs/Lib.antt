@@ -16,3 +16,4 @@ pub mod SkipLaws
 pub mod SourceLemmas
 pub mod TextLemmas
 pub mod UniqueLaws
+pub mod ValueLemmas

@@ -1,7 +1,7 @@
 -- Each record is a line of its file.
-use Rattle.std.proofs.Common.{◌≡◌, ℕ, ◌+◌, ◌-◌, ◌<◌, ◌≤◌, ◌/◌, cond, eqb, List, [], ◌∷◌, ◌++◌, length, get_or, take, drop, All, refl, sym, ◌∙◌, ap, subst, arith, slice_range, length-drop}
+use Rattle.std.proofs.Common.{◌≡◌, ℕ, ◌+◌, ◌-◌, ◌<◌, ◌≤◌, ◌/◌, cond, eqb, List, [], ◌∷◌, length, get_or, drop, All, refl, sym, ◌∙◌, ap, subst, arith, slice_range, length-drop}
 use Rattle.std.proofs.lemmas.List.{drop-drop, get_or-drop, length-take}
-use Rattle.std.proofs.lemmas.List.Elements.{All-nil, All-cons, All-head, All-tail, All-append, All-filter}
+use Rattle.std.proofs.lemmas.List.Elements.{All-nil, All-cons, All-head, All-tail, All-append}
 use Rattle.mr_records.specs.Records.{Record, records}
 use Rattle.mr_records.specs.Ends.{ended_at, EndsRise, is_open}
 use Rattle.mr_records.proofs.EndLemmas.{ends_of}

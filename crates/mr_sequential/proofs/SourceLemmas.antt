@@ -16,9 +16,9 @@ use Rattle.mr_splits.specs.Named.{NamedRecord, is_left_out, named_from, named_fi
 use Rattle.mr_splits.specs.Kept.{kept_records}
 use Rattle.mr_bytes.specs.Pairs.{Triple}
 use Rattle.mr_sequential.specs.Emitted.{placed_from, record_triples, emitted}
-use Rattle.mr_sequential.specs.Names.{names_from, kept_names, record_names}
+use Rattle.mr_sequential.specs.Names.{names_from, names_beside, kept_names, pair_count, record_names}
 use Rattle.mr_sequential.specs.Certified.{names_with, groups_of}
-use Rattle.mr_sequential.specs.Pairs.{kept_pairs, record_pairs, values_in, texts_in, names_under, groups_in}
+use Rattle.mr_sequential.specs.Pairs.{kept_pairs, record_keys, record_pairs, values_in, texts_in, names_under, groups_in}
 use Rattle.mr_sequential.specs.Sequential.{keys_of, texts_of, values_of}
 use Rattle.mr_ranks.proofs.ListLemmas.{length-append}
 
@@ -41,12 +41,28 @@ pub kept-pairs : (job : JobSpec) (skips : List RecordName) (rs : List NamedRecor
     → flat_map (record_pairs job) (kept_records skips rs) ≡ flat_map (kept_pairs job skips) rs
 kept-pairs job skips rs = kept-flat (record_pairs job) skips rs
 
+-- the keys of what records give
+keys-flat : (job : JobSpec) (rs : List NamedRecord) → flat_map (record_keys job) rs ≡ map (λ (e : Emission). e.0) (flat_map (record_pairs job) rs)
+keys-flat job [] = refl
+keys-flat job (r ∷ rs) =
+    ap (λ l. record_keys job r ++ l) (keys-flat job rs) ∙ sym (map-append (λ (e : Emission). e.0) (record_pairs job r) (flat_map (record_pairs job) rs))
+
+pub kept-keys : (job : JobSpec) (skips : List RecordName) (rs : List NamedRecord)
+    → flat_map (record_keys job) (kept_records skips rs) ≡ map (λ (e : Emission). e.0) (flat_map (kept_pairs job skips) rs)
+kept-keys job skips rs = keys-flat job (kept_records skips rs) ∙ ap (map (λ (e : Emission). e.0)) (kept-pairs job skips rs)
+
 -- one more of the records
 pub next_gathered : {Y : Type 0} (f : NamedRecord → List Y) (old now given all : List Y) (left later : List NamedRecord) (r : NamedRecord)
     → left ≡ r ∷ later → given ≡ f r → now ≡ old ++ given → old ++ flat_map f left ≡ all → now ++ flat_map f later ≡ all
 next_gathered {Y} f old now given all left later r is one grown before =
     ap (λ (l : List Y). l ++ flat_map f later) (grown ∙ ap (λ (l : List Y). old ++ l) one) ∙ append_assoc old (f r) (flat_map f later)
     ∙ ap (λ (l : List NamedRecord). old ++ flat_map f l) (sym is) ∙ before
+
+pub next_counted : (f : NamedRecord → ℕ) (old now all : List ℕ) (left later : List NamedRecord) (r : NamedRecord)
+    → left ≡ r ∷ later → now ≡ old ++ f r ∷ [] → old ++ map f left ≡ all → now ++ map f later ≡ all
+next_counted f old now all left later r is grown before =
+    ap (λ (l : List ℕ). l ++ map f later) grown ∙ append_assoc old (f r ∷ []) (map f later)
+    ∙ ap (λ (l : List NamedRecord). old ++ map f l) (sym is) ∙ before
 
 -- no more records
 pub last_gathered : {Y : Type 0} (f : NamedRecord → List Y) (old all : List Y) (left : List NamedRecord) → left ≡ [] → old ++ flat_map f left ≡ all → old ≡ all
@@ -165,7 +181,7 @@ pub emitted-count : (request : RequestSpec) (files : List (List ℕ)) (skips : L
     → length (flat_map (kept_pairs request.job skips) (named_records request.split files)) ≡ length (emitted request.job request.split files skips)
 emitted-count request files skips = ap length (sym (emitted-pairs request files skips)) ∙ same_length (emitted request.job request.split files skips)
 
-triple-keys : (ts : List Triple) → map (λ (e : Emission). e.0) (map pair_of ts) ≡ map (λ (t : Triple). t.key) ts
+pub triple-keys : (ts : List Triple) → map (λ (e : Emission). e.0) (map pair_of ts) ≡ map (λ (t : Triple). t.key) ts
 triple-keys [] = refl
 triple-keys (t ∷ ts) = ap (λ l. t.key ∷ l) (triple-keys ts)
 
@@ -204,6 +220,11 @@ kept-name job skips r =
       | false ↦ sym (placed-names r.name 0 es)
     ]
 
+-- each record beside how many it gives
+pub beside-counts : (job : JobSpec) (rs : List NamedRecord) → names_beside rs (map (pair_count job) rs) ≡ flat_map (record_names job) rs
+beside-counts job [] = refl
+beside-counts job (r ∷ rs) = ap (λ (l : List Name). record_names job r ++ l) (beside-counts job rs)
+
 pub kept-names : (job : JobSpec) (skips : List RecordName) (rs : List NamedRecord)
     → flat_map (record_names job) (kept_records skips rs) ≡ flat_map (kept_names job skips) rs
 kept-names job skips rs = kept-flat (record_names job) skips rs ∙ each rs
@@ -226,10 +247,10 @@ pub emitted-names : (request : RequestSpec) (files : List (List ℕ)) (skips : L
 emitted-names request files skips = all-names request.job skips (named_records request.split files)
 
 -- the names of a key's pairs are those of its triples
-triple-names : (k : List ℕ) (ts : List Triple) → names_under (map pair_of ts) (map (λ (t : Triple). t.name) ts) k ≡ names_with ts k
+triple-names : (k : List ℕ) (ts : List Triple) → names_under (map (λ (t : Triple). t.key) ts) (map (λ (t : Triple). t.name) ts) k ≡ names_with ts k
 triple-names k [] = refl
 triple-names k (t ∷ ts) =
-    let es : List (List ℕ × Name) = filter (λ (e : List ℕ × Name). bytes_eq e.0 k) (zip (map (λ (e : Emission). e.0) (map pair_of ts)) (map (λ (x : Triple). x.name) ts)) in
+    let es : List (List ℕ × Name) = filter (λ (e : List ℕ × Name). bytes_eq e.0 k) (zip (map (λ (x : Triple). x.key) ts) (map (λ (x : Triple). x.name) ts)) in
     let xs : List Triple = filter (λ (x : Triple). bytes_eq x.key k) ts in
     elim (bytes_eq t.key k) as (λ b. map (λ (e : List ℕ × Name). e.1) (cond b ((t.key, t.name) ∷ es) es) ≡ map (λ (x : Triple). x.name) (cond b (t ∷ xs) xs)) [
       | true ↦ ap (λ l. t.name ∷ l) (triple-names k ts)
@@ -240,16 +261,15 @@ map-same : {X Y : Type 0} (f g : X → Y) → ((x : X) → f x ≡ g x) → (xs 
 map-same f g e [] = refl
 map-same f g e (x ∷ xs) = ap (λ y. y ∷ map f xs) (e x) ∙ ap (λ l. g x ∷ l) (map-same f g e xs)
 
--- groups by pairs and names are groups by triples
+-- groups by keys and names are groups by triples
 pub groups-triples : (part : List ℕ → ℕ) (ts : List Triple) (ps : List ℕ)
-    → map (groups_in part (map pair_of ts) (map (λ (t : Triple). t.name) ts)) ps ≡ map (groups_of part ts) ps
+    → map (groups_in part (map (λ (t : Triple). t.key) ts) (map (λ (t : Triple). t.name) ts)) ps ≡ map (groups_of part ts) ps
 groups-triples part ts ps =
-    map-same (groups_in part (map pair_of ts) (map (λ (t : Triple). t.name) ts)) (groups_of part ts)
-    (λ p. ap (λ ks. map (names_under (map pair_of ts) (map (λ (t : Triple). t.name) ts)) (keys_of part ks p)) (triple-keys ts)
-    ∙ map-same (names_under (map pair_of ts) (map (λ (t : Triple). t.name) ts)) (names_with ts) (λ k. triple-names k ts) (keys_of part (map (λ (t : Triple). t.key) ts) p))
+    map-same (groups_in part (map (λ (t : Triple). t.key) ts) (map (λ (t : Triple). t.name) ts)) (groups_of part ts)
+    (λ p. map-same (names_under (map (λ (t : Triple). t.key) ts) (map (λ (t : Triple). t.name) ts)) (names_with ts) (λ k. triple-names k ts) (keys_of part (map (λ (t : Triple). t.key) ts) p))
     ps
 
--- as many names as pairs
-pub even_lists : (ts : List Triple) → length (map (λ (t : Triple). t.name) ts) ≡ length (map pair_of ts)
+-- as many names as keys
+pub even_lists : (ts : List Triple) → length (map (λ (t : Triple). t.name) ts) ≡ length (map (λ (t : Triple). t.key) ts)
 even_lists [] = refl
 even_lists (t ∷ ts) = ap suc (even_lists ts)

@@ -1,12 +1,14 @@
--- Of no public promise: the names of pairs in their order, record by record.
-use Rattle.std.specs.Prelude.{length, ℕ, zero, suc, ◌+◌, ◌-◌, List, [], ◌∷◌, ◌++◌, map}
-use Rattle.std.specs.List.{flat_map}
+-- Of no public promise: the names of pairs in their order, record by record, and what a name tells.
+use Rattle.std.specs.Prelude.{length, ℕ, zero, suc, ◌+◌, ◌-◌, ◌<◌, List, [], ◌∷◌, ◌++◌, map}
+use Rattle.std.specs.List.{flat_map, zip}
 use Rattle.mr_bytes.specs.declared.Name.{Name}
 use Rattle.mr_bytes.specs.declared.RecordName.{RecordName}
+use Rattle.mr_bytes.specs.declared.Value.{Value}
+use Rattle.mr_input.specs.Files.{split_total}
 use Rattle.mr_jobs.specs.JobSpec.{JobSpec}
-use Rattle.mr_jobs.specs.Emissions.{emissions}
-use Rattle.mr_splits.specs.Named.{NamedRecord}
-use Rattle.mr_sequential.specs.declared.names.Run.{Run}
+use Rattle.mr_jobs.specs.Emissions.{emissions, value_at}
+use Rattle.mr_splits.specs.Named.{NamedRecord, of_split}
+use Rattle.mr_splits.specs.Cut.{Cut, nth_named, records_of}
 use Rattle.mr_sequential.specs.Emitted.{record_triples}
 
 -- the names of so many pairs of a record, from a place on
@@ -14,19 +16,34 @@ unfoldable pub names_from : RecordName → ℕ → ℕ → List Name
 names_from name place zero = []
 names_from name place (suc count) = record { split = name.split; rec = name.rec; place = place } ∷ names_from name (place + 1) count
 
--- the names of the pairs of records, each told with how many it has
-abbrev pub names_in : List Run → List Name
-names_in runs = flat_map (λ r. names_from r.name 0 r.count) runs
+-- the names of the pairs of records, each of which gave as many as is told beside it
+abbrev pub names_beside : List NamedRecord → List ℕ → List Name
+names_beside rs counts = flat_map (λ e. names_from e.0.name 0 e.1) (zip rs counts)
 
--- the same, from a place of the first record on
-abbrev pub names_left : ℕ → List Run → List Name
-names_left place [] = []
-names_left place (r ∷ rs) = names_from r.name place (r.count - place) ++ names_in rs
+-- the same, behind the names of a record from a place on and before another
+abbrev pub names_left : RecordName → ℕ → ℕ → List NamedRecord → List ℕ → List Name
+names_left name place end rs counts = names_from name place (end - place) ++ names_beside rs counts
+
+-- how many pairs a record gives
+abbrev pub pair_count : JobSpec → NamedRecord → ℕ
+pair_count job r = length (emissions job r.file r.start r.bytes)
 
 -- the names of what a record gives
 abbrev pub record_names : JobSpec → NamedRecord → List Name
-record_names job r = names_from r.name 0 (length (emissions job r.file r.start r.bytes))
+record_names job r = names_from r.name 0 (pair_count job r)
 
 -- the names of what a record gives, unless it is left out
 abbrev pub kept_names : JobSpec → List RecordName → NamedRecord → List Name
 kept_names job skips r = map (λ t. t.name) (record_triples job skips r)
+
+-- there is a record of that name
+abbrev pub IsOfRecord : Cut → Name → Type 0
+IsOfRecord cut n = (n.split < split_total cut.size cut.files) × (n.rec < length (of_split n.split (records_of cut)))
+
+-- the record that a name tells
+abbrev pub record_under : List NamedRecord → Name → NamedRecord
+record_under rs n = nth_named (of_split n.split rs) n.rec
+
+-- the value of the pair that a name tells
+abbrev pub value_under : JobSpec → List NamedRecord → Name → Value
+value_under job rs n = value_at job (record_under rs n).file (record_under rs n).start

@@ -1,4 +1,4 @@
--- Of no public promise: pairs without their names, and how they are gathered: distinct keys, and for each pair its key's number and its value.
+-- Of no public promise: pairs without their names, and how their keys are gathered: distinct keys, and for each pair its key's number.
 use Rattle.std.specs.Prelude.{ℕ, if◌then◌else◌, List, [], ◌++◌, map, filter}
 use Rattle.std.specs.List.{flat_map, range_with_len, zip}
 use Rattle.std.specs.Str.{bytes_eq}
@@ -11,17 +11,15 @@ use Rattle.mr_splits.specs.Named.{NamedRecord, is_left_out}
 use Rattle.mr_keys.specs.Keys.{key_at}
 use Rattle.mr_ranks.specs.Buckets.{bucket}
 use Rattle.mr_sequential.specs.Sequential.{keys_of}
+use Rattle.mr_sequential.specs.Names.{value_under}
 
-abbrev pub pair_at : List (List ℕ) → ℕ × Value → Emission
-pair_at keys e = (key_at keys e.0, e.1)
-
--- the pairs that numbers of keys and values stand for
-abbrev pub paired : List (List ℕ) → List ℕ → List Value → List Emission
-paired keys numbers values = map (pair_at keys) (zip numbers values)
+-- the keys that numbers stand for
+abbrev pub keyed : List (List ℕ) → List ℕ → List (List ℕ)
+keyed keys numbers = map (key_at keys) numbers
 
 -- the same, where the keys of the last pairs have no numbers yet: those wait
-abbrev pub waited : List (List ℕ) → List ℕ → List (List ℕ) → List Value → List Emission
-waited keys numbers waiting values = zip (map (key_at keys) numbers ++ waiting) values
+abbrev pub waited : List (List ℕ) → List ℕ → List (List ℕ) → List (List ℕ)
+waited keys numbers waiting = map (key_at keys) numbers ++ waiting
 
 -- the buckets of the numbers below n
 abbrev pub buckets : {X : Type 0} → ℕ → List (ℕ × X) → List (List X)
@@ -35,17 +33,25 @@ values_in es k = map (λ e. e.1) (filter (λ e. bytes_eq e.0 k) es)
 abbrev pub texts_in : (List ℕ → ℕ) → (List ℕ → List Value → List ℕ) → List Emission → ℕ → List ℕ
 texts_in part text es p = flat_map (λ k. text k (values_in es k)) (keys_of part (map (λ e. e.0) es) p)
 
--- the names of a key's pairs, in their order, the pairs and the names being told apart
-abbrev pub names_under : List Emission → List Name → List ℕ → List Name
-names_under es names k = map (λ e. e.1) (filter (λ e. bytes_eq e.0 k) (zip (map (λ e. e.0) es) names))
+-- the names of a key's pairs, in their order, the keys of the pairs and the names being told apart
+abbrev pub names_under : List (List ℕ) → List Name → List ℕ → List Name
+names_under keys names k = map (λ e. e.1) (filter (λ e. bytes_eq e.0 k) (zip keys names))
 
 -- the groups of a partition, by rising key
-abbrev pub groups_in : (List ℕ → ℕ) → List Emission → List Name → ℕ → List (List Name)
-groups_in part es names p = map (names_under es names) (keys_of part (map (λ e. e.0) es) p)
+abbrev pub groups_in : (List ℕ → ℕ) → List (List ℕ) → List Name → ℕ → List (List Name)
+groups_in part keys names p = map (names_under keys names) (keys_of part keys p)
+
+-- pairs of these keys and names, each with the value that its name tells
+abbrev pub valued : JobSpec → List NamedRecord → List (List ℕ) → List Name → List Emission
+valued job rs keys names = zip keys (map (value_under job rs) names)
 
 -- what a record gives, without names
 abbrev pub record_pairs : JobSpec → NamedRecord → List Emission
 record_pairs job r = emissions job r.file r.start r.bytes
+
+-- the keys of these
+abbrev pub record_keys : JobSpec → NamedRecord → List (List ℕ)
+record_keys job r = map (λ e. e.0) (emissions job r.file r.start r.bytes)
 
 -- the same, unless it is left out
 abbrev pub kept_pairs : JobSpec → List RecordName → NamedRecord → List Emission

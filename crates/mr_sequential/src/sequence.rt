@@ -149,9 +149,10 @@ fn execute(
     // Files within the limits of an input emit fewer pairs than a u32 numbers.
     let _files = plan.input().files();
     let job = request.job();
-    let Emitted { pairs, names } = gather(alloc, job, plan, skips, watch)?;
+    let kept = plan.kept(alloc, skips)?;
+    let Emitted { pairs, counts } = gather(alloc, job, &kept, watch)?;
     watch.tell(Phase::Reducing, 0, 1);
-    let (texts, groups) = outputs(alloc, job, pairs, names, request.parts())?;
+    let (texts, groups) = outputs(alloc, job, &kept, pairs, counts, request.parts())?;
     watch.tell(Phase::Reducing, 1, 1);
     let header = header_of(alloc, request, plan.input(), skips)?;
     Ok((texts, Certificate::of(header, groups)))

@@ -1,17 +1,18 @@
 //! The outputs: for each partition the texts of its groups, by rising key.
-ghost use Rattle.std.specs.Prelude.{◌≡◌, ℕ, ◌+◌, ◌≤◌, ◌<◌, ◌^◌, [], ◌++◌, IfOk, OnOk, All, count_by, ◌==◌, length, vec_len, slice_index, slice_range, slice_set, OnErr};
-ghost use Rattle.std.specs.List.{zip};
-ghost use Rattle.mr_bytes.specs.declared.Value.TheVariants.{One};
+ghost use Rattle.std.specs.Prelude.{◌≡◌, ℕ, ◌+◌, ◌≤◌, ◌<◌, [], ◌++◌, IfOk, OnOk, All, false, length, map, slice_set};
 ghost use Rattle.mr_input.specs.Files.{contents, nth_file};
+ghost use Rattle.mr_jobs.specs.JobSpec.{counts as is_counter};
 ghost use Rattle.mr_reduce.specs.Text.{text_of, total_line};
-ghost use Rattle.mr_ranks.specs.Buckets.{before, size, bucket, start_of};
-ghost use Rattle.mr_sequential.specs.Rows.{bucket_text, count_line, row_texts, values_text};
+ghost use Rattle.mr_splits.specs.Cut.{records_of};
+ghost use Rattle.mr_sequential.specs.Names.{IsOfRecord, value_under};
+ghost use Rattle.mr_sequential.specs.Rows.{count_line, names_text, row_names, row_start, row_texts};
 
-use crate::distribute::scatter;
-use mr_bytes::{Value, Values};
+use mr_bytes::Name;
+use mr_certform::FlatGroups;
 use mr_jobs::Job;
-use mr_ranks::{Row, starts_of};
+use mr_ranks::Row;
 use mr_reduce::{group_text, total_text};
+use mr_splits::Plan;
 use std::alloc::{AllocError, Global};
 
 /// As many empty texts as there are partitions.
@@ -27,7 +28,7 @@ pub(crate) fn empty_texts(alloc: Global, parts: u32) -> Result<Vec<Vec<u8>>, All
 }
 
 /// Appends the line of a row with a number to the text of its partition.
-fn add_total(texts: &mut Vec<Vec<u8>>, row: Row<'_>, total: usize) -> Result<(), AllocError>
+fn add_total(texts: &mut Vec<Vec<u8>>, row: Row<'_>, total: u32) -> Result<(), AllocError>
     requires { row.part < length texts.old.items }
     ensures count { length texts.new.items ≡ length texts.old.items }
     ensures ok { OnOk result (contents texts.new.items
@@ -37,28 +38,49 @@ fn add_total(texts: &mut Vec<Vec<u8>>, row: Row<'_>, total: usize) -> Result<(),
     total_text(row.key, total as u64, text)
 }
 
-/// Appends the text of a row with its values to the text of its partition.
-fn add_values(
+/// Appends the line of each pair of a key, of a job that doesn't count, one name after another: a group may be all of the
+/// input, so there is no list of its values.
+fn add_lines(
     job: &Job,
+    plan: &Plan<'_>,
+    key: &[u8],
+    names: &[Name],
+    text: &mut Vec<u8>,
+) -> Result<(), AllocError>
+    requires lines { is_counter job.now ≡ false }
+    requires named { All (IsOfRecord plan.now) names.now }
+    ensures { OnOk result (text.new.items ≡ text.old.items ++ text_of job.now key.now (map (value_under job.now (records_of plan.now)) names.now)) }
+{
+    for name in names {
+        let record = plan.located(name.split, name.rec);
+        let value = job.value_at(record.file, record.start);
+        group_text(job, key, &[value], text)?;
+    }
+    Ok(())
+}
+
+/// Appends the lines of a row's pairs to the text of its partition.
+fn add_names(
+    job: &Job,
+    plan: &Plan<'_>,
     texts: &mut Vec<Vec<u8>>,
     row: Row<'_>,
-    values: &[Value],
+    names: &[Name],
 ) -> Result<(), AllocError>
-    requires { row.part < length texts.old.items }
+    requires lines { is_counter job.now ≡ false }
+    requires named { All (IsOfRecord plan.now) names.now }
+    requires part { row.part < length texts.old.items }
     ensures count { length texts.new.items ≡ length texts.old.items }
     ensures ok { OnOk result (contents texts.new.items
-        ≡ slice_set (contents texts.old.items) row.entry.part (nth_file (contents texts.old.items) row.entry.part ++ text_of job.now row.entry.key.now values.now)) }
+        ≡ slice_set (contents texts.old.items) row.entry.part (nth_file (contents texts.old.items) row.entry.part
+        ++ text_of job.now row.entry.key.now (map (value_under job.now (records_of plan.now)) names.now))) }
 {
     let text = &mut texts[row.part as usize];
-    group_text(job, row.key, values, text)
+    add_lines(job, plan, row.key, names, text)
 }
 
 /// Appends the texts of a job that counts, given how many values each rank has.
-pub(crate) fn count_texts(
-    rows: &[Row<'_>],
-    sizes: &[usize],
-    texts: &mut Vec<Vec<u8>>,
-) -> Result<(), AllocError>
+fn count_texts(rows: &[Row<'_>], sizes: &[u32], texts: &mut Vec<Vec<u8>>) -> Result<(), AllocError>
     requires parts { All (λ r. r.part < length texts.old.items) rows.now }
     requires sizes { length sizes.now ≡ length rows.now }
     ensures count { length texts.new.items ≡ length texts.old.items }
@@ -71,79 +93,56 @@ pub(crate) fn count_texts(
     Ok(())
 }
 
-/// Appends the texts of a job, given the values of the ranks one after another, and where each rank's end.
-pub(crate) fn value_texts(
+/// Appends the texts of a job that doesn't count, given the names of the rows' pairs, one row after another, and how many
+/// each row has.
+fn name_texts(
     job: &Job,
+    plan: &Plan<'_>,
     rows: &[Row<'_>],
-    values: &[Value],
-    ends: &[usize],
+    counts: &[u32],
+    names: &[Name],
     texts: &mut Vec<Vec<u8>>,
 ) -> Result<(), AllocError>
+    requires lines { is_counter job.now ≡ false }
     requires parts { All (λ r. r.part < length texts.old.items) rows.now }
-    requires ends { length ends.now ≡ length rows.now }
-    requires rising { (r : ℕ) → r < length ends.now → start_of ends.now r ≤ slice_index ends.now r }
-    requires within { (r : ℕ) → r < length ends.now → slice_index ends.now r ≤ length values.now }
+    requires counts { length counts.now ≡ length rows.now }
+    requires within { row_start counts.now (length rows.now) ≤ length names.now }
+    requires named { (r : ℕ) → r < length rows.now → All (IsOfRecord plan.now) (row_names counts.now names.now r) }
     ensures count { length texts.new.items ≡ length texts.old.items }
     ensures ok { OnOk result ((p : ℕ) → p < length texts.old.items → nth_file (contents texts.new.items) p
-        ≡ nth_file (contents texts.old.items) p ++ row_texts (values_text job.now values.now ends.now) p 0 rows.now) }
+        ≡ nth_file (contents texts.old.items) p ++ row_texts (names_text job.now (records_of plan.now) counts.now names.now) p 0 rows.now) }
 {
     let mut start = 0;
     for (rank, row) in rows.iter().enumerate() {
-        let end = ends[rank];
-        add_values(job, texts, *row, &values[start..end])?;
+        let end = start + counts[rank] as usize;
+        add_names(job, plan, texts, *row, &names[start..end])?;
         start = end;
     }
     Ok(())
 }
 
-/// The values of the ranks one after another, and where each rank's end.
-pub(crate) fn distributed(
-    alloc: Global,
-    numbers: &[u32],
-    values: &[Value],
-    sizes: &[usize],
-) -> Result<(Vec<Value>, Vec<usize>), AllocError>
-    requires inside { All (λ i. i < length sizes.now) numbers.now }
-    requires all { length values.now ≡ length numbers.now }
-    requires sizes { (i : ℕ) → i < length sizes.now → slice_index sizes.now i ≡ count_by (λ j. j == i) numbers.now }
-    ensures len { IfOk result (λ r. length r.1.items ≡ length sizes.now) }
-    ensures ends { IfOk result (λ r. (i : ℕ) → i < length sizes.now → slice_index r.1.items i ≡ before (size (zip numbers.now values.now)) (i + 1)) }
-    ensures room { IfOk result (λ r. before (size (zip numbers.now values.now)) (length sizes.now) ≤ length r.0.items) }
-    ensures buckets { IfOk result (λ r. (i : ℕ) → i < length sizes.now
-        → slice_range r.0.items (before (size (zip numbers.now values.now)) i) (before (size (zip numbers.now values.now)) (i + 1)) ≡ bucket i (zip numbers.now values.now)) }
-{
-    let mut ends = Vec::from_slice(alloc, sizes)?;
-    let mut out = vec![in alloc; Value::One; numbers.len()]?;
-    let places = ends.as_mut_slice();
-    starts_of(places);
-    scatter(numbers, values, places, out.as_mut_slice());
-    Ok((out, ends))
-}
-
-/// Appends the texts of all rows, given the rank and the value of each pair, and how many pairs each rank has.
+/// Appends the texts of all rows, given their groups: a job that counts needs only how many pairs a row has, another the
+/// values of its pairs, which their names tell.
 pub(crate) fn fill_texts(
-    alloc: Global,
     job: &Job,
+    plan: &Plan<'_>,
     rows: &[Row<'_>],
-    numbers: &[u32],
-    values: Values,
-    sizes: &[usize],
+    groups: &FlatGroups,
     texts: &mut Vec<Vec<u8>>,
 ) -> Result<(), AllocError>
     requires parts { All (λ r. r.part < length texts.old.items) rows.now }
-    requires inside { All (λ i. i < length rows.now) numbers.now }
-    requires all { length values ≡ length numbers.now }
-    requires ranks { length sizes.now ≡ length rows.now }
-    requires sizes { (i : ℕ) → i < length sizes.now → slice_index sizes.now i ≡ count_by (λ j. j == i) numbers.now }
+    requires counts { length groups.now.entry_counts.items ≡ length rows.now }
+    requires within { row_start groups.now.entry_counts.items (length rows.now) ≤ length groups.now.names.items }
+    requires named { (r : ℕ) → r < length rows.now → All (IsOfRecord plan.now) (row_names groups.now.entry_counts.items groups.now.names.items r) }
     ensures count { length texts.new.items ≡ length texts.old.items }
     ensures ok { OnOk result ((p : ℕ) → p < length texts.old.items → nth_file (contents texts.new.items) p
-        ≡ nth_file (contents texts.old.items) p ++ row_texts (bucket_text job.now (zip numbers.now values)) p 0 rows.now) }
+        ≡ nth_file (contents texts.old.items) p
+        ++ row_texts (names_text job.now (records_of plan.now) groups.now.entry_counts.items groups.now.names.items) p 0 rows.now) }
 {
+    let counts = groups.entry_counts.as_slice();
     if job.counts() {
-        count_texts(rows, sizes, texts)
+        count_texts(rows, counts, texts)
     } else {
-        let values = values.into_vec(alloc)?;
-        let (values, ends) = distributed(alloc, numbers, values.as_slice(), sizes)?;
-        value_texts(job, rows, values.as_slice(), ends.as_slice(), texts)
+        name_texts(job, plan, rows, counts, groups.names.as_slice(), texts)
     }
 }

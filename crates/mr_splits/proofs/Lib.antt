@@ -2,6 +2,7 @@ pub mod StartLemmas
 pub mod JoinedLemmas
 pub mod NumberLemmas
 pub mod RisingLemmas
+pub mod SpanLemmas
 pub mod ScanLemmas
 pub mod TableLemmas
 pub mod ReadLemmas

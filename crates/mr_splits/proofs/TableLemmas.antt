@@ -13,7 +13,7 @@ use Rattle.mr_splits.specs.declared.plan.SplitPlace.{SplitPlace}
 use Rattle.mr_splits.specs.declared.table.Row.{Row}
 use Rattle.mr_splits.specs.Named.{NamedRecord, named_from, named_files, named_records}
 use Rattle.mr_splits.specs.Places.{IsSplit}
-use Rattle.mr_splits.specs.Table.{numbered, spans_of, row_records, listed, Tiles, RowStands, Stands, Takes}
+use Rattle.mr_splits.specs.Table.{numbered, spans_from, spans_of, row_records, listed, Tiles, RowStands, Stands, Takes}
 use Rattle.mr_splits.proofs.StartLemmas.{StartsIn, starts-records, div-rises}
 
 -- records that all start in one split
@@ -93,7 +93,7 @@ tiles-push : (at end : ℕ) (rows : List Row) (one : Row) → Tiles at end rows 
 tiles-push at end [] one t e = (e ∙ sym t, ap (λ (n : ℕ). n + one.count) t)
 tiles-push at end (row ∷ rows) one t e = (t.0, tiles-push (at + row.count) end rows one t.1 e)
 
--- the range of each row lies among the spans
+-- the range of each row lies among the ends
 pub tiles-within : (at end : ℕ) (rows : List Row) (i : ℕ) (d : Row) → Tiles at end rows → i < length rows
     → (get_or rows i d).first + (get_or rows i d).count ≤ end
 tiles-within at end [] i d t h = absurd (omega arith)
@@ -115,77 +115,80 @@ tiles-next at end (row ∷ rows) (suc i) d t h = tiles-next (at + row.count) end
 pub tiles-begin : (end : ℕ) (rows : List Row) (d : Row) → Tiles 0 end rows → 0 < length rows → (get_or rows 0 d).first ≡ 0
 tiles-begin end rows d t h = tiles-first 0 end rows d t h
 
-spans-more : (spans more : List Span) (row : Row) → row.first + row.count ≤ length spans → spans_of (spans ++ more) row ≡ spans_of spans row
-spans-more spans more row h = range-more spans more row.first (row.first + row.count) (omega arith) h
+spans-more : (ends more : List ℕ) (row : Row) → row.first + row.count ≤ length ends → spans_of (ends ++ more) row ≡ spans_of ends row
+spans-more ends more row h = ap (spans_from row.begin) (range-more ends more row.first (row.first + row.count) (omega arith) h)
 
--- the rows say the same where spans are added
-listed-more : (files : List (List ℕ)) (spans more : List Span) (s at end : ℕ) (rows : List Row) → Tiles at end rows → end ≤ length spans
-    → listed files (spans ++ more) s rows ≡ listed files spans s rows
+-- the rows say the same where ends are added
+listed-more : (files : List (List ℕ)) (ends more : List ℕ) (s at end : ℕ) (rows : List Row) → Tiles at end rows → end ≤ length ends
+    → listed files (ends ++ more) s rows ≡ listed files ends s rows
 unfolding listed
-listed-more files spans more s at end [] t h = refl
-listed-more files spans more s at end (row ∷ rows) t h =
-    let within : row.first + row.count ≤ length spans = omega (arith, tiles-order (at + row.count) end rows t.1, t.0, h) in
-    ap (λ (ss : List Span). numbered s row.place.file 0 (map (record_at (nth_file files row.place.file)) ss) ++ listed files (spans ++ more) (s + 1) rows)
-    (spans-more spans more row within)
-    ∙ ap (λ (l : List NamedRecord). row_records files spans s row ++ l) (listed-more files spans more (s + 1) (at + row.count) end rows t.1 h)
+listed-more files ends more s at end [] t h = refl
+listed-more files ends more s at end (row ∷ rows) t h =
+    let within : row.first + row.count ≤ length ends = omega (arith, tiles-order (at + row.count) end rows t.1, t.0, h) in
+    ap (λ (ss : List Span). numbered s row.place.file 0 (map (record_at (nth_file files row.place.file)) ss) ++ listed files (ends ++ more) (s + 1) rows)
+    (spans-more ends more row within)
+    ∙ ap (λ (l : List NamedRecord). row_records files ends s row ++ l) (listed-more files ends more (s + 1) (at + row.count) end rows t.1 h)
 
-listed-append : (files : List (List ℕ)) (spans : List Span) (s : ℕ) (rows : List Row) (one : Row)
-    → listed files spans s (rows ++ one ∷ []) ≡ listed files spans s rows ++ row_records files spans (s + length rows) one
+listed-append : (files : List (List ℕ)) (ends : List ℕ) (s : ℕ) (rows : List Row) (one : Row)
+    → listed files ends s (rows ++ one ∷ []) ≡ listed files ends s rows ++ row_records files ends (s + length rows) one
 unfolding listed
-listed-append files spans s [] one =
-    append-nil (row_records files spans s one)
-    ∙ ap (λ (n : ℕ). row_records files spans n one) (let e : ◌≡◌ {A = ℕ} s (s + 0) = omega arith in e)
-listed-append files spans s (row ∷ rows) one =
+listed-append files ends s [] one =
+    append-nil (row_records files ends s one)
+    ∙ ap (λ (n : ℕ). row_records files ends n one) (let e : ◌≡◌ {A = ℕ} s (s + 0) = omega arith in e)
+listed-append files ends s (row ∷ rows) one =
     let e : s + 1 + length rows ≡ s + suc (length rows) = omega arith in
-    ap (λ (l : List NamedRecord). row_records files spans s row ++ l)
-    (listed-append files spans (s + 1) rows one ∙ ap (λ (n : ℕ). listed files spans (s + 1) rows ++ row_records files spans n one) e)
-    ∙ sym (append_assoc (row_records files spans s row) (listed files spans (s + 1) rows) (row_records files spans (s + suc (length rows)) one))
+    ap (λ (l : List NamedRecord). row_records files ends s row ++ l)
+    (listed-append files ends (s + 1) rows one ∙ ap (λ (n : ℕ). listed files ends (s + 1) rows ++ row_records files ends n one) e)
+    ∙ sym (append_assoc (row_records files ends s row) (listed files ends (s + 1) rows) (row_records files ends (s + suc (length rows)) one))
 
--- one more row, for the spans that are added
-pub listed-push : (files : List (List ℕ)) (spans more : List Span) (rows : List Row) (one : Row) → Tiles 0 (length spans) rows
-    → one.first ≡ length spans → one.count ≡ length more
-    → listed files (spans ++ more) 0 (rows ++ one ∷ [])
-    ≡ listed files spans 0 rows ++ numbered (length rows) one.place.file 0 (map (record_at (nth_file files one.place.file)) more)
-listed-push files spans more rows one t first count =
-    let new : spans_of (spans ++ more) one ≡ more =
-    ap (λ (a : ℕ). slice_range (spans ++ more) a (a + one.count)) first
-    ∙ ap (λ (n : ℕ). slice_range (spans ++ more) (length spans) (length spans + n)) count ∙ range-end spans more in
-    listed-append files (spans ++ more) 0 rows one
-    ∙ ap (λ (l : List NamedRecord). l ++ row_records files (spans ++ more) (0 + length rows) one) (listed-more files spans more 0 0 (length spans) rows t (omega arith))
-    ∙ ap (λ (ss : List Span). listed files spans 0 rows ++ numbered (0 + length rows) one.place.file 0 (map (record_at (nth_file files one.place.file)) ss)) new
-    ∙ ap (λ (n : ℕ). listed files spans 0 rows ++ numbered n one.place.file 0 (map (record_at (nth_file files one.place.file)) more))
+spans-new : (ends more : List ℕ) (one : Row) → one.first ≡ length ends → one.count ≡ length more → spans_of (ends ++ more) one ≡ spans_from one.begin more
+spans-new ends more one first count =
+    ap (λ (a : ℕ). spans_from one.begin (slice_range (ends ++ more) a (a + one.count))) first
+    ∙ ap (λ (n : ℕ). spans_from one.begin (slice_range (ends ++ more) (length ends) (length ends + n))) count
+    ∙ ap (spans_from one.begin) (range-end ends more)
+
+-- one more row, for the ends that are added
+pub listed-push : (files : List (List ℕ)) (ends more : List ℕ) (rows : List Row) (one : Row) → Tiles 0 (length ends) rows
+    → one.first ≡ length ends → one.count ≡ length more
+    → listed files (ends ++ more) 0 (rows ++ one ∷ [])
+    ≡ listed files ends 0 rows ++ numbered (length rows) one.place.file 0 (map (record_at (nth_file files one.place.file)) (spans_from one.begin more))
+listed-push files ends more rows one t first count =
+    let new : spans_of (ends ++ more) one ≡ spans_from one.begin more = spans-new ends more one first count in
+    listed-append files (ends ++ more) 0 rows one
+    ∙ ap (λ (l : List NamedRecord). l ++ row_records files (ends ++ more) (0 + length rows) one)
+    (listed-more files ends more 0 0 (length ends) rows t (omega arith))
+    ∙ ap (λ (ss : List Span). listed files ends 0 rows ++ numbered (0 + length rows) one.place.file 0 (map (record_at (nth_file files one.place.file)) ss)) new
+    ∙ ap (λ (n : ℕ). listed files ends 0 rows ++ numbered n one.place.file 0 (map (record_at (nth_file files one.place.file)) (spans_from one.begin more)))
     (let e : 0 + length rows ≡ length rows = omega arith in e)
 
-stands-more : (size : ℕ) (files : List (List ℕ)) (spans more : List Span) (s : ℕ) (row : Row) → row.first + row.count ≤ length spans
-    → RowStands size files spans s row → RowStands size files (spans ++ more) s row
-stands-more size files spans more s row h r = record {
+stands-more : (size : ℕ) (files : List (List ℕ)) (ends more : List ℕ) (s : ℕ) (row : Row) → row.first + row.count ≤ length ends
+    → RowStands size files ends s row → RowStands size files (ends ++ more) s row
+stands-more size files ends more s row h r = record {
   place = r.place;
-  within = subst (λ (ss : List Span). All (Within (nth_file files row.place.file)) ss) (sym (spans-more spans more row h)) r.within;
+  within = subst (λ (ss : List Span). All (Within (nth_file files row.place.file)) ss) (sym (spans-more ends more row h)) r.within;
 }
 
-pub stands-push : (size : ℕ) (files : List (List ℕ)) (spans more : List Span) (rows : List Row) (one : Row) → Stands size files spans rows
-    → one.first ≡ length spans → one.count ≡ length more → IsSplit size files (length rows) one.place
-    → All (Within (nth_file files one.place.file)) more
-    → Stands size files (spans ++ more) (rows ++ one ∷ [])
-stands-push size files spans more rows one st first count place within =
-    let new : spans_of (spans ++ more) one ≡ more =
-    ap (λ (a : ℕ). slice_range (spans ++ more) a (a + one.count)) first
-    ∙ ap (λ (n : ℕ). slice_range (spans ++ more) (length spans) (length spans + n)) count ∙ range-end spans more in
-    let last : RowStands size files (spans ++ more) (length rows) one =
+pub stands-push : (size : ℕ) (files : List (List ℕ)) (ends more : List ℕ) (rows : List Row) (one : Row) → Stands size files ends rows
+    → one.first ≡ length ends → one.count ≡ length more → IsSplit size files (length rows) one.place
+    → All (Within (nth_file files one.place.file)) (spans_from one.begin more)
+    → Stands size files (ends ++ more) (rows ++ one ∷ [])
+stands-push size files ends more rows one st first count place within =
+    let new : spans_of (ends ++ more) one ≡ spans_from one.begin more = spans-new ends more one first count in
+    let last : RowStands size files (ends ++ more) (length rows) one =
     record { place = place; within = subst (λ (ss : List Span). All (Within (nth_file files one.place.file)) ss) (sym new) within } in
     record {
       rows_stand = λ s d h.
           elim (cases_lt s (length rows)) [
             | inl old ↦
-                subst (RowStands size files (spans ++ more) s) (sym (get_or_append_left rows (one ∷ []) d s old))
-                (stands-more size files spans more s (get_or rows s d) (tiles-within 0 (length spans) rows s d st.tiles old) (st.rows_stand s d old))
+                subst (RowStands size files (ends ++ more) s) (sym (get_or_append_left rows (one ∷ []) d s old))
+                (stands-more size files ends more s (get_or rows s d) (tiles-within 0 (length ends) rows s d st.tiles old) (st.rows_stand s d old))
             | inr late ↦
                 let here : length rows ≡ s = omega (arith, late, h, length_push rows one) in
-                subst (RowStands size files (spans ++ more) s) (sym (get_or_push rows one d s here))
-                (subst (λ (n : ℕ). RowStands size files (spans ++ more) n one) here last)
+                subst (RowStands size files (ends ++ more) s) (sym (get_or_push rows one d s here))
+                (subst (λ (n : ℕ). RowStands size files (ends ++ more) n one) here last)
           ];
       tiles = subst (λ (n : ℕ). Tiles 0 n (rows ++ one ∷ []))
-          (ap (λ (n : ℕ). length spans + n) count ∙ sym (length-append spans more)) (tiles-push 0 (length spans) rows one st.tiles first);
+          (ap (λ (n : ℕ). length ends + n) count ∙ sym (length-append ends more)) (tiles-push 0 (length ends) rows one st.tiles first);
     }
 
 split_total-nil : (size : ℕ) → split_total size [] ≡ 0
@@ -205,25 +208,26 @@ pub split_total-none : (size : ℕ) (files : List (List ℕ)) → split_total si
 split_total-none size files = split_total-nil size
 
 -- how far a file is cut: `j` of its splits are in the table, and `all` is what the table will say of the files up to it
-pub record Cutting (size : ℕ) (files : List (List ℕ)) (file : ℕ) (all : List NamedRecord) (start from : ℕ) (spans : List Span) (rows : List Row) (j : ℕ) : Type 0 where
+pub record Cutting (size : ℕ) (files : List (List ℕ)) (file : ℕ) (all : List NamedRecord) (start from : ℕ) (ends : List ℕ) (rows : List Row) (j : ℕ) : Type 0 where
   pub rows_are : length rows ≡ split_total size (take file files) + j
-  pub stands : Stands size files spans rows
-  pub said : listed files spans 0 rows
+  pub stands : Stands size files ends rows
+  pub said : listed files ends 0 rows
       ++ named_from size file (split_total size (take file files)) (split_total size (take file files) + j) 0 (records_from from (drop from (nth_file files file)))
       ≡ all
   pub start_is : start ≡ min (j * size) (length (nth_file files file))
   pub past : start ≤ from
   pub some_left : j ≤ split_count size (nth_file files file)
 
-pub cutting-begun : (size : ℕ) (files : List (List ℕ)) (file : ℕ) (spans : List Span) (rows : List Row)
-    → length rows ≡ split_total size (take file files) → Stands size files spans rows
+pub cutting-begun : (size : ℕ) (files : List (List ℕ)) (file : ℕ) (ends : List ℕ) (rows : List Row)
+    → length rows ≡ split_total size (take file files) → Stands size files ends rows
     → Cutting size files file
-    (listed files spans 0 rows ++ named_from size file (split_total size (take file files)) (split_total size (take file files)) 0 (records (nth_file files file)))
-    0 0 spans rows 0
-cutting-begun size files file spans rows count stands = record {
+    (listed files ends 0 rows
+    ++ named_from size file (split_total size (take file files)) (split_total size (take file files)) 0 (records (nth_file files file)))
+    0 0 ends rows 0
+cutting-begun size files file ends rows count stands = record {
   rows_are = omega (arith, count);
   stands = stands;
-  said = ap (λ (n : ℕ). listed files spans 0 rows ++ named_from size file (split_total size (take file files)) n 0 (records (nth_file files file)))
+  said = ap (λ (n : ℕ). listed files ends 0 rows ++ named_from size file (split_total size (take file files)) n 0 (records (nth_file files file)))
       (let e : split_total size (take file files) + 0 ≡ split_total size (take file files) = omega arith in e);
   start_is = omega arith;
   past = omega arith;
@@ -242,13 +246,13 @@ in-split size before j start some low high =
     let down : start / size < j + 1 = div_below start size (j + 1) some high in
     omega (arith, up, down)
 
-pub cutting-more : (size : ℕ) (files : List (List ℕ)) (file : ℕ) (all : List NamedRecord) (start from end next : ℕ) (spans more : List Span)
-    (rows : List Row) (one : Row) (j : ℕ) → 0 < size → file < length files → Cutting size files file all start from spans rows j
+pub cutting-more : (size : ℕ) (files : List (List ℕ)) (file : ℕ) (all : List NamedRecord) (start from end next : ℕ) (ends more : List ℕ)
+    (rows : List Row) (one : Row) (j : ℕ) → 0 < size → file < length files → Cutting size files file all start from ends rows j
     → start < length (nth_file files file) → end ≡ min (length (nth_file files file)) (start + size)
     → Takes (nth_file files file) from end next more → end ≤ next
-    → one.place ≡ record { file = file; start = start; end = end } → one.first ≡ length spans → one.count ≡ length more
-    → Cutting size files file all end next (spans ++ more) (rows ++ one ∷ []) (j + 1)
-cutting-more size files file all start from end next spans more rows one j some inside cut left end-is taken past place first count =
+    → one.place ≡ record { file = file; start = start; end = end } → one.begin ≡ from → one.first ≡ length ends → one.count ≡ length more
+    → Cutting size files file all end next (ends ++ more) (rows ++ one ∷ []) (j + 1)
+cutting-more size files file all start from end next ends more rows one j some inside cut left end-is taken past place begin first count =
     let bytes : List ℕ = nth_file files file in
     let before : ℕ = split_total size (take file files) in
     let begins : start ≡ j * size = omega (arith, cut.start_is, left) in
@@ -262,61 +266,65 @@ cutting-more size files file all start from end next spans more rows one j some 
       end = stops;
     } in
     let file-is : one.place.file ≡ file = ap (λ (p : SplitPlace). p.file) place in
-    let here : AllByRecursion (λ (p : Span). before + p.start / size ≡ before + j) more =
-    recursion_from_All (λ (p : Span). before + p.start / size ≡ before + j) more
+    let spans : List Span = spans_from from more in
+    let here : AllByRecursion (λ (p : Span). before + p.start / size ≡ before + j) spans =
+    recursion_from_All (λ (p : Span). before + p.start / size ≡ before + j) spans
     (All-weaker (λ (p : Span). (from ≤ p.start) × (p.start < end)) (λ (p : Span). before + p.start / size ≡ before + j)
-    (λ p b. in-split size before j p.start some (omega (arith, b.0, cut.past, begins)) (omega (arith, b.1, stops))) more taken.belong) in
+    (λ p b. in-split size before j p.start some (omega (arith, b.0, cut.past, begins)) (omega (arith, b.1, stops))) spans taken.belong) in
     let rest : List Record = records_from next (drop next bytes) in
     let named : named_from size file before (before + j) 0 (records_from from (drop from bytes))
-    ≡ numbered (before + j) file 0 (map (record_at bytes) more) ++ named_from size file before (before + (j + 1)) 0 rest =
+    ≡ numbered (before + j) file 0 (map (record_at bytes) spans) ++ named_from size file before (before + (j + 1)) 0 rest =
     ap (named_from size file before (before + j) 0) taken.records
-    ∙ named-here size file before (before + j) 0 bytes more rest here
-    ∙ ap (λ (l : List NamedRecord). numbered (before + j) file 0 (map (record_at bytes) more) ++ l)
-    (named-next size file before j (0 + length more) next bytes some (omega (arith, stops, past))) in
-    let pushed : listed files (spans ++ more) 0 (rows ++ one ∷ []) ≡ listed files spans 0 rows ++ numbered (before + j) file 0 (map (record_at bytes) more) =
-    listed-push files spans more rows one cut.stands.tiles first count
-    ∙ ap (λ (f : ℕ). listed files spans 0 rows ++ numbered (length rows) f 0 (map (record_at (nth_file files f)) more)) file-is
-    ∙ ap (λ (n : ℕ). listed files spans 0 rows ++ numbered n file 0 (map (record_at bytes) more)) cut.rows_are in
+    ∙ named-here size file before (before + j) 0 bytes spans rest here
+    ∙ ap (λ (l : List NamedRecord). numbered (before + j) file 0 (map (record_at bytes) spans) ++ l)
+    (named-next size file before j (0 + length spans) next bytes some (omega (arith, stops, past))) in
+    let pushed : listed files (ends ++ more) 0 (rows ++ one ∷ []) ≡ listed files ends 0 rows ++ numbered (before + j) file 0 (map (record_at bytes) spans) =
+    listed-push files ends more rows one cut.stands.tiles first count
+    ∙ ap (λ (f : ℕ). listed files ends 0 rows ++ numbered (length rows) f 0 (map (record_at (nth_file files f)) (spans_from one.begin more))) file-is
+    ∙ ap (λ (n : ℕ). listed files ends 0 rows ++ numbered n file 0 (map (record_at bytes) (spans_from one.begin more))) cut.rows_are
+    ∙ ap (λ (b : ℕ). listed files ends 0 rows ++ numbered (before + j) file 0 (map (record_at bytes) (spans_from b more))) begin in
     record {
       rows_are = omega (arith, length_push rows one, cut.rows_are);
-      stands = stands-push size files spans more rows one cut.stands first count (subst (IsSplit size files (length rows)) (sym place) is)
-          (subst (λ (f : ℕ). All (Within (nth_file files f)) more) (sym file-is) taken.within);
+      stands = stands-push size files ends more rows one cut.stands first count (subst (IsSplit size files (length rows)) (sym place) is)
+          (subst (λ (f : ℕ). All (Within (nth_file files f)) (spans_from one.begin more)) (sym file-is)
+          (subst (λ (b : ℕ). All (Within bytes) (spans_from b more)) (sym begin) taken.within));
       said = ap (λ (l : List NamedRecord). l ++ named_from size file before (before + (j + 1)) 0 rest) pushed
-          ∙ append_assoc (listed files spans 0 rows) (numbered (before + j) file 0 (map (record_at bytes) more)) (named_from size file before (before + (j + 1)) 0 rest)
-          ∙ ap (λ (l : List NamedRecord). listed files spans 0 rows ++ l) (sym named) ∙ cut.said;
+          ∙ append_assoc (listed files ends 0 rows) (numbered (before + j) file 0 (map (record_at bytes) spans))
+          (named_from size file before (before + (j + 1)) 0 rest)
+          ∙ ap (λ (l : List NamedRecord). listed files ends 0 rows ++ l) (sym named) ∙ cut.said;
       start_is = stops;
       past = past;
       some_left = omega (arith, is.exists);
     }
 
 -- the same, for the tables as the calls leave them
-pub cutting-step : (size : ℕ) (files : List (List ℕ)) (file : ℕ) (all : List NamedRecord) (start from end next : ℕ) (spans more spans' : List Span)
-    (rows rows' : List Row) (bytes : List ℕ) (first count j : ℕ) → 0 < size → file < length files → Cutting size files file all start from spans rows j
+pub cutting-step : (size : ℕ) (files : List (List ℕ)) (file : ℕ) (all : List NamedRecord) (start from end next : ℕ) (ends more ends' : List ℕ)
+    (rows rows' : List Row) (bytes : List ℕ) (first count j : ℕ) → 0 < size → file < length files → Cutting size files file all start from ends rows j
     → bytes ≡ nth_file files file → start < length bytes → end ≡ min (length bytes) (start + size)
-    → Takes bytes from end next more → end ≤ next → first ≡ length spans → count ≡ length more
-    → spans' ≡ spans ++ more
-    → rows' ≡ rows ++ record { place = record { file = file; start = start; end = end }; count = count; first = first } ∷ []
-    → Cutting size files file all end next spans' rows' (j + 1)
-cutting-step size files file all start from end next spans more spans' rows rows' bytes first count j some inside cut is left end-is taken past first-is count-is grown pushed =
-    let one : Row = record { place = record { file = file; start = start; end = end }; count = count; first = first } in
+    → Takes bytes from end next more → end ≤ next → first ≡ length ends → count ≡ length more
+    → ends' ≡ ends ++ more
+    → rows' ≡ rows ++ record { place = record { file = file; start = start; end = end }; count = count; begin = from; first = first } ∷ []
+    → Cutting size files file all end next ends' rows' (j + 1)
+cutting-step size files file all start from end next ends more ends' rows rows' bytes first count j some inside cut is left end-is taken past first-is count-is grown pushed =
+    let one : Row = record { place = record { file = file; start = start; end = end }; count = count; begin = from; first = first } in
     let P : List ℕ → Type 0 = λ b. (start < length b) × (end ≡ min (length b) (start + size)) × Takes b from end next more in
     let all-is : P (nth_file files file) = subst P is (left, end-is, taken) in
-    subst (λ (rs : List Row). Cutting size files file all end next spans' rs (j + 1)) (sym pushed)
-    (subst (λ (ss : List Span). Cutting size files file all end next ss (rows ++ one ∷ []) (j + 1)) (sym grown)
-    (cutting-more size files file all start from end next spans more rows one j some inside cut all-is.0 all-is.1 all-is.2 past refl first-is count-is))
+    subst (λ (rs : List Row). Cutting size files file all end next ends' rs (j + 1)) (sym pushed)
+    (subst (λ (es : List ℕ). Cutting size files file all end next es (rows ++ one ∷ []) (j + 1)) (sym grown)
+    (cutting-more size files file all start from end next ends more rows one j some inside cut all-is.0 all-is.1 all-is.2 past refl refl first-is count-is))
 
-pub cutting-done : (size : ℕ) (files : List (List ℕ)) (file : ℕ) (all : List NamedRecord) (start from : ℕ) (spans : List Span) (rows : List Row) (j : ℕ)
-    → 0 < size → Cutting size files file all start from spans rows j → length (nth_file files file) ≤ start
-    → (length rows ≡ split_total size (take file files) + split_count size (nth_file files file)) × (listed files spans 0 rows ≡ all)
-cutting-done size files file all start from spans rows j some cut done =
+pub cutting-done : (size : ℕ) (files : List (List ℕ)) (file : ℕ) (all : List NamedRecord) (start from : ℕ) (ends : List ℕ) (rows : List Row) (j : ℕ)
+    → 0 < size → Cutting size files file all start from ends rows j → length (nth_file files file) ≤ start
+    → (length rows ≡ split_total size (take file files) + split_count size (nth_file files file)) × (listed files ends 0 rows ≡ all)
+cutting-done size files file all start from ends rows j some cut done =
     let bytes : List ℕ = nth_file files file in
     let before : ℕ = split_total size (take file files) in
     let whole : length bytes ≤ j * size = omega (arith, cut.start_is, done) in
     let last : (length bytes + size - 1) / size < j + 1 = div_below (length bytes + size - 1) size (j + 1) some (omega (arith, whole, some)) in
     let none : records_from from (drop from bytes) ≡ [] = records_from-end from bytes (omega (arith, cut.past, done)) in (
       omega (arith, cut.rows_are, cut.some_left, last),
-      sym (append-nil (listed files spans 0 rows))
-          ∙ ap (λ (l : List NamedRecord). listed files spans 0 rows ++ l)
+      sym (append-nil (listed files ends 0 rows))
+          ∙ ap (λ (l : List NamedRecord). listed files ends 0 rows ++ l)
           (sym (ap (named_from size file before (before + j) 0) none ∙ named-nil size file before (before + j) 0))
           ∙ cut.said,
     )

@@ -71,8 +71,8 @@ impl<'a> Model for Plan<'a> {
       size : p.size ≤ 2 ^ 26;
       few : split_total p.size p.input.now ≤ 2 ^ 20;
       rows : length p.table.rows.items ≡ split_total p.size p.input.now;
-      stands : Stands p.size p.input.now p.table.spans.items p.table.rows.items;
-      all : listed p.input.now p.table.spans.items 0 p.table.rows.items ≡ named_records p.size p.input.now;
+      stands : Stands p.size p.input.now p.table.ends.items p.table.rows.items;
+      all : listed p.input.now p.table.ends.items 0 p.table.rows.items ≡ named_records p.size p.input.now;
     } };
 }
 
@@ -152,7 +152,7 @@ impl<'a> Plan<'a> {
     {
         // An input has at most 1 GiB, and each record a byte of its own.
         let _files = self.input.files();
-        self.table.spans.len()
+        self.table.ends.len()
     }
 
     /// Record `r` of split `s`, both from 0.
@@ -166,8 +166,8 @@ impl<'a> Plan<'a> {
         ensures small { length result.bytes.now ≤ 2 ^ 30 }
     {
         let row = self.table.rows[s as usize];
-        let span = self.table.spans[row.first + r as usize];
         let bytes = self.input.file(row.place.file as usize);
+        let span = self.table.span(row, r);
         Located {
             file: row.place.file,
             start: span.start,

@@ -1,6 +1,6 @@
 use mr_store::{
-    CountedRead, CountedWrite, LimitedFault, MemoryReader, MemoryWriter, read_all, read_limited,
-    write_all, write_result,
+    Bytes, CountedRead, CountedWrite, LimitedFault, MemoryReader, MemoryWriter, Spelled, read_all,
+    read_limited, write_all, write_result, write_spelled,
 };
 use std::alloc::Global;
 use std::test::Fail;
@@ -138,6 +138,35 @@ fn writes_all_or_a_beginning(rt: HostRuntime) -> Result<(), Fail> {
         assert!(rt; writes_all(alloc, most, None)?);
         for call in 1..=calls {
             assert!(rt; writes_all(alloc, most, Some(call))?);
+        }
+    }
+    Ok(())
+}
+
+/// Whether the text is written whole and handed on, or a beginning of it is written where that call fails.
+fn writes_spelled<C: Spelled>(
+    alloc: Global,
+    spelled: &C,
+    most: usize,
+    failing: Option<u64>,
+) -> Result<bool, Fail> {
+    let mut to = writer(alloc, most, failing)?;
+    let done = write_spelled(&mut to, spelled).is_ok();
+    Ok(
+        done == failing.is_none()
+            && (to.handed_on().len() == 20) == done
+            && TEXT.starts_with(to.bytes())
+            && to.failures() == u64::from(!done),
+    )
+}
+
+#[test]
+fn bytes_at_hand_are_written_and_handed_on(rt: HostRuntime) -> Result<(), Fail> {
+    let alloc = rt.alloc();
+    for (most, calls) in [(1, 21), (7, 4), (100, 2)] {
+        assert!(rt; writes_spelled(alloc, &Bytes(&TEXT), most, None)?);
+        for call in 1..=calls {
+            assert!(rt; writes_spelled(alloc, &Bytes(&TEXT), most, Some(call))?);
         }
     }
     Ok(())

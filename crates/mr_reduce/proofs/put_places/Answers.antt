@@ -1,4 +1,4 @@
-use Rattle.std.proofs.Common.{arith, rules, ◌<◌, ◌+◌, ◌++◌, ap, length, get_or, take, vec_len, vec_capacity, length-append}
+use Rattle.std.proofs.Common.{arith, rules, ◌<◌, ◌+◌, ap, length, take, vec_len, vec_capacity, length-append}
 use Rattle.std.specs.List.{flat_map}
 use Rattle.mr_reduce.specs.Text.{place_line}
 use Rattle.mr_bytes.specs.declared.Value.TheVariants.{One}

@@ -1,4 +1,4 @@
-use Rattle.std.proofs.Common.{◌≡◌, ℕ, ◌∷◌, List, ◌++◌, ◌+◌, get_or, take, drop, ap, subst, arith}
+use Rattle.std.proofs.Common.{◌≡◌, ℕ, ◌∷◌, List, ◌++◌, ◌+◌, [], get_or, take, drop, refl, ap, subst, arith}
 use Rattle.std.proofs.lemmas.List.{drop_more, length-drop}
 use Rattle.std.specs.List.{flat_map, AllByRecursion}
 use Rattle.mr_bytes.specs.declared.Name.{Name}
@@ -6,27 +6,31 @@ use Rattle.mr_certform.specs.Spelling.{u32}
 use Rattle.mr_certform.specs.Value.{NameFits}
 use Rattle.mr_certform.specs.Flat.{total, chunks}
 use Rattle.mr_certform.specs.Pieces.{group_bytes}
-use Rattle.mr_certform.proofs.Pieces.{total_cut, parts_spelled, chunks_split, All-append}
+use Rattle.mr_certform.proofs.Pieces.{put_piece, total_cut, parts_spelled, chunks_split, All-append}
 use Rattle.mr_certform.proofs.writing.put_parts.Goals as goal
 
 fits_more : (n : ℕ) (cs : List ℕ) (xs : List Name) (Q : Type 0) → AllByRecursion (AllByRecursion NameFits) (chunks (take n cs) xs) → (AllByRecursion (AllByRecursion NameFits) (chunks cs xs) → Q) → AllByRecursion (AllByRecursion NameFits) (chunks (drop n cs) (drop (total (take n cs)) xs)) → Q
 fits_more n cs xs Q here k h = k (subst (AllByRecursion (AllByRecursion NameFits)) (chunks_split n cs xs) (All-append (AllByRecursion NameFits) _ _ here h))
 
 pub put_groups-requires : goal.put_groups-requires
-put_groups-requires c = rw c.split_at.ensures.front (omega (arith, total_cut (get_or c.args.group_counts.now c.loop-count.count-index 0) c.loop-count.counts.now, c.loop-count.invariant.room))
+put_groups-requires g c = rw c.split_at.ensures.front (omega (arith, total_cut (get_or c.args.group_counts.now c.loop-groups.groups-index 0) c.loop-groups.counts.now, c.loop-groups.invariant.room))
 
-pub loop-count-preserved : goal.loop-count-preserved
-loop-count-preserved c =
-    let n = get_or c.args.group_counts.now c.loop-count.count-index 0 in
-    let inv = c.loop-count.invariant in
-    let e : drop c.loop-count.count-index c.args.group_counts.now ≡ get_or c.args.group_counts.now c.loop-count.count-index 0 ∷ drop (c.loop-count.count-index + 1) c.args.group_counts.now = drop_more c.args.group_counts.now c.loop-count.count-index 0 c.loop-count-test.true in
-    let back : c.split_at.result.1.now ≡ drop (get_or c.args.group_counts.now c.loop-count.count-index 0) c.loop-count.counts.now = c.split_at.ensures.back in
-    let rest : c.in_ok-rest.rest.now ≡ drop (total (take (get_or c.args.group_counts.now c.loop-count.count-index 0) c.loop-count.counts.now)) c.loop-count.rest.now = cc (c.in_ok-rest.ensures.1, c.split_at.ensures.front) in
-    let fit : AllByRecursion (AllByRecursion NameFits) (chunks (take (get_or c.args.group_counts.now c.loop-count.count-index 0) c.loop-count.counts.now) c.loop-count.rest.now) = subst (λ w. AllByRecursion (AllByRecursion NameFits) (chunks w c.loop-count.rest.now)) c.split_at.ensures.front (c.in_ok-rest.ensures.2) in
-    let text : c.put_groups.new.out.items ≡ (c.loop-count.out.items ++ u32 (get_or c.args.group_counts.now c.loop-count.count-index 0)) ++ flat_map group_bytes (chunks (take (get_or c.args.group_counts.now c.loop-count.count-index 0) c.loop-count.counts.now) c.loop-count.rest.now) = cc (c.in_ok-rest.ensures.0, c.in_ok-put_number.ensures, c.split_at.ensures.front) in
-    rw (back, rest, text) (record {
-      spelled = parts_spelled _ n _ c.loop-count.counts.now c.loop-count.rest.now c.loop-count.out.items _ e (omega (arith, inv.groups)) inv.spelled;
-      groups = omega (arith, ap total e, inv.groups, length-drop n c.loop-count.counts.now);
-      room = omega (arith, inv.room, total_cut n c.loop-count.counts.now, length-drop (total (take n c.loop-count.counts.now)) c.loop-count.rest.now);
-      fits = fits_more n c.loop-count.counts.now c.loop-count.rest.now _ fit inv.fits;
+pub loop-groups-preserved : goal.loop-groups-preserved
+loop-groups-preserved g c =
+    let n = get_or c.args.group_counts.now c.loop-groups.groups-index 0 in
+    let inv = c.loop-groups.invariant in
+    let e : drop c.loop-groups.groups-index c.args.group_counts.now ≡ get_or c.args.group_counts.now c.loop-groups.groups-index 0 ∷ drop (c.loop-groups.groups-index + 1) c.args.group_counts.now = drop_more c.args.group_counts.now c.loop-groups.groups-index 0 c.loop-groups-test.true in
+    let back : c.split_at.result.1.now ≡ drop (get_or c.args.group_counts.now c.loop-groups.groups-index 0) c.loop-groups.counts.now = c.split_at.ensures.back in
+    let rest : c.in_ok-rest.rest.now ≡ drop (total (take (get_or c.args.group_counts.now c.loop-groups.groups-index 0) c.loop-groups.counts.now)) c.loop-groups.rest.now = cc (c.in_ok-rest.ensures.1, c.split_at.ensures.front) in
+    let fit : AllByRecursion (AllByRecursion NameFits) (chunks (take (get_or c.args.group_counts.now c.loop-groups.groups-index 0) c.loop-groups.counts.now) c.loop-groups.rest.now) = subst (λ w. AllByRecursion (AllByRecursion NameFits) (chunks w c.loop-groups.rest.now)) c.split_at.ensures.front (c.in_ok-rest.ensures.2) in
+    let groups : flat_map group_bytes (chunks c.split_at.result.0.now c.loop-groups.rest.now) ≡ flat_map group_bytes (chunks (take (get_or c.args.group_counts.now c.loop-groups.groups-index 0) c.loop-groups.counts.now) c.loop-groups.rest.now) =
+    ap (λ w. flat_map group_bytes (chunks w c.loop-groups.rest.now)) c.split_at.ensures.front in
+    let text : g.O.Sink.takes c.loop-groups.out c.put_groups.new.out (u32 n ++ flat_map group_bytes (chunks (take n c.loop-groups.counts.now) c.loop-groups.rest.now)) =
+    subst (λ w. g.O.Sink.takes c.loop-groups.out c.put_groups.new.out (u32 (get_or c.args.group_counts.now c.loop-groups.groups-index 0) ++ w)) groups
+    (g.met.O.Sink.joined c.loop-groups.out c.put_number.new.out c.put_groups.new.out (u32 n) _ c.in_ok-put_number.ensures c.in_ok-rest.ensures.0) in
+    rw (back, rest) (record {
+      spelled = put_piece g.O.Sink.takes g.met.O.Sink.joined c.args.out.now c.loop-groups.out c.put_groups.new.out _ _ _ _ text (parts_spelled _ n _ c.loop-groups.counts.now c.loop-groups.rest.now [] _ e (omega (arith, inv.groups)) refl) inv.spelled;
+      groups = omega (arith, ap total e, inv.groups, length-drop n c.loop-groups.counts.now);
+      room = omega (arith, inv.room, total_cut n c.loop-groups.counts.now, length-drop (total (take n c.loop-groups.counts.now)) c.loop-groups.rest.now);
+      fits = fits_more n c.loop-groups.counts.now c.loop-groups.rest.now _ fit inv.fits;
     })

@@ -1,14 +1,14 @@
-use Rattle.std.proofs.Common.{◌≡◌, ◌≤◌, ◌++◌, drop, length}
+use Rattle.std.proofs.Common.{◌≡◌, ◌≤◌, drop, length}
 use Rattle.std.specs.List.{flat_map, AllByRecursion}
 use Rattle.mr_certform.specs.Value.{NameFits}
 use Rattle.mr_certform.specs.Flat.{total, chunks}
 use Rattle.mr_certform.specs.Pieces.{part_bytes}
 use Rattle.mr_certform.proofs.writing.put_parts.Given as goal
 
-abbrev pub invariant-loop-count : goal.invariant-loop-count
-invariant-loop-count l = record {
-  spelled : l.out.items ++ flat_map part_bytes (chunks (drop l.count-index l.group_counts) (chunks l.counts l.rest)) ≡ l.initial.out.items ++ flat_map part_bytes (chunks l.group_counts (chunks l.entry_counts l.names));
-  groups : total (drop l.count-index l.group_counts) ≡ length l.counts;
+abbrev pub invariant-loop-groups : goal.invariant-loop-groups
+invariant-loop-groups g l = record {
+  spelled : (new : _) → g.O.Sink.takes l.out new (flat_map part_bytes (chunks (drop l.groups-index l.group_counts) (chunks l.counts l.rest))) → g.O.Sink.takes l.initial.out new (flat_map part_bytes (chunks l.group_counts (chunks l.entry_counts l.names)));
+  groups : total (drop l.groups-index l.group_counts) ≡ length l.counts;
   room : total l.counts ≤ length l.rest;
   fits : AllByRecursion (AllByRecursion NameFits) (chunks l.counts l.rest) → AllByRecursion (AllByRecursion NameFits) (chunks l.entry_counts l.names);
 }

@@ -2,6 +2,7 @@ use Rattle.std.proofs.Common.{◌≡◌, map, ap, length}
 use Rattle.std.specs.Prelude.{string_bytes}
 use Rattle.std.proofs.lemmas.Result.{err_from_is_err_and, IfErr-weaker}
 use Rattle.mr_input.specs.Files.{contents}
+use Rattle.mr_certform.specs.Pieces.{all_bytes}
 use Rattle.mr_sequential.specs.Emitted.{emitted}
 use Rattle.mr_commands.specs.Outcomes.{IsSequentialResult, done_line}
 use Rattle.mr_commands.specs.Answers.{WorksOut, IsRunRefusal, IsWorkRefusal}
@@ -23,9 +24,9 @@ returns-clause-work g c =
     let request = c.in_ok-request.request in
     let files = c.in_ok-input.input in
     let skips = c.as_slice-2.result.now in
-    both_ok c.worked.result (λ w. IsSequentialResult request files skips (contents w.outputs.items) w.certificate.items) (λ w. string_bytes w.line ≡ done_line request.parts (length (emitted request.job request.split files skips)) (length skips))
-    (λ w. WorksOut holds o list (contents w.outputs.items) w.certificate.items (string_bytes w.line))
-    (λ w h l. works_out holds o list skips (map (λ s. s.now) c.as_slice.result.now) files (contents w.outputs.items) w.certificate.items (string_bytes w.line) request (ap (map (λ s. s.now)) c.as_slice.ensures.value) c.in_ok-request.ensures.request (rw c.as_slice-2.ensures.value c.in_ok-skips.ensures.ok) c.in_ok-input.ensures.input h l)
+    both_ok c.worked.result (λ w. IsSequentialResult request files skips (contents w.outputs.items) (all_bytes w.certificate)) (λ w. string_bytes w.line ≡ done_line request.parts (length (emitted request.job request.split files skips)) (length skips))
+    (λ w. WorksOut holds o list (contents w.outputs.items) (all_bytes w.certificate) (string_bytes w.line))
+    (λ w h l. works_out holds o list skips (map (λ s. s.now) c.as_slice.result.now) files (contents w.outputs.items) (all_bytes w.certificate) (string_bytes w.line) request (ap (map (λ s. s.now)) c.as_slice.ensures.value) c.in_ok-request.ensures.request (rw c.as_slice-2.ensures.value c.in_ok-skips.ensures.ok) c.in_ok-input.ensures.input h l)
     c.worked.ensures.result c.worked.ensures.line
 
 pub returns-clause-refused : goal.returns-clause-refused

@@ -1,4 +1,4 @@
-use Rattle.mr_jobs.proofs.CountLemmas.{emissions_fit, short_keys, keys_fit, counters_emit_ones}
+use Rattle.mr_jobs.proofs.CountLemmas.{emissions_fit, short_keys, keys_fit, counters_emit_ones, one_value_each}
 use Rattle.mr_jobs.proofs.emissions.emission_law.Goals as goal
 
 pub returns-clause-few : goal.returns-clause-few
@@ -12,3 +12,6 @@ returns-clause-ones c = counters_emit_ones
 
 pub returns-clause-together : goal.returns-clause-together
 returns-clause-together c = keys_fit
+
+pub returns-clause-values : goal.returns-clause-values
+returns-clause-values c = one_value_each

@@ -1,4 +1,4 @@
-use Rattle.std.proofs.Common.{◌≡◌, ℕ, List, Bool, true, false, Option, subst, sym}
+use Rattle.std.proofs.Common.{Bool, subst, sym}
 use Rattle.mr_jobs.specs.Hits.{IsFirstPlace}
 use Rattle.mr_jobs.proofs.HitLemmas.{first-folded}
 use Rattle.mr_jobs.proofs.hits.find.Goals as goal

@@ -1,6 +1,6 @@
-use Rattle.std.proofs.Common.{◌≡◌, ◌≤◌, ◌+◌, ◌-◌, Bool, true, false, ℕ, List, Option, None, Some, arith, refl, subst, sym, length, slice_range}
+use Rattle.std.proofs.Common.{◌+◌, ◌-◌, Bool, true, false, ℕ, List, arith, refl, length}
 use Rattle.mr_jobs.specs.declared.hits.Known.{Known}
-use Rattle.mr_jobs.specs.Hits.{IsFirstPlace, Sought}
+use Rattle.mr_jobs.specs.Hits.{Sought}
 use Rattle.mr_jobs.proofs.HitLemmas.{known-found, known-clear}
 use Rattle.mr_jobs.proofs.hits.look_on.Goals as goal
 

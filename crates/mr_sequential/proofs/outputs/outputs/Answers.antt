@@ -1,122 +1,138 @@
-use Rattle.std.proofs.Common.{◌≡◌, ℕ, ◌<◌, ◌≤◌, ◌++◌, List, length, sym, ap, ◌∙◌, arith, subst, map}
+use Rattle.std.proofs.Common.{◌≡◌, ℕ, ◌≤◌, ◌++◌, List, All, length, sym, ap, ◌∙◌, arith, subst, map}
 use Rattle.std.specs.List.{range_with_len, zip}
 use Rattle.mr_bytes.specs.Lists.{Has}
 use Rattle.mr_bytes.specs.declared.Name.{Name}
 use Rattle.mr_bytes.specs.declared.Value.{Value}
-use Rattle.mr_jobs.specs.Emissions.{Emission}
 use Rattle.mr_partition.specs.Partition.{partition_of}
 use Rattle.mr_reduce.specs.Text.{text_of}
 use Rattle.mr_ranks.specs.declared.rows.Row.{Row}
-use Rattle.mr_sequential.specs.Pairs.{buckets, groups_in, paired, texts_in}
-use Rattle.mr_keys.specs.Keys.{key_at}
 use Rattle.mr_ranks.specs.Rows.{IsRanked, row_key, row_part}
-use Rattle.mr_sequential.specs.Rows.{bucket_text, row_texts}
-use Rattle.mr_sequential.proofs.GatheredLemmas.{length-paired}
+use Rattle.mr_keys.specs.Keys.{key_at}
+use Rattle.mr_splits.specs.Named.{NamedRecord}
+use Rattle.mr_splits.specs.Cut.{Cut, records_of}
+use Rattle.mr_splits.specs.Kept.{kept_records}
+use Rattle.mr_sequential.specs.Names.{IsOfRecord, names_beside, value_under}
+use Rattle.mr_sequential.specs.Pairs.{buckets, groups_in, keyed, texts_in}
+use Rattle.mr_sequential.specs.Rows.{bucket_text, names_text, row_names, row_texts}
+use Rattle.mr_ranks.proofs.BucketLemmas.{before-total, length-zip}
 use Rattle.mr_ranks.proofs.ListLemmas.{same_length}
-use Rattle.mr_sequential.proofs.RankLemmas.{HasPairs, texts-rows}
+use Rattle.mr_sequential.proofs.FillLemmas.{ArePut, put-start, put-names, put-texts, All-bucket}
+use Rattle.mr_sequential.proofs.RankLemmas.{texts-rows}
 use Rattle.mr_sequential.proofs.RankedGroups.{groups-rows, ranks-used}
+use Rattle.mr_sequential.proofs.ValueLemmas.{names-named}
 use Rattle.mr_sequential.proofs.outputs.outputs.Goals as goal
-
--- there are few keys
-few_keys : (keys : List (List ℕ)) (is : List ℕ) (values : List Value) (seen : List Emission) → paired keys is values ≡ seen
-    → length values ≡ length is → length keys ≤ length is → length seen < 4294967296 → length keys < 4294967296
-few_keys keys is values seen view even few small = omega (arith, length-paired keys is values (sym even), ap length view, few, small)
 
 -- as many ranks as pairs
 rank_count : (keys : List (List ℕ)) (rows : List Row) (is rs : List ℕ) → IsRanked keys rows is rs → length rs ≡ length is
 rank_count keys rows is rs ranks =
     omega (arith, ap length ranks.keys_are, same_length (key_at (map row_key rows)) rs, same_length (key_at keys) is)
 
--- as many pairs as are seen
-pair_count : (keys : List (List ℕ)) (is : List ℕ) (values : List Value) (seen : List Emission) → paired keys is values ≡ seen → length values ≡ length is → length seen ≡ length is
-pair_count keys is values seen view even = omega (arith, length-paired keys is values (sym even), ap length view)
+-- as many pairs as keys are seen
+pair_count : (keys : List (List ℕ)) (is : List ℕ) (seen : List (List ℕ)) → keyed keys is ≡ seen → length seen ≡ length is
+pair_count keys is seen view = omega (arith, same_length (key_at keys) is, ap length view)
 
-pub ranked-requires-clause-few : goal.ranked-requires-clause-few
-ranked-requires-clause-few c =
-    let g = c.gathered.inside in
-    few_keys g.keys g.numbers.items g.values c.args.gathered c.gathered.view_is c.gathered.invariant.same c.gathered.invariant.few c.requires.few
-
-pub fill_texts-requires-clause-all : goal.fill_texts-requires-clause-all
-fill_texts-requires-clause-all c =
-    let g = c.gathered.inside in
-    omega (
-      arith,
-      ap length c.as_slice-3.ensures.value,
-      rank_count g.keys c.in_ok-by_rank.by_rank.rows.items g.numbers.items c.in_ok-by_rank.by_rank.numbers.items c.in_ok-by_rank.ensures.numbers,
-      c.gathered.invariant.same,
-    )
-
-pub groups_of-requires-clause-rows : goal.groups_of-requires-clause-rows
-groups_of-requires-clause-rows c =
-    let g = c.gathered.inside in
-    omega (
-      arith,
-      ap length c.as_slice-5.ensures.value,
-      c.in_ok-by_rank.ensures.count,
-      few_keys g.keys g.numbers.items g.values c.args.gathered c.gathered.view_is c.gathered.invariant.same c.gathered.invariant.few c.requires.few,
-    )
+-- as many names as ranks
+even : (names xs : List Name) (keys seen : List (List ℕ)) (rows : List Row) (is rs shown : List ℕ) → IsRanked keys rows is rs → keyed keys is ≡ seen
+    → length names ≡ length seen → xs ≡ names → shown ≡ rs → length xs ≡ length shown
+even names xs keys seen rows is rs shown ranks view all same look =
+    omega (arith, ap length same, all, pair_count keys is seen view, rank_count keys rows is rs ranks, ap length look)
 
 pub groups_of-requires-clause-used : goal.groups_of-requires-clause-used
 groups_of-requires-clause-used c = λ r h.
     let g = c.gathered.inside in
-    let rows : List Row = c.in_ok-by_rank.by_rank.rows.items in
-    let rs : List ℕ = c.in_ok-by_rank.by_rank.numbers.items in
-    subst (λ (l : List ℕ). Has l r) (sym c.as_slice-6.ensures.value)
-    (ranks-used c.args.parts g.keys rows g.numbers.items rs c.in_ok-by_rank.ensures.rows c.in_ok-by_rank.ensures.numbers c.gathered.invariant.used r
-    (omega (arith, h, ap length c.as_slice-5.ensures.value)))
+    let rows : List Row = c.in_ok-rows.field-0.rows.items in
+    let rs : List ℕ = c.in_ok-rows.field-0.numbers.items in
+    subst (λ (l : List ℕ). Has l r) (sym c.as_slice-4.ensures.value)
+    (ranks-used c.args.parts g.keys rows g.numbers.items rs c.in_ok-rows.ensures.rows c.in_ok-rows.ensures.numbers c.gathered.invariant.used r
+    (omega (arith, h, ap length c.as_slice-3.ensures.value)))
 
-pub groups_of-requires-clause-all : goal.groups_of-requires-clause-all
-groups_of-requires-clause-all c =
+pub fill_texts-requires-clause-within : goal.fill_texts-requires-clause-within
+fill_texts-requires-clause-within c =
     let g = c.gathered.inside in
+    let is : List ℕ = c.as_slice-4.result.now in
+    let xs : List Name = c.of-names.result in
+    let shown : List Row = c.as_slice-3.result.now in
+    let groups = c.in_ok-groups.groups in
+    let cs : List ℕ = groups.entry_counts.items in
+    let names : List Name = groups.names.items in
+    let kept = kept_records c.args.kept.now.skips (records_of c.args.kept.now.cut) in
+    let told : xs ≡ names_beside kept c.args.counts.items = c.of-names.ensures ∙ ap (λ (l : List ℕ). names_beside kept l) c.as_slice-2.ensures.value in
+    let same = even (names_beside kept c.args.counts.items) xs g.keys c.args.gathered c.in_ok-rows.field-0.rows.items g.numbers.items c.in_ok-rows.field-0.numbers.items is
+    c.in_ok-rows.ensures.numbers c.gathered.view_is c.requires.all told c.as_slice-4.ensures.value in
+    let put : ArePut is xs (length shown) cs names = record { sizes = c.in_ok-groups.ensures.sizes; entries = c.in_ok-groups.ensures.entries } in
+    let rows : c.as_slice-5.result.now ≡ shown = c.as_slice-5.ensures.value ∙ sym c.as_slice-3.ensures.value in
+    let n : length c.as_slice-5.result.now ≤ length shown = omega (arith, ap length rows) in
     omega (
       arith,
-      c.requires.all,
-      ap length c.as_slice-6.ensures.value,
-      rank_count g.keys c.in_ok-by_rank.by_rank.rows.items g.numbers.items c.in_ok-by_rank.by_rank.numbers.items c.in_ok-by_rank.ensures.numbers,
-      pair_count g.keys g.numbers.items g.values c.args.gathered c.gathered.view_is c.gathered.invariant.same,
+      put-start is xs (length shown) cs names put (length c.as_slice-5.result.now) n,
+      before-total (zip is xs) (length c.as_slice-5.result.now),
+      length-zip is xs same,
+      c.in_ok-groups.ensures.all,
     )
 
-pub groups_of-requires-clause-few : goal.groups_of-requires-clause-few
-groups_of-requires-clause-few c =
-    let g = c.gathered.inside in
-    omega (
-      arith,
-      c.requires.few,
-      ap length c.as_slice-6.ensures.value,
-      rank_count g.keys c.in_ok-by_rank.by_rank.rows.items g.numbers.items c.in_ok-by_rank.by_rank.numbers.items c.in_ok-by_rank.ensures.numbers,
-      pair_count g.keys g.numbers.items g.values c.args.gathered c.gathered.view_is c.gathered.invariant.same,
-    )
+pub fill_texts-requires-clause-named : goal.fill_texts-requires-clause-named
+fill_texts-requires-clause-named c = λ r h.
+    let is : List ℕ = c.as_slice-4.result.now in
+    let xs : List Name = c.of-names.result in
+    let shown : List Row = c.as_slice-3.result.now in
+    let groups = c.in_ok-groups.groups in
+    let cs : List ℕ = groups.entry_counts.items in
+    let names : List Name = groups.names.items in
+    let cut : Cut = c.args.kept.now.cut in
+    let put : ArePut is xs (length shown) cs names = record { sizes = c.in_ok-groups.ensures.sizes; entries = c.in_ok-groups.ensures.entries } in
+    let rows : c.as_slice-5.result.now ≡ shown = c.as_slice-5.ensures.value ∙ sym c.as_slice-3.ensures.value in
+    let all : All (IsOfRecord cut) xs =
+    subst (All (IsOfRecord cut)) (sym c.of-names.ensures) (names-named cut c.args.kept.now.skips c.as_slice-2.result.now c.requires.size) in
+    let here : All (IsOfRecord cut) (row_names cs names r) =
+    subst (All (IsOfRecord cut)) (sym (put-names is xs (length shown) cs names put r (omega (arith, h, ap length rows)))) (All-bucket (IsOfRecord cut) r is xs all) in
+    subst (λ (k : Cut). All (IsOfRecord k) (row_names cs names r)) (sym c.plan.ensures) here
 
 pub returns-clause-texts : goal.returns-clause-texts
 returns-clause-texts c = λ p h.
     let g = c.gathered.inside in
-    let ks : List (List ℕ) = g.keys in
-    let is : List ℕ = g.numbers.items in
-    let vs : List Value = g.values in
-    let rows : List Row = c.in_ok-by_rank.by_rank.rows.items in
-    let rs : List ℕ = c.in_ok-by_rank.by_rank.numbers.items in
     let job = c.args.job.now in
-    let pairs : HasPairs ks is vs = record { same = sym c.gathered.invariant.same; used = c.gathered.invariant.used } in
+    let parts : ℕ = c.args.parts in
+    let is : List ℕ = c.as_slice-4.result.now in
+    let xs : List Name = c.of-names.result in
+    let shown : List Row = c.as_slice-3.result.now in
+    let rows : List Row = c.in_ok-rows.field-0.rows.items in
+    let rs : List ℕ = c.in_ok-rows.field-0.numbers.items in
+    let groups = c.in_ok-groups.groups in
+    let cs : List ℕ = groups.entry_counts.items in
+    let names : List Name = groups.names.items in
+    let cut : Cut = c.args.kept.now.cut in
+    let all : List NamedRecord = records_of cut in
+    let kept = kept_records c.args.kept.now.skips all in
+    let beside : List Name = names_beside kept c.args.counts.items in
+    let vs : List Value = map (value_under job all) beside in
+    let put : ArePut is xs (length shown) cs names = record { sizes = c.in_ok-groups.ensures.sizes; entries = c.in_ok-groups.ensures.entries } in
+    let told : xs ≡ beside = c.of-names.ensures ∙ ap (λ (l : List ℕ). names_beside kept l) c.as_slice-2.ensures.value in
+    let same : length g.numbers.items ≡ length vs =
+    omega (arith, same_length (value_under job all) beside, c.requires.all, pair_count g.keys g.numbers.items c.args.gathered c.gathered.view_is) in
     c.in_ok-fill_texts.ensures.ok p (omega (arith, h, c.in_ok-texts.ensures.count))
-    ∙ ap (λ (l : List ℕ). l ++ row_texts (bucket_text job (zip c.as_slice-3.result.now vs)) p 0 c.as_slice-2.result.now) (c.in_ok-texts.ensures.empty p)
-    ∙ ap (λ (l : List Row). row_texts (bucket_text job (zip c.as_slice-3.result.now vs)) p 0 l) c.as_slice-2.ensures.value
-    ∙ ap (λ (l : List ℕ). row_texts (bucket_text job (zip l vs)) p 0 rows) c.as_slice-3.ensures.value
-    ∙ texts-rows job c.args.parts p ks rows is rs vs c.in_ok-by_rank.ensures.rows c.in_ok-by_rank.ensures.numbers pairs
-    ∙ ap (λ (es : List Emission). texts_in (λ k. partition_of k c.args.parts) (text_of job) es p) c.gathered.view_is
+    ∙ ap (λ (l : List ℕ). l ++ row_texts (names_text job (records_of c.plan.result.now) cs names) p 0 c.as_slice-5.result.now) (c.in_ok-texts.ensures.empty p)
+    ∙ ap (λ (k : Cut). row_texts (names_text job (records_of k) cs names) p 0 c.as_slice-5.result.now) c.plan.ensures
+    ∙ ap (λ (l : List Row). row_texts (names_text job all cs names) p 0 l) (c.as_slice-5.ensures.value ∙ sym c.as_slice-3.ensures.value)
+    ∙ put-texts job all is xs shown cs names p put
+    ∙ ap (λ (l : List Row). row_texts (bucket_text job (zip is (map (value_under job all) xs))) p 0 l) c.as_slice-3.ensures.value
+    ∙ ap (λ (l : List ℕ). row_texts (bucket_text job (zip l (map (value_under job all) xs))) p 0 rows) c.as_slice-4.ensures.value
+    ∙ ap (λ (l : List Name). row_texts (bucket_text job (zip rs (map (value_under job all) l))) p 0 rows) told
+    ∙ texts-rows job parts p g.keys rows g.numbers.items rs vs c.in_ok-rows.ensures.rows c.in_ok-rows.ensures.numbers c.gathered.invariant.used same
+    ∙ ap (λ (l : List (List ℕ)). texts_in (λ k. partition_of k parts) (text_of job) (zip l vs) p) c.gathered.view_is
 
 pub returns-clause-groups : goal.returns-clause-groups
 returns-clause-groups c =
     let g = c.gathered.inside in
-    let ks : List (List ℕ) = g.keys in
-    let is : List ℕ = g.numbers.items in
-    let vs : List Value = g.values in
-    let rows : List Row = c.in_ok-by_rank.by_rank.rows.items in
-    let rs : List ℕ = c.in_ok-by_rank.by_rank.numbers.items in
-    let names : List Name = c.args.names in
+    let rows : List Row = c.in_ok-rows.field-0.rows.items in
+    let rs : List ℕ = c.in_ok-rows.field-0.numbers.items in
+    let kept = kept_records c.args.kept.now.skips (records_of c.args.kept.now.cut) in
+    let beside : List Name = names_beside kept c.args.counts.items in
+    let xs : List Name = c.of-names.result in
+    let told : xs ≡ beside = c.of-names.ensures ∙ ap (λ (l : List ℕ). names_beside kept l) c.as_slice-2.ensures.value in
     let m : ℕ = c.args.parts in
-    let pairs : HasPairs ks is vs = record { same = sym c.gathered.invariant.same; used = c.gathered.invariant.used } in
     c.in_ok-groups.ensures.groups
-    ∙ ap (λ (l : List Row). buckets m (zip (map row_part l) (buckets (length l) (zip c.as_slice-6.result.now names)))) c.as_slice-5.ensures.value
-    ∙ ap (λ (l : List ℕ). buckets m (zip (map row_part rows) (buckets (length rows) (zip l names)))) c.as_slice-6.ensures.value
-    ∙ groups-rows c.args.parts m ks rows is rs vs names c.in_ok-by_rank.ensures.rows c.in_ok-by_rank.ensures.numbers pairs
-    ∙ ap (λ (es : List Emission). map (groups_in (λ k. partition_of k c.args.parts) es names) (range_with_len 0 m)) c.gathered.view_is
+    ∙ ap (λ (l : List Row). buckets m (zip (map row_part l) (buckets (length l) (zip c.as_slice-4.result.now xs)))) c.as_slice-3.ensures.value
+    ∙ ap (λ (l : List ℕ). buckets m (zip (map row_part rows) (buckets (length rows) (zip l xs)))) c.as_slice-4.ensures.value
+    ∙ ap (λ (l : List Name). buckets m (zip (map row_part rows) (buckets (length rows) (zip rs l)))) told
+    ∙ groups-rows m m g.keys rows g.numbers.items rs beside c.in_ok-rows.ensures.rows c.in_ok-rows.ensures.numbers c.gathered.invariant.used
+    ∙ ap (λ (l : List (List ℕ)). map (groups_in (λ k. partition_of k m) l beside) (range_with_len 0 m)) c.gathered.view_is

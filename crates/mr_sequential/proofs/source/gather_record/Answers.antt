@@ -1,11 +1,21 @@
-use Rattle.std.proofs.Common.{List, length, ap, arith}
+use Rattle.std.proofs.Common.{List, ℕ, length, ap, arith, map}
 use Rattle.mr_jobs.specs.Emissions.{Emission, emissions}
-use Rattle.mr_ranks.proofs.ListLemmas.{length-append}
+use Rattle.mr_ranks.proofs.ListLemmas.{length-append, same_length}
 use Rattle.mr_sequential.proofs.source.gather_record.Goals as goal
 
 pub push-requires : goal.push-requires
 push-requires c =
     let r = c.args.line in
-    let old : List Emission = c.args.gathering.now in
+    let old : List (List ℕ) = c.args.gathering.now in
     let all : List Emission = emissions c.args.mapper.now.job r.file r.start r.bytes.now in
-    omega (arith, ap length c.loop-key.invariant, length-append c.loop-key.gathering c.loop-key.emitter, length-append old all, ap length c.in-Some.ensures.next, c.requires.few)
+    let left : List Emission = c.loop-key.emitter in
+    omega (
+      arith,
+      ap length c.loop-key.invariant,
+      length-append c.loop-key.gathering (map (λ (e : Emission). e.0) left),
+      length-append old (map (λ (e : Emission). e.0) all),
+      same_length (λ (e : Emission). e.0) left,
+      same_length (λ (e : Emission). e.0) all,
+      ap length c.in-Some.ensures.next,
+      c.requires.few,
+    )

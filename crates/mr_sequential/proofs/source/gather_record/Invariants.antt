@@ -1,10 +1,10 @@
-use Rattle.std.proofs.Common.{◌≡◌, ◌++◌, length}
+use Rattle.std.proofs.Common.{◌≡◌, ◌++◌, length, map}
 use Rattle.mr_jobs.specs.Emissions.{emissions}
 use Rattle.mr_sequential.proofs.source.gather_record.Given as goal
 
 abbrev pub invariant-loop-key : goal.invariant-loop-key
 invariant-loop-key l =
-    l.gathering ++ l.emitter ≡ l.fn.gathering ++ emissions l.fn.mapper.job l.fn.line.file l.fn.line.start l.fn.line.bytes.now
+    l.gathering ++ map (λ e. e.0) l.emitter ≡ l.fn.gathering ++ map (λ e. e.0) (emissions l.fn.mapper.job l.fn.line.file l.fn.line.start l.fn.line.bytes.now)
 
 abbrev pub decreases-loop-key : goal.decreases-loop-key
 decreases-loop-key l = length l.emitter

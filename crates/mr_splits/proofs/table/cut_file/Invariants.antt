@@ -9,9 +9,9 @@ use Rattle.mr_splits.proofs.table.cut_file.Given as goal
 abbrev pub invariant-loop-start : goal.invariant-loop-start
 invariant-loop-start l = record {
   cut : (j : ℕ) × Cutting l.size l.input l.i
-      (listed l.input l.fn.table.spans.items 0 l.fn.table.rows.items
+      (listed l.input l.fn.table.ends.items 0 l.fn.table.rows.items
       ++ named_from l.size l.i (split_total l.size (take l.i l.input)) (split_total l.size (take l.i l.input)) 0 (records (nth_file l.input l.i)))
-      l.start l.next l.table.spans.items l.table.rows.items j;
+      l.start l.next l.table.ends.items l.table.rows.items j;
   within : l.start ≤ length l.bytes;
   inside : l.next ≤ length l.bytes + 1;
 }

@@ -1,4 +1,4 @@
-use Rattle.std.proofs.Common.{◌≡◌, ℕ, List, arith, sym, ap, subst, length}
+use Rattle.std.proofs.Common.{arith, sym, ap, subst, length}
 use Rattle.mr_jobs.specs.declared.hits.Known.{Known}
 use Rattle.mr_jobs.specs.Hits.{Sought, AreSo}
 use Rattle.mr_jobs.proofs.HitLemmas.{line-holds, line-short}

@@ -4,20 +4,17 @@ use Rattle.mr_splits.specs.declared.table.Row.{Row}
 use Rattle.mr_splits.specs.Named.{NamedRecord, of_split}
 use Rattle.mr_splits.specs.Laws.{joined_splits}
 use Rattle.mr_splits.specs.Cut.{Cut, records_of, nth_named}
-use Rattle.mr_splits.proofs.ReadLemmas.{found-row, first-is, number-at, number-within}
+use Rattle.mr_splits.proofs.ReadLemmas.{found-in, first-is, number-at, number-within}
 use Rattle.mr_splits.proofs.NameLemmas.{name-at, one-name}
 use Rattle.mr_splits.proofs.plan.Plan.number_of.Goals as goal
 
 pub overflow_add-result : goal.overflow_add-result
 overflow_add-result c =
     let p = c.self.inside in
-    let h : c.args.s < length p.table.rows.items =
-    omega (arith, c.requires.split, c.self.invariant.rows, ap (λ (v : Cut). split_total v.size v.files) c.self.view_is) in
-    let k : c.args.r < length (of_split c.args.s (records_of (record { size = p.size; files = p.input.now }))) =
-    omega (arith, c.requires.«record», ap (λ (v : Cut). length (of_split c.args.s (records_of v))) c.self.view_is) in
-    let among = found-row p.size p.input.now p.table.spans.items p.table.rows.items c.args.s c.args.r c.index.result.now
-    c.self.invariant.stands c.self.invariant.all h k c.index.ensures in
-    omega (arith, among, p.table.spans.ok.0, p.table.spans.small)
+    let i = c.self.invariant in
+    let f = found-in p.size p.input.now c.args.self.now p.table.ends.items p.table.rows.items c.args.s c.args.r c.index.result.now
+    c.self.view_is i.rows i.stands i.all c.requires.split c.requires.«record» c.index.ensures in
+    omega (arith, f.among, p.table.ends.ok.0, p.table.ends.small)
 
 pub returns : goal.returns
 returns c =
@@ -28,7 +25,7 @@ returns c =
     let h : c.args.s < length p.table.rows.items = omega (arith, c.requires.split, c.self.invariant.rows, same) in
     let first : c.index.result.now.first ≡ length (joined_splits 0 c.args.s (records_of c.args.self.now)) =
     ap (λ (r : Row). r.first) c.index.ensures
-    ∙ first-is p.size p.input.now p.table.spans.items p.table.rows.items c.args.s c.index.result.now c.self.invariant.stands c.self.invariant.all h
+    ∙ first-is p.size p.input.now p.table.ends.items p.table.rows.items c.args.s c.index.result.now c.self.invariant.stands c.self.invariant.all h
     ∙ ap (λ (v : Cut). length (joined_splits 0 c.args.s (records_of v))) v in
     let some : 0 < c.args.self.now.size = subst (λ (v : Cut). 0 < v.size) v c.self.invariant.some in
     let within : c.index.result.now.first + c.args.r < length (records_of c.args.self.now) =

@@ -12,5 +12,5 @@ returns c =
     let h : c.args.s < length p.table.rows.items =
     omega (arith, c.requires, c.self.invariant.rows, ap (λ (v : Cut). split_total v.size v.files) c.self.view_is) in
     ap (λ (r : Row). r.count) c.index.ensures
-    ∙ records-in p.size p.input.now p.table.spans.items p.table.rows.items c.args.s c.index.result.now c.self.invariant.stands c.self.invariant.all h
+    ∙ records-in p.size p.input.now p.table.ends.items p.table.rows.items c.args.s c.index.result.now c.self.invariant.stands c.self.invariant.all h
     ∙ ap (λ (v : Cut). length (of_split c.args.s (records_of v))) c.self.view_is

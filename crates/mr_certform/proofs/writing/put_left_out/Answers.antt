@@ -1,0 +1,5 @@
+use Rattle.std.proofs.lemmas.Result.{on_ok_weaker}
+use Rattle.mr_certform.proofs.writing.put_left_out.Goals as goal
+
+pub returns : goal.returns
+returns g c = on_ok_weaker c.put_skips.result (λ t. (g.met.O.Sink.joined c.args.out.now c.put_number.new.out c.put_skips.new.out _ _ c.in_ok-put_number.ensures t.0, t.1)) c.put_skips.ensures

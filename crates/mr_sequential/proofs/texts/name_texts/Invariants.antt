@@ -1,0 +1,13 @@
+use Rattle.std.proofs.Common.{◌≡◌, ◌<◌, ℕ, ◌++◌, length, drop}
+use Rattle.mr_input.specs.Files.{contents, nth_file}
+use Rattle.mr_splits.specs.Cut.{records_of}
+use Rattle.mr_sequential.specs.Rows.{row_start, row_texts, names_text}
+use Rattle.mr_sequential.proofs.texts.name_texts.Given as goal
+
+abbrev pub invariant-loop-rank : goal.invariant-loop-rank
+invariant-loop-rank l = record {
+  start : l.start ≡ row_start l.counts l.rank;
+  count : length l.texts.items ≡ length l.fn.texts.items;
+  texts : (p : ℕ) → p < length l.fn.texts.items → nth_file (contents l.texts.items) p ++ row_texts (names_text l.job (records_of l.plan) l.counts l.names) p l.rank (drop l.rank l.rows)
+      ≡ nth_file (contents l.fn.texts.items) p ++ row_texts (names_text l.job (records_of l.plan) l.counts l.names) p 0 l.rows;
+}
