@@ -5,4 +5,5 @@ pub mod Pairs
 pub mod Words
 pub mod WordLaw
 pub mod Cut
+pub mod Places
 pub mod Values

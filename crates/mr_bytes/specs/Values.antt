@@ -1,16 +1,17 @@
--- Values in a list of which those in front that are One are counted, places in one file behind them stored as offsets, and
--- the rest as it is.
+-- Values in a list of which those in front that are One are counted, places behind them stored as such, and the rest as it
+-- is.
 use Rattle.std.specs.Prelude.{◌≡◌, ℕ, List, [], ◌∷◌, ◌++◌, map, replicate, length}
 use Rattle.mr_bytes.specs.declared.Value.{Value}
 use Rattle.mr_bytes.specs.declared.Value.TheVariants.{One, At}
+use Rattle.mr_bytes.specs.declared.places.Place.{Place}
 
--- places in a file, by their offsets
-abbrev pub places : ℕ → List ℕ → List Value
-places file offsets = map (λ offset. At file offset) offsets
+-- the value that tells a place
+abbrev pub at : Place → Value
+at place = At place.file place.offset
 
--- so many times One, then places in a file, and then the rest
-abbrev pub column : ℕ → ℕ → List ℕ → List Value → List Value
-column ones file offsets rest = replicate ones One ++ (places file offsets ++ rest)
+-- so many times One, then places, and then the rest
+abbrev pub column : ℕ → List Place → List Value → List Value
+column ones places rest = replicate ones One ++ (map at places ++ rest)
 
 -- each value is One
 abbrev pub AreOnes : List Value → Type 0

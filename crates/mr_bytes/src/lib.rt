@@ -10,6 +10,7 @@ mod gates;
 mod marks;
 mod names;
 mod pairs;
+mod places;
 mod same;
 mod values;
 mod words;

@@ -1,47 +1,46 @@
-//! A list of values that takes little room where they are `One`, or places in one file: the former are counted, of the latter
-//! the offsets are stored, four bytes each, and the rest as it is.
-ghost use Rattle.std.specs.Prelude.{◌≡◌, ◌⊎◌, ◌+◌, ◌-◌, ◌<◌, ◌^◌, ◌++◌, ◌∷◌, [], IfOk, IfSome, OnOk, OnErr, IsOk, IsTrue, ◌↔◌, length, take, slice_index_or, vec_len};
-ghost use Rattle.mr_bytes.specs.declared.Value.TheVariants.{One};
-ghost use Rattle.mr_bytes.specs.Values.{AreOnes};
+//! A list of values that takes little room where they are `One`, or places: the former are counted, of the latter four or
+//! eight bytes are stored, and the rest as it is.
+ghost use Rattle.std.specs.Prelude.{◌≡◌, ◌+◌, ◌-◌, ◌<◌, ◌^◌, ◌++◌, ◌∷◌, [], OnOk, OnErr, IsOk, IfSome, length, take, slice_index_or};
+ghost use Rattle.mr_bytes.specs.declared.Value.TheVariants.{One, At};
+ghost use Rattle.mr_bytes.specs.Values.{AreOnes, at};
 
 use crate::Value;
+use crate::places::{Place, Places};
 use std::alloc::{AllocError, Global};
 use std::marker::Model;
 
-/// Values, in order. Those `One` in front are counted and not stored, so that a job that counts stores none. Places behind
-/// them, as long as all are in one file of less than 4 GiB, are stored as their offsets there.
+/// Values, in order. Those `One` in front are counted and not stored, so that a job that counts stores none. Behind them
+/// come places in the first 4 GiB of their files, and from the first that is neither, values as they are.
 #[derive(Drop)]
 pub struct Values {
     ones: usize,
-    file: u32,
-    offsets: Vec<u32>,
+    places: Places,
     rest: Vec<Value>,
 }
 
 impl Model for Values {
-    ghost use Rattle.std.specs.Prelude.{List, length, ◌+◌, ◌++◌, ◌<◌, ◌^◌};
+    ghost use Rattle.std.specs.Prelude.{List, length, map, ◌+◌, ◌++◌, ◌<◌, ◌^◌};
     ghost use Rattle.mr_bytes.specs.declared.Value.{Value as Emitted};
 
     ghost Value = { List Emitted };
 
-    ghost use Rattle.mr_bytes.specs.Values.{BeginsOtherwise, column, places};
+    ghost use Rattle.mr_bytes.specs.Values.{BeginsOtherwise, at, column};
 
-    ghost view = { λ v. column v.ones v.file v.offsets.items v.rest.items };
+    ghost view = { λ v. column v.ones v.places v.rest.items };
 
     ghost invariant = { λ v. record {
-      counted : BeginsOtherwise (places v.file v.offsets.items ++ v.rest.items);
-      few : v.ones + (length v.offsets.items + length v.rest.items) < 2 ^ 64;
+      counted : BeginsOtherwise (map at v.places ++ v.rest.items);
+      few : v.ones + (length v.places + length v.rest.items) < 2 ^ 64;
     } };
 }
 
-/// The offset of a place that may stand behind these of a file.
-fn offset_behind(offsets: &[u32], here: u32, file: u32, offset: u64) -> Option<u32>
-    ensures { IfSome result (λ o. (o ≡ offset) × ((offsets.now ≡ []) ⊎ (here ≡ file))) }
+/// The place, where four bytes hold its offset.
+fn near(file: u32, offset: u64) -> Option<Place>
+    ensures { IfSome result (λ place. at place ≡ At file offset) }
 {
-    if offsets.is_empty() || here == file {
-        u32::try_from(offset).ok()
-    } else {
-        None
+    match u32::try_from(offset) {
+        Ok(offset) => Some(Place { file, offset }),
+        Err(_) => None,
     }
 }
 
@@ -52,8 +51,7 @@ impl Values {
     {
         Values {
             ones: 0,
-            file: 0,
-            offsets: Vec::new(alloc),
+            places: Places::new(alloc),
             rest: Vec::new(alloc),
         }
     }
@@ -62,7 +60,7 @@ impl Values {
     pub fn len(&self) -> usize
         ensures { result ≡ length self.now }
     {
-        self.ones + (self.offsets.len() + self.rest.len())
+        self.ones + (self.places.len() + self.rest.len())
     }
 
     /// Value `i`, from 0.
@@ -74,13 +72,14 @@ impl Values {
             return Value::One;
         }
         let behind = i - self.ones;
-        if behind < self.offsets.len() {
+        if behind < self.places.len() {
+            let Place { file, offset } = self.places.get(behind);
             Value::At {
-                file: self.file,
-                offset: self.offsets[behind] as u64,
+                file,
+                offset: u64::from(offset),
             }
         } else {
-            self.rest[behind - self.offsets.len()]
+            self.rest[behind - self.places.len()]
         }
     }
 
@@ -97,17 +96,12 @@ impl Values {
             return Ok(());
         }
         match value {
-            Value::One if self.offsets.is_empty() => self.ones += 1,
+            Value::One if self.places.len() == 0 => self.ones += 1,
             Value::One => self.rest.push(value)?,
-            Value::At { file, offset } => {
-                match offset_behind(self.offsets.as_slice(), self.file, file, offset) {
-                    Some(offset) => {
-                        self.offsets.push(offset)?;
-                        self.file = file;
-                    }
-                    None => self.rest.push(value)?,
-                }
-            }
+            Value::At { file, offset } => match near(file, offset) {
+                Some(place) => self.places.push(place)?,
+                None => self.rest.push(value)?,
+            },
         }
         Ok(())
     }
@@ -118,16 +112,16 @@ impl Values {
     {
         if count <= self.ones {
             self.ones = count;
-            self.offsets.clear();
+            self.places.clear();
             self.rest.clear();
             return;
         }
         let behind = count - self.ones;
-        if behind <= self.offsets.len() {
-            self.offsets.truncate(behind);
+        if behind <= self.places.len() {
+            self.places.truncate(behind);
             self.rest.clear();
         } else {
-            self.rest.truncate(behind - self.offsets.len());
+            self.rest.truncate(behind - self.places.len());
         }
     }
 
@@ -136,7 +130,7 @@ impl Values {
         ensures { self.new ≡ [] }
     {
         self.ones = 0;
-        self.offsets.clear();
+        self.places.clear();
         self.rest.clear();
     }
 }

@@ -90,12 +90,13 @@ fn cuts(rt: HostRuntime) {
 fn a_column_of_values(rt: HostRuntime) -> Result<(), Fail> {
     let alloc = rt.alloc();
     let place = Value::At { file: 1, offset: 7 };
+    let elsewhere = Value::At { file: 2, offset: 7 };
     let mut column = Values::new(alloc);
     let far = Value::At {
         file: 1,
         offset: 4294967296,
     };
-    for value in [Value::One, Value::One, place, place, far, Value::One] {
+    for value in [Value::One, Value::One, place, elsewhere, far, Value::One] {
         if column.len() < 6 {
             column.push(value)?;
         }
@@ -103,7 +104,7 @@ fn a_column_of_values(rt: HostRuntime) -> Result<(), Fail> {
     assert!(rt; column.len() == 6);
     assert!(rt;
         column.get(1) == Value::One
-            && column.get(3) == place
+            && column.get(3) == elsewhere
             && column.get(4) == far
             && column.get(5) == Value::One
     );

@@ -6,11 +6,11 @@ use Rattle.mr_bytes.proofs.values.Values.push.Goals as goal
 pub returns-in_err-push-clause-none : goal.returns-in_err-push-clause-none
 returns-in_err-push-clause-none c = λ ones one.
     let v = c.self.inside in
-    let none = no-places v.ones v.file v.offsets.items v.rest.items c.self.invariant.counted (subst AreOnes (sym c.self.view_is) ones) in
+    let none = no-places v.ones v.places v.rest.items c.self.invariant.counted (subst AreOnes (sym c.self.view_is) ones) in
     absurd (grind arith)
 
 pub returns-in_err-push-in-One-2-clause-none : goal.returns-in_err-push-in-One-2-clause-none
 returns-in_err-push-in-One-2-clause-none c = λ ones one.
     let v = c.self.inside in
-    let none = no-places v.ones v.file v.offsets.items v.rest.items c.self.invariant.counted (subst AreOnes (sym c.self.view_is) ones) in
+    let none = no-places v.ones v.places v.rest.items c.self.invariant.counted (subst AreOnes (sym c.self.view_is) ones) in
     absurd (grind arith)
