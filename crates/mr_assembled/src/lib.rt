@@ -3,7 +3,8 @@
 #![tactic(auto)]
 
 ghost use Rattle.mr_assembled.specs.Worked.{WorkedCertificate, WorkedCut, WorkedEnd, WorkedIsDone, WorkedOutput, WorkedRegion, WorkedValue, WorkedWithout};
-ghost use Rattle.mr_assembled.specs.Laws.{AttemptsHaveOneValue, CommittedHaveAValue, CutsDontMatter, DoneIsAGoodResult, DoneIsCertified, DoneIsGood, DoneIsSequential, DoneSetsAreFixed, ValuesAreSequential};
+ghost use Rattle.mr_assembled.specs.Laws.{AttemptsHaveOneValue, CommittedHaveAValue, CutsDontMatter, DoneIsAGoodResult, DoneIsCertified, DoneIsGood};
+ghost use Rattle.mr_assembled.specs.Laws.{DoneIsSequential, DoneSetsAreFixed, ValuesAreSequential};
 
 /// The reduce value over the map values of all splits is what the sequential execution has for the partition, and over
 /// their regions, however they are cut, it is the same.

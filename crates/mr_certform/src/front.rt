@@ -13,7 +13,8 @@ const MAGIC: [u8; 8] = *b"MRCERT1\n";
 
 /// The number of the first four bytes, and the bytes behind it.
 fn four(bytes: &[u8]) -> Option<(u32, &[u8])>
-    ensures { MatchOption result (length bytes.now < 4) (λ r. (4 ≤ length bytes.now) × (r.0 ≡ from_be_bytes w32 (take 4 bytes.now)) × (r.1.now ≡ drop 4 bytes.now)) }
+    ensures { MatchOption result (length bytes.now < 4) (λ r. (4 ≤ length bytes.now) × (r.0 ≡ from_be_bytes w32 (take 4 bytes.now))
+        × (r.1.now ≡ drop 4 bytes.now)) }
 {
     if bytes.len() < 4 {
         None
@@ -24,7 +25,8 @@ fn four(bytes: &[u8]) -> Option<(u32, &[u8])>
 
 /// The number of the first eight bytes, and the bytes behind it.
 fn eight(bytes: &[u8]) -> Option<(u64, &[u8])>
-    ensures { MatchOption result (length bytes.now < 8) (λ r. (8 ≤ length bytes.now) × (r.0 ≡ from_be_bytes w64 (take 8 bytes.now)) × (r.1.now ≡ drop 8 bytes.now)) }
+    ensures { MatchOption result (length bytes.now < 8) (λ r. (8 ≤ length bytes.now) × (r.0 ≡ from_be_bytes w64 (take 8 bytes.now))
+        × (r.1.now ≡ drop 8 bytes.now)) }
 {
     if bytes.len() < 8 {
         None

@@ -1,7 +1,8 @@
 //! What the definitions of certificates mean: functions without a body, whose clauses are the laws.
 ghost use Rattle.std.specs.Prelude.{List};
 ghost use Rattle.mr_bytes.specs.declared.Name.{Name};
-ghost use Rattle.mr_certform.specs.Laws.{StandingIsSpelled, SpelledStands, SpellingsAreApart, SpellingIsRead, EndedIsSpelled, OneCertificate, SpelledByParts, ItemsStand, ItemsAreLongest, CutByCounts, SpelledSoFarIsSpelled};
+ghost use Rattle.mr_certform.specs.Laws.{StandingIsSpelled, SpelledStands, SpellingsAreApart, SpellingIsRead, EndedIsSpelled, OneCertificate};
+ghost use Rattle.mr_certform.specs.Laws.{SpelledByParts, ItemsStand, ItemsAreLongest, CutByCounts, SpelledSoFarIsSpelled};
 
 /// An item stands at the front of bytes exactly where they begin with its spelling, and the end where no byte is
 /// left. Before the end no item's spelling begins another's.

@@ -44,8 +44,10 @@ impl<'a> Walker<'a> {
     #[inline]
     fn step(&mut self) -> Result<Item, Malformed>
         ensures item { MatchResult result
-            (λ i. (standing self.old.place self.old.rest.now ≡ Some (record { item = i; rest = self.new.rest.now })) × (self.new.place ≡ onward self.old.place i))
-            (λ e. (standing self.old.place self.old.rest.now ≡ None) × (self.new.place ≡ self.old.place) × (self.new.rest.now ≡ self.old.rest.now) × (e.at ≡ self.old.whole - length self.old.rest.now)) }
+            (λ i. (standing self.old.place self.old.rest.now ≡ Some (record { item = i; rest = self.new.rest.now }))
+            × (self.new.place ≡ onward self.old.place i))
+            (λ e. (standing self.old.place self.old.rest.now ≡ None) × (self.new.place ≡ self.old.place)
+            × (self.new.rest.now ≡ self.old.rest.now) × (e.at ≡ self.old.whole - length self.old.rest.now)) }
         ensures same { self.new.whole ≡ self.old.whole }
     {
         match step_of(self.place, self.rest) {

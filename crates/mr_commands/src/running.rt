@@ -4,7 +4,9 @@ ghost use Rattle.mr_input.specs.Files.{split_total};
 ghost use Rattle.mr_files.specs.Holding.{ChangesAmong};
 ghost use Rattle.mr_files.specs.Refusals.{IsOneUnwritten};
 ghost use Rattle.mr_pool.specs.Outcomes.{run_shape};
-ghost use Rattle.mr_commands.specs.Runs.{AnswersRun, IsBadScript, IsCrewRefusal, IsEnding, IsHistoryKept, IsResultKept, IsResultRefused, IsStartRefusal, IsRunUnanswered, IsScript, IsScriptRefusal, Runs, TellsRan, history_of as history_in, named, names_left, written_by_run};
+ghost use Rattle.mr_commands.specs.Runs.{AnswersRun, IsBadScript, IsCrewRefusal, IsEnding, IsHistoryKept, IsResultKept, IsResultRefused};
+ghost use Rattle.mr_commands.specs.Runs.{IsStartRefusal, IsRunUnanswered, IsScript, IsScriptRefusal, Runs, TellsRan, history_of as history_in, named};
+ghost use Rattle.mr_commands.specs.Runs.{names_left, written_by_run};
 ghost use Rattle.mr_script.specs.Scripts.{SpellsScript};
 
 use crate::asked::RunOptions;

@@ -111,7 +111,8 @@ impl Attempts {
         requires { (x : Attempt) × (slice_get self.old.items at ≡ Some x) × (x.live ≡ true) }
         ensures ended { self.new ≡ record self.old { items = update_at (λ t. record t { live = false }) at self.old.items } }
         ensures below { (x : Attempt) → slice_get self.old.items at ≡ Some x → IsBelow self.old.maps self.old.parts x.task }
-        ensures splits { (x : Attempt) → slice_get self.old.items at ≡ Some x → splits.new ≡ update_at (λ sp. record { skips = x.skips; fixed = true; output = Some (output, x.worker) }) split splits.old }
+        ensures splits { (x : Attempt) → slice_get self.old.items at ≡ Some x
+            → splits.new ≡ update_at (λ sp. record { skips = x.skips; fixed = true; output = Some (output, x.worker) }) split splits.old }
     {
         let attempt = &mut self.items[at as usize];
         let task = attempt.task();

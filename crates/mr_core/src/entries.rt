@@ -1,5 +1,6 @@
 //! The entries of a master's lists: its splits, and the attempts that it has issued.
-ghost use Rattle.std.specs.Prelude.{◌≡◌, ℕ, Bool, true, false, Option, Some, None, List, [], ◌∷◌, ◌==◌, ◌&&◌, map, is_some, is_none, nat_lt, length, slice_get, OnOk, OnErr, IfOk, replicate};
+ghost use Rattle.std.specs.Prelude.{◌≡◌, ℕ, Bool, true, false, Option, Some, None, List, [], ◌∷◌, ◌==◌, ◌&&◌, map, is_some, is_none, nat_lt, length};
+ghost use Rattle.std.specs.Prelude.{slice_get, OnOk, OnErr, IfOk, replicate};
 ghost use Rattle.std.specs.List.{list_any, list_all, count_by, sum_by};
 ghost use Rattle.mr_core.specs.Master.{Attempt, update_at, left_by, gone_with, held_by, task_eq, only_live, takes, with_number};
 

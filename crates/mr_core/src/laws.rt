@@ -6,7 +6,8 @@ ghost use Rattle.mr_core.specs.declared.event.Event.{Event};
 ghost use Rattle.mr_core.specs.declared.event.Reply.{Reply};
 ghost use Rattle.mr_core.specs.declared.entries.Split.{Split};
 ghost use Rattle.mr_core.specs.Master.{State, Step, Run, opening, replay};
-ghost use Rattle.mr_core.specs.Promises.{OneSet, CommittedHaveFetched, CommitsStay, FixedSetsStay, FewAreLeftOut, FewAttempts, LiveAreActive, SomeTaskMayBeGiven, OfEveryRun, OfEveryJob, OfEveryLaterState};
+ghost use Rattle.mr_core.specs.Promises.{OneSet, CommittedHaveFetched, CommitsStay, FixedSetsStay, FewAreLeftOut, FewAttempts, LiveAreActive};
+ghost use Rattle.mr_core.specs.Promises.{SomeTaskMayBeGiven, OfEveryRun, OfEveryJob, OfEveryLaterState};
 ghost use Rattle.mr_bytes.specs.Lists.{Has, Rises};
 ghost use Rattle.std.specs.Ordering.{nat_cmp};
 ghost use Rattle.mr_core.specs.Laws.{IsMapOf, IsOutputOf, IsPartOf};
@@ -44,7 +45,8 @@ pub fn goes_on()
 /// The state after is one, a run goes on by a step, and runs are what the replay gives.
 pub fn runs()
     ensures one { (sh : Shape) (st : State) (e : Event) (r : Reply) (a b : State) → Step sh st e r a → Step sh st e r b → a ≡ b }
-    ensures longer { (sh : Shape) (st : State) (h : List (Event × Reply)) (mid : State) (e : Event) (r : Reply) (new : State) → Run sh st h mid → Step sh mid e r new → Run sh st (h ++ (e, r) ∷ []) new }
+    ensures longer { (sh : Shape) (st : State) (h : List (Event × Reply)) (mid : State) (e : Event) (r : Reply) (new : State) → Run sh st h mid
+        → Step sh mid e r new → Run sh st (h ++ (e, r) ∷ []) new }
     ensures replayed { (sh : Shape) (h : List (Event × Reply)) (st : State) → (replay sh h ≡ Some st) ↔ Run sh (opening sh) h st }
 {}
 
@@ -56,12 +58,16 @@ pub fn fetched()
 
 /// The records left out of a split rise, and each of them was reported by an accepted failure in it.
 pub fn left_out_sets()
-    ensures rise { (sh : Shape) (h : List (Event × Reply)) (st : State) → Run sh (opening sh) h st → (s : ℕ) (sp : Split) → slice_get st.splits s ≡ Some sp → Rises nat_cmp sp.skips }
-    ensures failed { (sh : Shape) (h : List (Event × Reply)) (st : State) → Run sh (opening sh) h st → (s r : ℕ) (sp : Split) → slice_get st.splits s ≡ Some sp → Has sp.skips r → (a : ℕ) × Has h (Event.MapFailed a r, Reply.Accepted) × (k : List ℕ) × IsMapOf st a s k }
+    ensures rise { (sh : Shape) (h : List (Event × Reply)) (st : State) → Run sh (opening sh) h st → (s : ℕ) (sp : Split)
+        → slice_get st.splits s ≡ Some sp → Rises nat_cmp sp.skips }
+    ensures failed { (sh : Shape) (h : List (Event × Reply)) (st : State) → Run sh (opening sh) h st → (s r : ℕ) (sp : Split)
+        → slice_get st.splits s ≡ Some sp → Has sp.skips r → (a : ℕ) × Has h (Event.MapFailed a r, Reply.Accepted) × (k : List ℕ) × IsMapOf st a s k }
 {}
 
 /// Each output that a split has, and each that is committed, was accepted for it.
 pub fn accepted_outputs()
-    ensures splits { (sh : Shape) (h : List (Event × Reply)) (st : State) → Run sh (opening sh) h st → (s : ℕ) (sp : Split) (x w : ℕ) → slice_get st.splits s ≡ Some sp → sp.output ≡ Some (x, w) → IsOutputOf h st s x }
-    ensures parts { (sh : Shape) (h : List (Event × Reply)) (st : State) → Run sh (opening sh) h st → (p o : ℕ) → slice_get st.committed p ≡ Some (Some o) → IsPartOf h st p o }
+    ensures splits { (sh : Shape) (h : List (Event × Reply)) (st : State) → Run sh (opening sh) h st → (s : ℕ) (sp : Split) (x w : ℕ)
+        → slice_get st.splits s ≡ Some sp → sp.output ≡ Some (x, w) → IsOutputOf h st s x }
+    ensures parts { (sh : Shape) (h : List (Event × Reply)) (st : State) → Run sh (opening sh) h st → (p o : ℕ)
+        → slice_get st.committed p ≡ Some (Some o) → IsPartOf h st p o }
 {}

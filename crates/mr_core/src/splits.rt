@@ -1,5 +1,6 @@
 //! The splits of a job, with a count.
-ghost use Rattle.std.specs.Prelude.{◌≡◌, ◌+◌, if◌then◌else◌, is_none, List, [], None, false, Some, true, map, is_some, nat_lt, replicate, length, IfOk, OnOk, OnErr};
+ghost use Rattle.std.specs.Prelude.{◌≡◌, ◌+◌, if◌then◌else◌, is_none, List, [], None, false, Some, true, map, is_some, nat_lt, replicate, length};
+ghost use Rattle.std.specs.Prelude.{IfOk, OnOk, OnErr};
 ghost use Rattle.std.specs.List.{list_all, sum_by, count_by};
 ghost use Rattle.mr_core.specs.Master.{update_at, gone_with, with_number};
 

@@ -1,6 +1,7 @@
 //! What good results are worth: laws about the definitions alone.
 
-ghost use Rattle.mr_sequential.specs.GoodLaws.{EntriesAreDistinct, NoMoreEntries, NoneIsLeftOut, GoodPartsAreSequential, GoodIsSequential, SequentialIsGood, CertificateIsSequential, CertificateIsUnique, WorkedGroups, WorkedOutput};
+ghost use Rattle.mr_sequential.specs.GoodLaws.{EntriesAreDistinct, NoMoreEntries, NoneIsLeftOut, GoodPartsAreSequential, GoodIsSequential};
+ghost use Rattle.mr_sequential.specs.GoodLaws.{SequentialIsGood, CertificateIsSequential, CertificateIsUnique, WorkedGroups, WorkedOutput};
 
 /// The entries of partitions whose groups are good are distinct, by names, keys and partitions alone, so there are no
 /// more of them than triples; and distinct entries that name triples, as many as there are triples, leave none out.

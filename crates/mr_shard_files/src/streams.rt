@@ -1,6 +1,7 @@
 //! The parts that shards have for one partition, read in pieces.
 ghost use Rattle.std.specs.Prelude.{◌≡◌, ◌↔◌, ℕ, [], ◌∷◌, ◌++◌, List, IfErr, IfOk, IsTrue, OnOk, length, string_bytes, take};
-ghost use Rattle.mr_shard_files.specs.Streams.{AllAre, AreHeld, AreUnsettled, AreWindowsOf, Ends, HasRead, IsSettled, Moves, OneIs, TellsUnread, all_done, length_told};
+ghost use Rattle.mr_shard_files.specs.Streams.{AllAre, AreHeld, AreUnsettled, AreWindowsOf, Ends, HasRead, IsSettled, Moves, OneIs, TellsUnread};
+ghost use Rattle.mr_shard_files.specs.Streams.{all_done, length_told};
 ghost use Rattle.mr_shard_files.specs.Beside.{TellsOf};
 
 use crate::fault::ShardFault;

@@ -1,6 +1,7 @@
 //! Parts of shards, merged as they are read.
 ghost use Rattle.std.specs.Prelude.{◌≡◌, ◌⊎◌, [], ℕ, List, IfErr, IfOk, OnOk, length, string_bytes};
-ghost use Rattle.mr_shard_files.specs.Streams.{AreBlamed, AreJoined, AreMergedTo, AreNext, AreTaken, IsBlamedOver, IsRefused, IsStopped, IsStoppedAt, StepsOver};
+ghost use Rattle.mr_shard_files.specs.Streams.{AreBlamed, AreJoined, AreMergedTo, AreNext, AreTaken, IsBlamedOver, IsRefused, IsStopped, IsStoppedAt};
+ghost use Rattle.mr_shard_files.specs.Streams.{StepsOver};
 ghost use Rattle.mr_shard_files.specs.Made.{HasWritten, TellsUnwritten};
 
 use crate::fault::{ShardFault, of_merge};

@@ -1,6 +1,8 @@
 //! Pieces that are cut off windows, and their merge.
-ghost use Rattle.std.specs.Prelude.{◌≡◌, ℕ, ◌≤◌, ◌++◌, ◌∷◌, [], IfErr, IfOk, OnErr, OnOk, length, map, option_map, List, Option, Some, None, replicate, MatchOption, false, true, take, slice_index_or};
-ghost use Rattle.mr_shards.specs.Pieces.{AreLines, ArePut, AreBlamed, AreTaken, AreWindows, AreWithin, Bound, EndsLine, Reading, all_read_on, cuts_before, fresh, nothing, numbered, outputs_of, pieces_of, read_on, told, whole_window};
+ghost use Rattle.std.specs.Prelude.{◌≡◌, ℕ, ◌≤◌, ◌++◌, ◌∷◌, [], IfErr, IfOk, OnErr, OnOk, length, map, option_map, List, Option, Some, None};
+ghost use Rattle.std.specs.Prelude.{replicate, MatchOption, false, true, take, slice_index_or};
+ghost use Rattle.mr_shards.specs.Pieces.{AreLines, ArePut, AreBlamed, AreTaken, AreWindows, AreWithin, Bound, EndsLine, Reading, all_read_on};
+ghost use Rattle.mr_shards.specs.Pieces.{cuts_before, fresh, nothing, numbered, outputs_of, pieces_of, read_on, told, whole_window};
 ghost use Rattle.mr_shards.specs.Places.{shown};
 ghost use Rattle.mr_shards.specs.Refused.{Blames};
 

@@ -2,7 +2,8 @@
 ghost use Rattle.std.specs.Prelude.{◌≡◌, ℕ, ◌+◌, ◌^◌, ◌<◌, ◌≤◌, List, [], ◌∷◌, None, Some, MatchOption, drop, length, option_map};
 ghost use Rattle.mr_shards.specs.declared.window.Window.{Window};
 ghost use Rattle.mr_shards.specs.Lines.{before_last, lines};
-ghost use Rattle.mr_shards.specs.Pieces.{are_last, but_last, bytes_before, cut_before, is_before, last_key_in, least_last, lesser_place, lines_to_take, next_place, place_for};
+ghost use Rattle.mr_shards.specs.Pieces.{are_last, but_last, bytes_before, cut_before, is_before, last_key_in, least_last, lesser_place};
+ghost use Rattle.mr_shards.specs.Pieces.{lines_to_take, next_place, place_for};
 ghost use Rattle.mr_shards.specs.Places.{shown};
 
 use crate::line::{cut_first, cut_last};

@@ -1,5 +1,6 @@
 //! All pieces of some work, drawn by threads.
-ghost use Rattle.std.specs.Prelude.{◌≡◌, ◌^◌, ◌<◌, ◌≤◌, ◌+◌, ℕ, [], ◌∷◌, ◌++◌, None, IfOk, OnOk, All, length, replicate, slice_index_or, slice_set, Some, vec_len};
+ghost use Rattle.std.specs.Prelude.{◌≡◌, ◌^◌, ◌<◌, ◌≤◌, ◌+◌, ℕ, [], ◌∷◌, ◌++◌, None, IfOk, OnOk, All, length, replicate, slice_index_or, slice_set};
+ghost use Rattle.std.specs.Prelude.{Some, vec_len};
 ghost use Rattle.mr_tickets.specs.Views.{IsSeatOf};
 ghost use Rattle.mr_tickets.specs.Drawn.{weigh, below};
 ghost use Rattle.mr_tickets.specs.Pieces.{IsFresh, IsDone, AllGiven, AllSlots, numbers_of};

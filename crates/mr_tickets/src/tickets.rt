@@ -23,7 +23,8 @@ impl Model for Tickets {
 
     ghost view = { λ t. record { table = t.table.shared.table_id; limit = t.limit; seats = t.table.shared.key.seats } };
 
-    ghost invariant = { λ t. (t.table.shared.table_id.words ≡ 1) × (t.table.shared.table_id.slots ≡ 0) × (t.table.shared.key.limit ≡ t.limit) × (t.table.shared.key.limit < 2 ^ 32) × (0 < t.table.shared.key.seats) × (t.table.shared.key.seats < 2 ^ 32) };
+    ghost invariant = { λ t. (t.table.shared.table_id.words ≡ 1) × (t.table.shared.table_id.slots ≡ 0) × (t.table.shared.key.limit ≡ t.limit)
+        × (t.table.shared.key.limit < 2 ^ 32) × (0 < t.table.shared.key.seats) × (t.table.shared.key.seats < 2 ^ 32) };
 }
 
 /// Who draws numbers of one `Tickets`. It knows which it drew, and whether it was told that none is left.
@@ -107,7 +108,8 @@ impl Tickets {
     /// from then on, with no step. The seat must be one of these tickets'.
     pub fn draw(&self, seat: &mut TicketSeat) -> Option<u32>
         requires { IsSeatOf self.now seat.old }
-        ensures some { IfSome result (λ n. (n < self.now.limit) × (seat.old.told ≡ false) × (length seat.old.drawn < self.now.limit) × (seat.new ≡ record seat.old { drawn = seat.old.drawn ++ n ∷ [] })) }
+        ensures some { IfSome result (λ n. (n < self.now.limit) × (seat.old.told ≡ false) × (length seat.old.drawn < self.now.limit)
+            × (seat.new ≡ record seat.old { drawn = seat.old.drawn ++ n ∷ [] })) }
         ensures none { IfNone result (seat.new ≡ record seat.old { told = true }) }
     {
         if seat.told {
