@@ -14,10 +14,11 @@ use Rattle.mr_commands.specs.declared.fault.Fault.TheVariants.{OtherJobsOption, 
 use Rattle.mr_commands.specs.declared.asked.CheckOptions.{CheckOptions}
 use Rattle.mr_commands.specs.declared.asked.Options.{Options}
 use Rattle.mr_jobs.specs.JobSpec.{RequestSpec}
-use Rattle.mr_files.specs.Names.{result_names}
+use Rattle.mr_files.specs.Holding.{ChangesAmong, Holding}
+use Rattle.mr_files.specs.Names.{name_of_certificate, part_names, result_names}
 use Rattle.mr_commands.specs.Outcomes.{IsSequentialResult, done_line}
 use Rattle.mr_commands.specs.Asked.{AsksForOtherJob, WithinLimits, request_asked}
-use Rattle.mr_commands.specs.Answers.{AreBadThreads, TellsFile, IsResultRefusal, IsAsked, IsInput, IsInputRefusal, IsNameRefusal, IsCheckRefusal, IsRunRefusal, IsWorkRefusal, IsSeqRefusal, IsStopped, WorksOut, input_names}
+use Rattle.mr_commands.specs.Answers.{AnswersSeq, AreBadThreads, TellsFile, IsResultRefusal, IsAsked, IsInput, IsInputRefusal, IsNameRefusal, IsCheckRefusal, IsRunRefusal, IsWorkRefusal, IsSeqRefusal, IsStopped, WorksOut, input_names}
 use Rattle.mr_bytes.specs.declared.RecordName.{RecordName}
 use Rattle.mr_sequential.specs.Skips.{skip_fault}
 use Rattle.mr_sequential.specs.declared.fault.RunFault.{RunFault}
@@ -99,11 +100,41 @@ stopped_as old new unwritable names texts (file.CannotRead name) f h t = absurd 
 stopped_as old new unwritable names texts (file.CannotWrite name) f h t = rw t h
 stopped_as old new unwritable names texts file.OutOfMemory f h t = rw t tt
 
+-- as many files are written as there are partitions
+pub all_parts : (old : List ℕ → List ℕ → Type 0) (o : Options) (list : List ℕ) (outputs given : List (Vec ℕ Global)) (bytes line : List ℕ)
+    → WorksOut old o list (contents outputs) bytes line → given ≡ outputs → length given ≡ o.parts
+all_parts old o list outputs given bytes line work same = ap length same ∙ (sym (length-map outputs (λ o. o.items)) ∙ work.result.count)
+
 -- the result was not all written
 pub stopped_stage : (old new : List ℕ → List ℕ → Type 0) (unreadable unwritable : List ℕ → Type 0) (o : Options) (list : List ℕ) (outputs given : List (Vec ℕ Global)) (bytes line : List ℕ) (e : FileFault) (f : Fault)
     → WorksOut old o list (contents outputs) bytes line → given ≡ outputs
     → IsWriteRefusal old new unwritable (result_names o.out.now (length given)) (contents given ++ bytes ∷ []) e → TellsFile e f → IsSeqRefusal old new unreadable unwritable o list f
 stopped_stage old new unreadable unwritable o list outputs given bytes line e f work same h t =
-    let all : length given ≡ o.parts = ap length same ∙ (sym (length-map outputs (λ o. o.items)) ∙ work.result.count) in
+    let all : length given ≡ o.parts = all_parts old o list outputs given bytes line work same in
     let texts : contents given ++ bytes ∷ [] ≡ contents outputs ++ bytes ∷ [] = ap (λ (v : List (Vec ℕ Global)). contents v ++ bytes ∷ []) same in
     inr (contents outputs, bytes, line, work, stopped_as old new unwritable (result_names o.out.now o.parts) (contents outputs ++ bytes ∷ []) e f (subst (λ (v : List (List ℕ)). IsWriteRefusal old new unwritable (result_names o.out.now o.parts) v e) texts (subst (λ (n : ℕ). IsWriteRefusal old new unwritable (result_names o.out.now n) (contents given ++ bytes ∷ []) e) all h)) t)
+
+-- so nothing else changed
+pub changed_own : (old new : List ℕ → List ℕ → Type 0) (o : Options) (list : List ℕ) (outputs given : List (Vec ℕ Global)) (bytes line : List ℕ)
+    → WorksOut old o list (contents outputs) bytes line → given ≡ outputs
+    → ChangesAmong old new (result_names o.out.now (length given)) → ChangesAmong old new (result_names o.out.now o.parts)
+changed_own old new o list outputs given bytes line work same h =
+    subst (λ (n : ℕ). ChangesAmong old new (result_names o.out.now n)) (all_parts old o list outputs given bytes line work same) h
+
+-- and the result stands there
+pub answers_seq : (old new : List ℕ → List ℕ → Type 0) (o : Options) (list : List ℕ) (outputs given : List (Vec ℕ Global)) (bytes line : List ℕ)
+    → WorksOut old o list (contents outputs) bytes line → given ≡ outputs
+    → Holding new (part_names o.out.now (length given)) (contents given) → new (name_of_certificate o.out.now) bytes → AnswersSeq old new o list line
+answers_seq old new o list outputs given bytes line work same parts certificate = record {
+  files = work.files;
+  names = work.names;
+  outputs = contents outputs;
+  bytes = bytes;
+  input = work.input;
+  spelled = work.spelled;
+  result = work.result;
+  parts = subst (λ (n : ℕ). Holding new (part_names o.out.now n) (contents outputs)) (all_parts old o list outputs given bytes line work same)
+      (subst (λ (v : List (Vec ℕ Global)). Holding new (part_names o.out.now (length given)) (contents v)) same parts);
+  certificate = certificate;
+  said = work.said;
+}
