@@ -38,7 +38,7 @@ def random_words(count):
     return [b" ".join(struct.pack("<Q", draw.getrandbits(64)).hex().encode() for _ in range(count)), b"\n"]
 
 
-# (name, options, what the file holds)
+# (name, options, what the file holds, and what a file in front of it, if there is one)
 INPUTS = [
     ("words of a byte, one record", ["--job", "words"], lambda: [b"a " * (16 * MB)]),
     ("words of a byte, a record each", ["--job", "words"], lambda: [b"a\n" * (16 * MB)]),
@@ -47,6 +47,7 @@ INPUTS = [
     ("the same many, made to collide", ["--job", "words"], lambda: collided(100_000)),
     ("empty records", ["--job", "words"], lambda: [b"\n" * (32 * MB)]),
     ("grep: short lines that match", ["--job", "grep", "--literal", "a"], lambda: [b"a\n" * (16 * MB)]),
+    ("grep: the same behind a line in another file", ["--job", "grep", "--literal", "a"], lambda: [b"a\n" * (16 * MB)], b"a\n"),
     ("grep: one line of a, the literal a..ab", ["--job", "grep", "--literal", "a" * 4095 + "b"], lambda: [b"a" * (4 * MB)]),
     ("grep: the same, folded", ["--job", "grep", "--fold", "--literal", "a" * 4095 + "b"], lambda: [b"a" * (4 * MB)]),
     ("grep: the same, folded, a..aba..a", ["--job", "grep", "--fold", "--literal", "a" * 2047 + "b" + "A" * 2048], lambda: [b"a" * (4 * MB)]),
@@ -58,20 +59,20 @@ INPUTS = [
 ]
 
 
-def rows_of(mapred, room, options, path):
-    """The commands that are timed over a file, in the order in which they need each other."""
-    size = os.path.getsize(path)
+def rows_of(mapred, room, options, files):
+    """The commands that are timed over these files, in the order in which they need each other."""
+    size = os.path.getsize(files[-1])
     small = options if "--split" in options else [*options, "--split", str(max(1, size // 8))]
     alone, shared, run = (os.path.join(room, name) for name in ("alone", "shared", "run"))
     for where in (alone, shared, run):
         shutil.rmtree(where, ignore_errors=True)
         os.mkdir(where)
     return [
-        ("seq", [mapred, "seq", *options, "--parts", "8", "--out", alone, path]),
-        ("check", [mapred, "check", *options, "--parts", "8", "--out", alone, path]),
-        ("seq, 8 splits", [mapred, "seq", *small, "--parts", "8", "--out", shared, path]),
-        ("check, 4 threads", [mapred, "check", *small, "--parts", "8", "--threads", "4", "--out", shared, path]),
-        ("run, 4 workers", [mapred, "run", *small, "--parts", "8", "--workers", "4", "--out", run, path]),
+        ("seq", [mapred, "seq", *options, "--parts", "8", "--out", alone, *files]),
+        ("check", [mapred, "check", *options, "--parts", "8", "--out", alone, *files]),
+        ("seq, 8 splits", [mapred, "seq", *small, "--parts", "8", "--out", shared, *files]),
+        ("check, 4 threads", [mapred, "check", *small, "--parts", "8", "--threads", "4", "--out", shared, *files]),
+        ("run, 4 workers", [mapred, "run", *small, "--parts", "8", "--workers", "4", "--out", run, *files]),
     ]
 
 
@@ -86,12 +87,13 @@ def main():
     os.makedirs(it.dir, exist_ok=True)
     print("| Input | MB | Command | Seconds | Processor s | Peak MB | × input |")
     print("|---|---|---|---|---|---|---|")
-    for number, (name, options, make) in enumerate(INPUTS):
+    for number, (name, options, make, *front) in enumerate(INPUTS):
         if it.only and not any(part in name for part in it.only.split(",")):
             continue
         path = written(os.path.join(it.dir, f"input-{number}"), make)
+        files = [written(f"{path}-front", lambda: front), path] if front else [path]
         size = os.path.getsize(path) / 1e6
-        for command, words in rows_of(os.path.abspath(it.mapred), it.dir, options, path):
+        for command, words in rows_of(os.path.abspath(it.mapred), it.dir, options, files):
             best = None
             for _ in range(it.rounds):
                 wall, cpu, peak, status, said = timed(words, it.timeout)
