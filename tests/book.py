@@ -1,6 +1,6 @@
 """The master's book: a worked history through two seats, and a thousand drawn at random against a plain master.
 
-The library `mr_book` is reached through the small program `mr_book_tests`, which the gate leaves beside the checked
+The library `mr_book` is reached through the small program `mr_pool_tests`, which the gate leaves beside the checked
 one: a line of numbers is a call with a seat, and the line that answers it tells the reply, the output that comes with
 it, and all that can be looked at. At the end of the lines the book is closed, and its history and outputs are told."""
 import os
@@ -12,14 +12,14 @@ from libraries import built
 from master import ACCEPTED, GONE, KINDS, WAIT, Draws, Plain, map_task, reduce_task, region, truth
 
 TOP = os.path.dirname(os.path.dirname(os.path.abspath(__file__)))
-PROGRAM = os.path.join(TOP, "crates", "mr_book_tests", "out", "mr_book_tests")
+PROGRAM = os.path.join(TOP, "crates", "mr_pool_tests", "out", "mr_pool_tests")
 
 
 class Book:
     """A book of the library."""
 
     def __init__(self, sizes, seats, **environment):
-        words = [PROGRAM, *map(str, sizes), str(seats)]
+        words = [PROGRAM, "book", *map(str, sizes), str(seats)]
         pipes = {"stdin": subprocess.PIPE, "stdout": subprocess.PIPE, "stderr": subprocess.DEVNULL}
         self.process = subprocess.Popen(words, text=True, bufsize=1, env={**os.environ, **environment}, **pipes)
 
@@ -200,4 +200,4 @@ def each_allocation(harness):
     harness.check("outputs of both kinds of tasks are handed back", handed_back == {"map done", "reduce done"})
 
 
-GROUPS = {"a lost output": built("mr_book_tests", a_lost_output), "each allocation of a book": built("mr_book_tests", each_allocation), "a thousand histories of a book": built("mr_book_tests", a_thousand_histories)}
+GROUPS = {"a lost output": built("mr_pool_tests", a_lost_output), "each allocation of a book": built("mr_pool_tests", each_allocation), "a thousand histories of a book": built("mr_pool_tests", a_thousand_histories)}

@@ -93,6 +93,12 @@ def streams_and_disks(harness):
     first = open(os.path.join(where, "part-00000"), "rb").read()
     harness.check("a disk full at the second part", got[:3] == (3, b"", b"mapred: cannot write ./part-00001\n") and first == b"the\t2\n", repr(got))
     harness.check("no certificate behind it", not os.path.exists(os.path.join(where, "certificate")))
+    where = harness.directory({"certificate": b"old"})
+    os.mkdir(os.path.join(where, "part-00001"))
+    got = harness.run([*words, "a"], data, cwd=where)
+    stood = [open(os.path.join(where, name), "rb").read() for name in ("part-00000", "certificate")]
+    told = (3, b"", b"mapred: cannot write ./part-00001\n")
+    harness.check("a directory for the second part", got[:3] == told and stood == [b"the\t2\n", b"old"], repr((got, stood)))
     where = harness.directory()
     write_result(where, [b"", b"older and longer"], b"older and longer than a certificate is by far" * 9)
     got = harness.run([*words, "a"], {"a": b"the\n"}, cwd=where)
@@ -100,6 +106,10 @@ def streams_and_disks(harness):
     harness.check("older files are emptied", got[0] == 0 and result_of(where) == (stands[0], stands[2]), repr(result_of(where)))
     got = harness.run([*words, "a", "."], data)
     harness.check("a directory for a file", got[:3] == (3, b"", b"mapred: cannot read .\n") and parts_of(got[3]) == [], repr(got))
+    got = harness.run([*words, "a", ".", "missing"], data)
+    harness.check("the first of two files that fail is told", got[:3] == (3, b"", b"mapred: cannot read .\n"), repr(got))
+    got = harness.run(["check", *words[1:], "a", ".", "missing"], data)
+    harness.check("by check too", got[:3] == (3, b"", b"mapred: cannot read .\n"), repr(got))
     where = harness.directory()
     with open(os.path.join(where, "a"), "wb") as file:
         file.write(data["a"])

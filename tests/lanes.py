@@ -1,13 +1,13 @@
 """Kernels over blocks of bytes, against plain loops: what the library `mr_lanes` answers at every length up to 200 and at
 every place beside the borders of blocks, and where its search gives up its first way.
 
-It is reached through a small program, `mr_lanes_tests`, which the gate leaves beside the checked one: it reads cases on
+It is reached through a small program, `mr_rows_tests`, which the gate leaves beside the checked one: it reads cases on
 standard input, and answers each by a line. What is wanted is worked out here, a byte at a time, or by hand."""
 import random
 import struct
 import subprocess
 
-from libraries import built, program
+from libraries import built, words_of
 
 PLANES, LINES, WORDS, FOLDED, FIND, DIFFERENCE, HASHES, EACH_WORD = range(8)
 
@@ -19,7 +19,7 @@ LONGEST_LITERAL = 4096
 def answers(cases):
     """The line that answers each case (kernel, text, text)."""
     sent = b"".join(struct.pack(">BI", kernel, len(a)) + a + struct.pack(">I", len(b)) + b for kernel, a, b in cases)
-    ran = subprocess.run([program("mr_lanes_tests")], input=sent, capture_output=True)
+    ran = subprocess.run(words_of("kernels"), input=sent, capture_output=True)
     lines = ran.stdout.decode().splitlines()
     return lines if ran.returncode == 0 and len(lines) == len(cases) else [f"status {ran.returncode}"] * len(cases)
 
@@ -259,9 +259,9 @@ def giving_up(harness):
 
 
 GROUPS = {
-    "kernels, worked rows": built("mr_lanes_tests", worked),
-    "kernels at each length": built("mr_lanes_tests", at_each_length),
-    "kernels at each place": built("mr_lanes_tests", at_each_place),
-    "kernels, eight keys": built("mr_lanes_tests", long_keys),
-    "kernels, a search that gives up": built("mr_lanes_tests", giving_up),
+    "kernels, worked rows": built("mr_rows_tests", worked),
+    "kernels at each length": built("mr_rows_tests", at_each_length),
+    "kernels at each place": built("mr_rows_tests", at_each_place),
+    "kernels, eight keys": built("mr_rows_tests", long_keys),
+    "kernels, a search that gives up": built("mr_rows_tests", giving_up),
 }

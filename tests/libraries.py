@@ -1,7 +1,7 @@
 """Scripts and certificates, row by row: what the libraries `mr_script` and `mr_certform` tell of bytes.
 
-They are reached through two small programs, `mr_script_tests` and `mr_certform_tests`, which the gate leaves beside the
-checked one: each reads bytes on standard input, and prints what they are. Expected values are worked out by hand."""
+They are reached through the small program `mr_rows_tests`, which the gate leaves beside the checked one: its first word
+says which library, and it reads bytes on standard input and prints what they are. Expected values are worked out by hand."""
 import os
 import struct
 import subprocess
@@ -13,9 +13,14 @@ def program(crate):
     return os.path.join(TOP, "crates", crate, "out", crate)
 
 
-def told(crate, data, *words):
+def words_of(*words):
+    """The words that ask the program of libraries, the first of which says which."""
+    return [program("mr_rows_tests"), *map(str, words)]
+
+
+def told(library, data, *words):
     """What the program prints of these bytes, line by line; nothing where it fails."""
-    ran = subprocess.run([program(crate), *map(str, words)], input=data, capture_output=True)
+    ran = subprocess.run(words_of(library, *words), input=data, capture_output=True)
     return ran.stdout.decode().splitlines() if ran.returncode == 0 else []
 
 
@@ -85,10 +90,10 @@ SCRIPTS = [
 
 
 def scripts(harness):
-    harness.check("an empty script, and want of memory", told("mr_script_tests", b"") == ["OutOfMemory", "[]"])
+    harness.check("an empty script, and want of memory", told("scripts", b"") == ["OutOfMemory", "[]"])
     for text, wanted in SCRIPTS:
         line = f"BadLine {wanted}" if isinstance(wanted, int) else f"[{', '.join(wanted)}]"
-        harness.check(f"script {text[:40]!r}", told("mr_script_tests", text) == [line])
+        harness.check(f"script {text[:40]!r}", told("scripts", text) == [line])
 
 
 # Certificates. The first is that of the words of `a b a` and a line end, one partition, splits of 64 bytes: each item
@@ -134,7 +139,7 @@ def cut(n):
 
 
 def certificates(harness):
-    tells = lambda data: told("mr_certform_tests", data)
+    tells = lambda data: told("certificates", data)
     harness.check("the example has 92 bytes", len(EXAMPLE) == 92)
     harness.check("the example is built", tells(b"") == [str(list(EXAMPLE)), "OutOfMemory"])
     head = ["job 1 flags 0 literal []", "parts 1 split 64", "lengths [6] skips []", "total 3", "written again: true"]
@@ -161,7 +166,7 @@ def certificates(harness):
 
 
 def lists_of_certificates(harness):
-    tells = lambda data: told("mr_certform_tests", data)
+    tells = lambda data: told("certificates", data)
     full = b"MRCERT1\n" + number(2) + number(2) + number(2) + b"ab" + number(1) + number(1) + number(0) + number(1) + number(3) + number(5) + number(0)
     wanted = ["job 2 flags 2 literal [97, 98]", "parts 1 split 1", "lengths [] skips [RecordName { split: 3, rec: 5 }]", "total 0", "written again: true", "partition"]
     harness.check("a literal, a left-out record, no file and no group", tells(full)[:6] == wanted)
@@ -193,7 +198,7 @@ def streamed(n, most, failing=None):
 
 
 def readers_of_certificates(harness):
-    tells = lambda data, *words: told("mr_certform_tests", data, *words)
+    tells = lambda data, *words: told("certificates", data, *words)
     for most in (1, 7, 65_536):
         for n in range(93):
             harness.check(f"the first {n} bytes of the example, {most} a call", tells(EXAMPLE[:n], most) == streamed(n, most))
@@ -220,8 +225,8 @@ def readers_of_certificates(harness):
 
 
 GROUPS = {
-    "scripts": built("mr_script_tests", scripts),
-    "certificates": built("mr_certform_tests", certificates),
-    "lists of certificates": built("mr_certform_tests", lists_of_certificates),
-    "readers of certificates": built("mr_certform_tests", readers_of_certificates),
+    "scripts": built("mr_rows_tests", scripts),
+    "certificates": built("mr_rows_tests", certificates),
+    "lists of certificates": built("mr_rows_tests", lists_of_certificates),
+    "readers of certificates": built("mr_rows_tests", readers_of_certificates),
 }

@@ -1,16 +1,12 @@
 """The master, event by event: worked histories, and a thousand drawn at random against a plain master.
 
-The library `mr_core` is reached through the small program `mr_core_tests`, which the gate leaves beside the checked one: a
+The library `mr_core` is reached through the small program `mr_rows_tests`, which the gate leaves beside the checked one: a
 line of numbers is an event, and the line that answers it tells the reply, made twice, and all that can be looked at."""
-import os
 import random
 import re
 import subprocess
 
-from libraries import built
-
-TOP = os.path.dirname(os.path.dirname(os.path.abspath(__file__)))
-PROGRAM = os.path.join(TOP, "crates", "mr_core_tests", "out", "mr_core_tests")
+from libraries import built, words_of
 
 KINDS = {"ask": 1, "fetch": 2, "map done": 3, "map failed": 4, "reduce done": 5, "lose": 6}
 
@@ -19,7 +15,7 @@ class Master:
     """The master of the library."""
 
     def __init__(self):
-        self.process = subprocess.Popen([PROGRAM], stdin=subprocess.PIPE, stdout=subprocess.PIPE, text=True, bufsize=1)
+        self.process = subprocess.Popen(words_of("master"), stdin=subprocess.PIPE, stdout=subprocess.PIPE, text=True, bufsize=1)
 
     def tell(self, *numbers):
         self.process.stdin.write(" ".join(map(str, numbers)) + "\n")
@@ -462,4 +458,4 @@ def a_thousand_histories(harness):
     harness.check("no call fails", master.close() == 0)
 
 
-GROUPS = {"worked histories": built("mr_core_tests", histories_by_hand), "a whole job": built("mr_core_tests", a_whole_job), "a thousand histories": built("mr_core_tests", a_thousand_histories)}
+GROUPS = {"worked histories": built("mr_rows_tests", histories_by_hand), "a whole job": built("mr_rows_tests", a_whole_job), "a thousand histories": built("mr_rows_tests", a_thousand_histories)}

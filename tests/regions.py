@@ -1,18 +1,15 @@
 """Regions as bytes: what `read_region` of `mr_spill` tells of bytes, against a plain reader of docs/FORMATS.md.
 
-It is reached through the small program `mr_region_tests`, which the gate leaves beside the checked one: a line of numbers
+It is reached through the small program `mr_rows_tests`, which the gate leaves beside the checked one: a line of numbers
 is a split, a partition and bytes, and the line that answers it tells the fault, or whether the pairs that were read are
 spelled so again, and the pairs."""
-import os
 import random
 import re
 import struct
 import subprocess
 
-from libraries import built
+from libraries import built, words_of
 
-TOP = os.path.dirname(os.path.dirname(os.path.abspath(__file__)))
-PROGRAM = os.path.join(TOP, "crates", "mr_region_tests", "out", "mr_region_tests")
 MAGIC = b"MRREGN1\n"
 PAIR = re.compile(r"\|\[([\d, ]*)\] (One|At \{ file: (\d+), offset: (\d+) \}) Name \{ split: (\d+), rec: (\d+), place: (\d+) \}")
 
@@ -56,7 +53,7 @@ def read(split, partition, data):
 def told(rows):
     """For each split, partition and bytes the pairs that the program reads, None where it tells damage."""
     lines = "".join(" ".join(str(n) for n in (split, partition, *data)) + "\n" for split, partition, data in rows)
-    ran = subprocess.run([PROGRAM], input=lines.encode(), capture_output=True)
+    ran = subprocess.run(words_of("regions"), input=lines.encode(), capture_output=True)
     return [pairs_of(line) for line in ran.stdout.decode().splitlines()]
 
 
@@ -118,4 +115,4 @@ def random_regions(harness):
     harness.check("random regions", told(rows) == wanted)
 
 
-GROUPS = {"regions": built("mr_region_tests", worked), "cuts and bytes of regions": built("mr_region_tests", cuts_and_bytes), "random regions": built("mr_region_tests", random_regions)}
+GROUPS = {"regions": built("mr_rows_tests", worked), "cuts and bytes of regions": built("mr_rows_tests", cuts_and_bytes), "random regions": built("mr_rows_tests", random_regions)}

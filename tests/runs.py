@@ -1,19 +1,16 @@
 """Map tasks in runs of few pairs: whatever the limit, a reduce task gives what the rules give in plain Python.
 
-The library `mr_task` is reached through the small program `mr_runs_tests`, which the gate leaves beside the checked one:
+The library `mr_task` is reached through the small program `mr_rows_tests`, which the gate leaves beside the checked one:
 it reads a file on standard input, and prints the bytes of the regions that each split has, run by run and partition by
 partition, and then the text, the counts and the names that the reduce task of each partition gives over all of them."""
-import os
 import random
 import re
 import subprocess
 
-from libraries import built
+from libraries import built, words_of
 import plain
 import regions
 
-TOP = os.path.dirname(os.path.dirname(os.path.abspath(__file__)))
-PROGRAM = os.path.join(TOP, "crates", "mr_runs_tests", "out", "mr_runs_tests")
 NUMBER = {"words": 0, "grep": 1, "url": 2}
 NAME = re.compile(r"Name \{ split: (\d+), rec: (\d+), place: (\d+) \}")
 LIMITS = [1, 2, 3, 7, 65536]
@@ -21,7 +18,7 @@ LIMITS = [1, 2, 3, 7, 65536]
 
 def told(request, data, limit):
     """The bytes of each split's regions, and what the reduce tasks give, as text and groups."""
-    words = [PROGRAM, *(str(n) for n in (NUMBER[request.job], request.parts, request.split, limit))]
+    words = words_of("runs", NUMBER[request.job], request.parts, request.split, limit)
     lines = subprocess.run(words, input=data, capture_output=True).stdout.decode().splitlines()
     sealed = [[bytes_of(text) for text in line.split(";")[:-1]] for line in lines if "|" not in line]
     return sealed, [reduced(line) for line in lines if "|" in line]
@@ -84,4 +81,4 @@ def random_runs(harness):
             harness.check(f"input {number} in runs of {limit}", told(request, data, limit) == (regions_of(request, data, limit), wanted))
 
 
-GROUPS = {"runs of a map task": built("mr_runs_tests", worked), "random runs of map tasks": built("mr_runs_tests", random_runs)}
+GROUPS = {"runs of a map task": built("mr_rows_tests", worked), "random runs of map tasks": built("mr_rows_tests", random_runs)}

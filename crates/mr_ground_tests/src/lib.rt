@@ -1,10 +1,14 @@
-//! Tests of the crates at the ground, over what they export.
+//! Tests of the crates at the ground, of stores, jobs, plans and the index, over what they export.
 #![tactic(auto)]
 
 #[cfg(test)]
 mod bytes;
 #[cfg(test)]
+mod index;
+#[cfg(test)]
 mod input;
+#[cfg(test)]
+mod jobs;
 #[cfg(test)]
 mod keys;
 #[cfg(test)]
@@ -13,3 +17,7 @@ mod partition;
 mod records;
 #[cfg(test)]
 mod reduce;
+#[cfg(test)]
+mod splits;
+#[cfg(test)]
+mod store;

@@ -2,6 +2,7 @@
 use mr_bytes::{Value, Values};
 use mr_jobs::Job;
 use mr_reduce::{column_text, group_text, total_text};
+use std::alloc::{AllocError, Global};
 use std::test::Fail;
 
 #[test]
@@ -23,34 +24,34 @@ fn totals(rt: HostRuntime) -> Result<(), Fail> {
     Ok(())
 }
 
+/// The places of two lines: the first of the first file, and one past 4 GiB of the thirteenth.
+fn two_places(alloc: Global) -> Result<Values, AllocError> {
+    let mut column = Values::new(alloc);
+    column.push(Value::At { file: 0, offset: 0 })?;
+    column.push(Value::At {
+        file: 12,
+        offset: 4294967296,
+    })?;
+    Ok(column)
+}
+
 #[test]
 fn places(rt: HostRuntime) -> Result<(), Fail> {
     let alloc = rt.alloc();
     let job = Job::grep(alloc, b"b", false)?;
-    let mut out = Vec::new(alloc);
-    let values = [
-        Value::At { file: 0, offset: 0 },
-        Value::One,
-        Value::At {
-            file: 12,
-            offset: 4294967296,
-        },
-    ];
-    group_text(&job, b"abc", &values[..1], &mut out)?;
-    assert!(rt; out.as_slice() == b"abc\t0:0\n".as_slice());
-    let mut all = Vec::new(alloc);
-    group_text(&job, b"abc", &values, &mut all)?;
-    assert!(rt; all.as_slice() == b"abc\t0:0\nabc\t12:4294967296\n".as_slice());
-    let mut column = Values::new(alloc);
-    for value in values {
-        if column.len() < 3 {
-            column.push(value)?;
-        }
-    }
-    let mut same = Vec::new(alloc);
-    column_text(&job, b"abc", &column, &mut same)?;
-    assert!(rt; same.as_slice() == all.as_slice());
-    column_text(&Job::url(), b"/a", &column, &mut same)?;
-    assert!(rt; same.as_slice().ends_with(b"/a\t3\n"));
+    let column = two_places(alloc)?;
+    let mut text = Vec::new(alloc);
+    column_text(&job, b"abc", &column, &mut text)?;
+    assert!(rt; text.as_slice() == b"abc\t0:0\nabc\t12:4294967296\n".as_slice());
+    Ok(())
+}
+
+#[test]
+fn a_value_without_a_place(rt: HostRuntime) -> Result<(), Fail> {
+    let alloc = rt.alloc();
+    let job = Job::grep(alloc, b"b", false)?;
+    let mut text = Vec::new(alloc);
+    group_text(&job, b"abc", &[Value::One], &mut text)?;
+    assert!(rt; text.is_empty());
     Ok(())
 }

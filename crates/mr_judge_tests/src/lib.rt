@@ -1,5 +1,7 @@
-//! Tests of `mr_check` over its public calls: what no program shows, a fault of the outputs' number and the meter. Yeses, noes and left-out records are rows of the checks from outside.
+//! Tests of the judge, at hand and over readers: what no program shows, a fault of the outputs' number, the meter, and which read failed.
 #![tactic(auto)]
 
+#[cfg(test)]
+mod readers;
 #[cfg(test)]
 mod verdicts;

@@ -3,12 +3,15 @@
 //! then the lengths of the script and of each file, which stand one behind another on standard input. It tells what the
 //! run answers. In the mode `history` it tells each event too, in `watch` what who looks on is told, and in `gate`
 //! whether a second attempt went on while the first was held. In the mode `judge` it tells what as many threads as there
-//! are workers say of the result, and whether they shared the work, and in `tickets` what two seats draw.
+//! are workers say of the result, and whether they shared the work, and in `tickets` what two seats draw. In the mode
+//! `book` it answers for the master's book alone.
 #![tactic(auto)]
 
 mod asked;
+mod book;
 mod judging;
 mod onlookers;
+mod outputs;
 mod telling;
 
 use asked::Order;
@@ -55,6 +58,9 @@ fn main(rt: HostRuntime) -> io::Result<()> {
     let Some((mode, words)) = words.as_slice().split_first() else {
         return Ok(());
     };
+    if mode.as_str() == "book" {
+        return book::answer(&rt, words);
+    }
     let mut text = Vec::new(alloc);
     rt.stdin().read_to_end(&mut text)?;
     let Some(order) = asked::order_of(alloc, words, text.as_slice())? else {

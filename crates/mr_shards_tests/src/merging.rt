@@ -84,39 +84,38 @@ fn bad_line(alloc: Global, job: &Job, text: &[u8]) -> Result<Option<(usize, u64)
 #[test]
 fn bad_lines(rt: HostRuntime) -> Result<(), Fail> {
     let words = Job::words(false);
+    for (text, want) in [
+        (b"a\t1\nb\t2\n".as_slice(), None),
+        // A line without its line feed, or without a tab; no number, one with a zero in front, or one too large.
+        (b"a\t1\nb\t2", Some((1, 1))),
+        (b"a 1\n", Some((1, 0))),
+        (b"a\t\n", Some((1, 0))),
+        (b"a\t+1\n", Some((1, 0))),
+        (b"a\t01\n", Some((1, 0))),
+        (b"a\t18446744073709551615\n", None),
+        (b"a\t18446744073709551616\n", Some((1, 0))),
+        // Keys that do not rise.
+        (b"b\t1\na\t1\n", Some((1, 1))),
+        (b"a\t1\na\t1\n", Some((1, 1))),
+        // Another job's line.
+        (b"x\t0:0\n", Some((1, 0))),
+    ] {
+        assert!(rt; bad_line(rt.alloc(), &words, text)? == want);
+    }
+    Ok(())
+}
+
+#[test]
+fn bad_lines_with_places(rt: HostRuntime) -> Result<(), Fail> {
     let grep = Job::grep(rt.alloc(), b"x", false)?;
-    assert_eq!(rt; bad_line(rt.alloc(), &words, b"a\t1\nb\t2\n")?, None);
-    // A line without its line feed, or without a tab; no number, one with a zero in front, or one too large.
-    assert_eq!(rt; bad_line(rt.alloc(), &words, b"a\t1\nb\t2")?, Some((1, 1)));
-    assert_eq!(rt; bad_line(rt.alloc(), &words, b"a 1\n")?, Some((1, 0)));
-    assert_eq!(rt; bad_line(rt.alloc(), &words, b"a\t\n")?, Some((1, 0)));
-    assert_eq!(rt; bad_line(rt.alloc(), &words, b"a\t+1\n")?, Some((1, 0)));
-    assert_eq!(rt; bad_line(rt.alloc(), &words, b"a\t01\n")?, Some((1, 0)));
-    assert_eq!(rt;
-        bad_line(rt.alloc(), &words, b"a\t18446744073709551615\n")?,
-        None
-    );
-    assert_eq!(rt;
-        bad_line(rt.alloc(), &words, b"a\t18446744073709551616\n")?,
-        Some((1, 0))
-    );
-    // Keys that do not rise.
-    assert_eq!(rt;
-        bad_line(rt.alloc(), &words, b"b\t1\na\t1\n")?,
-        Some((1, 1))
-    );
-    assert_eq!(rt;
-        bad_line(rt.alloc(), &words, b"a\t1\na\t1\n")?,
-        Some((1, 1))
-    );
-    assert_eq!(rt; bad_line(rt.alloc(), &grep, b"x\t0:0\nx\t0:2\n")?, None);
-    assert_eq!(rt;
-        bad_line(rt.alloc(), &grep, b"x\t0:0\nax\t0:2\n")?,
-        Some((1, 1))
-    );
-    // Another job's lines.
-    assert_eq!(rt; bad_line(rt.alloc(), &grep, b"x\t1\n")?, Some((1, 0)));
-    assert_eq!(rt; bad_line(rt.alloc(), &words, b"x\t0:0\n")?, Some((1, 0)));
+    for (text, want) in [
+        (b"x\t0:0\nx\t0:2\n".as_slice(), None),
+        (b"x\t0:0\nax\t0:2\n", Some((1, 1))),
+        // Another job's line.
+        (b"x\t1\n", Some((1, 0))),
+    ] {
+        assert!(rt; bad_line(rt.alloc(), &grep, text)? == want);
+    }
     Ok(())
 }
 
