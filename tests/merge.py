@@ -176,6 +176,34 @@ REFUSED = [
 ]
 
 
+LEAST = b"verdict 1\njob 3\nflags 0\nliteral \npartitions 2\nsplit 1\nemitted 0\n"
+# What stands in the least verdict, what is put in its place, and the line at which the text is refused.
+BAD_TEXTS = [
+    (b"verdict 1", b"verdict 2", 0),
+    (b"job 3", b"job 03", 1),
+    (b"job 3", b"job", 1),
+    (b"literal \n", b"literal\n", 3),
+    (b"partitions 2", b"partitions 4294967296", 4),
+    (b"job 3\n", b"job 3\njob 3\n", 2),
+    (b"split 1\n", b"split 1\nwithout 0\n", 6),
+    (b"split 1\n", b"split 1\noutput 00 0 part-00000\n", 6),
+    # In the verdict that these lines tell, the left-out record stands in this one.
+    (b"emitted 0\n", b"emitted 0\nwithout 0 0\n", 6),
+    (b"emitted 0\n", b"emitted 18446744073709551616\n", 6),
+    (b"emitted 0\n", b"emitted 0", 6),
+    (b"emitted 0\n", b"emitted 0\nx", 7),
+    (LEAST, b"", 0),
+]
+
+
+def bad_texts(harness):
+    """Texts that are no verdict, by the first line that isn't as it is to be; the least that is one lacks its outputs."""
+    rows = [(LEAST.replace(old, new), b"BadVerdict shard 0 line %d" % line) for old, new, line in BAD_TEXTS]
+    for text, told in [(LEAST, b"OtherOutputs shard 0"), *rows]:
+        got = merged(harness, harness.directory(), [harness.directory({"verdict": text})])
+        harness.check(f"the verdict {text}", got == (1, b"", b"mapred: " + told + b"\n"), repr(got))
+
+
 def leaves(text, left, whole):
     """What is to stand behind a refusal: all as before where it comes before a part is read, and otherwise the partitions
     before whole, and an empty verdict."""
@@ -334,6 +362,14 @@ def lists(harness):
             harness.check(name, got[0] == 0 and "part-00001" in os.listdir(where), repr(got))
         else:
             harness.check(name, got == (status, b"", b"mapred: OtherInputs line %d\n" % line) and contents(where) == {"list": text}, repr(got))
+    # sha256sum writes a backslash and a carriage return of a name as two characters each, and a backslash before such a line.
+    odd, text = "a\\b\r", b"the cat\n"
+    shard = write_shard(harness, WORDS, [odd], [text], [])
+    told = b"\\%s  a\\\\b\\r\n" % hashlib.sha256(text).hexdigest().encode()
+    got = merged(harness, harness.directory({"list": told}), [shard], ["--inputs", "list"])
+    harness.check("a name with a backslash and a carriage return", got[0] == 0, repr(got))
+    got = merged(harness, harness.directory({"list": listing([(odd, text)])}), [shard], ["--inputs", "list"])
+    harness.check("the same, not escaped", got == (1, b"", b"mapred: OtherInputs line 0\n"), repr(got))
     got = merged(harness, where, two_shards(harness), ["--inputs", "missing"])
     harness.check("no list", got == (3, b"", b"mapred: cannot read missing\n"), repr(got))
 
@@ -404,4 +440,4 @@ def dask(harness, words, where, whole):
     harness.check("by Dask, a worker killed", ran.returncode == 0 and os.listdir(room) == ["worker"] and parts_of(os.path.join(where, "out")) == parts_of(whole), repr(ran))
 
 
-GROUPS = {"shards merged": random_jobs, "shards and one execution": by_seq, "shards refused": refusals, "shards in files": files, "shards' inputs": lists, "shards in little memory": little_memory, "equal lines of shards": equal_lines, "keys that fall in shards": falling_keys, "long lines of shards": long_lines, "shards by a runner": runner}
+GROUPS = {"shards merged": random_jobs, "verdicts refused": bad_texts, "shards and one execution": by_seq, "shards refused": refusals, "shards in files": files, "shards' inputs": lists, "shards in little memory": little_memory, "equal lines of shards": equal_lines, "keys that fall in shards": falling_keys, "long lines of shards": long_lines, "shards by a runner": runner}

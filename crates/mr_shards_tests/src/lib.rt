@@ -1,11 +1,7 @@
-//! Tests of merged outputs, of verdicts as texts, and of shards in files, over what their crates export.
+//! Tests of merged outputs, over what the crate exports. Verdicts as texts and shards in files are rows of the checks from outside.
 #![tactic(auto)]
 
-#[cfg(test)]
-mod files;
 #[cfg(test)]
 mod merging;
 #[cfg(test)]
 mod pieces;
-#[cfg(test)]
-mod verdicts;
