@@ -1,4 +1,4 @@
-//! Tests of the crates at the ground, of stores, jobs, plans and the index, over what they export.
+//! Tests of the crates at the ground, of stores, certificates, jobs, plans and the index, over what they export.
 #![tactic(auto)]
 
 #[cfg(test)]
@@ -17,6 +17,8 @@ mod partition;
 mod records;
 #[cfg(test)]
 mod reduce;
+#[cfg(test)]
+mod spelled;
 #[cfg(test)]
 mod splits;
 #[cfg(test)]

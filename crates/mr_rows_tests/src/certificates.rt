@@ -13,7 +13,7 @@ use std::io::Read;
 /// As many bytes as a certificate has at most whose names and items are told one by one.
 const SHORT: usize = 4096;
 
-pub fn name(place: u32) -> Name {
+fn name(place: u32) -> Name {
     Name {
         split: 0,
         rec: 0,

@@ -8,8 +8,6 @@ mod master;
 mod regions;
 mod runs;
 mod scripts;
-#[cfg(test)]
-mod spelled;
 mod streaming;
 
 use std::{env, io};

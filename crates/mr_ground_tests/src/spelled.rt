@@ -1,9 +1,17 @@
 //! A certificate of more than 64 KiB, spelled onto a writer of which a call may fail.
-use crate::certificates::name;
+use mr_bytes::Name;
 use mr_certform::{Builder, Certificate, Header, write};
 use mr_store::{CountedWrite, MemoryWriter, Spelled, write_spelled};
 use std::alloc::Global;
 use std::test::Fail;
+
+fn name(place: u32) -> Name {
+    Name {
+        split: 0,
+        rec: 0,
+        place,
+    }
+}
 
 /// A certificate of one group of so many names.
 fn certificate_of(alloc: Global, count: u32) -> Result<Certificate, Fail> {
