@@ -1,3 +1,4 @@
+//! What the clauses of stores of bytes do not say: that calls succeed, over memory, and what a failed one leaves.
 use mr_store::{
     Bytes, CountedRead, CountedWrite, LimitedFault, MemoryReader, MemoryWriter, Spelled, read_all,
     read_limited, write_all, write_result, write_spelled,
