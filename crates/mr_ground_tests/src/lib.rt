@@ -1,8 +1,10 @@
-//! Tests of the crates at the ground, of stores, certificates, jobs, plans and the index, over what they export.
+//! Tests of the crates at the ground, of stores and files, certificates, jobs, plans and the index, over what they export.
 #![tactic(auto)]
 
 #[cfg(test)]
 mod bytes;
+#[cfg(test)]
+mod files;
 #[cfg(test)]
 mod index;
 #[cfg(test)]

@@ -59,6 +59,19 @@ fn two_partitions(rt: HostRuntime) -> Result<(), Fail> {
     Ok(())
 }
 
+// Its bytes are rows of the checks from outside; of the mark that it is sealed no clause speaks.
+#[test]
+fn sealed_run(rt: HostRuntime) -> Result<(), Fail> {
+    let mut buffer = Buffer::new(rt.alloc(), 1);
+    buffer
+        .push_key(b"a", Value::One, name(0))
+        .expect(&rt, "memory");
+    let run = buffer.seal_run(rt.alloc(), 0, 1)?;
+    assert!(rt; run.parts() == 1 && buffer.len() == 0);
+    assert!(rt; run.region(0).is_sealed() && run.region(0).bytes().len() == 38);
+    Ok(())
+}
+
 /// What a buffer of one pair answers to a second one.
 fn second(alloc: Global, first: Pair, second: Pair) -> Option<PushFault>
     requires names { (first.name ≡ record { split = 0; rec = 0; place = 4 }) × (second.name ≡ record { split = 0; rec = 0; place = 5 }) }
