@@ -1,3 +1,1 @@
-pub mod Parsed
-pub mod Statuses
 pub mod Program

@@ -13,12 +13,13 @@ use Rattle.mr_files.specs.declared.store.FileFault.TheVariants as file
 use Rattle.mr_book.specs.declared.book.History.{History}
 use Rattle.mr_pool.specs.Outcomes.{run_shape}
 use Rattle.mr_pool.specs.declared.running.Certified.{Certified}
-use Rattle.mr_commands.specs.declared.fault.Fault.{Fault}
-use Rattle.mr_commands.specs.declared.asked.RunOptions.{RunOptions}
+use Rattle.mr_asked.specs.declared.fault.Fault.{Fault}
+use Rattle.mr_asked.specs.declared.asked.RunOptions.{RunOptions}
 use Rattle.mr_commands.specs.declared.running.Ran.{Ran}
 use Rattle.mr_commands.specs.HistoryLines.{history_text}
-use Rattle.mr_commands.specs.Asked.{request_asked}
-use Rattle.mr_commands.specs.Answers.{IsAsked, IsInput, IsInputRefusal, TellsFile, input_names}
+use Rattle.mr_asked.specs.Asked.{request_asked}
+use Rattle.mr_commands.specs.Answers.{IsAsked, IsInput, IsInputRefusal, input_names}
+use Rattle.mr_asked.specs.Statuses.{TellsFile}
 use Rattle.mr_commands.specs.Runs.{IsEnding, IsHistoryKept, IsResultKept, IsResultRefused, IsResultStopped, IsScript, IsScriptRefusal, IsStartRefusal, IsStoppedAt, IsUnkept, KeepsHistory, KeepsResult, Runs, history_name, history_of, named, names_left, script_name, written_by_run}
 
 module _ (holds : List ℕ → List ℕ → Type 0) (unreadable : List ℕ → Type 0) (o : RunOptions) where

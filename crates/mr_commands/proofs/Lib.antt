@@ -1,6 +1,5 @@
 pub mod Inputs
 pub mod Ends
-pub mod SkipLists
 pub mod Refused
 pub mod Kept
 pub mod Noted

@@ -9,22 +9,23 @@ use Rattle.mr_sequential.specs.Emitted.{emitted}
 use Rattle.mr_files.specs.Refusals.{IsOneUnread, IsWriteRefusal}
 use Rattle.mr_files.specs.declared.store.FileFault.{FileFault}
 use Rattle.mr_files.specs.declared.store.FileFault.TheVariants as file
-use Rattle.mr_commands.specs.declared.fault.Fault.{Fault}
-use Rattle.mr_commands.specs.declared.fault.Fault.TheVariants.{OtherJobsOption, BadSkipList, BadThreads, OutOfMemory}
-use Rattle.mr_commands.specs.declared.asked.CheckOptions.{CheckOptions}
-use Rattle.mr_commands.specs.declared.asked.Options.{Options}
+use Rattle.mr_asked.specs.declared.fault.Fault.{Fault}
+use Rattle.mr_asked.specs.declared.fault.Fault.TheVariants.{OtherJobsOption, BadSkipList, BadThreads, OutOfMemory}
+use Rattle.mr_asked.specs.declared.asked.CheckOptions.{CheckOptions}
+use Rattle.mr_asked.specs.declared.asked.Options.{Options}
 use Rattle.mr_jobs.specs.JobSpec.{RequestSpec}
 use Rattle.mr_files.specs.Holding.{ChangesAmong, Holding}
 use Rattle.mr_files.specs.Names.{name_of_certificate, part_names, result_names}
 use Rattle.mr_commands.specs.Outcomes.{IsSequentialResult, done_line}
-use Rattle.mr_commands.specs.Asked.{AsksForOtherJob, WithinLimits, request_asked}
-use Rattle.mr_commands.specs.Answers.{AnswersSeq, AreBadThreads, TellsFile, IsResultRefusal, IsAsked, IsInput, IsInputRefusal, IsNameRefusal, IsCheckRefusal, IsRunRefusal, IsWorkRefusal, IsSeqRefusal, IsStopped, WorksOut, input_names}
+use Rattle.mr_asked.specs.Asked.{AsksForOtherJob, WithinLimits, request_asked}
+use Rattle.mr_commands.specs.Answers.{AnswersSeq, AreBadThreads, IsResultRefusal, IsAsked, IsInput, IsInputRefusal, IsNameRefusal, IsCheckRefusal, IsRunRefusal, IsWorkRefusal, IsSeqRefusal, IsStopped, WorksOut, input_names}
+use Rattle.mr_asked.specs.Statuses.{TellsFile}
 use Rattle.mr_bytes.specs.declared.RecordName.{RecordName}
 use Rattle.mr_sequential.specs.Skips.{skip_fault}
 use Rattle.mr_sequential.specs.declared.fault.RunFault.{RunFault}
 use Rattle.mr_sequential.specs.declared.fault.RunFault.TheVariants as run
-use Rattle.mr_commands.specs.Statuses.{TellsRun}
-use Rattle.mr_commands.specs.SkipList.{SpellsNames}
+use Rattle.mr_asked.specs.Statuses.{TellsRun}
+use Rattle.mr_asked.specs.SkipList.{SpellsNames}
 
 pub result_refused : (unreadable : List ℕ → Type 0) (names : List (List ℕ)) (e : FileFault) (f : Fault) → IsOneUnread unreadable names e → TellsFile e f → IsResultRefusal unreadable names f
 result_refused unreadable names (file.CannotRead name) f h t = rw t h

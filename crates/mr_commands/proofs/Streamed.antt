@@ -13,10 +13,11 @@ use Rattle.mr_files.specs.Holding.{Agrees, AllAgree}
 use Rattle.mr_files.specs.Refusals.{TellsOf}
 use Rattle.mr_files.specs.declared.store.FileFault.{FileFault}
 use Rattle.mr_files.specs.declared.store.FileFault.TheVariants as file
-use Rattle.mr_commands.specs.declared.asked.CheckOptions.{CheckOptions}
-use Rattle.mr_commands.specs.declared.fault.Fault.{Fault}
-use Rattle.mr_commands.specs.declared.fault.Fault.TheVariants.{CannotRead, OutOfMemory as no_memory}
-use Rattle.mr_commands.specs.Answers.{TellsFile, input_names}
+use Rattle.mr_asked.specs.declared.asked.CheckOptions.{CheckOptions}
+use Rattle.mr_asked.specs.declared.fault.Fault.{Fault}
+use Rattle.mr_asked.specs.declared.fault.Fault.TheVariants.{CannotRead, OutOfMemory as no_memory}
+use Rattle.mr_commands.specs.Answers.{input_names}
+use Rattle.mr_asked.specs.Statuses.{TellsFile}
 use Rattle.mr_commands.specs.Streamed.{AnswersResult, GivesAnswer, IsAnswer, IsSaid, TellsOther, TellsRead}
 use Rattle.mr_commands.specs.Verdicts.{IsJudgement, JudgesResult, verdict_file}
 

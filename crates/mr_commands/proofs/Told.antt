@@ -10,10 +10,11 @@ use Rattle.mr_files.specs.Names.{name_of_certificate, part_names}
 use Rattle.mr_files.specs.Refusals.{IsUnwritten, IsWriteRefusal}
 use Rattle.mr_files.specs.declared.store.FileFault.{FileFault}
 use Rattle.mr_files.specs.declared.store.FileFault.TheVariants as file
-use Rattle.mr_commands.specs.declared.fault.Fault.{Fault}
-use Rattle.mr_commands.specs.declared.asked.CheckOptions.{CheckOptions}
-use Rattle.mr_commands.specs.Asked.{request_asked}
-use Rattle.mr_commands.specs.Answers.{AnswersCheck, IsInput, IsStopped, TellsFile, input_names}
+use Rattle.mr_asked.specs.declared.fault.Fault.{Fault}
+use Rattle.mr_asked.specs.declared.asked.CheckOptions.{CheckOptions}
+use Rattle.mr_asked.specs.Asked.{request_asked}
+use Rattle.mr_commands.specs.Answers.{AnswersCheck, IsInput, IsStopped, input_names}
+use Rattle.mr_asked.specs.Statuses.{TellsFile}
 use Rattle.mr_commands.specs.Outcomes.{IsJudged, yes_text}
 use Rattle.mr_commands.specs.Runs.{named}
 use Rattle.mr_commands.specs.Verdicts.{AreClear, IsCheckUnanswered, IsJudgement, IsKeptUnder, IsTextRefused, IsVerdictOf, Judges, JudgesResult, KeepsVerdict, names_kept, verdict_about, verdict_file}

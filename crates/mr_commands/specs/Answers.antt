@@ -10,15 +10,13 @@ use Rattle.mr_sequential.specs.Skips.{skip_fault}
 use Rattle.mr_files.specs.Holding.{ChangesAmong, Faulty, Holding, Stored}
 use Rattle.mr_files.specs.Names.{part_names, name_of_certificate, result_names}
 use Rattle.mr_files.specs.Refusals.{IsFirstUnread, IsPassed, IsUnwrittenAt}
-use Rattle.mr_files.specs.declared.store.FileFault.{FileFault}
-use Rattle.mr_files.specs.declared.store.FileFault.TheVariants as file
-use Rattle.mr_commands.specs.declared.fault.Fault.{Fault}
-use Rattle.mr_commands.specs.declared.fault.Fault.TheVariants.{Input, TooManySplits, BadSkipList, BadThreads, LineEndInName, Run, CannotRead, CannotWrite, OutOfMemory}
-use Rattle.mr_commands.specs.declared.asked.CheckOptions.{CheckOptions}
-use Rattle.mr_commands.specs.declared.asked.Options.{Options}
-use Rattle.mr_commands.specs.Asked.{AsksForOtherJob, WithinLimits, IsRequestRefusal, request_asked}
+use Rattle.mr_asked.specs.declared.fault.Fault.{Fault}
+use Rattle.mr_asked.specs.declared.fault.Fault.TheVariants.{Input, TooManySplits, BadSkipList, BadThreads, LineEndInName, Run, CannotRead, CannotWrite, OutOfMemory}
+use Rattle.mr_asked.specs.declared.asked.CheckOptions.{CheckOptions}
+use Rattle.mr_asked.specs.declared.asked.Options.{Options}
+use Rattle.mr_asked.specs.Asked.{AsksForOtherJob, WithinLimits, IsRequestRefusal, request_asked}
 use Rattle.mr_commands.specs.Outcomes.{IsJudged, IsSequentialResult, done_line}
-use Rattle.mr_commands.specs.SkipList.{SpellsNames}
+use Rattle.mr_asked.specs.SkipList.{SpellsNames}
 
 -- the names of the input files, in order
 abbrev pub input_names : Options → List (List ℕ)
@@ -138,9 +136,3 @@ abbrev pub IsSeqRefusal : Stored → Stored → Faulty → Faulty → Options �
 IsSeqRefusal old new unreadable unwritable o list fault = (ChangesAmong old new [] × IsWorkRefusal old unreadable o list fault)
     ⊎ ((outputs : List (List ℕ)) × (bytes line : List ℕ) × WorksOut old o list outputs bytes line
     × IsStopped old new unwritable (result_names o.out.now o.parts) (outputs ++ bytes ∷ []) fault)
-
--- a fault of files is told as itself
-abbrev pub TellsFile : FileFault → Fault → Type 0
-TellsFile (file.CannotRead name) told = told ≡ CannotRead name
-TellsFile (file.CannotWrite name) told = told ≡ CannotWrite name
-TellsFile file.OutOfMemory told = told ≡ OutOfMemory

@@ -3,9 +3,9 @@ use Rattle.std.specs.Prelude.{◌≡◌, ℕ, List}
 use Rattle.mr_files.specs.Holding.{ChangesAmong, Faulty, Stored}
 use Rattle.mr_files.specs.Names.{result_names}
 use Rattle.mr_shard_files.specs.Merging.{ChangesResult}
-use Rattle.mr_commands.specs.declared.fault.Fault.{Fault}
-use Rattle.mr_commands.specs.declared.asked.Subcommand.{Subcommand}
-use Rattle.mr_commands.specs.declared.asked.Subcommand.TheVariants.{Seq, Run, Check, Merge}
+use Rattle.mr_asked.specs.declared.fault.Fault.{Fault}
+use Rattle.mr_asked.specs.declared.asked.Subcommand.{Subcommand}
+use Rattle.mr_asked.specs.declared.asked.Subcommand.TheVariants.{Seq, Run, Check, Merge}
 use Rattle.mr_commands.specs.Answers.{AnswersSeq, IsSeqRefusal}
 use Rattle.mr_commands.specs.Merges.{AnswersMerge, IsMergeUnanswered}
 use Rattle.mr_commands.specs.Runs.{AnswersRun, IsRunUnanswered, written_by_run}

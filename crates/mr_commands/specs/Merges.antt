@@ -5,9 +5,9 @@ use Rattle.mr_verdict.specs.Verdict.{Told}
 use Rattle.mr_shard_files.specs.Faults.{IsShardRefusal}
 use Rattle.mr_shard_files.specs.Merging.{IsMerged}
 use Rattle.mr_shard_files.specs.declared.fault.ShardFault.{ShardFault}
-use Rattle.mr_commands.specs.declared.asked.MergeOptions.{MergeOptions}
-use Rattle.mr_commands.specs.declared.fault.Fault.{Fault}
-use Rattle.mr_commands.specs.Statuses.{TellsShards}
+use Rattle.mr_asked.specs.declared.asked.MergeOptions.{MergeOptions}
+use Rattle.mr_asked.specs.declared.fault.Fault.{Fault}
+use Rattle.mr_asked.specs.Statuses.{TellsShards}
 
 -- what is said of merged shards
 abbrev pub merged_line : ℕ → ℕ → ℕ → List ℕ

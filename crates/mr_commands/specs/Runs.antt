@@ -15,13 +15,14 @@ use Rattle.mr_files.specs.Holding.{Begins, ChangesAmong, Differs, Faulty, Holdin
 use Rattle.mr_files.specs.Refusals.{IsOneUnwritten, IsWriteRefusal}
 use Rattle.mr_files.specs.declared.store.FileFault.{FileFault}
 use Rattle.mr_files.specs.Names.{part_names, name_of_certificate, result_names}
-use Rattle.mr_commands.specs.declared.fault.Fault.{Fault}
-use Rattle.mr_commands.specs.declared.fault.Fault.TheVariants.{BadWorkers, BadAttempts, Script, CannotRead, CannotWrite, OutOfMemory}
-use Rattle.mr_commands.specs.declared.asked.RunOptions.{RunOptions}
+use Rattle.mr_asked.specs.declared.fault.Fault.{Fault}
+use Rattle.mr_asked.specs.declared.fault.Fault.TheVariants.{BadWorkers, BadAttempts, Script, CannotRead, CannotWrite, OutOfMemory}
+use Rattle.mr_asked.specs.declared.asked.RunOptions.{RunOptions}
 use Rattle.mr_commands.specs.declared.running.Ran.{Ran}
 use Rattle.mr_commands.specs.declared.running.Ran.TheVariants.{Certified, Failed, Uncertified}
-use Rattle.mr_commands.specs.Asked.{IsRequestRefusal, request_asked}
-use Rattle.mr_commands.specs.Answers.{IsAsked, IsInput, IsInputRefusal, TellsFile, input_names}
+use Rattle.mr_asked.specs.Asked.{IsRequestRefusal, request_asked}
+use Rattle.mr_commands.specs.Answers.{IsAsked, IsInput, IsInputRefusal, input_names}
+use Rattle.mr_asked.specs.Statuses.{TellsFile}
 use Rattle.mr_commands.specs.HistoryLines.{fault_name, history_text}
 use Rattle.mr_commands.specs.NoLines.{fault_text}
 

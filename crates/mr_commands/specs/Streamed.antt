@@ -12,8 +12,8 @@ use Rattle.mr_files.specs.Holding.{Agrees, AllAgree, Holding, Stored}
 use Rattle.mr_files.specs.Names.{name_of_certificate, part_names}
 use Rattle.mr_commands.specs.NoLines.{no_line}
 use Rattle.mr_commands.specs.Outcomes.{yes_text}
-use Rattle.mr_commands.specs.declared.fault.Fault.{Fault}
-use Rattle.mr_commands.specs.declared.fault.Fault.TheVariants.{CannotRead, OutOfMemory as no_memory}
+use Rattle.mr_asked.specs.declared.fault.Fault.{Fault}
+use Rattle.mr_asked.specs.declared.fault.Fault.TheVariants.{CannotRead, OutOfMemory as no_memory}
 
 -- where a fault tells of a read, one of that source has failed
 abbrev pub DidFail : List ℕ → ℕ → No → Type 0

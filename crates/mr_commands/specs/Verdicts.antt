@@ -13,10 +13,10 @@ use Rattle.mr_files.specs.Holding.{ChangesAmong, Faulty, Holding, Stored}
 use Rattle.mr_files.specs.Names.{name_of_certificate, part_files, part_names}
 use Rattle.mr_files.specs.Refusals.{IsWriteRefusal}
 use Rattle.mr_files.specs.declared.store.FileFault.{FileFault}
-use Rattle.mr_commands.specs.declared.fault.Fault.{Fault}
-use Rattle.mr_commands.specs.declared.asked.CheckOptions.{CheckOptions}
-use Rattle.mr_commands.specs.declared.asked.Options.{Options}
-use Rattle.mr_commands.specs.Asked.{request_asked}
+use Rattle.mr_asked.specs.declared.fault.Fault.{Fault}
+use Rattle.mr_asked.specs.declared.asked.CheckOptions.{CheckOptions}
+use Rattle.mr_asked.specs.declared.asked.Options.{Options}
+use Rattle.mr_asked.specs.Asked.{request_asked}
 use Rattle.mr_commands.specs.Answers.{AnswersCheck, IsCheckRefusal, IsInput, IsStopped, input_names}
 use Rattle.mr_commands.specs.NoLines.{no_line}
 use Rattle.mr_commands.specs.Outcomes.{yes_text}

@@ -10,15 +10,12 @@ ghost use Rattle.mr_files.specs.Holding.{ChangesAmong};
 ghost use Rattle.mr_files.specs.Names.{result_names};
 ghost use Rattle.mr_certform.specs.Pieces.{all_bytes};
 
-use crate::asked::{Options, Subcommand};
-use crate::fault::Fault;
 use crate::input::input_of;
 use crate::judging::check;
 use crate::merging::merge;
-use crate::request::request_of;
 use crate::running::run as run_by_workers;
 use crate::said::done_line;
-use crate::skips::skips_of;
+use mr_asked::{Fault, Options, Subcommand, request_of, skips_of};
 use mr_bytes::RecordName;
 use mr_certform::{Certificate, text_law};
 use mr_files::{Store, write_files};

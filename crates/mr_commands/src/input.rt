@@ -3,7 +3,7 @@ ghost use Rattle.std.specs.Prelude.{◌≡◌, ◌<◌, ◌≤◌, map, IfOk, If
 ghost use Rattle.mr_input.specs.declared.InputFault.TheVariants as limits;
 ghost use Rattle.mr_commands.specs.Answers.{IsInput, IsInputRefusal};
 
-use crate::fault::Fault;
+use mr_asked::Fault;
 use mr_files::{Store, WithinFault, read_files_within};
 use mr_input::{Input, InputFault, MAX_BYTES, MAX_FILES};
 use mr_jobs::Request;

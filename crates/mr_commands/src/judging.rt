@@ -16,14 +16,12 @@ ghost use Rattle.mr_commands.specs.Answers.{AreBadThreads, IsCheckRefusal, IsFir
 ghost use Rattle.mr_commands.specs.Verdicts.{AreClear, KeepsVerdict, IsCheckUnanswered, IsJudgement, IsKeptUnder, IsTextRefused, Judges, JudgesResult};
 ghost use Rattle.mr_commands.specs.Verdicts.{names_kept, verdict_about, verdict_file, written_by_check};
 
-use crate::asked::CheckOptions;
 use crate::commands::Said;
-use crate::fault::Fault;
 use crate::input::input_of;
 use crate::no_lines::no_line;
-use crate::request::request_of;
 use crate::said::yes_text;
 use crate::streaming::{judged_as_read, refused_as_read};
+use mr_asked::{CheckOptions, Fault, request_of};
 use mr_bytes::OpenGate;
 use mr_check::{No, Yes, check_gated_watched, check_watched};
 use mr_files::{FileFault, Store, WithinFault, read_result_within, write_named};

@@ -3,10 +3,9 @@ ghost use Rattle.std.specs.Prelude.{◌≡◌, ◌+◌, ◌≤◌, ◌++◌, [],
 ghost use Rattle.mr_shard_files.specs.Merging.{ChangesResult};
 ghost use Rattle.mr_commands.specs.Merges.{AnswersMerge, IsMergeUnanswered, merged_line as line_of_merged};
 
-use crate::asked::MergeOptions;
 use crate::commands::Said;
-use crate::fault::Fault;
 use itoa::Buffer;
+use mr_asked::{Fault, MergeOptions};
 use mr_files::Store;
 use mr_shard_files::merge_shards;
 use std::alloc::Global;

@@ -9,14 +9,12 @@ ghost use Rattle.mr_commands.specs.Runs.{IsStartRefusal, IsRunUnanswered, IsScri
 ghost use Rattle.mr_commands.specs.Runs.{names_left, written_by_run};
 ghost use Rattle.mr_script.specs.Scripts.{SpellsScript};
 
-use crate::asked::RunOptions;
 use crate::commands::Said;
-use crate::fault::Fault;
 use crate::history::history_text;
 use crate::input::input_of;
 use crate::no_lines::fault_text;
-use crate::request::request_of;
 use crate::said::{certified_line, failed_line};
+use mr_asked::{Fault, RunOptions, request_of};
 use mr_book::History;
 use mr_bytes::OpenGate;
 use mr_check::No;

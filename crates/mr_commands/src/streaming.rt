@@ -6,11 +6,10 @@ ghost use Rattle.mr_files.specs.Refusals.{IsUnreadAmong, TellsOf};
 ghost use Rattle.mr_commands.specs.Streamed.{AnswersResult, DidFail, GivesAnswer, IsSaid, TellsOther, TellsRead};
 ghost use Rattle.mr_commands.specs.Verdicts.{JudgesResult, verdict_file};
 
-use crate::asked::CheckOptions;
 use crate::commands::Said;
-use crate::fault::Fault;
 use crate::judging::{Judged, no_judged};
 use crate::said::yes_text;
+use mr_asked::{CheckOptions, Fault};
 use mr_check::{No, Source, Yes, check_from_watched};
 use mr_files::{Cause, FileFault, NamedReader, ResultReaders, Store, result_readers};
 use mr_input::Input;

@@ -1,5 +1,5 @@
 //! What can be done about a fault: the option and its limit, or the system's reason.
-use mr_commands::Fault;
+use mr_asked::Fault;
 use mr_files::Look;
 use mr_input::InputFault;
 use mr_jobs::{JobFault, RequestFault};

@@ -1,7 +1,7 @@
 //! How a certificate differs from what was asked for, where the judge says that it is of another job or input.
 use crate::cures::run_cure;
+use mr_asked::{Options, Subcommand, request_of};
 use mr_certform::{Item, Walker};
-use mr_commands::{Options, Subcommand, request_of};
 use mr_files::{Look, Standing, Store, certificate_name, read_files};
 use mr_jobs::Request;
 use std::alloc::{AllocError, Global};

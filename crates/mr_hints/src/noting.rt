@@ -1,6 +1,6 @@
 //! What is told of the directory of the result before the work: that it isn't there, that a result stands in it, that
 //! other parts lie beside those of this one.
-use mr_commands::{Options, Subcommand};
+use mr_asked::{Options, Subcommand};
 use mr_files::{Look, Standing, certificate_name, part_name, verdict_name};
 use std::alloc::{AllocError, Global};
 

@@ -1,7 +1,7 @@
 use Rattle.std.proofs.Common.{◌≡◌}
 use Rattle.std.specs.Prelude.{option_map, string_bytes}
 use Rattle.std.proofs.lemmas.Result.{err_from_is_err_and, IfErr-weaker, IfOk-weaker}
-use Rattle.mr_commands.specs.declared.fault.Fault.TheVariants.{OutOfMemory}
+use Rattle.mr_asked.specs.declared.fault.Fault.TheVariants.{OutOfMemory}
 use Rattle.mr_commands.specs.Streamed.{IsSaid, TellsRead}
 use Rattle.mr_commands.specs.Verdicts.{JudgesResult}
 use Rattle.mr_commands.proofs.Streamed.{judged_read, memory_told, read_told}

@@ -1,7 +1,7 @@
 use Rattle.std.proofs.Common.{ℕ, List, ◌≡◌, ◌+◌, ◌-◌, ◌∙◌, ◌∷◌, ◌++◌, length, take, drop, ap, sym, arith}
 use Rattle.std.proofs.lemmas.List.{length-drop, take_all}
-use Rattle.mr_commands.proofs.SkipLists.{lacks_front, lacks_all, parted}
-use Rattle.mr_commands.proofs.skips.cut.Goals as goal
+use Rattle.mr_asked.proofs.SkipLists.{lacks_front, lacks_all, parted}
+use Rattle.mr_asked.proofs.skips.cut.Goals as goal
 
 pub returns-then-byte-mark : goal.returns-then-byte-mark
 returns-then-byte-mark c =

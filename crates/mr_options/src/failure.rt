@@ -1,9 +1,9 @@
 //! Why the program ends with nothing to answer, with its exit status and what it says then.
 ghost use Rattle.std.specs.Prelude.{◌≡◌, ◌↔◌, IsTrue};
 ghost use Rattle.std.specs.IoError.{error_kind};
-ghost use Rattle.mr_cli.specs.Statuses.{IsHelp, IsStatus, TellsWords};
+ghost use Rattle.mr_options.specs.Statuses.{IsHelp, IsStatus, TellsWords};
 
-use mr_commands::Fault;
+use mr_asked::Fault;
 use std::alloc::AllocError;
 use std::fmt;
 use std::io::{self, ErrorKind};
@@ -22,7 +22,7 @@ pub enum Failure {
 }
 
 impl From<AllocError> for Failure {
-    ghost use Rattle.mr_cli.specs.Statuses.{no_memory_left};
+    ghost use Rattle.mr_options.specs.Statuses.{no_memory_left};
 
     ghost from_gives = { λ _ f. f ≡ no_memory_left };
 
@@ -32,7 +32,7 @@ impl From<AllocError> for Failure {
 }
 
 impl From<clap::Error> for Failure {
-    ghost use Rattle.mr_cli.specs.Statuses.{TellsLine};
+    ghost use Rattle.mr_options.specs.Statuses.{TellsLine};
 
     ghost from_gives = { λ e f. TellsLine e f };
 
@@ -45,7 +45,7 @@ impl From<clap::Error> for Failure {
 }
 
 impl From<Fault> for Failure {
-    ghost use Rattle.mr_cli.specs.declared.failure.Failure.TheVariants.{Command};
+    ghost use Rattle.mr_options.specs.declared.failure.Failure.TheVariants.{Command};
 
     ghost from_gives = { λ e f. f ≡ Command e };
 

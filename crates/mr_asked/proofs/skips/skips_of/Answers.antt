@@ -2,8 +2,8 @@ use Rattle.std.proofs.Common.{◌≡◌, ℕ, List, [], ◌∙◌, length, subst
 use Rattle.std.proofs.lemmas.Bool.{eqb-false}
 use Rattle.std.proofs.lemmas.Result.{err_from_is_err_and}
 use Rattle.mr_bytes.specs.declared.RecordName.{RecordName}
-use Rattle.mr_commands.proofs.SkipLists.{IsRead, read_none, read_more, read_fault, read_last_fault, fault_of_list}
-use Rattle.mr_commands.proofs.skips.skips_of.Goals as goal
+use Rattle.mr_asked.proofs.SkipLists.{IsRead, read_none, read_more, read_fault, read_last_fault, fault_of_list}
+use Rattle.mr_asked.proofs.skips.skips_of.Goals as goal
 
 pub loop-first-init : goal.loop-first-init
 loop-first-init c =

@@ -1,5 +1,5 @@
-use Rattle.mr_commands.proofs.SkipLists.{name_cut, name_needs_colon}
-use Rattle.mr_commands.proofs.skips.name_of.Goals as goal
+use Rattle.mr_asked.proofs.SkipLists.{name_cut, name_needs_colon}
+use Rattle.mr_asked.proofs.skips.name_of.Goals as goal
 
 pub returns-in_err-front : goal.returns-in_err-front
 returns-in_err-front c = rw c.from_residual.ensures (λ n h. name_needs_colon c.args.text.now n c.in_err-front.ensures h)

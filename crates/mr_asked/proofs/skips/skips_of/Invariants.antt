@@ -1,6 +1,6 @@
 use Rattle.std.proofs.Common.{length}
-use Rattle.mr_commands.proofs.SkipLists.{IsRead}
-use Rattle.mr_commands.proofs.skips.skips_of.Given as goal
+use Rattle.mr_asked.proofs.SkipLists.{IsRead}
+use Rattle.mr_asked.proofs.skips.skips_of.Given as goal
 
 abbrev pub invariant-loop-first : goal.invariant-loop-first
 invariant-loop-first l = IsRead l.text l.rest l.names.items

@@ -4,9 +4,9 @@ use Rattle.std.specs.Str.Parse.{AllDigits, digits_value}
 use Rattle.std.proofs.lemmas.Str.Parse.{digit_from_value}
 use Rattle.mr_bytes.specs.declared.RecordName.{RecordName}
 use Rattle.mr_script.specs.Lines.{SpellsNumber}
-use Rattle.mr_commands.specs.declared.fault.Fault.{Fault}
-use Rattle.mr_commands.specs.declared.fault.Fault.TheVariants.{OutOfMemory, BadSkipList}
-use Rattle.mr_commands.specs.SkipList.{SpellsName, SpellsNames, Lacks}
+use Rattle.mr_asked.specs.declared.fault.Fault.{Fault}
+use Rattle.mr_asked.specs.declared.fault.Fault.TheVariants.{OutOfMemory, BadSkipList}
+use Rattle.mr_asked.specs.SkipList.{SpellsName, SpellsNames, Lacks}
 
 head_of : (x : ℕ) (xs : List ℕ) (y : ℕ) (ys : List ℕ) → ◌≡◌ {A = List ℕ} (x ∷ xs) (y ∷ ys) → (x ≡ y) × (xs ≡ ys)
 head_of x xs y ys e = (ap (λ (v : List ℕ). get_or v 0 0) e, ap (λ (v : List ℕ). drop 1 v) e)

@@ -1,7 +1,9 @@
 -- The exit statuses.
 use Rattle.std.specs.Prelude.{◌≡◌, ℕ}
-use Rattle.mr_commands.specs.declared.fault.Fault.{Fault}
-use Rattle.mr_commands.specs.declared.fault.Fault.TheVariants.{Job, Run, Script, Shards, CannotRead, CannotWrite, OutOfMemory}
+use Rattle.mr_asked.specs.declared.fault.Fault.{Fault}
+use Rattle.mr_asked.specs.declared.fault.Fault.TheVariants.{Job, Run, Script, Shards, CannotRead, CannotWrite, OutOfMemory}
+use Rattle.mr_files.specs.declared.store.FileFault.{FileFault}
+use Rattle.mr_files.specs.declared.store.FileFault.TheVariants as file
 use Rattle.mr_jobs.specs.declared.job.JobFault.{JobFault}
 use Rattle.mr_jobs.specs.declared.job.JobFault.TheVariants as job
 use Rattle.mr_script.specs.declared.script.ScriptFault.{ScriptFault}
@@ -50,3 +52,9 @@ TellsShards (shards.CannotRead name) told = told ≡ CannotRead name
 TellsShards (shards.CannotWrite name) told = told ≡ CannotWrite name
 TellsShards shards.OutOfMemory told = told ≡ OutOfMemory
 TellsShards fault told = told ≡ Shards fault
+
+-- a fault of files is told as itself
+abbrev pub TellsFile : FileFault → Fault → Type 0
+TellsFile (file.CannotRead name) told = told ≡ CannotRead name
+TellsFile (file.CannotWrite name) told = told ≡ CannotWrite name
+TellsFile file.OutOfMemory told = told ≡ OutOfMemory

@@ -5,13 +5,13 @@ use Rattle.std.specs.Str.Parse.{IsNumeral, digits_value, without_leading_plus}
 use Rattle.clap.specs.Matches.{matched_of, raw_values, first_value, one_text}
 use Rattle.clap.specs.declared.parser.matches.Found.{Found}
 use Rattle.clap.specs.Walk.{Row, rows_of}
-use Rattle.mr_commands.specs.declared.asked.Options.{Options}
-use Rattle.mr_commands.specs.declared.asked.CheckOptions.{CheckOptions}
-use Rattle.mr_commands.specs.declared.asked.MergeOptions.{MergeOptions}
-use Rattle.mr_commands.specs.declared.asked.RunOptions.{RunOptions}
-use Rattle.mr_commands.specs.declared.asked.Subcommand.{Subcommand}
-use Rattle.mr_commands.specs.declared.asked.Subcommand.TheVariants.{Seq, Run, Check, Merge}
-use Rattle.mr_commands.specs.Asked.{Names}
+use Rattle.mr_asked.specs.declared.asked.Options.{Options}
+use Rattle.mr_asked.specs.declared.asked.CheckOptions.{CheckOptions}
+use Rattle.mr_asked.specs.declared.asked.MergeOptions.{MergeOptions}
+use Rattle.mr_asked.specs.declared.asked.RunOptions.{RunOptions}
+use Rattle.mr_asked.specs.declared.asked.Subcommand.{Subcommand}
+use Rattle.mr_asked.specs.declared.asked.Subcommand.TheVariants.{Seq, Run, Check, Merge}
+use Rattle.mr_asked.specs.Asked.{Names}
 
 -- decimal digits, a plus allowed in front, whose number fits in 32 bits
 abbrev pub WritesNumber : List ℕ → Type 0

@@ -1,6 +1,6 @@
 //! Why a command does not do what it is asked for, with the exit status and what is said of it.
 ghost use Rattle.std.specs.Prelude.{◌≡◌};
-ghost use Rattle.mr_commands.specs.Statuses.{status_of, status_of_shards};
+ghost use Rattle.mr_asked.specs.Statuses.{status_of, status_of_shards};
 
 use mr_files::FileFault;
 use mr_input::InputFault;
@@ -39,7 +39,7 @@ pub enum Fault {
 }
 
 impl From<AllocError> for Fault {
-    ghost use Rattle.mr_commands.specs.declared.fault.Fault.TheVariants.{OutOfMemory as told_memory};
+    ghost use Rattle.mr_asked.specs.declared.fault.Fault.TheVariants.{OutOfMemory as told_memory};
 
     ghost from_gives = { λ _ f. f ≡ told_memory };
 
@@ -49,7 +49,7 @@ impl From<AllocError> for Fault {
 }
 
 impl From<JobFault> for Fault {
-    ghost use Rattle.mr_commands.specs.Statuses.{TellsJob};
+    ghost use Rattle.mr_asked.specs.Statuses.{TellsJob};
 
     ghost from_gives = { λ e f. TellsJob e f };
 
@@ -62,7 +62,7 @@ impl From<JobFault> for Fault {
 }
 
 impl From<RunFault> for Fault {
-    ghost use Rattle.mr_commands.specs.Statuses.{TellsRun};
+    ghost use Rattle.mr_asked.specs.Statuses.{TellsRun};
 
     ghost from_gives = { λ e f. TellsRun e f };
 
@@ -75,7 +75,7 @@ impl From<RunFault> for Fault {
 }
 
 impl From<ScriptFault> for Fault {
-    ghost use Rattle.mr_commands.specs.Statuses.{TellsScript};
+    ghost use Rattle.mr_asked.specs.Statuses.{TellsScript};
 
     ghost from_gives = { λ e f. TellsScript e f };
 
@@ -88,7 +88,7 @@ impl From<ScriptFault> for Fault {
 }
 
 impl From<FileFault> for Fault {
-    ghost use Rattle.mr_commands.specs.Answers.{TellsFile};
+    ghost use Rattle.mr_asked.specs.Statuses.{TellsFile};
 
     ghost from_gives = { λ e f. TellsFile e f };
 
@@ -102,7 +102,7 @@ impl From<FileFault> for Fault {
 }
 
 impl From<ShardFault> for Fault {
-    ghost use Rattle.mr_commands.specs.Statuses.{TellsShards};
+    ghost use Rattle.mr_asked.specs.Statuses.{TellsShards};
 
     ghost from_gives = { λ e f. TellsShards e f };
 

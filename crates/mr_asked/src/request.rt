@@ -1,6 +1,6 @@
 //! From the options of the line to a job and a request.
 ghost use Rattle.std.specs.Prelude.{◌≡◌, ◌↔◌, IfOk, IfErr, OnOk, IsTrue};
-ghost use Rattle.mr_commands.specs.Asked.{AsksForOtherJob, IsJobRefusal, IsRequestRefusal, LiteralFits, WithinLimits, request_asked};
+ghost use Rattle.mr_asked.specs.Asked.{AsksForOtherJob, IsJobRefusal, IsRequestRefusal, LiteralFits, WithinLimits, request_asked};
 
 use crate::asked::{JobKind, Options};
 use crate::fault::Fault;

@@ -6,11 +6,11 @@ use Rattle.mr_jobs.specs.declared.job.JobFault.{JobFault}
 use Rattle.mr_jobs.specs.declared.job.JobFault.TheVariants as literal_fault
 use Rattle.mr_jobs.specs.declared.request.RequestFault.{RequestFault}
 use Rattle.mr_jobs.specs.declared.request.RequestFault.TheVariants.{BadParts, BadSplitSize, BadSkips}
-use Rattle.mr_commands.specs.declared.fault.Fault.{Fault}
-use Rattle.mr_commands.specs.declared.fault.Fault.TheVariants.{OtherJobsOption, Job, Request, OutOfMemory}
-use Rattle.mr_commands.specs.declared.asked.Options.{Options}
-use Rattle.mr_commands.specs.declared.asked.JobKind.{JobKind}
-use Rattle.mr_commands.specs.declared.asked.JobKind.TheVariants.{Words, Grep, Url}
+use Rattle.mr_asked.specs.declared.fault.Fault.{Fault}
+use Rattle.mr_asked.specs.declared.fault.Fault.TheVariants.{OtherJobsOption, Job, Request, OutOfMemory}
+use Rattle.mr_asked.specs.declared.asked.Options.{Options}
+use Rattle.mr_asked.specs.declared.asked.JobKind.{JobKind}
+use Rattle.mr_asked.specs.declared.asked.JobKind.TheVariants.{Words, Grep, Url}
 
 -- the word that names a job
 abbrev pub Names : List ℕ → JobKind → Type 0

@@ -1,7 +1,7 @@
 //! The list of left-out records that a text spells.
 ghost use Rattle.std.specs.Prelude.{◌≡◌, ◌⊎◌, List, [], ◌∷◌, ◌++◌, IfOk, IfErr, OnOk, MatchOption};
 ghost use Rattle.mr_bytes.specs.declared.RecordName.{RecordName};
-ghost use Rattle.mr_commands.specs.SkipList.{Lacks, SpellsName, SpellsNames, OneSkipList};
+ghost use Rattle.mr_asked.specs.SkipList.{Lacks, SpellsName, SpellsNames, OneSkipList};
 
 use crate::fault::Fault;
 use mr_bytes::RecordName;

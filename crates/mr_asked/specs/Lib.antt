@@ -1,0 +1,3 @@
+pub mod SkipList
+pub mod Asked
+pub mod Statuses
