@@ -6,16 +6,17 @@ use Rattle.mr_bytes.specs.declared.Name.{Name}
 use Rattle.mr_certform.specs.declared.item.Item.{Item}
 use Rattle.mr_certform.specs.declared.item.Item.TheVariants.{Groups, Entry, End}
 use Rattle.mr_certform.specs.Spelling.{left_behind}
-use Rattle.mr_check.specs.declared.blocks.FoundItem.{FoundItem}
-use Rattle.mr_check.specs.declared.fault.No.{No}
-use Rattle.mr_check.specs.Verdict.{Reached, Subject, start, tests, after, first}
-use Rattle.mr_check.specs.VerdictLaws.{told, piece}
-use Rattle.mr_check.specs.Steps.{Answers, HasRoom, Room}
-use Rattle.mr_check.specs.Blocks.{onto, items_in}
-use Rattle.mr_check.specs.Fronts.{opens, is_own, part_here, OwnGoesOn, OwnJudged, Opened}
-use Rattle.mr_check.proofs.Faults.{first_more, told_left, told_is}
-use Rattle.mr_check.proofs.PartLemmas.{room_after}
-use Rattle.mr_check.proofs.BlockLemmas.{blank, items_long}
+use Rattle.mr_judge.specs.declared.blocks.FoundItem.{FoundItem}
+use Rattle.mr_answers.specs.declared.fault.No.{No}
+use Rattle.mr_answers.specs.Verdict.{Reached, Subject, start, tests, after, first}
+use Rattle.mr_answers.specs.VerdictLaws.{told, piece}
+use Rattle.mr_judge.specs.Steps.{Answers, HasRoom, Room}
+use Rattle.mr_judge.specs.Blocks.{onto, items_in}
+use Rattle.mr_judge.specs.Steps.{opens}
+use Rattle.mr_check.specs.Fronts.{is_own, part_here, OwnGoesOn, OwnJudged, Opened}
+use Rattle.mr_judge.proofs.Faults.{first_more, told_left, told_is}
+use Rattle.mr_judge.proofs.PartLemmas.{room_after}
+use Rattle.mr_judge.proofs.BlockLemmas.{blank, items_long}
 
 own_onto : (i : Item) (is js : List Item) → is_own i ≡ true → onto (i ∷ is) js ≡ i ∷ onto is js
 own_onto End is js e = absurd (false≢true e)

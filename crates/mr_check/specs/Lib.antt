@@ -1,15 +1,1 @@
-pub mod Verdict
-pub mod Steps
-pub mod Kinds
-pub mod Items
-pub mod Outputs
-pub mod Reading
-pub mod Readers
-pub mod From
-pub mod Blocks
 pub mod Fronts
-pub mod VerdictRows
-pub mod VerdictLaws
-pub mod FaultLaws
-pub mod Headline
-pub mod Metered

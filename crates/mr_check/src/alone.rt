@@ -2,26 +2,23 @@
 ghost use Rattle.std.specs.Prelude.{◌≡◌, ◌⊎◌, ◌<◌, ◌≤◌, ◌+◌, ◌-◌, ◌^◌, [], List, MatchResult, IfOk, OnOk, None, Some, true, false, length};
 ghost use Rattle.std.specs.List.{AllByRecursion};
 ghost use Rattle.mr_certform.specs.declared.item.Item.{Item as Read};
-ghost use Rattle.mr_certform.specs.Walking.{items_left};
-ghost use Rattle.mr_check.specs.declared.fault.No.TheVariants.{OutOfMemory};
+ghost use Rattle.mr_certform.specs.Walking.{items_left, halt};
+ghost use Rattle.mr_answers.specs.declared.fault.No.TheVariants.{Malformed, OutOfMemory};
 ghost use Rattle.mr_input.specs.Files.{contents};
-ghost use Rattle.mr_check.specs.Verdict.{entries_in, tests, after};
-ghost use Rattle.mr_check.specs.VerdictLaws.{part_fault};
-ghost use Rattle.mr_check.specs.Steps.{subject, Answers, HasRoom, Room};
-ghost use Rattle.mr_check.specs.Blocks.{items_in, onto, IsFound};
-ghost use Rattle.mr_check.specs.Outputs.{Leaves};
+ghost use Rattle.mr_answers.specs.Verdict.{entries_in, tests, after};
+ghost use Rattle.mr_answers.specs.VerdictLaws.{part_fault};
+ghost use Rattle.mr_judge.specs.Steps.{subject, Answers, HasRoom, Room};
+ghost use Rattle.mr_judge.specs.Blocks.{items_in, onto, IsFound};
+ghost use Rattle.mr_judge.specs.Outputs.{Leaves};
 ghost use Rattle.mr_check.specs.Fronts.{is_own as own, part_here, OwnJudged, Opened};
 
-use crate::blocks::{BLOCK, FoundItem, fetch_all, read_block_of, seek_all, touch};
 use crate::facts::Facts;
-use crate::fault::{No, is_same_fault};
 use crate::front::Front;
 use crate::fronts::is_opening;
-use crate::items::Stop;
-use crate::outputs::AtHand;
-use crate::progress::Progress;
+use mr_answers::{No, is_same_fault};
 use mr_certform::{Item, Walker};
 use mr_index::Meter;
+use mr_judge::{AtHand, BLOCK, FoundItem, Progress, Stop, fetch_all, read_block, seek_all, touch};
 use std::alloc::{AllocError, Global};
 
 /// Whether the item belongs to the partition that is open.
@@ -104,6 +101,30 @@ fn judge_own<'a>(
         step_at_hand(judging, facts, outputs, row)?;
     }
     Ok(false)
+}
+
+/// Reads the items that come next over bytes, as `read_block` does; the place is told as the fault that it is, where no item stands at all.
+fn read_block_of(walker: &mut Walker<'_>, items: &mut Vec<Item>) -> Result<(), No>
+    ensures items { MatchResult result
+        (λ _. (items_left walker.old ≡ onto items.new.items (items_left walker.new))
+        × (entries_in (items_left walker.old) ≡ entries_in items.new.items + entries_in (items_left walker.new)))
+        (λ e. (e ≡ OutOfMemory) ⊎ ((items_left walker.old ≡ []) × (e ≡ Malformed (halt walker.old)))) }
+    ensures some { OnOk result ((1 ≤ length items.new.items) × (length items.new.items ≤ 64)) }
+    ensures stop { OnOk result (halt walker.new ≡ halt walker.old) }
+{
+    match read_block(walker, items) {
+        Ok(None) => Ok(()),
+        Ok(Some(at)) => {
+            if items.is_empty() {
+                Err(No::Malformed { at })
+            } else {
+                Ok(())
+            }
+        }
+        Err(Stop::Fault(fault)) => Err(fault),
+        Err(Stop::Device | Stop::TooLong | Stop::Output { .. } | Stop::LongOutput) =>
+            unreachable!(),
+    }
 }
 
 /// Reads the items that come next, as `read_block_of` does: whether there are any.

@@ -3,9 +3,10 @@ ghost use Rattle.std.specs.Prelude.{◌≡◌, ◌<◌, ◌≤◌, ◌+◌, ◌^
 ghost use Rattle.mr_certform.specs.declared.item.Item.{Item as Read};
 ghost use Rattle.mr_certform.specs.Spelling.{is_ended};
 ghost use Rattle.mr_certform.specs.Walking.{items_left, halt};
-ghost use Rattle.mr_check.specs.Verdict.{entries_in};
-ghost use Rattle.mr_check.specs.VerdictLaws.{parts_in};
-ghost use Rattle.mr_check.specs.Fronts.{opens, closes, parts_at, ends_at};
+ghost use Rattle.mr_answers.specs.Verdict.{entries_in};
+ghost use Rattle.mr_answers.specs.VerdictLaws.{parts_in};
+ghost use Rattle.mr_judge.specs.Steps.{opens};
+ghost use Rattle.mr_check.specs.Fronts.{closes, parts_at, ends_at};
 
 use crate::front::{Front, Fronts};
 use mr_certform::{Item, Walker};

@@ -5,26 +5,25 @@ ghost use Rattle.mr_certform.specs.declared.place.Place.TheVariants.{AtSkips};
 ghost use Rattle.mr_certform.specs.Grammar.{InOrder};
 ghost use Rattle.mr_certform.specs.Places.{partitions};
 ghost use Rattle.mr_certform.specs.Walking.{items_left, halt};
-ghost use Rattle.mr_check.specs.declared.fault.No.TheVariants.{OutOfMemory};
-ghost use Rattle.mr_check.specs.Verdict.{start, subject_of, part_faults, count_faults, accepted_by, verdict_of, first, entries_in};
-ghost use Rattle.mr_check.specs.VerdictLaws.{part_fault, least_fault, back_fault, or_else};
-ghost use Rattle.mr_check.specs.Headline.{IsCertified, accepted_of};
-ghost use Rattle.mr_check.specs.Steps.{Answers, subject, case_at};
+ghost use Rattle.mr_answers.specs.declared.fault.No.TheVariants.{OutOfMemory};
+ghost use Rattle.mr_answers.specs.Verdict.{start, subject_of, part_faults, count_faults, accepted_by, verdict_of, first, entries_in};
+ghost use Rattle.mr_answers.specs.VerdictLaws.{part_fault, least_fault, back_fault};
+ghost use Rattle.mr_answers.specs.Headline.{IsCertified, accepted_of};
+ghost use Rattle.mr_judge.specs.Steps.{Answers, subject, case_at};
 ghost use Rattle.mr_check.specs.Fronts.{part_at, parts_at, first_some, ends_at};
 
 use crate::alone::fault_in;
-use crate::entry_tests::test_named;
 use crate::facts::Facts;
-use crate::fault::No;
 use crate::front::{Front, Fronts};
 use crate::front_bytes::{expect_count_of, expect_header_of, take_skips_of};
 use crate::fronts::fronts_of;
-use crate::judge::{Yes, plan_of, walk};
 use crate::mapping::{Crew, Mapped, Source, index_of};
+use mr_answers::{No, Yes};
 use mr_bytes::{Gate, OpenGate, RecordName};
 use mr_certform::Walker;
 use mr_input::Input;
 use mr_jobs::Request;
+use mr_judge::{plan_of, test_named, walk};
 use mr_splits::Plan;
 use mr_tickets::{Pieces, draw_all};
 use mr_watch::{Phase, Unwatched, Watch};
@@ -41,8 +40,8 @@ struct Judging<'a, W: Watch> {
 
 impl<'a, W: Watch> Pieces for Judging<'a, W> {
     ghost use Rattle.std.specs.Prelude.{◌≡◌, ◌<◌, length};
-    ghost use Rattle.mr_check.specs.VerdictLaws.{part_fault};
-    ghost use Rattle.mr_check.specs.Steps.{subject};
+    ghost use Rattle.mr_answers.specs.VerdictLaws.{part_fault};
+    ghost use Rattle.mr_judge.specs.Steps.{subject};
     ghost use Rattle.mr_check.specs.Fronts.{part_at};
 
     type Out = Option<No>;

@@ -18,9 +18,10 @@ use Rattle.mr_asked.specs.declared.asked.RunOptions.{RunOptions}
 use Rattle.mr_commands.specs.declared.running.Ran.{Ran}
 use Rattle.mr_commands.specs.HistoryLines.{history_text}
 use Rattle.mr_asked.specs.Asked.{request_asked}
-use Rattle.mr_commands.specs.Answers.{IsAsked, IsInput, IsInputRefusal, input_names}
+use Rattle.mr_judging.specs.Inputs.{IsAsked, IsInput, IsInputRefusal, input_names}
 use Rattle.mr_asked.specs.Statuses.{TellsFile}
-use Rattle.mr_commands.specs.Runs.{IsEnding, IsHistoryKept, IsResultKept, IsResultRefused, IsResultStopped, IsScript, IsScriptRefusal, IsStartRefusal, IsStoppedAt, IsUnkept, KeepsHistory, KeepsResult, Runs, history_name, history_of, named, names_left, script_name, written_by_run}
+use Rattle.mr_commands.specs.Runs.{IsEnding, IsHistoryKept, IsResultKept, IsResultRefused, IsResultStopped, IsScript, IsScriptRefusal, IsStartRefusal, IsStoppedAt, IsUnkept, KeepsHistory, KeepsResult, Runs, history_name, history_of, names_left, script_name, written_by_run}
+use Rattle.mr_judging.specs.Verdicts.{named}
 
 module _ (holds : List ℕ → List ℕ → Type 0) (unreadable : List ℕ → Type 0) (o : RunOptions) where
   pub script_stage : (e : Fault) → IsAsked o.options → IsScriptRefusal holds unreadable (script_name o) e → IsStartRefusal holds unreadable o e

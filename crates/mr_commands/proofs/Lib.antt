@@ -1,7 +1,2 @@
-pub mod Inputs
-pub mod Ends
 pub mod Refused
 pub mod Kept
-pub mod Noted
-pub mod Told
-pub mod Streamed

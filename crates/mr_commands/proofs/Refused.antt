@@ -6,19 +6,20 @@ use Rattle.std.specs.Global.{Global}
 use Rattle.mr_input.specs.Files.{contents}
 use Rattle.std.specs.Prelude.{IfOk}
 use Rattle.mr_sequential.specs.Emitted.{emitted}
-use Rattle.mr_files.specs.Refusals.{IsOneUnread, IsWriteRefusal}
+use Rattle.mr_files.specs.Refusals.{IsWriteRefusal}
 use Rattle.mr_files.specs.declared.store.FileFault.{FileFault}
 use Rattle.mr_files.specs.declared.store.FileFault.TheVariants as file
 use Rattle.mr_asked.specs.declared.fault.Fault.{Fault}
-use Rattle.mr_asked.specs.declared.fault.Fault.TheVariants.{OtherJobsOption, BadSkipList, BadThreads, OutOfMemory}
-use Rattle.mr_asked.specs.declared.asked.CheckOptions.{CheckOptions}
+use Rattle.mr_asked.specs.declared.fault.Fault.TheVariants.{BadSkipList, OutOfMemory}
 use Rattle.mr_asked.specs.declared.asked.Options.{Options}
 use Rattle.mr_jobs.specs.JobSpec.{RequestSpec}
 use Rattle.mr_files.specs.Holding.{ChangesAmong, Holding}
 use Rattle.mr_files.specs.Names.{name_of_certificate, part_names, result_names}
 use Rattle.mr_commands.specs.Outcomes.{IsSequentialResult, done_line}
-use Rattle.mr_asked.specs.Asked.{AsksForOtherJob, WithinLimits, request_asked}
-use Rattle.mr_commands.specs.Answers.{AnswersSeq, AreBadThreads, IsResultRefusal, IsAsked, IsInput, IsInputRefusal, IsNameRefusal, IsCheckRefusal, IsRunRefusal, IsWorkRefusal, IsSeqRefusal, IsStopped, WorksOut, input_names}
+use Rattle.mr_asked.specs.Asked.{request_asked}
+use Rattle.mr_commands.specs.Answers.{AnswersSeq, IsRunRefusal, IsWorkRefusal, IsSeqRefusal, WorksOut}
+use Rattle.mr_judging.proofs.Refused.{stopped_as}
+use Rattle.mr_judging.specs.Inputs.{IsAsked, IsInput, IsInputRefusal, input_names}
 use Rattle.mr_asked.specs.Statuses.{TellsFile}
 use Rattle.mr_bytes.specs.declared.RecordName.{RecordName}
 use Rattle.mr_sequential.specs.Skips.{skip_fault}
@@ -26,34 +27,6 @@ use Rattle.mr_sequential.specs.declared.fault.RunFault.{RunFault}
 use Rattle.mr_sequential.specs.declared.fault.RunFault.TheVariants as run
 use Rattle.mr_asked.specs.Statuses.{TellsRun}
 use Rattle.mr_asked.specs.SkipList.{SpellsNames}
-
-pub result_refused : (unreadable : List ℕ → Type 0) (names : List (List ℕ)) (e : FileFault) (f : Fault) → IsOneUnread unreadable names e → TellsFile e f → IsResultRefusal unreadable names f
-result_refused unreadable names (file.CannotRead name) f h t = rw t h
-result_refused unreadable names (file.CannotWrite name) f h t = absurd h
-result_refused unreadable names file.OutOfMemory f h t = rw t tt
-
-pub asked : {A : Type 0} (o : Options) (r : A) → ((◌≡◌ {A = Result A Fault} (Ok r) (Err OtherJobsOption)) ↔ AsksForOtherJob o) → WithinLimits (request_asked o) → IsAsked o
-asked o r other within = record { own = λ a. cc (other.1 a); within = within }
-
-pub threads_stage : (holds : List ℕ → List ℕ → Type 0) (unreadable : List ℕ → Type 0) (asked : CheckOptions) (e : Fault)
-    → IsAsked asked.options → (e ≡ BadThreads) × AreBadThreads asked.threads → IsCheckRefusal holds unreadable asked e
-threads_stage holds unreadable asked e a h = inr (inl (a, h.0, h.1))
-
-pub names_stage : (holds : List ℕ → List ℕ → Type 0) (unreadable : List ℕ → Type 0) (asked : CheckOptions) (e : Fault)
-    → IsAsked asked.options → IsNameRefusal asked e → IsCheckRefusal holds unreadable asked e
-names_stage holds unreadable asked e a h = inr (inr (inl (a, h)))
-
-pub input_stage : (holds : List ℕ → List ℕ → Type 0) (unreadable : List ℕ → Type 0) (asked : CheckOptions) (names : List (List ℕ)) (request : RequestSpec) (e : Fault)
-    → names ≡ input_names asked.options → request ≡ request_asked asked.options → IsAsked asked.options → IsInputRefusal holds unreadable names request.split e → IsCheckRefusal holds unreadable asked e
-input_stage holds unreadable asked names request e n r a h =
-    inr (inr (inr (inl (a, subst (λ (s : ℕ). IsInputRefusal holds unreadable (input_names asked.options) s e) (ap (λ (v : RequestSpec). v.split) r) (subst (λ (v : List (List ℕ)). IsInputRefusal holds unreadable v request.split e) n h)))))
-
-pub result_stage : (holds : List ℕ → List ℕ → Type 0) (unreadable : List ℕ → Type 0) (asked : CheckOptions) (names files : List (List ℕ)) (request : RequestSpec) (f : Fault)
-    → names ≡ input_names asked.options → request ≡ request_asked asked.options → IsAsked asked.options → IsInput holds names request.split files
-    → IsResultRefusal unreadable (result_names asked.options.out.now asked.options.parts) f → IsCheckRefusal holds unreadable asked f
-result_stage holds unreadable asked names files request f n r a i h =
-    let o = asked.options in
-    inr (inr (inr (inr (a, (files, subst (λ (s : ℕ). IsInput holds (input_names o) s files) (ap (λ (v : RequestSpec). v.split) r) (subst (λ (v : List (List ℕ)). IsInput holds v request.split files) n i)), h))))
 
 pub run_stage : (request : RequestSpec) (files : List (List ℕ)) (names : List RecordName) (e : RunFault) (f : Fault)
     → (e ≡ run.OutOfMemory) ⊎ (skip_fault request files names ≡ Some e) → TellsRun e f → IsRunRefusal request files names f
@@ -95,11 +68,6 @@ works_out holds o list skips names files outputs bytes line request n r s i h l 
 pub both_ok : {W E : Type 0} (r : Result W E) (P Q R : W → Type 0) → ((w : W) → P w → Q w → R w) → IfOk r P → IfOk r Q → IfOk r R
 both_ok (Ok w) P Q R f p q = f w p q
 both_ok (Err e) P Q R f p q = tt
-
-pub stopped_as : (old new : List ℕ → List ℕ → Type 0) (unwritable : List ℕ → Type 0) (names texts : List (List ℕ)) (e : FileFault) (f : Fault) → IsWriteRefusal old new unwritable names texts e → TellsFile e f → IsStopped old new unwritable names texts f
-stopped_as old new unwritable names texts (file.CannotRead name) f h t = absurd h
-stopped_as old new unwritable names texts (file.CannotWrite name) f h t = rw t h
-stopped_as old new unwritable names texts file.OutOfMemory f h t = rw t tt
 
 -- as many files are written as there are partitions
 pub all_parts : (old : List ℕ → List ℕ → Type 0) (o : Options) (list : List ℕ) (outputs given : List (Vec ℕ Global)) (bytes line : List ℕ)

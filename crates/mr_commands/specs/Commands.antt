@@ -9,7 +9,7 @@ use Rattle.mr_asked.specs.declared.asked.Subcommand.TheVariants.{Seq, Run, Check
 use Rattle.mr_commands.specs.Answers.{AnswersSeq, IsSeqRefusal}
 use Rattle.mr_commands.specs.Merges.{AnswersMerge, IsMergeUnanswered}
 use Rattle.mr_commands.specs.Runs.{AnswersRun, IsRunUnanswered, written_by_run}
-use Rattle.mr_commands.specs.Verdicts.{KeepsVerdict, IsCheckUnanswered, written_by_check}
+use Rattle.mr_judging.specs.Verdicts.{KeepsVerdict, IsCheckUnanswered, written_by_check}
 
 -- nothing changed but what the command writes: the result, with a run's history; for `check` the verdict; for `merge` a
 -- merged result, of so many parts as the verdicts tell

@@ -1,9 +1,6 @@
-pub mod NoLines
 pub mod Outcomes
 pub mod Answers
 pub mod HistoryLines
 pub mod Runs
-pub mod Verdicts
-pub mod Streamed
 pub mod Merges
 pub mod Commands

@@ -7,7 +7,7 @@ use Rattle.mr_script.specs.Scripts.{IsScriptFault, SpellsScript}
 use Rattle.mr_core.specs.declared.event.JobFault.{JobFault}
 use Rattle.mr_core.specs.declared.event.Shape.{Shape}
 use Rattle.mr_book.specs.declared.book.History.{History}
-use Rattle.mr_check.specs.declared.fault.No.{No}
+use Rattle.mr_answers.specs.declared.fault.No.{No}
 use Rattle.mr_pool.specs.Outcomes.{IsCertifiedRun, IsRunFault, run_shape}
 use Rattle.mr_pool.specs.declared.running.Certified.{Certified as Kept}
 use Rattle.mr_pool.specs.declared.running.RunFault.TheVariants as fault
@@ -21,10 +21,11 @@ use Rattle.mr_asked.specs.declared.asked.RunOptions.{RunOptions}
 use Rattle.mr_commands.specs.declared.running.Ran.{Ran}
 use Rattle.mr_commands.specs.declared.running.Ran.TheVariants.{Certified, Failed, Uncertified}
 use Rattle.mr_asked.specs.Asked.{IsRequestRefusal, request_asked}
-use Rattle.mr_commands.specs.Answers.{IsAsked, IsInput, IsInputRefusal, input_names}
+use Rattle.mr_judging.specs.Inputs.{IsAsked, IsInput, IsInputRefusal, input_names}
 use Rattle.mr_asked.specs.Statuses.{TellsFile}
 use Rattle.mr_commands.specs.HistoryLines.{fault_name, history_text}
-use Rattle.mr_commands.specs.NoLines.{fault_text}
+use Rattle.mr_judging.specs.NoLines.{fault_text}
+use Rattle.mr_judging.specs.Verdicts.{named}
 
 -- ---- what is said
 
@@ -77,11 +78,6 @@ abbrev pub history_of : Ran → History
 history_of (Certified c) = c.history
 history_of (Failed f h) = h
 history_of (Uncertified verdict h) = h
-
--- the names besides the result's: that of the history, where one is given
-abbrev pub named : Option (List ℕ) → List (List ℕ)
-named None = []
-named (Some name) = name ∷ []
 
 -- the result stands, where it is certified; else nothing but the history has changed
 abbrev pub KeepsResult : Stored → Stored → RunOptions → Ran → Type 0

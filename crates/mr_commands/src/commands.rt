@@ -10,8 +10,6 @@ ghost use Rattle.mr_files.specs.Holding.{ChangesAmong};
 ghost use Rattle.mr_files.specs.Names.{result_names};
 ghost use Rattle.mr_certform.specs.Pieces.{all_bytes};
 
-use crate::input::input_of;
-use crate::judging::check;
 use crate::merging::merge;
 use crate::running::run as run_by_workers;
 use crate::said::done_line;
@@ -21,18 +19,12 @@ use mr_certform::{Certificate, text_law};
 use mr_files::{Store, write_files};
 use mr_input::Input;
 use mr_jobs::Request;
+use mr_judging::{Said, check, input_of};
 use mr_sequential::run_watched;
 use mr_watch::Watch;
 use std::alloc::Global;
 use std::sync::Wait;
 use std::thread::Threads;
-
-/// What the program says on standard output, and its exit status.
-#[derive(Drop)]
-pub struct Said {
-    pub text: String,
-    pub status: u8,
-}
 
 /// What a sequential execution leaves to be written, and the line that is said of it. The certificate is spelled only
 /// while it is written: its bytes would take as much memory once more.

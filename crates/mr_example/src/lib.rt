@@ -7,7 +7,7 @@ ghost use Rattle.mr_input.specs.Files.{contents, nth_file, split_total};
 ghost use Rattle.mr_jobs.specs.JobSpec.{WordCount};
 ghost use Rattle.mr_sequential.specs.Good.{IsGoodResult};
 ghost use Rattle.mr_sequential.specs.Sequential.{sequential};
-ghost use Rattle.mr_check.specs.Headline.{IsCertified};
+ghost use Rattle.mr_answers.specs.Headline.{IsCertified};
 
 use mr_certform::write;
 use mr_check::{No, Yes, check};
@@ -16,9 +16,6 @@ use mr_jobs::{Job, Request, RequestFault};
 use mr_sequential::{RunFault, run};
 use std::alloc::{AllocError, Global};
 use thiserror::Error;
-
-#[cfg(test)]
-mod tests;
 
 /// Why there is no result, or none that may be used.
 #[derive(Debug, Drop, Error)]

@@ -1,3 +1,2 @@
-pub mod Accounts
 pub mod Endings
 pub mod Outcomes

@@ -13,11 +13,11 @@ use Rattle.mr_assembled.specs.Assembled.{assembled_certificate, assembled_output
 use Rattle.mr_book.specs.View.{StoresAccepted}
 use Rattle.mr_book.specs.Assembling.{reduced_under}
 use Rattle.mr_book.specs.declared.book.History.{History}
-use Rattle.mr_check.specs.declared.fault.No.{No}
-use Rattle.mr_check.specs.declared.fault.No.TheVariants.{OtherJob}
-use Rattle.mr_check.specs.Headline.{IsCertified}
-use Rattle.mr_check.specs.Verdict.{verdict_of}
-use Rattle.mr_pool.specs.Accounts.{accounts}
+use Rattle.mr_answers.specs.declared.fault.No.{No}
+use Rattle.mr_answers.specs.declared.fault.No.TheVariants.{OtherJob}
+use Rattle.mr_answers.specs.Headline.{IsCertified}
+use Rattle.mr_answers.specs.Verdict.{verdict_of}
+use Rattle.mr_workers.specs.Accounts.{accounts}
 use Rattle.mr_pool.specs.declared.running.Certified.{Certified}
 use Rattle.mr_pool.specs.declared.running.RunFault.{RunFault}
 use Rattle.mr_pool.specs.declared.running.RunFault.TheVariants.{Failed, Uncertified, OutOfMemory}

@@ -1,19 +1,16 @@
 //! A run, from its opening to its answer.
-ghost use Rattle.std.specs.Prelude.{◌≡◌, ◌↔◌, ◌⊎◌, ℕ, Err, ◌≤◌, ◌<◌, ◌^◌, Some, IfOk, IfErr, IsTrue, vec_len};
+ghost use Rattle.std.specs.Prelude.{◌≡◌, ◌↔◌, ◌⊎◌, Err, ◌≤◌, ◌<◌, ◌^◌, Some, IfOk, IfErr, IsTrue, vec_len};
 ghost use Rattle.mr_pool.specs.Endings.{ending_of};
 ghost use Rattle.mr_input.specs.Files.{contents, split_total};
 ghost use Rattle.mr_core.specs.declared.event.End.{End as Ended};
 ghost use Rattle.mr_assembled.specs.Faithful.{IsOpenedFor};
 ghost use Rattle.mr_core.specs.Core.{InLimits};
-ghost use Rattle.mr_check.specs.declared.fault.No.{No};
-ghost use Rattle.mr_check.specs.Headline.{IsCertified};
-ghost use Rattle.mr_check.specs.Verdict.{verdict_of};
+ghost use Rattle.mr_answers.specs.declared.fault.No.{No};
+ghost use Rattle.mr_answers.specs.Headline.{IsCertified};
+ghost use Rattle.mr_answers.specs.Verdict.{verdict_of};
 ghost use Rattle.mr_pool.specs.Outcomes.{IsCertifiedRun, IsRunFault, run_shape};
 
-use crate::orders::{Orders, accounts_for};
-use crate::progress::{JudgesProgress, Progress};
-use crate::shared::Shared;
-use crate::worker::{Left, Worker};
+use crate::progress::JudgesProgress;
 use mr_book::{Book, History, Seat};
 use mr_bytes::{Gate, OpenGate, RecordName};
 use mr_check::{No, Yes, check_gated_watched, is_same_fault};
@@ -23,12 +20,11 @@ use mr_jobs::Request;
 use mr_script::Script;
 use mr_splits::Plan;
 use mr_watch::{Phase, Unwatched, Watch};
+use mr_workers::{Terms, accounts_for, executed};
 use std::alloc::{AllocError, Global};
 use std::marker::Brand;
-use std::sync::atomic::AtomicBool;
+use std::sync::Wait;
 use std::sync::ledger::{Blank, Ledger};
-use std::sync::{Condvar, Mutex, Wait};
-use std::thread;
 use std::thread::Threads;
 
 /// A result that the judge said yes to, with the history of the run that made it.
@@ -65,84 +61,6 @@ impl From<AllocError> for RunFault {
     fn from(_: AllocError) -> RunFault {
         RunFault::OutOfMemory
     }
-}
-
-/// What a run is of, and how many workers and attempts it may have.
-#[derive(Clone, Copy)]
-struct Terms<'a> {
-    request: &'a Request,
-    input: &'a Input,
-    script: &'a Script,
-    shape: Shape,
-}
-
-/// The workers, each with its seat; the last has the number 0.
-fn workers_of<L: Ledger>(
-    alloc: Global,
-    mut seats: Vec<Seat<L>>,
-) -> Result<Vec<Worker<L>>, AllocError>
-    requires { vec_len seats < 2 ^ 32 }
-    ensures { IfOk result (λ v. vec_len v ≡ vec_len seats) }
-{
-    let mut workers = Vec::with_capacity(alloc, seats.len())?;
-    while let Some(seat) = seats.pop() {
-        let number = seats.len() as u32;
-        workers.push(Worker {
-            number,
-            seat,
-            reports: 0,
-        })?;
-    }
-    Ok(workers)
-}
-
-/// The seats that came back; refused where a worker was refused memory.
-fn seats_of<L: Ledger>(alloc: Global, mut left: Vec<Left<L>>) -> Result<Vec<Seat<L>>, AllocError>
-    ensures { IfOk result (λ v. vec_len v ≡ vec_len left) }
-{
-    let mut seats = Vec::with_capacity(alloc, left.len())?;
-    while let Some(one) = left.pop() {
-        let Left { seat, refused } = one;
-        if refused {
-            return Err(AllocError);
-        }
-        seats.push(seat)?;
-    }
-    Ok(seats)
-}
-
-/// All workers' turns, each in a thread of its own where one can be made. The book, and the seats.
-fn executed<L: Ledger + Send + Sync, G: Gate, W: Watch, R: Threads + Wait + Sync>(
-    rt: &R,
-    alloc: Global,
-    plan: &Plan<'_>,
-    terms: Terms<'_>,
-    book: Book<L>,
-    seats: Vec<Seat<L>>,
-    gate: &G,
-    watch: &W,
-) -> Result<(Book<L>, Vec<Seat<L>>), AllocError>
-    requires { vec_len seats < 2 ^ 32 }
-    ensures { IfOk result (λ r. vec_len r.1 ≡ vec_len seats) }
-{
-    let workers = workers_of(alloc, seats)?;
-    let shared = Shared {
-        alloc,
-        book: Mutex::new(book),
-        news: Condvar::new(),
-        stopped: AtomicBool::new(false),
-        plan,
-        job: terms.request.job(),
-        parts: terms.request.parts(),
-        orders: Orders::of(alloc, terms.script)?,
-        gate,
-        progress: Progress::new(watch, terms.shape.maps, terms.shape.parts),
-    };
-    let every = &shared;
-    let left = thread::map_vec(rt, workers, &|worker| worker.work(rt, every))?;
-    let seats = seats_of(alloc, left)?;
-    let Shared { book, .. } = shared;
-    Ok((book.into_inner(), seats))
 }
 
 /// The verdict on a result, by as many threads as there are workers.

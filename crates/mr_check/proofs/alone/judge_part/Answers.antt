@@ -3,12 +3,12 @@ use Rattle.std.specs.List.{AllByRecursion}
 use Rattle.mr_bytes.specs.Pairs.{Triple}
 use Rattle.mr_certform.specs.declared.item.Item.{Item}
 use Rattle.mr_certform.specs.Walking.{items_left}
-use Rattle.mr_check.specs.Verdict.{Reached, start, first, entries_in}
-use Rattle.mr_check.specs.VerdictLaws.{told, piece}
-use Rattle.mr_check.specs.Steps.{Ground, subject, Room}
-use Rattle.mr_check.specs.Blocks.{items_in, items_sought, IsPlaced, IsFound}
+use Rattle.mr_answers.specs.Verdict.{Reached, start, first, entries_in}
+use Rattle.mr_answers.specs.VerdictLaws.{told, piece}
+use Rattle.mr_judge.specs.Steps.{Ground, subject, Room}
+use Rattle.mr_judge.specs.Blocks.{items_in, items_sought, IsPlaced, IsFound}
 use Rattle.mr_check.specs.Fronts.{part_here, OwnGoesOn, OwnJudged}
-use Rattle.mr_check.proofs.BlockLemmas.{entries_few}
+use Rattle.mr_judge.proofs.BlockLemmas.{entries_few}
 use Rattle.mr_check.proofs.OwnLemmas.{opened_as, room_before, own_as}
 use Rattle.mr_check.proofs.alone.judge_part.Goals as goal
 

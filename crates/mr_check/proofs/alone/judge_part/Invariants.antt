@@ -1,10 +1,10 @@
 use Rattle.std.proofs.Common.{◌≡◌, ◌+◌, length}
 use Rattle.mr_input.specs.Files.{contents}
-use Rattle.mr_check.specs.Outputs.{Leaves}
+use Rattle.mr_judge.specs.Outputs.{Leaves}
 use Rattle.mr_certform.specs.Walking.{items_left}
-use Rattle.mr_check.specs.Verdict.{first}
-use Rattle.mr_check.specs.VerdictLaws.{told, piece, part_fault}
-use Rattle.mr_check.specs.Steps.{subject, Room}
+use Rattle.mr_answers.specs.Verdict.{first}
+use Rattle.mr_answers.specs.VerdictLaws.{told, piece, part_fault}
+use Rattle.mr_judge.specs.Steps.{subject, Room}
 use Rattle.mr_check.specs.Fronts.{part_here}
 use Rattle.mr_check.proofs.alone.judge_part.Given as goal
 

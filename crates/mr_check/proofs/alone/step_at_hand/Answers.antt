@@ -1,8 +1,8 @@
 use Rattle.std.proofs.Common.{◌≡◌, ℕ, List, [], refl, sym, subst}
 use Rattle.mr_input.specs.Files.{contents}
-use Rattle.mr_check.specs.Verdict.{tests, after}
-use Rattle.mr_check.specs.Steps.{Ground, subject_with}
-use Rattle.mr_check.specs.Outputs.{Leaves}
+use Rattle.mr_answers.specs.Verdict.{tests, after}
+use Rattle.mr_judge.specs.Steps.{Ground, subject_with}
+use Rattle.mr_judge.specs.Outputs.{Leaves}
 use Rattle.mr_check.proofs.alone.step_at_hand.Goals as goal
 
 pub returns-in-Ok-clause-tested : goal.returns-in-Ok-clause-tested

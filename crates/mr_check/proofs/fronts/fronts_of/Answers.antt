@@ -3,10 +3,10 @@ use Rattle.mr_certform.specs.declared.item.Item.{Item}
 use Rattle.mr_certform.specs.Spelling.{is_ended}
 use Rattle.mr_certform.specs.Walking.{items_left}
 use Rattle.mr_certform.specs.Rows.{behind_entries}
-use Rattle.mr_check.specs.Verdict.{entries_in}
-use Rattle.mr_check.specs.VerdictLaws.{parts_in}
+use Rattle.mr_answers.specs.Verdict.{entries_in}
+use Rattle.mr_answers.specs.VerdictLaws.{parts_in}
 use Rattle.mr_check.specs.Fronts.{closes, parts_at}
-use Rattle.mr_check.proofs.BlockLemmas.{entries_few}
+use Rattle.mr_judge.proofs.BlockLemmas.{entries_few}
 use Rattle.mr_check.proofs.FrontLemmas.{goes_on, ended_on, end_is, parts_behind, entries_behind, ended_behind, fewer_behind, other_behind, last_parts}
 use Rattle.mr_check.proofs.fronts.fronts_of.Goals as goal
 

@@ -1,8 +1,8 @@
 use Rattle.std.proofs.Common.{◌≡◌, ◌+◌, ◌++◌, ◌≤◌, length}
 use Rattle.mr_certform.specs.Spelling.{is_ended}
 use Rattle.mr_certform.specs.Walking.{items_left, halt}
-use Rattle.mr_check.specs.Verdict.{entries_in}
-use Rattle.mr_check.specs.VerdictLaws.{parts_in}
+use Rattle.mr_answers.specs.Verdict.{entries_in}
+use Rattle.mr_answers.specs.VerdictLaws.{parts_in}
 use Rattle.mr_check.specs.Fronts.{parts_at}
 use Rattle.mr_check.proofs.fronts.fronts_of.Given as goal
 

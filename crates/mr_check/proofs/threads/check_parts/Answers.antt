@@ -2,12 +2,12 @@ use Rattle.std.proofs.Common.{◌≡◌, None, Some, List, length, ap, sym, ◌�
 use Rattle.mr_certform.specs.declared.item.Item.{Item}
 use Rattle.mr_certform.specs.Spelling.{is_ended}
 use Rattle.mr_certform.specs.Walking.{items_left, halt}
-use Rattle.mr_check.specs.Verdict.{start, part_faults, entries_in}
-use Rattle.mr_check.specs.VerdictLaws.{least_fault, back_fault, or_else, parts_in}
-use Rattle.mr_check.specs.Steps.{subject}
+use Rattle.mr_answers.specs.Verdict.{start, part_faults, entries_in}
+use Rattle.mr_answers.specs.VerdictLaws.{least_fault, back_fault, or_else, parts_in}
+use Rattle.mr_judge.specs.Steps.{subject}
 use Rattle.mr_check.specs.Fronts.{parts_at}
 use Rattle.mr_check.proofs.FrontLemmas.{parts_few, parts_long, by_partitions}
-use Rattle.mr_check.proofs.JudgeLemmas.{settled}
+use Rattle.mr_judge.proofs.JudgeLemmas.{settled}
 use Rattle.mr_check.proofs.threads.check_parts.Goals as goal
 
 pub least_of-requires-clause-few : goal.least_of-requires-clause-few

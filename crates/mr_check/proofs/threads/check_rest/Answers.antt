@@ -4,15 +4,15 @@ use Rattle.mr_bytes.specs.declared.RecordName.{RecordName}
 use Rattle.mr_input.specs.Files.{contents}
 use Rattle.mr_splits.specs.Cut.{Cut, records_of}
 use Rattle.mr_certform.specs.Walking.{items_left, halt}
-use Rattle.mr_check.specs.declared.fault.No.{No}
-use Rattle.mr_check.specs.Verdict.{Case, start, subject_of, part_faults, count_faults, first}
-use Rattle.mr_check.specs.Steps.{Listed, case_at}
-use Rattle.mr_check.proofs.Faults.{told_is}
+use Rattle.mr_answers.specs.declared.fault.No.{No}
+use Rattle.mr_answers.specs.Verdict.{Case, start, subject_of, part_faults, count_faults, first}
+use Rattle.mr_judge.specs.Steps.{Listed, case_at}
+use Rattle.mr_judge.proofs.Faults.{told_is}
 use Rattle.mr_certform.specs.Grammar.{InOrder}
-use Rattle.mr_check.proofs.GrammarLemmas.{awaits, partitions_place}
-use Rattle.mr_check.proofs.KindLemmas.{in_order}
-use Rattle.mr_check.proofs.JudgeLemmas.{told_fault}
-use Rattle.mr_check.proofs.VerdictLemmas.{front_listed, rest_faults, rest_fault, rest_few, rest_accepted, case_same, accepted}
+use Rattle.mr_judge.proofs.GrammarLemmas.{awaits, partitions_place}
+use Rattle.mr_judge.proofs.KindLemmas.{in_order}
+use Rattle.mr_judge.proofs.JudgeLemmas.{told_fault}
+use Rattle.mr_judge.proofs.VerdictLemmas.{front_listed, rest_faults, rest_fault, rest_few, rest_accepted, case_same, accepted}
 use Rattle.mr_check.proofs.threads.check_rest.Goals as goal
 
 pub expect_count_of-requires : goal.expect_count_of-requires

@@ -3,9 +3,9 @@ use Rattle.std.specs.Prelude.{Option, IfOk}
 use Rattle.mr_certform.specs.declared.item.Item.{Item}
 use Rattle.mr_certform.specs.Walking.{items_left}
 use Rattle.mr_check.specs.declared.front.Front.{Front}
-use Rattle.mr_check.specs.declared.fault.No.{No}
-use Rattle.mr_check.specs.VerdictLaws.{part_fault}
-use Rattle.mr_check.specs.Steps.{subject}
+use Rattle.mr_answers.specs.declared.fault.No.{No}
+use Rattle.mr_answers.specs.VerdictLaws.{part_fault}
+use Rattle.mr_judge.specs.Steps.{subject}
 use Rattle.mr_check.specs.Fronts.{part_here}
 use Rattle.mr_check.proofs.FrontLemmas.{part_is}
 use Rattle.mr_check.proofs.threads.fault_at.Goals as goal

@@ -10,12 +10,12 @@ use Rattle.mr_certform.specs.Grammar.{InOrder}
 use Rattle.mr_certform.specs.Spelling.{items_of, stop}
 use Rattle.mr_certform.specs.Walking.{items_left, halt}
 use Rattle.mr_certform.proofs.Walks.{read_front}
-use Rattle.mr_check.specs.declared.fault.No.{No}
-use Rattle.mr_check.specs.declared.fault.No.TheVariants.{OtherJob, OtherInput}
-use Rattle.mr_check.proofs.GrammarLemmas.{skips_place}
-use Rattle.mr_check.proofs.KindLemmas.{in_order}
-use Rattle.mr_check.proofs.JudgeLemmas.{as_many, header_is, rest_verdict}
-use Rattle.mr_check.proofs.VerdictLemmas.{header_ok, header_few, verdict_count, verdict_header}
+use Rattle.mr_answers.specs.declared.fault.No.{No}
+use Rattle.mr_answers.specs.declared.fault.No.TheVariants.{OtherJob, OtherInput}
+use Rattle.mr_judge.proofs.GrammarLemmas.{skips_place}
+use Rattle.mr_judge.proofs.KindLemmas.{in_order}
+use Rattle.mr_judge.proofs.JudgeLemmas.{as_many, header_is, rest_verdict}
+use Rattle.mr_judge.proofs.VerdictLemmas.{header_ok, header_few, verdict_count, verdict_header}
 use Rattle.mr_check.proofs.threads.judge_all.Goals as goal
 
 pub returns-then-outputs-parts : goal.returns-then-outputs-parts

@@ -1,6 +1,6 @@
 use Rattle.std.proofs.Common.{◌≡◌, ◌+◌, ap, ◌∙◌, None, arith}
-use Rattle.mr_check.specs.VerdictLaws.{part_fault}
-use Rattle.mr_check.specs.Steps.{subject}
+use Rattle.mr_answers.specs.VerdictLaws.{part_fault}
+use Rattle.mr_judge.specs.Steps.{subject}
 use Rattle.mr_check.specs.Fronts.{part_at, first_some}
 use Rattle.mr_check.proofs.FrontLemmas.{least_found}
 use Rattle.mr_check.proofs.threads.least_of.Goals as goal

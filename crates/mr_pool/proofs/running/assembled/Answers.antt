@@ -1,10 +1,10 @@
-use Rattle.std.proofs.Common.{◌≡◌, List, ap, sym, ◌∙◌, subst, inl, inr}
+use Rattle.std.proofs.Common.{◌≡◌, ap, sym, ◌∙◌, subst, inl, inr}
 use Rattle.std.proofs.lemmas.Bool.{false≢true}
 use Rattle.mr_input.specs.Files.{contents}
 use Rattle.mr_certform.specs.Value.{Spells}
 use Rattle.mr_assembled.specs.Assembled.{assembled_certificate, assembled_outputs}
 use Rattle.mr_book.specs.Assembling.{reduced_under}
-use Rattle.mr_check.specs.Verdict.{verdict_of}
+use Rattle.mr_answers.specs.Verdict.{verdict_of}
 use Rattle.mr_pool.specs.Outcomes.{IsDoneRun}
 use Rattle.mr_pool.proofs.Closed.{is_history}
 use Rattle.mr_pool.proofs.running.assembled.Goals as goal

@@ -1,7 +1,5 @@
-use Rattle.std.proofs.Common.{◌≡◌, Some, ap, sym, ◌∙◌, subst}
+use Rattle.std.proofs.Common.{◌≡◌, sym, ◌∙◌, subst}
 use Rattle.mr_core.specs.declared.event.Shape.{Shape}
-use Rattle.mr_pool.specs.Accounts.{accounts}
-use Rattle.mr_pool.specs.Endings.{ending_of}
 use Rattle.mr_pool.specs.Outcomes.{IsHistory}
 use Rattle.mr_pool.proofs.Closed.{is_history}
 use Rattle.mr_pool.proofs.Endings.{failed_is}

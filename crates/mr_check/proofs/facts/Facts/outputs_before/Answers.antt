@@ -1,7 +1,7 @@
 use Rattle.std.proofs.Common.{drop, ap, ◌∙◌}
 use Rattle.mr_input.specs.Files.{contents}
-use Rattle.mr_check.specs.Steps.{Known}
-use Rattle.mr_check.proofs.OutputLemmas.{contents_drop}
+use Rattle.mr_judge.specs.Steps.{Known}
+use Rattle.mr_judge.proofs.OutputLemmas.{contents_drop}
 use Rattle.mr_check.proofs.facts.Facts.outputs_before.Goals as goal
 
 pub returns-clause-later : goal.returns-clause-later

@@ -1,0 +1,15 @@
+pub mod FaultPart
+pub mod FaultRead
+pub mod FaultTruth
+pub mod HeadlineLemmas
+pub mod VerdictCompared
+pub mod VerdictGroups
+pub mod VerdictHeader
+pub mod VerdictLater
+pub mod VerdictLocal
+pub mod VerdictOutputs
+pub mod VerdictParts
+pub mod VerdictPlace
+pub mod VerdictRowLemmas
+pub mod VerdictTests
+pub mod VerdictYes

@@ -1,0 +1,27 @@
+use Rattle.mr_answers.proofs.VerdictRowLemmas.{row_spelled, row_yes, row_entry_order, row_unnamed, row_cut, row_longer, row_output_longer, row_output_cut, row_too_many, row_left_out, row_skip_twice, row_no_record, row_wrong_partition, row_right_partition, row_no_pair, row_key_differs, row_key_order, row_swapped, row_other_input, row_other_job, row_two_outputs}
+use Rattle.mr_answers.proofs.laws.worked_rows.Goals as goal
+
+pub returns : goal.returns
+returns c = record {
+  spelled = row_spelled;
+  yes = row_yes;
+  entry_order = row_entry_order;
+  unnamed = row_unnamed;
+  cut = row_cut;
+  longer = row_longer;
+  output_longer = row_output_longer;
+  output_cut = row_output_cut;
+  too_many = row_too_many;
+  left_out = row_left_out;
+  skip_twice = row_skip_twice;
+  no_record = row_no_record;
+  wrong_partition = row_wrong_partition;
+  right_partition = row_right_partition;
+  no_pair = row_no_pair;
+  key_differs = row_key_differs;
+  key_order = row_key_order;
+  swapped = row_swapped;
+  other_input = row_other_input;
+  other_job = row_other_job;
+  two_outputs = row_two_outputs;
+}

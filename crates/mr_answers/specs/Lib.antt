@@ -1,0 +1,5 @@
+pub mod Verdict
+pub mod VerdictLaws
+pub mod VerdictRows
+pub mod FaultLaws
+pub mod Headline

@@ -1,0 +1,90 @@
+-- Lists of faults, and their first.
+use Rattle.std.proofs.Common.{◌≡◌, ℕ, zero, suc, ◌+◌, ◌-◌, ◌≤◌, Some, List, [], ◌∷◌, ◌++◌, length, take, refl, ap, sym, ◌∙◌, inl, inr, arith, Bool, true, false, cond, ◌&&◌}
+use Rattle.std.specs.Prelude.{nat_eq}
+use Rattle.std.specs.List.{common_prefix_len}
+use Rattle.std.specs.Cmp.Lexicographic.{pointwise}
+use Rattle.std.proofs.lemmas.Bool.{false≢true}
+use Rattle.mr_answers.specs.declared.fault.No.{No}
+use Rattle.mr_bytes.specs.declared.Name.{Name}
+use Rattle.mr_bytes.specs.Pairs.{Triple}
+use Rattle.mr_answers.specs.Verdict.{Reached, Subject, passes, first_tests, later_tests, order_tests, with_entry, group_tests, behind_group, first}
+use Rattle.mr_judge.specs.Steps.{Answers}
+
+pub prefix_nil : (xs : List ℕ) → common_prefix_len nat_eq xs [] ≡ 0
+prefix_nil [] = refl
+prefix_nil (x ∷ xs) = refl
+
+pub prefix_end : (n : ℕ) (xs ys : List ℕ) (whole : ℕ) → length ys ≡ 0 → n + common_prefix_len nat_eq xs ys ≡ whole → n ≡ whole
+prefix_end n xs [] whole e h = omega (arith, h, prefix_nil xs)
+prefix_end n xs (y ∷ ys) whole e h = absurd (omega arith)
+
+-- where a list begins with another, this is the whole of what both begin with
+pub starts_whole : (xs ys : List ℕ) → pointwise nat_eq xs (take (length xs) ys) ≡ true → common_prefix_len nat_eq xs ys ≡ length xs
+starts_whole [] ys h = refl
+starts_whole (x ∷ xs) [] h = absurd (false≢true h)
+starts_whole (x ∷ xs) (y ∷ ys) h = by (nat_eq x y) h (starts_whole xs ys)
+  where
+    by : (b : Bool) → (b && pointwise nat_eq xs (take (length xs) ys)) ≡ true → (pointwise nat_eq xs (take (length xs) ys) ≡ true → common_prefix_len nat_eq xs ys ≡ length xs) → cond b (1 + common_prefix_len nat_eq xs ys) 0 ≡ length (x ∷ xs)
+    by true h more = omega (arith, more h)
+    by false h more = absurd (false≢true h)
+
+pub starts_not : (xs ys : List ℕ) → pointwise nat_eq xs (take (length xs) ys) ≡ false → common_prefix_len nat_eq xs ys ≡ length xs → ⊥
+starts_not [] ys h e = false≢true (sym h)
+starts_not (x ∷ xs) [] h e = absurd (omega (arith, e))
+starts_not (x ∷ xs) (y ∷ ys) h e = by (nat_eq x y) h e (starts_not xs ys)
+  where
+    by : (b : Bool) → (b && pointwise nat_eq xs (take (length xs) ys)) ≡ false → cond b (1 + common_prefix_len nat_eq xs ys) 0 ≡ length (x ∷ xs) → (pointwise nat_eq xs (take (length xs) ys) ≡ false → common_prefix_len nat_eq xs ys ≡ length xs → ⊥) → ⊥
+    by true h e more = more h (omega (arith, e))
+    by false h e more = absurd (omega (arith, e))
+
+pub first_more : (fs gs : List No) → fs ≡ [] → first (fs ++ gs) ≡ first gs
+first_more fs gs e = ap (λ w. first (w ++ gs)) e
+
+pub first_found : (fs gs : List No) (f : No) → first fs ≡ Some f → first (fs ++ gs) ≡ Some f
+first_found [] gs f e = absurd (cc e)
+first_found (g ∷ fs) gs f e = e
+
+pub told_left : (fs gs : List No) (f : No) → Answers fs f → Answers (fs ++ gs) f
+told_left fs gs f (inl e) = inl e
+told_left fs gs f (inr e) = inr (first_found fs gs f e)
+
+pub told_right : (fs gs : List No) (f : No) → fs ≡ [] → Answers gs f → Answers (fs ++ gs) f
+told_right fs gs f none (inl e) = inl e
+told_right fs gs f none (inr e) = inr (first_more fs gs none ∙ e)
+
+pub told_is : (fs gs : List No) (f : No) → first gs ≡ first fs → Answers fs f → Answers gs f
+told_is fs gs f same (inl e) = inl e
+told_is fs gs f same (inr e) = inr (same ∙ e)
+
+pub failed : (b : Bool) (f : No) → b ≡ false → Answers (passes b f) f
+failed b f e = inr (ap (λ t. first (passes t f)) e)
+
+pub fine : (b : Bool) (f : No) → b ≡ true → passes b f ≡ []
+fine b f e = ap (λ t. passes t f) e
+
+pub both_fine : (fs gs : List No) → fs ≡ [] → gs ≡ [] → fs ++ gs ≡ []
+both_fine fs gs e d = ap (λ w. w ++ gs) e ∙ d
+
+-- ---- the cases of an entry
+
+pub order_zero : (part : List ℕ → ℕ) (p : ℕ) (st : Reached) (n : Name) (key : List ℕ) (e : ℕ) → e ≡ 0 → order_tests part p st n key e ≡ first_tests part p st.group st.key_before key
+order_zero part p st n key e h = ap (order_tests part p st n key) h
+
+pub with_zero : (st : Reached) (t : Triple) (e : ℕ) → e ≡ 0 → with_entry st t e ≡ with_entry st t 0
+with_zero st t e h = ap (with_entry st t) h
+
+pub order_suc : (part : List ℕ → ℕ) (p : ℕ) (st : Reached) (n : Name) (key : List ℕ) (e : ℕ) → 1 ≤ e → order_tests part p st n key e ≡ later_tests p st.group e st.before n st.key key
+order_suc part p st n key zero h = absurd (omega arith)
+order_suc part p st n key (suc e) h = refl
+
+pub with_suc : (st : Reached) (t : Triple) (e : ℕ) → 1 ≤ e → with_entry st t e ≡ record st { entry = e + 1; entries = st.entries - 1; before = t.name; values = st.values ++ t.value ∷ []; named = st.named + 1 }
+with_suc st t zero h = absurd (omega arith)
+with_suc st t (suc e) h = refl
+
+pub group_goes_on : (s : Subject) (p : ℕ) (st : Reached) (k : ℕ) → 1 ≤ k → group_tests s p st k ≡ []
+group_goes_on s p st zero h = absurd (omega arith)
+group_goes_on s p st (suc k) h = refl
+
+pub behind_goes_on : (s : Subject) (st : Reached) (k : ℕ) → 1 ≤ k → behind_group s st k ≡ st
+behind_goes_on s st zero h = absurd (omega arith)
+behind_goes_on s st (suc k) h = refl

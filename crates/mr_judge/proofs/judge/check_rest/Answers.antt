@@ -1,0 +1,98 @@
+use Rattle.std.proofs.Common.{ℕ, List, ap, subst}
+use Rattle.std.specs.Prelude.{Ok, Err}
+use Rattle.std.proofs.lemmas.Result.{err_from_is_err_and}
+use Rattle.mr_splits.specs.Cut.{Cut}
+use Rattle.mr_bytes.specs.declared.RecordName.{RecordName}
+use Rattle.mr_answers.specs.declared.fault.No.TheVariants.{OutOfMemory}
+use Rattle.mr_judge.specs.declared.items.Stop.TheVariants.{Fault}
+use Rattle.mr_answers.specs.Verdict.{start, subject_of}
+use Rattle.mr_judge.specs.Steps.{case_at}
+use Rattle.mr_judge.specs.Blocks.{Judges}
+use Rattle.mr_judge.specs.Outputs.{RestJudged}
+use Rattle.mr_judge.proofs.GrammarLemmas.{awaits}
+use Rattle.mr_judge.proofs.KindLemmas.{in_kind}
+use Rattle.mr_judge.specs.Kinds.{InKind}
+use Rattle.mr_judge.proofs.VerdictLemmas.{front_listed}
+use Rattle.mr_judge.proofs.OutputLemmas.{through_as, through_all}
+use Rattle.mr_judge.proofs.RestLemmas.{no_room, count_judged, listing, skips_judged, parts_begin, pairs_fault, pairs_fine}
+use Rattle.mr_judge.proofs.judge.check_rest.Goals as goal
+
+pub expect_count-requires-clause-awaits : goal.expect_count-requires-clause-awaits
+expect_count-requires-clause-awaits g c is at there = awaits InKind in_kind c.args.request.now.parts is (c.requires.order is at there)
+
+pub take_skips-requires-clause-front : goal.take_skips-requires-clause-front
+take_skips-requires-clause-front g c is at there =
+    let t = c.in_ok-listed.ensures.counted is at there in
+    front_listed at c.max_skips.result t.0 (record { many = c.in_ok-listed.listed; behind = is }) (awaits InKind in_kind c.args.request.now.parts t.0 (c.requires.order t.0 at t.1.0)) t.1.1
+
+pub check_with-requires-clause-begins : goal.check_with-requires-clause-begins
+check_with-requires-clause-begins g c =
+    let gives = g.I.Items.gives in
+    let skips : List RecordName = c.in_ok-skips.skips.items in
+    parts_begin (gives c.args.walker.now) (gives c.take_skips.new.items) c.args.request.now c.in_ok-plan.plan c.max_skips.result c.in_ok-listed.listed skips c.requires.order
+    (listing (gives c.args.walker.now) (gives c.expect_count.new.items) (gives c.take_skips.new.items) c.in_ok-plan.plan c.max_skips.result c.in_ok-listed.listed skips c.in_ok-listed.ensures.counted c.in_ok-skips.ensures.listed)
+
+pub returns-in_err-listed-clause-judged : goal.returns-in_err-listed-clause-judged
+returns-in_err-listed-clause-judged g c =
+    let gives = g.I.Items.gives in
+    let ahead = g.O.Outputs.gives c.args.outputs.now in
+    let n = c.args.meter.now.lookups in
+    let e = c.in_err-listed.field-0.0 in
+    let p = err_from_is_err_and c.from_residual.result c.from_residual.ensures.1 in
+    rw (p.1, p.2) (through_all ahead start (RestJudged (gives c.args.walker.now) c.args.request.now c.args.input.now n n (Err e)) c.requires.outputs
+    (λ outs. count_judged (gives c.args.walker.now) (gives c.expect_count.new.items) c.args.request.now c.args.input.now outs c.max_skips.result n e c.max_skips.ensures.same c.requires.given c.in_err-listed.ensures.counted))
+
+pub returns-in_err-plan-clause-judged : goal.returns-in_err-plan-clause-judged
+returns-in_err-plan-clause-judged g c =
+    let gives = g.I.Items.gives in
+    let ahead = g.O.Outputs.gives c.args.outputs.now in
+    let n = c.args.meter.now.lookups in
+    let p = err_from_is_err_and c.from_residual-in_err-plan.result c.from_residual-in_err-plan.ensures.1 in
+    rw (p.1, p.2) (through_all ahead start (RestJudged (gives c.args.walker.now) c.args.request.now c.args.input.now n n (Err (Fault OutOfMemory))) c.requires.outputs
+    (λ outs. no_room (gives c.args.walker.now) c.args.request.now c.args.input.now outs n c.requires.given))
+
+pub returns-in_err-skips-clause-judged : goal.returns-in_err-skips-clause-judged
+returns-in_err-skips-clause-judged g c =
+    let gives = g.I.Items.gives in
+    let ahead = g.O.Outputs.gives c.args.outputs.now in
+    let n = c.args.meter.now.lookups in
+    let e = c.in_err-skips.field-0.0 in
+    let p = err_from_is_err_and c.from_residual-in_err-skips.result c.from_residual-in_err-skips.ensures.1 in
+    rw (p.1, p.2) (through_all ahead start (RestJudged (gives c.args.walker.now) c.args.request.now c.args.input.now n n (Err e)) c.requires.outputs
+    (λ outs. skips_judged (gives c.args.walker.now) (gives c.expect_count.new.items) (gives c.take_skips.new.items) c.args.request.now c.args.input.now outs c.max_skips.result c.in_ok-listed.listed n c.in_ok-plan.plan e c.max_skips.ensures.same c.in_ok-plan.ensures.plan c.in_ok-listed.ensures.given c.in_ok-listed.ensures.counted c.in_err-skips.ensures.listed))
+
+pub returns-in_err-pairs-clause-judged : goal.returns-in_err-pairs-clause-judged
+returns-in_err-pairs-clause-judged g c =
+    let gives = g.I.Items.gives in
+    let old = gives c.args.walker.now in
+    let next = gives c.take_skips.new.items in
+    let ahead = g.O.Outputs.gives c.args.outputs.now in
+    let n = c.args.meter.now.lookups in
+    let m = c.check_with.new.meter.lookups in
+    let o = c.args.request.now in
+    let files = c.args.input.now in
+    let others : List (List ℕ) = c.in_ok-plan.plan.files in
+    let skips : List RecordName = c.in_ok-skips.skips.items in
+    let e = c.in_err-pairs.field-0.0 in
+    let p = err_from_is_err_and c.from_residual-in_err-pairs.result c.from_residual-in_err-pairs.ensures.1 in
+    let back = listing old (gives c.expect_count.new.items) next c.in_ok-plan.plan c.max_skips.result c.in_ok-listed.listed skips c.in_ok-listed.ensures.counted c.in_ok-skips.ensures.listed in
+    rw (p.1, p.2) (through_as ahead start (λ outs. Judges next (subject_of (case_at o others outs 0) c.deref.result.now) n m (Err e)) (RestJudged old o files n m (Err e)) c.in_err-pairs.ensures.judged
+    (λ outs j. pairs_fault old next o files others outs c.max_skips.result c.in_ok-listed.listed n m c.in_ok-plan.plan skips e c.max_skips.ensures.same c.in_ok-plan.ensures.plan (ap (λ (k : Cut). k.files) c.in_ok-plan.ensures.plan) c.requires.order back
+    (subst (λ (ss : List RecordName). Judges next (subject_of (case_at o others outs 0) ss) n m (Err e)) c.deref.ensures.value j)))
+
+pub returns-clause-judged : goal.returns-clause-judged
+returns-clause-judged g c =
+    let gives = g.I.Items.gives in
+    let old = gives c.args.walker.now in
+    let next = gives c.take_skips.new.items in
+    let ahead = g.O.Outputs.gives c.args.outputs.now in
+    let n = c.args.meter.now.lookups in
+    let m = c.check_with.new.meter.lookups in
+    let o = c.args.request.now in
+    let files = c.args.input.now in
+    let others : List (List ℕ) = c.in_ok-plan.plan.files in
+    let skips : List RecordName = c.in_ok-skips.skips.items in
+    let back = listing old (gives c.expect_count.new.items) next c.in_ok-plan.plan c.max_skips.result c.in_ok-listed.listed skips c.in_ok-listed.ensures.counted c.in_ok-skips.ensures.listed in
+    through_as ahead start (λ outs. Judges next (subject_of (case_at o others outs 0) c.deref.result.now) n m (Ok c.in_ok-pairs.pairs)) (RestJudged old o files n m (Ok (record { skips = c.in_ok-skips.skips; pairs = c.in_ok-pairs.pairs }))) c.in_ok-pairs.ensures.judged
+    (λ outs j. pairs_fine old next o files others outs c.max_skips.result c.in_ok-listed.listed n m c.in_ok-plan.plan (record { skips = c.in_ok-skips.skips; pairs = c.in_ok-pairs.pairs }) c.max_skips.ensures.same c.in_ok-plan.ensures.plan (ap (λ (k : Cut). k.files) c.in_ok-plan.ensures.plan) c.requires.order back
+    (subst (λ (ss : List RecordName). Judges next (subject_of (case_at o others outs 0) ss) n m (Ok c.in_ok-pairs.pairs)) c.deref.ensures.value j))

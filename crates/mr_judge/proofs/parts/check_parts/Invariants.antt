@@ -1,0 +1,24 @@
+use Rattle.std.proofs.Common.{◌≡◌, ◌⊎◌, ◌+◌}
+use Rattle.mr_judge.specs.Steps.{Room}
+use Rattle.mr_judge.specs.Items.{CanCome, Each}
+use Rattle.mr_judge.specs.Outputs.{CanCome as CanComeAhead, begins}
+use Rattle.mr_judge.proofs.BlocksJudged.{Going}
+use Rattle.mr_judge.proofs.parts.check_parts.Given as goal
+
+abbrev pub invariant-loop-block : goal.invariant-loop-block
+invariant-loop-block g l = record {
+  going : Going (g.O.Outputs.gives l.initial.outputs) (g.O.Outputs.gives l.outputs) (g.I.Items.gives l.initial.walker) (g.I.Items.gives l.walker) l.basis l.judging l.initial.meter.lookups l.meter.lookups;
+  given : CanCome (g.I.Items.gives l.walker);
+  some : CanComeAhead (g.O.Outputs.gives l.outputs);
+  place : g.O.Outputs.place l.outputs ≡ l.judging.from;
+  begun : Each (g.I.Items.gives l.walker) begins ⊎ g.O.Outputs.begun l.outputs;
+  sound : g.I.Items.sound l.walker;
+  count : g.I.Items.failed l.walker ≡ g.I.Items.failed l.initial.walker;
+  failed : g.O.Outputs.failed l.outputs ≡ g.O.Outputs.failed l.initial.outputs;
+  room : Room l.judging (g.I.Items.most l.walker) (g.I.Items.most l.initial.walker);
+  looked : l.meter.lookups ≡ l.initial.meter.lookups + l.judging.named;
+  mapped : l.meter.mapped ≡ l.initial.meter.mapped;
+}
+
+abbrev pub decreases-loop-block : goal.decreases-loop-block
+decreases-loop-block g l = g.I.Items.most l.walker

@@ -1,0 +1,9 @@
+pub mod Steps
+pub mod Kinds
+pub mod Items
+pub mod Outputs
+pub mod Reading
+pub mod Readers
+pub mod From
+pub mod Blocks
+pub mod Metered

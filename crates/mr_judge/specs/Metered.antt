@@ -1,0 +1,22 @@
+-- What the meter of a judge counts.
+use Rattle.std.specs.Prelude.{◌≡◌, ℕ, ◌+◌, ◌≤◌, List, length}
+use Rattle.mr_bytes.specs.declared.RecordName.{RecordName}
+use Rattle.mr_jobs.specs.JobSpec.{RequestSpec}
+use Rattle.mr_splits.specs.Cut.{Cut, records_of}
+use Rattle.mr_certform.specs.declared.item.Item.{Item}
+use Rattle.mr_index.specs.declared.index.Meter.{Meter}
+use Rattle.mr_index.specs.Index.{mapped_among}
+use Rattle.mr_answers.specs.Verdict.{entries_in}
+
+abbrev pub cut_by : RequestSpec → List (List ℕ) → Cut
+cut_by request files = record { size = request.split; files = files }
+
+-- each entry among the items is looked up at most once, and each record of the cut files mapped at most once
+pub record IsBounded (cut : Cut) (items : List Item) (old new : Meter) : Type 0 where
+  pub lookups : (old.lookups ≤ new.lookups) × (new.lookups ≤ old.lookups + entries_in items)
+  pub mapped : (old.mapped ≤ new.mapped) × (new.mapped ≤ old.mapped + length (records_of cut))
+
+-- a look-up for each pair, and each record mapped that isn't left out
+pub record IsExact (cut : Cut) (skips : List RecordName) (pairs : ℕ) (old new : Meter) : Type 0 where
+  pub lookups : new.lookups ≡ old.lookups + pairs
+  pub mapped : new.mapped ≡ old.mapped + mapped_among skips (records_of cut)

@@ -1,0 +1,71 @@
+//! What the groups are judged against.
+ghost use Rattle.std.specs.Prelude.{◌≡◌, ◌<◌, ◌+◌, ◌^◌, MatchOption, OnOk, length, None, Some};
+ghost use Rattle.mr_partition.specs.Partition.{partition_of};
+ghost use Rattle.mr_reduce.specs.Text.{text_of};
+ghost use Rattle.mr_sequential.specs.Good.{named};
+
+use mr_bytes::{Name, Values};
+use mr_index::{EmissionIndex, Found, Meter};
+use mr_jobs::{Job, Request};
+use mr_partition::partition;
+use mr_reduce::column_text;
+use std::alloc::AllocError;
+use std::marker::Model;
+
+/// What the groups are judged against: all that is emitted, and the request.
+#[derive(Drop)]
+pub struct Basis<'a> {
+    pub request: &'a Request,
+    pub index: &'a EmissionIndex,
+}
+
+impl<'a> Model for Basis<'a> {
+    ghost use Rattle.mr_judge.specs.Steps.{Ground};
+
+    ghost Value = { Ground };
+
+    ghost view = { λ b. record { request = b.request.now; triples = b.index.now } };
+}
+
+impl<'a> Basis<'a> {
+    /// The partition of a key.
+    pub fn part(&self, key: &[u8]) -> u64
+        ensures { result ≡ partition_of key.now self.now.request.parts }
+    {
+        u64::from(partition(key, self.request.parts()))
+    }
+
+    /// The job.
+    pub fn job(&self) -> &'a Job
+        ensures { result.now ≡ self.now.request.job }
+    {
+        self.request.job()
+    }
+
+    /// The text of a group, in place of what the buffer held.
+    pub fn text(&self, key: &[u8], values: &Values, out: &mut Vec<u8>) -> Result<(), AllocError>
+        ensures { OnOk result (out.new.items ≡ text_of self.now.request.job key.now values.now) }
+    {
+        out.clear();
+        column_text(self.request.job(), key, values, out)
+    }
+
+    /// The pair of that name among all that is emitted, or none where there is no such pair.
+    pub fn find(&self, name: Name, meter: &mut Meter) -> Option<Found<'a>>
+        requires { meter.old.lookups + 1 < 2 ^ 64 }
+        ensures found { MatchOption result (named self.now.triples name ≡ None)
+            (λ f. named self.now.triples name ≡ Some (record { key = f.0; value = f.1; name = name })) }
+        ensures lookups { meter.new.lookups ≡ meter.old.lookups + 1 }
+        ensures mapped { meter.new.mapped ≡ meter.old.mapped }
+    {
+        let index = self.index;
+        index.find(name, meter)
+    }
+
+    /// How many pairs are emitted.
+    pub fn emitted(&self) -> u64
+        ensures { result ≡ length self.now.triples }
+    {
+        self.index.total()
+    }
+}

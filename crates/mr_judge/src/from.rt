@@ -1,0 +1,185 @@
+//! The judge of a result that readers give.
+ghost use Rattle.std.specs.Prelude.{◌≡◌, ◌⊎◌, ◌<◌, ◌≤◌, ◌^◌, ℕ, List, Err, IfOk, IfErr, IfSome, MatchOption, map, length, get_or};
+ghost use Rattle.mr_input.specs.Files.{split_total};
+ghost use Rattle.mr_jobs.specs.JobSpec.{RequestSpec};
+ghost use Rattle.mr_certform.specs.Grammar.{AreBytes};
+ghost use Rattle.mr_answers.specs.Headline.{IsCertified};
+ghost use Rattle.mr_judge.specs.Outputs.{IsVerdict};
+ghost use Rattle.mr_judge.specs.From.{Give, Judged, VerdictOfSome, IsVerdictFrom, IsDevice};
+ghost use Rattle.mr_judge.specs.Readers.{StopOfSome, TellsNoRead};
+
+use crate::items::Stop;
+use crate::judge::judge_all;
+use crate::lent::Lent;
+use crate::readers::FromReaders;
+use mr_answers::{No, Source, Yes};
+use mr_certform::StreamWalker;
+use mr_index::Meter;
+use mr_input::Input;
+use mr_jobs::Request;
+use mr_store::CountedRead;
+use mr_watch::{Unwatched, Watch};
+use std::alloc::{AllocError, Global};
+
+/// How many reads of each have failed.
+fn failures_of<R: CountedRead>(alloc: Global, readers: &[R]) -> Result<Vec<u64>, AllocError>
+    ensures { IfOk result (λ v. v.items ≡ map R.failed readers.now) }
+{
+    let mut failures = Vec::with_capacity(alloc, readers.len())?;
+    for reader in readers {
+        failures.push(reader.failures())?;
+    }
+    Ok(failures)
+}
+
+/// The first of which a read has failed since these were counted.
+fn first_failed<R: CountedRead>(readers: &[R], before: &[u64]) -> Option<u64>
+    requires { length readers.now ≡ length before.now }
+    ensures { MatchOption result (map R.failed readers.now ≡ before.now)
+        (λ p. (p < length before.now) × (get_or (map R.failed readers.now) p 0 ≡ get_or before.now p 0 → ⊥)) }
+{
+    for i in 0..readers.len() {
+        if readers[i].failures() != before[i] {
+            return Some(i as u64);
+        }
+    }
+    None
+}
+
+/// Judges what the readers give: the verdict, or why there is none. All buffers are taken before the first read.
+fn judge_lent<R: CountedRead, C: CountedRead>(
+    alloc: Global,
+    request: &Request,
+    input: &Input,
+    outputs: &mut [R],
+    certificate: &mut C,
+    watch: &dyn Watch,
+) -> Result<Yes, Stop>
+    requires fits { split_total request.now.split input.now ≤ 2 ^ 20 }
+    requires parts { length outputs.old ≡ request.now.parts }
+    requires known { IfSome (C.remaining certificate.old) AreBytes }
+    ensures { StopOfSome request.now input.now (map R.remaining outputs.old) (C.remaining certificate.old) result }
+{
+    let mut outputs = FromReaders::new(alloc, outputs)?;
+    let mut walker = StreamWalker::new(
+        alloc,
+        Lent {
+            reader: certificate,
+        },
+    )?;
+    let meter = &mut Meter {
+        lookups: 0,
+        mapped: 0,
+    };
+    judge_all(
+        alloc,
+        request,
+        input,
+        &mut outputs,
+        &mut walker,
+        meter,
+        watch,
+    )
+}
+
+/// The fault, where no read has failed and no fault tells of one. Of an output or a certificate of 2^63 bytes or more
+/// nothing is said but that it is too long for the memory of a machine.
+fn fault_of(stop: Stop) -> No
+    requires { TellsNoRead stop }
+    ensures verdict { (o : RequestSpec) (files outs : List (List ℕ)) (bytes : List ℕ)
+        → IsVerdict o files outs bytes (Err stop) → IsVerdictFrom o files outs bytes (Err result) }
+    ensures device { (outs : List ℕ) (cert : ℕ) → IsDevice outs outs cert cert (Err result) }
+{
+    match stop {
+        Stop::Fault(fault) => fault,
+        Stop::Device | Stop::TooLong | Stop::Output { .. } | Stop::LongOutput => No::OutOfMemory,
+    }
+}
+
+/// The answer, where no read has failed and no fault tells of one.
+fn told(answer: Result<Yes, Stop>) -> Result<Yes, No>
+    requires { IfErr answer TellsNoRead }
+    ensures verdict { (o : RequestSpec) (files outs : List (List ℕ)) (bytes : List ℕ)
+        → IsVerdict o files outs bytes answer → IsVerdictFrom o files outs bytes result }
+    ensures device { (outs : List ℕ) (cert : ℕ) → IsDevice outs outs cert cert result }
+{
+    match answer {
+        Ok(yes) => Ok(yes),
+        Err(stop) => Err(fault_of(stop)),
+    }
+}
+
+/// Judges what the readers give: the verdict, or which read failed, as the counts of the readers tell.
+fn judge_from<R: CountedRead, C: CountedRead>(
+    alloc: Global,
+    request: &Request,
+    input: &Input,
+    outputs: &mut [R],
+    certificate: &mut C,
+    watch: &dyn Watch,
+) -> Result<Yes, No>
+    requires fits { split_total request.now.split input.now ≤ 2 ^ 20 }
+    ensures judged { VerdictOfSome request.now input.now (map R.remaining outputs.old) (C.remaining certificate.old) result }
+    ensures device { IsDevice (map R.failed outputs.old) (map R.failed outputs.new) (C.failed certificate.old) (C.failed certificate.new) result }
+{
+    let certificate_failures = certificate.failures();
+    if outputs.len() != request.parts() as usize {
+        return Err(No::OutputCount);
+    }
+    let failures = failures_of(alloc, outputs)?;
+    let answer = judge_lent(alloc, request, input, outputs, certificate, watch);
+    if certificate.failures() != certificate_failures {
+        return Err(No::Device(Source::Certificate));
+    }
+    match first_failed(outputs, &failures) {
+        Some(partition) => Err(No::Device(Source::Output(partition))),
+        None => told(answer),
+    }
+}
+
+/// Judges a result as `check` does, where readers give it: an output for each partition, in order, and the bytes of the
+/// certificate. The answer is the verdict over the bytes that they give: over bytes that they may give, where these
+/// aren't known before. `Device` is told just where a read failed in this call, and at once; an interrupted read is a
+/// failed one. The certificate and each output are read in pieces of at most 65,536 bytes, into buffers that are taken at
+/// the start. An output's reader is asked for nothing before those ahead of it were read to their ends; so where each
+/// opens what it reads at its first call and closes it at its end, one output at most is open. After a no it isn't said
+/// how far they were read.
+pub fn check_from<R: CountedRead, C: CountedRead>(
+    alloc: Global,
+    request: &Request,
+    input: &Input,
+    outputs: &mut [R],
+    certificate: &mut C,
+) -> Result<Yes, No>
+    requires { split_total request.now.split input.now ≤ 2 ^ 20 }
+    ensures judged { Judged request.now input.now (map R.remaining outputs.old) (C.remaining certificate.old) result }
+    ensures headline { IfOk result (λ y. (outs : List (List ℕ)) (bytes : List ℕ) → Give (map R.remaining outputs.old) (C.remaining certificate.old) outs bytes
+        → IsCertified request.now input.now outs bytes y.skips.items y.pairs) }
+    ensures verdict { (outs : List (List ℕ)) (bytes : List ℕ) → Give (map R.remaining outputs.old) (C.remaining certificate.old) outs bytes
+        → IsVerdictFrom request.now input.now outs bytes result }
+    ensures device { IsDevice (map R.failed outputs.old) (map R.failed outputs.new) (C.failed certificate.old) (C.failed certificate.new) result }
+{
+    check_from_watched(alloc, request, input, outputs, certificate, &Unwatched)
+}
+
+/// The same as `check_from`, where somebody looks on, as in `check_watched`.
+pub fn check_from_watched<R: CountedRead, C: CountedRead>(
+    alloc: Global,
+    request: &Request,
+    input: &Input,
+    outputs: &mut [R],
+    certificate: &mut C,
+    watch: &dyn Watch,
+) -> Result<Yes, No>
+    requires { split_total request.now.split input.now ≤ 2 ^ 20 }
+    ensures judged { Judged request.now input.now (map R.remaining outputs.old) (C.remaining certificate.old) result }
+    ensures headline { IfOk result (λ y. (outs : List (List ℕ)) (bytes : List ℕ) → Give (map R.remaining outputs.old) (C.remaining certificate.old) outs bytes
+        → IsCertified request.now input.now outs bytes y.skips.items y.pairs) }
+    ensures verdict { (outs : List (List ℕ)) (bytes : List ℕ) → Give (map R.remaining outputs.old) (C.remaining certificate.old) outs bytes
+        → IsVerdictFrom request.now input.now outs bytes result }
+    ensures device { IsDevice (map R.failed outputs.old) (map R.failed outputs.new) (C.failed certificate.old) (C.failed certificate.new) result }
+{
+    // A request's splits have at least one byte.
+    let _size = request.split_size();
+    judge_from(alloc, request, input, outputs, certificate, watch)
+}

@@ -1,0 +1,298 @@
+//! The judge, from the bytes of a certificate to the verdict.
+ghost use Rattle.std.specs.Prelude.{◌≡◌, ◌⊎◌, ℕ, List, ◌<◌, ◌≤◌, ◌+◌, ◌^◌, IfOk, IfErr, MatchResult, length};
+ghost use Rattle.mr_input.specs.Files.{contents, split_total};
+ghost use Rattle.mr_splits.specs.Cut.{records_of};
+ghost use Rattle.mr_certform.specs.declared.item.Item.{Item as Read};
+ghost use Rattle.mr_certform.specs.declared.place.Place.TheVariants.{AtMagic, AtSkips};
+ghost use Rattle.mr_certform.specs.Walking.{items_left, halt};
+ghost use Rattle.mr_certform.specs.Spelling.{items_of, stop};
+ghost use Rattle.mr_answers.specs.declared.fault.No.TheVariants.{OutOfMemory};
+ghost use Rattle.mr_answers.specs.Verdict.{start, subject_of, verdict_of};
+ghost use Rattle.mr_answers.specs.Headline.{IsCertified, accepted_of};
+ghost use Rattle.mr_judge.specs.Metered.{IsBounded, IsExact, cut_by};
+ghost use Rattle.mr_judge.specs.Steps.{case_at};
+ghost use Rattle.mr_judge.specs.Blocks.{Judges};
+ghost use Rattle.mr_judge.specs.Kinds.{InKind};
+ghost use Rattle.mr_judge.specs.Items.{CanCome, Each};
+ghost use Rattle.mr_judge.specs.Outputs.{CanCome as CanComeAhead, Fits, Through, RestJudged, AllJudged, HaltsItems, HaltsOutputs, begins};
+
+use crate::facts::Basis;
+use crate::heading::expect_header;
+use crate::items::{Items, Stop};
+use crate::outputs::{AtHand, Outputs};
+use crate::parts::check_parts;
+use crate::skips::{expect_count, take_skips};
+use mr_answers::{No, Yes};
+use mr_bytes::RecordName;
+use mr_certform::Walker;
+use mr_index::{EmissionIndex, Meter};
+use mr_input::Input;
+use mr_jobs::Request;
+use mr_splits::Plan;
+use mr_watch::{Unwatched, Watch};
+use std::alloc::{AllocError, Global};
+
+/// The plan of an input under a request that fits it.
+pub fn plan_of<'a>(
+    alloc: Global,
+    request: &Request,
+    input: &'a Input,
+) -> Result<Plan<'a>, AllocError>
+    requires { split_total request.now.split input.now ≤ 2 ^ 20 }
+    ensures plan { IfOk result (λ r. r ≡ record { size = request.now.split; files = input.entry.now }) }
+{
+    Plan::fitting(alloc, input, request.split_size())
+}
+
+/// Judges the partitions, given the left-out records: how many pairs there are, or the first fault.
+fn check_with<I: Items, O: Outputs>(
+    alloc: Global,
+    request: &Request,
+    plan: &Plan<'_>,
+    outputs: &mut O,
+    skips: &[RecordName],
+    walker: &mut I,
+    meter: &mut Meter,
+    watch: &dyn Watch,
+) -> Result<u64, Stop>
+    requires same { plan.now.size ≡ request.now.split }
+    requires sound { I.sound walker.old }
+    requires given { CanCome (I.gives walker.old) }
+    requires few { I.most walker.old < 2 ^ 63 }
+    requires begins { Each (I.gives walker.old) begins }
+    requires count { (meter.old.lookups ≤ 2 ^ 63) × (meter.old.mapped ≤ 2 ^ 63) }
+    requires outputs { CanComeAhead (O.gives outputs.old) }
+    requires fits { Fits (O.gives outputs.old) start }
+    requires place { O.place outputs.old ≡ 0 }
+    ensures judged { Through (O.gives outputs.old) start (λ outs. Judges (I.gives walker.old)
+        (subject_of (case_at request.now plan.now.files outs 0) skips.now) meter.old.lookups meter.new.lookups result) }
+    ensures mapped { (meter.old.mapped ≤ meter.new.mapped) × (meter.new.mapped ≤ meter.old.mapped + length (records_of plan.now)) }
+    ensures exact { IfOk result (λ n. IsExact plan.now skips.now n meter.old meter.new) }
+    ensures stops { HaltsItems I.steady (I.failed walker.old) (I.failed walker.new) result }
+    ensures halts { HaltsOutputs O.steady (O.failed outputs.old) (O.failed outputs.new) result }
+{
+    // A plan has far fewer records than a u64 counts.
+    let _few = plan.count();
+    let index = EmissionIndex::of_watched(alloc, plan, request.job(), skips, meter, watch)?;
+    let basis = Basis {
+        request,
+        index: &index,
+    };
+    check_parts(alloc, &basis, outputs, walker, meter, watch)
+}
+
+/// Judges what stands behind the items of the request and of the input.
+fn check_rest<I: Items, O: Outputs>(
+    alloc: Global,
+    request: &Request,
+    input: &Input,
+    outputs: &mut O,
+    walker: &mut I,
+    meter: &mut Meter,
+    watch: &dyn Watch,
+) -> Result<Yes, Stop>
+    requires fits { split_total request.now.split input.now ≤ 2 ^ 20 }
+    requires sound { I.sound walker.old }
+    requires given { CanCome (I.gives walker.old) }
+    requires few { I.most walker.old < 2 ^ 63 }
+    requires order { (is : List Read) (at : ℕ) → I.gives walker.old is at → InKind (AtSkips request.now.parts) is }
+    requires count { (meter.old.lookups ≤ 2 ^ 63) × (meter.old.mapped ≤ 2 ^ 63) }
+    requires outputs { CanComeAhead (O.gives outputs.old) }
+    requires ahead { Fits (O.gives outputs.old) start }
+    requires place { O.place outputs.old ≡ 0 }
+    ensures judged { Through (O.gives outputs.old) start
+        (RestJudged (I.gives walker.old) request.now input.now meter.old.lookups meter.new.lookups result) }
+    ensures mapped { (meter.old.mapped ≤ meter.new.mapped)
+        × (meter.new.mapped ≤ meter.old.mapped + length (records_of (cut_by request.now input.now))) }
+    ensures exact { IfOk result (λ y. IsExact (cut_by request.now input.now) y.skips.items y.pairs meter.old meter.new) }
+    ensures stops { HaltsItems I.steady (I.failed walker.old) (I.failed walker.new) result }
+    ensures halts { HaltsOutputs O.steady (O.failed outputs.old) (O.failed outputs.new) result }
+{
+    let listed = expect_count(walker, request.max_skips())?;
+    let plan = plan_of(alloc, request, input)?;
+    let skips = take_skips(alloc, walker, &plan, listed)?;
+    let pairs = check_with(alloc, request, &plan, outputs, &skips, walker, meter, watch)?;
+    Ok(Yes { skips, pairs })
+}
+
+/// A walker at the front of a certificate's bytes.
+pub fn walk(certificate: &[u8]) -> Walker<'_>
+    ensures items { items_left result ≡ items_of certificate.entry.now }
+    ensures stop { halt result ≡ stop certificate.entry.now }
+    ensures few { length (items_left result) ≤ 2 ^ 63 }
+{
+    Walker::new(certificate)
+}
+
+/// Judges a result, whatever walks its items and holds its outputs, which are as many as the partitions.
+pub(crate) fn judge_all<I: Items, O: Outputs>(
+    alloc: Global,
+    request: &Request,
+    input: &Input,
+    outputs: &mut O,
+    walker: &mut I,
+    meter: &mut Meter,
+    watch: &dyn Watch,
+) -> Result<Yes, Stop>
+    requires fits { split_total request.now.split input.now ≤ 2 ^ 20 }
+    requires sound { I.sound walker.old }
+    requires given { CanCome (I.gives walker.old) }
+    requires few { I.most walker.old ≤ 2 ^ 63 }
+    requires front { (is : List Read) (at : ℕ) → I.gives walker.old is at → InKind AtMagic is }
+    requires count { (meter.old.lookups ≤ 2 ^ 63) × (meter.old.mapped ≤ 2 ^ 63) }
+    requires outputs { CanComeAhead (O.gives outputs.old) }
+    requires ahead { Fits (O.gives outputs.old) start }
+    requires place { O.place outputs.old ≡ 0 }
+    ensures judged { Through (O.gives outputs.old) start
+        (AllJudged (I.gives walker.old) request.now input.now meter.old.lookups meter.new.lookups result) }
+    ensures mapped { (meter.old.mapped ≤ meter.new.mapped)
+        × (meter.new.mapped ≤ meter.old.mapped + length (records_of (cut_by request.now input.now))) }
+    ensures exact { IfOk result (λ y. IsExact (cut_by request.now input.now) y.skips.items y.pairs meter.old meter.new) }
+    ensures stops { HaltsItems I.steady (I.failed walker.old) (I.failed walker.new) result }
+    ensures halts { HaltsOutputs O.steady (O.failed outputs.old) (O.failed outputs.new) result }
+{
+    expect_header(walker, request, input)?;
+    check_rest(alloc, request, input, outputs, walker, meter, watch)
+}
+
+/// Judges a result at hand: the verdict, or want of memory.
+fn judge_at_hand(
+    alloc: Global,
+    request: &Request,
+    input: &Input,
+    outputs: &[Vec<u8>],
+    certificate: &[u8],
+    meter: &mut Meter,
+    watch: &dyn Watch,
+) -> Result<Yes, No>
+    requires fits { split_total request.now.split input.now ≤ 2 ^ 20 }
+    requires count { (meter.old.lookups ≤ 2 ^ 63) × (meter.old.mapped ≤ 2 ^ 63) }
+    ensures verdict { let v = verdict_of request.now input.now (contents outputs.now) certificate.now in
+        MatchResult result (λ y. v ≡ Ok (accepted_of y)) (λ e. (e ≡ OutOfMemory) ⊎ (v ≡ Err e)) }
+    ensures bounded { IsBounded (cut_by request.now input.now) (items_of certificate.now) meter.old meter.new }
+    ensures exact { IfOk result (λ y. IsExact (cut_by request.now input.now) y.skips.items y.pairs meter.old meter.new) }
+{
+    if outputs.len() != request.parts() as usize {
+        return Err(No::OutputCount);
+    }
+    let mut walker = walk(certificate);
+    let mut outputs = AtHand::new(outputs);
+    match judge_all(
+        alloc,
+        request,
+        input,
+        &mut outputs,
+        &mut walker,
+        meter,
+        watch,
+    ) {
+        Ok(yes) => Ok(yes),
+        Err(Stop::Fault(fault)) => Err(fault),
+        Err(Stop::Device | Stop::TooLong | Stop::Output { .. } | Stop::LongOutput) =>
+            unreachable!(),
+    }
+}
+
+/// The verdict with its headline, and what the meter is added.
+fn judge_metered(
+    alloc: Global,
+    request: &Request,
+    input: &Input,
+    outputs: &[Vec<u8>],
+    certificate: &[u8],
+    meter: &mut Meter,
+    watch: &dyn Watch,
+) -> Result<Yes, No>
+    requires fits { split_total request.now.split input.now ≤ 2 ^ 20 }
+    requires count { (meter.old.lookups ≤ 2 ^ 63) × (meter.old.mapped ≤ 2 ^ 63) }
+    ensures headline { IfOk result (λ y. IsCertified request.now input.now (contents outputs.now) certificate.now y.skips.items y.pairs) }
+    ensures yes { IfOk result
+        (λ y. verdict_of request.now input.now (contents outputs.now) certificate.now ≡ Ok (accepted_of y)) }
+    ensures no { IfErr result (λ e. (e ≡ OutOfMemory) ⊎ (verdict_of request.now input.now (contents outputs.now) certificate.now ≡ Err e)) }
+    ensures bounded { IsBounded (cut_by request.now input.now) (items_of certificate.now) meter.old meter.new }
+    ensures exact { IfOk result (λ y. IsExact (cut_by request.now input.now) y.skips.items y.pairs meter.old meter.new) }
+{
+    // A request's splits have at least one byte.
+    let _size = request.split_size();
+    judge_at_hand(alloc, request, input, outputs, certificate, meter, watch)
+}
+
+/// Judges a result of the request over the input: the outputs of the partitions with the bytes of the certificate. No
+/// worker is trusted. Where the answer is `Yes`, the outputs are byte for byte those of the sequential execution, with
+/// exactly the records left out that the certificate lists. It comes just where the result is good (`yes_law`); else
+/// the first fault is told. The splits of the input
+/// must fit (`Request::fits`). Nothing else is answered, but `OutOfMemory` where the machine refused memory.
+pub fn check(
+    alloc: Global,
+    request: &Request,
+    input: &Input,
+    outputs: &[Vec<u8>],
+    certificate: &[u8],
+) -> Result<Yes, No>
+    requires { split_total request.now.split input.now ≤ 2 ^ 20 }
+    ensures headline { IfOk result (λ y. IsCertified request.now input.now (contents outputs.now) certificate.now y.skips.items y.pairs) }
+    ensures yes { IfOk result
+        (λ y. verdict_of request.now input.now (contents outputs.now) certificate.now ≡ Ok (accepted_of y)) }
+    ensures no { IfErr result (λ e. (e ≡ OutOfMemory) ⊎ (verdict_of request.now input.now (contents outputs.now) certificate.now ≡ Err e)) }
+{
+    check_watched(alloc, request, input, outputs, certificate, &Unwatched)
+}
+
+/// The same as `check`, where somebody looks on: the watch is told now and then how many records are mapped, and behind
+/// them how many pairs are judged.
+pub fn check_watched(
+    alloc: Global,
+    request: &Request,
+    input: &Input,
+    outputs: &[Vec<u8>],
+    certificate: &[u8],
+    watch: &dyn Watch,
+) -> Result<Yes, No>
+    requires { split_total request.now.split input.now ≤ 2 ^ 20 }
+    ensures headline { IfOk result (λ y. IsCertified request.now input.now (contents outputs.now) certificate.now y.skips.items y.pairs) }
+    ensures yes { IfOk result
+        (λ y. verdict_of request.now input.now (contents outputs.now) certificate.now ≡ Ok (accepted_of y)) }
+    ensures no { IfErr result (λ e. (e ≡ OutOfMemory) ⊎ (verdict_of request.now input.now (contents outputs.now) certificate.now ≡ Err e)) }
+{
+    let meter = &mut Meter {
+        lookups: 0,
+        mapped: 0,
+    };
+    judge_metered(alloc, request, input, outputs, certificate, meter, watch)
+}
+
+/// The same as `check`, adding to the meter what is looked up and mapped; each of its counts is at most 2^63 before. Each
+/// entry of the certificate is looked up at most once, and each record mapped at most once; on a yes there is a look-up
+/// for each pair, and just the records that aren't left out are mapped.
+///
+/// The clauses speak of the numbers in the meter alone. They cannot say that nothing is looked up or mapped beside it:
+/// that each look-up and each mapped record is counted rests on the code of the index, which counts where it looks up
+/// and where it maps. And where the answer is a no, they say only that the counts did not fall and stayed within their
+/// bounds.
+pub fn check_metered(
+    alloc: Global,
+    request: &Request,
+    input: &Input,
+    outputs: &[Vec<u8>],
+    certificate: &[u8],
+    meter: &mut Meter,
+) -> Result<Yes, No>
+    requires fits { split_total request.now.split input.now ≤ 2 ^ 20 }
+    requires count { (meter.old.lookups ≤ 2 ^ 63) × (meter.old.mapped ≤ 2 ^ 63) }
+    ensures headline { IfOk result (λ y. IsCertified request.now input.now (contents outputs.now) certificate.now y.skips.items y.pairs) }
+    ensures yes { IfOk result
+        (λ y. verdict_of request.now input.now (contents outputs.now) certificate.now ≡ Ok (accepted_of y)) }
+    ensures no { IfErr result (λ e. (e ≡ OutOfMemory) ⊎ (verdict_of request.now input.now (contents outputs.now) certificate.now ≡ Err e)) }
+    ensures bounded { IsBounded (cut_by request.now input.now) (items_of certificate.now) meter.old meter.new }
+    ensures exact { IfOk result (λ y. IsExact (cut_by request.now input.now) y.skips.items y.pairs meter.old meter.new) }
+{
+    judge_metered(
+        alloc,
+        request,
+        input,
+        outputs,
+        certificate,
+        meter,
+        &Unwatched,
+    )
+}

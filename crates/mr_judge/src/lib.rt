@@ -1,0 +1,31 @@
+//! The judge of a result by one thread, over bytes at hand and over readers; and its steps, on which the judge by many
+//! threads stands.
+#![tactic(auto)]
+
+mod blocks;
+mod comparing;
+mod entry_tests;
+mod facts;
+mod from;
+mod heading;
+mod items;
+mod judge;
+mod lent;
+mod lines;
+mod outputs;
+mod parts;
+mod piece;
+mod progress;
+mod readers;
+mod skips;
+
+pub use blocks::{BLOCK, FoundItem, Sought, fetch_all, read_block, seek_all, touch};
+pub use entry_tests::test_named;
+pub use facts::Basis;
+pub use from::{check_from, check_from_watched};
+pub use heading::expect_header;
+pub use items::{Halt, Items, Stop};
+pub use judge::{check, check_metered, check_watched, plan_of, walk};
+pub use outputs::{AtHand, Lack, Outputs};
+pub use progress::Progress;
+pub use skips::{expect_count, take_skips};

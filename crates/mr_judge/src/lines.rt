@@ -1,0 +1,73 @@
+//! The text of a group, compared with the output as it is made: a line for each value of a job that doesn't count, so that
+//! no group makes a text of its own size, however many pairs it has.
+ghost use Rattle.std.specs.Prelude.{◌≡◌, ◌+◌, ◌∷◌, [], OnOk, false, length};
+ghost use Rattle.mr_jobs.specs.JobSpec.{counts};
+ghost use Rattle.mr_reduce.specs.Text.{text_of};
+ghost use Rattle.mr_judge.specs.Outputs.{CanCome, TextTold, Halts};
+
+use crate::entry_tests::test_text;
+use crate::facts::Basis;
+use crate::items::Stop;
+use crate::outputs::Outputs;
+use mr_bytes::{Value, Values};
+use mr_jobs::Job;
+use mr_reduce::group_text;
+use std::alloc::AllocError;
+
+/// The text of a key with one value, in place of what the buffer held.
+fn line_of(job: &Job, key: &[u8], value: Value, line: &mut Vec<u8>) -> Result<(), AllocError>
+    ensures { OnOk result (line.new.items ≡ text_of job.now key.now (value ∷ [])) }
+{
+    line.clear();
+    group_text(job, key, &[value], line)
+}
+
+/// Whether the lines of a key with these values stand next in the output that is open.
+fn test_lines<O: Outputs>(
+    outputs: &mut O,
+    p: u64,
+    job: &Job,
+    key: &[u8],
+    values: &Values,
+    line: &mut Vec<u8>,
+) -> Result<(), Stop>
+    requires lines { counts job.now ≡ false }
+    requires begun { O.begun outputs.old }
+    requires some { CanCome (O.gives outputs.old) }
+    ensures told { TextTold (O.gives outputs.old) (O.gives outputs.new) p (O.place outputs.old) (text_of job.now key.now values.now) result }
+    ensures some { CanCome (O.gives outputs.new) }
+    ensures place { OnOk result (O.place outputs.new ≡ O.place outputs.old + length (text_of job.now key.now values.now)) }
+    ensures begun { O.begun outputs.new }
+    ensures halts { Halts O.steady (O.failed outputs.old) (O.failed outputs.new) result }
+{
+    for i in 0..values.len() {
+        line_of(job, key, values.get(i), line)?;
+        test_text(outputs, p, line.as_slice())?;
+    }
+    Ok(())
+}
+
+/// Whether the text of a group stands next in the output that is open. The buffer is for one line.
+pub(crate) fn test_group<O: Outputs>(
+    outputs: &mut O,
+    basis: &Basis<'_>,
+    p: u64,
+    key: &[u8],
+    values: &Values,
+    line: &mut Vec<u8>,
+) -> Result<(), Stop>
+    requires begun { O.begun outputs.old }
+    requires some { CanCome (O.gives outputs.old) }
+    ensures told { TextTold (O.gives outputs.old) (O.gives outputs.new) p (O.place outputs.old) (text_of basis.now.request.job key.now values.now) result }
+    ensures some { CanCome (O.gives outputs.new) }
+    ensures place { OnOk result (O.place outputs.new ≡ O.place outputs.old + length (text_of basis.now.request.job key.now values.now)) }
+    ensures begun { O.begun outputs.new }
+    ensures halts { Halts O.steady (O.failed outputs.old) (O.failed outputs.new) result }
+{
+    let job = basis.job();
+    if !job.counts() {
+        return test_lines(outputs, p, job, key, values, line);
+    }
+    basis.text(key, values, line)?;
+    test_text(outputs, p, line.as_slice())
+}

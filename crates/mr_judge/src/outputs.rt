@@ -1,0 +1,168 @@
+//! The outputs that are judged, one after another: at hand, or from readers.
+ghost use Rattle.std.specs.Prelude.{◌≡◌, ◌⊎◌, ◌≤◌, ◌<◌, ◌+◌, ◌-◌, ⊤, ◌^◌, ℕ, List, [], length, drop};
+ghost use Rattle.mr_input.specs.Files.{contents, nth_file};
+ghost use Rattle.mr_judge.specs.Outputs.{CanCome, Opens, Compares, Ends, Lacks};
+
+use crate::comparing::agreement;
+
+/// Why an output can't be compared.
+#[derive(Clone, Copy, Debug, PartialEq, Eq, Drop)]
+pub enum Lack {
+    /// A read of the output of this partition failed.
+    Device { partition: u64 },
+    /// It has 2^63 bytes or more.
+    TooLong,
+}
+
+/// Outputs that are opened in turn. Each is read from its front and no byte of it twice.
+pub trait Outputs {
+    // This may be still to come of the open one, and these outputs behind it.
+    ghost gives: { Self → List ℕ → List (List ℕ) → Type 0 };
+
+    // How many bytes of the open one were passed.
+    ghost place: { Self → ℕ };
+
+    // One is open.
+    ghost begun: { Self → Type 0 };
+
+    // How many reads of each have failed.
+    ghost failed: { Self → List ℕ };
+
+    // Nothing can fail but the outputs themselves.
+    ghost steady: { Type 0 };
+
+    /// Opens the next output; past the last they are empty.
+    fn open_next(&mut self)
+        ensures opens { Opens (gives self.old) (gives self.new) }
+        ensures place { place self.new ≡ 0 }
+        ensures begun { begun self.new }
+        ensures some { CanCome (gives self.old) → CanCome (gives self.new) }
+        ensures failed { failed self.new ≡ failed self.old };
+
+    /// Whether the text stands next. What is the same in both is passed.
+    fn pass_text(&mut self, text: &[u8]) -> Result<bool, Lack>
+        requires begun { begun self.old }
+        ensures compares { Compares (gives self.old) (gives self.new) (place self.old) (place self.new) text.now result }
+        ensures begun { begun self.new }
+        ensures some { CanCome (gives self.old) → CanCome (gives self.new) }
+        ensures lacks { Lacks steady (failed self.old) (failed self.new) result };
+
+    /// Whether nothing is left of the open one.
+    fn is_passed(&mut self) -> Result<bool, Lack>
+        requires begun { begun self.old }
+        ensures ends { Ends (gives self.old) (gives self.new) result }
+        ensures place { place self.new ≡ place self.old }
+        ensures begun { begun self.new }
+        ensures some { CanCome (gives self.old) → CanCome (gives self.new) }
+        ensures lacks { Lacks steady (failed self.old) (failed self.new) result };
+
+    /// How many bytes of the open one were passed.
+    fn place(&self) -> u64
+        ensures { result ≡ place self.now };
+}
+
+/// Outputs at hand: what is left of the open one, those behind it, and how many bytes were passed.
+#[derive(Drop)]
+pub struct AtHand<'a> {
+    pub rest: &'a [u8],
+    pub later: &'a [Vec<u8>],
+    pub passed: u64,
+    ghost few: { passed + length rest.now < 2 ^ 64 },
+}
+
+impl<'a> AtHand<'a> {
+    /// All of them are to come.
+    pub fn new(outputs: &'a [Vec<u8>]) -> AtHand<'a>
+        ensures rest { result.rest.now ≡ nth_file (contents outputs.entry.now) 0 }
+        ensures later { result.later.now ≡ outputs.entry.now }
+        ensures passed { result.passed ≡ 0 }
+    {
+        AtHand::before(outputs, 0)
+    }
+
+    /// Those from partition `p` on are to come.
+    pub fn before(outputs: &'a [Vec<u8>], p: u64) -> AtHand<'a>
+        ensures rest { result.rest.now ≡ nth_file (contents outputs.entry.now) (p - 1) }
+        ensures later { result.later.now ≡ drop p outputs.entry.now }
+        ensures passed { result.passed ≡ 0 }
+    {
+        AtHand {
+            rest: output_of(outputs, p.saturating_sub(1)),
+            later: outputs_from(outputs, p),
+            passed: 0,
+        }
+    }
+}
+
+/// The output of partition `p`; past the last there is none.
+fn output_of<'a>(outputs: &'a [Vec<u8>], p: u64) -> &'a [u8]
+    ensures { result.now ≡ nth_file (contents outputs.entry.now) p }
+{
+    match outputs.get(p as usize) {
+        Some(output) => output.as_slice(),
+        None => b"",
+    }
+}
+
+/// The outputs from partition `p` on.
+fn outputs_from<'a>(outputs: &'a [Vec<u8>], p: u64) -> &'a [Vec<u8>]
+    ensures { result.now ≡ drop p outputs.entry.now }
+{
+    match outputs.get(p as usize..) {
+        Some(later) => later,
+        None => &[],
+    }
+}
+
+/// What comes behind so many bytes.
+pub(crate) fn behind<'a>(bytes: &'a [u8], count: u64) -> &'a [u8]
+    ensures { result.now ≡ drop count bytes.entry.now }
+{
+    match bytes.get(count as usize..) {
+        Some(rest) => rest,
+        None => b"",
+    }
+}
+
+impl<'a> Outputs for AtHand<'a> {
+    ghost gives = { λ o rest later. (rest ≡ o.rest.now) × (later ≡ contents o.later.now) };
+
+    ghost place = { λ o. o.passed };
+
+    ghost begun = { λ _. ⊤ };
+
+    ghost failed = { λ _. [] };
+
+    ghost steady = { ⊤ };
+
+    fn open_next(&mut self) {
+        self.passed = 0;
+        match self.later.split_first() {
+            Some((output, later)) => {
+                self.rest = output.as_slice();
+                self.later = later;
+            }
+            None => self.rest = b"",
+        }
+    }
+
+    fn pass_text(&mut self, text: &[u8]) -> Result<bool, Lack> {
+        if self.rest.starts_with(text) {
+            self.rest = behind(self.rest, text.len() as u64);
+            self.passed += text.len() as u64;
+            return Ok(true);
+        }
+        let same = agreement(text, self.rest);
+        self.rest = behind(self.rest, same);
+        self.passed += same;
+        Ok(false)
+    }
+
+    fn is_passed(&mut self) -> Result<bool, Lack> {
+        Ok(self.rest.is_empty())
+    }
+
+    fn place(&self) -> u64 {
+        self.passed
+    }
+}

@@ -1,0 +1,124 @@
+//! The partitions of a certificate, with the outputs.
+ghost use Rattle.std.specs.Prelude.{◌≡◌, ◌⊎◌, ◌<◌, ◌≤◌, ◌+◌, ◌-◌, ◌^◌, IfOk, OnOk, true, false, length};
+ghost use Rattle.std.specs.List.{AllByRecursion};
+ghost use Rattle.mr_answers.specs.Verdict.{start, entries_in};
+ghost use Rattle.mr_judge.specs.Steps.{subject_with, Room};
+ghost use Rattle.mr_judge.specs.Blocks.{items_in, IsFound, Judges};
+ghost use Rattle.mr_judge.specs.Items.{CanCome, Each};
+ghost use Rattle.mr_judge.specs.Outputs.{CanCome as CanComeAhead, Fits, Through, RowsJudged, Halts, HaltsItems, HaltsOutputs, begins};
+
+use crate::blocks::{BLOCK, FoundItem, Sought, fetch_all, read_block, seek_all, touch};
+use crate::facts::Basis;
+use crate::items::{Items, Stop};
+use crate::outputs::Outputs;
+use crate::progress::Progress;
+use mr_answers::No;
+use mr_certform::Item;
+use mr_index::Meter;
+use mr_watch::{Pace, Phase, Watch};
+use std::alloc::{AllocError, Global};
+
+/// Judges rows in turn: whether they end the certificate, or the first fault.
+#[inline(never)]
+fn judge_rows<'a, O: Outputs>(
+    judging: &mut Progress<'a>,
+    basis: &Basis<'a>,
+    outputs: &mut O,
+    rows: &[FoundItem<'a>],
+) -> Result<bool, Stop>
+    requires room { Room judging.old (length rows.now) (2 ^ 64 - 2) }
+    requires found { AllByRecursion (IsFound basis.now.triples) rows.now }
+    requires fits { Fits (O.gives outputs.old) judging.old }
+    requires some { CanComeAhead (O.gives outputs.old) }
+    requires place { O.place outputs.old ≡ judging.old.from }
+    requires begun { (begins (items_in rows.now) ≡ true) ⊎ O.begun outputs.old }
+    ensures judged { RowsJudged (O.gives outputs.old) (O.gives outputs.new) basis.now judging.old judging.new (items_in rows.now) result }
+    ensures some { CanComeAhead (O.gives outputs.new) }
+    ensures place { OnOk result (O.place outputs.new ≡ judging.new.from) }
+    ensures begun { IfOk result (λ b. b ≡ false → 1 ≤ length rows.now → O.begun outputs.new) }
+    ensures halts { Halts O.steady (O.failed outputs.old) (O.failed outputs.new) result }
+{
+    for row in rows {
+        judging.step(basis, outputs, row)?;
+        if let Item::End = row.item {
+            return Ok(true);
+        }
+    }
+    Ok(false)
+}
+
+/// Items that are read, looked up and judged together, with what is found of them: buffers for a block.
+#[derive(Drop)]
+struct Block<'a> {
+    items: Vec<Item>,
+    sought: Vec<Sought<'a>>,
+    rows: Vec<FoundItem<'a>>,
+    touched: Vec<u8>,
+}
+
+impl<'a> Block<'a> {
+    fn new(alloc: Global) -> Result<Block<'a>, AllocError> {
+        Ok(Block {
+            items: Vec::with_capacity(alloc, BLOCK)?,
+            sought: Vec::with_capacity(alloc, BLOCK)?,
+            rows: Vec::with_capacity(alloc, BLOCK)?,
+            touched: Vec::with_capacity(alloc, BLOCK)?,
+        })
+    }
+
+    /// Looks up the names among the items, for their rows.
+    fn look_up(&mut self, basis: &Basis<'a>, meter: &mut Meter) -> Result<(), AllocError>
+        requires { meter.old.lookups + entries_in self.old.items.items < 2 ^ 64 }
+        ensures items { OnOk result (items_in self.new.rows.items ≡ self.old.items.items) }
+        ensures found { OnOk result (AllByRecursion (IsFound basis.now.triples) self.new.rows.items) }
+        ensures lookups { (meter.old.lookups ≤ meter.new.lookups) × (meter.new.lookups ≤ meter.old.lookups + entries_in self.old.items.items) }
+        ensures all { OnOk result (meter.new.lookups ≡ meter.old.lookups + entries_in self.old.items.items) }
+        ensures mapped { meter.new.mapped ≡ meter.old.mapped }
+    {
+        seek_all(basis, &self.items, &mut self.sought, meter)?;
+        fetch_all(&self.sought, &mut self.rows)?;
+        touch(&self.rows, &mut self.touched)?;
+        Ok(())
+    }
+}
+
+/// Judges all partitions, and the items' end: how many entries there are, or the first fault. Each entry is looked up once
+/// at most, a block of them ahead of the tests. The watch is told how many entries are judged, of all pairs.
+pub(crate) fn check_parts<I: Items, O: Outputs>(
+    alloc: Global,
+    basis: &Basis<'_>,
+    outputs: &mut O,
+    walker: &mut I,
+    meter: &mut Meter,
+    watch: &dyn Watch,
+) -> Result<u64, Stop>
+    requires sound { I.sound walker.old }
+    requires some { CanCome (I.gives walker.old) }
+    requires few { I.most walker.old < 2 ^ 63 }
+    requires begins { Each (I.gives walker.old) begins }
+    requires count { meter.old.lookups ≤ 2 ^ 63 }
+    requires outputs { CanComeAhead (O.gives outputs.old) }
+    requires fits { Fits (O.gives outputs.old) start }
+    requires place { O.place outputs.old ≡ 0 }
+    ensures judged { Through (O.gives outputs.old) start
+        (λ outs. Judges (I.gives walker.old) (subject_with basis.now outs) meter.old.lookups meter.new.lookups result) }
+    ensures all { IfOk result (λ n. meter.new.lookups ≡ meter.old.lookups + n) }
+    ensures mapped { meter.new.mapped ≡ meter.old.mapped }
+    ensures stops { HaltsItems I.steady (I.failed walker.old) (I.failed walker.new) result }
+    ensures halts { HaltsOutputs O.steady (O.failed outputs.old) (O.failed outputs.new) result }
+{
+    let mut pace = Pace::new(Phase::Judging, basis.emitted());
+    let mut judging = Progress::new(alloc);
+    let mut block = Block::new(alloc)?;
+    loop {
+        pace.reach(judging.named(), watch);
+        let stopped = read_block(walker, &mut block.items)?;
+        block.look_up(basis, meter)?;
+        if judge_rows(&mut judging, basis, outputs, &block.rows)? {
+            return Ok(judging.named());
+        }
+        if let Some(at) = stopped {
+            return Err(Stop::Fault(No::Malformed { at }));
+        }
+    }
+}

@@ -1,0 +1,161 @@
+//! Outputs that readers give, one behind another.
+ghost use Rattle.std.specs.Prelude.{◌≡◌, ◌⊎◌, ℕ, ◌≤◌, ◌<◌, ◌+◌, ◌-◌, ◌^◌, [], List, IfOk, OnOk, MatchResult, map, nat_eq, true, false, length, take};
+ghost use Rattle.std.specs.Prelude.{drop, ◌++◌};
+ghost use Rattle.std.specs.List.{common_prefix_len};
+ghost use Rattle.std.specs.Io.KnownBytes.{Consumes, Keeps, IsAtEnd};
+ghost use Rattle.mr_judge.specs.Outputs.{Lacks, counted_at};
+ghost use Rattle.mr_judge.specs.Reading.{known_at};
+
+use crate::comparing::agreement;
+use crate::outputs::{Lack, Outputs, behind};
+use crate::piece::Piece;
+use mr_store::{CountedRead, Device};
+use std::alloc::{AllocError, Global};
+
+/// Outputs that readers give. A reader is asked for nothing before those ahead of it were opened, and for nothing once it
+/// told its end; the bytes of all go through one buffer.
+#[derive(Drop)]
+pub(crate) struct FromReaders<'a, R> {
+    readers: &'a mut [R],
+    opened: u64,
+    piece: Piece,
+    exhausted: bool,
+    passed: u64,
+    ghost within: { exhausted ≡ false → opened ≤ length readers.now },
+}
+
+/// Reads some bytes of the reader with this number, in place of those that were held.
+fn read_at<R: CountedRead>(
+    piece: &mut Piece,
+    readers: &mut [R],
+    number: usize,
+) -> Result<usize, Device>
+    requires within { number < length readers.old }
+    ensures length { length readers.new ≡ length readers.old }
+    ensures read { let was = known_at (map R.remaining readers.old) number in
+        let is = known_at (map R.remaining readers.new) number in MatchResult result
+        (λ n. (length piece.new ≡ n) × Consumes was is piece.new × (n ≡ 0 → IsAtEnd is)) (λ _. (piece.new ≡ []) × Keeps was is) }
+    ensures others { drop (number + 1) (map R.remaining readers.new) ≡ drop (number + 1) (map R.remaining readers.old) }
+    ensures count { MatchResult result (λ _. map R.failed readers.new ≡ map R.failed readers.old)
+        (λ _. map R.failed readers.new ≡ counted_at number (map R.failed readers.old)) }
+{
+    piece.read(&mut readers[number])
+}
+
+/// Whether none of so many has this number.
+fn is_past(number: u64, count: u64) -> bool
+    ensures past { result ≡ true → (count ≤ number) × (number < 2 ^ 64) }
+    ensures among { result ≡ false → (number < count) × (number + 1 < 2 ^ 64) }
+{
+    number >= count
+}
+
+impl<'a, R: CountedRead> FromReaders<'a, R> {
+    ghost use Rattle.mr_judge.specs.Readers.{reading};
+    ghost use Rattle.mr_judge.specs.Reading.{IsToCome};
+
+    /// All of them are to come. All the memory that it ever has is taken here.
+    pub fn new(alloc: Global, readers: &'a mut [R]) -> Result<FromReaders<'a, R>, AllocError>
+        ensures opened { IfOk result (λ o. o.opened ≡ 0) }
+        ensures readers { IfOk result (λ o. o.readers.now ≡ readers.old) }
+        ensures passed { IfOk result (λ o. o.passed ≡ 0) }
+    {
+        let piece = Piece::new(alloc)?;
+        Ok(FromReaders {
+            readers,
+            opened: 0,
+            piece,
+            exhausted: true,
+            passed: 0,
+        })
+    }
+
+    /// Reads until some bytes of the open one are held, or its reader is at its end.
+    fn fill(&mut self) -> Result<(), Lack>
+        requires begun { 1 ≤ self.old.opened }
+        ensures filled { OnOk result ((1 ≤ length self.new.piece) ⊎ (self.new.exhausted ≡ true)) }
+        ensures come { (rest : List ℕ) (later : List (List ℕ))
+            → IsToCome (reading R.remaining self.new) rest later → IsToCome (reading R.remaining self.old) rest later }
+        ensures same { (self.new.opened ≡ self.old.opened) × (self.new.passed ≡ self.old.passed) }
+        ensures lacks { Lacks ⊥ (map R.failed self.old.readers.now) (map R.failed self.new.readers.now) result }
+    {
+        if self.exhausted || !self.piece.bytes().is_empty() {
+            return Ok(());
+        }
+        let partition = self.opened - 1;
+        match read_at(&mut self.piece, self.readers, partition as usize) {
+            Ok(count) => {
+                self.exhausted = count == 0;
+                Ok(())
+            }
+            Err(_) => Err(Lack::Device { partition }),
+        }
+    }
+
+    /// Passes what stands of the text in front of the bytes that are held: how many bytes.
+    fn pass_held(&mut self, text: &[u8]) -> Result<u64, Lack>
+        requires begun { 1 ≤ self.old.opened }
+        requires filled { (1 ≤ length self.old.piece) ⊎ (self.old.exhausted ≡ true) }
+        requires some { 1 ≤ length text.now }
+        ensures within { IfOk result (λ n. n ≤ length text.now) }
+        ensures come { IfOk result (λ n. (rest : List ℕ) (later : List (List ℕ))
+            → IsToCome (reading R.remaining self.new) rest later → IsToCome (reading R.remaining self.old) (take n text.now ++ rest) later) }
+        ensures none { IfOk result (λ n. n ≡ 0 → (rest : List ℕ) (later : List (List ℕ))
+            → IsToCome (reading R.remaining self.new) rest later → common_prefix_len nat_eq text.now rest ≡ 0) }
+        ensures passed { IfOk result (λ n. self.new.passed ≡ self.old.passed + n) }
+        ensures same { self.new.opened ≡ self.old.opened }
+        ensures lacks { Lacks ⊥ (map R.failed self.old.readers.now) (map R.failed self.new.readers.now) result }
+    {
+        if self.passed >= 1 << 63 {
+            return Err(Lack::TooLong);
+        }
+        let same = agreement(text, self.piece.bytes());
+        self.piece.pass(same as usize);
+        self.passed += same;
+        Ok(same)
+    }
+}
+
+impl<'a, R: CountedRead> Outputs for FromReaders<'a, R> {
+    ghost use Rattle.mr_judge.specs.Readers.{reading};
+    ghost use Rattle.mr_judge.specs.Reading.{IsToCome};
+
+    ghost gives = { λ o. IsToCome (reading R.remaining o) };
+
+    ghost place = { λ o. o.passed };
+
+    ghost begun = { λ o. 1 ≤ o.opened };
+
+    ghost failed = { λ o. map R.failed o.readers.now };
+
+    ghost steady = { ⊥ };
+
+    fn open_next(&mut self) {
+        self.exhausted = is_past(self.opened, self.readers.len() as u64);
+        self.opened = self.opened.saturating_add(1);
+        self.piece.clear();
+        self.passed = 0;
+    }
+
+    fn pass_text(&mut self, text: &[u8]) -> Result<bool, Lack> {
+        let mut wanted = text;
+        while !wanted.is_empty() {
+            self.fill()?;
+            let same = self.pass_held(wanted)?;
+            if same == 0 {
+                return Ok(false);
+            }
+            wanted = behind(wanted, same);
+        }
+        Ok(true)
+    }
+
+    fn is_passed(&mut self) -> Result<bool, Lack> {
+        self.fill()?;
+        Ok(self.piece.bytes().is_empty())
+    }
+
+    fn place(&self) -> u64 {
+        self.passed
+    }
+}

@@ -1,0 +1,6 @@
+pub mod NoLines
+pub mod YesLines
+pub mod Inputs
+pub mod Checks
+pub mod Verdicts
+pub mod Streamed

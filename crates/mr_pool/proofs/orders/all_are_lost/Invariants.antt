@@ -1,7 +1,0 @@
-use Rattle.std.proofs.Common.{◌≡◌, true, false, take}
-use Rattle.std.specs.List.{list_all, list_any, range_with_len}
-use Rattle.mr_pool.specs.Accounts.{fails_record, is_worker_lost, loses_some, loses_worker}
-use Rattle.mr_pool.proofs.orders.all_are_lost.Given as goal
-
-abbrev pub invariant-loop-worker : goal.invariant-loop-worker
-invariant-loop-worker l = list_all (is_worker_lost l.directives) (range_with_len 0 l.worker) ≡ true
