@@ -2,7 +2,8 @@
 
 The library `mr_task` is reached through the small program `mr_rows_tests`, which the gate leaves beside the checked one:
 it reads a file on standard input, and prints the bytes of the regions that each split has, run by run and partition by
-partition, and then the text, the counts and the names that the reduce task of each partition gives over all of them."""
+partition, and then the text, the counts and the names that the reduce task of each partition gives over all of them, its
+groups one by one, and what it consists of once more."""
 import random
 import re
 import subprocess
@@ -16,10 +17,14 @@ NAME = re.compile(r"Name \{ split: (\d+), rec: (\d+), place: (\d+) \}")
 LIMITS = [1, 2, 3, 7, 65536]
 
 
+def lines_of(request, data, limit, skips=()):
+    words = words_of("runs", NUMBER[request.job], request.parts, request.split, limit, *skips)
+    return subprocess.run(words, input=data + b"\0", capture_output=True).stdout.decode().splitlines()
+
+
 def told(request, data, limit):
     """The bytes of each split's regions, and what the reduce tasks give, as text and groups."""
-    words = words_of("runs", NUMBER[request.job], request.parts, request.split, limit)
-    lines = subprocess.run(words, input=data, capture_output=True).stdout.decode().splitlines()
+    lines = lines_of(request, data, limit)
     sealed = [[bytes_of(text) for text in line.split(";")[:-1]] for line in lines if "|" not in line]
     return sealed, [reduced(line) for line in lines if "|" in line]
 
@@ -28,13 +33,20 @@ def bytes_of(text):
     return bytes(int(n) for n in re.findall(r"\d+", text))
 
 
+def names_of(text):
+    return [tuple(int(n) for n in found) for found in NAME.findall(text)]
+
+
 def reduced(line):
-    text, counts, names = line.split("|")
-    flat = [tuple(int(n) for n in found) for found in NAME.findall(names)]
+    """The text and the groups; what is wrong where they aren't told alike each time."""
+    text, counts, names, one_by_one, *again = line.split("|")
+    flat = names_of(names)
     groups, at = [], 0
     for count in (int(n) for n in re.findall(r"\d+", counts)):
         groups.append(flat[at : at + count])
         at += count
+    if again != [text, counts, names] or [names_of(group) for group in one_by_one.split(";")[:-1]] != groups:
+        return "not told alike", line
     return bytes_of(text), groups
 
 
@@ -70,6 +82,24 @@ def worked(harness):
     harness.check("a region without pairs has 20 bytes", [sorted(len(one) for one in split) for split in sealed] == [[20, 38]])
 
 
+def whole_splits(harness):
+    """Tasks whose runs nobody limits, left-out records, and damaged regions, worked out by hand."""
+    data, twice_and_cut = b"b a b\n", ["RegionDamaged RegionDamaged"] * 2
+    words, lines_with = plain.Request("words", split=64), plain.Request("grep", split=64, literal=b"b")
+    lines = lines_of(words, data, 0)
+    harness.check("one run", len(lines) == 4 and lines[0].count(";") == 1 and len(bytes_of(lines[0])) == 74, repr(lines))
+    harness.check("a region twice, and one that is cut", lines[1:3] == twice_and_cut, repr(lines))
+    wanted = b"a\t1\nb\t2\n", [[(0, 0, 1)], [(0, 0, 0), (0, 0, 2)]]
+    harness.check("one run, reduced", [reduced(line) for line in lines if "|" in line] == [wanted], repr(lines))
+    lines = lines_of(words, data, 0, ["3 0"])
+    harness.check("nothing to reduce", lines == ["", "[]|[]|[]||[]|[]|[]"], repr(lines))
+    lines = lines_of(lines_with, b"xb\nno\nxb\n", 0)
+    harness.check("lines with a literal", len(lines) == 4 and lines[0].count(";") == 1, repr(lines))
+    harness.check("lines twice, and cut", lines[1:3] == twice_and_cut, repr(lines))
+    wanted = b"xb\t0:0\nxb\t0:6\n", [[(0, 0, 0), (0, 2, 0)]]
+    harness.check("lines with a literal, reduced", [reduced(line) for line in lines if "|" in line] == [wanted], repr(lines))
+
+
 def random_runs(harness):
     rnd = random.Random(65536)
     for number in range(100):
@@ -81,4 +111,4 @@ def random_runs(harness):
             harness.check(f"input {number} in runs of {limit}", told(request, data, limit) == (regions_of(request, data, limit), wanted))
 
 
-GROUPS = {"runs of a map task": built("mr_rows_tests", worked), "random runs of map tasks": built("mr_rows_tests", random_runs)}
+GROUPS = {"runs of a map task": built("mr_rows_tests", worked), "runs of whole splits": built("mr_rows_tests", whole_splits), "random runs of map tasks": built("mr_rows_tests", random_runs)}

@@ -1,5 +1,6 @@
 //! The kernels. A case on standard input is the number of a kernel in one byte,
 //! and two texts, each behind its length in four bytes, the highest first. A line tells what the kernel answers.
+use crate::{jobs, plain};
 use mr_bytes::{Span, cut};
 use mr_lanes::{
     find_folded, first_difference, fold_into, hash8, line_ends, next_word, planes, word_spans,
@@ -124,7 +125,9 @@ fn answer_case(rt: &HostRuntime, case: Case<'_>) -> io::Result<()> {
         4 => println!(rt; "{:?}", find_folded(a, b)),
         5 => println!(rt; "{:?}", first_difference(a, b)),
         6 => show_hashes(rt, a, b.len()),
-        _ => show_each_word(rt, a),
+        7 => show_each_word(rt, a),
+        8..=29 => plain::answer(rt, kernel, a, b),
+        _ => jobs::answer(rt, kernel, a, b),
     }
 }
 

@@ -4,7 +4,7 @@ use mr_core::{Core, Event, Limits, Task};
 use std::io;
 
 /// The numbers of a line; what is missing or is no number is 0.
-fn numbers_of(line: &str) -> [u32; 6] {
+pub fn numbers_of(line: &str) -> [u32; 6] {
     let mut numbers = [0; 6];
     for (number, word) in numbers.iter_mut().zip(line.split(' ')) {
         *number = word.parse().unwrap_or(0);

@@ -8,7 +8,7 @@ use std::alloc::{AllocError, Global};
 use std::io;
 
 /// The numbers of a line; what is no number is 0.
-fn numbers_of(alloc: Global, line: &str) -> Result<Vec<u32>, AllocError> {
+pub fn numbers_of(alloc: Global, line: &str) -> Result<Vec<u32>, AllocError> {
     let mut numbers = Vec::new(alloc);
     for word in line.split(' ') {
         numbers.push(word.parse().unwrap_or(0))?;
@@ -26,7 +26,7 @@ fn bytes_of(alloc: Global, numbers: &[u32]) -> Result<Vec<u8>, AllocError> {
 }
 
 /// Tells the pairs.
-fn show_pairs(rt: &HostRuntime, pairs: &Pairs) -> io::Result<()> {
+pub fn show_pairs(rt: &HostRuntime, pairs: &Pairs) -> io::Result<()> {
     for i in 0..pairs.len() {
         print!(rt;
             "|{:?} {:?} {:?}",

@@ -1,47 +1,55 @@
 //! Tasks whose runs end at a limit. The words behind the first are the job (0 for words, 1 for
-//! lines with `b`, 2 for links), how many partitions there are, the size of a split, and how many pairs a run has at most.
-//! Standard input is the one file, each line ended by LF. For each split a line tells the bytes of its regions,
-//! those of all partitions run by run; and for each partition a line its text, how many names each group has, and all names.
-use mr_input::Input;
+//! lines with `b`, 2 for links), how many partitions there are, the size of a split, and how many pairs a run has at most,
+//! 0 for as many as there are where nobody says; behind them may be a list of the records that each split leaves out.
+//! Standard input is the files, each ended by a byte 0. For each split a line tells the bytes of its regions,
+//! those of all partitions run by run; and for each partition a line its text, how many names each group has, all names,
+//! the groups one by one, and the first three again. Where nobody says how many pairs a run has, what comes of a region
+//! twice and of one without its first byte is told too.
+ghost use Rattle.std.specs.Prelude.{◌<◌, ◌≤◌};
+ghost use Rattle.mr_input.specs.Files.{split_total};
+
+use crate::inputs::{input, numbers_of};
+use crate::regions::numbers_of as numbers_in;
 use mr_jobs::Job;
 use mr_spill::Region;
 use mr_splits::Plan;
-use mr_task::{MapOutput, map_task_with, reduce_task};
+use mr_task::{MapOutput, ReduceOutput, map_task, map_task_with, reduce_task};
 use std::alloc::{AllocError, Global};
 use std::io;
 
-/// The numbers that the program is given; what is missing or is no number is 0.
-fn numbers_of(words: &[String]) -> [u32; 4] {
-    let mut numbers = [0; 4];
-    for (number, word) in numbers.iter_mut().zip(words) {
-        *number = word.as_str().parse().unwrap_or(0);
+/// The numbers of the fifth word, where there is one.
+fn skips_of(alloc: Global, words: &[String]) -> Result<Vec<u32>, AllocError> {
+    match words.get(4) {
+        Some(list) => numbers_in(alloc, list.as_str()),
+        None => Ok(Vec::new(alloc)),
     }
-    numbers
 }
 
-/// The lines of standard input.
-fn text(rt: &HostRuntime) -> io::Result<Vec<u8>> {
-    let mut bytes = Vec::new(rt.alloc());
-    for line in rt.lines(rt.alloc()) {
-        let line = line?;
-        bytes.extend_from_slice(line.as_str().as_bytes())?;
-        bytes.push(b'\n')?;
-    }
-    Ok(bytes)
-}
-
-fn input_of(rt: &HostRuntime) -> io::Result<Option<Input>> {
-    let bytes = text(rt)?;
-    let mut files = Vec::new(rt.alloc());
-    files.push(bytes)?;
-    Ok(Input::of(files).ok())
-}
-
-fn job_of(alloc: Global, number: u32) -> Option<Job> {
+pub fn job_of(alloc: Global, number: u32) -> Option<Job> {
     match number {
         0 => Some(Job::words(false)),
         1 => Job::grep(alloc, b"b", false).ok(),
         _ => Some(Job::url()),
+    }
+}
+
+/// What the map task of a split gives, by its own limit where there is no other.
+fn map_split(
+    alloc: Global,
+    plan: &Plan<'_>,
+    job: &Job,
+    parts: u32,
+    split: u32,
+    skips: &[u32],
+    limit: usize,
+) -> Result<MapOutput, AllocError>
+    requires parts { 1 ≤ parts }
+    requires split { split < split_total plan.now.size plan.now.files }
+{
+    if limit < 1 {
+        map_task(alloc, plan, job, parts, split, skips)
+    } else {
+        map_task_with(alloc, plan, job, parts, split, skips, limit)
     }
 }
 
@@ -52,13 +60,14 @@ fn mapped(
     job: &Job,
     parts: u32,
     limit: usize,
+    skips: &[u32],
 ) -> Result<Vec<MapOutput>, AllocError> {
     let mut outputs = Vec::new(alloc);
-    if parts < 1 || limit < 1 {
+    if parts < 1 {
         return Ok(outputs);
     }
     for split in 0..plan.splits() {
-        outputs.push(map_task_with(alloc, plan, job, parts, split, &[], limit)?)?;
+        outputs.push(map_split(alloc, plan, job, parts, split, skips, limit)?)?;
     }
     Ok(outputs)
 }
@@ -90,6 +99,49 @@ fn show_regions(rt: &HostRuntime, output: &MapOutput) -> io::Result<()> {
     println!(rt; "")
 }
 
+/// Tells the groups one by one.
+fn show_groups(rt: &HostRuntime, reduced: &ReduceOutput) -> io::Result<()> {
+    let mut groups = reduced.groups();
+    for _ in 0..u64::MAX {
+        match groups.next() {
+            Some(names) => print!(rt; "{names:?};")?,
+            None => break,
+        }
+    }
+    Ok(())
+}
+
+fn show_parts(rt: &HostRuntime, reduced: ReduceOutput) -> io::Result<()> {
+    let (text, counts, names) = reduced.into_parts();
+    println!(rt; "|{text:?}|{counts:?}|{names:?}")
+}
+
+/// Tells all that there is, the groups one by one, and all again.
+fn show_output(rt: &HostRuntime, reduced: ReduceOutput) -> io::Result<()> {
+    let (counts, names) = reduced.flat_groups();
+    print!(rt; "{:?}|{counts:?}|{names:?}|", reduced.text())?;
+    show_groups(rt, &reduced)?;
+    show_parts(rt, reduced)
+}
+
+fn show_fault(rt: &HostRuntime, job: &Job, regions: &[Region<'_>]) -> io::Result<()> {
+    match reduce_task(rt.alloc(), job, 0, regions) {
+        Ok(_) => println!(rt; "no fault"),
+        Err(fault) => println!(rt; "{fault} {fault:?}"),
+    }
+}
+
+/// Tells what the reduce task answers to a region twice, and to one without its first byte.
+fn show_damaged(rt: &HostRuntime, job: &Job, output: &MapOutput) -> io::Result<()> {
+    if output.parts() < 1 || output.runs() < 1 {
+        return Ok(());
+    }
+    let twice = [output.region(0, 0), output.region(0, 0)];
+    show_fault(rt, job, &twice)?;
+    let bytes = output.region(0, 0).bytes();
+    show_fault(rt, job, &[Region::of(bytes.get(1..).unwrap_or(&[]), 0)])
+}
+
 /// Tells what the reduce task of a partition gives.
 fn show_reduced(
     rt: &HostRuntime,
@@ -99,18 +151,25 @@ fn show_reduced(
 ) -> io::Result<()> {
     let regions = regions_of(rt.alloc(), outputs, partition)?;
     match reduce_task(rt.alloc(), job, partition, regions.as_slice()) {
-        Ok(reduced) => {
-            let (counts, names) = reduced.flat_groups();
-            println!(rt; "{:?}|{:?}|{:?}", reduced.text(), counts, names)
-        }
+        Ok(reduced) => show_output(rt, reduced),
         Err(fault) => println!(rt; "{:?}", fault),
     }
 }
 
-fn work(rt: &HostRuntime, plan: &Plan<'_>, job: &Job, parts: u32, limit: u32) -> io::Result<()> {
-    let outputs = mapped(rt.alloc(), plan, job, parts, limit as usize)?;
+fn work(
+    rt: &HostRuntime,
+    plan: &Plan<'_>,
+    job: &Job,
+    numbers: [u32; 4],
+    skips: &[u32],
+) -> io::Result<()> {
+    let [_, parts, _, limit] = numbers;
+    let outputs = mapped(rt.alloc(), plan, job, parts, limit as usize, skips)?;
     for output in &outputs {
         show_regions(rt, output)?;
+        if limit < 1 {
+            show_damaged(rt, job, output)?;
+        }
     }
     for partition in 0..parts {
         show_reduced(rt, job, outputs.as_slice(), partition)?;
@@ -120,15 +179,17 @@ fn work(rt: &HostRuntime, plan: &Plan<'_>, job: &Job, parts: u32, limit: u32) ->
 
 /// Answers standard input, by these words.
 pub fn answer(rt: &HostRuntime, words: &[String]) -> io::Result<()> {
-    let [number, parts, size, limit] = numbers_of(words);
-    let Some(input) = input_of(rt)? else {
+    let numbers = numbers_of(words);
+    let [number, _, size, _] = numbers;
+    let skips = skips_of(rt.alloc(), words)?;
+    let Some(input) = input(rt)? else {
         return Ok(());
     };
     let Some(job) = job_of(rt.alloc(), number) else {
         return Ok(());
     };
     match Plan::of(rt.alloc(), &input, size) {
-        Ok(plan) => work(rt, &plan, &job, parts, limit),
+        Ok(plan) => work(rt, &plan, &job, numbers, &skips),
         Err(_) => Ok(()),
     }
 }

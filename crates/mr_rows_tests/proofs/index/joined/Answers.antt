@@ -1,6 +1,6 @@
 use Rattle.std.proofs.Common.{arith}
 use Rattle.mr_index.specs.Index.{AreParts}
-use Rattle.mr_ground_tests.proofs.index.joined.Goals as goal
+use Rattle.mr_rows_tests.proofs.index.joined.Goals as goal
 
 pub join-requires : goal.join-requires
 join-requires c =

@@ -1,10 +1,10 @@
 use Rattle.std.proofs.Common.{arith}
 use Rattle.mr_splits.specs.Cut.{records_of}
 use Rattle.mr_index.proofs.WorkLemmas.{mapped-few}
-use Rattle.mr_ground_tests.proofs.index.index_of.Goals as goal
+use Rattle.mr_rows_tests.proofs.index.watched_index.Goals as goal
 
-pub of-requires : goal.of-requires
-of-requires c =
+pub of_watched-requires : goal.of_watched-requires
+of_watched-requires c =
     omega (
       arith,
       c.requires,

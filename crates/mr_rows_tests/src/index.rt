@@ -1,0 +1,179 @@
+//! The index of what a job emits, mapped all at once, while somebody looks on, or split by split. The words behind the
+//! first are which of these three (0 to 2), the job, the size of a split, and the names of left-out records, as
+//! SPLIT:RECORD. Standard input is the files, each ended by a byte 0.
+ghost use Rattle.std.specs.Prelude.{◌≡◌, ◌<◌, ◌≤◌, ◌^◌, IfOk};
+ghost use Rattle.mr_input.specs.Files.{split_total};
+ghost use Rattle.mr_index.specs.Index.{triples_in, triples_of};
+
+use crate::inputs::{input, numbers_of, skips_of};
+use crate::runs::job_of;
+use mr_bytes::{Name, RecordName};
+use mr_index::{EmissionIndex, Meter, Part};
+use mr_jobs::Job;
+use mr_splits::{Kept, Plan};
+use mr_watch::{Phase, Watch};
+use std::alloc::{AllocError, Global};
+use std::io;
+use std::sync::atomic::{AtomicU64, Ordering};
+
+const UNUSED: Meter = Meter {
+    lookups: 0,
+    mapped: 0,
+};
+
+/// The index over a plan, counted by a meter that has room for a whole input.
+fn index_of(
+    alloc: Global,
+    plan: &Plan<'_>,
+    job: &Job,
+    skips: &[RecordName],
+    meter: &mut Meter,
+) -> Result<EmissionIndex, AllocError>
+    requires { meter.old.mapped ≤ 2 ^ 63 }
+{
+    // A plan has far fewer records than a u64 counts.
+    let _few = plan.count();
+    EmissionIndex::of(alloc, plan, job, skips, meter)
+}
+
+/// Counts what it is told, and how often more was done than there is in all.
+#[derive(Drop)]
+struct Counting {
+    told: AtomicU64,
+    past: AtomicU64,
+}
+
+impl Watch for Counting {
+    fn tell(&self, _phase: Phase, done: u64, all: u64) {
+        self.told.fetch_add(1, Ordering::SeqCst);
+        if all < done {
+            self.past.fetch_add(1, Ordering::SeqCst);
+        }
+    }
+
+    fn lost(&self) {}
+}
+
+/// The index over a plan, built while somebody looks on.
+fn watched_index(
+    alloc: Global,
+    plan: &Plan<'_>,
+    job: &Job,
+    skips: &[RecordName],
+    meter: &mut Meter,
+    watch: &Counting,
+) -> Result<EmissionIndex, AllocError>
+    requires { meter.old.mapped ≤ 2 ^ 63 }
+{
+    // A plan has far fewer records than a u64 counts.
+    let _few = plan.count();
+    EmissionIndex::of_watched(alloc, plan, job, skips, meter, watch)
+}
+
+/// The part of a split: from the list of left-out records where its number is even, and else from the plan without them.
+fn part_of(
+    alloc: Global,
+    plan: &Plan<'_>,
+    kept: &Kept<'_>,
+    job: &Job,
+    skips: &[RecordName],
+    split: u32,
+) -> Result<Part, AllocError>
+    requires split { split < split_total plan.now.size plan.now.files }
+    requires kept { kept.now ≡ record { cut = plan.now; skips = skips.now } }
+    ensures { IfOk result (λ r. r ≡ triples_in split (triples_of job.now plan.now skips.now)) }
+{
+    if split % 2 == 0 {
+        EmissionIndex::part(alloc, plan, job, skips, split)
+    } else {
+        EmissionIndex::part_of(alloc, kept, job, split)
+    }
+}
+
+/// The index of a plan's splits, each mapped apart.
+fn joined(
+    alloc: Global,
+    plan: &Plan<'_>,
+    job: &Job,
+    skips: &[RecordName],
+) -> Result<EmissionIndex, AllocError> {
+    // A plan's size is at least 1.
+    let _size = plan.size();
+    let splits = plan.splits();
+    let kept = plan.kept(alloc, skips)?;
+    let mut parts = Vec::new(alloc);
+    for split in 0..splits {
+        parts.push(part_of(alloc, plan, &kept, job, skips, split)?)?;
+    }
+    Ok(EmissionIndex::join(parts))
+}
+
+/// The pair of that name, as it is found and as it is told, where there is one.
+fn show_pair(rt: &HostRuntime, index: &EmissionIndex, name: Name) -> io::Result<()> {
+    let mut meter = UNUSED;
+    let found = match index.find(name, &mut meter) {
+        Some(found) => Some(found.get()),
+        None => None,
+    };
+    let pair = index.pair(name, &mut meter);
+    if found.is_none() && pair.is_none() {
+        return Ok(());
+    }
+    println!(rt; "{name:?} {found:?} {pair:?} {}", meter.lookups)
+}
+
+/// The pairs of the first four splits, of four records there, and of four places in each.
+fn show_index(rt: &HostRuntime, index: &EmissionIndex) -> io::Result<()> {
+    for number in 0..64u32 {
+        let name = Name {
+            split: number / 16,
+            rec: number / 4 % 4,
+            place: number % 4,
+        };
+        show_pair(rt, index, name)?;
+    }
+    Ok(())
+}
+
+fn work(
+    rt: &HostRuntime,
+    plan: &Plan<'_>,
+    job: &Job,
+    skips: &[RecordName],
+    way: u32,
+) -> io::Result<()> {
+    let mut meter = UNUSED;
+    let watch = Counting {
+        told: AtomicU64::new(0),
+        past: AtomicU64::new(0),
+    };
+    let index = match way {
+        0 => index_of(rt.alloc(), plan, job, skips, &mut meter),
+        1 => watched_index(rt.alloc(), plan, job, skips, &mut meter, &watch),
+        _ => joined(rt.alloc(), plan, job, skips),
+    };
+    let index = index?;
+    println!(rt;
+        "{} {meter:?} told {} past {}",
+        index.total(),
+        watch.told.load(Ordering::SeqCst),
+        watch.past.load(Ordering::SeqCst)
+    )?;
+    show_index(rt, &index)
+}
+
+/// Answers standard input, by these words.
+pub fn answer(rt: &HostRuntime, words: &[String]) -> io::Result<()> {
+    let [way, number, size, _] = numbers_of(words);
+    let skips = skips_of(rt.alloc(), words)?;
+    let Some(input) = input(rt)? else {
+        return Ok(());
+    };
+    let Some(job) = job_of(rt.alloc(), number) else {
+        return Ok(());
+    };
+    match Plan::of(rt.alloc(), &input, size) {
+        Ok(plan) => work(rt, &plan, &job, &skips, way),
+        Err(_) => Ok(()),
+    }
+}

@@ -1,0 +1,87 @@
+"""Buffers sealed into regions, and regions merged, on rows worked out by hand.
+
+The libraries `mr_spill` and `mr_merge` are reached through the small program `mr_rows_tests`, which the gate leaves beside
+the checked one. For two partitions a key's is 1 less the parity of its odd bytes."""
+from ground import at, listed, named
+from libraries import built, told
+
+# A buffer with the pairs of `b a b`, sealed for one partition and for two; one of two pairs refuses the third.
+SEALED = [
+    [[(b"a", "One", 1), (b"b", "One", 0), (b"b", "One", 2)]],
+    [[(b"a", "One", 1)], [(b"b", "One", 0), (b"b", "One", 2)]],
+]
+
+
+def buffers(harness):
+    wanted = []
+    for regions in SEALED:
+        for region in regions:
+            wanted.append("".join(f"|{listed(key)} {value} {named(0, 0, place)}" for key, value, place in region))
+        # it holds no pairs then, and seals as many regions without any
+        wanted += ["0"] + [""] * len(regions)
+    wanted.append("BufferFull BufferFull")
+    # of the mark that it is sealed no clause speaks
+    wanted += ["1 0", "true 38"]
+    wanted.append(f"BufferFull BufferFull(Pair {{ key: {listed(b'y')}, value: One, name: {named(0, 0, 5)} }})")
+    wanted.append("OutOfMemory")
+    lines = told("buffer", b"")
+    harness.check("a buffer", lines == wanted, repr(lines))
+
+
+# Regions, each a list of pairs: a key of one byte, a value (None, or a file and an offset), the split and the place. What
+# they are merged to: for each key the values, and then all names; or the fault.
+
+FIRST = [(b"a", None, 0, 1), (b"b", None, 0, 0), (b"b", (3, 9), 0, 2)]
+MERGED = [
+    ("one region", [FIRST], [(b"a", [None]), (b"b", [None, (3, 9)])], [(0, 1), (0, 0), (0, 2)]),
+    (
+        "three regions, the first one in the middle",
+        [[(b"b", None, 2, 0)], FIRST, [(b"b", None, 1, 5)]],
+        [(b"a", [None]), (b"b", [None, (3, 9), None, None])],
+        [(0, 1), (0, 0), (0, 2), (1, 5), (2, 0)],
+    ),
+    ("no region", [], [], []),
+    ("regions without pairs", [[], []], [], []),
+]
+DAMAGED = [
+    ("a region twice", [FIRST, FIRST]),
+    ("a region that falls", [[(b"b", None, 0, 0), (b"a", None, 0, 1)]]),
+    ("a name under two keys", [FIRST, [(b"c", None, 0, 2)]]),
+]
+# A region needs no order to be looked at.
+FALLING = [(b"b", None, 0, 7), (b"a", None, 0, 3)]
+
+
+def names(places):
+    return f"[{', '.join(named(split, 0, place) for split, place in places)}]"
+
+
+def line_of(region):
+    pairs = ((key[0], split, place, *(value or (0, 0))) for key, value, split, place in region)
+    return " ".join(str(number) for pair in pairs for number in pair) + "\n"
+
+
+def merged(regions):
+    """What is told of the regions, and what they are merged to."""
+    lines = told("merging", "".join(map(line_of, regions)).encode())
+    return lines[:-1], lines[-1:]
+
+
+def shown(regions):
+    """The names of each region, and of one with room for them."""
+    return [f"{names((split, place) for _, _, split, place in region)} 0 []" for region in regions]
+
+
+def merging(harness):
+    for what, regions, groups, all_names in MERGED:
+        values = lambda own: "".join(" One" if value is None else f" {at(*value)}" for value in own)
+        wanted = "".join(f"{listed(key)} {len(own)}{values(own)}|" for key, own in groups)
+        answer = merged(regions)
+        harness.check(what, answer == (shown(regions), [f"{len(groups)} {wanted}{names(all_names)}"]), repr(answer))
+    for what, regions in DAMAGED:
+        answer = merged(regions)
+        harness.check(what, answer == (shown(regions), ["RegionDamaged RegionDamaged"]), repr(answer))
+    harness.check("names of a region that falls", merged([FALLING])[0] == shown([FALLING]))
+
+
+GROUPS = {"buffers": built("mr_rows_tests", buffers), "regions merged": built("mr_rows_tests", merging)}
