@@ -52,43 +52,118 @@ fn done<G: Gate, R: Threads + Wait + Sync>(
     })
 }
 
-fn main(rt: HostRuntime) -> io::Result<()> {
-    let alloc = rt.alloc();
-    let words: Vec<String> = env::args(&rt)?.skip(1).collect(alloc)?;
-    let Some((mode, words)) = words.as_slice().split_first() else {
-        return Ok(());
-    };
-    if mode.as_str() == "book" {
-        return book::answer(&rt, words);
+// Each mode has a function of its own: what a function holds at once is what its proof costs.
+
+/// A run whose first attempt is held, and whether a second one went on meanwhile.
+fn held<R: Threads + Wait + Sync>(
+    threads: &R,
+    rt: &HostRuntime,
+    alloc: Global,
+    order: &Order,
+) -> io::Result<()> {
+    let gate = Holding::new();
+    telling::answer(rt, &done(threads, alloc, order, &gate, None), false)?;
+    println!(rt; "gate {}", gate.says())
+}
+
+/// A run, and what who looks on is told.
+fn watched<R: Threads + Wait + Sync>(
+    threads: &R,
+    rt: &HostRuntime,
+    alloc: Global,
+    order: &Order,
+) -> io::Result<()> {
+    let watch = Tally::new();
+    telling::answer(
+        rt,
+        &done(threads, alloc, order, &OpenGate, Some(&watch)),
+        false,
+    )?;
+    watch.show(rt)
+}
+
+/// What threads say of a run's result.
+fn judged<R: Threads + Wait + Sync>(
+    threads: &R,
+    rt: &HostRuntime,
+    alloc: Global,
+    order: &Order,
+) -> io::Result<()> {
+    match done(threads, alloc, order, &OpenGate, None) {
+        Some(Ok(certified)) => {
+            let gate = PhasesHeld::of(&certified);
+            let verdict = judging::judged(threads, alloc, order, &certified, &gate);
+            judging::show(rt, &verdict, &gate)
+        }
+        _ => println!(rt; "nothing to judge"),
     }
+}
+
+/// A run, with its events where they are asked for.
+fn ran<R: Threads + Wait + Sync>(
+    threads: &R,
+    rt: &HostRuntime,
+    alloc: Global,
+    order: &Order,
+    has_events: bool,
+) -> io::Result<()> {
+    telling::answer(
+        rt,
+        &done(threads, alloc, order, &OpenGate, None),
+        has_events,
+    )
+}
+
+/// Answers an order in a mode.
+fn answer<R: Threads + Wait + Sync>(
+    threads: &R,
+    rt: &HostRuntime,
+    alloc: Global,
+    mode: &str,
+    order: &Order,
+) -> io::Result<()> {
+    match mode {
+        "gate" => held(threads, rt, alloc, order),
+        "watch" => watched(threads, rt, alloc, order),
+        "judge" => judged(threads, rt, alloc, order),
+        "tickets" => judging::show_draws(rt, alloc),
+        _ => ran(threads, rt, alloc, order, mode == "history"),
+    }
+}
+
+/// Reads the order, and answers it in its mode.
+fn ordered<R: Threads + Wait + Sync>(
+    threads: &R,
+    rt: &HostRuntime,
+    mode: &str,
+    words: &[String],
+) -> io::Result<()> {
+    let alloc = rt.alloc();
     let mut text = Vec::new(alloc);
     rt.stdin().read_to_end(&mut text)?;
-    let Some(order) = asked::order_of(alloc, words, text.as_slice())? else {
-        return println!(rt; "refused");
-    };
-    let (gate, watch) = (Holding::new(), Tally::new());
-    match mode.as_str() {
-        "gate" => {
-            telling::answer(&rt, &done(&rt, alloc, &order, &gate, None), false)?;
-            println!(rt; "gate {}", gate.says())
-        }
-        "watch" => {
-            let answer = done(&rt, alloc, &order, &OpenGate, Some(&watch));
-            telling::answer(&rt, &answer, false)?;
-            watch.show(&rt)
-        }
-        "judge" => match done(&rt, alloc, &order, &OpenGate, None) {
-            Some(Ok(certified)) => {
-                let gate = PhasesHeld::of(&certified);
-                let verdict = judging::judged(&rt, alloc, &order, &certified, &gate);
-                judging::show(&rt, &verdict, &gate)
-            }
-            _ => println!(rt; "nothing to judge"),
-        },
-        "tickets" => judging::show_draws(&rt, alloc),
-        mode => {
-            let answer = done(&rt, alloc, &order, &OpenGate, None);
-            telling::answer(&rt, &answer, mode == "history")
-        }
+    match asked::order_of(alloc, words, text.as_slice())? {
+        Some(order) => answer(threads, rt, alloc, mode, &order),
+        None => println!(rt; "refused"),
+    }
+}
+
+/// Answers by the mode, and the words behind it.
+fn moded<R: Threads + Wait + Sync>(
+    threads: &R,
+    rt: &HostRuntime,
+    mode: &str,
+    words: &[String],
+) -> io::Result<()> {
+    if mode == "book" {
+        return book::answer(rt, words);
+    }
+    ordered(threads, rt, mode, words)
+}
+
+fn main(rt: HostRuntime) -> io::Result<()> {
+    let words: Vec<String> = env::args(&rt)?.skip(1).collect(rt.alloc())?;
+    match words.split_first() {
+        Some((mode, behind)) => moded(&rt, &rt, mode.as_str(), behind),
+        None => Ok(()),
     }
 }
