@@ -1,69 +1,61 @@
 //! Outputs of shards, merged: worked rows, and each refusal.
 use mr_jobs::Job;
 use mr_shards::{MergeFault, Output, merge_parts};
-use std::alloc::Global;
+use std::alloc::{AllocError, Global};
 use std::test::Fail;
+
+// Whether outputs of so many files each, with these texts, are merged to that text.
+fn merges_to(
+    alloc: Global,
+    job: &Job,
+    texts: &[(u32, &[u8])],
+    want: &[u8],
+) -> Result<bool, MergeFault> {
+    let mut outputs = Vec::new(alloc);
+    for (files, text) in texts {
+        outputs
+            .push(Output {
+                files: *files,
+                text,
+            })
+            .map_err(AllocError::from)?;
+    }
+    Ok(merge_parts(alloc, job, outputs.as_slice())?.as_slice() == want)
+}
 
 #[test]
 fn totals_are_added(rt: HostRuntime) -> Result<(), Fail> {
-    let alloc = rt.alloc();
-    let first = Output {
-        files: 2,
-        text: b"a\t2\nthe\t7\n",
-    };
-    let second = Output {
-        files: 1,
-        text: b"",
-    };
-    let third = Output {
-        files: 3,
-        text: b"b\t1\nthe\t40\nzoo\t1\n",
-    };
-    let merged = merge_parts(alloc, &Job::words(false), &[first, second, third])?;
-    assert_eq!(rt;
-        merged.as_slice(),
-        b"a\t2\nb\t1\nthe\t47\nzoo\t1\n".as_slice()
-    );
+    let texts = [
+        (2, b"a\t2\nthe\t7\n".as_slice()),
+        (1, b"".as_slice()),
+        (3, b"b\t1\nthe\t40\nzoo\t1\n".as_slice()),
+    ];
+    let want = b"a\t2\nb\t1\nthe\t47\nzoo\t1\n".as_slice();
+    assert!(rt; merges_to(rt.alloc(), &Job::words(false), &texts, want)?);
     Ok(())
 }
 
 #[test]
 fn keys_may_hold_tabs(rt: HostRuntime) -> Result<(), Fail> {
-    let alloc = rt.alloc();
-    let first = Output {
-        files: 1,
-        text: b"/a\tb\t2\n/c\t1\n",
-    };
-    let second = Output {
-        files: 1,
-        text: b"/a\t9\n/a\tb\t3\n",
-    };
-    let merged = merge_parts(alloc, &Job::url(), &[first, second])?;
-    assert_eq!(rt; merged.as_slice(), b"/a\t9\n/a\tb\t5\n/c\t1\n".as_slice());
+    let texts = [
+        (1, b"/a\tb\t2\n/c\t1\n".as_slice()),
+        (1, b"/a\t9\n/a\tb\t3\n".as_slice()),
+    ];
+    let want = b"/a\t9\n/a\tb\t5\n/c\t1\n".as_slice();
+    assert!(rt; merges_to(rt.alloc(), &Job::url(), &texts, want)?);
     Ok(())
 }
 
 #[test]
 fn places_follow_by_file(rt: HostRuntime) -> Result<(), Fail> {
-    let alloc = rt.alloc();
-    let job = Job::grep(alloc, b"x", false)?;
-    let first = Output {
-        files: 2,
-        text: b"ax\t0:0\nx\t1:7\nx\t1:9\n",
-    };
-    let second = Output {
-        files: 1,
-        text: b"x\t0:3\nzx\t0:5\n",
-    };
-    let third = Output {
-        files: 1,
-        text: b"x\t0:1\n",
-    };
-    let merged = merge_parts(alloc, &job, &[first, second, third])?;
-    assert_eq!(rt;
-        merged.as_slice(),
-        b"ax\t0:0\nx\t1:7\nx\t1:9\nx\t2:3\nx\t3:1\nzx\t2:5\n".as_slice()
-    );
+    let texts = [
+        (2, b"ax\t0:0\nx\t1:7\nx\t1:9\n".as_slice()),
+        (1, b"x\t0:3\nzx\t0:5\n".as_slice()),
+        (1, b"x\t0:1\n".as_slice()),
+    ];
+    let want = b"ax\t0:0\nx\t1:7\nx\t1:9\nx\t2:3\nx\t3:1\nzx\t2:5\n".as_slice();
+    let job = Job::grep(rt.alloc(), b"x", false)?;
+    assert!(rt; merges_to(rt.alloc(), &job, &texts, want)?);
     Ok(())
 }
 

@@ -53,100 +53,110 @@ fn in_windows(
     Err(MergeFault::OutOfMemory)
 }
 
+// Two texts, and what comes of them in windows of each width from there on: the merged text, or that line 3 of the first
+// is bad.
+#[derive(Clone, Copy)]
+struct Row<'a> {
+    first: &'a [u8],
+    second: &'a [u8],
+    from: usize,
+    grows: bool,
+    want: Option<&'a [u8]>,
+}
+
+// Whether this comes of windows of that width.
+fn comes_to(alloc: Global, job: &Job, row: &Row<'_>, width: usize) -> Result<bool, MergeFault> {
+    let more = if row.grows { width } else { 0 };
+    match in_windows(alloc, job, row.first, row.second, width, more) {
+        Ok(merged) => Ok(row.want.is_some_and(|want| merged.as_slice() == want)),
+        Err(MergeFault::BadLine { shard: 0, line: 3 }) => Ok(row.want.is_none()),
+        Err(fault) => Err(fault),
+    }
+}
+
+// Whether it comes of windows of each width.
+fn always_comes_to(alloc: Global, job: &Job, row: &Row<'_>) -> Result<bool, MergeFault> {
+    for width in row.from..40 {
+        if !comes_to(alloc, job, row, width)? {
+            return Ok(false);
+        }
+    }
+    Ok(true)
+}
+
+/// As whole outputs are merged; lines of one key and place by place; places that fall within a key.
 #[test]
-fn windows_of_each_width(rt: HostRuntime) -> Result<(), Fail> {
-    let alloc = rt.alloc();
-    let job = Job::grep(alloc, b"x", false)?;
-    let first = b"ax\t0:0\nx\t1:7\nx\t1:9\nyx\t0:4\n";
-    let second = b"x\t0:3\nzx\t0:5\n";
-    let outputs = [
-        Output {
-            files: 2,
-            text: first,
+fn lines_with_places(rt: HostRuntime) -> Result<(), Fail> {
+    let job = Job::grep(rt.alloc(), b"x", false)?;
+    for row in [
+        Row {
+            first: b"ax\t0:0\nx\t1:7\nx\t1:9\nyx\t0:4\n",
+            second: b"x\t0:3\nzx\t0:5\n",
+            from: 1,
+            grows: true,
+            want: Some(b"ax\t0:0\nx\t1:7\nx\t1:9\nx\t2:3\nyx\t0:4\nzx\t2:5\n"),
         },
-        Output {
-            files: 1,
-            text: second,
+        Row {
+            first: b"x\t0:0\nx\t0:2\nx\t0:4\nx\t1:0\nx\t1:2\nx\t1:4\ny\t0:6\n",
+            second: b"a\t0:8\nx\t0:0\nx\t0:2\nx\t0:4\nx\t0:6\n",
+            from: 12,
+            grows: false,
+            want: Some(
+                b"a\t2:8\nx\t0:0\nx\t0:2\nx\t0:4\nx\t1:0\nx\t1:2\nx\t1:4\nx\t2:0\nx\t2:2\nx\t2:4\nx\t2:6\ny\t0:6\n",
+            ),
         },
-    ];
-    let whole = merge_parts(alloc, &job, &outputs)?;
-    assert_eq!(rt;
-        whole.as_slice(),
-        b"ax\t0:0\nx\t1:7\nx\t1:9\nx\t2:3\nyx\t0:4\nzx\t2:5\n".as_slice()
-    );
-    for width in 1..40 {
-        let merged = in_windows(alloc, &job, first, second, width, width)?;
-        assert_eq!(rt; merged.as_slice(), whole.as_slice());
+        Row {
+            first: b"x\t0:0\nx\t0:2\nx\t0:4\nax\t0:6\n",
+            second: b"x\t0:0\nx\t0:2\n",
+            from: 1,
+            grows: true,
+            want: None,
+        },
+    ] {
+        assert!(rt; always_comes_to(rt.alloc(), &job, &row)?);
     }
     Ok(())
 }
 
+/// Totals of one key come together; a key falls behind a piece.
 #[test]
-fn a_key_that_falls_behind_a_piece(rt: HostRuntime) -> Result<(), Fail> {
-    let alloc = rt.alloc();
+fn lines_with_totals(rt: HostRuntime) -> Result<(), Fail> {
     let job = Job::words(false);
-    for width in 1..40 {
-        let merged = in_windows(
-            alloc,
-            &job,
-            b"a\t1\nb\t1\nc\t2\nbb\t1\n",
-            b"c\t1\nd\t1\n",
-            width,
-            width,
-        );
-        assert!(rt; matches!(merged, Err(MergeFault::BadLine { shard: 0, line: 3 })));
+    for row in [
+        Row {
+            first: b"a\t1\nb\t1\nc\t2\n",
+            second: b"b\t2\nc\t1\nd\t1\n",
+            from: 1,
+            grows: true,
+            want: Some(b"a\t1\nb\t3\nc\t3\nd\t1\n"),
+        },
+        Row {
+            first: b"a\t1\nb\t1\nc\t2\nbb\t1\n",
+            second: b"c\t1\nd\t1\n",
+            from: 1,
+            grows: true,
+            want: None,
+        },
+    ] {
+        assert!(rt; always_comes_to(rt.alloc(), &job, &row)?);
     }
     Ok(())
 }
 
+/// The first of the rows above, merged whole.
 #[test]
-fn equal_lines_in_windows_of_two(rt: HostRuntime) -> Result<(), Fail> {
+fn whole_outputs(rt: HostRuntime) -> Result<(), Fail> {
     let alloc = rt.alloc();
-    let job = Job::grep(alloc, b"x", false)?;
-    let first = b"x\t0:0\nx\t0:2\nx\t0:4\nx\t1:0\nx\t1:2\nx\t1:4\ny\t0:6\n";
-    let second = b"a\t0:8\nx\t0:0\nx\t0:2\nx\t0:4\nx\t0:6\n";
-    for width in 12..40 {
-        let merged = in_windows(alloc, &job, first, second, width, 0)?;
-        assert_eq!(rt;
-            merged.as_slice(),
-            b"a\t2:8\nx\t0:0\nx\t0:2\nx\t0:4\nx\t1:0\nx\t1:2\nx\t1:4\nx\t2:0\nx\t2:2\nx\t2:4\nx\t2:6\ny\t0:6\n".as_slice()
-        );
-    }
-    Ok(())
-}
-
-#[test]
-fn totals_of_one_key_come_together(rt: HostRuntime) -> Result<(), Fail> {
-    let alloc = rt.alloc();
-    let job = Job::words(false);
-    for width in 1..40 {
-        let merged = in_windows(
-            alloc,
-            &job,
-            b"a\t1\nb\t1\nc\t2\n",
-            b"b\t2\nc\t1\nd\t1\n",
-            width,
-            width,
-        )?;
-        assert_eq!(rt; merged.as_slice(), b"a\t1\nb\t3\nc\t3\nd\t1\n".as_slice());
-    }
-    Ok(())
-}
-
-#[test]
-fn places_that_fall_within_a_key(rt: HostRuntime) -> Result<(), Fail> {
-    let alloc = rt.alloc();
-    let job = Job::grep(alloc, b"x", false)?;
-    for width in 1..40 {
-        let merged = in_windows(
-            alloc,
-            &job,
-            b"x\t0:0\nx\t0:2\nx\t0:4\nax\t0:6\n",
-            b"x\t0:0\nx\t0:2\n",
-            width,
-            width,
-        );
-        assert!(rt; matches!(merged, Err(MergeFault::BadLine { shard: 0, line: 3 })));
-    }
+    let first = Output {
+        files: 2,
+        text: b"ax\t0:0\nx\t1:7\nx\t1:9\nyx\t0:4\n",
+    };
+    let second = Output {
+        files: 1,
+        text: b"x\t0:3\nzx\t0:5\n",
+    };
+    let whole = merge_parts(alloc, &Job::grep(alloc, b"x", false)?, &[first, second])?;
+    let want = b"ax\t0:0\nx\t1:7\nx\t1:9\nx\t2:3\nyx\t0:4\nzx\t2:5\n".as_slice();
+    assert!(rt; whole.as_slice() == want);
     Ok(())
 }
