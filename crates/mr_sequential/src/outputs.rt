@@ -11,12 +11,11 @@ ghost use Rattle.mr_sequential.specs.Names.{names_beside, value_under};
 ghost use Rattle.mr_sequential.specs.Pairs.{groups_in, texts_in, valued};
 
 use crate::gathered::Gathered;
-use crate::groups::groups_of;
-use crate::names::NamesLeft;
-use crate::texts::{empty_texts, fill_texts};
+use crate::groups::grouped;
+use crate::texts::texts_of;
 use mr_certform::FlatGroups;
 use mr_jobs::Job;
-use mr_ranks::{RankedPairs, ranked, sizes_of};
+use mr_ranks::{RankedPairs, ranked};
 use mr_splits::Kept;
 use std::alloc::{AllocError, Global};
 
@@ -46,20 +45,8 @@ pub(crate) fn outputs(
 {
     let Gathered { keys, numbers } = gathered;
     let RankedPairs { rows, numbers } = ranked(alloc, &keys, parts, numbers)?;
-    let sizes = sizes_of(alloc, numbers.as_slice(), rows.len())?;
-    let names = NamesLeft::of(kept, counts.as_slice());
-    let groups = groups_of(
-        alloc,
-        rows.as_slice(),
-        numbers.as_slice(),
-        names,
-        sizes,
-        parts,
-    )?;
     // The texts may take more memory than all this: what they don't need is let go before they are made.
-    drop(numbers);
-    drop(counts);
-    let mut texts = empty_texts(alloc, parts)?;
-    fill_texts(job, kept.plan(), rows.as_slice(), &groups, &mut texts)?;
+    let groups = grouped(alloc, kept, rows.as_slice(), numbers, counts, parts)?;
+    let texts = texts_of(alloc, job, kept.plan(), rows.as_slice(), &groups, parts)?;
     Ok((texts, groups))
 }

@@ -77,6 +77,34 @@ fn gather_one(
     Ok(())
 }
 
+/// Adds the keys that a job emits for the kept records of a plan, in order, and how many pairs each of these gives.
+fn gather_all(
+    alloc: Global,
+    job: &Job,
+    kept: &Kept<'_>,
+    watch: &dyn Watch,
+    emitting: &mut Emitting,
+) -> Result<(), AllocError>
+    requires few { length (flat_map (kept_pairs job.now kept.now.skips) (records_of kept.now.cut)) < 2 ^ 32 }
+    requires no_keys { emitting.old.pairs ≡ [] }
+    requires no_counts { emitting.old.counts.items ≡ [] }
+    ensures keys { OnOk result (emitting.new.pairs ≡ map (λ e. e.0) (flat_map (kept_pairs job.now kept.now.skips) (records_of kept.now.cut))) }
+    ensures counts { OnOk result (emitting.new.counts.items ≡ map (pair_count job.now) (kept_records kept.now.skips (records_of kept.now.cut))) }
+{
+    let plan = kept.plan();
+    let mut left = kept.records();
+    let mut buffer = Vec::new(alloc);
+    let mut pace = Pace::new(Phase::Mapping, plan.count() as u64);
+    let mut done = 0u64;
+    let mut mapper = job.over(plan.input());
+    while let Some((_, line)) = left.next() {
+        pace.reach(done, watch);
+        done = done.saturating_add(1);
+        gather_one(alloc, &mut mapper, line, &mut buffer, emitting)?;
+    }
+    Ok(())
+}
+
 /// The keys that a job emits for the kept records of a plan, in order, and how many pairs each of these gives. The watch
 /// is told how many of the plan's records are done.
 pub(crate) fn gather(
@@ -89,21 +117,11 @@ pub(crate) fn gather(
     ensures keys { IfOk result (λ e. e.pairs ≡ map (λ e. e.0) (flat_map (kept_pairs job.now kept.now.skips) (records_of kept.now.cut))) }
     ensures counts { IfOk result (λ e. e.counts.items ≡ map (pair_count job.now) (kept_records kept.now.skips (records_of kept.now.cut))) }
 {
-    let plan = kept.plan();
-    let mut left = kept.records();
-    let mut buffer = Vec::new(alloc);
     let mut emitting = Emitting {
         pairs: Gathering::new(alloc),
         counts: Vec::new(alloc),
     };
-    let mut pace = Pace::new(Phase::Mapping, plan.count() as u64);
-    let mut done = 0u64;
-    let mut mapper = job.over(plan.input());
-    while let Some((_, line)) = left.next() {
-        pace.reach(done, watch);
-        done = done.saturating_add(1);
-        gather_one(alloc, &mut mapper, line, &mut buffer, &mut emitting)?;
-    }
+    gather_all(alloc, job, kept, watch, &mut emitting)?;
     let Emitting { pairs, counts } = emitting;
     Ok(Emitted {
         pairs: pairs.finish(alloc)?,

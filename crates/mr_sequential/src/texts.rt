@@ -16,7 +16,7 @@ use mr_splits::Plan;
 use std::alloc::{AllocError, Global};
 
 /// As many empty texts as there are partitions.
-pub(crate) fn empty_texts(alloc: Global, parts: u32) -> Result<Vec<Vec<u8>>, AllocError>
+fn empty_texts(alloc: Global, parts: u32) -> Result<Vec<Vec<u8>>, AllocError>
     ensures count { IfOk result (λ r. length r.items ≡ parts) }
     ensures empty { IfOk result (λ r. (p : ℕ) → nth_file (contents r.items) p ≡ []) }
 {
@@ -123,7 +123,7 @@ fn name_texts(
 
 /// Appends the texts of all rows, given their groups: a job that counts needs only how many pairs a row has, another the
 /// values of its pairs, which their names tell.
-pub(crate) fn fill_texts(
+fn fill_texts(
     job: &Job,
     plan: &Plan<'_>,
     rows: &[Row<'_>],
@@ -145,4 +145,26 @@ pub(crate) fn fill_texts(
     } else {
         name_texts(job, plan, rows, counts, groups.names.as_slice(), texts)
     }
+}
+
+/// The texts of all partitions, given the rows in order and their groups.
+pub(crate) fn texts_of(
+    alloc: Global,
+    job: &Job,
+    plan: &Plan<'_>,
+    rows: &[Row<'_>],
+    groups: &FlatGroups,
+    parts: u32,
+) -> Result<Vec<Vec<u8>>, AllocError>
+    requires parts { All (λ r. r.part < parts) rows.now }
+    requires counts { length groups.now.entry_counts.items ≡ length rows.now }
+    requires within { row_start groups.now.entry_counts.items (length rows.now) ≤ length groups.now.names.items }
+    requires named { (r : ℕ) → r < length rows.now → All (IsOfRecord plan.now) (row_names groups.now.entry_counts.items groups.now.names.items r) }
+    ensures count { IfOk result (λ v. length v.items ≡ parts) }
+    ensures texts { IfOk result (λ v. (p : ℕ) → p < parts → nth_file (contents v.items) p
+        ≡ row_texts (names_text job.now (records_of plan.now) groups.now.entry_counts.items groups.now.names.items) p 0 rows.now) }
+{
+    let mut texts = empty_texts(alloc, parts)?;
+    fill_texts(job, plan, rows, groups, &mut texts)?;
+    Ok(texts)
 }

@@ -1,6 +1,5 @@
-use Rattle.std.proofs.Common.{◌≡◌, ℕ, ◌≤◌, ◌++◌, List, All, length, sym, ap, ◌∙◌, arith, subst, map}
+use Rattle.std.proofs.Common.{◌≡◌, ℕ, ◌≤◌, List, All, length, sym, ap, ◌∙◌, arith, subst, map}
 use Rattle.std.specs.List.{range_with_len, zip}
-use Rattle.mr_bytes.specs.Lists.{Has}
 use Rattle.mr_bytes.specs.declared.Name.{Name}
 use Rattle.mr_bytes.specs.declared.Value.{Value}
 use Rattle.mr_partition.specs.Partition.{partition_of}
@@ -32,59 +31,50 @@ pair_count : (keys : List (List ℕ)) (is : List ℕ) (seen : List (List ℕ)) �
 pair_count keys is seen view = omega (arith, same_length (key_at keys) is, ap length view)
 
 -- as many names as ranks
-even : (names xs : List Name) (keys seen : List (List ℕ)) (rows : List Row) (is rs shown : List ℕ) → IsRanked keys rows is rs → keyed keys is ≡ seen
-    → length names ≡ length seen → xs ≡ names → shown ≡ rs → length xs ≡ length shown
-even names xs keys seen rows is rs shown ranks view all same look =
-    omega (arith, ap length same, all, pair_count keys is seen view, rank_count keys rows is rs ranks, ap length look)
+even : (names : List Name) (keys seen : List (List ℕ)) (rows : List Row) (is rs : List ℕ) → IsRanked keys rows is rs → keyed keys is ≡ seen
+    → length names ≡ length seen → length names ≡ length rs
+even names keys seen rows is rs ranks view all = omega (arith, all, pair_count keys is seen view, rank_count keys rows is rs ranks)
 
-pub groups_of-requires-clause-used : goal.groups_of-requires-clause-used
-groups_of-requires-clause-used c = λ r h.
+pub grouped-requires-clause-used : goal.grouped-requires-clause-used
+grouped-requires-clause-used c = λ r h.
     let g = c.gathered.inside in
     let rows : List Row = c.in_ok-rows.field-0.rows.items in
-    let rs : List ℕ = c.in_ok-rows.field-0.numbers.items in
-    subst (λ (l : List ℕ). Has l r) (sym c.as_slice-4.ensures.value)
-    (ranks-used c.args.parts g.keys rows g.numbers.items rs c.in_ok-rows.ensures.rows c.in_ok-rows.ensures.numbers c.gathered.invariant.used r
-    (omega (arith, h, ap length c.as_slice-3.ensures.value)))
+    ranks-used c.args.parts g.keys rows g.numbers.items c.in_ok-rows.field-0.numbers.items c.in_ok-rows.ensures.rows c.in_ok-rows.ensures.numbers
+    c.gathered.invariant.used r (omega (arith, h, ap length c.as_slice.ensures.value))
 
-pub fill_texts-requires-clause-within : goal.fill_texts-requires-clause-within
-fill_texts-requires-clause-within c =
+pub texts_of-requires-clause-within : goal.texts_of-requires-clause-within
+texts_of-requires-clause-within c =
     let g = c.gathered.inside in
-    let is : List ℕ = c.as_slice-4.result.now in
-    let xs : List Name = c.of-names.result in
-    let shown : List Row = c.as_slice-3.result.now in
-    let groups = c.in_ok-groups.groups in
-    let cs : List ℕ = groups.entry_counts.items in
-    let names : List Name = groups.names.items in
-    let kept = kept_records c.args.kept.now.skips (records_of c.args.kept.now.cut) in
-    let told : xs ≡ names_beside kept c.args.counts.items = c.of-names.ensures ∙ ap (λ (l : List ℕ). names_beside kept l) c.as_slice-2.ensures.value in
-    let same = even (names_beside kept c.args.counts.items) xs g.keys c.args.gathered c.in_ok-rows.field-0.rows.items g.numbers.items c.in_ok-rows.field-0.numbers.items is
-    c.in_ok-rows.ensures.numbers c.gathered.view_is c.requires.all told c.as_slice-4.ensures.value in
-    let put : ArePut is xs (length shown) cs names = record { sizes = c.in_ok-groups.ensures.sizes; entries = c.in_ok-groups.ensures.entries } in
-    let rows : c.as_slice-5.result.now ≡ shown = c.as_slice-5.ensures.value ∙ sym c.as_slice-3.ensures.value in
-    let n : length c.as_slice-5.result.now ≤ length shown = omega (arith, ap length rows) in
+    let rs : List ℕ = c.in_ok-rows.field-0.numbers.items in
+    let beside : List Name = names_beside (kept_records c.args.kept.now.skips (records_of c.args.kept.now.cut)) c.args.counts.items in
+    let same = even beside g.keys c.args.gathered c.in_ok-rows.field-0.rows.items g.numbers.items rs c.in_ok-rows.ensures.numbers c.gathered.view_is c.requires.all in
+    let told = c.in_ok-groups.ensures in
+    let shown : List Row = c.as_slice.result.now in
+    let rows : c.as_slice-2.result.now ≡ shown = c.as_slice-2.ensures.value ∙ sym c.as_slice.ensures.value in
+    let n : length c.as_slice-2.result.now ≤ length shown = omega (arith, ap length rows) in
+    let put : ArePut rs beside (length shown) c.in_ok-groups.groups.entry_counts.items c.in_ok-groups.groups.names.items = record { sizes = told.sizes; entries = told.entries } in
     omega (
       arith,
-      put-start is xs (length shown) cs names put (length c.as_slice-5.result.now) n,
-      before-total (zip is xs) (length c.as_slice-5.result.now),
-      length-zip is xs same,
-      c.in_ok-groups.ensures.all,
+      put-start rs beside (length shown) c.in_ok-groups.groups.entry_counts.items c.in_ok-groups.groups.names.items put (length c.as_slice-2.result.now) n,
+      before-total (zip rs beside) (length c.as_slice-2.result.now),
+      length-zip rs beside same,
+      told.all,
     )
 
-pub fill_texts-requires-clause-named : goal.fill_texts-requires-clause-named
-fill_texts-requires-clause-named c = λ r h.
-    let is : List ℕ = c.as_slice-4.result.now in
-    let xs : List Name = c.of-names.result in
-    let shown : List Row = c.as_slice-3.result.now in
-    let groups = c.in_ok-groups.groups in
-    let cs : List ℕ = groups.entry_counts.items in
-    let names : List Name = groups.names.items in
+pub texts_of-requires-clause-named : goal.texts_of-requires-clause-named
+texts_of-requires-clause-named c = λ r h.
+    let rs : List ℕ = c.in_ok-rows.field-0.numbers.items in
     let cut : Cut = c.args.kept.now.cut in
-    let put : ArePut is xs (length shown) cs names = record { sizes = c.in_ok-groups.ensures.sizes; entries = c.in_ok-groups.ensures.entries } in
-    let rows : c.as_slice-5.result.now ≡ shown = c.as_slice-5.ensures.value ∙ sym c.as_slice-3.ensures.value in
-    let all : All (IsOfRecord cut) xs =
-    subst (All (IsOfRecord cut)) (sym c.of-names.ensures) (names-named cut c.args.kept.now.skips c.as_slice-2.result.now c.requires.size) in
+    let beside : List Name = names_beside (kept_records c.args.kept.now.skips (records_of cut)) c.args.counts.items in
+    let shown : List Row = c.as_slice.result.now in
+    let cs : List ℕ = c.in_ok-groups.groups.entry_counts.items in
+    let names : List Name = c.in_ok-groups.groups.names.items in
+    let told = c.in_ok-groups.ensures in
+    let put : ArePut rs beside (length shown) cs names = record { sizes = told.sizes; entries = told.entries } in
+    let rows : c.as_slice-2.result.now ≡ shown = c.as_slice-2.ensures.value ∙ sym c.as_slice.ensures.value in
+    let all : All (IsOfRecord cut) beside = names-named cut c.args.kept.now.skips c.args.counts.items c.requires.size in
     let here : All (IsOfRecord cut) (row_names cs names r) =
-    subst (All (IsOfRecord cut)) (sym (put-names is xs (length shown) cs names put r (omega (arith, h, ap length rows)))) (All-bucket (IsOfRecord cut) r is xs all) in
+    subst (All (IsOfRecord cut)) (sym (put-names rs beside (length shown) cs names put r (omega (arith, h, ap length rows)))) (All-bucket (IsOfRecord cut) r rs beside all) in
     subst (λ (k : Cut). All (IsOfRecord k) (row_names cs names r)) (sym c.plan.ensures) here
 
 pub returns-clause-texts : goal.returns-clause-texts
@@ -92,31 +82,23 @@ returns-clause-texts c = λ p h.
     let g = c.gathered.inside in
     let job = c.args.job.now in
     let parts : ℕ = c.args.parts in
-    let is : List ℕ = c.as_slice-4.result.now in
-    let xs : List Name = c.of-names.result in
-    let shown : List Row = c.as_slice-3.result.now in
+    let shown : List Row = c.as_slice.result.now in
     let rows : List Row = c.in_ok-rows.field-0.rows.items in
     let rs : List ℕ = c.in_ok-rows.field-0.numbers.items in
-    let groups = c.in_ok-groups.groups in
-    let cs : List ℕ = groups.entry_counts.items in
-    let names : List Name = groups.names.items in
-    let cut : Cut = c.args.kept.now.cut in
-    let all : List NamedRecord = records_of cut in
-    let kept = kept_records c.args.kept.now.skips all in
-    let beside : List Name = names_beside kept c.args.counts.items in
+    let cs : List ℕ = c.in_ok-groups.groups.entry_counts.items in
+    let names : List Name = c.in_ok-groups.groups.names.items in
+    let told = c.in_ok-groups.ensures in
+    let all : List NamedRecord = records_of c.args.kept.now.cut in
+    let beside : List Name = names_beside (kept_records c.args.kept.now.skips all) c.args.counts.items in
     let vs : List Value = map (value_under job all) beside in
-    let put : ArePut is xs (length shown) cs names = record { sizes = c.in_ok-groups.ensures.sizes; entries = c.in_ok-groups.ensures.entries } in
-    let told : xs ≡ beside = c.of-names.ensures ∙ ap (λ (l : List ℕ). names_beside kept l) c.as_slice-2.ensures.value in
+    let put : ArePut rs beside (length shown) cs names = record { sizes = told.sizes; entries = told.entries } in
     let same : length g.numbers.items ≡ length vs =
     omega (arith, same_length (value_under job all) beside, c.requires.all, pair_count g.keys g.numbers.items c.args.gathered c.gathered.view_is) in
-    c.in_ok-fill_texts.ensures.ok p (omega (arith, h, c.in_ok-texts.ensures.count))
-    ∙ ap (λ (l : List ℕ). l ++ row_texts (names_text job (records_of c.plan.result.now) cs names) p 0 c.as_slice-5.result.now) (c.in_ok-texts.ensures.empty p)
-    ∙ ap (λ (k : Cut). row_texts (names_text job (records_of k) cs names) p 0 c.as_slice-5.result.now) c.plan.ensures
-    ∙ ap (λ (l : List Row). row_texts (names_text job all cs names) p 0 l) (c.as_slice-5.ensures.value ∙ sym c.as_slice-3.ensures.value)
-    ∙ put-texts job all is xs shown cs names p put
-    ∙ ap (λ (l : List Row). row_texts (bucket_text job (zip is (map (value_under job all) xs))) p 0 l) c.as_slice-3.ensures.value
-    ∙ ap (λ (l : List ℕ). row_texts (bucket_text job (zip l (map (value_under job all) xs))) p 0 rows) c.as_slice-4.ensures.value
-    ∙ ap (λ (l : List Name). row_texts (bucket_text job (zip rs (map (value_under job all) l))) p 0 rows) told
+    c.in_ok-texts.ensures.texts p h
+    ∙ ap (λ (k : Cut). row_texts (names_text job (records_of k) cs names) p 0 c.as_slice-2.result.now) c.plan.ensures
+    ∙ ap (λ (l : List Row). row_texts (names_text job all cs names) p 0 l) (c.as_slice-2.ensures.value ∙ sym c.as_slice.ensures.value)
+    ∙ put-texts job all rs beside shown cs names p put
+    ∙ ap (λ (l : List Row). row_texts (bucket_text job (zip rs vs)) p 0 l) c.as_slice.ensures.value
     ∙ texts-rows job parts p g.keys rows g.numbers.items rs vs c.in_ok-rows.ensures.rows c.in_ok-rows.ensures.numbers c.gathered.invariant.used same
     ∙ ap (λ (l : List (List ℕ)). texts_in (λ k. partition_of k parts) (text_of job) (zip l vs) p) c.gathered.view_is
 
@@ -125,14 +107,9 @@ returns-clause-groups c =
     let g = c.gathered.inside in
     let rows : List Row = c.in_ok-rows.field-0.rows.items in
     let rs : List ℕ = c.in_ok-rows.field-0.numbers.items in
-    let kept = kept_records c.args.kept.now.skips (records_of c.args.kept.now.cut) in
-    let beside : List Name = names_beside kept c.args.counts.items in
-    let xs : List Name = c.of-names.result in
-    let told : xs ≡ beside = c.of-names.ensures ∙ ap (λ (l : List ℕ). names_beside kept l) c.as_slice-2.ensures.value in
+    let beside : List Name = names_beside (kept_records c.args.kept.now.skips (records_of c.args.kept.now.cut)) c.args.counts.items in
     let m : ℕ = c.args.parts in
     c.in_ok-groups.ensures.groups
-    ∙ ap (λ (l : List Row). buckets m (zip (map row_part l) (buckets (length l) (zip c.as_slice-4.result.now xs)))) c.as_slice-3.ensures.value
-    ∙ ap (λ (l : List ℕ). buckets m (zip (map row_part rows) (buckets (length rows) (zip l xs)))) c.as_slice-4.ensures.value
-    ∙ ap (λ (l : List Name). buckets m (zip (map row_part rows) (buckets (length rows) (zip rs l)))) told
+    ∙ ap (λ (l : List Row). buckets m (zip (map row_part l) (buckets (length l) (zip rs beside)))) c.as_slice.ensures.value
     ∙ groups-rows m m g.keys rows g.numbers.items rs beside c.in_ok-rows.ensures.rows c.in_ok-rows.ensures.numbers c.gathered.invariant.used
     ∙ ap (λ (l : List (List ℕ)). map (groups_in (λ k. partition_of k m) l beside) (range_with_len 0 m)) c.gathered.view_is

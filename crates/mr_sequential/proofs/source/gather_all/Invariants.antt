@@ -5,7 +5,7 @@ use Rattle.mr_splits.specs.Kept.{kept_records}
 use Rattle.mr_sequential.specs.Names.{pair_count}
 use Rattle.mr_sequential.specs.Pairs.{record_keys}
 use Rattle.mr_sequential.proofs.LineLemmas.{Stands}
-use Rattle.mr_sequential.proofs.source.gather.Given as goal
+use Rattle.mr_sequential.proofs.source.gather_all.Given as goal
 
 abbrev pub invariant-loop-line : goal.invariant-loop-line
 invariant-loop-line g l = record {

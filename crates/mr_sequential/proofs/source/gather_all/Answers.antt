@@ -1,0 +1,93 @@
+use Rattle.std.proofs.Common.{◌≡◌, ℕ, ◌++◌, ◌∷◌, [], not, List, All, length, refl, sym, subst, ap, ◌∙◌, arith, map}
+use Rattle.std.proofs.lemmas.List.Elements.{All-filter, All-head, All-tail}
+use Rattle.std.specs.List.{flat_map}
+use Rattle.mr_bytes.specs.declared.RecordName.{RecordName}
+use Rattle.mr_jobs.specs.JobSpec.{JobSpec}
+use Rattle.mr_jobs.specs.Emissions.{Emission, emissions}
+use Rattle.mr_jobs.specs.Hits.{Source, IsLine}
+use Rattle.mr_splits.specs.Named.{NamedRecord, is_left_out}
+use Rattle.mr_splits.specs.Cut.{Cut, records_of}
+use Rattle.mr_splits.specs.Kept.{kept_records}
+use Rattle.mr_sequential.specs.Names.{pair_count}
+use Rattle.mr_sequential.specs.Pairs.{kept_pairs, record_keys}
+use Rattle.mr_ranks.proofs.ListLemmas.{length-append, same_length}
+use Rattle.mr_sequential.proofs.LineLemmas.{Stands, records-stand}
+use Rattle.mr_sequential.proofs.SourceLemmas.{kept-keys, next_counted, next_gathered, last_gathered}
+use Rattle.mr_sequential.proofs.source.gather_all.Goals as goal
+
+pub loop-line-init : goal.loop-line-init
+loop-line-init g c =
+    let cut : Cut = c.args.kept.now.cut in
+    let f : NamedRecord → List (List ℕ) = record_keys c.args.job.now in
+    let start : c.records-left.result ≡ kept_records c.args.kept.now.skips (records_of cut) = c.records-left.ensures in
+    let files : c.input.result.now ≡ cut.files = c.input.ensures ∙ ap (λ (k : Cut). k.files) c.plan-plan.ensures in
+    record {
+      keys = ap (λ (l : List (List ℕ)). l ++ flat_map f c.records-left.result) c.requires.no_keys ∙ ap (flat_map f) start;
+      lines = subst (All (Stands cut.files)) (sym start)
+          (All-filter (λ r. not (is_left_out c.args.kept.now.skips r.name)) (Stands cut.files) (records_of cut) (records-stand cut.size cut.files));
+      mapper = c.over-mapper.ensures ∙ ap (λ (fs : List (List ℕ)). record { job = c.args.job.now; files = fs }) files;
+      counts = ap (λ (l : List ℕ). l ++ map (pair_count c.args.job.now) c.records-left.result) c.requires.no_counts ∙ ap (map (pair_count c.args.job.now)) start;
+    }
+
+-- the next record is a line of its file
+abbrev next_line : (files : List (List ℕ)) (left later : List NamedRecord) (r : NamedRecord) → left ≡ r ∷ later → All (Stands files) left → Stands files r
+next_line files left later r is lines = All-head (Stands files) r later (subst (All (Stands files)) is lines)
+
+pub gather_one-requires-clause-line : goal.gather_one-requires-clause-line
+gather_one-requires-clause-line g c =
+    let line = c.in-Some.line in
+    let r : NamedRecord = record { name = c.in-Some.field-0-0; file = line.file; start = line.start; bytes = line.bytes.now } in
+    let stands = next_line c.args.kept.now.cut.files c.loop-line.left c.next.new.self r c.in-Some.ensures.next c.loop-line.invariant.lines in
+    subst (λ (m : Source). IsLine m.files line.file line.start line.bytes.now) (sym c.loop-line.invariant.mapper) stands
+
+pub gather_one-requires-clause-few : goal.gather_one-requires-clause-few
+gather_one-requires-clause-few g c =
+    let job : JobSpec = c.args.job.now in
+    let skips : List RecordName = c.args.kept.now.skips in
+    let rs : List NamedRecord = records_of c.args.kept.now.cut in
+    let f : NamedRecord → List (List ℕ) = record_keys job in
+    let line = c.in-Some.line in
+    let r : NamedRecord = record { name = c.in-Some.field-0-0; file = line.file; start = line.start; bytes = line.bytes.now } in
+    omega (
+      arith,
+      ap (λ (m : Source). length (emissions m.job line.file line.start line.bytes.now)) c.loop-line.invariant.mapper,
+      ap length c.loop-line.invariant.keys,
+      length-append c.loop-line.emitting.pairs (flat_map f c.loop-line.left),
+      ap length (ap (flat_map f) c.in-Some.ensures.next),
+      length-append (f r) (flat_map f c.next.new.self),
+      same_length (λ (e : Emission). e.0) (emissions job line.file line.start line.bytes.now),
+      ap length (kept-keys job skips rs),
+      same_length (λ (e : Emission). e.0) (flat_map (kept_pairs job skips) rs),
+      c.requires.few,
+    )
+
+pub loop-line-preserved : goal.loop-line-preserved
+loop-line-preserved g c =
+    let f : NamedRecord → List (List ℕ) = record_keys c.args.job.now in
+    let line = c.in-Some.line in
+    let r : NamedRecord = record { name = c.in-Some.field-0-0; file = line.file; start = line.start; bytes = line.bytes.now } in
+    let rs : List NamedRecord = kept_records c.args.kept.now.skips (records_of c.args.kept.now.cut) in
+    let files : List (List ℕ) = c.args.kept.now.cut.files in
+    let job : c.loop-line.mapper.job ≡ c.args.job.now = ap (λ (m : Source). m.job) c.loop-line.invariant.mapper in
+    let keys = c.in_ok-gather_one.ensures.keys
+    ∙ ap (λ j. c.loop-line.emitting.pairs ++ map (λ (e : Emission). e.0) (emissions j line.file line.start line.bytes.now)) job in
+    let counts = c.in_ok-gather_one.ensures.counts
+    ∙ ap (λ j. c.loop-line.emitting.counts.items ++ length (emissions j line.file line.start line.bytes.now) ∷ []) job in
+    record {
+      lines = All-tail (Stands files) r c.next.new.self (subst (All (Stands files)) c.in-Some.ensures.next c.loop-line.invariant.lines);
+      mapper = c.gather_one.ensures.same ∙ c.loop-line.invariant.mapper;
+      keys = next_gathered f c.loop-line.emitting.pairs c.gather_one.new.emitting.pairs (f r) (flat_map f rs) c.loop-line.left c.next.new.self r
+          c.in-Some.ensures.next refl keys c.loop-line.invariant.keys;
+      counts = next_counted (pair_count c.args.job.now) c.loop-line.emitting.counts.items c.gather_one.new.emitting.counts.items (map (pair_count c.args.job.now) rs)
+          c.loop-line.left c.next.new.self r c.in-Some.ensures.next counts c.loop-line.invariant.counts;
+    }
+
+-- the keys of what was emitted when no record is left
+all_keys : (job : JobSpec) (skips : List RecordName) (rs left : List NamedRecord) (keys : List (List ℕ)) → left ≡ []
+    → keys ++ flat_map (record_keys job) left ≡ flat_map (record_keys job) (kept_records skips rs) → keys ≡ map (λ (e : Emission). e.0) (flat_map (kept_pairs job skips) rs)
+all_keys job skips rs left keys none so =
+    last_gathered (record_keys job) keys (flat_map (record_keys job) (kept_records skips rs)) left none so ∙ kept-keys job skips rs
+
+pub returns-clause-keys : goal.returns-clause-keys
+returns-clause-keys g c =
+    all_keys c.args.job.now c.args.kept.now.skips (records_of c.args.kept.now.cut) c.loop-line.left c.loop-line.emitting.pairs c.in_default.ensures.next c.loop-line.invariant.keys
