@@ -1,5 +1,6 @@
 pub mod Places
 pub mod Spelling
+pub mod Numbers
 pub mod Value
 pub mod Grammar
 pub mod Walking

@@ -1,6 +1,7 @@
 //! The item that stands at the front of bytes, at a place of the grammar. One look at a few bytes; no memory.
-ghost use Rattle.std.specs.Prelude.{◌≡◌, ◌≤◌, ◌-◌, ◌<◌, Some, None, MatchOption, IfSome, length, take, drop};
+ghost use Rattle.std.specs.Prelude.{◌≡◌, ◌≤◌, ◌-◌, ◌<◌, true, Some, None, MatchOption, IfSome, length, take, drop};
 ghost use Rattle.std.specs.Int.{w32, w64, from_be_bytes};
+ghost use Rattle.mr_certform.specs.Numbers.{has_number, numbered};
 ghost use Rattle.mr_certform.specs.Places.{onward};
 ghost use Rattle.mr_certform.specs.Spelling.{standing, entry_at, name_at, of_bytes, skip_at};
 
@@ -86,6 +87,35 @@ fn entry_of(before: Name, bytes: &[u8]) -> Option<(Item, &[u8])>
     Some((Item::Entry(name), rest))
 }
 
+/// The item that a number is at a place where one of four bytes stands, if it may stand there.
+fn number_item(place: Place, n: u32) -> Option<Item>
+    ensures { result ≡ numbered place n }
+{
+    match place {
+        Place::AtJob => Some(Item::Job(n)),
+        Place::AtFlags => Some(Item::Flags(n)),
+        Place::AtLiteralLength => (n <= 4096).then_some(Item::LiteralLength(n)),
+        Place::AtParts => (1 <= n && n <= 1024).then_some(Item::Parts(n)),
+        Place::AtSplitSize { .. } => Some(Item::SplitSize(n)),
+        Place::AtFiles { .. } => (n <= 1024).then_some(Item::Files(n)),
+        Place::AtSkips { .. } => Some(Item::Skips(n)),
+        Place::AtGroups { .. } => Some(Item::Groups(n)),
+        Place::AtEntries { .. } => (1 <= n).then_some(Item::Entries(n)),
+        _ => None,
+    }
+}
+
+/// The item of a number of four bytes, at a place where one stands, and the bytes behind it.
+fn number_of(place: Place, bytes: &[u8]) -> Option<(Item, &[u8])>
+    requires { has_number place ≡ true }
+    ensures read { MatchOption result (standing place bytes.now ≡ None) (λ r. standing place bytes.now ≡ Some (record { item = r.0; rest = r.1.now })) }
+    ensures shorter { IfSome result (λ r. length r.1.now ≤ length bytes.now) }
+{
+    let (n, rest) = four(bytes)?;
+    let item = number_item(place, n)?;
+    Some((item, rest))
+}
+
 /// The item that stands at the front of the bytes, and the bytes behind it.
 pub fn front_of(place: Place, bytes: &[u8]) -> Option<(Item, &[u8])>
     ensures read { MatchOption result (standing place bytes.now ≡ None) (λ r. standing place bytes.now ≡ Some (record { item = r.0; rest = r.1.now })) }
@@ -93,76 +123,19 @@ pub fn front_of(place: Place, bytes: &[u8]) -> Option<(Item, &[u8])>
 {
     match place {
         Place::AtMagic => magic_of(bytes),
-        Place::AtJob => {
-            let (n, rest) = four(bytes)?;
-            Some((Item::Job(n), rest))
-        }
-        Place::AtFlags => {
-            let (n, rest) = four(bytes)?;
-            Some((Item::Flags(n), rest))
-        }
-        Place::AtLiteralLength => {
-            let (n, rest) = four(bytes)?;
-            if n <= 4096 {
-                Some((Item::LiteralLength(n), rest))
-            } else {
-                None
-            }
-        }
         Place::AtLiteralByte { .. } => {
             let (byte, rest) = bytes.split_first()?;
             Some((Item::LiteralByte(*byte), rest))
-        }
-        Place::AtParts => {
-            let (n, rest) = four(bytes)?;
-            if 1 <= n && n <= 1024 {
-                Some((Item::Parts(n), rest))
-            } else {
-                None
-            }
-        }
-        Place::AtSplitSize { .. } => {
-            let (n, rest) = four(bytes)?;
-            Some((Item::SplitSize(n), rest))
-        }
-        Place::AtFiles { .. } => {
-            let (n, rest) = four(bytes)?;
-            if n <= 1024 {
-                Some((Item::Files(n), rest))
-            } else {
-                None
-            }
         }
         Place::AtFileLength { .. } => {
             let (n, rest) = eight(bytes)?;
             Some((Item::FileLength(n), rest))
         }
-        Place::AtSkips { .. } => {
-            let (n, rest) = four(bytes)?;
-            Some((Item::Skips(n), rest))
-        }
         Place::AtSkip { .. } => skip_of(bytes),
-        Place::AtGroups { .. } => {
-            let (n, rest) = four(bytes)?;
-            Some((Item::Groups(n), rest))
-        }
-        Place::AtEntries { .. } => {
-            let (n, rest) = four(bytes)?;
-            if 1 <= n {
-                Some((Item::Entries(n), rest))
-            } else {
-                None
-            }
-        }
         Place::AtEntry { before, .. } => entry_of(before, bytes),
-        Place::AtEnd => {
-            if bytes.is_empty() {
-                Some((Item::End, bytes))
-            } else {
-                None
-            }
-        }
+        Place::AtEnd => bytes.is_empty().then_some((Item::End, bytes)),
         Place::Behind => None,
+        _ => number_of(place, bytes),
     }
 }
 

@@ -1,0 +1,30 @@
+-- Of no public promise: the items that are a number of four bytes.
+use Rattle.std.specs.Prelude.{ℕ, Bool, true, false, ◌&&◌, Option, Some, None, nat_le, if◌then◌else◌}
+use Rattle.mr_certform.specs.declared.item.Item.{Item}
+use Rattle.mr_certform.specs.declared.item.Item.TheVariants.{Job, Flags, LiteralLength, Parts, SplitSize, Files, Skips, Groups, Entries}
+use Rattle.mr_certform.specs.declared.place.Place.{Place}
+use Rattle.mr_certform.specs.declared.place.Place.TheVariants.{AtMagic, AtJob, AtFlags, AtLiteralLength, AtLiteralByte, AtParts, AtSplitSize, AtFiles, AtFileLength, AtSkips, AtSkip, AtGroups, AtEntries, AtEntry, AtEnd, Behind}
+
+-- whether such an item stands at the place
+abbrev pub has_number : Place → Bool
+has_number AtMagic = false
+has_number (AtLiteralByte n) = false
+has_number (AtFileLength r n) = false
+has_number (AtSkip r n) = false
+has_number (AtEntry r g n before) = false
+has_number AtEnd = false
+has_number Behind = false
+has_number _ = true
+
+-- the item of a number at such a place; none where the number may not stand there
+abbrev pub numbered : Place → ℕ → Option Item
+numbered AtJob n = Some (Job n)
+numbered AtFlags n = Some (Flags n)
+numbered AtLiteralLength n = if nat_le n 4096 then Some (LiteralLength n) else None
+numbered AtParts n = if nat_le 1 n && nat_le n 1024 then Some (Parts n) else None
+numbered (AtSplitSize r) n = Some (SplitSize n)
+numbered (AtFiles r) n = if nat_le n 1024 then Some (Files n) else None
+numbered (AtSkips r) n = Some (Skips n)
+numbered (AtGroups r) n = Some (Groups n)
+numbered (AtEntries r g) n = if nat_le 1 n then Some (Entries n) else None
+numbered _ n = None
