@@ -82,6 +82,47 @@ impl<'a> Block<'a> {
     }
 }
 
+/// Judges all partitions from the first on, a block of items at a time, and the items' end: how many entries there are, or
+/// the first fault. How far it has come and the block's buffers are lent.
+fn judge_blocks<'a, I: Items, O: Outputs>(
+    basis: &Basis<'a>,
+    outputs: &mut O,
+    walker: &mut I,
+    meter: &mut Meter,
+    watch: &dyn Watch,
+    judging: &mut Progress<'a>,
+    block: &mut Block<'a>,
+) -> Result<u64, Stop>
+    requires fresh { judging.old ≡ start }
+    requires sound { I.sound walker.old }
+    requires some { CanCome (I.gives walker.old) }
+    requires few { I.most walker.old < 2 ^ 63 }
+    requires begins { Each (I.gives walker.old) begins }
+    requires count { meter.old.lookups ≤ 2 ^ 63 }
+    requires outputs { CanComeAhead (O.gives outputs.old) }
+    requires fits { Fits (O.gives outputs.old) start }
+    requires place { O.place outputs.old ≡ 0 }
+    ensures judged { Through (O.gives outputs.old) start
+        (λ outs. Judges (I.gives walker.old) (subject_with basis.now outs) meter.old.lookups meter.new.lookups result) }
+    ensures all { IfOk result (λ n. meter.new.lookups ≡ meter.old.lookups + n) }
+    ensures mapped { meter.new.mapped ≡ meter.old.mapped }
+    ensures stops { HaltsItems I.steady (I.failed walker.old) (I.failed walker.new) result }
+    ensures halts { HaltsOutputs O.steady (O.failed outputs.old) (O.failed outputs.new) result }
+{
+    let mut pace = Pace::new(Phase::Judging, basis.emitted());
+    loop {
+        pace.reach(judging.named(), watch);
+        let stopped = read_block(walker, &mut block.items)?;
+        block.look_up(basis, meter)?;
+        if judge_rows(judging, basis, outputs, &block.rows)? {
+            return Ok(judging.named());
+        }
+        if let Some(at) = stopped {
+            return Err(Stop::Fault(No::Malformed { at }));
+        }
+    }
+}
+
 /// Judges all partitions, and the items' end: how many entries there are, or the first fault. Each entry is looked up once
 /// at most, a block of them ahead of the tests. The watch is told how many entries are judged, of all pairs.
 pub(crate) fn check_parts<I: Items, O: Outputs>(
@@ -107,18 +148,15 @@ pub(crate) fn check_parts<I: Items, O: Outputs>(
     ensures stops { HaltsItems I.steady (I.failed walker.old) (I.failed walker.new) result }
     ensures halts { HaltsOutputs O.steady (O.failed outputs.old) (O.failed outputs.new) result }
 {
-    let mut pace = Pace::new(Phase::Judging, basis.emitted());
     let mut judging = Progress::new(alloc);
     let mut block = Block::new(alloc)?;
-    loop {
-        pace.reach(judging.named(), watch);
-        let stopped = read_block(walker, &mut block.items)?;
-        block.look_up(basis, meter)?;
-        if judge_rows(&mut judging, basis, outputs, &block.rows)? {
-            return Ok(judging.named());
-        }
-        if let Some(at) = stopped {
-            return Err(Stop::Fault(No::Malformed { at }));
-        }
-    }
+    judge_blocks(
+        basis,
+        outputs,
+        walker,
+        meter,
+        watch,
+        &mut judging,
+        &mut block,
+    )
 }

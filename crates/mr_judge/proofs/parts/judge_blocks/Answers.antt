@@ -11,7 +11,7 @@ use Rattle.mr_judge.proofs.BlockLemmas.{items_long}
 use Rattle.mr_judge.proofs.JudgingLemmas.{read_reads, ended_all, stood_open, room_next}
 use Rattle.mr_judge.proofs.OutputLemmas.{any_of, fits_on, items_of_halt}
 use Rattle.mr_judge.proofs.BlocksJudged.{JudgedTo, going_first, room_start, all_halted, all_read, all_fault, all_ended, all_stopped, any_rows, going_next, block_begins, rows_as}
-use Rattle.mr_judge.proofs.parts.check_parts.Goals as goal
+use Rattle.mr_judge.proofs.parts.judge_blocks.Goals as goal
 
 none_is : (o : Option ℕ) → ((n : ℕ) → o ≡ Some n → ⊥) → o ≡ None
 none_is None h = refl
@@ -23,16 +23,16 @@ returns-in_err-stopped-clause-judged g c =
     let gives = g.I.Items.gives in
     let outs = g.O.Outputs.gives in
     let old = gives c.args.walker.now in
-    let now = gives c.loop-block.walker in
+    let now = gives c.loop-stopped.walker in
     let next = gives c.read_block.new.walker in
     let ahead = outs c.args.outputs.now in
-    let left = outs c.loop-block.outputs in
-    let st = c.loop-block.judging in
-    let inv = c.loop-block.invariant in
+    let left = outs c.loop-stopped.outputs in
+    let st = c.loop-stopped.judging in
+    let inv = c.loop-stopped.invariant in
     let before = c.args.meter.now.lookups in
-    let looked = c.loop-block.meter.lookups in
+    let looked = c.loop-stopped.meter.lookups in
     let low : before ≤ looked = omega (arith, inv.looked) in
-    let p = err_from_is_err_and c.from_residual-in_err-stopped.result c.from_residual-in_err-stopped.ensures.1 in
+    let p = err_from_is_err_and c.from_residual.result c.from_residual.ensures.1 in
     let told = c.in_err-stopped.ensures.read in
     rw (p.1, p.2) (all_halted ahead left old now b st before looked c.in_err-stopped.field-0.0 inv.going inv.some told.0 told.1 low)
 
@@ -42,14 +42,14 @@ returns-in_err-look_up-clause-judged g c =
     let gives = g.I.Items.gives in
     let outs = g.O.Outputs.gives in
     let old = gives c.args.walker.now in
-    let now = gives c.loop-block.walker in
+    let now = gives c.loop-stopped.walker in
     let next = gives c.read_block.new.walker in
     let ahead = outs c.args.outputs.now in
-    let left = outs c.loop-block.outputs in
-    let st = c.loop-block.judging in
-    let inv = c.loop-block.invariant in
+    let left = outs c.loop-stopped.outputs in
+    let st = c.loop-stopped.judging in
+    let inv = c.loop-stopped.invariant in
     let before = c.args.meter.now.lookups in
-    let looked = c.loop-block.meter.lookups in
+    let looked = c.loop-stopped.meter.lookups in
     let low : before ≤ looked = omega (arith, inv.looked) in
     let items : List Item = c.read_block.new.items.items in
     let told = c.in_ok-stopped.ensures in
@@ -63,14 +63,14 @@ returns-in_err-judge_rows-clause-judged g c =
     let gives = g.I.Items.gives in
     let outs = g.O.Outputs.gives in
     let old = gives c.args.walker.now in
-    let now = gives c.loop-block.walker in
+    let now = gives c.loop-stopped.walker in
     let next = gives c.read_block.new.walker in
     let ahead = outs c.args.outputs.now in
-    let left = outs c.loop-block.outputs in
-    let st = c.loop-block.judging in
-    let inv = c.loop-block.invariant in
+    let left = outs c.loop-stopped.outputs in
+    let st = c.loop-stopped.judging in
+    let inv = c.loop-stopped.invariant in
     let before = c.args.meter.now.lookups in
-    let looked = c.loop-block.meter.lookups in
+    let looked = c.loop-stopped.meter.lookups in
     let low : before ≤ looked = omega (arith, inv.looked) in
     let items : List Item = c.read_block.new.items.items in
     let told = c.in_ok-stopped.ensures in
@@ -90,14 +90,14 @@ returns-then-branch-clause-judged g c =
     let gives = g.I.Items.gives in
     let outs = g.O.Outputs.gives in
     let old = gives c.args.walker.now in
-    let now = gives c.loop-block.walker in
+    let now = gives c.loop-stopped.walker in
     let next = gives c.read_block.new.walker in
     let ahead = outs c.args.outputs.now in
-    let left = outs c.loop-block.outputs in
-    let st = c.loop-block.judging in
-    let inv = c.loop-block.invariant in
+    let left = outs c.loop-stopped.outputs in
+    let st = c.loop-stopped.judging in
+    let inv = c.loop-stopped.invariant in
     let before = c.args.meter.now.lookups in
-    let looked = c.loop-block.meter.lookups in
+    let looked = c.loop-stopped.meter.lookups in
     let low : before ≤ looked = omega (arith, inv.looked) in
     let items : List Item = c.read_block.new.items.items in
     let told = c.in_ok-stopped.ensures in
@@ -118,14 +118,14 @@ returns-then-branch-clause-all g c =
     let gives = g.I.Items.gives in
     let outs = g.O.Outputs.gives in
     let old = gives c.args.walker.now in
-    let now = gives c.loop-block.walker in
+    let now = gives c.loop-stopped.walker in
     let next = gives c.read_block.new.walker in
     let ahead = outs c.args.outputs.now in
-    let left = outs c.loop-block.outputs in
-    let st = c.loop-block.judging in
-    let inv = c.loop-block.invariant in
+    let left = outs c.loop-stopped.outputs in
+    let st = c.loop-stopped.judging in
+    let inv = c.loop-stopped.invariant in
     let before = c.args.meter.now.lookups in
-    let looked = c.loop-block.meter.lookups in
+    let looked = c.loop-stopped.meter.lookups in
     let low : before ≤ looked = omega (arith, inv.looked) in
     let items : List Item = c.read_block.new.items.items in
     let told = c.in_ok-stopped.ensures in
@@ -146,14 +146,14 @@ returns-in-Some-clause-judged g c =
     let gives = g.I.Items.gives in
     let outs = g.O.Outputs.gives in
     let old = gives c.args.walker.now in
-    let now = gives c.loop-block.walker in
+    let now = gives c.loop-stopped.walker in
     let next = gives c.read_block.new.walker in
     let ahead = outs c.args.outputs.now in
-    let left = outs c.loop-block.outputs in
-    let st = c.loop-block.judging in
-    let inv = c.loop-block.invariant in
+    let left = outs c.loop-stopped.outputs in
+    let st = c.loop-stopped.judging in
+    let inv = c.loop-stopped.invariant in
     let before = c.args.meter.now.lookups in
-    let looked = c.loop-block.meter.lookups in
+    let looked = c.loop-stopped.meter.lookups in
     let low : before ≤ looked = omega (arith, inv.looked) in
     let items : List Item = c.read_block.new.items.items in
     let told = c.in_ok-stopped.ensures in
@@ -175,14 +175,14 @@ judge_rows-requires-clause-fits g c =
     let gives = g.I.Items.gives in
     let outs = g.O.Outputs.gives in
     let old = gives c.args.walker.now in
-    let now = gives c.loop-block.walker in
+    let now = gives c.loop-stopped.walker in
     let next = gives c.read_block.new.walker in
     let ahead = outs c.args.outputs.now in
-    let left = outs c.loop-block.outputs in
-    let st = c.loop-block.judging in
-    let inv = c.loop-block.invariant in
+    let left = outs c.loop-stopped.outputs in
+    let st = c.loop-stopped.judging in
+    let inv = c.loop-stopped.invariant in
     let before = c.args.meter.now.lookups in
-    let looked = c.loop-block.meter.lookups in
+    let looked = c.loop-stopped.meter.lookups in
     let low : before ≤ looked = omega (arith, inv.looked) in
     fits_on ahead left start st (JudgedTo old now b st before looked) inv.going c.requires.fits
 
@@ -192,14 +192,14 @@ judge_rows-requires-clause-begun g c =
     let gives = g.I.Items.gives in
     let outs = g.O.Outputs.gives in
     let old = gives c.args.walker.now in
-    let now = gives c.loop-block.walker in
+    let now = gives c.loop-stopped.walker in
     let next = gives c.read_block.new.walker in
     let ahead = outs c.args.outputs.now in
-    let left = outs c.loop-block.outputs in
-    let st = c.loop-block.judging in
-    let inv = c.loop-block.invariant in
+    let left = outs c.loop-stopped.outputs in
+    let st = c.loop-stopped.judging in
+    let inv = c.loop-stopped.invariant in
     let before = c.args.meter.now.lookups in
-    let looked = c.loop-block.meter.lookups in
+    let looked = c.loop-stopped.meter.lookups in
     let low : before ≤ looked = omega (arith, inv.looked) in
     let items : List Item = c.read_block.new.items.items in
     let told = c.in_ok-stopped.ensures in
@@ -210,20 +210,20 @@ judge_rows-requires-clause-begun g c =
       | inr d ↦ inr d
     ]
 
-pub loop-block-smaller : goal.loop-block-smaller
-loop-block-smaller g c =
+pub loop-stopped-smaller : goal.loop-stopped-smaller
+loop-stopped-smaller g c =
     let b = c.args.basis.now in
     let gives = g.I.Items.gives in
     let outs = g.O.Outputs.gives in
     let old = gives c.args.walker.now in
-    let now = gives c.loop-block.walker in
+    let now = gives c.loop-stopped.walker in
     let next = gives c.read_block.new.walker in
     let ahead = outs c.args.outputs.now in
-    let left = outs c.loop-block.outputs in
-    let st = c.loop-block.judging in
-    let inv = c.loop-block.invariant in
+    let left = outs c.loop-stopped.outputs in
+    let st = c.loop-stopped.judging in
+    let inv = c.loop-stopped.invariant in
     let before = c.args.meter.now.lookups in
-    let looked = c.loop-block.meter.lookups in
+    let looked = c.loop-stopped.meter.lookups in
     let low : before ≤ looked = omega (arith, inv.looked) in
     let items : List Item = c.read_block.new.items.items in
     let told = c.in_ok-stopped.ensures in
@@ -239,20 +239,20 @@ loop-block-smaller g c =
     let none = none_is c.in_ok-stopped.stopped c.in_default.not-Some in
     omega (arith, told.fewer none (stood_open (subject_with b any.0) st last items any.1), told.some none)
 
-pub loop-block-preserved : goal.loop-block-preserved
-loop-block-preserved g c =
+pub loop-stopped-preserved : goal.loop-stopped-preserved
+loop-stopped-preserved g c =
     let b = c.args.basis.now in
     let gives = g.I.Items.gives in
     let outs = g.O.Outputs.gives in
     let old = gives c.args.walker.now in
-    let now = gives c.loop-block.walker in
+    let now = gives c.loop-stopped.walker in
     let next = gives c.read_block.new.walker in
     let ahead = outs c.args.outputs.now in
-    let left = outs c.loop-block.outputs in
-    let st = c.loop-block.judging in
-    let inv = c.loop-block.invariant in
+    let left = outs c.loop-stopped.outputs in
+    let st = c.loop-stopped.judging in
+    let inv = c.loop-stopped.invariant in
     let before = c.args.meter.now.lookups in
-    let looked = c.loop-block.meter.lookups in
+    let looked = c.loop-stopped.meter.lookups in
     let low : before ≤ looked = omega (arith, inv.looked) in
     let items : List Item = c.read_block.new.items.items in
     let told = c.in_ok-stopped.ensures in
@@ -281,27 +281,27 @@ loop-block-preserved g c =
       sound = told.sound none;
       count = told.stops ∙ inv.count;
       failed = c.in_ok-judge_rows.ensures.halts ∙ inv.failed;
-      room = room_next s st last items (g.I.Items.most c.loop-block.walker) (g.I.Items.most c.read_block.new.walker) (g.I.Items.most c.args.walker.now) any.1 fewer inv.room;
+      room = room_next s st last items (g.I.Items.most c.loop-stopped.walker) (g.I.Items.most c.read_block.new.walker) (g.I.Items.most c.args.walker.now) any.1 fewer inv.room;
       looked = omega (arith, t.1.1.1.0, t.1.1.1.1);
       mapped = c.in_ok-look_up.ensures.mapped ∙ inv.mapped;
     }
 
-pub loop-block-init : goal.loop-block-init
-loop-block-init g c =
+pub loop-stopped-init : goal.loop-stopped-init
+loop-stopped-init g c =
     let gives = g.I.Items.gives in
     let outs = g.O.Outputs.gives in
     let n = c.args.meter.now.lookups in
-    let named : 0 ≡ c.new-judging.result.named = sym (ap (λ (w : Reached). w.named) c.new-judging.ensures) in
+    let named : 0 ≡ c.args.judging.now.named = sym (ap (λ (w : Reached). w.named) c.requires.fresh) in
     record {
-      going = going_first (outs c.args.outputs.now) (gives c.args.walker.now) c.args.basis.now c.new-judging.result n c.new-judging.ensures;
+      going = going_first (outs c.args.outputs.now) (gives c.args.walker.now) c.args.basis.now c.args.judging.now n c.requires.fresh;
       given = c.requires.some;
       some = c.requires.outputs;
-      place = c.requires.place ∙ sym (ap (λ (w : Reached). w.from) c.new-judging.ensures);
+      place = c.requires.place ∙ sym (ap (λ (w : Reached). w.from) c.requires.fresh);
       begun = inl c.requires.begins;
       sound = c.requires.sound;
       count = refl;
       failed = refl;
-      room = room_start c.new-judging.result (g.I.Items.most c.args.walker.now) c.new-judging.ensures;
+      room = room_start c.args.judging.now (g.I.Items.most c.args.walker.now) c.requires.fresh;
       looked = omega (arith, named);
       mapped = refl;
     }
@@ -309,4 +309,4 @@ loop-block-init g c =
 pub returns-in_err-judge_rows-clause-stops : goal.returns-in_err-judge_rows-clause-stops
 returns-in_err-judge_rows-clause-stops g c =
     let p = err_from_is_err_and c.from_residual-in_err-judge_rows.result c.from_residual-in_err-judge_rows.ensures.1 in
-    rw (p.1, p.2) (items_of_halt Bool ℕ g.O.Outputs.steady g.I.Items.steady (g.O.Outputs.failed c.loop-block.outputs) (g.O.Outputs.failed c.judge_rows.new.outputs) (g.I.Items.failed c.args.walker.now) (g.I.Items.failed c.read_block.new.walker) c.in_err-judge_rows.field-0.0 c.in_err-judge_rows.ensures.halts (c.in_ok-stopped.ensures.stops ∙ c.loop-block.invariant.count))
+    rw (p.1, p.2) (items_of_halt Bool ℕ g.O.Outputs.steady g.I.Items.steady (g.O.Outputs.failed c.loop-stopped.outputs) (g.O.Outputs.failed c.judge_rows.new.outputs) (g.I.Items.failed c.args.walker.now) (g.I.Items.failed c.read_block.new.walker) c.in_err-judge_rows.field-0.0 c.in_err-judge_rows.ensures.halts (c.in_ok-stopped.ensures.stops ∙ c.loop-stopped.invariant.count))

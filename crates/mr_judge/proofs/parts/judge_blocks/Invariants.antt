@@ -3,10 +3,10 @@ use Rattle.mr_judge.specs.Steps.{Room}
 use Rattle.mr_judge.specs.Items.{CanCome, Each}
 use Rattle.mr_judge.specs.Outputs.{CanCome as CanComeAhead, begins}
 use Rattle.mr_judge.proofs.BlocksJudged.{Going}
-use Rattle.mr_judge.proofs.parts.check_parts.Given as goal
+use Rattle.mr_judge.proofs.parts.judge_blocks.Given as goal
 
-abbrev pub invariant-loop-block : goal.invariant-loop-block
-invariant-loop-block g l = record {
+abbrev pub invariant-loop-stopped : goal.invariant-loop-stopped
+invariant-loop-stopped g l = record {
   going : Going (g.O.Outputs.gives l.initial.outputs) (g.O.Outputs.gives l.outputs) (g.I.Items.gives l.initial.walker) (g.I.Items.gives l.walker) l.basis l.judging l.initial.meter.lookups l.meter.lookups;
   given : CanCome (g.I.Items.gives l.walker);
   some : CanComeAhead (g.O.Outputs.gives l.outputs);
@@ -20,5 +20,5 @@ invariant-loop-block g l = record {
   mapped : l.meter.mapped ≡ l.initial.meter.mapped;
 }
 
-abbrev pub decreases-loop-block : goal.decreases-loop-block
-decreases-loop-block g l = g.I.Items.most l.walker
+abbrev pub decreases-loop-stopped : goal.decreases-loop-stopped
+decreases-loop-stopped g l = g.I.Items.most l.walker
