@@ -1,8 +1,9 @@
 //! Reduce outputs put one behind another: files, and the groups of a certificate.
-ghost use Rattle.std.specs.Prelude.{◌≡◌, ◌++◌, ◌∷◌, [], ◌<◌, ◌^◌, IfOk};
+ghost use Rattle.std.specs.Prelude.{◌≡◌, ◌++◌, ◌∷◌, [], ◌<◌, ◌^◌, IfOk, OnOk, length};
 ghost use Rattle.mr_input.specs.Files.{contents};
 ghost use Rattle.mr_book.specs.Assembling.{Gathering as Gathered};
 
+use mr_bytes::Name;
 use mr_certform::FlatGroups;
 use mr_task::ReduceOutput;
 use std::alloc::{AllocError, Global};
@@ -34,6 +35,23 @@ impl Model for Gathering {
     } };
 }
 
+/// Appends a partition's groups, by how many entries each has and the names of all.
+fn append_groups(
+    groups: &mut FlatGroups,
+    counts: &[u32],
+    members: &[Name],
+) -> Result<(), AllocError>
+    requires { length counts.now < 2 ^ 32 }
+    ensures groups { OnOk result (groups.new.group_counts.items ≡ groups.old.group_counts.items ++ length counts.now ∷ []) }
+    ensures entries { OnOk result (groups.new.entry_counts.items ≡ groups.old.entry_counts.items ++ counts.now) }
+    ensures names { OnOk result (groups.new.names.items ≡ groups.old.names.items ++ members.now) }
+{
+    groups.group_counts.push(counts.len() as u32)?;
+    groups.entry_counts.extend_from_slice(counts)?;
+    groups.names.extend_from_slice(members)?;
+    Ok(())
+}
+
 impl Gathering {
     /// No partitions. It takes no memory.
     pub(crate) fn new(alloc: Global) -> Gathering
@@ -58,25 +76,11 @@ impl Gathering {
     {
         let Gathering {
             mut outputs,
-            groups,
+            mut groups,
         } = self;
-        let FlatGroups {
-            mut group_counts,
-            mut entry_counts,
-            mut names,
-        } = groups;
         let (counts, members) = output.flat_groups();
         outputs.push(Vec::from_slice(alloc, output.text())?)?;
-        group_counts.push(counts.len() as u32)?;
-        entry_counts.extend_from_slice(counts)?;
-        names.extend_from_slice(members)?;
-        Ok(Gathering {
-            outputs,
-            groups: FlatGroups {
-                group_counts,
-                entry_counts,
-                names,
-            },
-        })
+        append_groups(&mut groups, counts, members)?;
+        Ok(Gathering { outputs, groups })
     }
 }
