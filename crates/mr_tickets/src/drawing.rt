@@ -165,6 +165,23 @@ fn take_all<W: Pieces>(
     Ok(outs)
 }
 
+/// The results of all pieces, each of which has one, in the order of the pieces.
+fn in_order<W: Pieces>(
+    alloc: Global,
+    all: &W,
+    count: u32,
+    found: Vec<Found<W::Out>>,
+) -> Result<Vec<W::Out>, AllocError>
+    requires once { (h : ℕ → ℕ) → weigh h (numbers_of found.items) ≡ below h count }
+    requires given { AllGiven (W.gives all.now) found.items }
+    ensures len { IfOk result (λ v. vec_len v ≡ count) }
+    ensures each { IfOk result (λ v. (p : ℕ) (d : _) → p < count → W.gives all.now p (slice_index_or v.items p d)) }
+{
+    let mut slots = empty_slots(alloc, count)?;
+    fill(all, count, slots.as_mut_slice(), found);
+    take_all(alloc, all, count, slots)
+}
+
 /// Does all pieces by that many threads, at least one, and gives their results in the order of the pieces, as one thread
 /// would. Each thread draws a piece, does it, and draws again until none is left. Where a thread can't be started, the
 /// calling thread does its share.
@@ -203,7 +220,5 @@ pub fn draw_all<W: Pieces, G: Gate, R: Threads + Sync>(
         { work(alloc, shared, job, all, gate, first_piece) },
     )?;
     let found = gather(alloc, all, tickets, dones)?;
-    let mut slots = empty_slots(alloc, count)?;
-    fill(all, count, slots.as_mut_slice(), found);
-    take_all(alloc, all, count, slots)
+    in_order(alloc, all, count, found)
 }
