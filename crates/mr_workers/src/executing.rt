@@ -64,6 +64,21 @@ fn seats_of<L: Ledger>(alloc: Global, mut left: Vec<Left<L>>) -> Result<Vec<Seat
     Ok(seats)
 }
 
+/// All workers' turns over what they share, each in a thread of its own where one can be made: the seats that come back.
+fn turns<L: Ledger + Send + Sync, G: Gate, W: Watch, R: Threads + Wait + Sync>(
+    rt: &R,
+    alloc: Global,
+    shared: &Shared<'_, L, G, W>,
+    seats: Vec<Seat<L>>,
+) -> Result<Vec<Seat<L>>, AllocError>
+    requires { vec_len seats < 2 ^ 32 }
+    ensures { IfOk result (λ v. vec_len v ≡ vec_len seats) }
+{
+    let workers = workers_of(alloc, seats)?;
+    let left = thread::map_vec(rt, workers, &|worker| worker.work(rt, shared))?;
+    seats_of(alloc, left)
+}
+
 /// All workers' turns, each in a thread of its own where one can be made. The book, and the seats.
 pub fn executed<L: Ledger + Send + Sync, G: Gate, W: Watch, R: Threads + Wait + Sync>(
     rt: &R,
@@ -78,7 +93,6 @@ pub fn executed<L: Ledger + Send + Sync, G: Gate, W: Watch, R: Threads + Wait + 
     requires { vec_len seats < 2 ^ 32 }
     ensures { IfOk result (λ r. vec_len r.1 ≡ vec_len seats) }
 {
-    let workers = workers_of(alloc, seats)?;
     let shared = Shared {
         alloc,
         book: Mutex::new(book),
@@ -91,9 +105,7 @@ pub fn executed<L: Ledger + Send + Sync, G: Gate, W: Watch, R: Threads + Wait + 
         gate,
         progress: Progress::new(watch, terms.shape.maps, terms.shape.parts),
     };
-    let every = &shared;
-    let left = thread::map_vec(rt, workers, &|worker| worker.work(rt, every))?;
-    let seats = seats_of(alloc, left)?;
+    let seats = turns(rt, alloc, &shared, seats)?;
     let Shared { book, .. } = shared;
     Ok((book.into_inner(), seats))
 }
