@@ -149,25 +149,30 @@ impl Fault {
     }
 }
 
+/// A line of what is told.
+fn write_told<D: fmt::Display, W: fmt::Write>(f: &mut fmt::Formatter<W>, told: &D) -> fmt::Result {
+    write!(f, "mapred: {told}\n")
+}
+
 impl fmt::Display for Fault {
     fn fmt<W: fmt::Write>(&self, f: &mut fmt::Formatter<W>) -> fmt::Result {
         match self {
-            Fault::OtherJobsOption => { write!(f, "mapred: option does not belong to this job\n") }
-            Fault::Job(fault) => write!(f, "mapred: {fault}\n"),
-            Fault::Request(fault) => write!(f, "mapred: {fault}\n"),
-            Fault::BadSkipList => write!(f, "mapred: bad skip list\n"),
-            Fault::Input(fault) => write!(f, "mapred: {fault}\n"),
-            Fault::TooManySplits => write!(f, "mapred: TooManySplits\n"),
-            Fault::Run(fault) => write!(f, "mapred: {fault}\n"),
-            Fault::BadWorkers => write!(f, "mapred: BadWorkers\n"),
-            Fault::BadAttempts => write!(f, "mapred: BadAttempts\n"),
-            Fault::BadThreads => write!(f, "mapred: BadThreads\n"),
+            Fault::OtherJobsOption => write_told(f, &"option does not belong to this job"),
+            Fault::Job(fault) => write_told(f, fault),
+            Fault::Request(fault) => write_told(f, fault),
+            Fault::BadSkipList => write_told(f, &"bad skip list"),
+            Fault::Input(fault) => write_told(f, fault),
+            Fault::TooManySplits => write_told(f, &"TooManySplits"),
+            Fault::Run(fault) => write_told(f, fault),
+            Fault::BadWorkers => write_told(f, &"BadWorkers"),
+            Fault::BadAttempts => write_told(f, &"BadAttempts"),
+            Fault::BadThreads => write_told(f, &"BadThreads"),
             Fault::LineEndInName { file } => write!(f, "mapred: LineEndInName file {file}\n"),
-            Fault::Script(fault) => write!(f, "mapred: {fault}\n"),
-            Fault::Shards(fault) => write!(f, "mapred: {fault}\n"),
+            Fault::Script(fault) => write_told(f, fault),
+            Fault::Shards(fault) => write_told(f, fault),
             Fault::CannotRead(name) => write!(f, "mapred: cannot read {name}\n"),
             Fault::CannotWrite(name) => write!(f, "mapred: cannot write {name}\n"),
-            Fault::OutOfMemory => write!(f, "mapred: out of memory\n"),
+            Fault::OutOfMemory => write_told(f, &"out of memory"),
         }
     }
 }
