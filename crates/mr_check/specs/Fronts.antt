@@ -7,7 +7,7 @@ use Rattle.mr_answers.specs.declared.fault.No.{No}
 use Rattle.mr_check.specs.declared.front.Front.{Front}
 use Rattle.mr_answers.specs.Verdict.{Reached, Subject, first}
 use Rattle.mr_answers.specs.VerdictLaws.{told, piece, or_else}
-use Rattle.mr_judge.specs.Steps.{Answers, Room, opens}
+use Rattle.mr_judge.specs.Steps.{Answers, Room}
 use Rattle.mr_judge.specs.Blocks.{onto}
 
 -- the item ends all

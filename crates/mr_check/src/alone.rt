@@ -5,8 +5,8 @@ ghost use Rattle.mr_certform.specs.declared.item.Item.{Item as Read};
 ghost use Rattle.mr_certform.specs.Walking.{items_left, halt};
 ghost use Rattle.mr_answers.specs.declared.fault.No.TheVariants.{Malformed, OutOfMemory};
 ghost use Rattle.mr_input.specs.Files.{contents};
-ghost use Rattle.mr_answers.specs.Verdict.{entries_in, tests, after};
-ghost use Rattle.mr_answers.specs.VerdictLaws.{part_fault};
+ghost use Rattle.mr_answers.specs.Verdict.{entries_in, first, tests, after};
+ghost use Rattle.mr_answers.specs.VerdictLaws.{part_fault, piece, told};
 ghost use Rattle.mr_judge.specs.Steps.{subject, Answers, HasRoom, Room};
 ghost use Rattle.mr_judge.specs.Blocks.{items_in, onto, IsFound};
 ghost use Rattle.mr_judge.specs.Outputs.{Leaves};
@@ -18,7 +18,7 @@ use crate::fronts::is_opening;
 use mr_answers::{No, is_same_fault};
 use mr_certform::{Item, Walker};
 use mr_index::Meter;
-use mr_judge::{AtHand, BLOCK, FoundItem, Progress, Stop, fetch_all, read_block, seek_all, touch};
+use mr_judge::{AtHand, Block, FoundItem, Progress, Stop, read_block};
 use std::alloc::{AllocError, Global};
 
 /// Whether the item belongs to the partition that is open.
@@ -140,37 +140,49 @@ fn read_more(walker: &mut Walker<'_>, items: &mut Vec<Item>) -> Result<bool, All
     }
 }
 
-/// Judges partition `p`, which begins here: its first fault, if it has one. Its names are looked up a block of them
+/// Judges what is left of the partition that is open: its first fault, if it has one. Its names are looked up a block of them
 /// ahead of the tests.
-fn judge_part(alloc: Global, facts: &Facts<'_>, p: u32, front: &Front<'_>) -> Result<(), No>
-    ensures { let fault = part_fault (subject facts.now) p (part_here (items_left front.now.walker)) in
+fn judge_open<'a>(
+    facts: &Facts<'a>,
+    judging: &mut Progress<'a>,
+    outputs: &mut AtHand<'_>,
+    walker: &mut Walker<'_>,
+    block: &mut Block<'a>,
+) -> Result<(), No>
+    requires room { Room judging.old (length (items_left walker.old)) (2 ^ 63 + 2 ^ 32) }
+    requires left { Leaves judging.old facts.now.outputs outputs.old.rest.now (contents outputs.old.later.now) }
+    requires place { outputs.old.passed ≡ judging.old.from }
+    ensures { let fault = first (told (subject facts.now) judging.old (piece (items_left walker.old))) in
         MatchResult result (λ _. fault ≡ None) (λ e. (e ≡ OutOfMemory) ⊎ (fault ≡ Some e)) }
 {
-    let mut walker = front.walker;
     let basis = facts.basis();
-    let mut outputs = facts.outputs_before(u64::from(p));
-    let mut judging = Progress::before(alloc, u64::from(p));
-    if !open_part(&mut judging, facts, &mut outputs, &mut walker)? {
-        return Ok(());
-    }
-    let mut items = Vec::with_capacity(alloc, BLOCK)?;
-    let mut sought = Vec::with_capacity(alloc, BLOCK)?;
-    let mut rows = Vec::with_capacity(alloc, BLOCK)?;
-    let mut touched = Vec::with_capacity(alloc, BLOCK)?;
-    while read_more(&mut walker, &mut items)? {
+    while read_more(walker, &mut block.items)? {
         // What a thread looks up is counted for nobody.
         let mut meter = Meter {
             lookups: 0,
             mapped: 0,
         };
-        seek_all(&basis, &items, &mut sought, &mut meter)?;
-        fetch_all(&sought, &mut rows)?;
-        touch(&rows, &mut touched)?;
-        if judge_own(&mut judging, facts, &mut outputs, &rows)? {
+        block.look_up(&basis, &mut meter)?;
+        if judge_own(judging, facts, outputs, &block.rows)? {
             return Ok(());
         }
     }
     Ok(())
+}
+
+/// Judges partition `p`, which begins here: its first fault, if it has one.
+fn judge_part(alloc: Global, facts: &Facts<'_>, p: u32, front: &Front<'_>) -> Result<(), No>
+    ensures { let fault = part_fault (subject facts.now) p (part_here (items_left front.now.walker)) in
+        MatchResult result (λ _. fault ≡ None) (λ e. (e ≡ OutOfMemory) ⊎ (fault ≡ Some e)) }
+{
+    let mut walker = front.walker;
+    let mut outputs = facts.outputs_before(u64::from(p));
+    let mut judging = Progress::before(alloc, u64::from(p));
+    if !open_part(&mut judging, facts, &mut outputs, &mut walker)? {
+        return Ok(());
+    }
+    let mut block = Block::new(alloc)?;
+    judge_open(facts, &mut judging, &mut outputs, &mut walker, &mut block)
 }
 
 /// The fault of partition `p`, which begins here, if it has one.

@@ -19,7 +19,7 @@ mod progress;
 mod readers;
 mod skips;
 
-pub use blocks::{BLOCK, FoundItem, Sought, fetch_all, read_block, seek_all, touch};
+pub use blocks::{FoundItem, Sought, read_block};
 pub use entry_tests::test_named;
 pub use facts::Basis;
 pub use from::{check_from, check_from_watched};
@@ -27,5 +27,6 @@ pub use heading::expect_header;
 pub use items::{Halt, Items, Stop};
 pub use judge::{check, check_metered, check_watched, plan_of, walk};
 pub use outputs::{AtHand, Lack, Outputs};
+pub use parts::Block;
 pub use progress::Progress;
 pub use skips::{expect_count, take_skips};

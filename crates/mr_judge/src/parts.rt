@@ -47,17 +47,23 @@ fn judge_rows<'a, O: Outputs>(
     Ok(false)
 }
 
-/// Items that are read, looked up and judged together, with what is found of them: buffers for a block.
+/// Items that are read, looked up and judged together, with what is found of them: buffers for a block, taken at once and
+/// used again for each.
 #[derive(Drop)]
-struct Block<'a> {
-    items: Vec<Item>,
-    sought: Vec<Sought<'a>>,
-    rows: Vec<FoundItem<'a>>,
-    touched: Vec<u8>,
+pub struct Block<'a> {
+    /// What was read.
+    pub items: Vec<Item>,
+    /// The names among them, where they are looked for.
+    pub sought: Vec<Sought<'a>>,
+    /// The items, each with the pair that was found.
+    pub rows: Vec<FoundItem<'a>>,
+    /// Bytes of the keys, read ahead.
+    pub touched: Vec<u8>,
 }
 
 impl<'a> Block<'a> {
-    fn new(alloc: Global) -> Result<Block<'a>, AllocError> {
+    /// Empty buffers, with room for a block.
+    pub fn new(alloc: Global) -> Result<Block<'a>, AllocError> {
         Ok(Block {
             items: Vec::with_capacity(alloc, BLOCK)?,
             sought: Vec::with_capacity(alloc, BLOCK)?,
@@ -67,7 +73,7 @@ impl<'a> Block<'a> {
     }
 
     /// Looks up the names among the items, for their rows.
-    fn look_up(&mut self, basis: &Basis<'a>, meter: &mut Meter) -> Result<(), AllocError>
+    pub fn look_up(&mut self, basis: &Basis<'a>, meter: &mut Meter) -> Result<(), AllocError>
         requires { meter.old.lookups + entries_in self.old.items.items < 2 ^ 64 }
         ensures items { OnOk result (items_in self.new.rows.items ≡ self.old.items.items) }
         ensures found { OnOk result (AllByRecursion (IsFound basis.now.triples) self.new.rows.items) }
