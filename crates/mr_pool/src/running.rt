@@ -8,7 +8,7 @@ ghost use Rattle.mr_core.specs.Core.{InLimits};
 ghost use Rattle.mr_answers.specs.declared.fault.No.{No};
 ghost use Rattle.mr_answers.specs.Headline.{IsCertified};
 ghost use Rattle.mr_answers.specs.Verdict.{verdict_of};
-ghost use Rattle.mr_pool.specs.Outcomes.{IsCertifiedRun, IsRunFault, run_shape};
+ghost use Rattle.mr_pool.specs.Outcomes.{IsCertifiedRun, IsDoneRun, IsRunFault, run_shape};
 
 use crate::progress::JudgesProgress;
 use mr_book::{Book, History, Seat};
@@ -92,6 +92,38 @@ fn judged_by_all<W: Watch, R: Threads + Sync>(
     )
 }
 
+/// What a run that ended done answers, as its result is judged.
+fn answered(
+    terms: Terms<'_>,
+    outputs: Vec<Vec<u8>>,
+    certificate: Vec<u8>,
+    judged: Result<Yes, No>,
+    history: History,
+) -> Result<Certified, RunFault>
+    requires done { IsDoneRun terms.request.now terms.input.now history.shape history (contents outputs.items) certificate.items }
+    requires headline { IfOk judged (λ y. IsCertified terms.request.now terms.input.now (contents outputs.items) certificate.items y.skips.items y.pairs) }
+    requires no { IfErr judged (λ e. (e ≡ No.OutOfMemory)
+        ⊎ (verdict_of terms.request.now terms.input.now (contents outputs.items) certificate.items ≡ Err e)) }
+    ensures certified { IfOk result (IsCertifiedRun terms.entry.request.now terms.entry.input.now history.shape) }
+    ensures fault { IfErr result (IsRunFault terms.entry.request.now terms.entry.input.now terms.entry.script.now history.shape) }
+{
+    match judged {
+        Ok(yes) => Ok(Certified {
+            outputs,
+            certificate,
+            skips: yes.skips,
+            pairs: yes.pairs,
+            history,
+        }),
+        Err(no) => {
+            if is_same_fault(no, No::OutOfMemory) {
+                return Err(RunFault::OutOfMemory);
+            }
+            Err(RunFault::Uncertified(no, history))
+        }
+    }
+}
+
 /// The result of a done job is assembled and judged.
 fn assembled<L: Ledger, W: Watch, R: Threads + Sync>(
     rt: &R,
@@ -120,21 +152,7 @@ fn assembled<L: Ledger, W: Watch, R: Threads + Sync>(
         watch,
     );
     let history = book.close(seats);
-    match judged {
-        Ok(yes) => Ok(Certified {
-            outputs,
-            certificate,
-            skips: yes.skips,
-            pairs: yes.pairs,
-            history,
-        }),
-        Err(no) => {
-            if is_same_fault(no, No::OutOfMemory) {
-                return Err(RunFault::OutOfMemory);
-            }
-            Err(RunFault::Uncertified(no, history))
-        }
-    }
+    answered(terms, outputs, certificate, judged, history)
 }
 
 /// How a job ended, by what its script accounts for.

@@ -1,0 +1,19 @@
+use Rattle.std.proofs.Common.{◌≡◌, ◌⊎◌, sym, subst, ◌∙◌, inl, inr}
+use Rattle.std.specs.Prelude.{Err, IfErr}
+use Rattle.std.proofs.lemmas.Bool.{false≢true}
+use Rattle.mr_input.specs.Files.{contents}
+use Rattle.mr_answers.specs.declared.fault.No.TheVariants.{OutOfMemory}
+use Rattle.mr_answers.specs.Verdict.{verdict_of}
+use Rattle.mr_pool.proofs.running.answered.Goals as goal
+
+pub returns-else-is_same_fault-clause-fault : goal.returns-else-is_same_fault-clause-fault
+returns-else-is_same_fault-clause-fault c =
+    let told = subst
+    (λ j. IfErr j (λ e. (e ≡ OutOfMemory) ⊎ (verdict_of c.args.terms.request.now c.args.terms.input.now (contents c.args.outputs.items) c.args.certificate.items ≡ Err e)))
+    c.in-Err.is c.requires.no in
+    inl (record {
+      outputs = contents c.args.outputs.items;
+      bytes = c.args.certificate.items;
+      done = c.requires.done;
+      refused = elim told [ inl e ↦ absurd (false≢true (sym c.if-is_same_fault.false ∙ c.is_same_fault.ensures.1 e)) | inr v ↦ v ];
+    })
