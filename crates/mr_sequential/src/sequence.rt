@@ -1,5 +1,6 @@
 //! A sequential execution, from a request and an input to the outputs.
 ghost use Rattle.std.specs.Prelude.{◌≡◌, ◌↔◌, ℕ, ◌≤◌, ◌<◌, ◌^◌, ◌⊎◌, IfOk, OnOk, IfErr, IfSome, ◌≢◌, None, Some, length, map};
+ghost use Rattle.mr_certform.specs.Flat.{AreCounted, chunks};
 ghost use Rattle.mr_input.specs.Files.{contents, nth_file, split_total};
 ghost use Rattle.mr_jobs.specs.JobSpec.{job_number, job_flags, job_literal};
 ghost use Rattle.mr_splits.specs.Cut.{records_of};
@@ -12,10 +13,10 @@ use crate::fault::RunFault;
 use crate::outputs::outputs;
 use crate::source::{Emitted, gather};
 use mr_bytes::RecordName;
-use mr_certform::{Certificate, Header};
+use mr_certform::{Certificate, FlatGroups, Header};
 use mr_input::Input;
 use mr_jobs::Request;
-use mr_splits::{Plan, SkipFault};
+use mr_splits::{Kept, Plan, SkipFault};
 use mr_watch::{Phase, Unwatched, Watch};
 use std::alloc::{AllocError, Global};
 
@@ -128,6 +129,33 @@ pub fn header_of(
     })
 }
 
+/// The outputs of a job over the kept records of a plan, and the groups of their certificate.
+fn outputs_of(
+    alloc: Global,
+    request: &Request,
+    kept: &Kept<'_>,
+    watch: &dyn Watch,
+) -> Result<(Vec<Vec<u8>>, FlatGroups), AllocError>
+    requires some { 0 < kept.now.cut.size }
+    requires size { kept.now.cut.size ≡ request.now.split }
+    ensures count { IfOk result (λ r. length r.0.items ≡ request.now.parts) }
+    ensures texts { IfOk result (λ r. (p : ℕ) → p < request.now.parts → nth_file (contents r.0.items) p
+        ≡ sequential request.now kept.now.cut.files kept.now.skips p) }
+    ensures parts { IfOk result (λ r. length r.1.group_counts.items ≡ request.now.parts) }
+    ensures counted { IfOk result (λ r. AreCounted r.1.group_counts.items r.1.entry_counts.items r.1.names.items) }
+    ensures groups { IfOk result (λ r. chunks r.1.group_counts.items (chunks r.1.entry_counts.items r.1.names.items)
+        ≡ (certificate_of request.now kept.now.cut.files kept.now.skips).groups) }
+{
+    // Files within the limits of an input emit fewer pairs than a u32 numbers.
+    let _files = kept.plan().input().files();
+    let job = request.job();
+    let Emitted { pairs, counts } = gather(alloc, job, kept, watch)?;
+    watch.tell(Phase::Reducing, 0, 1);
+    let made = outputs(alloc, job, kept, pairs, counts, request.parts())?;
+    watch.tell(Phase::Reducing, 1, 1);
+    Ok(made)
+}
+
 /// Executes a job over a plan.
 fn execute(
     alloc: Global,
@@ -146,14 +174,11 @@ fn execute(
     ensures is_good { IfOk result (λ r. IsGood request.now plan.now.files (contents r.0.items) r.1) }
     ensures only { IfErr result (λ e. e ≡ RunFault.OutOfMemory) }
 {
-    // Files within the limits of an input emit fewer pairs than a u32 numbers.
+    // An input has few files, and a request few partitions, for a certificate.
     let _files = plan.input().files();
-    let job = request.job();
+    let _parts = request.parts();
     let kept = plan.kept(alloc, skips)?;
-    let Emitted { pairs, counts } = gather(alloc, job, &kept, watch)?;
-    watch.tell(Phase::Reducing, 0, 1);
-    let (texts, groups) = outputs(alloc, job, &kept, pairs, counts, request.parts())?;
-    watch.tell(Phase::Reducing, 1, 1);
+    let (texts, groups) = outputs_of(alloc, request, &kept, watch)?;
     let header = header_of(alloc, request, plan.input(), skips)?;
     Ok((texts, Certificate::of(header, groups)))
 }
