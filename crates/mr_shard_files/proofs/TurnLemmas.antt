@@ -10,7 +10,7 @@ use Rattle.mr_shards.specs.Pieces.{AreFresh, AreWindows, AreWithin, IsAfter, IsM
 use Rattle.mr_shard_files.specs.declared.stream.Part.{Part}
 use Rattle.mr_shard_files.specs.declared.turns.Stop.{Stop}
 use Rattle.mr_shard_files.specs.declared.turns.Stop.TheVariants as stop
-use Rattle.mr_shard_files.specs.Streams.{AllAre, AllMayBe, AreBlamed, AreHeld, AreWindowsOf, IsBlamedOver, IsStopped, IsStoppedAt, MayBe, Moves, OneIs, StepsOver, TellsUnread, all_done, is_done}
+use Rattle.mr_shard_files.specs.Streams.{AllAre, AllMayBe, AreBlamed, AreHeld, AreWindowsOf, IsBlamedOver, IsStopped, IsStoppedAt, IsTurnFault, MayBe, Moves, OneIs, StepsOver, TellsUnread, all_done, is_done}
 use Rattle.mr_shard_files.specs.declared.fault.ShardFault.{ShardFault}
 use Rattle.mr_shard_files.specs.declared.fault.ShardFault.TheVariants.{CannotRead, OutOfMemory}
 use Rattle.mr_shard_files.proofs.StreamLemmas.{moves_none, moves_on}
@@ -263,8 +263,16 @@ module _ {R : Type 0} (remaining : R → Option (List ℕ)) (can_fail : R → Ty
       by rs h (inl none) = subst (Blames job (outputs_of rs)) (sym none) tt
       by rs h (inr (ws, shown, f)) = f rs (stands rs (fill_back fs xs os filled zs rs k h)).0 (windows_are fs xs filled ws rs h shown)
 
-  -- so is what a turn is stopped at
-  pub stopped_turn : (unwritten : ShardFault → Type 0) (job : JobSpec) (fs : List ℕ) (xs : List (List ℕ)) (bs os zs : List (Part R)) (m : Standing) (out : List ℕ) (filled : List (Part R)) (e : Stop)
-      → AllAre (Moves remaining can_fail) xs bs os → Stands job fs xs os m out → AllAre Fills zs os filled → IsStoppedAt job filled m e → IsStopped remaining can_fail unwritten job fs bs filled e
-  stopped_turn unwritten job fs xs bs os zs m out filled (stop.Part fault) moved stands k b = inl b
-  stopped_turn unwritten job fs xs bs os zs m out filled (stop.Merge fault) moved stands k b = blamed_turn job fs xs bs os zs m out filled fault moved stands k b
+  -- what is not stepped over is no next turn
+  pub stopped_step : (unwritten : ShardFault → Type 0) (job : JobSpec) (os : List (Part R)) (m : Standing) (filled : List (Part R)) (e : Stop)
+      → AllAre Fills os os filled → IsStoppedAt job filled m e → IsTurnFault remaining can_fail unwritten job os filled m e
+  stopped_step unwritten job os m filled (stop.Part fault) k b = inl b
+  stopped_step unwritten job os m filled (stop.Merge fault) k b = (k, b)
+
+  -- where there is no next turn, the parts are not merged
+  pub stopped_turn : (now first : ShardFault → Type 0) (job : JobSpec) (fs : List ℕ) (xs : List (List ℕ)) (bs os : List (Part R)) (m : Standing) (out : List ℕ) (filled : List (Part R)) (e : Stop)
+      → ((f : ShardFault) → now f → first f) → AllAre (Moves remaining can_fail) xs bs os → Stands job fs xs os m out → IsTurnFault remaining can_fail now job os filled m e → IsStopped remaining can_fail first job fs bs filled e
+  stopped_turn now first job fs xs bs os m out filled (stop.Part fault) back moved stands (inl none) = inl none
+  stopped_turn now first job fs xs bs os m out filled (stop.Part fault) back moved stands (inr (inl one)) = inr (inl (one_back xs bs os fault moved one))
+  stopped_turn now first job fs xs bs os m out filled (stop.Part fault) back moved stands (inr (inr told)) = inr (inr (back fault told))
+  stopped_turn now first job fs xs bs os m out filled (stop.Merge fault) back moved stands (k, b) = blamed_turn job fs xs bs os os m out filled fault moved stands k b

@@ -231,6 +231,12 @@ abbrev pub IsStoppedAt : {R : Type 0} → JobSpec → List (Part R) → Standing
 IsStoppedAt job parts m (stop.Part fault) = fault ≡ OutOfMemory
 IsStoppedAt job parts m (stop.Merge fault) = IsBlamedOver job parts m fault
 
+-- there is no next turn: a part can't be read, or what was merged is not written, or windows on the parts are not stepped over
+abbrev pub IsTurnFault : {R : Type 0} → (R → Option (List ℕ)) → (R → Type 0) → (ShardFault → Type 0) → JobSpec → List (Part R) → List (Part R) → Standing → Stop → Type 0
+IsTurnFault remaining can_fail unwritten job old new m (stop.Part fault) =
+    (fault ≡ OutOfMemory) ⊎ (OneIs (λ _ q. TellsUnread (can_fail q.reader) (string_bytes q.name) fault) old ⊎ unwritten fault)
+IsTurnFault remaining can_fail unwritten job old new m (stop.Merge fault) = AllAre (λ _ o n. Moves remaining can_fail [] o n) old old new × IsBlamedOver job new m fault
+
 -- parts are not merged as they are read, or what they are merged to is not written
 abbrev pub IsStopped : {R : Type 0} → (R → Option (List ℕ)) → (R → Type 0) → (ShardFault → Type 0) → JobSpec → List ℕ → List (Part R) → List (Part R) → Stop → Type 0
 IsStopped remaining can_fail unwritten job files old new (stop.Part fault) =

@@ -1,20 +1,24 @@
 //! Shards, merged.
-ghost use Rattle.std.specs.Prelude.{◌≡◌, ◌<◌, ◌^◌, IfErr, IfOk, OnOk, length, map, option_map};
+ghost use Rattle.std.specs.Prelude.{◌≡◌, ◌<◌, ◌^◌, ◌⊎◌, IfErr, IfOk, OnOk, length, map, option_map};
 ghost use Rattle.std.specs.List.{AllByRecursion};
+ghost use Rattle.mr_files.specs.Holding.{Holding};
 ghost use Rattle.mr_verdict.specs.Joined.{AreOnce, IsJoined, verdict_at};
 ghost use Rattle.mr_verdict.specs.Truth.{Asks};
+ghost use Rattle.mr_verdict.specs.Verdict.{spelling};
 ghost use Rattle.mr_shard_files.specs.Merging.{ChangesResult, IsMerged, IsReady, with_outputs as with_notes};
-ghost use Rattle.mr_shard_files.specs.Faults.{IsFirstFault, IsInputsFault, IsJoinedFault, IsMergingFault, IsMiscounted, IsShardRefusal};
+ghost use Rattle.mr_shard_files.specs.Apart.{AreApart, IsSameFolder};
+ghost use Rattle.mr_shard_files.specs.Listing.{IsListed};
+ghost use Rattle.mr_shard_files.specs.Faults.{IsFirstFault, IsInputsFault, IsJoinedFault, IsListFault, IsMergingFault, IsMiscounted, IsShardRefusal};
 
 use crate::apart::expect_apart;
 use crate::fault::ShardFault;
 use crate::gathering::read_verdicts;
 use crate::listing::expect_listed;
-use crate::naming::put_verdict;
+use crate::naming::put_told;
 use crate::partition::partitions_written;
 use mr_files::Store;
 use mr_jobs::Request;
-use mr_verdict::{FileNote, Verdict, first_repeat, join_verdicts, request_of, write_verdict};
+use mr_verdict::{FileNote, Verdict, first_repeat, join_verdicts, request_of};
 use std::alloc::Global;
 use std::thread::Threads;
 
@@ -91,6 +95,24 @@ fn noted(verdict: Verdict, outputs: Vec<FileNote>) -> Verdict
     Verdict { outputs, ..verdict }
 }
 
+/// The inputs are those of the list, where one is named, and no shard stands in the folder that is to hold the result.
+fn expect_meant<S: Store>(
+    store: &S,
+    alloc: Global,
+    names: &[&str],
+    list: Option<&str>,
+    inputs: &[FileNote],
+    out: &str,
+) -> Result<(), ShardFault>
+    ensures listed { OnOk result (IsListed (S.holds store.now) (option_map (λ n. n.now) list.entry) inputs.now) }
+    ensures apart { OnOk result (AreApart (map (λ s. s.now) names.now) out.now) }
+    ensures err { IfErr result (λ e. IsListFault (S.holds store.now) (S.unreadable store.now) (option_map (λ n. n.now) list.entry) inputs.now e
+        ⊎ IsSameFolder (S.alike store.now) (map (λ s. s.now) names.now) out.now e) }
+{
+    expect_listed(store, alloc, list, inputs)?;
+    expect_apart(store, names, out)
+}
+
 /// The request of verdicts that can be merged to that folder, and what they are together.
 fn prepared<S: Store>(
     store: &S,
@@ -107,9 +129,32 @@ fn prepared<S: Store>(
 {
     let request = first_request(alloc, verdicts)?;
     let joined = joined_once(alloc, &request, verdicts)?;
-    expect_listed(store, alloc, inputs, joined.inputs.as_slice())?;
-    expect_apart(store, names, out)?;
+    expect_meant(store, alloc, names, inputs, joined.inputs.as_slice(), out)?;
     Ok((request, joined))
+}
+
+/// Merges the shards that these verdicts, which stand under the names, tell of.
+fn merged_of<S: Store, T: Threads>(
+    rt: &T,
+    store: &mut S,
+    alloc: Global,
+    names: &[&str],
+    inputs: Option<&str>,
+    verdicts: &[Verdict],
+    out: &str,
+) -> Result<Verdict, ShardFault>
+    requires { Holding (S.holds store.old) (map (λ s. s.now) names.now) (map spelling verdicts.now) }
+    ensures ok { IfOk result (IsMerged (S.holds store.old) (S.holds store.new) (map (λ s. s.now) names.now)
+        (option_map (λ n. n.now) inputs.entry) out.now) }
+    ensures others { ChangesResult (S.holds store.old) (S.holds store.new) out.now }
+    ensures refused { IfErr result (IsShardRefusal (S.holds store.old) (S.holds store.new) (S.unreadable store.old) (S.unwritable store.old)
+        (S.alike store.old) (map (λ s. s.now) names.now) (option_map (λ n. n.now) inputs.entry) out.now) }
+{
+    let (request, joined) = prepared(store, alloc, names, inputs, verdicts, out)?;
+    let notes = partitions_written(rt, store, alloc, &request, names, verdicts, out)?;
+    let merged = noted(joined, notes);
+    put_told(store, alloc, out, &merged)?;
+    Ok(merged)
 }
 
 /// Merges shards: under each name stands a verdict, beside it the parts that it tells of. The merged parts are written to
@@ -137,11 +182,5 @@ pub fn merge_shards<S: Store, T: Threads>(
         (S.alike store.old) (map (λ s. s.now) names.now) (option_map (λ n. n.now) inputs.entry) out.now) }
 {
     let verdicts = read_verdicts(store, alloc, names)?;
-    let verdicts = verdicts.as_slice();
-    let (request, joined) = prepared(store, alloc, names, inputs, verdicts, out)?;
-    let notes = partitions_written(rt, store, alloc, &request, names, verdicts, out)?;
-    let merged = noted(joined, notes);
-    let text = write_verdict(alloc, &merged)?;
-    put_verdict(store, alloc, out, text.as_slice())?;
-    Ok(merged)
+    merged_of(rt, store, alloc, names, inputs, verdicts.as_slice(), out)
 }

@@ -1,7 +1,7 @@
 //! Parts of shards, merged as they are read.
-ghost use Rattle.std.specs.Prelude.{◌≡◌, ◌⊎◌, [], ℕ, List, IfErr, IfOk, OnOk, length, string_bytes};
+ghost use Rattle.std.specs.Prelude.{◌≡◌, ◌⊎◌, [], ◌++◌, ℕ, List, IfErr, IfOk, OnOk, length, string_bytes};
 ghost use Rattle.mr_shard_files.specs.Streams.{AreBlamed, AreJoined, AreMergedTo, AreNext, AreTaken, IsBlamedOver, IsRefused, IsStopped, IsStoppedAt};
-ghost use Rattle.mr_shard_files.specs.Streams.{StepsOver};
+ghost use Rattle.mr_shard_files.specs.Streams.{AllAre, IsTurnFault, Moves, StepsOver};
 ghost use Rattle.mr_shard_files.specs.Made.{HasWritten, TellsUnwritten};
 
 use crate::fault::{ShardFault, of_merge};
@@ -179,6 +179,40 @@ fn next_size(size: usize, cuts: &[usize]) -> usize {
     }
 }
 
+/// The next turn: some bytes of each part are read, the lines taken that no line to come belongs before, and what these are
+/// merged to is written.
+fn turned<R: CountedRead + Drop, W: CountedWrite + Drop, T: Threads>(
+    rt: &T,
+    alloc: Global,
+    job: &Job,
+    parts: &mut [Part<R>],
+    last: Turn,
+    size: usize,
+    made: &mut Made<W>,
+) -> Result<Turn, Stop>
+    requires { length parts.old ≡ length last.merger.held }
+    ensures shards { IfOk result (λ s. length s.merger.held ≡ length last.merger.held) }
+    ensures read { OnOk result (AllAre (λ _ o n. Moves R.remaining R.can_fail [] o n) parts.old parts.old parts.new) }
+    ensures ok { IfOk result (λ s. StepsOver job.now parts.new s.cuts.items last.merger s.merger [] s.text.items) }
+    ensures written { IfOk result (λ s. (bytes : List ℕ) → HasWritten W.seen bytes made.old → HasWritten W.seen (bytes ++ s.text.items) made.new) }
+    ensures err { IfErr result (IsTurnFault R.remaining R.can_fail (TellsUnwritten (W.can_fail made.old.writer) (string_bytes made.old.name))
+        job.now parts.old parts.new last.merger) }
+    ensures later { W.can_fail made.new.writer → W.can_fail made.old.writer }
+    ensures name { made.new.name ≡ made.old.name }
+{
+    fill_all(alloc, parts, size.max(share_of(parts)))?;
+    let Turn {
+        merger,
+        mut text,
+        ..
+    } = last;
+    text.clear();
+    let (turn, digests) = stepped_beside(rt, alloc, job, parts, merger, text)?;
+    keep_all(parts, digests.as_slice())?;
+    made.put(alloc, turn.text.as_slice())?;
+    Ok(turn)
+}
+
 /// Merges the parts in turns: in each, some bytes of each are read, the lines taken that no line to come belongs before, and
 /// what these are merged to is written.
 pub(crate) fn merged_in_turns<R: CountedRead + Drop, W: CountedWrite + Drop, T: Threads>(
@@ -198,23 +232,19 @@ pub(crate) fn merged_in_turns<R: CountedRead + Drop, W: CountedWrite + Drop, T: 
     ensures later { W.can_fail made.new.writer → W.can_fail made.old.writer }
     ensures name { made.new.name ≡ made.old.name }
 {
-    let mut merger = Merger::new(alloc, files)?;
-    let mut text = Vec::new(alloc);
+    let mut turn = Turn {
+        merger: Merger::new(alloc, files)?,
+        text: Vec::new(alloc),
+        cuts: Vec::new(alloc),
+    };
     let mut size = WINDOW;
     for _ in 0..u64::MAX {
-        fill_all(alloc, parts, size.max(share_of(parts)))?;
-        text.clear();
-        let (step, digests) = stepped_beside(rt, alloc, job, parts, merger, text)?;
-        keep_all(parts, digests.as_slice())?;
-        let cuts = step.cuts;
-        merger = step.merger;
-        text = step.text;
-        made.put(alloc, text.as_slice())?;
+        turn = turned(rt, alloc, job, parts, turn, size, made)?;
         if are_done(parts) {
             return Ok(());
         }
-        pass_all(parts, cuts.as_slice());
-        size = next_size(size, cuts.as_slice());
+        pass_all(parts, turn.cuts.as_slice());
+        size = next_size(size, turn.cuts.as_slice());
     }
     // More turns than 64 bits count: no machine has the memory for what they would merge.
     Err(Stop::Part(ShardFault::OutOfMemory))

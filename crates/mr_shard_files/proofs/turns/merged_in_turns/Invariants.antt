@@ -6,11 +6,11 @@ use Rattle.mr_shard_files.proofs.turns.merged_in_turns.Given as goal
 
 abbrev pub invariant-loop : goal.invariant-loop
 invariant-loop g l = record {
-  count : length l.parts ≡ length l.merger.held;
+  count : length l.parts ≡ length l.turn.merger.held;
   passed : List (List ℕ);
   moved : AllAre (Moves g.R.CountedRead.remaining g.R.CountedRead.can_fail) passed l.initial.parts l.parts;
   written : List ℕ;
-  stands : Stands g.R.CountedRead.remaining g.R.CountedRead.can_fail l.job l.files passed l.parts l.merger written;
+  stands : Stands g.R.CountedRead.remaining g.R.CountedRead.can_fail l.job l.files passed l.parts l.turn.merger written;
   made : HasWritten g.W.CountedWrite.seen written l.made;
   later : g.W.CountedWrite.can_fail l.made.writer → g.W.CountedWrite.can_fail l.initial.made.writer;
   named : l.made.name ≡ l.initial.made.name;

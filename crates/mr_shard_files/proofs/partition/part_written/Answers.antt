@@ -1,0 +1,25 @@
+use Rattle.std.proofs.Common.{inr, string_bytes}
+use Rattle.std.proofs.lemmas.Result.{err_from_is_err_and}
+use Rattle.mr_files.specs.Names.{name_of_part}
+use Rattle.mr_shard_files.specs.Streams.{IsRefused}
+use Rattle.mr_shard_files.proofs.MadeLemmas.{refused_back}
+use Rattle.mr_shard_files.proofs.partition.part_written.Goals as goal
+
+pub returns-in_err-made-clause-err : goal.returns-in_err-made-clause-err
+returns-in_err-made-clause-err g c =
+    let p = err_from_is_err_and c.from_residual.result c.from_residual.ensures.1 in
+    rw p.1 (rw p.2 (inr c.in_err-made.ensures.err))
+
+pub returns-in_err-close-clause-err : goal.returns-in_err-close-clause-err
+returns-in_err-close-clause-err g c =
+    let p = err_from_is_err_and c.from_residual-in_err-close.result c.from_residual-in_err-close.ensures.1 in
+    rw p.1 (rw p.2 (inr tt))
+
+pub returns-clause-err : goal.returns-clause-err
+returns-clause-err g c =
+    let made = c.in_ok-made.made in
+    let can_fail = g.S.Writer.CountedWrite.can_fail made.writer in
+    let unwritable = g.S.Store.unwritable c.args.store.now (name_of_part c.args.dir.now c.args.partition) in
+    let other = IsRefused g.S.Reader.CountedRead.remaining g.S.Reader.CountedRead.can_fail c.args.job.now c.args.files.now c.args.partition c.args.verdicts.now c.args.parts.now in
+    refused_back other can_fail unwritable (string_bytes made.name) (name_of_part c.args.dir.now c.args.partition) c.part_filled-answer.result
+    c.in_ok-made.ensures.fails c.in_ok-made.ensures.name c.part_filled-answer.ensures.err
