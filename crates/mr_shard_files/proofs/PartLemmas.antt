@@ -35,6 +35,10 @@ inputs_count [] i d less = absurd (omega (arith, less))
 inputs_count (v ∷ vs) zero d less = let e = length-append v.inputs (inputs_of vs) in omega (arith, e)
 inputs_count (v ∷ vs) (suc i) d less = let e = length-append v.inputs (inputs_of vs) in let rest = inputs_count vs i d (omega (arith, less)) in omega (arith, e, rest)
 
+-- no partition yet
+pub partitions_none : (holds : Stored) (job : JobSpec) (names : List (List ℕ)) (vs : List Told) → ArePartitions holds job names vs []
+partitions_none holds job names vs p less = absurd (omega (arith, less))
+
 -- one partition more
 pub partitions_next : (holds : Stored) (job : JobSpec) (names : List (List ℕ)) (vs : List Told) (texts : List (List ℕ)) (text : List ℕ) (n : ℕ) → length texts ≡ n
     → ArePartitions holds job names vs texts → IsPartition holds job names vs n text → ArePartitions holds job names vs (texts ++ text ∷ [])

@@ -1,14 +1,16 @@
 -- Parts that are read in pieces.
-use Rattle.std.proofs.Common.{◌≡◌, ℕ, zero, suc, ◌<◌, ◌≤◌, ◌⊎◌, ◌||◌, inl, inr, true, List, [], ◌∷◌, ◌++◌, append_assoc, append-nil, ap, drop, refl, sym, ◌∙◌, subst, length, length-append, take, arith}
+use Rattle.std.proofs.Common.{◌≡◌, ℕ, zero, suc, ◌<◌, ◌≤◌, ◌⊎◌, ◌||◌, inl, inr, true, List, [], ◌∷◌, ◌++◌, append_assoc, append-nil, ap, drop, refl, sym, ◌∙◌, subst, length, length-append, take, arith, ◌&&◌, get_or, ◌+◌}
 use Rattle.std.proofs.lemmas.Bool.{cases_lt}
-use Rattle.std.proofs.lemmas.List.{take-append-drop, take_all}
+use Rattle.std.proofs.lemmas.List.{drop_more as drop_next, take-append-drop, take_all}
 use Rattle.std.proofs.KnownBytes.{Consumes-nil, Consumes-trans}
 use Rattle.std.specs.Prelude.{Option}
+use Rattle.mr_shard_files.specs.declared.fault.ShardFault.{ShardFault}
+use Rattle.mr_shard_files.specs.declared.fault.ShardFault.TheVariants.{CannotRead, OutOfMemory}
 use Rattle.mr_shard_files.specs.declared.stream.Part.{Part}
 use Rattle.std.specs.Io.KnownBytes.{Consumes, IsAtEnd}
 use Rattle.sha2.specs.Hashers.{Holds256}
 use Rattle.sha2.specs.declared.Sha256.{Sha256}
-use Rattle.mr_shard_files.specs.Streams.{CountsDown, Digests, HasMore, HasRead, IsDigested, Moves, is_done}
+use Rattle.mr_shard_files.specs.Streams.{CountsDown, Digests, HasMore, HasRead, IsDigested, Moves, TellsUnread, all_done, is_done}
 
 drop_none : (n : ℕ) → drop {A = ℕ} n [] ≡ []
 drop_none zero = refl
@@ -38,7 +40,17 @@ drop_min xs n k a b = by (cases_lt (length xs) n)
     by (inl g) = drop_all xs k (b (omega (arith, g))) ∙ sym (drop_over xs n (omega (arith, g)))
     by (inr l) = ap (λ j. drop j xs) (a l)
 
+-- a part can't be read for what was known of it before
+pub unread_back : (e : ShardFault) (P Q : Type 0) (m n : List ℕ) → (P → Q) → m ≡ n → TellsUnread P m e → TellsUnread Q n e
+unread_back (CannotRead told) P Q m n f s h = (f h.0, h.1 ∙ s)
+unread_back OutOfMemory P Q m n f s h = tt
+unread_back e P Q m n f s h = absurd h
+
 module _ {R : Type 0} where
+  -- parts from one on are done, where that is and those behind it are
+  pub done_from : (qs : List (Part R)) (i : ℕ) (q : Part R) → i < length qs → q ≡ get_or qs i q → all_done (drop i qs) ≡ (is_done q && all_done (drop (i + 1) qs))
+  done_from qs i q less is = ap all_done (drop_next qs i q less) ∙ ap (λ (x : Part R). is_done x && all_done (drop (i + 1) qs)) (sym is)
+
   -- a piece more is held
   pub digests_more : (p n : Part R) (piece bytes : List ℕ) → n.hasher ≡ p.hasher → n.digested ≡ p.digested → n.held ≡ p.held ++ piece → Digests p bytes → Digests n (bytes ++ piece)
   digests_more p n piece bytes hasher digested held g = record {

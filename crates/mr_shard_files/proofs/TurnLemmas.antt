@@ -1,5 +1,5 @@
 -- Parts that are merged in turns.
-use Rattle.std.proofs.Common.{◌≡◌, ℕ, zero, suc, inl, inr, get_or, string_bytes, ◌+◌, ◌<◌, ◌&&◌, true, false, List, [], ◌∷◌, ◌++◌, append_assoc, append-nil, length, length-append, take, drop, refl, ap, sym, ◌∙◌, subst, arith}
+use Rattle.std.proofs.Common.{◌≡◌, ◌⊎◌, ℕ, zero, suc, inl, inr, get_or, string_bytes, ◌+◌, ◌<◌, ◌&&◌, true, false, List, [], ◌∷◌, ◌++◌, append_assoc, append-nil, length, length-append, take, drop, refl, ap, sym, ◌∙◌, subst, arith}
 use Rattle.std.proofs.lemmas.List.{length-take-le}
 use Rattle.std.specs.Prelude.{Option}
 use Rattle.mr_jobs.specs.JobSpec.{JobSpec}
@@ -7,13 +7,13 @@ use Rattle.mr_shards.specs.declared.window.Window.{Window}
 use Rattle.mr_shards.specs.declared.fault.MergeFault.{MergeFault}
 use Rattle.mr_shards.specs.Refused.{Blames}
 use Rattle.mr_shards.specs.Pieces.{AreFresh, AreWindows, AreWithin, IsAfter, IsMerged, IsWindow, Reading, Standing, are_last, outputs_of, taken_on, text_taken}
+use Rattle.mr_verdict.specs.Verdict.{Told}
 use Rattle.mr_shard_files.specs.declared.stream.Part.{Part}
 use Rattle.mr_shard_files.specs.declared.turns.Stop.{Stop}
 use Rattle.mr_shard_files.specs.declared.turns.Stop.TheVariants as stop
-use Rattle.mr_shard_files.specs.Streams.{AllAre, AllMayBe, AreBlamed, AreHeld, AreWindowsOf, IsBlamedOver, IsStopped, IsStoppedAt, IsTurnFault, MayBe, Moves, OneIs, StepsOver, TellsUnread, all_done, is_done}
+use Rattle.mr_shard_files.specs.Streams.{AllAre, AllMayBe, AreBlamed, AreHeld, AreUnsettled, AreWindowsOf, IsBlamedOver, IsRefused, IsStopped, IsStoppedAt, IsTurnFault, MayBe, Moves, OneIs, StepsOver, TellsUnread, all_done, is_done}
 use Rattle.mr_shard_files.specs.declared.fault.ShardFault.{ShardFault}
-use Rattle.mr_shard_files.specs.declared.fault.ShardFault.TheVariants.{CannotRead, OutOfMemory}
-use Rattle.mr_shard_files.proofs.StreamLemmas.{moves_none, moves_on}
+use Rattle.mr_shard_files.proofs.StreamLemmas.{moves_none, moves_on, unread_back}
 
 -- nothing of each
 abbrev pub nothings : {R : Type 0} → List (Part R) → List (List ℕ)
@@ -227,12 +227,6 @@ module _ {R : Type 0} (remaining : R → Option (List ℕ)) (can_fail : R → Ty
       let t = s.adds.takes rs was.0 (windows_are fs xs filled s.windows rs h s.shown) in
       subst (IsMerged job (outputs_of rs)) (ap (λ v. v ++ s.adds.added) was.1 ∙ sym s.adds.out_is) (t.whole (last_is filled s.windows s.shown ∙ last))
 
-  -- a part can't be read for what was known of it before
-  unread_back : (e : ShardFault) (P Q : Type 0) (m n : List ℕ) → (P → Q) → m ≡ n → TellsUnread P m e → TellsUnread Q n e
-  unread_back (CannotRead told) P Q m n f s h = (f h.0, h.1 ∙ s)
-  unread_back OutOfMemory P Q m n f s h = tt
-  unread_back e P Q m n f s h = absurd h
-
   moves_at : (xs : List (List ℕ)) (bs os : List (Part R)) (i : ℕ) (d : Part R) → AllAre (Moves remaining can_fail) xs bs os → i < length os → (i < length bs) × Moves remaining can_fail (get_or xs i []) (get_or bs i d) (get_or os i d)
   moves_at [] [] [] i d h less = absurd (omega (arith, less))
   moves_at [] [] (o ∷ os) i d h less = absurd h
@@ -276,3 +270,14 @@ module _ {R : Type 0} (remaining : R → Option (List ℕ)) (can_fail : R → Ty
   stopped_turn now first job fs xs bs os m out filled (stop.Part fault) back moved stands (inr (inl one)) = inr (inl (one_back xs bs os fault moved one))
   stopped_turn now first job fs xs bs os m out filled (stop.Part fault) back moved stands (inr (inr told)) = inr (inr (back fault told))
   stopped_turn now first job fs xs bs os m out filled (stop.Merge fault) back moved stands (k, b) = blamed_turn job fs xs bs os os m out filled fault moved stands k b
+
+module _ {R : Type 0} (remaining : R → Option (List ℕ)) (can_fail : R → Type 0) (job : JobSpec) (fs : List ℕ) (p : ℕ) (vs : List Told) where
+  -- parts that are not merged, for another reason than what they hold, are not joined
+  pub refused_turns : (unwritten : ShardFault → Type 0) (os ns : List (Part R)) (e : ShardFault) → IsStopped remaining can_fail unwritten job fs os ns (stop.Part e) → IsRefused remaining can_fail job fs p vs os e ⊎ unwritten e
+  refused_turns unwritten os ns e (inl none) = inl (inl none)
+  refused_turns unwritten os ns e (inr (inl one)) = inl (inr (inl one))
+  refused_turns unwritten os ns e (inr (inr told)) = inr told
+
+  -- nor are those of which one is another
+  pub refused_one : (xs : List (List ℕ)) (os ns : List (Part R)) (e : ShardFault) → AllAre (Moves remaining can_fail) xs os ns → AreUnsettled remaining can_fail p vs ns e → IsRefused remaining can_fail job fs p vs os e
+  refused_one xs os ns e moved why = inr (inr (inl (record { mid = ns; passed = xs; moved = moved; why = why; })))

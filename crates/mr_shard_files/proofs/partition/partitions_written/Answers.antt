@@ -10,7 +10,7 @@ use Rattle.mr_shard_files.specs.Faults.{IsPartitionFault}
 use Rattle.mr_files.proofs.Written.{either}
 use Rattle.mr_shard_files.specs.declared.fault.ShardFault.TheVariants.{OutOfMemory}
 use Rattle.mr_shard_files.proofs.NoteLemmas.{notes_next, notes_none}
-use Rattle.mr_shard_files.proofs.PartLemmas.{partitions_next}
+use Rattle.mr_shard_files.proofs.PartLemmas.{partitions_next, partitions_none}
 use Rattle.mr_shard_files.proofs.RestLemmas.{row_at, rows_rest, set_length}
 use Rattle.mr_shard_files.proofs.ResultLemmas.{among_first, among_part, begun_kept, cut_short, empty_kept, whole_more, whole_none}
 use Rattle.mr_shard_files.proofs.SettleLemmas.{opened_count, partition_joined, partition_refused}
@@ -26,7 +26,7 @@ loop-partition-init g c =
       count = refl;
       all = omega (arith, c.in_ok-rows.ensures.count, c.parts-count.ensures.same);
       opened = c.in_ok-rows.ensures.ok;
-      merged = λ p less. absurd (omega (arith, less));
+      merged = partitions_none first c.args.request.now.job (map (λ s. s.now) c.args.names.now) c.args.verdicts.now;
       notes_are = c.new-notes.ensures.items ∙ sym notes_none;
       whole = whole_none first first now dir;
       emptied = c.in_ok-put_verdict.ensures.whole;
