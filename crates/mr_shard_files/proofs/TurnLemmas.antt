@@ -1,7 +1,8 @@
 -- Parts that are merged in turns.
 use Rattle.std.proofs.Common.{◌≡◌, ◌⊎◌, ℕ, zero, suc, inl, inr, get_or, string_bytes, ◌+◌, ◌<◌, ◌&&◌, true, false, List, [], ◌∷◌, ◌++◌, append_assoc, append-nil, length, length-append, take, drop, refl, ap, sym, ◌∙◌, subst, arith}
 use Rattle.std.proofs.lemmas.List.{length-take-le}
-use Rattle.std.specs.Prelude.{Option}
+use Rattle.std.proofs.lemmas.Result.{IfErr-at_err}
+use Rattle.std.specs.Prelude.{Err, IfErr, Option, Result}
 use Rattle.mr_jobs.specs.JobSpec.{JobSpec}
 use Rattle.mr_shards.specs.declared.window.Window.{Window}
 use Rattle.mr_shards.specs.declared.fault.MergeFault.{MergeFault}
@@ -9,9 +10,12 @@ use Rattle.mr_shards.specs.Refused.{Blames}
 use Rattle.mr_shards.specs.Pieces.{AreFresh, AreWindows, AreWithin, IsAfter, IsMerged, IsWindow, Reading, Standing, are_last, outputs_of, taken_on, text_taken}
 use Rattle.mr_verdict.specs.Verdict.{Told}
 use Rattle.mr_shard_files.specs.declared.stream.Part.{Part}
+use Rattle.mr_shard_files.specs.declared.fault.ShardFault.TheVariants.{OutOfMemory}
+use Rattle.mr_shard_files.specs.declared.turns.Beside.{Beside}
+use Rattle.mr_shard_files.specs.declared.turns.Turn.{Turn}
 use Rattle.mr_shard_files.specs.declared.turns.Stop.{Stop}
 use Rattle.mr_shard_files.specs.declared.turns.Stop.TheVariants as stop
-use Rattle.mr_shard_files.specs.Streams.{AllAre, AllMayBe, AreBlamed, AreHeld, AreUnsettled, AreWindowsOf, IsBlamedOver, IsRefused, IsStopped, IsStoppedAt, IsTurnFault, MayBe, Moves, OneIs, StepsOver, TellsUnread, all_done, is_done}
+use Rattle.mr_shard_files.specs.Streams.{AllAre, AllMayBe, AreBlamed, AreHeld, AreUnsettled, AreWindowsOf, IsBlamedOver, IsNotBeside, IsRefused, IsStopped, IsStoppedAt, IsTurnFault, MayBe, Moves, OneIs, StepsOver, TellsUnread, all_done, is_done}
 use Rattle.mr_shard_files.specs.declared.fault.ShardFault.{ShardFault}
 use Rattle.mr_shard_files.proofs.StreamLemmas.{moves_none, moves_on, unread_back}
 
@@ -280,4 +284,14 @@ module _ {R : Type 0} (remaining : R → Option (List ℕ)) (can_fail : R → Ty
 
   -- nor are those of which one is another
   pub refused_one : (xs : List (List ℕ)) (os ns : List (Part R)) (e : ShardFault) → AllAre (Moves remaining can_fail) xs os ns → AreUnsettled remaining can_fail p vs ns e → IsRefused remaining can_fail job fs p vs os e
-  refused_one xs os ns e moved why = inr (inr (inl (record { mid = ns; passed = xs; moved = moved; why = why; })))
+  refused_one xs os ns e moved why = inr (inr (inl (record { mid = ns; passed = xs; moved = moved; why = why })))
+
+-- what was not merged beside digests is not stepped over
+pub stopped_beside : {R : Type 0} (job : JobSpec) (qs : List (Part R)) (m : Standing) (merged : Result Turn MergeFault) (e : Stop) → IfErr merged (IsBlamedOver job qs m) → IsNotBeside merged e → IsStoppedAt job qs m e
+stopped_beside job qs m merged e blamed (inl none) = subst (IsStoppedAt job qs m) (sym none) refl
+stopped_beside job qs m merged e blamed (inr (fault, was, is)) = subst (IsStoppedAt job qs m) (sym is) (IfErr-at_err (IsBlamedOver job qs m) was blamed)
+
+-- nor is what was not, where that stands beside further digests
+pub stopped_all : {R : Type 0} (job : JobSpec) (qs : List (Part R)) (m : Standing) (beside : Result Beside Stop) (e : Stop) → IfErr beside (IsStoppedAt job qs m) → (e ≡ stop.Part OutOfMemory) ⊎ (beside ≡ Err e) → IsStoppedAt job qs m e
+stopped_all job qs m beside e stopped (inl none) = subst (IsStoppedAt job qs m) (sym none) refl
+stopped_all job qs m beside e stopped (inr was) = IfErr-at_err (IsStoppedAt job qs m) was stopped

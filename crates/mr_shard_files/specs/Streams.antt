@@ -1,6 +1,7 @@
 -- Parts of shards that are read in pieces.
-use Rattle.std.specs.Prelude.{◌≡◌, ℕ, ◌+◌, ◌<◌, ◌≤◌, ◌&&◌, ◌||◌, ◌⊎◌, Bool, true, false, ⊤, List, [], ◌∷◌, ◌++◌, Option, Vec, drop, length, slice_index_or, string_bytes}
+use Rattle.std.specs.Prelude.{◌≡◌, ℕ, ◌+◌, ◌<◌, ◌≤◌, ◌&&◌, ◌||◌, ◌⊎◌, Bool, true, false, ⊤, List, [], ◌∷◌, ◌++◌, Option, Result, Ok, Err, Vec, drop, length, slice_index_or, string_bytes}
 use Rattle.std.specs.Global.{Global}
+use Rattle.std.specs.declared.alloc.AllocError.{AllocError}
 use Rattle.std.specs.Io.KnownBytes.{Consumes, IsAtEnd}
 use Rattle.sha2.specs.Hashers.{Holds256}
 use Rattle.mr_files.specs.Folders.{IsFolderOf}
@@ -21,6 +22,8 @@ use Rattle.mr_shard_files.specs.declared.fault.ShardFault.TheVariants.{CannotRea
 use Rattle.mr_shard_files.specs.declared.stream.Part.{Part}
 use Rattle.mr_shard_files.specs.declared.tails.Tail.{Tail}
 use Rattle.sha2.specs.declared.Sha256.{Sha256}
+use Rattle.mr_shard_files.specs.declared.turns.Beside.{Beside}
+use Rattle.mr_shard_files.specs.declared.turns.Turn.{Turn}
 use Rattle.mr_shard_files.specs.declared.turns.Stop.{Stop}
 use Rattle.mr_shard_files.specs.declared.turns.Stop.TheVariants as stop
 
@@ -236,6 +239,19 @@ abbrev pub IsTurnFault : {R : Type 0} → (R → Option (List ℕ)) → (R → T
 IsTurnFault remaining can_fail unwritten job old new m (stop.Part fault) =
     (fault ≡ OutOfMemory) ⊎ (OneIs (λ _ q. TellsUnread (can_fail q.reader) (string_bytes q.name) fault) old ⊎ unwritten fault)
 IsTurnFault remaining can_fail unwritten job old new m (stop.Merge fault) = AllAre (λ _ o n. Moves remaining can_fail [] o n) old old new × IsBlamedOver job new m fault
+
+-- a turn is not had beside digests: it was not merged, or memory is wanting
+abbrev pub IsNotBeside : Result Turn MergeFault → Stop → Type 0
+IsNotBeside merged e = (e ≡ stop.Part OutOfMemory) ⊎ ((fault : MergeFault) × (merged ≡ Err fault) × (e ≡ stop.Merge fault))
+
+-- the first digests stand before those that were taken beside the turn
+pub record AreAllBeside (first : Result (Vec Sha256 Global) AllocError) (beside : Result Beside Stop) (all : Beside) : Type 0 where
+  pub front : Vec Sha256 Global
+  pub back : Beside
+  pub first_is : first ≡ Ok front
+  pub back_is : beside ≡ Ok back
+  pub turn : all.turn ≡ back.turn
+  pub digests : all.digests.items ≡ front.items ++ back.digests.items
 
 -- parts are not merged as they are read, or what they are merged to is not written
 abbrev pub IsStopped : {R : Type 0} → (R → Option (List ℕ)) → (R → Type 0) → (ShardFault → Type 0) → JobSpec → List ℕ → List (Part R) → List (Part R) → Stop → Type 0

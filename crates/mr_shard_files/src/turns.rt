@@ -1,7 +1,9 @@
 //! Parts of shards, merged as they are read.
-ghost use Rattle.std.specs.Prelude.{◌≡◌, ◌⊎◌, [], ◌++◌, ℕ, List, IfErr, IfOk, OnOk, length, string_bytes};
+ghost use Rattle.std.specs.Prelude.{◌≡◌, ◌⊎◌, [], ◌++◌, ℕ, List, Err, Ok, IfErr, IfOk, OnOk, length, string_bytes};
 ghost use Rattle.mr_shard_files.specs.Streams.{AreBlamed, AreJoined, AreMergedTo, AreNext, AreTaken, IsBlamedOver, IsRefused, IsStopped, IsStoppedAt};
-ghost use Rattle.mr_shard_files.specs.Streams.{AllAre, IsTurnFault, Moves, StepsOver};
+ghost use Rattle.mr_shard_files.specs.Streams.{AllAre, AreAllBeside, IsNotBeside, IsTurnFault, Moves, StepsOver};
+ghost use Rattle.mr_shard_files.specs.declared.turns.Stop.TheVariants.{Part as told_part};
+ghost use Rattle.mr_shard_files.specs.declared.fault.ShardFault.TheVariants.{OutOfMemory as told_memory};
 ghost use Rattle.mr_shard_files.specs.Made.{HasWritten, TellsUnwritten};
 
 use crate::fault::{ShardFault, of_merge};
@@ -98,6 +100,38 @@ struct Beside {
     digests: Vec<Sha256>,
 }
 
+/// What two threads gave: digests, and a turn.
+fn with_digests(
+    digests: Result<Vec<Sha256>, AllocError>,
+    merged: Result<Turn, MergeFault>,
+) -> Result<Beside, Stop>
+    ensures turn { IfOk result (λ b. merged ≡ Ok b.turn) }
+    ensures digests { IfOk result (λ b. digests ≡ Ok b.digests) }
+    ensures err { IfErr result (IsNotBeside merged) }
+{
+    let turn = merged?;
+    Ok(Beside {
+        turn,
+        digests: digests?,
+    })
+}
+
+/// What two threads gave: the first digests, and a turn with those behind them.
+fn all_beside(
+    first: Result<Vec<Sha256>, AllocError>,
+    beside: Result<Beside, Stop>,
+) -> Result<Beside, Stop>
+    ensures ok { IfOk result (AreAllBeside first beside) }
+    ensures err { IfErr result (λ e. (e ≡ told_part told_memory) ⊎ (beside ≡ Err e)) }
+{
+    let beside = beside?;
+    let digests = taken_of_both(first?, beside.digests)?;
+    Ok(Beside {
+        turn: beside.turn,
+        digests,
+    })
+}
+
 /// Merges what is held of the parts, as far as it goes, while another thread, where one can be made, takes what the
 /// digests of some of them lack.
 fn stepped_beside_one<R: CountedRead + Drop, T: Threads>(
@@ -127,11 +161,7 @@ fn stepped_beside_one<R: CountedRead + Drop, T: Threads>(
         ensures err { IfErr result (IsBlamedOver job.entry.now parts.entry.now merger) }
     { stepped(alloc, job, parts, merger, text) };
     let (digests, merged) = thread::join(rt, digesting, merging);
-    let turn = merged?;
-    Ok(Beside {
-        turn,
-        digests: digests?,
-    })
+    with_digests(digests, merged)
 }
 
 /// Merges what is held of the parts, as far as it goes, while two other threads, where they can be made, take what their
@@ -143,11 +173,11 @@ fn stepped_beside<R: CountedRead + Drop, T: Threads>(
     parts: &[Part<R>],
     merger: Merger,
     text: Vec<u8>,
-) -> Result<(Turn, Vec<Sha256>), Stop>
+) -> Result<Beside, Stop>
     requires { length parts.now ≡ length merger.held }
-    ensures shards { IfOk result (λ r. length r.0.merger.held ≡ length merger.held) }
-    ensures ok { IfOk result (λ r. StepsOver job.now parts.now r.0.cuts.items merger r.0.merger text.items r.0.text.items) }
-    ensures digests { IfOk result (λ r. AreNext parts.now r.1.items) }
+    ensures shards { IfOk result (λ b. length b.turn.merger.held ≡ length merger.held) }
+    ensures ok { IfOk result (λ b. StepsOver job.now parts.now b.turn.cuts.items merger b.turn.merger text.items b.turn.text.items) }
+    ensures digests { IfOk result (λ b. AreNext parts.now b.digests.items) }
     ensures err { IfErr result (λ e. IsStoppedAt job.now parts.now merger e) }
 {
     let (front, back) = parts.split_at(middle_of(parts));
@@ -164,9 +194,7 @@ fn stepped_beside<R: CountedRead + Drop, T: Threads>(
         ensures err { IfErr result (λ e. IsStoppedAt job.entry.now parts.entry.now merger e) }
     { stepped_beside_one(rt, alloc, job, parts, back, merger, text) };
     let (first, beside) = thread::join(rt, digesting, stepping);
-    let beside = beside?;
-    let digests = taken_of_both(first?, beside.digests)?;
-    Ok((beside.turn, digests))
+    all_beside(first, beside)
 }
 
 /// How many bytes are to be held in the next turn: twice as many where these were not enough to take one, which no two lines
@@ -207,7 +235,7 @@ fn turned<R: CountedRead + Drop, W: CountedWrite + Drop, T: Threads>(
         ..
     } = last;
     text.clear();
-    let (turn, digests) = stepped_beside(rt, alloc, job, parts, merger, text)?;
+    let Beside { turn, digests } = stepped_beside(rt, alloc, job, parts, merger, text)?;
     keep_all(parts, digests.as_slice())?;
     made.put(alloc, turn.text.as_slice())?;
     Ok(turn)

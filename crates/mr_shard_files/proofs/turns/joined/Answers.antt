@@ -9,7 +9,7 @@ pub returns-in_err-settle_all-in-Err-Merge : goal.returns-in_err-settle_all-in-E
 returns-in_err-settle_all-in-Err-Merge g c =
     let p = err_from_is_err_and c.from_residual.result c.from_residual.ensures.1 in
     let blamed : AreBlamed g.R.CountedRead.remaining g.R.CountedRead.can_fail c.args.job.now c.args.files.now c.args.parts.now c.merged_in_turns.new.parts c.in-Err-Merge.fault =
-        subst (IsStopped g.R.CountedRead.remaining g.R.CountedRead.can_fail (TellsUnwritten (g.W.CountedWrite.can_fail c.args.made.now.writer) (string_bytes c.args.made.now.name)) c.args.job.now c.args.files.now c.args.parts.now c.merged_in_turns.new.parts) c.in-Err-Merge.field-0-is c.in-Err-Merge.ensures.err in
+    subst (IsStopped g.R.CountedRead.remaining g.R.CountedRead.can_fail (TellsUnwritten (g.W.CountedWrite.can_fail c.args.made.now.writer) (string_bytes c.args.made.now.name)) c.args.job.now c.args.files.now c.args.parts.now c.merged_in_turns.new.parts) c.in-Err-Merge.field-0-is c.in-Err-Merge.ensures.err in
     rw p.1 (rw p.2 (record {
       ok = tt;
       err = inl (refused_one g.R.CountedRead.remaining g.R.CountedRead.can_fail c.args.job.now c.args.files.now c.args.partition c.args.verdicts.now blamed.passed c.args.parts.now c.merged_in_turns.new.parts
@@ -21,7 +21,7 @@ returns-in_err-settle_all-in-Err-Merge g c =
 pub returns-in-Ok-clause-ok : goal.returns-in-Ok-clause-ok
 returns-in-Ok-clause-ok g c =
     let (text, merged, written) = c.in-Ok.ensures.ok in
-    on_ok_weaker c.settle_all.result (λ settled. (text, record { mid = c.merged_in_turns.new.parts; new = c.settle_all.new.parts; merged = merged; settled = settled; }, written)) c.settle_all.ensures.ok
+    on_ok_weaker c.settle_all.result (λ settled. (text, record { mid = c.merged_in_turns.new.parts; new = c.settle_all.new.parts; merged = merged; settled = settled }, written)) c.settle_all.ensures.ok
 
 pub returns-in-Ok-clause-err : goal.returns-in-Ok-clause-err
 returns-in-Ok-clause-err g c =

@@ -1,17 +1,39 @@
-use Rattle.std.proofs.Common.{◌++◌, subst, sym}
-use Rattle.std.proofs.lemmas.Result.{IfOk-at_ok}
-use Rattle.mr_shard_files.specs.Streams.{AreNext, AreTaken}
+use Rattle.std.proofs.Common.{◌≡◌, ◌++◌, length, subst, sym}
+use Rattle.std.proofs.lemmas.Result.{IfErr-weaker, IfOk-at_ok, IfOk-weaker}
+use Rattle.mr_shard_files.specs.Streams.{AreAllBeside, AreNext, AreTaken, StepsOver}
 use Rattle.mr_shard_files.proofs.TailLemmas.{next_both}
+use Rattle.mr_shard_files.proofs.TurnLemmas.{stopped_all}
 use Rattle.mr_shard_files.proofs.turns.stepped_beside.Goals as goal
+
+pub returns-clause-shards : goal.returns-clause-shards
+returns-clause-shards g c =
+    IfOk-weaker c.all_beside.result (AreAllBeside c.join-first.result.0 c.join-first.result.1) _
+    (λ b k. subst (λ t. length t.merger.held ≡ length c.args.merger.held) (sym k.turn) (IfOk-at_ok (λ s. length s.turn.merger.held ≡ length c.args.merger.held) k.back_is c.join-first.ensures.second.0)) c.all_beside.ensures.ok
+
+pub returns-clause-ok : goal.returns-clause-ok
+returns-clause-ok g c =
+    let job = c.args.job.now in
+    let parts = c.args.parts.now in
+    let merger = c.args.merger in
+    let text = c.args.text.items in
+    IfOk-weaker c.all_beside.result (AreAllBeside c.join-first.result.0 c.join-first.result.1) _
+    (λ b k. subst (λ t. StepsOver job parts t.cuts.items merger t.merger text t.text.items) (sym k.turn)
+    (IfOk-at_ok (λ s. StepsOver job parts s.turn.cuts.items merger s.turn.merger text s.turn.text.items) k.back_is c.join-first.ensures.second.1.0)) c.all_beside.ensures.ok
 
 pub returns-clause-digests : goal.returns-clause-digests
 returns-clause-digests g c =
     let front = c.split_at.result.0.now in
     let back = c.split_at.result.1.now in
-    let hs = c.in_ok-first.field-0.items in
-    let ks = c.in_ok-beside.beside.digests.items in
-    let taken = IfOk-at_ok (λ v. AreTaken c.as_slice-lacking.result.now v.items) c.in_ok-first.was c.join-first.ensures.first in
+    IfOk-weaker c.all_beside.result (AreAllBeside c.join-first.result.0 c.join-first.result.1) _
+    (λ b k.
+    let hs = k.front.items in
+    let ks = k.back.digests.items in
+    let taken = IfOk-at_ok (λ v. AreTaken c.as_slice-lacking.result.now v.items) k.first_is c.join-first.ensures.first in
     let first = c.in_ok-tails.ensures.next hs (subst (λ ts. AreTaken ts hs) c.as_slice-lacking.ensures.value taken) in
-    let second = IfOk-at_ok (λ b. AreNext back b.digests.items) c.in_ok-beside.was c.join-first.ensures.second.1.1.0 in
-    subst (λ qs. AreNext qs c.in_ok-digests.digests.items) (sym c.split_at.ensures.by_index.0)
-    (subst (AreNext (front ++ back)) (sym c.in_ok-digests.ensures) (next_both front back hs ks first second))
+    let second = IfOk-at_ok (λ s. AreNext back s.digests.items) k.back_is c.join-first.ensures.second.1.1.0 in
+    subst (λ qs. AreNext qs b.digests.items) (sym c.split_at.ensures.by_index.0) (subst (AreNext (front ++ back)) (sym k.digests) (next_both front back hs ks first second)))
+    c.all_beside.ensures.ok
+
+pub returns-clause-err : goal.returns-clause-err
+returns-clause-err g c =
+    IfErr-weaker c.all_beside.result _ _ (λ e. stopped_all c.args.job.now c.args.parts.now c.args.merger c.join-first.result.1 e c.join-first.ensures.second.1.1.1) c.all_beside.ensures.err

@@ -34,7 +34,7 @@ returns-clause-read g c =
     let parts = c.args.parts.now in
     let filled = c.fill_all.new.parts in
     let kept = c.keep_all.new.parts in
-    let hashers = c.in_ok-turn.digests.items in
+    let hashers = c.in_ok-turn.field-0.digests.items in
     let digested = subst (λ hs. AllAre (λ _ o n. IsDigested o n) hs filled kept) c.as_slice.ensures.value c.in_ok-keep_all.ensures in
     fills_on remaining can_fail parts filled parts filled kept c.in_ok-fill_all.ensures.ok (digested_moves remaining can_fail hashers filled kept digested)
 
@@ -42,8 +42,8 @@ pub returns-clause-ok : goal.returns-clause-ok
 returns-clause-ok g c =
     let filled = c.fill_all.new.parts in
     let kept = c.keep_all.new.parts in
-    let turn = c.in_ok-turn.turn in
-    let hashers = c.in_ok-turn.digests.items in
+    let turn = c.in_ok-turn.field-0.turn in
+    let hashers = c.in_ok-turn.field-0.digests.items in
     let digested = subst (λ hs. AllAre (λ _ o n. IsDigested o n) hs filled kept) c.as_slice.ensures.value c.in_ok-keep_all.ensures in
     subst (λ none. StepsOver c.args.job.now kept turn.cuts.items c.args.last.merger turn.merger none turn.text.items) c.clear.ensures.items
     (steps_digested c.args.job.now hashers filled kept turn.cuts.items c.args.last.merger turn.merger c.clear.new.self.items turn.text.items digested c.in_ok-turn.ensures.ok)
