@@ -1,6 +1,6 @@
 -- Parts of the result that are written in pieces.
 use Rattle.std.proofs.Common.{◌≡◌, ◌⊎◌, inl, inr, ℕ, List, ◌∙◌}
-use Rattle.std.specs.Prelude.{IfErr, Result}
+use Rattle.std.specs.Prelude.{Err, IfErr, IfOk, Ok, OnOk, Result}
 use Rattle.std.proofs.lemmas.Result.{IfErr-weaker}
 use Rattle.mr_shard_files.specs.declared.fault.ShardFault.{ShardFault}
 use Rattle.mr_shard_files.specs.declared.fault.ShardFault.TheVariants.{CannotWrite, OutOfMemory}
@@ -19,3 +19,8 @@ refused_back {T} other P Q m n r f s h = IfErr-weaker r (λ e. other e ⊎ Tells
     by : (e : ShardFault) → other e ⊎ TellsUnwritten P m e → other e ⊎ TellsUnwritten Q n e
     by e (inl k) = inl k
     by e (inr k) = inr (unwritten_back P Q m n e f s k)
+
+-- what an answer gives holds with what is known where it gives something
+pub given_with : {T E : Type 0} (r : Result T E) (H : Type 0) (P Q : T → Type 0) → (H → (v : T) → P v → Q v) → OnOk r H → IfOk r P → IfOk r Q
+given_with (Ok v) H P Q f known h = f known v h
+given_with (Err e) H P Q f known h = tt

@@ -6,7 +6,6 @@ use mr_files::FileFault;
 use mr_shards::MergeFault;
 use mr_verdict::{JoinFault, VerdictFault};
 use std::alloc::AllocError;
-use std::fmt;
 use thiserror::Error;
 
 /// Why shards are not merged. Shards, their partitions, lines and inputs are numbered from 0.
@@ -16,7 +15,7 @@ pub enum ShardFault {
     #[error("NoShards")]
     NoShards,
     /// A text is that of no verdict: its lines from this one on differ from those of the verdict that its lines tell.
-    #[error(fmt = show_bad_verdict)]
+    #[error("BadVerdict shard {shard} line {line}")]
     BadVerdict {
         shard: usize,
         line: u64,
@@ -56,13 +55,13 @@ pub enum ShardFault {
         line: u64,
     },
     /// A part is not the one that its verdict tells of, by its length or its digest.
-    #[error(fmt = show_other_part)]
+    #[error("OtherPart shard {shard} partition {partition}")]
     OtherPart {
         shard: usize,
         partition: usize,
     },
     /// A line isn't of the form that the job's outputs have, or its key isn't past that of the line before.
-    #[error(fmt = show_bad_line)]
+    #[error("BadLine shard {shard} partition {partition} line {line}")]
     BadLine {
         shard: usize,
         partition: usize,
@@ -98,34 +97,6 @@ pub enum ShardFault {
     /// The machine refused memory.
     #[error("OutOfMemory")]
     OutOfMemory,
-}
-
-/// The text of a fault of the verdict of a shard.
-fn show_bad_verdict<W: fmt::Write>(
-    shard: &usize,
-    line: &u64,
-    f: &mut fmt::Formatter<W>,
-) -> fmt::Result {
-    write!(f, "BadVerdict shard {shard} line {line}")
-}
-
-/// The text of a fault of a part that is another.
-fn show_other_part<W: fmt::Write>(
-    shard: &usize,
-    partition: &usize,
-    f: &mut fmt::Formatter<W>,
-) -> fmt::Result {
-    write!(f, "OtherPart shard {shard} partition {partition}")
-}
-
-/// The text of a fault of a line of a part.
-fn show_bad_line<W: fmt::Write>(
-    shard: &usize,
-    partition: &usize,
-    line: &u64,
-    f: &mut fmt::Formatter<W>,
-) -> fmt::Result {
-    write!(f, "BadLine shard {shard} partition {partition} line {line}")
 }
 
 impl From<AllocError> for ShardFault {

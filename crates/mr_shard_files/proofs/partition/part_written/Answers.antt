@@ -1,8 +1,8 @@
-use Rattle.std.proofs.Common.{inr, string_bytes}
+use Rattle.std.proofs.Common.{◌∙◌, List, ℕ, ap, inr, string_bytes, subst}
 use Rattle.std.proofs.lemmas.Result.{err_from_is_err_and}
 use Rattle.mr_files.specs.Names.{name_of_part}
 use Rattle.mr_shard_files.specs.Streams.{IsRefused}
-use Rattle.mr_shard_files.proofs.MadeLemmas.{refused_back}
+use Rattle.mr_shard_files.proofs.MadeLemmas.{given_with, refused_back}
 use Rattle.mr_shard_files.proofs.partition.part_written.Goals as goal
 
 pub returns-in_err-made-clause-err : goal.returns-in_err-made-clause-err
@@ -23,3 +23,12 @@ returns-clause-err g c =
     let other = IsRefused g.S.Reader.CountedRead.remaining g.S.Reader.CountedRead.can_fail c.args.job.now c.args.files.now c.args.partition c.args.verdicts.now c.args.parts.now in
     refused_back other can_fail unwritable (string_bytes made.name) (name_of_part c.args.dir.now c.args.partition) c.part_filled-answer.result
     c.in_ok-made.ensures.fails c.in_ok-made.ensures.name c.part_filled-answer.ensures.err
+
+pub returns-clause-ok : goal.returns-clause-ok
+returns-clause-ok g c =
+    let made = c.part_filled-answer.new.made in
+    let name = name_of_part c.args.dir.now c.args.partition in
+    let same = c.as_str.ensures.value ∙ ap string_bytes c.part_filled-answer.ensures.name ∙ c.in_ok-made.ensures.name in
+    given_with c.part_filled-answer.result _ _ _
+    (λ handed n (text, joined, written, told). (text, joined, subst (λ (l : List ℕ). g.S.Store.holds c.close.new.self l text) same (c.in_ok-close.ensures.stands handed text written.contents), told))
+    c.part_filled-answer.ensures.handed c.part_filled-answer.ensures.ok
