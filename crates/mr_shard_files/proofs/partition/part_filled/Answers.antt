@@ -1,4 +1,4 @@
-use Rattle.std.proofs.Common.{inl, inr, ap, refl, string_bytes, sym}
+use Rattle.std.proofs.Common.{ap, inr, string_bytes}
 use Rattle.std.proofs.lemmas.Result.{err_from_is_err_and}
 use Rattle.mr_shard_files.proofs.MadeLemmas.{unwritten_back}
 use Rattle.mr_shard_files.proofs.partition.part_filled.Goals as goal
@@ -19,3 +19,9 @@ pub returns-in_err-note-clause-err : goal.returns-in_err-note-clause-err
 returns-in_err-note-clause-err g c =
     let p = err_from_is_err_and c.from_residual-in_err-note.result c.from_residual-in_err-note.ensures.1 in
     rw p.1 (rw p.2 (inr tt))
+
+pub returns-clause-ok : goal.returns-clause-ok
+returns-clause-ok g c =
+    let (text, joined, written) = c.in_ok-joined.ensures.ok in
+    let flushed = c.in_ok-flush.ensures.ok text written in
+    (text, joined, flushed, c.in_ok-note.ensures text flushed)

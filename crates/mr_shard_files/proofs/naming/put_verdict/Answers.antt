@@ -1,0 +1,23 @@
+use Rattle.std.proofs.Common.{◌∙◌, List, ℕ, subst}
+use Rattle.mr_files.specs.Holding.{Begins, ChangesOnly}
+use Rattle.mr_shard_files.proofs.naming.put_verdict.Goals as goal
+
+pub returns-clause-whole : goal.returns-clause-whole
+returns-clause-whole g c =
+    subst (λ (n : List ℕ). g.S.Store.holds c.write_named.new.store n c.args.text.now) (c.as_str.ensures.value ∙ c.in_ok-name.ensures) c.in_ok-write_named.ensures.whole
+
+pub returns-clause-begins : goal.returns-clause-begins
+returns-clause-begins g c =
+    subst (λ (n : List ℕ). Begins (g.S.Store.holds c.args.store.now) (g.S.Store.holds c.write_named.new.store) n c.args.text.now) (c.as_str.ensures.value ∙ c.in_ok-name.ensures) c.write_named.ensures.begins
+
+pub returns-clause-others : goal.returns-clause-others
+returns-clause-others g c =
+    subst (λ (n : List ℕ). ChangesOnly (g.S.Store.holds c.args.store.now) (g.S.Store.holds c.write_named.new.store) n) (c.as_str.ensures.value ∙ c.in_ok-name.ensures) c.write_named.ensures.others
+
+pub returns-in_err-write_named-clause-begins : goal.returns-in_err-write_named-clause-begins
+returns-in_err-write_named-clause-begins g c =
+    subst (λ (n : List ℕ). Begins (g.S.Store.holds c.args.store.now) (g.S.Store.holds c.write_named.new.store) n c.args.text.now) (c.as_str.ensures.value ∙ c.in_ok-name.ensures) c.write_named.ensures.begins
+
+pub returns-in_err-write_named-clause-others : goal.returns-in_err-write_named-clause-others
+returns-in_err-write_named-clause-others g c =
+    subst (λ (n : List ℕ). ChangesOnly (g.S.Store.holds c.args.store.now) (g.S.Store.holds c.write_named.new.store) n) (c.as_str.ensures.value ∙ c.in_ok-name.ensures) c.write_named.ensures.others
