@@ -1,6 +1,6 @@
 -- What a step of a merge by pieces does, and what it refuses.
-use Rattle.std.proofs.Common.{◌≡◌, ℕ, ◌%◌, ◌^◌, ◌++◌, List, [], ◌∷◌, length, take, refl, ap, sym, ◌∙◌, subst, inl, inr, Bool, true, false, cond, map, arith, Option, None, Some}
-use Rattle.std.specs.Prelude.{option_map}
+use Rattle.std.proofs.Common.{◌≡◌, ℕ, ◌%◌, ◌^◌, ◌++◌, List, [], ◌∷◌, length, take, refl, ap, sym, ◌∙◌, subst, inl, inr, Bool, true, false, cond, map, arith, Option, None, Some, Result, Ok, Err}
+use Rattle.std.specs.Prelude.{option_map, IfOk, OnErr}
 use Rattle.std.proofs.lemmas.List.{append-nil, drop_all}
 use Rattle.std.specs.List.{AllByRecursion}
 use Rattle.mr_jobs.specs.JobSpec.{JobSpec}
@@ -10,8 +10,7 @@ use Rattle.mr_shards.specs.declared.window.Window.{Window}
 use Rattle.mr_shards.specs.Merged.{Group, merged, merged_parts, moved_group, texts}
 use Rattle.mr_shards.specs.Lines.{group_in, groups_in}
 use Rattle.mr_shards.specs.Outputs.{parts_in}
-use Rattle.mr_shards.specs.Refused.{Blames}
-use Rattle.mr_shards.specs.Pieces.{Adds, AreBlamed, AreFresh, ArePut, AreTaken, AreWindows, AreWithin, BeginsBehind, Bound, IsAfter, IsBefore, IsTaken, Reading, Standing, all_read_on, are_last, cuts_before, fresh, front, behind, is_past, least_last, next_place, nothing, outputs_of, part_taken, pieces_of, place_for, taken_on, text_taken, whole_window}
+use Rattle.mr_shards.specs.Pieces.{Adds, AreBlamed, AreFresh, ArePut, AreTaken, AreWithin, BeginsBehind, BlamesAll, Bound, IsAfter, IsBefore, IsTaken, Reading, Standing, all_read_on, are_last, cuts_before, fresh, front, behind, is_past, least_last, moved_to, next_place, nothing, outputs_of, part_taken, pieces_of, place_for, taken_on, text_taken, whole_window}
 use Rattle.mr_shards.proofs.ReadingLemmas.{lines-none}
 use Rattle.mr_shards.proofs.WholeLaws.{output-of_all}
 use Rattle.mr_shards.proofs.CutLemmas.{AreEnding, bounds, cut-of, ending-for}
@@ -75,77 +74,66 @@ closes-whole (w ∷ ws) e =
 
 -- ---- the step
 
-pub refuses : (job : JobSpec) (m : Standing) (hs : List Held) (ws : List Window) (cs cuts : List ℕ) (e : MergeFault) → hs ≡ m.held → cuts ≡ cs
-    → AreWithin cs ws → AreClosing cs ws → AreBlamed job hs (pieces_of hs ws cuts) e
-    → (rs : List Reading) → IsAfter job rs m → AreWindows rs ws → Blames job (outputs_of rs) e
-refuses job m hs ws cs cuts e same are fits all a rs t v =
-    blames-so job m.bound m.held rs ws cs e t v fits all
-    (subst (λ (xs : List ℕ). AreBlamed job m.held (pieces_of m.held ws xs) e) are
+pub refuses : (job : JobSpec) (hs seen : List Held) (ws : List Window) (cs cuts : List ℕ) (e : MergeFault) → seen ≡ hs → cuts ≡ cs
+    → AreWithin cs ws → AreClosing cs ws → AreBlamed job seen (pieces_of seen ws cuts) e → BlamesAll job hs ws e
+refuses job hs seen ws cs cuts e same are fits all a b rs t v =
+    blames-so job b hs rs ws cs e t v fits all
+    (subst (λ (xs : List ℕ). AreBlamed job hs (pieces_of hs ws xs) e) are
     (subst (λ (xs : List Held). AreBlamed job xs (pieces_of xs ws cuts) e) same a))
-
--- what is blamed whatever the bound is, is blamed by this one
-pub ordered : (job : JobSpec) (m : Standing) (hs : List Held) (ws : List Window) (e : MergeFault) → hs ≡ m.held
-    → ((b : Option Bound) (rs : List Reading) → AreTaken job b hs rs → AreWindows rs ws → Blames job (outputs_of rs) e)
-    → (rs : List Reading) → IsAfter job rs m → AreWindows rs ws → Blames job (outputs_of rs) e
-ordered job m hs ws e same all rs t v =
-    all m.bound rs (subst (λ (xs : List Held). AreTaken job m.bound xs rs) (sym same) t) v
-
-put-for : (job : JobSpec) (m : Standing) (hs : List Held) (ws : List Window) (cs cuts out out' : List ℕ) → hs ≡ m.held → cuts ≡ cs
-    → ArePut job (pieces_of hs ws cuts) out out' → ArePut job (pieces_of m.held ws cs) out out'
-put-for job m hs ws cs cuts out out' same are p =
-    subst (λ (xs : List ℕ). ArePut job (pieces_of m.held ws xs) out out') are (subst (λ (xs : List Held). ArePut job (pieces_of xs ws cuts) out out') same p)
 
 opposite : (t : Bool) → t ≡ true → t ≡ false → ⊥
 opposite t e f = cc (sym e, f)
 
-module _ (job : JobSpec) (m : Standing) (hs : List Held) (ws : List Window) (same : hs ≡ m.held) where
-  pub adds-whole : (m' : Standing) (seen cuts out out' : List ℕ) → are_last ws ≡ true → seen ≡ map whole_window ws → cuts ≡ map whole_window ws
-      → ArePut job (pieces_of hs ws seen) out out' → Adds job ws cuts m m' out out'
-  adds-whole m' seen cuts out out' last is are p =
-      let q = put-for job m hs ws (map whole_window ws) seen out out' same is p in
-      let added : List ℕ = texts job (merged_parts (parts_in job q.outputs)) in
-      record {
-        added = added;
-        out_is = q.out_is;
-        takes = λ rs t v.
-            (let text : text_taken job (taken_on (map whole_window ws) rs) ≡ text_taken job rs ++ added =
-            text-on job m.bound m.held rs ws (map whole_window ws) q.outputs t v (within-whole ws) q.are q.stands in
-            let w = wholes job m.bound m.held rs ws q.outputs t v q.are q.stands last in
-            let all : text_taken job rs ++ added ≡ texts job (merged_parts (parts_in job (outputs_of rs))) = sym text ∙ ap (λ ps. texts job (merged_parts ps)) w.parts_are in
-            record {
-              text_is = ap (λ (cs : List ℕ). text_taken job (taken_on cs rs)) are ∙ text;
-              after = λ more. absurd (opposite (are_last ws) last more);
-              whole = λ _. record { stands = w.stands; text_is = all; whole = output-of_all job (outputs_of rs) (text_taken job rs ++ added) all };
-            });
-      }
+pub adds-whole : (job : JobSpec) (m : Standing) (hs : List Held) (ws : List Window) (cuts out out' : List ℕ) → hs ≡ m.held → are_last ws ≡ true
+    → cuts ≡ map whole_window ws → ArePut job (pieces_of hs ws (map whole_window ws)) out out' → Adds job ws cuts m m out out'
+adds-whole job m hs ws cuts out out' same last are p =
+    let q : ArePut job (pieces_of m.held ws (map whole_window ws)) out out' =
+    subst (λ (xs : List Held). ArePut job (pieces_of xs ws (map whole_window ws)) out out') same p in
+    let added : List ℕ = texts job (merged_parts (parts_in job q.outputs)) in
+    record {
+      added = added;
+      out_is = q.out_is;
+      takes = λ rs t v.
+          (let text : text_taken job (taken_on (map whole_window ws) rs) ≡ text_taken job rs ++ added =
+          text-on job m.bound m.held rs ws (map whole_window ws) q.outputs t v (within-whole ws) q.are q.stands in
+          let w = wholes job m.bound m.held rs ws q.outputs t v q.are q.stands last in
+          let all : text_taken job rs ++ added ≡ texts job (merged_parts (parts_in job (outputs_of rs))) = sym text ∙ ap (λ ps. texts job (merged_parts ps)) w.parts_are in
+          record {
+            text_is = ap (λ (cs : List ℕ). text_taken job (taken_on cs rs)) are ∙ text;
+            after = λ more. absurd (opposite (are_last ws) last more);
+            whole = λ _. record { stands = w.stands; text_is = all; whole = output-of_all job (outputs_of rs) (text_taken job rs ++ added) all };
+          });
+    }
 
-  suits-for : (q : Bound) → Suits job (Some (place_for job q))
-  suits-for q counted = ap (λ (t : Bool). cond t 0 q.shards) counted
+suits-for : (job : JobSpec) (q : Bound) → Suits job (Some (place_for job q))
+suits-for job q counted = ap (λ (t : Bool). cond t 0 q.shards) counted
 
-  pub adds-place : (q p : Bound) (m' : Standing) (seen shown cuts out out' : List ℕ) → are_last ws ≡ false → least_last None 0 ws ≡ Some q
-      → p ≡ place_for job q → is_past m.bound p ≡ true
-      → seen ≡ cuts_before p ws → shown ≡ cuts_before p ws → cuts ≡ cuts_before p ws → m'.held ≡ all_read_on hs ws shown → m'.bound ≡ Some p
-      → ArePut job (pieces_of hs ws seen) out out' → Adds job ws cuts m m' out out'
-  adds-place q p m' seen shown cuts out out' more least found past is read are now bound put =
-      let u = put-for job m hs ws (cuts_before p ws) seen out out' same is put in
-      let added : List ℕ = texts job (merged_parts (parts_in job u.outputs)) in
-      let suits : Suits job (Some p) = subst (λ (b : Bound). Suits job (Some b)) (sym found) (suits-for q) in
-      let ends : AreEnding p ws = subst (λ (b : Bound). AreEnding b ws) (sym found) (ending-for job q ws (bounds q ws least)) in
-      record {
-        added = added;
-        out_is = u.out_is;
-        takes = λ rs t v. record {
-          text_is = ap (λ (cs : List ℕ). text_taken job (taken_on cs rs)) are
-              ∙ text-on job m.bound m.held rs ws (cuts_before p ws) u.outputs t v (within-place p ws) u.are u.stands;
-          after = λ _.
-              (let step = after-place job m.bound p m.held rs ws u.outputs past suits t v u.are u.stands ends in
-              let held : m'.held ≡ all_read_on m.held ws (cuts_before p ws) = now ∙ (λ i. all_read_on (same i) ws (read i)) in
-              subst (λ (cs : List ℕ). IsAfter job (taken_on cs rs) m') (sym are)
-              (subst (λ (b : Option Bound). AreTaken job b m'.held (taken_on (cuts_before p ws) rs)) (sym bound)
-              (subst (λ (xs : List Held). AreTaken job (Some p) xs (taken_on (cuts_before p ws) rs)) (sym held) step)));
-          whole = λ last. absurd (opposite (are_last ws) last more);
-        };
-      }
+-- the place that is found is that of the least last key, as the job's lines are taken to it
+found-place : (job : JobSpec) (o : Option Bound) (p : Bound) → option_map (place_for job) o ≡ Some p → (q : Bound) × (o ≡ Some q) × (p ≡ place_for job q)
+found-place job None p e = absurd (cc e)
+found-place job (Some q) p e = (q, refl, (let same : place_for job q ≡ p = cc e in sym same))
+
+pub adds-to : (job : JobSpec) (m m' : Standing) (ws : List Window) (p : Bound) (cuts out out' : List ℕ) → are_last ws ≡ false
+    → option_map (place_for job) (least_last None 0 ws) ≡ Some p → is_past m.bound p ≡ true → cuts ≡ cuts_before p ws → m' ≡ moved_to m ws p
+    → ArePut job (pieces_of m.held ws (cuts_before p ws)) out out' → Adds job ws cuts m m' out out'
+adds-to job m m' ws p cuts out out' more is past are moved u =
+    let f = found-place job (least_last None 0 ws) p is in
+    let added : List ℕ = texts job (merged_parts (parts_in job u.outputs)) in
+    let suits : Suits job (Some p) = subst (λ (b : Bound). Suits job (Some b)) (sym f.2) (suits-for job f.0) in
+    let ends : AreEnding p ws = subst (λ (b : Bound). AreEnding b ws) (sym f.2) (ending-for job f.0 ws (bounds f.0 ws f.1)) in
+    record {
+      added = added;
+      out_is = u.out_is;
+      takes = λ rs t v. record {
+        text_is = ap (λ (cs : List ℕ). text_taken job (taken_on cs rs)) are
+            ∙ text-on job m.bound m.held rs ws (cuts_before p ws) u.outputs t v (within-place p ws) u.are u.stands;
+        after = λ _.
+            (let step = after-place job m.bound p m.held rs ws u.outputs past suits t v u.are u.stands ends in
+            subst (λ (cs : List ℕ). IsAfter job (taken_on cs rs) m') (sym are)
+            (subst (IsAfter job (taken_on (cuts_before p ws) rs)) (sym moved) step));
+        whole = λ last. absurd (opposite (are_last ws) last more);
+      };
+    }
 
 pub adds-nothing : (job : JobSpec) (m : Standing) (ws : List Window) (cuts out : List ℕ) → are_last ws ≡ false → cuts ≡ map nothing ws
     → Adds job ws cuts m m out out
@@ -164,6 +152,20 @@ adds-nothing job m ws cuts out more are = record {
 pub within-so : (ws : List Window) (cs cuts : List ℕ) → cuts ≡ cs → AreWithin cs ws → AreWithin cuts ws
 within-so ws cs cuts e fits = subst (λ (xs : List ℕ). AreWithin xs ws) (sym e) fits
 
+-- what holds on success, by two and by three clauses
+pub both-ok : {T E : Type 0} (r : Result T E) (P Q R : T → Type 0) → ((x : T) → P x → Q x → R x) → IfOk r P → IfOk r Q → IfOk r R
+both-ok (Ok x) P Q R f p q = f x p q
+both-ok (Err e) P Q R f p q = tt
+
+pub all-ok : {T E : Type 0} (r : Result T E) (P Q R S : T → Type 0) → ((x : T) → P x → Q x → R x → S x) → IfOk r P → IfOk r Q → IfOk r R → IfOk r S
+all-ok (Ok x) P Q R S f p q u = f x p q u
+all-ok (Err e) P Q R S f p q u = tt
+
+-- what holds on success and on failure
+pub either-way : {T E : Type 0} (r : Result T E) (P Q R : Type 0) → (P → R) → (Q → R) → IfOk r (λ _. P) → OnErr r Q → R
+either-way (Ok x) P Q R f g p q = f p
+either-way (Err e) P Q R f g p q = g q
+
 -- ---- as many shards as before
 
 pub read-length : (hs : List Held) (ws : List Window) (cs : List ℕ) → length ws ≡ length hs → length cs ≡ length ws → length (all_read_on hs ws cs) ≡ length hs
@@ -176,8 +178,3 @@ read-length (h ∷ hs) (w ∷ ws) (c ∷ cs) e f =
 pub cuts-length : (p : Bound) (ws : List Window) → length (cuts_before p ws) ≡ length ws
 cuts-length p [] = refl
 cuts-length p (w ∷ ws) = omega (arith, cuts-length (next_place p) ws)
-
--- the place that is found is that of the least last key, as the job's lines are taken to it
-pub found-place : (job : JobSpec) (o : Option Bound) (p : Bound) → option_map (place_for job) o ≡ Some p → (q : Bound) × (o ≡ Some q) × (p ≡ place_for job q)
-found-place job None p e = absurd (cc e)
-found-place job (Some q) p e = (q, refl, (let same : place_for job q ≡ p = cc e in sym same))

@@ -253,7 +253,15 @@ pub record AreBlamed (job : JobSpec) (hs : List Held) (pieces : List (ℕ × Lis
   pub is : e ≡ numbered hs fault
   pub blames : Blames job outputs fault
 
+-- the windows are at fault, of whatever outputs they are, behind whatever bound
+abbrev pub BlamesAll : JobSpec → List Held → List Window → MergeFault → Type 0
+BlamesAll job hs ws e = (bound : Option Bound) (rs : List Reading) → AreTaken job bound hs rs → AreWindows rs ws → Blames job (outputs_of rs) e
+
 -- ---- what a step does
+
+-- what a merger keeps where the lines before the place were taken
+abbrev pub moved_to : Standing → List Window → Bound → Standing
+moved_to m ws b = record { held = all_read_on m.held ws (cuts_before b ws); bound = Some b }
 
 -- nothing is taken of outputs with so many files
 abbrev pub AreFresh : List ℕ → List Reading → Type 0

@@ -1,6 +1,6 @@
 //! The outputs that shards have for one partition, merged as they are read.
 ghost use Rattle.std.specs.Prelude.{◌≡◌, ℕ, ◌≤◌, ◌++◌, ◌∷◌, [], IfErr, IfOk, OnErr, OnOk, length, map, option_map, List, Some, MatchOption, true, false};
-ghost use Rattle.mr_shards.specs.Pieces.{Standing, fresh_all, is_past};
+ghost use Rattle.mr_shards.specs.Pieces.{ArePut, BlamesAll, Standing, are_last, cuts_before, fresh_all, is_past, moved_to, nothing, pieces_of, whole_window};
 ghost use Rattle.mr_shards.specs.Places.{kept, shown};
 
 use crate::fault::MergeFault;
@@ -52,6 +52,42 @@ fn place_past<'a>(bound: &Option<Bound>, place: Option<Place<'a>>) -> Option<Pla
     }
 }
 
+/// Takes all of each window, where all are the last ones.
+fn take_all(
+    alloc: Global,
+    job: &Job,
+    held: &[Held],
+    windows: &[Window<'_>],
+    out: &mut Vec<u8>,
+) -> Result<Vec<usize>, MergeFault>
+    requires count { length windows.now ≡ length held.now }
+    requires last { are_last windows.now ≡ true }
+    ensures cuts { IfOk result (λ cuts. cuts.items ≡ map whole_window windows.now) }
+    ensures put { IfOk result (λ _. ArePut job.now (pieces_of held.now windows.now (map whole_window windows.now)) out.old.items out.new.items) }
+    ensures err { IfErr result (BlamesAll job.now held.now windows.now) }
+    ensures kept { OnErr result (out.new.items ≡ out.old.items) }
+{
+    let cuts = whole_windows(alloc, windows)?;
+    merge_pieces(alloc, job, held, windows, &cuts, out)?;
+    Ok(cuts)
+}
+
+/// Takes nothing of the windows, and looks through their lines for one to refuse.
+fn take_nothing(
+    alloc: Global,
+    job: &Job,
+    held: &[Held],
+    windows: &[Window<'_>],
+) -> Result<Vec<usize>, MergeFault>
+    requires count { length windows.now ≡ length held.now }
+    ensures cuts { IfOk result (λ cuts. cuts.items ≡ map nothing windows.now) }
+    ensures err { IfErr result (BlamesAll job.now held.now windows.now) }
+{
+    let cuts = no_bytes(alloc, windows)?;
+    expect_order(alloc, job, held, windows, &cuts)?;
+    Ok(cuts)
+}
+
 impl Merger {
     ghost use Rattle.mr_jobs.specs.JobSpec.{JobSpec};
     ghost use Rattle.mr_shards.specs.Pieces.{Adds, AreFresh, AreWindows, AreWithin, GoesOn, IsAfter, Reading, cuts_of, outputs_of, text_taken};
@@ -94,25 +130,78 @@ impl Merger {
         ensures kept { OnErr result ((self.new ≡ self.old) × (out.new.items ≡ out.old.items)) }
     {
         if all_last(windows) {
-            let cuts = whole_windows(alloc, windows)?;
-            merge_pieces(alloc, job, &self.held, windows, &cuts, out)?;
-            return Ok(cuts);
+            return take_all(alloc, job, &self.held, windows, out);
         }
-        let Some(place) = place_past(&self.bound, place_of(job, windows)) else {
-            let cuts = no_bytes(alloc, windows)?;
-            expect_order(alloc, job, &self.held, windows, &cuts)?;
-            return Ok(cuts);
-        };
+        match place_past(&self.bound, place_of(job, windows)) {
+            Some(place) => self.take_to(alloc, job, windows, place, out),
+            None => take_nothing(alloc, job, &self.held, windows),
+        }
+    }
+
+    /// Takes the lines of each window that are before the place, which is not before the bound.
+    fn take_to(
+        &mut self,
+        alloc: Global,
+        job: &Job,
+        windows: &[Window<'_>],
+        place: Place<'_>,
+        out: &mut Vec<u8>,
+    ) -> Result<Vec<usize>, MergeFault>
+        requires count { length windows.now ≡ length self.old.held }
+        ensures cuts { IfOk result (λ cuts. cuts.items ≡ cuts_before (shown place.entry) windows.now) }
+        ensures moved { IfOk result (λ _. self.new ≡ moved_to self.old windows.now (shown place.entry)) }
+        ensures put { IfOk result (λ _. ArePut job.now (pieces_of self.old.held windows.now (cuts_before (shown place.entry) windows.now)) out.old.items out.new.items) }
+        ensures err { IfErr result (BlamesAll job.now self.old.held windows.now) }
+        ensures kept { OnErr result ((self.new ≡ self.old) × (out.new.items ≡ out.old.items)) }
+    {
         let cuts = cuts_before(alloc, windows, place)?;
         expect_order(alloc, job, &self.held, windows, &cuts)?;
-        let key = Vec::from_slice(alloc, place.key)?;
-        let held = all_read(alloc, &self.held, windows, &cuts)?;
-        merge_pieces(alloc, job, &self.held, windows, &cuts, out)?;
-        self.held = held;
-        self.bound = Some(Bound {
-            key,
-            shards: place.shards,
-        });
+        self.merge_to(alloc, job, windows, place, &cuts, out)?;
         Ok(cuts)
+    }
+
+    /// Merges what the cuts take, which are the lines before the place, and stands there.
+    fn merge_to(
+        &mut self,
+        alloc: Global,
+        job: &Job,
+        windows: &[Window<'_>],
+        place: Place<'_>,
+        cuts: &[usize],
+        out: &mut Vec<u8>,
+    ) -> Result<(), MergeFault>
+        requires count { length windows.now ≡ length self.old.held }
+        requires cuts { cuts.now ≡ cuts_before (shown place) windows.now }
+        ensures moved { OnOk result (self.new ≡ moved_to self.old windows.now (shown place.entry)) }
+        ensures put { OnOk result (ArePut job.now (pieces_of self.old.held windows.now cuts.now) out.old.items out.new.items) }
+        ensures err { IfErr result (BlamesAll job.now self.old.held windows.now) }
+        ensures kept { OnErr result ((self.new ≡ self.old) × (out.new.items ≡ out.old.items)) }
+    {
+        let next = self.moved(alloc, windows, place, cuts)?;
+        merge_pieces(alloc, job, &self.held, windows, cuts, out)?;
+        *self = next;
+        Ok(())
+    }
+
+    /// What is kept, once the lines before the place are taken.
+    fn moved(
+        &self,
+        alloc: Global,
+        windows: &[Window<'_>],
+        place: Place<'_>,
+        cuts: &[usize],
+    ) -> Result<Merger, AllocError>
+        requires count { length windows.now ≡ length self.now.held }
+        requires cuts { cuts.now ≡ cuts_before (shown place) windows.now }
+        ensures { IfOk result (λ m. m ≡ moved_to self.now windows.now (shown place.entry)) }
+    {
+        let key = Vec::from_slice(alloc, place.key)?;
+        Ok(Merger {
+            held: all_read(alloc, &self.held, windows, cuts)?,
+            bound: Some(Bound {
+                key,
+                shards: place.shards,
+            }),
+        })
     }
 }

@@ -1,8 +1,8 @@
 //! Pieces that are cut off windows, and their merge.
 ghost use Rattle.std.specs.Prelude.{◌≡◌, ℕ, ◌≤◌, ◌++◌, ◌∷◌, [], IfErr, IfOk, OnErr, OnOk, length, map, option_map, List, Option, Some, None};
 ghost use Rattle.std.specs.Prelude.{replicate, MatchOption, false, true, take, slice_index_or};
-ghost use Rattle.mr_shards.specs.Pieces.{AreLines, ArePut, AreBlamed, AreTaken, AreWindows, AreWithin, Bound, EndsLine, Reading, all_read_on};
-ghost use Rattle.mr_shards.specs.Pieces.{cuts_before, fresh, nothing, numbered, outputs_of, pieces_of, read_on, told, whole_window};
+ghost use Rattle.mr_shards.specs.Pieces.{AreBlamed, AreLines, ArePut, AreWithin, BlamesAll, EndsLine, all_read_on};
+ghost use Rattle.mr_shards.specs.Pieces.{cuts_before, fresh, nothing, numbered, pieces_of, read_on, told, whole_window};
 ghost use Rattle.mr_shards.specs.Places.{shown};
 ghost use Rattle.mr_shards.specs.Refused.{Blames};
 
@@ -239,8 +239,7 @@ pub(crate) fn expect_order(
     cuts: &[usize],
 ) -> Result<(), MergeFault>
     requires shards { length held.now ≡ length windows.now }
-    ensures err { IfErr result (λ e. (bound : Option Bound) (rs : List Reading) → AreTaken job.now bound held.now rs → AreWindows rs windows.now
-        → Blames job.now (outputs_of rs) e) }
+    ensures err { IfErr result (BlamesAll job.now held.now windows.now) }
 {
     if cuts.iter().any(|cut| *cut != 0) || place_of(job, windows).is_none() {
         return Ok(());

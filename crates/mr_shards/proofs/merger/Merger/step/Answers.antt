@@ -1,111 +1,65 @@
-use Rattle.std.proofs.Common.{◌≡◌, ◌∙◌, ap, sym, subst, length, false, map, List, None, Some}
+use Rattle.std.proofs.Common.{◌≡◌, ◌∙◌, ap, sym, subst, length, map, false, None, Some}
 use Rattle.std.specs.Prelude.{MatchOption, option_map}
-use Rattle.std.proofs.lemmas.Result.{err_from_is_err_and}
-use Rattle.mr_shards.specs.declared.window.Held.{Held}
-use Rattle.mr_shards.specs.Pieces.{Bound, OneGoes, Standing, all_read_on, cuts_before, is_past, least_last, nothing, whole_window}
+use Rattle.std.proofs.lemmas.Result.{IfOk-weaker}
+use Rattle.mr_shards.specs.Pieces.{Bound, OneGoes, Standing, cuts_before, is_past, least_last, nothing, place_for, whole_window}
 use Rattle.mr_shards.specs.Places.{shown}
 use Rattle.mr_shards.proofs.TurnLemmas.{within-nothing, within-place, within-whole}
 use Rattle.mr_shards.proofs.GoesLaws.{goes-to, not-stuck}
-use Rattle.mr_shards.proofs.StepLaws.{adds-nothing, adds-place, adds-whole, closes-place, closes-whole, cuts-length, found-place, ordered, read-length, refuses, within-so}
+use Rattle.mr_shards.proofs.StepLaws.{adds-nothing, adds-to, adds-whole, all-ok, both-ok, cuts-length, either-way, read-length, within-so}
 use Rattle.mr_shards.proofs.merger.Merger.step.Goals as goal
-
-pub merge_pieces-requires-clause-within : goal.merge_pieces-requires-clause-within
-merge_pieces-requires-clause-within c =
-    within-so c.args.windows.now (map whole_window c.args.windows.now) c.deref-then-all_last.result.now (c.deref-then-all_last.ensures.value ∙ c.in_ok-cuts.ensures.is) (within-whole c.args.windows.now)
-
-pub returns-in_err-merge_pieces-clause-err : goal.returns-in_err-merge_pieces-clause-err
-returns-in_err-merge_pieces-clause-err c =
-    let p = err_from_is_err_and c.from_residual-in_err-merge_pieces.result c.from_residual-in_err-merge_pieces.ensures.1 in
-    rw (p.1, p.2) (refuses c.args.job.now c.args.self.now c.deref.result.now c.args.windows.now (map whole_window c.args.windows.now) c.deref-then-all_last.result.now c.in_err-merge_pieces.field-0.0
-    (c.deref.ensures.value ∙ ap (λ (s : Standing). s.held) c.self.view_is) (c.deref-then-all_last.ensures.value ∙ c.in_ok-cuts.ensures.is)
-    (within-whole c.args.windows.now) (closes-whole c.args.windows.now (sym c.all_last.ensures ∙ c.if-all_last.true)) c.in_err-merge_pieces.ensures.err)
 
 pub returns-then-all_last-clause-within : goal.returns-then-all_last-clause-within
 returns-then-all_last-clause-within c =
-    within-so c.args.windows.now (map whole_window c.args.windows.now) c.in_ok-cuts.cuts.items c.in_ok-cuts.ensures.is (within-whole c.args.windows.now)
+    IfOk-weaker c.take_all.result _ _ (λ cuts are. within-so c.args.windows.now (map whole_window c.args.windows.now) cuts.items are (within-whole c.args.windows.now)) c.take_all.ensures.cuts
 
 pub returns-then-all_last-clause-ok : goal.returns-then-all_last-clause-ok
 returns-then-all_last-clause-ok c =
-    adds-whole c.args.job.now c.args.self.now c.deref.result.now c.args.windows.now (c.deref.ensures.value ∙ ap (λ (s : Standing). s.held) c.self.view_is)
-    c.args.self.now c.deref-then-all_last.result.now c.in_ok-cuts.cuts.items c.args.out.now.items c.merge_pieces.new.out.items
-    (sym c.all_last.ensures ∙ c.if-all_last.true) (c.deref-then-all_last.ensures.value ∙ c.in_ok-cuts.ensures.is) c.in_ok-cuts.ensures.is c.in_ok-merge_pieces.ensures.ok
+    both-ok c.take_all.result _ _ _ (λ cuts are put. adds-whole c.args.job.now c.args.self.now c.deref.result.now c.args.windows.now cuts.items c.args.out.now.items c.take_all.new.out.items
+    (c.deref.ensures.value ∙ ap (λ (s : Standing). s.held) c.self.view_is) (sym c.all_last.ensures ∙ c.if-all_last.true) are put) c.take_all.ensures.cuts c.take_all.ensures.put
 
-pub returns-in_default-clause-within : goal.returns-in_default-clause-within
-returns-in_default-clause-within c =
-    within-so c.args.windows.now (map nothing c.args.windows.now) c.in_ok-cuts-2.cuts.items c.in_ok-cuts-2.ensures.is (within-nothing c.args.windows.now)
-
-pub returns-in_default-clause-goes : goal.returns-in_default-clause-goes
-returns-in_default-clause-goes c = λ parted more have rs t v all.
-    absurd (not-stuck c.args.job.now c.args.self.now.bound c.args.self.now.held rs c.args.windows.now parted more have t v all c.place_of.result (sym c.place_of.ensures)
-    (subst (λ (s : Standing). MatchOption c.place_of.result (Unit {0}) (λ p. is_past s.bound (shown p) ≡ false)) c.self.view_is c.in_default.ensures))
-
-pub returns-in_default-clause-ok : goal.returns-in_default-clause-ok
-returns-in_default-clause-ok c =
-    adds-nothing c.args.job.now c.args.self.now c.args.windows.now c.in_ok-cuts-2.cuts.items c.args.out.now.items (sym c.all_last.ensures ∙ c.if-all_last.false) c.in_ok-cuts-2.ensures.is
-
-pub all_read-requires-clause-count : goal.all_read-requires-clause-count
-all_read-requires-clause-count c = ap length (c.deref-5.ensures.value ∙ c.in_ok-cuts-3.ensures.is) ∙ cuts-length (shown c.in-Some.place) c.args.windows.now
-
-pub all_read-requires-clause-within : goal.all_read-requires-clause-within
-all_read-requires-clause-within c =
-    within-so c.args.windows.now (cuts_before (shown c.in-Some.place) c.args.windows.now) c.deref-5.result.now (c.deref-5.ensures.value ∙ c.in_ok-cuts-3.ensures.is) (within-place (shown c.in-Some.place) c.args.windows.now)
-
-pub merge_pieces-requires-2-clause-count : goal.merge_pieces-requires-2-clause-count
-merge_pieces-requires-2-clause-count c = ap length (c.deref-7.ensures.value ∙ c.in_ok-cuts-3.ensures.is) ∙ cuts-length (shown c.in-Some.place) c.args.windows.now
-
-pub merge_pieces-requires-2-clause-within : goal.merge_pieces-requires-2-clause-within
-merge_pieces-requires-2-clause-within c =
-    within-so c.args.windows.now (cuts_before (shown c.in-Some.place) c.args.windows.now) c.deref-7.result.now (c.deref-7.ensures.value ∙ c.in_ok-cuts-3.ensures.is) (within-place (shown c.in-Some.place) c.args.windows.now)
-
-pub returns-in_err-merge_pieces-2-clause-err : goal.returns-in_err-merge_pieces-2-clause-err
-returns-in_err-merge_pieces-2-clause-err c =
-    let p = err_from_is_err_and c.from_residual-in_err-merge_pieces-2.result c.from_residual-in_err-merge_pieces-2.ensures.1 in
-    rw (p.1, p.2) (refuses c.args.job.now c.args.self.now c.deref-6.result.now c.args.windows.now (cuts_before (shown c.in-Some.place) c.args.windows.now) c.deref-7.result.now c.in_err-merge_pieces-2.field-0.0
-    (c.deref-6.ensures.value ∙ ap (λ (s : Standing). s.held) c.self.view_is) (c.deref-7.ensures.value ∙ c.in_ok-cuts-3.ensures.is)
-    (within-place (shown c.in-Some.place) c.args.windows.now) (closes-place (shown c.in-Some.place) c.args.windows.now) c.in_err-merge_pieces-2.ensures.err)
-
-pub returns-clause-shards : goal.returns-clause-shards
-returns-clause-shards c =
-    let hs = c.deref-4.result.now in
+pub returns-in-Some-clause-shards : goal.returns-in-Some-clause-shards
+returns-in-Some-clause-shards c =
+    let m = c.args.self.now in
     let ws = c.args.windows.now in
-    let cs = c.deref-5.result.now in
-    let same = ap length (c.deref-4.ensures.value ∙ ap (λ (s : Standing). s.held) c.self.view_is) in
-    ap length c.in_ok-held.ensures
-    ∙ read-length hs ws cs (c.requires.count ∙ sym same)
-    (ap length (c.deref-5.ensures.value ∙ c.in_ok-cuts-3.ensures.is) ∙ cuts-length (shown c.in-Some.place) ws)
-    ∙ same
+    let p = shown c.in-Some.place in
+    either-way c.take_to.result _ _ _ (λ moved. ap (λ (s : Standing). length s.held) moved ∙ read-length m.held ws (cuts_before p ws) c.requires.count (cuts-length p ws))
+    (λ kept. ap (λ (s : Standing). length s.held) kept.0) c.take_to.ensures.moved c.take_to.ensures.kept
 
-pub returns-clause-within : goal.returns-clause-within
-returns-clause-within c =
-    within-so c.args.windows.now (cuts_before (shown c.in-Some.place) c.args.windows.now) c.in_ok-cuts-3.cuts.items c.in_ok-cuts-3.ensures.is (within-place (shown c.in-Some.place) c.args.windows.now)
+pub returns-in-Some-clause-within : goal.returns-in-Some-clause-within
+returns-in-Some-clause-within c =
+    let p = shown c.in-Some.place in
+    IfOk-weaker c.take_to.result _ _ (λ cuts are. within-so c.args.windows.now (cuts_before p c.args.windows.now) cuts.items are (within-place p c.args.windows.now)) c.take_to.ensures.cuts
 
-pub returns-clause-goes : goal.returns-clause-goes
-returns-clause-goes c = λ parted more have rs t v all.
-    subst (OneGoes c.args.windows.now) (sym c.in_ok-cuts-3.ensures.is)
-    (goes-to c.args.job.now c.args.self.now.bound c.args.self.now.held rs c.args.windows.now parted more have t v all (shown c.in-Some.place)
-    (sym c.place_of.ensures ∙ ap (option_map shown) c.in-Some.ensures.0)).goes
+pub returns-in-Some-clause-goes : goal.returns-in-Some-clause-goes
+returns-in-Some-clause-goes c =
+    let m = c.args.self.now in
+    let ws = c.args.windows.now in
+    IfOk-weaker c.take_to.result _ _ (λ cuts are parted more have rs t v all.
+    subst (OneGoes ws) (sym are) (goes-to c.args.job.now m.bound m.held rs ws parted more have t v all (shown c.in-Some.place)
+    (sym c.place_of.ensures ∙ ap (option_map shown) c.in-Some.ensures.0)).goes) c.take_to.ensures.cuts
 
-pub returns-clause-ok : goal.returns-clause-ok
-returns-clause-ok c =
+pub returns-in-Some-clause-ok : goal.returns-in-Some-clause-ok
+returns-in-Some-clause-ok c =
+    let m : Standing = c.args.self.now in
+    let ws = c.args.windows.now in
     let p : Bound = shown c.in-Some.place in
-    let ws = c.args.windows.now in
-    let w = found-place c.args.job.now (least_last None 0 ws) p (sym c.place_of.ensures ∙ ap (option_map shown) c.in-Some.ensures.0) in
-    adds-place c.args.job.now c.args.self.now c.deref-6.result.now ws (c.deref-6.ensures.value ∙ ap (λ (s : Standing). s.held) c.self.view_is)
-    w.0 p _ c.deref-7.result.now c.deref-5.result.now c.in_ok-cuts-3.cuts.items c.args.out.now.items c.merge_pieces-2.new.out.items
-    (sym c.all_last.ensures ∙ c.if-all_last.false) w.1 w.2
-    (ap (λ (s : Standing). is_past s.bound p) (sym c.self.view_is) ∙ c.in-Some.ensures.1)
-    (c.deref-7.ensures.value ∙ c.in_ok-cuts-3.ensures.is) (c.deref-5.ensures.value ∙ c.in_ok-cuts-3.ensures.is) c.in_ok-cuts-3.ensures.is
-    (c.in_ok-held.ensures ∙ ap (λ (hs : List Held). all_read_on hs ws c.deref-5.result.now) (c.deref-4.ensures.value ∙ sym c.deref-6.ensures.value))
-    (λ i. Some (record { key = c.in_ok-key.ensures.items i; shards = p.shards })) c.in_ok-merge_pieces-2.ensures.ok
+    let found : option_map (place_for c.args.job.now) (least_last None 0 ws) ≡ Some p = sym c.place_of.ensures ∙ ap (option_map shown) c.in-Some.ensures.0 in
+    let past = ap (λ (s : Standing). is_past s.bound p) (sym c.self.view_is) ∙ c.in-Some.ensures.1 in
+    all-ok c.take_to.result _ _ _ _ (λ cuts are moved put. adds-to c.args.job.now m c.take_to.new.self ws p cuts.items c.args.out.now.items c.take_to.new.out.items
+    (sym c.all_last.ensures ∙ c.if-all_last.false) found past are moved put) c.take_to.ensures.cuts c.take_to.ensures.moved c.take_to.ensures.put
 
-pub returns-in_err-expect_order-clause-err : goal.returns-in_err-expect_order-clause-err
-returns-in_err-expect_order-clause-err c =
-    let p = err_from_is_err_and c.from_residual-in_err-expect_order.result c.from_residual-in_err-expect_order.ensures.1 in
-    rw (p.1, p.2) (ordered c.args.job.now c.args.self.now c.deref-in_default.result.now c.args.windows.now c.in_err-expect_order.field-0.0
-    (c.deref-in_default.ensures.value ∙ ap (λ (s : Standing). s.held) c.self.view_is) c.in_err-expect_order.ensures.err)
+pub returns-in-None-clause-within : goal.returns-in-None-clause-within
+returns-in-None-clause-within c =
+    IfOk-weaker c.take_nothing.result _ _ (λ cuts are. within-so c.args.windows.now (map nothing c.args.windows.now) cuts.items are (within-nothing c.args.windows.now)) c.take_nothing.ensures.cuts
 
-pub returns-in_err-expect_order-2-clause-err : goal.returns-in_err-expect_order-2-clause-err
-returns-in_err-expect_order-2-clause-err c =
-    let p = err_from_is_err_and c.from_residual-in_err-expect_order-2.result c.from_residual-in_err-expect_order-2.ensures.1 in
-    rw (p.1, p.2) (ordered c.args.job.now c.args.self.now c.deref-2.result.now c.args.windows.now c.in_err-expect_order-2.field-0.0
-    (c.deref-2.ensures.value ∙ ap (λ (s : Standing). s.held) c.self.view_is) c.in_err-expect_order-2.ensures.err)
+pub returns-in-None-clause-goes : goal.returns-in-None-clause-goes
+returns-in-None-clause-goes c =
+    let m = c.args.self.now in
+    IfOk-weaker c.take_nothing.result _ _ (λ cuts are parted more have rs t v all.
+    absurd (not-stuck c.args.job.now m.bound m.held rs c.args.windows.now parted more have t v all c.place_of.result (sym c.place_of.ensures)
+    (subst (λ (s : Standing). MatchOption c.place_of.result (Unit {0}) (λ p. is_past s.bound (shown p) ≡ false)) c.self.view_is c.in-None.ensures))) c.take_nothing.ensures.cuts
+
+pub returns-in-None-clause-ok : goal.returns-in-None-clause-ok
+returns-in-None-clause-ok c =
+    IfOk-weaker c.take_nothing.result _ _ (λ cuts are. adds-nothing c.args.job.now c.args.self.now c.args.windows.now cuts.items c.args.out.now.items
+    (sym c.all_last.ensures ∙ c.if-all_last.false) are) c.take_nothing.ensures.cuts
