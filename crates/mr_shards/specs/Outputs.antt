@@ -8,8 +8,8 @@ use Rattle.mr_shards.specs.declared.cursor.Cursor.{Cursor}
 use Rattle.mr_shards.specs.declared.merge.Output.{Output}
 use Rattle.mr_shards.specs.Merged.{Group, Part, moved_group}
 use Rattle.mr_shards.specs.Lines.{groups_in, NoneFalls}
-use Rattle.mr_shards.specs.Cursors.{left}
-use Rattle.mr_shards.specs.Refused.{IsRest, IsRestOf}
+use Rattle.mr_shards.specs.Cursors.{IsHeadFor, left}
+use Rattle.mr_shards.specs.Refused.{AreRead, IsRest, IsRestOf}
 use Rattle.mr_shards.specs.Shards.{Shard, files_of, skips_of, SkipsExist}
 
 -- the part that an output is read as
@@ -35,6 +35,13 @@ AreOpened job [] [] = Unit {0}
 AreOpened job [] (o ∷ os) = ⊥
 AreOpened job (c ∷ cs) [] = ⊥
 AreOpened job (c ∷ cs) (o ∷ os) = (Stands job c → IsRest job None o.text.now) × AreOpened job cs os
+
+-- the cursors stand at the first lines of the outputs
+pub record AreAtFirst (job : JobSpec) (cs : List Cursor) (os : List Output) : Type 0 where
+  pub kinds : AllByRecursion (IsHeadFor job) cs
+  pub opened : AreOpened job cs os
+  pub read : AreRead job cs os
+  pub lefts : map (left job) cs ≡ moved_parts 0 (parts_in job os)
 
 -- what a judge's yes says of a shard, with the limits of its input: the left-out records exist, and its pairs, its files
 -- and their bytes can be counted

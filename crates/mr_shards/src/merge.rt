@@ -1,10 +1,11 @@
 //! The merge of the outputs that shards have for one partition.
-ghost use Rattle.std.specs.Prelude.{IfErr, ◌≡◌, ℕ, ◌<◌, ◌++◌, [], ◌∷◌, None, All, IfOk, OnOk, length, map};
+ghost use Rattle.std.specs.Prelude.{◌≡◌, ◌<◌, ◌++◌, [], ◌∷◌, List, None, IfErr, IfOk, OnOk, length};
 ghost use Rattle.std.specs.List.{AllByRecursion};
-ghost use Rattle.mr_shards.specs.Cursors.{BlamesAt, Goes, IsFronted, IsHeadFor, ReadsOn, left, with_waiting};
+ghost use Rattle.mr_shards.specs.Cursors.{BlamesAt, Goes, IsFronted, IsHeadFor, ReadsOn, with_waiting};
 ghost use Rattle.mr_shards.specs.Merged.{merged_parts, texts};
-ghost use Rattle.mr_shards.specs.Refused.{AreRead, Blames, IsRest, TakesNot};
-ghost use Rattle.mr_shards.specs.Outputs.{AreOpened, IsOutputOfAll, moved_parts, parts_in};
+ghost use Rattle.mr_shards.specs.Refused.{Blames, IsRest, TakesNot};
+ghost use Rattle.mr_shards.specs.Outputs.{AreAtFirst, IsOutputOfAll, parts_in};
+ghost use Rattle.mr_shards.specs.Pieces.{IsMerged};
 
 use crate::cursor::{Cursor, advanced, next_line};
 use crate::fault::MergeFault;
@@ -34,11 +35,8 @@ fn open_all<'a>(
     job: &Job,
     outputs: &[Output<'a>],
 ) -> Result<Vec<Cursor<'a>>, MergeFault>
-    ensures kinds { IfOk result (λ v. AllByRecursion (IsHeadFor job.now) v.items) }
-    ensures opened { IfOk result (λ v. AreOpened job.now v.items outputs.entry.now) }
-    ensures read { IfOk result (λ v. AreRead job.now v.items outputs.entry.now) }
+    ensures first { IfOk result (λ v. AreAtFirst job.now v.items outputs.entry.now) }
     ensures err { IfErr result (Blames job.now outputs.entry.now) }
-    ensures lefts { IfOk result (λ v. map (left job.now) v.items ≡ moved_parts 0 (parts_in job.now outputs.entry.now)) }
 {
     let mut cursors = Vec::new(alloc);
     let mut before = 0u32;
@@ -100,6 +98,28 @@ fn go_on<'a>(job: &Job, cursors: &mut Vec<Cursor<'a>>, at: usize) -> Result<(), 
     Ok(())
 }
 
+/// Writes the lines of all cursors, merged, until none is left.
+fn merge_lines<'a>(
+    job: &Job,
+    cursors: &mut Vec<Cursor<'a>>,
+    out: &mut Vec<u8>,
+) -> Result<(), MergeFault>
+    requires kinds { AllByRecursion (IsHeadFor job.now) cursors.old.items }
+    requires empty { out.old.items ≡ [] }
+    ensures ok { OnOk result ((os : List Output) → AreAtFirst job.now cursors.old.items os → IsMerged job.now os out.new.items) }
+    ensures err { IfErr result (λ e. (os : List Output) → AreAtFirst job.now cursors.old.items os → Blames job.now os e) }
+{
+    let mut waiting = None;
+    let mut last = None;
+    while let Some((at, line)) = next_line(cursors, last) {
+        go_on(job, cursors, at)?;
+        waiting = Some(taken(job, waiting, line, out)?);
+        last = Some((at, line));
+    }
+    put_last(job, waiting, out)?;
+    Ok(())
+}
+
 /// The outputs that shards have for one partition, in the order of the shards, merged to that of the whole. It is
 /// refused where an output isn't lines of the job with keys in their order.
 pub fn merge_parts(alloc: Global, job: &Job, outputs: &[Output<'_>]) -> Result<Vec<u8>, MergeFault>
@@ -110,13 +130,6 @@ pub fn merge_parts(alloc: Global, job: &Job, outputs: &[Output<'_>]) -> Result<V
 {
     let mut cursors = open_all(alloc, job, outputs)?;
     let mut out = Vec::new(alloc);
-    let mut waiting = None;
-    let mut last = None;
-    while let Some((at, line)) = next_line(&cursors, last) {
-        go_on(job, &mut cursors, at)?;
-        waiting = Some(taken(job, waiting, line, &mut out)?);
-        last = Some((at, line));
-    }
-    put_last(job, waiting, &mut out)?;
+    merge_lines(job, &mut cursors, &mut out)?;
     Ok(out)
 }
