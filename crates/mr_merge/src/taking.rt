@@ -51,6 +51,23 @@ fn take_region(all: &mut Gathering, region: &Region<'_>, partition: u32) -> Resu
     Ok(cursor.is_at_end())
 }
 
+/// Takes the pairs of all regions, one region behind another, and tells whether each was taken.
+fn take_regions(
+    all: &mut Gathering,
+    regions: &[Region<'_>],
+    partition: u32,
+) -> Result<bool, AllocError>
+    requires { AreTaken partition [] all.old }
+    ensures { IfOk result (λ b. IsTrue b → AreTaken partition regions.now all.new) }
+{
+    for region in regions {
+        if !take_region(all, region, partition)? {
+            return Ok(false);
+        }
+    }
+    Ok(true)
+}
+
 /// The pairs of all regions, one region behind another, where it is known that the names of each differ and those of each are
 /// past those of all before.
 pub(crate) fn taken_regions(
@@ -64,10 +81,8 @@ pub(crate) fn taken_regions(
         pairs: Numbered::with_room(alloc, room_for(regions))?,
         last: None,
     };
-    for region in regions {
-        if !take_region(&mut all, region, partition)? {
-            return Ok(None);
-        }
+    if !take_regions(&mut all, regions, partition)? {
+        return Ok(None);
     }
     Ok(Some(all))
 }

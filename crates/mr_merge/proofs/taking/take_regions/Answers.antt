@@ -3,7 +3,7 @@ use Rattle.std.proofs.lemmas.List.{take_more}
 use Rattle.mr_spill.specs.Lent.{RegionText}
 use Rattle.mr_merge.specs.Taking.{AreTaken}
 use Rattle.mr_merge.proofs.TakingLemmas.{taken-more}
-use Rattle.mr_merge.proofs.taking.taken_regions.Goals as goal
+use Rattle.mr_merge.proofs.taking.take_regions.Goals as goal
 
 pub loop-region-preserved : goal.loop-region-preserved
 loop-region-preserved c =
