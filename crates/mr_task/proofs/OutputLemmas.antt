@@ -1,5 +1,5 @@
 -- What a reduce task gives: texts, counts and names of groups.
-use Rattle.std.proofs.Common.{◌≡◌, ℕ, zero, suc, ◌+◌, ◌<◌, ◌≤◌, Bool, true, false, cond, All, List, [], ◌∷◌, ◌++◌, length, get_or, take, drop, map, filter, refl, sym, ap, ◌∙◌, arith, length-append, length-drop}
+use Rattle.std.proofs.Common.{◌≡◌, ℕ, zero, suc, ◌+◌, ◌<◌, ◌≤◌, Bool, true, false, cond, All, List, [], ◌∷◌, ◌++◌, length, get_or, take, drop, map, filter, refl, sym, ap, ◌∙◌, arith, length-append}
 use Rattle.std.proofs.lemmas.List.{append-nil, length-map, take-append-drop, take_more}
 use Rattle.std.proofs.lemmas.List.Elements.{All-map}
 use Rattle.std.proofs.Math.Seq.{drop-append_seam, take-append_seam}
@@ -24,7 +24,7 @@ use Rattle.mr_spill.specs.Lent.{RegionText}
 use Rattle.mr_spill.specs.Spelling.{SpellsRegion}
 use Rattle.std.specs.Prelude.{slice_index_or, slice_set}
 use Rattle.mr_task.specs.Outputs.{flipped, with_other_bit}
-use Rattle.mr_task.specs.Values.{group_text, reduced}
+use Rattle.mr_task.specs.Values.{group_text}
 
 -- ---- counts with names
 

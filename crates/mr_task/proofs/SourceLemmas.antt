@@ -69,6 +69,11 @@ pub emitted-gives : (job : JobSpec) (size : ℕ) (files : List (List ℕ)) (spli
     → emitted_in (emitted job size files []) split skips ≡ flat_map (record_gives job skips) (of_split split (named_records size files))
 emitted-gives job size files split skips = split-gives job split skips (named_records size files)
 
+-- lists with the same numbers leave out the same
+pub emitted-without : (ts : List Triple) (split : ℕ) (numbers skips : List ℕ) → ((n : ℕ) → has_number numbers n ≡ has_number skips n)
+    → emitted_in ts split numbers ≡ emitted_in ts split skips
+emitted-without ts split numbers skips same = λ i. filter (λ (t : Triple). (t.name.split == split) && not (same t.name.rec i)) ts
+
 -- ---- their names rise
 
 pub emitted-rises : (job : JobSpec) (size : ℕ) (files : List (List ℕ)) → 0 < size → Rises by_name (emitted job size files [])

@@ -1,9 +1,11 @@
 //! Map tasks.
-ghost use Rattle.std.specs.Prelude.{◌≡◌, ◌≤◌, ◌<◌, [], IfOk, OnOk, length};
+ghost use Rattle.std.specs.Prelude.{◌≡◌, ◌≤◌, ◌<◌, [], IfOk, OnOk};
+ghost use Rattle.std.specs.List.Sorted.{IsNonDecreasing};
 ghost use Rattle.mr_input.specs.Files.{split_total};
 ghost use Rattle.mr_partition.specs.Partition.{partition_of};
 ghost use Rattle.mr_sequential.specs.Emitted.{emitted};
 ghost use Rattle.mr_task.specs.Mapped.{IsMapped};
+ghost use Rattle.mr_task.specs.Runs.{AreOf, HasTaken};
 ghost use Rattle.mr_task.specs.Values.{emitted_in};
 
 use crate::left_out::{has, in_order};
@@ -52,16 +54,39 @@ pub fn map_task_with(
     requires limit { 1 ≤ limit }
     ensures { IfOk result (IsMapped (λ k. partition_of k parts) parts (emitted_in (emitted job.now plan.now.size plan.now.files []) split skips.now)) }
 {
-    // A plan's size is at least 1: that names rise rests on that.
-    let _size = plan.size();
     let left_out = in_order(alloc, skips)?;
     let mut runs = Runs::new(alloc, split, parts, limit);
+    take_records(alloc, plan, job, split, left_out.as_slice(), &mut runs)?;
+    runs.finish(alloc)
+}
+
+/// Takes what a job emits for the records of a split, without those whose numbers are listed, in rising order.
+fn take_records(
+    alloc: Global,
+    plan: &Plan<'_>,
+    job: &Job,
+    split: u32,
+    left_out: &[u32],
+    runs: &mut Runs,
+) -> Result<(), AllocError>
+    requires split { split < split_total plan.now.size plan.now.files }
+    requires rise { IsNonDecreasing left_out.now }
+    requires some { 0 < runs.old.sealed.parts }
+    requires here { runs.old.split ≡ split }
+    requires none { HasTaken [] runs.old }
+    requires empty { runs.old.buffer.pairs ≡ [] }
+    ensures parts { OnOk result (runs.new.sealed.parts ≡ runs.old.sealed.parts) }
+    ensures own { OnOk result (AreOf runs.new.split runs.new.buffer.pairs) }
+    ensures taken { OnOk result (HasTaken (emitted_in (emitted job.now plan.now.size plan.now.files []) split left_out.now) runs.new) }
+{
+    // A plan's size is at least 1: that names rise rests on that.
+    let _size = plan.size();
     let mut folded = Vec::new(alloc);
     let mut mapper = job.over(plan.input());
     let count = plan.records_in(split);
     for rec in 0..count {
         let line = plan.located(split, rec);
-        if !has(left_out.as_slice(), rec) {
+        if !has(left_out, rec) {
             runs.take_record(
                 alloc,
                 &mut mapper,
@@ -71,5 +96,5 @@ pub fn map_task_with(
             )?;
         }
     }
-    runs.finish(alloc)
+    Ok(())
 }

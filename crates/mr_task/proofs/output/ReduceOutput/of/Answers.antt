@@ -1,7 +1,5 @@
 use Rattle.std.proofs.Common.{◌≡◌, ℕ, List, length, map, ap, sym, ◌∙◌, arith}
 use Rattle.std.proofs.lemmas.List.{length-map}
-use Rattle.std.specs.List.{flat_map}
-use Rattle.mr_bytes.specs.declared.Name.{Name}
 use Rattle.mr_certform.specs.Flat.{chunks, total}
 use Rattle.mr_merge.specs.Merged.{Group}
 use Rattle.mr_spill.specs.Column.{names_of}
