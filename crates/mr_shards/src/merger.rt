@@ -150,7 +150,8 @@ impl Merger {
         requires count { length windows.now ≡ length self.old.held }
         ensures cuts { IfOk result (λ cuts. cuts.items ≡ cuts_before (shown place.entry) windows.now) }
         ensures moved { IfOk result (λ _. self.new ≡ moved_to self.old windows.now (shown place.entry)) }
-        ensures put { IfOk result (λ _. ArePut job.now (pieces_of self.old.held windows.now (cuts_before (shown place.entry) windows.now)) out.old.items out.new.items) }
+        ensures put { IfOk result (λ _.
+            ArePut job.now (pieces_of self.old.held windows.now (cuts_before (shown place.entry) windows.now)) out.old.items out.new.items) }
         ensures err { IfErr result (BlamesAll job.now self.old.held windows.now) }
         ensures kept { OnErr result ((self.new ≡ self.old) × (out.new.items ≡ out.old.items)) }
     {
