@@ -2,8 +2,9 @@
 ghost use Rattle.std.specs.Prelude.{◌≡◌, [], IfOk};
 
 use crate::regions::show_pairs;
+use crate::telling;
 use mr_bytes::{Name, Pair, Value};
-use mr_spill::{Buffer, PushFault, PushRefusal};
+use mr_spill::{Buffer, Pairs, PushFault, PushRefusal, SealedRun};
 use std::alloc::{AllocError, Global};
 use std::io;
 
@@ -26,32 +27,44 @@ fn fill(buffer: &mut Buffer) -> Result<(), PushRefusal>
     buffer.push_key(b"b", Value::One, name(2))
 }
 
-/// Its regions for so many partitions, how many pairs it holds behind them, and the regions of those.
-fn show_sealed(rt: &HostRuntime, mut buffer: Buffer, parts: u32) -> io::Result<()> {
-    let parts = parts.max(1);
-    for region in buffer.seal(rt.alloc(), parts)?.iter() {
-        show_pairs(rt, region)?;
-    }
-    println!(rt; "{}", buffer.len())?;
-    for region in buffer.seal(rt.alloc(), parts)?.iter() {
+fn show_regions(rt: &HostRuntime, regions: &[Pairs]) -> io::Result<()> {
+    for region in regions {
         show_pairs(rt, region)?;
     }
     Ok(())
 }
 
-/// A run of one pair, and how many pairs the buffer holds behind it.
+/// The regions for so many partitions of what it holds.
+fn seal(rt: &HostRuntime, buffer: &mut Buffer, parts: u32) -> io::Result<()> {
+    let regions = buffer.seal(rt.alloc(), parts.max(1))?;
+    show_regions(rt, &regions)
+}
+
+/// Its regions, how many pairs it holds behind them, and the regions of those.
+fn show_sealed(rt: &HostRuntime, buffer: &mut Buffer, parts: u32) -> io::Result<()> {
+    seal(rt, buffer, parts)?;
+    rt.println(buffer.len())?;
+    seal(rt, buffer, parts)
+}
+
+/// A run, and how many pairs the buffer holds behind it.
+fn show_run_of(rt: &HostRuntime, run: &SealedRun, left: usize) -> io::Result<()> {
+    telling::two(rt, &run.parts(), &left)?;
+    for p in 0..run.parts() {
+        let region = run.region(p);
+        telling::two(rt, &region.is_sealed(), &region.bytes().len())?;
+    }
+    Ok(())
+}
+
+/// A run of one pair.
 fn show_run(rt: &HostRuntime) -> io::Result<()> {
     let mut buffer = Buffer::new(rt.alloc(), 1);
     if buffer.push_key(b"a", Value::One, name(0)).is_err() {
         return Ok(());
     }
     let run = buffer.seal_run(rt.alloc(), 0, 1)?;
-    println!(rt; "{} {}", run.parts(), buffer.len())?;
-    for p in 0..run.parts() {
-        let region = run.region(p);
-        println!(rt; "{} {}", region.is_sealed(), region.bytes().len())?;
-    }
-    Ok(())
+    show_run_of(rt, &run, buffer.len())
 }
 
 fn pair(alloc: Global, key: &[u8], value: Value, name: Name) -> Result<Pair, AllocError>
@@ -65,34 +78,40 @@ fn pair(alloc: Global, key: &[u8], value: Value, name: Name) -> Result<Pair, All
 }
 
 /// What a buffer of one pair answers to a second one.
-fn second(alloc: Global, first: Pair, second: Pair) -> Option<PushFault>
+fn second(buffer: &mut Buffer, first: Pair, second: Pair) -> Option<PushFault>
+    requires empty { buffer.old.pairs ≡ [] }
     requires names { (first.name ≡ record { split = 0; rec = 0; place = 4 }) × (second.name ≡ record { split = 0; rec = 0; place = 5 }) }
 {
-    let mut buffer = Buffer::new(alloc, 1);
     match buffer.push(first) {
         Ok(()) => buffer.push(second).err(),
         Err(_) => None,
     }
 }
 
+/// What is refused.
+fn refused(alloc: Global) -> Result<Option<PushFault>, AllocError> {
+    let place = Value::At { file: 1, offset: 7 };
+    let early = pair(alloc, b"z", place, name(4))?;
+    let late = pair(alloc, b"y", Value::One, name(5))?;
+    let mut buffer = Buffer::new(alloc, 1);
+    Ok(second(&mut buffer, early, late))
+}
+
 /// What is refused, how it is told, and how want of memory is.
 fn show_refused(rt: &HostRuntime) -> io::Result<()> {
-    let place = Value::At { file: 1, offset: 7 };
-    let early = pair(rt.alloc(), b"z", place, name(4))?;
-    let late = pair(rt.alloc(), b"y", Value::One, name(5))?;
-    if let Some(fault) = second(rt.alloc(), early, late) {
-        println!(rt; "{fault} {fault:?}")?;
+    if let Some(fault) = refused(rt.alloc())? {
+        telling::fault(rt, &fault)?;
     }
-    let memory = PushFault::OutOfMemory(pair(rt.alloc(), b"a", Value::One, name(0))?);
-    println!(rt; "{memory}")
+    let last = pair(rt.alloc(), b"a", Value::One, name(0))?;
+    rt.println(PushFault::OutOfMemory(last))
 }
 
 /// A buffer of so many pairs, filled.
 fn show_filled(rt: &HostRuntime, limit: usize, parts: u32) -> io::Result<()> {
     let mut buffer = Buffer::new(rt.alloc(), limit);
     match fill(&mut buffer) {
-        Ok(()) => show_sealed(rt, buffer, parts),
-        Err(fault) => println!(rt; "{fault} {fault:?}"),
+        Ok(()) => show_sealed(rt, &mut buffer, parts),
+        Err(fault) => telling::fault(rt, &fault),
     }
 }
 

@@ -2,13 +2,15 @@
 //! are malformed, and by the items that the walk over them gives. With no bytes those of an example are told, which is
 //! built, and the text of a fault. With more words, how many bytes a reader gives a call and which call of it fails, if one
 //! does, the items are told that the walk over that reader gives.
-use crate::streaming;
+ghost use Rattle.std.specs.Prelude.{◌≡◌, ◌≤◌, [], length, OnOk};
+
+use crate::{streaming, telling};
 use mr_bytes::Name;
 use mr_certform::{Builder, Certificate, Groups, Header, Item, ReadFault, Walker, read, write};
 use mr_store::{MemoryWriter, write_spelled};
 use std::alloc::{AllocError, Global};
+use std::fmt::Debug;
 use std::io;
-use std::io::Read;
 
 /// As many bytes as a certificate has at most whose names and items are told one by one.
 const SHORT: usize = 4096;
@@ -21,10 +23,11 @@ fn name(place: u32) -> Name {
     }
 }
 
-/// The certificate of the words of `a b a` and a line end, one partition, splits of 64 bytes.
-fn example(alloc: Global) -> Result<Certificate, AllocError> {
-    let mut lengths = Vec::new(alloc);
-    lengths.push(6)?;
+/// The certificate of words in files of these lengths before its first partition, splits of 64 bytes.
+pub fn begun(alloc: Global, lengths: Vec<u64>) -> Builder
+    requires files { length lengths.items ≤ 1024 }
+    ensures nothing { (result.begun ≡ []) × (result.ended.groups ≡ []) }
+{
     let header = Header {
         job: 1,
         flags: 0,
@@ -33,10 +36,25 @@ fn example(alloc: Global) -> Result<Certificate, AllocError> {
         lengths,
         skips: Vec::new(alloc),
     };
-    let mut builder = Builder::begin(alloc, header);
+    Builder::begin(alloc, header)
+}
+
+/// One partition, of the words of `a b a`.
+fn push_words(builder: &mut Builder) -> Result<(), AllocError>
+    requires nothing { (builder.old.begun ≡ []) × (builder.old.ended.groups ≡ []) }
+    ensures one { OnOk result ((builder.new.begun ≡ []) × (1 ≤ length builder.new.ended.groups)) }
+{
     builder.push_group(&[name(0), name(2)])?;
     builder.push_group(&[name(1)])?;
-    builder.end_partition()?;
+    builder.end_partition()
+}
+
+/// The certificate of the words of `a b a` and a line end, one partition, splits of 64 bytes.
+fn example(alloc: Global) -> Result<Certificate, AllocError> {
+    let mut lengths = Vec::new(alloc);
+    lengths.push(6)?;
+    let mut builder = begun(alloc, lengths);
+    push_words(&mut builder)?;
     Ok(builder.finish())
 }
 
@@ -44,7 +62,7 @@ fn example(alloc: Global) -> Result<Certificate, AllocError> {
 fn step(rt: &HostRuntime, walker: &mut Walker<'_>) -> io::Result<bool> {
     match walker.next() {
         Ok(item) => {
-            println!(rt; "{item:?}")?;
+            telling::one(rt, &item)?;
             Ok(item != Item::End)
         }
         Err(fault) => {
@@ -66,24 +84,34 @@ fn walk(rt: &HostRuntime, bytes: &[u8]) -> io::Result<()> {
     Ok(())
 }
 
-/// Tells what a certificate says before its groups.
-fn show(rt: &HostRuntime, certificate: &Certificate) -> io::Result<()> {
+/// Tells the job, its flags and its literal.
+fn show_job(rt: &HostRuntime, certificate: &Certificate) -> io::Result<()> {
     let literal = certificate.literal();
     println!(rt;
         "job {} flags {} literal {literal:?}",
         certificate.job(),
         certificate.flags()
-    )?;
-    println!(rt;
-        "parts {} split {}",
-        certificate.parts(),
-        certificate.split_size()
-    )?;
-    println!(rt;
-        "lengths {:?} skips {:?}",
-        certificate.lengths(),
-        certificate.skips()
-    )?;
+    )
+}
+
+/// Two values, each behind its name.
+fn show_two<A: Debug, B: Debug>(
+    rt: &HostRuntime,
+    names: [&str; 2],
+    a: &A,
+    b: &B,
+) -> io::Result<()> {
+    let [first, second] = names;
+    println!(rt; "{first} {a:?} {second} {b:?}")
+}
+
+/// Tells what a certificate says before its groups.
+fn show(rt: &HostRuntime, certificate: &Certificate) -> io::Result<()> {
+    show_job(rt, certificate)?;
+    let (parts, size) = (certificate.parts(), certificate.split_size());
+    show_two(rt, ["parts", "split"], &parts, &size)?;
+    let (lengths, skips) = (certificate.lengths(), certificate.skips());
+    show_two(rt, ["lengths", "skips"], &lengths, &skips)?;
     println!(rt; "total {}", certificate.total())
 }
 
@@ -125,43 +153,51 @@ fn is_written_again(
     Ok(done && written.as_slice() == bytes && writer.handed_on() == bytes)
 }
 
-/// Tells the certificate that the bytes spell, and whether it is written as they are.
-fn tell(rt: &HostRuntime, bytes: &[u8]) -> io::Result<()> {
-    let certificate = match read(rt.alloc(), bytes) {
-        Ok(certificate) => certificate,
-        Err(fault) => return println!(rt; "{fault}"),
-    };
-    show(rt, &certificate)?;
-    let again = is_written_again(rt.alloc(), &certificate, bytes)?;
+/// Tells the certificate that was read of the bytes, and whether it is written as they are.
+fn show_read(rt: &HostRuntime, certificate: &Certificate, bytes: &[u8]) -> io::Result<()> {
+    show(rt, certificate)?;
+    let again = is_written_again(rt.alloc(), certificate, bytes)?;
     println!(rt; "written again: {again}")?;
     if bytes.len() <= SHORT {
-        show_partitions(rt, &certificate)?;
+        show_partitions(rt, certificate)?;
     }
     Ok(())
+}
+
+/// Tells the certificate that the bytes spell, or where they are malformed.
+fn tell(rt: &HostRuntime, bytes: &[u8]) -> io::Result<()> {
+    match read(rt.alloc(), bytes) {
+        Ok(certificate) => show_read(rt, &certificate, bytes),
+        Err(fault) => rt.println(fault),
+    }
 }
 
 /// Tells the bytes of the example that is built, and how want of memory is told.
 fn tell_example(rt: &HostRuntime) -> io::Result<()> {
     let certificate = example(rt.alloc())?;
     let bytes = write(rt.alloc(), &certificate)?;
-    println!(rt; "{:?}", bytes.as_slice())?;
-    println!(rt; "{}", ReadFault::OutOfMemory)
+    telling::one(rt, &bytes)?;
+    rt.println(ReadFault::OutOfMemory)
+}
+
+/// Answers these bytes, where no words stand behind the first.
+fn answer_bytes(rt: &HostRuntime, bytes: &[u8]) -> io::Result<()> {
+    if bytes.is_empty() {
+        return tell_example(rt);
+    }
+    tell(rt, bytes)?;
+    if bytes.len() <= SHORT {
+        walk(rt, bytes)?;
+    }
+    Ok(())
 }
 
 /// Answers standard input, by these words.
 pub fn answer(rt: &HostRuntime, words: &[String]) -> io::Result<()> {
-    let mut bytes = Vec::new(rt.alloc());
-    rt.stdin().read_to_end(&mut bytes)?;
-    if let Some(most) = words.first() {
-        let failing = words.get(1).and_then(|word| word.parse().ok());
-        return streaming::walk(rt, bytes, most.parse().unwrap_or(1), failing);
-    }
-    if bytes.is_empty() {
-        return tell_example(rt);
-    }
-    tell(rt, &bytes)?;
-    if bytes.len() <= SHORT {
-        walk(rt, &bytes)?;
-    }
-    Ok(())
+    let bytes = telling::all_bytes(rt)?;
+    let Some(most) = words.first() else {
+        return answer_bytes(rt, &bytes);
+    };
+    let failing = words.get(1).and_then(|word| word.parse().ok());
+    streaming::walk(rt, bytes, most.parse().unwrap_or(1), failing)
 }

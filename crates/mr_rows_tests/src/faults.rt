@@ -1,4 +1,5 @@
 //! The texts of faults that no row brings about, both ways in which those of several are told, and whether faults are one.
+use crate::telling;
 use mr_input::InputFault;
 use mr_jobs::JobFault;
 use mr_merge::MergeFault;
@@ -26,6 +27,6 @@ fn show_asked(rt: &HostRuntime) -> io::Result<()> {
 pub fn answer(rt: &HostRuntime) -> io::Result<()> {
     show_asked(rt)?;
     let (push, merge) = (PushRefusal::OutOfMemory, MergeFault::OutOfMemory);
-    let task = TaskFault::OutOfMemory;
-    println!(rt; "{push} {push:?} {merge} {merge:?} {task} {task:?}")
+    print!(rt; "{push} {push:?} {merge} {merge:?} ")?;
+    telling::fault(rt, &TaskFault::OutOfMemory)
 }

@@ -2,6 +2,7 @@
 //! behind the first are what the second part is, and what the certificate is: 0 for not there, 1 for a file, 2 for one of
 //! which each use fails.
 use crate::inputs::numbers_of;
+use crate::telling;
 use mr_files::{FileFault, MemoryFiles, read_file, write_files, write_named};
 use mr_store::Bytes;
 use std::alloc::{AllocError, Global};
@@ -11,13 +12,13 @@ fn show_fault(rt: &HostRuntime, fault: FileFault) -> io::Result<()> {
     match fault {
         FileFault::CannotRead(name) => println!(rt; "cannot read {name}"),
         FileFault::CannotWrite(name) => println!(rt; "cannot write {name}"),
-        FileFault::OutOfMemory => println!(rt; "OutOfMemory"),
+        FileFault::OutOfMemory => rt.println("OutOfMemory"),
     }
 }
 
 fn show_file(rt: &HostRuntime, store: &MemoryFiles, name: &str) -> io::Result<()> {
     match read_file(store, rt.alloc(), name) {
-        Ok(bytes) => println!(rt; "{bytes:?}"),
+        Ok(bytes) => telling::one(rt, &bytes),
         Err(fault) => show_fault(rt, fault),
     }
 }
@@ -30,7 +31,7 @@ fn show_files(rt: &HostRuntime, store: &MemoryFiles) -> io::Result<()> {
 
 fn show_written(rt: &HostRuntime, answer: Result<(), FileFault>) -> io::Result<()> {
     match answer {
-        Ok(()) => println!(rt; "written"),
+        Ok(()) => rt.println("written"),
         Err(fault) => show_fault(rt, fault),
     }
 }

@@ -3,12 +3,13 @@
 //! SPLIT:RECORD. Standard input is the files, each ended by a byte 0.
 ghost use Rattle.std.specs.Prelude.{◌≡◌, ◌<◌, ◌≤◌, ◌^◌, IfOk};
 ghost use Rattle.mr_input.specs.Files.{split_total};
-ghost use Rattle.mr_index.specs.Index.{triples_in, triples_of};
+ghost use Rattle.mr_index.specs.Index.{AreParts, triples_in, triples_of};
 
-use crate::inputs::{input, numbers_of, skips_of};
-use crate::runs::job_of;
+use crate::inputs::{numbers_of, skips_of};
+use crate::runs::asked;
 use mr_bytes::{Name, RecordName};
 use mr_index::{EmissionIndex, Meter, Part};
+use mr_input::Input;
 use mr_jobs::Job;
 use mr_splits::{Kept, Plan};
 use mr_watch::{Phase, Watch};
@@ -90,21 +91,36 @@ fn part_of(
     }
 }
 
-/// The index of a plan's splits, each mapped apart.
+/// The parts of a plan's splits, each mapped apart.
+fn parts_of(
+    alloc: Global,
+    plan: &Plan<'_>,
+    kept: &Kept<'_>,
+    job: &Job,
+    skips: &[RecordName],
+) -> Result<Vec<Part>, AllocError>
+    requires kept { kept.now ≡ record { cut = plan.now; skips = skips.now } }
+    ensures { IfOk result (λ r. AreParts job.now plan.now skips.now r.items) }
+{
+    // A plan's size is at least 1.
+    let _size = plan.size();
+    let splits = plan.splits();
+    let mut parts = Vec::new(alloc);
+    for split in 0..splits {
+        parts.push(part_of(alloc, plan, kept, job, skips, split)?)?;
+    }
+    Ok(parts)
+}
+
+/// The index of those parts.
 fn joined(
     alloc: Global,
     plan: &Plan<'_>,
     job: &Job,
     skips: &[RecordName],
 ) -> Result<EmissionIndex, AllocError> {
-    // A plan's size is at least 1.
-    let _size = plan.size();
-    let splits = plan.splits();
     let kept = plan.kept(alloc, skips)?;
-    let mut parts = Vec::new(alloc);
-    for split in 0..splits {
-        parts.push(part_of(alloc, plan, &kept, job, skips, split)?)?;
-    }
+    let parts = parts_of(alloc, plan, &kept, job, skips)?;
     Ok(EmissionIndex::join(parts))
 }
 
@@ -135,6 +151,21 @@ fn show_index(rt: &HostRuntime, index: &EmissionIndex) -> io::Result<()> {
     Ok(())
 }
 
+/// How many pairs there are, what it took to find them, and what was told meanwhile.
+fn show_work(
+    rt: &HostRuntime,
+    index: &EmissionIndex,
+    meter: Meter,
+    watch: &Counting,
+) -> io::Result<()> {
+    println!(rt;
+        "{} {meter:?} told {} past {}",
+        index.total(),
+        watch.told.load(Ordering::SeqCst),
+        watch.past.load(Ordering::SeqCst)
+    )
+}
+
 fn work(
     rt: &HostRuntime,
     plan: &Plan<'_>,
@@ -153,27 +184,35 @@ fn work(
         _ => joined(rt.alloc(), plan, job, skips),
     };
     let index = index?;
-    println!(rt;
-        "{} {meter:?} told {} past {}",
-        index.total(),
-        watch.told.load(Ordering::SeqCst),
-        watch.past.load(Ordering::SeqCst)
-    )?;
+    show_work(rt, &index, meter, &watch)?;
     show_index(rt, &index)
+}
+
+/// Answers an input and a job, where these records are left out.
+fn answer_asked(
+    rt: &HostRuntime,
+    input: &Input,
+    job: &Job,
+    numbers: [u32; 4],
+    skips: &[RecordName],
+) -> io::Result<()> {
+    let [way, _, size, _] = numbers;
+    match Plan::of(rt.alloc(), input, size) {
+        Ok(plan) => work(rt, &plan, job, skips, way),
+        Err(_) => Ok(()),
+    }
+}
+
+/// Answers standard input, where these records are left out.
+fn answer_skips(rt: &HostRuntime, numbers: [u32; 4], skips: &[RecordName]) -> io::Result<()> {
+    match asked(rt, numbers[1])? {
+        Some((input, job)) => answer_asked(rt, &input, &job, numbers, skips),
+        None => Ok(()),
+    }
 }
 
 /// Answers standard input, by these words.
 pub fn answer(rt: &HostRuntime, words: &[String]) -> io::Result<()> {
-    let [way, number, size, _] = numbers_of(words);
     let skips = skips_of(rt.alloc(), words)?;
-    let Some(input) = input(rt)? else {
-        return Ok(());
-    };
-    let Some(job) = job_of(rt.alloc(), number) else {
-        return Ok(());
-    };
-    match Plan::of(rt.alloc(), &input, size) {
-        Ok(plan) => work(rt, &plan, &job, &skips, way),
-        Err(_) => Ok(()),
-    }
+    answer_skips(rt, numbers_of(words), &skips)
 }

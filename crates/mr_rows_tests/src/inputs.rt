@@ -1,13 +1,13 @@
 //! Requests, inputs and plans. The words behind the first are how many partitions there are, the size of a split, how many
 //! records may be left out, and the names of those that are, as SPLIT:RECORD. Standard input is the files, each ended by a
 //! byte 0.
+use crate::telling;
 use mr_bytes::{RecordName, cut};
 use mr_input::Input;
 use mr_jobs::{Job, Request};
-use mr_splits::{Plan, splits_law};
+use mr_splits::{Kept, Plan, splits_law};
 use std::alloc::{AllocError, Global};
 use std::io;
-use std::io::Read;
 
 /// As many files, splits, records of a split and bytes of a file as are told one by one.
 const FEW: u32 = 8;
@@ -55,8 +55,7 @@ fn files_of(alloc: Global, bytes: &[u8]) -> Result<Vec<Vec<u8>>, AllocError> {
 
 /// The files of standard input.
 fn files(rt: &HostRuntime) -> io::Result<Vec<Vec<u8>>> {
-    let mut bytes = Vec::new(rt.alloc());
-    rt.stdin().read_to_end(&mut bytes)?;
+    let bytes = telling::all_bytes(rt)?;
     Ok(files_of(rt.alloc(), &bytes)?)
 }
 
@@ -73,7 +72,7 @@ fn show_input(rt: &HostRuntime, input: &Input) -> io::Result<()> {
         let front = &file[..file.len().min(FEW as usize)];
         print!(rt; "|{} {front:?}", input.len(i))?;
     }
-    println!(rt; "")
+    rt.println("")
 }
 
 fn show_request(rt: &HostRuntime, input: &Input, numbers: [u32; 4]) -> io::Result<()> {
@@ -87,24 +86,19 @@ fn show_request(rt: &HostRuntime, input: &Input, numbers: [u32; 4]) -> io::Resul
             request.max_skips(),
             request.fits(input)
         ),
-        Err(fault) => println!(rt; "{fault}"),
+        Err(fault) => rt.println(fault),
     }
 }
 
 /// A record, by its bytes, and where it stands.
 fn show_record(rt: &HostRuntime, plan: &Plan<'_>, split: u32, rec: u32) -> io::Result<()> {
-    print!(rt; "{:?}", plan.record_of(split, rec))?;
+    telling::part(rt, &plan.record_of(split, rec))?;
     if !plan.has_record(RecordName { split, rec }) {
-        return println!(rt; "");
+        return rt.println("");
     }
     let line = plan.located(split, rec);
-    println!(rt;
-        " {} {} {:?} {}",
-        line.file,
-        line.start,
-        line.bytes,
-        plan.number_of(split, rec)
-    )
+    let number = plan.number_of(split, rec);
+    telling::four(rt, &line.file, &line.start, &line.bytes, &number)
 }
 
 /// A split, where there is one, its first records, and what is told of one that isn't there.
@@ -112,7 +106,7 @@ fn show_split(rt: &HostRuntime, plan: &Plan<'_>, split: u32) -> io::Result<()> {
     let mut records = 0;
     if split < plan.splits() {
         records = plan.records_in(split).min(FEW);
-        println!(rt; "{:?} {records}", plan.split(split))?;
+        telling::two(rt, &plan.split(split), &records)?;
     }
     for rec in 0..=records {
         show_record(rt, plan, split, rec)?;
@@ -126,12 +120,11 @@ fn show_left_out(rt: &HostRuntime, plan: &Plan<'_>, skips: &[RecordName]) -> io:
     for number in 0..plan.count().min(FEW as usize) {
         print!(rt; "{} ", left_out.has(number))?;
     }
-    println!(rt; "")
+    rt.println("")
 }
 
-/// The first records that the list leaves.
-fn show_kept<'a>(rt: &HostRuntime, plan: &'a Plan<'a>, skips: &'a [RecordName]) -> io::Result<()> {
-    let kept = plan.kept(rt.alloc(), skips)?;
+/// The first records that are kept.
+fn show_kept(rt: &HostRuntime, kept: &Kept<'_>) -> io::Result<()> {
     let mut all = kept.records();
     for _ in 0..FEW {
         match all.next() {
@@ -139,17 +132,29 @@ fn show_kept<'a>(rt: &HostRuntime, plan: &'a Plan<'a>, skips: &'a [RecordName]) 
             None => break,
         }
     }
-    println!(rt; "")
+    rt.println("")
 }
 
-fn show_plan(rt: &HostRuntime, plan: &Plan<'_>, most: u32, skips: &[RecordName]) -> io::Result<()> {
+/// What is told of the list, and the first records that it leaves out, and leaves.
+fn show_list(rt: &HostRuntime, plan: &Plan<'_>, most: u32, skips: &[RecordName]) -> io::Result<()> {
+    telling::one(rt, &plan.list_fault(most, skips))?;
+    show_left_out(rt, plan, skips)?;
+    let kept = plan.kept(rt.alloc(), skips)?;
+    show_kept(rt, &kept)
+}
+
+/// The first splits, and one behind them.
+fn show_splits(rt: &HostRuntime, plan: &Plan<'_>) -> io::Result<()> {
     println!(rt; "{} {} {}", plan.splits(), plan.size(), plan.count())?;
     for split in 0..=plan.splits().min(FEW) {
         show_split(rt, plan, split)?;
     }
-    println!(rt; "{:?}", plan.list_fault(most, skips))?;
-    show_left_out(rt, plan, skips)?;
-    show_kept(rt, plan, skips)
+    Ok(())
+}
+
+fn show_plan(rt: &HostRuntime, plan: &Plan<'_>, most: u32, skips: &[RecordName]) -> io::Result<()> {
+    show_splits(rt, plan)?;
+    show_list(rt, plan, most, skips)
 }
 
 fn show(
@@ -163,7 +168,15 @@ fn show(
     let [_, size, most, _] = numbers;
     match Plan::of(rt.alloc(), input, size) {
         Ok(plan) => show_plan(rt, &plan, most, skips),
-        Err(fault) => println!(rt; "{fault}"),
+        Err(fault) => rt.println(fault),
+    }
+}
+
+/// Answers standard input, where these records are left out.
+fn answer_skips(rt: &HostRuntime, numbers: [u32; 4], skips: &[RecordName]) -> io::Result<()> {
+    match Input::of(files(rt)?) {
+        Ok(input) => show(rt, &input, numbers, skips),
+        Err(fault) => rt.println(fault),
     }
 }
 
@@ -171,8 +184,5 @@ fn show(
 pub fn answer(rt: &HostRuntime, words: &[String]) -> io::Result<()> {
     splits_law();
     let skips = skips_of(rt.alloc(), words)?;
-    match Input::of(files(rt)?) {
-        Ok(input) => show(rt, &input, numbers_of(words), &skips),
-        Err(fault) => println!(rt; "{fault}"),
-    }
+    answer_skips(rt, numbers_of(words), &skips)
 }

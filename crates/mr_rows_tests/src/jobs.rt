@@ -1,4 +1,5 @@
 //! More kernels, of a case's two texts: jobs, what `map` adds, texts of groups, and keys that wait for their numbers.
+use crate::telling;
 use mr_bytes::{Value, Values};
 use mr_jobs::{Emissions, Job, Origin, map};
 use mr_keys::{Keys, Waiting};
@@ -20,7 +21,7 @@ fn show_jobs(rt: &HostRuntime, literal: &[u8], fold: bool) -> io::Result<()> {
     let url = Job::url().counts();
     match Job::grep(rt.alloc(), literal, fold) {
         Ok(lines) => println!(rt; "{words} {url} {}", lines.counts()),
-        Err(fault) => println!(rt; "{fault}"),
+        Err(fault) => rt.println(fault),
     }
 }
 
@@ -39,7 +40,7 @@ fn emit(alloc: Global, a: &[u8], b: &[u8], out: &mut Emissions) -> Result<(), Al
 fn show_each(rt: &HostRuntime, out: &Emissions) -> io::Result<()> {
     print!(rt; " {} {}", out.is_empty(), out.len())?;
     for i in 0..out.len() {
-        print!(rt; "|{:?}", out.get(i))?;
+        telling::behind_bar(rt, &out.get(i))?;
     }
     Ok(())
 }
@@ -54,7 +55,7 @@ fn show_emitted(rt: &HostRuntime, a: &[u8], b: &[u8], out: &mut Emissions) -> io
     emit(rt.alloc(), a, b, out)?;
     emit(rt.alloc(), a, b, out)?;
     show_each(rt, out)?;
-    println!(rt; "")
+    rt.println("")
 }
 
 fn show_emissions(rt: &HostRuntime, a: &[u8], b: &[u8]) -> io::Result<()> {
@@ -83,20 +84,26 @@ fn two_places(alloc: Global) -> Result<Values, AllocError> {
     Ok(column)
 }
 
-/// The text of two places, and of a value without a place, which has none.
-fn places(alloc: Global, lines: &Job, key: &[u8]) -> Result<Vec<u8>, AllocError> {
-    let column = two_places(alloc)?;
+/// The text of the places of a column, and of a value without a place, which has none.
+fn places(alloc: Global, lines: &Job, key: &[u8], column: &Values) -> Result<Vec<u8>, AllocError> {
     let mut out = Vec::new(alloc);
     group_text(lines, key, &[Value::One], &mut out)?;
-    column_text(lines, key, &column, &mut out)?;
+    column_text(lines, key, column, &mut out)?;
     Ok(out)
+}
+
+/// The text of two places.
+fn show_places(rt: &HostRuntime, lines: &Job, key: &[u8]) -> io::Result<()> {
+    let column = two_places(rt.alloc())?;
+    let text = places(rt.alloc(), lines, key, &column)?;
+    telling::one(rt, &text)
 }
 
 fn show_texts(rt: &HostRuntime, key: &[u8]) -> io::Result<()> {
     print!(rt; "{:?} ", totals(rt.alloc(), key)?)?;
     match Job::grep(rt.alloc(), b"b", false) {
-        Ok(lines) => println!(rt; "{:?}", places(rt.alloc(), &lines, key)?),
-        Err(fault) => println!(rt; "{fault}"),
+        Ok(lines) => show_places(rt, &lines, key),
+        Err(fault) => rt.println(fault),
     }
 }
 
@@ -117,28 +124,50 @@ fn wait(
     Ok(())
 }
 
-/// The numbers of keys of two bytes, of which the second is told, and how many still wait.
+/// Adds the numbers of keys of two bytes, of which the second is told.
+fn number(
+    alloc: Global,
+    bytes: &[u8],
+    keys: &mut Keys,
+    waiting: &mut Waiting,
+    numbers: &mut Vec<u32>,
+) -> Result<(), AllocError> {
+    for byte in bytes {
+        wait(alloc, &[b'k', *byte], keys, waiting, numbers)?;
+    }
+    if keys.len() < MANY && waiting.len() <= 64 {
+        keys.number_all(alloc, waiting, numbers)?;
+    }
+    Ok(())
+}
+
+/// The numbers of those keys, and how many still wait.
 fn numbered(alloc: Global, bytes: &[u8], keys: &mut Keys) -> Result<(Vec<u32>, usize), AllocError> {
     let mut waiting = Waiting::new(alloc);
     let mut numbers = Vec::new(alloc);
-    for byte in bytes {
-        wait(alloc, &[b'k', *byte], keys, &mut waiting, &mut numbers)?;
-    }
-    if keys.len() < MANY && waiting.len() <= 64 {
-        keys.number_all(alloc, &mut waiting, &mut numbers)?;
-    }
+    number(alloc, bytes, keys, &mut waiting, &mut numbers)?;
     Ok((numbers, waiting.len()))
 }
 
-/// The numbers, how many keys still wait, and the key of each number.
+/// The numbers, and how many keys still wait.
+fn show_numbers(rt: &HostRuntime, bytes: &[u8], keys: &mut Keys) -> io::Result<()> {
+    let (numbers, waiting) = numbered(rt.alloc(), bytes, keys)?;
+    print!(rt; "{numbers:?} {waiting}")
+}
+
+/// The key of each number.
+fn show_each_key(rt: &HostRuntime, keys: &Keys) -> io::Result<()> {
+    for number in 0..keys.len() {
+        telling::behind_bar(rt, &keys.get(number))?;
+    }
+    rt.println("")
+}
+
+/// Numbers the keys, and tells what comes of it.
 fn show_keys(rt: &HostRuntime, bytes: &[u8]) -> io::Result<()> {
     let mut keys = Keys::new(rt.alloc());
-    let (numbers, waiting) = numbered(rt.alloc(), bytes, &mut keys)?;
-    print!(rt; "{numbers:?} {waiting}")?;
-    for number in 0..keys.len() {
-        print!(rt; "|{:?}", keys.get(number))?;
-    }
-    println!(rt; "")
+    show_numbers(rt, bytes, &mut keys)?;
+    show_each_key(rt, &keys)
 }
 
 /// Answers a case of one of these kernels.

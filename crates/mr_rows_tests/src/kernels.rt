@@ -1,13 +1,12 @@
 //! The kernels. A case on standard input is the number of a kernel in one byte,
 //! and two texts, each behind its length in four bytes, the highest first. A line tells what the kernel answers.
-use crate::{jobs, plain};
+use crate::{jobs, plain, telling};
 use mr_bytes::{Span, cut};
 use mr_lanes::{
     find_folded, first_difference, fold_into, hash8, line_ends, next_word, planes, word_spans,
 };
 use mr_partition::{partition, partition8};
 use std::io;
-use std::io::Read;
 
 /// The longest text in which lines and words are looked for.
 const LONGEST: usize = 1 << 30;
@@ -52,7 +51,7 @@ fn show_planes(rt: &HostRuntime, bytes: &[u8]) -> io::Result<()> {
     for (to, from) in block.iter_mut().zip(bytes) {
         *to = *from;
     }
-    println!(rt; "{:?}", planes(&block))
+    telling::one(rt, &planes(&block))
 }
 
 /// The lists aren't empty before, since the kernels append.
@@ -63,7 +62,7 @@ fn show_lines(rt: &HostRuntime, bytes: &[u8]) -> io::Result<()> {
     let mut ends = Vec::new(rt.alloc());
     ends.push(7)?;
     line_ends(bytes, &mut ends)?;
-    println!(rt; "{ends:?}")
+    telling::one(rt, &ends)
 }
 
 fn show_words(rt: &HostRuntime, bytes: &[u8]) -> io::Result<()> {
@@ -73,7 +72,7 @@ fn show_words(rt: &HostRuntime, bytes: &[u8]) -> io::Result<()> {
     let mut spans = Vec::new(rt.alloc());
     spans.push(Span { start: 7, end: 8 })?;
     word_spans(bytes, &mut spans)?;
-    println!(rt; "{spans:?}")
+    telling::one(rt, &spans)
 }
 
 /// The words one after another.
@@ -87,14 +86,14 @@ fn show_each_word(rt: &HostRuntime, bytes: &[u8]) -> io::Result<()> {
         spans.push(word)?;
         from = word.end as usize;
     }
-    println!(rt; "{spans:?}")
+    telling::one(rt, &spans)
 }
 
 fn show_folded(rt: &HostRuntime, bytes: &[u8]) -> io::Result<()> {
     let mut folded = Vec::new(rt.alloc());
     folded.push(b'X')?;
     fold_into(bytes, &mut folded)?;
-    println!(rt; "{folded:?}")
+    telling::one(rt, &folded)
 }
 
 /// The keys are the parts of the text between the slashes.
@@ -122,8 +121,8 @@ fn answer_case(rt: &HostRuntime, case: Case<'_>) -> io::Result<()> {
         1 => show_lines(rt, a),
         2 => show_words(rt, a),
         3 => show_folded(rt, a),
-        4 => println!(rt; "{:?}", find_folded(a, b)),
-        5 => println!(rt; "{:?}", first_difference(a, b)),
+        4 => telling::one(rt, &find_folded(a, b)),
+        5 => telling::one(rt, &first_difference(a, b)),
         6 => show_hashes(rt, a, b.len()),
         7 => show_each_word(rt, a),
         8..=29 => plain::answer(rt, kernel, a, b),
@@ -131,11 +130,9 @@ fn answer_case(rt: &HostRuntime, case: Case<'_>) -> io::Result<()> {
     }
 }
 
-/// Answers standard input.
-pub fn answer(rt: &HostRuntime) -> io::Result<()> {
-    let mut bytes = Vec::new(rt.alloc());
-    rt.stdin().read_to_end(&mut bytes)?;
-    let mut rest = bytes.as_slice();
+/// Answers the cases in these bytes.
+fn answer_cases(rt: &HostRuntime, bytes: &[u8]) -> io::Result<()> {
+    let mut rest = bytes;
     for _ in 0..bytes.len() {
         let Some((case, behind)) = next_case(rest) else {
             break;
@@ -144,4 +141,10 @@ pub fn answer(rt: &HostRuntime) -> io::Result<()> {
         rest = behind;
     }
     Ok(())
+}
+
+/// Answers standard input.
+pub fn answer(rt: &HostRuntime) -> io::Result<()> {
+    let bytes = telling::all_bytes(rt)?;
+    answer_cases(rt, &bytes)
 }

@@ -19,6 +19,7 @@ mod scripts;
 mod spelling;
 mod stores;
 mod streaming;
+mod telling;
 
 use std::{env, io};
 

@@ -1,5 +1,8 @@
 //! The master: each line of standard input is an event, and is answered by a line that tells the reply, made twice, and all
 //! that can be looked at.
+ghost use Rattle.std.specs.Prelude.{◌<◌};
+
+use crate::telling;
 use mr_core::{Core, Event, Limits, Task};
 use std::io;
 
@@ -38,29 +41,42 @@ fn event_of(numbers: [u32; 6]) -> Event {
     }
 }
 
+fn show_split(rt: &HostRuntime, core: &Core, split: u32) -> io::Result<()>
+    requires split { split < core.now.shape.maps }
+{
+    let complete = core.complete(Task::Map(split));
+    print!(rt;
+        "|{complete} {:?} {:?}",
+        core.output(split),
+        core.set(split)
+    )
+}
+
+fn show_part(rt: &HostRuntime, core: &Core, part: u32) -> io::Result<()>
+    requires part { part < core.now.shape.parts }
+{
+    let complete = core.complete(Task::Reduce(part));
+    print!(rt; "|{complete} {:?}", core.committed(part))
+}
+
 /// Tells what can be looked at: the shape, the end, each split and each partition.
 fn show(rt: &HostRuntime, core: &Core) -> io::Result<()> {
     let shape = core.shape();
     print!(rt; "|{shape:?}|{:?}", core.end())?;
     for split in 0..shape.maps {
-        let complete = core.complete(Task::Map(split));
-        print!(rt;
-            "|{complete} {:?} {:?}",
-            core.output(split),
-            core.set(split)
-        )?;
+        show_split(rt, core, split)?;
     }
     for part in 0..shape.parts {
-        let complete = core.complete(Task::Reduce(part));
-        print!(rt; "|{complete} {:?}", core.committed(part))?;
+        show_part(rt, core, part)?;
     }
-    println!(rt; "")
+    rt.println("")
 }
 
 /// Gives the event to the master, and tells what it replies.
 fn hear(rt: &HostRuntime, core: &mut Core, event: Event) -> io::Result<()> {
     let (reply, again) = core.apply_twice(rt.alloc(), event)?;
-    print!(rt; "{reply:?}|{again:?}")?;
+    telling::part(rt, &reply)?;
+    telling::behind_bar(rt, &again)?;
     show(rt, core)
 }
 
@@ -76,11 +92,16 @@ fn answer_line(rt: &HostRuntime, master: &mut Option<Core>, numbers: [u32; 6]) -
     }
 }
 
+/// Answers each line.
+fn serve(rt: &HostRuntime, master: &mut Option<Core>) -> io::Result<()> {
+    for line in rt.lines(rt.alloc()) {
+        answer_line(rt, master, numbers_of(line?.as_str()))?;
+    }
+    Ok(())
+}
+
 /// Answers standard input.
 pub fn answer(rt: &HostRuntime) -> io::Result<()> {
     let mut master = None;
-    for line in rt.lines(rt.alloc()) {
-        answer_line(rt, &mut master, numbers_of(line?.as_str()))?;
-    }
-    Ok(())
+    serve(rt, &mut master)
 }

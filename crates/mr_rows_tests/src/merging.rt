@@ -2,6 +2,7 @@
 //! and place, and the file and offset that its value tells. A line tells each region's names, and how many pairs are in one
 //! with room for them; then come the groups, and all names, or the fault.
 use crate::regions::numbers_of;
+use crate::telling;
 use mr_bytes::{Name, Value};
 use mr_merge::{Groups, merge};
 use mr_spill::Pairs;
@@ -19,8 +20,8 @@ fn value(file: u32, offset: u32) -> Value {
     }
 }
 
-fn region(alloc: Global, numbers: &[u32]) -> Result<Pairs, AllocError> {
-    let mut pairs = Pairs::new(alloc);
+/// Pushes the pairs that the numbers tell.
+fn push_pairs(numbers: &[u32], pairs: &mut Pairs) -> Result<(), AllocError> {
     for pair in numbers.chunks(5) {
         if let [key, split, place, file, offset] = pair {
             let name = Name {
@@ -32,14 +33,21 @@ fn region(alloc: Global, numbers: &[u32]) -> Result<Pairs, AllocError> {
             pairs.push(&key, value(*file, *offset), name)?;
         }
     }
+    Ok(())
+}
+
+/// The region of a line.
+fn region(alloc: Global, line: &str) -> Result<Pairs, AllocError> {
+    let numbers = numbers_of(alloc, line)?;
+    let mut pairs = Pairs::new(alloc);
+    push_pairs(&numbers, &mut pairs)?;
     Ok(pairs)
 }
 
 fn regions(rt: &HostRuntime) -> io::Result<Vec<Pairs>> {
     let mut regions = Vec::new(rt.alloc());
     for line in rt.lines(rt.alloc()) {
-        let numbers = numbers_of(rt.alloc(), line?.as_str())?;
-        regions.push(region(rt.alloc(), &numbers)?)?;
+        regions.push(region(rt.alloc(), line?.as_str())?)?;
     }
     Ok(regions)
 }
@@ -66,15 +74,20 @@ fn show_group(rt: &HostRuntime, groups: &Groups, g: usize) -> io::Result<()> {
     for i in 0..groups.count(g) {
         print!(rt; " {:?}", groups.value(g, i))?;
     }
-    print!(rt; "|")
+    rt.print("|")
+}
+
+fn show_each_group(rt: &HostRuntime, groups: &Groups) -> io::Result<()> {
+    print!(rt; "{} ", groups.len())?;
+    for g in 0..groups.len() {
+        show_group(rt, groups, g)?;
+    }
+    Ok(())
 }
 
 fn show_groups(rt: &HostRuntime, groups: Groups) -> io::Result<()> {
-    print!(rt; "{} ", groups.len())?;
-    for g in 0..groups.len() {
-        show_group(rt, &groups, g)?;
-    }
-    println!(rt; "{:?}", groups.into_names())
+    show_each_group(rt, &groups)?;
+    telling::one(rt, &groups.into_names())
 }
 
 fn show(rt: &HostRuntime, regions: &[Pairs]) -> io::Result<()> {
@@ -84,7 +97,7 @@ fn show(rt: &HostRuntime, regions: &[Pairs]) -> io::Result<()> {
     let lent = lent(rt.alloc(), regions)?;
     match merge(rt.alloc(), &lent) {
         Ok(groups) => show_groups(rt, groups),
-        Err(fault) => println!(rt; "{fault} {fault:?}"),
+        Err(fault) => telling::fault(rt, &fault),
     }
 }
 

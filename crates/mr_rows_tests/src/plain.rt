@@ -1,5 +1,6 @@
 //! More kernels, of a case's two texts: words one by one, bytes, orders, hashes, records and columns, of the crates at the
 //! ground.
+use crate::telling;
 use mr_bytes::{
     Name, Pair, RecordName, Value, Values, compare_keys, compare_names, compare_pairs,
     compare_records, cut, fold_in_place, folded, is_word_byte, next_word,
@@ -17,7 +18,7 @@ fn show_next_word(rt: &HostRuntime, bytes: &[u8], from: usize) -> io::Result<()>
     if LONGEST < bytes.len() {
         return Ok(());
     }
-    println!(rt; "{:?}", next_word(bytes, from.min(bytes.len())))
+    telling::one(rt, &next_word(bytes, from.min(bytes.len())))
 }
 
 /// Whether each byte stands in words.
@@ -25,7 +26,7 @@ fn show_classes(rt: &HostRuntime, bytes: &[u8]) -> io::Result<()> {
     for byte in bytes {
         print!(rt; "{} ", is_word_byte(*byte))?;
     }
-    println!(rt; "")
+    rt.println("")
 }
 
 /// The bytes folded, as a copy and where they stand.
@@ -33,20 +34,25 @@ fn show_folded(rt: &HostRuntime, bytes: &[u8]) -> io::Result<()> {
     let copy = folded(rt.alloc(), bytes)?;
     let mut here = Vec::from_slice(rt.alloc(), bytes)?;
     fold_in_place(&mut here);
-    println!(rt; "{copy:?} {here:?}")
+    telling::two(rt, &copy, &here)
 }
 
-/// The records of a file, each by its start and its bytes.
+/// How many records there are, and each by its start and its bytes.
+fn show_each_record(rt: &HostRuntime, records: &Records<'_>) -> io::Result<()> {
+    rt.print(records.count())?;
+    for i in 0..records.count() {
+        print!(rt; "|{} {:?}", records.start(i), records.record(i))?;
+    }
+    rt.println("")
+}
+
+/// The records of a file.
 fn show_records(rt: &HostRuntime, file: &[u8]) -> io::Result<()> {
     if LONGEST < file.len() {
         return Ok(());
     }
     let records = Records::of(rt.alloc(), file)?;
-    print!(rt; "{}", records.count())?;
-    for i in 0..records.count() {
-        print!(rt; "|{} {:?}", records.start(i), records.record(i))?;
-    }
-    println!(rt; "")
+    show_each_record(rt, &records)
 }
 
 /// The name that three bytes tell.
@@ -106,7 +112,7 @@ fn pair(alloc: Global, bytes: &[u8]) -> Result<Pair, AllocError> {
 fn show_pairs(rt: &HostRuntime, a: &[u8], b: &[u8]) -> io::Result<()> {
     let first = pair(rt.alloc(), a)?;
     let second = pair(rt.alloc(), b)?;
-    println!(rt; "{:?} {first:?}", compare_pairs(&first, &second))
+    telling::two(rt, &compare_pairs(&first, &second), &first)
 }
 
 /// A column of values with and without a place, some in another file or past its first 4 GiB.
@@ -132,7 +138,7 @@ fn show_column(rt: &HostRuntime, column: &Values) -> io::Result<()> {
     for i in 0..column.len() {
         print!(rt; "{:?}|", column.get(i))?;
     }
-    println!(rt; "{}", column.len())
+    rt.println(column.len())
 }
 
 /// The column's first values, so many.
@@ -149,9 +155,9 @@ pub fn answer(rt: &HostRuntime, kernel: u8, a: &[u8], b: &[u8]) -> io::Result<()
         8 => show_next_word(rt, a, b.len()),
         9 => show_classes(rt, a),
         10 => show_folded(rt, a),
-        11 => println!(rt; "{:?}", cut(a, b':')),
-        12 => println!(rt; "{:?}", compare_keys(a, b)),
-        13 => println!(rt; "{} {}", fnv(a), partition(a, parts)),
+        11 => telling::one(rt, &cut(a, b':')),
+        12 => telling::one(rt, &compare_keys(a, b)),
+        13 => telling::two(rt, &fnv(a), &partition(a, parts)),
         14 => show_records(rt, a),
         15 => show_orders(rt, a, b),
         16 => show_pairs(rt, a, b),

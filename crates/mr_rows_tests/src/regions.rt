@@ -2,8 +2,10 @@
 //! bytes, all as decimal numbers. A line answers it: the fault, or whether the pairs that were read are spelled so again
 //! and a walk over the bytes gives the same ones, and their keys, values and names.
 ghost use Rattle.std.specs.Prelude.{◌<◌, length};
+ghost use Rattle.mr_spill.specs.Spelling.{SpellsRegion};
 
-use mr_spill::{Pairs, RegionPair, open_region, read_region, write_region};
+use crate::telling;
+use mr_spill::{Pairs, RegionFault, RegionPair, open_region, read_region, write_region};
 use std::alloc::{AllocError, Global};
 use std::io;
 
@@ -35,7 +37,7 @@ pub fn show_pairs(rt: &HostRuntime, pairs: &Pairs) -> io::Result<()> {
             pairs.name(i)
         )?;
     }
-    println!(rt; "")
+    rt.println("")
 }
 
 /// Whether a pair of a walk is pair `i`.
@@ -74,17 +76,42 @@ fn walks_on(bytes: &[u8], split: u32, partition: u32) -> bool {
     walk.is_at_end()
 }
 
-/// Tells what the bytes spell, and where a walk over them tells something else.
+/// Tells the fault of bytes that spell no region, and where a walk over them tells something else.
+fn show_fault(
+    rt: &HostRuntime,
+    bytes: &[u8],
+    split: u32,
+    partition: u32,
+    fault: RegionFault,
+) -> io::Result<()> {
+    if walks_on(bytes, split, partition) {
+        rt.println("walked to its end")
+    } else {
+        telling::one(rt, &fault)
+    }
+}
+
+/// Tells the pairs that the bytes spell, and where they are spelled or walked over otherwise.
+fn show_read(
+    rt: &HostRuntime,
+    bytes: &[u8],
+    split: u32,
+    partition: u32,
+    pairs: &Pairs,
+) -> io::Result<()>
+    requires read { SpellsRegion bytes.now split partition pairs.now }
+{
+    let again = write_region(rt.alloc(), pairs, split, partition)?;
+    let same = walks_as(bytes, split, partition, pairs);
+    rt.print(same && again.as_slice() == bytes)?;
+    show_pairs(rt, pairs)
+}
+
+/// Tells what the bytes spell.
 fn show(rt: &HostRuntime, bytes: &[u8], split: u32, partition: u32) -> io::Result<()> {
     match read_region(rt.alloc(), bytes, split, partition) {
-        Err(_) if walks_on(bytes, split, partition) => println!(rt; "walked to its end"),
-        Err(fault) => println!(rt; "{:?}", fault),
-        Ok(pairs) => {
-            let again = write_region(rt.alloc(), &pairs, split, partition)?;
-            let same = walks_as(bytes, split, partition, &pairs);
-            print!(rt; "{}", same && again.as_slice() == bytes)?;
-            show_pairs(rt, &pairs)
-        }
+        Ok(pairs) => show_read(rt, bytes, split, partition, &pairs),
+        Err(fault) => show_fault(rt, bytes, split, partition, fault),
     }
 }
 
@@ -95,7 +122,7 @@ fn answer_line(rt: &HostRuntime, line: &str) -> io::Result<()> {
             let bytes = bytes_of(rt.alloc(), rest)?;
             show(rt, bytes.as_slice(), *split, *partition)
         }
-        _ => println!(rt; "no numbers"),
+        _ => rt.println("no numbers"),
     }
 }
 

@@ -10,6 +10,8 @@ ghost use Rattle.mr_input.specs.Files.{split_total};
 
 use crate::inputs::{input, numbers_of};
 use crate::regions::numbers_of as numbers_in;
+use crate::telling;
+use mr_input::Input;
 use mr_jobs::Job;
 use mr_spill::Region;
 use mr_splits::Plan;
@@ -96,7 +98,7 @@ fn show_regions(rt: &HostRuntime, output: &MapOutput) -> io::Result<()> {
             print!(rt; "{:?};", output.region(partition, run).bytes())?;
         }
     }
-    println!(rt; "")
+    rt.println("")
 }
 
 /// Tells the groups one by one.
@@ -126,8 +128,8 @@ fn show_output(rt: &HostRuntime, reduced: ReduceOutput) -> io::Result<()> {
 
 fn show_fault(rt: &HostRuntime, job: &Job, regions: &[Region<'_>]) -> io::Result<()> {
     match reduce_task(rt.alloc(), job, 0, regions) {
-        Ok(_) => println!(rt; "no fault"),
-        Err(fault) => println!(rt; "{fault} {fault:?}"),
+        Ok(_) => rt.println("no fault"),
+        Err(fault) => telling::fault(rt, &fault),
     }
 }
 
@@ -152,8 +154,28 @@ fn show_reduced(
     let regions = regions_of(rt.alloc(), outputs, partition)?;
     match reduce_task(rt.alloc(), job, partition, regions.as_slice()) {
         Ok(reduced) => show_output(rt, reduced),
-        Err(fault) => println!(rt; "{:?}", fault),
+        Err(fault) => telling::one(rt, &fault),
     }
+}
+
+/// Tells what the map tasks gave, and what comes of it.
+fn show_tasks(
+    rt: &HostRuntime,
+    job: &Job,
+    numbers: [u32; 4],
+    outputs: &[MapOutput],
+) -> io::Result<()> {
+    let [_, parts, _, limit] = numbers;
+    for output in outputs {
+        show_regions(rt, output)?;
+        if limit < 1 {
+            show_damaged(rt, job, output)?;
+        }
+    }
+    for partition in 0..parts {
+        show_reduced(rt, job, outputs, partition)?;
+    }
+    Ok(())
 }
 
 fn work(
@@ -165,31 +187,45 @@ fn work(
 ) -> io::Result<()> {
     let [_, parts, _, limit] = numbers;
     let outputs = mapped(rt.alloc(), plan, job, parts, limit as usize, skips)?;
-    for output in &outputs {
-        show_regions(rt, output)?;
-        if limit < 1 {
-            show_damaged(rt, job, output)?;
-        }
+    show_tasks(rt, job, numbers, &outputs)
+}
+
+/// The input of standard input, and the job of that number, where there are these.
+pub fn asked(rt: &HostRuntime, number: u32) -> io::Result<Option<(Input, Job)>> {
+    let Some(input) = input(rt)? else {
+        return Ok(None);
+    };
+    match job_of(rt.alloc(), number) {
+        Some(job) => Ok(Some((input, job))),
+        None => Ok(None),
     }
-    for partition in 0..parts {
-        show_reduced(rt, job, outputs.as_slice(), partition)?;
+}
+
+/// Answers an input and a job, where these records are left out.
+fn answer_asked(
+    rt: &HostRuntime,
+    input: &Input,
+    job: &Job,
+    numbers: [u32; 4],
+    skips: &[u32],
+) -> io::Result<()> {
+    let [_, _, size, _] = numbers;
+    match Plan::of(rt.alloc(), input, size) {
+        Ok(plan) => work(rt, &plan, job, numbers, skips),
+        Err(_) => Ok(()),
     }
-    Ok(())
+}
+
+/// Answers standard input, where these records are left out.
+fn answer_skips(rt: &HostRuntime, numbers: [u32; 4], skips: &[u32]) -> io::Result<()> {
+    match asked(rt, numbers[0])? {
+        Some((input, job)) => answer_asked(rt, &input, &job, numbers, skips),
+        None => Ok(()),
+    }
 }
 
 /// Answers standard input, by these words.
 pub fn answer(rt: &HostRuntime, words: &[String]) -> io::Result<()> {
-    let numbers = numbers_of(words);
-    let [number, _, size, _] = numbers;
     let skips = skips_of(rt.alloc(), words)?;
-    let Some(input) = input(rt)? else {
-        return Ok(());
-    };
-    let Some(job) = job_of(rt.alloc(), number) else {
-        return Ok(());
-    };
-    match Plan::of(rt.alloc(), &input, size) {
-        Ok(plan) => work(rt, &plan, &job, numbers, &skips),
-        Err(_) => Ok(()),
-    }
+    answer_skips(rt, numbers_of(words), &skips)
 }

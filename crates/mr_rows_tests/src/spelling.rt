@@ -1,13 +1,14 @@
 //! A certificate of one group of names, spelled onto a writer. The words behind the first are how many names there are, how
 //! many bytes the writer takes a call, and which call of it fails (0 for none). Standard input is what should be written.
+use crate::certificates::begun;
 use crate::inputs::numbers_of;
 use crate::stores::writer;
+use crate::telling;
 use mr_bytes::Name;
-use mr_certform::{Builder, Certificate, Header};
+use mr_certform::Certificate;
 use mr_store::{CountedWrite, MemoryWriter, write_spelled};
 use std::alloc::{AllocError, Global};
 use std::io;
-use std::io::Read;
 
 fn names(alloc: Global, count: u32) -> Result<Vec<Name>, AllocError> {
     let mut names = Vec::new(alloc);
@@ -26,15 +27,7 @@ fn certificate(alloc: Global, names: &[Name]) -> Result<Option<Certificate>, All
     if names.is_empty() || names.len() > 1_000_000 {
         return Ok(None);
     }
-    let header = Header {
-        job: 1,
-        flags: 0,
-        literal: Vec::new(alloc),
-        split_size: 64,
-        lengths: Vec::new(alloc),
-        skips: Vec::new(alloc),
-    };
-    let mut builder = Builder::begin(alloc, header);
+    let mut builder = begun(alloc, Vec::new(alloc));
     builder.push_group(names)?;
     builder.end_partition()?;
     Ok(Some(builder.finish()))
@@ -47,24 +40,28 @@ fn show(
     bytes: &[u8],
     mut writer: MemoryWriter,
 ) -> io::Result<()> {
-    print!(rt; "{:?}", write_spelled(&mut writer, certificate))?;
-    println!(rt;
-        " {} {} {} {}",
-        writer.bytes().len(),
-        bytes.starts_with(writer.bytes()),
-        writer.handed_on().len(),
-        writer.failures()
+    telling::part(rt, &write_spelled(&mut writer, certificate))?;
+    telling::four(
+        rt,
+        &writer.bytes().len(),
+        &bytes.starts_with(writer.bytes()),
+        &writer.handed_on().len(),
+        &writer.failures(),
     )
+}
+
+/// Answers these bytes, where so many names are spelled.
+fn answer_bytes(rt: &HostRuntime, bytes: &[u8], numbers: [u32; 4]) -> io::Result<()> {
+    let [count, most, failing, _] = numbers;
+    let names = names(rt.alloc(), count)?;
+    match certificate(rt.alloc(), &names)? {
+        Some(certificate) => show(rt, &certificate, bytes, writer(rt.alloc(), most, failing)),
+        None => Ok(()),
+    }
 }
 
 /// Answers standard input, by these words.
 pub fn answer(rt: &HostRuntime, words: &[String]) -> io::Result<()> {
-    let [count, most, failing, _] = numbers_of(words);
-    let mut bytes = Vec::new(rt.alloc());
-    rt.stdin().read_to_end(&mut bytes)?;
-    let names = names(rt.alloc(), count)?;
-    match certificate(rt.alloc(), &names)? {
-        Some(certificate) => show(rt, &certificate, &bytes, writer(rt.alloc(), most, failing)),
-        None => Ok(()),
-    }
+    let bytes = telling::all_bytes(rt)?;
+    answer_bytes(rt, &bytes, numbers_of(words))
 }

@@ -1,6 +1,7 @@
 //! Stores in memory. A line of standard input has what is asked, how many bytes a call moves at most, which call fails (0
 //! for none), and a limit or the number of a writer. It is answered by a line, and one for each writer.
 use crate::master::numbers_of;
+use crate::telling;
 use mr_store::{
     Bytes, CountedRead, CountedWrite, MemoryReader, MemoryWriter, read_all, read_limited,
     write_all, write_result, write_spelled,
@@ -27,25 +28,23 @@ pub fn writer(alloc: Global, most: u32, failing: u32) -> MemoryWriter {
 }
 
 fn show_reader(rt: &HostRuntime, reader: &MemoryReader, out: &[u8]) -> io::Result<()> {
-    println!(rt;
-        " {out:?} {:?} {} {}",
-        reader.rest(),
-        reader.failures(),
-        reader.lacked_memory()
+    telling::four(
+        rt,
+        &out,
+        &reader.rest(),
+        &reader.failures(),
+        &reader.lacked_memory(),
     )
 }
 
-/// Reads to the end, behind an `x`.
-fn show_read(rt: &HostRuntime, mut reader: MemoryReader) -> io::Result<()> {
+/// Reads to the end, of which no more bytes may be left than the limit, where there is one, behind an `x`.
+fn show_read(rt: &HostRuntime, mut reader: MemoryReader, limit: Option<u64>) -> io::Result<()> {
     let mut out = Vec::from_slice(rt.alloc(), b"x")?;
-    print!(rt; "{:?}", read_all(&mut reader, &mut out))?;
-    show_reader(rt, &reader, &out)
-}
-
-/// Reads to the end, of which no more bytes may be left than the limit, behind an `x`.
-fn show_limited(rt: &HostRuntime, mut reader: MemoryReader, limit: u64) -> io::Result<()> {
-    let mut out = Vec::from_slice(rt.alloc(), b"x")?;
-    print!(rt; "{:?}", read_limited(&mut reader, &mut out, limit))?;
+    let told = match limit {
+        Some(limit) => telling::part(rt, &read_limited(&mut reader, &mut out, limit)),
+        None => telling::part(rt, &read_all(&mut reader, &mut out)),
+    };
+    told?;
     show_reader(rt, &reader, &out)
 }
 
@@ -62,16 +61,16 @@ fn first_write<W: CountedWrite>(writer: &mut W) -> (usize, bool) {
 }
 
 fn show_first_eight(rt: &HostRuntime, mut reader: MemoryReader) -> io::Result<()> {
-    println!(rt; "{}", first_eight(&mut reader))
+    rt.println(first_eight(&mut reader))
 }
 
 fn show_writer(rt: &HostRuntime, writer: &MemoryWriter) -> io::Result<()> {
-    println!(rt;
-        " {:?} {:?} {} {}",
-        writer.bytes(),
-        writer.handed_on(),
-        writer.failures(),
-        writer.lacked_memory()
+    telling::four(
+        rt,
+        &writer.bytes(),
+        &writer.handed_on(),
+        &writer.failures(),
+        &writer.lacked_memory(),
     )
 }
 
@@ -82,12 +81,12 @@ fn show_written(rt: &HostRuntime, mut writer: MemoryWriter, alone: bool) -> io::
     } else {
         write_spelled(&mut writer, &Bytes(&TEXT))
     };
-    print!(rt; "{answer:?}")?;
+    telling::part(rt, &answer)?;
     show_writer(rt, &writer)
 }
 
 fn show_first_write(rt: &HostRuntime, mut writer: MemoryWriter) -> io::Result<()> {
-    println!(rt; "{:?}", first_write(&mut writer))?;
+    telling::one(rt, &first_write(&mut writer))?;
     show_writer(rt, &writer)
 }
 
@@ -124,7 +123,7 @@ fn show_result(
     if writers.len() != outputs.len() {
         return Ok(());
     }
-    println!(rt; "{:?}", write_result(writers, last, outputs, b"ef"))?;
+    telling::one(rt, &write_result(writers, last, outputs, b"ef"))?;
     for writer in writers {
         show_writer(rt, writer)?;
     }
@@ -151,8 +150,12 @@ fn limit_of(number: u32) -> u64 {
 fn answer_line(rt: &HostRuntime, numbers: [u32; 6]) -> io::Result<()> {
     let [way, most, failing, limit, ..] = numbers;
     match way {
-        0 => show_read(rt, reader(rt.alloc(), most, failing)?),
-        1 => show_limited(rt, reader(rt.alloc(), most, failing)?, limit_of(limit)),
+        0 => show_read(rt, reader(rt.alloc(), most, failing)?, None),
+        1 => show_read(
+            rt,
+            reader(rt.alloc(), most, failing)?,
+            Some(limit_of(limit)),
+        ),
         2 | 3 => show_written(rt, writer(rt.alloc(), most, failing), way == 2),
         4 => show_first_write(rt, writer(rt.alloc(), most, failing)),
         5 => show_first_eight(rt, reader(rt.alloc(), most, failing)?),

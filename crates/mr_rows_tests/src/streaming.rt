@@ -1,4 +1,5 @@
 //! Walks over readers: what is told of bytes that come a few at a call, and of a call that fails.
+use crate::telling;
 use mr_certform::{Item, StreamFault, StreamWalker};
 use mr_store::{CountedRead, MemoryReader};
 use std::io;
@@ -18,7 +19,7 @@ fn step<R: CountedRead + Drop>(
     match walker.next() {
         Ok(item) => {
             if number < FEW || item == Item::End {
-                println!(rt; "{item:?}")?;
+                telling::one(rt, &item)?;
             }
             Ok(item != Item::End)
         }
@@ -27,10 +28,21 @@ fn step<R: CountedRead + Drop>(
             Ok(false)
         }
         Err(fault) => {
-            println!(rt; "{fault}")?;
+            rt.println(fault)?;
             Ok(false)
         }
     }
+}
+
+/// Tells the items, and twice what ends them.
+fn steps<R: CountedRead + Drop>(rt: &HostRuntime, walker: &mut StreamWalker<R>) -> io::Result<()> {
+    for number in 0..u64::MAX {
+        if !step(rt, walker, number)? {
+            break;
+        }
+    }
+    step(rt, walker, 0)?;
+    Ok(())
 }
 
 /// Tells the items, twice what ends them, and then the place behind them and how many calls failed. The reader gives at
@@ -39,12 +51,7 @@ pub fn walk(rt: &HostRuntime, bytes: Vec<u8>, most: usize, failing: Option<u64>)
     let failing = failing.filter(|call| *call >= 1);
     let reader = MemoryReader::new(bytes, most.max(1), failing);
     let mut walker = StreamWalker::new(rt.alloc(), reader)?;
-    for number in 0..u64::MAX {
-        if !step(rt, &mut walker, number)? {
-            break;
-        }
-    }
-    step(rt, &mut walker, 0)?;
+    steps(rt, &mut walker)?;
     println!(rt;
         "at {}, failed {}",
         walker.place(),

@@ -1,6 +1,6 @@
 use Rattle.std.proofs.Common.{◌≡◌, ℕ, ◌≤◌, ◌<◌, [], length, slice_index_or}
 use Rattle.mr_index.specs.Index.{triples_in, triples_of}
-use Rattle.mr_rows_tests.proofs.index.joined.Given as goal
+use Rattle.mr_rows_tests.proofs.index.parts_of.Given as goal
 
 abbrev pub invariant-loop-split : goal.invariant-loop-split
 invariant-loop-split l = record {
