@@ -37,55 +37,61 @@ fn cut(text: &[u8], length: u32) -> (&[u8], &[u8]) {
     text.split_at(text.len().min(length as usize))
 }
 
-/// The script and the files, by their lengths.
-fn texts_of(
-    alloc: Global,
-    words: &[String],
-    text: &[u8],
-) -> Result<Option<(Script, Input)>, AllocError> {
-    let (script, mut rest) = cut(text, number_at(words, 0));
-    let Ok(script) = Script::read(alloc, script) else {
-        return Ok(None);
-    };
+/// The files, by their lengths, of which the first word's is the script's.
+fn files_of(alloc: Global, words: &[String], text: &[u8]) -> Result<Vec<Vec<u8>>, AllocError> {
     let mut files = Vec::new(alloc);
+    let mut rest = text;
     for place in 1..words.len() {
         let (file, behind) = cut(rest, number_at(words, place));
         files.push(Vec::from_slice(alloc, file)?)?;
         rest = behind;
     }
-    let Ok(input) = Input::of(files) else {
-        return Ok(None);
-    };
-    Ok(Some((script, input)))
+    Ok(files)
 }
 
-/// The run that the words ask for, if they ask for one.
-pub fn order_of(alloc: Global, words: &[String], text: &[u8]) -> Result<Option<Order>, AllocError> {
-    let Some(name) = words.first() else {
+/// The script and the input, by the lengths of the script and of each file.
+fn texts_of(
+    alloc: Global,
+    words: &[String],
+    text: &[u8],
+) -> Result<Option<(Script, Input)>, AllocError> {
+    let (script, behind) = cut(text, number_at(words, 0));
+    let Ok(input) = Input::of(files_of(alloc, words, behind)?) else {
         return Ok(None);
     };
-    let Some(job) = job_of(alloc, name.as_str()) else {
-        return Ok(None);
-    };
+    match Script::read(alloc, script) {
+        Ok(script) => Ok(Some((script, input))),
+        Err(_) => Ok(None),
+    }
+}
+
+/// The request that the words tell, if they tell one.
+fn request_of(alloc: Global, words: &[String]) -> Option<Request> {
+    let job = job_of(alloc, words.first()?.as_str())?;
     let (parts, split, skips) = (
         number_at(words, 1),
         number_at(words, 2),
         number_at(words, 3),
     );
-    let Ok(request) = Request::new(job, parts, split, skips) else {
-        return Ok(None);
-    };
+    Request::new(job, parts, split, skips).ok()
+}
+
+/// The run that the words ask for, if they ask for one.
+pub fn order_of(alloc: Global, words: &[String], text: &[u8]) -> Result<Option<Order>, AllocError> {
     let Some(lengths) = words.get(6..) else {
         return Ok(None);
     };
     let Some((script, input)) = texts_of(alloc, lengths, text)? else {
         return Ok(None);
     };
-    Ok(Some(Order {
-        request,
-        input,
-        script,
-        workers: number_at(words, 4),
-        attempts: number_at(words, 5),
-    }))
+    match request_of(alloc, words) {
+        Some(request) => Ok(Some(Order {
+            request,
+            input,
+            script,
+            workers: number_at(words, 4),
+            attempts: number_at(words, 5),
+        })),
+        None => Ok(None),
+    }
 }

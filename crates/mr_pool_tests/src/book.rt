@@ -120,12 +120,8 @@ fn serve<L: Ledger>(rt: &HostRuntime, book: &mut Book<L>, seats: &mut [Seat<L>])
     Ok(())
 }
 
-/// Tells a history.
-fn show_history(rt: &HostRuntime, history: &History) -> io::Result<()> {
-    print!(rt; "{:?}", history.shape)?;
-    for entry in &history.entries {
-        print!(rt; "|{:?} {:?}", entry.event(), entry.reply())?;
-    }
+/// Tells the outputs that a history stores.
+fn show_stored(rt: &HostRuntime, history: &History) -> io::Result<()> {
     for stored in &history.maps {
         print!(rt; "|{} ", stored.number())?;
         outputs::show_map(rt, stored.output())?;
@@ -133,7 +129,16 @@ fn show_history(rt: &HostRuntime, history: &History) -> io::Result<()> {
     for stored in &history.reduces {
         print!(rt; "|{} {:?}", stored.number(), stored.output().text())?;
     }
-    println!(rt; "")
+    rt.println("")
+}
+
+/// Tells a history.
+fn show_history(rt: &HostRuntime, history: &History) -> io::Result<()> {
+    print!(rt; "{:?}", history.shape)?;
+    for entry in &history.entries {
+        print!(rt; "|{:?} {:?}", entry.event(), entry.reply())?;
+    }
+    show_stored(rt, history)
 }
 
 /// Opens a book of these sizes, where they are within the limits of a small job, and closes it at the end of the lines.

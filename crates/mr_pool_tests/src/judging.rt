@@ -1,10 +1,12 @@
 //! Numbers that seats draw, and a result that several threads judge.
+ghost use Rattle.mr_tickets.specs.Views.{IsSeatOf};
+
 use crate::asked::Order;
 use crate::onlookers::Holding;
 use mr_bytes::Gate;
 use mr_check::{No, Yes, check_gated};
 use mr_pool::Certified;
-use mr_tickets::Tickets;
+use mr_tickets::{TicketSeat, Tickets};
 use std::alloc::Global;
 use std::io;
 use std::thread::Threads;
@@ -85,23 +87,44 @@ pub fn show(
     match verdict {
         Some(Ok(yes)) => println!(rt; "yes {} {}", yes.pairs, yes.skips.len())?,
         Some(Err(no)) => println!(rt; "no {no}")?,
-        None => println!(rt; "out of limits")?,
+        None => rt.println("out of limits")?,
     }
     println!(rt; "gate {}, {}", gate.mapping.says(), gate.judging.says())
+}
+
+/// Tells what a seat draws.
+fn show_draw(rt: &HostRuntime, tickets: &Tickets, seat: &mut TicketSeat) -> io::Result<()>
+    requires before { IsSeatOf tickets.now seat.old }
+    ensures behind { IsSeatOf tickets.now seat.new }
+{
+    println!(rt; "drawn {:?}", tickets.draw(seat))
+}
+
+/// Tells what a seat draws five times, and what the other draws behind it.
+fn show_six_draws(
+    rt: &HostRuntime,
+    tickets: &Tickets,
+    alone: &mut TicketSeat,
+    other: &mut TicketSeat,
+) -> io::Result<()>
+    requires alone { IsSeatOf tickets.now alone.old }
+    requires other { IsSeatOf tickets.now other.old }
+{
+    show_draw(rt, tickets, alone)?;
+    show_draw(rt, tickets, alone)?;
+    show_draw(rt, tickets, alone)?;
+    show_draw(rt, tickets, alone)?;
+    show_draw(rt, tickets, alone)?;
+    show_draw(rt, tickets, other)
 }
 
 /// Tells what one of two seats draws of three numbers, alone, and what the other draws behind it.
 pub fn show_draws(rt: &HostRuntime, alloc: Global) -> io::Result<()> {
     let Ok((tickets, mut seats)) = Tickets::open(alloc, 3, 2) else {
-        return println!(rt; "out of memory");
+        return rt.println("out of memory");
     };
     let (Some(mut other), Some(mut alone)) = (seats.pop(), seats.pop()) else {
-        return println!(rt; "no seats");
+        return rt.println("no seats");
     };
-    println!(rt; "drawn {:?}", tickets.draw(&mut alone))?;
-    println!(rt; "drawn {:?}", tickets.draw(&mut alone))?;
-    println!(rt; "drawn {:?}", tickets.draw(&mut alone))?;
-    println!(rt; "drawn {:?}", tickets.draw(&mut alone))?;
-    println!(rt; "drawn {:?}", tickets.draw(&mut alone))?;
-    println!(rt; "drawn {:?}", tickets.draw(&mut other))
+    show_six_draws(rt, &tickets, &mut alone, &mut other)
 }

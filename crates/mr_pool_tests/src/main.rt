@@ -54,6 +54,19 @@ fn done<G: Gate, R: Threads + Wait + Sync>(
 
 // Each mode has a function of its own: what a function holds at once is what its proof costs.
 
+/// Runs the job, and tells what it answers, with its events where they are asked for.
+fn told<G: Gate, R: Threads + Wait + Sync>(
+    threads: &R,
+    rt: &HostRuntime,
+    alloc: Global,
+    order: &Order,
+    gate: &G,
+    watch: Option<&Tally>,
+    has_events: bool,
+) -> io::Result<()> {
+    telling::answer(rt, &done(threads, alloc, order, gate, watch), has_events)
+}
+
 /// A run whose first attempt is held, and whether a second one went on meanwhile.
 fn held<R: Threads + Wait + Sync>(
     threads: &R,
@@ -62,7 +75,7 @@ fn held<R: Threads + Wait + Sync>(
     order: &Order,
 ) -> io::Result<()> {
     let gate = Holding::new();
-    telling::answer(rt, &done(threads, alloc, order, &gate, None), false)?;
+    told(threads, rt, alloc, order, &gate, None, false)?;
     println!(rt; "gate {}", gate.says())
 }
 
@@ -74,11 +87,7 @@ fn watched<R: Threads + Wait + Sync>(
     order: &Order,
 ) -> io::Result<()> {
     let watch = Tally::new();
-    telling::answer(
-        rt,
-        &done(threads, alloc, order, &OpenGate, Some(&watch)),
-        false,
-    )?;
+    told(threads, rt, alloc, order, &OpenGate, Some(&watch), false)?;
     watch.show(rt)
 }
 
@@ -95,23 +104,8 @@ fn judged<R: Threads + Wait + Sync>(
             let verdict = judging::judged(threads, alloc, order, &certified, &gate);
             judging::show(rt, &verdict, &gate)
         }
-        _ => println!(rt; "nothing to judge"),
+        _ => rt.println("nothing to judge"),
     }
-}
-
-/// A run, with its events where they are asked for.
-fn ran<R: Threads + Wait + Sync>(
-    threads: &R,
-    rt: &HostRuntime,
-    alloc: Global,
-    order: &Order,
-    has_events: bool,
-) -> io::Result<()> {
-    telling::answer(
-        rt,
-        &done(threads, alloc, order, &OpenGate, None),
-        has_events,
-    )
 }
 
 /// Answers an order in a mode.
@@ -127,7 +121,7 @@ fn answer<R: Threads + Wait + Sync>(
         "watch" => watched(threads, rt, alloc, order),
         "judge" => judged(threads, rt, alloc, order),
         "tickets" => judging::show_draws(rt, alloc),
-        _ => ran(threads, rt, alloc, order, mode == "history"),
+        _ => told(threads, rt, alloc, order, &OpenGate, None, mode == "history"),
     }
 }
 
@@ -143,7 +137,7 @@ fn ordered<R: Threads + Wait + Sync>(
     rt.stdin().read_to_end(&mut text)?;
     match asked::order_of(alloc, words, text.as_slice())? {
         Some(order) => answer(threads, rt, alloc, mode, &order),
-        None => println!(rt; "refused"),
+        None => rt.println("refused"),
     }
 }
 

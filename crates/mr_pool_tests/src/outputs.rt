@@ -7,12 +7,17 @@ use mr_task::{MapOutput, ReduceOutput, map_task, reduce_task};
 use std::alloc::Global;
 use std::io;
 
-/// What the map task gives for the one word that is `w` with the number.
-pub fn map_output(alloc: Global, number: u32) -> Option<MapOutput> {
+/// The input of the one word that is `w` with the number.
+fn input_of(alloc: Global, number: u32) -> Option<Input> {
     let text = format!(in alloc; "w{number}\n").ok()?;
     let mut files = Vec::new(alloc);
     files.push(text.into_bytes()).ok()?;
-    let input = Input::of(files).ok()?;
+    Input::of(files).ok()
+}
+
+/// What the map task gives for that word.
+pub fn map_output(alloc: Global, number: u32) -> Option<MapOutput> {
+    let input = input_of(alloc, number)?;
     let plan = Plan::of(alloc, &input, 64).ok()?;
     if plan.splits() == 0 {
         return None;
@@ -20,9 +25,8 @@ pub fn map_output(alloc: Global, number: u32) -> Option<MapOutput> {
     map_task(alloc, &plan, &Job::words(false), 1, 0, &[]).ok()
 }
 
-/// What the reduce task makes of it.
-pub fn reduce_output(alloc: Global, number: u32) -> Option<ReduceOutput> {
-    let output = map_output(alloc, number)?;
+/// What the reduce task makes of an output.
+fn reduced(alloc: Global, output: &MapOutput) -> Option<ReduceOutput> {
     if output.parts() == 0 {
         return None;
     }
@@ -31,6 +35,11 @@ pub fn reduce_output(alloc: Global, number: u32) -> Option<ReduceOutput> {
         regions.push(output.region(0, run)).ok()?;
     }
     reduce_task(alloc, &Job::words(false), 0, regions.as_slice()).ok()
+}
+
+/// What the reduce task makes of it.
+pub fn reduce_output(alloc: Global, number: u32) -> Option<ReduceOutput> {
+    reduced(alloc, &map_output(alloc, number)?)
 }
 
 /// The first pair of a region of partition 0.

@@ -1,15 +1,22 @@
 //! What a run answers, line by line.
 use mr_book::History;
 use mr_pool::{Certified, RunFault};
+use std::alloc::AllocError;
 use std::fmt::Write;
 use std::io;
 
-/// A line of bytes, each as two digits.
-fn show_bytes(rt: &HostRuntime, what: &str, bytes: &[u8]) -> io::Result<()> {
-    let mut line = String::new(rt.alloc());
+/// Adds bytes to a line, each as two digits.
+fn add_bytes(line: &mut String, bytes: &[u8]) -> Result<(), AllocError> {
     for byte in bytes {
         write!(line, "{byte:02x}")?;
     }
+    Ok(())
+}
+
+/// A line of bytes.
+fn show_bytes(rt: &HostRuntime, what: &str, bytes: &[u8]) -> io::Result<()> {
+    let mut line = String::new(rt.alloc());
+    add_bytes(&mut line, bytes)?;
     println!(rt; "{what} {line}")
 }
 
@@ -55,7 +62,7 @@ pub fn answer(
             println!(rt; "uncertified {no}")?;
             show_history(rt, history, has_events)
         }
-        Some(Err(RunFault::OutOfMemory)) => println!(rt; "out of memory"),
-        None => println!(rt; "out of limits"),
+        Some(Err(RunFault::OutOfMemory)) => rt.println("out of memory"),
+        None => rt.println("out of limits"),
     }
 }
