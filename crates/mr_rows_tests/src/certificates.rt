@@ -141,16 +141,21 @@ fn show_partitions(rt: &HostRuntime, certificate: &Certificate) -> io::Result<()
     Ok(())
 }
 
-/// Whether the certificate is written as these bytes, in a list and onto a writer, which is given them piece by piece.
+/// Whether the certificate is written as these bytes onto a writer, which is given them piece by piece.
+fn is_spelled_again(alloc: Global, certificate: &Certificate, bytes: &[u8]) -> bool {
+    let mut writer = MemoryWriter::new(alloc, 50_000, None);
+    let done = write_spelled(&mut writer, certificate).is_ok();
+    done && writer.handed_on() == bytes
+}
+
+/// Whether it is written so in a list too.
 fn is_written_again(
     alloc: Global,
     certificate: &Certificate,
     bytes: &[u8],
 ) -> Result<bool, AllocError> {
     let written = write(alloc, certificate)?;
-    let mut writer = MemoryWriter::new(alloc, 50_000, None);
-    let done = write_spelled(&mut writer, certificate).is_ok();
-    Ok(done && written.as_slice() == bytes && writer.handed_on() == bytes)
+    Ok(is_spelled_again(alloc, certificate, bytes) && written.as_slice() == bytes)
 }
 
 /// Tells the certificate that was read of the bytes, and whether it is written as they are.

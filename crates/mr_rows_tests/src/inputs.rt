@@ -75,17 +75,22 @@ fn show_input(rt: &HostRuntime, input: &Input) -> io::Result<()> {
     rt.println("")
 }
 
+/// What a request asks for, and whether it fits the input.
+fn show_asked(rt: &HostRuntime, input: &Input, request: &Request) -> io::Result<()> {
+    telling::part(rt, &request.job().counts())?;
+    telling::four(
+        rt,
+        &request.parts(),
+        &request.split_size(),
+        &request.max_skips(),
+        &request.fits(input),
+    )
+}
+
 fn show_request(rt: &HostRuntime, input: &Input, numbers: [u32; 4]) -> io::Result<()> {
     let [parts, size, most, _] = numbers;
     match Request::new(Job::words(false), parts, size, most) {
-        Ok(request) => println!(rt;
-            "{} {} {} {} {}",
-            request.job().counts(),
-            request.parts(),
-            request.split_size(),
-            request.max_skips(),
-            request.fits(input)
-        ),
+        Ok(request) => show_asked(rt, input, &request),
         Err(fault) => rt.println(fault),
     }
 }

@@ -44,12 +44,12 @@ fn region(alloc: Global, line: &str) -> Result<Pairs, AllocError> {
     Ok(pairs)
 }
 
-fn regions(rt: &HostRuntime) -> io::Result<Vec<Pairs>> {
-    let mut regions = Vec::new(rt.alloc());
+/// Adds the region of each line.
+fn add_regions(rt: &HostRuntime, regions: &mut Vec<Pairs>) -> io::Result<()> {
     for line in rt.lines(rt.alloc()) {
         regions.push(region(rt.alloc(), line?.as_str())?)?;
     }
-    Ok(regions)
+    Ok(())
 }
 
 fn show_region(rt: &HostRuntime, region: &Pairs) -> io::Result<()> {
@@ -103,6 +103,7 @@ fn show(rt: &HostRuntime, regions: &[Pairs]) -> io::Result<()> {
 
 /// Answers standard input.
 pub fn answer(rt: &HostRuntime) -> io::Result<()> {
-    let regions = regions(rt)?;
+    let mut regions = Vec::new(rt.alloc());
+    add_regions(rt, &mut regions)?;
     show(rt, &regions)
 }

@@ -55,23 +55,23 @@ fn map_split(
     }
 }
 
-/// What the map task of each split gives.
-fn mapped(
+/// Adds what the map task of each split gives.
+fn map_splits(
     alloc: Global,
     plan: &Plan<'_>,
     job: &Job,
     parts: u32,
     limit: usize,
     skips: &[u32],
-) -> Result<Vec<MapOutput>, AllocError> {
-    let mut outputs = Vec::new(alloc);
+    outputs: &mut Vec<MapOutput>,
+) -> Result<(), AllocError> {
     if parts < 1 {
-        return Ok(outputs);
+        return Ok(());
     }
     for split in 0..plan.splits() {
         outputs.push(map_split(alloc, plan, job, parts, split, skips, limit)?)?;
     }
-    Ok(outputs)
+    Ok(())
 }
 
 /// The regions of a partition, those of one split behind those of another.
@@ -186,7 +186,16 @@ fn work(
     skips: &[u32],
 ) -> io::Result<()> {
     let [_, parts, _, limit] = numbers;
-    let outputs = mapped(rt.alloc(), plan, job, parts, limit as usize, skips)?;
+    let mut outputs = Vec::new(rt.alloc());
+    map_splits(
+        rt.alloc(),
+        plan,
+        job,
+        parts,
+        limit as usize,
+        skips,
+        &mut outputs,
+    )?;
     show_tasks(rt, job, numbers, &outputs)
 }
 
