@@ -2,9 +2,9 @@
 //! and seats there are. Each line of standard input is a call: its kind, its seat, and its numbers. A line answers it with
 //! the reply, the output that comes with it, and all that can be looked at. At the end of the lines the book is closed, and
 //! its history told.
-ghost use Rattle.std.specs.Prelude.{◌≡◌};
+ghost use Rattle.std.specs.Prelude.{◌≡◌, vec_len};
 
-use crate::outputs;
+use crate::{outputs, telling};
 use mr_book::{Book, History, Seat};
 use mr_core::{Limits, Task};
 use std::io;
@@ -38,12 +38,12 @@ fn call<L: Ledger>(
 ) -> io::Result<()> {
     let [kind, _, first, second] = numbers;
     match kind {
-        1 => print!(rt; "{:?}|", book.ask(seat, first)?),
+        1 => telling::before_bar(rt, &book.ask(seat, first)?),
         2 => fetch(rt, book, seat, first, second),
         3 => map_done(rt, book, seat, first, second),
-        4 => print!(rt; "{:?}|", book.map_failed(seat, first, second)?),
+        4 => telling::before_bar(rt, &book.map_failed(seat, first, second)?),
         5 => reduce_done(rt, book, seat, first, second),
-        _ => print!(rt; "{:?}|", book.lose(seat, first)?),
+        _ => telling::before_bar(rt, &book.lose(seat, first)?),
     }
 }
 
@@ -55,7 +55,7 @@ fn fetch<L: Ledger>(
     map: u32,
 ) -> io::Result<()> {
     let (reply, output) = book.fetch(seat, attempt, map)?;
-    print!(rt; "{reply:?}|")?;
+    telling::before_bar(rt, &reply)?;
     match output {
         Some(output) => outputs::show_map(rt, &output),
         None => Ok(()),
@@ -73,7 +73,7 @@ fn map_done<L: Ledger>(
         return Ok(());
     };
     match book.map_done(seat, attempt, output) {
-        Ok(reply) => print!(rt; "{reply:?}|"),
+        Ok(reply) => telling::before_bar(rt, &reply),
         Err(refused) => outputs::show_map(rt, &refused.value),
     }
 }
@@ -89,7 +89,7 @@ fn reduce_done<L: Ledger>(
         return Ok(());
     };
     match book.reduce_done(seat, attempt, output) {
-        Ok(reply) => print!(rt; "{reply:?}|"),
+        Ok(reply) => telling::before_bar(rt, &reply),
         Err(refused) => print!(rt; "{:?}", refused.value.text()),
     }
 }
@@ -97,12 +97,13 @@ fn reduce_done<L: Ledger>(
 /// Tells what can be looked at: the shape, the end, each split and partition, how far the history has grown, the seat.
 fn show<L: Ledger>(rt: &HostRuntime, book: &Book<L>, seat: &Seat<L>) -> io::Result<()> {
     let shape = book.shape();
-    print!(rt; "|{shape:?}|{:?}", book.end())?;
+    telling::behind_bar(rt, &shape)?;
+    telling::behind_bar(rt, &book.end())?;
     for split in 0..shape.maps {
-        print!(rt; "|{}", book.complete(Task::Map(split)))?;
+        telling::behind_bar(rt, &book.complete(Task::Map(split)))?;
     }
     for part in 0..shape.parts {
-        print!(rt; "|{}", book.complete(Task::Reduce(part)))?;
+        telling::behind_bar(rt, &book.complete(Task::Reduce(part)))?;
     }
     println!(rt; "|{}|{}", book.grown(), seat.calls())
 }
@@ -141,6 +142,18 @@ fn show_history(rt: &HostRuntime, history: &History) -> io::Result<()> {
     show_stored(rt, history)
 }
 
+/// Answers each line by the book, closes it, and tells its history.
+fn serve_all<L: Ledger>(
+    rt: &HostRuntime,
+    mut book: Book<L>,
+    mut seats: Vec<Seat<L>>,
+) -> io::Result<()>
+    requires all { vec_len seats ≡ L.parts }
+{
+    serve(rt, &mut book, seats.as_mut_slice())?;
+    show_history(rt, &book.close(seats))
+}
+
 /// Opens a book of these sizes, where they are within the limits of a small job, and closes it at the end of the lines.
 fn work<L: Ledger>(rt: &HostRuntime, blank: Blank, sizes: [u32; 6], seats: u32) -> io::Result<()>
     requires ledger { (blank.name ≡ L.name) × (blank.parts ≡ L.parts) }
@@ -154,7 +167,7 @@ fn work<L: Ledger>(rt: &HostRuntime, blank: Blank, sizes: [u32; 6], seats: u32) 
         return Ok(());
     }
     let limits = Limits { attempts, skips };
-    let (mut book, mut seats) = Book::<L>::open(
+    let (book, seats) = Book::<L>::open(
         rt.alloc(),
         blank,
         maps,
@@ -163,8 +176,7 @@ fn work<L: Ledger>(rt: &HostRuntime, blank: Blank, sizes: [u32; 6], seats: u32) 
         limits,
         seats as usize,
     )?;
-    serve(rt, &mut book, seats.as_mut_slice())?;
-    show_history(rt, &book.close(seats))
+    serve_all(rt, book, seats)
 }
 
 /// Answers standard input, by these words.

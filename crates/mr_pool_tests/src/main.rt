@@ -121,7 +121,15 @@ fn answer<R: Threads + Wait + Sync>(
         "watch" => watched(threads, rt, alloc, order),
         "judge" => judged(threads, rt, alloc, order),
         "tickets" => judging::show_draws(rt, alloc),
-        _ => told(threads, rt, alloc, order, &OpenGate, None, mode == "history"),
+        _ => told(
+            threads,
+            rt,
+            alloc,
+            order,
+            &OpenGate,
+            None,
+            mode == "history",
+        ),
     }
 }
 

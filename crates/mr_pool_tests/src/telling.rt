@@ -1,9 +1,19 @@
-//! What a run answers, line by line.
+//! What a run answers, line by line, and single values on lines that go on.
 use mr_book::History;
 use mr_pool::{Certified, RunFault};
 use std::alloc::AllocError;
-use std::fmt::Write;
+use std::fmt::{Debug, Write};
 use std::io;
+
+/// A value and a bar behind it, on a line that goes on.
+pub fn before_bar<A: Debug>(rt: &HostRuntime, a: &A) -> io::Result<()> {
+    print!(rt; "{a:?}|")
+}
+
+/// A value behind a bar, on a line that goes on.
+pub fn behind_bar<A: Debug>(rt: &HostRuntime, a: &A) -> io::Result<()> {
+    print!(rt; "|{a:?}")
+}
 
 /// Adds bytes to a line, each as two digits.
 fn add_bytes(line: &mut String, bytes: &[u8]) -> Result<(), AllocError> {
