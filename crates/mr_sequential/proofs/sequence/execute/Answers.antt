@@ -1,4 +1,4 @@
-use Rattle.std.proofs.Common.{◌≡◌, ℕ, ◌<◌, List, length, arith, ap, sym, ◌∙◌, subst, map, Vec, Global}
+use Rattle.std.proofs.Common.{◌≡◌, ℕ, List, length, arith, ap, sym, ◌∙◌, subst, map, Vec, Global}
 use Rattle.mr_bytes.specs.declared.RecordName.{RecordName}
 use Rattle.mr_input.specs.Files.{contents}
 use Rattle.mr_splits.specs.Kept.{Choice}
@@ -44,7 +44,7 @@ returns-clause-is_good g c =
     subst (IsGood request files outs) (sym (returns-clause-certificate g c))
     (sequential_is_good request files outs skips
     (omega (arith, c.requires.some, c.requires.size))
-    (omega (arith, c.parts-parts.ensures.same, c.parts-_parts.ensures.within.0))
+    (omega (arith, c.parts-parts.ensures.same, c.parts-parts.ensures.within.0))
     c.requires.fault
     (omega (arith, same_length (λ (v : Vec ℕ Global). v.items) texts, c.in_ok-texts.ensures.count))
     (returns-clause-texts g c))
