@@ -1,19 +1,18 @@
 -- Why `check` says nothing.
-use Rattle.std.proofs.Common.{◌≡◌, ◌⊎◌, ◌↔◌, ℕ, List, Result, Ok, Err, inl, inr, ap, ◌∙◌, subst, [], ◌∷◌, ◌++◌}
+use Rattle.std.proofs.Common.{◌≡◌, ◌↔◌, ℕ, List, Result, Ok, Err, inl, inr, ap, subst}
 use Rattle.mr_files.specs.Refusals.{IsOneUnread, IsWriteRefusal}
 use Rattle.mr_files.specs.declared.store.FileFault.{FileFault}
 use Rattle.mr_files.specs.declared.store.FileFault.TheVariants as file
 use Rattle.mr_asked.specs.declared.fault.Fault.{Fault}
-use Rattle.mr_asked.specs.declared.fault.Fault.TheVariants.{OtherJobsOption, BadThreads, OutOfMemory}
+use Rattle.mr_asked.specs.declared.fault.Fault.TheVariants.{OtherJobsOption}
 use Rattle.mr_asked.specs.declared.asked.CheckOptions.{CheckOptions}
 use Rattle.mr_asked.specs.declared.asked.Options.{Options}
 use Rattle.mr_jobs.specs.JobSpec.{RequestSpec}
 use Rattle.mr_files.specs.Names.{result_names}
 use Rattle.mr_asked.specs.Asked.{AsksForOtherJob, WithinLimits, request_asked}
-use Rattle.mr_judging.specs.Checks.{AreBadThreads, IsResultRefusal, IsNameRefusal, IsCheckRefusal}
+use Rattle.mr_judging.specs.Checks.{IsOptionRefusal, IsResultRefusal, IsCheckRefusal}
 use Rattle.mr_judging.specs.Inputs.{IsAsked, IsInput, IsInputRefusal, IsStopped, input_names}
 use Rattle.mr_asked.specs.Statuses.{TellsFile}
-use Rattle.mr_sequential.specs.declared.fault.RunFault.TheVariants as run
 
 pub result_refused : (unreadable : List ℕ → Type 0) (names : List (List ℕ)) (e : FileFault) (f : Fault) → IsOneUnread unreadable names e → TellsFile e f → IsResultRefusal unreadable names f
 result_refused unreadable names (file.CannotRead name) f h t = rw t h
@@ -23,13 +22,10 @@ result_refused unreadable names file.OutOfMemory f h t = rw t tt
 pub asked : {A : Type 0} (o : Options) (r : A) → ((◌≡◌ {A = Result A Fault} (Ok r) (Err OtherJobsOption)) ↔ AsksForOtherJob o) → WithinLimits (request_asked o) → IsAsked o
 asked o r other within = record { own = λ a. cc (other.1 a); within = within }
 
-pub threads_stage : (holds : List ℕ → List ℕ → Type 0) (unreadable : List ℕ → Type 0) (asked : CheckOptions) (e : Fault)
-    → IsAsked asked.options → (e ≡ BadThreads) × AreBadThreads asked.threads → IsCheckRefusal holds unreadable asked e
-threads_stage holds unreadable asked e a h = inr (inl (a, h.0, h.1))
-
-pub names_stage : (holds : List ℕ → List ℕ → Type 0) (unreadable : List ℕ → Type 0) (asked : CheckOptions) (e : Fault)
-    → IsAsked asked.options → IsNameRefusal asked e → IsCheckRefusal holds unreadable asked e
-names_stage holds unreadable asked e a h = inr (inr (inl (a, h)))
+pub option_stage : (holds : List ℕ → List ℕ → Type 0) (unreadable : List ℕ → Type 0) (asked : CheckOptions) (e : Fault)
+    → IsAsked asked.options → IsOptionRefusal asked e → IsCheckRefusal holds unreadable asked e
+option_stage holds unreadable asked e a (inl h) = inr (inl (a, h.0, h.1))
+option_stage holds unreadable asked e a (inr h) = inr (inr (inl (a, h)))
 
 pub input_stage : (holds : List ℕ → List ℕ → Type 0) (unreadable : List ℕ → Type 0) (asked : CheckOptions) (names : List (List ℕ)) (request : RequestSpec) (e : Fault)
     → names ≡ input_names asked.options → request ≡ request_asked asked.options → IsAsked asked.options → IsInputRefusal holds unreadable names request.split e → IsCheckRefusal holds unreadable asked e

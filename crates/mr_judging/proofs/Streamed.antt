@@ -15,7 +15,7 @@ use Rattle.mr_files.specs.declared.store.FileFault.{FileFault}
 use Rattle.mr_files.specs.declared.store.FileFault.TheVariants as file
 use Rattle.mr_asked.specs.declared.asked.CheckOptions.{CheckOptions}
 use Rattle.mr_asked.specs.declared.fault.Fault.{Fault}
-use Rattle.mr_asked.specs.declared.fault.Fault.TheVariants.{CannotRead, OutOfMemory as no_memory}
+use Rattle.mr_asked.specs.declared.fault.Fault.TheVariants.{OutOfMemory as no_memory}
 use Rattle.mr_judging.specs.Inputs.{input_names}
 use Rattle.mr_asked.specs.Statuses.{TellsFile}
 use Rattle.mr_judging.specs.Streamed.{AnswersResult, GivesAnswer, IsAnswer, IsSaid, TellsOther, TellsRead}

@@ -55,6 +55,10 @@ abbrev pub IsNameRefusal : CheckOptions → Fault → Type 0
 IsNameRefusal asked (LineEndInName file) = IsSome asked.verdict × IsFirstLineEnd (input_names asked.options) file
 IsNameRefusal asked fault = ⊥
 
+-- why options that ask for a job that can be had are refused: the number of threads, then the names that a verdict is to tell
+abbrev pub IsOptionRefusal : CheckOptions → Fault → Type 0
+IsOptionRefusal asked fault = ((fault ≡ BadThreads) × AreBadThreads asked.threads) ⊎ IsNameRefusal asked fault
+
 -- why `check` says nothing: the request, then the number of threads, then the names that a verdict is to tell, then the
 -- input, then the files of the result
 abbrev pub IsCheckRefusal : Stored → Faulty → CheckOptions → Fault → Type 0

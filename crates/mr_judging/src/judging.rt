@@ -7,13 +7,14 @@ ghost use Rattle.mr_answers.specs.Headline.{IsCertified};
 ghost use Rattle.mr_answers.specs.Verdict.{verdict_of};
 ghost use Rattle.mr_verdict.specs.Verdict.{spelling};
 ghost use Rattle.mr_verdict.specs.Truth.{note_for as note_of, notes_for};
-ghost use Rattle.mr_files.specs.Holding.{ChangesAmong};
-ghost use Rattle.mr_files.specs.Names.{result_names};
+ghost use Rattle.mr_files.specs.Holding.{ChangesAmong, Holding};
+ghost use Rattle.mr_files.specs.Names.{name_of_certificate, part_names, result_names};
 ghost use Rattle.mr_files.specs.Refusals.{IsOneLonger};
 ghost use Rattle.mr_judging.specs.NoLines.{no_line as line_of_no};
 ghost use Rattle.mr_judging.specs.YesLines.{yes_text as text_of_yes};
-ghost use Rattle.mr_judging.specs.Checks.{AreBadThreads, IsCheckRefusal, IsFirstLineEnd, IsNameRefusal, IsResultRefusal};
-ghost use Rattle.mr_judging.specs.Inputs.{input_names};
+ghost use Rattle.mr_asked.specs.Asked.{request_asked};
+ghost use Rattle.mr_judging.specs.Checks.{AreBadThreads, IsCheckRefusal, IsFirstLineEnd, IsNameRefusal, IsOptionRefusal, IsResultRefusal};
+ghost use Rattle.mr_judging.specs.Inputs.{IsAsked, input_names};
 ghost use Rattle.mr_judging.specs.Verdicts.{AreClear, KeepsVerdict, IsCheckUnanswered, IsJudgement, IsKeptUnder, IsTextRefused, Judges, JudgesResult};
 ghost use Rattle.mr_judging.specs.Verdicts.{names_kept, verdict_about, verdict_file, written_by_check};
 
@@ -21,7 +22,7 @@ use crate::input::input_of;
 use crate::no_lines::no_line;
 use crate::said::{Said, yes_text};
 use crate::streaming::{judged_as_read, refused_as_read};
-use mr_asked::{CheckOptions, Fault, request_of};
+use mr_asked::{CheckOptions, Fault, Options, request_of};
 use mr_bytes::OpenGate;
 use mr_check::{No, Yes, check_gated_watched, check_watched};
 use mr_files::{FileFault, Store, WithinFault, read_result_within, write_named};
@@ -168,7 +169,8 @@ fn yes_judged(
     input: &Input,
     outputs: &[Vec<u8>],
     yes: &Yes,
-) -> Result<Judged, AllocError>
+) -> Result<Judged, Fault>
+    ensures memory { IfErr result (λ e. e ≡ Fault.OutOfMemory) }
     ensures status { IfOk result (λ j. j.said.status ≡ 0) }
     ensures text { IfOk result (λ j. string_bytes j.said.text ≡ text_of_yes yes.now.pairs yes.now.skips.items) }
     ensures kept { IfOk result (λ j. option_map (λ v. v.items) j.verdict ≡ option_map (λ _. spelling (verdict_about request.now
@@ -237,7 +239,7 @@ fn judgement<R: Threads + Sync>(
         asked.threads,
         watch,
     ) {
-        Ok(yes) => Ok(yes_judged(alloc, request, asked, input, outputs, &yes)?),
+        Ok(yes) => yes_judged(alloc, request, asked, input, outputs, &yes),
         Err(no) => no_judged(alloc, &no),
     }
 }
@@ -252,6 +254,26 @@ fn most_bytes(input: &Input) -> u64 {
         bytes = bytes.saturating_add(input.len(file) as u64);
     }
     bytes.saturating_mul(9).saturating_add(65_536)
+}
+
+/// Reads the parts of a result and its certificate, where none of these files has more than so many bytes; nothing else.
+fn result_within<S: Store>(
+    store: &S,
+    alloc: Global,
+    options: &Options<'_>,
+    most: u64,
+) -> Result<Option<(Vec<Vec<u8>>, Vec<u8>)>, Fault>
+    ensures outputs { IfOk result (λ r. IfSome r (λ held. Holding (S.holds store.now) (part_names options.now.out.now options.now.parts) (contents held.0.items))) }
+    ensures certificate { IfOk result (λ r. IfSome r (λ held. S.holds store.now (name_of_certificate options.now.out.now) held.1.items)) }
+    ensures longer { IfOk result (λ r. r ≡ None → IsOneLonger (S.holds store.now) (result_names options.now.out.now options.now.parts) most) }
+    ensures refused { IfErr result (λ e. IsResultRefusal (S.unreadable store.now) (result_names options.now.out.now options.now.parts) e) }
+{
+    let parts = options.parts as usize;
+    match read_result_within(store, alloc, options.out, parts, most) {
+        Ok(held) => Ok(Some(held)),
+        Err(WithinFault::TooLong) => Ok(None),
+        Err(WithinFault::File(fault)) => Err(Fault::from(fault)),
+    }
 }
 
 /// Reads the result whole and judges it, where none of its files has more than so many bytes; nothing else.
@@ -272,24 +294,24 @@ fn judged_held<S: Store, R: Threads + Sync>(
     ensures longer { IfOk result (λ r. r ≡ None → IsOneLonger (S.holds store.now) (result_names asked.now.options.out.now asked.now.options.parts) most) }
     ensures refused { IfErr result (λ e. IsResultRefusal (S.unreadable store.now) (result_names asked.now.options.out.now asked.now.options.parts) e) }
 {
-    let options = &asked.options;
-    let parts = options.parts as usize;
-    let (outputs, certificate) = match read_result_within(store, alloc, options.out, parts, most) {
-        Ok(held) => held,
-        Err(WithinFault::TooLong) => return Ok(None),
-        Err(WithinFault::File(fault)) => return Err(Fault::from(fault)),
+    let Some((outputs, certificate)) = result_within(store, alloc, &asked.options, most)? else {
+        return Ok(None);
     };
-    let judged = judgement(
+    let outputs = outputs.as_slice();
+    let certificate = certificate.as_slice();
+    match judgement(
         rt,
         alloc,
         request,
         asked,
         input,
-        outputs.as_slice(),
-        certificate.as_slice(),
+        outputs,
+        certificate,
         watch,
-    )?;
-    Ok(Some(judged))
+    ) {
+        Ok(judged) => Ok(Some(judged)),
+        Err(fault) => Err(fault),
+    }
 }
 
 /// Judges a result with a file that is longer than a good one's: as it is read, so that it isn't held, however long it is.
@@ -346,6 +368,36 @@ fn result_judged<S: Store, R: Threads + Sync>(
     }
 }
 
+/// The number of threads is within its limits, and the verdict can tell the names of the input.
+fn expect_options(asked: &CheckOptions<'_>) -> Result<(), Fault>
+    ensures threads { OnOk result ((1 ≤ asked.now.threads) × (asked.now.threads ≤ 64)) }
+    ensures clear { OnOk result (IfSome (verdict_file asked.now) (λ _. AreClear asked.now.options)) }
+    ensures refused { IfErr result (λ e. IsOptionRefusal asked.now e) }
+{
+    expect_threads(asked.threads)?;
+    expect_names(asked)
+}
+
+/// Tests the number of threads and the names that a verdict is to tell, then reads the input, then the result, and judges
+/// it under a request that was tested.
+fn checked_for<S: Store, R: Threads + Sync>(
+    rt: &R,
+    store: &S,
+    alloc: Global,
+    request: &Request,
+    asked: &CheckOptions<'_>,
+    watch: &dyn Watch,
+) -> Result<Judged, Fault>
+    requires request { request.now ≡ request_asked asked.now.options }
+    requires asked { IsAsked asked.now.options }
+    ensures judges { IfOk result (λ j. Judges (S.holds store.now) asked.now (string_bytes j.said.text) j.said.status (option_map (λ v. v.items) j.verdict)) }
+    ensures refused { IfErr result (λ e. IsCheckRefusal (S.holds store.now) (S.unreadable store.now) asked.now e) }
+{
+    expect_options(asked)?;
+    let input = input_of(store, alloc, request, asked.options.files.as_slice())?;
+    result_judged(rt, store, alloc, request, asked, &input, watch)
+}
+
 /// Tests the request, the number of threads and the names that a verdict is to tell, then reads the input, then the
 /// result, and judges it; nothing is written.
 fn checked<S: Store, R: Threads + Sync>(
@@ -358,12 +410,8 @@ fn checked<S: Store, R: Threads + Sync>(
     ensures judges { IfOk result (λ j. Judges (S.holds store.now) asked.now (string_bytes j.said.text) j.said.status (option_map (λ v. v.items) j.verdict)) }
     ensures refused { IfErr result (λ e. IsCheckRefusal (S.holds store.now) (S.unreadable store.now) asked.now e) }
 {
-    let options = &asked.options;
-    let request = request_of(alloc, options)?;
-    expect_threads(asked.threads)?;
-    expect_names(asked)?;
-    let input = input_of(store, alloc, &request, options.files.as_slice())?;
-    result_judged(rt, store, alloc, &request, asked, &input, watch)
+    let request = request_of(alloc, &asked.options)?;
+    checked_for(rt, store, alloc, &request, asked, watch)
 }
 
 /// Writes the text under the name, where there are both.

@@ -1,7 +1,27 @@
+use Rattle.std.proofs.Common.{inl}
 use Rattle.std.specs.Prelude.{option_map, string_bytes}
 use Rattle.std.proofs.lemmas.Result.{err_from_is_err_and}
-use Rattle.mr_judging.proofs.Told.{keeps, unkept}
+use Rattle.mr_judging.specs.Verdicts.{verdict_file}
+use Rattle.mr_judging.proofs.Told.{kept_among, keeps, unkept}
 use Rattle.mr_judging.proofs.judging.check.Goals as goal
+
+pub returns-in_err-said-clause-answer : goal.returns-in_err-said-clause-answer
+returns-in_err-said-clause-answer g c = rw (err_from_is_err_and c.from_residual.result c.from_residual.ensures.1).1 tt
+
+pub returns-in_err-said-clause-others : goal.returns-in_err-said-clause-others
+returns-in_err-said-clause-others g c = λ n b d. ((λ h. h), λ h. h)
+
+pub returns-in_err-said-clause-refused : goal.returns-in_err-said-clause-refused
+returns-in_err-said-clause-refused g c =
+    let p = err_from_is_err_and c.from_residual.result c.from_residual.ensures.1 in
+    rw p.1 (rw p.2 (inl ((λ n b d. ((λ h. h), λ h. h)), c.in_err-said.ensures.refused)))
+
+pub returns-in_err-keep-clause-answer : goal.returns-in_err-keep-clause-answer
+returns-in_err-keep-clause-answer g c = rw (err_from_is_err_and c.from_residual-in_err-keep.result c.from_residual-in_err-keep.ensures.1).1 tt
+
+pub returns-in_err-keep-clause-others : goal.returns-in_err-keep-clause-others
+returns-in_err-keep-clause-others g c =
+    kept_among (g.S.Store.holds c.args.store.now) (g.S.Store.holds c.keep.new.store) (verdict_file c.args.asked.now) (option_map (λ v. v.items) c.in_ok-said.field-0.verdict) c.keep.ensures.others
 
 pub returns-in_err-keep-clause-refused : goal.returns-in_err-keep-clause-refused
 returns-in_err-keep-clause-refused g c =
@@ -15,3 +35,7 @@ returns-clause-answer g c =
     let judged = c.in_ok-said.field-0 in
     keeps (g.S.Store.holds c.args.store.now) c.args.asked.now (string_bytes judged.said.text) (g.S.Store.holds c.keep.new.store)
     judged.said.status (option_map (λ v. v.items) judged.verdict) c.in_ok-said.ensures.judges c.in_ok-keep.ensures.kept c.keep.ensures.others
+
+pub returns-clause-others : goal.returns-clause-others
+returns-clause-others g c =
+    kept_among (g.S.Store.holds c.args.store.now) (g.S.Store.holds c.keep.new.store) (verdict_file c.args.asked.now) (option_map (λ v. v.items) c.in_ok-said.field-0.verdict) c.keep.ensures.others
