@@ -9,8 +9,9 @@ use Rattle.mr_answers.specs.declared.fault.Source.{Source}
 use Rattle.mr_answers.specs.declared.yes.Yes.{Yes}
 use Rattle.mr_judge.specs.From.{AgreeAll, IsVerdictFrom, Judged}
 use Rattle.mr_answers.specs.Verdict.{verdict_of}
-use Rattle.mr_files.specs.Holding.{Agrees, AllAgree}
-use Rattle.mr_files.specs.Refusals.{TellsOf}
+use Rattle.mr_files.specs.Holding.{Agrees, AllAgree, Holding}
+use Rattle.mr_files.specs.Names.{name_of_certificate, part_names}
+use Rattle.mr_files.specs.Refusals.{IsOneUnread, IsUnreadAmong, TellsOf}
 use Rattle.mr_files.specs.declared.store.FileFault.{FileFault}
 use Rattle.mr_files.specs.declared.store.FileFault.TheVariants as file
 use Rattle.mr_asked.specs.declared.asked.CheckOptions.{CheckOptions}
@@ -50,6 +51,19 @@ module _ (request : RequestSpec) (files : List (List ℕ)) (parts : List (Option
     agree_one certificate j.bytes j.given.certificate_agrees,
     subst (λ (x : No). (x ≡ OutOfMemory) ⊎ (verdict_of request files j.outs j.bytes ≡ Err x)) (sym t.0) (no_read request files j.outs j.bytes e t.1 j.verdict),
   )
+
+-- what the readers of a result give stands under its names
+pub answered : (holds : List ℕ → List ℕ → Type 0) (request : RequestSpec) (files : List (List ℕ)) (dir : List ℕ) (many : ℕ) (readers parts : List (Option (List ℕ))) (certificate : Option (List ℕ)) (answer : Result Yes No)
+    → parts ≡ readers → ((outs : List (List ℕ)) → AllAgree readers outs → Holding holds (part_names dir many) outs) → ((bytes : List ℕ) → Agrees certificate bytes → holds (name_of_certificate dir) bytes)
+    → GivesAnswer request files parts certificate answer → AnswersResult holds request files dir many answer
+answered holds request files dir many readers parts certificate answer same held held_last (outs, bytes, agree, agrees, a) =
+    (outs, bytes, held outs (subst (λ (v : List (Option (List ℕ))). AllAgree v outs) same agree), held_last bytes agrees, a)
+
+-- a file that can't be read is one of which the cause is known
+pub unread_told : (unreadable : List ℕ → Type 0) (names : List (List ℕ)) (cause : List ℕ → Type 0) (e : FileFault) → ((n : List ℕ) → IsUnreadAmong unreadable names n → cause n) → IsOneUnread unreadable names e → TellsOf cause e
+unread_told unreadable names cause (file.CannotRead name) known h = known _ h
+unread_told unreadable names cause (file.CannotWrite name) known h = absurd h
+unread_told unreadable names cause file.OutOfMemory known h = tt
 
 -- ---- what is said of the answer
 
