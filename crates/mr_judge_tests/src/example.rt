@@ -1,7 +1,11 @@
 //! The crates as a program of one's own uses them: a result is made and judged; then one byte of it is changed, and the judge says where.
+ghost use Rattle.std.specs.Prelude.{◌≤◌, ◌^◌, IfOk};
+ghost use Rattle.mr_input.specs.Files.{split_total};
+
+use crate::given::{Given, list_of, with_text};
 use mr_certform::write;
 use mr_check::{No, check_watched};
-use mr_example::{Handed, Trouble, agreed, input_of, judged, made};
+use mr_example::{Handed, Trouble, agreed, judged, made};
 use mr_sequential::run_watched;
 use mr_watch::{Phase, Watch};
 use std::alloc::{AllocError, Global};
@@ -37,78 +41,92 @@ impl Watch for Counting {
     fn lost(&self) {}
 }
 
-/// The book is counted and judged while somebody looks on: how many pairs the judge says yes to.
-fn watched(alloc: Global, watch: &Counting) -> Result<u64, Trouble> {
-    let request = agreed()?;
-    let input = input_of(alloc, &request, BOOK)?;
-    let (outputs, certificate) = run_watched(alloc, &request, &input, &[], watch)?;
-    let bytes = write(alloc, &certificate)?;
-    let yes = check_watched(alloc, &request, &input, &outputs, &bytes, watch)?;
-    Ok(yes.pairs)
+/// The book, and what is agreed on it.
+fn book(alloc: Global) -> Result<Given, Trouble>
+    ensures { IfOk result (λ g. split_total g.request.split g.input ≤ 2 ^ 20) }
+{
+    with_text(alloc, agreed()?, BOOK)
 }
 
-/// The result of the book, as it was made.
-fn counted(alloc: Global) -> Result<Handed, Trouble> {
-    let request = agreed()?;
-    let input = input_of(alloc, &request, BOOK)?;
-    made(alloc, &request, &input)
-}
-
-/// How many pairs the judge says yes to.
-fn pairs_judged(alloc: Global, handed: &Handed) -> Result<u64, Trouble> {
-    let request = agreed()?;
-    let input = input_of(alloc, &request, BOOK)?;
-    let yes = judged(alloc, &request, &input, handed)?;
-    Ok(yes.pairs)
-}
-
-/// Other outputs with the certificate of the book's.
-fn with_outputs(alloc: Global, first: &[u8], second: &[u8]) -> Result<Handed, Trouble> {
-    let mut outputs = Vec::new(alloc);
-    outputs
-        .push(Vec::from_slice(alloc, first)?)
-        .map_err(AllocError::from)?;
-    outputs
-        .push(Vec::from_slice(alloc, second)?)
-        .map_err(AllocError::from)?;
-    let certificate = counted(alloc)?.certificate;
+/// The book is counted while somebody looks on.
+fn counted(alloc: Global, given: &Given, watch: &Counting) -> Result<Handed, Trouble>
+    requires { split_total given.now.request.split given.now.input ≤ 2 ^ 20 }
+{
+    let (outputs, certificate) = run_watched(alloc, &given.request, &given.input, &[], watch)?;
+    let certificate = write(alloc, &certificate)?;
     Ok(Handed {
         outputs,
         certificate,
     })
 }
 
-#[test]
-fn a_result_is_made_and_judged(rt: HostRuntime) -> Result<(), Fail> {
-    let handed = counted(rt.alloc())?;
-    assert!(rt; handed.outputs.len() == 2);
-    assert!(rt; handed.outputs[0].as_slice() == b"nothing\t1\nsaw\t2\nthe\t3\n".as_slice());
-    assert!(rt; handed.outputs[1].as_slice() == b"cat\t1\ndog\t2\n".as_slice());
-    assert!(rt; pairs_judged(rt.alloc(), &handed)? == 9);
+/// The book is counted and judged while somebody looks on: how many pairs the judge says yes to.
+fn watched(alloc: Global, given: &Given, watch: &Counting) -> Result<u64, Trouble>
+    requires { split_total given.now.request.split given.now.input ≤ 2 ^ 20 }
+{
+    let handed = counted(alloc, given, watch)?;
+    let yes = check_watched(
+        alloc,
+        &given.request,
+        &given.input,
+        &handed.outputs,
+        &handed.certificate,
+        watch,
+    )?;
+    Ok(yes.pairs)
+}
+
+/// How many pairs the judge says yes to, or why it says no.
+fn verdict(alloc: Global, given: &Given, handed: &Handed) -> Result<u64, No>
+    requires { split_total given.now.request.split given.now.input ≤ 2 ^ 20 }
+{
+    match judged(alloc, &given.request, &given.input, handed) {
+        Ok(yes) => Ok(yes.pairs),
+        Err(Trouble::Judged(no)) => Err(no),
+        Err(_) => Err(No::OutOfMemory),
+    }
+}
+
+/// Whether these are the outputs of the book.
+fn are_counted(outputs: &[Vec<u8>]) -> bool {
+    outputs.len() == 2
+        && outputs[0].as_slice() == b"nothing\t1\nsaw\t2\nthe\t3\n".as_slice()
+        && outputs[1].as_slice() == b"cat\t1\ndog\t2\n".as_slice()
+}
+
+/// The outputs of the book, with one byte changed.
+fn change(alloc: Global, handed: &mut Handed) -> Result<(), AllocError> {
+    handed.outputs = list_of(
+        alloc,
+        &[b"nothing\t1\nsaw\t2\nthe\t3\n", b"cat\t2\ndog\t2\n"],
+    )?;
     Ok(())
 }
 
+/// It is made and judged; then a changed byte is told.
 #[test]
-fn a_changed_byte_is_told(rt: HostRuntime) -> Result<(), Fail> {
-    let spoiled = with_outputs(
-        rt.alloc(),
-        b"nothing\t1\nsaw\t2\nthe\t3\n",
-        b"cat\t2\ndog\t2\n",
-    )?;
-    match pairs_judged(rt.alloc(), &spoiled) {
-        Err(Trouble::Judged(No::OutputDiffers { partition, at })) => {
-            assert!(rt; partition == 1 && at == 4);
-        }
-        _ => assert!(rt; false),
-    }
+fn a_result_is_made_and_judged(rt: HostRuntime) -> Result<(), Fail> {
+    let given = book(rt.alloc())?;
+    let mut handed = made(rt.alloc(), &given.request, &given.input)?;
+    assert!(rt; are_counted(&handed.outputs));
+    assert!(rt; verdict(rt.alloc(), &given, &handed) == Ok(9));
+    change(rt.alloc(), &mut handed)?;
+    assert!(rt;
+        verdict(rt.alloc(), &given, &handed)
+            == Err(No::OutputDiffers {
+                partition: 1,
+                at: 4
+            })
+    );
     Ok(())
 }
 
 /// Mapping, reducing twice, and for the judge mapping and judging.
 #[test]
 fn somebody_looks_on(rt: HostRuntime) -> Result<(), Fail> {
+    let given = book(rt.alloc())?;
     let watch = Counting::new();
-    assert!(rt; watched(rt.alloc(), &watch)? == 9);
+    assert!(rt; watched(rt.alloc(), &given, &watch)? == 9);
     assert!(rt; watch.told.load(Ordering::SeqCst) == 5);
     assert!(rt; watch.past.load(Ordering::SeqCst) == 0);
     Ok(())

@@ -6,6 +6,8 @@
 #[cfg(test)]
 mod example;
 #[cfg(test)]
+mod given;
+#[cfg(test)]
 mod merged;
 #[cfg(test)]
 mod pieces;

@@ -1,140 +1,151 @@
 //! Outputs of shards, merged: worked rows, and each refusal.
 use mr_jobs::Job;
 use mr_shards::{MergeFault, Output, merge_parts};
-use std::alloc::{AllocError, Global};
+use std::alloc::Global;
 use std::test::Fail;
 
-// Whether outputs of so many files each, with these texts, are merged to that text.
+// What a shard of so many files has.
+fn shard(files: u32, text: &[u8]) -> Output<'_> {
+    Output { files, text }
+}
+
+const TOTALS: [Output<'static>; 3] = [
+    Output {
+        files: 2,
+        text: b"a\t2\nthe\t7\n",
+    },
+    Output {
+        files: 1,
+        text: b"",
+    },
+    Output {
+        files: 3,
+        text: b"b\t1\nthe\t40\nzoo\t1\n",
+    },
+];
+
+const KEYS_WITH_TABS: [Output<'static>; 2] = [
+    Output {
+        files: 1,
+        text: b"/a\tb\t2\n/c\t1\n",
+    },
+    Output {
+        files: 1,
+        text: b"/a\t9\n/a\tb\t3\n",
+    },
+];
+
+const PLACES: [Output<'static>; 3] = [
+    Output {
+        files: 2,
+        text: b"ax\t0:0\nx\t1:7\nx\t1:9\n",
+    },
+    Output {
+        files: 1,
+        text: b"x\t0:3\nzx\t0:5\n",
+    },
+    Output {
+        files: 1,
+        text: b"x\t0:1\n",
+    },
+];
+
+// The first of the rows that are merged in windows.
+const PIECES: [Output<'static>; 2] = [
+    Output {
+        files: 2,
+        text: b"ax\t0:0\nx\t1:7\nx\t1:9\nyx\t0:4\n",
+    },
+    Output {
+        files: 1,
+        text: b"x\t0:3\nzx\t0:5\n",
+    },
+];
+
+// Whether these outputs are merged to that text.
 fn merges_to(
     alloc: Global,
     job: &Job,
-    texts: &[(u32, &[u8])],
+    outputs: &[Output<'_>],
     want: &[u8],
 ) -> Result<bool, MergeFault> {
-    let mut outputs = Vec::new(alloc);
-    for (files, text) in texts {
-        outputs
-            .push(Output {
-                files: *files,
-                text,
-            })
-            .map_err(AllocError::from)?;
+    Ok(merge_parts(alloc, job, outputs)?.as_slice() == want)
+}
+
+/// Totals are added, keys may hold tabs, and places follow by file.
+#[test]
+fn outputs_are_merged(rt: HostRuntime) -> Result<(), Fail> {
+    let grep = Job::grep(rt.alloc(), b"x", false)?;
+    let words = Job::words(false);
+    let url = Job::url();
+    for (job, outputs, want) in [
+        (&words, [].as_slice(), b"".as_slice()),
+        (&words, &TOTALS, b"a\t2\nb\t1\nthe\t47\nzoo\t1\n"),
+        (&url, &KEYS_WITH_TABS, b"/a\t9\n/a\tb\t5\n/c\t1\n"),
+        (
+            &grep,
+            &PLACES,
+            b"ax\t0:0\nx\t1:7\nx\t1:9\nx\t2:3\nx\t3:1\nzx\t2:5\n",
+        ),
+        (
+            &grep,
+            &PIECES,
+            b"ax\t0:0\nx\t1:7\nx\t1:9\nx\t2:3\nyx\t0:4\nzx\t2:5\n",
+        ),
+    ] {
+        assert!(rt; merges_to(rt.alloc(), job, outputs, want) == Ok(true));
     }
-    Ok(merge_parts(alloc, job, outputs.as_slice())?.as_slice() == want)
-}
-
-#[test]
-fn totals_are_added(rt: HostRuntime) -> Result<(), Fail> {
-    let texts = [
-        (2, b"a\t2\nthe\t7\n".as_slice()),
-        (1, b"".as_slice()),
-        (3, b"b\t1\nthe\t40\nzoo\t1\n".as_slice()),
-    ];
-    let want = b"a\t2\nb\t1\nthe\t47\nzoo\t1\n".as_slice();
-    assert!(rt; merges_to(rt.alloc(), &Job::words(false), &texts, want)?);
     Ok(())
 }
 
-#[test]
-fn keys_may_hold_tabs(rt: HostRuntime) -> Result<(), Fail> {
-    let texts = [
-        (1, b"/a\tb\t2\n/c\t1\n".as_slice()),
-        (1, b"/a\t9\n/a\tb\t3\n".as_slice()),
-    ];
-    let want = b"/a\t9\n/a\tb\t5\n/c\t1\n".as_slice();
-    assert!(rt; merges_to(rt.alloc(), &Job::url(), &texts, want)?);
-    Ok(())
-}
-
-#[test]
-fn places_follow_by_file(rt: HostRuntime) -> Result<(), Fail> {
-    let texts = [
-        (2, b"ax\t0:0\nx\t1:7\nx\t1:9\n".as_slice()),
-        (1, b"x\t0:3\nzx\t0:5\n".as_slice()),
-        (1, b"x\t0:1\n".as_slice()),
-    ];
-    let want = b"ax\t0:0\nx\t1:7\nx\t1:9\nx\t2:3\nx\t3:1\nzx\t2:5\n".as_slice();
-    let job = Job::grep(rt.alloc(), b"x", false)?;
-    assert!(rt; merges_to(rt.alloc(), &job, &texts, want)?);
-    Ok(())
+// Why these two outputs are not merged, where they are not.
+fn fault_of(alloc: Global, job: &Job, first: Output<'_>, second: Output<'_>) -> Option<MergeFault> {
+    merge_parts(alloc, job, &[first, second]).err()
 }
 
 // Which line of which output is bad, where the text is the second of two.
 fn bad_line(alloc: Global, job: &Job, text: &[u8]) -> Result<Option<(usize, u64)>, MergeFault> {
-    let good = Output {
-        files: 1,
-        text: b"",
-    };
-    let other = Output { files: 1, text };
-    match merge_parts(alloc, job, &[good, other]) {
-        Ok(_) => Ok(None),
-        Err(MergeFault::BadLine { shard, line }) => Ok(Some((shard, line))),
-        Err(fault) => Err(fault),
+    match fault_of(alloc, job, shard(1, b""), shard(1, text)) {
+        None => Ok(None),
+        Some(MergeFault::BadLine { shard, line }) => Ok(Some((shard, line))),
+        Some(fault) => Err(fault),
     }
 }
 
 #[test]
 fn bad_lines(rt: HostRuntime) -> Result<(), Fail> {
-    let words = Job::words(false);
-    for (text, want) in [
-        (b"a\t1\nb\t2\n".as_slice(), None),
-        // A line without its line feed, or without a tab; no number, one with a zero in front, or one too large.
-        (b"a\t1\nb\t2", Some((1, 1))),
-        (b"a 1\n", Some((1, 0))),
-        (b"a\t\n", Some((1, 0))),
-        (b"a\t+1\n", Some((1, 0))),
-        (b"a\t01\n", Some((1, 0))),
-        (b"a\t18446744073709551615\n", None),
-        (b"a\t18446744073709551616\n", Some((1, 0))),
-        // Keys that do not rise.
-        (b"b\t1\na\t1\n", Some((1, 1))),
-        (b"a\t1\na\t1\n", Some((1, 1))),
-        // Another job's line.
-        (b"x\t0:0\n", Some((1, 0))),
-    ] {
-        assert!(rt; bad_line(rt.alloc(), &words, text)? == want);
-    }
-    Ok(())
-}
-
-#[test]
-fn bad_lines_with_places(rt: HostRuntime) -> Result<(), Fail> {
     let grep = Job::grep(rt.alloc(), b"x", false)?;
-    for (text, want) in [
-        (b"x\t0:0\nx\t0:2\n".as_slice(), None),
-        (b"x\t0:0\nax\t0:2\n", Some((1, 1))),
+    let words = Job::words(false);
+    for (job, text, want) in [
+        (&words, b"a\t1\nb\t2\n".as_slice(), None),
+        // A line without its line feed, or without a tab; no number, one with a zero in front, or one too large.
+        (&words, b"a\t1\nb\t2", Some((1, 1))),
+        (&words, b"a 1\n", Some((1, 0))),
+        (&words, b"a\t\n", Some((1, 0))),
+        (&words, b"a\t+1\n", Some((1, 0))),
+        (&words, b"a\t01\n", Some((1, 0))),
+        (&words, b"a\t18446744073709551615\n", None),
+        (&words, b"a\t18446744073709551616\n", Some((1, 0))),
+        // Keys that do not rise.
+        (&words, b"b\t1\na\t1\n", Some((1, 1))),
+        (&words, b"a\t1\na\t1\n", Some((1, 1))),
         // Another job's line.
-        (b"x\t1\n", Some((1, 0))),
+        (&words, b"x\t0:0\n", Some((1, 0))),
+        // With places, the same.
+        (&grep, b"x\t0:0\nx\t0:2\n", None),
+        (&grep, b"x\t0:0\nax\t0:2\n", Some((1, 1))),
+        (&grep, b"x\t1\n", Some((1, 0))),
     ] {
-        assert!(rt; bad_line(rt.alloc(), &grep, text)? == want);
+        assert!(rt; bad_line(rt.alloc(), job, text) == Ok(want));
     }
     Ok(())
 }
 
 #[test]
-fn limits(rt: HostRuntime) -> Result<(), Fail> {
-    let alloc = rt.alloc();
-    let most = Output {
-        files: 4294967295,
-        text: b"a\t18446744073709551615\n",
-    };
-    let one = Output {
-        files: 0,
-        text: b"a\t1\n",
-    };
+fn limits(rt: HostRuntime) {
+    let most = shard(4294967295, b"a\t18446744073709551615\n");
+    let one = shard(0, b"a\t1\n");
     let words = Job::words(false);
-    assert!(rt;
-        matches!(
-            merge_parts(alloc, &words, &[most, one]),
-            Err(MergeFault::TotalTooLarge)
-        )
-    );
-    assert!(rt;
-        matches!(
-            merge_parts(alloc, &words, &[most, most]),
-            Err(MergeFault::TooManyFiles)
-        )
-    );
-    assert_eq!(rt; merge_parts(alloc, &words, &[])?.len(), 0);
-    Ok(())
+    assert!(rt; fault_of(rt.alloc(), &words, most, one) == Some(MergeFault::TotalTooLarge));
+    assert!(rt; fault_of(rt.alloc(), &words, most, most) == Some(MergeFault::TooManyFiles));
 }

@@ -1,6 +1,8 @@
 //! Outputs of shards, merged as they are read: worked rows at each width of the windows.
+ghost use Rattle.std.specs.Prelude.{◌≡◌, length};
+
 use mr_jobs::Job;
-use mr_shards::{MergeFault, Merger, Output, Window, merge_parts};
+use mr_shards::{MergeFault, Merger, Window};
 use std::alloc::Global;
 use std::test::Fail;
 
@@ -23,26 +25,54 @@ fn moved_on(at: (usize, usize), cuts: &[usize]) -> (usize, usize) {
     }
 }
 
-// Two texts, merged in windows of so many bytes, which grow by so many where nothing is taken.
-fn in_windows(
+// Merges what the windows hold, and tells how many bytes of each text are taken then.
+fn step(
     alloc: Global,
     job: &Job,
-    first: &[u8],
-    second: &[u8],
+    merger: &mut Merger,
+    windows: &[Window<'_>],
+    out: &mut Vec<u8>,
+    at: (usize, usize),
+) -> Result<(usize, usize), MergeFault>
+    requires { length windows.now ≡ length merger.old.held }
+    ensures { length merger.new.held ≡ length merger.old.held }
+{
+    let cuts = merger.step(alloc, job, windows, out)?;
+    Ok(moved_on(at, &cuts))
+}
+
+// Two texts, and what comes of them in windows of each width from there on, which grow by their width where nothing is
+// taken: the merged text, or a fault.
+#[derive(Clone, Copy)]
+struct Row<'a> {
+    job: &'a Job,
+    first: &'a [u8],
+    second: &'a [u8],
+    from: usize,
+    grows: bool,
+    want: Result<&'a [u8], MergeFault>,
+}
+
+// The texts, merged in windows of so many bytes.
+fn in_windows(
+    alloc: Global,
+    row: &Row<'_>,
     width: usize,
-    more: usize,
-) -> Result<Vec<u8>, MergeFault> {
+    out: &mut Vec<u8>,
+) -> Result<(), MergeFault> {
     let mut merger = Merger::new(alloc, &[2, 1])?;
-    let mut out = Vec::new(alloc);
+    let more = if row.grows { width } else { 0 };
     let mut at = (0, 0);
     let mut wide = width;
     for _ in 0..100 {
-        let windows = [window_at(first, at.0, wide), window_at(second, at.1, wide)];
-        let cuts = merger.step(alloc, job, &windows, &mut out)?;
+        let windows = [
+            window_at(row.first, at.0, wide),
+            window_at(row.second, at.1, wide),
+        ];
+        let next = step(alloc, row.job, &mut merger, &windows, out, at)?;
         if windows[0].is_last && windows[1].is_last {
-            return Ok(out);
+            return Ok(());
         }
-        let next = moved_on(at, &cuts);
         wide = if next == at {
             wide.saturating_add(more)
         } else {
@@ -53,110 +83,82 @@ fn in_windows(
     Err(MergeFault::OutOfMemory)
 }
 
-// Two texts, and what comes of them in windows of each width from there on: the merged text, or that line 3 of the first
-// is bad.
-#[derive(Clone, Copy)]
-struct Row<'a> {
-    first: &'a [u8],
-    second: &'a [u8],
-    from: usize,
-    grows: bool,
-    want: Option<&'a [u8]>,
-}
-
 // Whether this comes of windows of that width.
-fn comes_to(alloc: Global, job: &Job, row: &Row<'_>, width: usize) -> Result<bool, MergeFault> {
-    let more = if row.grows { width } else { 0 };
-    match in_windows(alloc, job, row.first, row.second, width, more) {
-        Ok(merged) => Ok(row.want.is_some_and(|want| merged.as_slice() == want)),
-        Err(MergeFault::BadLine { shard: 0, line: 3 }) => Ok(row.want.is_none()),
-        Err(fault) => Err(fault),
+fn comes_to(alloc: Global, row: &Row<'_>, width: usize) -> bool {
+    let mut out = Vec::new(alloc);
+    match in_windows(alloc, row, width, &mut out) {
+        Ok(()) => row.want == Ok(out.as_slice()),
+        Err(fault) => row.want == Err(fault),
     }
 }
 
 // Whether it comes of windows of each width.
-fn always_comes_to(alloc: Global, job: &Job, row: &Row<'_>) -> Result<bool, MergeFault> {
+fn always_comes_to(alloc: Global, row: &Row<'_>) -> bool {
     for width in row.from..40 {
-        if !comes_to(alloc, job, row, width)? {
-            return Ok(false);
+        if !comes_to(alloc, row, width) {
+            return false;
         }
     }
-    Ok(true)
+    true
 }
 
-/// As whole outputs are merged; lines of one key and place by place; places that fall within a key.
+// Line 3 of the first text is bad.
+const BAD_LINE: MergeFault = MergeFault::BadLine { shard: 0, line: 3 };
+
 #[test]
-fn lines_with_places(rt: HostRuntime) -> Result<(), Fail> {
-    let job = Job::grep(rt.alloc(), b"x", false)?;
+fn merged_in_windows(rt: HostRuntime) -> Result<(), Fail> {
+    let grep = Job::grep(rt.alloc(), b"x", false)?;
+    let words = Job::words(false);
     for row in [
+        // With places, as whole outputs are merged.
         Row {
+            job: &grep,
             first: b"ax\t0:0\nx\t1:7\nx\t1:9\nyx\t0:4\n",
             second: b"x\t0:3\nzx\t0:5\n",
             from: 1,
             grows: true,
-            want: Some(b"ax\t0:0\nx\t1:7\nx\t1:9\nx\t2:3\nyx\t0:4\nzx\t2:5\n"),
+            want: Ok(b"ax\t0:0\nx\t1:7\nx\t1:9\nx\t2:3\nyx\t0:4\nzx\t2:5\n"),
         },
+        // Lines of one key, place by place.
         Row {
+            job: &grep,
             first: b"x\t0:0\nx\t0:2\nx\t0:4\nx\t1:0\nx\t1:2\nx\t1:4\ny\t0:6\n",
             second: b"a\t0:8\nx\t0:0\nx\t0:2\nx\t0:4\nx\t0:6\n",
             from: 12,
             grows: false,
-            want: Some(
+            want: Ok(
                 b"a\t2:8\nx\t0:0\nx\t0:2\nx\t0:4\nx\t1:0\nx\t1:2\nx\t1:4\nx\t2:0\nx\t2:2\nx\t2:4\nx\t2:6\ny\t0:6\n",
             ),
         },
+        // Places that fall within a key.
         Row {
+            job: &grep,
             first: b"x\t0:0\nx\t0:2\nx\t0:4\nax\t0:6\n",
             second: b"x\t0:0\nx\t0:2\n",
             from: 1,
             grows: true,
-            want: None,
+            want: Err(BAD_LINE),
         },
-    ] {
-        assert!(rt; always_comes_to(rt.alloc(), &job, &row)?);
-    }
-    Ok(())
-}
-
-/// Totals of one key come together; a key falls behind a piece.
-#[test]
-fn lines_with_totals(rt: HostRuntime) -> Result<(), Fail> {
-    let job = Job::words(false);
-    for row in [
+        // Totals of one key come together.
         Row {
+            job: &words,
             first: b"a\t1\nb\t1\nc\t2\n",
             second: b"b\t2\nc\t1\nd\t1\n",
             from: 1,
             grows: true,
-            want: Some(b"a\t1\nb\t3\nc\t3\nd\t1\n"),
+            want: Ok(b"a\t1\nb\t3\nc\t3\nd\t1\n"),
         },
+        // A key falls behind a piece.
         Row {
+            job: &words,
             first: b"a\t1\nb\t1\nc\t2\nbb\t1\n",
             second: b"c\t1\nd\t1\n",
             from: 1,
             grows: true,
-            want: None,
+            want: Err(BAD_LINE),
         },
     ] {
-        assert!(rt; always_comes_to(rt.alloc(), &job, &row)?);
+        assert!(rt; always_comes_to(rt.alloc(), &row));
     }
-    Ok(())
-}
-
-/// The first of the rows above, merged whole.
-#[test]
-fn whole_outputs(rt: HostRuntime) -> Result<(), Fail> {
-    let alloc = rt.alloc();
-    let first = Output {
-        files: 2,
-        text: b"ax\t0:0\nx\t1:7\nx\t1:9\nyx\t0:4\n",
-    };
-    let second = Output {
-        files: 1,
-        text: b"x\t0:3\nzx\t0:5\n",
-    };
-    let whole = merge_parts(alloc, &Job::grep(alloc, b"x", false)?, &[first, second])?;
-    let want = b"ax\t0:0\nx\t1:7\nx\t1:9\nx\t2:3\nyx\t0:4\nzx\t2:5\n".as_slice();
-    assert!(rt; whole.as_slice() == want);
     Ok(())
 }
