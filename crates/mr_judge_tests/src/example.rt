@@ -103,31 +103,59 @@ fn change(alloc: Global, handed: &mut Handed) -> Result<(), AllocError> {
     Ok(())
 }
 
-/// It is made and judged; then a changed byte is told.
+/// The verdict on the result of the book as it was made, where its outputs are those wanted.
+fn verdict_as_made(alloc: Global, given: &Given) -> Result<Option<Result<u64, No>>, Trouble>
+    requires { split_total given.now.request.split given.now.input ≤ 2 ^ 20 }
+{
+    let handed = made(alloc, &given.request, &given.input)?;
+    if !are_counted(&handed.outputs) {
+        return Ok(None);
+    }
+    Ok(Some(verdict(alloc, given, &handed)))
+}
+
+/// The verdict on the result of the book with one byte changed.
+fn verdict_changed(alloc: Global, given: &Given) -> Result<Result<u64, No>, Trouble>
+    requires { split_total given.now.request.split given.now.input ≤ 2 ^ 20 }
+{
+    let mut handed = made(alloc, &given.request, &given.input)?;
+    change(alloc, &mut handed)?;
+    Ok(verdict(alloc, given, &handed))
+}
+
 #[test]
 fn a_result_is_made_and_judged(rt: HostRuntime) -> Result<(), Fail> {
     let given = book(rt.alloc())?;
-    let mut handed = made(rt.alloc(), &given.request, &given.input)?;
-    assert!(rt; are_counted(&handed.outputs));
-    assert!(rt; verdict(rt.alloc(), &given, &handed) == Ok(9));
-    change(rt.alloc(), &mut handed)?;
-    assert!(rt;
-        verdict(rt.alloc(), &given, &handed)
-            == Err(No::OutputDiffers {
-                partition: 1,
-                at: 4
-            })
-    );
+    assert!(rt; verdict_as_made(rt.alloc(), &given)? == Some(Ok(9)));
     Ok(())
+}
+
+#[test]
+fn a_changed_byte_is_told(rt: HostRuntime) -> Result<(), Fail> {
+    let given = book(rt.alloc())?;
+    let want = No::OutputDiffers {
+        partition: 1,
+        at: 4,
+    };
+    assert!(rt; verdict_changed(rt.alloc(), &given)? == Err(want));
+    Ok(())
+}
+
+/// How many pairs the judge says yes to, how often it was told how far it is, and how often too far.
+fn watched_book(alloc: Global) -> Result<(u64, u64, u64), Trouble> {
+    let given = book(alloc)?;
+    let watch = Counting::new();
+    let pairs = watched(alloc, &given, &watch)?;
+    Ok((
+        pairs,
+        watch.told.load(Ordering::SeqCst),
+        watch.past.load(Ordering::SeqCst),
+    ))
 }
 
 /// Mapping, reducing twice, and for the judge mapping and judging.
 #[test]
 fn somebody_looks_on(rt: HostRuntime) -> Result<(), Fail> {
-    let given = book(rt.alloc())?;
-    let watch = Counting::new();
-    assert!(rt; watched(rt.alloc(), &given, &watch)? == 9);
-    assert!(rt; watch.told.load(Ordering::SeqCst) == 5);
-    assert!(rt; watch.past.load(Ordering::SeqCst) == 0);
+    assert!(rt; watched_book(rt.alloc())? == (9, 5, 0));
     Ok(())
 }

@@ -72,29 +72,57 @@ fn merges_to(
     Ok(merge_parts(alloc, job, outputs)?.as_slice() == want)
 }
 
+// Outputs, and the text that they are merged to.
+#[derive(Clone, Copy)]
+struct Row<'a> {
+    outputs: &'a [Output<'a>],
+    want: &'a [u8],
+}
+
+const WITH_TOTALS: [Row<'static>; 2] = [
+    Row {
+        outputs: &[],
+        want: b"",
+    },
+    Row {
+        outputs: &TOTALS,
+        want: b"a\t2\nb\t1\nthe\t47\nzoo\t1\n",
+    },
+];
+
+const WITH_TABS: [Row<'static>; 1] = [Row {
+    outputs: &KEYS_WITH_TABS,
+    want: b"/a\t9\n/a\tb\t5\n/c\t1\n",
+}];
+
+const WITH_PLACES: [Row<'static>; 2] = [
+    Row {
+        outputs: &PLACES,
+        want: b"ax\t0:0\nx\t1:7\nx\t1:9\nx\t2:3\nx\t3:1\nzx\t2:5\n",
+    },
+    Row {
+        outputs: &PIECES,
+        want: b"ax\t0:0\nx\t1:7\nx\t1:9\nx\t2:3\nyx\t0:4\nzx\t2:5\n",
+    },
+];
+
+// Whether each row's outputs are merged to its text.
+fn are_merged(alloc: Global, job: &Job, rows: &[Row<'_>]) -> bool {
+    for row in rows {
+        if merges_to(alloc, job, row.outputs, row.want) != Ok(true) {
+            return false;
+        }
+    }
+    true
+}
+
 /// Totals are added, keys may hold tabs, and places follow by file.
 #[test]
 fn outputs_are_merged(rt: HostRuntime) -> Result<(), Fail> {
     let grep = Job::grep(rt.alloc(), b"x", false)?;
-    let words = Job::words(false);
-    let url = Job::url();
-    for (job, outputs, want) in [
-        (&words, [].as_slice(), b"".as_slice()),
-        (&words, &TOTALS, b"a\t2\nb\t1\nthe\t47\nzoo\t1\n"),
-        (&url, &KEYS_WITH_TABS, b"/a\t9\n/a\tb\t5\n/c\t1\n"),
-        (
-            &grep,
-            &PLACES,
-            b"ax\t0:0\nx\t1:7\nx\t1:9\nx\t2:3\nx\t3:1\nzx\t2:5\n",
-        ),
-        (
-            &grep,
-            &PIECES,
-            b"ax\t0:0\nx\t1:7\nx\t1:9\nx\t2:3\nyx\t0:4\nzx\t2:5\n",
-        ),
-    ] {
-        assert!(rt; merges_to(rt.alloc(), job, outputs, want) == Ok(true));
-    }
+    assert!(rt; are_merged(rt.alloc(), &grep, &WITH_PLACES));
+    assert!(rt; are_merged(rt.alloc(), &Job::words(false), &WITH_TOTALS));
+    assert!(rt; are_merged(rt.alloc(), &Job::url(), &WITH_TABS));
     Ok(())
 }
 
@@ -112,32 +140,47 @@ fn bad_line(alloc: Global, job: &Job, text: &[u8]) -> Result<Option<(usize, u64)
     }
 }
 
+// Texts of the job that counts words, and which line of the second output is bad then.
+const BAD_WITH_TOTALS: [(&[u8], Option<(usize, u64)>); 11] = [
+    (b"a\t1\nb\t2\n", None),
+    // A line without its line feed, or without a tab; no number, one with a zero in front, or one too large.
+    (b"a\t1\nb\t2", Some((1, 1))),
+    (b"a 1\n", Some((1, 0))),
+    (b"a\t\n", Some((1, 0))),
+    (b"a\t+1\n", Some((1, 0))),
+    (b"a\t01\n", Some((1, 0))),
+    (b"a\t18446744073709551615\n", None),
+    (b"a\t18446744073709551616\n", Some((1, 0))),
+    // Keys that do not rise.
+    (b"b\t1\na\t1\n", Some((1, 1))),
+    (b"a\t1\na\t1\n", Some((1, 1))),
+    // Another job's line.
+    (b"x\t0:0\n", Some((1, 0))),
+];
+
+// The same of a job that finds places.
+const BAD_WITH_PLACES: [(&[u8], Option<(usize, u64)>); 3] = [
+    (b"x\t0:0\nx\t0:2\n", None),
+    (b"x\t0:0\nax\t0:2\n", Some((1, 1))),
+    // Another job's line.
+    (b"x\t1\n", Some((1, 0))),
+];
+
+// Whether the bad line of each text is told, where it has one.
+fn are_told(alloc: Global, job: &Job, rows: &[(&[u8], Option<(usize, u64)>)]) -> bool {
+    for (text, want) in rows {
+        if bad_line(alloc, job, text) != Ok(*want) {
+            return false;
+        }
+    }
+    true
+}
+
 #[test]
 fn bad_lines(rt: HostRuntime) -> Result<(), Fail> {
     let grep = Job::grep(rt.alloc(), b"x", false)?;
-    let words = Job::words(false);
-    for (job, text, want) in [
-        (&words, b"a\t1\nb\t2\n".as_slice(), None),
-        // A line without its line feed, or without a tab; no number, one with a zero in front, or one too large.
-        (&words, b"a\t1\nb\t2", Some((1, 1))),
-        (&words, b"a 1\n", Some((1, 0))),
-        (&words, b"a\t\n", Some((1, 0))),
-        (&words, b"a\t+1\n", Some((1, 0))),
-        (&words, b"a\t01\n", Some((1, 0))),
-        (&words, b"a\t18446744073709551615\n", None),
-        (&words, b"a\t18446744073709551616\n", Some((1, 0))),
-        // Keys that do not rise.
-        (&words, b"b\t1\na\t1\n", Some((1, 1))),
-        (&words, b"a\t1\na\t1\n", Some((1, 1))),
-        // Another job's line.
-        (&words, b"x\t0:0\n", Some((1, 0))),
-        // With places, the same.
-        (&grep, b"x\t0:0\nx\t0:2\n", None),
-        (&grep, b"x\t0:0\nax\t0:2\n", Some((1, 1))),
-        (&grep, b"x\t1\n", Some((1, 0))),
-    ] {
-        assert!(rt; bad_line(rt.alloc(), job, text) == Ok(want));
-    }
+    assert!(rt; are_told(rt.alloc(), &grep, &BAD_WITH_PLACES));
+    assert!(rt; are_told(rt.alloc(), &Job::words(false), &BAD_WITH_TOTALS));
     Ok(())
 }
 

@@ -45,7 +45,6 @@ fn step(
 // taken: the merged text, or a fault.
 #[derive(Clone, Copy)]
 struct Row<'a> {
-    job: &'a Job,
     first: &'a [u8],
     second: &'a [u8],
     from: usize,
@@ -56,6 +55,7 @@ struct Row<'a> {
 // The texts, merged in windows of so many bytes.
 fn in_windows(
     alloc: Global,
+    job: &Job,
     row: &Row<'_>,
     width: usize,
     out: &mut Vec<u8>,
@@ -69,7 +69,7 @@ fn in_windows(
             window_at(row.first, at.0, wide),
             window_at(row.second, at.1, wide),
         ];
-        let next = step(alloc, row.job, &mut merger, &windows, out, at)?;
+        let next = step(alloc, job, &mut merger, &windows, out, at)?;
         if windows[0].is_last && windows[1].is_last {
             return Ok(());
         }
@@ -84,18 +84,28 @@ fn in_windows(
 }
 
 // Whether this comes of windows of that width.
-fn comes_to(alloc: Global, row: &Row<'_>, width: usize) -> bool {
+fn comes_to(alloc: Global, job: &Job, row: &Row<'_>, width: usize) -> bool {
     let mut out = Vec::new(alloc);
-    match in_windows(alloc, row, width, &mut out) {
+    match in_windows(alloc, job, row, width, &mut out) {
         Ok(()) => row.want == Ok(out.as_slice()),
         Err(fault) => row.want == Err(fault),
     }
 }
 
 // Whether it comes of windows of each width.
-fn always_comes_to(alloc: Global, row: &Row<'_>) -> bool {
+fn always_comes_to(alloc: Global, job: &Job, row: &Row<'_>) -> bool {
     for width in row.from..40 {
-        if !comes_to(alloc, row, width) {
+        if !comes_to(alloc, job, row, width) {
+            return false;
+        }
+    }
+    true
+}
+
+// Whether that is so of each row.
+fn always_come_to(alloc: Global, job: &Job, rows: &[Row<'_>]) -> bool {
+    for row in rows {
+        if !always_comes_to(alloc, job, row) {
             return false;
         }
     }
@@ -105,60 +115,58 @@ fn always_comes_to(alloc: Global, row: &Row<'_>) -> bool {
 // Line 3 of the first text is bad.
 const BAD_LINE: MergeFault = MergeFault::BadLine { shard: 0, line: 3 };
 
+const TOTALS: [Row<'static>; 2] = [
+    // Totals of one key come together.
+    Row {
+        first: b"a\t1\nb\t1\nc\t2\n",
+        second: b"b\t2\nc\t1\nd\t1\n",
+        from: 1,
+        grows: true,
+        want: Ok(b"a\t1\nb\t3\nc\t3\nd\t1\n"),
+    },
+    // A key falls behind a piece.
+    Row {
+        first: b"a\t1\nb\t1\nc\t2\nbb\t1\n",
+        second: b"c\t1\nd\t1\n",
+        from: 1,
+        grows: true,
+        want: Err(BAD_LINE),
+    },
+];
+
+const PLACES: [Row<'static>; 3] = [
+    // As whole outputs are merged.
+    Row {
+        first: b"ax\t0:0\nx\t1:7\nx\t1:9\nyx\t0:4\n",
+        second: b"x\t0:3\nzx\t0:5\n",
+        from: 1,
+        grows: true,
+        want: Ok(b"ax\t0:0\nx\t1:7\nx\t1:9\nx\t2:3\nyx\t0:4\nzx\t2:5\n"),
+    },
+    // Lines of one key, place by place.
+    Row {
+        first: b"x\t0:0\nx\t0:2\nx\t0:4\nx\t1:0\nx\t1:2\nx\t1:4\ny\t0:6\n",
+        second: b"a\t0:8\nx\t0:0\nx\t0:2\nx\t0:4\nx\t0:6\n",
+        from: 12,
+        grows: false,
+        want: Ok(
+            b"a\t2:8\nx\t0:0\nx\t0:2\nx\t0:4\nx\t1:0\nx\t1:2\nx\t1:4\nx\t2:0\nx\t2:2\nx\t2:4\nx\t2:6\ny\t0:6\n",
+        ),
+    },
+    // Places that fall within a key.
+    Row {
+        first: b"x\t0:0\nx\t0:2\nx\t0:4\nax\t0:6\n",
+        second: b"x\t0:0\nx\t0:2\n",
+        from: 1,
+        grows: true,
+        want: Err(BAD_LINE),
+    },
+];
+
 #[test]
 fn merged_in_windows(rt: HostRuntime) -> Result<(), Fail> {
     let grep = Job::grep(rt.alloc(), b"x", false)?;
-    let words = Job::words(false);
-    for row in [
-        // With places, as whole outputs are merged.
-        Row {
-            job: &grep,
-            first: b"ax\t0:0\nx\t1:7\nx\t1:9\nyx\t0:4\n",
-            second: b"x\t0:3\nzx\t0:5\n",
-            from: 1,
-            grows: true,
-            want: Ok(b"ax\t0:0\nx\t1:7\nx\t1:9\nx\t2:3\nyx\t0:4\nzx\t2:5\n"),
-        },
-        // Lines of one key, place by place.
-        Row {
-            job: &grep,
-            first: b"x\t0:0\nx\t0:2\nx\t0:4\nx\t1:0\nx\t1:2\nx\t1:4\ny\t0:6\n",
-            second: b"a\t0:8\nx\t0:0\nx\t0:2\nx\t0:4\nx\t0:6\n",
-            from: 12,
-            grows: false,
-            want: Ok(
-                b"a\t2:8\nx\t0:0\nx\t0:2\nx\t0:4\nx\t1:0\nx\t1:2\nx\t1:4\nx\t2:0\nx\t2:2\nx\t2:4\nx\t2:6\ny\t0:6\n",
-            ),
-        },
-        // Places that fall within a key.
-        Row {
-            job: &grep,
-            first: b"x\t0:0\nx\t0:2\nx\t0:4\nax\t0:6\n",
-            second: b"x\t0:0\nx\t0:2\n",
-            from: 1,
-            grows: true,
-            want: Err(BAD_LINE),
-        },
-        // Totals of one key come together.
-        Row {
-            job: &words,
-            first: b"a\t1\nb\t1\nc\t2\n",
-            second: b"b\t2\nc\t1\nd\t1\n",
-            from: 1,
-            grows: true,
-            want: Ok(b"a\t1\nb\t3\nc\t3\nd\t1\n"),
-        },
-        // A key falls behind a piece.
-        Row {
-            job: &words,
-            first: b"a\t1\nb\t1\nc\t2\nbb\t1\n",
-            second: b"c\t1\nd\t1\n",
-            from: 1,
-            grows: true,
-            want: Err(BAD_LINE),
-        },
-    ] {
-        assert!(rt; always_comes_to(rt.alloc(), &row));
-    }
+    assert!(rt; always_come_to(rt.alloc(), &grep, &PLACES));
+    assert!(rt; always_come_to(rt.alloc(), &Job::words(false), &TOTALS));
     Ok(())
 }
