@@ -83,41 +83,57 @@ fn is_good(alloc: Global, given: &Given, texts: (&[u8], &[u8])) -> Result<Option
     Ok(Some(want.is_ok()))
 }
 
+/// Outputs and certificates, and whether they are a good result.
+const ROWS: [(&[u8], &[u8], bool); 4] = [
+    (&OUTPUT, &CERTIFICATE, true),
+    (b"a\t2\nb\t1\n\0", &CERTIFICATE, false),
+    (b"a\t2\nb\t1", &CERTIFICATE, false),
+    (b"a\t3\nb\t1\n", &CERTIFICATE, false),
+];
+
+/// Whether that is so of each row.
+fn are_judged(alloc: Global, given: &Given) -> Result<bool, Fail>
+    requires { split_total given.now.request.split given.now.input ≤ 2 ^ 20 }
+{
+    for (output, certificate, want) in &ROWS {
+        if is_good(alloc, given, (output, certificate))? != Some(*want) {
+            return Ok(false);
+        }
+    }
+    Ok(true)
+}
+
 #[test]
 fn readers_are_judged_as_bytes_at_hand(rt: HostRuntime) -> Result<(), Fail> {
     let given = few_words(rt.alloc(), 1)?;
-    for (output, certificate, want) in [
-        (OUTPUT.as_slice(), CERTIFICATE.as_slice(), true),
-        (OUTPUT.as_slice(), &CERTIFICATE[..91], false),
-        (b"a\t2\nb\t1\n\0".as_slice(), CERTIFICATE.as_slice(), false),
-        (b"a\t2\nb\t1".as_slice(), CERTIFICATE.as_slice(), false),
-        (b"a\t3\nb\t1\n".as_slice(), CERTIFICATE.as_slice(), false),
-    ] {
-        assert!(rt; is_good(rt.alloc(), &given, (output, certificate))? == Some(want));
-    }
+    assert!(rt; are_judged(rt.alloc(), &given)?);
+    assert!(rt; is_good(rt.alloc(), &given, (&OUTPUT, &CERTIFICATE[..91]))? == Some(false));
     Ok(())
 }
 
 /// Why the judge refuses the good result, where each reader gives a byte a call and such a call fails.
 fn fault_of(
     alloc: Global,
+    given: &Given,
     output: Option<u64>,
     certificate: Option<u64>,
-) -> Result<Option<No>, Fail> {
-    let given = few_words(alloc, 1)?;
+) -> Result<Option<No>, Fail>
+    requires { split_total given.now.request.split given.now.input ≤ 2 ^ 20 }
+{
     let output = reader(alloc, &OUTPUT, 1, output)?;
     let certificate = reader(alloc, &CERTIFICATE, 1, certificate)?;
-    Ok(told_from(alloc, &given, output, certificate).err())
+    Ok(told_from(alloc, given, output, certificate).err())
 }
 
 /// The certificate's 81st call is behind its first group; the output's first call is the first of all.
 #[test]
 fn a_failed_read_is_told(rt: HostRuntime) -> Result<(), Fail> {
+    let given = few_words(rt.alloc(), 1)?;
     for (output, certificate, from) in [
         (None, Some(81), Source::Certificate),
         (Some(1), None, Source::Output(0)),
     ] {
-        assert!(rt; fault_of(rt.alloc(), output, certificate)? == Some(No::Device(from)));
+        assert!(rt; fault_of(rt.alloc(), &given, output, certificate)? == Some(No::Device(from)));
     }
     Ok(())
 }
