@@ -8,6 +8,7 @@ pub mod FixedSets
 pub mod IdleTasks
 pub mod Indexed
 pub mod Inserts
+pub mod Lookups
 pub mod Missing
 pub mod Moves
 pub mod Outcomes

@@ -251,17 +251,32 @@ impl Tables {
     pub(crate) fn new(alloc: Global, shape: Shape) -> Result<Tables, AllocError>
         ensures { IfOk result (λ t. t ≡ opening shape) }
     {
+        let lost = copies(alloc, false, shape.workers)?;
+        let attempts = Attempts::new(alloc, shape.maps, shape.parts, shape.workers)?;
+        let (splits, committed, failures) = open_tasks(alloc, shape)?;
         Ok(Tables {
-            lost: copies(alloc, false, shape.workers)?,
-            splits: Splits::new(alloc, shape.maps)?,
-            committed: Outputs::new(alloc, shape.parts)?,
-            attempts: Attempts::new(alloc, shape.maps, shape.parts, shape.workers)?,
-            failures: none_failed(alloc, shape.maps)?,
+            lost,
+            splits,
+            committed,
+            attempts,
+            failures,
             end: None,
             next_map: 0,
             next_part: 0,
         })
     }
+}
+
+/// What stands of the tasks at the opening: the splits, the partitions' outputs, and the failures in each split.
+fn open_tasks(alloc: Global, shape: Shape) -> Result<(Splits, Outputs, Vec<Failed>), AllocError>
+    ensures splits { IfOk result (λ r. r.0 ≡ (opening shape).splits) }
+    ensures committed { IfOk result (λ r. r.1 ≡ (opening shape).committed) }
+    ensures failures { IfOk result (λ r. r.2.items ≡ (opening shape).failures) }
+{
+    let splits = Splits::new(alloc, shape.maps)?;
+    let committed = Outputs::new(alloc, shape.parts)?;
+    let failures = none_failed(alloc, shape.maps)?;
+    Ok((splits, committed, failures))
 }
 
 fn first_of(output: Option<(u64, u32)>) -> Option<u64>
