@@ -2,11 +2,10 @@
 ghost use Rattle.std.specs.Prelude.{◌≡◌, [], IfOk};
 
 use crate::regions::show_pairs;
-use crate::telling;
+use crate::telling::Teller;
 use mr_bytes::{Name, Pair, Value};
 use mr_spill::{Buffer, Pairs, PushFault, PushRefusal, SealedRun};
 use std::alloc::{AllocError, Global};
-use std::io;
 
 fn name(place: u32) -> Name
     ensures { result ≡ record { split = 0; rec = 0; place = place } }
@@ -27,44 +26,44 @@ fn fill(buffer: &mut Buffer) -> Result<(), PushRefusal>
     buffer.push_key(b"b", Value::One, name(2))
 }
 
-fn show_regions(rt: &HostRuntime, regions: &[Pairs]) -> io::Result<()> {
+fn show_regions(teller: &Teller, regions: &[Pairs]) {
     for region in regions {
-        show_pairs(rt, region)?;
+        show_pairs(teller, region);
     }
-    Ok(())
 }
 
 /// The regions for so many partitions of what it holds.
-fn seal(rt: &HostRuntime, buffer: &mut Buffer, parts: u32) -> io::Result<()> {
-    let regions = buffer.seal(rt.alloc(), parts.max(1))?;
-    show_regions(rt, &regions)
-}
-
-/// Its regions, how many pairs it holds behind them, and the regions of those.
-fn show_sealed(rt: &HostRuntime, buffer: &mut Buffer, parts: u32) -> io::Result<()> {
-    seal(rt, buffer, parts)?;
-    rt.println(buffer.len())?;
-    seal(rt, buffer, parts)
-}
-
-/// A run, and how many pairs the buffer holds behind it.
-fn show_run_of(rt: &HostRuntime, run: &SealedRun, left: usize) -> io::Result<()> {
-    telling::two(rt, &run.parts(), &left)?;
-    for p in 0..run.parts() {
-        let region = run.region(p);
-        telling::two(rt, &region.is_sealed(), &region.bytes().len())?;
-    }
+fn seal(teller: &Teller, buffer: &mut Buffer, parts: u32) -> Result<(), AllocError> {
+    let regions = buffer.seal(teller.alloc(), parts.max(1))?;
+    show_regions(teller, &regions);
     Ok(())
 }
 
+/// Its regions, how many pairs it holds behind them, and the regions of those.
+fn show_sealed(teller: &Teller, buffer: &mut Buffer, parts: u32) -> Result<(), AllocError> {
+    seal(teller, buffer, parts)?;
+    teller.line(&buffer.len());
+    seal(teller, buffer, parts)
+}
+
+/// A run, and how many pairs the buffer holds behind it.
+fn show_run_of(teller: &Teller, run: &SealedRun, left: usize) {
+    teller.two(&run.parts(), &left);
+    for p in 0..run.parts() {
+        let region = run.region(p);
+        teller.two(&region.is_sealed(), &region.bytes().len());
+    }
+}
+
 /// A run of one pair.
-fn show_run(rt: &HostRuntime) -> io::Result<()> {
-    let mut buffer = Buffer::new(rt.alloc(), 1);
+fn show_run(teller: &Teller) -> Result<(), AllocError> {
+    let mut buffer = Buffer::new(teller.alloc(), 1);
     if buffer.push_key(b"a", Value::One, name(0)).is_err() {
         return Ok(());
     }
-    let run = buffer.seal_run(rt.alloc(), 0, 1)?;
-    show_run_of(rt, &run, buffer.len())
+    let run = buffer.seal_run(teller.alloc(), 0, 1)?;
+    show_run_of(teller, &run, buffer.len());
+    Ok(())
 }
 
 fn pair(alloc: Global, key: &[u8], value: Value, name: Name) -> Result<Pair, AllocError>
@@ -98,29 +97,33 @@ fn refused(alloc: Global) -> Result<Option<PushFault>, AllocError> {
 }
 
 /// What is refused, how it is told, and how want of memory is.
-fn show_refused(rt: &HostRuntime) -> io::Result<()> {
-    if let Some(fault) = refused(rt.alloc())? {
-        telling::fault(rt, &fault)?;
+fn show_refused(teller: &Teller) -> Result<(), AllocError> {
+    if let Some(fault) = refused(teller.alloc())? {
+        teller.fault(&fault);
     }
-    let last = pair(rt.alloc(), b"a", Value::One, name(0))?;
-    rt.println(PushFault::OutOfMemory(last))
+    let last = pair(teller.alloc(), b"a", Value::One, name(0))?;
+    teller.line(&PushFault::OutOfMemory(last));
+    Ok(())
 }
 
 /// A buffer of so many pairs, filled.
-fn show_filled(rt: &HostRuntime, limit: usize, parts: u32) -> io::Result<()> {
-    let mut buffer = Buffer::new(rt.alloc(), limit);
+fn show_filled(teller: &Teller, limit: usize, parts: u32) -> Result<(), AllocError> {
+    let mut buffer = Buffer::new(teller.alloc(), limit);
     match fill(&mut buffer) {
-        Ok(()) => show_sealed(rt, &mut buffer, parts),
-        Err(fault) => telling::fault(rt, &fault),
+        Ok(()) => show_sealed(teller, &mut buffer, parts),
+        Err(fault) => {
+            teller.fault(&fault);
+            Ok(())
+        }
     }
 }
 
 /// Tells the regions of `b a b` for one partition and for two, and where only two pairs may be; a run; and a pair that is
 /// handed back.
-pub fn answer(rt: &HostRuntime) -> io::Result<()> {
-    show_filled(rt, 3, 1)?;
-    show_filled(rt, 3, 2)?;
-    show_filled(rt, 2, 1)?;
-    show_run(rt)?;
-    show_refused(rt)
+pub fn answer(teller: &Teller) -> Result<(), AllocError> {
+    show_filled(teller, 3, 1)?;
+    show_filled(teller, 3, 2)?;
+    show_filled(teller, 2, 1)?;
+    show_run(teller)?;
+    show_refused(teller)
 }

@@ -4,12 +4,12 @@
 //! does, the items are told that the walk over that reader gives.
 ghost use Rattle.std.specs.Prelude.{◌≡◌, ◌≤◌, [], length, OnOk};
 
-use crate::{streaming, telling};
+use crate::streaming;
+use crate::telling::Teller;
 use mr_bytes::Name;
 use mr_certform::{Builder, Certificate, Groups, Header, Item, ReadFault, Walker, read, write};
 use mr_store::{MemoryWriter, write_spelled};
 use std::alloc::{AllocError, Global};
-use std::fmt::Debug;
 use std::io;
 
 /// As many bytes as a certificate has at most whose names and items are told one by one.
@@ -59,86 +59,69 @@ fn example(alloc: Global) -> Result<Certificate, AllocError> {
 }
 
 /// Tells one step of the walk, and whether another item may stand behind.
-fn step(rt: &HostRuntime, walker: &mut Walker<'_>) -> io::Result<bool> {
+fn step(teller: &Teller, walker: &mut Walker<'_>) -> bool {
     match walker.next() {
         Ok(item) => {
-            telling::one(rt, &item)?;
-            Ok(item != Item::End)
+            teller.one(&item);
+            item != Item::End
         }
         Err(fault) => {
-            println!(rt; "stops at {}", fault.at)?;
-            Ok(false)
+            teller.named("stops at ", &fault.at);
+            false
         }
     }
 }
 
 /// Tells the items, and once more what ends them.
-fn walk(rt: &HostRuntime, bytes: &[u8]) -> io::Result<()> {
+fn walk(teller: &Teller, bytes: &[u8]) {
     let mut walker = Walker::new(bytes);
     for _ in 0..SHORT {
-        if !step(rt, &mut walker)? {
+        if !step(teller, &mut walker) {
             break;
         }
     }
-    step(rt, &mut walker)?;
-    Ok(())
+    step(teller, &mut walker);
 }
 
 /// Tells the job, its flags and its literal.
-fn show_job(rt: &HostRuntime, certificate: &Certificate) -> io::Result<()> {
-    let literal = certificate.literal();
-    println!(rt;
-        "job {} flags {} literal {literal:?}",
-        certificate.job(),
-        certificate.flags()
-    )
-}
-
-/// Two values, each behind its name.
-fn show_two<A: Debug, B: Debug>(
-    rt: &HostRuntime,
-    names: [&str; 2],
-    a: &A,
-    b: &B,
-) -> io::Result<()> {
-    let [first, second] = names;
-    println!(rt; "{first} {a:?} {second} {b:?}")
+fn show_job(teller: &Teller, certificate: &Certificate) {
+    teller.behind("job ", &certificate.job());
+    teller.behind(" flags ", &certificate.flags());
+    teller.named(" literal ", &certificate.literal());
 }
 
 /// Tells what a certificate says before its groups.
-fn show(rt: &HostRuntime, certificate: &Certificate) -> io::Result<()> {
-    show_job(rt, certificate)?;
-    let (parts, size) = (certificate.parts(), certificate.split_size());
-    show_two(rt, ["parts", "split"], &parts, &size)?;
-    let (lengths, skips) = (certificate.lengths(), certificate.skips());
-    show_two(rt, ["lengths", "skips"], &lengths, &skips)?;
-    println!(rt; "total {}", certificate.total())
+fn show(teller: &Teller, certificate: &Certificate) {
+    show_job(teller, certificate);
+    teller.behind("parts ", &certificate.parts());
+    teller.named(" split ", &certificate.split_size());
+    teller.behind("lengths ", &certificate.lengths());
+    teller.named(" skips ", &certificate.skips());
+    teller.named("total ", &certificate.total());
 }
 
 /// Tells the names of each group of a partition.
-fn show_groups(rt: &HostRuntime, mut groups: Groups<'_>) -> io::Result<()> {
+fn show_groups(teller: &Teller, mut groups: Groups<'_>) {
     for _ in 0..SHORT {
         match groups.next_group() {
-            Some(names) => println!(rt; "group {names:?}")?,
+            Some(names) => teller.named("group ", &names),
             None => break,
         }
     }
-    Ok(())
 }
 
 /// Tells the groups of each partition.
-fn show_partitions(rt: &HostRuntime, certificate: &Certificate) -> io::Result<()> {
+fn show_partitions(teller: &Teller, certificate: &Certificate) {
     let mut partitions = certificate.partitions();
     for _ in 0..SHORT {
         match partitions.next_partition() {
             Some(groups) => {
-                println!(rt; "partition")?;
-                show_groups(rt, groups)?;
+                teller.line(&"partition");
+                show_groups(teller, groups);
             }
             None => break,
         }
     }
-    Ok(())
 }
 
 /// Whether the certificate is written as these bytes onto a writer, which is given them piece by piece.
@@ -159,50 +142,59 @@ fn is_written_again(
 }
 
 /// Tells the certificate that was read of the bytes, and whether it is written as they are.
-fn show_read(rt: &HostRuntime, certificate: &Certificate, bytes: &[u8]) -> io::Result<()> {
-    show(rt, certificate)?;
-    let again = is_written_again(rt.alloc(), certificate, bytes)?;
-    println!(rt; "written again: {again}")?;
+fn show_read(teller: &Teller, certificate: &Certificate, bytes: &[u8]) -> Result<(), AllocError> {
+    show(teller, certificate);
+    let again = is_written_again(teller.alloc(), certificate, bytes)?;
+    teller.named("written again: ", &again);
     if bytes.len() <= SHORT {
-        show_partitions(rt, certificate)?;
+        show_partitions(teller, certificate);
     }
     Ok(())
 }
 
 /// Tells the certificate that the bytes spell, or where they are malformed.
-fn tell(rt: &HostRuntime, bytes: &[u8]) -> io::Result<()> {
-    match read(rt.alloc(), bytes) {
-        Ok(certificate) => show_read(rt, &certificate, bytes),
-        Err(fault) => rt.println(fault),
+fn tell(teller: &Teller, bytes: &[u8]) -> Result<(), AllocError> {
+    match read(teller.alloc(), bytes) {
+        Ok(certificate) => show_read(teller, &certificate, bytes),
+        Err(fault) => {
+            teller.line(&fault);
+            Ok(())
+        }
     }
 }
 
-/// Tells the bytes of the example that is built, and how want of memory is told.
-fn tell_example(rt: &HostRuntime) -> io::Result<()> {
-    let certificate = example(rt.alloc())?;
-    let bytes = write(rt.alloc(), &certificate)?;
-    telling::one(rt, &bytes)?;
-    rt.println(ReadFault::OutOfMemory)
+/// The bytes of the example that is built.
+fn example_bytes(alloc: Global) -> Result<Vec<u8>, AllocError> {
+    let certificate = example(alloc)?;
+    write(alloc, &certificate)
+}
+
+/// Tells those bytes, and how want of memory is told.
+fn tell_example(teller: &Teller) -> Result<(), AllocError> {
+    teller.one(&example_bytes(teller.alloc())?);
+    teller.line(&ReadFault::OutOfMemory);
+    Ok(())
 }
 
 /// Answers these bytes, where no words stand behind the first.
-fn answer_bytes(rt: &HostRuntime, bytes: &[u8]) -> io::Result<()> {
+fn answer_bytes(teller: &Teller, bytes: &[u8]) -> Result<(), AllocError> {
     if bytes.is_empty() {
-        return tell_example(rt);
+        return tell_example(teller);
     }
-    tell(rt, bytes)?;
+    tell(teller, bytes)?;
     if bytes.len() <= SHORT {
-        walk(rt, bytes)?;
+        walk(teller, bytes);
     }
     Ok(())
 }
 
 /// Answers standard input, by these words.
-pub fn answer(rt: &HostRuntime, words: &[String]) -> io::Result<()> {
-    let bytes = telling::all_bytes(rt)?;
+pub fn answer(teller: &Teller, words: &[String]) -> io::Result<()> {
+    let bytes = teller.all_bytes()?;
     let Some(most) = words.first() else {
-        return answer_bytes(rt, &bytes);
+        return Ok(answer_bytes(teller, &bytes)?);
     };
     let failing = words.get(1).and_then(|word| word.parse().ok());
-    streaming::walk(rt, bytes, most.parse().unwrap_or(1), failing)
+    streaming::walk(teller, bytes, most.parse().unwrap_or(1), failing)?;
+    Ok(())
 }

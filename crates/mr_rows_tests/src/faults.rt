@@ -1,32 +1,27 @@
 //! The texts of faults that no row brings about, both ways in which those of several are told, and whether faults are one.
-use crate::telling;
+use crate::telling::Teller;
 use mr_input::InputFault;
 use mr_jobs::JobFault;
 use mr_merge::MergeFault;
 use mr_spill::PushRefusal;
 use mr_splits::{PlanFault, SkipFault};
 use mr_task::TaskFault;
-use std::io;
 
 /// Of inputs, jobs and plans.
-fn show_asked(rt: &HostRuntime) -> io::Result<()> {
+fn show_asked(teller: &Teller) {
     let [bad, many] = [PlanFault::BadSplitSize, PlanFault::TooManySplits];
     let [skips, order] = [SkipFault::TooMany, SkipFault::Order];
-    println!(rt;
-        "{} {} {} {} {} {}",
-        InputFault::TooLarge,
-        JobFault::OutOfMemory,
-        PlanFault::OutOfMemory,
-        bad == many,
-        skips == order,
-        order == SkipFault::NoSuchRecord
-    )
+    teller.shown(&InputFault::TooLarge, " ");
+    teller.shown(&JobFault::OutOfMemory, " ");
+    teller.shown(&PlanFault::OutOfMemory, " ");
+    teller.before(&(bad == many), " ");
+    teller.two(&(skips == order), &(order == SkipFault::NoSuchRecord));
 }
 
 /// Those, and want of memory of buffers, merging and tasks.
-pub fn answer(rt: &HostRuntime) -> io::Result<()> {
-    show_asked(rt)?;
-    let (push, merge) = (PushRefusal::OutOfMemory, MergeFault::OutOfMemory);
-    print!(rt; "{push} {push:?} {merge} {merge:?} ")?;
-    telling::fault(rt, &TaskFault::OutOfMemory)
+pub fn answer(teller: &Teller) {
+    show_asked(teller);
+    teller.fault_part(&PushRefusal::OutOfMemory);
+    teller.fault_part(&MergeFault::OutOfMemory);
+    teller.fault(&TaskFault::OutOfMemory);
 }

@@ -2,37 +2,42 @@
 //! behind the first are what the second part is, and what the certificate is: 0 for not there, 1 for a file, 2 for one of
 //! which each use fails.
 use crate::inputs::numbers_of;
-use crate::telling;
+use crate::telling::Teller;
 use mr_files::{FileFault, MemoryFiles, read_file, write_files, write_named};
 use mr_store::Bytes;
 use std::alloc::{AllocError, Global};
-use std::io;
 
-fn show_fault(rt: &HostRuntime, fault: FileFault) -> io::Result<()> {
+fn show_fault(teller: &Teller, fault: FileFault) {
     match fault {
-        FileFault::CannotRead(name) => println!(rt; "cannot read {name}"),
-        FileFault::CannotWrite(name) => println!(rt; "cannot write {name}"),
-        FileFault::OutOfMemory => rt.println("OutOfMemory"),
+        FileFault::CannotRead(name) => {
+            teller.text("cannot read ");
+            teller.line(&name);
+        }
+        FileFault::CannotWrite(name) => {
+            teller.text("cannot write ");
+            teller.line(&name);
+        }
+        FileFault::OutOfMemory => teller.line(&"OutOfMemory"),
     }
 }
 
-fn show_file(rt: &HostRuntime, store: &MemoryFiles, name: &str) -> io::Result<()> {
-    match read_file(store, rt.alloc(), name) {
-        Ok(bytes) => telling::one(rt, &bytes),
-        Err(fault) => show_fault(rt, fault),
+fn show_file(teller: &Teller, store: &MemoryFiles, name: &str) {
+    match read_file(store, teller.alloc(), name) {
+        Ok(bytes) => teller.one(&bytes),
+        Err(fault) => show_fault(teller, fault),
     }
 }
 
-fn show_files(rt: &HostRuntime, store: &MemoryFiles) -> io::Result<()> {
-    show_file(rt, store, "d/part-00000")?;
-    show_file(rt, store, "d/part-00001")?;
-    show_file(rt, store, "d/certificate")
+fn show_files(teller: &Teller, store: &MemoryFiles) {
+    show_file(teller, store, "d/part-00000");
+    show_file(teller, store, "d/part-00001");
+    show_file(teller, store, "d/certificate");
 }
 
-fn show_written(rt: &HostRuntime, answer: Result<(), FileFault>) -> io::Result<()> {
+fn show_written(teller: &Teller, answer: Result<(), FileFault>) {
     match answer {
-        Ok(()) => rt.println("written"),
-        Err(fault) => show_fault(rt, fault),
+        Ok(()) => teller.line(&"written"),
+        Err(fault) => show_fault(teller, fault),
     }
 }
 
@@ -45,12 +50,13 @@ fn parts(alloc: Global) -> Result<Vec<Vec<u8>>, AllocError> {
 }
 
 /// Writes the parts and a certificate.
-fn write_parts(rt: &HostRuntime, store: &mut MemoryFiles) -> io::Result<()> {
-    let parts = parts(rt.alloc())?;
+fn write_parts(teller: &Teller, store: &mut MemoryFiles) -> Result<(), AllocError> {
+    let parts = parts(teller.alloc())?;
     show_written(
-        rt,
-        write_files(store, rt.alloc(), "d", &parts, &Bytes(b"new")),
-    )
+        teller,
+        write_files(store, teller.alloc(), "d", &parts, &Bytes(b"new")),
+    );
+    Ok(())
 }
 
 fn put(store: &mut MemoryFiles, name: &str, how: u32) -> Result<(), AllocError> {
@@ -60,18 +66,27 @@ fn put(store: &mut MemoryFiles, name: &str, how: u32) -> Result<(), AllocError> 
     }
 }
 
-fn work(rt: &HostRuntime, store: &mut MemoryFiles, numbers: [u32; 4]) -> io::Result<()> {
+/// Puts what the numbers tell of the second part and of the certificate.
+fn put_both(store: &mut MemoryFiles, numbers: [u32; 4]) -> Result<(), AllocError> {
     put(store, "d/part-00001", numbers[0])?;
-    put(store, "d/certificate", numbers[1])?;
-    show_files(rt, store)?;
-    write_parts(rt, store)?;
-    show_files(rt, store)?;
-    show_written(rt, write_named(store, rt.alloc(), "d/part-00001", b"dog"))?;
-    show_file(rt, store, "d/part-00001")
+    put(store, "d/certificate", numbers[1])
+}
+
+fn work(teller: &Teller, store: &mut MemoryFiles) -> Result<(), AllocError> {
+    show_files(teller, store);
+    write_parts(teller, store)?;
+    show_files(teller, store);
+    show_written(
+        teller,
+        write_named(store, teller.alloc(), "d/part-00001", b"dog"),
+    );
+    show_file(teller, store, "d/part-00001");
+    Ok(())
 }
 
 /// Tells the files before a result is written, and behind it, then those behind another text of the second part.
-pub fn answer(rt: &HostRuntime, words: &[String]) -> io::Result<()> {
-    let mut store = MemoryFiles::new(rt.alloc());
-    work(rt, &mut store, numbers_of(words))
+pub fn answer(teller: &Teller, words: &[String]) -> Result<(), AllocError> {
+    let mut store = MemoryFiles::new(teller.alloc());
+    put_both(&mut store, numbers_of(words))?;
+    work(teller, &mut store)
 }

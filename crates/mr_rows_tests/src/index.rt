@@ -7,6 +7,7 @@ ghost use Rattle.mr_index.specs.Index.{AreParts, triples_in, triples_of};
 
 use crate::inputs::{numbers_of, skips_of};
 use crate::runs::asked;
+use crate::telling::Teller;
 use mr_bytes::{Name, RecordName};
 use mr_index::{EmissionIndex, Meter, Part};
 use mr_input::Input;
@@ -125,7 +126,7 @@ fn joined(
 }
 
 /// The pair of that name, as it is found and as it is told, where there is one.
-fn show_pair(rt: &HostRuntime, index: &EmissionIndex, name: Name) -> io::Result<()> {
+fn show_pair(teller: &Teller, index: &EmissionIndex, name: Name) {
     let mut meter = UNUSED;
     let found = match index.find(name, &mut meter) {
         Some(found) => Some(found.get()),
@@ -133,86 +134,95 @@ fn show_pair(rt: &HostRuntime, index: &EmissionIndex, name: Name) -> io::Result<
     };
     let pair = index.pair(name, &mut meter);
     if found.is_none() && pair.is_none() {
-        return Ok(());
+        return;
     }
-    println!(rt; "{name:?} {found:?} {pair:?} {}", meter.lookups)
+    teller.before(&name, " ");
+    teller.before(&found, " ");
+    teller.two(&pair, &meter.lookups);
 }
 
 /// The pairs of the first four splits, of four records there, and of four places in each.
-fn show_index(rt: &HostRuntime, index: &EmissionIndex) -> io::Result<()> {
+fn show_index(teller: &Teller, index: &EmissionIndex) {
     for number in 0..64u32 {
         let name = Name {
             split: number / 16,
             rec: number / 4 % 4,
             place: number % 4,
         };
-        show_pair(rt, index, name)?;
+        show_pair(teller, index, name);
     }
-    Ok(())
 }
 
 /// How many pairs there are, what it took to find them, and what was told meanwhile.
-fn show_work(
-    rt: &HostRuntime,
-    index: &EmissionIndex,
-    meter: Meter,
-    watch: &Counting,
-) -> io::Result<()> {
-    println!(rt;
-        "{} {meter:?} told {} past {}",
-        index.total(),
-        watch.told.load(Ordering::SeqCst),
-        watch.past.load(Ordering::SeqCst)
-    )
+fn show_work(teller: &Teller, index: &EmissionIndex, meter: Meter, watch: &Counting) {
+    teller.before(&index.total(), " ");
+    teller.part(&meter);
+    teller.behind(" told ", &watch.told.load(Ordering::SeqCst));
+    teller.named(" past ", &watch.past.load(Ordering::SeqCst));
 }
 
-fn work(
-    rt: &HostRuntime,
+/// The index, made in that way: all at once, while somebody looks on, or split by split.
+fn index_by(
+    alloc: Global,
     plan: &Plan<'_>,
     job: &Job,
     skips: &[RecordName],
     way: u32,
-) -> io::Result<()> {
+    meter: &mut Meter,
+    watch: &Counting,
+) -> Result<EmissionIndex, AllocError>
+    requires { meter.old.mapped ≤ 2 ^ 63 }
+{
+    match way {
+        0 => index_of(alloc, plan, job, skips, meter),
+        1 => watched_index(alloc, plan, job, skips, meter, watch),
+        _ => joined(alloc, plan, job, skips),
+    }
+}
+
+fn work(
+    teller: &Teller,
+    plan: &Plan<'_>,
+    job: &Job,
+    skips: &[RecordName],
+    way: u32,
+) -> Result<(), AllocError> {
     let mut meter = UNUSED;
     let watch = Counting {
         told: AtomicU64::new(0),
         past: AtomicU64::new(0),
     };
-    let index = match way {
-        0 => index_of(rt.alloc(), plan, job, skips, &mut meter),
-        1 => watched_index(rt.alloc(), plan, job, skips, &mut meter, &watch),
-        _ => joined(rt.alloc(), plan, job, skips),
-    };
-    let index = index?;
-    show_work(rt, &index, meter, &watch)?;
-    show_index(rt, &index)
+    let index = index_by(teller.alloc(), plan, job, skips, way, &mut meter, &watch)?;
+    show_work(teller, &index, meter, &watch);
+    show_index(teller, &index);
+    Ok(())
 }
 
 /// Answers an input and a job, where these records are left out.
 fn answer_asked(
-    rt: &HostRuntime,
+    teller: &Teller,
     input: &Input,
     job: &Job,
     numbers: [u32; 4],
     skips: &[RecordName],
-) -> io::Result<()> {
+) -> Result<(), AllocError> {
     let [way, _, size, _] = numbers;
-    match Plan::of(rt.alloc(), input, size) {
-        Ok(plan) => work(rt, &plan, job, skips, way),
+    match Plan::of(teller.alloc(), input, size) {
+        Ok(plan) => work(teller, &plan, job, skips, way),
         Err(_) => Ok(()),
     }
 }
 
 /// Answers standard input, where these records are left out.
-fn answer_skips(rt: &HostRuntime, numbers: [u32; 4], skips: &[RecordName]) -> io::Result<()> {
-    match asked(rt, numbers[1])? {
-        Some((input, job)) => answer_asked(rt, &input, &job, numbers, skips),
+fn answer_skips(teller: &Teller, numbers: [u32; 4], skips: &[RecordName]) -> io::Result<()> {
+    match asked(teller, numbers[1])? {
+        Some((input, job)) => Ok(answer_asked(teller, &input, &job, numbers, skips)?),
         None => Ok(()),
     }
 }
 
 /// Answers standard input, by these words.
-pub fn answer(rt: &HostRuntime, words: &[String]) -> io::Result<()> {
-    let skips = skips_of(rt.alloc(), words)?;
-    answer_skips(rt, numbers_of(words), &skips)
+pub fn answer(teller: &Teller, words: &[String]) -> io::Result<()> {
+    let skips = skips_of(teller.alloc(), words)?;
+    answer_skips(teller, numbers_of(words), &skips)
 }

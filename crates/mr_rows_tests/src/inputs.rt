@@ -1,7 +1,7 @@
 //! Requests, inputs and plans. The words behind the first are how many partitions there are, the size of a split, how many
 //! records may be left out, and the names of those that are, as SPLIT:RECORD. Standard input is the files, each ended by a
 //! byte 0.
-use crate::telling;
+use crate::telling::Teller;
 use mr_bytes::{RecordName, cut};
 use mr_input::Input;
 use mr_jobs::{Job, Request};
@@ -54,140 +54,160 @@ fn files_of(alloc: Global, bytes: &[u8]) -> Result<Vec<Vec<u8>>, AllocError> {
 }
 
 /// The files of standard input.
-fn files(rt: &HostRuntime) -> io::Result<Vec<Vec<u8>>> {
-    let bytes = telling::all_bytes(rt)?;
-    Ok(files_of(rt.alloc(), &bytes)?)
+fn files(teller: &Teller) -> io::Result<Vec<Vec<u8>>> {
+    let bytes = teller.all_bytes()?;
+    Ok(files_of(teller.alloc(), &bytes)?)
 }
 
 /// The input of standard input, where it is one.
-pub fn input(rt: &HostRuntime) -> io::Result<Option<Input>> {
-    Ok(Input::of(files(rt)?).ok())
+pub fn input(teller: &Teller) -> io::Result<Option<Input>> {
+    Ok(Input::of(files(teller)?).ok())
 }
 
 /// How many files there are, and how each of the first ones begins.
-fn show_input(rt: &HostRuntime, input: &Input) -> io::Result<()> {
-    print!(rt; "{}", input.files())?;
+fn show_input(teller: &Teller, input: &Input) {
+    teller.part(&input.files());
     for i in 0..input.files().min(FEW as usize) {
         let file = input.file(i);
         let front = &file[..file.len().min(FEW as usize)];
-        print!(rt; "|{} {front:?}", input.len(i))?;
+        teller.two_behind_bar(&input.len(i), &front);
     }
-    rt.println("")
+    teller.end_line();
 }
 
 /// What a request asks for, and whether it fits the input.
-fn show_asked(rt: &HostRuntime, input: &Input, request: &Request) -> io::Result<()> {
-    telling::part(rt, &request.job().counts())?;
-    telling::four(
-        rt,
+fn show_asked(teller: &Teller, input: &Input, request: &Request) {
+    teller.part(&request.job().counts());
+    teller.four(
         &request.parts(),
         &request.split_size(),
         &request.max_skips(),
         &request.fits(input),
-    )
+    );
 }
 
-fn show_request(rt: &HostRuntime, input: &Input, numbers: [u32; 4]) -> io::Result<()> {
+fn show_request(teller: &Teller, input: &Input, numbers: [u32; 4]) {
     let [parts, size, most, _] = numbers;
     match Request::new(Job::words(false), parts, size, most) {
-        Ok(request) => show_asked(rt, input, &request),
-        Err(fault) => rt.println(fault),
+        Ok(request) => show_asked(teller, input, &request),
+        Err(fault) => teller.line(&fault),
     }
 }
 
 /// A record, by its bytes, and where it stands.
-fn show_record(rt: &HostRuntime, plan: &Plan<'_>, split: u32, rec: u32) -> io::Result<()> {
-    telling::part(rt, &plan.record_of(split, rec))?;
+fn show_record(teller: &Teller, plan: &Plan<'_>, split: u32, rec: u32) {
+    teller.part(&plan.record_of(split, rec));
     if !plan.has_record(RecordName { split, rec }) {
-        return rt.println("");
+        teller.end_line();
+        return;
     }
     let line = plan.located(split, rec);
     let number = plan.number_of(split, rec);
-    telling::four(rt, &line.file, &line.start, &line.bytes, &number)
+    teller.four(&line.file, &line.start, &line.bytes, &number);
 }
 
 /// A split, where there is one, its first records, and what is told of one that isn't there.
-fn show_split(rt: &HostRuntime, plan: &Plan<'_>, split: u32) -> io::Result<()> {
+fn show_split(teller: &Teller, plan: &Plan<'_>, split: u32) {
     let mut records = 0;
     if split < plan.splits() {
         records = plan.records_in(split).min(FEW);
-        telling::two(rt, &plan.split(split), &records)?;
+        teller.two(&plan.split(split), &records);
     }
     for rec in 0..=records {
-        show_record(rt, plan, split, rec)?;
+        show_record(teller, plan, split, rec);
     }
-    Ok(())
 }
 
 /// Whether the list leaves out each of the first records.
-fn show_left_out(rt: &HostRuntime, plan: &Plan<'_>, skips: &[RecordName]) -> io::Result<()> {
-    let left_out = plan.left_out(rt.alloc(), skips)?;
+fn show_left_out(teller: &Teller, plan: &Plan<'_>, skips: &[RecordName]) -> Result<(), AllocError> {
+    let left_out = plan.left_out(teller.alloc(), skips)?;
     for number in 0..plan.count().min(FEW as usize) {
-        print!(rt; "{} ", left_out.has(number))?;
+        teller.before(&left_out.has(number), " ");
     }
-    rt.println("")
-}
-
-/// The first records that are kept.
-fn show_kept(rt: &HostRuntime, kept: &Kept<'_>) -> io::Result<()> {
-    let mut all = kept.records();
-    for _ in 0..FEW {
-        match all.next() {
-            Some((name, line)) => print!(rt; "{name:?} {:?}|", line.bytes)?,
-            None => break,
-        }
-    }
-    rt.println("")
-}
-
-/// What is told of the list, and the first records that it leaves out, and leaves.
-fn show_list(rt: &HostRuntime, plan: &Plan<'_>, most: u32, skips: &[RecordName]) -> io::Result<()> {
-    telling::one(rt, &plan.list_fault(most, skips))?;
-    show_left_out(rt, plan, skips)?;
-    let kept = plan.kept(rt.alloc(), skips)?;
-    show_kept(rt, &kept)
-}
-
-/// The first splits, and one behind them.
-fn show_splits(rt: &HostRuntime, plan: &Plan<'_>) -> io::Result<()> {
-    println!(rt; "{} {} {}", plan.splits(), plan.size(), plan.count())?;
-    for split in 0..=plan.splits().min(FEW) {
-        show_split(rt, plan, split)?;
-    }
+    teller.end_line();
     Ok(())
 }
 
-fn show_plan(rt: &HostRuntime, plan: &Plan<'_>, most: u32, skips: &[RecordName]) -> io::Result<()> {
-    show_splits(rt, plan)?;
-    show_list(rt, plan, most, skips)
+/// The first records that are kept.
+fn show_kept(teller: &Teller, kept: &Kept<'_>) {
+    let mut all = kept.records();
+    for _ in 0..FEW {
+        match all.next() {
+            Some((name, line)) => {
+                teller.before(&name, " ");
+                teller.before(&line.bytes, "|");
+            }
+            None => break,
+        }
+    }
+    teller.end_line();
+}
+
+/// What is told of the list, and the first records that it leaves out, and leaves.
+fn show_list(
+    teller: &Teller,
+    plan: &Plan<'_>,
+    most: u32,
+    skips: &[RecordName],
+) -> Result<(), AllocError> {
+    teller.one(&plan.list_fault(most, skips));
+    show_left_out(teller, plan, skips)?;
+    let kept = plan.kept(teller.alloc(), skips)?;
+    show_kept(teller, &kept);
+    Ok(())
+}
+
+/// The first splits, and one behind them.
+fn show_splits(teller: &Teller, plan: &Plan<'_>) {
+    teller.before(&plan.splits(), " ");
+    teller.two(&plan.size(), &plan.count());
+    for split in 0..=plan.splits().min(FEW) {
+        show_split(teller, plan, split);
+    }
+}
+
+fn show_plan(
+    teller: &Teller,
+    plan: &Plan<'_>,
+    most: u32,
+    skips: &[RecordName],
+) -> Result<(), AllocError> {
+    show_splits(teller, plan);
+    show_list(teller, plan, most, skips)
 }
 
 fn show(
-    rt: &HostRuntime,
+    teller: &Teller,
     input: &Input,
     numbers: [u32; 4],
     skips: &[RecordName],
-) -> io::Result<()> {
-    show_input(rt, input)?;
-    show_request(rt, input, numbers)?;
+) -> Result<(), AllocError> {
+    show_input(teller, input);
+    show_request(teller, input, numbers);
     let [_, size, most, _] = numbers;
-    match Plan::of(rt.alloc(), input, size) {
-        Ok(plan) => show_plan(rt, &plan, most, skips),
-        Err(fault) => rt.println(fault),
+    match Plan::of(teller.alloc(), input, size) {
+        Ok(plan) => show_plan(teller, &plan, most, skips),
+        Err(fault) => {
+            teller.line(&fault);
+            Ok(())
+        }
     }
 }
 
 /// Answers standard input, where these records are left out.
-fn answer_skips(rt: &HostRuntime, numbers: [u32; 4], skips: &[RecordName]) -> io::Result<()> {
-    match Input::of(files(rt)?) {
-        Ok(input) => show(rt, &input, numbers, skips),
-        Err(fault) => rt.println(fault),
+fn answer_skips(teller: &Teller, numbers: [u32; 4], skips: &[RecordName]) -> io::Result<()> {
+    match Input::of(files(teller)?) {
+        Ok(input) => Ok(show(teller, &input, numbers, skips)?),
+        Err(fault) => {
+            teller.line(&fault);
+            Ok(())
+        }
     }
 }
 
 /// Answers standard input, by these words.
-pub fn answer(rt: &HostRuntime, words: &[String]) -> io::Result<()> {
+pub fn answer(teller: &Teller, words: &[String]) -> io::Result<()> {
     splits_law();
-    let skips = skips_of(rt.alloc(), words)?;
-    answer_skips(rt, numbers_of(words), &skips)
+    let skips = skips_of(teller.alloc(), words)?;
+    answer_skips(teller, numbers_of(words), &skips)
 }

@@ -1,11 +1,10 @@
 //! More kernels, of a case's two texts: jobs, what `map` adds, texts of groups, and keys that wait for their numbers.
-use crate::telling;
+use crate::telling::Teller;
 use mr_bytes::{Value, Values};
 use mr_jobs::{Emissions, Job, Origin, map};
 use mr_keys::{Keys, Waiting};
 use mr_reduce::{column_text, group_text, total_text};
 use std::alloc::{AllocError, Global};
-use std::io;
 
 const AT: Origin = Origin { file: 1, start: 4 };
 
@@ -16,12 +15,15 @@ const LONGEST: usize = 1 << 30;
 const MANY: usize = 1000;
 
 /// Whether each job counts, or why there is none of lines with this literal.
-fn show_jobs(rt: &HostRuntime, literal: &[u8], fold: bool) -> io::Result<()> {
+fn show_jobs(teller: &Teller, literal: &[u8], fold: bool) {
     let words = Job::words(true).counts();
     let url = Job::url().counts();
-    match Job::grep(rt.alloc(), literal, fold) {
-        Ok(lines) => println!(rt; "{words} {url} {}", lines.counts()),
-        Err(fault) => rt.println(fault),
+    match Job::grep(teller.alloc(), literal, fold) {
+        Ok(lines) => {
+            teller.before(&words, " ");
+            teller.two(&url, &lines.counts());
+        }
+        Err(fault) => teller.line(&fault),
     }
 }
 
@@ -37,30 +39,36 @@ fn emit(alloc: Global, a: &[u8], b: &[u8], out: &mut Emissions) -> Result<(), Al
     }
 }
 
-fn show_each(rt: &HostRuntime, out: &Emissions) -> io::Result<()> {
-    print!(rt; " {} {}", out.is_empty(), out.len())?;
+fn show_each(teller: &Teller, out: &Emissions) {
+    teller.behind(" ", &out.is_empty());
+    teller.behind(" ", &out.len());
     for i in 0..out.len() {
-        telling::behind_bar(rt, &out.get(i))?;
+        teller.behind("|", &out.get(i));
     }
-    Ok(())
 }
 
 /// What is there before anything is emitted, then, when all is cleared, and behind two more times.
-fn show_emitted(rt: &HostRuntime, a: &[u8], b: &[u8], out: &mut Emissions) -> io::Result<()> {
-    show_each(rt, out)?;
-    emit(rt.alloc(), a, b, out)?;
-    show_each(rt, out)?;
+fn show_emitted(
+    teller: &Teller,
+    a: &[u8],
+    b: &[u8],
+    out: &mut Emissions,
+) -> Result<(), AllocError> {
+    show_each(teller, out);
+    emit(teller.alloc(), a, b, out)?;
+    show_each(teller, out);
     out.clear();
-    show_each(rt, out)?;
-    emit(rt.alloc(), a, b, out)?;
-    emit(rt.alloc(), a, b, out)?;
-    show_each(rt, out)?;
-    rt.println("")
+    show_each(teller, out);
+    emit(teller.alloc(), a, b, out)?;
+    emit(teller.alloc(), a, b, out)?;
+    show_each(teller, out);
+    teller.end_line();
+    Ok(())
 }
 
-fn show_emissions(rt: &HostRuntime, a: &[u8], b: &[u8]) -> io::Result<()> {
-    let mut out = Emissions::new(rt.alloc());
-    show_emitted(rt, a, b, &mut out)
+fn show_emissions(teller: &Teller, a: &[u8], b: &[u8]) -> Result<(), AllocError> {
+    let mut out = Emissions::new(teller.alloc());
+    show_emitted(teller, a, b, &mut out)
 }
 
 /// Texts of jobs that count, one behind another.
@@ -93,17 +101,20 @@ fn places(alloc: Global, lines: &Job, key: &[u8], column: &Values) -> Result<Vec
 }
 
 /// The text of two places.
-fn show_places(rt: &HostRuntime, lines: &Job, key: &[u8]) -> io::Result<()> {
-    let column = two_places(rt.alloc())?;
-    let text = places(rt.alloc(), lines, key, &column)?;
-    telling::one(rt, &text)
+fn show_places(teller: &Teller, lines: &Job, key: &[u8]) -> Result<(), AllocError> {
+    let column = two_places(teller.alloc())?;
+    teller.one(&places(teller.alloc(), lines, key, &column)?);
+    Ok(())
 }
 
-fn show_texts(rt: &HostRuntime, key: &[u8]) -> io::Result<()> {
-    print!(rt; "{:?} ", totals(rt.alloc(), key)?)?;
-    match Job::grep(rt.alloc(), b"b", false) {
-        Ok(lines) => show_places(rt, &lines, key),
-        Err(fault) => rt.println(fault),
+fn show_texts(teller: &Teller, key: &[u8]) -> Result<(), AllocError> {
+    teller.before(&totals(teller.alloc(), key)?, " ");
+    match Job::grep(teller.alloc(), b"b", false) {
+        Ok(lines) => show_places(teller, &lines, key),
+        Err(fault) => {
+            teller.line(&fault);
+            Ok(())
+        }
     }
 }
 
@@ -150,32 +161,38 @@ fn numbered(alloc: Global, bytes: &[u8], keys: &mut Keys) -> Result<(Vec<u32>, u
 }
 
 /// The numbers, and how many keys still wait.
-fn show_numbers(rt: &HostRuntime, bytes: &[u8], keys: &mut Keys) -> io::Result<()> {
-    let (numbers, waiting) = numbered(rt.alloc(), bytes, keys)?;
-    print!(rt; "{numbers:?} {waiting}")
+fn show_numbers(teller: &Teller, bytes: &[u8], keys: &mut Keys) -> Result<(), AllocError> {
+    let (numbers, waiting) = numbered(teller.alloc(), bytes, keys)?;
+    teller.before(&numbers, " ");
+    teller.part(&waiting);
+    Ok(())
 }
 
 /// The key of each number.
-fn show_each_key(rt: &HostRuntime, keys: &Keys) -> io::Result<()> {
+fn show_each_key(teller: &Teller, keys: &Keys) {
     for number in 0..keys.len() {
-        telling::behind_bar(rt, &keys.get(number))?;
+        teller.behind("|", &keys.get(number));
     }
-    rt.println("")
+    teller.end_line();
 }
 
 /// Numbers the keys, and tells what comes of it.
-fn show_keys(rt: &HostRuntime, bytes: &[u8]) -> io::Result<()> {
-    let mut keys = Keys::new(rt.alloc());
-    show_numbers(rt, bytes, &mut keys)?;
-    show_each_key(rt, &keys)
+fn show_keys(teller: &Teller, bytes: &[u8]) -> Result<(), AllocError> {
+    let mut keys = Keys::new(teller.alloc());
+    show_numbers(teller, bytes, &mut keys)?;
+    show_each_key(teller, &keys);
+    Ok(())
 }
 
 /// Answers a case of one of these kernels.
-pub fn answer(rt: &HostRuntime, kernel: u8, a: &[u8], b: &[u8]) -> io::Result<()> {
+pub fn answer(teller: &Teller, kernel: u8, a: &[u8], b: &[u8]) -> Result<(), AllocError> {
     match kernel {
-        30 => show_jobs(rt, a, !b.is_empty()),
-        31 => show_emissions(rt, a, b),
-        32 => show_texts(rt, a),
-        _ => show_keys(rt, a),
+        30 => {
+            show_jobs(teller, a, !b.is_empty());
+            Ok(())
+        }
+        31 => show_emissions(teller, a, b),
+        32 => show_texts(teller, a),
+        _ => show_keys(teller, a),
     }
 }

@@ -1,11 +1,13 @@
 //! The kernels. A case on standard input is the number of a kernel in one byte,
 //! and two texts, each behind its length in four bytes, the highest first. A line tells what the kernel answers.
-use crate::{jobs, plain, telling};
+use crate::telling::Teller;
+use crate::{jobs, plain};
 use mr_bytes::{Span, cut};
 use mr_lanes::{
     find_folded, first_difference, fold_into, hash8, line_ends, next_word, planes, word_spans,
 };
 use mr_partition::{partition, partition8};
+use std::alloc::AllocError;
 use std::io;
 
 /// The longest text in which lines and words are looked for.
@@ -46,58 +48,62 @@ fn next_case(bytes: &[u8]) -> Option<(Case<'_>, &[u8])> {
 }
 
 /// The first 64 bytes, and spaces where there are fewer.
-fn show_planes(rt: &HostRuntime, bytes: &[u8]) -> io::Result<()> {
+fn show_planes(teller: &Teller, bytes: &[u8]) {
     let mut block = [0x20; 64];
     for (to, from) in block.iter_mut().zip(bytes) {
         *to = *from;
     }
-    telling::one(rt, &planes(&block))
+    teller.one(&planes(&block));
 }
 
 /// The lists aren't empty before, since the kernels append.
-fn show_lines(rt: &HostRuntime, bytes: &[u8]) -> io::Result<()> {
+fn show_lines(teller: &Teller, bytes: &[u8]) -> Result<(), AllocError> {
     if LONGEST < bytes.len() {
         return Ok(());
     }
-    let mut ends = Vec::new(rt.alloc());
+    let mut ends = Vec::new(teller.alloc());
     ends.push(7)?;
     line_ends(bytes, &mut ends)?;
-    telling::one(rt, &ends)
+    teller.one(&ends);
+    Ok(())
 }
 
-fn show_words(rt: &HostRuntime, bytes: &[u8]) -> io::Result<()> {
+fn show_words(teller: &Teller, bytes: &[u8]) -> Result<(), AllocError> {
     if LONGEST < bytes.len() {
         return Ok(());
     }
-    let mut spans = Vec::new(rt.alloc());
+    let mut spans = Vec::new(teller.alloc());
     spans.push(Span { start: 7, end: 8 })?;
     word_spans(bytes, &mut spans)?;
-    telling::one(rt, &spans)
+    teller.one(&spans);
+    Ok(())
 }
 
 /// The words one after another.
-fn show_each_word(rt: &HostRuntime, bytes: &[u8]) -> io::Result<()> {
+fn show_each_word(teller: &Teller, bytes: &[u8]) -> Result<(), AllocError> {
     if LONGEST < bytes.len() {
         return Ok(());
     }
-    let mut spans = Vec::new(rt.alloc());
+    let mut spans = Vec::new(teller.alloc());
     let mut from = 0;
     while let Some(word) = next_word(bytes, from) {
         spans.push(word)?;
         from = word.end as usize;
     }
-    telling::one(rt, &spans)
+    teller.one(&spans);
+    Ok(())
 }
 
-fn show_folded(rt: &HostRuntime, bytes: &[u8]) -> io::Result<()> {
-    let mut folded = Vec::new(rt.alloc());
+fn show_folded(teller: &Teller, bytes: &[u8]) -> Result<(), AllocError> {
+    let mut folded = Vec::new(teller.alloc());
     folded.push(b'X')?;
     fold_into(bytes, &mut folded)?;
-    telling::one(rt, &folded)
+    teller.one(&folded);
+    Ok(())
 }
 
 /// The keys are the parts of the text between the slashes.
-fn show_hashes(rt: &HostRuntime, bytes: &[u8], parts: usize) -> io::Result<()> {
+fn show_hashes(teller: &Teller, bytes: &[u8], parts: usize) {
     let mut keys: [&[u8]; 8] = [b""; 8];
     let mut rest = bytes;
     for i in 0..8 {
@@ -106,45 +112,52 @@ fn show_hashes(rt: &HostRuntime, bytes: &[u8], parts: usize) -> io::Result<()> {
         rest = behind;
     }
     let parts = 1.max(parts.min(1024)) as u32;
-    println!(rt;
-        "{:?} {:?} {}",
-        hash8(&keys),
-        partition8(&keys, parts),
-        partition(keys[0], parts)
-    )
+    teller.before(&hash8(&keys), " ");
+    teller.two(&partition8(&keys, parts), &partition(keys[0], parts));
 }
 
-fn answer_case(rt: &HostRuntime, case: Case<'_>) -> io::Result<()> {
+/// Answers a case of a kernel that takes no memory.
+fn answer_plain(teller: &Teller, kernel: u8, a: &[u8], b: &[u8]) {
+    match kernel {
+        0 => show_planes(teller, a),
+        4 => teller.one(&find_folded(a, b)),
+        5 => teller.one(&first_difference(a, b)),
+        _ => show_hashes(teller, a, b.len()),
+    }
+}
+
+fn answer_case(teller: &Teller, case: Case<'_>) -> Result<(), AllocError> {
     let Case { kernel, a, b } = case;
     match kernel {
-        0 => show_planes(rt, a),
-        1 => show_lines(rt, a),
-        2 => show_words(rt, a),
-        3 => show_folded(rt, a),
-        4 => telling::one(rt, &find_folded(a, b)),
-        5 => telling::one(rt, &first_difference(a, b)),
-        6 => show_hashes(rt, a, b.len()),
-        7 => show_each_word(rt, a),
-        8..=29 => plain::answer(rt, kernel, a, b),
-        _ => jobs::answer(rt, kernel, a, b),
+        0 | 4..=6 => {
+            answer_plain(teller, kernel, a, b);
+            Ok(())
+        }
+        1 => show_lines(teller, a),
+        2 => show_words(teller, a),
+        3 => show_folded(teller, a),
+        7 => show_each_word(teller, a),
+        8..=29 => plain::answer(teller, kernel, a, b),
+        _ => jobs::answer(teller, kernel, a, b),
     }
 }
 
 /// Answers the cases in these bytes.
-fn answer_cases(rt: &HostRuntime, bytes: &[u8]) -> io::Result<()> {
+fn answer_cases(teller: &Teller, bytes: &[u8]) -> Result<(), AllocError> {
     let mut rest = bytes;
     for _ in 0..bytes.len() {
         let Some((case, behind)) = next_case(rest) else {
             break;
         };
-        answer_case(rt, case)?;
+        answer_case(teller, case)?;
         rest = behind;
     }
     Ok(())
 }
 
 /// Answers standard input.
-pub fn answer(rt: &HostRuntime) -> io::Result<()> {
-    let bytes = telling::all_bytes(rt)?;
-    answer_cases(rt, &bytes)
+pub fn answer(teller: &Teller) -> io::Result<()> {
+    let bytes = teller.all_bytes()?;
+    answer_cases(teller, &bytes)?;
+    Ok(())
 }

@@ -22,31 +22,42 @@ mod streaming;
 mod telling;
 
 use std::{env, io};
+use telling::Teller;
 
 /// Answers by the first word, and those behind it.
-fn answer(rt: &HostRuntime, word: &str, behind: &[String]) -> io::Result<()> {
+fn answer(teller: &Teller, word: &str, behind: &[String]) -> io::Result<()> {
     match word {
-        "buffer" => buffer::answer(rt),
-        "faults" => faults::answer(rt),
-        "files" => files::answer(rt, behind),
-        "index" => index::answer(rt, behind),
-        "inputs" => inputs::answer(rt, behind),
-        "kernels" => kernels::answer(rt),
-        "master" => master::answer(rt),
-        "merging" => merging::answer(rt),
-        "regions" => regions::answer(rt),
-        "runs" => runs::answer(rt, behind),
-        "scripts" => scripts::answer(rt),
-        "spelling" => spelling::answer(rt, behind),
-        "stores" => stores::answer(rt),
-        _ => certificates::answer(rt, behind),
+        "buffer" => Ok(buffer::answer(teller)?),
+        "files" => Ok(files::answer(teller, behind)?),
+        "index" => index::answer(teller, behind),
+        "inputs" => inputs::answer(teller, behind),
+        "kernels" => kernels::answer(teller),
+        "master" => master::answer(teller),
+        "merging" => merging::answer(teller),
+        "regions" => regions::answer(teller),
+        "runs" => runs::answer(teller, behind),
+        "scripts" => scripts::answer(teller),
+        "spelling" => spelling::answer(teller, behind),
+        "stores" => stores::answer(teller),
+        "faults" => {
+            faults::answer(teller);
+            Ok(())
+        }
+        _ => certificates::answer(teller, behind),
+    }
+}
+
+/// Answers by the words, of which there may be none.
+fn answer_words(teller: &Teller, words: &[String]) -> io::Result<()> {
+    match words.split_first() {
+        Some((word, behind)) => answer(teller, word.as_str(), behind),
+        None => answer(teller, "certificates", &[]),
     }
 }
 
 fn main(rt: HostRuntime) -> io::Result<()> {
     let words: Vec<String> = env::args(&rt)?.skip(1).collect(rt.alloc())?;
-    match words.split_first() {
-        Some((word, behind)) => answer(&rt, word.as_str(), behind),
-        None => answer(&rt, "certificates", &[]),
-    }
+    let teller = Teller::new(rt);
+    answer_words(&teller, &words)?;
+    teller.end()
 }

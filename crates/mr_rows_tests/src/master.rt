@@ -2,8 +2,9 @@
 //! that can be looked at.
 ghost use Rattle.std.specs.Prelude.{◌<◌};
 
-use crate::telling;
+use crate::telling::Teller;
 use mr_core::{Core, Event, Limits, Task};
+use std::alloc::AllocError;
 use std::io;
 
 /// The numbers of a line; what is missing or is no number is 0.
@@ -16,7 +17,7 @@ pub fn numbers_of(line: &str) -> [u32; 6] {
 }
 
 /// The master that `0 MAPS PARTS WORKERS ATTEMPTS SKIPS` opens, where these are within the limits of a small job.
-fn opened(rt: &HostRuntime, numbers: [u32; 6]) -> io::Result<Option<Core>> {
+fn opened(teller: &Teller, numbers: [u32; 6]) -> Result<Option<Core>, AllocError> {
     let [_, maps, parts, workers, attempts, skips] = numbers;
     if 64 < maps || parts < 1 || 8 < parts || workers < 1 || 8 < workers {
         return Ok(None);
@@ -25,7 +26,7 @@ fn opened(rt: &HostRuntime, numbers: [u32; 6]) -> io::Result<Option<Core>> {
         return Ok(None);
     }
     let limits = Limits { attempts, skips };
-    Ok(Some(Core::new(rt.alloc(), maps, parts, workers, limits)?))
+    Ok(Some(Core::new(teller.alloc(), maps, parts, workers, limits)?))
 }
 
 /// The event of a line: its kind, and then its numbers.
@@ -41,67 +42,69 @@ fn event_of(numbers: [u32; 6]) -> Event {
     }
 }
 
-fn show_split(rt: &HostRuntime, core: &Core, split: u32) -> io::Result<()>
+fn show_split(teller: &Teller, core: &Core, split: u32)
     requires split { split < core.now.shape.maps }
 {
     let complete = core.complete(Task::Map(split));
-    print!(rt;
-        "|{complete} {:?} {:?}",
-        core.output(split),
-        core.set(split)
-    )
+    teller.three_behind_bar(&complete, &core.output(split), &core.set(split));
 }
 
-fn show_part(rt: &HostRuntime, core: &Core, part: u32) -> io::Result<()>
+fn show_part(teller: &Teller, core: &Core, part: u32)
     requires part { part < core.now.shape.parts }
 {
     let complete = core.complete(Task::Reduce(part));
-    print!(rt; "|{complete} {:?}", core.committed(part))
+    teller.two_behind_bar(&complete, &core.committed(part));
 }
 
 /// Tells what can be looked at: the shape, the end, each split and each partition.
-fn show(rt: &HostRuntime, core: &Core) -> io::Result<()> {
+fn show(teller: &Teller, core: &Core) {
     let shape = core.shape();
-    print!(rt; "|{shape:?}|{:?}", core.end())?;
+    teller.behind("|", &shape);
+    teller.behind("|", &core.end());
     for split in 0..shape.maps {
-        show_split(rt, core, split)?;
+        show_split(teller, core, split);
     }
     for part in 0..shape.parts {
-        show_part(rt, core, part)?;
+        show_part(teller, core, part);
     }
-    rt.println("")
+    teller.end_line();
 }
 
 /// Gives the event to the master, and tells what it replies.
-fn hear(rt: &HostRuntime, core: &mut Core, event: Event) -> io::Result<()> {
-    let (reply, again) = core.apply_twice(rt.alloc(), event)?;
-    telling::part(rt, &reply)?;
-    telling::behind_bar(rt, &again)?;
-    show(rt, core)
+fn hear(teller: &Teller, core: &mut Core, event: Event) -> Result<(), AllocError> {
+    let (reply, again) = core.apply_twice(teller.alloc(), event)?;
+    teller.part(&reply);
+    teller.behind("|", &again);
+    show(teller, core);
+    Ok(())
 }
 
 /// Answers a line: one that opens a master puts it in the place of the one before.
-fn answer_line(rt: &HostRuntime, master: &mut Option<Core>, numbers: [u32; 6]) -> io::Result<()> {
+fn answer_line(
+    teller: &Teller,
+    master: &mut Option<Core>,
+    numbers: [u32; 6],
+) -> Result<(), AllocError> {
     if numbers[0] == 0 {
-        *master = opened(rt, numbers)?;
+        *master = opened(teller, numbers)?;
         return Ok(());
     }
     match master {
-        Some(core) => hear(rt, core, event_of(numbers)),
+        Some(core) => hear(teller, core, event_of(numbers)),
         None => Ok(()),
     }
 }
 
 /// Answers each line.
-fn serve(rt: &HostRuntime, master: &mut Option<Core>) -> io::Result<()> {
-    for line in rt.lines(rt.alloc()) {
-        answer_line(rt, master, numbers_of(line?.as_str()))?;
+fn serve(teller: &Teller, master: &mut Option<Core>) -> io::Result<()> {
+    for line in teller.lines() {
+        answer_line(teller, master, numbers_of(line?.as_str()))?;
     }
     Ok(())
 }
 
 /// Answers standard input.
-pub fn answer(rt: &HostRuntime) -> io::Result<()> {
+pub fn answer(teller: &Teller) -> io::Result<()> {
     let mut master = None;
-    serve(rt, &mut master)
+    serve(teller, &mut master)
 }

@@ -2,7 +2,7 @@
 //! and place, and the file and offset that its value tells. A line tells each region's names, and how many pairs are in one
 //! with room for them; then come the groups, and all names, or the fault.
 use crate::regions::numbers_of;
-use crate::telling;
+use crate::telling::Teller;
 use mr_bytes::{Name, Value};
 use mr_merge::{Groups, merge};
 use mr_spill::Pairs;
@@ -45,16 +45,18 @@ fn region(alloc: Global, line: &str) -> Result<Pairs, AllocError> {
 }
 
 /// Adds the region of each line.
-fn add_regions(rt: &HostRuntime, regions: &mut Vec<Pairs>) -> io::Result<()> {
-    for line in rt.lines(rt.alloc()) {
-        regions.push(region(rt.alloc(), line?.as_str())?)?;
+fn add_regions(teller: &Teller, regions: &mut Vec<Pairs>) -> io::Result<()> {
+    for line in teller.lines() {
+        regions.push(region(teller.alloc(), line?.as_str())?)?;
     }
     Ok(())
 }
 
-fn show_region(rt: &HostRuntime, region: &Pairs) -> io::Result<()> {
-    let roomy = Pairs::with_room_for(rt.alloc(), region, region)?;
-    println!(rt; "{:?} {} {:?}", region.names(), roomy.len(), roomy.names())
+fn show_region(teller: &Teller, region: &Pairs) -> Result<(), AllocError> {
+    let roomy = Pairs::with_room_for(teller.alloc(), region, region)?;
+    teller.before(&region.names(), " ");
+    teller.two(&roomy.len(), &roomy.names());
+    Ok(())
 }
 
 /// The regions, lent.
@@ -66,44 +68,50 @@ fn lent(alloc: Global, regions: &[Pairs]) -> Result<Vec<&Pairs>, AllocError> {
     Ok(lent)
 }
 
-fn show_group(rt: &HostRuntime, groups: &Groups, g: usize) -> io::Result<()> {
+fn show_group(teller: &Teller, groups: &Groups, g: usize) {
     if groups.len() <= g {
-        return Ok(());
+        return;
     }
-    print!(rt; "{:?} {}", groups.key(g), groups.count(g))?;
+    teller.before(&groups.key(g), " ");
+    teller.part(&groups.count(g));
     for i in 0..groups.count(g) {
-        print!(rt; " {:?}", groups.value(g, i))?;
+        teller.behind(" ", &groups.value(g, i));
     }
-    rt.print("|")
+    teller.text("|");
 }
 
-fn show_each_group(rt: &HostRuntime, groups: &Groups) -> io::Result<()> {
-    print!(rt; "{} ", groups.len())?;
+fn show_each_group(teller: &Teller, groups: &Groups) {
+    teller.before(&groups.len(), " ");
     for g in 0..groups.len() {
-        show_group(rt, groups, g)?;
+        show_group(teller, groups, g);
     }
+}
+
+fn show_groups(teller: &Teller, groups: Groups) {
+    show_each_group(teller, &groups);
+    teller.one(&groups.into_names());
+}
+
+fn show_merged(teller: &Teller, lent: &[&Pairs]) {
+    match merge(teller.alloc(), lent) {
+        Ok(groups) => show_groups(teller, groups),
+        Err(fault) => teller.fault(&fault),
+    }
+}
+
+fn show(teller: &Teller, regions: &[Pairs]) -> Result<(), AllocError> {
+    for region in regions {
+        show_region(teller, region)?;
+    }
+    let lent = lent(teller.alloc(), regions)?;
+    show_merged(teller, &lent);
     Ok(())
 }
 
-fn show_groups(rt: &HostRuntime, groups: Groups) -> io::Result<()> {
-    show_each_group(rt, &groups)?;
-    telling::one(rt, &groups.into_names())
-}
-
-fn show(rt: &HostRuntime, regions: &[Pairs]) -> io::Result<()> {
-    for region in regions {
-        show_region(rt, region)?;
-    }
-    let lent = lent(rt.alloc(), regions)?;
-    match merge(rt.alloc(), &lent) {
-        Ok(groups) => show_groups(rt, groups),
-        Err(fault) => telling::fault(rt, &fault),
-    }
-}
-
 /// Answers standard input.
-pub fn answer(rt: &HostRuntime) -> io::Result<()> {
-    let mut regions = Vec::new(rt.alloc());
-    add_regions(rt, &mut regions)?;
-    show(rt, &regions)
+pub fn answer(teller: &Teller) -> io::Result<()> {
+    let mut regions = Vec::new(teller.alloc());
+    add_regions(teller, &mut regions)?;
+    show(teller, &regions)?;
+    Ok(())
 }

@@ -1,6 +1,6 @@
 //! More kernels, of a case's two texts: words one by one, bytes, orders, hashes, records and columns, of the crates at the
 //! ground.
-use crate::telling;
+use crate::telling::Teller;
 use mr_bytes::{
     Name, Pair, RecordName, Value, Values, compare_keys, compare_names, compare_pairs,
     compare_records, cut, fold_in_place, folded, is_word_byte, next_word,
@@ -8,51 +8,52 @@ use mr_bytes::{
 use mr_partition::{fnv, partition};
 use mr_records::Records;
 use std::alloc::{AllocError, Global};
-use std::io;
 
 /// The longest text that is cut into words or records.
 const LONGEST: usize = 1 << 30;
 
 /// The first word from `from` on, or from the end where that is past it.
-fn show_next_word(rt: &HostRuntime, bytes: &[u8], from: usize) -> io::Result<()> {
+fn show_next_word(teller: &Teller, bytes: &[u8], from: usize) {
     if LONGEST < bytes.len() {
-        return Ok(());
+        return;
     }
-    telling::one(rt, &next_word(bytes, from.min(bytes.len())))
+    teller.one(&next_word(bytes, from.min(bytes.len())));
 }
 
 /// Whether each byte stands in words.
-fn show_classes(rt: &HostRuntime, bytes: &[u8]) -> io::Result<()> {
+fn show_classes(teller: &Teller, bytes: &[u8]) {
     for byte in bytes {
-        print!(rt; "{} ", is_word_byte(*byte))?;
+        teller.before(&is_word_byte(*byte), " ");
     }
-    rt.println("")
+    teller.end_line();
 }
 
 /// The bytes folded, as a copy and where they stand.
-fn show_folded(rt: &HostRuntime, bytes: &[u8]) -> io::Result<()> {
-    let copy = folded(rt.alloc(), bytes)?;
-    let mut here = Vec::from_slice(rt.alloc(), bytes)?;
+fn show_folded(teller: &Teller, bytes: &[u8]) -> Result<(), AllocError> {
+    let copy = folded(teller.alloc(), bytes)?;
+    let mut here = Vec::from_slice(teller.alloc(), bytes)?;
     fold_in_place(&mut here);
-    telling::two(rt, &copy, &here)
+    teller.two(&copy, &here);
+    Ok(())
 }
 
 /// How many records there are, and each by its start and its bytes.
-fn show_each_record(rt: &HostRuntime, records: &Records<'_>) -> io::Result<()> {
-    rt.print(records.count())?;
+fn show_each_record(teller: &Teller, records: &Records<'_>) {
+    teller.part(&records.count());
     for i in 0..records.count() {
-        print!(rt; "|{} {:?}", records.start(i), records.record(i))?;
+        teller.two_behind_bar(&records.start(i), &records.record(i));
     }
-    rt.println("")
+    teller.end_line();
 }
 
 /// The records of a file.
-fn show_records(rt: &HostRuntime, file: &[u8]) -> io::Result<()> {
+fn show_records(teller: &Teller, file: &[u8]) -> Result<(), AllocError> {
     if LONGEST < file.len() {
         return Ok(());
     }
-    let records = Records::of(rt.alloc(), file)?;
-    show_each_record(rt, &records)
+    let records = Records::of(teller.alloc(), file)?;
+    show_each_record(teller, &records);
+    Ok(())
 }
 
 /// The name that three bytes tell.
@@ -88,15 +89,11 @@ fn value(name: Name) -> Value {
 
 /// How two records compare and two names, whether those are one, and whether two values are one; three bytes tell a name,
 /// its record and a value.
-fn show_orders(rt: &HostRuntime, a: &[u8], b: &[u8]) -> io::Result<()> {
+fn show_orders(teller: &Teller, a: &[u8], b: &[u8]) {
     let (first, second) = (name_of(a), name_of(b));
-    println!(rt;
-        "{:?} {:?} {} {}",
-        compare_records(record(first), record(second)),
-        compare_names(first, second),
-        first == second,
-        value(first) == value(second)
-    )
+    teller.before(&compare_records(record(first), record(second)), " ");
+    teller.before(&compare_names(first, second), " ");
+    teller.two(&(first == second), &(value(first) == value(second)));
 }
 
 /// The pair of a key, its place the last byte.
@@ -109,10 +106,11 @@ fn pair(alloc: Global, bytes: &[u8]) -> Result<Pair, AllocError> {
     })
 }
 
-fn show_pairs(rt: &HostRuntime, a: &[u8], b: &[u8]) -> io::Result<()> {
-    let first = pair(rt.alloc(), a)?;
-    let second = pair(rt.alloc(), b)?;
-    telling::two(rt, &compare_pairs(&first, &second), &first)
+fn show_pairs(teller: &Teller, a: &[u8], b: &[u8]) -> Result<(), AllocError> {
+    let first = pair(teller.alloc(), a)?;
+    let second = pair(teller.alloc(), b)?;
+    teller.two(&compare_pairs(&first, &second), &first);
+    Ok(())
 }
 
 /// A column of values with and without a place, some in another file or past its first 4 GiB.
@@ -134,33 +132,49 @@ fn column(alloc: Global) -> Result<Values, AllocError> {
     Ok(column)
 }
 
-fn show_column(rt: &HostRuntime, column: &Values) -> io::Result<()> {
+fn show_column(teller: &Teller, column: &Values) {
     for i in 0..column.len() {
-        print!(rt; "{:?}|", column.get(i))?;
+        teller.before(&column.get(i), "|");
     }
-    rt.println(column.len())
+    teller.line(&column.len());
 }
 
 /// The column's first values, so many.
-fn show_beginning(rt: &HostRuntime, count: usize) -> io::Result<()> {
-    let mut column = column(rt.alloc())?;
+fn show_beginning(teller: &Teller, count: usize) -> Result<(), AllocError> {
+    let mut column = column(teller.alloc())?;
     column.truncate(count);
-    show_column(rt, &column)
+    show_column(teller, &column);
+    Ok(())
+}
+
+/// The hash of a key, and its partition of so many.
+fn show_hash(teller: &Teller, key: &[u8], parts: usize) {
+    let parts = parts.clamp(1, 1024) as u32;
+    teller.two(&fnv(key), &partition(key, parts));
+}
+
+/// Answers a case of a kernel that takes no memory.
+fn answer_plain(teller: &Teller, kernel: u8, a: &[u8], b: &[u8]) {
+    match kernel {
+        8 => show_next_word(teller, a, b.len()),
+        9 => show_classes(teller, a),
+        11 => teller.one(&cut(a, b':')),
+        12 => teller.one(&compare_keys(a, b)),
+        13 => show_hash(teller, a, b.len()),
+        _ => show_orders(teller, a, b),
+    }
 }
 
 /// Answers a case of one of these kernels.
-pub fn answer(rt: &HostRuntime, kernel: u8, a: &[u8], b: &[u8]) -> io::Result<()> {
-    let parts = b.len().clamp(1, 1024) as u32;
+pub fn answer(teller: &Teller, kernel: u8, a: &[u8], b: &[u8]) -> Result<(), AllocError> {
     match kernel {
-        8 => show_next_word(rt, a, b.len()),
-        9 => show_classes(rt, a),
-        10 => show_folded(rt, a),
-        11 => telling::one(rt, &cut(a, b':')),
-        12 => telling::one(rt, &compare_keys(a, b)),
-        13 => telling::two(rt, &fnv(a), &partition(a, parts)),
-        14 => show_records(rt, a),
-        15 => show_orders(rt, a, b),
-        16 => show_pairs(rt, a, b),
-        _ => show_beginning(rt, b.len()),
+        8 | 9 | 11..=13 | 15 => {
+            answer_plain(teller, kernel, a, b);
+            Ok(())
+        }
+        10 => show_folded(teller, a),
+        14 => show_records(teller, a),
+        16 => show_pairs(teller, a, b),
+        _ => show_beginning(teller, b.len()),
     }
 }

@@ -4,7 +4,7 @@
 ghost use Rattle.std.specs.Prelude.{◌<◌, length};
 ghost use Rattle.mr_spill.specs.Spelling.{SpellsRegion};
 
-use crate::telling;
+use crate::telling::Teller;
 use mr_spill::{Pairs, RegionFault, RegionPair, open_region, read_region, write_region};
 use std::alloc::{AllocError, Global};
 use std::io;
@@ -28,16 +28,11 @@ fn bytes_of(alloc: Global, numbers: &[u32]) -> Result<Vec<u8>, AllocError> {
 }
 
 /// Tells the pairs.
-pub fn show_pairs(rt: &HostRuntime, pairs: &Pairs) -> io::Result<()> {
+pub fn show_pairs(teller: &Teller, pairs: &Pairs) {
     for i in 0..pairs.len() {
-        print!(rt;
-            "|{:?} {:?} {:?}",
-            pairs.key(i),
-            pairs.value(i),
-            pairs.name(i)
-        )?;
+        teller.three_behind_bar(&pairs.key(i), &pairs.value(i), &pairs.name(i));
     }
-    rt.println("")
+    teller.end_line();
 }
 
 /// Whether a pair of a walk is pair `i`.
@@ -77,59 +72,60 @@ fn walks_on(bytes: &[u8], split: u32, partition: u32) -> bool {
 }
 
 /// Tells the fault of bytes that spell no region, and where a walk over them tells something else.
-fn show_fault(
-    rt: &HostRuntime,
-    bytes: &[u8],
-    split: u32,
-    partition: u32,
-    fault: RegionFault,
-) -> io::Result<()> {
+fn show_fault(teller: &Teller, bytes: &[u8], split: u32, partition: u32, fault: RegionFault) {
     if walks_on(bytes, split, partition) {
-        rt.println("walked to its end")
+        teller.line(&"walked to its end");
     } else {
-        telling::one(rt, &fault)
+        teller.one(&fault);
     }
 }
 
 /// Tells the pairs that the bytes spell, and where they are spelled or walked over otherwise.
 fn show_read(
-    rt: &HostRuntime,
+    teller: &Teller,
     bytes: &[u8],
     split: u32,
     partition: u32,
     pairs: &Pairs,
-) -> io::Result<()>
+) -> Result<(), AllocError>
     requires read { SpellsRegion bytes.now split partition pairs.now }
 {
-    let again = write_region(rt.alloc(), pairs, split, partition)?;
+    let again = write_region(teller.alloc(), pairs, split, partition)?;
     let same = walks_as(bytes, split, partition, pairs);
-    rt.print(same && again.as_slice() == bytes)?;
-    show_pairs(rt, pairs)
+    teller.part(&(same && again.as_slice() == bytes));
+    show_pairs(teller, pairs);
+    Ok(())
 }
 
 /// Tells what the bytes spell.
-fn show(rt: &HostRuntime, bytes: &[u8], split: u32, partition: u32) -> io::Result<()> {
-    match read_region(rt.alloc(), bytes, split, partition) {
-        Ok(pairs) => show_read(rt, bytes, split, partition, &pairs),
-        Err(fault) => show_fault(rt, bytes, split, partition, fault),
+fn show(teller: &Teller, bytes: &[u8], split: u32, partition: u32) -> Result<(), AllocError> {
+    match read_region(teller.alloc(), bytes, split, partition) {
+        Ok(pairs) => show_read(teller, bytes, split, partition, &pairs),
+        Err(fault) => {
+            show_fault(teller, bytes, split, partition, fault);
+            Ok(())
+        }
     }
 }
 
-fn answer_line(rt: &HostRuntime, line: &str) -> io::Result<()> {
-    let numbers = numbers_of(rt.alloc(), line)?;
+fn answer_line(teller: &Teller, line: &str) -> Result<(), AllocError> {
+    let numbers = numbers_of(teller.alloc(), line)?;
     match numbers.as_slice() {
         [split, partition, rest @ ..] => {
-            let bytes = bytes_of(rt.alloc(), rest)?;
-            show(rt, bytes.as_slice(), *split, *partition)
+            let bytes = bytes_of(teller.alloc(), rest)?;
+            show(teller, bytes.as_slice(), *split, *partition)
         }
-        _ => rt.println("no numbers"),
+        _ => {
+            teller.line(&"no numbers");
+            Ok(())
+        }
     }
 }
 
 /// Answers standard input.
-pub fn answer(rt: &HostRuntime) -> io::Result<()> {
-    for line in rt.lines(rt.alloc()) {
-        answer_line(rt, line?.as_str())?;
+pub fn answer(teller: &Teller) -> io::Result<()> {
+    for line in teller.lines() {
+        answer_line(teller, line?.as_str())?;
     }
     Ok(())
 }

@@ -10,7 +10,7 @@ ghost use Rattle.mr_input.specs.Files.{split_total};
 
 use crate::inputs::{input, numbers_of};
 use crate::regions::numbers_of as numbers_in;
-use crate::telling;
+use crate::telling::Teller;
 use mr_input::Input;
 use mr_jobs::Job;
 use mr_spill::Region;
@@ -92,103 +92,107 @@ fn regions_of(
 }
 
 /// Tells the bytes of the regions, run by run.
-fn show_regions(rt: &HostRuntime, output: &MapOutput) -> io::Result<()> {
+fn show_regions(teller: &Teller, output: &MapOutput) {
     for run in 0..output.runs() {
         for partition in 0..output.parts() {
-            print!(rt; "{:?};", output.region(partition, run).bytes())?;
+            teller.before(&output.region(partition, run).bytes(), ";");
         }
     }
-    rt.println("")
+    teller.end_line();
 }
 
 /// Tells the groups one by one.
-fn show_groups(rt: &HostRuntime, reduced: &ReduceOutput) -> io::Result<()> {
+fn show_groups(teller: &Teller, reduced: &ReduceOutput) {
     let mut groups = reduced.groups();
     for _ in 0..u64::MAX {
         match groups.next() {
-            Some(names) => print!(rt; "{names:?};")?,
+            Some(names) => teller.before(&names, ";"),
             None => break,
         }
     }
-    Ok(())
 }
 
-fn show_parts(rt: &HostRuntime, reduced: ReduceOutput) -> io::Result<()> {
+fn show_parts(teller: &Teller, reduced: ReduceOutput) {
     let (text, counts, names) = reduced.into_parts();
-    println!(rt; "|{text:?}|{counts:?}|{names:?}")
+    teller.behind("|", &text);
+    teller.behind("|", &counts);
+    teller.named("|", &names);
 }
 
 /// Tells all that there is, the groups one by one, and all again.
-fn show_output(rt: &HostRuntime, reduced: ReduceOutput) -> io::Result<()> {
+fn show_output(teller: &Teller, reduced: ReduceOutput) {
     let (counts, names) = reduced.flat_groups();
-    print!(rt; "{:?}|{counts:?}|{names:?}|", reduced.text())?;
-    show_groups(rt, &reduced)?;
-    show_parts(rt, reduced)
+    teller.before(&reduced.text(), "|");
+    teller.before(&counts, "|");
+    teller.before(&names, "|");
+    show_groups(teller, &reduced);
+    show_parts(teller, reduced);
 }
 
-fn show_fault(rt: &HostRuntime, job: &Job, regions: &[Region<'_>]) -> io::Result<()> {
-    match reduce_task(rt.alloc(), job, 0, regions) {
-        Ok(_) => rt.println("no fault"),
-        Err(fault) => telling::fault(rt, &fault),
+fn show_fault(teller: &Teller, job: &Job, regions: &[Region<'_>]) {
+    match reduce_task(teller.alloc(), job, 0, regions) {
+        Ok(_) => teller.line(&"no fault"),
+        Err(fault) => teller.fault(&fault),
     }
 }
 
 /// Tells what the reduce task answers to a region twice, and to one without its first byte.
-fn show_damaged(rt: &HostRuntime, job: &Job, output: &MapOutput) -> io::Result<()> {
+fn show_damaged(teller: &Teller, job: &Job, output: &MapOutput) {
     if output.parts() < 1 || output.runs() < 1 {
-        return Ok(());
+        return;
     }
     let twice = [output.region(0, 0), output.region(0, 0)];
-    show_fault(rt, job, &twice)?;
+    show_fault(teller, job, &twice);
     let bytes = output.region(0, 0).bytes();
-    show_fault(rt, job, &[Region::of(bytes.get(1..).unwrap_or(&[]), 0)])
+    show_fault(teller, job, &[Region::of(bytes.get(1..).unwrap_or(&[]), 0)]);
 }
 
 /// Tells what the reduce task of a partition gives.
 fn show_reduced(
-    rt: &HostRuntime,
+    teller: &Teller,
     job: &Job,
     outputs: &[MapOutput],
     partition: u32,
-) -> io::Result<()> {
-    let regions = regions_of(rt.alloc(), outputs, partition)?;
-    match reduce_task(rt.alloc(), job, partition, regions.as_slice()) {
-        Ok(reduced) => show_output(rt, reduced),
-        Err(fault) => telling::one(rt, &fault),
+) -> Result<(), AllocError> {
+    let regions = regions_of(teller.alloc(), outputs, partition)?;
+    match reduce_task(teller.alloc(), job, partition, regions.as_slice()) {
+        Ok(reduced) => show_output(teller, reduced),
+        Err(fault) => teller.one(&fault),
     }
+    Ok(())
 }
 
 /// Tells what the map tasks gave, and what comes of it.
 fn show_tasks(
-    rt: &HostRuntime,
+    teller: &Teller,
     job: &Job,
     numbers: [u32; 4],
     outputs: &[MapOutput],
-) -> io::Result<()> {
+) -> Result<(), AllocError> {
     let [_, parts, _, limit] = numbers;
     for output in outputs {
-        show_regions(rt, output)?;
+        show_regions(teller, output);
         if limit < 1 {
-            show_damaged(rt, job, output)?;
+            show_damaged(teller, job, output);
         }
     }
     for partition in 0..parts {
-        show_reduced(rt, job, outputs, partition)?;
+        show_reduced(teller, job, outputs, partition)?;
     }
     Ok(())
 }
 
 fn work(
-    rt: &HostRuntime,
+    teller: &Teller,
     plan: &Plan<'_>,
     job: &Job,
     numbers: [u32; 4],
     skips: &[u32],
-) -> io::Result<()> {
+) -> Result<(), AllocError> {
     let [_, parts, _, limit] = numbers;
-    let mut outputs = Vec::new(rt.alloc());
+    let mut outputs = Vec::new(teller.alloc());
     map_splits(
-        rt.alloc(),
+        teller.alloc(),
         plan,
         job,
         parts,
@@ -196,15 +200,15 @@ fn work(
         skips,
         &mut outputs,
     )?;
-    show_tasks(rt, job, numbers, &outputs)
+    show_tasks(teller, job, numbers, &outputs)
 }
 
 /// The input of standard input, and the job of that number, where there are these.
-pub fn asked(rt: &HostRuntime, number: u32) -> io::Result<Option<(Input, Job)>> {
-    let Some(input) = input(rt)? else {
+pub fn asked(teller: &Teller, number: u32) -> io::Result<Option<(Input, Job)>> {
+    let Some(input) = input(teller)? else {
         return Ok(None);
     };
-    match job_of(rt.alloc(), number) {
+    match job_of(teller.alloc(), number) {
         Some(job) => Ok(Some((input, job))),
         None => Ok(None),
     }
@@ -212,29 +216,29 @@ pub fn asked(rt: &HostRuntime, number: u32) -> io::Result<Option<(Input, Job)>> 
 
 /// Answers an input and a job, where these records are left out.
 fn answer_asked(
-    rt: &HostRuntime,
+    teller: &Teller,
     input: &Input,
     job: &Job,
     numbers: [u32; 4],
     skips: &[u32],
-) -> io::Result<()> {
+) -> Result<(), AllocError> {
     let [_, _, size, _] = numbers;
-    match Plan::of(rt.alloc(), input, size) {
-        Ok(plan) => work(rt, &plan, job, numbers, skips),
+    match Plan::of(teller.alloc(), input, size) {
+        Ok(plan) => work(teller, &plan, job, numbers, skips),
         Err(_) => Ok(()),
     }
 }
 
 /// Answers standard input, where these records are left out.
-fn answer_skips(rt: &HostRuntime, numbers: [u32; 4], skips: &[u32]) -> io::Result<()> {
-    match asked(rt, numbers[0])? {
-        Some((input, job)) => answer_asked(rt, &input, &job, numbers, skips),
+fn answer_skips(teller: &Teller, numbers: [u32; 4], skips: &[u32]) -> io::Result<()> {
+    match asked(teller, numbers[0])? {
+        Some((input, job)) => Ok(answer_asked(teller, &input, &job, numbers, skips)?),
         None => Ok(()),
     }
 }
 
 /// Answers standard input, by these words.
-pub fn answer(rt: &HostRuntime, words: &[String]) -> io::Result<()> {
-    let skips = skips_of(rt.alloc(), words)?;
-    answer_skips(rt, numbers_of(words), &skips)
+pub fn answer(teller: &Teller, words: &[String]) -> io::Result<()> {
+    let skips = skips_of(teller.alloc(), words)?;
+    answer_skips(teller, numbers_of(words), &skips)
 }

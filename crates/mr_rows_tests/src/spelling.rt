@@ -3,7 +3,7 @@
 use crate::certificates::begun;
 use crate::inputs::numbers_of;
 use crate::stores::writer;
-use crate::telling;
+use crate::telling::Teller;
 use mr_bytes::Name;
 use mr_certform::Certificate;
 use mr_store::{CountedWrite, MemoryWriter, write_spelled};
@@ -34,34 +34,35 @@ fn certificate(alloc: Global, names: &[Name]) -> Result<Option<Certificate>, All
 }
 
 /// How many bytes are written, whether they begin those that should be, how many are handed on, and how many calls failed.
-fn show(
-    rt: &HostRuntime,
-    certificate: &Certificate,
-    bytes: &[u8],
-    mut writer: MemoryWriter,
-) -> io::Result<()> {
-    telling::part(rt, &write_spelled(&mut writer, certificate))?;
-    telling::four(
-        rt,
+fn show(teller: &Teller, certificate: &Certificate, bytes: &[u8], mut writer: MemoryWriter) {
+    teller.part(&write_spelled(&mut writer, certificate));
+    teller.four(
         &writer.bytes().len(),
         &bytes.starts_with(writer.bytes()),
         &writer.handed_on().len(),
         &writer.failures(),
-    )
+    );
 }
 
 /// Answers these bytes, where so many names are spelled.
-fn answer_bytes(rt: &HostRuntime, bytes: &[u8], numbers: [u32; 4]) -> io::Result<()> {
+fn answer_bytes(teller: &Teller, bytes: &[u8], numbers: [u32; 4]) -> Result<(), AllocError> {
     let [count, most, failing, _] = numbers;
-    let names = names(rt.alloc(), count)?;
-    match certificate(rt.alloc(), &names)? {
-        Some(certificate) => show(rt, &certificate, bytes, writer(rt.alloc(), most, failing)),
-        None => Ok(()),
+    let names = names(teller.alloc(), count)?;
+    match certificate(teller.alloc(), &names)? {
+        Some(certificate) => show(
+            teller,
+            &certificate,
+            bytes,
+            writer(teller.alloc(), most, failing),
+        ),
+        None => {}
     }
+    Ok(())
 }
 
 /// Answers standard input, by these words.
-pub fn answer(rt: &HostRuntime, words: &[String]) -> io::Result<()> {
-    let bytes = telling::all_bytes(rt)?;
-    answer_bytes(rt, &bytes, numbers_of(words))
+pub fn answer(teller: &Teller, words: &[String]) -> io::Result<()> {
+    let bytes = teller.all_bytes()?;
+    answer_bytes(teller, &bytes, numbers_of(words))?;
+    Ok(())
 }

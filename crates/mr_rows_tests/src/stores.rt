@@ -1,7 +1,7 @@
 //! Stores in memory. A line of standard input has what is asked, how many bytes a call moves at most, which call fails (0
 //! for none), and a limit or the number of a writer. It is answered by a line, and one for each writer.
 use crate::master::numbers_of;
-use crate::telling;
+use crate::telling::Teller;
 use mr_store::{
     Bytes, CountedRead, CountedWrite, MemoryReader, MemoryWriter, read_all, read_limited,
     write_all, write_result, write_spelled,
@@ -27,25 +27,28 @@ pub fn writer(alloc: Global, most: u32, failing: u32) -> MemoryWriter {
     MemoryWriter::new(alloc, most.max(1) as usize, failing)
 }
 
-fn show_reader(rt: &HostRuntime, reader: &MemoryReader, out: &[u8]) -> io::Result<()> {
-    telling::four(
-        rt,
+fn show_reader(teller: &Teller, reader: &MemoryReader, out: &[u8]) {
+    teller.four(
         &out,
         &reader.rest(),
         &reader.failures(),
         &reader.lacked_memory(),
-    )
+    );
 }
 
 /// Reads to the end, of which no more bytes may be left than the limit, where there is one, behind an `x`.
-fn show_read(rt: &HostRuntime, mut reader: MemoryReader, limit: Option<u64>) -> io::Result<()> {
-    let mut out = Vec::from_slice(rt.alloc(), b"x")?;
-    let told = match limit {
-        Some(limit) => telling::part(rt, &read_limited(&mut reader, &mut out, limit)),
-        None => telling::part(rt, &read_all(&mut reader, &mut out)),
-    };
-    told?;
-    show_reader(rt, &reader, &out)
+fn show_read(
+    teller: &Teller,
+    mut reader: MemoryReader,
+    limit: Option<u64>,
+) -> Result<(), AllocError> {
+    let mut out = Vec::from_slice(teller.alloc(), b"x")?;
+    match limit {
+        Some(limit) => teller.part(&read_limited(&mut reader, &mut out, limit)),
+        None => teller.part(&read_all(&mut reader, &mut out)),
+    }
+    show_reader(teller, &reader, &out);
+    Ok(())
 }
 
 /// How many bytes of the text a reader gives in a first read of eight, through the bound alone.
@@ -60,34 +63,41 @@ fn first_write<W: CountedWrite>(writer: &mut W) -> (usize, bool) {
     (count, writer.flush().is_ok())
 }
 
-fn show_first_eight(rt: &HostRuntime, mut reader: MemoryReader) -> io::Result<()> {
-    rt.println(first_eight(&mut reader))
+fn show_first_eight(teller: &Teller, mut reader: MemoryReader) {
+    teller.line(&first_eight(&mut reader));
 }
 
-fn show_writer(rt: &HostRuntime, writer: &MemoryWriter) -> io::Result<()> {
-    telling::four(
-        rt,
+fn show_writer(teller: &Teller, writer: &MemoryWriter) {
+    teller.four(
         &writer.bytes(),
         &writer.handed_on(),
         &writer.failures(),
         &writer.lacked_memory(),
-    )
+    );
 }
 
 /// Writes the text alone, or writes it and hands it on.
-fn show_written(rt: &HostRuntime, mut writer: MemoryWriter, alone: bool) -> io::Result<()> {
+fn show_written(teller: &Teller, mut writer: MemoryWriter, alone: bool) {
     let answer = if alone {
         write_all(&mut writer, &TEXT)
     } else {
         write_spelled(&mut writer, &Bytes(&TEXT))
     };
-    telling::part(rt, &answer)?;
-    show_writer(rt, &writer)
+    teller.part(&answer);
+    show_writer(teller, &writer);
 }
 
-fn show_first_write(rt: &HostRuntime, mut writer: MemoryWriter) -> io::Result<()> {
-    telling::one(rt, &first_write(&mut writer))?;
-    show_writer(rt, &writer)
+fn show_first_write(teller: &Teller, mut writer: MemoryWriter) {
+    teller.one(&first_write(&mut writer));
+    show_writer(teller, &writer);
+}
+
+/// Writes in one of these ways.
+fn show_writing(teller: &Teller, way: u32, writer: MemoryWriter) {
+    match way {
+        4 => show_first_write(teller, writer),
+        _ => show_written(teller, writer, way == 2),
+    }
 }
 
 fn outputs(alloc: Global) -> Result<Vec<Vec<u8>>, AllocError> {
@@ -115,28 +125,29 @@ fn writers(
 
 /// Writes `ab`, nothing and `cd`, each by its writer, then `ef` by the last.
 fn show_result(
-    rt: &HostRuntime,
+    teller: &Teller,
     outputs: &[Vec<u8>],
     writers: &mut [MemoryWriter],
     last: &mut MemoryWriter,
-) -> io::Result<()> {
+) {
     if writers.len() != outputs.len() {
-        return Ok(());
+        return;
     }
-    telling::one(rt, &write_result(writers, last, outputs, b"ef"))?;
+    teller.one(&write_result(writers, last, outputs, b"ef"));
     for writer in writers {
-        show_writer(rt, writer)?;
+        show_writer(teller, writer);
     }
-    show_writer(rt, last)
+    show_writer(teller, last);
 }
 
 /// Gives the writers, of which that with the number `stops` fails at the call; 3 is the certificate's.
-fn write_to_all(rt: &HostRuntime, most: u32, call: u32, stops: u32) -> io::Result<()> {
-    let mut writers = writers(rt.alloc(), most, call, stops)?;
+fn write_to_all(teller: &Teller, most: u32, call: u32, stops: u32) -> Result<(), AllocError> {
+    let mut writers = writers(teller.alloc(), most, call, stops)?;
     let failing = if stops == 3 { call } else { 0 };
-    let mut last = writer(rt.alloc(), most, failing);
-    let outputs = outputs(rt.alloc())?;
-    show_result(rt, &outputs, &mut writers, &mut last)
+    let mut last = writer(teller.alloc(), most, failing);
+    let outputs = outputs(teller.alloc())?;
+    show_result(teller, &outputs, &mut writers, &mut last);
+    Ok(())
 }
 
 /// The limit that a number tells: the greatest stands for none.
@@ -147,26 +158,31 @@ fn limit_of(number: u32) -> u64 {
     }
 }
 
-fn answer_line(rt: &HostRuntime, numbers: [u32; 6]) -> io::Result<()> {
+fn answer_line(teller: &Teller, numbers: [u32; 6]) -> Result<(), AllocError> {
     let [way, most, failing, limit, ..] = numbers;
     match way {
-        0 => show_read(rt, reader(rt.alloc(), most, failing)?, None),
+        0 => show_read(teller, reader(teller.alloc(), most, failing)?, None),
         1 => show_read(
-            rt,
-            reader(rt.alloc(), most, failing)?,
+            teller,
+            reader(teller.alloc(), most, failing)?,
             Some(limit_of(limit)),
         ),
-        2 | 3 => show_written(rt, writer(rt.alloc(), most, failing), way == 2),
-        4 => show_first_write(rt, writer(rt.alloc(), most, failing)),
-        5 => show_first_eight(rt, reader(rt.alloc(), most, failing)?),
-        _ => write_to_all(rt, most, failing, limit),
+        2..=4 => {
+            show_writing(teller, way, writer(teller.alloc(), most, failing));
+            Ok(())
+        }
+        5 => {
+            show_first_eight(teller, reader(teller.alloc(), most, failing)?);
+            Ok(())
+        }
+        _ => write_to_all(teller, most, failing, limit),
     }
 }
 
 /// Answers standard input.
-pub fn answer(rt: &HostRuntime) -> io::Result<()> {
-    for line in rt.lines(rt.alloc()) {
-        answer_line(rt, numbers_of(line?.as_str()))?;
+pub fn answer(teller: &Teller) -> io::Result<()> {
+    for line in teller.lines() {
+        answer_line(teller, numbers_of(line?.as_str()))?;
     }
     Ok(())
 }
