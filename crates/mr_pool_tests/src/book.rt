@@ -4,11 +4,13 @@
 //! its history told.
 ghost use Rattle.std.specs.Prelude.{◌≡◌, vec_len};
 
-use crate::{outputs, telling};
-use mr_book::{Book, History, Seat};
-use mr_core::{Limits, Task};
-use std::io;
+use crate::outputs;
+use crate::telling::Teller;
+use mr_book::{Book, History, Seat, Stored};
+use mr_core::{Limits, Reply, Shape, Task};
+use mr_task::{MapOutput, ReduceOutput};
 use std::marker::Brand;
+use std::sync::Arc;
 use std::sync::ledger::{Blank, Ledger};
 
 /// The numbers of a line; what is missing or is no number is 0.
@@ -30,158 +32,179 @@ fn sizes_of(words: &[String]) -> [u32; 6] {
 }
 
 /// Makes the call on the book, and tells the reply and what comes with it.
-fn call<L: Ledger>(
-    rt: &HostRuntime,
-    book: &mut Book<L>,
-    seat: &mut Seat<L>,
-    numbers: [u32; 4],
-) -> io::Result<()> {
+fn call<L: Ledger>(out: &Teller, book: &mut Book<L>, seat: &mut Seat<L>, numbers: [u32; 4]) {
     let [kind, _, first, second] = numbers;
     match kind {
-        1 => telling::before_bar(rt, &book.ask(seat, first)?),
-        2 => fetch(rt, book, seat, first, second),
-        3 => map_done(rt, book, seat, first, second),
-        4 => telling::before_bar(rt, &book.map_failed(seat, first, second)?),
-        5 => reduce_done(rt, book, seat, first, second),
-        _ => telling::before_bar(rt, &book.lose(seat, first)?),
+        1 => out.reply(book.ask(seat, first)),
+        2 => fetch(out, book, seat, first, second),
+        3 => map_done(out, book, seat, first, second),
+        4 => out.reply(book.map_failed(seat, first, second)),
+        5 => reduce_done(out, book, seat, first, second),
+        _ => out.reply(book.lose(seat, first)),
+    }
+}
+
+/// Tells a reply, and the output that comes with it.
+fn show_fetched(out: &Teller, reply: &Reply, output: &Option<Arc<MapOutput>>) {
+    out.before_bar(reply);
+    if let Some(output) = output {
+        outputs::show_map(out, output);
     }
 }
 
 fn fetch<L: Ledger>(
-    rt: &HostRuntime,
+    out: &Teller,
     book: &mut Book<L>,
     seat: &mut Seat<L>,
     attempt: u32,
     map: u32,
-) -> io::Result<()> {
-    let (reply, output) = book.fetch(seat, attempt, map)?;
-    telling::before_bar(rt, &reply)?;
-    match output {
-        Some(output) => outputs::show_map(rt, &output),
-        None => Ok(()),
+) {
+    match book.fetch(seat, attempt, map) {
+        Ok((reply, output)) => show_fetched(out, &reply, &output),
+        Err(refused) => out.lack(refused),
     }
 }
 
 fn map_done<L: Ledger>(
-    rt: &HostRuntime,
+    out: &Teller,
     book: &mut Book<L>,
     seat: &mut Seat<L>,
     attempt: u32,
     number: u32,
-) -> io::Result<()> {
-    let Some(output) = outputs::map_output(rt.alloc(), number) else {
-        return Ok(());
+) {
+    let Some(output) = outputs::map_output(out.alloc(), number) else {
+        return;
     };
     match book.map_done(seat, attempt, output) {
-        Ok(reply) => telling::before_bar(rt, &reply),
-        Err(refused) => outputs::show_map(rt, &refused.value),
+        Ok(reply) => out.before_bar(&reply),
+        Err(refused) => outputs::show_map(out, &refused.value),
     }
 }
 
 fn reduce_done<L: Ledger>(
-    rt: &HostRuntime,
+    out: &Teller,
     book: &mut Book<L>,
     seat: &mut Seat<L>,
     attempt: u32,
     number: u32,
-) -> io::Result<()> {
-    let Some(output) = outputs::reduce_output(rt.alloc(), number) else {
-        return Ok(());
+) {
+    let Some(output) = outputs::reduce_output(out.alloc(), number) else {
+        return;
     };
     match book.reduce_done(seat, attempt, output) {
-        Ok(reply) => telling::before_bar(rt, &reply),
-        Err(refused) => print!(rt; "{:?}", refused.value.text()),
+        Ok(reply) => out.before_bar(&reply),
+        Err(refused) => out.value(&refused.value.text()),
+    }
+}
+
+/// Tells of each split and of each partition whether its task is complete.
+fn show_complete<L: Ledger>(out: &Teller, book: &Book<L>, shape: Shape) {
+    for split in 0..shape.maps {
+        out.behind_bar(&book.complete(Task::Map(split)));
+    }
+    for part in 0..shape.parts {
+        out.behind_bar(&book.complete(Task::Reduce(part)));
     }
 }
 
 /// Tells what can be looked at: the shape, the end, each split and partition, how far the history has grown, the seat.
-fn show<L: Ledger>(rt: &HostRuntime, book: &Book<L>, seat: &Seat<L>) -> io::Result<()> {
+fn show<L: Ledger>(out: &Teller, book: &Book<L>, seat: &Seat<L>) {
     let shape = book.shape();
-    telling::behind_bar(rt, &shape)?;
-    telling::behind_bar(rt, &book.end())?;
-    for split in 0..shape.maps {
-        telling::behind_bar(rt, &book.complete(Task::Map(split)))?;
-    }
-    for part in 0..shape.parts {
-        telling::behind_bar(rt, &book.complete(Task::Reduce(part)))?;
-    }
-    println!(rt; "|{}|{}", book.grown(), seat.calls())
+    out.behind_bar(&shape);
+    out.behind_bar(&book.end());
+    show_complete(out, book, shape);
+    out.tell(format_args!("|{}|{}\n", book.grown(), seat.calls()));
 }
 
-/// Answers each line.
-fn serve<L: Ledger>(rt: &HostRuntime, book: &mut Book<L>, seats: &mut [Seat<L>]) -> io::Result<()> {
-    for line in rt.lines(rt.alloc()) {
-        let numbers = numbers_of(line?.as_str());
-        let Some(seat) = seats.get_mut(numbers[1] as usize) else {
-            continue;
-        };
-        call(rt, book, seat, numbers)?;
-        show(rt, book, seat)?;
+/// Answers a line that names a seat.
+fn serve_line<L: Ledger>(out: &Teller, book: &mut Book<L>, seats: &mut [Seat<L>], line: &str) {
+    let numbers = numbers_of(line);
+    if let Some(seat) = seats.get_mut(numbers[1] as usize) {
+        call(out, book, seat, numbers);
+        show(out, book, seat);
     }
-    Ok(())
+}
+
+/// Answers each line, up to the first fault.
+fn serve<L: Ledger>(out: &Teller, book: &mut Book<L>, seats: &mut [Seat<L>]) {
+    for line in out.runtime().lines(out.alloc()) {
+        match line {
+            Ok(line) => serve_line(out, book, seats, line.as_str()),
+            Err(fault) => out.fail(fault),
+        }
+        if out.has_failed() {
+            return;
+        }
+    }
+}
+
+fn show_stored_map(out: &Teller, stored: &Stored<MapOutput>) {
+    out.tell(format_args!("|{} ", stored.number()));
+    outputs::show_map(out, stored.output());
+}
+
+fn show_stored_reduce(out: &Teller, stored: &Stored<ReduceOutput>) {
+    out.behind_bar_with(&stored.number(), &stored.output().text());
 }
 
 /// Tells the outputs that a history stores.
-fn show_stored(rt: &HostRuntime, history: &History) -> io::Result<()> {
+fn show_stored(out: &Teller, history: &History) {
     for stored in &history.maps {
-        print!(rt; "|{} ", stored.number())?;
-        outputs::show_map(rt, stored.output())?;
+        show_stored_map(out, stored);
     }
     for stored in &history.reduces {
-        print!(rt; "|{} {:?}", stored.number(), stored.output().text())?;
+        show_stored_reduce(out, stored);
     }
-    rt.println("")
+    out.line("");
 }
 
 /// Tells a history.
-fn show_history(rt: &HostRuntime, history: &History) -> io::Result<()> {
-    print!(rt; "{:?}", history.shape)?;
+fn show_history(out: &Teller, history: &History) {
+    out.value(&history.shape);
     for entry in &history.entries {
-        print!(rt; "|{:?} {:?}", entry.event(), entry.reply())?;
+        out.behind_bar_with(&entry.event(), entry.reply());
     }
-    show_stored(rt, history)
+    show_stored(out, history);
 }
 
 /// Answers each line by the book, closes it, and tells its history.
-fn serve_all<L: Ledger>(
-    rt: &HostRuntime,
-    mut book: Book<L>,
-    mut seats: Vec<Seat<L>>,
-) -> io::Result<()>
+fn serve_all<L: Ledger>(out: &Teller, mut book: Book<L>, mut seats: Vec<Seat<L>>)
     requires all { vec_len seats ≡ L.parts }
 {
-    serve(rt, &mut book, seats.as_mut_slice())?;
-    show_history(rt, &book.close(seats))
+    serve(out, &mut book, seats.as_mut_slice());
+    show_history(out, &book.close(seats));
 }
 
 /// Opens a book of these sizes, where they are within the limits of a small job, and closes it at the end of the lines.
-fn work<L: Ledger>(rt: &HostRuntime, blank: Blank, sizes: [u32; 6], seats: u32) -> io::Result<()>
+fn work<L: Ledger>(out: &Teller, blank: Blank, sizes: [u32; 6], seats: u32)
     requires ledger { (blank.name ≡ L.name) × (blank.parts ≡ L.parts) }
     requires seats { blank.parts ≡ seats }
 {
     let [maps, parts, workers, attempts, skips, _] = sizes;
     if 64 < maps || parts < 1 || 8 < parts || workers < 1 || 8 < workers {
-        return Ok(());
+        return;
     }
     if attempts < 1 || 8 < attempts || 8 < skips {
-        return Ok(());
+        return;
     }
     let limits = Limits { attempts, skips };
-    let (book, seats) = Book::<L>::open(
-        rt.alloc(),
+    match Book::<L>::open(
+        out.alloc(),
         blank,
         maps,
         parts,
         workers,
         limits,
         seats as usize,
-    )?;
-    serve_all(rt, book, seats)
+    ) {
+        Ok((book, seats)) => serve_all(out, book, seats),
+        Err(refused) => out.lack(refused),
+    }
 }
 
 /// Answers standard input, by these words.
-pub fn answer(rt: &HostRuntime, words: &[String]) -> io::Result<()> {
+pub fn answer(out: &Teller, words: &[String]) {
     let sizes = sizes_of(words);
     let seats = sizes[5];
-    work::<Brand>(rt, Blank::new(u64::from(seats)), sizes, seats)
+    work::<Brand>(out, Blank::new(u64::from(seats)), sizes, seats);
 }

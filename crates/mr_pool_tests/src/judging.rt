@@ -3,12 +3,12 @@ ghost use Rattle.mr_tickets.specs.Views.{IsSeatOf};
 
 use crate::asked::Order;
 use crate::onlookers::Holding;
+use crate::telling::Teller;
 use mr_bytes::Gate;
 use mr_check::{No, Yes, check_gated};
 use mr_pool::Certified;
 use mr_tickets::{TicketSeat, Tickets};
 use std::alloc::Global;
-use std::io;
 use std::thread::Threads;
 
 /// Holds the first piece of either phase until another of that phase has left.
@@ -78,53 +78,55 @@ pub fn judged<G: Gate, R: Threads + Sync>(
     ))
 }
 
-/// Tells the verdict on a run's result, and whether a second piece of either phase went on while the first was held.
-pub fn show(
-    rt: &HostRuntime,
-    verdict: &Option<Result<Yes, No>>,
-    gate: &PhasesHeld,
-) -> io::Result<()> {
+/// Tells the verdict on a run's result.
+fn show_verdict(out: &Teller, verdict: &Option<Result<Yes, No>>) {
     match verdict {
-        Some(Ok(yes)) => println!(rt; "yes {} {}", yes.pairs, yes.skips.len())?,
-        Some(Err(no)) => println!(rt; "no {no}")?,
-        None => rt.println("out of limits")?,
+        Some(Ok(yes)) => out.tell(format_args!("yes {} {}\n", yes.pairs, yes.skips.len())),
+        Some(Err(no)) => out.named("no", no),
+        None => out.line("out of limits"),
     }
-    println!(rt; "gate {}, {}", gate.mapping.says(), gate.judging.says())
+}
+
+/// Tells the verdict on a run's result, and whether a second piece of either phase went on while the first was held.
+pub fn show(out: &Teller, verdict: &Option<Result<Yes, No>>, gate: &PhasesHeld) {
+    show_verdict(out, verdict);
+    out.tell(format_args!("gate {}, {}\n", gate.mapping.says(), gate.judging.says()));
 }
 
 /// Tells what a seat draws.
-fn show_draw(rt: &HostRuntime, tickets: &Tickets, seat: &mut TicketSeat) -> io::Result<()>
+fn show_draw(out: &Teller, tickets: &Tickets, seat: &mut TicketSeat)
     requires before { IsSeatOf tickets.now seat.old }
     ensures behind { IsSeatOf tickets.now seat.new }
 {
-    println!(rt; "drawn {:?}", tickets.draw(seat))
+    let drawn = tickets.draw(seat);
+    out.tell(format_args!("drawn {drawn:?}\n"));
 }
 
 /// Tells what a seat draws five times, and what the other draws behind it.
 fn show_six_draws(
-    rt: &HostRuntime,
+    out: &Teller,
     tickets: &Tickets,
     alone: &mut TicketSeat,
     other: &mut TicketSeat,
-) -> io::Result<()>
+)
     requires alone { IsSeatOf tickets.now alone.old }
     requires other { IsSeatOf tickets.now other.old }
 {
-    show_draw(rt, tickets, alone)?;
-    show_draw(rt, tickets, alone)?;
-    show_draw(rt, tickets, alone)?;
-    show_draw(rt, tickets, alone)?;
-    show_draw(rt, tickets, alone)?;
-    show_draw(rt, tickets, other)
+    show_draw(out, tickets, alone);
+    show_draw(out, tickets, alone);
+    show_draw(out, tickets, alone);
+    show_draw(out, tickets, alone);
+    show_draw(out, tickets, alone);
+    show_draw(out, tickets, other);
 }
 
 /// Tells what one of two seats draws of three numbers, alone, and what the other draws behind it.
-pub fn show_draws(rt: &HostRuntime, alloc: Global) -> io::Result<()> {
+pub fn show_draws(out: &Teller, alloc: Global) {
     let Ok((tickets, mut seats)) = Tickets::open(alloc, 3, 2) else {
-        return rt.println("out of memory");
+        return out.line("out of memory");
     };
     let (Some(mut other), Some(mut alone)) = (seats.pop(), seats.pop()) else {
-        return rt.println("no seats");
+        return out.line("no seats");
     };
-    show_six_draws(rt, &tickets, &mut alone, &mut other)
+    show_six_draws(out, &tickets, &mut alone, &mut other);
 }

@@ -24,6 +24,7 @@ use std::io::Read;
 use std::sync::Wait;
 use std::thread::Threads;
 use std::{env, io};
+use telling::Teller;
 
 /// Runs the job, where its numbers are within the limits.
 fn done<G: Gate, R: Threads + Wait + Sync>(
@@ -57,73 +58,58 @@ fn done<G: Gate, R: Threads + Wait + Sync>(
 /// Runs the job, and tells what it answers, with its events where they are asked for.
 fn told<G: Gate, R: Threads + Wait + Sync>(
     threads: &R,
-    rt: &HostRuntime,
+    out: &Teller,
     alloc: Global,
     order: &Order,
     gate: &G,
     watch: Option<&Tally>,
     has_events: bool,
-) -> io::Result<()> {
-    telling::answer(rt, &done(threads, alloc, order, gate, watch), has_events)
+) {
+    telling::answer(out, &done(threads, alloc, order, gate, watch), has_events);
 }
 
 /// A run whose first attempt is held, and whether a second one went on meanwhile.
-fn held<R: Threads + Wait + Sync>(
-    threads: &R,
-    rt: &HostRuntime,
-    alloc: Global,
-    order: &Order,
-) -> io::Result<()> {
+fn held<R: Threads + Wait + Sync>(threads: &R, out: &Teller, alloc: Global, order: &Order) {
     let gate = Holding::new();
-    told(threads, rt, alloc, order, &gate, None, false)?;
-    println!(rt; "gate {}", gate.says())
+    told(threads, out, alloc, order, &gate, None, false);
+    out.named("gate", &gate.says());
 }
 
 /// A run, and what who looks on is told.
-fn watched<R: Threads + Wait + Sync>(
-    threads: &R,
-    rt: &HostRuntime,
-    alloc: Global,
-    order: &Order,
-) -> io::Result<()> {
+fn watched<R: Threads + Wait + Sync>(threads: &R, out: &Teller, alloc: Global, order: &Order) {
     let watch = Tally::new();
-    told(threads, rt, alloc, order, &OpenGate, Some(&watch), false)?;
-    watch.show(rt)
+    told(threads, out, alloc, order, &OpenGate, Some(&watch), false);
+    watch.show(out);
 }
 
 /// What threads say of a run's result.
-fn judged<R: Threads + Wait + Sync>(
-    threads: &R,
-    rt: &HostRuntime,
-    alloc: Global,
-    order: &Order,
-) -> io::Result<()> {
+fn judged<R: Threads + Wait + Sync>(threads: &R, out: &Teller, alloc: Global, order: &Order) {
     match done(threads, alloc, order, &OpenGate, None) {
         Some(Ok(certified)) => {
             let gate = PhasesHeld::of(&certified);
             let verdict = judging::judged(threads, alloc, order, &certified, &gate);
-            judging::show(rt, &verdict, &gate)
+            judging::show(out, &verdict, &gate);
         }
-        _ => rt.println("nothing to judge"),
+        _ => out.line("nothing to judge"),
     }
 }
 
 /// Answers an order in a mode.
 fn answer<R: Threads + Wait + Sync>(
     threads: &R,
-    rt: &HostRuntime,
+    out: &Teller,
     alloc: Global,
     mode: &str,
     order: &Order,
-) -> io::Result<()> {
+) {
     match mode {
-        "gate" => held(threads, rt, alloc, order),
-        "watch" => watched(threads, rt, alloc, order),
-        "judge" => judged(threads, rt, alloc, order),
-        "tickets" => judging::show_draws(rt, alloc),
+        "gate" => held(threads, out, alloc, order),
+        "watch" => watched(threads, out, alloc, order),
+        "judge" => judged(threads, out, alloc, order),
+        "tickets" => judging::show_draws(out, alloc),
         _ => told(
             threads,
-            rt,
+            out,
             alloc,
             order,
             &OpenGate,
@@ -133,39 +119,45 @@ fn answer<R: Threads + Wait + Sync>(
     }
 }
 
-/// Reads the order, and answers it in its mode.
+/// Standard input.
+fn text_of(rt: &HostRuntime) -> io::Result<Vec<u8>> {
+    let mut text = Vec::new(rt.alloc());
+    rt.stdin().read_to_end(&mut text)?;
+    Ok(text)
+}
+
+/// Answers the order that the words and the text tell, in its mode.
 fn ordered<R: Threads + Wait + Sync>(
     threads: &R,
-    rt: &HostRuntime,
+    out: &Teller,
     mode: &str,
     words: &[String],
-) -> io::Result<()> {
-    let alloc = rt.alloc();
-    let mut text = Vec::new(alloc);
-    rt.stdin().read_to_end(&mut text)?;
-    match asked::order_of(alloc, words, text.as_slice())? {
-        Some(order) => answer(threads, rt, alloc, mode, &order),
-        None => rt.println("refused"),
+    text: &[u8],
+) {
+    let alloc = out.alloc();
+    match asked::order_of(alloc, words, text) {
+        Ok(Some(order)) => answer(threads, out, alloc, mode, &order),
+        Ok(None) => out.line("refused"),
+        Err(refused) => out.lack(refused),
     }
 }
 
 /// Answers by the mode, and the words behind it.
-fn moded<R: Threads + Wait + Sync>(
-    threads: &R,
-    rt: &HostRuntime,
-    mode: &str,
-    words: &[String],
-) -> io::Result<()> {
+fn moded<R: Threads + Wait + Sync>(threads: &R, out: &Teller, mode: &str, words: &[String]) {
     if mode == "book" {
-        return book::answer(rt, words);
+        return book::answer(out, words);
     }
-    ordered(threads, rt, mode, words)
+    match text_of(out.runtime()) {
+        Ok(text) => ordered(threads, out, mode, words, text.as_slice()),
+        Err(fault) => out.fail(fault),
+    }
 }
 
 fn main(rt: HostRuntime) -> io::Result<()> {
     let words: Vec<String> = env::args(&rt)?.skip(1).collect(rt.alloc())?;
-    match words.split_first() {
-        Some((mode, behind)) => moded(&rt, &rt, mode.as_str(), behind),
-        None => Ok(()),
+    let out = Teller::new(rt);
+    if let Some((mode, behind)) = words.split_first() {
+        moded(out.runtime(), &out, mode.as_str(), behind);
     }
+    out.end()
 }

@@ -1,8 +1,9 @@
 //! A gate that holds one attempt back, and a watch that counts what it is told.
+use crate::telling::Teller;
 use mr_bytes::Gate;
 use mr_watch::{Phase, Watch};
 use std::sync::atomic::{AtomicBool, AtomicU64, Ordering};
-use std::{io, thread};
+use std::thread;
 
 /// How many turns an attempt is held at most.
 const TURNS: u32 = 1_000_000;
@@ -79,11 +80,11 @@ impl Told {
         self.all.fetch_max(all, Ordering::SeqCst);
     }
 
-    fn show(&self, rt: &HostRuntime, phase: Phase) -> io::Result<()> {
+    fn show(&self, out: &Teller, phase: Phase) {
         let times = self.times.load(Ordering::SeqCst);
         let most = self.most.load(Ordering::SeqCst);
         let all = self.all.load(Ordering::SeqCst);
-        println!(rt; "told {phase:?} {times} times, {most} of {all}")
+        out.tell(format_args!("told {phase:?} {times} times, {most} of {all}\n"));
     }
 }
 
@@ -106,11 +107,11 @@ impl Tally {
         }
     }
 
-    pub fn show(&self, rt: &HostRuntime) -> io::Result<()> {
-        self.mapping.show(rt, Phase::Mapping)?;
-        self.reducing.show(rt, Phase::Reducing)?;
-        self.judging.show(rt, Phase::Judging)?;
-        println!(rt; "told {} lost", self.lost.load(Ordering::SeqCst))
+    pub fn show(&self, out: &Teller) {
+        self.mapping.show(out, Phase::Mapping);
+        self.reducing.show(out, Phase::Reducing);
+        self.judging.show(out, Phase::Judging);
+        out.tell(format_args!("told {} lost\n", self.lost.load(Ordering::SeqCst)));
     }
 }
 

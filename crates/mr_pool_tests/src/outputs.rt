@@ -1,11 +1,11 @@
 //! Outputs that tell a number.
+use crate::telling::Teller;
 use mr_input::Input;
 use mr_jobs::Job;
 use mr_spill::{Region, RegionPair, open_region};
 use mr_splits::Plan;
 use mr_task::{MapOutput, ReduceOutput, map_task, reduce_task};
 use std::alloc::Global;
-use std::io;
 
 /// The input of the one word that is `w` with the number.
 fn input_of(alloc: Global, number: u32) -> Option<Input> {
@@ -49,14 +49,13 @@ fn first_pair<'a>(region: &Region<'a>) -> Option<RegionPair<'a>> {
 }
 
 /// Tells the first word of the output.
-pub fn show_map(rt: &HostRuntime, output: &MapOutput) -> io::Result<()> {
+pub fn show_map(out: &Teller, output: &MapOutput) {
     if output.parts() == 0 {
-        return Ok(());
+        return;
     }
     for run in 0..output.runs() {
         if let Some(pair) = first_pair(&output.region(0, run)) {
-            print!(rt; "{:?}", pair.key)?;
+            out.value(&pair.key);
         }
     }
-    Ok(())
 }

@@ -1,78 +1,181 @@
-//! What a run answers, line by line, and single values on lines that go on.
-use mr_book::History;
+//! Where answers are told, and what a run answers, line by line.
+use mr_book::{Entry, History};
+use mr_core::Reply;
 use mr_pool::{Certified, RunFault};
-use std::alloc::AllocError;
-use std::fmt::{Debug, Write};
+use std::alloc::{AllocError, Global};
+use std::cell::Cell;
+use std::fmt::{Debug, Display, Write};
 use std::io;
 
-/// A value and a bar behind it, on a line that goes on.
-pub fn before_bar<A: Debug>(rt: &HostRuntime, a: &A) -> io::Result<()> {
-    print!(rt; "{a:?}|")
+/// Where answers are told. The first fault is remembered, nothing is told behind it, and the program ends with it: so who
+/// tells something need not ask whether that was done.
+#[derive(Drop)]
+pub struct Teller {
+    rt: HostRuntime,
+    fault: Cell<Option<io::Error>>,
 }
 
-/// A value behind a bar, on a line that goes on.
-pub fn behind_bar<A: Debug>(rt: &HostRuntime, a: &A) -> io::Result<()> {
-    print!(rt; "|{a:?}")
-}
-
-/// Adds bytes to a line, each as two digits.
-fn add_bytes(line: &mut String, bytes: &[u8]) -> Result<(), AllocError> {
-    for byte in bytes {
-        write!(line, "{byte:02x}")?;
+impl Teller {
+    /// Nothing has failed yet.
+    pub fn new(rt: HostRuntime) -> Teller {
+        Teller {
+            rt,
+            fault: Cell::new(None),
+        }
     }
-    Ok(())
+
+    /// The system that answers are told to.
+    pub fn runtime(&self) -> &HostRuntime {
+        &self.rt
+    }
+
+    pub fn alloc(&self) -> Global {
+        self.rt.alloc()
+    }
+
+    /// The first fault, where there was one.
+    pub fn end(self) -> io::Result<()> {
+        match self.fault.into_inner() {
+            Some(fault) => Err(fault),
+            None => Ok(()),
+        }
+    }
+
+    pub fn has_failed(&self) -> bool {
+        let fault = self.fault.take();
+        let has_failed = fault.is_some();
+        self.fault.set(fault);
+        has_failed
+    }
+
+    /// Remembers a fault, where there was none before it.
+    pub fn fail(&self, fault: io::Error) {
+        let first = self.fault.take().unwrap_or(fault);
+        self.fault.set(Some(first));
+    }
+
+    /// Remembers that memory was refused.
+    pub fn lack(&self, refused: AllocError) {
+        self.fail(io::Error::from(refused));
+    }
+
+    /// Tells a text, where nothing has failed before it.
+    pub fn tell<D: Display + Drop>(&self, text: D) {
+        let fault = match self.fault.take() {
+            Some(fault) => Some(fault),
+            None => self.rt.print(text).err(),
+        };
+        self.fault.set(fault);
+    }
+
+    /// A text, on a line of its own or at the end of one.
+    pub fn line(&self, text: &str) {
+        self.tell(format_args!("{text}\n"));
+    }
+
+    /// What something is and its value, on a line of their own.
+    pub fn named<A: Display>(&self, what: &str, a: &A) {
+        self.tell(format_args!("{what} {a}\n"));
+    }
+
+    /// A value, on a line that goes on.
+    pub fn value<A: Debug>(&self, a: &A) {
+        self.tell(format_args!("{a:?}"));
+    }
+
+    /// A value and a bar behind it, on a line that goes on.
+    pub fn before_bar<A: Debug>(&self, a: &A) {
+        self.tell(format_args!("{a:?}|"));
+    }
+
+    /// A value behind a bar, on a line that goes on.
+    pub fn behind_bar<A: Debug>(&self, a: &A) {
+        self.tell(format_args!("|{a:?}"));
+    }
+
+    /// Two values behind a bar, on a line that goes on.
+    pub fn behind_bar_with<A: Debug, B: Debug>(&self, a: &A, b: &B) {
+        self.tell(format_args!("|{a:?} {b:?}"));
+    }
+
+    /// A reply and a bar behind it, where there was memory for one.
+    pub fn reply(&self, reply: Result<Reply, AllocError>) {
+        match reply {
+            Ok(reply) => self.before_bar(&reply),
+            Err(refused) => self.lack(refused),
+        }
+    }
+
+    /// A line of bytes, each as two digits.
+    fn bytes(&self, what: &str, bytes: &[u8]) {
+        match digits_of(self.rt.alloc(), bytes) {
+            Ok(digits) => self.named(what, &digits),
+            Err(refused) => self.lack(refused),
+        }
+    }
 }
 
-/// A line of bytes.
-fn show_bytes(rt: &HostRuntime, what: &str, bytes: &[u8]) -> io::Result<()> {
-    let mut line = String::new(rt.alloc());
-    add_bytes(&mut line, bytes)?;
-    println!(rt; "{what} {line}")
+/// Bytes, each as two digits.
+fn digits_of(alloc: Global, bytes: &[u8]) -> Result<String, AllocError> {
+    let mut digits = String::new(alloc);
+    for byte in bytes {
+        write!(digits, "{byte:02x}")?;
+    }
+    Ok(digits)
+}
+
+fn show_entry(out: &Teller, entry: &Entry) {
+    out.tell(format_args!("{:?}: {:?}\n", entry.event(), entry.reply()));
 }
 
 /// How many events there were, and each with its reply where that is asked for.
-fn show_history(rt: &HostRuntime, history: &History, has_events: bool) -> io::Result<()> {
-    println!(rt; "events {}", history.entries.len())?;
+fn show_history(out: &Teller, history: &History, has_events: bool) {
+    out.named("events", &history.entries.len());
     if has_events {
         for entry in &history.entries {
-            println!(rt; "{:?}: {:?}", entry.event(), entry.reply())?;
+            show_entry(out, entry);
         }
     }
-    Ok(())
 }
 
-fn show_certified(rt: &HostRuntime, certified: &Certified) -> io::Result<()> {
-    println!(rt; "certified {} pairs", certified.pairs)?;
-    for output in &certified.outputs {
-        show_bytes(rt, "file", output.as_slice())?;
-    }
-    show_bytes(rt, "certificate", certified.certificate.as_slice())?;
+fn show_skips(out: &Teller, certified: &Certified) {
     for skip in &certified.skips {
-        println!(rt; "skip {} {}", skip.split, skip.rec)?;
+        out.tell(format_args!("skip {} {}\n", skip.split, skip.rec));
     }
-    Ok(())
+}
+
+fn show_certified(out: &Teller, certified: &Certified) {
+    out.tell(format_args!("certified {} pairs\n", certified.pairs));
+    for output in &certified.outputs {
+        out.bytes("file", output.as_slice());
+    }
+    out.bytes("certificate", certified.certificate.as_slice());
+    show_skips(out, certified);
+}
+
+/// Tells why a run has no result.
+fn show_fault(out: &Teller, fault: &RunFault, has_events: bool) {
+    match fault {
+        RunFault::Failed(fault, history) => {
+            out.named("failed", fault);
+            show_history(out, history, has_events);
+        }
+        RunFault::Uncertified(no, history) => {
+            out.named("uncertified", no);
+            show_history(out, history, has_events);
+        }
+        RunFault::OutOfMemory => out.line("out of memory"),
+    }
 }
 
 /// Tells the answer of a run, or that there was none.
-pub fn answer(
-    rt: &HostRuntime,
-    done: &Option<Result<Certified, RunFault>>,
-    has_events: bool,
-) -> io::Result<()> {
+pub fn answer(out: &Teller, done: &Option<Result<Certified, RunFault>>, has_events: bool) {
     match done {
         Some(Ok(certified)) => {
-            show_certified(rt, certified)?;
-            show_history(rt, &certified.history, has_events)
+            show_certified(out, certified);
+            show_history(out, &certified.history, has_events);
         }
-        Some(Err(RunFault::Failed(fault, history))) => {
-            println!(rt; "failed {fault}")?;
-            show_history(rt, history, has_events)
-        }
-        Some(Err(RunFault::Uncertified(no, history))) => {
-            println!(rt; "uncertified {no}")?;
-            show_history(rt, history, has_events)
-        }
-        Some(Err(RunFault::OutOfMemory)) => rt.println("out of memory"),
-        None => rt.println("out of limits"),
+        Some(Err(fault)) => show_fault(out, fault, has_events),
+        None => out.line("out of limits"),
     }
 }
