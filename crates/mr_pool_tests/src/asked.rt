@@ -15,7 +15,7 @@ pub struct Order {
 }
 
 /// The number at a place; 0 where there is none.
-fn number_at(words: &[String], place: usize) -> u32 {
+pub fn number_at(words: &[String], place: usize) -> u32 {
     match words.get(place) {
         Some(word) => word.as_str().parse().unwrap_or(0),
         None => 0,

@@ -2,33 +2,48 @@
 //! and seats there are. Each line of standard input is a call: its kind, its seat, and its numbers. A line answers it with
 //! the reply, the output that comes with it, and all that can be looked at. At the end of the lines the book is closed, and
 //! its history told.
-ghost use Rattle.std.specs.Prelude.{◌≡◌, vec_len};
+ghost use Rattle.std.specs.Prelude.{◌≡◌, IfOk, vec_len};
 
+use crate::asked::number_at;
 use crate::outputs;
 use crate::telling::Teller;
 use mr_book::{Book, History, Seat, Stored};
 use mr_core::{Limits, Reply, Shape, Task};
 use mr_task::{MapOutput, ReduceOutput};
+use std::alloc::{AllocError, AllocFailed};
+use std::io;
 use std::marker::Brand;
 use std::sync::Arc;
 use std::sync::ledger::{Blank, Ledger};
 
+/// The number of a word; 0 where there is no word, or it is no number.
+fn number_of(word: Option<&str>) -> u32 {
+    match word {
+        Some(word) => word.parse().unwrap_or(0),
+        None => 0,
+    }
+}
+
 /// The numbers of a line; what is missing or is no number is 0.
 fn numbers_of(line: &str) -> [u32; 4] {
-    let mut numbers = [0; 4];
-    for (number, word) in numbers.iter_mut().zip(line.split(' ')) {
-        *number = word.parse().unwrap_or(0);
-    }
-    numbers
+    let mut words = line.split(' ');
+    let kind = number_of(words.next());
+    let seat = number_of(words.next());
+    let first = number_of(words.next());
+    let second = number_of(words.next());
+    [kind, seat, first, second]
 }
 
 /// The numbers that the program is given; what is missing or is no number is 0.
 fn sizes_of(words: &[String]) -> [u32; 6] {
-    let mut sizes = [0; 6];
-    for (size, word) in sizes.iter_mut().zip(words) {
-        *size = word.as_str().parse().unwrap_or(0);
-    }
-    sizes
+    [
+        number_at(words, 0),
+        number_at(words, 1),
+        number_at(words, 2),
+        number_at(words, 3),
+        number_at(words, 4),
+        number_at(words, 5),
+    ]
 }
 
 /// Makes the call on the book, and tells the reply and what comes with it.
@@ -65,6 +80,14 @@ fn fetch<L: Ledger>(
     }
 }
 
+/// Tells a reply, or an output that was handed back.
+fn show_map_done(out: &Teller, done: &Result<Reply, AllocFailed<MapOutput>>) {
+    match done {
+        Ok(reply) => out.before_bar(reply),
+        Err(refused) => outputs::show_map(out, &refused.value),
+    }
+}
+
 fn map_done<L: Ledger>(
     out: &Teller,
     book: &mut Book<L>,
@@ -75,9 +98,14 @@ fn map_done<L: Ledger>(
     let Some(output) = outputs::map_output(out.alloc(), number) else {
         return;
     };
-    match book.map_done(seat, attempt, output) {
-        Ok(reply) => out.before_bar(&reply),
-        Err(refused) => outputs::show_map(out, &refused.value),
+    show_map_done(out, &book.map_done(seat, attempt, output));
+}
+
+/// Tells a reply, or an output that was handed back.
+fn show_reduce_done(out: &Teller, done: &Result<Reply, AllocFailed<ReduceOutput>>) {
+    match done {
+        Ok(reply) => out.before_bar(reply),
+        Err(refused) => out.value(&refused.value.text()),
     }
 }
 
@@ -91,10 +119,7 @@ fn reduce_done<L: Ledger>(
     let Some(output) = outputs::reduce_output(out.alloc(), number) else {
         return;
     };
-    match book.reduce_done(seat, attempt, output) {
-        Ok(reply) => out.before_bar(&reply),
-        Err(refused) => out.value(&refused.value.text()),
-    }
+    show_reduce_done(out, &book.reduce_done(seat, attempt, output));
 }
 
 /// Tells of each split and of each partition whether its task is complete.
@@ -125,13 +150,23 @@ fn serve_line<L: Ledger>(out: &Teller, book: &mut Book<L>, seats: &mut [Seat<L>]
     }
 }
 
+/// Answers a line that was read.
+fn serve_read<L: Ledger>(
+    out: &Teller,
+    book: &mut Book<L>,
+    seats: &mut [Seat<L>],
+    read: io::Result<String>,
+) {
+    match read {
+        Ok(line) => serve_line(out, book, seats, line.as_str()),
+        Err(fault) => out.fail(fault),
+    }
+}
+
 /// Answers each line, up to the first fault.
 fn serve<L: Ledger>(out: &Teller, book: &mut Book<L>, seats: &mut [Seat<L>]) {
-    for line in out.runtime().lines(out.alloc()) {
-        match line {
-            Ok(line) => serve_line(out, book, seats, line.as_str()),
-            Err(fault) => out.fail(fault),
-        }
+    for read in out.runtime().lines(out.alloc()) {
+        serve_read(out, book, seats, read);
         if out.has_failed() {
             return;
         }
@@ -175,6 +210,16 @@ fn serve_all<L: Ledger>(out: &Teller, mut book: Book<L>, mut seats: Vec<Seat<L>>
     show_history(out, &book.close(seats));
 }
 
+/// Answers by the book that was opened, where there was memory for one.
+fn serve_opened<L: Ledger>(out: &Teller, opened: Result<(Book<L>, Vec<Seat<L>>), AllocError>)
+    requires all { IfOk opened (λ r. vec_len r.1 ≡ L.parts) }
+{
+    match opened {
+        Ok((book, seats)) => serve_all(out, book, seats),
+        Err(refused) => out.lack(refused),
+    }
+}
+
 /// Opens a book of these sizes, where they are within the limits of a small job, and closes it at the end of the lines.
 fn work<L: Ledger>(out: &Teller, blank: Blank, sizes: [u32; 6], seats: u32)
     requires ledger { (blank.name ≡ L.name) × (blank.parts ≡ L.parts) }
@@ -188,7 +233,7 @@ fn work<L: Ledger>(out: &Teller, blank: Blank, sizes: [u32; 6], seats: u32)
         return;
     }
     let limits = Limits { attempts, skips };
-    match Book::<L>::open(
+    let opened = Book::<L>::open(
         out.alloc(),
         blank,
         maps,
@@ -196,10 +241,8 @@ fn work<L: Ledger>(out: &Teller, blank: Blank, sizes: [u32; 6], seats: u32)
         workers,
         limits,
         seats as usize,
-    ) {
-        Ok((book, seats)) => serve_all(out, book, seats),
-        Err(refused) => out.lack(refused),
-    }
+    );
+    serve_opened(out, opened);
 }
 
 /// Answers standard input, by these words.

@@ -83,13 +83,22 @@ fn watched<R: Threads + Wait + Sync>(threads: &R, out: &Teller, alloc: Global, o
 }
 
 /// What threads say of a run's result.
+fn show_judged<R: Threads + Wait + Sync>(
+    threads: &R,
+    out: &Teller,
+    alloc: Global,
+    order: &Order,
+    certified: &Certified,
+) {
+    let gate = PhasesHeld::of(certified);
+    let verdict = judging::judged(threads, alloc, order, certified, &gate);
+    judging::show(out, &verdict, &gate);
+}
+
+/// What threads say of a run's result, where there is one.
 fn judged<R: Threads + Wait + Sync>(threads: &R, out: &Teller, alloc: Global, order: &Order) {
     match done(threads, alloc, order, &OpenGate, None) {
-        Some(Ok(certified)) => {
-            let gate = PhasesHeld::of(&certified);
-            let verdict = judging::judged(threads, alloc, order, &certified, &gate);
-            judging::show(out, &verdict, &gate);
-        }
+        Some(Ok(certified)) => show_judged(threads, out, alloc, order, &certified),
         _ => out.line("nothing to judge"),
     }
 }
@@ -153,11 +162,23 @@ fn moded<R: Threads + Wait + Sync>(threads: &R, out: &Teller, mode: &str, words:
     }
 }
 
-fn main(rt: HostRuntime) -> io::Result<()> {
-    let words: Vec<String> = env::args(&rt)?.skip(1).collect(rt.alloc())?;
-    let out = Teller::new(rt);
+/// The words behind the program's name.
+fn words_of(rt: &HostRuntime) -> io::Result<Vec<String>> {
+    Ok(env::args(rt)?.skip(1).collect(rt.alloc())?)
+}
+
+/// Answers by the words.
+fn answered<R: Threads + Wait + Sync>(threads: &R, out: &Teller, words: &[String]) {
     if let Some((mode, behind)) = words.split_first() {
-        moded(out.runtime(), &out, mode.as_str(), behind);
+        moded(threads, out, mode.as_str(), behind);
+    }
+}
+
+fn main(rt: HostRuntime) -> io::Result<()> {
+    let out = Teller::new(rt);
+    match words_of(out.runtime()) {
+        Ok(words) => answered(out.runtime(), &out, words.as_slice()),
+        Err(fault) => out.fail(fault),
     }
     out.end()
 }
