@@ -68,11 +68,9 @@ fn texts_of(
 /// The request that the words tell, if they tell one.
 fn request_of(alloc: Global, words: &[String]) -> Option<Request> {
     let job = job_of(alloc, words.first()?.as_str())?;
-    let (parts, split, skips) = (
-        number_at(words, 1),
-        number_at(words, 2),
-        number_at(words, 3),
-    );
+    let parts = number_at(words, 1);
+    let split = number_at(words, 2);
+    let skips = number_at(words, 3);
     Request::new(job, parts, split, skips).ok()
 }
 

@@ -2,7 +2,7 @@
 //! and seats there are. Each line of standard input is a call: its kind, its seat, and its numbers. A line answers it with
 //! the reply, the output that comes with it, and all that can be looked at. At the end of the lines the book is closed, and
 //! its history told.
-ghost use Rattle.std.specs.Prelude.{◌≡◌, IfOk, vec_len};
+ghost use Rattle.std.specs.Prelude.{◌≡◌, vec_len};
 
 use crate::asked::number_at;
 use crate::outputs;
@@ -10,8 +10,7 @@ use crate::telling::Teller;
 use mr_book::{Book, History, Seat, Stored};
 use mr_core::{Limits, Reply, Shape, Task};
 use mr_task::{MapOutput, ReduceOutput};
-use std::alloc::{AllocError, AllocFailed};
-use std::io;
+use std::alloc::AllocFailed;
 use std::marker::Brand;
 use std::sync::Arc;
 use std::sync::ledger::{Blank, Ledger};
@@ -67,13 +66,7 @@ fn show_fetched(out: &Teller, reply: &Reply, output: &Option<Arc<MapOutput>>) {
     }
 }
 
-fn fetch<L: Ledger>(
-    out: &Teller,
-    book: &mut Book<L>,
-    seat: &mut Seat<L>,
-    attempt: u32,
-    map: u32,
-) {
+fn fetch<L: Ledger>(out: &Teller, book: &mut Book<L>, seat: &mut Seat<L>, attempt: u32, map: u32) {
     match book.fetch(seat, attempt, map) {
         Ok((reply, output)) => show_fetched(out, &reply, &output),
         Err(refused) => out.lack(refused),
@@ -150,23 +143,13 @@ fn serve_line<L: Ledger>(out: &Teller, book: &mut Book<L>, seats: &mut [Seat<L>]
     }
 }
 
-/// Answers a line that was read.
-fn serve_read<L: Ledger>(
-    out: &Teller,
-    book: &mut Book<L>,
-    seats: &mut [Seat<L>],
-    read: io::Result<String>,
-) {
-    match read {
-        Ok(line) => serve_line(out, book, seats, line.as_str()),
-        Err(fault) => out.fail(fault),
-    }
-}
-
 /// Answers each line, up to the first fault.
 fn serve<L: Ledger>(out: &Teller, book: &mut Book<L>, seats: &mut [Seat<L>]) {
-    for read in out.runtime().lines(out.alloc()) {
-        serve_read(out, book, seats, read);
+    for line in out.runtime().lines(out.alloc()) {
+        match line {
+            Ok(line) => serve_line(out, book, seats, line.as_str()),
+            Err(fault) => out.fail(fault),
+        }
         if out.has_failed() {
             return;
         }
@@ -210,16 +193,6 @@ fn serve_all<L: Ledger>(out: &Teller, mut book: Book<L>, mut seats: Vec<Seat<L>>
     show_history(out, &book.close(seats));
 }
 
-/// Answers by the book that was opened, where there was memory for one.
-fn serve_opened<L: Ledger>(out: &Teller, opened: Result<(Book<L>, Vec<Seat<L>>), AllocError>)
-    requires all { IfOk opened (λ r. vec_len r.1 ≡ L.parts) }
-{
-    match opened {
-        Ok((book, seats)) => serve_all(out, book, seats),
-        Err(refused) => out.lack(refused),
-    }
-}
-
 /// Opens a book of these sizes, where they are within the limits of a small job, and closes it at the end of the lines.
 fn work<L: Ledger>(out: &Teller, blank: Blank, sizes: [u32; 6], seats: u32)
     requires ledger { (blank.name ≡ L.name) × (blank.parts ≡ L.parts) }
@@ -233,7 +206,7 @@ fn work<L: Ledger>(out: &Teller, blank: Blank, sizes: [u32; 6], seats: u32)
         return;
     }
     let limits = Limits { attempts, skips };
-    let opened = Book::<L>::open(
+    match Book::<L>::open(
         out.alloc(),
         blank,
         maps,
@@ -241,8 +214,10 @@ fn work<L: Ledger>(out: &Teller, blank: Blank, sizes: [u32; 6], seats: u32)
         workers,
         limits,
         seats as usize,
-    );
-    serve_opened(out, opened);
+    ) {
+        Ok((book, seats)) => serve_all(out, book, seats),
+        Err(refused) => out.lack(refused),
+    }
 }
 
 /// Answers standard input, by these words.

@@ -57,13 +57,10 @@ pub fn judged<G: Gate, R: Threads + Sync>(
     certified: &Certified,
     gate: &G,
 ) -> Option<Result<Yes, No>> {
-    let Order {
-        request,
-        input,
-        workers,
-        ..
-    } = order;
-    if !request.fits(input) || *workers < 1 || 64 < *workers {
+    let request = &order.request;
+    let input = &order.input;
+    let workers = order.workers;
+    if !request.fits(input) || workers < 1 || 64 < workers {
         return None;
     }
     Some(check_gated(
@@ -73,7 +70,7 @@ pub fn judged<G: Gate, R: Threads + Sync>(
         input,
         certified.outputs.as_slice(),
         certified.certificate.as_slice(),
-        *workers,
+        workers,
         gate,
     ))
 }
@@ -103,12 +100,7 @@ fn show_draw(out: &Teller, tickets: &Tickets, seat: &mut TicketSeat)
 }
 
 /// Tells what a seat draws five times, and what the other draws behind it.
-fn show_six_draws(
-    out: &Teller,
-    tickets: &Tickets,
-    alone: &mut TicketSeat,
-    other: &mut TicketSeat,
-)
+fn show_six_draws(out: &Teller, tickets: &Tickets, alone: &mut TicketSeat, other: &mut TicketSeat)
     requires alone { IsSeatOf tickets.now alone.old }
     requires other { IsSeatOf tickets.now other.old }
 {

@@ -34,14 +34,11 @@ fn done<G: Gate, R: Threads + Wait + Sync>(
     gate: &G,
     watch: Option<&Tally>,
 ) -> Option<Result<Certified, RunFault>> {
-    let Order {
-        request,
-        input,
-        script,
-        workers,
-        attempts,
-    } = order;
-    let (workers, attempts) = (*workers, *attempts);
+    let request = &order.request;
+    let input = &order.input;
+    let script = &order.script;
+    let workers = order.workers;
+    let attempts = order.attempts;
     if !request.fits(input) || workers < 1 || 64 < workers || attempts < 1 || 16 < attempts {
         return None;
     }
@@ -82,25 +79,26 @@ fn watched<R: Threads + Wait + Sync>(threads: &R, out: &Teller, alloc: Global, o
     watch.show(out);
 }
 
-/// What threads say of a run's result.
+/// What threads say of the result of a run, where it has one.
 fn show_judged<R: Threads + Wait + Sync>(
     threads: &R,
     out: &Teller,
     alloc: Global,
     order: &Order,
-    certified: &Certified,
+    done: &Option<Result<Certified, RunFault>>,
 ) {
+    let Some(Ok(certified)) = done else {
+        return out.line("nothing to judge");
+    };
     let gate = PhasesHeld::of(certified);
     let verdict = judging::judged(threads, alloc, order, certified, &gate);
     judging::show(out, &verdict, &gate);
 }
 
-/// What threads say of a run's result, where there is one.
+/// A run, and what threads say of its result.
 fn judged<R: Threads + Wait + Sync>(threads: &R, out: &Teller, alloc: Global, order: &Order) {
-    match done(threads, alloc, order, &OpenGate, None) {
-        Some(Ok(certified)) => show_judged(threads, out, alloc, order, &certified),
-        _ => out.line("nothing to judge"),
-    }
+    let done = done(threads, alloc, order, &OpenGate, None);
+    show_judged(threads, out, alloc, order, &done);
 }
 
 /// Answers an order in a mode.
@@ -162,23 +160,11 @@ fn moded<R: Threads + Wait + Sync>(threads: &R, out: &Teller, mode: &str, words:
     }
 }
 
-/// The words behind the program's name.
-fn words_of(rt: &HostRuntime) -> io::Result<Vec<String>> {
-    Ok(env::args(rt)?.skip(1).collect(rt.alloc())?)
-}
-
-/// Answers by the words.
-fn answered<R: Threads + Wait + Sync>(threads: &R, out: &Teller, words: &[String]) {
-    if let Some((mode, behind)) = words.split_first() {
-        moded(threads, out, mode.as_str(), behind);
-    }
-}
-
 fn main(rt: HostRuntime) -> io::Result<()> {
+    let words: Vec<String> = env::args(&rt)?.skip(1).collect(rt.alloc())?;
     let out = Teller::new(rt);
-    match words_of(out.runtime()) {
-        Ok(words) => answered(out.runtime(), &out, words.as_slice()),
-        Err(fault) => out.fail(fault),
+    if let Some((mode, behind)) = words.split_first() {
+        moded(out.runtime(), &out, mode.as_str(), behind);
     }
     out.end()
 }

@@ -1,13 +1,11 @@
 //! Outputs that tell a number.
-ghost use Rattle.std.specs.Prelude.{◌<◌};
-
 use crate::telling::Teller;
 use mr_input::Input;
 use mr_jobs::Job;
 use mr_spill::{Region, RegionPair, open_region};
 use mr_splits::Plan;
 use mr_task::{MapOutput, ReduceOutput, map_task, reduce_task};
-use std::alloc::{AllocError, Global};
+use std::alloc::Global;
 
 /// The input of the one word that is `w` with the number.
 fn input_of(alloc: Global, number: u32) -> Option<Input> {
@@ -17,30 +15,14 @@ fn input_of(alloc: Global, number: u32) -> Option<Input> {
     Input::of(files).ok()
 }
 
-/// What the map task gives for the plan's first split.
-fn mapped(alloc: Global, plan: &Plan) -> Option<MapOutput> {
-    if plan.splits() == 0 {
-        return None;
-    }
-    map_task(alloc, plan, &Job::words(false), 1, 0, &[]).ok()
-}
-
 /// What the map task gives for that word.
 pub fn map_output(alloc: Global, number: u32) -> Option<MapOutput> {
     let input = input_of(alloc, number)?;
     let plan = Plan::of(alloc, &input, 64).ok()?;
-    mapped(alloc, &plan)
-}
-
-/// The regions of partition 0.
-fn regions_of(alloc: Global, output: &MapOutput) -> Result<Vec<Region<'_>>, AllocError>
-    requires { 0 < output.now.parts }
-{
-    let mut regions = Vec::new(alloc);
-    for run in 0..output.runs() {
-        regions.push(output.region(0, run))?;
+    if plan.splits() == 0 {
+        return None;
     }
-    Ok(regions)
+    map_task(alloc, &plan, &Job::words(false), 1, 0, &[]).ok()
 }
 
 /// What the reduce task makes of an output.
@@ -48,7 +30,10 @@ fn reduced(alloc: Global, output: &MapOutput) -> Option<ReduceOutput> {
     if output.parts() == 0 {
         return None;
     }
-    let regions = regions_of(alloc, output).ok()?;
+    let mut regions = Vec::new(alloc);
+    for run in 0..output.runs() {
+        regions.push(output.region(0, run)).ok()?;
+    }
     reduce_task(alloc, &Job::words(false), 0, regions.as_slice()).ok()
 }
 
