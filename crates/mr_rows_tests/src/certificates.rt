@@ -51,8 +51,7 @@ fn push_words(builder: &mut Builder) -> Result<(), AllocError>
 
 /// The certificate of the words of `a b a` and a line end, one partition, splits of 64 bytes.
 fn example(alloc: Global) -> Result<Certificate, AllocError> {
-    let mut lengths = Vec::new(alloc);
-    lengths.push(6)?;
+    let lengths = Vec::from_slice(alloc, &[6])?;
     let mut builder = begun(alloc, lengths);
     push_words(&mut builder)?;
     Ok(builder.finish())
@@ -188,13 +187,22 @@ fn answer_bytes(teller: &Teller, bytes: &[u8]) -> Result<(), AllocError> {
     Ok(())
 }
 
+/// The number of a word; what is missing or is no number is 0.
+fn number_of(words: &[String], i: usize) -> u64 {
+    match words.get(i) {
+        Some(word) => word.parse().unwrap_or(0),
+        None => 0,
+    }
+}
+
 /// Answers standard input, by these words.
 pub fn answer(teller: &Teller, words: &[String]) -> io::Result<()> {
     let bytes = teller.all_bytes()?;
-    let Some(most) = words.first() else {
-        return Ok(answer_bytes(teller, &bytes)?);
-    };
-    let failing = words.get(1).and_then(|word| word.parse().ok());
-    streaming::walk(teller, bytes, most.parse().unwrap_or(1), failing)?;
+    if words.is_empty() {
+        answer_bytes(teller, &bytes)?;
+    } else {
+        let most = number_of(words, 0) as usize;
+        streaming::walk(teller, bytes, most, number_of(words, 1))?;
+    }
     Ok(())
 }

@@ -15,8 +15,10 @@ const FEW: u32 = 8;
 /// The numbers that the program is given; what is missing or is no number is 0.
 pub fn numbers_of(words: &[String]) -> [u32; 4] {
     let mut numbers = [0; 4];
-    for (number, word) in numbers.iter_mut().zip(words) {
-        *number = word.as_str().parse().unwrap_or(0);
+    for i in 0..4 {
+        if let Some(word) = words.get(i) {
+            numbers[i] = word.as_str().parse().unwrap_or(0);
+        }
     }
     numbers
 }

@@ -40,19 +40,18 @@ struct Case<'a> {
 
 /// The case in front, and the bytes behind it.
 fn next_case(bytes: &[u8]) -> Option<(Case<'_>, &[u8])> {
-    let (kernel, behind) = piece(bytes, 1)?;
+    let (kernel, behind) = bytes.split_first()?;
     let (a, behind) = text(behind)?;
     let (b, behind) = text(behind)?;
-    let kernel = *kernel.first()?;
+    let kernel = *kernel;
     Some((Case { kernel, a, b }, behind))
 }
 
 /// The first 64 bytes, and spaces where there are fewer.
 fn show_planes(teller: &Teller, bytes: &[u8]) {
     let mut block = [0x20; 64];
-    for (to, from) in block.iter_mut().zip(bytes) {
-        *to = *from;
-    }
+    let count = bytes.len().min(64);
+    block[..count].copy_from_slice(&bytes[..count]);
     teller.one(&planes(&block));
 }
 

@@ -10,8 +10,11 @@ use std::io;
 /// The numbers of a line; what is missing or is no number is 0.
 pub fn numbers_of(line: &str) -> [u32; 6] {
     let mut numbers = [0; 6];
-    for (number, word) in numbers.iter_mut().zip(line.split(' ')) {
-        *number = word.parse().unwrap_or(0);
+    let mut words = line.split(' ');
+    for i in 0..6 {
+        if let Some(word) = words.next() {
+            numbers[i] = word.parse().unwrap_or(0);
+        }
     }
     numbers
 }

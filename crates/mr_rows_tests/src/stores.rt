@@ -1,5 +1,7 @@
 //! Stores in memory. A line of standard input has what is asked, how many bytes a call moves at most, which call fails (0
 //! for none), and a limit or the number of a writer. It is answered by a line, and one for each writer.
+ghost use Rattle.std.specs.Prelude.{◌≤◌, IfSome};
+
 use crate::master::numbers_of;
 use crate::telling::Teller;
 use mr_store::{
@@ -11,19 +13,26 @@ use std::io;
 
 const TEXT: [u8; 20] = *b"0123456789abcdefghij";
 
+/// The call that fails, where there is one: 0 stands for none.
+pub fn failing_call(number: u64) -> Option<u64>
+    ensures { IfSome result (λ call. 1 ≤ call) }
+{
+    match number {
+        0 => None,
+        _ => Some(number),
+    }
+}
+
 /// A reader of the text.
 fn reader(alloc: Global, most: u32, failing: u32) -> Result<MemoryReader, AllocError> {
-    let failing = Some(u64::from(failing)).filter(|call| *call >= 1);
-    Ok(MemoryReader::new(
-        Vec::from_slice(alloc, &TEXT)?,
-        most.max(1) as usize,
-        failing,
-    ))
+    let text = Vec::from_slice(alloc, &TEXT)?;
+    let failing = failing_call(u64::from(failing));
+    Ok(MemoryReader::new(text, most.max(1) as usize, failing))
 }
 
 /// A writer that takes so many bytes a call, and of which that call fails, unless it is 0.
 pub fn writer(alloc: Global, most: u32, failing: u32) -> MemoryWriter {
-    let failing = Some(u64::from(failing)).filter(|call| *call >= 1);
+    let failing = failing_call(u64::from(failing));
     MemoryWriter::new(alloc, most.max(1) as usize, failing)
 }
 

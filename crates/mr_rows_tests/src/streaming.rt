@@ -1,4 +1,5 @@
 //! Walks over readers: what is told of bytes that come a few at a call, and of a call that fails.
+use crate::stores::failing_call;
 use crate::telling::Teller;
 use mr_certform::{Item, StreamFault, StreamWalker};
 use mr_store::{CountedRead, MemoryReader};
@@ -41,15 +42,9 @@ fn steps<R: CountedRead + Drop>(teller: &Teller, walker: &mut StreamWalker<R>) {
 }
 
 /// Tells the items, twice what ends them, and then the place behind them and how many calls failed. The reader gives at
-/// most so many bytes a call, and fails at the call of that number, where there is one.
-pub fn walk(
-    teller: &Teller,
-    bytes: Vec<u8>,
-    most: usize,
-    failing: Option<u64>,
-) -> Result<(), AllocError> {
-    let failing = failing.filter(|call| *call >= 1);
-    let reader = MemoryReader::new(bytes, most.max(1), failing);
+/// most so many bytes a call, and fails at the call of that number, if it isn't 0.
+pub fn walk(teller: &Teller, bytes: Vec<u8>, most: usize, failing: u64) -> Result<(), AllocError> {
+    let reader = MemoryReader::new(bytes, most.max(1), failing_call(failing));
     let mut walker = StreamWalker::new(teller.alloc(), reader)?;
     steps(teller, &mut walker);
     teller.behind("at ", &walker.place());

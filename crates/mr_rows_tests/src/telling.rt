@@ -79,12 +79,16 @@ impl Teller {
 
     /// A line of two values.
     pub fn two<A: Debug, B: Debug>(&self, a: &A, b: &B) {
-        self.remember(println!(&self.rt; "{a:?} {b:?}"));
+        self.before(a, " ");
+        self.one(b);
     }
 
     /// A line of four values, each behind a space.
     pub fn four<A: Debug, B: Debug, C: Debug, D: Debug>(&self, a: &A, b: &B, c: &C, d: &D) {
-        self.remember(println!(&self.rt; " {a:?} {b:?} {c:?} {d:?}"));
+        self.behind(" ", a);
+        self.behind(" ", b);
+        self.behind(" ", c);
+        self.named(" ", d);
     }
 
     /// A value, on a line that goes on.
@@ -109,21 +113,25 @@ impl Teller {
 
     /// Two values behind a bar, on a line that goes on.
     pub fn two_behind_bar<A: Debug, B: Debug>(&self, a: &A, b: &B) {
-        self.remember(print!(&self.rt; "|{a:?} {b:?}"));
+        self.behind("|", a);
+        self.behind(" ", b);
     }
 
     /// Three values behind a bar, on a line that goes on.
     pub fn three_behind_bar<A: Debug, B: Debug, C: Debug>(&self, a: &A, b: &B, c: &C) {
-        self.remember(print!(&self.rt; "|{a:?} {b:?} {c:?}"));
+        self.two_behind_bar(a, b);
+        self.behind(" ", c);
     }
 
     /// A fault, both ways in which it is told, on a line that goes on.
     pub fn fault_part<F: Display + Debug>(&self, fault: &F) {
-        self.remember(print!(&self.rt; "{fault} {fault:?} "));
+        self.shown(fault, " ");
+        self.before(fault, " ");
     }
 
     /// A line of a fault, both ways in which it is told.
     pub fn fault<F: Display + Debug>(&self, fault: &F) {
-        self.remember(println!(&self.rt; "{fault} {fault:?}"));
+        self.shown(fault, " ");
+        self.one(fault);
     }
 }
