@@ -14,4 +14,4 @@ pub use mr_answers::{
     worked_places, worked_rows, yes_law,
 };
 pub use mr_judge::{check, check_from, check_from_watched, check_metered, check_watched};
-pub use threads::{check_gated, check_gated_watched, check_threads};
+pub use threads::{check_gated, check_gated_watched, check_planned_watched, check_threads};

@@ -1,5 +1,5 @@
 //! The judge on many threads.
-ghost use Rattle.std.specs.Prelude.{◌≡◌, ◌⊎◌, ◌<◌, ◌≤◌, ◌+◌, ◌^◌, [], IfOk, IfErr, MatchResult, None, Some, length};
+ghost use Rattle.std.specs.Prelude.{◌≡◌, ◌⊎◌, ◌<◌, ◌≤◌, ◌+◌, ◌^◌, [], IfOk, IfErr, IfSome, MatchResult, None, Some, length};
 ghost use Rattle.mr_input.specs.Files.{contents, split_total};
 ghost use Rattle.mr_certform.specs.declared.place.Place.TheVariants.{AtSkips};
 ghost use Rattle.mr_certform.specs.Grammar.{InOrder};
@@ -182,17 +182,43 @@ fn check_with<R: Threads + Sync, G: Gate, W: Watch>(
     check_parts(rt, alloc, crew, &facts, walker, pieces)
 }
 
-/// Judges what stands behind the items of the request and of the input.
+/// Judges what stands behind the items of the request and of the input, whose plan is there.
+fn check_planned<R: Threads + Sync, G: Gate, W: Watch>(
+    rt: &R,
+    alloc: Global,
+    crew: &Crew<'_, G, W>,
+    request: &Request,
+    plan: &Plan<'_>,
+    outputs: &[Vec<u8>],
+    walker: &mut Walker<'_>,
+) -> Result<Yes, No>
+    requires same { plan.now.size ≡ request.now.split }
+    requires order { InOrder (AtSkips request.now.parts) (items_left walker.old) }
+    requires few { length (items_left walker.old) < 2 ^ 63 }
+    ensures { let fs = count_faults (case_at request.now plan.now.files (contents outputs.now) (halt walker.old)) (items_left walker.old) in
+        MatchResult result
+        (λ y. (first fs ≡ None) × (accepted_by (record { skips = []; pairs = 0 }) (items_left walker.old) ≡ accepted_of y))
+        (λ e. Answers fs e) }
+{
+    let listed = expect_count_of(walker, request.max_skips())?;
+    let skips = take_skips_of(alloc, walker, plan, listed)?;
+    let pairs = check_with(rt, alloc, crew, request, plan, outputs, &skips, walker)?;
+    Ok(Yes { skips, pairs })
+}
+
+/// Judges what stands behind the items of the request and of the input. The plan is made here where there is none yet.
 fn check_rest<R: Threads + Sync, G: Gate, W: Watch>(
     rt: &R,
     alloc: Global,
     crew: &Crew<'_, G, W>,
     request: &Request,
     input: &Input,
+    ready: Option<&Plan<'_>>,
     outputs: &[Vec<u8>],
     walker: &mut Walker<'_>,
 ) -> Result<Yes, No>
     requires fits { split_total request.now.split input.now ≤ 2 ^ 20 }
+    requires ready { IfSome ready (λ p. p.now ≡ record { size = request.now.split; files = input.now }) }
     requires order { InOrder (AtSkips request.now.parts) (items_left walker.old) }
     requires few { length (items_left walker.old) < 2 ^ 63 }
     ensures { let fs = count_faults (case_at request.now input.now (contents outputs.now) (halt walker.old)) (items_left walker.old) in
@@ -200,11 +226,11 @@ fn check_rest<R: Threads + Sync, G: Gate, W: Watch>(
         (λ y. (first fs ≡ None) × (accepted_by (record { skips = []; pairs = 0 }) (items_left walker.old) ≡ accepted_of y))
         (λ e. Answers fs e) }
 {
-    let listed = expect_count_of(walker, request.max_skips())?;
+    if let Some(plan) = ready {
+        return check_planned(rt, alloc, crew, request, plan, outputs, walker);
+    }
     let plan = plan_of(alloc, request, input)?;
-    let skips = take_skips_of(alloc, walker, &plan, listed)?;
-    let pairs = check_with(rt, alloc, crew, request, &plan, outputs, &skips, walker)?;
-    Ok(Yes { skips, pairs })
+    check_planned(rt, alloc, crew, request, &plan, outputs, walker)
 }
 
 /// Judges a result: the verdict, or want of memory.
@@ -214,9 +240,11 @@ fn judge_all<R: Threads + Sync, G: Gate, W: Watch>(
     crew: &Crew<'_, G, W>,
     request: &Request,
     input: &Input,
+    ready: Option<&Plan<'_>>,
     outputs: &[Vec<u8>],
     certificate: &[u8],
 ) -> Result<Yes, No>
+    requires ready { IfSome ready (λ p. p.now ≡ record { size = request.now.split; files = input.now }) }
     requires fits { split_total request.now.split input.now ≤ 2 ^ 20 }
     ensures { let v = verdict_of request.now input.now (contents outputs.now) certificate.now in
         MatchResult result (λ y. v ≡ Ok (accepted_of y)) (λ e. (e ≡ OutOfMemory) ⊎ (v ≡ Err e)) }
@@ -226,7 +254,7 @@ fn judge_all<R: Threads + Sync, G: Gate, W: Watch>(
     }
     let mut walker = walk(certificate);
     expect_header_of(&mut walker, request, input)?;
-    check_rest(rt, alloc, crew, request, input, outputs, &mut walker)
+    check_rest(rt, alloc, crew, request, input, ready, outputs, &mut walker)
 }
 
 /// The same as `check`, by so many threads, from 1 to 64: they draw the splits and map them, and then the partitions and
@@ -321,5 +349,45 @@ pub fn check_gated_watched<R: Threads + Sync, G: Gate, W: Watch>(
         gate,
         watch,
     };
-    judge_all(rt, alloc, &crew, request, input, outputs, certificate)
+    judge_all(rt, alloc, &crew, request, input, None, outputs, certificate)
+}
+
+/// The same as `check_gated_watched`, where the plan of the input is there already.
+pub fn check_planned_watched<R: Threads + Sync, G: Gate, W: Watch>(
+    rt: &R,
+    alloc: Global,
+    request: &Request,
+    input: &Input,
+    plan: &Plan<'_>,
+    outputs: &[Vec<u8>],
+    certificate: &[u8],
+    threads: u32,
+    gate: &G,
+    watch: &W,
+) -> Result<Yes, No>
+    requires plan { plan.now ≡ record { size = request.now.split; files = input.now } }
+    requires fits { split_total request.now.split input.now ≤ 2 ^ 20 }
+    requires threads { (1 ≤ threads) × (threads ≤ 64) }
+    ensures headline { IfOk result (λ y. IsCertified request.now input.now (contents outputs.now) certificate.now y.skips.items y.pairs) }
+    ensures yes { IfOk result
+        (λ y. verdict_of request.now input.now (contents outputs.now) certificate.now ≡ Ok (accepted_of y)) }
+    ensures no { IfErr result (λ e. (e ≡ OutOfMemory) ⊎ (verdict_of request.now input.now (contents outputs.now) certificate.now ≡ Err e)) }
+{
+    // As above.
+    let _size = request.split_size();
+    let crew = Crew {
+        threads,
+        gate,
+        watch,
+    };
+    judge_all(
+        rt,
+        alloc,
+        &crew,
+        request,
+        input,
+        Some(plan),
+        outputs,
+        certificate,
+    )
 }

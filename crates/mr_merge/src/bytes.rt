@@ -1,5 +1,5 @@
 //! All regions of a partition, merged over their bytes.
-ghost use Rattle.std.specs.Prelude.{◌≡◌, ◌++◌, ◌∷◌, [], List, IfErr, IfOk, OnOk};
+ghost use Rattle.std.specs.Prelude.{◌≡◌, ◌++◌, ◌∷◌, [], List, IfErr, IfOk, MatchOption, OnOk};
 ghost use Rattle.mr_bytes.specs.Pairs.{Triple, pair_order};
 ghost use Rattle.mr_bytes.specs.Lists.{sorted};
 ghost use Rattle.mr_spill.specs.Regions.{RisesUnderKeys};
@@ -9,6 +9,7 @@ ghost use Rattle.mr_merge.specs.Merging.{NamesDiffer};
 ghost use Rattle.mr_merge.specs.declared.merged.MergeFault.TheVariants.{RegionDamaged};
 ghost use Rattle.mr_spill.specs.declared.reading.RegionFault.TheVariants.{RegionDamaged as CantRead};
 
+use crate::demand::{Demand, Unending};
 use crate::gathering::only;
 use crate::groups::{Groups, grouped};
 use crate::merged::{MergeFault, merge};
@@ -87,6 +88,31 @@ fn in_order(alloc: Global, all: Gathering) -> Result<Pairs, AllocError>
     Ok(only(cut(alloc, &all.pairs, 1)?))
 }
 
+/// What `merge_regions` gives, and `None` where it was no longer wanted before it was there: it is asked before each region,
+/// and before and behind the sort of the keys.
+pub fn merge_regions_while<D: Demand>(
+    alloc: Global,
+    regions: &[Region<'_>],
+    partition: u32,
+    demand: &D,
+) -> Result<Option<Groups>, MergeFault>
+    ensures merged { IfOk result (λ o. MatchOption o (D.unending → ⊥) (AreMerged partition regions.now)) }
+    ensures damaged { IfErr result (λ e. e ≡ RegionDamaged → (values : List (List Triple)) → AreSpelled partition regions.now values → AreSound values → ⊥) }
+{
+    let taken = taken_regions(alloc, regions, partition, demand)?;
+    if !demand.lasts() {
+        return Ok(None);
+    }
+    let Some(all) = taken else {
+        return Ok(Some(merged_whole(alloc, regions, partition)?));
+    };
+    let pairs = in_order(alloc, all)?;
+    if !demand.lasts() {
+        return Ok(None);
+    }
+    Ok(Some(grouped(alloc, pairs)?))
+}
+
 /// The regions of one partition, merged over their bytes: each key once, rising, with its pairs by name. Bytes that spell no
 /// region of the partition and of the split that they are told to be of, and regions in which a name stands twice, under one key
 /// or two, are `RegionDamaged`.
@@ -98,10 +124,8 @@ pub fn merge_regions(
     ensures merged { IfOk result (AreMerged partition regions.now) }
     ensures damaged { IfErr result (λ e. e ≡ RegionDamaged → (values : List (List Triple)) → AreSpelled partition regions.now values → AreSound values → ⊥) }
 {
-    let taken = taken_regions(alloc, regions, partition)?;
-    let Some(all) = taken else {
-        return merged_whole(alloc, regions, partition);
-    };
-    let pairs = in_order(alloc, all)?;
-    Ok(grouped(alloc, pairs)?)
+    match merge_regions_while(alloc, regions, partition, &Unending)? {
+        Some(groups) => Ok(groups),
+        None => unreachable!(),
+    }
 }

@@ -9,6 +9,7 @@
 #![tactic(auto)]
 
 mod bytes;
+mod demand;
 mod gathering;
 mod groups;
 mod merged;
@@ -16,6 +17,7 @@ mod merging;
 mod sound;
 mod taking;
 
-pub use bytes::merge_regions;
+pub use bytes::{merge_regions, merge_regions_while};
+pub use demand::{Demand, Unending};
 pub use groups::Groups;
 pub use merged::{MergeFault, merge, merge_law, worked_groups};

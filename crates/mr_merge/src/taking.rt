@@ -2,6 +2,7 @@
 ghost use Rattle.std.specs.Prelude.{◌≡◌, [], IfOk, IsTrue, MatchOption};
 ghost use Rattle.mr_merge.specs.Taking.{AreTaken, IsTaken};
 
+use crate::demand::Demand;
 use crate::gathering::{is_past, later};
 use mr_bytes::Name;
 use mr_spill::{Numbered, Region, open_region};
@@ -51,17 +52,18 @@ fn take_region(all: &mut Gathering, region: &Region<'_>, partition: u32) -> Resu
     Ok(cursor.is_at_end())
 }
 
-/// Takes the pairs of all regions, one region behind another, and tells whether each was taken.
-fn take_regions(
+/// Takes the pairs of all regions, one region behind another, as long as they are wanted, and tells whether each was taken.
+fn take_regions<D: Demand>(
     all: &mut Gathering,
     regions: &[Region<'_>],
     partition: u32,
+    demand: &D,
 ) -> Result<bool, AllocError>
     requires { AreTaken partition [] all.old }
     ensures { IfOk result (λ b. IsTrue b → AreTaken partition regions.now all.new) }
 {
     for region in regions {
-        if !take_region(all, region, partition)? {
+        if !demand.lasts() || !take_region(all, region, partition)? {
             return Ok(false);
         }
     }
@@ -69,11 +71,12 @@ fn take_regions(
 }
 
 /// The pairs of all regions, one region behind another, where it is known that the names of each differ and those of each are
-/// past those of all before.
-pub(crate) fn taken_regions(
+/// past those of all before, and where they were wanted to the end.
+pub(crate) fn taken_regions<D: Demand>(
     alloc: Global,
     regions: &[Region<'_>],
     partition: u32,
+    demand: &D,
 ) -> Result<Option<Gathering>, AllocError>
     ensures { IfOk result (λ o. MatchOption o Unit (AreTaken partition regions.now)) }
 {
@@ -81,7 +84,7 @@ pub(crate) fn taken_regions(
         pairs: Numbered::with_room(alloc, room_for(regions))?,
         last: None,
     };
-    if !take_regions(&mut all, regions, partition)? {
+    if !take_regions(&mut all, regions, partition, demand)? {
         return Ok(None);
     }
     Ok(Some(all))

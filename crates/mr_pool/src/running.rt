@@ -13,7 +13,7 @@ ghost use Rattle.mr_pool.specs.Outcomes.{IsCertifiedRun, IsDoneRun, IsRunFault, 
 use crate::progress::JudgesProgress;
 use mr_book::{Book, History, Seat};
 use mr_bytes::{Gate, OpenGate, RecordName};
-use mr_check::{No, Yes, check_gated_watched, is_same_fault};
+use mr_check::{No, Yes, check_planned_watched, is_same_fault};
 use mr_core::{End, JobFault, Limits, Shape};
 use mr_input::Input;
 use mr_jobs::Request;
@@ -63,15 +63,17 @@ impl From<AllocError> for RunFault {
     }
 }
 
-/// The verdict on a result, by as many threads as there are workers.
+/// The verdict on a result, by as many threads as there are workers, given the plan of the input.
 fn judged_by_all<W: Watch, R: Threads + Sync>(
     rt: &R,
     alloc: Global,
+    plan: &Plan<'_>,
     terms: Terms<'_>,
     outputs: &[Vec<u8>],
     certificate: &[u8],
     watch: &W,
 ) -> Result<Yes, No>
+    requires plan { plan.now ≡ record { size = terms.request.now.split; files = terms.input.now } }
     requires fits { split_total terms.request.now.split terms.input.now ≤ 2 ^ 20 }
     requires limits { InLimits terms.shape }
     ensures headline { IfOk result (λ y. IsCertified terms.entry.request.now terms.entry.input.now (contents outputs.now) certificate.now
@@ -79,11 +81,12 @@ fn judged_by_all<W: Watch, R: Threads + Sync>(
     ensures no { IfErr result (λ e. (e ≡ No.OutOfMemory)
         ⊎ (verdict_of terms.entry.request.now terms.entry.input.now (contents outputs.now) certificate.now ≡ Err e)) }
 {
-    check_gated_watched(
+    check_planned_watched(
         rt,
         alloc,
         terms.request,
         terms.input,
+        plan,
         outputs,
         certificate,
         terms.shape.workers,
@@ -128,11 +131,13 @@ fn answered(
 fn assembled<L: Ledger, W: Watch, R: Threads + Sync>(
     rt: &R,
     alloc: Global,
+    plan: &Plan<'_>,
     terms: Terms<'_>,
     book: Book<L>,
     seats: Vec<Seat<L>>,
     watch: &W,
 ) -> Result<Certified, RunFault>
+    requires plan { plan.now ≡ record { size = terms.request.now.split; files = terms.input.now } }
     requires fits { split_total terms.request.now.split terms.input.now ≤ 2 ^ 20 }
     requires limits { InLimits terms.shape }
     requires ends { book.state.end ≡ Some Ended.Done }
@@ -146,6 +151,7 @@ fn assembled<L: Ledger, W: Watch, R: Threads + Sync>(
     let judged = judged_by_all(
         rt,
         alloc,
+        plan,
         terms,
         outputs.as_slice(),
         certificate.as_slice(),
@@ -192,11 +198,13 @@ fn is_opened(shape: Shape, opened: Shape) -> bool
 fn settled<L: Ledger, W: Watch, R: Threads + Sync>(
     rt: &R,
     alloc: Global,
+    plan: &Plan<'_>,
     terms: Terms<'_>,
     book: Book<L>,
     seats: Vec<Seat<L>>,
     watch: &W,
 ) -> Result<Certified, RunFault>
+    requires plan { plan.now ≡ record { size = terms.request.now.split; files = terms.input.now } }
     requires fits { split_total terms.request.now.split terms.input.now ≤ 2 ^ 20 }
     requires limits { InLimits terms.shape }
     requires opened { IsOpenedFor terms.request.now terms.input.now terms.shape }
@@ -208,7 +216,7 @@ fn settled<L: Ledger, W: Watch, R: Threads + Sync>(
         return Err(RunFault::Uncertified(No::OtherJob, book.close(seats)));
     }
     match ending_by(book.end(), terms.script, terms.shape.workers) {
-        Ending::Done => assembled(rt, alloc, terms, book, seats, watch),
+        Ending::Done => assembled(rt, alloc, plan, terms, book, seats, watch),
         Ending::Failed(fault) => Err(RunFault::Failed(fault, book.close(seats))),
         Ending::Astray => Err(RunFault::Uncertified(No::OtherJob, book.close(seats))),
     }
@@ -225,6 +233,7 @@ fn run_in<L: Ledger + Send + Sync, G: Gate, W: Watch, R: Threads + Wait + Sync>(
 ) -> Result<Certified, RunFault>
     requires ledger { (blank.name ≡ L.name) × (blank.parts ≡ L.parts) }
     requires parts { blank.parts ≡ terms.shape.workers }
+    requires plan { plan.now ≡ record { size = terms.request.now.split; files = terms.input.now } }
     requires fits { split_total terms.request.now.split terms.input.now ≤ 2 ^ 20 }
     requires opened { IsOpenedFor terms.request.now terms.input.now terms.shape }
     requires limits { InLimits terms.shape }
@@ -247,7 +256,7 @@ fn run_in<L: Ledger + Send + Sync, G: Gate, W: Watch, R: Threads + Wait + Sync>(
         workers as usize,
     )?;
     let (book, seats) = executed(rt, alloc, plan, terms, book, seats, gate, watch)?;
-    settled(rt, alloc, terms, book, seats, watch)
+    settled(rt, alloc, plan, terms, book, seats, watch)
 }
 
 /// Runs the request's job over the input by so many workers, 1 to 64, each in a thread of its own where one can be made;

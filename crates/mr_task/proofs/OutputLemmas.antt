@@ -1,5 +1,5 @@
 -- What a reduce task gives: texts, counts and names of groups.
-use Rattle.std.proofs.Common.{◌≡◌, ℕ, zero, suc, ◌+◌, ◌<◌, ◌≤◌, Bool, true, false, cond, All, List, [], ◌∷◌, ◌++◌, length, get_or, take, drop, map, filter, refl, sym, ap, ◌∙◌, arith, length-append}
+use Rattle.std.proofs.Common.{◌≡◌, ℕ, zero, suc, ◌+◌, ◌<◌, ◌≤◌, Bool, true, false, cond, All, Option, Some, List, [], ◌∷◌, ◌++◌, length, get_or, take, drop, map, filter, refl, sym, ap, ◌∙◌, arith, length-append, subst}
 use Rattle.std.proofs.lemmas.List.{append-nil, length-map, take-append-drop, take_more}
 use Rattle.std.proofs.lemmas.List.Elements.{All-map}
 use Rattle.std.proofs.Math.Seq.{drop-append_seam, take-append_seam}
@@ -14,7 +14,7 @@ use Rattle.std.specs.List.{AllByRecursion, flat_map}
 use Rattle.mr_bytes.specs.declared.Name.{Name}
 use Rattle.mr_bytes.specs.declared.Value.{Value}
 use Rattle.mr_certform.specs.Flat.{chunks, total}
-use Rattle.mr_merge.specs.Bytes.{AreSpelled}
+use Rattle.mr_merge.specs.Bytes.{AreMerged, AreSpelled}
 use Rattle.mr_merge.specs.Merged.{Group, group_of, joined, merged}
 use Rattle.mr_merge.specs.Groups.{no_group, nth_group}
 use Rattle.mr_sequential.specs.Rules.{Key, Text}
@@ -22,7 +22,7 @@ use Rattle.mr_sequential.proofs.SourceLemmas.{flat_map-append}
 use Rattle.mr_spill.specs.Column.{names_of}
 use Rattle.mr_spill.specs.Lent.{RegionText}
 use Rattle.mr_spill.specs.Spelling.{SpellsRegion}
-use Rattle.std.specs.Prelude.{slice_index_or, slice_set}
+use Rattle.std.specs.Prelude.{MatchOption, slice_index_or, slice_set}
 use Rattle.mr_task.specs.Outputs.{flipped, with_other_bit}
 use Rattle.mr_task.specs.Values.{group_text}
 
@@ -157,3 +157,9 @@ pub flipped-past : (place : ℕ) (bs : List ℕ) → length bs ≤ place → fli
 flipped-past place [] l = refl
 flipped-past zero (b ∷ bs) l = absurd (omega arith)
 flipped-past (suc place) (b ∷ bs) l = ap (λ (xs : List ℕ). b ∷ xs) (flipped-past place bs (omega arith))
+
+-- ---- merged groups that are there
+
+pub some-merged : (partition : ℕ) (regions : List RegionText) (unending : Type 0) (o : Option (List Group)) (groups : List Group) → o ≡ Some groups
+    → MatchOption o (unending → ⊥) (AreMerged partition regions) → AreMerged partition regions groups
+some-merged partition regions unending o groups e m = subst (λ (w : Option (List Group)). MatchOption w (unending → ⊥) (AreMerged partition regions)) e m

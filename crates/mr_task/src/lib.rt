@@ -15,6 +15,7 @@ mod runs;
 
 pub use fault::TaskFault;
 pub use laws::{map_values_law, worked_tasks};
-pub use map::{map_task, map_task_with};
+pub use map::{map_task, map_task_while, map_task_with};
+pub use mr_merge::{Demand, Unending};
 pub use output::{GroupNames, MapOutput, ReduceOutput};
-pub use reduce::reduce_task;
+pub use reduce::{reduce_task, reduce_task_while};

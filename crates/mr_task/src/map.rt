@@ -1,5 +1,5 @@
 //! Map tasks.
-ghost use Rattle.std.specs.Prelude.{◌≡◌, ◌≤◌, ◌<◌, [], IfOk, OnOk};
+ghost use Rattle.std.specs.Prelude.{◌≡◌, ◌≤◌, ◌<◌, [], IfOk, IsTrue, MatchOption, OnOk, false};
 ghost use Rattle.std.specs.List.Sorted.{IsNonDecreasing};
 ghost use Rattle.mr_input.specs.Files.{split_total};
 ghost use Rattle.mr_partition.specs.Partition.{partition_of};
@@ -13,6 +13,7 @@ use crate::output::MapOutput;
 use crate::runs::Runs;
 use mr_bytes::RecordName;
 use mr_jobs::Job;
+use mr_merge::{Demand, Unending};
 use mr_splits::Plan;
 use std::alloc::{AllocError, Global};
 
@@ -38,6 +39,24 @@ pub fn map_task(
     map_task_with(alloc, plan, job, parts, split, skips, RUN_PAIRS)
 }
 
+/// What `map_task` gives, and `None` where it was no longer wanted before it was there: it is asked before each record.
+pub fn map_task_while<D: Demand>(
+    alloc: Global,
+    plan: &Plan<'_>,
+    job: &Job,
+    parts: u32,
+    split: u32,
+    skips: &[u32],
+    demand: &D,
+) -> Result<Option<MapOutput>, AllocError>
+    requires parts { 1 ≤ parts }
+    requires split { split < split_total plan.now.size plan.now.files }
+    ensures { IfOk result (λ o. MatchOption o (D.unending → ⊥)
+        (IsMapped (λ k. partition_of k parts) parts (emitted_in (emitted job.now plan.now.size plan.now.files []) split skips.now))) }
+{
+    mapped(alloc, plan, job, parts, split, skips, RUN_PAIRS, demand)
+}
+
 /// What `map_task` gives, where a run ends as soon as it has `limit` pairs: each run that has any gives one region to
 /// each partition. It fails only for want of memory.
 pub fn map_task_with(
@@ -54,21 +73,55 @@ pub fn map_task_with(
     requires limit { 1 ≤ limit }
     ensures { IfOk result (IsMapped (λ k. partition_of k parts) parts (emitted_in (emitted job.now plan.now.size plan.now.files []) split skips.now)) }
 {
-    let left_out = in_order(alloc, skips)?;
-    let mut runs = Runs::new(alloc, split, parts, limit);
-    take_records(alloc, plan, job, split, left_out.as_slice(), &mut runs)?;
-    runs.finish(alloc)
+    match mapped(alloc, plan, job, parts, split, skips, limit, &Unending)? {
+        Some(output) => Ok(output),
+        None => unreachable!(),
+    }
 }
 
-/// Takes what a job emits for the records of a split, without those whose numbers are listed, in rising order.
-fn take_records(
+/// What a map task gives in runs of at most `limit` pairs, as long as it is wanted.
+fn mapped<D: Demand>(
+    alloc: Global,
+    plan: &Plan<'_>,
+    job: &Job,
+    parts: u32,
+    split: u32,
+    skips: &[u32],
+    limit: usize,
+    demand: &D,
+) -> Result<Option<MapOutput>, AllocError>
+    requires parts { 1 ≤ parts }
+    requires split { split < split_total plan.now.size plan.now.files }
+    ensures { IfOk result (λ o. MatchOption o (D.unending → ⊥)
+        (IsMapped (λ k. partition_of k parts) parts (emitted_in (emitted job.now plan.now.size plan.now.files []) split skips.now))) }
+{
+    let left_out = in_order(alloc, skips)?;
+    let mut runs = Runs::new(alloc, split, parts, limit);
+    if !take_records(
+        alloc,
+        plan,
+        job,
+        split,
+        left_out.as_slice(),
+        &mut runs,
+        demand,
+    )? {
+        return Ok(None);
+    }
+    Ok(Some(runs.finish(alloc)?))
+}
+
+/// Takes what a job emits for the records of a split, without those whose numbers are listed, in rising order, as long as
+/// it is wanted: whether all of it was taken.
+fn take_records<D: Demand>(
     alloc: Global,
     plan: &Plan<'_>,
     job: &Job,
     split: u32,
     left_out: &[u32],
     runs: &mut Runs,
-) -> Result<(), AllocError>
+    demand: &D,
+) -> Result<bool, AllocError>
     requires split { split < split_total plan.now.size plan.now.files }
     requires rise { IsNonDecreasing left_out.now }
     requires some { 0 < runs.old.sealed.parts }
@@ -77,7 +130,8 @@ fn take_records(
     requires empty { runs.old.buffer.pairs ≡ [] }
     ensures parts { OnOk result (runs.new.sealed.parts ≡ runs.old.sealed.parts) }
     ensures own { OnOk result (AreOf runs.new.split runs.new.buffer.pairs) }
-    ensures taken { OnOk result (HasTaken (emitted_in (emitted job.now plan.now.size plan.now.files []) split left_out.now) runs.new) }
+    ensures taken { IfOk result (λ b. IsTrue b → HasTaken (emitted_in (emitted job.now plan.now.size plan.now.files []) split left_out.now) runs.new) }
+    ensures left { IfOk result (λ b. b ≡ false → D.unending → ⊥) }
 {
     // A plan's size is at least 1: that names rise rests on that.
     let _size = plan.size();
@@ -85,6 +139,9 @@ fn take_records(
     let mut mapper = job.over(plan.input());
     let count = plan.records_in(split);
     for rec in 0..count {
+        if !demand.lasts() {
+            return Ok(false);
+        }
         let line = plan.located(split, rec);
         if !has(left_out, rec) {
             runs.take_record(
@@ -96,5 +153,5 @@ fn take_records(
             )?;
         }
     }
-    Ok(())
+    Ok(true)
 }

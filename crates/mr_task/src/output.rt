@@ -37,7 +37,7 @@ impl Model for MapOutput {
 
 impl MapOutput {
     /// No runs, of so many partitions. It takes no memory.
-    pub(crate) fn new(alloc: Global, parts: u32) -> MapOutput
+    pub fn new(alloc: Global, parts: u32) -> MapOutput
         ensures { result ≡ record { parts = parts; runs = [] } }
     {
         MapOutput {
@@ -169,6 +169,17 @@ fn flipped_bit(byte: u8) -> u8
 }
 
 impl ReduceOutput {
+    /// No groups. It takes no memory.
+    pub fn new(alloc: Global) -> ReduceOutput
+        ensures { result ≡ record { output = []; groups = [] } }
+    {
+        ReduceOutput {
+            text: Vec::new(alloc),
+            counts: Vec::new(alloc),
+            names: Vec::new(alloc),
+        }
+    }
+
     /// What a job makes of groups: the text of each, and the names of its pairs. The names are moved, not copied.
     pub(crate) fn of(alloc: Global, job: &Job, groups: Groups) -> Result<ReduceOutput, AllocError>
         requires few { All (λ g. length g.pairs < 2 ^ 32) groups }

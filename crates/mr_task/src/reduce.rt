@@ -10,7 +10,7 @@ ghost use Rattle.mr_task.specs.Values.{CanMerge, IsReduced};
 use crate::fault::TaskFault;
 use crate::output::ReduceOutput;
 use mr_jobs::Job;
-use mr_merge::merge_regions;
+use mr_merge::{Demand, Unending, merge_regions_while};
 use mr_spill::{Region, open_region};
 use std::alloc::Global;
 
@@ -67,8 +67,28 @@ pub fn reduce_task(
     ensures reduced { IfOk result (IsReduced (text_of job.now) partition regions.now) }
     ensures damaged { IfErr result (λ e. e ≡ RegionDamaged → CanMerge partition regions.now → ⊥) }
 {
+    match reduce_task_while(alloc, job, partition, regions, &Unending)? {
+        Some(output) => Ok(output),
+        None => unreachable!(),
+    }
+}
+
+/// What `reduce_task` gives, and `None` where it was no longer wanted before it was there: `merge_regions_while` tells when
+/// it is asked.
+pub fn reduce_task_while<D: Demand>(
+    alloc: Global,
+    job: &Job,
+    partition: u32,
+    regions: &[Region<'_>],
+    demand: &D,
+) -> Result<Option<ReduceOutput>, TaskFault>
+    ensures reduced { IfOk result (λ o. MatchOption o (D.unending → ⊥) (IsReduced (text_of job.now) partition regions.now)) }
+    ensures damaged { IfErr result (λ e. e ≡ RegionDamaged → CanMerge partition regions.now → ⊥) }
+{
     // The pairs are so few that a u32 counts those of each group, and the groups.
     count_all(regions, partition)?;
-    let groups = merge_regions(alloc, regions, partition)?;
-    Ok(ReduceOutput::of(alloc, job, groups)?)
+    let Some(groups) = merge_regions_while(alloc, regions, partition, demand)? else {
+        return Ok(None);
+    };
+    Ok(Some(ReduceOutput::of(alloc, job, groups)?))
 }

@@ -1,6 +1,7 @@
 //! All workers' turns, each worker in a thread of its own.
 ghost use Rattle.std.specs.Prelude.{◌≡◌, ◌<◌, ◌^◌, IfOk, vec_len};
 
+use crate::completed::Completed;
 use crate::orders::Orders;
 use crate::progress::Progress;
 use crate::shared::Shared;
@@ -102,6 +103,7 @@ pub fn executed<L: Ledger + Send + Sync, G: Gate, W: Watch, R: Threads + Wait + 
         job: terms.request.job(),
         parts: terms.request.parts(),
         orders: Orders::of(alloc, terms.script)?,
+        completed: Completed::new(alloc, terms.shape.maps, terms.shape.parts)?,
         gate,
         progress: Progress::new(watch, terms.shape.maps, terms.shape.parts),
     };

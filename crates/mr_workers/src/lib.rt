@@ -2,6 +2,7 @@
 //! to go wrong (OSDI 2004, section 3.1).
 #![tactic(auto)]
 
+mod completed;
 mod executing;
 mod orders;
 mod progress;

@@ -1,4 +1,5 @@
 //! What the workers of a run share: the book under its lock, and all that they only read.
+use crate::completed::Completed;
 use crate::orders::Orders;
 use crate::progress::Progress;
 use mr_book::{Book, Seat};
@@ -29,6 +30,7 @@ pub(crate) struct Shared<'a, L: Ledger, G: Gate, W: Watch> {
     pub job: &'a Job,
     pub parts: u32,
     pub orders: Orders<'a>,
+    pub completed: Completed,
     pub gate: &'a G,
     pub progress: Progress<'a, W>,
 }
@@ -88,14 +90,38 @@ impl<'a, L: Ledger, G: Gate, W: Watch> Shared<'a, L, G, W> {
         rt: &R,
         seat: &mut Seat<L>,
         attempt: u32,
+        split: u32,
         output: MapOutput,
     ) -> Result<(), AllocError> {
         let told = self.book.lock(rt).map_done(seat, attempt, output);
         self.news.notify_all();
         if matches!(told?, Reply::Accepted) {
+            self.completed.mark(Task::Map(split));
             self.progress.mapped();
         }
         Ok(())
+    }
+
+    /// Ends a map attempt that left off, where another worker has completed the task: it reports an output of nothing,
+    /// which is ignored. Whether it is complete is looked at under the same lock, so that no such output is accepted;
+    /// false where it isn't, and then nothing is reported.
+    pub(crate) fn leave_map<R: Wait>(
+        &self,
+        rt: &R,
+        seat: &mut Seat<L>,
+        attempt: u32,
+        split: u32,
+    ) -> Result<bool, AllocError> {
+        let nothing = MapOutput::new(self.alloc, self.parts);
+        let mut book = self.book.lock(rt);
+        if !book.complete(Task::Map(split)) {
+            return Ok(false);
+        }
+        let told = book.map_done(seat, attempt, nothing);
+        drop(book);
+        self.news.notify_all();
+        told?;
+        Ok(true)
     }
 
     /// A map attempt failed on a record.
@@ -118,14 +144,28 @@ impl<'a, L: Ledger, G: Gate, W: Watch> Shared<'a, L, G, W> {
         rt: &R,
         seat: &mut Seat<L>,
         attempt: u32,
+        partition: u32,
         output: ReduceOutput,
     ) -> Result<(), AllocError> {
         let told = self.book.lock(rt).reduce_done(seat, attempt, output);
         self.news.notify_all();
         if matches!(told?, Reply::Accepted) {
+            self.completed.mark(Task::Reduce(partition));
             self.progress.reduced();
         }
         Ok(())
+    }
+
+    /// Ends a reduce attempt that left off, since another worker has completed the task: it reports an output of nothing,
+    /// which is ignored, for what is committed stays so.
+    pub(crate) fn leave_reduce<R: Wait>(
+        &self,
+        rt: &R,
+        seat: &mut Seat<L>,
+        attempt: u32,
+        partition: u32,
+    ) -> Result<(), AllocError> {
+        self.reduce_done(rt, seat, attempt, partition, ReduceOutput::new(self.alloc))
     }
 
     /// A worker is lost.

@@ -8,7 +8,7 @@ use mr_bytes::Gate;
 use mr_core::{Reply, Skips, Task};
 use mr_script::Directive;
 use mr_spill::Region;
-use mr_task::{MapOutput, TaskFault, map_task, reduce_task};
+use mr_task::{MapOutput, ReduceOutput, TaskFault, map_task, map_task_while, reduce_task_while};
 use mr_watch::Watch;
 use std::alloc::{AllocError, Global};
 use std::sync::ledger::Ledger;
@@ -31,6 +31,21 @@ impl From<AllocError> for Halt {
 
     fn from(_: AllocError) -> Halt {
         Halt::Refused
+    }
+}
+
+impl From<TaskFault> for Halt {
+    ghost use Rattle.mr_workers.specs.declared.worker.Halt.TheVariants.{Refused, Damaged};
+    ghost use Rattle.mr_task.specs.declared.fault.TaskFault.TheVariants.{RegionDamaged};
+    ghost use Rattle.std.specs.Prelude.{◌≡◌, ◌↔◌};
+
+    ghost from_gives = { λ fault h. (h ≡ Damaged) ↔ (fault ≡ RegionDamaged) };
+
+    fn from(fault: TaskFault) -> Halt {
+        match fault {
+            TaskFault::OutOfMemory => Halt::Refused,
+            TaskFault::RegionDamaged => Halt::Damaged,
+        }
     }
 }
 
@@ -110,19 +125,53 @@ impl<L: Ledger> Worker<L> {
             self.before_report(rt, shared, Task::Map(split))?;
             shared.map_failed(rt, &mut self.seat, attempt, rec)?;
         } else {
-            let output = map_task(
+            let output = map_task_while(
                 shared.alloc,
                 shared.plan,
                 shared.job,
                 shared.parts,
                 split,
                 skips,
+                &shared.completed.demand(Task::Map(split)),
             )?;
             self.before_report(rt, shared, Task::Map(split))?;
-            shared.map_done(rt, &mut self.seat, attempt, output)?;
+            self.report_map(rt, shared, attempt, split, skips, output)?;
         }
         self.reports = self.reports.saturating_add(1);
         Ok(())
+    }
+
+    /// Reports what a map attempt gave. One that left off has nothing to report but that it ends; where the task's output
+    /// is lost meanwhile, it is done to the end after all.
+    fn report_map<R: Wait, G: Gate, W: Watch>(
+        &mut self,
+        rt: &R,
+        shared: &Shared<'_, L, G, W>,
+        attempt: u32,
+        split: u32,
+        skips: &[u32],
+        output: Option<MapOutput>,
+    ) -> Result<(), AllocError>
+        requires parts { 1 ≤ shared.now.parts }
+        requires split { split < split_total shared.now.plan.now.size shared.now.plan.now.files }
+    {
+        let output = match output {
+            Some(output) => output,
+            None => {
+                if shared.leave_map(rt, &mut self.seat, attempt, split)? {
+                    return Ok(());
+                }
+                map_task(
+                    shared.alloc,
+                    shared.plan,
+                    shared.job,
+                    shared.parts,
+                    split,
+                    skips,
+                )?
+            }
+        };
+        shared.map_done(rt, &mut self.seat, attempt, split, output)
     }
 
     /// The outputs of all splits, or none where one of them is gone.
@@ -154,21 +203,34 @@ impl<L: Ledger> Worker<L> {
             return Ok(());
         };
         let regions = regions_of(shared.alloc, outputs.as_slice(), partition)?;
-        let mut output = match reduce_task(
+        let output = reduce_task_while(
             shared.alloc,
             shared.job,
             partition,
             regions.as_slice(),
-        ) {
-            Ok(output) => output,
-            Err(TaskFault::OutOfMemory) => return Err(Halt::Refused),
-            Err(TaskFault::RegionDamaged) => return Err(Halt::Damaged),
-        };
-        shared.orders.spoil(partition, &mut output);
+            &shared.completed.demand(Task::Reduce(partition)),
+        )?;
         self.before_report(rt, shared, Task::Reduce(partition))?;
-        shared.reduce_done(rt, &mut self.seat, attempt, output)?;
+        self.report_reduce(rt, shared, attempt, partition, output)?;
         self.reports = self.reports.saturating_add(1);
         Ok(())
+    }
+
+    /// Reports what a reduce attempt gave. One that left off has nothing to report but that it ends: what is committed
+    /// stays so.
+    fn report_reduce<R: Wait, G: Gate, W: Watch>(
+        &mut self,
+        rt: &R,
+        shared: &Shared<'_, L, G, W>,
+        attempt: u32,
+        partition: u32,
+        output: Option<ReduceOutput>,
+    ) -> Result<(), AllocError> {
+        let Some(mut output) = output else {
+            return shared.leave_reduce(rt, &mut self.seat, attempt, partition);
+        };
+        shared.orders.spoil(partition, &mut output);
+        shared.reduce_done(rt, &mut self.seat, attempt, partition, output)
     }
 
     /// An attempt, between entering the gate and leaving it.

@@ -6,7 +6,7 @@ use Rattle.mr_merge.proofs.TakingLemmas.{taken-more}
 use Rattle.mr_merge.proofs.taking.take_regions.Goals as goal
 
 pub loop-region-preserved : goal.loop-region-preserved
-loop-region-preserved c =
+loop-region-preserved g c =
     let rs : List RegionText = c.args.regions.now in
     let i : ℕ = c.loop-region.region-index in
     let r : RegionText = c.region-item.result in

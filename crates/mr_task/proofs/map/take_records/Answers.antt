@@ -24,7 +24,7 @@ abbrev no_record : NamedRecord
 no_record = record { name = record { split = 0; rec = 0 }; file = 0; start = 0; bytes = [] }
 
 pub take_record-requires-clause-line : goal.take_record-requires-clause-line
-take_record-requires-clause-line c =
+take_record-requires-clause-line g c =
     let files : List (List ℕ) = c.args.plan.now.files in
     let rs : List NamedRecord = of_split c.args.split (records_of c.args.plan.now) in
     let i : ℕ = c.loop-rec.rec in
@@ -36,7 +36,7 @@ take_record-requires-clause-line c =
     subst (λ (m : Source). IsLine m.files line.file line.start line.bytes.now) (sym c.loop-rec.invariant.mapper) stands
 
 pub take_record-requires-clause-rise : goal.take_record-requires-clause-rise
-take_record-requires-clause-rise c =
+take_record-requires-clause-rise g c =
     let skips : List ℕ = c.args.left_out.now in
     let rs : List NamedRecord = of_split c.args.split (records_of c.args.plan.now) in
     let i : ℕ = c.loop-rec.rec in
@@ -72,7 +72,7 @@ kept-step split parts source all so_far more old new now m m_new m_now is m_is s
     })
 
 pub loop-rec-preserved : goal.loop-rec-preserved
-loop-rec-preserved c =
+loop-rec-preserved g c =
     let skips : List ℕ = c.args.left_out.now in
     let source : Source = record { job = c.args.job.now; files = c.args.plan.now.files } in
     let rs : List NamedRecord = of_split c.args.split (records_of c.args.plan.now) in
@@ -104,12 +104,12 @@ loop-rec-preserved c =
     ]
 
 pub returns-clause-taken : goal.returns-clause-taken
-returns-clause-taken c =
+returns-clause-taken g c =
     let rs : List NamedRecord = of_split c.args.split (records_of c.args.plan.now) in
     let skips : List ℕ = c.args.left_out.now in
     let i : ℕ = c.loop-rec.rec in
     let gives : NamedRecord → List Triple = record_gives c.args.job.now skips in
     let all : flat_map gives (take i rs) ≡ flat_map gives rs =
     ap (flat_map gives) (take_all i rs (omega (arith, c.loop-rec-test.false, c.records_in-count.ensures))) in
-    subst (λ (l : List Triple). HasTaken l c.loop-rec.runs)
+    λ _. subst (λ (l : List Triple). HasTaken l c.loop-rec.runs)
     (all ∙ sym (emitted-gives c.args.job.now c.args.plan.now.size c.args.plan.now.files c.args.split skips)) c.loop-rec.invariant.taken

@@ -6,7 +6,7 @@ use Rattle.mr_task.specs.Runs.{AreOf, HasTaken, record_gives}
 use Rattle.mr_task.proofs.map.take_records.Given as goal
 
 abbrev pub invariant-loop-rec : goal.invariant-loop-rec
-invariant-loop-rec l = record {
+invariant-loop-rec g l = record {
   parts : l.runs.sealed.parts ≡ l.fn.runs.sealed.parts;
   split : l.runs.split ≡ l.split;
   own : AreOf l.runs.split l.runs.buffer.pairs;

@@ -9,23 +9,23 @@ use Rattle.mr_merge.specs.Merging.{NamesDiffer}
 use Rattle.mr_merge.specs.Taking.{AreTaken}
 use Rattle.mr_merge.proofs.LawLemmas.{merged-sorted}
 use Rattle.mr_merge.proofs.TakingLemmas.{matched, spelled-sound}
-use Rattle.mr_merge.proofs.bytes.merge_regions.Goals as goal
+use Rattle.mr_merge.proofs.bytes.merge_regions_while.Goals as goal
 
 pub in_order-requires-clause-rise : goal.in_order-requires-clause-rise
-in_order-requires-clause-rise c =
+in_order-requires-clause-rise g c =
     let a : AreTaken c.args.partition c.args.regions.now c.in-Some.all = matched c.args.partition c.args.regions.now c.in_ok-taken.taken c.in-Some.all c.in-Some.is c.in_ok-taken.ensures in
     subst RisesUnderKeys (sym a.is) a.rise
 
 pub in_order-requires-clause-differ : goal.in_order-requires-clause-differ
-in_order-requires-clause-differ c =
+in_order-requires-clause-differ g c =
     let a : AreTaken c.args.partition c.args.regions.now c.in-Some.all = matched c.args.partition c.args.regions.now c.in_ok-taken.taken c.in-Some.all c.in-Some.is c.in_ok-taken.ensures in
     subst NamesDiffer (sym a.is) a.differ
 
 pub grouped-requires : goal.grouped-requires
-grouped-requires c = subst (Rises pair_order) (sym c.in_ok-pairs.ensures) (sorted-rises pair_order pair_total c.in-Some.all.pairs)
+grouped-requires g c = subst (Rises pair_order) (sym c.in_ok-pairs.ensures) (sorted-rises pair_order pair_total c.in-Some.all.pairs)
 
 pub returns-clause-merged : goal.returns-clause-merged
-returns-clause-merged c =
+returns-clause-merged g c =
     let a : AreTaken c.args.partition c.args.regions.now c.in-Some.all = matched c.args.partition c.args.regions.now c.in_ok-taken.taken c.in-Some.all c.in-Some.is c.in_ok-taken.ensures in
     record {
       values = a.values;
