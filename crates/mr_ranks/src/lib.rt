@@ -7,6 +7,7 @@
 
 mod counting;
 mod front;
+mod nearly;
 mod rows;
 
 pub use counting::{sizes_of, starts_of};
