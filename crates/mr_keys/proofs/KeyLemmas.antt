@@ -1,56 +1,48 @@
--- Keys told by their first bytes, and slots that go on telling of them.
-use Rattle.std.proofs.Common.{◌≡◌, ℕ, ◌+◌, ◌<◌, ◌≤◌, ◌⊎◌, inl, inr, List, [], ◌∷◌, ◌++◌, length, get_or, take, drop, append-nil, refl, sym, ◌∙◌, ap, subst, arith, All, length-append}
+-- Keys told by their fronts, and slots that go on telling of them.
+use Rattle.std.proofs.Common.{◌≡◌, ℕ, ◌+◌, ◌-◌, ◌<◌, ◌≤◌, ◌⊎◌, inl, inr, List, [], ◌∷◌, ◌++◌, length, get_or, take, drop, sym, ◌∙◌, ap, subst, arith, All, length-append}
 use Rattle.std.proofs.Math.Seq.{get_or-append_seam}
-use Rattle.std.proofs.lemmas.Nat.{le_bytes_8}
-use Rattle.std.proofs.lemmas.List.{get_or_append_left}
-use Rattle.std.specs.Int.{w64, from_le_bytes}
-use Rattle.mr_keys.specs.Front.{AreBytes, IsFront, eight}
+use Rattle.std.proofs.lemmas.Bool.{cases_lt}
+use Rattle.std.proofs.lemmas.List.{get_or_append_left, take-append-drop, take-take}
+use Rattle.std.specs.Int.{w32, w64, to_le_bytes}
+use Rattle.mr_keys.specs.Front.{IsFront}
 use Rattle.mr_keys.specs.declared.front.Front.{Front}
 use Rattle.mr_keys.specs.Keys.{IsSlot, Tells, key_at, IsKeyAt}
 use Rattle.mr_keys.specs.declared.slots.Slot.{Slot}
 
--- ---- a short key is its front, cut to its length
+-- ---- what a front tells
 
-cut-eight : (key more : List ℕ) → length key ≤ 8 → take (length key) (eight key ++ more) ≡ key
-cut-eight [] more h = refl
-cut-eight (a ∷ []) more h = refl
-cut-eight (a ∷ b ∷ []) more h = refl
-cut-eight (a ∷ b ∷ c ∷ []) more h = refl
-cut-eight (a ∷ b ∷ c ∷ d ∷ []) more h = refl
-cut-eight (a ∷ b ∷ c ∷ d ∷ e ∷ []) more h = refl
-cut-eight (a ∷ b ∷ c ∷ d ∷ e ∷ f ∷ []) more h = refl
-cut-eight (a ∷ b ∷ c ∷ d ∷ e ∷ f ∷ g ∷ []) more h = refl
-cut-eight (a ∷ b ∷ c ∷ d ∷ e ∷ f ∷ g ∷ i ∷ []) more h = refl
-cut-eight (a ∷ b ∷ c ∷ d ∷ e ∷ f ∷ g ∷ i ∷ j ∷ key) more h = absurd (omega (arith, h))
+-- eight bytes at either end, or four, are a key that they cover
+pub both-ends : (w : ℕ) (key first last : List ℕ) → w ≤ length key → length key ≤ w + w → first ≡ take w key → last ≡ drop (length key - w) key
+    → take (length key - w) first ++ last ≡ key
+both-ends w key first last enough few first_is last_is =
+    ap (λ l. take (length key - w) l ++ last) first_is
+    ∙ ap (λ l. l ++ last) (take-take (length key - w) w key (omega (arith, few)))
+    ∙ ap (λ l. take (length key - w) key ++ l) last_is
+    ∙ take-append-drop (length key - w) key
 
-cut-front : (key : List ℕ) → length key ≤ 16 → take (length key) (eight key ++ eight (drop 8 key)) ≡ key
-cut-front [] h = refl
-cut-front (a ∷ []) h = refl
-cut-front (a ∷ b ∷ []) h = refl
-cut-front (a ∷ b ∷ c ∷ []) h = refl
-cut-front (a ∷ b ∷ c ∷ d ∷ []) h = refl
-cut-front (a ∷ b ∷ c ∷ d ∷ e ∷ []) h = refl
-cut-front (a ∷ b ∷ c ∷ d ∷ e ∷ f ∷ []) h = refl
-cut-front (a ∷ b ∷ c ∷ d ∷ e ∷ f ∷ g ∷ []) h = refl
-cut-front (a ∷ b ∷ c ∷ d ∷ e ∷ f ∷ g ∷ i ∷ key) h =
-    ap (λ (l : List ℕ). a ∷ b ∷ c ∷ d ∷ e ∷ f ∷ g ∷ i ∷ take (length key) l) (sym (append-nil (eight key)))
-    ∙ ap (λ (l : List ℕ). a ∷ b ∷ c ∷ d ∷ e ∷ f ∷ g ∷ i ∷ l) (cut-eight key [] (omega (arith, h)))
-
--- eight bytes that are one number are one
-one-eight : (a b : List ℕ) → AreBytes (eight a) → AreBytes (eight b) → from_le_bytes w64 (eight a) ≡ from_le_bytes w64 (eight b) → eight a ≡ eight b
-one-eight a b s t same =
-    sym (le_bytes_8 (eight a) (from_le_bytes w64 (eight a)) refl s refl)
-    ∙ le_bytes_8 (eight b) (from_le_bytes w64 (eight a)) refl t same
-
-pub one-key : (f g : Front) (a b : List ℕ) → IsFront f a → IsFront g b → f.first ≡ g.first → f.second ≡ g.second → length a ≡ length b → length b ≤ 16 → a ≡ b
-one-key f g a b is of first second long short =
-    let one : eight a ≡ eight b = one-eight a b is.are_bytes.0 of.are_bytes.0 (sym is.first_is ∙ first ∙ of.first_is) in
-    let two : eight (drop 8 a) ≡ eight (drop 8 b) = one-eight (drop 8 a) (drop 8 b) is.are_bytes.1 of.are_bytes.1 (sym is.second_is ∙ second ∙ of.second_is) in
-    sym (cut-front a (omega (arith, long, short)))
-    ∙ ap (λ n. take n (eight a ++ eight (drop 8 a))) long
-    ∙ ap (λ (l : List ℕ). take (length b) (l ++ eight (drop 8 a))) one
-    ∙ ap (λ (l : List ℕ). take (length b) (eight b ++ l)) two
-    ∙ cut-front b short
+-- keys of one length have one front only if they are one
+pub one-key : (f g : Front) (a b : List ℕ) → IsFront f a → IsFront g b → f.first ≡ g.first → f.last ≡ g.last → length a ≡ length b → length b ≤ 16 → a ≡ b
+one-key f g a b is of first last same few = elim (cases_lt (length b) 8) [
+  | inl less ↦ elim (cases_lt (length b) 4) [
+    | inl least ↦
+        sym (is.least (omega (arith, same, least)))
+        ∙ ap (λ n. take n (to_le_bytes w32 f.first)) same
+        ∙ ap (λ x. take (length b) (to_le_bytes w32 x)) first
+        ∙ of.least least
+    | inr more ↦
+        sym (is.short (omega (arith, same, more)) (omega (arith, same, less)))
+        ∙ ap (λ n. take (n - 4) (to_le_bytes w32 f.first) ++ to_le_bytes w32 f.last) same
+        ∙ ap (λ x. take (length b - 4) (to_le_bytes w32 x) ++ to_le_bytes w32 f.last) first
+        ∙ ap (λ x. take (length b - 4) (to_le_bytes w32 g.first) ++ to_le_bytes w32 x) last
+        ∙ of.short more less
+  ]
+  | inr more ↦
+      sym (is.long (omega (arith, same, more)) (omega (arith, same, few)))
+      ∙ ap (λ n. take (n - 8) (to_le_bytes w64 f.first) ++ to_le_bytes w64 f.last) same
+      ∙ ap (λ x. take (length b - 8) (to_le_bytes w64 x) ++ to_le_bytes w64 f.last) first
+      ∙ ap (λ x. take (length b - 8) (to_le_bytes w64 g.first) ++ to_le_bytes w64 x) last
+      ∙ of.long more few
+]
 
 -- ---- one more key
 

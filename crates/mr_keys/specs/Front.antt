@@ -1,19 +1,10 @@
--- Of no public promise: the first bytes of a key.
-use Rattle.std.specs.Prelude.{◌≡◌, ℕ, ◌<◌, List, [], ◌∷◌, drop, slice_index}
-use Rattle.std.specs.Int.{w64, from_le_bytes}
+-- Of no public promise: the first bytes of a key and its last.
+use Rattle.std.specs.Prelude.{◌≡◌, ℕ, ◌-◌, ◌<◌, ◌≤◌, List, ◌++◌, length, take}
+use Rattle.std.specs.Int.{w32, w64, to_le_bytes}
 use Rattle.mr_keys.specs.declared.front.Front.{Front}
 
--- the first eight bytes, and 0 past the end
-abbrev pub eight : List ℕ → List ℕ
-eight key =
-    slice_index key 0 ∷ slice_index key 1 ∷ slice_index key 2 ∷ slice_index key 3
-    ∷ slice_index key 4 ∷ slice_index key 5 ∷ slice_index key 6 ∷ slice_index key 7 ∷ []
-
-abbrev pub AreBytes : List ℕ → Type 0
-AreBytes bytes = (i : ℕ) → slice_index bytes i < 256
-
--- the first eight bytes of the key and the eight behind them, as numbers
+-- a key of at most sixteen bytes can be told from its front and its length: it is its last bytes behind those of its first that aren't among them
 pub record IsFront (f : Front) (key : List ℕ) : Type 0 where
-  pub first_is : f.first ≡ from_le_bytes w64 (eight key)
-  pub second_is : f.second ≡ from_le_bytes w64 (eight (drop 8 key))
-  pub are_bytes : AreBytes (eight key) × AreBytes (eight (drop 8 key))
+  pub long : 8 ≤ length key → length key ≤ 16 → take (length key - 8) (to_le_bytes w64 f.first) ++ to_le_bytes w64 f.last ≡ key
+  pub short : 4 ≤ length key → length key < 8 → take (length key - 4) (to_le_bytes w32 f.first) ++ to_le_bytes w32 f.last ≡ key
+  pub least : length key < 4 → take (length key) (to_le_bytes w32 f.first) ≡ key

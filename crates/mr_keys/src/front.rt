@@ -1,85 +1,92 @@
 //! What a look at sixteen bytes tells of a key.
-ghost use Rattle.std.specs.Prelude.{◌≡◌, ℕ, ◌<◌, drop, slice_index};
-ghost use Rattle.std.specs.Int.{w64, from_le_bytes};
-ghost use Rattle.mr_keys.specs.Front.{AreBytes, eight};
-ghost use Rattle.mr_keys.specs.declared.front.Front.{Front};
+ghost use Rattle.std.specs.Prelude.{◌≡◌, ◌<◌, length, take, MatchOption};
+ghost use Rattle.std.specs.Int.{w32, w64, to_le_bytes};
+ghost use Rattle.mr_keys.specs.Front.{IsFront};
 
-/// The first eight bytes of a key as a number, and the eight behind them; what is past its end counts as 0.
+/// The first bytes of a key and its last as numbers: eight of each, or four where it has fewer than eight. They may
+/// overlap, so that no byte is read by itself but those of a key of fewer than four. A key of at most sixteen bytes is
+/// told by its front and its length.
 #[derive(Clone, Copy)]
 pub(crate) struct Front {
     pub first: u64,
-    pub second: u64,
+    pub last: u64,
 }
 
 impl Front {
     /// The front of a key of no bytes.
-    pub const EMPTY: Front = Front {
-        first: 0,
-        second: 0,
-    };
+    pub const EMPTY: Front = Front { first: 0, last: 0 };
 }
 
-/// Byte `i` of the key, and 0 past its end.
+/// The number that eight bytes are.
 #[inline(always)]
-fn byte_at(key: &[u8], i: usize) -> u8
-    ensures is { result ≡ slice_index key.now i }
+fn number_of_eight(bytes: &[u8; 8]) -> u64
+    ensures { to_le_bytes w64 result ≡ bytes.now }
 {
-    if i < key.len() { key[i] } else { 0 }
+    u64::from_le_bytes(*bytes)
 }
 
-/// The first eight bytes of the key, and 0 past its end.
+/// The number that four bytes are.
 #[inline(always)]
-fn first_eight(key: &[u8]) -> [u8; 8]
-    ensures is { result ≡ eight key.now }
-    ensures bytes { AreBytes result }
+fn number_of_four(bytes: &[u8; 4]) -> u64
+    ensures { to_le_bytes w32 result ≡ bytes.now }
 {
-    if 8 <= key.len() {
-        return [
-            key[0], key[1], key[2], key[3], key[4], key[5], key[6], key[7],
-        ];
+    u64::from(u32::from_le_bytes(*bytes))
+}
+
+/// The bytes of a key that has fewer than four, with others behind them: three reads serve each length.
+#[inline(always)]
+fn at_most_three(key: &[u8]) -> [u8; 4]
+    requires { length key.now < 4 }
+    ensures { take (length key.now) result ≡ key.now }
+{
+    let count = key.len();
+    if count == 0 {
+        return [0; 4];
     }
-    [
-        byte_at(key, 0),
-        byte_at(key, 1),
-        byte_at(key, 2),
-        byte_at(key, 3),
-        byte_at(key, 4),
-        byte_at(key, 5),
-        byte_at(key, 6),
-        byte_at(key, 7),
-    ]
+    [key[0], key[count / 2], key[count - 1], 0]
 }
 
-/// The first eight bytes of the key as a number.
+/// The front of a key of eight bytes or more.
 #[inline(always)]
-fn number_of_eight(key: &[u8]) -> u64
-    ensures is { result ≡ from_le_bytes w64 (eight key.now) }
-    ensures bytes { AreBytes (eight key.now) }
+fn long_front(key: &[u8]) -> Option<Front>
+    ensures { MatchOption result (length key.now < 8) (λ f. IsFront f key.now) }
 {
-    u64::from_le_bytes(first_eight(key))
+    let first = key.first_chunk::<8>()?;
+    let last = key.last_chunk::<8>()?;
+    Some(Front {
+        first: number_of_eight(first),
+        last: number_of_eight(last),
+    })
 }
 
-/// What stands behind the first eight bytes.
+/// The front of a key of fewer than eight bytes, but four or more.
 #[inline(always)]
-fn behind_eight(key: &[u8]) -> &[u8]
-    ensures { result.now ≡ drop 8 key.now }
+fn short_front(key: &[u8]) -> Option<Front>
+    requires { length key.now < 8 }
+    ensures { MatchOption result (length key.now < 4) (λ f. IsFront f key.now) }
 {
-    match key.get(8..) {
-        Some(rest) => rest,
-        None => b"",
-    }
+    let first = key.first_chunk::<4>()?;
+    let last = key.last_chunk::<4>()?;
+    Some(Front {
+        first: number_of_four(first),
+        last: number_of_four(last),
+    })
 }
 
-ghost use Rattle.mr_keys.specs.Front.{IsFront};
-
-/// The first sixteen bytes of the key.
+/// The front of the key.
 #[inline(always)]
 pub(crate) fn front_of(key: &[u8]) -> Front
     ensures { IsFront result key.now }
 {
+    if let Some(front) = long_front(key) {
+        return front;
+    }
+    if let Some(front) = short_front(key) {
+        return front;
+    }
     Front {
-        first: number_of_eight(key),
-        second: number_of_eight(behind_eight(key)),
+        first: number_of_four(&at_most_three(key)),
+        last: 0,
     }
 }
 
@@ -93,16 +100,15 @@ fn mixed(hash: u64, word: u64) -> u64 {
     product ^ (product >> 32)
 }
 
-/// A number for the key, given its front: where the table begins to look. Nothing rests on it but time.
+/// A number for the key, given its front: where the table begins to look. Nothing rests on it but time. The bytes of a
+/// long key that fill no word are among its last eight.
 #[inline(always)]
 pub(crate) fn hash_of(front: Front, key: &[u8]) -> u64 {
-    let mut hash = mixed(mixed(key.len() as u64, front.first), front.second);
+    let mut hash = mixed(mixed(key.len() as u64, front.first), front.last);
     if 16 < key.len() {
-        let (words, rest) = key.as_chunks::<8>();
-        for word in words {
+        for word in key.as_chunks::<8>().0 {
             hash = mixed(hash, u64::from_le_bytes(*word));
         }
-        hash = mixed(hash, number_of_eight(rest));
     }
     mixed(hash, 0)
 }

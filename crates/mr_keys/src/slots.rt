@@ -11,7 +11,7 @@ use std::alloc::{AllocError, Global};
 /// How many slots are looked at for a key. At most half of them are taken, so more than a few are hardly ever needed.
 const MOST_LOOKS: usize = 64;
 
-/// What is known of a key that was seen: its first bytes, its length, and its number plus one. 0 stands for no key.
+/// What is known of a key that was seen: its front, its length, and its number plus one. 0 stands for no key.
 #[derive(Clone, Copy)]
 pub(crate) struct Slot {
     pub front: Front,
@@ -23,7 +23,7 @@ impl Slot {
     /// Whether the slot tells of a key with another front.
     #[inline(always)]
     fn is_of_another(self, front: Front) -> bool {
-        (self.mark != 0) & ((self.front.first != front.first) | (self.front.second != front.second))
+        (self.mark != 0) & ((self.front.first != front.first) | (self.front.last != front.last))
     }
 }
 
@@ -32,10 +32,7 @@ fn empty_slot() -> Slot
     ensures { result.mark ≡ 0 }
 {
     Slot {
-        front: Front {
-            first: 0,
-            second: 0,
-        },
+        front: Front { first: 0, last: 0 },
         length: 0,
         mark: 0,
     }
@@ -66,7 +63,7 @@ fn is_of(slot: Slot, texts: &Texts, front: Front, key: &[u8]) -> bool
     requires front { IsFront front key.now }
     ensures { IsTrue result → IsKeyAt texts.now (slot.mark - 1) key.now }
 {
-    if slot.front.first != front.first || slot.front.second != front.second {
+    if slot.front.first != front.first || slot.front.last != front.last {
         return false;
     }
     if slot.length as usize != key.len() {

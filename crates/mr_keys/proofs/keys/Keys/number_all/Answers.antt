@@ -20,8 +20,8 @@ number_from-requires-clause-front c =
     let i : ℕ = c.loop-lane.lane in
     let within : i < length ws = omega (arith, c.loop-lane-test.true, c.len-count.ensures.is) in
     let same : key_at ws i ≡ c.get.result.now = sym (c.get.ensures ∙ ap (λ l. key_at l 0) c.loop-lane.invariant.left ∙ key-behind ws i) in
-    subst (IsFront (slice_index_or c.look_ahead.new.fronts i (record { first = 0; second = 0 }))) same
-    (c.look_ahead.ensures i (record { first = 0; second = 0 }) within)
+    subst (IsFront (slice_index_or c.look_ahead.new.fronts i (record { first = 0; last = 0 }))) same
+    (c.look_ahead.ensures i (record { first = 0; last = 0 }) within)
 
 pub loop-lane-preserved : goal.loop-lane-preserved
 loop-lane-preserved c =
