@@ -3,6 +3,7 @@ ghost use Rattle.std.specs.Prelude.{◌≡◌, ℕ, ◌<◌, ◌^◌, ◌++◌, 
 ghost use Rattle.std.specs.List.{AllByRecursion};
 ghost use Rattle.mr_bytes.specs.Lists.{Rises};
 ghost use Rattle.mr_bytes.specs.Pairs.{Triple, pair_order};
+ghost use Rattle.mr_bytes.specs.declared.Value.TheVariants.{One};
 ghost use Rattle.mr_spill.specs.Column.{nth_pair};
 ghost use Rattle.mr_spill.specs.Spelling.{PairFits, SpellsRegion, ValueFits, header, name_bytes, pair_bytes, u32 as four, u64 as eight, value_bytes};
 ghost use Rattle.mr_spill.specs.WorkedBytes.{WorkedFalling, WorkedOther, WorkedRegion, WorkedSizes};
@@ -63,6 +64,19 @@ fn put_name(out: &mut Vec<u8>, name: Name) -> Result<(), AllocError>
     Ok(())
 }
 
+/// What spells a name and behind it a value that is counted, as those of most jobs are.
+fn counted_tail(name: Name) -> [u8; 13]
+    ensures { result ≡ name_bytes name ++ value_bytes One }
+{
+    let split = name.split.to_be_bytes();
+    let rec = name.rec.to_be_bytes();
+    let place = name.place.to_be_bytes();
+    [
+        split[0], split[1], split[2], split[3], rec[0], rec[1], rec[2], rec[3], place[0], place[1],
+        place[2], place[3], 0,
+    ]
+}
+
 /// A pair. There is no memory for a key of 4 GiB.
 pub(crate) fn put_pair(
     out: &mut Vec<u8>,
@@ -79,6 +93,10 @@ pub(crate) fn put_pair(
     }
     put_number(out, count as u32)?;
     out.extend_from_slice(key)?;
+    if let Value::One = value {
+        out.extend_from_slice(&counted_tail(name))?;
+        return Ok(());
+    }
     put_name(out, name)?;
     put_value(out, value)?;
     Ok(())
