@@ -1,6 +1,7 @@
 //! The judge of a result: by one thread, as `mr_judge` has it, and by many; and what it answers, as `mr_answers` says.
 #![tactic(auto)]
 
+mod ahead;
 mod alone;
 mod facts;
 mod front;
@@ -9,9 +10,10 @@ mod fronts;
 mod mapping;
 mod threads;
 
+pub use ahead::{MappedInput, map_input};
 pub use mr_answers::{
     No, Source, Yes, fault_law, is_same_fault, locality_law, partition_law, place_law,
     worked_places, worked_rows, yes_law,
 };
 pub use mr_judge::{check, check_from, check_from_watched, check_metered, check_watched};
-pub use threads::{check_gated, check_gated_watched, check_planned_watched, check_threads};
+pub use threads::{check_gated, check_gated_watched, check_mapped_watched, check_threads};

@@ -10,8 +10,11 @@ ghost use Rattle.mr_answers.specs.Verdict.{start, subject_of, part_faults, count
 ghost use Rattle.mr_answers.specs.VerdictLaws.{part_fault, least_fault, back_fault};
 ghost use Rattle.mr_answers.specs.Headline.{IsCertified, accepted_of};
 ghost use Rattle.mr_judge.specs.Steps.{Answers, subject, case_at};
+ghost use Rattle.mr_index.specs.Index.{triples_of};
+ghost use Rattle.mr_check.specs.Ahead.{IsMappedFor};
 ghost use Rattle.mr_check.specs.Fronts.{part_at, parts_at, first_some, ends_at};
 
+use crate::ahead::MappedInput;
 use crate::alone::fault_in;
 use crate::facts::Facts;
 use crate::front::{Front, Fronts};
@@ -151,35 +154,69 @@ fn check_parts<R: Threads + Sync, G: Gate, W: Watch>(
     test_back(facts, entries, stop)
 }
 
-/// Maps the splits and judges the partitions, given the left-out records: how many pairs there are, or the first fault.
-/// The pieces of the partitions are numbered on from those of the first phase.
+/// Judges the partitions against what was mapped: how many pairs there are, or the first fault. The pieces of the
+/// partitions are numbered on from those of the mapping.
+fn check_mapped<R: Threads + Sync, G: Gate, W: Watch>(
+    rt: &R,
+    alloc: Global,
+    crew: &Crew<'_, G, W>,
+    request: &Request,
+    source: &Source<'_>,
+    mapped: &Mapped,
+    outputs: &[Vec<u8>],
+    walker: &Walker<'_>,
+) -> Result<u64, No>
+    requires job { source.now.job.now ≡ request.now.job }
+    requires same { source.now.plan.now.size ≡ request.now.split }
+    requires index { mapped.now.index ≡ triples_of source.now.job.now source.now.plan.now source.now.skips.now }
+    requires pieces { mapped.now.pieces < 2 ^ 21 }
+    requires few { length (items_left walker.now) < 2 ^ 63 }
+    requires order { InOrder (partitions request.now.parts) (items_left walker.now) }
+    ensures { let s = subject_of (case_at request.now source.now.plan.now.files (contents outputs.now) (halt walker.now)) source.now.skips.now in
+        let fs = part_faults s (halt walker.now) start (items_left walker.now) in
+        MatchResult result (λ n. (first fs ≡ None) × (n ≡ entries_in (items_left walker.now))) (λ e. Answers fs e) }
+{
+    // A request has few parts.
+    let _parts = request.parts();
+    let facts = Facts {
+        request,
+        index: &mapped.index,
+        outputs,
+    };
+    check_parts(rt, alloc, crew, &facts, walker, mapped.pieces)
+}
+
+/// Maps the splits, where they weren't mapped ahead with no record left out and none is, and judges the partitions, given
+/// the left-out records: how many pairs there are, or the first fault.
 fn check_with<R: Threads + Sync, G: Gate, W: Watch>(
     rt: &R,
     alloc: Global,
     crew: &Crew<'_, G, W>,
     request: &Request,
     plan: &Plan<'_>,
+    ahead: Option<&MappedInput<'_>>,
     outputs: &[Vec<u8>],
     skips: &[RecordName],
     walker: &Walker<'_>,
 ) -> Result<u64, No>
     requires same { plan.now.size ≡ request.now.split }
+    requires ahead { IfSome ahead (λ m. IsMappedFor request.now plan.now.files m.now) }
     requires few { length (items_left walker.now) < 2 ^ 63 }
     requires order { InOrder (partitions request.now.parts) (items_left walker.now) }
     ensures { let s = subject_of (case_at request.now plan.now.files (contents outputs.now) (halt walker.now)) skips.now in
         let fs = part_faults s (halt walker.now) start (items_left walker.now) in
         MatchResult result (λ n. (first fs ≡ None) × (n ≡ entries_in (items_left walker.now))) (λ e. Answers fs e) }
 {
-    // A request has few parts.
-    let _parts = request.parts();
     let job = request.job();
-    let Mapped { index, pieces } = index_of(rt, alloc, crew, &Source { plan, job, skips })?;
-    let facts = Facts {
-        request,
-        index: &index,
-        outputs,
-    };
-    check_parts(rt, alloc, crew, &facts, walker, pieces)
+    let source = Source { plan, job, skips };
+    if let Some(input) = ahead {
+        if skips.is_empty() {
+            let mapped = input.mapped();
+            return check_mapped(rt, alloc, crew, request, &source, mapped, outputs, walker);
+        }
+    }
+    let mapped = index_of(rt, alloc, crew, &source)?;
+    check_mapped(rt, alloc, crew, request, &source, &mapped, outputs, walker)
 }
 
 /// Judges what stands behind the items of the request and of the input, whose plan is there.
@@ -189,10 +226,12 @@ fn check_planned<R: Threads + Sync, G: Gate, W: Watch>(
     crew: &Crew<'_, G, W>,
     request: &Request,
     plan: &Plan<'_>,
+    ahead: Option<&MappedInput<'_>>,
     outputs: &[Vec<u8>],
     walker: &mut Walker<'_>,
 ) -> Result<Yes, No>
     requires same { plan.now.size ≡ request.now.split }
+    requires ahead { IfSome ahead (λ m. IsMappedFor request.now plan.now.files m.now) }
     requires order { InOrder (AtSkips request.now.parts) (items_left walker.old) }
     requires few { length (items_left walker.old) < 2 ^ 63 }
     ensures { let fs = count_faults (case_at request.now plan.now.files (contents outputs.now) (halt walker.old)) (items_left walker.old) in
@@ -202,23 +241,26 @@ fn check_planned<R: Threads + Sync, G: Gate, W: Watch>(
 {
     let listed = expect_count_of(walker, request.max_skips())?;
     let skips = take_skips_of(alloc, walker, plan, listed)?;
-    let pairs = check_with(rt, alloc, crew, request, plan, outputs, &skips, walker)?;
+    let pairs = check_with(
+        rt, alloc, crew, request, plan, ahead, outputs, &skips, walker,
+    )?;
     Ok(Yes { skips, pairs })
 }
 
-/// Judges what stands behind the items of the request and of the input. The plan is made here where there is none yet.
+/// Judges what stands behind the items of the request and of the input. The plan is made here where the input wasn't
+/// mapped ahead.
 fn check_rest<R: Threads + Sync, G: Gate, W: Watch>(
     rt: &R,
     alloc: Global,
     crew: &Crew<'_, G, W>,
     request: &Request,
     input: &Input,
-    ready: Option<&Plan<'_>>,
+    ahead: Option<&MappedInput<'_>>,
     outputs: &[Vec<u8>],
     walker: &mut Walker<'_>,
 ) -> Result<Yes, No>
     requires fits { split_total request.now.split input.now ≤ 2 ^ 20 }
-    requires ready { IfSome ready (λ p. p.now ≡ record { size = request.now.split; files = input.now }) }
+    requires ahead { IfSome ahead (λ m. IsMappedFor request.now input.now m.now) }
     requires order { InOrder (AtSkips request.now.parts) (items_left walker.old) }
     requires few { length (items_left walker.old) < 2 ^ 63 }
     ensures { let fs = count_faults (case_at request.now input.now (contents outputs.now) (halt walker.old)) (items_left walker.old) in
@@ -226,11 +268,12 @@ fn check_rest<R: Threads + Sync, G: Gate, W: Watch>(
         (λ y. (first fs ≡ None) × (accepted_by (record { skips = []; pairs = 0 }) (items_left walker.old) ≡ accepted_of y))
         (λ e. Answers fs e) }
 {
-    if let Some(plan) = ready {
-        return check_planned(rt, alloc, crew, request, plan, outputs, walker);
+    if let Some(mapped) = ahead {
+        let plan = mapped.plan();
+        return check_planned(rt, alloc, crew, request, plan, ahead, outputs, walker);
     }
     let plan = plan_of(alloc, request, input)?;
-    check_planned(rt, alloc, crew, request, &plan, outputs, walker)
+    check_planned(rt, alloc, crew, request, &plan, None, outputs, walker)
 }
 
 /// Judges a result: the verdict, or want of memory.
@@ -240,11 +283,11 @@ fn judge_all<R: Threads + Sync, G: Gate, W: Watch>(
     crew: &Crew<'_, G, W>,
     request: &Request,
     input: &Input,
-    ready: Option<&Plan<'_>>,
+    ahead: Option<&MappedInput<'_>>,
     outputs: &[Vec<u8>],
     certificate: &[u8],
 ) -> Result<Yes, No>
-    requires ready { IfSome ready (λ p. p.now ≡ record { size = request.now.split; files = input.now }) }
+    requires ahead { IfSome ahead (λ m. IsMappedFor request.now input.now m.now) }
     requires fits { split_total request.now.split input.now ≤ 2 ^ 20 }
     ensures { let v = verdict_of request.now input.now (contents outputs.now) certificate.now in
         MatchResult result (λ y. v ≡ Ok (accepted_of y)) (λ e. (e ≡ OutOfMemory) ⊎ (v ≡ Err e)) }
@@ -254,7 +297,7 @@ fn judge_all<R: Threads + Sync, G: Gate, W: Watch>(
     }
     let mut walker = walk(certificate);
     expect_header_of(&mut walker, request, input)?;
-    check_rest(rt, alloc, crew, request, input, ready, outputs, &mut walker)
+    check_rest(rt, alloc, crew, request, input, ahead, outputs, &mut walker)
 }
 
 /// The same as `check`, by so many threads, from 1 to 64: they draw the splits and map them, and then the partitions and
@@ -352,20 +395,21 @@ pub fn check_gated_watched<R: Threads + Sync, G: Gate, W: Watch>(
     judge_all(rt, alloc, &crew, request, input, None, outputs, certificate)
 }
 
-/// The same as `check_gated_watched`, where the plan of the input is there already.
-pub fn check_planned_watched<R: Threads + Sync, G: Gate, W: Watch>(
+/// The same as `check_gated_watched`, where the input was mapped ahead: it is mapped anew only where the certificate
+/// leaves records out.
+pub fn check_mapped_watched<R: Threads + Sync, G: Gate, W: Watch>(
     rt: &R,
     alloc: Global,
     request: &Request,
     input: &Input,
-    plan: &Plan<'_>,
+    mapped: &MappedInput<'_>,
     outputs: &[Vec<u8>],
     certificate: &[u8],
     threads: u32,
     gate: &G,
     watch: &W,
 ) -> Result<Yes, No>
-    requires plan { plan.now ≡ record { size = request.now.split; files = input.now } }
+    requires mapped { IsMappedFor request.now input.now mapped.now }
     requires fits { split_total request.now.split input.now ≤ 2 ^ 20 }
     requires threads { (1 ≤ threads) × (threads ≤ 64) }
     ensures headline { IfOk result (λ y. IsCertified request.now input.now (contents outputs.now) certificate.now y.skips.items y.pairs) }
@@ -386,7 +430,7 @@ pub fn check_planned_watched<R: Threads + Sync, G: Gate, W: Watch>(
         &crew,
         request,
         input,
-        Some(plan),
+        Some(mapped),
         outputs,
         certificate,
     )

@@ -3,7 +3,11 @@ ghost use Rattle.std.specs.Prelude.{◌≡◌, ◌↔◌, ◌⊎◌, Err, ◌≤
 ghost use Rattle.mr_pool.specs.Endings.{ending_of};
 ghost use Rattle.mr_input.specs.Files.{contents, split_total};
 ghost use Rattle.mr_core.specs.declared.event.End.{End as Ended};
+ghost use Rattle.mr_assembled.specs.Assembled.{assembled_certificate, assembled_outputs};
 ghost use Rattle.mr_assembled.specs.Faithful.{IsOpenedFor};
+ghost use Rattle.mr_book.specs.Assembling.{reduced_under};
+ghost use Rattle.mr_certform.specs.Value.{Spells};
+ghost use Rattle.mr_check.specs.Ahead.{IsMappedFor};
 ghost use Rattle.mr_core.specs.Core.{InLimits};
 ghost use Rattle.mr_answers.specs.declared.fault.No.{No};
 ghost use Rattle.mr_answers.specs.Headline.{IsCertified};
@@ -13,7 +17,7 @@ ghost use Rattle.mr_pool.specs.Outcomes.{IsCertifiedRun, IsDoneRun, IsRunFault, 
 use crate::progress::JudgesProgress;
 use mr_book::{Book, History, Seat};
 use mr_bytes::{Gate, OpenGate, RecordName};
-use mr_check::{No, Yes, check_planned_watched, is_same_fault};
+use mr_check::{MappedInput, No, Yes, check_mapped_watched, is_same_fault, map_input};
 use mr_core::{End, JobFault, Limits, Shape};
 use mr_input::Input;
 use mr_jobs::Request;
@@ -25,6 +29,7 @@ use std::alloc::{AllocError, Global};
 use std::marker::Brand;
 use std::sync::Wait;
 use std::sync::ledger::{Blank, Ledger};
+use std::thread;
 use std::thread::Threads;
 
 /// A result that the judge said yes to, with the history of the run that made it.
@@ -63,17 +68,17 @@ impl From<AllocError> for RunFault {
     }
 }
 
-/// The verdict on a result, by as many threads as there are workers, given the plan of the input.
+/// The verdict on a result, by as many threads as there are workers, given the input as it was mapped ahead.
 fn judged_by_all<W: Watch, R: Threads + Sync>(
     rt: &R,
     alloc: Global,
-    plan: &Plan<'_>,
+    mapped: &MappedInput<'_>,
     terms: Terms<'_>,
     outputs: &[Vec<u8>],
     certificate: &[u8],
     watch: &W,
 ) -> Result<Yes, No>
-    requires plan { plan.now ≡ record { size = terms.request.now.split; files = terms.input.now } }
+    requires mapped { IsMappedFor terms.request.now terms.input.now mapped.now }
     requires fits { split_total terms.request.now.split terms.input.now ≤ 2 ^ 20 }
     requires limits { InLimits terms.shape }
     ensures headline { IfOk result (λ y. IsCertified terms.entry.request.now terms.entry.input.now (contents outputs.now) certificate.now
@@ -81,12 +86,12 @@ fn judged_by_all<W: Watch, R: Threads + Sync>(
     ensures no { IfErr result (λ e. (e ≡ No.OutOfMemory)
         ⊎ (verdict_of terms.entry.request.now terms.entry.input.now (contents outputs.now) certificate.now ≡ Err e)) }
 {
-    check_planned_watched(
+    check_mapped_watched(
         rt,
         alloc,
         terms.request,
         terms.input,
-        plan,
+        mapped,
         outputs,
         certificate,
         terms.shape.workers,
@@ -127,6 +132,50 @@ fn answered(
     }
 }
 
+/// The files and the certificate of a done job, put together by one thread while the others map the input for the judge.
+fn made_and_mapped<'p, L: Ledger, W: Watch, R: Threads + Sync>(
+    rt: &R,
+    alloc: Global,
+    plan: &'p Plan<'p>,
+    terms: Terms<'_>,
+    book: &Book<L>,
+    watch: &W,
+) -> Result<(Vec<Vec<u8>>, Vec<u8>, MappedInput<'p>), AllocError>
+    requires plan { plan.now ≡ record { size = terms.request.now.split; files = terms.input.now } }
+    requires limits { InLimits terms.shape }
+    requires ends { book.now.state.end ≡ Some Ended.Done }
+    requires opened { IsOpenedFor terms.request.now terms.input.now book.now.shape }
+    ensures outputs { IfOk result (λ r. contents r.0.items ≡ assembled_outputs (reduced_under book.now.reduces) book.now.state) }
+    ensures certificate { IfOk result (λ r. Spells r.1.items
+        (assembled_certificate terms.entry.request.now terms.entry.input.now (reduced_under book.now.reduces) book.now.state)) }
+    ensures mapped { IfOk result (λ r. IsMappedFor terms.entry.request.now terms.entry.input.now (r.2)) }
+{
+    let Terms {
+        request,
+        input,
+        shape: Shape { workers, .. },
+        ..
+    } = terms;
+    let mapping = move || -> Result<MappedInput<'_>, AllocError>
+        requires same { plan.now.size ≡ request.now.split }
+        requires workers { (1 ≤ workers) × (workers ≤ 64) }
+        ensures { IfOk result (IsMappedFor request.entry.now plan.entry.now.files) }
+    {
+        let progress = JudgesProgress { watch };
+        map_input(rt, alloc, request, plan, workers, &OpenGate, &progress)
+    };
+    let making = move || -> Result<(Vec<Vec<u8>>, Vec<u8>), AllocError>
+        requires ends { book.now.state.end ≡ Some Ended.Done }
+        requires opened { IsOpenedFor request.now input.now book.now.shape }
+        ensures outputs { IfOk result (λ r. contents r.0.items ≡ assembled_outputs (reduced_under book.entry.now.reduces) book.entry.now.state) }
+        ensures certificate { IfOk result (λ r. Spells r.1.items
+            (assembled_certificate request.entry.now input.entry.now (reduced_under book.entry.now.reduces) book.entry.now.state)) }
+    { book.assemble_bytes(alloc, request, input) };
+    let (mapped, made) = thread::join(rt, mapping, making);
+    let (outputs, certificate) = made?;
+    Ok((outputs, certificate, mapped?))
+}
+
 /// The result of a done job is assembled and judged.
 fn assembled<L: Ledger, W: Watch, R: Threads + Sync>(
     rt: &R,
@@ -146,12 +195,12 @@ fn assembled<L: Ledger, W: Watch, R: Threads + Sync>(
     ensures certified { IfOk result (IsCertifiedRun terms.entry.request.now terms.entry.input.now book.shape) }
     ensures fault { IfErr result (IsRunFault terms.entry.request.now terms.entry.input.now terms.entry.script.now book.shape) }
 {
-    let (outputs, certificate) = book.assemble_bytes(alloc, terms.request, terms.input)?;
     watch.tell(Phase::Judging, 0, 1);
+    let (outputs, certificate, mapped) = made_and_mapped(rt, alloc, plan, terms, &book, watch)?;
     let judged = judged_by_all(
         rt,
         alloc,
-        plan,
+        &mapped,
         terms,
         outputs.as_slice(),
         certificate.as_slice(),

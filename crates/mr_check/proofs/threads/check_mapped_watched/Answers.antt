@@ -1,7 +1,7 @@
 use Rattle.std.proofs.Common.{arith}
 use Rattle.mr_input.specs.Files.{contents}
 use Rattle.mr_answers.proofs.HeadlineLemmas.{certified}
-use Rattle.mr_check.proofs.threads.check_planned_watched.Goals as goal
+use Rattle.mr_check.proofs.threads.check_mapped_watched.Goals as goal
 
 pub returns-clause-headline : goal.returns-clause-headline
 returns-clause-headline g c =

@@ -1,0 +1,97 @@
+//! An input that is mapped ahead of the judgement of a result.
+ghost use Rattle.std.specs.Prelude.{◌≡◌, ◌≤◌, ◌<◌, ◌^◌, [], IfOk};
+ghost use Rattle.mr_index.specs.Index.{triples_of};
+ghost use Rattle.mr_check.specs.Ahead.{IsMappedFor};
+
+use crate::mapping::{Crew, Mapped, Source, index_of};
+use mr_bytes::Gate;
+use mr_jobs::Request;
+use mr_splits::Plan;
+use mr_watch::Watch;
+use std::alloc::{AllocError, Global};
+use std::marker::Model;
+use std::thread::Threads;
+
+/// What a job emits over an input, with no record left out, ready to be looked up by a judge: it may be made before the
+/// result is there.
+#[derive(Drop)]
+pub struct MappedInput<'a> {
+    plan: &'a Plan<'a>,
+    mapped: Mapped,
+}
+
+impl<'a> Model for MappedInput<'a> {
+    ghost use Rattle.std.specs.Prelude.{◌<◌, ◌^◌};
+    ghost use Rattle.mr_check.specs.Ahead.{MappedAhead};
+
+    ghost Value = { MappedAhead };
+
+    ghost view = { λ m. record { plan = m.plan.now; pairs = m.mapped.index } };
+
+    ghost invariant = { λ m. m.mapped.pieces < 2 ^ 21 };
+}
+
+impl<'a> MappedInput<'a> {
+    /// The plan of the input.
+    pub(crate) fn plan(&self) -> &'a Plan<'a>
+        ensures { result.now ≡ self.now.plan }
+    {
+        self.plan
+    }
+
+    /// What is emitted, and in how many pieces of work it was mapped.
+    pub(crate) fn mapped(&self) -> &Mapped
+        ensures index { result.now.index ≡ self.now.pairs }
+        ensures few { result.now.pieces < 2 ^ 21 }
+    {
+        &self.mapped
+    }
+}
+
+/// What a request's job emits over a plan, with no record left out.
+fn mapped_whole<R: Threads + Sync, G: Gate, W: Watch>(
+    rt: &R,
+    alloc: Global,
+    crew: &Crew<'_, G, W>,
+    request: &Request,
+    plan: &Plan<'_>,
+) -> Result<Mapped, AllocError>
+    ensures all { IfOk result (λ m. m.index ≡ triples_of request.now.job plan.now []) }
+    ensures few { IfOk result (λ m. m.pieces < 2 ^ 21) }
+{
+    let job = request.job();
+    index_of(
+        rt,
+        alloc,
+        crew,
+        &Source {
+            plan,
+            job,
+            skips: &[],
+        },
+    )
+}
+
+/// Maps the input of this plan by so many threads, from 1 to 64, as `check_gated_watched` does: each thread passes the gate
+/// round each piece of work that it draws, and the watch is told of it.
+pub fn map_input<'a, R: Threads + Sync, G: Gate, W: Watch>(
+    rt: &R,
+    alloc: Global,
+    request: &Request,
+    plan: &'a Plan<'a>,
+    threads: u32,
+    gate: &G,
+    watch: &W,
+) -> Result<MappedInput<'a>, AllocError>
+    requires same { plan.now.size ≡ request.now.split }
+    requires threads { (1 ≤ threads) × (threads ≤ 64) }
+    ensures { IfOk result (IsMappedFor request.now plan.entry.now.files) }
+{
+    let crew = Crew {
+        threads,
+        gate,
+        watch,
+    };
+    let mapped = mapped_whole(rt, alloc, &crew, request, plan)?;
+    Ok(MappedInput { plan, mapped })
+}
