@@ -154,6 +154,16 @@ def a_gate(harness):
     harness.check("one worker can't", answer.gate == "failed" and answer.short() == CATS_DONE, repr(answer))
 
 
+def a_backup_whose_output_is_lost(harness):
+    """The first attempt is held until another worker has done its task; and one of the two is lost behind its first report.
+    Where that is the other one, the task's output is lost with it, and the held attempt can't leave off, though it was told
+    to: it does the task after all."""
+    for lost in (0, 1):
+        for _ in range(10):
+            answer = ran(TWO_PARTS, CATS, b"lose %d after 1\n" % lost, workers=2, mode="gate")
+            harness.check(f"worker {lost} is lost behind a backup", answer.gate == "passed" and answer.short() == CATS_DONE, repr(answer))
+
+
 def threads_that_judge(harness):
     """The first piece of either phase is held until another of it has left: so more than one thread maps, and judges."""
     request, files = Request("words", parts=2, split=2), [b"a\nb\n"]
@@ -286,6 +296,7 @@ ALL = {
     "worked runs": worked_runs,
     "worked histories of runs": worked_histories,
     "a gate that holds a worker": a_gate,
+    "a backup whose output is lost": a_backup_whose_output_is_lost,
     "threads that judge": threads_that_judge,
     "numbers that threads draw": tickets,
     "who looks on at a run": who_looks_on,
