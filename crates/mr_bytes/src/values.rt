@@ -84,8 +84,24 @@ impl Values {
     }
 
     /// One more value, at the end. It fails only for want of memory, and then nothing has changed; a `One` behind
-    /// nothing but `One`s takes none.
+    /// nothing but `One`s takes none, and no call.
+    #[inline(always)]
     pub fn push(&mut self, value: Value) -> Result<(), AllocError>
+        requires { length self.old + 1 < 2 ^ 64 }
+        ensures ok { OnOk result (self.new ≡ self.old ++ value ∷ []) }
+        ensures err { OnErr result (self.new ≡ self.old) }
+        ensures none { AreOnes self.old → value ≡ One → IsOk result }
+    {
+        if matches!(value, Value::One) && self.places.len() == 0 && self.rest.is_empty() {
+            self.ones += 1;
+            return Ok(());
+        }
+        self.push_stored(value)
+    }
+
+    /// The same of a value that may have to be stored.
+    #[inline(never)]
+    fn push_stored(&mut self, value: Value) -> Result<(), AllocError>
         requires { length self.old + 1 < 2 ^ 64 }
         ensures ok { OnOk result (self.new ≡ self.old ++ value ∷ []) }
         ensures err { OnErr result (self.new ≡ self.old) }

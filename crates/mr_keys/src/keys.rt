@@ -29,7 +29,7 @@ impl Model for Keys {
     ghost invariant = { λ k. All (IsSlot k.texts) k.slots.items };
 }
 
-/// How many slots there are at least: a block of keys takes at most half of them.
+/// How many slots there are at least: a block of keys takes half of them.
 const LEAST_SLOTS: usize = 2 * BLOCK;
 
 /// In a table of fewer slots keys are looked up one after another: what is looked for often stands near the processor,
@@ -44,6 +44,17 @@ const MANY_SLOTS: usize = 1 << 20;
 fn more_slots(count: usize) -> usize {
     let times = if count < MANY_SLOTS { 2 } else { 4 };
     count.saturating_mul(times).max(LEAST_SLOTS)
+}
+
+/// How many of so many slots may be taken: half of them; and three quarters of few, so that the table stays nearer to the
+/// processor. Of a table that doesn't fit there, longer looks cost more than its size does.
+#[inline(always)]
+fn most_keys(slots: usize) -> usize {
+    if slots < SEVERAL_SLOTS {
+        slots / 4 * 3
+    } else {
+        slots / 2
+    }
 }
 
 impl Keys {
@@ -185,12 +196,12 @@ impl Keys {
         Ok(())
     }
 
-    /// Makes sure that at most half of the slots are taken when so many keys have come.
+    /// Makes sure that no more slots are taken than may be when so many keys have come.
     #[inline(always)]
     fn make_room(&mut self, alloc: Global, count: usize) -> Result<(), AllocError>
         ensures { self.new ≡ self.old }
     {
-        if self.slots.len() / 2 < self.texts.len().saturating_add(count) {
+        if most_keys(self.slots.len()) < self.texts.len().saturating_add(count) {
             self.slots = slots_of(alloc, &self.texts, more_slots(self.slots.len()))?;
         }
         Ok(())

@@ -8,7 +8,8 @@ use crate::front::{Front, front_of, hash_of};
 use crate::texts::Texts;
 use std::alloc::{AllocError, Global};
 
-/// How many slots are looked at for a key. At most half of them are taken, so more than a few are hardly ever needed.
+/// How many slots are looked at for a key. At most half of many are taken, and three quarters of few, so more are hardly ever
+/// needed.
 const MOST_LOOKS: usize = 64;
 
 /// What is known of a key that was seen: its front, its length, and its number plus one. 0 stands for no key.

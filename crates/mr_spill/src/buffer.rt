@@ -85,6 +85,7 @@ impl Buffer {
     }
 
     /// Takes a pair whose key is lent, its name past those of all before it. A refusal leaves the buffer as it was.
+    #[inline(always)]
     pub fn push_key(&mut self, key: &[u8], value: Value, name: Name) -> Result<(), PushRefusal>
         requires { Rises name_order (names_of self.old.pairs ++ name ∷ []) }
         ensures ok { OnOk result (self.new

@@ -62,6 +62,7 @@ impl Entries {
     }
 
     /// One more value, at the end. It fails only for want of memory, and then nothing has changed.
+    #[inline(always)]
     pub fn push(&mut self, value: Value, name: Name) -> Result<(), AllocError>
         ensures ok { OnOk result (self.new ≡ self.old ++ (value, name) ∷ []) }
         ensures err { OnErr result (self.new ≡ self.old) }

@@ -87,7 +87,9 @@ impl Numbered {
         self.numbers.len()
     }
 
-    /// One more pair, at the end. It fails only for want of memory, and then the pairs are those that were there.
+    /// One more pair, at the end. It fails only for want of memory, and then the pairs are those that were there. Its
+    /// callers have the name in registers: a call would put it on the stack in pieces and wait for them.
+    #[inline(always)]
     pub fn push(&mut self, key: &[u8], value: Value, name: Name) -> Result<(), AllocError>
         ensures ok { OnOk result (self.new ≡ self.old ++ record { key = key.now; value = value; name = name } ∷ []) }
         ensures err { OnErr result (self.new ≡ self.old) }
@@ -104,6 +106,7 @@ impl Numbered {
 
     /// One more pair, at the end, under the key of the pair that stands there: it takes no look-up. It fails only for
     /// want of memory, and then nothing has changed.
+    #[inline(always)]
     fn push_again(&mut self, value: Value, name: Name) -> Result<(), AllocError>
         requires { 0 < length self.old }
         ensures ok { OnOk result (self.new
@@ -146,6 +149,7 @@ impl Numbered {
 
     /// Takes a pair of a region, at the end: one that has the key of the pair before it takes no look-up. It fails only for
     /// want of memory.
+    #[inline(always)]
     pub fn take(&mut self, pair: RegionPair<'_>) -> Result<(), AllocError>
         requires { IsTrue pair.again → EndsWithKey self.old pair.key.now }
         ensures pair { OnOk result (self.new ≡ self.old ++ lent_pair pair.entry ∷ []) }

@@ -9,6 +9,7 @@ ghost use Rattle.mr_spill.specs.Spelling.{PairFits, SpellsRegion, ValueFits, hea
 ghost use Rattle.mr_spill.specs.WorkedBytes.{WorkedFalling, WorkedOther, WorkedRegion, WorkedSizes};
 
 use crate::column::Pairs;
+use byteorder::{BigEndian, ByteOrder};
 use mr_bytes::{Name, Value};
 use std::alloc::{AllocError, Global};
 
@@ -68,13 +69,11 @@ fn put_name(out: &mut Vec<u8>, name: Name) -> Result<(), AllocError>
 fn counted_tail(name: Name) -> [u8; 13]
     ensures { result ≡ name_bytes name ++ value_bytes One }
 {
-    let split = name.split.to_be_bytes();
-    let rec = name.rec.to_be_bytes();
-    let place = name.place.to_be_bytes();
-    [
-        split[0], split[1], split[2], split[3], rec[0], rec[1], rec[2], rec[3], place[0], place[1],
-        place[2], place[3], 0,
-    ]
+    let mut bytes = [0u8; 13];
+    BigEndian::write_u32(&mut bytes, name.split);
+    BigEndian::write_u32(&mut bytes[4..], name.rec);
+    BigEndian::write_u32(&mut bytes[8..], name.place);
+    bytes
 }
 
 /// A pair. There is no memory for a key of 4 GiB.

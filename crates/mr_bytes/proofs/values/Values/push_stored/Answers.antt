@@ -1,7 +1,7 @@
 use Rattle.std.proofs.Common.{arith, subst, sym}
 use Rattle.mr_bytes.specs.Values.{AreOnes}
 use Rattle.mr_bytes.proofs.ValueLemmas.{no-places}
-use Rattle.mr_bytes.proofs.values.Values.push.Goals as goal
+use Rattle.mr_bytes.proofs.values.Values.push_stored.Goals as goal
 
 pub returns-in_err-push-clause-none : goal.returns-in_err-push-clause-none
 returns-in_err-push-clause-none c = λ ones one.
