@@ -3,13 +3,11 @@ ghost use Rattle.std.specs.Prelude.{◌≡◌, ℕ, ◌<◌, ◌^◌, ◌++◌, 
 ghost use Rattle.std.specs.List.{AllByRecursion};
 ghost use Rattle.mr_bytes.specs.Lists.{Rises};
 ghost use Rattle.mr_bytes.specs.Pairs.{Triple, pair_order};
-ghost use Rattle.mr_bytes.specs.declared.Value.TheVariants.{One};
 ghost use Rattle.mr_spill.specs.Column.{nth_pair};
 ghost use Rattle.mr_spill.specs.Spelling.{PairFits, SpellsRegion, ValueFits, header, name_bytes, pair_bytes, u32 as four, u64 as eight, value_bytes};
 ghost use Rattle.mr_spill.specs.WorkedBytes.{WorkedFalling, WorkedOther, WorkedRegion, WorkedSizes};
 
 use crate::column::Pairs;
-use byteorder::{BigEndian, ByteOrder};
 use mr_bytes::{Name, Value};
 use std::alloc::{AllocError, Global};
 
@@ -59,21 +57,17 @@ pub(crate) fn put_header(
 fn put_name(out: &mut Vec<u8>, name: Name) -> Result<(), AllocError>
     ensures { OnOk result (out.new.items ≡ out.old.items ++ name_bytes name) }
 {
-    put_number(out, name.split)?;
-    put_number(out, name.rec)?;
+    out.extend_from_slice(&spelled_record(name))?;
     put_number(out, name.place)?;
     Ok(())
 }
 
-/// What spells a name and behind it a value that is counted, as those of most jobs are.
-fn counted_tail(name: Name) -> [u8; 13]
-    ensures { result ≡ name_bytes name ++ value_bytes One }
+/// The split and the record of a name, spelled. They are one number to the processor: what is put on its stack in two
+/// pieces and read as one it has to wait for.
+fn spelled_record(name: Name) -> [u8; 8]
+    ensures { result ≡ four name.split ++ four name.rec }
 {
-    let mut bytes = [0u8; 13];
-    BigEndian::write_u32(&mut bytes, name.split);
-    BigEndian::write_u32(&mut bytes[4..], name.rec);
-    BigEndian::write_u32(&mut bytes[8..], name.place);
-    bytes
+    (u64::from(name.split) * 4_294_967_296 + u64::from(name.rec)).to_be_bytes()
 }
 
 /// A pair. There is no memory for a key of 4 GiB.
@@ -92,10 +86,6 @@ pub(crate) fn put_pair(
     }
     put_number(out, count as u32)?;
     out.extend_from_slice(key)?;
-    if let Value::One = value {
-        out.extend_from_slice(&counted_tail(name))?;
-        return Ok(());
-    }
     put_name(out, name)?;
     put_value(out, value)?;
     Ok(())
