@@ -19,7 +19,7 @@ use Rattle.std.specs.Prelude.{nat_le}
 use Rattle.mr_answers.specs.Verdict.{Subject, passes, start, part_faults, first, entries_in}
 use Rattle.mr_answers.specs.VerdictLaws.{told, piece, or_else, part_fault, least_fault, back_fault, parts_in}
 use Rattle.mr_judge.specs.Steps.{opens}
-use Rattle.mr_check.specs.Fronts.{closes, part_here, parts_at, part_at, first_some, ends_at}
+use Rattle.mr_check.specs.Fronts.{closes, part_here, parts_at, part_at, ends_at}
 use Rattle.mr_answers.proofs.VerdictPlace.{splits}
 
 -- ---- the walk
@@ -141,23 +141,37 @@ pub parts_long : (fs : List Front) → length (parts_at fs) ≡ length fs
 parts_long [] = refl
 parts_long (f ∷ fs) = omega (arith, parts_long fs)
 
+-- ---- one of them
+
+pub part_is : (fs : List Front) (p : ℕ) (d : Front) → p < length fs → part_at fs p ≡ part_here (items_left (get_or fs p d).walker)
+part_is [] p d h = absurd (omega arith)
+part_is (f ∷ fs) zero d h = refl
+part_is (f ∷ fs) (suc p) d h = part_is fs p d (omega arith)
+
+-- one more changes none before it
+pub part_stays : (fs : List Front) (f : Front) (p : ℕ) → p < length fs → part_at (fs ++ f ∷ []) p ≡ part_at fs p
+part_stays [] f p h = absurd (omega arith)
+part_stays (g ∷ fs) f zero h = refl
+part_stays (g ∷ fs) f (suc p) h = part_stays fs f p (omega arith)
+
+-- and is the last
+pub part_last : (fs : List Front) (f : Front) (n : ℕ) → n ≡ length fs → part_at (fs ++ f ∷ []) n ≡ part_here (items_left f.walker)
+part_last [] f zero e = refl
+part_last [] f (suc n) e = absurd (omega arith)
+part_last (g ∷ fs) f zero e = absurd (omega arith)
+part_last (g ∷ fs) f (suc n) e = part_last fs f n (omega arith)
+
 -- ---- the least fault
 
-pub least_found : (s : Subject) (p : ℕ) (fs : List Front) (os : List (Option No)) (d : Option No) → length os ≡ length fs
-    → ((k : ℕ) → k < length fs → get_or os k d ≡ part_fault s (p + k) (part_at fs k))
-    → first_some os ≡ least_fault s p (parts_at fs)
-least_found s p [] [] d len each = refl
-least_found s p [] (o ∷ os) d len each = absurd (omega arith)
-least_found s p (f ∷ fs) [] d len each = absurd (omega arith)
-least_found s p (f ∷ fs) (o ∷ os) d len each =
-    let here : p + 0 ≡ p = omega arith in
-    let one : o ≡ part_fault s p (part_here (items_left f.walker)) = each 0 (omega arith) ∙ ap (λ k. part_fault s k (part_here (items_left f.walker))) here in
-    ap (λ w. or_else w (first_some os)) one
-    ∙ ap (or_else (part_fault s p (part_here (items_left f.walker))))
-    (least_found s (p + 1) fs os d (omega arith) (λ k lt.
-    (let on : p + (k + 1) ≡ p + 1 + k = omega arith in
-    let more : suc k ≡ k + 1 = omega arith in
-    each (suc k) (omega arith) ∙ ap (λ n. part_fault s n (part_at fs k)) (ap (λ n. p + n) more ∙ on))))
+-- it is that of the first partition, where that has one, or of the others
+pub least_more : (s : Subject) (fs : List Front) (p q : ℕ) → p < length fs
+    → least_fault s q (parts_at (drop p fs)) ≡ or_else (part_fault s q (part_at fs p)) (least_fault s (q + 1) (parts_at (drop (p + 1) fs)))
+least_more s [] p q h = absurd (omega arith)
+least_more s (f ∷ fs) zero q h =
+    ap (λ k. or_else (part_fault s q (part_here (items_left f.walker))) (least_fault s (q + 1) (parts_at (drop k (f ∷ fs))))) (let d : suc zero ≡ zero + 1 = omega arith in d)
+least_more s (f ∷ fs) (suc p) q h =
+    least_more s fs p q (omega arith)
+    ∙ ap (λ k. or_else (part_fault s q (part_at fs p)) (least_fault s (q + 1) (parts_at (drop k (f ∷ fs))))) (let d : suc (p + 1) ≡ suc p + 1 = omega arith in d)
 
 -- ---- all of them, and what is behind them
 
@@ -175,24 +189,6 @@ by_partitions s at r is h =
     splits s (partitions r) at start is h
     ∙ (ap (λ w. or_else (first (told s start w)) (or_else (least_fault s 0 (parts_in is)) (back_fault s at (0 + entries_in is) (is_ended is)))) (nothing_open r is h)
     ∙ ap (λ k. or_else (least_fault s 0 (parts_in is)) (back_fault s at k (is_ended is))) count)
-
--- ---- one of them
-
-pub part_is : (fs : List Front) (p : ℕ) (d : Front) → p < length fs → part_at fs p ≡ part_here (items_left (get_or fs p d).walker)
-part_is [] p d h = absurd (omega arith)
-part_is (f ∷ fs) zero d h = refl
-part_is (f ∷ fs) (suc p) d h = part_is fs p d (omega arith)
-
--- ---- the first of faults
-
-first_here : (os : List (Option No)) (i : ℕ) (d : Option No) → i < length os → first_some (drop i os) ≡ or_else (get_or os i d) (first_some (drop (i + 1) os))
-first_here os i d h = ap first_some (drop_more os i d h)
-
-pub some_here : (os : List (Option No)) (i : ℕ) (d : Option No) (f : No) → i < length os → get_or os i d ≡ Some f → first_some (drop i os) ≡ Some f
-some_here os i d f h e = first_here os i d h ∙ ap (λ o. or_else o (first_some (drop (i + 1) os))) e
-
-pub none_here : (os : List (Option No)) (i : ℕ) (d : Option No) → i < length os → get_or os i d ≡ None → first_some (drop i os) ≡ first_some (drop (i + 1) os)
-none_here os i d h e = first_here os i d h ∙ ap (λ o. or_else o (first_some (drop (i + 1) os))) e
 
 -- ---- behind them
 

@@ -1,3 +1,5 @@
+pub mod BorderLemmas
 pub mod FrontLemmas
 pub mod IndexLemmas
 pub mod OwnLemmas
+pub mod SectionLemmas

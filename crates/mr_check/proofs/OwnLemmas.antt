@@ -1,6 +1,6 @@
 -- The items of one partition, one by one.
 use Rattle.std.proofs.Common.{◌≡◌, ℕ, ◌+◌, ◌<◌, ◌≤◌, Bool, true, false, Ok, None, List, [], ◌∷◌, ◌++◌, length, drop, get_or, refl, ap, sym, subst, ◌∙◌, arith}
-use Rattle.std.proofs.lemmas.List.{drop_more, drop_all}
+use Rattle.std.proofs.lemmas.List.{drop_more, drop_all, drop-drop}
 use Rattle.std.proofs.lemmas.Bool.{false≢true}
 use Rattle.mr_bytes.specs.declared.Name.{Name}
 use Rattle.mr_certform.specs.declared.item.Item.{Item}
@@ -38,17 +38,21 @@ others_piece i is js e = absurd (false≢true (sym e))
 -- so many of the items stood, and the rest is to come
 pub record OwnStands (s : Subject) (old st : Reached) (n : ℕ) (rest all : List Item) : Type 0 where
   pub same : (js : List Item) → first (told s st (piece (onto rest js))) ≡ first (told s old (piece (onto all js)))
+  pub own : (js : List Item) → piece (onto rest js) ≡ drop n (piece (onto all js))
   pub fewer : (js : List Item) → n + length (onto rest js) ≡ length (onto all js)
   pub room : (more top : ℕ) → Room old (length all + more) top → Room st (length rest + more) top
 
 pub own_first : (s : Subject) (old : Reached) (all : List Item) → OwnStands s old old 0 all all
-own_first s old all = record { same = λ js. refl; fewer = λ js. omega arith; room = λ more top r. r }
+own_first s old all = record { same = λ js. refl; own = λ js. refl; fewer = λ js. omega arith; room = λ more top r. r }
 
 pub own_more : (s : Subject) (old st : Reached) (n : ℕ) (i : Item) (rest all : List Item) → OwnStands s old st n (i ∷ rest) all → is_own i ≡ true → tests s st i ≡ [] → OwnStands s old (after s st i) (n + 1) rest all
 own_more s old st n i rest all h own none = record {
   same = λ js.
       (sym (ap (λ w. first (told s st w)) (own_both i rest js own) ∙ first_more (tests s st i) (told s (after s st i) (piece (onto rest js))) none)
       ∙ h.same js);
+  own = λ js.
+      (let next : drop 1 (drop n (piece (onto all js))) ≡ piece (onto rest js) = ap (drop 1) (sym (h.own js) ∙ own_both i rest js own) in
+      sym next ∙ drop-drop 1 n (piece (onto all js)));
   fewer = λ js. omega (arith, ap length (own_onto i rest js own), h.fewer js);
   room = λ more top r. (let d : length (i ∷ rest) + more ≡ length rest + more + 1 = omega arith in room_after s st i (length rest + more) top (subst (λ k. Room st k top) d (h.room more top r)));
 }
@@ -74,6 +78,7 @@ own_all s old st i rows js e stands = by (subst (λ (w : List FoundItem). OwnSta
     by : OwnStands s old st i [] (items_in rows) → OwnGoesOn s old st (items_in rows) js
     by h = record {
       same = h.same js;
+      own = h.own js ∙ ap (λ k. drop k (piece (onto (items_in rows) js))) (e ∙ sym (items_long rows));
       fewer = omega (arith, h.fewer js, e, items_long rows);
       room = λ top r. (let d : length {A = Item} [] + length js ≡ length js = omega arith in subst (λ k. Room st k top) d (h.room (length js) top r));
     }

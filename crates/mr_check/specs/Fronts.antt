@@ -1,12 +1,12 @@
 -- Of no public promise: the partitions one by one, each by a walker at its front.
-use Rattle.std.specs.Prelude.{◌≡◌, ℕ, zero, suc, ◌+◌, Bool, true, false, Option, None, Result, Ok, Err, List, [], ◌∷◌, length, Some}
+use Rattle.std.specs.Prelude.{◌≡◌, ℕ, zero, suc, ◌+◌, Bool, true, false, Option, None, Result, Ok, Err, List, [], ◌∷◌, length, drop, Some}
 use Rattle.mr_certform.specs.declared.item.Item.{Item}
 use Rattle.mr_certform.specs.declared.item.Item.TheVariants.{Groups, End}
 use Rattle.mr_certform.specs.Walking.{items_left}
 use Rattle.mr_answers.specs.declared.fault.No.{No}
 use Rattle.mr_check.specs.declared.front.Front.{Front}
 use Rattle.mr_answers.specs.Verdict.{Reached, Subject, first}
-use Rattle.mr_answers.specs.VerdictLaws.{told, piece, or_else}
+use Rattle.mr_answers.specs.VerdictLaws.{told, piece}
 use Rattle.mr_judge.specs.Steps.{Answers, Room}
 use Rattle.mr_judge.specs.Blocks.{onto}
 
@@ -37,14 +37,10 @@ part_at [] p = []
 part_at (f ∷ fs) zero = part_here (items_left f.walker)
 part_at (f ∷ fs) (suc p) = part_at fs p
 
--- the first that there is
-abbrev pub first_some : List (Option No) → Option No
-first_some [] = None
-first_some (o ∷ os) = or_else o (first_some os)
-
 -- items of a partition were judged, and stood: its fault is that of what comes behind them
 pub record OwnGoesOn (s : Subject) (old new : Reached) (is js : List Item) : Type 0 where
   pub same : first (told s new (piece js)) ≡ first (told s old (piece (onto is js)))
+  pub own : piece js ≡ drop (length is) (piece (onto is js))
   pub fewer : length (onto is js) ≡ length is + length js
   pub room : (all : ℕ) → Room old (length is + length js) all → Room new (length js) all
 

@@ -1,24 +1,27 @@
 //! A partition that is judged by itself.
-ghost use Rattle.std.specs.Prelude.{◌≡◌, ◌⊎◌, ◌<◌, ◌≤◌, ◌+◌, ◌-◌, ◌^◌, [], List, MatchResult, IfOk, OnOk, None, Some, true, false, length};
+ghost use Rattle.std.specs.Prelude.{◌≡◌, ◌⊎◌, ◌<◌, ◌≤◌, ◌+◌, ◌-◌, ◌^◌, [], List, MatchResult, IfOk, OnOk, None, Some, true, false, length, drop};
 ghost use Rattle.std.specs.List.{AllByRecursion};
 ghost use Rattle.mr_certform.specs.declared.item.Item.{Item as Read};
 ghost use Rattle.mr_certform.specs.Walking.{items_left, halt};
 ghost use Rattle.mr_answers.specs.declared.fault.No.TheVariants.{Malformed, OutOfMemory};
 ghost use Rattle.mr_input.specs.Files.{contents};
-ghost use Rattle.mr_answers.specs.Verdict.{entries_in, first, tests, after};
-ghost use Rattle.mr_answers.specs.VerdictLaws.{part_fault, piece, told};
+ghost use Rattle.mr_answers.specs.Verdict.{entries_in, tests, after};
+ghost use Rattle.mr_answers.specs.VerdictLaws.{part_fault, piece};
 ghost use Rattle.mr_judge.specs.Steps.{subject, Answers, HasRoom, Room};
 ghost use Rattle.mr_judge.specs.Blocks.{items_in, onto, IsFound};
 ghost use Rattle.mr_judge.specs.Outputs.{Leaves};
+ghost use Rattle.mr_judge.specs.Borders.{at_border};
 ghost use Rattle.mr_check.specs.Fronts.{is_own as own, part_here, OwnJudged, Opened};
+ghost use Rattle.mr_check.specs.Sections.{part_from, GroupBegins, StretchJudged, SectionJudged, IsJudged};
 
 use crate::facts::Facts;
-use crate::front::Front;
+use crate::front::{Front, Section};
 use crate::fronts::is_opening;
+use crate::section::{Judged, Outcome};
 use mr_answers::{No, is_same_fault};
 use mr_certform::{Item, Walker};
 use mr_index::Meter;
-use mr_judge::{AtHand, Block, FoundItem, Progress, Stop, read_block};
+use mr_judge::{AtHand, Block, Border, FoundItem, Progress, Stop, read_block};
 use std::alloc::{AllocError, Global};
 
 /// Whether the item belongs to the partition that is open.
@@ -65,6 +68,7 @@ fn open_part<'a>(
     requires left { Leaves judging.old facts.now.outputs outputs.old.rest.now (contents outputs.old.later.now) }
     requires place { outputs.old.passed ≡ judging.old.from }
     ensures opened { Opened (subject facts.now) judging.old judging.new (items_left walker.old) (items_left walker.new) result }
+    ensures here { IfOk result (λ b. b ≡ true → drop 1 (part_here (items_left walker.old)) ≡ piece (items_left walker.new)) }
     ensures left { IfOk result (λ b. b ≡ true → Leaves judging.new facts.now.outputs outputs.new.rest.now (contents outputs.new.later.now)) }
     ensures place { IfOk result (λ b. b ≡ true → outputs.new.passed ≡ judging.new.from) }
 {
@@ -140,67 +144,148 @@ fn read_more(walker: &mut Walker<'_>, items: &mut Vec<Item>) -> Result<bool, All
     }
 }
 
-/// Judges what is left of the partition that is open: its first fault, if it has one. Its names are looked up a block of them
-/// ahead of the tests.
-fn judge_open<'a>(
+/// Judges so many items of the partition that is open, or what is left of it: whether it ends among them, or its first
+/// fault. Their names are looked up a block of them ahead of the tests.
+fn judge_stretch<'a>(
     facts: &Facts<'a>,
     judging: &mut Progress<'a>,
     outputs: &mut AtHand<'_>,
     walker: &mut Walker<'_>,
     block: &mut Block<'a>,
-) -> Result<(), No>
+    count: u64,
+) -> Result<bool, No>
     requires room { Room judging.old (length (items_left walker.old)) (2 ^ 63 + 2 ^ 32) }
     requires left { Leaves judging.old facts.now.outputs outputs.old.rest.now (contents outputs.old.later.now) }
     requires place { outputs.old.passed ≡ judging.old.from }
-    ensures { let fault = first (told (subject facts.now) judging.old (piece (items_left walker.old))) in
-        MatchResult result (λ _. fault ≡ None) (λ e. (e ≡ OutOfMemory) ⊎ (fault ≡ Some e)) }
+    ensures { StretchJudged (subject facts.now) judging.old judging.new (piece (items_left walker.old)) count result }
 {
     let basis = facts.basis();
-    while read_more(walker, &mut block.items)? {
+    let mut left = count;
+    while 0 < left {
+        if !read_more(walker, &mut block.items)? {
+            return Ok(true);
+        }
         // What a thread looks up is counted for nobody.
         let mut meter = Meter {
             lookups: 0,
             mapped: 0,
         };
         block.look_up(&basis, &mut meter)?;
-        if judge_own(judging, facts, outputs, &block.rows)? {
-            return Ok(());
+        let own = left.min(block.rows.len() as u64);
+        if judge_own(judging, facts, outputs, &block.rows[..own as usize])? {
+            return Ok(true);
         }
+        left -= own;
     }
-    Ok(())
+    Ok(false)
 }
 
-/// Judges partition `p`, which begins here: its first fault, if it has one.
-fn judge_part(alloc: Global, facts: &Facts<'_>, p: u32, front: &Front<'_>) -> Result<(), No>
-    ensures { let fault = part_fault (subject facts.now) p (part_here (items_left front.now.walker)) in
-        MatchResult result (λ _. fault ≡ None) (λ e. (e ≡ OutOfMemory) ⊎ (fault ≡ Some e)) }
-{
-    let mut walker = front.walker;
-    let mut outputs = facts.outputs_before(u64::from(p));
-    let mut judging = Progress::before(alloc, u64::from(p));
-    if !open_part(&mut judging, facts, &mut outputs, &mut walker)? {
-        return Ok(());
-    }
-    let mut block = Block::new(alloc)?;
-    judge_open(facts, &mut judging, &mut outputs, &mut walker, &mut block)
-}
-
-/// The fault of partition `p`, which begins here, if it has one.
-pub(crate) fn fault_in(
+/// Judges so many items of the partition that is open, or what is left of it: the border that is reached, or none where
+/// the partition ends, or its first fault.
+fn judge_on<'a>(
     alloc: Global,
-    facts: &Facts<'_>,
-    p: u32,
-    front: &Front<'_>,
-) -> Result<Option<No>, AllocError>
-    ensures { IfOk result (λ o. o ≡ part_fault (subject facts.now) p (part_here (items_left front.now.walker))) }
+    facts: &Facts<'a>,
+    judging: &mut Progress<'a>,
+    outputs: &mut AtHand<'_>,
+    walker: &mut Walker<'_>,
+    count: u64,
+) -> Result<Option<Border<'a>>, No>
+    requires room { Room judging.old (length (items_left walker.old)) (2 ^ 63 + 2 ^ 32) }
+    requires left { Leaves judging.old facts.now.outputs outputs.old.rest.now (contents outputs.old.later.now) }
+    requires place { outputs.old.passed ≡ judging.old.from }
+    requires begins { GroupBegins (drop count (piece (items_left walker.old))) }
+    ensures { SectionJudged (subject facts.now) judging.old (piece (items_left walker.old)) count result }
 {
-    match judge_part(alloc, facts, p, front) {
-        Ok(()) => Ok(None),
+    let mut block = Block::new(alloc)?;
+    if judge_stretch(facts, judging, outputs, walker, &mut block, count)? {
+        return Ok(None);
+    }
+    Ok(Some(judging.border()))
+}
+
+/// Judges a section, from that border on and up to so many of its partition's items: the border that is reached behind
+/// them, or none where the partition ends, or its first fault.
+fn judge_section<'a>(
+    alloc: Global,
+    facts: &Facts<'a>,
+    section: &Section<'_>,
+    count: u64,
+    began: &Border<'a>,
+) -> Result<Option<Border<'a>>, No>
+    requires some { 1 ≤ count }
+    requires next { began.now.next ≤ 2 ^ 32 }
+    requires group { began.now.group ≤ section.now.group }
+    requires begins { GroupBegins (drop count (part_from section.now.at (items_left section.now.walker))) }
+    ensures { SectionJudged (subject facts.now) (at_border began.now) (part_from section.now.at (items_left section.now.walker)) count result }
+{
+    let mut walker = section.walker;
+    let mut outputs = facts.outputs_at(began.next, began.from);
+    let mut judging = Progress::at(alloc, began);
+    if section.at != 0 {
+        return judge_on(alloc, facts, &mut judging, &mut outputs, &mut walker, count);
+    }
+    if !open_part(&mut judging, facts, &mut outputs, &mut walker)? {
+        return Ok(None);
+    }
+    judge_on(alloc, facts, &mut judging, &mut outputs, &mut walker, count - 1)
+}
+
+/// What judging a section from that border comes to.
+pub(crate) fn judged_from<'a>(
+    alloc: Global,
+    facts: &Facts<'a>,
+    section: &Section<'_>,
+    count: u64,
+    began: Border<'a>,
+) -> Result<Judged<'a>, AllocError>
+    requires some { 1 ≤ count }
+    requires next { began.next ≤ 2 ^ 32 }
+    requires group { began.group ≤ section.now.group }
+    requires begins { GroupBegins (drop count (part_from section.now.at (items_left section.now.walker))) }
+    ensures judged { IfOk result (IsJudged (subject facts.now) (part_from section.now.at (items_left section.now.walker))) }
+    ensures began { IfOk result (λ j. at_border j.began ≡ at_border began.entry) }
+    ensures count { IfOk result (λ j. j.count ≡ count) }
+{
+    let outcome = match judge_section(alloc, facts, section, count, &began) {
+        Ok(Some(border)) => Outcome::Reached(border),
+        Ok(None) => Outcome::Ended,
         Err(fault) => {
             if is_same_fault(fault, No::OutOfMemory) {
                 return Err(AllocError);
             }
-            Ok(Some(fault))
+            Outcome::Fault(fault)
         }
+    };
+    Ok(Judged {
+        began,
+        count,
+        outcome,
+    })
+}
+
+/// The fault of partition `p`, which begins here, if it has one. It is judged as a whole.
+pub(crate) fn fault_in(
+    alloc: Global,
+    facts: &Facts<'_>,
+    p: u64,
+    front: &Front<'_>,
+) -> Result<Option<No>, AllocError>
+    requires { p < 2 ^ 32 }
+    ensures { IfOk result (λ o. o ≡ part_fault (subject facts.now) p (part_here (items_left front.now.walker))) }
+{
+    let whole = Section {
+        part: p,
+        walker: front.walker,
+        at: 0,
+        group: 0,
+        entries: 0,
+        groups: 0,
+    };
+    let judged = judged_from(alloc, facts, &whole, u64::MAX, Border::before(p))?;
+    match judged.outcome {
+        Outcome::Fault(fault) => Ok(Some(fault)),
+        Outcome::Ended => Ok(None),
+        // No item is left behind so many.
+        Outcome::Reached(_) => Ok(None),
     }
 }

@@ -35,13 +35,13 @@ impl<'a> Facts<'a> {
         }
     }
 
-    /// The outputs from partition `p` on, which are to come.
-    pub fn outputs_before(&self, p: u64) -> AtHand<'a>
-        ensures rest { result.rest.now ≡ nth_file self.now.outputs (p - 1) }
-        ensures later { contents result.later.now ≡ drop p self.now.outputs }
-        ensures passed { result.passed ≡ 0 }
+    /// The output before that of partition `next`, of which so many bytes were passed, and those that are to come.
+    pub fn outputs_at(&self, next: u64, from: u64) -> AtHand<'a>
+        ensures rest { result.rest.now ≡ drop from (nth_file self.now.outputs (next - 1)) }
+        ensures later { contents result.later.now ≡ drop next self.now.outputs }
+        ensures passed { result.passed ≡ from }
     {
-        AtHand::before(self.outputs, p)
+        AtHand::at(self.outputs, next, from)
     }
 
     /// How many pairs are emitted.

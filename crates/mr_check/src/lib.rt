@@ -7,7 +7,10 @@ mod facts;
 mod front;
 mod front_bytes;
 mod fronts;
+mod guesses;
 mod mapping;
+mod section;
+mod sections;
 mod threads;
 
 pub use ahead::{MappedInput, map_input};

@@ -7,20 +7,20 @@ ghost use Rattle.mr_certform.specs.Places.{partitions};
 ghost use Rattle.mr_certform.specs.Walking.{items_left, halt};
 ghost use Rattle.mr_answers.specs.declared.fault.No.TheVariants.{OutOfMemory};
 ghost use Rattle.mr_answers.specs.Verdict.{start, subject_of, part_faults, count_faults, accepted_by, verdict_of, first, entries_in};
-ghost use Rattle.mr_answers.specs.VerdictLaws.{part_fault, least_fault, back_fault};
+ghost use Rattle.mr_answers.specs.VerdictLaws.{back_fault};
 ghost use Rattle.mr_answers.specs.Headline.{IsCertified, accepted_of};
 ghost use Rattle.mr_judge.specs.Steps.{Answers, subject, case_at};
 ghost use Rattle.mr_index.specs.Index.{triples_of};
 ghost use Rattle.mr_check.specs.Ahead.{IsMappedFor};
-ghost use Rattle.mr_check.specs.Fronts.{part_at, parts_at, first_some, ends_at};
+ghost use Rattle.mr_check.specs.Fronts.{ends_at};
 
 use crate::ahead::MappedInput;
-use crate::alone::fault_in;
 use crate::facts::Facts;
-use crate::front::{Front, Fronts};
+use crate::front::Fronts;
 use crate::front_bytes::{expect_count_of, expect_header_of, take_skips_of};
 use crate::fronts::fronts_of;
 use crate::mapping::{Crew, Mapped, Source, index_of};
+use crate::sections::least_of;
 use mr_answers::{No, Yes};
 use mr_bytes::{Gate, OpenGate, RecordName};
 use mr_certform::Walker;
@@ -28,90 +28,9 @@ use mr_input::Input;
 use mr_jobs::Request;
 use mr_judge::{plan_of, test_named, walk};
 use mr_splits::Plan;
-use mr_tickets::{Pieces, draw_all};
-use mr_watch::{Phase, Unwatched, Watch};
+use mr_watch::{Unwatched, Watch};
 use std::alloc::{AllocError, Global};
 use std::thread::Threads;
-
-/// Partitions, to be judged each by itself.
-#[derive(Drop)]
-struct Judging<'a, W: Watch> {
-    facts: &'a Facts<'a>,
-    fronts: &'a [Front<'a>],
-    watch: &'a W,
-}
-
-impl<'a, W: Watch> Pieces for Judging<'a, W> {
-    ghost use Rattle.std.specs.Prelude.{◌≡◌, ◌<◌, length};
-    ghost use Rattle.mr_answers.specs.VerdictLaws.{part_fault};
-    ghost use Rattle.mr_judge.specs.Steps.{subject};
-    ghost use Rattle.mr_check.specs.Fronts.{part_at};
-
-    type Out = Option<No>;
-
-    ghost has = { λ j p. p < length j.fronts.now };
-
-    ghost gives = { λ j p out. out ≡ part_fault (subject j.facts.now) p (part_at j.fronts.now p) };
-
-    fn piece(&self, alloc: Global, number: u32) -> Result<Option<No>, AllocError> {
-        self.watch.tell(Phase::Judging, u64::from(number), self.fronts.len() as u64);
-        fault_at(alloc, self.facts, self.fronts, number)
-    }
-}
-
-/// The fault of the partition of that number, if it has one.
-fn fault_at(
-    alloc: Global,
-    facts: &Facts<'_>,
-    fronts: &[Front<'_>],
-    number: u32,
-) -> Result<Option<No>, AllocError>
-    requires { number < length fronts.now }
-    ensures { IfOk result (λ o. o ≡ part_fault (subject facts.now) number (part_at fronts.now number)) }
-{
-    fault_in(alloc, facts, number, &fronts[number as usize])
-}
-
-/// The first fault that there is.
-fn first_of(faults: &[Option<No>]) -> Option<No>
-    ensures { result ≡ first_some faults.now }
-{
-    for one in faults {
-        if let Some(fault) = one {
-            return Some(*fault);
-        }
-    }
-    None
-}
-
-/// The fault of the least partition that has one, the partitions being judged by threads.
-fn least_of<R: Threads + Sync, G: Gate, W: Watch>(
-    rt: &R,
-    alloc: Global,
-    crew: &Crew<'_, G, W>,
-    facts: &Facts<'_>,
-    fronts: &[Front<'_>],
-    first_piece: u32,
-) -> Result<Option<No>, AllocError>
-    requires few { first_piece + length fronts.now < 2 ^ 32 }
-    ensures { IfOk result (λ o. o ≡ least_fault (subject facts.now) 0 (parts_at fronts.now)) }
-{
-    let judging = Judging {
-        facts,
-        fronts,
-        watch: crew.watch,
-    };
-    let faults = draw_all(
-        rt,
-        alloc,
-        fronts.len() as u32,
-        crew.threads,
-        &judging,
-        crew.gate,
-        first_piece,
-    )?;
-    Ok(first_of(faults.as_slice()))
-}
 
 /// What is told behind the partitions: that the items stop short of their end, or that pairs are unnamed; or else how
 /// many entries there are.
@@ -127,8 +46,8 @@ fn test_back(facts: &Facts<'_>, entries: u64, stop: Option<u64>) -> Result<u64, 
     Ok(entries)
 }
 
-/// Judges all partitions, each by a thread that draws it, and the certificate's end: how many entries there are, or the
-/// first fault. The items are walked once ahead of that, for where each partition begins.
+/// Judges all partitions, each section of one by a thread that draws it, and the certificate's end: how many entries there
+/// are, or the first fault. The items are walked once ahead of that, for where the partitions and their sections begin.
 fn check_parts<R: Threads + Sync, G: Gate, W: Watch>(
     rt: &R,
     alloc: Global,
@@ -139,23 +58,24 @@ fn check_parts<R: Threads + Sync, G: Gate, W: Watch>(
 ) -> Result<u64, No>
     requires few { length (items_left walker.now) < 2 ^ 63 }
     requires order { InOrder (partitions facts.now.request.parts) (items_left walker.now) }
-    requires room { first_piece + facts.now.request.parts < 2 ^ 32 }
+    requires room { first_piece + facts.now.request.parts + 2 ^ 20 < 2 ^ 32 }
     ensures { let fs = part_faults (subject facts.now) (halt walker.now) start (items_left walker.now) in
         MatchResult result (λ n. (first fs ≡ None) × (n ≡ entries_in (items_left walker.now))) (λ e. Answers fs e) }
 {
     let Fronts {
         list,
+        sections,
         entries,
         stop,
     } = fronts_of(alloc, walker)?;
-    if let Some(fault) = least_of(rt, alloc, crew, facts, list.as_slice(), first_piece)? {
+    if let Some(fault) = least_of(rt, alloc, crew, &*facts, &list, &sections, first_piece)? {
         return Err(fault);
     }
     test_back(facts, entries, stop)
 }
 
-/// Judges the partitions against what was mapped: how many pairs there are, or the first fault. The pieces of the
-/// partitions are numbered on from those of the mapping.
+/// Judges the partitions against what was mapped: how many pairs there are, or the first fault. The sections of the
+/// partitions are numbered on from the pieces of the mapping.
 fn check_mapped<R: Threads + Sync, G: Gate, W: Watch>(
     rt: &R,
     alloc: Global,
@@ -301,8 +221,9 @@ fn judge_all<R: Threads + Sync, G: Gate, W: Watch>(
 }
 
 /// The same as `check`, by so many threads, from 1 to 64: they draw the splits and map them, and then the partitions and
-/// judge each by itself. Where there are few splits for the threads, the last ones are drawn in pieces. What they answer
-/// is what one thread answers, memory aside. Where a thread can't be started, the calling thread does its share.
+/// judge each by itself. Where there are few splits for the threads, the last ones are drawn in pieces; a large partition
+/// is drawn in sections. What they answer is what one thread answers, memory aside. Where a thread can't be started, the
+/// calling thread does its share.
 pub fn check_threads<R: Threads + Sync>(
     rt: &R,
     alloc: Global,

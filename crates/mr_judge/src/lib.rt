@@ -3,6 +3,7 @@
 #![tactic(auto)]
 
 mod blocks;
+mod border;
 mod comparing;
 mod entry_tests;
 mod facts;
@@ -20,6 +21,7 @@ mod readers;
 mod skips;
 
 pub use blocks::{FoundItem, Sought, read_block};
+pub use border::Border;
 pub use entry_tests::test_named;
 pub use facts::Basis;
 pub use from::{check_from, check_from_watched};

@@ -86,10 +86,20 @@ impl<'a> AtHand<'a> {
         ensures later { result.later.now ≡ drop p outputs.entry.now }
         ensures passed { result.passed ≡ 0 }
     {
+        AtHand::at(outputs, p, 0)
+    }
+
+    /// The output before that of partition `next` is open, and so many of its bytes were passed; those from `next` on are
+    /// to come.
+    pub fn at(outputs: &'a [Vec<u8>], next: u64, from: u64) -> AtHand<'a>
+        ensures rest { result.rest.now ≡ drop from (nth_file (contents outputs.entry.now) (next - 1)) }
+        ensures later { result.later.now ≡ drop next outputs.entry.now }
+        ensures passed { result.passed ≡ from }
+    {
         AtHand {
-            rest: output_of(outputs, p.saturating_sub(1)),
-            later: outputs_from(outputs, p),
-            passed: 0,
+            rest: behind(output_of(outputs, next.saturating_sub(1)), from),
+            later: outputs_from(outputs, next),
+            passed: from,
         }
     }
 }

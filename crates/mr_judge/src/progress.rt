@@ -8,9 +8,11 @@ ghost use Rattle.mr_answers.specs.Verdict.{start, first_tests, later_tests, orde
 ghost use Rattle.mr_answers.specs.Verdict.{tests, after, end_tests};
 ghost use Rattle.mr_judge.specs.Steps.{subject_with, Answers, HasRoom, opens};
 ghost use Rattle.mr_judge.specs.Blocks.{IsFound};
+ghost use Rattle.mr_judge.specs.Borders.{at_border, between};
 ghost use Rattle.mr_judge.specs.Outputs.{CanCome, Tested, Halts};
 
 use crate::blocks::FoundItem;
+use crate::border::Border;
 use crate::entry_tests::{test_end, test_first, test_later, test_named};
 use crate::facts::Basis;
 use crate::items::Stop;
@@ -75,13 +77,20 @@ impl<'a> Progress<'a> {
     pub fn before(alloc: Global, next: u64) -> Progress<'a>
         ensures { result ≡ record start { next = next } }
     {
+        Progress::at(alloc, &Border::before(next))
+    }
+
+    /// At a border, with nothing told of what stands before it.
+    pub fn at(alloc: Global, border: &Border<'a>) -> Progress<'a>
+        ensures { result ≡ at_border border.now }
+    {
         Progress {
-            next,
-            groups: 0,
-            group: 0,
+            next: border.next,
+            groups: border.groups,
+            group: border.group,
             entries: 0,
             entry: 0,
-            key_before: None,
+            key_before: border.key_before,
             key: b"",
             before: Name {
                 split: 0,
@@ -89,9 +98,22 @@ impl<'a> Progress<'a> {
                 place: 0,
             },
             values: Values::new(alloc),
-            from: 0,
+            from: border.from,
             named: 0,
             text: Vec::new(alloc),
+        }
+    }
+
+    /// The border that was reached, behind a group.
+    pub fn border(&self) -> Border<'a>
+        ensures { at_border result ≡ between self.now }
+    {
+        Border {
+            next: self.next,
+            groups: self.groups,
+            group: self.group,
+            key_before: self.key_before,
+            from: self.from,
         }
     }
 

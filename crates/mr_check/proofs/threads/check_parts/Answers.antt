@@ -1,11 +1,14 @@
-use Rattle.std.proofs.Common.{◌≡◌, None, Some, List, length, ap, sym, ◌∙◌, inr, arith}
+use Rattle.std.proofs.Common.{◌≡◌, ◌+◌, None, Some, List, length, ap, sym, ◌∙◌, inr, arith, subst}
+use Rattle.std.specs.Prelude.{All}
 use Rattle.mr_certform.specs.declared.item.Item.{Item}
 use Rattle.mr_certform.specs.Spelling.{is_ended}
 use Rattle.mr_certform.specs.Walking.{items_left, halt}
 use Rattle.mr_answers.specs.Verdict.{start, part_faults, entries_in}
 use Rattle.mr_answers.specs.VerdictLaws.{least_fault, back_fault, or_else, parts_in}
 use Rattle.mr_judge.specs.Steps.{subject}
+use Rattle.mr_check.specs.declared.front.Front.{Front}
 use Rattle.mr_check.specs.Fronts.{parts_at}
+use Rattle.mr_check.specs.Sections.{IsSection}
 use Rattle.mr_check.proofs.FrontLemmas.{parts_few, parts_long, by_partitions}
 use Rattle.mr_judge.proofs.JudgeLemmas.{settled}
 use Rattle.mr_check.proofs.threads.check_parts.Goals as goal
@@ -16,17 +19,35 @@ least_of-requires-clause-few g c κs within =
     omega (
       arith,
       c.requires.room,
-      ap length c.as_slice.ensures.value,
+      ap length c.deref.ensures.value,
       parts_long c.in_ok-list.field-0.list.items,
       ap length c.in_ok-list.ensures.parts,
       parts_few c.args.facts.now.request.parts is c.requires.order,
     )
 
+pub least_of-requires-clause-room : goal.least_of-requires-clause-room
+least_of-requires-clause-room g c κs within =
+    let is : List Item = items_left c.args.walker.now in
+    omega (
+      arith,
+      c.requires.room,
+      ap length c.deref-2.ensures.value,
+      c.in_ok-list.ensures.count,
+      parts_long c.in_ok-list.field-0.list.items,
+      ap length c.in_ok-list.ensures.parts,
+      parts_few c.args.facts.now.request.parts is c.requires.order,
+    )
+
+pub least_of-requires-clause-sections : goal.least_of-requires-clause-sections
+least_of-requires-clause-sections g c κs within =
+    subst (λ (fs : List Front). All (IsSection fs) c.deref-2.result.now) (sym c.deref.ensures.value)
+    (subst (All (IsSection c.in_ok-list.field-0.list.items)) (sym c.deref-2.ensures.value) c.in_ok-list.ensures.sections)
+
 pub returns-in-Some : goal.returns-in-Some
 returns-in-Some g c =
     let s = subject c.args.facts.now in
     let is : List Item = items_left c.args.walker.now in
-    let least : least_fault s 0 (parts_in is) ≡ Some c.in-Some.fault = ap (least_fault s 0) (sym c.in_ok-list.ensures.parts ∙ ap parts_at (sym c.as_slice.ensures.value)) ∙ (sym c.in_ok-fault.ensures ∙ c.in-Some.is) in
+    let least : least_fault s 0 (parts_in is) ≡ Some c.in-Some.fault = ap (least_fault s 0) (sym c.in_ok-list.ensures.parts ∙ ap parts_at (sym c.deref.ensures.value)) ∙ (sym c.in_ok-fault.ensures ∙ c.in-Some.is) in
     inr (by_partitions s (halt c.args.walker.now) c.args.facts.now.request.parts is c.requires.order ∙ ap (λ o. or_else o (back_fault s (halt c.args.walker.now) (entries_in is) (is_ended is))) least)
 
 pub returns : goal.returns
@@ -36,7 +57,7 @@ returns g c =
     let is : List Item = items_left c.args.walker.now in
     let n = c.in_ok-list.field-0.entries in
     let count : n ≡ entries_in is = c.in_ok-list.ensures.entries in
-    let least : least_fault s 0 (parts_in is) ≡ None = ap (least_fault s 0) (sym c.in_ok-list.ensures.parts ∙ ap parts_at (sym c.as_slice.ensures.value)) ∙ (sym c.in_ok-fault.ensures ∙ c.in_default.is) in
+    let least : least_fault s 0 (parts_in is) ≡ None = ap (least_fault s 0) (sym c.in_ok-list.ensures.parts ∙ ap parts_at (sym c.deref.ensures.value)) ∙ (sym c.in_ok-fault.ensures ∙ c.in_default.is) in
     settled (part_faults s at start is) (back_fault s at n (is_ended is)) n (entries_in is) c.test_back.result
     (by_partitions s at c.args.facts.now.request.parts is c.requires.order
     ∙ (ap (λ o. or_else o (back_fault s at (entries_in is) (is_ended is))) least ∙ ap (λ k. back_fault s at k (is_ended is)) (sym count)))

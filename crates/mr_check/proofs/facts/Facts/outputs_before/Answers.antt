@@ -1,8 +1,0 @@
-use Rattle.std.proofs.Common.{drop, ap, ◌∙◌}
-use Rattle.mr_input.specs.Files.{contents}
-use Rattle.mr_judge.specs.Steps.{Known}
-use Rattle.mr_judge.proofs.OutputLemmas.{contents_drop}
-use Rattle.mr_check.proofs.facts.Facts.outputs_before.Goals as goal
-
-pub returns-clause-later : goal.returns-clause-later
-returns-clause-later c = ap contents c.before-2.ensures.later ∙ (contents_drop c.args.p c.self.inside.outputs.now ∙ ap (λ (k : Known). drop c.args.p k.outputs) c.self.view_is)

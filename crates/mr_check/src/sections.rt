@@ -1,0 +1,200 @@
+//! The sections of all partitions, judged each by itself, and put together.
+ghost use Rattle.std.specs.Prelude.{◌≡◌, ◌<◌, ◌≤◌, ◌+◌, ◌^◌, ℕ, List, All, IfOk, length, drop, slice_index_or};
+ghost use Rattle.mr_answers.specs.VerdictLaws.{part_fault, least_fault};
+ghost use Rattle.mr_judge.specs.Steps.{subject};
+ghost use Rattle.mr_check.specs.declared.front.Front.{Front as Begun};
+ghost use Rattle.mr_check.specs.declared.front.Section.{Section as Begins};
+ghost use Rattle.mr_check.specs.Fronts.{part_at, parts_at};
+ghost use Rattle.mr_check.specs.Sections.{rest_at, GroupBegins, IsSection, IsJudgedAt, AreJudged};
+
+use crate::alone::{fault_in, judged_from};
+use crate::facts::Facts;
+use crate::front::{Front, Section};
+use crate::guesses::{Guess, guesses_of};
+use crate::mapping::Crew;
+use crate::section::{Judged, Outcome};
+use mr_answers::No;
+use mr_bytes::Gate;
+use mr_judge::Border;
+use mr_tickets::{Pieces, draw_all};
+use mr_watch::{Phase, Watch};
+use std::alloc::{AllocError, Global};
+use std::thread::Threads;
+
+/// How many items of its partition a section has: those before the next one, or all that are left.
+fn count_at(sections: &[Section<'_>], number: usize) -> u64
+    requires { number < length sections.now }
+    ensures some { 1 ≤ result }
+    ensures begins { (fs : List Begun) (d : Begins) → All (IsSection fs) sections.now
+        → length (rest_at fs (slice_index_or sections.now number d)) ≤ 2 ^ 63
+        → GroupBegins (drop result (rest_at fs (slice_index_or sections.now number d))) }
+{
+    let section = &sections[number];
+    match sections.get(number + 1) {
+        Some(next) => {
+            if next.part == section.part && section.at < next.at {
+                return next.at - section.at;
+            }
+            u64::MAX
+        }
+        None => u64::MAX,
+    }
+}
+
+/// Judges one of the sections from the border that is guessed for it.
+fn judge_at<'a>(
+    alloc: Global,
+    facts: &Facts<'a>,
+    fronts: &[Front<'_>],
+    sections: &[Section<'_>],
+    number: usize,
+    guess: Guess<'a>,
+) -> Result<Judged<'a>, AllocError>
+    requires within { number < length sections.now }
+    requires sections { All (IsSection fronts.now) sections.now }
+    requires few { length fronts.now ≤ 2 ^ 32 }
+    ensures { IfOk result (IsJudgedAt (subject facts.now) fronts.now sections.now number) }
+{
+    let section = &sections[number];
+    let count = count_at(sections, number);
+    judged_from(alloc, facts, section, count, guess.border(section))
+}
+
+/// All sections, to be judged each by itself.
+#[derive(Drop)]
+struct Judging<'a, 'f, 'g, 'w, W: Watch> {
+    facts: &'a Facts<'a>,
+    fronts: &'f [Front<'f>],
+    sections: &'f [Section<'f>],
+    guesses: &'g [Guess<'a>],
+    watch: &'w W,
+}
+
+impl<'a, 'f, 'g, 'w, W: Watch> Pieces for Judging<'a, 'f, 'g, 'w, W> {
+    ghost use Rattle.std.specs.Prelude.{◌≡◌, ◌<◌, ◌≤◌, ◌^◌, All, length};
+    ghost use Rattle.mr_judge.specs.Steps.{subject};
+    ghost use Rattle.mr_check.specs.Sections.{IsSection, IsJudgedAt};
+
+    type Out = Judged<'a>;
+
+    ghost has = { λ j p. (p < length j.sections.now) × (All (IsSection j.fronts.now) j.sections.now) × (length j.fronts.now ≤ 2 ^ 32) };
+
+    ghost gives = { λ j p out. IsJudgedAt (subject j.facts.now) j.fronts.now j.sections.now p out };
+
+    fn piece(&self, alloc: Global, number: u32) -> Result<Judged<'a>, AllocError> {
+        let all = self.sections.len() as u64;
+        self.watch.tell(Phase::Judging, u64::from(number), all);
+        let guess = match self.guesses.get(number as usize) {
+            Some(guess) => *guess,
+            None => Guess::at_front(),
+        };
+        judge_at(
+            alloc,
+            self.facts,
+            self.fronts,
+            self.sections,
+            number as usize,
+            guess,
+        )
+    }
+}
+
+/// The fault of partition `p`, if it has one, by what its sections came to, one behind another, as long as each begins at
+/// the border that was reached before it. Where one doesn't, the partition is judged as a whole.
+fn fault_of(
+    alloc: Global,
+    facts: &Facts<'_>,
+    fronts: &[Front<'_>],
+    sections: &[Section<'_>],
+    judged: &[Judged<'_>],
+    p: usize,
+) -> Result<Option<No>, AllocError>
+    requires within { p < length fronts.now }
+    requires few { length fronts.now ≤ 2 ^ 32 }
+    requires judged { AreJudged (subject facts.now) fronts.now sections.now judged.now }
+    ensures { IfOk result (λ o. o ≡ part_fault (subject facts.now) p (part_at fronts.now p)) }
+{
+    let mut reached = Border::before(p as u64);
+    let mut at = 0u64;
+    let mut number = fronts[p].first;
+    while number < sections.len() {
+        let section = &sections[number];
+        let one = &judged[number];
+        if section.part != p as u64 || section.at != at || !one.began.is_same(&reached) {
+            break;
+        }
+        match one.outcome {
+            Outcome::Fault(fault) => return Ok(Some(fault)),
+            Outcome::Ended => return Ok(None),
+            Outcome::Reached(border) => {
+                let Some(next) = at.checked_add(one.count) else {
+                    break;
+                };
+                at = next;
+                reached = border;
+                number += 1;
+            }
+        }
+    }
+    fault_in(alloc, facts, p as u64, &fronts[p])
+}
+
+/// The fault of the least partition that has one, by what all sections came to.
+fn first_fault(
+    alloc: Global,
+    facts: &Facts<'_>,
+    fronts: &[Front<'_>],
+    sections: &[Section<'_>],
+    judged: &[Judged<'_>],
+) -> Result<Option<No>, AllocError>
+    requires few { length fronts.now ≤ 2 ^ 32 }
+    requires judged { AreJudged (subject facts.now) fronts.now sections.now judged.now }
+    ensures { IfOk result (λ o. o ≡ least_fault (subject facts.now) 0 (parts_at fronts.now)) }
+{
+    for p in 0..fronts.len() {
+        if let Some(fault) = fault_of(alloc, facts, fronts, sections, judged, p)? {
+            return Ok(Some(fault));
+        }
+    }
+    Ok(None)
+}
+
+/// The fault of the least partition that has one, the sections being judged by threads.
+pub(crate) fn least_of<'x, 'f, R: Threads + Sync, G: Gate, W: Watch>(
+    rt: &R,
+    alloc: Global,
+    crew: &Crew<'_, G, W>,
+    facts: &'x Facts<'x>,
+    fronts: &'f [Front<'f>],
+    sections: &'f [Section<'f>],
+    first_piece: u32,
+) -> Result<Option<No>, AllocError>
+    requires few { length fronts.now ≤ 2 ^ 32 }
+    requires room { first_piece + length sections.now < 2 ^ 32 }
+    requires sections { All (IsSection fronts.now) sections.now }
+    ensures { IfOk result (λ o. o ≡ least_fault (subject facts.now) 0 (parts_at fronts.now)) }
+{
+    let guesses = guesses_of(
+        alloc,
+        facts.outputs,
+        facts.request.job().counts(),
+        sections,
+    )?;
+    let judging = Judging {
+        facts,
+        fronts,
+        sections,
+        guesses: &guesses,
+        watch: crew.watch,
+    };
+    let judged = draw_all(
+        rt,
+        alloc,
+        sections.len() as u32,
+        crew.threads,
+        &judging,
+        crew.gate,
+        first_piece,
+    )?;
+    first_fault(alloc, facts, fronts, sections, &judged)
+}

@@ -1,0 +1,54 @@
+//! Borders between the groups of a partition, from which it may be judged on.
+ghost use Rattle.std.specs.Prelude.{◌≡◌, ◌↔◌, IsTrue};
+ghost use Rattle.std.specs.Option.{option_map};
+ghost use Rattle.mr_answers.specs.Verdict.{start};
+ghost use Rattle.mr_judge.specs.Borders.{at_border};
+
+/// A border between two groups of a partition: the number of the next partition; how many groups of this one are still
+/// to come, and how many stand before the border; the key of the last of these; and where in the output the next text is
+/// to stand.
+#[derive(Clone, Copy)]
+pub struct Border<'a> {
+    pub next: u64,
+    pub groups: u64,
+    pub group: u64,
+    pub key_before: Option<&'a [u8]>,
+    pub from: u64,
+}
+
+/// Whether the two keys are the same, or both missing.
+fn is_same_key(one: Option<&[u8]>, other: Option<&[u8]>) -> bool
+    ensures { IsTrue result ↔ (option_map (λ r. r.now) one.entry ≡ option_map (λ r. r.now) other.entry) }
+{
+    match (one, other) {
+        (None, None) => true,
+        (Some(a), Some(b)) => a == b,
+        _ => false,
+    }
+}
+
+impl<'a> Border<'a> {
+    /// Before that partition.
+    pub fn before(next: u64) -> Border<'a>
+        ensures { at_border result ≡ record start { next = next } }
+    {
+        Border {
+            next,
+            groups: 0,
+            group: 0,
+            key_before: None,
+            from: 0,
+        }
+    }
+
+    /// Whether both are the same border.
+    pub fn is_same(&self, other: &Border<'_>) -> bool
+        ensures { IsTrue result ↔ (at_border self.now ≡ at_border other.now) }
+    {
+        self.next == other.next
+            && self.groups == other.groups
+            && self.group == other.group
+            && self.from == other.from
+            && is_same_key(self.key_before, other.key_before)
+    }
+}
