@@ -224,6 +224,86 @@ def few_large_splits(harness):
             harness.check(f"large splits {turn} {asked}, by {threads} threads", answer == alone, f"got {answer!r} wanted {alone!r}")
 
 
+def section_borders(groups, entries=65536):
+    """Before which groups of a partition a section of it begins, besides the first: behind so many entries each."""
+    borders, since = [], 0
+    for g, names in enumerate(groups):
+        if since >= entries:
+            borders.append(g)
+            since = 0
+        since += len(names)
+    return borders
+
+
+def spoiled_at(kind, groups, output, g, text):
+    """A partition's groups and output with one thing done at the border before group g. `text` makes a group's text."""
+    groups = list(groups)
+    lines = [text(names) for names in groups]
+    place = sum(map(len, lines[:g]))
+    before, behind = groups[g - 1], groups[g]
+    if kind == "nothing":
+        return groups, output
+    if kind == "a byte behind it":
+        return groups, output[:place] + b"\x01" + output[place + 1 :]
+    if kind == "the byte before it":
+        return groups, output[: place - 1] + b" " + output[place:]
+    if kind == "a line more before it":
+        return groups, output[: len(lines[0])] + b"\n" + output[len(lines[0]) :]
+    if kind == "a line less before it":
+        return groups, output[len(lines[0]) :]
+    if kind == "groups that change places":
+        groups[g - 1 : g + 1] = [behind, before]
+    elif kind == "a key that comes twice":
+        groups[g - 1 : g + 1] = [before, behind, before]
+    elif kind == "a key in two groups":
+        groups[g : g + 1] = [behind[:1], behind[1:] or behind]
+    elif kind == "the group behind it left out":
+        del groups[g]
+    elif kind == "the group before it left out":
+        del groups[g - 1]
+    elif kind == "a name of the group before":
+        groups[g] = [*behind, before[-1]]
+    elif kind == "names that fall":
+        groups[g] = behind[::-1] if len(behind) > 1 else behind * 2
+    elif kind == "a name that is not there":
+        groups[g] = [*behind, (behind[-1][0], behind[-1][1], 2**31)]
+    elif kind == "all behind it left out":
+        groups = groups[:g]
+    return groups, b"".join(map(text, groups))
+
+
+AT_A_BORDER = ["nothing", "a byte behind it", "the byte before it", "a line more before it", "a line less before it", "groups that change places"]
+AT_A_BORDER += ["a key that comes twice", "a key in two groups", "the group behind it left out", "the group before it left out"]
+AT_A_BORDER += ["a name of the group before", "names that fall", "a name that is not there", "all behind it left out"]
+
+
+def large_partitions(harness):
+    """A large partition is judged in sections by several threads, which say what one thread says, also where the sections
+    don't fit together."""
+    rnd = seeded("sections")
+    for job, parts in (("words", 1), ("words", 2), ("grep", 1), ("url", 1)):
+        request = Request(job, parts, split=100_000, literal=b"a" if job == "grep" else b"")
+        words = [b"%s%d" % (rnd.choice([b"a", b"the", b"Zebra-"]), n) for n in range(1500)]
+        line = (lambda: b'1.2.3.4 "GET /%s HTTP/1.0" 200' % rnd.choice(words)) if job == "url" else lambda: b"a " + rnd.choice(words) if job == "grep" else b" ".join(rnd.choices(words, k=9))
+        data = b"".join(line() + b"\n" for _ in range(26_000 * parts if job == "words" else 180_000))
+        outputs, certificate, pairs = produced(request, [data])
+        known = pairs_of(request, [data])
+        text = lambda names: text_of(request, known[names[0]][0], [known[name][1] for name in names if name in known])
+        p = parts - 1
+        whole = certificate.partitions[p]
+        borders = section_borders(whole)
+        harness.check(f"sections of {request}: there are three or more", len(borders) >= 2, repr(borders))
+        for kind in AT_A_BORDER:
+            certificate.partitions[p], output = spoiled_at(kind, whole, outputs[p], borders[-1], text)
+            where = harness.directory({"f0": data})
+            write_result(where, [*outputs[:p], output], certificate.bytes())
+            asked = [*options_of(request, "check"), "--out", ".", "f0"]
+            alone = harness.run(asked, cwd=where)[:3]
+            harness.check(f"sections of {request}, {kind}, by one thread", (alone[1] == b"yes: %d pairs, 0 left out\n" % pairs) == (kind == "nothing"), repr(alone))
+            for threads, answer in by_threads(harness, asked, where):
+                harness.check(f"sections of {request}, {kind}, by {threads} threads", answer == alone, f"got {answer!r} wanted {alone!r}")
+
+
 def the_same_each_time(harness):
     """Faults in several partitions of a result of many splits: eight threads tell the same of them each time, and so that of
     one, while four runs at once keep the processors busy."""
@@ -275,4 +355,4 @@ def threads_refused(harness):
         harness.check(f"a run, from thread {number} on none is made", marked and got == run and got[0] == 0, repr(got))
 
 
-GROUPS = {"judging": against_a_plain_judge, "judging few large splits": few_large_splits, "judging by threads each time": the_same_each_time, "threads that can't be made": threads_refused}
+GROUPS = {"judging": against_a_plain_judge, "judging few large splits": few_large_splits, "judging large partitions": large_partitions, "judging by threads each time": the_same_each_time, "threads that can't be made": threads_refused}

@@ -9,6 +9,7 @@ import subprocess
 from concurrent.futures import ThreadPoolExecutor
 
 from failing import shim
+from judging import section_borders
 from libraries import built
 from plain import Request, produced
 from scripts import Allowed, drawn, misstep, written
@@ -197,6 +198,23 @@ def who_looks_on(harness):
     harness.check("what is mapped again is never told as more than all", int(times) >= 4 and most == "4 of 4", repr(answer))
 
 
+def sections_fit(harness):
+    """The judge is told each section of a partition once, and no partition anew: the borders that it guesses are right."""
+    rnd = random.Random("sections")
+    words = [b"%s%d" % (rnd.choice([b"a", b"the", b"zebra"]), n) for n in range(1500)]
+    lines = {"words": lambda: b" ".join(rnd.choices(words, k=9)), "grep": lambda: b"a\t" + rnd.choice(words), "url": lambda: b'1.2.3.4 "GET /%s HTTP/1.0" 200' % rnd.choice(words)}
+    for job, line in lines.items():
+        request = Request(job, split=100_000, literal=b"a" if job == "grep" else b"", fold=job == "grep")
+        data = b"".join(line() + b"\n" for _ in range(26_000 if job == "words" else 180_000))
+        _, certificate, _ = produced(request, [data])
+        sections = 1 + len(section_borders(certificate.partitions[0]))
+        splits = -(-len(data) // request.split)
+        want = f"Judging {1 + splits + sections} times, {max(splits, 2 * sections) - 1} of {2 * max(splits, sections)}"
+        for workers in (1, 3):
+            answer = ran(request, [data], workers=workers, mode="watch")
+            harness.check(f"{sections} sections under {job} fit together, by {workers} workers", sections > 2 and answer.told[2:3] == [want], f"{answer!r} wanted {want}")
+
+
 def many_tasks(harness):
     """5,000 map tasks over 64 workers."""
     lines = [b"w%d x\n" % (number % 97) for number in range(5000)]
@@ -300,6 +318,7 @@ ALL = {
     "threads that judge": threads_that_judge,
     "numbers that threads draw": tickets,
     "who looks on at a run": who_looks_on,
+    "sections that fit together": sections_fit,
     "many tasks": many_tasks,
     "random runs": random_runs,
     "each allocation of a run": each_allocation,

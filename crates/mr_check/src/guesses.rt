@@ -57,11 +57,11 @@ impl<'a> Lines<'a> {
         }
     }
 
-    /// Goes on behind so many lines from the front, or to the end.
+    /// Goes on behind so many lines from the front, or to the end: by 64 bytes while the last of these lines ends behind them.
     fn pass_to(&mut self, lines: u64) {
         while self.passed < lines {
             match self.feeds_ahead() {
-                Some(feeds) if feeds <= lines - self.passed => {
+                Some(feeds) if feeds < lines - self.passed => {
                     self.passed += feeds;
                     self.place += 64;
                 }

@@ -100,14 +100,15 @@ impl<'a, 'f, 'g, 'w, W: Watch> Pieces for Judging<'a, 'f, 'g, 'w, W> {
 }
 
 /// The fault of partition `p`, if it has one, by what its sections came to, one behind another, as long as each begins at
-/// the border that was reached before it. Where one doesn't, the partition is judged as a whole.
-fn fault_of(
+/// the border that was reached before it. Where one doesn't, the partition is judged as a whole, and the watch is told.
+fn fault_of<W: Watch>(
     alloc: Global,
     facts: &Facts<'_>,
     fronts: &[Front<'_>],
     sections: &[Section<'_>],
     judged: &[Judged<'_>],
     p: usize,
+    watch: &W,
 ) -> Result<Option<No>, AllocError>
     requires within { p < length fronts.now }
     requires few { length fronts.now ≤ 2 ^ 32 }
@@ -136,23 +137,26 @@ fn fault_of(
             }
         }
     }
+    let all = sections.len() as u64;
+    watch.tell(Phase::Judging, all, all);
     fault_in(alloc, facts, p as u64, &fronts[p])
 }
 
 /// The fault of the least partition that has one, by what all sections came to.
-fn first_fault(
+fn first_fault<W: Watch>(
     alloc: Global,
     facts: &Facts<'_>,
     fronts: &[Front<'_>],
     sections: &[Section<'_>],
     judged: &[Judged<'_>],
+    watch: &W,
 ) -> Result<Option<No>, AllocError>
     requires few { length fronts.now ≤ 2 ^ 32 }
     requires judged { AreJudged (subject facts.now) fronts.now sections.now judged.now }
     ensures { IfOk result (λ o. o ≡ least_fault (subject facts.now) 0 (parts_at fronts.now)) }
 {
     for p in 0..fronts.len() {
-        if let Some(fault) = fault_of(alloc, facts, fronts, sections, judged, p)? {
+        if let Some(fault) = fault_of(alloc, facts, fronts, sections, judged, p, watch)? {
             return Ok(Some(fault));
         }
     }
@@ -196,5 +200,5 @@ pub(crate) fn least_of<'x, 'f, R: Threads + Sync, G: Gate, W: Watch>(
         crew.gate,
         first_piece,
     )?;
-    first_fault(alloc, facts, fronts, sections, &judged)
+    first_fault(alloc, facts, fronts, sections, &judged, crew.watch)
 }

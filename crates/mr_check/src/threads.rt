@@ -287,7 +287,7 @@ pub fn check_gated<R: Threads + Sync, G: Gate>(
 }
 
 /// The same as `check_gated`, where somebody looks on: the watch is told of each piece that is drawn how many were drawn
-/// before it, of all of its phase.
+/// before it, of all of its phase; and of all, where a partition whose sections don't fit together is judged anew.
 pub fn check_gated_watched<R: Threads + Sync, G: Gate, W: Watch>(
     rt: &R,
     alloc: Global,

@@ -16,21 +16,21 @@ use Rattle.std.proofs.lemmas.List.{drop-drop}
 use Rattle.mr_check.proofs.sections.fault_of.Goals as goal
 
 pub returns-in-Fault : goal.returns-in-Fault
-returns-in-Fault c =
+returns-in-Fault g c =
     let s = subject c.args.facts.now in
     sym (c.loop-number.invariant.same
     ∙ told_at s c.args.fronts.now c.args.sections.now c.args.judged.now c.loop-number.number c.args.p c.loop-number.at c.index-sections-number.result c.loop-number.reached (Fault c.in-Fault.fault) _
     c.requires.judged c.loop-number-test.true c.index-sections-number.is c.if-section-p.false c.if-section-at.false (c.if-not-is_same.ensures.0 refl) c.in-Fault.is)
 
 pub returns-in-Ended : goal.returns-in-Ended
-returns-in-Ended c =
+returns-in-Ended g c =
     let s = subject c.args.facts.now in
     sym (c.loop-number.invariant.same
     ∙ told_at s c.args.fronts.now c.args.sections.now c.args.judged.now c.loop-number.number c.args.p c.loop-number.at c.index-sections-number.result c.loop-number.reached Ended _
     c.requires.judged c.loop-number-test.true c.index-sections-number.is c.if-section-p.false c.if-section-at.false (c.if-not-is_same.ensures.0 refl) c.in-Ended.is)
 
 pub loop-number-preserved : goal.loop-number-preserved
-loop-number-preserved c =
+loop-number-preserved g c =
     let s = subject c.args.facts.now in
     let whole : List Item = part_at c.args.fronts.now c.args.p in
     let b = c.in-Reached.border in
@@ -41,7 +41,7 @@ loop-number-preserved c =
     }
 
 pub returns : goal.returns
-returns c =
+returns g c =
     let s = subject c.args.facts.now in
     let p = c.args.p in
     let fs = c.args.fronts.now in

@@ -7,7 +7,7 @@ use Rattle.mr_check.specs.Fronts.{part_at}
 use Rattle.mr_check.proofs.sections.fault_of.Given as goal
 
 abbrev pub invariant-loop-number : goal.invariant-loop-number
-invariant-loop-number l =
+invariant-loop-number g l =
     let s = subject l.facts in
     let whole = part_at l.fronts l.p in
     record {
@@ -15,4 +15,4 @@ invariant-loop-number l =
     }
 
 abbrev pub decreases-loop-number : goal.decreases-loop-number
-decreases-loop-number l = length l.sections - l.number
+decreases-loop-number g l = length l.sections - l.number
