@@ -25,6 +25,6 @@ pub use classes::Planes;
 pub use difference::{difference_law, first_difference};
 pub use folding::fold_into;
 pub use hashes::{fnv, hash8};
-pub use lines::{line_end_law, line_ends};
+pub use lines::{line_end_law, line_ends, line_ends_between};
 pub use search::find_folded;
 pub use words::{next_word, word_spans};

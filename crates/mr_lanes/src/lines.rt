@@ -1,7 +1,7 @@
 //! Where lines end.
-ghost use Rattle.std.specs.Prelude.{◌≡◌, ℕ, ◌+◌, ◌^◌, ◌<◌, ◌≤◌, ◌++◌, length, OnOk, OnErr};
+ghost use Rattle.std.specs.Prelude.{◌≡◌, ℕ, ◌+◌, ◌^◌, ◌<◌, ◌≤◌, ◌++◌, length, drop, slice_range, OnOk, OnErr};
 ghost use Rattle.mr_lanes.specs.Bits.{Extends};
-ghost use Rattle.mr_lanes.specs.Lines.{line_ends};
+ghost use Rattle.mr_lanes.specs.Lines.{line_ends, line_ends_from};
 ghost use Rattle.mr_lanes.specs.Laws.{LineEndsAreLineFeeds, LineEndsRise};
 
 use crate::bits::push_places;
@@ -16,21 +16,39 @@ pub fn line_ends(bytes: &[u8], ends: &mut Vec<u32>) -> Result<(), AllocError>
     ensures all { OnOk result (ends.new.items ≡ ends.old.items ++ line_ends bytes.now) }
     ensures kept { OnErr result (ends.new.items ≡ ends.old.items) }
 {
+    line_ends_between(bytes, 0, bytes.len(), ends)
+}
+
+/// Appends the places of the line feeds, rising, that stand from `from` on and before `to`, in bytes from the text's
+/// front. A text that is cut into parts is so gone over once, a block at a time, and its places need no shift. It fails
+/// only for want of memory, and then the list is as it was.
+pub fn line_ends_between(
+    bytes: &[u8],
+    from: usize,
+    to: usize,
+    ends: &mut Vec<u32>,
+) -> Result<(), AllocError>
+    requires range { (from ≤ to) × (to ≤ length bytes.now) }
+    requires small { length bytes.now ≤ 2 ^ 30 }
+    ensures all { OnOk result (ends.new.items ≡ ends.old.items ++ line_ends_from from (slice_range bytes.now from to)) }
+    ensures kept { OnErr result (ends.new.items ≡ ends.old.items) }
+{
     let before = ends.len();
-    let done = push_line_ends(bytes, ends);
+    let done = push_line_ends(&bytes[..to], from, ends);
     if done.is_err() {
         ends.truncate(before);
     }
     done
 }
 
-/// Appends them too, and may leave some of them behind where it fails.
-fn push_line_ends(bytes: &[u8], ends: &mut Vec<u32>) -> Result<(), AllocError>
-    requires { length bytes.now ≤ 2 ^ 30 }
-    ensures all { OnOk result (ends.new.items ≡ ends.old.items ++ line_ends bytes.now) }
+/// Appends those from `from` to the text's end, and may leave some of them behind where it fails.
+fn push_line_ends(bytes: &[u8], from: usize, ends: &mut Vec<u32>) -> Result<(), AllocError>
+    requires from { from ≤ length bytes.now }
+    requires small { length bytes.now ≤ 2 ^ 30 }
+    ensures all { OnOk result (ends.new.items ≡ ends.old.items ++ line_ends_from from (drop from bytes.now)) }
     ensures kept { Extends ends.old.items ends.new.items }
 {
-    let mut at = 0;
+    let mut at = from;
     while bytes.len() - at >= 64 {
         let block = u8x64::from_slice(&bytes[at..]);
         push_places(ends, at as u32, line_feeds(block))?;

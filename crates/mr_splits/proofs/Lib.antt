@@ -4,6 +4,7 @@ pub mod NumberLemmas
 pub mod RisingLemmas
 pub mod SpanLemmas
 pub mod ScanLemmas
+pub mod LineLemmas
 pub mod TableLemmas
 pub mod ReadLemmas
 pub mod NameLemmas
