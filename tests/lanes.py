@@ -50,8 +50,10 @@ def planes(block, _):
     return f"Planes {{ lf: {mask(lambda byte: byte == 10)}, word: {mask(is_word_byte)}, upper: {mask(is_upper)} }}"
 
 
-def line_ends(a, _):
-    return str([7] + [place for place, byte in enumerate(a) if byte == 10])
+def line_ends(a, b):
+    """The ends of all lines, and those again that lie as far from both ends of the text as the second text is long."""
+    places, apart = [place for place, byte in enumerate(a) if byte == 10], min(len(b), len(a) // 2)
+    return str([7] + places + [place for place in places if apart <= place < len(a) - apart])
 
 
 def words(a):
@@ -131,7 +133,9 @@ ROWS = [
     ((PLANES, b"\n" * BLOCK, b""), f"Planes {{ lf: {2**64 - 1}, word: 0, upper: 0 }}"),
     ((PLANES, b" " * 63 + b"Z", b""), f"Planes {{ lf: 0, word: {2**63}, upper: {2**63} }}"),
     ((LINES, b"", b""), "[7]"),
-    ((LINES, b"a\n\nb\r\n", b""), "[7, 1, 2, 5]"),
+    ((LINES, b"a\n\nb\r\n", b""), "[7, 1, 2, 5, 1, 2, 5]"),
+    ((LINES, b"a\n\nb\r\n", b"xx"), "[7, 1, 2, 5, 2]"),
+    ((LINES, b"\n\n\n", b"xx"), "[7, 0, 1, 2, 1]"),
     ((WORDS, b"a" * 64 + b"-a", b""), "[Span { start: 7, end: 8 }, Span { start: 0, end: 64 }, Span { start: 65, end: 66 }]"),
     ((WORDS, b"a" * 65, b""), "[Span { start: 7, end: 8 }, Span { start: 0, end: 65 }]"),
     ((EACH_WORD, b"a" * 15 + b"-" + b"b" * 16 + b" c", b""), "[Span { start: 0, end: 15 }, Span { start: 16, end: 32 }, Span { start: 33, end: 34 }]"),
@@ -185,6 +189,7 @@ def at_each_length(harness):
             text = drawn(rnd, size, words)
             cases.append((PLANES, text[:BLOCK].ljust(BLOCK), b""))
             cases += [(kernel, text, b"") for kernel in (LINES, WORDS, EACH_WORD, FOLDED)]
+            cases.append((LINES, text, b"x" * rnd.randrange(101)))
             start = rnd.randrange(size + 1)
             cases.append((FIND, text, swapped(text[start : start + rnd.randrange(12)])))
             cases.append((FIND, text, swapped(text[start:])))
@@ -206,7 +211,7 @@ def at_each_place(harness):
     cases = []
     for place in range(2 * BLOCK + 3):
         before = b"-" * place
-        cases += [(LINES, before + b"\n" * count + b"x" * 70, b"") for count in (1, 2, 65)]
+        cases += [(LINES, before + b"\n" * count + b"x" * 70, b"x" * apart) for count in (1, 2, 65) for apart in (0, 1, 64)]
         for size in (1, 2, 14, 15, 16, 17, 18, 63, 64, 65, 127, 128, 129, 300):
             word = b"w" * size
             for text in (before + word, before + word + b"-w", b"w" + before + word + b" " * 70):

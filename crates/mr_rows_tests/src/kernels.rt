@@ -4,7 +4,8 @@ use crate::telling::Teller;
 use crate::{jobs, plain};
 use mr_bytes::{Span, cut};
 use mr_lanes::{
-    find_folded, first_difference, fold_into, hash8, line_ends, next_word, planes, word_spans,
+    find_folded, first_difference, fold_into, hash8, line_ends, line_ends_between, next_word,
+    planes, word_spans,
 };
 use mr_partition::{partition, partition8};
 use std::alloc::AllocError;
@@ -55,14 +56,17 @@ fn show_planes(teller: &Teller, bytes: &[u8]) {
     teller.one(&planes(&block));
 }
 
-/// The lists aren't empty before, since the kernels append.
-fn show_lines(teller: &Teller, bytes: &[u8]) -> Result<(), AllocError> {
+/// The lists aren't empty before, since the kernels append. Behind the ends of all lines stand those again that lie as far
+/// from both ends of the text as the second text is long, or as far as there are bytes.
+fn show_lines(teller: &Teller, bytes: &[u8], apart: usize) -> Result<(), AllocError> {
     if LONGEST < bytes.len() {
         return Ok(());
     }
     let mut ends = Vec::new(teller.alloc());
     ends.push(7)?;
     line_ends(bytes, &mut ends)?;
+    let from = apart.min(bytes.len() / 2);
+    line_ends_between(bytes, from, bytes.len() - from, &mut ends)?;
     teller.one(&ends);
     Ok(())
 }
@@ -132,7 +136,7 @@ fn answer_case(teller: &Teller, case: Case<'_>) -> Result<(), AllocError> {
             answer_plain(teller, kernel, a, b);
             Ok(())
         }
-        1 => show_lines(teller, a),
+        1 => show_lines(teller, a, b.len()),
         2 => show_words(teller, a),
         3 => show_folded(teller, a),
         7 => show_each_word(teller, a),
