@@ -3,10 +3,11 @@
 import os
 from concurrent.futures import ThreadPoolExecutor
 from dataclasses import replace
+from functools import cache
 
 from failing import shim, with_failing
 from harness import random_log, random_text, seeded, write_result
-from plain import Request, judged, named_records, pairs_of, produced, text_of
+from plain import Request, judged, named_records, pairs_of, produced, text_of, u32s
 from producer import options_of, random_job
 
 
@@ -238,9 +239,9 @@ def section_borders(groups, entries=65536):
 def spoiled_at(kind, groups, output, g, text):
     """A partition's groups and output with one thing done at the border before group g. `text` makes a group's text."""
     groups = list(groups)
-    lines = [text(names) for names in groups]
-    place = sum(map(len, lines[:g]))
+    place = sum(len(text(names)) for names in groups[:g])
     before, behind = groups[g - 1], groups[g]
+    first = len(text(groups[0]))
     if kind == "nothing":
         return groups, output
     if kind == "a byte behind it":
@@ -248,9 +249,9 @@ def spoiled_at(kind, groups, output, g, text):
     if kind == "the byte before it":
         return groups, output[: place - 1] + b" " + output[place:]
     if kind == "a line more before it":
-        return groups, output[: len(lines[0])] + b"\n" + output[len(lines[0]) :]
+        return groups, output[:first] + b"\n" + output[first:]
     if kind == "a line less before it":
-        return groups, output[len(lines[0]) :]
+        return groups, output[first:]
     if kind == "groups that change places":
         groups[g - 1 : g + 1] = [behind, before]
     elif kind == "a key that comes twice":
@@ -262,11 +263,11 @@ def spoiled_at(kind, groups, output, g, text):
     elif kind == "the group before it left out":
         del groups[g - 1]
     elif kind == "a name of the group before":
-        groups[g] = [*behind, before[-1]]
+        groups[g] = (*behind, before[-1])
     elif kind == "names that fall":
         groups[g] = behind[::-1] if len(behind) > 1 else behind * 2
     elif kind == "a name that is not there":
-        groups[g] = [*behind, (behind[-1][0], behind[-1][1], 2**31)]
+        groups[g] = (*behind, (behind[-1][0], behind[-1][1], 2**31))
     elif kind == "all behind it left out":
         groups = groups[:g]
     return groups, b"".join(map(text, groups))
@@ -284,20 +285,22 @@ def large_partitions(harness):
     for job, parts in (("words", 1), ("words", 2), ("grep", 1), ("url", 1)):
         request = Request(job, parts, split=100_000, literal=b"a" if job == "grep" else b"")
         words = [b"%s%d" % (rnd.choice([b"a", b"the", b"Zebra-"]), n) for n in range(1500)]
-        line = (lambda: b'1.2.3.4 "GET /%s HTTP/1.0" 200' % rnd.choice(words)) if job == "url" else lambda: b"a " + rnd.choice(words) if job == "grep" else b" ".join(rnd.choices(words, k=9))
+        line = {"words": lambda: b" ".join(rnd.choices(words, k=9)), "grep": lambda: b"a " + rnd.choice(words), "url": lambda: b'1.2.3.4 "GET /%s HTTP/1.0" 200' % rnd.choice(words)}[job]
         data = b"".join(line() + b"\n" for _ in range(26_000 * parts if job == "words" else 180_000))
         outputs, certificate, pairs = produced(request, [data])
         known = pairs_of(request, [data])
-        text = lambda names: text_of(request, known[names[0]][0], [known[name][1] for name in names if name in known])
-        p = parts - 1
-        whole = certificate.partitions[p]
-        borders = section_borders(whole)
+        text = cache(lambda names: text_of(request, known[names[0]][0], [known[name][1] for name in names if name in known]))
+        spelled = cache(lambda names: u32s(len(names)) + b"".join(u32s(*name) for name in names))
+        partitions, certificate.partitions = [[tuple(names) for names in groups] for groups in certificate.partitions], []
+        front, p = certificate.bytes(), parts - 1
+        borders = section_borders(partitions[p])
         harness.check(f"sections of {request}: there are three or more", len(borders) >= 2, repr(borders))
+        where = harness.directory({"f0": data})
+        asked = [*options_of(request, "check"), "--out", ".", "f0"]
         for kind in AT_A_BORDER:
-            certificate.partitions[p], output = spoiled_at(kind, whole, outputs[p], borders[-1], text)
-            where = harness.directory({"f0": data})
-            write_result(where, [*outputs[:p], output], certificate.bytes())
-            asked = [*options_of(request, "check"), "--out", ".", "f0"]
+            groups, output = spoiled_at(kind, partitions[p], outputs[p], borders[-1], text)
+            behind = b"".join(u32s(len(one)) + b"".join(map(spelled, one)) for one in [*partitions[:p], groups])
+            write_result(where, [*outputs[:p], output], front + behind)
             alone = harness.run(asked, cwd=where)[:3]
             harness.check(f"sections of {request}, {kind}, by one thread", (alone[1] == b"yes: %d pairs, 0 left out\n" % pairs) == (kind == "nothing"), repr(alone))
             for threads, answer in by_threads(harness, asked, where):

@@ -1,5 +1,5 @@
 -- What bears on the tests behind a border between two groups.
-use Rattle.std.proofs.Common.{◌≡◌, ℕ, zero, suc, ◌+◌, ◌-◌, ◌<◌, ◌≤◌, true, false, Option, Some, None, List, [], ◌∷◌, ◌++◌, length, drop, refl, ap, sym, ◌∙◌, arith}
+use Rattle.std.proofs.Common.{◌≡◌, ℕ, zero, suc, ◌+◌, ◌-◌, true, Option, Some, None, List, [], ◌∷◌, ◌++◌, drop, refl, ap, sym, ◌∙◌}
 use Rattle.std.proofs.lemmas.Bool.{false≢true}
 use Rattle.mr_bytes.specs.declared.Name.{Name}
 use Rattle.mr_bytes.specs.declared.Value.{Value}
@@ -8,10 +8,10 @@ use Rattle.mr_certform.specs.declared.item.Item.{Item}
 use Rattle.mr_certform.specs.declared.item.Item.TheVariants.{Groups, Entries, Entry, End}
 use Rattle.mr_certform.specs.Places.{first_name}
 use Rattle.mr_sequential.specs.Good.{named}
-use Rattle.mr_answers.specs.Verdict.{Reached, Subject, start, order_tests, with_entry, group_tests, behind_group, entry_tests, after_entry, tests, after, first}
+use Rattle.mr_answers.specs.Verdict.{Reached, Subject, order_tests, with_entry, group_tests, behind_group, entry_tests, after_entry, tests}
 use Rattle.mr_answers.specs.VerdictLaws.{told, piece}
 use Rattle.mr_judge.specs.Borders.{between}
-use Rattle.mr_check.specs.Fronts.{is_own, part_here}
+use Rattle.mr_check.specs.Fronts.{is_own}
 use Rattle.mr_check.specs.Sections.{GroupBegins}
 
 -- all belong to the partition that is open

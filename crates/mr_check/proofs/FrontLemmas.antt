@@ -1,7 +1,6 @@
 -- Partitions that are found one by one.
 use Rattle.std.proofs.Common.{◌≡◌, ℕ, zero, suc, ◌+◌, ◌<◌, ◌≤◌, true, false, Option, List, [], ◌∷◌, ◌++◌, length, refl, ap, sym, ◌∙◌, arith, append_assoc, append-nil, get_or, drop, Some, None, Bool}
 use Rattle.std.proofs.lemmas.Bool.{false≢true}
-use Rattle.std.proofs.lemmas.List.{drop_more}
 use Rattle.mr_certform.specs.declared.item.Item.{Item}
 use Rattle.mr_certform.specs.declared.item.Item.TheVariants.{Groups, Entries, Entry, End}
 use Rattle.mr_certform.specs.declared.place.Place.{Place}
@@ -12,7 +11,6 @@ use Rattle.mr_certform.specs.Grammar.{InOrder}
 use Rattle.mr_certform.specs.Spelling.{is_ended, left_behind}
 use Rattle.mr_certform.specs.Walking.{items_left}
 use Rattle.mr_certform.specs.Rows.{entries_ahead, behind_entries}
-use Rattle.mr_answers.specs.declared.fault.No.{No}
 use Rattle.mr_check.specs.declared.front.Front.{Front}
 use Rattle.mr_answers.specs.declared.fault.No.TheVariants.{Malformed, Unnamed}
 use Rattle.std.specs.Prelude.{nat_le}

@@ -1,8 +1,8 @@
 -- Sections of a partition, one behind another.
-use Rattle.std.proofs.Common.{◌≡◌, ℕ, zero, suc, ◌+◌, ◌-◌, ◌<◌, ◌≤◌, ◌^◌, Bool, true, false, Option, Some, None, Result, Ok, Err, List, [], ◌∷◌, ◌++◌, length, take, drop, get_or, refl, ap, sym, subst, ◌∙◌, arith}
+use Rattle.std.proofs.Common.{◌≡◌, ℕ, zero, suc, ◌+◌, ◌-◌, ◌<◌, ◌≤◌, Bool, true, false, Option, Some, None, Result, Ok, Err, List, [], ◌∷◌, ◌++◌, length, take, drop, get_or, refl, ap, sym, subst, ◌∙◌, arith}
 use Rattle.std.proofs.lemmas.Bool.{false≢true}
 use Rattle.std.proofs.lemmas.List.{drop_all, drop-drop, length-take-le}
-use Rattle.std.proofs.lemmas.List.Elements.{All-push, All-weaker}
+use Rattle.std.proofs.lemmas.List.Elements.{All-weaker}
 use Rattle.std.specs.Prelude.{All}
 use Rattle.mr_certform.specs.declared.item.Item.{Item}
 use Rattle.mr_certform.specs.declared.item.Item.TheVariants.{Groups, Entries, Entry, End}
@@ -57,6 +57,7 @@ section_stays fs f s h = record {
   here = h.here ∙ ap (drop s.at) (sym (part_stays fs f s.part h.part));
   begins = λ m. subst GroupBegins (ap (drop s.at) (sym (part_stays fs f s.part h.part))) (h.begins m);
 }
+
 pub sections_stay : (fs new : List Front) (w : Walker) (ss : List Section) → IsOpened fs new w → All (IsSection fs) ss → All (IsSection new) ss
 sections_stay fs new w ss o h = All-weaker (IsSection fs) (IsSection new) (λ s i. subst (λ gs. IsSection gs s) (sym o.1.0) (section_stays fs o.0 s i)) ss h
 
@@ -97,10 +98,11 @@ walk_entries fs r new is js n h e count same = record {
   fresh = omega (arith, h.fresh, ap (λ (w : Reach). w.items) same, ap (λ (w : Reach). w.fresh) same);
   opened = λ some.
       (let o = h.opened some in
-      let items : new.items ≡ r.items + n = ap (λ (w : Reach). w.items) same in
-      (omega (arith, o.0, items),
-      ap piece e ∙ (piece_behind is ∙ (ap (drop (entries_ahead is)) o.1 ∙ (drop-drop (entries_ahead is) r.items (part_at fs (length fs - 1))
-      ∙ ap (λ k. drop k (part_at fs (length fs - 1))) (ap (λ k. r.items + k) (sym count) ∙ sym items))))));
+      let items : new.items ≡ r.items + n = ap (λ (w : Reach). w.items) same in (
+        omega (arith, o.0, items),
+        ap piece e ∙ (piece_behind is ∙ (ap (drop (entries_ahead is)) o.1 ∙ (drop-drop (entries_ahead is) r.items (part_at fs (length fs - 1))
+            ∙ ap (λ k. drop k (part_at fs (length fs - 1))) (ap (λ k. r.items + k) (sym count) ∙ sym items)))),
+      ));
 }
 
 -- another item is passed, that opens nothing and isn't the end
@@ -112,10 +114,11 @@ walk_item fs r new i is js h e opening ending items group entries fresh = record
   entries = omega (arith, h.entries, items, entries);
   fresh = omega (arith, h.fresh, items, fresh);
   opened = λ some.
-      (let o = h.opened some in
-      (omega (arith, o.0, items),
-      sym (own_first i js opening ending) ∙ (ap (drop 1) (sym (ap piece e) ∙ o.1) ∙ (drop-drop 1 r.items (part_at fs (length fs - 1))
-      ∙ ap (λ k. drop k (part_at fs (length fs - 1))) (sym items)))));
+      (let o = h.opened some in (
+        omega (arith, o.0, items),
+        sym (own_first i js opening ending) ∙ (ap (drop 1) (sym (ap piece e) ∙ o.1) ∙ (drop-drop 1 r.items (part_at fs (length fs - 1))
+            ∙ ap (λ k. drop k (part_at fs (length fs - 1))) (sym items))),
+      ));
 }
 
 -- the item that opens the last partition is passed

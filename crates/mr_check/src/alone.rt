@@ -227,7 +227,14 @@ fn judge_section<'a>(
     if !open_part(&mut judging, facts, &mut outputs, &mut walker)? {
         return Ok(None);
     }
-    judge_on(alloc, facts, &mut judging, &mut outputs, &mut walker, count - 1)
+    judge_on(
+        alloc,
+        facts,
+        &mut judging,
+        &mut outputs,
+        &mut walker,
+        count - 1,
+    )
 }
 
 /// What judging a section from that border comes to.

@@ -1,13 +1,13 @@
-use Rattle.std.proofs.Common.{◌≡◌, ◌+◌, ◌∙◌, ◌≤◌, Some, None, List, [], drop, length, refl, ap, sym, subst, arith}
+use Rattle.std.proofs.Common.{◌≡◌, ◌∙◌, List, [], drop, refl, ap, sym, arith}
 use Rattle.mr_certform.specs.declared.item.Item.{Item}
 use Rattle.mr_certform.specs.Walking.{items_left}
-use Rattle.mr_answers.specs.Verdict.{Reached, start, first}
+use Rattle.mr_answers.specs.Verdict.{start, first}
 use Rattle.mr_answers.specs.VerdictLaws.{told as faults_told}
 use Rattle.mr_judge.specs.Steps.{subject}
 use Rattle.mr_judge.specs.Borders.{at_border}
 use Rattle.mr_check.specs.declared.section.Outcome.TheVariants.{Fault, Ended, Reached as Behind}
 use Rattle.mr_check.specs.Fronts.{part_here}
-use Rattle.mr_check.specs.Sections.{GroupBegins, OutcomeTold}
+use Rattle.mr_check.specs.Sections.{OutcomeTold}
 use Rattle.mr_check.proofs.SectionLemmas.{cut_behind, here_few, outcome_as}
 use Rattle.std.proofs.lemmas.List.{drop_all}
 use Rattle.mr_check.proofs.alone.fault_in.Goals as goal

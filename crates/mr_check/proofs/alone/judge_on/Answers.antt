@@ -1,4 +1,4 @@
-use Rattle.std.proofs.Common.{◌≡◌, ◌+◌, ◌∙◌, false, Ok, Bool, List, drop, ap, sym, subst}
+use Rattle.std.proofs.Common.{◌∙◌, false, Ok, Bool, List, drop, ap, sym, subst}
 use Rattle.mr_certform.specs.declared.item.Item.{Item}
 use Rattle.mr_certform.specs.Walking.{items_left}
 use Rattle.mr_answers.specs.Verdict.{first}

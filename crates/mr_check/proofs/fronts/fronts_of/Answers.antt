@@ -1,4 +1,4 @@
-use Rattle.std.proofs.Common.{◌≡◌, ◌+◌, ◌-◌, ◌<◌, ◌≤◌, ◌++◌, ◌∷◌, List, true, false, ap, sym, ◌∙◌, arith, length, subst}
+use Rattle.std.proofs.Common.{◌≡◌, ◌+◌, ◌-◌, ◌<◌, ◌≤◌, ◌++◌, ◌∷◌, List, false, ap, sym, ◌∙◌, arith, length, subst}
 use Rattle.std.specs.Prelude.{All}
 use Rattle.mr_certform.specs.declared.item.Item.{Item}
 use Rattle.mr_certform.specs.Spelling.{is_ended}
@@ -6,10 +6,7 @@ use Rattle.mr_certform.specs.Walking.{items_left}
 use Rattle.mr_certform.specs.Rows.{behind_entries}
 use Rattle.mr_answers.specs.Verdict.{entries_in}
 use Rattle.mr_answers.specs.VerdictLaws.{parts_in}
-use Rattle.mr_judge.specs.Steps.{opens}
 use Rattle.mr_check.specs.declared.front.Front.{Front}
-use Rattle.mr_check.specs.declared.front.Section.{Section}
-use Rattle.mr_check.specs.declared.fronts.Reach.{Reach}
 use Rattle.mr_check.specs.Fronts.{closes, part_here, part_at, parts_at}
 use Rattle.mr_check.specs.Sections.{IsSection, HasWalked}
 use Rattle.mr_judge.proofs.BlockLemmas.{entries_few}

@@ -10,4 +10,4 @@ pub returns-then-is_opening-clause-opened : goal.returns-then-is_opening-clause-
 returns-then-is_opening-clause-opened c opens = (_, (c.in_ok-push.ensures.items, refl))
 
 pub returns-clause-parts : goal.returns-clause-parts
-returns-clause-parts c js is = no_front c.args.list.now.items c.args.item js (sym c.is_opening.ensures ∙ c.if-is_opening.false) 
+returns-clause-parts c js is = no_front c.args.list.now.items c.args.item js (sym c.is_opening.ensures ∙ c.if-is_opening.false)

@@ -1,6 +1,4 @@
-use Rattle.std.proofs.Common.{◌≡◌, ◌+◌, ◌∙◌, false, ap, sym, refl, arith}
-use Rattle.mr_certform.specs.declared.item.Item.{Item}
-use Rattle.mr_certform.specs.declared.item.Item.TheVariants.{Groups, Entries}
+use Rattle.std.proofs.Common.{◌≡◌, false, ap, arith}
 use Rattle.mr_certform.specs.Walking.{items_left}
 use Rattle.mr_judge.specs.Steps.{opens}
 use Rattle.mr_check.proofs.SectionLemmas.{walk_item, opens_not}

@@ -1,4 +1,4 @@
-use Rattle.std.proofs.Common.{◌≡◌, ◌+◌, ◌∷◌, ◌++◌, ◌∙◌, [], List, ap, sym, refl, arith}
+use Rattle.std.proofs.Common.{◌∷◌, ◌++◌, [], refl, arith}
 use Rattle.std.proofs.lemmas.List.Elements.{All-push, All-same}
 use Rattle.mr_certform.specs.declared.item.Item.TheVariants.{Entries}
 use Rattle.mr_certform.specs.Walking.{items_left}

@@ -1,4 +1,4 @@
-use Rattle.std.proofs.Common.{◌≡◌, ◌+◌, None, Some, List, length, ap, sym, ◌∙◌, inr, arith, subst}
+use Rattle.std.proofs.Common.{◌≡◌, None, Some, List, length, ap, sym, ◌∙◌, inr, arith, subst}
 use Rattle.std.specs.Prelude.{All}
 use Rattle.mr_certform.specs.declared.item.Item.{Item}
 use Rattle.mr_certform.specs.Spelling.{is_ended}
