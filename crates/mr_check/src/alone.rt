@@ -1,4 +1,4 @@
-//! A partition that is judged by itself.
+//! A partition, or a section of one, that is judged by itself.
 ghost use Rattle.std.specs.Prelude.{◌≡◌, ◌⊎◌, ◌<◌, ◌≤◌, ◌+◌, ◌-◌, ◌^◌, [], List, MatchResult, IfOk, OnOk, None, Some, true, false, length, drop};
 ghost use Rattle.std.specs.List.{AllByRecursion};
 ghost use Rattle.mr_certform.specs.declared.item.Item.{Item as Read};
