@@ -123,16 +123,22 @@ impl<'a> Guess<'a> {
     }
 }
 
-/// What is guessed of a section, by the lines before it of its partition's output.
+/// What is guessed of a section, by the lines before it of its partition's output, where there are as many.
 fn guess_at<'a>(lines: &mut Lines<'a>, section: &Section<'_>, counts: bool) -> Guess<'a> {
     if section.at == 0 {
         return Guess::at_front();
     }
-    lines.pass_to(if counts {
+    let wanted = if counts {
         section.group
     } else {
         section.entries
-    });
+    };
+    lines.pass_to(wanted);
+    // In an output that has fewer lines a look back for the key would take all of its last line, for each section anew,
+    // and a stranger may have made it long. Sections behind lines that are there have each a line of its own.
+    if lines.passed < wanted {
+        return Guess::at_front();
+    }
     Guess {
         from: lines.place as u64,
         key_before: lines.key_before(),
