@@ -38,7 +38,7 @@ joined-next rs i r h is =
     ∙ ap (λ l. joined (values_of l)) (sym (take_more rs i r h ∙ ap (λ (y : Bor (List Triple)). take i rs ++ y ∷ []) (sym is)))
 
 -- pairs that rise, rise under their keys
-rising-under : (ts : List Triple) → Rises pair_order ts → RisesUnderKeys ts
+pub rising-under : (ts : List Triple) → Rises pair_order ts → RisesUnderKeys ts
 rising-under [] r = tt
 rising-under (t ∷ ts) r = (
   all_from_Has (λ (u : Triple). u.key ≡ t.key → name_order t.name u.name ≡ Less) ts (λ u h e.

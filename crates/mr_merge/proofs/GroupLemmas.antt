@@ -1,26 +1,24 @@
--- Pairs that rise, cut into groups; groups kept flat.
-use Rattle.std.proofs.Common.{◌≡◌, ◌≢◌, ℕ, zero, suc, ◌+◌, ◌<◌, ◌≤◌, Bool, true, false, cond, List, [], ◌∷◌, ◌++◌, length, get_or, drop, map, filter, slice_range, refl, ap, sym, ◌∙◌, subst, arith, inl, inr, ◌⊎◌}
-use Rattle.std.proofs.lemmas.List.{drop_all, drop_more, map-append}
+-- Pairs by key are groups.
+use Rattle.std.proofs.Common.{◌≡◌, ℕ, zero, suc, ◌<◌, Bool, true, false, cond, List, [], ◌∷◌, ◌++◌, length, get_or, map, filter, refl, ap, sym, ◌∙◌, subst, arith, inl, inr, ◌⊎◌}
+use Rattle.std.proofs.lemmas.List.{get_or-map}
 use Rattle.std.proofs.lemmas.Cmp.{nat_list_cmp_total, tied_itself}
-use Rattle.std.specs.List.{flat_map}
+use Rattle.std.specs.List.{AllByRecursion, flat_map}
 use Rattle.std.specs.Str.{bytes_eq}
 use Rattle.std.specs.Cmp.Lexicographic.{bytes_decides, texts_ties}
-use Rattle.std.specs.Ordering.{is_eq, ordering_then}
-use Rattle.std.specs.declared.cmp.Ordering.{Ordering}
-use Rattle.std.specs.declared.cmp.Ordering.TheVariants.{Less, Equal, Greater}
+use Rattle.std.specs.Ordering.{is_eq}
+use Rattle.std.specs.declared.cmp.Ordering.TheVariants.{Less, Equal}
 use Rattle.mr_bytes.specs.declared.Name.{Name}
 use Rattle.mr_bytes.specs.Lists.{Has, HasNoTies, Rises, sorted}
-use Rattle.mr_bytes.specs.Order.{key_order, name_order}
+use Rattle.mr_bytes.specs.Order.{key_order}
 use Rattle.mr_bytes.specs.Pairs.{Triple, pair_order}
-use Rattle.mr_bytes.proofs.ListLaws.{Has-all, all_from_Has, Has-append_cases, Has-append_left, Has-append_right, Has-map, Has-map_from}
+use Rattle.mr_bytes.proofs.ListLaws.{all_from_Has, Has-append_cases, Has-append_left, Has-append_right, Has-map, Has-map_from}
 use Rattle.mr_bytes.proofs.SortLaws.{sorted-Has_from}
-use Rattle.mr_spill.specs.Column.{names_of, nth_pair, no_pair}
-use Rattle.mr_spill.proofs.RegionLaws.{pair_total}
-use Rattle.mr_merge.specs.Groups.{EndsGrow, HaveKey, groups_from, no_group}
+use Rattle.mr_spill.specs.Column.{names_of, nth_pair}
+use Rattle.mr_spill.specs.Entries.{Entry, nth_entry, under_key}
+use Rattle.mr_spill.specs.Keyed.{AreKeyed, KeyEntries, key_cmp, names_with, pairs_with}
+use Rattle.mr_merge.specs.Groups.{group_with, no_group}
 use Rattle.mr_merge.specs.Merged.{Group, group_of, merged}
-use Rattle.mr_merge.proofs.MergeLemmas.{cut-at}
-use Rattle.mr_merge.proofs.SoundLemmas.{rises-at}
-use Rattle.mr_merge.proofs.SortedLaws.{Rises-drop, sorted-front, sorted-is, sorted-same}
+use Rattle.mr_merge.proofs.SortedLaws.{sorted-front, sorted-is, sorted-same}
 
 -- ---- keys
 
@@ -48,22 +46,6 @@ less-differs_back j k l = by (bytes_eq k j) refl
         let l' : key_order j j ≡ Less = subst (λ i. key_order j i ≡ Less) ((bytes_decides k j).0 is) l in
         absurd (cc (l', tied_itself nat_list_cmp_total j))
     by false is = refl
-
-key-less : (t u : Triple) → pair_order t u ≡ Less → (t.key ≡ u.key → ⊥) → key_order t.key u.key ≡ Less
-key-less t u l differ = by (key_order t.key u.key) refl l
-  where
-    by : (o : Ordering) → key_order t.key u.key ≡ o → ordering_then o (name_order t.name u.name) ≡ Less → o ≡ Less
-    by Less is l = refl
-    by Equal is l = absurd (differ (key-tie t.key u.key is))
-    by Greater is l = absurd (cc l)
-
-key-later : (k : List ℕ) (t u : Triple) → key_order k t.key ≡ Less → pair_order t u ≡ Less → key_order k u.key ≡ Less
-key-later k t u h l = by (key_order t.key u.key) refl l
-  where
-    by : (o : Ordering) → key_order t.key u.key ≡ o → ordering_then o (name_order t.name u.name) ≡ Less → key_order k u.key ≡ Less
-    by Less is l = nat_list_cmp_total.trans k t.key u.key h is
-    by Equal is l = subst (λ j. key_order k j ≡ Less) (key-tie t.key u.key is) h
-    by Greater is l = absurd (cc l)
 
 -- ---- a run of one key in front of larger ones
 
@@ -131,85 +113,65 @@ module _ (k : List ℕ) (run rest : List Triple) (t : Triple) (some : Has run t)
       ∙ ap (λ (gs : List Group). record { key = k; pairs = run } ∷ gs) (map-agree (group_of (run ++ rest)) (group_of rest) (sorted key_order (map (λ (u : Triple). u.key) rest)) group-rest)
       ∙ ap (λ (us : List Triple). record { key = k; pairs = run } ∷ map (group_of us) (sorted key_order (map (λ (u : Triple). u.key) rest))) (sym (sorted-is pair_order rest rises))
 
--- ---- the next group of a column that rises
+-- ---- pairs by key are groups
 
-within-drop : {X : Type 0} (n : ℕ) (xs : List X) (x : X) → Has (drop n xs) x → n < length xs
-within-drop zero [] x h = absurd h
-within-drop zero (y ∷ xs) x h = omega arith
-within-drop (suc n) [] x h = absurd h
-within-drop (suc n) (y ∷ xs) x h = omega (arith, within-drop n xs x h)
+-- the pairs of a key have it
+with-key : (q : List ℕ) (es : List Entry) (u : Triple) → Has (map (under_key q) es) u → u.key ≡ q
+with-key q [] u h = absurd h
+with-key q (e ∷ es) u (inl is) = sym (ap (λ (t : Triple). t.key) is)
+with-key q (e ∷ es) u (inr h) = with-key q es u h
 
-module _ (ts : List Triple) (rise : Rises pair_order ts) (at e : ℕ) (some : at < e) (within : e ≤ length ts)
-    (have : HaveKey (nth_pair ts at).key ts at e) (ends : e < length ts → (nth_pair ts e).key ≢ (nth_pair ts at).key) where
-  first-of : drop at ts ≡ nth_pair ts at ∷ drop (at + 1) ts
-  first-of = drop_more ts at no_pair (omega arith)
+some-pair : (k : KeyEntries) → 0 < length k.entries → (t : Triple) × Has (pairs_with k) t
+some-pair k h = by k.entries h
+  where
+    by : (es : List Entry) → 0 < length es → (t : Triple) × Has (map (under_key k.key) es) t
+    by [] h = absurd (omega (arith, h))
+    by (e ∷ es) h = (under_key k.key e, inl refl)
 
-  larger-rest : (u : Triple) → Has (drop e ts) u → key_order (nth_pair ts at).key u.key ≡ Less
-  larger-rest u h =
-      let l : e < length ts = within-drop e ts u h in
-      let is : drop e ts ≡ nth_pair ts e ∷ drop (e + 1) ts = drop_more ts e no_pair l in
-      let less : key_order (nth_pair ts at).key (nth_pair ts e).key ≡ Less =
-      key-less (nth_pair ts at) (nth_pair ts e) (rises-at pair_total ts at e no_pair some l rise) (λ q. ends l (sym q)) in
-      elim (subst (λ us. Has us u) is h) [
-        | inl same ↦ subst (λ (w : Triple). key_order (nth_pair ts at).key w.key ≡ Less) same less
-        | inr g ↦ key-later (nth_pair ts at).key (nth_pair ts e) u less
-            (Has-all (λ w. pair_order (nth_pair ts e) w ≡ Less) (drop (e + 1) ts) u ((subst (Rises pair_order) is (Rises-drop pair_order e ts rise)).0) g)
-      ]
+larger-with : (key : List ℕ) (ks : List KeyEntries) → AllByRecursion (λ (k : KeyEntries). key_order key k.key ≡ Less) ks → (u : Triple) → Has (flat_map pairs_with ks) u → key_order key u.key ≡ Less
+larger-with key [] all u h = absurd h
+larger-with key (k ∷ ks) all u h = elim (Has-append_cases (pairs_with k) (flat_map pairs_with ks) u h) [
+  | inl a ↦ subst (λ (q : List ℕ). key_order key q ≡ Less) (sym (with-key k.key k.entries u a)) all.0
+  | inr b ↦ larger-with key ks all.1 u b
+]
 
-  pub next-group : merged (drop at ts) ≡ record { key = (nth_pair ts at).key; pairs = slice_range ts at e } ∷ merged (drop e ts)
-  next-group =
-      let cut : slice_range ts at e ++ drop e ts ≡ drop at ts = cut-at ts at e (omega arith) in
-      let t : Triple = nth_pair ts at in
-      let here : Has (slice_range ts at e ++ drop e ts) t = subst (λ l. Has l t) (sym cut) (subst (λ l. Has l t) (sym first-of) (inl refl)) in
-      let first : Has (slice_range ts at e) t =
-      elim (Has-append_cases (slice_range ts at e) (drop e ts) t here) [
-        | inl a ↦ a
-        | inr b ↦ absurd (cc (larger-rest t b, tied_itself nat_list_cmp_total t.key))
-      ] in
-      ap merged (sym cut)
-      ∙ merged-run t.key (slice_range ts at e) (drop e ts) t first
-      (λ u h. Has-all (λ (w : Triple). w.key ≡ t.key) (slice_range ts at e) u have h)
-      (subst (Rises pair_order) (sym cut) (Rises-drop pair_order at ts rise)) (Rises-drop pair_order e ts rise) larger-rest
+rises-back : (xs ys : List Triple) → Rises pair_order (xs ++ ys) → Rises pair_order ys
+rises-back [] ys r = r
+rises-back (x ∷ xs) ys r = rises-back xs ys r.1
 
--- ---- groups kept flat
+pub keyed-merged : (ks : List KeyEntries) → Rises key_cmp ks → AllByRecursion (λ (k : KeyEntries). 0 < length k.entries) ks → Rises pair_order (flat_map pairs_with ks)
+    → map group_with ks ≡ merged (flat_map pairs_with ks)
+keyed-merged [] rise some pairs = refl
+keyed-merged (k ∷ ks) rise some pairs =
+    let first = some-pair k some.0 in
+    let rest = rises-back (pairs_with k) (flat_map pairs_with ks) pairs in
+    ap (λ (gs : List Group). group_with k ∷ gs) (keyed-merged ks rise.1 some.1 rest)
+    ∙ sym (merged-run k.key (pairs_with k) (flat_map pairs_with ks) first.0 first.1 (λ u h. with-key k.key k.entries u h) pairs rest
+    (larger-with k.key ks rise.0))
 
-pub groups-more : (from at e : ℕ) (ts : List Triple) (ends : List ℕ) → EndsGrow from at ends
-    → groups_from from ts (ends ++ e ∷ []) ≡ groups_from from ts ends ++ record { key = (nth_pair ts at).key; pairs = slice_range ts at e } ∷ []
-groups-more from at e ts [] h = ap (λ (n : ℕ). record { key = (nth_pair ts n).key; pairs = slice_range ts n e } ∷ []) h
-groups-more from at e ts (x ∷ ends) h =
-    ap (λ (gs : List Group). record { key = (nth_pair ts from).key; pairs = slice_range ts from x } ∷ gs) (groups-more x at e ts ends h.1)
+pub are-merged : (ts : List Triple) (ks : List KeyEntries) → AreKeyed ts ks → Rises pair_order (sorted pair_order ts) → map group_with ks ≡ merged (sorted pair_order ts)
+are-merged ts ks keyed rise =
+    keyed-merged ks keyed.rise keyed.some (subst (Rises pair_order) (sym keyed.all) rise) ∙ ap merged keyed.all
 
-pub grow-more : (from at e : ℕ) (ends : List ℕ) → EndsGrow from at ends → at < e → EndsGrow from e (ends ++ e ∷ [])
-grow-more from at e [] h l = (omega (arith, h, l), refl)
-grow-more from at e (x ∷ ends) h l = (h.0, grow-more x at e ends h.1 l)
+-- ---- groups, one by one
 
-grow-within : (from last : ℕ) (ends : List ℕ) → EndsGrow from last ends → from ≤ last
-grow-within from last [] h = omega (arith, h)
-grow-within from last (x ∷ ends) h = omega (arith, h.0, grow-within x last ends h.1)
+abbrev pub no_key : KeyEntries
+no_key = record { key = []; entries = [] }
 
--- each group begins before its end, and ends within
-pub grow-at : (from last g : ℕ) (ends : List ℕ) → EndsGrow from last ends → g < length ends → (get_or (from ∷ ends) g 0 < get_or ends g 0) × (get_or ends g 0 ≤ last)
-grow-at from last g [] h l = absurd (omega arith)
-grow-at from last zero (x ∷ ends) h l = (h.0, grow-within x last ends h.1)
-grow-at from last (suc g) (x ∷ ends) h l = grow-at x last g ends h.1 (omega (arith, l))
+pub group-at : (ks : List KeyEntries) (g : ℕ) → g < length ks → get_or (map group_with ks) g no_group ≡ group_with (get_or ks g no_key)
+group-at ks g h = get_or-map group_with ks g no_key no_group h
 
-pub length-groups : (from : ℕ) (ts : List Triple) (ends : List ℕ) → length (groups_from from ts ends) ≡ length ends
-length-groups from ts [] = refl
-length-groups from ts (x ∷ ends) = ap suc (length-groups x ts ends)
+pub value-at : (q : List ℕ) (es : List Entry) (i : ℕ) → i < length es → (nth_pair (map (under_key q) es) i).value ≡ (nth_entry es i).0
+value-at q [] i h = absurd (omega arith)
+value-at q (e ∷ es) zero h = refl
+value-at q (e ∷ es) (suc i) h = value-at q es i (omega (arith, h))
 
-pub group-at : (from g : ℕ) (ts : List Triple) (ends : List ℕ) → g < length ends
-    → get_or (groups_from from ts ends) g no_group
-    ≡ record { key = (nth_pair ts (get_or (from ∷ ends) g 0)).key; pairs = slice_range ts (get_or (from ∷ ends) g 0) (get_or ends g 0) }
-group-at from g ts [] l = absurd (omega arith)
-group-at from zero ts (x ∷ ends) l = refl
-group-at from (suc g) ts (x ∷ ends) l = group-at x g ts ends (omega (arith, l))
+names-one : (q : List ℕ) (es : List Entry) → map (λ (e : Entry). e.1) es ≡ names_of (map (under_key q) es)
+names-one q [] = refl
+names-one q (e ∷ es) = ap (λ (l : List Name). e.1 ∷ l) (names-one q es)
 
--- the names of groups that end with the pairs, one group behind another
-pub names-groups : (from : ℕ) (ts : List Triple) (ends : List ℕ) → EndsGrow from (length ts) ends
-    → flat_map (λ (g : Group). names_of g.pairs) (groups_from from ts ends) ≡ names_of (drop from ts)
-names-groups from ts [] h = ap names_of (sym (drop_all from ts (omega (arith, h))))
-names-groups from ts (e ∷ ends) h =
-    let cut : slice_range ts from e ++ drop e ts ≡ drop from ts = cut-at ts from e (omega (arith, h.0)) in
-    ap (λ (l : List Name). names_of (slice_range ts from e) ++ l) (names-groups e ts ends h.1)
-    ∙ sym (map-append (λ (t : Triple). t.name) (slice_range ts from e) (drop e ts))
-    ∙ ap names_of cut
+pub names-groups : (ks : List KeyEntries) → flat_map names_with ks ≡ flat_map (λ (g : Group). names_of g.pairs) (map group_with ks)
+names-groups [] = refl
+names-groups (k ∷ ks) =
+    ap (λ (l : List Name). l ++ flat_map names_with ks) (names-one k.key k.entries)
+    ∙ ap (λ (l : List Name). names_of (pairs_with k) ++ l) (names-groups ks)

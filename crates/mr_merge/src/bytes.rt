@@ -1,20 +1,16 @@
 //! All regions of a partition, merged over their bytes.
 ghost use Rattle.std.specs.Prelude.{◌≡◌, ◌++◌, ◌∷◌, [], List, IfErr, IfOk, MatchOption, OnOk};
-ghost use Rattle.mr_bytes.specs.Pairs.{Triple, pair_order};
-ghost use Rattle.mr_bytes.specs.Lists.{sorted};
-ghost use Rattle.mr_spill.specs.Regions.{RisesUnderKeys};
+ghost use Rattle.mr_bytes.specs.Pairs.{Triple};
 ghost use Rattle.mr_merge.specs.Bytes.{AreMerged, AreSpelled};
 ghost use Rattle.mr_merge.specs.Merged.{AreSound, values_of};
-ghost use Rattle.mr_merge.specs.Merging.{NamesDiffer};
 ghost use Rattle.mr_merge.specs.declared.merged.MergeFault.TheVariants.{RegionDamaged};
 ghost use Rattle.mr_spill.specs.declared.reading.RegionFault.TheVariants.{RegionDamaged as CantRead};
 
 use crate::demand::{Demand, Unending};
-use crate::gathering::only;
 use crate::groups::{Groups, grouped};
 use crate::merged::{MergeFault, merge};
-use crate::taking::{Gathering, taken_regions};
-use mr_spill::{Pairs, Region, RegionFault, cut, read_region};
+use crate::taking::taken_regions;
+use mr_spill::{Pairs, Region, RegionFault, read_region};
 use std::alloc::{AllocError, Global};
 
 impl From<RegionFault> for MergeFault {
@@ -79,17 +75,8 @@ fn merged_whole(alloc: Global, regions: &[Region<'_>], partition: u32) -> Result
     Ok(groups)
 }
 
-/// The pairs that were taken, in order. What they were taken into is let go.
-fn in_order(alloc: Global, all: Gathering) -> Result<Pairs, AllocError>
-    requires rise { RisesUnderKeys all.pairs }
-    requires differ { NamesDiffer all.pairs }
-    ensures { IfOk result (λ p. p ≡ sorted pair_order all.pairs) }
-{
-    Ok(only(cut(alloc, &all.pairs, 1)?))
-}
-
 /// What `merge_regions` gives, and `None` where it was no longer wanted before it was there: it is asked before each region,
-/// and before and behind the sort of the keys.
+/// and before and behind the putting together by key.
 pub fn merge_regions_while<D: Demand>(
     alloc: Global,
     regions: &[Region<'_>],
@@ -106,11 +93,11 @@ pub fn merge_regions_while<D: Demand>(
     let Some(all) = taken else {
         return Ok(Some(merged_whole(alloc, regions, partition)?));
     };
-    let pairs = in_order(alloc, all)?;
+    let groups = grouped(alloc, all.pairs)?;
     if !demand.lasts() {
         return Ok(None);
     }
-    Ok(Some(grouped(alloc, pairs)?))
+    Ok(Some(groups))
 }
 
 /// The regions of one partition, merged over their bytes: each key once, rising, with its pairs by name. Bytes that spell no

@@ -1,42 +1,32 @@
 //! The groups of merged pairs.
-ghost use Rattle.std.specs.Prelude.{◌≡◌, ◌≢◌, ℕ, ◌+◌, ◌<◌, ◌≤◌, ◌∷◌, IfOk, length, slice_index};
+ghost use Rattle.std.specs.Prelude.{◌≡◌, ◌<◌, IfOk, length};
 ghost use Rattle.std.specs.List.{flat_map};
-ghost use Rattle.mr_bytes.specs.Lists.{Rises};
-ghost use Rattle.mr_bytes.specs.Pairs.{pair_order};
 ghost use Rattle.mr_spill.specs.Column.{names_of, nth_pair};
-ghost use Rattle.mr_merge.specs.Groups.{EndsGrow, HaveKey, groups_from, nth_group};
+ghost use Rattle.mr_spill.specs.Regions.{RisesUnderKeys};
+ghost use Rattle.mr_bytes.specs.Lists.{sorted};
+ghost use Rattle.mr_bytes.specs.Pairs.{pair_order};
+ghost use Rattle.mr_merge.specs.Groups.{nth_group};
 ghost use Rattle.mr_merge.specs.Merged.{merged};
 
 use mr_bytes::{Name, Value};
-use mr_spill::Pairs;
+use mr_spill::{KeyedPairs, Numbered, Pairs, keyed_column, keyed_pairs};
 use std::alloc::{AllocError, Global};
 use std::marker::Model;
 
-/// The groups of merged regions: the pairs in one flat column, and where each group ends.
+/// The groups of merged regions, by rising key.
 #[derive(Drop)]
 pub struct Groups {
-    pairs: Pairs,
-    ends: Vec<usize>,
+    keyed: KeyedPairs,
 }
 
 impl Model for Groups {
-    ghost use Rattle.std.specs.Prelude.{List, length};
-    ghost use Rattle.mr_merge.specs.Groups.{EndsGrow, groups_from};
+    ghost use Rattle.std.specs.Prelude.{List, map};
+    ghost use Rattle.mr_merge.specs.Groups.{group_with};
     ghost use Rattle.mr_merge.specs.Merged.{Group};
 
     ghost Value = { List Group };
 
-    ghost view = { λ g. groups_from 0 g.pairs g.ends.items };
-
-    ghost invariant = { λ g. EndsGrow 0 (length g.pairs) g.ends.items };
-}
-
-/// Where item `i` starts, given where each ends.
-fn start_of(ends: &[usize], i: usize) -> usize
-    requires { i < length ends.now }
-    ensures { result ≡ slice_index (0 ∷ ends.now) i }
-{
-    if i == 0 { 0 } else { ends[i - 1] }
+    ghost view = { λ g. map group_with g.keyed };
 }
 
 impl Groups {
@@ -44,7 +34,7 @@ impl Groups {
     pub fn len(&self) -> usize
         ensures { result ≡ length self.now }
     {
-        self.ends.len()
+        self.keyed.len()
     }
 
     /// The key of group `g`, from 0.
@@ -52,7 +42,7 @@ impl Groups {
         requires { g < length self.now }
         ensures { result.now ≡ (nth_group self.now g).key }
     {
-        self.pairs.key(start_of(self.ends.as_slice(), g))
+        self.keyed.key(g)
     }
 
     /// How many pairs group `g` has: at least one.
@@ -61,15 +51,15 @@ impl Groups {
         ensures count { result ≡ length (nth_group self.now g).pairs }
         ensures some { 0 < result }
     {
-        self.ends[g] - start_of(self.ends.as_slice(), g)
+        self.keyed.count(g)
     }
 
     /// The names of all groups, one group behind another; the rest is let go.
     pub fn into_names(self) -> Vec<Name>
         ensures { result.items ≡ flat_map (λ g. names_of g.pairs) self }
     {
-        let Groups { pairs, .. } = self;
-        pairs.into_names()
+        let Groups { keyed } = self;
+        keyed.into_names()
     }
 
     /// Value `i` of group `g`, both from 0.
@@ -78,47 +68,24 @@ impl Groups {
         requires pair { i < length (nth_group self.now g).pairs }
         ensures { result ≡ (nth_pair (nth_group self.now g).pairs i).value }
     {
-        // What the column counts fits a number, and so does a place in it.
-        let _count = self.pairs.len();
-        self.pairs.value(start_of(self.ends.as_slice(), g) + i)
+        self.keyed.value(g, i)
     }
 }
 
-/// Where the pairs end that have the key of pair `from` and follow one another from there on.
-fn key_end(pairs: &Pairs, from: usize) -> usize
-    requires { from < length pairs.now }
-    ensures within { (from < result) × (result ≤ length pairs.now) }
-    ensures same { HaveKey (nth_pair pairs.now from).key pairs.now from result }
-    ensures ends { result < length pairs.now → (nth_pair pairs.now result).key ≢ (nth_pair pairs.now from).key }
+/// The groups of pairs whose names rise under each key already: their keys are sorted, and each name is moved once.
+pub(crate) fn grouped(alloc: Global, pairs: Numbered) -> Result<Groups, AllocError>
+    requires { RisesUnderKeys pairs }
+    ensures { IfOk result (λ g. g ≡ merged (sorted pair_order pairs)) }
 {
-    let count = pairs.len();
-    let mut end = from + 1;
-    while end < count && pairs.is_same_key(from, end) {
-        end += 1;
-    }
-    end
+    let keyed = keyed_pairs(alloc, pairs)?;
+    Ok(Groups { keyed })
 }
 
-/// Where each group of the pairs ends.
-fn ends_of(alloc: Global, pairs: &Pairs) -> Result<Vec<usize>, AllocError>
-    requires { Rises pair_order pairs.now }
-    ensures grow { IfOk result (λ v. EndsGrow 0 (length pairs.now) v.items) }
-    ensures groups { IfOk result (λ v. groups_from 0 pairs.now v.items ≡ merged pairs.now) }
+/// The same of pairs in a column.
+pub(crate) fn grouped_column(alloc: Global, pairs: &Pairs) -> Result<Groups, AllocError>
+    requires { RisesUnderKeys pairs.now }
+    ensures { IfOk result (λ g. g ≡ merged (sorted pair_order pairs.now)) }
 {
-    let mut ends = Vec::new(alloc);
-    let mut at = 0;
-    while at < pairs.len() {
-        at = key_end(pairs, at);
-        ends.push(at)?;
-    }
-    Ok(ends)
-}
-
-/// The groups of pairs that rise.
-pub(crate) fn grouped(alloc: Global, pairs: Pairs) -> Result<Groups, AllocError>
-    requires { Rises pair_order pairs }
-    ensures { IfOk result (λ g. g ≡ merged pairs) }
-{
-    let ends = ends_of(alloc, &pairs)?;
-    Ok(Groups { pairs, ends })
+    let keyed = keyed_column(alloc, pairs)?;
+    Ok(Groups { keyed })
 }

@@ -5,7 +5,7 @@ ghost use Rattle.mr_merge.specs.Laws.{GroupsHave, GroupsRise, MergedHas, MergedI
 ghost use Rattle.mr_merge.specs.Worked.{WorkedFalling, WorkedGroups, WorkedTwice, WorkedTwoKeys};
 
 use crate::gathering::merged_pairs;
-use crate::groups::{Groups, grouped};
+use crate::groups::{Groups, grouped_column};
 use crate::sound::are_sound;
 use mr_spill::Pairs;
 use std::alloc::{AllocError, Global};
@@ -46,7 +46,7 @@ pub fn merge(alloc: Global, regions: &[&Pairs]) -> Result<Groups, MergeFault>
         return Err(MergeFault::RegionDamaged);
     }
     let pairs = merged_pairs(alloc, regions)?;
-    Ok(grouped(alloc, pairs)?)
+    Ok(grouped_column(alloc, &pairs)?)
 }
 
 /// What merged groups are: their keys rise strictly; of pairs whose names differ each group has just those of its key,

@@ -2,6 +2,7 @@ pub mod ColumnLemmas
 pub mod CursorLemmas
 pub mod CutLemmas
 pub mod EntryLemmas
+pub mod KeyedLemmas
 pub mod ListsLemmas
 pub mod ReadingLemmas
 pub mod RegionLaws

@@ -1,5 +1,5 @@
 -- Of no public promise: what pairs have beside their keys.
-use Rattle.std.specs.Prelude.{ℕ, List, map, slice_index, slice_index_or, slice_range}
+use Rattle.std.specs.Prelude.{◌≡◌, ◌<◌, ℕ, List, length, map, slice_index, slice_index_or, slice_range}
 use Rattle.mr_bytes.specs.declared.Name.{Name}
 use Rattle.mr_bytes.specs.declared.Value.{Value}
 use Rattle.mr_bytes.specs.declared.Value.TheVariants.{One}
@@ -21,3 +21,7 @@ under_key key e = record { key = key; value = e.0; name = e.1 }
 -- the entries of number `k`, whose places stand up to the end of that number
 abbrev pub listed : List Entry → List ℕ → List ℕ → ℕ → List Entry
 listed es order ends k = map (nth_entry es) (slice_range order (start_of ends k) (slice_index ends k))
+
+-- each has the value `One`
+abbrev pub HaveOnes : List Entry → Type 0
+HaveOnes es = (i : ℕ) → i < length es → (nth_entry es i).0 ≡ One

@@ -3,6 +3,7 @@ pub mod Column
 pub mod Cursor
 pub mod Buffer
 pub mod Entries
+pub mod Keyed
 pub mod Lent
 pub mod Reading
 pub mod Regions

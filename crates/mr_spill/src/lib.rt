@@ -6,6 +6,8 @@
 //! few dozen, and a sort of the distinct keys, n log n comparisons, most of them of two numbers; each pair is put at its place by
 //! counting. Memory: 16 bytes for each pair that waits and its value where it has one beside `One`, and the keys, each mostly
 //! once; while they are cut 8 bytes more for each pair, and the regions. A region can be spelled as bytes, and read from them.
+//!
+//! A reduce task takes pairs of many regions so too, and puts them together by key (`KeyedPairs`).
 #![tactic(auto)]
 
 mod buffer;
@@ -13,8 +15,10 @@ mod column;
 mod cursor;
 mod distribute;
 mod entries;
+mod keyed;
 mod lent;
 mod lists;
+mod moving;
 mod numbered;
 mod reading;
 mod regions;
@@ -24,6 +28,7 @@ mod spelling;
 pub use buffer::{Buffer, PushFault, PushRefusal};
 pub use column::Pairs;
 pub use cursor::{RegionCursor, RegionPair, open_region};
+pub use keyed::{KeyedPairs, keyed_column, keyed_pairs};
 pub use lent::Region;
 pub use numbered::Numbered;
 pub use reading::{RegionFault, read_region};

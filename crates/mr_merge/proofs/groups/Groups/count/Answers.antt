@@ -1,54 +1,22 @@
-use Rattle.std.proofs.Common.{arith, ap, sym, ◌∙◌, ◌≡◌, ◌<◌, ◌-◌, ◌∷◌, List, ℕ, length, get_or, slice_range}
-use Rattle.std.proofs.lemmas.List.{get_or_default}
-use Rattle.std.proofs.lemmas.List.Edits.{length-between}
-use Rattle.mr_spill.specs.Column.{nth_pair}
-use Rattle.mr_merge.specs.Groups.{nth_group}
+use Rattle.std.proofs.Common.{arith, ap, sym, ◌∙◌, ◌≡◌, ◌<◌, List, length, get_or}
+use Rattle.std.proofs.lemmas.List.{length-map}
+use Rattle.mr_spill.specs.Keyed.{KeyEntries}
+use Rattle.mr_spill.specs.Entries.{under_key}
+use Rattle.mr_merge.specs.Groups.{group_with, nth_group}
 use Rattle.mr_merge.specs.Merged.{Group}
-use Rattle.mr_merge.proofs.GroupLemmas.{grow-at, group-at, length-groups}
+use Rattle.mr_merge.proofs.GroupLemmas.{group-at, no_key}
 use Rattle.mr_merge.proofs.groups.Groups.count.Goals as goal
 
-pub index-requires : goal.index-requires
-index-requires c =
-    let p = c.self.inside in
-    let few : c.args.g < length p.ends.items = omega (arith, c.requires, ap length c.self.view_is, length-groups 0 p.pairs p.ends.items) in
-    omega (arith, few, p.ends.ok.0)
-
-pub start_of-requires : goal.start_of-requires
-start_of-requires c =
-    let p = c.self.inside in
-    let few : c.args.g < length p.ends.items = omega (arith, c.requires, ap length c.self.view_is, length-groups 0 p.pairs p.ends.items) in
-    omega (arith, few, ap length c.as_slice.ensures.value)
-
-pub overflow_sub-result : goal.overflow_sub-result
-overflow_sub-result c =
-    let p = c.self.inside in
-    let few : c.args.g < length p.ends.items = omega (arith, c.requires, ap length c.self.view_is, length-groups 0 p.pairs p.ends.items) in
-    let start : c.start_of.result ≡ get_or (0 ∷ p.ends.items) c.args.g 0 =
-    c.start_of.ensures ∙ ap (λ (l : List ℕ). get_or (0 ∷ l) c.args.g 0) c.as_slice.ensures.value in
-    let end : c.index.result.now ≡ get_or p.ends.items c.args.g 0 = c.index.ensures ∙ get_or_default p.ends.items c.args.g c.index.result.now 0 few in
-    let order = grow-at 0 (length p.pairs) c.args.g p.ends.items c.self.invariant few in
-    omega (arith, start, end, order.0)
+pub count-requires : goal.count-requires
+count-requires c =
+    let ks : List KeyEntries = c.self.inside.keyed in
+    let few : c.args.g < length ks = omega (arith, c.requires, ap length c.self.view_is, length-map ks group_with) in
+    few
 
 pub returns-clause-count : goal.returns-clause-count
 returns-clause-count c =
-    let p = c.self.inside in
-    let few : c.args.g < length p.ends.items = omega (arith, c.requires, ap length c.self.view_is, length-groups 0 p.pairs p.ends.items) in
-    let start : c.start_of.result ≡ get_or (0 ∷ p.ends.items) c.args.g 0 =
-    c.start_of.ensures ∙ ap (λ (l : List ℕ). get_or (0 ∷ l) c.args.g 0) c.as_slice.ensures.value in
-    let end : c.index.result.now ≡ get_or p.ends.items c.args.g 0 = c.index.ensures ∙ get_or_default p.ends.items c.args.g c.index.result.now 0 few in
-    let order = grow-at 0 (length p.pairs) c.args.g p.ends.items c.self.invariant few in
-    let group : nth_group c.args.self.now c.args.g ≡ record { key = (nth_pair p.pairs (get_or (0 ∷ p.ends.items) c.args.g 0)).key; pairs = slice_range p.pairs (get_or (0 ∷ p.ends.items) c.args.g 0) (get_or p.ends.items c.args.g 0) } =
-    ap (λ (gs : List Group). nth_group gs c.args.g) (sym c.self.view_is) ∙ group-at 0 c.args.g p.pairs p.ends.items few in
-    let long : length (nth_group c.args.self.now c.args.g).pairs ≡ get_or p.ends.items c.args.g 0 - get_or (0 ∷ p.ends.items) c.args.g 0 =
-    ap (λ (w : Group). length w.pairs) group ∙ length-between p.pairs (get_or (0 ∷ p.ends.items) c.args.g 0) (get_or p.ends.items c.args.g 0) order.1 in
-    omega (arith, start, end, long)
-
-pub returns-clause-some : goal.returns-clause-some
-returns-clause-some c =
-    let p = c.self.inside in
-    let few : c.args.g < length p.ends.items = omega (arith, c.requires, ap length c.self.view_is, length-groups 0 p.pairs p.ends.items) in
-    let start : c.start_of.result ≡ get_or (0 ∷ p.ends.items) c.args.g 0 =
-    c.start_of.ensures ∙ ap (λ (l : List ℕ). get_or (0 ∷ l) c.args.g 0) c.as_slice.ensures.value in
-    let end : c.index.result.now ≡ get_or p.ends.items c.args.g 0 = c.index.ensures ∙ get_or_default p.ends.items c.args.g c.index.result.now 0 few in
-    let order = grow-at 0 (length p.pairs) c.args.g p.ends.items c.self.invariant few in
-    omega (arith, start, end, order.0)
+    let ks : List KeyEntries = c.self.inside.keyed in
+    let few : c.args.g < length ks = omega (arith, c.requires, ap length c.self.view_is, length-map ks group_with) in
+    let group : nth_group c.args.self.now c.args.g ≡ group_with (get_or ks c.args.g no_key) =
+    ap (λ (gs : List Group). nth_group gs c.args.g) (sym c.self.view_is) ∙ group-at ks c.args.g few in
+    c.count.ensures.count ∙ sym (ap (λ (g : Group). length g.pairs) group ∙ length-map (get_or ks c.args.g no_key).entries (under_key (get_or ks c.args.g no_key).key))

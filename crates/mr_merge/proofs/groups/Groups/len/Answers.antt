@@ -1,8 +1,10 @@
-use Rattle.std.proofs.Common.{arith, ap, length}
-use Rattle.mr_merge.proofs.GroupLemmas.{length-groups}
+use Rattle.std.proofs.Common.{ap, sym, ◌∙◌, List, length}
+use Rattle.std.proofs.lemmas.List.{length-map}
+use Rattle.mr_spill.specs.Keyed.{KeyEntries}
+use Rattle.mr_merge.specs.Groups.{group_with}
 use Rattle.mr_merge.proofs.groups.Groups.len.Goals as goal
 
 pub returns : goal.returns
 returns c =
-    let p = c.self.inside in
-    omega (arith, c.len.ensures, p.ends.ok.0, ap length c.self.view_is, length-groups 0 p.pairs p.ends.items)
+    let ks : List KeyEntries = c.self.inside.keyed in
+    c.len.ensures ∙ sym (length-map ks group_with) ∙ ap length c.self.view_is
