@@ -1,5 +1,5 @@
 //! Values with their names: what pairs have beside their keys.
-ghost use Rattle.std.specs.Prelude.{◌≡◌, ◌++◌, ◌∷◌, [], ◌<◌, IfOk, OnOk, OnErr, length, map};
+ghost use Rattle.std.specs.Prelude.{◌≡◌, ◌++◌, ◌∷◌, [], ◌<◌, IfOk, OnOk, OnErr, length};
 ghost use Rattle.mr_spill.specs.Entries.{nth_entry};
 
 use mr_bytes::{Name, Value, Values};
@@ -67,14 +67,6 @@ impl Entries {
         ensures { result ≡ (nth_entry self.now i).0 }
     {
         self.values.get(i)
-    }
-
-    /// All names, in their order; the rest is let go.
-    pub fn into_names(self) -> Vec<Name>
-        ensures { result.items ≡ map (λ e. e.1) self }
-    {
-        let Entries { names, .. } = self;
-        names
     }
 
     /// One more value, at the end. It fails only for want of memory, and then nothing has changed.

@@ -5,7 +5,7 @@
 //! name, in which a key is stored once. Time: one look-up for each pair as it enters, of mostly one look at memory and at most a
 //! few dozen, and a sort of the distinct keys, n log n comparisons, most of them of two numbers; each pair is put at its place by
 //! counting. Memory: 16 bytes for each pair that waits and its value where it has one beside `One`, and the keys, each mostly
-//! once; while they are cut 8 bytes more for each pair, and the regions. A region can be spelled as bytes, and read from them.
+//! once; while they are cut 16 bytes more for each pair, and the regions. A region can be spelled as bytes, and read from them.
 //!
 //! A reduce task takes pairs of many regions so too, and puts them together by key (`KeyedPairs`).
 #![tactic(auto)]

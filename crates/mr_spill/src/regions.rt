@@ -32,7 +32,7 @@ pub(crate) fn row_in<'a>(rows: &[Row<'a>], at: usize, part: u32) -> Option<Row<'
 fn put_all(
     target: &mut Pairs,
     key: &[u8],
-    lists: &Lists<'_>,
+    lists: &Lists,
     number: usize,
 ) -> Result<(), AllocError>
     requires { number < length lists.now }
@@ -52,7 +52,7 @@ fn put_all(
 }
 
 /// How many pairs the rows of a partition have that begin at `from`, and how many bytes their keys.
-fn room_at(lists: &Lists<'_>, rows: &[Row<'_>], from: usize, part: u32) -> (usize, usize)
+fn room_at(lists: &Lists, rows: &[Row<'_>], from: usize, part: u32) -> (usize, usize)
     requires inside { All (λ r. r.number < length lists.now) rows.now }
     requires from { from ≤ length rows.now }
 {
@@ -70,7 +70,7 @@ fn room_at(lists: &Lists<'_>, rows: &[Row<'_>], from: usize, part: u32) -> (usiz
 /// The region of a partition, whose rows begin at `from`, and the place behind them.
 fn region_at(
     alloc: Global,
-    lists: &Lists<'_>,
+    lists: &Lists,
     rows: &[Row<'_>],
     from: usize,
     part: u32,
@@ -93,7 +93,7 @@ fn region_at(
 /// The regions of all partitions, given what each key has and the rows of the keys in their order.
 fn regions_of(
     alloc: Global,
-    lists: &Lists<'_>,
+    lists: &Lists,
     rows: &[Row<'_>],
     parts: u32,
 ) -> Result<Vec<Pairs>, AllocError>

@@ -70,7 +70,7 @@ impl SealedRun {
 fn spell_under(
     out: &mut Vec<u8>,
     key: &[u8],
-    lists: &Lists<'_>,
+    lists: &Lists,
     number: usize,
 ) -> Result<(), AllocError>
     requires { number < length lists.now }
@@ -87,7 +87,7 @@ fn spell_under(
 /// Appends the pairs of the rows of a partition, which begin at `from`, as they are spelled: the place behind these rows.
 fn spell_rows(
     out: &mut Vec<u8>,
-    lists: &Lists<'_>,
+    lists: &Lists,
     rows: &[Row<'_>],
     from: usize,
     part: u32,
@@ -117,7 +117,7 @@ fn value_size(value: Value) -> usize
 }
 
 /// How many bytes the pairs of a key are spelled in, all values being of one kind; no more than can be counted.
-fn room_under(key: &[u8], lists: &Lists<'_>, number: usize) -> usize
+fn room_under(key: &[u8], lists: &Lists, number: usize) -> usize
     requires { number < length lists.now }
 {
     let count = lists.count(number);
@@ -132,7 +132,7 @@ fn room_under(key: &[u8], lists: &Lists<'_>, number: usize) -> usize
 /// How many pairs the rows of a partition have that begin at `from`, and how many bytes they are spelled in. There is no
 /// memory for 4 Gi pairs.
 fn size_at(
-    lists: &Lists<'_>,
+    lists: &Lists,
     rows: &[Row<'_>],
     from: usize,
     part: u32,
@@ -165,7 +165,7 @@ fn counted(count: u32, more: usize) -> Result<u32, AllocError>
 /// The region of a partition, whose rows begin at `from`, spelled, and the place behind them.
 fn text_at(
     alloc: Global,
-    lists: &Lists<'_>,
+    lists: &Lists,
     rows: &[Row<'_>],
     from: usize,
     split: u32,
@@ -186,7 +186,7 @@ fn text_at(
 /// The regions of all partitions, spelled, given what each key has and the rows of the keys in their order.
 fn texts_of(
     alloc: Global,
-    lists: &Lists<'_>,
+    lists: &Lists,
     rows: &[Row<'_>],
     split: u32,
     parts: u32,
