@@ -29,12 +29,7 @@ pub(crate) fn row_in<'a>(rows: &[Row<'a>], at: usize, part: u32) -> Option<Row<'
 }
 
 /// Appends the pairs of a key, whose rank is told; they share its bytes. It fails only for want of memory.
-fn put_all(
-    target: &mut Pairs,
-    key: &[u8],
-    lists: &Lists,
-    number: usize,
-) -> Result<(), AllocError>
+fn put_all(target: &mut Pairs, key: &[u8], lists: &Lists, number: usize) -> Result<(), AllocError>
     requires { number < length lists.now }
     ensures { OnOk result (target.new ≡ target.old ++ pairs_under lists.now key.now number) }
 {
