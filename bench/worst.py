@@ -76,6 +76,37 @@ def rows_of(mapred, room, options, files):
     ]
 
 
+def told_no(mapred, room):
+    """Results that the judge says no to: the commands over a part of 500 MB without a line feed, which stands in for the one
+    part of 32 MB of words, beside their certificate."""
+    text = written(os.path.join(room, "words"), lambda: distinct(3_500_000))
+    where = os.path.join(room, "no")
+    shutil.rmtree(where, ignore_errors=True)
+    os.mkdir(where)
+    asked = ["--job", "words", "--out", where, text]
+    made, _, _, status, said = timed([mapred, "seq", *asked], 120)
+    if status != 0:
+        sys.exit(f"seq: status {status} {said!r}")
+    written(os.path.join(room, "no-line-feed"), lambda: [b"a" * MB] * 500)
+    shutil.copy(os.path.join(room, "no-line-feed"), os.path.join(where, "part-00000"))
+    return [("check", [mapred, "check", *asked]), ("check, 4 threads", [mapred, "check", "--threads", "4", *asked])]
+
+
+def show(name, size, command, words, it, wants):
+    """The row of a command: the least of the rounds, or what went wrong."""
+    best = None
+    for _ in range(it.rounds):
+        wall, cpu, peak, status, said = timed(words, it.timeout)
+        if status != wants:
+            best = (wall, cpu, peak, f"status {status} {said[:80]!r}")
+            break
+        if best is None or wall < best[0]:
+            best = (wall, cpu, peak, "")
+    wall, cpu, peak, note = best
+    told = f"{wall:.2f} | {cpu:.2f} | {peak:.0f} | {peak * 1.048576 / size:.1f}" if wall and cpu is not None else f"over {it.timeout:.0f} | | |"
+    print(f"| {name} | {size:.1f} | {command} | {told} |{' ' + note if note else ''}", flush=True)
+
+
 def main():
     ask = argparse.ArgumentParser(description=__doc__, formatter_class=argparse.RawDescriptionHelpFormatter)
     ask.add_argument("mapred")
@@ -94,17 +125,11 @@ def main():
         files = [written(f"{path}-front", lambda: front), path] if front else [path]
         size = os.path.getsize(path) / 1e6
         for command, words in rows_of(os.path.abspath(it.mapred), it.dir, options, files):
-            best = None
-            for _ in range(it.rounds):
-                wall, cpu, peak, status, said = timed(words, it.timeout)
-                if status != 0:
-                    best = (wall, cpu, peak, f"status {status} {said[:80]!r}")
-                    break
-                if best is None or wall < best[0]:
-                    best = (wall, cpu, peak, "")
-            wall, cpu, peak, note = best
-            told = f"{wall:.2f} | {cpu:.2f} | {peak:.0f} | {peak * 1.048576 / size:.1f}" if wall and cpu is not None else f"over {it.timeout:.0f} | | |"
-            print(f"| {name} | {size:.1f} | {command} | {told} |{' ' + note if note else ''}", flush=True)
+            show(name, size, command, words, it, 0)
+    name = "no: a part without a line feed"
+    if not it.only or any(part in name for part in it.only.split(",")):
+        for command, words in told_no(os.path.abspath(it.mapred), it.dir):
+            show(name, 524.3, command, words, it, 1)
 
 
 if __name__ == "__main__":
