@@ -1,11 +1,12 @@
 //! Regions taken over their bytes, pair by pair, one region behind another.
 ghost use Rattle.std.specs.Prelude.{◌≡◌, [], IfOk, IsTrue, MatchOption};
-ghost use Rattle.mr_merge.specs.Taking.{AreTaken, IsTaken};
+ghost use Rattle.mr_merge.specs.Taking.{AreTaken, IsPut, IsTaken};
+ghost use Rattle.mr_spill.specs.Cursor.{EndsWithKey};
 
 use crate::demand::Demand;
 use crate::gathering::{is_past, later};
 use mr_bytes::Name;
-use mr_spill::{Numbered, Region, open_region};
+use mr_spill::{Numbered, Region, RegionPair, open_region};
 use std::alloc::{AllocError, Global};
 
 /// What was taken of regions, and the last of its names.
@@ -27,27 +28,52 @@ fn room_for(regions: &[Region<'_>]) -> usize {
     bytes / PAIR_BYTES
 }
 
-/// Takes the pairs of a region. It is taken only where it is known that its names differ, and where each is past those of all
-/// regions before; else, as where the bytes are damaged, what was taken counts for nothing.
+/// Takes a pair of a region, if its name is past those of all regions before.
+#[inline(always)]
+fn take_pair(
+    all: &mut Gathering,
+    before: Option<Name>,
+    pair: RegionPair<'_>,
+) -> Result<bool, AllocError>
+    requires { IsTrue pair.again → EndsWithKey all.old.pairs pair.key.now }
+    ensures { IfOk result (λ b. IsTrue b → IsPut before pair.entry all.old all.new) }
+{
+    if !is_past(before, pair.name) {
+        return Ok(false);
+    }
+    all.last = later(all.last, pair.name);
+    all.pairs.take(pair)?;
+    Ok(true)
+}
+
+/// Takes the pairs of a region, a run of one key behind another: only the first of each is looked at for its key. It is taken
+/// only where a seal made it, and where each of its names is past those of all regions before; else what was taken counts for
+/// nothing.
 fn take_region(all: &mut Gathering, region: &Region<'_>, partition: u32) -> Result<bool, AllocError>
     ensures { IfOk result (λ b. IsTrue b → IsTaken partition region.now all.old all.new) }
 {
-    if !region.is_sealed() {
+    let Some(counts) = region.runs(partition) else {
         return Ok(false);
-    }
+    };
     let Some(mut cursor) = open_region(region.bytes(), region.split(), partition) else {
         return Ok(false);
     };
     let before = all.last;
-    for _ in 0..cursor.left() {
+    for i in 0..counts.len() {
         let Some(pair) = cursor.next() else {
             return Ok(false);
         };
-        if !is_past(before, pair.name) {
+        if !take_pair(all, before, pair)? {
             return Ok(false);
         }
-        all.last = later(all.last, pair.name);
-        all.pairs.take(pair)?;
+        for _ in 1..counts[i] {
+            let Some(pair) = cursor.next_again() else {
+                return Ok(false);
+            };
+            if !take_pair(all, before, pair)? {
+                return Ok(false);
+            }
+        }
     }
     Ok(cursor.is_at_end())
 }

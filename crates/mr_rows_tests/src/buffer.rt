@@ -48,10 +48,11 @@ fn show_sealed(teller: &Teller, buffer: &mut Buffer, parts: u32) -> Result<(), A
 
 /// A run, and how many pairs the buffer holds behind it.
 fn show_run_of(teller: &Teller, run: &SealedRun, left: usize) {
-    teller.two(&run.parts(), &left);
-    for p in 0..run.parts() {
+    let parts = run.parts();
+    teller.two(&parts, &left);
+    for p in 0..parts as u32 {
         let region = run.region(p);
-        teller.two(&region.is_sealed(), &region.bytes().len());
+        teller.two(&region.runs(p).is_some(), &region.bytes().len());
     }
 }
 

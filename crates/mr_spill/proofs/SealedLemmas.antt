@@ -1,6 +1,6 @@
 -- Regions spelled one behind another.
-use Rattle.std.proofs.Common.{◌≡◌, ℕ, zero, suc, ◌+◌, ◌<◌, List, [], ◌∷◌, ◌++◌, length, filter, get_or, map, take, refl, sym, ◌∙◌, ap, subst, arith, inl, inr, ◌==◌}
-use Rattle.std.proofs.lemmas.Bool.{cases_lt}
+use Rattle.std.proofs.Common.{cond, eqb, drop, ◌≡◌, ℕ, zero, suc, ◌+◌, ◌<◌, List, [], ◌∷◌, ◌++◌, length, filter, get_or, map, take, refl, sym, ◌∙◌, ap, subst, arith, inl, inr, ◌==◌}
+use Rattle.std.proofs.lemmas.Bool.{cases_lt, ne_eqb}
 use Rattle.std.proofs.lemmas.Grind.{flat_map-append}
 use Rattle.std.proofs.lemmas.List.{append-nil, get_or_push, length-append, map-append, take_more}
 use Rattle.std.specs.List.{AllByRecursion, flat_map}
@@ -8,13 +8,14 @@ use Rattle.mr_bytes.specs.Lists.{Distinct}
 use Rattle.mr_bytes.proofs.SortLaws.{sorted-Has_from}
 use Rattle.mr_bytes.specs.Pairs.{Triple, pair_order}
 use Rattle.mr_bytes.proofs.ListLaws.{Has-all, Has-filter_from, all_from_Has}
+use Rattle.mr_ranks.proofs.BucketLemmas.{take_front}
+use Rattle.mr_spill.specs.declared.sealed.SealedRegion.{SealedRegion}
 use Rattle.mr_spill.specs.Column.{names_of}
 use Rattle.mr_spill.specs.Entries.{Entry, nth_entry, under_key}
-use Rattle.mr_spill.specs.Lent.{HaveDistinctNames}
+use Rattle.mr_spill.specs.Lent.{AreRunsOf, IsSealedText}
 use Rattle.mr_spill.specs.Regions.{region}
-use Rattle.mr_spill.specs.Sealed.{AreFor, IsText}
+use Rattle.mr_spill.specs.Sealed.{AreFor, IsSealedAs, IsText}
 use Rattle.mr_spill.specs.Spelling.{SpellsRegion, pair_bytes}
-use Rattle.mr_spill.proofs.ReadingLemmas.{spells-one}
 use Rattle.mr_spill.proofs.RegionLaws.{region-sealed}
 
 pub all-append : {X : Type 0} (P : X → Type 0) (xs ys : List X) → AllByRecursion P xs → AllByRecursion P ys → AllByRecursion P (xs ++ ys)
@@ -49,15 +50,46 @@ at-front [] y d i h = absurd (omega (arith, h))
 at-front (x ∷ xs) y d zero h = refl
 at-front (x ∷ xs) y d (suc i) h = at-front xs y d i (omega (arith, h))
 
-pub are-more : (F : ℕ → List ℕ → Type 0) (n : ℕ) (texts : List (List ℕ)) (text : List ℕ) → AreFor F n texts → F n text → AreFor F (n + 1) (texts ++ text ∷ [])
-are-more F n texts text are new = record {
-  many = length-append texts (text ∷ []) ∙ ap (λ m. m + 1) are.many;
-  each = λ p h. elim (cases_lt p n) [
-    | inl low ↦ subst (F p) (sym (at-front texts text [] p (omega (arith, low, are.many)))) (are.each p low)
+pub are-more : {X : Type 0} (F : ℕ → X → Type 0) (n : ℕ) (xs : List X) (x : X) → AreFor F n xs → F n x → AreFor F (n + 1) (xs ++ x ∷ [])
+are-more {X} F n xs x are new = record {
+  many = length-append xs (x ∷ []) ∙ ap (λ m. m + 1) are.many;
+  each = λ p d h. elim (cases_lt p n) [
+    | inl low ↦ subst (F p) (sym (at-front xs x d p (omega (arith, low, are.many)))) (are.each p d low)
     | inr high ↦ (let same : n ≡ p = omega (arith, h, high) in
-        subst (λ q. F q (get_or (texts ++ text ∷ []) q [])) same (subst (F n) (sym (get_or_push texts text [] n are.many)) new))
+        subst (λ q. F q (get_or (xs ++ x ∷ []) q d)) same (subst (F n) (sym (get_or_push xs x d n are.many)) new))
   ];
 }
+
+-- ---- runs of one key
+
+-- pairs under one key, in front of others that stand in runs
+pub runs-front : (key : List ℕ) (run later : List Triple) (counts : List ℕ) → AllByRecursion (λ (t : Triple). t.key ≡ key) run → AreRunsOf counts later
+    → AreRunsOf (cond (eqb (length run) 0) [] (length run ∷ []) ++ counts) (run ++ later)
+runs-front key [] later counts same runs = runs
+runs-front key (t ∷ run) later counts same runs =
+    subst (λ b. AreRunsOf (cond b [] (suc (length run) ∷ []) ++ counts) (t ∷ run ++ later)) (sym (ne_eqb (suc (length run)) 0 (λ e. absurd (omega (arith, e))))) (
+      omega arith,
+      (
+        omega (arith, length-append run later),
+        (
+          subst (AllByRecursion (λ (u : Triple). u.key ≡ t.key)) (sym (ap (λ (l : List Triple). t ∷ l) (take_front (length run) run later refl)))
+              (refl, rekeyed run same.1),
+          subst (AreRunsOf counts) (sym (drop-front run later)) runs,
+        ),
+      ),
+    )
+  where
+    rekeyed : (us : List Triple) → AllByRecursion (λ (u : Triple). u.key ≡ key) us → AllByRecursion (λ (u : Triple). u.key ≡ t.key) us
+    rekeyed [] all = tt
+    rekeyed (u ∷ us) all = (all.0 ∙ sym same.0, rekeyed us all.1)
+
+    drop-front : (us ls : List Triple) → drop (length us) (us ++ ls) ≡ ls
+    drop-front [] ls = refl
+    drop-front (u ∷ us) ls = drop-front us ls
+
+pub under-key : (key : List ℕ) (es : List Entry) → AllByRecursion (λ (t : Triple). t.key ≡ key) (map (under_key key) es)
+under-key key [] = tt
+under-key key (e ∷ es) = (refl, under-key key es)
 
 -- ---- the text of a region
 
@@ -73,9 +105,12 @@ region-spells part ts split p text differ own is = record {
   few = is.few;
 }
 
-pub region-distinct : (part : List ℕ → ℕ) (ts : List Triple) (split p : ℕ) (text : List ℕ) → Distinct (names_of ts) → AllByRecursion (λ (t : Triple). t.name.split ≡ split) ts
-    → IsText split p (region part ts p) text → HaveDistinctNames text split
-region-distinct part ts split p text differ own is = λ q us s.
-    subst (λ (l : List Triple). Distinct (names_of l))
-    (sym (spells-one text split p q (region part ts p) us (region-spells part ts split p text differ own is) s))
-    (region-sealed part ts p differ).differ
+-- and a sealed region is one of its bytes
+pub region-sealed-text : (part : List ℕ → ℕ) (ts : List Triple) (split p : ℕ) (r : SealedRegion) → Distinct (names_of ts) → AllByRecursion (λ (t : Triple). t.name.split ≡ split) ts
+    → IsSealedAs split p (region part ts p) r → IsSealedText split p r.bytes.items r.counts.items
+region-sealed-text part ts split p r differ own is = record {
+  pairs = region part ts p;
+  spelled = region-spells part ts split p r.bytes.items differ own is.text;
+  differ = (region-sealed part ts p differ).differ;
+  runs = is.runs;
+}

@@ -2,6 +2,8 @@
 use Rattle.std.specs.Prelude.{◌≡◌, ℕ, ◌<◌, ◌^◌, List, [], length, slice_index_or}
 use Rattle.std.specs.List.{AllByRecursion}
 use Rattle.mr_bytes.specs.Pairs.{Triple}
+use Rattle.mr_spill.specs.declared.sealed.SealedRegion.{SealedRegion}
+use Rattle.mr_spill.specs.Lent.{AreRunsOf}
 use Rattle.mr_spill.specs.Spelling.{PairFits, SpellsRegion, region_bytes}
 
 -- the split whose run it is, and the bytes of its regions, by partition
@@ -15,13 +17,18 @@ pub record SpellsRun (run : RunText) (split parts : ℕ) (region : ℕ → List 
   pub count : length run.regions ≡ parts
   pub each : (p : ℕ) → p < parts → SpellsRegion (slice_index_or run.regions p []) split p (region p)
 
--- Of no public promise: there are as many texts, and each is for its place
-pub record AreFor (IsFor : ℕ → List ℕ → Type 0) (count : ℕ) (texts : List (List ℕ)) : Type 0 where
-  pub many : length texts ≡ count
-  pub each : (p : ℕ) → p < count → IsFor p (slice_index_or texts p [])
+-- Of no public promise: there are as many, and each is for its place
+pub record AreFor {X : Type 0} (IsFor : ℕ → X → Type 0) (count : ℕ) (xs : List X) : Type 0 where
+  pub many : length xs ≡ count
+  pub each : (p : ℕ) (d : X) → p < count → IsFor p (slice_index_or xs p d)
 
 -- Of no public promise: the text of these pairs, in whatever order they are
 pub record IsText (split partition : ℕ) (ts : List Triple) (text : List ℕ) : Type 0 where
   pub is : text ≡ region_bytes split partition ts
   pub fit : AllByRecursion PairFits ts
   pub few : length ts < 2 ^ 32
+
+-- Of no public promise: and how many each of their keys has
+pub record IsSealedAs (split partition : ℕ) (ts : List Triple) (r : SealedRegion) : Type 0 where
+  pub text : IsText split partition ts r.bytes.items
+  pub runs : AreRunsOf r.counts.items ts

@@ -1,6 +1,6 @@
 //! Regions as bytes that someone lends.
-ghost use Rattle.std.specs.Prelude.{◌≡◌, IsTrue};
-ghost use Rattle.mr_spill.specs.Lent.{HaveDistinctNames};
+ghost use Rattle.std.specs.Prelude.{◌≡◌, MatchOption};
+ghost use Rattle.mr_spill.specs.Lent.{IsSealedText};
 
 use std::marker::Model;
 
@@ -9,19 +9,21 @@ use std::marker::Model;
 pub struct Region<'a> {
     split: u32,
     bytes: &'a [u8],
-    /// Whatever the bytes spell, no name stands twice in it.
+    /// A seal made the bytes, for this partition, and of each key there are so many pairs.
     sealed: bool,
+    partition: u32,
+    counts: &'a [u32],
 }
 
 impl<'a> Model for Region<'a> {
     ghost use Rattle.std.specs.Prelude.{IsTrue};
-    ghost use Rattle.mr_spill.specs.Lent.{HaveDistinctNames, RegionText};
+    ghost use Rattle.mr_spill.specs.Lent.{IsSealedText, RegionText};
 
     ghost Value = { RegionText };
 
     ghost view = { λ r. record { split = r.split; bytes = r.bytes.now } };
 
-    ghost invariant = { λ r. IsTrue r.sealed → HaveDistinctNames r.bytes.now r.split };
+    ghost invariant = { λ r. IsTrue r.sealed → IsSealedText r.split r.partition r.bytes.now r.counts.now };
 }
 
 impl<'a> Region<'a> {
@@ -33,18 +35,27 @@ impl<'a> Region<'a> {
             split,
             bytes,
             sealed: false,
+            partition: 0,
+            counts: &[],
         }
     }
 
-    /// Bytes of which it is known that no name stands twice in what they spell, as in those of a region that a seal made.
-    pub fn of_sealed(bytes: &'a [u8], split: u32) -> Region<'a>
-        requires { HaveDistinctNames bytes.now split }
+    /// Bytes that a seal made for a partition, and how many pairs each key has.
+    pub(crate) fn of_sealed(
+        bytes: &'a [u8],
+        counts: &'a [u32],
+        split: u32,
+        partition: u32,
+    ) -> Region<'a>
+        requires { IsSealedText split partition bytes.now counts.now }
         ensures { result ≡ record { split = split; bytes = bytes.entry.now } }
     {
         Region {
             split,
             bytes,
             sealed: true,
+            partition,
+            counts,
         }
     }
 
@@ -62,10 +73,15 @@ impl<'a> Region<'a> {
         self.bytes
     }
 
-    /// Whether it is known that no name stands twice in what the bytes spell.
-    pub fn is_sealed(&self) -> bool
-        ensures { IsTrue result → HaveDistinctNames self.now.bytes self.now.split }
+    /// How many pairs each key has, one key behind another, where it is known that the bytes spell a region of this partition
+    /// in which no name stands twice.
+    pub fn runs(&self, partition: u32) -> Option<&'a [u32]>
+        ensures { MatchOption result Unit (λ counts. IsSealedText self.now.split partition self.now.bytes counts.now) }
     {
-        self.sealed
+        if self.sealed && self.partition == partition {
+            Some(self.counts)
+        } else {
+            None
+        }
     }
 }

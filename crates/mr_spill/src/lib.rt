@@ -32,6 +32,6 @@ pub use keyed::{KeyedPairs, keyed_column, keyed_pairs};
 pub use lent::Region;
 pub use numbered::Numbered;
 pub use reading::{RegionFault, read_region};
-pub use regions::{cut, gathered, spill_law};
+pub use regions::{gathered, spill_law};
 pub use sealed::SealedRun;
 pub use spelling::{worked_regions, write_region};

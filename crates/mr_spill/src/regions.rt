@@ -110,7 +110,7 @@ fn regions_of(
 
 /// For each partition, in order, the pairs that belong to it, by key and then name. Under each key the names rise already,
 /// and no name stands twice. Keys are sorted once each. It fails only for want of memory.
-pub fn cut(alloc: Global, pairs: &Numbered, parts: u32) -> Result<Vec<Pairs>, AllocError>
+pub(crate) fn cut(alloc: Global, pairs: &Numbered, parts: u32) -> Result<Vec<Pairs>, AllocError>
     requires some { 0 < parts }
     requires rise { RisesUnderKeys pairs.now }
     requires differ { Distinct (names_of pairs.now) }

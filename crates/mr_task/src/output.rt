@@ -75,7 +75,7 @@ impl MapOutput {
         requires run { i < length self.now.runs }
         ensures { result ≡ region_of p (nth_run self.now.runs i) }
     {
-        self.runs[i].region(p as usize)
+        self.runs[i].region(p)
     }
 }
 

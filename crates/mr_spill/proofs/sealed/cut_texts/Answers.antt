@@ -7,7 +7,7 @@ use Rattle.mr_ranks.proofs.ListLemmas.{same_length}
 use Rattle.mr_spill.specs.Entries.{Entry}
 use Rattle.mr_spill.specs.Regions.{region}
 use Rattle.mr_spill.specs.Rows.{IsRowAt, pairs_in}
-use Rattle.mr_spill.specs.Sealed.{AreFor, IsText}
+use Rattle.mr_spill.specs.Sealed.{AreFor, IsSealedAs}
 use Rattle.mr_spill.specs.Table.{IsTable}
 use Rattle.mr_spill.proofs.CutLemmas.{ranks-of, rows-at, table-of}
 use Rattle.mr_spill.proofs.RowLemmas.{rows-region}
@@ -36,6 +36,6 @@ returns c =
     let region-is : (p : ℕ) → pairs_in lists c.as_slice-rows.result.now p ≡ region (λ k. partition_of k c.args.parts) ts p =
     λ p. ap (λ (rs : List Row). pairs_in lists rs p) c.as_slice-rows.ensures.value
     ∙ rows-region c.args.parts ts (map row_key rows) lists table c.requires.rise p rows (rows-at keys c.args.parts rows are) are.rise (ranks-of keys c.args.parts rows are) in
-    subst (λ (f : ℕ → List Triple). IfOk c.texts_of.result (λ v. AreFor (λ p. IsText c.args.split p (f p)) c.args.parts (map (λ b. b.items) v.items)))
+    subst (λ (f : ℕ → List Triple). IfOk c.texts_of.result (λ v. AreFor (λ p. IsSealedAs c.args.split p (f p)) c.args.parts v.items))
     (λ i p. region-is p i)
     c.texts_of.ensures

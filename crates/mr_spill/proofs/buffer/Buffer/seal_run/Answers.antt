@@ -1,4 +1,4 @@
-use Rattle.std.proofs.Common.{◌≡◌, ◌<◌, ℕ, List, [], map, get_or, refl, ap, sym, subst, arith}
+use Rattle.std.proofs.Common.{◌≡◌, ◌∙◌, ◌∷◌, ◌<◌, ℕ, List, [], length, map, get_or, refl, ap, sym, subst, arith}
 use Rattle.std.proofs.lemmas.List.{get_or-map}
 use Rattle.std.specs.List.{AllByRecursion}
 use Rattle.mr_bytes.specs.Lists.{Distinct}
@@ -8,13 +8,20 @@ use Rattle.mr_partition.specs.Partition.{partition_of}
 use Rattle.mr_ranks.proofs.ListLemmas.{same_length}
 use Rattle.mr_spill.specs.Buffer.{Buffered}
 use Rattle.mr_spill.specs.Column.{names_of}
-use Rattle.mr_spill.specs.Lent.{HaveDistinctNames}
+use Rattle.mr_spill.specs.declared.sealed.SealedRegion.{SealedRegion}
 use Rattle.mr_spill.specs.Regions.{region}
 use Rattle.mr_spill.specs.Sealed.{RunText, SpellsRun}
+use Rattle.mr_spill.specs.Spelling.{SpellsRegion}
 use Rattle.mr_spill.proofs.RegionLaws.{names_total}
 use Rattle.mr_spill.proofs.RowLemmas.{names-under}
-use Rattle.mr_spill.proofs.SealedLemmas.{all-each, region-distinct, region-spells}
+use Rattle.mr_spill.proofs.SealedLemmas.{region-sealed-text, region-spells}
 use Rattle.mr_spill.proofs.buffer.Buffer.seal_run.Goals as goal
+
+-- what holds of a region's bytes, given any region
+each-of : (texts : List SealedRegion) (p : ℕ) (P : List ℕ → Type 0) → p < length texts → (SealedRegion → P (get_or (map (λ b. b.bytes.items) texts) p []))
+    → P (get_or (map (λ b. b.bytes.items) texts) p [])
+each-of [] p P h f = absurd (omega (arith, h))
+each-of (x ∷ texts) p P h f = f x
 
 pub cut_texts-requires-clause-rise : goal.cut_texts-requires-clause-rise
 cut_texts-requires-clause-rise c = names-under c.self.inside.pairs c.self.invariant.rise
@@ -30,11 +37,9 @@ invariant_of-result c =
     let differ : Distinct (names_of ts) = Distinct-rises names_total (names_of ts) c.self.invariant.rise in
     let own : AllByRecursion (λ (t : Triple). t.name.split ≡ split) ts =
     subst (AllByRecursion (λ (t : Triple). t.name.split ≡ split)) (sym (ap (λ (b : Buffered). b.pairs) c.self.view_is)) c.requires.own in
-    all-each (λ b. HaveDistinctNames b.items split) texts
-    (λ i d h.
-    let inside : i < c.args.parts = omega (arith, h, same_length (λ b. b.items) texts, c.in_ok-regions.ensures.many) in
-    subst (λ (l : List ℕ). HaveDistinctNames l split) (get_or-map (λ b. b.items) texts i d [] h)
-    (region-distinct (λ k. partition_of k c.args.parts) ts split i (get_or (map (λ b. b.items) texts) i []) differ own (c.in_ok-regions.ensures.each i inside)))
+    (λ p d h.
+    region-sealed-text (λ k. partition_of k c.args.parts) ts split p (get_or texts p d) differ own
+    (c.in_ok-regions.ensures.each p d (omega (arith, h, c.in_ok-regions.ensures.many))))
 
 pub returns-clause-ok : goal.returns-clause-ok
 returns-clause-ok c =
@@ -46,10 +51,14 @@ returns-clause-ok c =
     let differ : Distinct (names_of ts) = Distinct-rises names_total (names_of ts) c.self.invariant.rise in
     let own : AllByRecursion (λ (t : Triple). t.name.split ≡ split) ts =
     subst (AllByRecursion (λ (t : Triple). t.name.split ≡ split)) (sym same) c.requires.own in
-    let run : RunText = record { split = split; regions = map (λ b. b.items) texts } in
+    let run : RunText = record { split = split; regions = map (λ b. b.bytes.items) texts } in
     subst (λ (us : List Triple). SpellsRun run split parts (region (λ k. partition_of k parts) us)) same
     (record {
       own = refl;
-      count = c.in_ok-regions.ensures.many;
-      each = λ p h. region-spells (λ k. partition_of k parts) ts split p (get_or (map (λ b. b.items) texts) p []) differ own (c.in_ok-regions.ensures.each p h);
+      count = same_length (λ b. b.bytes.items) texts ∙ c.in_ok-regions.ensures.many;
+      each = λ p h.
+          each-of texts p (λ (l : List ℕ). SpellsRegion l split p (region (λ k. partition_of k parts) ts p)) (omega (arith, h, c.in_ok-regions.ensures.many))
+          (λ d.
+          subst (λ (l : List ℕ). SpellsRegion l split p (region (λ k. partition_of k parts) ts p)) (sym (get_or-map (λ b. b.bytes.items) texts p d [] (omega (arith, h, c.in_ok-regions.ensures.many))))
+          (region-spells (λ k. partition_of k parts) ts split p (get_or texts p d).bytes.items differ own (c.in_ok-regions.ensures.each p d h).text));
     })
