@@ -1,5 +1,5 @@
 //! Pairs pushed into a buffer, sealed into regions, and refused.
-ghost use Rattle.std.specs.Prelude.{◌≡◌, [], IfOk};
+ghost use Rattle.std.specs.Prelude.{◌≡◌, ◌≤◌, [], IfOk, length};
 
 use crate::regions::show_pairs;
 use crate::telling::Teller;
@@ -47,10 +47,11 @@ fn show_sealed(teller: &Teller, buffer: &mut Buffer, parts: u32) -> Result<(), A
 }
 
 /// A run, and how many pairs the buffer holds behind it.
-fn show_run_of(teller: &Teller, run: &SealedRun, left: usize) {
-    let parts = run.parts();
-    teller.two(&parts, &left);
-    for p in 0..parts as u32 {
+fn show_run_of(teller: &Teller, run: &SealedRun, parts: u32, left: usize)
+    requires { parts ≤ length run.now.regions }
+{
+    teller.two(&run.parts(), &left);
+    for p in 0..parts {
         let region = run.region(p);
         teller.two(&region.runs(p).is_some(), &region.bytes().len());
     }
@@ -63,7 +64,7 @@ fn show_run(teller: &Teller) -> Result<(), AllocError> {
         return Ok(());
     }
     let run = buffer.seal_run(teller.alloc(), 0, 1)?;
-    show_run_of(teller, &run, buffer.len());
+    show_run_of(teller, &run, 1, buffer.len());
     Ok(())
 }
 
