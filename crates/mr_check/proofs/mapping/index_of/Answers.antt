@@ -1,4 +1,5 @@
 use Rattle.std.proofs.Common.{refl, arith}
+use Rattle.std.proofs.lemmas.Grind.{common_steps}
 use Rattle.mr_check.proofs.IndexLemmas.{are_parts}
 use Rattle.mr_check.proofs.mapping.index_of.Goals as goal
 
@@ -15,3 +16,12 @@ join-index-requires g c =
           c.splits-splits.ensures.count c.splits-splits.ensures.few (omega (arith, inv.many, inv.within, c.loop-split-test.false))
           (λ s lt. inv.each s (omega (arith, lt, inv.many, inv.within, c.loop-split-test.false)));
     }
+
+pub loop-split-preserved : goal.loop-split-preserved
+loop-split-preserved g c = record {
+  within = omega arith;
+  behind = omega arith;
+  many = grind (arith, common_steps);
+  each = grind (arith, common_steps);
+  pieces = omega arith;
+}
