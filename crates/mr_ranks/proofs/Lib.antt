@@ -1,5 +1,6 @@
 pub mod BucketLemmas
 pub mod FrontLemmas
+pub mod FrontOrder
 pub mod ListLemmas
 pub mod OrderLemmas
 pub mod RankLemmas

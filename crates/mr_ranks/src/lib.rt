@@ -11,4 +11,5 @@ mod nearly;
 mod rows;
 
 pub use counting::{sizes_of, starts_of};
+pub use front::{front_law, front_of};
 pub use rows::{RankedPairs, Row, ranked};

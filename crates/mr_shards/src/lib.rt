@@ -3,7 +3,6 @@
 
 mod cursor;
 mod fault;
-mod front;
 mod line;
 mod merge;
 mod merger;
