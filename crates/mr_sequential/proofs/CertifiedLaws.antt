@@ -4,7 +4,6 @@ use Rattle.std.proofs.lemmas.List.{length-map}
 use Rattle.std.proofs.lemmas.List.Folds.{flat_map-map}
 use Rattle.std.proofs.lemmas.List.FromFn.{length-map-range_with_len, get_or-map-range_with_len}
 use Rattle.std.specs.List.{AllByRecursion, flat_map, cons_option, range_with_len}
-use Rattle.std.specs.Option.{option_map_or}
 use Rattle.std.specs.Str.{bytes_eq}
 use Rattle.std.specs.declared.cmp.Ordering.TheVariants.{Less}
 use Rattle.mr_bytes.specs.declared.Name.{Name}
@@ -26,7 +25,8 @@ use Rattle.mr_sequential.proofs.NameLaws.{names_rise}
 use Rattle.mr_sequential.proofs.NamedLaws.{triples_under, named-of, triple_order, rises_by_name}
 use Rattle.mr_sequential.proofs.SkipLaws.{good_skips}
 use Rattle.mr_sequential.proofs.EntryLaws.{names_total, EachFrom, distinct_entries}
-use Rattle.mr_sequential.proofs.GoodLaws.{flat_map-agree, keys-triple, triple-keys}
+use Rattle.mr_sequential.proofs.GoodLaws.{flat_map-agree, keys-triple, triple-keys, key_of_triple}
+use Rattle.mr_ranks.proofs.ListLemmas.{Has-range}
 
 names_from : (ts : List Triple) → Rises triple_order ts → Rises name_order (map (λ (t : Triple). t.name) ts)
 names_from [] r = tt
@@ -36,12 +36,6 @@ names_from (t ∷ ts) r = (
       subst (λ m. name_order t.name m ≡ Less) u.2 (Has-all (λ v. triple_order t v ≡ Less) ts u.0 r.0 u.1)),
   names_from ts r.1,
 )
-
-in_range : (a n i : ℕ) → i < n → Has (range_with_len a n) (a + i)
-in_range a zero i l = absurd (omega arith)
-in_range a (suc n) zero l = inl (omega arith)
-in_range a (suc n) (suc i) l =
-    let same : a + 1 + i ≡ a + suc i = omega arith in inr (subst (Has (range_with_len (a + 1) n)) same (in_range (a + 1) n i (omega arith)))
 
 -- the triples under the names of some are these
 pub back : (ts : List Triple) → Rises name_order (map (λ (t : Triple). t.name) ts) → (us : List Triple) → ((u : Triple) → Has us u → Has ts u)
@@ -58,9 +52,6 @@ module _ (part : List ℕ → ℕ) (text : List ℕ → List Value → List ℕ)
   named_back : (t : Triple) → Has ts t → named ts t.name ≡ Some t
   named_back t h = named-of ts t (Distinct-rises names_total _ rise) h
 
-  key_back : (t : Triple) → Has ts t → key_under ts t.name ≡ t.key
-  key_back t h = ap (λ o. option_map_or (λ (u : Triple). u.key) o []) (named_back t h)
-
   -- an entry of a group names a triple of its key
   entry_of : (k : List ℕ) (n : Name) → Has (names_with ts k) n → (t : Triple) × Has ts t × (t.key ≡ k) × (t.name ≡ n)
   entry_of k n h =
@@ -73,7 +64,7 @@ module _ (part : List ℕ → ℕ) (text : List ℕ → List Value → List ℕ)
       Has-map (λ (u : Triple). u.name) (triples_with ts t.key) t (Has-filter (λ (u : Triple). bytes_eq u.key t.key) ts t h (bytes_eq-same t.key))
 
   entry_key : (k : List ℕ) (n : Name) → Has (names_with ts k) n → key_under ts n ≡ k
-  entry_key k n h = let t = entry_of k n h in ap (key_under ts) (sym t.3) ∙ (key_back t.0 t.1 ∙ t.2)
+  entry_key k n h = let t = entry_of k n h in ap (key_under ts) (sym t.3) ∙ (key_of_triple ts rise t.0 t.1 ∙ t.2)
 
   group_key : (k : List ℕ) (ns : List Name) (n : Name) → ((m : Name) → Has ns m → key_under ts m ≡ k) → Has ns n → key_of ts ns ≡ k
   group_key k [] n f h = absurd h
@@ -168,9 +159,8 @@ module _ (part : List ℕ → ℕ) (text : List ℕ → List Value → List ℕ)
   all_names n fits m h =
       let t = Has-map_from (λ (u : Triple). u.name) ts m h in
       let p : ℕ = part t.0.key in
-      let zero_p : 0 + p ≡ p = omega arith in
       let there : Has (parts_of n) (groups_of part ts p) =
-      Has-map (groups_of part ts) (range_with_len 0 n) p (subst (Has (range_with_len 0 n)) zero_p (in_range 0 n p (fits t.0 t.1))) in
+      Has-map (groups_of part ts) (range_with_len 0 n) p (Has-range n p (fits t.0 t.1)) in
       let group_there : Has (groups_of part ts p) (names_with ts t.0.key) =
       Has-map (names_with ts) (keys_at p) t.0.key (keys-triple part p ts t.0 t.1 refl) in
       let entry : Has (names_with ts t.0.key) m = subst (Has (names_with ts t.0.key)) t.2 (in_group t.0 t.1) in

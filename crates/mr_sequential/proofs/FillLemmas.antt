@@ -1,5 +1,5 @@
 -- Texts from the groups: of a job that counts by their sizes, and of another by the values that their names tell.
-use Rattle.std.proofs.Common.{◌≡◌, ℕ, ◌+◌, ◌-◌, ◌<◌, ◌≤◌, List, [], ◌∷◌, ◌++◌, length, get_or, drop, map, refl, sym, ◌∙◌, ap, arith, subst, slice_range, IsTrue, All, inl, inr}
+use Rattle.std.proofs.Common.{◌≡◌, ℕ, ◌+◌, ◌-◌, ◌<◌, ◌≤◌, List, [], ◌∷◌, ◌++◌, length, get_or, drop, map, sym, ◌∙◌, ap, arith, subst, slice_range, IsTrue, All, inl, inr}
 use Rattle.std.proofs.lemmas.Bool.{cases_eq}
 use Rattle.std.proofs.lemmas.List.{length-map, length-take, length-drop}
 use Rattle.std.proofs.lemmas.List.Elements.{All-nil, All-cons, All-head, All-tail}
@@ -13,7 +13,7 @@ use Rattle.mr_ranks.specs.declared.rows.Row.{Row}
 use Rattle.mr_ranks.specs.Buckets.{before, size, bucket}
 use Rattle.mr_ranks.specs.Rows.{no_row}
 use Rattle.mr_splits.specs.Named.{NamedRecord}
-use Rattle.mr_ranks.proofs.BucketLemmas.{before-more, before-rises, before-sizes, bucket-cons, one-same, one-other}
+use Rattle.mr_ranks.proofs.BucketLemmas.{before-more, before-rises, before-sizes, bucket-cons, one-same, one-other, bucket-map}
 use Rattle.mr_sequential.specs.Names.{value_under}
 use Rattle.mr_sequential.specs.Rows.{bucket_text, count_line, names_text, row_names, row_start, row_texts}
 use Rattle.mr_sequential.proofs.TextLemmas.{row_texts-congr}
@@ -47,19 +47,6 @@ counted-texts job all rows cs names p counting room =
     ∙ sym (counters_tell_the_number job key vs counting)))
 
 -- ---- names in their buckets
-
-bucket-map : {X Y : Type 0} (f : X → Y) (i : ℕ) (is : List ℕ) (xs : List X) → map f (bucket i (zip is xs)) ≡ bucket i (zip is (map f xs))
-bucket-map f i [] xs = refl
-bucket-map f i (j ∷ is) [] = refl
-bucket-map f i (j ∷ is) (x ∷ xs) =
-    elim (cases_eq j i) [
-      | inl e ↦
-          ap (map f) (bucket-cons i (j, x) (zip is xs) ∙ ap (λ l. l ++ bucket i (zip is xs)) (one-same i (j, x) e)) ∙ ap (λ l. f x ∷ l) (bucket-map f i is xs)
-          ∙ sym (bucket-cons i (j, f x) (zip is (map f xs)) ∙ ap (λ l. l ++ bucket i (zip is (map f xs))) (one-same i (j, f x) e))
-      | inr ne ↦
-          ap (map f) (bucket-cons i (j, x) (zip is xs) ∙ ap (λ l. l ++ bucket i (zip is xs)) (one-other i (j, x) ne)) ∙ bucket-map f i is xs
-          ∙ sym (bucket-cons i (j, f x) (zip is (map f xs)) ∙ ap (λ l. l ++ bucket i (zip is (map f xs))) (one-other i (j, f x) ne))
-    ]
 
 pub All-bucket : {X : Type 0} (P : X → Type 0) (i : ℕ) (is : List ℕ) (xs : List X) → All P xs → All P (bucket i (zip is xs))
 All-bucket P i [] xs all = All-nil P

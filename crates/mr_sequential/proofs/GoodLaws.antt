@@ -1,5 +1,5 @@
 -- A good result is that of the sequential execution.
-use Rattle.std.proofs.Common.{◌≡◌, ℕ, suc, ◌<◌, ◌≤◌, Some, List, [], ◌∷◌, length, map, get_or, refl, ap, sym, ◌∙◌, subst, inl, inr, arith, true, IsSome}
+use Rattle.std.proofs.Common.{◌≡◌, ℕ, ◌<◌, ◌≤◌, Some, List, [], ◌∷◌, length, map, refl, ap, sym, ◌∙◌, subst, inl, inr, arith, true, IsSome}
 use Rattle.std.proofs.lemmas.Cmp.{nat_list_cmp_total, on_total}
 use Rattle.std.proofs.lemmas.List.Folds.{flat_map-map}
 use Rattle.std.specs.List.{flat_map}
@@ -8,7 +8,7 @@ use Rattle.std.specs.Cmp.{IsTotalOrder}
 use Rattle.std.specs.Str.{bytes_eq}
 use Rattle.mr_bytes.specs.declared.Name.{Name}
 use Rattle.mr_bytes.specs.declared.Value.{Value}
-use Rattle.mr_bytes.specs.Lists.{Has, Rises, Distinct}
+use Rattle.mr_bytes.specs.Lists.{Has, Rises}
 use Rattle.mr_bytes.specs.Order.{name_order}
 use Rattle.mr_input.specs.Files.{nth_file}
 use Rattle.mr_partition.specs.Partition.{partition_of}
@@ -23,23 +23,11 @@ use Rattle.mr_sequential.proofs.KeyLaws.{bytes_eq-is, bytes_eq-same, keys_rise}
 use Rattle.mr_sequential.proofs.NameLaws.{names_rise}
 use Rattle.mr_sequential.proofs.NamedLaws.{triples_under, some_is, named-Has, named-of, Has-filter_map, Has-filter_map_from, triple_order, rises_by_name, triples-rise}
 use Rattle.mr_sequential.proofs.EntryLaws.{names_total, key_in_group, part_in_group, entries_are_distinct, none_is_left_out}
+use Rattle.mr_ranks.proofs.ListLemmas.{Has-Contains, same_image}
+use Rattle.std.proofs.lemmas.List.{get_or_default}
 
 triples_total : IsTotalOrder triple_order
 triples_total = on_total (λ (t : Triple). t.name) names_total
-
--- what stands in a list stands at some place of it
-place_of : {X : Type 0} (xs : List X) (x d : X) → Has xs x → (q : ℕ) × (q < length xs) × (get_or xs q d ≡ x)
-place_of [] x d h = absurd h
-place_of (y ∷ xs) x d (inl e) = (0, omega arith, e)
-place_of (y ∷ xs) x d (inr h) = let r = place_of xs x d h in (suc (r.0), omega (arith, r.1), r.2)
-
--- where images are distinct, elements with one image are one
-same_image : {X Y : Type 0} (f : X → Y) (xs : List X) (x y : X) → Distinct (map f xs) → Has xs x → Has xs y → f x ≡ f y → x ≡ y
-same_image f [] x y d h g e = absurd h
-same_image f (z ∷ xs) x y d (inl a) (inl b) e = sym a ∙ b
-same_image {X} {Y} f (z ∷ xs) x y d (inl a) (inr b) e = absurd (d.0 (subst (Has (map f xs)) (sym e ∙ sym (ap f a)) (Has-map f xs y b)))
-same_image f (z ∷ xs) x y d (inr a) (inl b) e = absurd (d.0 (subst (Has (map f xs)) (e ∙ sym (ap f b)) (Has-map f xs x a)))
-same_image f (z ∷ xs) x y d (inr a) (inr b) e = same_image f xs x y d.1 a b e
 
 -- joined texts agree where each does
 pub flat_map-agree : {X A : Type 0} (f g : X → List A) (xs : List X) → ((x : X) → Has xs x → f x ≡ g x) → flat_map f xs ≡ flat_map g xs
@@ -61,11 +49,11 @@ triple-keys part p ts k h =
     let t = Has-map_from (λ (u : Triple). u.key) ts k r.0 in
     (t.0, t.1, t.2, r.1)
 
-module _ (part : List ℕ → ℕ) (text : List ℕ → List Value → List ℕ) (ts : List Triple) (parts : List (List (List Name))) (outputs : List (List ℕ)) (rise : Rises name_order (map (λ (t : Triple). t.name) ts)) (good : AreGood (record { part = part; text = text }) ts parts outputs) where
-  -- the key under a triple's name is its key
-  key_of_triple : (t : Triple) → Has ts t → key_under ts t.name ≡ t.key
-  key_of_triple t h = ap (λ o. option_map_or (λ (u : Triple). u.key) o []) (named-of ts t (Distinct-rises names_total _ rise) h)
+-- the key under a triple's name is its key
+pub key_of_triple : (ts : List Triple) → Rises name_order (map (λ (t : Triple). t.name) ts) → (t : Triple) → Has ts t → key_under ts t.name ≡ t.key
+key_of_triple ts rise t h = ap (λ o. option_map_or (λ (u : Triple). u.key) o []) (named-of ts t (Distinct-rises names_total _ rise) h)
 
+module _ (part : List ℕ → ℕ) (text : List ℕ → List Value → List ℕ) (ts : List Triple) (parts : List (List (List Name))) (outputs : List (List ℕ)) (rise : Rises name_order (map (λ (t : Triple). t.name) ts)) (good : AreGood (record { part = part; text = text }) ts parts outputs) where
   -- an entry of a good group names a triple
   entry_named : (p : ℕ) (g : List Name) (n : Name) → IsGoodGroup part ts p g → Has g n → (t : Triple) × (named ts n ≡ Some t)
   entry_named p g n ok h = some_is (named ts n) (Has-all (λ m. IsSome (named ts m)) g n ok.entries h)
@@ -80,8 +68,8 @@ module _ (part : List ℕ → ℕ) (text : List ℕ → List Value → List ℕ)
   stands n h =
       let in_part = Has-flat_map_from (λ (gs : List (List Name)). flat_map (λ g. g) gs) parts n h in
       let in_group = Has-flat_map_from (λ (g : List Name). g) in_part.0 n in_part.2 in
-      let at = place_of parts in_part.0 [] in_part.1 in
-      (at.0, in_group.0, record { below = at.1; here = subst (λ gs. Has gs in_group.0) (sym (at.2)) in_group.1; entry = in_group.2 })
+      let at = Has-Contains parts in_part.0 in_part.1 in
+      (at.0, in_group.0, record { below = at.1; here = subst (λ gs. Has gs in_group.0) (sym (get_or_default parts at.0 [] in_part.0 at.1 ∙ at.2)) in_group.1; entry = in_group.2 })
 
   group_ok : (n : Name) (q : ℕ) (g : List Name) → StandsIn n q g → IsGoodGroup part ts q g
   group_ok n q g s = Has-all (IsGoodGroup part ts q) (groups_at parts q) g (good.each q s.below).groups.each s.here
@@ -104,7 +92,7 @@ module _ (part : List ℕ → ℕ) (text : List ℕ → List Value → List ℕ)
   -- it stands in the partition and in the group of its key
   stands_right : (t : Triple) (h : Has ts t) (q : ℕ) (g : List Name) → StandsIn t.name q g → (part t.key ≡ q) × (key_of ts g ≡ t.key)
   stands_right t h q g s =
-      let k = key_of_triple t h in (
+      let k = key_of_triple ts rise t h in (
         ap part (sym k) ∙ part_in_group part ts q g t.name (group_ok t.name q g s) s.entry,
         sym (key_in_group part ts q g t.name (group_ok t.name q g s) s.entry) ∙ k,
       )

@@ -2,8 +2,8 @@
 use Rattle.std.proofs.Common.{◌≡◌, ℕ, List, [], ◌∷◌, map, refl, ap, sym, ◌∙◌, subst, inl, inr, ◌⊎◌, Bool, true, false, cond, eqb, ◌==◌}
 use Rattle.std.proofs.lemmas.Bool.{eqb-true, eq-eqb}
 use Rattle.std.proofs.lemmas.Cmp.{nat_list_cmp_total}
-use Rattle.std.specs.Cmp.Lexicographic.{texts_ties, bytes_decides}
-use Rattle.std.specs.Ordering.{is_eq, ordering_reverse, match_ordering}
+use Rattle.std.specs.Cmp.Lexicographic.{bytes_decides}
+use Rattle.std.specs.Ordering.{ordering_reverse, match_ordering}
 use Rattle.std.specs.declared.cmp.Ordering.{Ordering}
 use Rattle.std.specs.declared.cmp.Ordering.TheVariants.{Less, Equal, Greater}
 use Rattle.mr_bytes.specs.Lists.{Has, Rises}
@@ -15,15 +15,13 @@ use Rattle.mr_sequential.specs.Emitted.{emitted}
 use Rattle.mr_sequential.specs.Rules.{rules_of}
 use Rattle.mr_sequential.specs.Laws.{HasJust, KeysRise, KeysAreUnique, OutputsAreInKeyOrder}
 use Rattle.mr_bytes.proofs.ListLaws.{Has-all, all_from_Has, same_rising}
+pub use Rattle.mr_ranks.proofs.OrderLemmas.{key_tie}
 
 pub bytes_eq-is : (j k : List ℕ) → bytes_eq j k ≡ true → j ≡ k
 bytes_eq-is j k e = (bytes_decides j k).0 e
 
 pub bytes_eq-same : (k : List ℕ) → bytes_eq k k ≡ true
 bytes_eq-same k = (bytes_decides k k).1 refl
-
-pub key_tie : (j k : List ℕ) → key_order j k ≡ Equal → j ≡ k
-key_tie j k e = bytes_eq-is j k (texts_ties j k ∙ ap is_eq e)
 
 before_turned : (j k : List ℕ) → key_order j k ≡ Greater → key_order k j ≡ Less
 before_turned j k e = nat_list_cmp_total.antisymm k j ∙ ap ordering_reverse e

@@ -1,6 +1,6 @@
 -- Records one after another, and how many pairs they give.
 use Rattle.std.proofs.Common.{◌≡◌, ℕ, suc, ◌+◌, ◌/◌, ◌≤◌, ◌^◌, cond, not, true, false, List, [], ◌∷◌, ◌++◌, length, refl, sym, ◌∙◌, ap, arith, append_assoc, map, filter, eqb}
-use Rattle.std.proofs.lemmas.List.{map-append}
+use Rattle.std.proofs.lemmas.List.{map-append, append-nil, length-append, length-map}
 use Rattle.std.proofs.lemmas.List.Sums.{sum_by-cons}
 use Rattle.std.specs.List.{flat_map, zip}
 use Rattle.std.specs.Str.{bytes_eq}
@@ -20,11 +20,7 @@ use Rattle.mr_sequential.specs.Names.{names_from, names_beside, kept_names, pair
 use Rattle.mr_sequential.specs.Certified.{names_with, groups_of}
 use Rattle.mr_sequential.specs.Pairs.{kept_pairs, record_keys, record_pairs, values_in, texts_in, names_under, groups_in}
 use Rattle.mr_sequential.specs.Sequential.{keys_of, texts_of, values_of}
-use Rattle.mr_ranks.proofs.ListLemmas.{length-append}
-
-pub flat_map-append : {X Y : Type 0} (f : X → List Y) (xs ys : List X) → flat_map f (xs ++ ys) ≡ flat_map f xs ++ flat_map f ys
-flat_map-append f [] ys = refl
-flat_map-append f (x ∷ xs) ys = ap (λ l. f x ++ l) (flat_map-append f xs ys) ∙ sym (append_assoc (f x) (flat_map f xs) (flat_map f ys))
+pub use Rattle.std.proofs.lemmas.List.Concat.{flat_map-append}
 
 -- a list of what is kept gives the same as one in which what is left out gives nothing
 kept-flat : {Y : Type 0} (f : NamedRecord → List Y) (skips : List RecordName) (rs : List NamedRecord)
@@ -66,11 +62,7 @@ next_counted f old now all left later r is grown before =
 
 -- no more records
 pub last_gathered : {Y : Type 0} (f : NamedRecord → List Y) (old all : List Y) (left : List NamedRecord) → left ≡ [] → old ++ flat_map f left ≡ all → old ≡ all
-last_gathered {Y} f old all left none before = sym (ap (λ (l : List NamedRecord). old ++ flat_map f l) none ∙ append_nil old) ∙ before
-  where
-    append_nil : (es : List Y) → es ++ [] ≡ es
-    append_nil [] = refl
-    append_nil (e ∷ es) = ap (λ l. e ∷ l) (append_nil es)
+last_gathered {Y} f old all left none before = sym (ap (λ (l : List NamedRecord). old ++ flat_map f l) none ∙ append-nil old) ∙ before
 
 -- ---- how many pairs there can be: each record gives at most one more than it has bytes
 
@@ -173,13 +165,9 @@ pub emitted-pairs : (request : RequestSpec) (files : List (List ℕ)) (skips : L
     → map pair_of (emitted request.job request.split files skips) ≡ flat_map (kept_pairs request.job skips) (named_records request.split files)
 emitted-pairs request files skips = all-pairs request.job skips (named_records request.split files)
 
-same_length : (ts : List Triple) → length (map pair_of ts) ≡ length ts
-same_length [] = refl
-same_length (t ∷ ts) = ap suc (same_length ts)
-
 pub emitted-count : (request : RequestSpec) (files : List (List ℕ)) (skips : List RecordName)
     → length (flat_map (kept_pairs request.job skips) (named_records request.split files)) ≡ length (emitted request.job request.split files skips)
-emitted-count request files skips = ap length (sym (emitted-pairs request files skips)) ∙ same_length (emitted request.job request.split files skips)
+emitted-count request files skips = ap length (sym (emitted-pairs request files skips)) ∙ length-map (emitted request.job request.split files skips) pair_of
 
 pub triple-keys : (ts : List Triple) → map (λ (e : Emission). e.0) (map pair_of ts) ≡ map (λ (t : Triple). t.key) ts
 triple-keys [] = refl
@@ -194,15 +182,11 @@ triple-values k (t ∷ ts) =
       | false ↦ triple-values k ts
     ]
 
-flat_map-same : (f g : List ℕ → List ℕ) → ((k : List ℕ) → f k ≡ g k) → (ks : List (List ℕ)) → flat_map f ks ≡ flat_map g ks
-flat_map-same f g e [] = refl
-flat_map-same f g e (k ∷ ks) = ap (λ l. l ++ flat_map f ks) (e k) ∙ ap (λ l. g k ++ l) (flat_map-same f g e ks)
-
 -- texts by pairs are texts by triples
 pub texts-triples : (part : List ℕ → ℕ) (text : List ℕ → List Value → List ℕ) (ts : List Triple) (p : ℕ) → texts_in part text (map pair_of ts) p ≡ texts_of (record { part = part; text = text }) ts p
 texts-triples part text ts p =
     ap (λ ks. flat_map (λ k. text k (values_in (map pair_of ts) k)) (keys_of part ks p)) (triple-keys ts)
-    ∙ flat_map-same (λ k. text k (values_in (map pair_of ts) k)) (λ k. text k (values_of ts k)) (λ k. ap (text k) (triple-values k ts)) (keys_of part (map (λ (t : Triple). t.key) ts) p)
+    ∙ (λ i. flat_map (λ k. text k (triple-values k ts i)) (keys_of part (map (λ (t : Triple). t.key) ts) p))
 
 -- ---- the names of what records give
 
@@ -257,17 +241,10 @@ triple-names k (t ∷ ts) =
       | false ↦ triple-names k ts
     ]
 
-map-same : {X Y : Type 0} (f g : X → Y) → ((x : X) → f x ≡ g x) → (xs : List X) → map f xs ≡ map g xs
-map-same f g e [] = refl
-map-same f g e (x ∷ xs) = ap (λ y. y ∷ map f xs) (e x) ∙ ap (λ l. g x ∷ l) (map-same f g e xs)
-
 -- groups by keys and names are groups by triples
 pub groups-triples : (part : List ℕ → ℕ) (ts : List Triple) (ps : List ℕ)
     → map (groups_in part (map (λ (t : Triple). t.key) ts) (map (λ (t : Triple). t.name) ts)) ps ≡ map (groups_of part ts) ps
-groups-triples part ts ps =
-    map-same (groups_in part (map (λ (t : Triple). t.key) ts) (map (λ (t : Triple). t.name) ts)) (groups_of part ts)
-    (λ p. map-same (names_under (map (λ (t : Triple). t.key) ts) (map (λ (t : Triple). t.name) ts)) (names_with ts) (λ k. triple-names k ts) (keys_of part (map (λ (t : Triple). t.key) ts) p))
-    ps
+groups-triples part ts ps = λ i. map (λ p. map (λ k. triple-names k ts i) (keys_of part (map (λ (t : Triple). t.key) ts) p)) ps
 
 -- as many names as keys
 pub even_lists : (ts : List Triple) → length (map (λ (t : Triple). t.name) ts) ≡ length (map (λ (t : Triple). t.key) ts)

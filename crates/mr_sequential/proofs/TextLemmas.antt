@@ -1,7 +1,7 @@
 -- Texts that grow, one row after another.
 use Rattle.std.proofs.Common.{◌≡◌, ◌≢◌, ℕ, suc, ◌+◌, ◌<◌, ◌≤◌, cond, eqb, List, [], ◌∷◌, ◌++◌, length, get_or, set, drop, refl, sym, ◌∙◌, ap, arith, Vec, Global, append_assoc, inl, inr, subst}
 use Rattle.std.proofs.lemmas.Bool.{cases_eq, eq-eqb, ne_eqb}
-use Rattle.std.proofs.lemmas.List.{at_drop_more, at_drop_all, map-set, get_or-map, get_or-set_same, get_or-set_other}
+use Rattle.std.proofs.lemmas.List.{at_drop_more, at_drop_all, map-set, get_or-map, get_or-set_same, get_or-set_other, append-nil}
 use Rattle.mr_input.specs.Files.{contents, nth_file}
 use Rattle.mr_ranks.specs.declared.rows.Row.{Row}
 use Rattle.mr_ranks.specs.Rows.{no_row}
@@ -34,10 +34,6 @@ pub row_texts-other : (text : ℕ → Row → List ℕ) (p r : ℕ) (x : Row) (x
 row_texts-other text p r x xs e =
     row_texts-cons text p r x xs ∙ ap (λ t. cond t (text r x ++ row_texts text p (r + 1) xs) (row_texts text p (r + 1) xs)) (ne_eqb x.part p e)
 
-append_nil : (xs : List ℕ) → xs ++ [] ≡ xs
-append_nil [] = refl
-append_nil (x ∷ xs) = ap (λ l. x ∷ l) (append_nil xs)
-
 -- the text of one more row stands at the end of its partition's text
 pub row_more : (text : ℕ → Row → List ℕ) (rows : List Row) (r : ℕ) (x : Row) (ts ts' : List (List ℕ)) (p : ℕ) → r < length rows → x ≡ get_or rows r x
     → x.part < length ts → ts' ≡ set ts x.part (nth_file ts x.part ++ text r x)
@@ -58,7 +54,7 @@ row_more text rows r x ts ts' p h is within grown =
     ]
 
 pub row_end : (text : ℕ → Row → List ℕ) (rows : List Row) (r p : ℕ) (t : List ℕ) → length rows ≤ r → t ++ row_texts text p r (drop r rows) ≡ t
-row_end text rows r p t h = ap (λ l. t ++ l) (at_drop_all (row_texts text p r) rows r h ∙ row_texts-nil text p r) ∙ append_nil t
+row_end text rows r p t h = ap (λ l. t ++ l) (at_drop_all (row_texts text p r) rows r h ∙ row_texts-nil text p r) ∙ append-nil t
 
 -- rows of the same texts
 pub row_texts-congr : (f g : ℕ → Row → List ℕ) (p r : ℕ) (rows : List Row)

@@ -1,13 +1,13 @@
 //! From gathered pairs to the outputs and the groups of a certificate.
 ghost use Rattle.std.specs.Prelude.{◌≡◌, ℕ, ◌<◌, ◌^◌, IfOk, length, map};
-ghost use Rattle.std.specs.List.{range_with_len, zip};
+ghost use Rattle.std.specs.List.{range_with_len};
 ghost use Rattle.mr_certform.specs.Flat.{AreCounted, chunks};
 ghost use Rattle.mr_input.specs.Files.{contents, nth_file};
 ghost use Rattle.mr_partition.specs.Partition.{partition_of};
 ghost use Rattle.mr_reduce.specs.Text.{text_of};
 ghost use Rattle.mr_splits.specs.Cut.{records_of};
 ghost use Rattle.mr_splits.specs.Kept.{kept_records};
-ghost use Rattle.mr_sequential.specs.Names.{names_beside, value_under};
+ghost use Rattle.mr_sequential.specs.Names.{names_beside};
 ghost use Rattle.mr_sequential.specs.Pairs.{groups_in, texts_in, valued};
 
 use crate::gathered::Gathered;

@@ -5,7 +5,7 @@ use Rattle.mr_bytes.specs.declared.Value.{Value}
 use Rattle.mr_partition.specs.Partition.{partition_of}
 use Rattle.mr_reduce.specs.Text.{text_of}
 use Rattle.mr_ranks.specs.declared.rows.Row.{Row}
-use Rattle.mr_ranks.specs.Rows.{IsRanked, row_key, row_part}
+use Rattle.mr_ranks.specs.Rows.{IsRanked, row_part}
 use Rattle.mr_keys.specs.Keys.{key_at}
 use Rattle.mr_splits.specs.Named.{NamedRecord}
 use Rattle.mr_splits.specs.Cut.{Cut, records_of}
@@ -14,21 +14,17 @@ use Rattle.mr_sequential.specs.Names.{IsOfRecord, names_beside, value_under}
 use Rattle.mr_sequential.specs.Pairs.{buckets, groups_in, keyed, texts_in}
 use Rattle.mr_sequential.specs.Rows.{bucket_text, names_text, row_names, row_texts}
 use Rattle.mr_ranks.proofs.BucketLemmas.{before-total, length-zip}
-use Rattle.mr_ranks.proofs.ListLemmas.{same_length}
 use Rattle.mr_sequential.proofs.FillLemmas.{ArePut, put-start, put-names, put-texts, All-bucket}
 use Rattle.mr_sequential.proofs.RankLemmas.{texts-rows}
 use Rattle.mr_sequential.proofs.RankedGroups.{groups-rows, ranks-used}
 use Rattle.mr_sequential.proofs.ValueLemmas.{names-named}
 use Rattle.mr_sequential.proofs.outputs.outputs.Goals as goal
-
--- as many ranks as pairs
-rank_count : (keys : List (List ℕ)) (rows : List Row) (is rs : List ℕ) → IsRanked keys rows is rs → length rs ≡ length is
-rank_count keys rows is rs ranks =
-    omega (arith, ap length ranks.keys_are, same_length (key_at (map row_key rows)) rs, same_length (key_at keys) is)
+use Rattle.mr_ranks.proofs.RankLemmas.{rank_count}
+use Rattle.std.proofs.lemmas.List.{length-map}
 
 -- as many pairs as keys are seen
 pair_count : (keys : List (List ℕ)) (is : List ℕ) (seen : List (List ℕ)) → keyed keys is ≡ seen → length seen ≡ length is
-pair_count keys is seen view = omega (arith, same_length (key_at keys) is, ap length view)
+pair_count keys is seen view = omega (arith, length-map is (key_at keys), ap length view)
 
 -- as many names as ranks
 even : (names : List Name) (keys seen : List (List ℕ)) (rows : List Row) (is rs : List ℕ) → IsRanked keys rows is rs → keyed keys is ≡ seen
@@ -93,7 +89,7 @@ returns-clause-texts c = λ p h.
     let vs : List Value = map (value_under job all) beside in
     let put : ArePut rs beside (length shown) cs names = record { sizes = told.sizes; entries = told.entries } in
     let same : length g.numbers.items ≡ length vs =
-    omega (arith, same_length (value_under job all) beside, c.requires.all, pair_count g.keys g.numbers.items c.args.gathered c.gathered.view_is) in
+    omega (arith, length-map beside (value_under job all), c.requires.all, pair_count g.keys g.numbers.items c.args.gathered c.gathered.view_is) in
     c.in_ok-texts.ensures.texts p h
     ∙ ap (λ (k : Cut). row_texts (names_text job (records_of k) cs names) p 0 c.as_slice-2.result.now) c.plan.ensures
     ∙ ap (λ (l : List Row). row_texts (names_text job all cs names) p 0 l) (c.as_slice-2.ensures.value ∙ sym c.as_slice.ensures.value)

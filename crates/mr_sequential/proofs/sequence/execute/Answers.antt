@@ -7,8 +7,8 @@ use Rattle.mr_sequential.specs.Certified.{certificate_of}
 use Rattle.mr_sequential.specs.Good.{IsGood}
 use Rattle.mr_sequential.specs.Sequential.{sequential}
 use Rattle.mr_sequential.proofs.CertifiedLaws.{sequential_is_good}
-use Rattle.mr_ranks.proofs.ListLemmas.{same_length}
 use Rattle.mr_sequential.proofs.sequence.execute.Goals as goal
+use Rattle.std.proofs.lemmas.List.{length-map}
 
 pub returns-clause-texts : goal.returns-clause-texts
 returns-clause-texts g c = λ p h.
@@ -46,5 +46,5 @@ returns-clause-is_good g c =
     (omega (arith, c.requires.some, c.requires.size))
     (omega (arith, c.parts-parts.ensures.same, c.parts-parts.ensures.within.0))
     c.requires.fault
-    (omega (arith, same_length (λ (v : Vec ℕ Global). v.items) texts, c.in_ok-texts.ensures.count))
+    (omega (arith, length-map texts (λ (v : Vec ℕ Global). v.items), c.in_ok-texts.ensures.count))
     (returns-clause-texts g c))

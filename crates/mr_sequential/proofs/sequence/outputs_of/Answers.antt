@@ -14,10 +14,10 @@ use Rattle.mr_bytes.specs.Pairs.{Triple}
 use Rattle.mr_sequential.specs.Emitted.{emitted}
 use Rattle.mr_sequential.specs.Names.{kept_names, names_beside, pair_count}
 use Rattle.mr_sequential.specs.Pairs.{groups_in, kept_pairs, texts_in, valued}
-use Rattle.mr_ranks.proofs.ListLemmas.{same_length}
 use Rattle.mr_sequential.proofs.SourceLemmas.{beside-counts, few_pairs, pair_of, emitted-pairs, emitted-names, even_lists, kept-names, texts-triples, triple-keys, groups-triples}
 use Rattle.mr_sequential.proofs.ValueLemmas.{emitted-valued}
 use Rattle.mr_sequential.proofs.sequence.outputs_of.Goals as goal
+use Rattle.std.proofs.lemmas.List.{length-map}
 
 -- the files of an input are few and small enough for numbers of four bytes
 limits : (input files : List (List ℕ)) (count : ℕ) → input ≡ files → count ≡ length input → count ≤ 1024 → length files ≤ 1024
@@ -68,7 +68,7 @@ outputs-requires-clause-few g c =
     omega (
       arith,
       ap length c.in_ok-pairs.ensures.keys,
-      same_length (λ (e : Emission). e.0) (flat_map (kept_pairs job kept.skips) (records_of kept.cut)),
+      length-map (flat_map (kept_pairs job kept.skips) (records_of kept.cut)) (λ (e : Emission). e.0),
       few_pairs job kept.skips kept.cut.size files few small,
     )
 

@@ -10,10 +10,10 @@ use Rattle.mr_splits.specs.Cut.{Cut, records_of}
 use Rattle.mr_splits.specs.Kept.{kept_records}
 use Rattle.mr_sequential.specs.Names.{pair_count}
 use Rattle.mr_sequential.specs.Pairs.{kept_pairs, record_keys}
-use Rattle.mr_ranks.proofs.ListLemmas.{length-append, same_length}
 use Rattle.mr_sequential.proofs.LineLemmas.{Stands, records-stand}
 use Rattle.mr_sequential.proofs.SourceLemmas.{kept-keys, next_counted, next_gathered, last_gathered}
 use Rattle.mr_sequential.proofs.source.gather_all.Goals as goal
+use Rattle.std.proofs.lemmas.List.{length-map, length-append}
 
 pub loop-line-init : goal.loop-line-init
 loop-line-init g c =
@@ -55,9 +55,9 @@ gather_one-requires-clause-few g c =
       length-append c.loop-line.emitting.pairs (flat_map f c.loop-line.left),
       ap length (ap (flat_map f) c.in-Some.ensures.next),
       length-append (f r) (flat_map f c.next.new.self),
-      same_length (λ (e : Emission). e.0) (emissions job line.file line.start line.bytes.now),
+      length-map (emissions job line.file line.start line.bytes.now) (λ (e : Emission). e.0),
       ap length (kept-keys job skips rs),
-      same_length (λ (e : Emission). e.0) (flat_map (kept_pairs job skips) rs),
+      length-map (flat_map (kept_pairs job skips) rs) (λ (e : Emission). e.0),
       c.requires.few,
     )
 

@@ -1,7 +1,7 @@
 use Rattle.std.proofs.Common.{List, ℕ, length, ap, arith, map}
 use Rattle.mr_jobs.specs.Emissions.{Emission, emissions}
-use Rattle.mr_ranks.proofs.ListLemmas.{length-append, same_length}
 use Rattle.mr_sequential.proofs.source.gather_record.Goals as goal
+use Rattle.std.proofs.lemmas.List.{length-map, length-append}
 
 pub push-requires : goal.push-requires
 push-requires c =
@@ -14,8 +14,8 @@ push-requires c =
       ap length c.loop-key.invariant,
       length-append c.loop-key.gathering (map (λ (e : Emission). e.0) left),
       length-append old (map (λ (e : Emission). e.0) all),
-      same_length (λ (e : Emission). e.0) left,
-      same_length (λ (e : Emission). e.0) all,
+      length-map left (λ (e : Emission). e.0),
+      length-map all (λ (e : Emission). e.0),
       ap length c.in-Some.ensures.next,
       c.requires.few,
     )

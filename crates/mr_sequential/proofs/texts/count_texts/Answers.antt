@@ -1,10 +1,9 @@
 use Rattle.std.proofs.Common.{◌≡◌, ℕ, ◌<◌, List, length, get_or, ◌∙◌, sym, arith, Vec, Global}
-use Rattle.std.proofs.lemmas.List.{get_or_default}
+use Rattle.std.proofs.lemmas.List.{get_or_default, length-map}
 use Rattle.mr_input.specs.Files.{contents, nth_file}
 use Rattle.mr_ranks.specs.declared.rows.Row.{Row}
 use Rattle.mr_ranks.specs.Rows.{no_row}
 use Rattle.mr_sequential.specs.Rows.{count_line}
-use Rattle.mr_ranks.proofs.ListLemmas.{same_length}
 use Rattle.mr_sequential.proofs.TextLemmas.{row_more, row_end}
 use Rattle.mr_sequential.proofs.texts.count_texts.Goals as goal
 
@@ -16,7 +15,7 @@ loop-rank-preserved c =
     let ts : List (List ℕ) = contents c.loop-rank.texts.items in
     let is : x ≡ get_or rows r x = get_or_default rows r no_row x c.loop-rank-test.true in
     let within : x.part < length ts =
-    omega (arith, c.requires.parts r no_row c.loop-rank-test.true, c.loop-rank.invariant.count, same_length (λ (f : Vec ℕ Global). f.items) c.loop-rank.texts.items) in
+    omega (arith, c.requires.parts r no_row c.loop-rank-test.true, c.loop-rank.invariant.count, length-map c.loop-rank.texts.items (λ (f : Vec ℕ Global). f.items)) in
     record {
       count = c.in_ok-add_total.ensures.count ∙ c.loop-rank.invariant.count;
       texts = λ p h.

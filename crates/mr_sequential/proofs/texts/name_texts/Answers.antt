@@ -1,5 +1,5 @@
 use Rattle.std.proofs.Common.{rules, ◌≡◌, ℕ, ◌<◌, ◌≤◌, ◌+◌, ◌++◌, List, All, length, get_or, ap, ◌∙◌, sym, refl, arith, Vec, Global, set, subst, slice_range, map}
-use Rattle.std.proofs.lemmas.List.{get_or_default}
+use Rattle.std.proofs.lemmas.List.{get_or_default, length-map}
 use Rattle.mr_bytes.specs.declared.Name.{Name}
 use Rattle.mr_reduce.specs.Text.{text_of}
 use Rattle.mr_input.specs.Files.{contents, nth_file}
@@ -8,7 +8,6 @@ use Rattle.mr_ranks.specs.Rows.{no_row}
 use Rattle.mr_splits.specs.Cut.{records_of}
 use Rattle.mr_sequential.specs.Names.{IsOfRecord, value_under}
 use Rattle.mr_sequential.specs.Rows.{names_text, row_names, row_start}
-use Rattle.mr_ranks.proofs.ListLemmas.{same_length}
 use Rattle.mr_ranks.proofs.BucketLemmas.{before-zero}
 use Rattle.mr_sequential.proofs.FillLemmas.{row-next, row-within}
 use Rattle.mr_sequential.proofs.TextLemmas.{row_more, row_end}
@@ -71,7 +70,7 @@ loop-rank-preserved c =
     let ts : List (List ℕ) = contents c.loop-rank.texts.items in
     let is : x ≡ get_or rows r x = get_or_default rows r no_row x c.loop-rank-test.true in
     let within : x.part < length ts =
-    omega (arith, c.requires.parts r no_row c.loop-rank-test.true, c.loop-rank.invariant.count, same_length (λ (f : Vec ℕ Global). f.items) c.loop-rank.texts.items) in
+    omega (arith, c.requires.parts r no_row c.loop-rank-test.true, c.loop-rank.invariant.count, length-map c.loop-rank.texts.items (λ (f : Vec ℕ Global). f.items)) in
     let grown : contents c.add_names.new.texts.items ≡ set ts x.part (nth_file ts x.part ++ names_text job all cs names r x) =
     c.in_ok-add_names.ensures.ok
     ∙ ap (λ (l : List Name). set ts x.part (nth_file ts x.part ++ text_of job x.key.now (map (value_under job all) l))) (row_is cs names c.loop-rank.start r c.loop-rank.invariant.start) in
