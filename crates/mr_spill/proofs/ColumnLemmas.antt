@@ -8,9 +8,11 @@ use Rattle.mr_bytes.specs.declared.Value.{Value}
 use Rattle.mr_bytes.specs.declared.Value.TheVariants.{One}
 use Rattle.mr_bytes.specs.Pairs.{Triple}
 use Rattle.mr_spill.specs.Column.{triples_of, key_of, IsSpan, names_of, no_pair}
+use Rattle.mr_bytes.proofs.ListLaws.{Has-all}
+use Rattle.mr_ranks.proofs.ListLemmas.{Has-at}
 
 -- a part of a list that has grown behind it
-range-more : {X : Type 0} (xs ys : List X) (a b : ℕ) → a ≤ b → b ≤ length xs → slice_range (xs ++ ys) a b ≡ slice_range xs a b
+pub range-more : {X : Type 0} (xs ys : List X) (a b : ℕ) → a ≤ b → b ≤ length xs → slice_range (xs ++ ys) a b ≡ slice_range xs a b
 range-more xs ys a b order within =
     ap (take (b - a)) (drop-append-le a xs ys (omega arith))
     ∙ take-append-le (b - a) (drop a xs) ys (omega (arith, length-drop a xs))
@@ -26,9 +28,7 @@ pub no-span : Span
 no-span = record { start = 0; end = 0 }
 
 pub span-at : (count i : ℕ) (spans : List Span) (d : Span) → AllByRecursion (IsSpan count) spans → i < length spans → IsSpan count (get_or spans i d)
-span-at count i [] d all h = absurd (omega arith)
-span-at count zero (s ∷ spans) d all h = all.0
-span-at count (suc i) (s ∷ spans) d all h = span-at count i spans d all.1 (omega (arith, h))
+span-at count i spans d all h = Has-all (IsSpan count) spans (get_or spans i d) all (Has-at spans i d h)
 
 pub spans-more : (was now : ℕ) (spans : List Span) (s : Span) → was ≤ now → AllByRecursion (IsSpan was) spans → IsSpan now s → AllByRecursion (IsSpan now) (spans ++ s ∷ [])
 spans-more was now [] s h all is = (is, tt)

@@ -1,11 +1,8 @@
 -- A pair taken from the front of what is still to come.
 use Rattle.std.proofs.Common.{◌≡◌, ℕ, suc, List, [], ◌∷◌, ◌++◌, Option, Some, None, refl, sym, ◌∙◌, ap, subst, arith}
 use Rattle.std.specs.List.{AllByRecursion, flat_map}
-use Rattle.std.specs.Cmp.Lexicographic.{bytes_decides, texts_ties}
-use Rattle.std.specs.Ordering.{is_eq}
-use Rattle.std.specs.declared.cmp.Ordering.TheVariants.{Less, Equal}
+use Rattle.std.specs.declared.cmp.Ordering.TheVariants.{Less}
 use Rattle.mr_bytes.specs.Lists.{Rises}
-use Rattle.mr_bytes.specs.Order.{key_order}
 use Rattle.mr_bytes.specs.Pairs.{Triple, pair_order}
 use Rattle.mr_bytes.proofs.ListLaws.{Has-all, all_from_Has}
 use Rattle.mr_spill.specs.declared.cursor.RegionPair.{RegionPair}
@@ -14,9 +11,6 @@ use Rattle.mr_spill.specs.Cursor.{AreAhead, IsBehind, IsNextOf, RiseBehind, lent
 use Rattle.mr_spill.specs.Spelling.{PairFits, pair_bytes}
 use Rattle.mr_spill.proofs.ReadingLemmas.{pair-front}
 use Rattle.mr_spill.proofs.RegionLaws.{pair_total}
-
-pub same-key : (j k : List ℕ) → key_order j k ≡ Equal → j ≡ k
-same-key j k e = (bytes_decides j k).0 (texts_ties j k ∙ ap is_eq e)
 
 -- ---- rising behind the last pair
 

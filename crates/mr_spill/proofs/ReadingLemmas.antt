@@ -13,6 +13,7 @@ use Rattle.mr_spill.specs.Column.{nth_pair}
 use Rattle.mr_spill.specs.Reading.{AreRead, MayFollow}
 use Rattle.mr_spill.specs.Spelling.{PairFits, SpellsRegion, ValueFits, header, magic, name_bytes, pair_bytes, u32, u64, value_bytes}
 use Rattle.mr_spill.proofs.RegionLaws.{pair_total}
+use Rattle.mr_ranks.proofs.ListLemmas.{All-more}
 
 pub front-cut : (a b xs ys : List ℕ) → length a ≡ length b → a ++ xs ≡ b ++ ys → (a ≡ b) × (xs ≡ ys)
 front-cut [] [] xs ys l e = (refl, e)
@@ -66,16 +67,6 @@ pub header-split : (bytes xs : List ℕ) (split partition n : ℕ) (rest : List 
 header-split bytes xs split partition n rest e h =
     (front-cut magic magic xs (u32 split ++ (u32 partition ++ (u32 n ++ rest))) refl (sym e ∙ h ∙ header-parts split partition n rest)).1
 
-pub header-partition : (bytes xs ys : List ℕ) (split partition n : ℕ) (rest : List ℕ) → bytes ≡ magic ++ xs → xs ≡ u32 split ++ ys → bytes ≡ header split partition n ++ rest
-    → ys ≡ u32 partition ++ (u32 n ++ rest)
-header-partition bytes xs ys split partition n rest e f h =
-    (front-cut (u32 split) (u32 split) ys (u32 partition ++ (u32 n ++ rest)) refl (sym f ∙ header-split bytes xs split partition n rest e h)).1
-
-pub header-count : (bytes xs ys zs : List ℕ) (split partition n : ℕ) (rest : List ℕ) → bytes ≡ magic ++ xs → xs ≡ u32 split ++ ys → ys ≡ u32 partition ++ zs
-    → bytes ≡ header split partition n ++ rest → zs ≡ u32 n ++ rest
-header-count bytes xs ys zs split partition n rest e f g h =
-    (front-cut (u32 partition) (u32 partition) zs (u32 n ++ rest) refl (sym g ∙ header-partition bytes xs ys split partition n rest e f h)).1
-
 -- the number in front of a spelled pair is the length of its key
 pub pair-count : (m : ℕ) (xs : List ℕ) (t : Triple) (rest : List ℕ) → m < 2 ^ 32 → PairFits t → u32 m ++ xs ≡ pair_bytes t ++ rest
     → (m ≡ length t.key) × (xs ≡ t.key ++ (name_bytes t.name ++ (value_bytes t.value ++ rest)))
@@ -122,13 +113,9 @@ read-front (p ∷ ps) (t ∷ ts) rest f g h e =
     let r = read-front ps ts rest f.1 g.1 (omega (arith, h)) c.1 in
     record { left = r.left; all = (λ i. sym c.0 i ∷ r.all i); text = r.text }
 
-All-right : (P : Triple → Type 0) (ps us : List Triple) → AllByRecursion P (ps ++ us) → AllByRecursion P us
-All-right P [] us a = a
-All-right P (p ∷ ps) us a = All-right P ps us a.1
-
-pub All-one-more : (P : Triple → Type 0) (ps : List Triple) (t : Triple) → AllByRecursion P ps → P t → AllByRecursion P (ps ++ t ∷ [])
-All-one-more P [] t a p = (p, tt)
-All-one-more P (x ∷ ps) t a p = (a.0, All-one-more P ps t a.1 p)
+pub All-right : {X : Type 0} (P : X → Type 0) (xs ys : List X) → AllByRecursion P (xs ++ ys) → AllByRecursion P ys
+All-right P [] ys all = all
+All-right P (x ∷ xs) ys all = All-right P xs ys all.1
 
 before-next : (ps us : List Triple) (u : Triple) → Rises pair_order (ps ++ u ∷ us) → AllByRecursion (λ p. pair_order p u ≡ Less) ps
 before-next [] us u r = tt
@@ -168,7 +155,7 @@ spelled-end bytes rest split count ps ts read fit full text = by l.left l.all l.
 
 pub rises-next : (ps : List Triple) (t : Triple) → Rises pair_order ps → AllByRecursion (λ p. pair_order p t ≡ Less) ps → Rises pair_order (ps ++ t ∷ [])
 rises-next [] t r a = (tt, tt)
-rises-next (p ∷ ps) t r a = (All-one-more (λ w. pair_order p w ≡ Less) ps t r.0 a.0, rises-next ps t r.1 a.1)
+rises-next (p ∷ ps) t r a = (All-more (λ w. pair_order p w ≡ Less) ps t r.0 a.0, rises-next ps t r.1 a.1)
 
 pub flat-next : (ps : List Triple) (t : Triple) (rest : List ℕ) → flat_map pair_bytes (ps ++ t ∷ []) ++ rest ≡ flat_map pair_bytes ps ++ (pair_bytes t ++ rest)
 flat-next [] t rest = append_assoc (pair_bytes t) [] rest

@@ -1,11 +1,10 @@
 -- What the region of a partition is: it rises, it has the pairs of the partition, and it is the only such list.
 use Rattle.std.proofs.Common.{◌≡◌, ◌↔◌, ℕ, List, [], ◌∷◌, filter, ◌==◌, refl, ap, sym, ◌∙◌, subst, inl, inr}
 use Rattle.std.specs.List.{AllByRecursion}
-use Rattle.std.specs.Cmp.Lexicographic.{bytes_decides, texts_ties}
 use Rattle.std.proofs.lemmas.Bool.{eqb-true, eq-eqb}
 use Rattle.std.proofs.lemmas.Cmp.{nat_list_cmp_total, nat_cmp_total, then_total, on_total, tied_itself}
 use Rattle.std.specs.Cmp.{IsTotalOrder}
-use Rattle.std.specs.Ordering.{is_eq, ordering_reverse, ordering_then}
+use Rattle.std.specs.Ordering.{ordering_reverse, ordering_then}
 use Rattle.std.specs.declared.cmp.Ordering.{Ordering}
 use Rattle.std.specs.declared.cmp.Ordering.TheVariants.{Less, Equal, Greater}
 use Rattle.mr_bytes.specs.declared.Name.{Name}
@@ -16,6 +15,8 @@ use Rattle.mr_bytes.proofs.ListLaws.{Has-all, all_from_Has, Has-map, Has-map_fro
 use Rattle.mr_bytes.proofs.SortLaws.{rising_tie, sorted-Has, sorted-Has_from, sorted-rises}
 use Rattle.mr_spill.specs.Column.{IsSealed, names_of}
 use Rattle.mr_spill.specs.Regions.{region, RegionsHave, RegionsRise, RisesUnderKeys}
+use Rattle.mr_ranks.proofs.OrderLemmas.{key_tie, then-equal}
+use Rattle.mr_ranks.proofs.ListLemmas.{same_image}
 
 pub names_total : IsTotalOrder name_order
 names_total =
@@ -61,26 +62,10 @@ regions_have part ts p r t = (
       t (Has-filter (λ (u : Triple). part u.key == p) ts t h.0 (eq-eqb (part t.key) p h.1)),
 )
 
--- a list that rises and has just the pairs of the partition is its region
-pub region-only : (part : List ℕ → ℕ) (ts : List Triple) (p : ℕ) (rs : List Triple) → Rises name_order (names_of ts) → Rises pair_order rs
-    → ((t : Triple) → Has rs t ↔ (Has ts t × (part t.key ≡ p))) → rs ≡ region part ts p
-region-only part ts p rs r rise has =
-    same_rising pair_total rs (region part ts p) rise (regions_rise part ts p)
-    (λ t h. (regions_have part ts p r t).1 ((has t).0 h))
-    (λ t h. (has t).1 ((regions_have part ts p r t).0 h))
-
-pub key-tie : (j k : List ℕ) → key_order j k ≡ Equal → j ≡ k
-key-tie j k e = (bytes_decides j k).0 (texts_ties j k ∙ ap is_eq e)
-
-then-first : (o q : Ordering) → ordering_then o q ≡ Equal → o ≡ Equal
-then-first Less q e = absurd (cc e)
-then-first Equal q e = refl
-then-first Greater q e = absurd (cc e)
-
 apart : (t : Triple) (ts : List Triple) (u : Triple) → AllByRecursion (λ (w : Triple). w.key ≡ t.key → name_order t.name w.name ≡ Less) ts → Has ts u → pair_order t u ≡ Equal → ⊥
 apart t ts u all h e =
     let names = pair_tie t u e in
-    let keys = sym (key-tie t.key u.key (then-first (key_order t.key u.key) (name_order t.name u.name) e)) in
+    let keys = sym (key_tie t.key u.key (then-equal (key_order t.key u.key) (name_order t.name u.name) e).0) in
     let less = Has-all (λ (w : Triple). w.key ≡ t.key → name_order t.name w.name ≡ Less) ts u all h keys in
     absurd (cc (names, less))
 
@@ -105,21 +90,12 @@ gathered-only part ts p rs r rise has =
 
 -- ---- names that differ
 
-one-name : (ts : List Triple) (t u : Triple) → Distinct (names_of ts) → Has ts t → Has ts u → t.name ≡ u.name → t ≡ u
-one-name [] t u d h g e = absurd h
-one-name (x ∷ ts) t u d (inl a) (inl b) e = sym a ∙ b
-one-name (x ∷ ts) t u d (inl a) (inr b) e =
-    absurd (d.0 (subst (Has (names_of ts)) (sym e ∙ sym (ap (λ (w : Triple). w.name) a)) (Has-map (λ (w : Triple). w.name) ts u b)))
-one-name (x ∷ ts) t u d (inr a) (inl b) e =
-    absurd (d.0 (subst (Has (names_of ts)) (e ∙ sym (ap (λ (w : Triple). w.name) b)) (Has-map (λ (w : Triple). w.name) ts t a)))
-one-name (x ∷ ts) t u d (inr a) (inr b) e = one-name ts t u d.1 a b e
-
 -- pairs that rise, of those whose names differ
 rising-differ : (rs ts : List Triple) → Rises pair_order rs → ((t : Triple) → Has rs t → Has ts t) → Distinct (names_of ts) → Distinct (names_of rs)
 rising-differ [] ts rise within d = tt
 rising-differ (r ∷ rs) ts rise within d = (
   λ h. let m = Has-map_from (λ (w : Triple). w.name) rs r.name h in
-      let same : m.0 ≡ r = one-name ts m.0 r d (within m.0 (inr m.1)) (within r (inl refl)) m.2 in
+      let same : m.0 ≡ r = same_image (λ (w : Triple). w.name) ts m.0 r d (within m.0 (inr m.1)) (within r (inl refl)) m.2 in
       let less : pair_order r r ≡ Less = subst (λ u. pair_order r u ≡ Less) same (Has-all (λ u. pair_order r u ≡ Less) rs m.0 rise.0 m.1) in
       absurd (cc (less, tied_itself pair_total r)),
   rising-differ rs ts rise.1 (λ t h. within t (inr h)) d,

@@ -1,8 +1,8 @@
 -- Regions spelled one behind another.
-use Rattle.std.proofs.Common.{cond, eqb, drop, ◌≡◌, ℕ, zero, suc, ◌+◌, ◌<◌, List, [], ◌∷◌, ◌++◌, length, filter, get_or, map, take, refl, sym, ◌∙◌, ap, subst, arith, inl, inr, ◌==◌}
+use Rattle.std.proofs.Common.{cond, eqb, ◌≡◌, ℕ, suc, ◌+◌, ◌<◌, List, [], ◌∷◌, ◌++◌, length, filter, get_or, map, take, refl, sym, ◌∙◌, ap, subst, arith, inl, inr, ◌==◌}
 use Rattle.std.proofs.lemmas.Bool.{cases_lt, ne_eqb}
 use Rattle.std.proofs.lemmas.Grind.{flat_map-append}
-use Rattle.std.proofs.lemmas.List.{append-nil, get_or_push, length-append, map-append, take_more}
+use Rattle.std.proofs.lemmas.List.{append-nil, get_or_push, length-append, map-append, take_more, get_or_append_left}
 use Rattle.std.specs.List.{AllByRecursion, flat_map}
 use Rattle.mr_bytes.specs.Lists.{Distinct}
 use Rattle.mr_bytes.proofs.SortLaws.{sorted-Has_from}
@@ -17,19 +17,15 @@ use Rattle.mr_spill.specs.Regions.{region}
 use Rattle.mr_spill.specs.Sealed.{AreFor, IsSealedAs, IsText}
 use Rattle.mr_spill.specs.Spelling.{SpellsRegion, pair_bytes}
 use Rattle.mr_spill.proofs.RegionLaws.{region-sealed}
+use Rattle.mr_ranks.proofs.ListLemmas.{Has-at}
+use Rattle.std.proofs.Math.Seq.{drop-append_seam}
 
 pub all-append : {X : Type 0} (P : X → Type 0) (xs ys : List X) → AllByRecursion P xs → AllByRecursion P ys → AllByRecursion P (xs ++ ys)
 all-append P [] ys a b = b
 all-append P (x ∷ xs) ys a b = (a.0, all-append P xs ys a.1 b)
 
 pub all-at : {X : Type 0} (P : X → Type 0) (xs : List X) (i : ℕ) (d : X) → AllByRecursion P xs → i < length xs → P (get_or xs i d)
-all-at P [] i d a h = absurd (omega (arith, h))
-all-at P (x ∷ xs) zero d a h = a.0
-all-at P (x ∷ xs) (suc i) d a h = all-at P xs i d a.1 (omega (arith, h))
-
-pub all-each : {X : Type 0} (P : X → Type 0) (xs : List X) → ((i : ℕ) (d : X) → i < length xs → P (get_or xs i d)) → AllByRecursion P xs
-all-each P [] f = tt
-all-each P (x ∷ xs) f = (f 0 x (omega arith), all-each P xs (λ i d h. f (suc i) d (omega (arith, h))))
+all-at P xs i d all h = Has-all P xs (get_or xs i d) all (Has-at xs i d h)
 
 -- ---- pairs one behind another
 
@@ -45,16 +41,11 @@ bytes-more ts t = flat_map-append pair_bytes ts (t ∷ []) ∙ ap (λ (l : List 
 
 -- ---- texts one behind another
 
-at-front : {X : Type 0} (xs : List X) (y d : X) (i : ℕ) → i < length xs → get_or (xs ++ y ∷ []) i d ≡ get_or xs i d
-at-front [] y d i h = absurd (omega (arith, h))
-at-front (x ∷ xs) y d zero h = refl
-at-front (x ∷ xs) y d (suc i) h = at-front xs y d i (omega (arith, h))
-
 pub are-more : {X : Type 0} (F : ℕ → X → Type 0) (n : ℕ) (xs : List X) (x : X) → AreFor F n xs → F n x → AreFor F (n + 1) (xs ++ x ∷ [])
 are-more {X} F n xs x are new = record {
   many = length-append xs (x ∷ []) ∙ ap (λ m. m + 1) are.many;
   each = λ p d h. elim (cases_lt p n) [
-    | inl low ↦ subst (F p) (sym (at-front xs x d p (omega (arith, low, are.many)))) (are.each p d low)
+    | inl low ↦ subst (F p) (sym (get_or_append_left xs (x ∷ []) d p (omega (arith, low, are.many)))) (are.each p d low)
     | inr high ↦ (let same : n ≡ p = omega (arith, h, high) in
         subst (λ q. F q (get_or (xs ++ x ∷ []) q d)) same (subst (F n) (sym (get_or_push xs x d n are.many)) new))
   ];
@@ -74,7 +65,7 @@ runs-front key (t ∷ run) later counts same runs =
         (
           subst (AllByRecursion (λ (u : Triple). u.key ≡ t.key)) (sym (ap (λ (l : List Triple). t ∷ l) (take_front (length run) run later refl)))
               (refl, rekeyed run same.1),
-          subst (AreRunsOf counts) (sym (drop-front run later)) runs,
+          subst (AreRunsOf counts) (sym (drop-append_seam run later)) runs,
         ),
       ),
     )
@@ -82,10 +73,6 @@ runs-front key (t ∷ run) later counts same runs =
     rekeyed : (us : List Triple) → AllByRecursion (λ (u : Triple). u.key ≡ key) us → AllByRecursion (λ (u : Triple). u.key ≡ t.key) us
     rekeyed [] all = tt
     rekeyed (u ∷ us) all = (all.0 ∙ sym same.0, rekeyed us all.1)
-
-    drop-front : (us ls : List Triple) → drop (length us) (us ++ ls) ≡ ls
-    drop-front [] ls = refl
-    drop-front (u ∷ us) ls = drop-front us ls
 
 pub under-key : (key : List ℕ) (es : List Entry) → AllByRecursion (λ (t : Triple). t.key ≡ key) (map (under_key key) es)
 under-key key [] = tt

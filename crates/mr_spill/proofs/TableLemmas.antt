@@ -1,7 +1,7 @@
 -- Pairs as numbers of keys and what they have beside them, and the pairs of each key.
 use Rattle.std.proofs.Common.{◌≡◌, ℕ, zero, suc, ◌<◌, ◌≤◌, true, false, cond, List, [], ◌∷◌, ◌++◌, length, get_or, map, drop, refl, sym, ◌∙◌, ap, arith, inl, inr, All}
 use Rattle.std.proofs.lemmas.Bool.{cases_Bool, cases_eq, cases_lt}
-use Rattle.std.proofs.lemmas.List.Elements.{All-head, All-tail, All-push}
+use Rattle.std.proofs.lemmas.List.Elements.{All-head, All-tail}
 use Rattle.std.proofs.lemmas.Slice.Eq.{bytes_eq-Decides}
 use Rattle.std.specs.List.{zip}
 use Rattle.std.specs.Str.{bytes_eq}
@@ -53,9 +53,6 @@ numbered-at ks (i ∷ is) (e ∷ es) (suc n) d t h same = numbered-at ks is es n
 
 pub weaker : (n m : ℕ) (is : List ℕ) → n ≤ m → All (λ j. j < n) is → All (λ j. j < m) is
 weaker n m is h all = λ k d less. omega (arith, all k d less, h)
-
-pub inside-push : (n m i : ℕ) (is : List ℕ) → n ≤ m → i < m → All (λ j. j < n) is → All (λ j. j < m) (is ++ i ∷ [])
-inside-push n m i is h new all = All-push (λ j. j < m) is i (weaker n m is h all) new
 
 -- pairs read as before where other numbers of other keys have the same keys
 pub numbered-keys : (ks ls : List (List ℕ)) (is rs : List ℕ) (es : List Entry) → map (key_at ls) rs ≡ map (key_at ks) is → numbered ls rs es ≡ numbered ks is es

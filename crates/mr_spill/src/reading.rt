@@ -1,6 +1,5 @@
 //! A region read from its bytes.
-ghost use Rattle.std.specs.Prelude.{◌≡◌, ◌↔◌, ℕ, ◌-◌, ◌<◌, ◌≤◌, ◌^◌, ◌++◌, List, IfErr, IfOk, IsTrue, MatchOption, length, take};
-ghost use Rattle.std.specs.Int.{w32, w64, from_be_bytes};
+ghost use Rattle.std.specs.Prelude.{◌≡◌, ◌↔◌, ℕ, ◌-◌, ◌<◌, ◌^◌, ◌++◌, List, IfErr, IfOk, IsTrue, MatchOption, length};
 ghost use Rattle.mr_bytes.specs.declared.Value.{Value as Carried};
 ghost use Rattle.std.specs.declared.cmp.Ordering.TheVariants.{Less};
 ghost use Rattle.mr_bytes.specs.Lists.{Rises};

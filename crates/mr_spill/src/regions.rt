@@ -6,13 +6,13 @@ ghost use Rattle.mr_partition.specs.Partition.{partition_of};
 ghost use Rattle.mr_spill.specs.Column.{IsSealed, names_of};
 ghost use Rattle.mr_spill.specs.Regions.{RegionsHave, RegionsRise, RisesUnderKeys, regions};
 ghost use Rattle.mr_ranks.specs.Rows.{row_cmp};
-ghost use Rattle.mr_spill.specs.Rows.{behind, front, pairs_in, row_pairs};
+ghost use Rattle.mr_spill.specs.Rows.{AreListed, behind, front, pairs_in, row_pairs};
 ghost use Rattle.mr_spill.specs.Table.{columns_of, pairs_under};
 
 use crate::column::Pairs;
 use crate::lists::{Lists, lists_of};
 use crate::numbered::{Numbered, numbered_columns};
-use mr_ranks::{Row, ranked};
+use mr_ranks::{RankedPairs, Row, ranked};
 use std::alloc::{AllocError, Global};
 
 /// The row at this place, if it has this partition.
@@ -108,24 +108,32 @@ fn regions_of(
     Ok(regions)
 }
 
+/// The rows of the keys of pairs by partition, then by key, and what the pairs of each have. Keys are sorted once each. It fails
+/// only for want of memory.
+pub(crate) fn rows_with_lists<'a>(
+    alloc: Global,
+    pairs: &'a Numbered,
+    parts: u32,
+) -> Result<(Vec<Row<'a>>, Lists), AllocError>
+    requires some { 0 < parts }
+    ensures { IfOk result (λ r. AreListed pairs.entry.now parts r.0.items r.1) }
+{
+    let numbers = Vec::from_slice(alloc, pairs.numbers.as_slice())?;
+    let RankedPairs { rows, numbers } = ranked(alloc, &pairs.keys, parts, numbers)?;
+    let lists = lists_of(alloc, numbers.as_slice(), &pairs.entries, rows.len())?;
+    Ok((rows, lists))
+}
+
 /// For each partition, in order, the pairs that belong to it, by key and then name. Under each key the names rise already,
-/// and no name stands twice. Keys are sorted once each. It fails only for want of memory.
+/// and no name stands twice. It fails only for want of memory.
 pub(crate) fn cut(alloc: Global, pairs: &Numbered, parts: u32) -> Result<Vec<Pairs>, AllocError>
     requires some { 0 < parts }
     requires rise { RisesUnderKeys pairs.now }
     requires differ { Distinct (names_of pairs.now) }
     ensures { IfOk result (λ v. v.items ≡ regions (λ k. partition_of k parts) parts pairs.now) }
 {
-    let numbers = Vec::from_slice(alloc, pairs.numbers.as_slice())?;
-    let by_rank = ranked(alloc, &pairs.keys, parts, numbers)?;
-    let rows = by_rank.rows.as_slice();
-    let lists = lists_of(
-        alloc,
-        by_rank.numbers.as_slice(),
-        &pairs.entries,
-        rows.len(),
-    )?;
-    regions_of(alloc, &lists, rows, parts)
+    let (rows, lists) = rows_with_lists(alloc, pairs, parts)?;
+    regions_of(alloc, &lists, rows.as_slice(), parts)
 }
 
 /// For each partition, in order, the pairs of all columns that belong to it, by key and then name. Under each key the

@@ -1,6 +1,6 @@
 //! The pairs of a run, cut by partition into sorted regions that are spelled at once.
 ghost use Rattle.std.specs.Prelude.{◌≡◌, ℕ, ◌+◌, ◌<◌, ◌≤◌, ◌^◌, ◌==◌, if◌then◌else◌, ◌++◌, ◌∷◌, [], IfOk, OnOk, OnErr, All, length, drop, slice_index_or};
-ghost use Rattle.std.specs.List.{AllByRecursion, flat_map, range_with_len};
+ghost use Rattle.std.specs.List.{AllByRecursion, flat_map};
 ghost use Rattle.mr_bytes.specs.Lists.{Distinct, Rises};
 ghost use Rattle.mr_partition.specs.Partition.{partition_of};
 ghost use Rattle.mr_ranks.specs.Rows.{row_cmp};
@@ -14,12 +14,12 @@ ghost use Rattle.mr_spill.specs.Table.{pairs_under};
 
 use crate::buffer::Buffer;
 use crate::lent::Region;
-use crate::lists::{Lists, lists_of};
+use crate::lists::Lists;
 use crate::numbered::Numbered;
-use crate::regions::row_in;
+use crate::regions::{row_in, rows_with_lists};
 use crate::spelling::{put_header, put_pair};
 use mr_bytes::Value;
-use mr_ranks::{Row, ranked};
+use mr_ranks::Row;
 use std::alloc::{AllocError, Global};
 use std::marker::Model;
 
@@ -239,7 +239,7 @@ fn texts_of(
 }
 
 /// For each partition, in order, the pairs that belong to it, by key and then name, spelled as the region of a run of that
-/// split. Under each key the names rise already, and no name stands twice. Keys are sorted once each.
+/// split. Under each key the names rise already, and no name stands twice.
 fn cut_texts(
     alloc: Global,
     pairs: &Numbered,
@@ -251,16 +251,8 @@ fn cut_texts(
     requires differ { Distinct (names_of pairs.now) }
     ensures { IfOk result (λ v. AreFor (λ p. IsSealedAs split p (region (λ k. partition_of k parts) pairs.now p)) parts v.items) }
 {
-    let numbers = Vec::from_slice(alloc, pairs.numbers.as_slice())?;
-    let by_rank = ranked(alloc, &pairs.keys, parts, numbers)?;
-    let rows = by_rank.rows.as_slice();
-    let lists = lists_of(
-        alloc,
-        by_rank.numbers.as_slice(),
-        &pairs.entries,
-        rows.len(),
-    )?;
-    texts_of(alloc, &lists, rows, split, parts)
+    let (rows, lists) = rows_with_lists(alloc, pairs, parts)?;
+    texts_of(alloc, &lists, rows.as_slice(), split, parts)
 }
 
 impl Buffer {

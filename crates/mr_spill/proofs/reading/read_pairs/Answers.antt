@@ -4,8 +4,9 @@ use Rattle.std.specs.List.{AllByRecursion, flat_map}
 use Rattle.mr_bytes.specs.Lists.{Rises}
 use Rattle.mr_bytes.specs.Pairs.{Triple, pair_order}
 use Rattle.mr_spill.specs.Spelling.{PairFits, pair_bytes}
-use Rattle.mr_spill.proofs.ReadingLemmas.{All-one-more, flat-next, rises-next, spelled-end, spelled-next}
+use Rattle.mr_spill.proofs.ReadingLemmas.{flat-next, rises-next, spelled-end, spelled-next}
 use Rattle.mr_spill.proofs.reading.read_pairs.Goals as goal
+use Rattle.mr_ranks.proofs.ListLemmas.{All-more}
 
 pub loop-preserved : goal.loop-preserved
 loop-preserved c =
@@ -17,8 +18,8 @@ loop-preserved c =
       text = c.loop.invariant.text ∙ ap (λ (l : List ℕ). flat_map pair_bytes ps ++ l) next.text ∙ sym (flat-next ps t rest) ∙ ap (λ (ts : List Triple). flat_map pair_bytes ts ++ rest) (sym next.is);
       all = omega (arith, ap length next.is, length-append ps (t ∷ []), c.loop.invariant.all);
       rise = subst (Rises pair_order) (sym next.is) (rises-next ps t c.loop.invariant.rise next.may.past);
-      own = subst (AllByRecursion (λ (u : Triple). u.name.split ≡ c.args.split)) (sym next.is) (All-one-more (λ (u : Triple). u.name.split ≡ c.args.split) ps t c.loop.invariant.own next.may.own);
-      fit = subst (AllByRecursion PairFits) (sym next.is) (All-one-more PairFits ps t c.loop.invariant.fit next.fits);
+      own = subst (AllByRecursion (λ (u : Triple). u.name.split ≡ c.args.split)) (sym next.is) (All-more (λ (u : Triple). u.name.split ≡ c.args.split) ps t c.loop.invariant.own next.may.own);
+      fit = subst (AllByRecursion PairFits) (sym next.is) (All-more PairFits ps t c.loop.invariant.fit next.fits);
     }
 
 pub returns-in_err-rest-clause-damaged : goal.returns-in_err-rest-clause-damaged

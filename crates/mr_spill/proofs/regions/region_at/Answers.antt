@@ -5,14 +5,15 @@ use Rattle.mr_ranks.specs.declared.rows.Row.{Row}
 use Rattle.mr_spill.specs.Rows.{front, row_pairs}
 use Rattle.mr_spill.specs.Entries.{Entry}
 use Rattle.mr_spill.specs.Table.{pairs_under}
-use Rattle.mr_spill.proofs.RowLemmas.{at-drop, passed, taken}
+use Rattle.mr_spill.proofs.RowLemmas.{passed, taken}
 use Rattle.mr_spill.proofs.regions.region_at.Goals as goal
+use Rattle.mr_ranks.proofs.ListLemmas.{head-of_drop}
 
 pub put_all-requires : goal.put_all-requires
 put_all-requires c =
     let rows : List Row = c.args.rows.now in
     let row : Row = c.in-Some.row in
-    let read = at-drop rows c.loop-row.at row (drop (c.loop-row.at + 1) rows) row c.in-Some.ensures.1 in
+    let read = (head-of_drop c.loop-row.at rows (drop (c.loop-row.at + 1) rows) row row c.in-Some.ensures.1).1 in
     subst (λ (r : Row). r.number < length c.args.lists.now) read (c.requires.inside c.loop-row.at row c.in-Some.ensures.0)
 
 pub loop-row-preserved : goal.loop-row-preserved

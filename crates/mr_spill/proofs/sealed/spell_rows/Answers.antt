@@ -9,22 +9,23 @@ use Rattle.mr_spill.specs.Entries.{Entry, under_key}
 use Rattle.mr_spill.specs.Lent.{AreRunsOf}
 use Rattle.mr_spill.specs.Spelling.{PairFits, pair_bytes}
 use Rattle.mr_spill.specs.Table.{pairs_under}
-use Rattle.mr_spill.proofs.RowLemmas.{at-drop, passed, taken}
+use Rattle.mr_spill.proofs.RowLemmas.{passed, taken}
 use Rattle.mr_spill.proofs.SealedLemmas.{all-append, runs-front, under-key}
 use Rattle.mr_spill.proofs.sealed.spell_rows.Goals as goal
+use Rattle.mr_ranks.proofs.ListLemmas.{head-of_drop}
 
 pub spell_under-requires : goal.spell_under-requires
 spell_under-requires c =
     let rows : List Row = c.args.rows.now in
     let row : Row = c.in-Some.row in
-    let read = at-drop rows c.loop-row.at row (drop (c.loop-row.at + 1) rows) row c.in-Some.ensures.1 in
+    let read = (head-of_drop c.loop-row.at rows (drop (c.loop-row.at + 1) rows) row row c.in-Some.ensures.1).1 in
     subst (λ (r : Row). r.number < length c.args.lists.now) read (c.requires.inside c.loop-row.at row c.in-Some.ensures.0)
 
 pub count-requires : goal.count-requires
 count-requires c =
     let rows : List Row = c.args.rows.now in
     let row : Row = c.in-Some.row in
-    let read = at-drop rows c.loop-row.at row (drop (c.loop-row.at + 1) rows) row c.in-Some.ensures.1 in
+    let read = (head-of_drop c.loop-row.at rows (drop (c.loop-row.at + 1) rows) row row c.in-Some.ensures.1).1 in
     subst (λ (r : Row). r.number < length c.args.lists.now) read (c.requires.inside c.loop-row.at row c.in-Some.ensures.0)
 
 pub tell_count-requires : goal.tell_count-requires

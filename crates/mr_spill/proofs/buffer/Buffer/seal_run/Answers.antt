@@ -1,11 +1,10 @@
 use Rattle.std.proofs.Common.{◌≡◌, ◌∙◌, ◌∷◌, ◌<◌, ℕ, List, [], length, map, get_or, refl, ap, sym, subst, arith}
-use Rattle.std.proofs.lemmas.List.{get_or-map}
+use Rattle.std.proofs.lemmas.List.{get_or-map, length-map}
 use Rattle.std.specs.List.{AllByRecursion}
 use Rattle.mr_bytes.specs.Lists.{Distinct}
 use Rattle.mr_bytes.specs.Pairs.{Triple}
 use Rattle.mr_bytes.proofs.ListLaws.{Distinct-rises}
 use Rattle.mr_partition.specs.Partition.{partition_of}
-use Rattle.mr_ranks.proofs.ListLemmas.{same_length}
 use Rattle.mr_spill.specs.Buffer.{Buffered}
 use Rattle.mr_spill.specs.Column.{names_of}
 use Rattle.mr_spill.specs.declared.sealed.SealedRegion.{SealedRegion}
@@ -55,7 +54,7 @@ returns-clause-ok c =
     subst (λ (us : List Triple). SpellsRun run split parts (region (λ k. partition_of k parts) us)) same
     (record {
       own = refl;
-      count = same_length (λ b. b.bytes.items) texts ∙ c.in_ok-regions.ensures.many;
+      count = length-map texts (λ b. b.bytes.items) ∙ c.in_ok-regions.ensures.many;
       each = λ p h.
           each-of texts p (λ (l : List ℕ). SpellsRegion l split p (region (λ k. partition_of k parts) ts p)) (omega (arith, h, c.in_ok-regions.ensures.many))
           (λ d.

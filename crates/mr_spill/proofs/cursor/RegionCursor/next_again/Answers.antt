@@ -1,4 +1,4 @@
-use Rattle.std.proofs.Common.{rules, ◌≡◌, ℕ, ◌-◌, ◌++◌, ◌∷◌, [], List, Option, Some, true, drop, length, refl, ap, sym, ◌∙◌, subst, arith}
+use Rattle.std.proofs.Common.{rules, ◌≡◌, ℕ, ◌-◌, ◌++◌, ◌∷◌, List, Option, Some, true, drop, length, refl, ap, sym, ◌∙◌, subst, arith}
 use Rattle.std.specs.List.{flat_map}
 use Rattle.mr_bytes.specs.Pairs.{Triple}
 use Rattle.mr_spill.specs.declared.cursor.RegionCursor.{RegionCursor}
@@ -8,10 +8,7 @@ use Rattle.mr_spill.specs.Spelling.{PairFits, name_bytes, pair_bytes, u32 as fou
 use Rattle.mr_spill.proofs.CursorLemmas.{next-of, rise-first}
 use Rattle.mr_spill.proofs.ReadingLemmas.{pair-front, pair-parts}
 use Rattle.mr_spill.proofs.cursor.RegionCursor.next_again.Goals as goal
-
-drop-front : (xs ys : List ℕ) → drop (length xs) (xs ++ ys) ≡ ys
-drop-front [] ys = refl
-drop-front (x ∷ xs) ys = drop-front xs ys
+use Rattle.std.proofs.Math.Seq.{drop-append_seam}
 
 drop-four : (n : ℕ) (ys : List ℕ) → drop 4 (four n ++ ys) ≡ ys
 drop-four n ys = refl
@@ -31,7 +28,7 @@ returns-clause-next c = λ ahead.
     let behind_count : c.in_ok-behind_count.behind_count.now ≡ t.key ++ rest =
     c.in_ok-behind_count.ensures ∙ ap (drop 4) parts ∙ drop-four (length t.key) (t.key ++ rest) in
     let behind_key : c.in_ok-behind_key.behind_key.now ≡ rest =
-    c.in_ok-behind_key.ensures ∙ ap (drop (length c.in-Some.last.key.now)) behind_count ∙ ap (λ (k : List ℕ). drop (length k) (t.key ++ rest)) same ∙ drop-front t.key rest in
+    c.in_ok-behind_key.ensures ∙ ap (drop (length c.in-Some.last.key.now)) behind_count ∙ ap (λ (k : List ℕ). drop (length k) (t.key ++ rest)) same ∙ drop-append_seam t.key rest in
     let text : old.rest.now ≡ pair_bytes (lent_pair p) ++ new.rest.now =
     parts
     ∙ ap (λ (k : List ℕ). four (length k) ++ (k ++ rest)) (sym same)
