@@ -14,6 +14,7 @@ use itoa::Buffer;
 use memchr::{memchr, memrchr};
 use mr_bytes::Value;
 use mr_jobs::Job;
+use mr_ranks::front_of;
 use mr_reduce::{group_text, total_text};
 use std::alloc::AllocError;
 
