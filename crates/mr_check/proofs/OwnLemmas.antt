@@ -30,11 +30,6 @@ own_piece i is e = refl
 own_both : (i : Item) (is js : List Item) → is_own i ≡ true → piece (onto (i ∷ is) js) ≡ i ∷ piece (onto is js)
 own_both i is js e = ap piece (own_onto i is js e) ∙ own_piece i (onto is js) e
 
-others_piece : (i : Item) (is js : List Item) → is_own i ≡ false → piece (onto (i ∷ is) js) ≡ []
-others_piece (Groups n) is js e = refl
-others_piece End is js e = refl
-others_piece i is js e = absurd (false≢true (sym e))
-
 -- so many of the items stood, and the rest is to come
 pub record OwnStands (s : Subject) (old st : Reached) (n : ℕ) (rest all : List Item) : Type 0 where
   pub same : (js : List Item) → first (told s st (piece (onto rest js))) ≡ first (told s old (piece (onto all js)))
@@ -56,15 +51,6 @@ own_more s old st n i rest all h own none = record {
   fewer = λ js. omega (arith, ap length (own_onto i rest js own), h.fewer js);
   room = λ more top r. (let d : length (i ∷ rest) + more ≡ length rest + more + 1 = omega arith in room_after s st i (length rest + more) top (subst (λ k. Room st k top) d (h.room more top r)));
 }
-
-pub own_ended : (s : Subject) (old st : Reached) (n : ℕ) (i : Item) (rest all js : List Item) → OwnStands s old st n (i ∷ rest) all → is_own i ≡ false → first (told s old (piece (onto all js))) ≡ None
-own_ended s old st n i rest all js h other = sym (h.same js) ∙ ap (λ w. first (told s st w)) (others_piece i rest js other)
-
-pub own_fault : (s : Subject) (old st : Reached) (n : ℕ) (i : Item) (rest all js : List Item) (f : No) → OwnStands s old st n (i ∷ rest) all → is_own i ≡ true → Answers (tests s st i) f → Answers (told s old (piece (onto all js))) f
-own_fault s old st n i rest all js f h own fault =
-    told_is (tests s st i ++ told s (after s st i) (piece (onto rest js))) (told s old (piece (onto all js))) f
-    (sym (h.same js) ∙ ap (λ w. first (told s st w)) (own_both i rest js own))
-    (told_left (tests s st i) (told s (after s st i) (piece (onto rest js))) f fault)
 
 pub own_next : (s : Subject) (old st : Reached) (i : ℕ) (rows : List FoundItem) → i < length rows → OwnStands s old st i (items_in (drop i rows)) (items_in rows) → OwnStands s old st i ((get_or rows i blank).item ∷ items_in (drop (i + 1) rows)) (items_in rows)
 own_next s old st i rows h stands = subst (λ (w : List FoundItem). OwnStands s old st i (items_in w) (items_in rows)) (drop_more rows i blank h) stands
@@ -95,26 +81,11 @@ pub opening : (i : Item) (is js : List Item) → opens i ≡ true → is ≡ i �
 opening (Groups n) is js e h = (h, ap part_here h)
 opening i is js e h = absurd (false≢true e)
 
-pub not_opening : (i : Item) (is js : List Item) → opens i ≡ false → is ≡ i ∷ js → part_here is ≡ []
-not_opening (Groups n) is js e h = absurd (false≢true (sym e))
-not_opening i is js e h = ap part_here h
-
-pub opening_is_no_entry : (i : Item) (name : Name) → opens i ≡ true → i ≡ Entry name → ⊥
-opening_is_no_entry i name e d = false≢true (ap opens (sym d) ∙ e)
-
 -- ---- a block
 
 pub own_as : (s : Subject) (old new : Reached) (js is ks : List Item) (b d : Bool) → is ≡ ks → b ≡ d → OwnJudged s old new is js (Ok b) → OwnJudged s old new ks js (Ok d)
 own_as s old new js is ks b d e h j = subst (λ (w : List Item). OwnJudged s old new w js (Ok d)) e (subst (λ (v : Bool). OwnJudged s old new is js (Ok v)) h j)
 
--- a block's rows have room, where all items have
-pub own_block : (st : Reached) (more all n : ℕ) → Room st more all → all ≤ 9223372041149743104 → n ≤ 64 → Room st n 18446744073709551614
-own_block st more all n r h few = record { next = omega arith; group = omega arith; entry = omega arith; named = omega arith; values = omega arith }
-
 -- where it is told that a partition opens, one does
 pub opened_as : (s : Subject) (old new : Reached) (is js : List Item) (b : Bool) → b ≡ true → Opened s old new is js (Ok b) → Opened s old new is js (Ok true)
 opened_as s old new is js b e h = subst (λ (v : Bool). Opened s old new is js (Ok v)) e h
-
--- before the first item of a partition there is room for all
-pub room_before : (st : Reached) (p n : ℕ) → st ≡ record start { next = p } → Room st n (p + n)
-room_before st p n e = subst (λ (w : Reached). Room w n (p + n)) (sym e) (record { next = omega arith; group = omega arith; entry = omega arith; named = omega arith; values = omega arith })

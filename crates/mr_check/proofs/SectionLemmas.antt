@@ -78,16 +78,6 @@ own_first (Groups n) js o e = absurd (false≢true (sym o))
 own_first End js o e = absurd (false≢true (sym e))
 own_first i js o e = refl
 
--- before any partition
-pub walk_begins : (r : Reach) (is : List Item) → r ≡ record { items = 0; group = 0; entries = 0; groups = 0; fresh = 0 } → length is ≤ 9223372036854775808 → HasWalked [] r is
-walk_begins r is e h = record {
-  few = omega (arith, ap (λ (w : Reach). w.items) e, h);
-  group = omega (arith, ap (λ (w : Reach). w.group) e);
-  entries = omega (arith, ap (λ (w : Reach). w.entries) e);
-  fresh = omega (arith, ap (λ (w : Reach). w.fresh) e);
-  opened = λ some. absurd (omega (arith, some));
-}
-
 -- entries are passed
 pub walk_entries : (fs : List Front) (r new : Reach) (is js : List Item) (n : ℕ) → HasWalked fs r is → js ≡ behind_entries is → n ≡ entries_ahead is
     → new ≡ record r { items = r.items + n; entries = r.entries + n; fresh = r.fresh + n } → HasWalked fs new js

@@ -28,21 +28,6 @@ use Rattle.mr_sequential.specs.declared.fault.RunFault.TheVariants as run
 use Rattle.mr_asked.specs.Statuses.{TellsRun}
 use Rattle.mr_asked.specs.SkipList.{SpellsNames}
 
-pub run_stage : (request : RequestSpec) (files : List (List ℕ)) (names : List RecordName) (e : RunFault) (f : Fault)
-    → (e ≡ run.OutOfMemory) ⊎ (skip_fault request files names ≡ Some e) → TellsRun e f → IsRunRefusal request files names f
-run_stage request files names run.NoSuchRecord f (inl h) t = absurd (cc h)
-run_stage request files names run.SkipOrder f (inl h) t = absurd (cc h)
-run_stage request files names run.TooManySkips f (inl h) t = absurd (cc h)
-run_stage request files names run.OutOfMemory f h t = rw t tt
-run_stage request files names run.NoSuchRecord f (inr h) t = rw t h
-run_stage request files names run.SkipOrder f (inr h) t = rw t h
-run_stage request files names run.TooManySkips f (inr h) t = rw t h
-
-pub list_stage : (holds : List ℕ → List ℕ → Type 0) (unreadable : List ℕ → Type 0) (o : Options) (list : List ℕ) (e : Fault)
-    → IsAsked o → (e ≡ OutOfMemory) ⊎ ((e ≡ BadSkipList) × ((names : List RecordName) → ¬ SpellsNames list names)) → IsWorkRefusal holds unreadable o list e
-list_stage holds unreadable o list e a (inl h) = rw h (inl tt)
-list_stage holds unreadable o list e a (inr h) = inr (inl (a, h.0, h.1))
-
 pub work_input_stage : (holds : List ℕ → List ℕ → Type 0) (unreadable : List ℕ → Type 0) (o : Options) (list : List ℕ) (skips : List RecordName) (names : List (List ℕ)) (request : RequestSpec) (e : Fault)
     → names ≡ input_names o → request ≡ request_asked o → IsAsked o → SpellsNames list skips → IsInputRefusal holds unreadable names request.split e → IsWorkRefusal holds unreadable o list e
 work_input_stage holds unreadable o list skips names request e n r a s h =

@@ -38,11 +38,6 @@ given_map sh st w a s k at new number may h is e n =
 pub splits_long : (sh : Shape) (st : State) → InLimits sh → IsReached sh st → length st.splits ≡ sh.maps
 splits_long sh st limits h = (run_going sh (opening sh) h.0 st (going_at_opening sh limits.parts.0 limits.attempts.0) h.1).0.sound.splits_long
 
-pub split_there : (sh : Shape) (st : State) (w s : ℕ) → length st.splits ≡ sh.maps → may_give sh st w (MapTask s) ≡ true → s < length st.splits
-split_there sh st w s long may =
-    let is = ltb-true s sh.maps ((and_parts (is_task sh (MapTask s)) (not (has_live st w) && (may_newly sh st (MapTask s) || may_backup sh st (MapTask s))) may).0) in
-    omega (arith, is, long)
-
 pub asked_lost : (sh : Shape) (st : State) (w : ℕ) → is_active st w ≡ false → asked sh st w (Stop Dismissed) ≡ Some st
 asked_lost sh st w e = ap (λ (b : Bool). cond b (given sh st w (Stop Dismissed)) (Some st)) e
 
@@ -58,10 +53,6 @@ pub backup_given : (sh : Shape) (st : State) (w : ℕ) (r : Option Task) → Mat
     → MatchOption r (list_any (may_give sh st w) (tasks sh) ≡ false) (λ t. may_give sh st w t ≡ true)
 backup_given sh st w None h free none = none_newly_or_backup sh st w none h
 backup_given sh st w (Some t) h free none = backup_may sh st w t free h.1 none h.0
-
-pub ok_weaker : {X E : Type 0} (r : Result X E) (P Q : X → Type 0) → ((x : X) → P x → Q x) → IfOk r P → IfOk r Q
-ok_weaker (Ok x) P Q f h = f x h
-ok_weaker (Err e) P Q f h = tt
 
 -- as the calls find it
 pub busy_is : (xs : List Attempt) (w : ℕ) (r : Option ℕ) → MatchOption r (list_any (λ (a : Attempt). (a.worker == w) && a.live) xs ≡ false) (λ a. IsCurrent xs w a) → is_some r ≡ list_any (λ (a : Attempt). (a.worker == w) && a.live) xs

@@ -345,14 +345,6 @@ view_as f t w o xs ys v u ws vs e d g =
     let workers : length vs ≡ length ws = ap length g ∙ length-update (λ y. o) w ws in
     λ i. record { items = e i; maps = maps i; parts = parts i; workers = workers i }
 
-pub count_few : (p : Attempt → Bool) (xs : List Attempt) → count_by p xs ≤ length xs
-count_few p [] = omega arith
-count_few p (x ∷ xs) = by (p x) refl (count_few p xs)
-  where
-    by : (b : Bool) → p x ≡ b → count_by p xs ≤ length xs → count_by p (x ∷ xs) ≤ suc (length xs)
-    by true e rest = let one : ◌≡◌ {A = ℕ} (cond (p x) 1 0) 1 = ap (λ b. cond b 1 0) e in omega (arith, one, sum_by-cons (λ y. cond (p y) 1 0) x xs)
-    by false e rest = let one : ◌≡◌ {A = ℕ} (cond (p x) 1 0) 0 = ap (λ b. cond b 1 0) e in omega (arith, one, sum_by-cons (λ y. cond (p y) 1 0) x xs)
-
 -- the attempt that stands at the place is the live one
 pub at_index : (xs : List Attempt) (a : ℕ) (d : Attempt) → ((x : Attempt) × (slice_get xs a ≡ Some x) × (x.live ≡ true)) → d ≡ slice_index_or xs a d → (slice_get xs a ≡ Some d) × (d.live ≡ true) × (a < length xs)
 at_index xs a d r is =

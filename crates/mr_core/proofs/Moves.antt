@@ -63,9 +63,5 @@ report_step sh st e r mid over new is none out n =
 pub ask_step : (sh : Shape) (st : State) (w : ℕ) (r : Reply) (mid new : State) → st.end ≡ None → asked sh st w r ≡ Some mid → new ≡ settled sh mid false → Step sh st (Ask w) r new
 ask_step sh st w r mid new none out n = ap (next_by sh st (Ask w) r) none ∙ ap (then_settled sh) out ∙ ap Some (sym n)
 
--- where it has ended
-pub ended_step : (sh : Shape) (st : State) (e : Event) (end : End) → st.end ≡ Some end → Step sh st e (reply_ended end e) st
-ended_step sh st e end is = ap (next_by sh st e (reply_ended end e)) is ∙ ap (λ (b : Bool). cond b (Some st) None) (same_reply (reply_ended end e))
-
 pub reach_more : (sh : Shape) (old : State) (e : Event) (r : Reply) (new : State) → IsReached sh old → Step sh old e r new → IsReached sh new
 reach_more sh old e r new h step = (h.0 ++ (e, r) ∷ [], run_push sh _ h.0 old e r new h.1 step)

@@ -97,15 +97,3 @@ pub completed : (old : State) (ats : List Attempt) (sps : List Split) (a s o : �
 completed old ats sps a s o at e d = λ i. record old { splits = d i; attempts = e i }
 
 -- ---- open tasks
-
-pub open_map : (sh : Shape) (st : State) (t : Task) (s : ℕ) (whole few : Bool) → t ≡ MapTask s → whole ≡ is_complete st t → few ≡ nat_lt (issued st t) sh.limits.attempts → (not whole && few) ≡ is_open sh st t
-open_map sh st t s whole few e d f = ap (λ b. not b && few) d ∙ ap (λ b. not (is_complete st t) && b) f ∙ opened
-  where
-    opened : (not (is_complete st t) && nat_lt (issued st t) sh.limits.attempts) ≡ is_open sh st t
-    opened = subst (λ (u : Task). (not (is_complete st u) && nat_lt (issued st u) sh.limits.attempts) ≡ is_open sh st u) (sym e) refl
-
-pub open_reduce : (sh : Shape) (st : State) (t : Task) (p : ℕ) (whole few maps : Bool) → t ≡ ReduceTask p → whole ≡ is_complete st t → few ≡ nat_lt (issued st t) sh.limits.attempts → maps ≡ maps_complete st → (not whole && (few && maps)) ≡ is_open sh st t
-open_reduce sh st t p whole few maps e d f m = ap (λ b. not b && (few && maps)) d ∙ ap (λ b. not (is_complete st t) && (b && maps)) f ∙ ap (λ b. not (is_complete st t) && (nat_lt (issued st t) sh.limits.attempts && b)) m ∙ opened
-  where
-    opened : (not (is_complete st t) && (nat_lt (issued st t) sh.limits.attempts && maps_complete st)) ≡ is_open sh st t
-    opened = subst (λ (u : Task). (not (is_complete st u) && (nat_lt (issued st u) sh.limits.attempts && maps_complete st)) ≡ is_open sh st u) (sym e) refl

@@ -155,9 +155,6 @@ module _ (st : State) (iss : Issued) (nm np : ℕ) (tab : IsTabled st iss nm np)
     idle_parts = λ p h. absurd (omega arith);
   }
 
-pub tabled_at : (st new : State) (iss now : Issued) (nm np : ℕ) → new ≡ st → now ≡ iss → IsTabled st iss nm np → IsTabled new now nm np
-tabled_at st new iss now nm np e d tab = subst (λ (w : State). IsTabled w now nm np) (sym e) (subst (λ (w : Issued). IsTabled st w nm np) (sym d) tab)
-
 -- as the calls leave them
 pub tabled_ended : (st : State) (iss now : Issued) (nm np : ℕ) → IsTabled (record st { attempts = iss.items }) iss nm np → (a : ℕ) (x : Attempt) (nm' np' : ℕ) → now ≡ record iss { items = update_at (λ b. record b { live = false }) a iss.items }
     → slice_get iss.items a ≡ Some x → nm' ≤ nm → np' ≤ np → ((s : ℕ) → x.task ≡ MapTask s → nm' ≤ s) → ((p : ℕ) → x.task ≡ ReduceTask p → np' ≤ p) → IsTabled (record st { attempts = now.items }) now nm' np'

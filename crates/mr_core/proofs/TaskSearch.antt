@@ -92,9 +92,6 @@ none_for_busy sh st w busy = none_weaker (may_give sh st w) (λ t. false) (tasks
         let free = (and_parts (not (has_live st w)) (may_newly sh st t || may_backup sh st t) ((and_parts (is_task sh t) (not (has_live st w) && (may_newly sh st t || may_backup sh st t)) e).1)).0 in
         false≢true (sym (ap not busy) ∙ free)
 
-pub newly_may : (sh : Shape) (st : State) (w : ℕ) (t : Task) → has_live st w ≡ false → is_task sh t ≡ true → may_newly sh st t ≡ true → may_give sh st w t ≡ true
-newly_may sh st w t free is new = rw is (rw free (left _ _ new))
-
 pub backup_may : (sh : Shape) (st : State) (w : ℕ) (t : Task) → has_live st w ≡ false → is_task sh t ≡ true → list_any (may_newly sh st) (tasks sh) ≡ false → (is_open sh st t && (live st t == 1)) ≡ true → may_give sh st w t ≡ true
 backup_may sh st w t free is none back =
     let b = and_parts (is_open sh st t) (live st t == 1) back in

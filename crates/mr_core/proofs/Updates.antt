@@ -60,10 +60,6 @@ live_there (Some a) at e = by a.live refl e
     by true l e = e
     by false l e = absurd (cc e)
 
-pub taken_there : (k : List ℕ) (x : Option Split) → takes k x ≡ true → (sp : Split) × (x ≡ Some sp)
-taken_there k None e = absurd (cc e)
-taken_there k (Some sp) e = (sp, refl)
-
 pub set_same : {X : Type 0} (xs : List X) (i : ℕ) (d x : X) → i < length xs → x ≡ slice_index_or xs i d → slice_set xs i x ≡ xs
 set_same [] i d x h e = refl
 set_same (y ∷ ys) zero d x h e = ap (λ z. z ∷ ys) e

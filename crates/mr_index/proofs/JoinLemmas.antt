@@ -157,10 +157,6 @@ mapped-append skips xs ys =
     ap length (filter-append (λ (r : NamedRecord). not (is_left_out skips r.name)) xs ys)
     ∙ length-append (kept_records skips xs) (kept_records skips ys)
 
--- one more part
-pub joined-push : (parts : List (List Triple)) (p : List Triple) → joined (parts ++ p ∷ []) ≡ joined parts ++ p
-joined-push parts p = flat_map-append (λ (l : List Triple). l) parts (p ∷ []) ∙ ap (λ (l : List Triple). joined parts ++ l) (append-nil p)
-
 -- none of the splits is done
 pub mapped-first : (skips : List RecordName) (cut : Cut) (total : ℕ) → 0 < cut.size → total ≡ split_total cut.size cut.files
     → mapped_among skips (joined_splits 0 (total - 0) (records_of cut)) ≡ mapped_among skips (records_of cut)

@@ -59,9 +59,6 @@ pairs-more at keys key (e ∷ ends) (w ∷ values) v r h =
     (range-more keys key at e r.0 (rise-request e (length keys) ends r.1))
     ∙ ap (λ (l : List Emission). (slice_range keys at e, w) ∷ l) (pairs-more e keys key ends values v r.1 (omega (arith, h)))
 
-pub length-seen : (p : Pairs) → Sound p → length (pairs_seen p) ≡ length p.ends.items
-length-seen p s = length-pairs 0 p.keys.items p.ends.items p.values s.values
-
 pub length-shifted : (by : ℕ) (es : List ℕ) → length (shifted by es) ≡ length es
 length-shifted by [] = refl
 length-shifted by (e ∷ es) = ap suc (length-shifted by es)

@@ -29,19 +29,9 @@ entries_append [] js = omega arith
 entries_append (Entry name ∷ is) js = omega (arith, entries_append is js)
 entries_append (i ∷ is) js = entries_append is js
 
-entries_read : (i : Item) (is js : List Item) → is ≡ i ∷ left_behind i js → (i ≡ End → js ≡ is) → entries_in is ≡ entries_in (i ∷ []) + entries_in js
-entries_read i is js e stays =
-    elim (end_or_not i) [
-      | inl d ↦ omega (arith, entries_end i is js e d, ap entries_in (stays d), ap (λ (w : Item). entries_in (w ∷ [])) d)
-      | inr d ↦ omega (arith, ap entries_in (e ∙ ap (λ w. i ∷ w) (d.1 js)), entries_more i js)
-    ]
-
 -- one more item is read
 pub read_more : (all is : List Item) (i : Item) (ks js more : List Item) → all ≡ onto is ks → ks ≡ i ∷ left_behind i js → more ≡ is ++ i ∷ [] → all ≡ onto more js
 read_more all is i ks js more e d m = e ∙ (ap (onto is) d ∙ (sym (onto_more is i js) ∙ ap (λ w. onto w js) (sym m)))
-
-pub counts_more : (all : ℕ) (is : List Item) (i : Item) (ks js more : List Item) → all ≡ entries_in is + entries_in ks → ks ≡ i ∷ left_behind i js → (i ≡ End → js ≡ ks) → more ≡ is ++ i ∷ [] → all ≡ entries_in more + entries_in js
-counts_more all is i ks js more e d stays m = omega (arith, e, entries_read i ks js d stays, ap entries_in m, entries_append is (i ∷ []))
 
 -- ---- rows
 
@@ -162,18 +152,7 @@ room_here s old st n i rest all top r e stands = by (stands.room 0 1844674407370
     by : Room st (length (i ∷ rest) + 0) 18446744073709551614 → HasRoom st
     by r = record { next = omega arith; group = omega arith; entry = omega arith; named = omega arith; values = omega arith }
 
-pub room_block : (st : Reached) (more all n : ℕ) → Room st more all → all < 9223372036854775808 → n ≤ 64 → Room st n 18446744073709551614
-room_block st more all n r h few = record { next = omega arith; group = omega arith; entry = omega arith; named = omega arith; values = omega arith }
-
 -- ---- a block
-
--- the same of equal items and answers
-pub judged_as : (s : Subject) (at : ℕ) (old new : Reached) (js is ks : List Item) (b d : Bool) → is ≡ ks → b ≡ d → Judged s at old new is js (Ok b) → Judged s at old new ks js (Ok d)
-judged_as s at old new js is ks b d e h j = subst (λ (w : List Item). Judged s at old new w js (Ok d)) e (subst (λ (v : Bool). Judged s at old new is js (Ok v)) h j)
-
-pub block_ended : (s : Subject) (at : ℕ) (old new : Reached) (is js now all : List Item) → now ≡ onto is js → first (part_faults s at old now) ≡ first (part_faults s at start all) → old.named + entries_in now ≡ entries_in all
-    → Judged s at old new is js (Ok true) → (first (part_faults s at start all) ≡ None) × (new.named ≡ entries_in all)
-block_ended s at old new is js now all e same named j = (sym same ∙ (ap (λ w. first (part_faults s at old w)) e ∙ j.0), omega (arith, j.1, named, ap entries_in e))
 
 -- behind an end no entry is left that was read
 pub ended_counts : (is js all : List Item) (old new : ℕ) → all ≡ onto is js → entries_in all ≡ entries_in is + entries_in js → new ≡ old + entries_in (onto is js) → new ≡ old + entries_in (onto is []) → entries_in is ≡ entries_in all

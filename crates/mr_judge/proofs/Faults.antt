@@ -10,24 +10,6 @@ use Rattle.mr_bytes.specs.Pairs.{Triple}
 use Rattle.mr_answers.specs.Verdict.{Reached, Subject, passes, first_tests, later_tests, order_tests, with_entry, group_tests, behind_group, first}
 use Rattle.mr_judge.specs.Steps.{Answers}
 
-pub prefix_nil : (xs : List ℕ) → common_prefix_len nat_eq xs [] ≡ 0
-prefix_nil [] = refl
-prefix_nil (x ∷ xs) = refl
-
-pub prefix_end : (n : ℕ) (xs ys : List ℕ) (whole : ℕ) → length ys ≡ 0 → n + common_prefix_len nat_eq xs ys ≡ whole → n ≡ whole
-prefix_end n xs [] whole e h = omega (arith, h, prefix_nil xs)
-prefix_end n xs (y ∷ ys) whole e h = absurd (omega arith)
-
--- where a list begins with another, this is the whole of what both begin with
-pub starts_whole : (xs ys : List ℕ) → pointwise nat_eq xs (take (length xs) ys) ≡ true → common_prefix_len nat_eq xs ys ≡ length xs
-starts_whole [] ys h = refl
-starts_whole (x ∷ xs) [] h = absurd (false≢true h)
-starts_whole (x ∷ xs) (y ∷ ys) h = by (nat_eq x y) h (starts_whole xs ys)
-  where
-    by : (b : Bool) → (b && pointwise nat_eq xs (take (length xs) ys)) ≡ true → (pointwise nat_eq xs (take (length xs) ys) ≡ true → common_prefix_len nat_eq xs ys ≡ length xs) → cond b (1 + common_prefix_len nat_eq xs ys) 0 ≡ length (x ∷ xs)
-    by true h more = omega (arith, more h)
-    by false h more = absurd (false≢true h)
-
 pub starts_not : (xs ys : List ℕ) → pointwise nat_eq xs (take (length xs) ys) ≡ false → common_prefix_len nat_eq xs ys ≡ length xs → ⊥
 starts_not [] ys h e = false≢true (sym h)
 starts_not (x ∷ xs) [] h e = absurd (omega (arith, e))

@@ -55,9 +55,6 @@ all_left r z rest later t = record {
   later_is = λ q. (let d : 0 + q ≡ q = omega arith in ap (nth_file later) d);
 }
 
-pub any_fits : (r : Reading) → r.opened ≡ 0 → Fits (IsToCome r) start
-any_fits r z rest later t = (later, all_left r z rest later t)
-
 -- ---- the certificate
 
 -- at the front of a reader's bytes

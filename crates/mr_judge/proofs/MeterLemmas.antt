@@ -34,10 +34,3 @@ rest_entries rs stop most at is k r e h =
       accepted_pairs (record { skips = r.skips; pairs = 0 }) r.behind,
       ap (λ (b : Accepted). b.pairs) (listed_accepted rs at k.many [] k.behind r h),
     )
-
--- what a walk over fewer items counts is within what one over all may count
-pub bounded_wider : (cut other : Cut) (is js : List Item) (old new : Meter) → other ≡ cut → entries_in js ≡ entries_in is → IsBounded other js old new → IsBounded cut is old new
-bounded_wider cut other is js old new same e b = record {
-  lookups = (b.lookups.0, omega (arith, b.lookups.1, e));
-  mapped = (b.mapped.0, omega (arith, b.mapped.1, ap (λ (c : Cut). length (records_of c)) same));
-}

@@ -265,10 +265,6 @@ pub entry_leaves : (st : Reached) (t : Triple) (e : ℕ) (outs : List (List ℕ)
 entry_leaves st t zero outs rest later w = record { rest_is = w.rest_is; later_is = w.later_is }
 entry_leaves st t (suc e) outs rest later w = record { rest_is = w.rest_is; later_is = w.later_is }
 
-entry_next : (st : Reached) (t : Triple) (e : ℕ) → (with_entry st t e).next ≡ st.next
-entry_next st t zero = refl
-entry_next st t (suc e) = refl
-
 entry_entries : (st : Reached) (t : Triple) (e : ℕ) → (with_entry st t e).entries ≡ st.entries - 1
 entry_entries st t zero = refl
 entry_entries st t (suc e) = refl
@@ -290,14 +286,6 @@ entry_told b old new st mid next p name t o r some none is told =
 
 -- ---- items
 
-pub halts_items : {A : Type 0} (steady : Type 0) (a b : ℕ) (r : Result A Stop) → Stops steady a b r → HaltsItems steady a b r
-halts_items steady a b (Ok v) h = h
-halts_items steady a b (Err (Fault e)) h = h
-halts_items steady a b (Err Device) h = h
-halts_items steady a b (Err TooLong) h = h
-halts_items steady a b (Err (Output p)) h = absurd h
-halts_items steady a b (Err LongOutput) h = absurd h
-
 pub items_of_halt : (A B : Type 0) (s t : Type 0) (os ps : List ℕ) (n m : ℕ) (e : Stop) → Halts {A = A} s os ps (Err e) → m ≡ n → HaltsItems {A = B} t n m (Err e)
 items_of_halt A B s t os ps n m (Fault e) h d = d
 items_of_halt A B s t os ps n m Device h d = absurd h
@@ -310,9 +298,6 @@ begins_front [] is h = refl
 begins_front (Groups n ∷ items) is h = refl
 begins_front (End ∷ items) is h = refl
 begins_front (i ∷ items) is h = absurd (false≢true h)
-
-pub no_entry : (i : Item) (is : List Item) (name : Name) → begins (i ∷ is) ≡ true → i ≡ Entry name → ⊥
-no_entry i is name h e = false≢true (ap (λ (w : Item). begins (w ∷ is)) (sym e) ∙ h)
 
 pub opens_first : (i : Item) (is : List Item) → begins (i ∷ is) ≡ true → (i ≡ End → ⊥) → opens i ≡ true
 opens_first (Groups n) is h other = refl

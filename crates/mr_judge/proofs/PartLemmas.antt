@@ -28,14 +28,6 @@ loop_more s at st i is js e other none =
       | inr d ↦ sym (ap (λ w. first (part_faults s at st w)) (e ∙ ap (λ w. i ∷ w) (d.1 js)) ∙ (ap first (faults_step s at st i js other) ∙ first_more (tests s st i) (part_faults s at (after s st i) js) none))
     ]
 
--- what is read of an item that isn't the end
-pub loop_read : (i : Item) (is js : List Item) → is ≡ i ∷ left_behind i js → (i ≡ End → ⊥) → is ≡ i ∷ js
-loop_read i is js e other =
-    elim (end_or_not i) [
-      | inl d ↦ absurd (other d)
-      | inr d ↦ e ∙ ap (λ w. i ∷ w) (d.1 js)
-    ]
-
 pub loop_end : (s : Subject) (at : ℕ) (st : Reached) (i : Item) (is js : List Item) → is ≡ i ∷ js → i ≡ End → tests s st i ≡ [] → first (part_faults s at st is) ≡ None
 loop_end s at st i is js e d none = ap (λ w. first (part_faults s at st w)) (e ∙ ap (λ (w : Item). w ∷ js) d) ∙ ap first (sym (ap (tests s st) d) ∙ none)
 
@@ -46,18 +38,11 @@ loop_fault s at st i is js f e told =
       | inr d ↦ told_is (tests s st i ++ part_faults s at (after s st i) js) (part_faults s at st is) f (ap (λ w. first (part_faults s at st w)) e ∙ ap first (faults_step s at st i js d.0)) (told_left (tests s st i) (part_faults s at (after s st i) js) f told)
     ]
 
-pub loop_none : (s : Subject) (at : ℕ) (st : Reached) (is : List Item) → is ≡ [] → first (part_faults s at st is) ≡ Some (Malformed at)
-loop_none s at st is e = ap (λ w. first (part_faults s at st w)) e
-
 -- ---- how many entries there were
 
 pub entries_more : (i : Item) (is : List Item) → entries_in (i ∷ is) ≡ entries_in (i ∷ []) + entries_in is
 entries_more (Entry name) is = omega arith
 entries_more i is = omega arith
-
-pub entries_one : (i : Item) → entries_in (i ∷ []) ≤ 1
-entries_one (Entry name) = omega arith
-entries_one i = omega arith
 
 pub entries_end : (i : Item) (is js : List Item) → is ≡ i ∷ left_behind i js → i ≡ End → entries_in is ≡ 0
 entries_end i is js e d = ap entries_in (e ∙ ap (λ (w : Item). w ∷ left_behind w js) d)

@@ -14,11 +14,6 @@ use Rattle.mr_judging.specs.Checks.{IsOptionRefusal, IsResultRefusal, IsCheckRef
 use Rattle.mr_judging.specs.Inputs.{IsAsked, IsInput, IsInputRefusal, IsStopped, input_names}
 use Rattle.mr_asked.specs.Statuses.{TellsFile}
 
-pub result_refused : (unreadable : List ℕ → Type 0) (names : List (List ℕ)) (e : FileFault) (f : Fault) → IsOneUnread unreadable names e → TellsFile e f → IsResultRefusal unreadable names f
-result_refused unreadable names (file.CannotRead name) f h t = rw t h
-result_refused unreadable names (file.CannotWrite name) f h t = absurd h
-result_refused unreadable names file.OutOfMemory f h t = rw t tt
-
 pub asked : {A : Type 0} (o : Options) (r : A) → ((◌≡◌ {A = Result A Fault} (Ok r) (Err OtherJobsOption)) ↔ AsksForOtherJob o) → WithinLimits (request_asked o) → IsAsked o
 asked o r other within = record { own = λ a. cc (other.1 a); within = within }
 

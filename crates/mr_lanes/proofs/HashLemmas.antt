@@ -16,15 +16,3 @@ fnv_from-more h at bs less = at_drop_more (fnv_from h) bs at 0 less ∙ fnv_from
 
 pub fnv_from-end : (h at : ℕ) (bs : List ℕ) → length bs ≤ at → fnv_from h (drop at bs) ≡ h
 fnv_from-end h at bs past = at_drop_all (fnv_from h) bs at past ∙ fnv_from-nil h
-
--- a fact of each of eight
-pub of_eight : (P : ℕ → Type 0) → P 0 → P 1 → P 2 → P 3 → P 4 → P 5 → P 6 → P 7 → (i : ℕ) → i < 8 → P i
-of_eight P a b c d e f g h zero less = a
-of_eight P a b c d e f g h (suc zero) less = b
-of_eight P a b c d e f g h (suc (suc zero)) less = c
-of_eight P a b c d e f g h (suc (suc (suc zero))) less = d
-of_eight P a b c d e f g h (suc (suc (suc (suc zero)))) less = e
-of_eight P a b c d e f g h (suc (suc (suc (suc (suc zero))))) less = f
-of_eight P a b c d e f g h (suc (suc (suc (suc (suc (suc zero)))))) less = g
-of_eight P a b c d e f g h (suc (suc (suc (suc (suc (suc (suc zero))))))) less = h
-of_eight P a b c d e f g h (suc (suc (suc (suc (suc (suc (suc (suc i)))))))) less = absurd (omega (arith, less))

@@ -198,21 +198,6 @@ begun-told job text line rest key told h e clear last whole =
     sym (after-last 9 key told whole) ∙ ap (after_last 9) (sym last ∙ begun-same job text line rest h e clear)
     ∙ after-last 9 h.key h.told (told-lacks job h.tally h.told 9 (λ r. omega (arith, r.0)) (λ e'. omega (arith, e')) h.tells)
 
--- what neither a total nor a place tells, no line of the job tells
-pub no-total : (job : JobSpec) (told : List ℕ) → counts job ≡ true → ((n : ℕ) → n < 2 ^ 64 → told ≡ decimal n → ⊥) → (t : Tally) → IsTold job t told → ⊥
-no-total (WordCount keep_case) told e no_number (Total n) is = no_number n is.1 is.0
-no-total (WordCount keep_case) told e no_number (Place file offset) is = is
-no-total (LinesWith literal fold) told e no_number t is = absurd (cc e)
-no-total Resources told e no_number (Total n) is = no_number n is.1 is.0
-no-total Resources told e no_number (Place file offset) is = is
-
-pub no-place : (job : JobSpec) (told : List ℕ) → counts job ≡ false → ((file offset : ℕ) → file < 2 ^ 32 → offset < 2 ^ 64 → told ≡ decimal file ++ 58 ∷ decimal offset → ⊥)
-    → (t : Tally) → IsTold job t told → ⊥
-no-place (WordCount keep_case) told e none t is = absurd (cc e)
-no-place (LinesWith literal fold) told e none (Total n) is = is
-no-place (LinesWith literal fold) told e none (Place file offset) is = none file offset is.1 is.2 is.0
-no-place Resources told e none t is = absurd (cc e)
-
 pub begun : (job : JobSpec) (t : Tally) (key told : List ℕ) → Lacks 10 key → IsTold job t told → Lacks 10 (key ++ 9 ∷ told)
 begun job t key told clear is =
     Lacks-append 10 key (9 ∷ told) clear (λ e. omega (arith, e), told-lacks job t told 10 (λ r. omega (arith, r.0)) (λ e. omega (arith, e)) is)

@@ -98,29 +98,10 @@ pub through : (hs : List Group) (g : Group) (gs : List Group) → AllByRecursion
 through [] g gs ne r = refl
 through (h ∷ hs) g gs ne r = ap (with_group h) (through hs g gs ne.1 r) ∙ with_group-swap h g (merged hs gs) ne.0 (merged-rise hs gs r)
 
--- the first group of a list goes in by itself, where no earlier list has its key
-pub pull : (gss : List (List Group)) (i : ℕ) (g : Group) (gs : List Group) → i < length gss → get_or gss i [] ≡ g ∷ gs
-    → ((j : ℕ) → j < i → AllByRecursion (λ h. h.key ≡ g.key → ⊥) (get_or gss j []))
-    → merged_all gss ≡ with_group g (merged_all (set gss i gs))
-pull [] i g gs lt is apart = absurd (omega (arith, lt))
-pull (hs ∷ gss) zero g gs lt is apart = ap (λ l. merged l (merged_all gss)) is
-pull (hs ∷ gss) (suc i) g gs lt is apart =
-    ap (merged hs) (pull gss i g gs (omega (arith, lt)) is (λ j l. apart (suc j) (omega (arith, l))))
-    ∙ through hs g (merged_all (set gss i gs)) (apart 0 (omega arith)) (merged_all-rise (set gss i gs))
-
 -- a group before all others stands in front
 pub in_front : (g : Group) (gs : List Group) → AllByRecursion (λ k. key_order g.key k ≡ Less) (keys gs) → with_group g gs ≡ g ∷ gs
 in_front g [] all = refl
 in_front g (h ∷ hs) all = ap (λ o. match_ordering o (g ∷ h ∷ hs) (joined g h ∷ hs) (h ∷ with_group g hs)) all.0
-
--- where a key of merged lists comes from
-pub merged_all-Has : (gss : List (List Group)) (k : List ℕ) → Has (keys (merged_all gss)) k → (i : ℕ) × (i < length gss) × Has (keys (get_or gss i [])) k
-merged_all-Has [] k h = absurd h
-merged_all-Has (gs ∷ gss) k h =
-    elim (with_keys-cases (keys gs) (keys (merged_all gss)) k (subst (λ l. Has l k) (merged-keys gs (merged_all gss)) h)) [
-      | inl a ↦ (0, omega arith, a)
-      | inr b ↦ (let w = merged_all-Has gss k b in (suc w.0, omega (arith, w.1), w.2))
-    ]
 
 -- ---- parts, with their files moved
 

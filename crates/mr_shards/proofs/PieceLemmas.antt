@@ -24,9 +24,6 @@ pub push-step : {Y : Type 0} (done done' rest rest' all : List Y) (y : Y) → do
 push-step done done' rest rest' all y e r h =
     ap (λ l. l ++ rest') e ∙ append_assoc done (y ∷ []) rest' ∙ ap (λ l. done ++ l) (sym r) ∙ h
 
-pub push-end : {Y : Type 0} (done rest all : List Y) → rest ≡ [] → done ++ rest ≡ all → done ≡ all
-push-end done rest all r h = sym (append-nil done) ∙ ap (λ l. done ++ l) (sym r) ∙ h
-
 module _ (hs : List Held) (ws : List Window) (cs : List ℕ) (i : ℕ) where
   pub pieces-more : (h : Held) (w : Window) (c : ℕ) → i < length hs → i < length ws → i < length cs
       → pieces_of (drop i hs) (drop i ws) (drop i cs)

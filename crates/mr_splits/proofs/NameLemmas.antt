@@ -253,16 +253,3 @@ pub flags-none : (skips : List RecordName) (rs : List NamedRecord) (flags : List
 flags-none skips rs flags count same none empty =
     ap (flags_of count) empty ∙ ap (λ (n : ℕ). replicate n false) same ∙ sym (none-left-out rs)
     ∙ ap (λ (ss : List RecordName). left_out_flags ss rs) (sym (nil_from_length skips none))
-
--- flags that are kept as they are
-pub flags-kept : (flags : List Bool) (count : ℕ) → length flags ≡ count → flags_of count flags ≡ flags
-flags-kept [] count e = ap (λ (n : ℕ). replicate n false) (sym e)
-flags-kept (b ∷ bs) count e = refl
-
--- the flag of a record tells whether the list leaves out its name
-pub left_out-at : (skips : List RecordName) (rs : List NamedRecord) (flags : List Bool) (number : ℕ) (name : RecordName) → flags ≡ left_out_flags skips rs
-    → number < length rs → (nth_named rs number).name ≡ name → get_or flags number false ≡ is_left_out skips name
-left_out-at skips rs flags number name is h named =
-    ap (λ (l : List Bool). get_or l number false) is
-    ∙ get_or-map (λ (r : NamedRecord). is_left_out skips r.name) rs number (record { name = record { split = 0; rec = 0 }; file = 0; start = 0; bytes = [] }) false h
-    ∙ ap (λ (n : RecordName). is_left_out skips n) named

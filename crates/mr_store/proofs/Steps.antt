@@ -14,18 +14,11 @@ known_joined : (known : Option (List ℕ)) (xs ys zs : List ℕ) → xs ++ ys �
 known_joined None xs ys zs e = refl
 known_joined (Some x) xs ys zs e = ap Some (append_assoc x xs ys ∙ ap (λ w. x ++ w) e)
 
-known_none : (known : Option (List ℕ)) → known ≡ append_known known []
-known_none None = refl
-known_none (Some x) = ap Some (sym (append-nil x))
-
 abbrev with_known : Seen → Option (List ℕ) → Seen
 with_known w known = record { contents = known; handed_on = w.handed_on; failed = w.failed }
 
 bytes_joined : (w : Seen) (xs ys zs : List ℕ) → xs ++ ys ≡ zs → with_bytes (with_bytes w xs) ys ≡ with_bytes w zs
 bytes_joined w xs ys zs e = ap (λ known. with_known w known) (known_joined w.contents xs ys zs e)
-
-pub bytes_none : (w : Seen) → w ≡ with_bytes w []
-bytes_none w = ap (λ known. with_known w known) (known_none w.contents)
 
 -- a beginning of the bytes was written, and the rest is left
 abbrev pub Cut : List ℕ → List ℕ → Seen → Seen → Type 0 → Type 0

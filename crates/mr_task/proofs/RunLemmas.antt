@@ -65,11 +65,6 @@ all-mapped pairs r parts h none e =
     let same : joined h.sealed ≡ pairs = sym (append-nil (joined h.sealed)) ∙ ap (λ (l : List Triple). joined h.sealed ++ l) (sym none) ∙ h.all in
     subst (λ (n : ℕ). IsMapped (λ k. partition_of k n) n pairs r.sealed) e (mapped-by pairs r.split r.sealed.parts h.sealed r.sealed.runs h.each same)
 
--- a pair more that is of the split
-pub next-own : (split : ℕ) (old new : List Triple) (t : Triple) → AreNext t old new → AreOf split old → t.name.split ≡ split → AreOf split new
-next-own split old new t (inl e) own here = subst (AreOf split) (sym e) (all-append (λ (u : Triple). u.name.split ≡ split) old (t ∷ []) own (here, tt))
-next-own split old new t (inr e) own here = subst (AreOf split) (sym e) (here, tt)
-
 pub takes-none : (r : Runs) → Takes [] r r
 takes-none r pairs h = subst (λ (l : List Triple). HasTaken l r) (sym (append-nil pairs)) h
 
