@@ -1,7 +1,6 @@
 -- Regions whose names follow one another, put together by key.
 use denote.Ref.{Bor}
-use Rattle.std.proofs.Common.{◌≡◌, ℕ, ◌+◌, ◌<◌, List, [], ◌∷◌, ◌++◌, length, get_or, take, filter, refl, ap, sym, ◌∙◌, subst, arith, inl, inr, cond, ◌==◌, Option, Some, None}
-use Rattle.std.proofs.lemmas.Bool.{eq-eqb}
+use Rattle.std.proofs.Common.{◌≡◌, ℕ, ◌+◌, ◌<◌, List, [], ◌∷◌, ◌++◌, length, get_or, take, refl, ap, sym, ◌∙◌, subst, inl, inr, Option, Some, None}
 use Rattle.std.proofs.lemmas.List.{flat_map_more, map-append, take_more}
 use Rattle.std.proofs.lemmas.List.Folds.{flat_map-map}
 use Rattle.std.proofs.lemmas.Cmp.{tied_itself, nat_list_cmp_total}
@@ -10,18 +9,18 @@ use Rattle.std.specs.Ordering.{ordering_reverse, ordering_then}
 use Rattle.std.specs.declared.cmp.Ordering.{Ordering}
 use Rattle.std.specs.declared.cmp.Ordering.TheVariants.{Less, Equal, Greater}
 use Rattle.mr_bytes.specs.declared.Name.{Name}
-use Rattle.mr_bytes.specs.Lists.{Distinct, Has, Rises, sorted}
+use Rattle.mr_bytes.specs.Lists.{Distinct, Has, Rises}
 use Rattle.mr_bytes.specs.Order.{key_order, name_order}
 use Rattle.mr_bytes.specs.Pairs.{Triple, pair_order}
 use Rattle.mr_bytes.proofs.ListLaws.{Distinct-append, Has-all, all_from_Has, Has-append_cases, Has-map, Has-map_from}
-use Rattle.mr_partition.specs.Partition.{partition_of}
 use Rattle.mr_spill.specs.Column.{names_of}
-use Rattle.mr_spill.specs.Regions.{RisesUnderKeys, region}
+use Rattle.mr_spill.specs.Regions.{RisesUnderKeys}
 use Rattle.mr_spill.specs.Table.{columns_of}
 use Rattle.mr_merge.specs.Merged.{joined, values_of}
 use Rattle.mr_merge.specs.Merging.{IsPast, IsUpTo, NamesDiffer}
 use Rattle.mr_spill.proofs.RegionLaws.{names_total}
-use Rattle.mr_merge.proofs.MergeLemmas.{All-more, name-tie}
+use Rattle.mr_merge.proofs.MergeLemmas.{name-tie}
+use Rattle.mr_ranks.proofs.ListLemmas.{All-more}
 
 pub All-next : {X : Type 0} (P : X → Type 0) (xs : List X) (i : ℕ) (d : X) → i < length xs → AllByRecursion P (take i xs) → P (get_or xs i d) → AllByRecursion P (take (i + 1) xs)
 All-next P xs i d h all p = subst (AllByRecursion P) (sym (take_more xs i d h)) (All-more P (take i xs) (get_or xs i d) all p)
@@ -67,18 +66,6 @@ before-past (Some last) m n h g = by (name_order last m) refl
     by Equal is = subst (λ l. name_order l n ≡ Less) (name-tie last m is) g
     by Greater is = names_total.trans m last n (names_total.antisymm m last ∙ ap ordering_reverse is) g
 
-pub up_to-itself : (n : Name) → IsUpTo (Some n) n
-up_to-itself n h = cc (h, tied_itself names_total n)
-
--- up to the last one, and so up to a later one
-pub up_to-later : (last : Option Name) (name n : Name) → IsPast last name → IsUpTo last n → IsUpTo (Some name) n
-up_to-later last name n past h g = cc (names_total.trans n name n (before-past last n name h past) g, tied_itself names_total n)
-
--- not past the last one is up to it
-pub up_to-not_past : (last : Option Name) (n : Name) → (IsPast last n → ⊥) → IsUpTo last n
-up_to-not_past None n h = h tt
-up_to-not_past (Some last) n h = h
-
 past-at : (ys : List Triple) (last : Option Name) (names : List Name) → names ≡ names_of ys → AllByRecursion (IsPast last) names → (u : Triple) → Has ys u → IsPast last u.name
 past-at ys last names are past u h =
     Has-all (IsPast last) names u.name past (subst (λ (l : List Name). Has l u.name) (sym are) (Has-map (λ (w : Triple). w.name) ys u h))
@@ -108,13 +95,3 @@ later-last xs ys last end names are up below all t h = elim (Has-append_cases xs
 
 pub columns-joined : (rs : List (Bor (List Triple))) → columns_of rs ≡ joined (values_of rs)
 columns-joined rs = sym (flat_map-map (λ (l : List Triple). l) (λ (b : Bor (List Triple)). b.now) rs)
-
--- all pairs are of the one partition
-all-in : (ts : List Triple) → filter (λ t. partition_of t.key 1 == 0) ts ≡ ts
-all-in [] = refl
-all-in (t ∷ ts) =
-    ap (λ b. cond b (t ∷ filter (λ u. partition_of u.key 1 == 0) ts) (filter (λ u. partition_of u.key 1 == 0) ts)) (eq-eqb (partition_of t.key 1) 0 (omega arith))
-    ∙ ap (λ l. t ∷ l) (all-in ts)
-
-pub one-region : (ts : List Triple) → region (λ k. partition_of k 1) ts 0 ≡ sorted pair_order ts
-one-region ts = ap (sorted pair_order) (all-in ts)

@@ -4,9 +4,8 @@ use Rattle.std.proofs.lemmas.List.{get_or-map}
 use Rattle.std.proofs.lemmas.Cmp.{nat_list_cmp_total, tied_itself}
 use Rattle.std.specs.List.{AllByRecursion, flat_map}
 use Rattle.std.specs.Str.{bytes_eq}
-use Rattle.std.specs.Cmp.Lexicographic.{bytes_decides, texts_ties}
-use Rattle.std.specs.Ordering.{is_eq}
-use Rattle.std.specs.declared.cmp.Ordering.TheVariants.{Less, Equal}
+use Rattle.std.specs.Cmp.Lexicographic.{bytes_decides}
+use Rattle.std.specs.declared.cmp.Ordering.TheVariants.{Less}
 use Rattle.mr_bytes.specs.declared.Name.{Name}
 use Rattle.mr_bytes.specs.Lists.{Has, HasNoTies, Rises, sorted}
 use Rattle.mr_bytes.specs.Order.{key_order}
@@ -19,14 +18,12 @@ use Rattle.mr_spill.specs.Keyed.{AreKeyed, KeyEntries, key_cmp, names_with, pair
 use Rattle.mr_merge.specs.Groups.{group_with, no_group}
 use Rattle.mr_merge.specs.Merged.{Group, group_of, merged}
 use Rattle.mr_merge.proofs.SortedLaws.{sorted-front, sorted-is, sorted-same}
+use Rattle.mr_ranks.proofs.OrderLemmas.{key_tie}
 
 -- ---- keys
 
-pub key-tie : (j k : List ℕ) → key_order j k ≡ Equal → j ≡ k
-key-tie j k e = (bytes_decides j k).0 (texts_ties j k ∙ ap is_eq e)
-
 pub keys-no-ties : (ks : List (List ℕ)) → HasNoTies key_order ks
-keys-no-ties ks j k h g e = sym (key-tie j k e)
+keys-no-ties ks j k h g e = sym (key_tie j k e)
 
 -- a key before another is another
 less-differs : (j k : List ℕ) → key_order j k ≡ Less → bytes_eq j k ≡ false

@@ -20,16 +20,12 @@ use Rattle.mr_merge.specs.Merged.{AreSound, joined}
 use Rattle.mr_merge.specs.Merging.{IsPast, IsUpTo, NamesDiffer}
 use Rattle.mr_merge.specs.Taking.{AreTaken, IsBegun, IsTaken, RunsAhead}
 use Rattle.mr_merge.proofs.GatherLemmas.{All-weaker, differs, follows, later-last}
-use Rattle.mr_merge.proofs.MergeLemmas.{All-more}
+use Rattle.mr_ranks.proofs.ListLemmas.{All-more}
 
 -- ---- a pair of a region
 
 All-names : (P : Name → Type 0) (ts : List Triple) (t : Triple) → AllByRecursion P (names_of ts) → P t.name → AllByRecursion P (names_of (ts ++ t ∷ []))
 All-names P ts t all p = subst (AllByRecursion P) (sym (map-append (λ (u : Triple). u.name) ts (t ∷ []))) (All-more P (names_of ts) t.name all p)
-
-pub again-key : (ts : List Triple) (last : Option RegionPair) (key : List ℕ) → ((p : RegionPair) → last ≡ Some p → EndsWithKey ts p.key.now) → IsKeyOf last key → EndsWithKey ts key
-again-key ts None key f h = absurd h
-again-key ts (Some p) key f h = subst (EndsWithKey ts) h (f p refl)
 
 none-some : (p : RegionPair) → ◌≡◌ {A = Option RegionPair} None (Some p) → ⊥
 none-some p e = cc e

@@ -3,7 +3,7 @@ ghost use Rattle.std.specs.Prelude.{◌≡◌, ◌↔◌, ◌∷◌, [], IfOk, I
 ghost use Rattle.std.specs.List.{AllByRecursion};
 ghost use Rattle.mr_bytes.specs.declared.Name.{Name};
 ghost use Rattle.mr_bytes.specs.Lists.{Rises, sorted};
-ghost use Rattle.mr_bytes.specs.Pairs.{Triple, pair_order};
+ghost use Rattle.mr_bytes.specs.Pairs.{pair_order};
 ghost use Rattle.mr_spill.specs.Regions.{RisesUnderKeys};
 ghost use Rattle.mr_merge.specs.Merged.{AreSound, joined, values_of};
 ghost use Rattle.mr_merge.specs.Merging.{IsPast, IsUpTo, NamesDiffer};

@@ -1,5 +1,5 @@
 //! Regions taken over their bytes, pair by pair, one region behind another.
-ghost use Rattle.std.specs.Prelude.{◌≡◌, [], IfOk, IsTrue, MatchOption};
+ghost use Rattle.std.specs.Prelude.{[], IfOk, IsTrue, MatchOption};
 ghost use Rattle.mr_merge.specs.Taking.{AreTaken, IsPut, IsTaken};
 ghost use Rattle.mr_spill.specs.Cursor.{EndsWithKey};
 

@@ -4,8 +4,9 @@ use Rattle.mr_bytes.specs.Pairs.{Triple, pair_order}
 use Rattle.mr_spill.specs.Regions.{RisesUnderKeys}
 use Rattle.mr_spill.specs.Table.{columns_of}
 use Rattle.mr_merge.specs.Merging.{NamesDiffer}
-use Rattle.mr_merge.proofs.GatherLemmas.{columns-joined, one-region}
+use Rattle.mr_merge.proofs.GatherLemmas.{columns-joined}
 use Rattle.mr_merge.proofs.gathering.merged_pairs.Goals as goal
+use Rattle.mr_spill.proofs.KeyedLemmas.{one-region}
 
 pub gathered-requires-clause-rise : goal.gathered-requires-clause-rise
 gathered-requires-clause-rise c =
