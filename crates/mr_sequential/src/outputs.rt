@@ -1,23 +1,58 @@
 //! From gathered pairs to the outputs and the groups of a certificate.
-ghost use Rattle.std.specs.Prelude.{◌≡◌, ℕ, ◌<◌, ◌^◌, IfOk, length, map};
-ghost use Rattle.std.specs.List.{range_with_len};
+ghost use Rattle.std.specs.Prelude.{◌≡◌, ℕ, ◌<◌, ◌^◌, All, IfOk, length, map};
+ghost use Rattle.std.specs.List.{range_with_len, zip};
+ghost use Rattle.mr_bytes.specs.Lists.{Has, Rises};
 ghost use Rattle.mr_certform.specs.Flat.{AreCounted, chunks};
 ghost use Rattle.mr_input.specs.Files.{contents, nth_file};
 ghost use Rattle.mr_partition.specs.Partition.{partition_of};
+ghost use Rattle.mr_ranks.specs.Rows.{row_cmp};
 ghost use Rattle.mr_reduce.specs.Text.{text_of};
 ghost use Rattle.mr_splits.specs.Cut.{records_of};
 ghost use Rattle.mr_splits.specs.Kept.{kept_records};
-ghost use Rattle.mr_sequential.specs.Names.{names_beside};
+ghost use Rattle.mr_sequential.specs.Names.{names_beside, value_under};
 ghost use Rattle.mr_sequential.specs.Pairs.{groups_in, texts_in, valued};
+ghost use Rattle.mr_sequential.specs.Rows.{AreGrouped, bucket_text, row_texts};
 
 use crate::gathered::Gathered;
 use crate::groups::grouped;
 use crate::texts::texts_of;
 use mr_certform::FlatGroups;
 use mr_jobs::Job;
-use mr_ranks::{RankedPairs, ranked};
+use mr_ranks::{RankedPairs, Row, ranked};
 use mr_splits::Kept;
 use std::alloc::{AllocError, Global};
+
+/// The texts and the groups of all partitions, given the rank of each pair, the rows of the ranks in order, and how many pairs
+/// each kept record gave.
+fn outputs_by_rank(
+    alloc: Global,
+    job: &Job,
+    kept: &Kept<'_>,
+    rows: &[Row<'_>],
+    numbers: Vec<u32>,
+    counts: Vec<u32>,
+    parts: u32,
+) -> Result<(Vec<Vec<u8>>, FlatGroups), AllocError>
+    requires size { 0 < kept.now.cut.size }
+    requires rows { length rows.now < 2 ^ 32 }
+    requires sorted { Rises row_cmp rows.now }
+    requires parts { All (λ r. r.part < parts) rows.now }
+    requires inside { All (λ i. i < length rows.now) numbers.items }
+    requires used { (i : ℕ) → i < length rows.now → Has numbers.items i }
+    requires all { length (names_beside (kept_records kept.now.skips (records_of kept.now.cut)) counts.items) ≡ length numbers.items }
+    requires few { length numbers.items < 2 ^ 32 }
+    ensures count { IfOk result (λ r. length r.0.items ≡ parts) }
+    ensures texts { IfOk result (λ r. (p : ℕ) → p < parts → nth_file (contents r.0.items) p
+        ≡ row_texts (bucket_text job.now (zip numbers.items (map (value_under job.now (records_of kept.now.cut))
+        (names_beside (kept_records kept.now.skips (records_of kept.now.cut)) counts.items)))) p 0 rows.now) }
+    ensures groups { IfOk result (λ r. AreGrouped parts rows.now numbers.items
+        (names_beside (kept_records kept.now.skips (records_of kept.now.cut)) counts.items) r.1.group_counts.items r.1.entry_counts.items r.1.names.items) }
+{
+    // The texts may take more memory than all this: what they don't need is let go before they are made.
+    let groups = grouped(alloc, kept, rows, numbers, counts, parts)?;
+    let texts = texts_of(alloc, job, kept.plan(), rows, &groups, parts)?;
+    Ok((texts, groups))
+}
 
 /// For each partition the texts of its groups, by rising key, and the groups of all partitions by their names, given the
 /// keys of the pairs of the kept records, and how many pairs each of these gave.
@@ -45,8 +80,5 @@ pub(crate) fn outputs(
 {
     let Gathered { keys, numbers } = gathered;
     let RankedPairs { rows, numbers } = ranked(alloc, &keys, parts, numbers)?;
-    // The texts may take more memory than all this: what they don't need is let go before they are made.
-    let groups = grouped(alloc, kept, rows.as_slice(), numbers, counts, parts)?;
-    let texts = texts_of(alloc, job, kept.plan(), rows.as_slice(), &groups, parts)?;
-    Ok((texts, groups))
+    outputs_by_rank(alloc, job, kept, rows.as_slice(), numbers, counts, parts)
 }
