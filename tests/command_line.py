@@ -45,7 +45,7 @@ def faults(harness):
     got = harness.run(["seq", "--job", "words", "--out", ".", b"\xff"], {b"\xff": b"a\n"})
     harness.check("a word that is not UTF-8", got[:3] == (2, b"", b"mapred: a word of the command line is not UTF-8\n") and parts_of(got[3]) == [], repr(got))
     got = harness.run(["--version"])
-    harness.check("the version tells the kit", b"rattle-kit-13f logic dac8208d650f15bf" in got[1], repr(got))
+    harness.check("the version tells the kit", b"rattle-kit-13b logic dac8208d650f15bf" in got[1], repr(got))
 
 
 def check_faults(harness):
