@@ -1,15 +1,7 @@
--- Keys told by their fronts, and slots that go on telling of them.
-use Rattle.std.proofs.Common.{◌≡◌, ℕ, ◌+◌, ◌-◌, ◌<◌, ◌≤◌, ◌⊎◌, inl, inr, List, [], ◌∷◌, ◌++◌, length, get_or, take, drop, sym, ◌∙◌, ap, subst, arith, All, length-append}
-use Rattle.std.proofs.Math.Seq.{get_or-append_seam}
-use Rattle.std.proofs.lemmas.Bool.{cases_lt}
+-- What a front has of its key, and keys to which one more may have come.
+use Rattle.std.proofs.Common.{◌≡◌, ℕ, ◌+◌, ◌-◌, ◌<◌, ◌≤◌, ◌⊎◌, inl, inr, List, [], ◌∷◌, ◌++◌, length, take, drop, ◌∙◌, ap, arith, length-append}
 use Rattle.std.proofs.lemmas.List.{get_or_append_left, take-append-drop, take-take}
-use Rattle.std.specs.Int.{w32, w64, to_le_bytes}
-use Rattle.mr_keys.specs.Front.{IsFront}
-use Rattle.mr_keys.specs.declared.front.Front.{Front}
-use Rattle.mr_keys.specs.Keys.{IsSlot, Tells, key_at, IsKeyAt}
-use Rattle.mr_keys.specs.declared.slots.Slot.{Slot}
-
--- ---- what a front tells
+use Rattle.mr_keys.specs.Keys.{key_at}
 
 -- eight bytes at either end, or four, are a key that they cover
 pub both-ends : (w : ℕ) (key first last : List ℕ) → w ≤ length key → length key ≤ w + w → first ≡ take w key → last ≡ drop (length key - w) key
@@ -19,49 +11,6 @@ both-ends w key first last enough few first_is last_is =
     ∙ ap (λ l. l ++ last) (take-take (length key - w) w key (omega (arith, few)))
     ∙ ap (λ l. take (length key - w) key ++ l) last_is
     ∙ take-append-drop (length key - w) key
-
--- keys of one length have one front only if they are one
-pub one-key : (f g : Front) (a b : List ℕ) → IsFront f a → IsFront g b → f.first ≡ g.first → f.last ≡ g.last → length a ≡ length b → length b ≤ 16 → a ≡ b
-one-key f g a b is of first last same few = elim (cases_lt (length b) 8) [
-  | inl less ↦ elim (cases_lt (length b) 4) [
-    | inl least ↦
-        sym (is.least (omega (arith, same, least)))
-        ∙ ap (λ n. take n (to_le_bytes w32 f.first)) same
-        ∙ ap (λ x. take (length b) (to_le_bytes w32 x)) first
-        ∙ of.least least
-    | inr more ↦
-        sym (is.short (omega (arith, same, more)) (omega (arith, same, less)))
-        ∙ ap (λ n. take (n - 4) (to_le_bytes w32 f.first) ++ to_le_bytes w32 f.last) same
-        ∙ ap (λ x. take (length b - 4) (to_le_bytes w32 x) ++ to_le_bytes w32 f.last) first
-        ∙ ap (λ x. take (length b - 4) (to_le_bytes w32 g.first) ++ to_le_bytes w32 x) last
-        ∙ of.short more less
-  ]
-  | inr more ↦
-      sym (is.long (omega (arith, same, more)) (omega (arith, same, few)))
-      ∙ ap (λ n. take (n - 8) (to_le_bytes w64 f.first) ++ to_le_bytes w64 f.last) same
-      ∙ ap (λ x. take (length b - 8) (to_le_bytes w64 x) ++ to_le_bytes w64 f.last) first
-      ∙ ap (λ x. take (length b - 8) (to_le_bytes w64 g.first) ++ to_le_bytes w64 x) last
-      ∙ of.long more few
-]
-
--- ---- one more key
-
-pub slot-more : (keys more : List (List ℕ)) (s : Slot) → IsSlot keys s → IsSlot (keys ++ more) s
-slot-more keys more s is number mark =
-    let t : Tells keys s number = is number mark in
-    let same : key_at keys number ≡ key_at (keys ++ more) number = sym (get_or_append_left keys more [] number t.within) in
-    record {
-      within = omega (arith, t.within, length-append keys more);
-      front_is = subst (IsFront s.front) same t.front_is;
-      length_is = subst (λ k. s.length ≡ length k) same t.length_is;
-    }
-
-pub slots-more : (keys more : List (List ℕ)) (slots : List Slot) → All (IsSlot keys) slots → All (IsSlot (keys ++ more)) slots
-slots-more keys more slots all k d h = slot-more keys more (get_or slots k d) (all k d h)
-
--- the key behind all others has the next number
-pub last-key : (keys : List (List ℕ)) (key : List ℕ) → IsKeyAt (keys ++ key ∷ []) (length keys) key
-last-key keys key = (omega (arith, length-append keys (key ∷ [])), get_or-append_seam keys key [] [])
 
 -- ---- keys to which one more may have come
 

@@ -1,14 +1,14 @@
 -- Waiting keys that get numbers, one after another.
 use Rattle.std.proofs.Common.{◌≡◌, ℕ, add-zero, ◌+◌, ◌<◌, ◌≤◌, ◌≢◌, ◌⊎◌, inl, inr, List, [], ◌∷◌, ◌++◌, length, map, drop, get_or, append-nil, refl, sym, ◌∙◌, ap, subst, arith, All, length-append, append_assoc, get_or-set_other, get_or-set_same}
+use Rattle.std.specs.Prelude.{Option, None, IfSome}
 use Rattle.std.proofs.Math.ListN.{set}
-use Rattle.mr_keys.specs.Front.{IsFront}
-use Rattle.mr_keys.specs.declared.front.Front.{Front}
 use Rattle.std.proofs.lemmas.Bool.{cases_lt}
+use Rattle.std.proofs.lemmas.Option.{IfSome_then}
 use Rattle.std.proofs.lemmas.List.{get_or-drop, map-append}
 use Rattle.std.proofs.lemmas.List.Elements.{All-head, All-tail, All-push}
 use Rattle.mr_bytes.proofs.ListLaws.{Has-append_left, Has-append_right}
 use Rattle.mr_keys.specs.Keys.{key_at, IsKeyAt}
-use Rattle.mr_keys.specs.Waiting.{AreNumbered}
+use Rattle.mr_keys.specs.Waiting.{AreFound, AreNumbered}
 use Rattle.mr_keys.proofs.KeyLemmas.{Grew, grew-stay, grew-count, grew-last}
 
 -- the same numbers stand for the same keys where those stay
@@ -79,19 +79,24 @@ pub first-rest : (ws : List (List ℕ)) → 0 < length ws → ws ≡ key_at ws 0
 first-rest [] h = absurd (omega (arith, h))
 first-rest (w ∷ ws) h = refl
 
--- fronts of the first keys, with one more
-pub fronts-more : (ks : List (List ℕ)) (fs : List Front) (n : ℕ) (f : Front) → n < length fs
-    → ((i : ℕ) (d : Front) → i < n → IsFront (get_or fs i d) (key_at ks i)) → IsFront f (key_at ks n)
-    → (i : ℕ) (d : Front) → i < n + 1 → IsFront (get_or (set fs n f) i d) (key_at ks i)
-fronts-more ks fs n f room before is i d h =
+-- numbers found for the first keys, with one more
+pub found-more : (ks ws : List (List ℕ)) (fs : List (Option ℕ)) (n : ℕ) (f : Option ℕ) → n < length fs
+    → ((i : ℕ) → i < n → IfSome (get_or fs i None) (λ k. IsKeyAt ks k (key_at ws i))) → IfSome f (λ k. IsKeyAt ks k (key_at ws n))
+    → (i : ℕ) → i < n + 1 → IfSome (get_or (set fs n f) i None) (λ k. IsKeyAt ks k (key_at ws i))
+found-more ks ws fs n f room before is i h =
     elim (cases_lt i n) [
       | inl less ↦
           let other : i ≢ n = omega arith in
-          subst (λ g. IsFront g (key_at ks i)) (sym (get_or-set_other fs n i f d other)) (before i d less)
+          subst (λ g. IfSome g (λ k. IsKeyAt ks k (key_at ws i))) (sym (get_or-set_other fs n i f None other)) (before i less)
       | inr past ↦
           let same : i ≡ n = omega arith in
-          subst (λ j. IsFront (get_or (set fs n f) j d) (key_at ks j)) (sym same) (subst (λ g. IsFront g (key_at ks n)) (sym (get_or-set_same fs n f d room)) is)
+          subst (λ j. IfSome (get_or (set fs n f) j None) (λ k. IsKeyAt ks k (key_at ws j))) (sym same)
+          (subst (λ g. IfSome g (λ k. IsKeyAt ks k (key_at ws n))) (sym (get_or-set_same fs n f None room)) is)
     ]
+
+-- what was found stays where one more key may have come
+pub found-stay : (ks ls ws : List (List ℕ)) (key : List ℕ) (fs : List (Option ℕ)) → Grew ks ls key → AreFound ks ws fs → AreFound ls ws fs
+found-stay ks ls ws key fs grew found i h = IfSome_then (get_or fs i None) (found i h) (λ n is. (omega (arith, is.0, (grew-count ks ls key grew).0), grew-stay ks ls key grew n is.0 ∙ is.1))
 
 -- the key behind so many others
 pub key-behind : (ws : List (List ℕ)) (i : ℕ) → key_at (drop i ws) 0 ≡ key_at ws i

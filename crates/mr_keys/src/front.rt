@@ -12,11 +12,6 @@ pub(crate) struct Front {
     pub last: u64,
 }
 
-impl Front {
-    /// The front of a key of no bytes.
-    pub const EMPTY: Front = Front { first: 0, last: 0 };
-}
-
 /// The number that eight bytes are.
 #[inline(always)]
 fn number_of_eight(bytes: &[u8; 8]) -> u64

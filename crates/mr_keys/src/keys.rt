@@ -1,11 +1,11 @@
 //! Keys by number.
-ghost use Rattle.std.specs.Prelude.{◌≡◌, ℕ, ◌+◌, ◌<◌, ◌≤◌, ◌^◌, ◌++◌, ◌∷◌, ◌⊎◌, [], All, IfOk, OnOk, OnErr, length};
+ghost use Rattle.std.specs.Prelude.{◌≡◌, ℕ, ◌+◌, ◌<◌, ◌≤◌, ◌^◌, ◌++◌, ◌∷◌, ◌⊎◌, [], IfOk, IfSome, OnOk, OnErr, length};
 ghost use Rattle.mr_keys.specs.Front.{IsFront};
-ghost use Rattle.mr_keys.specs.Keys.{IsKeyAt, IsSlot, key_at};
-ghost use Rattle.mr_keys.specs.Waiting.{AreNumbered};
+ghost use Rattle.mr_keys.specs.Keys.{IsKeyAt, key_at};
+ghost use Rattle.mr_keys.specs.Waiting.{AreFound, AreNumbered};
 
 use crate::front::{Front, front_of, hash_of};
-use crate::slots::{BLOCK, Slot, empty_all, look, slot_of, slots_of, step_past_others};
+use crate::slots::{BLOCK, empty_all, guess_all, look, slot_of, slots_of};
 use crate::texts::Texts;
 use crate::waiting::Waiting;
 use std::alloc::{AllocError, Global};
@@ -15,18 +15,15 @@ use std::marker::Model;
 #[derive(Drop)]
 pub struct Keys {
     texts: Texts,
-    slots: Vec<Slot>,
+    slots: Vec<u32>,
 }
 
 impl Model for Keys {
-    ghost use Rattle.std.specs.Prelude.{ℕ, List, All};
-    ghost use Rattle.mr_keys.specs.Keys.{IsSlot};
+    ghost use Rattle.std.specs.Prelude.{ℕ, List};
 
     ghost Value = { List (List ℕ) };
 
     ghost view = { λ k. k.texts };
-
-    ghost invariant = { λ k. All (IsSlot k.texts) k.slots.items };
 }
 
 /// How many slots there are at least: a block of keys takes half of them.
@@ -112,12 +109,13 @@ impl Keys {
         let count = waiting.len();
         numbers.reserve(count)?;
         self.make_room(alloc, count)?;
-        let mut fronts = [Front::EMPTY; BLOCK];
         let mut hashes = [0; BLOCK];
-        waiting.look_ahead(&mut fronts, &mut hashes);
-        self.step_past(&fronts, &mut hashes);
+        let mut found = [None; BLOCK];
+        waiting.hash_all(&mut hashes);
+        self.find_all(waiting, &hashes, &mut found);
         for lane in 0..count {
-            let number = self.number_from(hashes[lane], fronts[lane], waiting.get(0))?;
+            let (front, key) = (waiting.front(0), waiting.get(0));
+            let number = self.number_unless_found(found[lane], hashes[lane], front, key)?;
             numbers.push_reserved(number);
             waiting.pass();
         }
@@ -207,9 +205,40 @@ impl Keys {
         Ok(())
     }
 
-    /// Reads the slots where the table begins to look for a block of keys.
-    fn step_past(&self, fronts: &[Front; BLOCK], hashes: &mut [u64; BLOCK]) {
-        step_past_others(self.slots.as_slice(), fronts, hashes);
+    /// The numbers of the waiting keys that stand where the table begins to look and are told without a look at their bytes.
+    /// Their entries lie far apart too, so they are read in a loop as short as this, side by side.
+    fn find_all(&self, waiting: &Waiting, hashes: &[u64; BLOCK], found: &mut [Option<u32>; BLOCK])
+        ensures { AreFound self.now waiting.now found.new }
+    {
+        let mut numbers = [0; BLOCK];
+        guess_all(self.slots.as_slice(), hashes, &mut numbers);
+        for lane in 0..waiting.len() {
+            let (front, key) = (waiting.front(lane), waiting.get(lane));
+            found[lane] = self.texts.told_at(numbers[lane], front, key);
+        }
+    }
+
+    /// A number of the key: the one that was found, if one was, else the one that `number_from` gives.
+    #[inline(always)]
+    fn number_unless_found(
+        &mut self,
+        found: Option<u32>,
+        hash: u64,
+        front: Front,
+        key: &[u8],
+    ) -> Result<u32, AllocError>
+        requires few { length self.old < 2 ^ 32 }
+        requires found { IfSome found (λ n. IsKeyAt self.old n key.now) }
+        requires front { IsFront front key.now }
+        ensures is { IfOk result (λ n. IsKeyAt self.new n key.now) }
+        ensures grows { OnOk result ((self.new ≡ self.old) ⊎ (self.new ≡ self.old ++ key.now ∷ [])) }
+        ensures next { IfOk result (λ n. (self.new ≡ self.old) ⊎ (n ≡ length self.old)) }
+        ensures err { OnErr result (self.new ≡ self.old) }
+    {
+        match found {
+            Some(number) => Ok(number),
+            None => self.number_from(hash, front, key),
+        }
     }
 
     /// A number of the key, as `number_of` gives it, where room was made; the table is looked at from the hash on.
@@ -224,23 +253,23 @@ impl Keys {
     {
         match look(self.slots.as_slice(), &self.texts, hash, front, key) {
             Ok(number) => Ok(number),
-            Err(at) => self.add(at, front, key),
+            Err(at) => self.add(at, hash, front, key),
         }
     }
 
     /// Adds a key, of which the slot at this place tells from now on, where there is one.
-    fn add(&mut self, at: usize, front: Front, key: &[u8]) -> Result<u32, AllocError>
+    fn add(&mut self, at: usize, hash: u64, front: Front, key: &[u8]) -> Result<u32, AllocError>
         requires few { length self.old < 2 ^ 32 }
         requires front { IsFront front key.now }
         ensures number { IfOk result (λ n. n ≡ length self.old) }
         ensures ok { OnOk result (self.new ≡ self.old ++ key.now ∷ []) }
         ensures err { OnErr result (self.new ≡ self.old) }
     {
-        let number = self.texts.len();
-        self.texts.push(key)?;
+        let number = self.texts.len() as u32;
+        self.texts.push(front, key)?;
         if at < self.slots.len() {
-            self.slots[at] = slot_of(number, front, key);
+            self.slots[at] = slot_of(self.slots.len(), hash, number);
         }
-        Ok(number as u32)
+        Ok(number)
     }
 }

@@ -1,8 +1,7 @@
 //! Keys that wait for their numbers.
-ghost use Rattle.std.specs.Prelude.{◌≡◌, ℕ, ◌<◌, ◌≤◌, ◌++◌, ◌∷◌, [], IsFalse, OnOk, OnErr, drop, length, slice_index_or};
+ghost use Rattle.std.specs.Prelude.{◌≡◌, ◌<◌, ◌≤◌, ◌++◌, ◌∷◌, [], IsFalse, OnOk, OnErr, drop, length};
 ghost use Rattle.mr_keys.specs.Front.{IsFront};
 ghost use Rattle.mr_keys.specs.Keys.{key_at};
-ghost use Rattle.mr_keys.specs.declared.front.Front.{Front};
 
 use crate::front::{Front, front_of, hash_of};
 use crate::slots::BLOCK;
@@ -70,7 +69,7 @@ impl Waiting {
         ensures ok { OnOk result (self.new ≡ self.old ++ key.now ∷ []) }
         ensures err { OnErr result (self.new ≡ self.old) }
     {
-        self.texts.push(key)
+        self.texts.push(front_of(key), key)
     }
 
     /// The key that waits behind `i` others.
@@ -81,6 +80,16 @@ impl Waiting {
     {
         let _count = self.texts.len();
         self.texts.get(self.from + i)
+    }
+
+    /// The front of the key that waits behind `i` others.
+    #[inline(always)]
+    pub(crate) fn front(&self, i: usize) -> Front
+        requires { i < length self.now }
+        ensures { IsFront result (key_at self.now i) }
+    {
+        let _count = self.texts.len();
+        self.texts.front(self.from + i)
     }
 
     /// The first key waits no more.
@@ -101,15 +110,10 @@ impl Waiting {
         self.from = 0;
     }
 
-    /// The fronts of the keys, and where the table begins to look for each.
-    pub(crate) fn look_ahead(&self, fronts: &mut [Front; BLOCK], hashes: &mut [u64; BLOCK])
-        ensures { (i : ℕ) (d : Front) → i < length self.now → IsFront (slice_index_or fronts.new i d) (key_at self.now i) }
-    {
+    /// The hashes of the keys.
+    pub(crate) fn hash_all(&self, hashes: &mut [u64; BLOCK]) {
         for lane in 0..self.len() {
-            let key = self.get(lane);
-            let front = front_of(key);
-            fronts[lane] = front;
-            hashes[lane] = hash_of(front, key);
+            hashes[lane] = hash_of(self.front(lane), self.get(lane));
         }
     }
 }

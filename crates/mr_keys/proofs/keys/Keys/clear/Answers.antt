@@ -1,4 +1,0 @@
-use Rattle.mr_keys.proofs.keys.Keys.clear.Goals as goal
-
-pub invariant_of-self : goal.invariant_of-self
-invariant_of-self c = c.empty_all.ensures c.clear.new.self
