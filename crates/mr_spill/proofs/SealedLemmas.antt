@@ -17,15 +17,11 @@ use Rattle.mr_spill.specs.Regions.{region}
 use Rattle.mr_spill.specs.Sealed.{AreFor, IsSealedAs, IsText}
 use Rattle.mr_spill.specs.Spelling.{SpellsRegion, pair_bytes}
 use Rattle.mr_spill.proofs.RegionLaws.{region-sealed}
-use Rattle.mr_ranks.proofs.ListLemmas.{Has-at}
 use Rattle.std.proofs.Math.Seq.{drop-append_seam}
 
 pub all-append : {X : Type 0} (P : X → Type 0) (xs ys : List X) → AllByRecursion P xs → AllByRecursion P ys → AllByRecursion P (xs ++ ys)
 all-append P [] ys a b = b
 all-append P (x ∷ xs) ys a b = (a.0, all-append P xs ys a.1 b)
-
-pub all-at : {X : Type 0} (P : X → Type 0) (xs : List X) (i : ℕ) (d : X) → AllByRecursion P xs → i < length xs → P (get_or xs i d)
-all-at P xs i d all h = Has-all P xs (get_or xs i d) all (Has-at xs i d h)
 
 -- ---- pairs one behind another
 

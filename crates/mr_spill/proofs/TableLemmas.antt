@@ -51,9 +51,6 @@ numbered-at ks (i ∷ is) [] n d t h same = absurd (omega (arith, same))
 numbered-at ks (i ∷ is) (e ∷ es) zero d t h same = refl
 numbered-at ks (i ∷ is) (e ∷ es) (suc n) d t h same = numbered-at ks is es n d t (omega (arith, h)) (omega (arith, same))
 
-pub weaker : (n m : ℕ) (is : List ℕ) → n ≤ m → All (λ j. j < n) is → All (λ j. j < m) is
-weaker n m is h all = λ k d less. omega (arith, all k d less, h)
-
 -- pairs read as before where other numbers of other keys have the same keys
 pub numbered-keys : (ks ls : List (List ℕ)) (is rs : List ℕ) (es : List Entry) → map (key_at ls) rs ≡ map (key_at ks) is → numbered ls rs es ≡ numbered ks is es
 numbered-keys ks ls [] [] es same = refl
