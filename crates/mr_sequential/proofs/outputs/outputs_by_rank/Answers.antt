@@ -1,4 +1,4 @@
-use Rattle.std.proofs.Common.{◌≡◌, ℕ, List, All, length, sym, ap, ◌∙◌, arith, subst}
+use Rattle.std.proofs.Common.{ℕ, List, All, length, sym, ap, ◌∙◌, arith, subst}
 use Rattle.std.specs.List.{zip}
 use Rattle.mr_bytes.specs.declared.Name.{Name}
 use Rattle.mr_ranks.specs.declared.rows.Row.{Row}
