@@ -121,6 +121,13 @@ among_more old mid new names name c k n b d =
     let second = k n b (differs_last n name names d) in
     ((λ h. second.0 (first.0 h)), (λ h. first.1 (second.1 h)))
 
+-- two changes of one file
+pub only_again : (old mid new : List ℕ → List ℕ → Type 0) (name first last : List ℕ) → first ≡ name → last ≡ name → ChangesOnly old mid first → ChangesOnly mid new last → ChangesOnly old new name
+only_again old mid new name first last f l c k n b d =
+    let one = subst (ChangesOnly old mid) f c n b d in
+    let two = subst (ChangesOnly mid new) l k n b d in
+    ((λ h. two.0 (one.0 h)), (λ h. one.1 (two.1 h)))
+
 -- names that are written are among all those of the result
 pub among_front : (old new : List ℕ → List ℕ → Type 0) (names more : List (List ℕ)) → ChangesAmong old new names → ChangesAmong old new (names ++ more)
 among_front old new names more c n b d = c n b (differs_front n names more d)

@@ -1,5 +1,5 @@
 -- Results that go to their places.
-use Rattle.std.proofs.Common.{◌≡◌, ◌≢◌, ℕ, zero, suc, ◌+◌, ◌-◌, ◌<◌, ◌≤◌, List, [], ◌∷◌, ◌++◌, length, get_or, set, replicate, Bool, true, false, refl, sym, ap, ◌∙◌, subst, arith, get_or-set_same, get_or-set_other, length-set}
+use Rattle.std.proofs.Common.{◌≡◌, ◌≢◌, ℕ, zero, suc, ◌+◌, ◌-◌, ◌<◌, ◌≤◌, List, [], ◌∷◌, ◌++◌, length, get_or, set, replicate, Bool, true, false, refl, sym, ap, ◌∙◌, subst, arith, get_or-set_same, get_or-set_other, length-append, length-set}
 use Rattle.std.proofs.lemmas.List.{length-replicate}
 use Rattle.std.specs.Prelude.{All, Option, Some, None, if◌then◌else◌, nat_le, ◌==◌, slice_set}
 use Rattle.std.proofs.lemmas.Bool.Decides.{nat_tests}
@@ -104,3 +104,28 @@ weigh_pieces h (x ∷ xs) ys = let r = weigh_pieces h xs ys in omega arith
 pub total_more : {X : Type 0} (f : X → ℕ) (xs : List X) (x : X) → total f (xs ++ x ∷ []) ≡ total f xs + f x
 total_more f [] x = omega arith
 total_more f (y ∷ ys) x = let r = total_more f ys x in omega arith
+
+module _ {X : Type 0} where
+  get_front : (xs : List X) (x d : X) (j : ℕ) → j < length xs → get_or (xs ++ x ∷ []) j d ≡ get_or xs j d
+  get_front [] x d j lt = absurd (omega arith)
+  get_front (y ∷ ys) x d zero lt = refl
+  get_front (y ∷ ys) x d (suc j) lt = get_front ys x d j (omega arith)
+
+  get_last : (xs : List X) (x d : X) → get_or (xs ++ x ∷ []) (length xs) d ≡ x
+  get_last [] x d = refl
+  get_last (y ∷ ys) x d = get_last ys x d
+
+module _ {X : Type 0} (gives : ℕ → X → Type 0) where
+  -- the last slot, and those before it
+  pub slot_last : (n : ℕ) (slots : List (Option X)) (o : Option X) → AllSlots gives [] n (slots ++ o ∷ []) → IsSlot gives [] (n - 1 - length slots) o
+  slot_last n slots o all = subst (IsSlot gives [] (n - 1 - length slots)) (get_last slots o o) (all (length slots) o (omega (arith, length-append slots (o ∷ []))))
+
+  pub slots_front : (n : ℕ) (slots : List (Option X)) (o : Option X) → AllSlots gives [] n (slots ++ o ∷ []) → AllSlots gives [] n slots
+  slots_front n slots o all j d lt = subst (IsSlot gives [] (n - 1 - j)) (get_front slots o d j lt) (all j d (omega (arith, lt, length-append slots (o ∷ []))))
+
+  -- what pieces gave, and what the next one gave
+  pub each_more : (outs : List X) (x : X) → ((p : ℕ) (d : X) → p < length outs → gives p (get_or outs p d)) → gives (length outs) x
+      → (p : ℕ) (d : X) → p < length (outs ++ x ∷ []) → gives p (get_or (outs ++ x ∷ []) p d)
+  each_more outs x each last p d lt = dite (ℕ_discrete p (length outs))
+      (λ (same : p ≡ length outs). subst (λ (q : ℕ). gives q (get_or (outs ++ x ∷ []) q d)) (sym same) (subst (gives (length outs)) (sym (get_last outs x d)) last))
+      (λ (other : p ≢ length outs). let less : p < length outs = omega (arith, lt, other, length-append outs (x ∷ [])) in subst (gives p) (sym (get_front outs x d p less)) (each p d less))

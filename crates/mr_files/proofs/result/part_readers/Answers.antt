@@ -1,8 +1,9 @@
-use Rattle.std.proofs.Common.{◌≡◌, ◌+◌, ◌∷◌, ◌++◌, [], refl, rules}
+use Rattle.std.proofs.Common.{◌≡◌, ◌+◌, ◌∷◌, ◌++◌, [], refl, rules, List, ℕ, arith, map, subst}
 use Rattle.std.proofs.lemmas.Result.{err_from_is_err_and}
 use Rattle.mr_files.specs.Names.{name_of_part, part_names}
 use Rattle.mr_files.proofs.Lists.{one_part, part_unread, parts_more, parts_none}
 use Rattle.mr_files.proofs.Readers.{failed_more, none_given, read_more}
+use Rattle.mr_files.specs.Holding.{AllAgree, Holding}
 use Rattle.mr_files.proofs.result.part_readers.Goals as goal
 
 pub loop-part-init : goal.loop-part-init
@@ -27,3 +28,17 @@ loop-part-preserved g c =
       bytes = read_more was c.push.new.self.items reader (λ r. g.S.Reader.CountedRead.remaining r.reader) (g.S.Store.holds c.args.store.now) (part_names dir i) (part_names dir (i + 1)) (name_of_part dir i) pushed (parts_more dir i) c.loop-part.invariant.bytes c.in_ok-reader.ensures.bytes;
       failed = failed_more was c.push.new.self.items reader (λ r. r.failed) pushed c.loop-part.invariant.failed c.in_ok-reader.ensures.failed;
     }
+
+pub returns-in_err-map_err-clause-refused : goal.returns-in_err-map_err-clause-refused
+returns-in_err-map_err-clause-refused g c =
+    let p = err_from_is_err_and c.from_residual-in_err-map_err.result c.from_residual-in_err-map_err.ensures.1 in
+    rw p.1 (rw p.2 tt)
+
+pub returns-clause-bytes : goal.returns-clause-bytes
+returns-clause-bytes g c =
+    let last : c.loop-part.part ≡ c.args.parts = omega (arith, c.loop-part-test.false, c.loop-part.auto.part-end) in
+    let given = map (λ r. g.S.Reader.CountedRead.remaining r.reader) c.loop-part.readers.items in
+    subst (λ (k : ℕ). (outs : List (List ℕ)) → AllAgree given outs → Holding (g.S.Store.holds c.args.store.now) (part_names c.args.dir.now k) outs) last c.loop-part.invariant.bytes
+
+pub returns-clause-failed : goal.returns-clause-failed
+returns-clause-failed g c = c.loop-part.invariant.failed

@@ -2,7 +2,7 @@ use Rattle.std.proofs.Common.{◌∙◌, List, ℕ, ap, inr, string_bytes, subst
 use Rattle.std.proofs.lemmas.Result.{err_from_is_err_and}
 use Rattle.mr_files.specs.Names.{name_of_part}
 use Rattle.mr_shard_files.specs.Streams.{IsRefused}
-use Rattle.mr_shard_files.proofs.MadeLemmas.{given_with, refused_back}
+use Rattle.mr_shard_files.proofs.MadeLemmas.{given_with, only_again, refused_back}
 use Rattle.mr_shard_files.proofs.partition.part_written.Goals as goal
 
 pub returns-in_err-made-clause-err : goal.returns-in_err-made-clause-err
@@ -32,3 +32,21 @@ returns-clause-ok g c =
     given_with c.part_filled-answer.result _ _ _
     (λ handed n (text, joined, written, told). (text, joined, subst (λ (l : List ℕ). g.S.Store.holds c.close.new.self l text) same (c.in_ok-close.ensures.stands handed text written.contents), told))
     c.part_filled-answer.ensures.handed c.part_filled-answer.ensures.ok
+
+pub returns-in_err-close-clause-others : goal.returns-in_err-close-clause-others
+returns-in_err-close-clause-others g c =
+    let holds = g.S.Store.holds in
+    let same = c.as_str.ensures.value ∙ ap string_bytes c.part_filled-answer.ensures.name ∙ c.in_ok-made.ensures.name in
+    only_again (holds c.args.store.now) (holds c.begin_part.new.store) (holds c.close.new.self) (name_of_part c.args.dir.now c.args.partition) c.as_str.result.now same c.begin_part.ensures.others c.close.ensures.others
+
+pub returns-in_err-close-clause-still : goal.returns-in_err-close-clause-still
+returns-in_err-close-clause-still g c n h = c.begin_part.ensures.still n (c.close.ensures.still n h)
+
+pub returns-clause-others : goal.returns-clause-others
+returns-clause-others g c =
+    let holds = g.S.Store.holds in
+    let same = c.as_str.ensures.value ∙ ap string_bytes c.part_filled-answer.ensures.name ∙ c.in_ok-made.ensures.name in
+    only_again (holds c.args.store.now) (holds c.begin_part.new.store) (holds c.close.new.self) (name_of_part c.args.dir.now c.args.partition) c.as_str.result.now same c.begin_part.ensures.others c.close.ensures.others
+
+pub returns-clause-still : goal.returns-clause-still
+returns-clause-still g c n h = c.begin_part.ensures.still n (c.close.ensures.still n h)

@@ -1,9 +1,22 @@
-use Rattle.std.proofs.Common.{◌<◌, ap, sym, ◌∙◌, subst, List, length, length-set}
+use Rattle.std.proofs.Common.{◌≡◌, ◌∷◌, ◌++◌, ◌<◌, ℕ, [], ap, arith, sym, ◌∙◌, subst, List, length, length-set}
 use Rattle.std.specs.Prelude.{All, Option}
 use Rattle.mr_tickets.specs.declared.pieces.Found.{Found}
 use Rattle.mr_tickets.specs.Pieces.{numbers_of, AllSlots, AllGiven}
 use Rattle.mr_tickets.proofs.Slots.{fills, all_last, all_front}
 use Rattle.mr_tickets.proofs.drawing.fill.Goals as goal
+
+-- the last is below the count, as all are
+last_within : {X : Type 0} (n : ℕ) (all rest : List (Found X)) (f : Found X) → All (λ (x : Found X). x.piece < n) all → all ≡ rest ++ f ∷ [] → f.piece < n
+last_within {X} n all rest f within e = all_last (λ (x : Found X). x.piece < n) rest f (subst (All (λ (x : Found X). x.piece < n)) e within)
+
+pub overflow_sub-count : goal.overflow_sub-count
+overflow_sub-count g c = omega (arith, last_within c.args.count _ _ _ c.loop-next.invariant.within c.in-Some.ensures.items)
+
+pub overflow_sub-count-in-Some : goal.overflow_sub-count-in-Some
+overflow_sub-count-in-Some g c = omega (arith, last_within c.args.count _ _ _ c.loop-next.invariant.within c.in-Some.ensures.items)
+
+pub put-requires : goal.put-requires
+put-requires g c = omega (arith, c.loop-next.invariant.len, last_within c.args.count _ _ _ c.loop-next.invariant.within c.in-Some.ensures.items)
 
 pub loop-next-preserved : goal.loop-next-preserved
 loop-next-preserved g c =
