@@ -89,10 +89,6 @@ pub names_flat : (before : Name) (ns : List Name) → names_bytes before ns ≡ 
 names_flat before [] = refl
 names_flat before (n ∷ ns) = ap (λ w. name_bytes first_name n ++ w) (names_flat n ns)
 
--- one more that is written
-pub one_put : {X : Type 0} (f : X → List ℕ) (xs : List X) (x : X) (ys : List X) (was piece now all : List ℕ) → xs ≡ x ∷ ys → piece ≡ f x → now ≡ was ++ piece → was ++ flat_map f xs ≡ all → now ++ flat_map f ys ≡ all
-one_put f xs x ys was piece now all e p n h = ap (λ w. w ++ flat_map f ys) (n ∙ ap (λ w. was ++ w) p) ∙ (append_assoc was (f x) (flat_map f ys) ∙ (ap (λ w. was ++ flat_map f w) (sym e) ∙ h))
-
 -- ---- what a sink takes, one piece behind another
 
 -- a piece more that is put in front of what is to come

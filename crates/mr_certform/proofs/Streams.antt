@@ -249,10 +249,6 @@ come_kept None left more c k m = come_bytes left more k m
 come_kept (Some xs) None more c k m = absurd c
 come_kept (Some xs) (Some ys) more c k m = m ∙ c
 
-come_end : (left : Option (List ℕ)) → IsAtEnd left → MayCome left []
-come_end None e = none_are
-come_end (Some xs) e = sym e
-
 -- more is read
 pub to_come_read : (old new : Stream) (got : List ℕ) → new.held ≡ old.held ++ got → AreBytes got → Consumes old.coming new.coming got → IfSome new.coming AreBytes → (bytes : List ℕ) → IsToCome new bytes → IsToCome old bytes
 to_come_read old new got h are c k bytes t =
@@ -265,17 +261,6 @@ filled_more old new exhausted known left got none was is h are c k =
     let before : old.coming ≡ known = was ∙ ap (λ b. coming_from b known) none in
     let behind : new.coming ≡ left = is ∙ ap (λ b. coming_from b left) none in
     to_come_read old new got h are (subst (λ w. Consumes w new.coming got) (sym before) (subst (λ w. Consumes known w got) (sym behind) c)) (subst (λ (w : Option (List ℕ)). IfSome w AreBytes) (sym behind) k)
-
--- the end is read
-pub to_come_end : (old new : Stream) (left : Option (List ℕ)) (got : List ℕ) → new.held ≡ old.held ++ got → AreBytes got → Consumes old.coming left got → IfSome left AreBytes → IsAtEnd left → new.coming ≡ Some [] → (bytes : List ℕ) → IsToCome new bytes → IsToCome old bytes
-to_come_end old new left got h are c k e now bytes t =
-    let rest : t.0 ≡ [] = subst (λ w. MayCome w t.0) now t.2 in
-    let here : MayCome left t.0 = subst (MayCome left) (sym rest) (come_end left e) in
-    (got ++ t.0, t.1 ∙ (ap (λ w. w ++ t.0) h ∙ append_assoc old.held got t.0), come_read old.coming left got t.0 c are k here)
-
--- a read fails
-pub to_come_kept : (old new : Stream) → new.held ≡ old.held → Keeps old.coming new.coming → IfSome new.coming AreBytes → (bytes : List ℕ) → IsToCome new bytes → IsToCome old bytes
-to_come_kept old new h c k bytes t = (t.0, t.1 ∙ ap (λ w. w ++ t.0) h, come_kept old.coming new.coming t.0 c k t.2)
 
 -- ---- an answer
 
@@ -387,13 +372,6 @@ begun new known p n h c is stopped (bytes, (more, eb, a), ei, ea) =
       items,
       omega (arith, ea, n, ap (λ w. length (bytes_from w is)) p, ap (λ w. length (bytes_from AtMagic w)) items),
     )
-
-pub onward_other : (p : Place) (i : Item) → (i ≡ End → ⊥) → onward p i ≡ behind p i
-onward_other p End h = absurd (h refl)
-onward_other p i h = refl
-
-pub onward_end : (p : Place) (i : Item) → i ≡ End → p ≡ onward p i
-onward_end p i h = sym (ap (onward p) h)
 
 -- some items may always come
 pub some_given : (s : Stream) → (is : List Item) × ((stopped : ℕ) × Gives s is stopped)

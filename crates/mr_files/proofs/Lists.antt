@@ -93,9 +93,6 @@ part_unread unreadable dir k n h u =
       u,
     )
 
-pub certificate_unread : (unreadable : List ℕ → Type 0) (dir : List ℕ) (n : ℕ) → unreadable (name_of_certificate dir) → IsUnreadAmong unreadable (result_names dir n) (name_of_certificate dir)
-certificate_unread unreadable dir n u = (part_names dir n, [], refl, u)
-
 -- a write under a name that these all differ from keeps what stands under these
 pub holding_kept : (old new : List ℕ → List ℕ → Type 0) (name : List ℕ) (names bs : List (List ℕ)) → ChangesOnly old new name → Differs name names → Holding old names bs → Holding new names bs
 holding_kept old new name [] [] c d h = tt

@@ -1,8 +1,7 @@
 -- Parts of the result that are written in pieces.
-use Rattle.std.proofs.Common.{◌≡◌, ◌⊎◌, inl, inr, ℕ, List, ◌∙◌, subst}
+use Rattle.std.proofs.Common.{◌≡◌, ◌⊎◌, inl, inr, ℕ, List, ◌∙◌}
 use Rattle.std.specs.Prelude.{Err, IfErr, IfOk, Ok, OnOk, Result}
 use Rattle.std.proofs.lemmas.Result.{IfErr-weaker}
-use Rattle.mr_files.specs.Holding.{ChangesOnly, Stored}
 use Rattle.mr_shard_files.specs.declared.fault.ShardFault.{ShardFault}
 use Rattle.mr_shard_files.specs.declared.fault.ShardFault.TheVariants.{CannotWrite, OutOfMemory}
 use Rattle.mr_shard_files.specs.Made.{TellsUnwritten}
@@ -25,10 +24,3 @@ refused_back {T} other P Q m n r f s h = IfErr-weaker r (λ e. other e ⊎ Tells
 pub given_with : {T E : Type 0} (r : Result T E) (H : Type 0) (P Q : T → Type 0) → (H → (v : T) → P v → Q v) → OnOk r H → IfOk r P → IfOk r Q
 given_with (Ok v) H P Q f known h = f known v h
 given_with (Err e) H P Q f known h = tt
-
--- two changes of one file
-pub only_again : (old mid new : Stored) (name told : List ℕ) → told ≡ name → ChangesOnly old mid name → ChangesOnly mid new told → ChangesOnly old new name
-only_again old mid new name told same first second n b apart =
-    let one = first n b apart in
-    let two = subst (λ (m : List ℕ). ChangesOnly mid new m) same second n b apart in
-    ((λ h. two.0 (one.0 h)), (λ h. one.1 (two.1 h)))

@@ -17,10 +17,6 @@ pub all_more : {A : Type 0} (P : A → Type 0) (xs : List A) (x : A) → AllByRe
 all_more P [] x h k = (k, tt)
 all_more P (y ∷ xs) x h k = (h.0, all_more P xs x h.1 k)
 
--- one more of a list of names
-pub all_next : {A : Type 0} (P : List ℕ → Type 0) (f : A → List ℕ) (xs : List A) (i : ℕ) (d : A) → i < length xs → AllByRecursion P (map f (take i xs)) → P (f (get_or xs i d)) → AllByRecursion P (map f (take (i + 1) xs))
-all_next P f xs i d less h k = subst (AllByRecursion P) (sym (names_more f xs i d less)) (all_more P (map f (take i xs)) (f (get_or xs i d)) h k)
-
 set_other : {A : Type 0} (xs : List A) (i p : ℕ) (x d : A) → i < p → get_or (set xs i x) p d ≡ get_or xs p d
 set_other [] i p x d less = refl
 set_other (y ∷ xs) zero zero x d less = absurd (omega (arith, less))

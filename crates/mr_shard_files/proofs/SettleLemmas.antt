@@ -50,14 +50,6 @@ passed_told : (told left read : ℕ) (longer : Bool) → CountsDown told left lo
 passed_told told left read true c l = c
 passed_told told left read false c l = absurd (cc)
 
-pub ok_on : {A E : Type 0} (P Q : A → Type 0) (r : Result A E) → ((a : A) → P a → Q a) → IfOk r P → IfOk r Q
-ok_on P Q (Ok a) f h = f a h
-ok_on P Q (Err e) f h = tt
-
-pub err_on : {A E : Type 0} (P Q : E → Type 0) (r : Result A E) → ((e : E) → P e → Q e) → IfErr r P → IfErr r Q
-err_on P Q (Ok a) f h = tt
-err_on P Q (Err e) f h = f e h
-
 either : {A B : Type 0} → A ⊎ B → (A → ⊥) → (B → ⊥) → ⊥
 either (inl a) f g = f a
 either (inr b) f g = g b

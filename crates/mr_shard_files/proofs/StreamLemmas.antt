@@ -28,18 +28,6 @@ drop_more [] ys (suc n) le = absurd (omega (arith, le))
 drop_more (x ∷ xs) ys zero le = refl
 drop_more (x ∷ xs) ys (suc n) le = drop_more xs ys n (omega (arith, le))
 
-drop_over : (xs : List ℕ) (n : ℕ) → length xs ≤ n → drop n xs ≡ []
-drop_over [] n le = drop_none n
-drop_over (x ∷ xs) zero le = absurd (omega (arith, le))
-drop_over (x ∷ xs) (suc n) le = drop_over xs n (omega (arith, le))
-
-pub drop_min : (xs : List ℕ) (n k : ℕ) → (n ≤ length xs → k ≡ n) → (length xs ≤ n → k ≡ length xs) → drop k xs ≡ drop n xs
-drop_min xs n k a b = by (cases_lt (length xs) n)
-  where
-    by : (length xs < n) ⊎ (n ≤ length xs) → drop k xs ≡ drop n xs
-    by (inl g) = drop_all xs k (b (omega (arith, g))) ∙ sym (drop_over xs n (omega (arith, g)))
-    by (inr l) = ap (λ j. drop j xs) (a l)
-
 -- a part can't be read for what was known of it before
 pub unread_back : (e : ShardFault) (P Q : Type 0) (m n : List ℕ) → (P → Q) → m ≡ n → TellsUnread P m e → TellsUnread Q n e
 unread_back (CannotRead told) P Q m n f s h = (f h.0, h.1 ∙ s)

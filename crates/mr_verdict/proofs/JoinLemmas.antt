@@ -110,20 +110,7 @@ joined-fault request vs i d old before TooManyPairs less was h =
     omega (arith, h, was.joined.pairs_are, e, pairs-first vs (i + 1))
 joined-fault request vs i d old before OutOfMemory less was h = tt
 
--- the verdict that joining begins with
-pub joined-none : (request : RequestSpec) (vs : List Told) (m : Told) → Asks m request → m.inputs ≡ [] → m.left_out ≡ [] → m.pairs ≡ 0 → IsJoinedTo request (take 0 vs) m 0
-joined-none request vs m a i l p = record {
-  joined = record { asks = a; alike = tt; counted = tt; inputs_are = i; left_out_is = l; pairs_are = p };
-  splits_are = refl;
-}
-
 -- ---- splits of a file
-
-pub splits-none : (size : ℕ) → 0 < size → 0 ≡ (0 + size - 1) / size
-splits-none size some = let less : 0 + size - 1 < size = omega (arith, some) in sym (div-eq_of_lt less)
-
-pub splits-some : (size n : ℕ) → 0 < size → 0 < n → (n - 1) / size + 1 ≡ (n + size - 1) / size
-splits-some size n some h = let e : n - 1 + size ≡ n + size - 1 = omega (arith, h) in sym (add-div_right (n - 1) some) ∙ ap (λ k. k / size) e
 
 note-next : (ns : List Note) (i : ℕ) (d : Note) → i < length ns → take (i + 1) ns ≡ take i ns ++ get_or ns i d ∷ []
 note-next ns i d less = let e : i + 1 ≡ suc i = omega arith in ap (λ k. take k ns) e ∙ take-suc ns i d less

@@ -48,9 +48,6 @@ abbrev pub IsFound : {X : Type 0} → (X → List ℕ) → (X → Type 0) → Li
 IsFound {X} tells fits word text rest found = (xs : List X) → AllByRecursion fits xs → told_under word (lines text) ≡ map tells xs
     → (later : List X) × (xs ≡ found ++ later) × AllByRecursion fits later × (told_under word (lines rest) ≡ map tells later)
 
-pub found-first : {X : Type 0} (tells : X → List ℕ) (fits : X → Type 0) (word text : List ℕ) (found : List X) → found ≡ [] → IsFound tells fits word text text found
-found-first {X} tells fits word text found none xs all e = (xs, ap (λ (l : List X). l ++ xs) (sym none), all, e)
-
 some-later : {X : Type 0} (tells : X → List ℕ) (fits : X → Type 0) (t : List ℕ) (ts : List (List ℕ)) (old new xs later : List X) → xs ≡ old ++ later → AllByRecursion fits later
     → t ∷ ts ≡ map tells later → Adds tells fits (Some t) old new → (next : List X) × (xs ≡ new ++ next) × AllByRecursion fits next × (ts ≡ map tells next)
 some-later {X} tells fits t ts old new xs [] is all e a = absurd (cc e)

@@ -1,10 +1,8 @@
-use Rattle.std.proofs.Common.{◌≡◌, ◌+◌, ◌∷◌, ◌++◌, [], map, take, drop, suc, rules, arith, List, ℕ, subst, ap}
+use Rattle.std.proofs.Common.{◌≡◌, ◌+◌, ◌∷◌, ◌++◌, [], map, take, drop, suc, rules, arith}
 use Rattle.std.proofs.lemmas.Result.{err_from_is_err_and}
 use Rattle.mr_input.specs.Files.{contents}
 use Rattle.mr_files.proofs.Lists.{holding_contents, names_more, names_split}
 use Rattle.mr_files.proofs.Passed.{refused_within, sizes_pushed}
-use Rattle.std.proofs.lemmas.List.{take_all}
-use Rattle.mr_files.specs.Holding.{Holding}
 use Rattle.mr_files.proofs.within.read_files_within.Goals as goal
 
 pub returns-in_err-bytes-clause-refused : goal.returns-in_err-bytes-clause-refused
@@ -25,13 +23,3 @@ loop-name-preserved g c =
           (names_more (λ s. s.now) names i _ c.loop-name-test.true) pushed c.loop-name.invariant.held c.in_ok-bytes.ensures.bytes;
       room = omega (arith, c.loop-name.invariant.room, sizes_pushed c.loop-name.files.items c.push.new.self.items c.in_ok-bytes.bytes pushed, c.len.ensures, c.in_ok-bytes.bytes.ok, c.in_ok-bytes.ensures.within);
     }
-
-pub returns-in_err-map_err-clause-refused : goal.returns-in_err-map_err-clause-refused
-returns-in_err-map_err-clause-refused g c =
-    let p = err_from_is_err_and c.from_residual-in_err-map_err.result c.from_residual-in_err-map_err.ensures.1 in
-    rw p.1 (rw p.2 tt)
-
-pub returns-clause-bytes : goal.returns-clause-bytes
-returns-clause-bytes g c =
-    let names = c.args.names.now in
-    subst (λ (l : List (List ℕ)). Holding (g.S.Store.holds c.args.store.now) l (contents c.loop-name.files.items)) (ap (map (λ s. s.now)) (take_all c.loop-name.name-index names c.loop-name-test.false)) c.loop-name.invariant.held

@@ -1,10 +1,8 @@
-use Rattle.std.proofs.Common.{◌≡◌, ◌≤◌, ◌+◌, ◌∷◌, ◌++◌, [], length, rules, ℕ, arith, subst}
+use Rattle.std.proofs.Common.{◌≡◌, ◌≤◌, ◌+◌, ◌∷◌, ◌++◌, [], length, rules}
 use Rattle.mr_files.specs.Names.{name_of_part, part_names}
 use Rattle.mr_files.proofs.Lists.{holding_contents, parts_more, parts_none}
 use Rattle.mr_files.proofs.Passed.{all_pushed, part_within}
 use Rattle.std.proofs.lemmas.Result.{err_from_is_err_and}
-use Rattle.mr_input.specs.Files.{contents}
-use Rattle.mr_files.specs.Holding.{Holding}
 use Rattle.mr_files.proofs.within.read_parts_within.Goals as goal
 
 pub loop-part-init : goal.loop-part-init
@@ -26,16 +24,3 @@ pub returns-in_err-bytes-clause-refused : goal.returns-in_err-bytes-clause-refus
 returns-in_err-bytes-clause-refused g c =
     let p = err_from_is_err_and c.from_residual.result c.from_residual.ensures.1 in
     rw p.1 (rw p.2 (part_within (g.S.Store.holds c.args.store.now) (g.S.Store.unreadable c.args.store.now) c.args.dir.now c.loop-part.part c.args.parts c.args.limit c.in_err-bytes.field-0.0 c.loop-part-test.true c.in_err-bytes.ensures.refused))
-
-pub returns-in_err-map_err-clause-refused : goal.returns-in_err-map_err-clause-refused
-returns-in_err-map_err-clause-refused g c =
-    let p = err_from_is_err_and c.from_residual-in_err-map_err.result c.from_residual-in_err-map_err.ensures.1 in
-    rw p.1 (rw p.2 tt)
-
-pub returns-clause-bytes : goal.returns-clause-bytes
-returns-clause-bytes g c =
-    let last : c.loop-part.part ≡ c.args.parts = omega (arith, c.loop-part-test.false, c.loop-part.auto.part-end) in
-    subst (λ (k : ℕ). Holding (g.S.Store.holds c.args.store.now) (part_names c.args.dir.now k) (contents c.loop-part.files.items)) last c.loop-part.invariant.held
-
-pub returns-clause-within : goal.returns-clause-within
-returns-clause-within g c = c.loop-part.invariant.few

@@ -1,8 +1,9 @@
-use Rattle.std.proofs.Common.{◌∙◌, List, ℕ, ap, inr, string_bytes, subst}
+use Rattle.std.proofs.Common.{◌∙◌, List, ℕ, ap, inr, refl, string_bytes, subst}
 use Rattle.std.proofs.lemmas.Result.{err_from_is_err_and}
 use Rattle.mr_files.specs.Names.{name_of_part}
 use Rattle.mr_shard_files.specs.Streams.{IsRefused}
-use Rattle.mr_shard_files.proofs.MadeLemmas.{given_with, only_again, refused_back}
+use Rattle.mr_files.proofs.Lists.{only_again}
+use Rattle.mr_shard_files.proofs.MadeLemmas.{given_with, refused_back}
 use Rattle.mr_shard_files.proofs.partition.part_written.Goals as goal
 
 pub returns-in_err-made-clause-err : goal.returns-in_err-made-clause-err
@@ -37,7 +38,7 @@ pub returns-in_err-close-clause-others : goal.returns-in_err-close-clause-others
 returns-in_err-close-clause-others g c =
     let holds = g.S.Store.holds in
     let same = c.as_str.ensures.value ∙ ap string_bytes c.part_filled-answer.ensures.name ∙ c.in_ok-made.ensures.name in
-    only_again (holds c.args.store.now) (holds c.begin_part.new.store) (holds c.close.new.self) (name_of_part c.args.dir.now c.args.partition) c.as_str.result.now same c.begin_part.ensures.others c.close.ensures.others
+    only_again (holds c.args.store.now) (holds c.begin_part.new.store) (holds c.close.new.self) (name_of_part c.args.dir.now c.args.partition) (name_of_part c.args.dir.now c.args.partition) c.as_str.result.now refl same c.begin_part.ensures.others c.close.ensures.others
 
 pub returns-in_err-close-clause-still : goal.returns-in_err-close-clause-still
 returns-in_err-close-clause-still g c n h = c.begin_part.ensures.still n (c.close.ensures.still n h)
@@ -46,7 +47,7 @@ pub returns-clause-others : goal.returns-clause-others
 returns-clause-others g c =
     let holds = g.S.Store.holds in
     let same = c.as_str.ensures.value ∙ ap string_bytes c.part_filled-answer.ensures.name ∙ c.in_ok-made.ensures.name in
-    only_again (holds c.args.store.now) (holds c.begin_part.new.store) (holds c.close.new.self) (name_of_part c.args.dir.now c.args.partition) c.as_str.result.now same c.begin_part.ensures.others c.close.ensures.others
+    only_again (holds c.args.store.now) (holds c.begin_part.new.store) (holds c.close.new.self) (name_of_part c.args.dir.now c.args.partition) (name_of_part c.args.dir.now c.args.partition) c.as_str.result.now refl same c.begin_part.ensures.others c.close.ensures.others
 
 pub returns-clause-still : goal.returns-clause-still
 returns-clause-still g c n h = c.begin_part.ensures.still n (c.close.ensures.still n h)
