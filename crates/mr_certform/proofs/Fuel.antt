@@ -1,5 +1,5 @@
 -- The items that stand come one by one.
-use Rattle.std.proofs.Common.{◌≡◌, ℕ, zero, suc, ◌+◌, ◌-◌, ◌<◌, ◌≤◌, Option, Some, None, List, [], ◌∷◌, length, take, drop, refl, ap, sym, ◌∙◌, subst, inl, inr, ◌⊎◌, arith, Bool, true, false, cond, leb, ltb, eqb, ◌&&◌, length-append}
+use Rattle.std.proofs.Common.{◌≡◌, ℕ, zero, suc, ◌+◌, ◌-◌, ◌<◌, ◌≤◌, Option, Some, None, List, [], ◌∷◌, length, take, drop, refl, ap, sym, ◌∙◌, subst, inl, inr, ◌⊎◌, arith, Bool, cond, leb, ltb, eqb, ◌&&◌, length-append}
 use Rattle.std.proofs.lemmas.Bool.{ltb-false}
 use Rattle.std.proofs.lemmas.List.{length-drop, length-take}
 use Rattle.std.specs.Cmp.Lexicographic.{bytes_decides, pointwise}
@@ -12,18 +12,13 @@ use Rattle.mr_certform.specs.declared.item.Malformed.{Malformed}
 use Rattle.mr_certform.specs.declared.place.Place.{Place}
 use Rattle.mr_certform.specs.declared.place.Place.TheVariants.{AtMagic, AtJob, AtFlags, AtLiteralLength, AtLiteralByte, AtParts, AtSplitSize, AtFiles, AtFileLength, AtSkips, AtSkip, AtGroups, AtEntries, AtEntry, AtEnd, Behind}
 use Rattle.mr_certform.specs.Places.{behind, onward}
-use Rattle.mr_certform.specs.Spelling.{Front, magic, number, any, of_bytes, entry_at, skip_at, name_at, standing, walk, items_from, left_behind, bytes_at, bytes_from}
-
--- ---- an option that was chosen by a test
-
--- a test chose this front: it passed, and the front is its own
-pub chosen : {A : Type 0} (b : Bool) (x y : A) → cond b (Some x) None ≡ Some y → (b ≡ true) × (x ≡ y)
-chosen true x y e = (refl, cc e)
-chosen false x y e = absurd (cc e)
-
-pub not_chosen : {A : Type 0} (b : Bool) (o : Option A) (y : A) → cond b None o ≡ Some y → (b ≡ false) × (o ≡ Some y)
-not_chosen true o y e = absurd (cc e)
-not_chosen false o y e = (refl, e)
+use Rattle.mr_certform.specs.declared.version.Version.{Version}
+use Rattle.mr_certform.specs.declared.version.Version.TheVariants.{V1, V2}
+use Rattle.mr_certform.specs.Spelling.{Front, magic, number, any, of_bytes, entry_at, entry_of, skip_at, name_at, standing, walk, items_from, left_behind, bytes_at, bytes_from}
+use Rattle.mr_certform.specs.Short.{NameFront, short_name_at}
+use Rattle.mr_certform.proofs.Chosen.{chosen, not_chosen}
+use Rattle.mr_certform.proofs.ShortLaws.{name_passes}
+use Rattle.mr_certform.proofs.ShortSizes.{name_sized}
 
 -- ---- what stands has a byte, but for the end
 
@@ -48,232 +43,256 @@ numbered size value ok item bytes f some other e =
     let long : size ≤ length bytes = ltb-false (length bytes) size (c.0) in
     subst (Goes bytes) (d.1) (omega (arith, length-drop size bytes), other n)
 
-entry_shorter : (before : Name) (bytes : List ℕ) (f : Front) → entry_at before bytes ≡ Some f → Goes bytes f
-entry_shorter before bytes f e = sized 12 (Entry (name_at bytes)) bytes f (omega arith) (λ z. cc z) e
-
-magic_shorter : (bytes : List ℕ) (f : Front) → standing AtMagic bytes ≡ Some f → Goes bytes f
-magic_shorter bytes f e =
-    let c = chosen (pointwise eqb (take 8 bytes) magic) (record { item = Magic; rest = drop 8 bytes }) f e in
-    let eight : take 8 bytes ≡ magic = (bytes_decides (take 8 bytes) magic).0 (c.0) in
-    subst (Goes bytes) (c.1) (omega (arith, length-drop 8 bytes, length-take 8 bytes, ap length eight), λ z. cc z)
-
-pub shorter : (p : Place) (bytes : List ℕ) (f : Front) → standing p bytes ≡ Some f → Goes bytes f ⊎ ((f.item ≡ End) × (p ≡ AtEnd))
-shorter AtMagic bytes f e = inl (magic_shorter bytes f e)
-shorter AtJob bytes f e = inl (numbered 4 (from_be_bytes w32) any Job bytes f (omega arith) (λ n z. cc z) e)
-shorter AtFlags bytes f e = inl (numbered 4 (from_be_bytes w32) any Flags bytes f (omega arith) (λ n z. cc z) e)
-shorter AtLiteralLength bytes f e = inl (numbered 4 (from_be_bytes w32) (λ n. leb n 4096) LiteralLength bytes f (omega arith) (λ n z. cc z) e)
-shorter (AtLiteralByte m) [] f e = absurd (cc e)
-shorter (AtLiteralByte m) (b ∷ bytes) f e = let same : record { item = LiteralByte b; rest = bytes } ≡ f = cc e in inl (subst (Goes (b ∷ bytes)) same (omega arith, λ z. cc z))
-shorter AtParts bytes f e = inl (numbered 4 (from_be_bytes w32) (λ n. leb 1 n && leb n 1024) Parts bytes f (omega arith) (λ n z. cc z) e)
-shorter (AtSplitSize r) bytes f e = inl (numbered 4 (from_be_bytes w32) any SplitSize bytes f (omega arith) (λ n z. cc z) e)
-shorter (AtFiles r) bytes f e = inl (numbered 4 (from_be_bytes w32) (λ n. leb n 1024) Files bytes f (omega arith) (λ n z. cc z) e)
-shorter (AtFileLength r n) bytes f e = inl (numbered 8 (from_be_bytes w64) any FileLength bytes f (omega arith) (λ n z. cc z) e)
-shorter (AtSkips r) bytes f e = inl (numbered 4 (from_be_bytes w32) any Skips bytes f (omega arith) (λ n z. cc z) e)
-shorter (AtSkip r n) bytes f e = inl (sized 8 (Skip (skip_at bytes)) bytes f (omega arith) (λ z. cc z) e)
-shorter (AtGroups r) bytes f e = inl (numbered 4 (from_be_bytes w32) any Groups bytes f (omega arith) (λ n z. cc z) e)
-shorter (AtEntries r g) bytes f e = inl (numbered 4 (from_be_bytes w32) (λ n. leb 1 n) Entries bytes f (omega arith) (λ n z. cc z) e)
-shorter (AtEntry r g n before) bytes f e = inl (entry_shorter before bytes f e)
-shorter AtEnd [] f e = let same : record { item = End; rest = [] } ≡ f = cc e in inr (ap (λ (g : Front). g.item) (sym same), refl)
-shorter AtEnd (b ∷ bytes) f e = absurd (cc e)
-shorter Behind bytes f e = absurd (cc e)
-
--- ---- one by one
-
-abbrev pub walk_from : ℕ → Place → Option Front → List Item
-walk_from k p None = []
-walk_from k p (Some f) = f.item ∷ walk k (behind p f.item) f.rest
-
-pub walk-suc : (k : ℕ) (p : Place) (bytes : List ℕ) → walk (suc k) p bytes ≡ walk_from k p (standing p bytes)
-walk-suc k p bytes = by (standing p bytes)
+entry_shorter : (v : Version) (before : Name) (bytes : List ℕ) (f : Front) → entry_at v before bytes ≡ Some f → Goes bytes f
+entry_shorter V1 before bytes f e = sized 12 (Entry (name_at bytes)) bytes f (omega arith) (λ z. cc z) e
+entry_shorter V2 before bytes f e = by (short_name_at before bytes) refl e
   where
-    by : (o : Option Front) → (elim o [ None ↦ [] | Some f ↦ f.item ∷ walk k (behind p f.item) f.rest ]) ≡ walk_from k p o
-    by None = refl
-    by (Some f) = refl
+    by : (o : Option NameFront) → short_name_at before bytes ≡ o → entry_of o ≡ Some f → Goes bytes f
+    by None is e = absurd (cc e)
+    by (Some n) is e =
+        let same : record { item = Entry n.name; rest = n.rest } ≡ f = cc e in
+        subst (Goes bytes) same ((name_passes before bytes n is).0, λ z. cc z)
 
-walk-behind : (k : ℕ) (bytes : List ℕ) → walk k Behind bytes ≡ []
-walk-behind zero bytes = refl
-walk-behind (suc k) bytes = refl
-
-behind_end : (p : Place) (i : Item) → i ≡ End → p ≡ AtEnd → behind p i ≡ Behind
-behind_end p i e d = ap (λ q. behind q i) d
-
--- how far the walk may go doesn't matter, if it may go far enough
-enough : (k j : ℕ) (p : Place) (bytes : List ℕ) → length bytes < k → length bytes < j → walk k p bytes ≡ walk j p bytes
-enough zero j p bytes a b = absurd (omega arith)
-enough (suc k) zero p bytes a b = absurd (omega arith)
-enough (suc k) (suc j) p bytes a b = walk-suc k p bytes ∙ (by (standing p bytes) refl (λ q rest. enough k j q rest) ∙ sym (walk-suc j p bytes))
+sized_entry : (v : Version) (r g n : ℕ) (before : Name) (bytes : List ℕ) (f : Front) → entry_at v before bytes ≡ Some f
+    → length (bytes_at v (AtEntry r g n before) f.item) + length f.rest ≡ length bytes
+sized_entry V1 r g n before bytes f e =
+    let c = not_chosen (ltb (length bytes) 12) (Some (record { item = Entry (name_at bytes); rest = drop 12 bytes })) f e in
+    let same : record { item = Entry (name_at bytes); rest = drop 12 bytes } ≡ f = cc (c.1) in
+    let enough : 12 ≤ length bytes = ltb-false (length bytes) 12 (c.0) in
+    subst (λ (h : Front). length (bytes_at V1 (AtEntry r g n before) h.item) + length h.rest ≡ length bytes) same (omega (arith, length-drop 12 bytes))
+sized_entry V2 r g n before bytes f e = by (short_name_at before bytes) refl e
   where
-    by : (o : Option Front) → standing p bytes ≡ o → ((q : Place) (rest : List ℕ) → length rest < k → length rest < j → walk k q rest ≡ walk j q rest) → walk_from k p o ≡ walk_from j p o
-    by None is more = refl
-    by (Some f) is more =
-        elim (shorter p bytes f is) [
-          | inl less ↦ (let l = less.0 in ap (λ js. f.item ∷ js) (more (behind p f.item) f.rest (omega arith) (omega arith)))
-          | inr last ↦ (let e = behind_end p f.item last.0 last.1 in ap (λ js. f.item ∷ js) (ap (λ q. walk k q f.rest) e ∙ (walk-behind k f.rest ∙ (sym (walk-behind j f.rest) ∙ ap (λ q. walk j q f.rest) (sym e)))))
-        ]
+    by : (o : Option NameFront) → short_name_at before bytes ≡ o → entry_of o ≡ Some f → length (bytes_at V2 (AtEntry r g n before) f.item) + length f.rest ≡ length bytes
+    by None is e = absurd (cc e)
+    by (Some m) is e =
+        let same : record { item = Entry m.name; rest = m.rest } ≡ f = cc e in
+        subst (λ (h : Front). length (bytes_at V2 (AtEntry r g n before) h.item) + length h.rest ≡ length bytes) same (name_sized before bytes m is)
 
-pub items_here : (p : Place) (bytes : List ℕ) (f : Front) → standing p bytes ≡ Some f → items_from p bytes ≡ f.item ∷ items_from (behind p f.item) f.rest
-unfolding items_from
-items_here p bytes f is =
-    let far : walk (length bytes + 1) p bytes ≡ walk (suc (length bytes)) p bytes = enough (length bytes + 1) (suc (length bytes)) p bytes (omega arith) (omega arith) in
-    far ∙ (walk-suc (length bytes) p bytes ∙ (ap (walk_from (length bytes) p) is ∙
-    (elim (shorter p bytes f is) [
-      | inl less ↦ (let l = less.0 in ap (λ js. f.item ∷ js) (enough (length bytes) (length f.rest + 1) (behind p f.item) f.rest (omega arith) (omega arith)))
-      | inr last ↦ (let e = behind_end p f.item last.0 last.1 in ap (λ js. f.item ∷ js) (ap (λ q. walk (length bytes) q f.rest) e ∙ (walk-behind (length bytes) f.rest ∙ (sym (walk-behind (length f.rest + 1) f.rest) ∙ ap (λ q. walk (length f.rest + 1) q f.rest) (sym e)))))
-    ])))
-
-pub items_none : (p : Place) (bytes : List ℕ) → standing p bytes ≡ None → items_from p bytes ≡ []
-unfolding items_from
-items_none p bytes is =
-    let far : walk (length bytes + 1) p bytes ≡ walk (suc (length bytes)) p bytes = enough (length bytes + 1) (suc (length bytes)) p bytes (omega arith) (omega arith) in
-    far ∙ (walk-suc (length bytes) p bytes ∙ ap (walk_from (length bytes) p) is)
-
--- behind the end nothing stands
-pub items_end : (p : Place) (bytes : List ℕ) (f : Front) → standing p bytes ≡ Some f → f.item ≡ End → items_from p bytes ≡ End ∷ []
-unfolding items_from
-items_end p bytes f is e =
-    elim (shorter p bytes f is) [
-      | inl less ↦ absurd (less.1 e)
-      | inr last ↦ items_here p bytes f is ∙ (ap (λ (i : Item). i ∷ items_from (behind p f.item) f.rest) e ∙ ap (λ js. End ∷ js) (ap (λ z. items_from z f.rest) (behind_end p f.item e last.1) ∙ walk-behind (length f.rest + 1) f.rest))
-    ]
-
--- ---- the bytes that items take
-
--- the item and what is behind it are as long as the bytes
-abbrev pub Sized : Place → List ℕ → Front → Type 0
-Sized p bytes f = length (bytes_at p f.item) + length f.rest ≡ length bytes
-
-sized_bytes : (p : Place) (size : ℕ) (item : Item) (bytes : List ℕ) (f : Front) → length (bytes_at p item) ≡ size → of_bytes size item bytes ≡ Some f → Sized p bytes f
-sized_bytes p size item bytes f long e =
-    let c = not_chosen (ltb (length bytes) size) (Some (record { item = item; rest = drop size bytes })) f e in
-    let same : record { item = item; rest = drop size bytes } ≡ f = cc (c.1) in
-    let enough : size ≤ length bytes = ltb-false (length bytes) size (c.0) in
-    subst (Sized p bytes) same (omega (arith, long, length-drop size bytes))
-
-sized_number : (p : Place) (size : ℕ) (value : List ℕ → ℕ) (ok : ℕ → Bool) (item : ℕ → Item) (bytes : List ℕ) (f : Front) → ((n : ℕ) → length (bytes_at p (item n)) ≡ size) → number size value ok item bytes ≡ Some f → Sized p bytes f
-sized_number p size value ok item bytes f long e =
-    let n = value (take size bytes) in
-    let c = not_chosen (ltb (length bytes) size) (cond (ok n) (Some (record { item = item n; rest = drop size bytes })) None) f e in
-    let d = chosen (ok n) (record { item = item n; rest = drop size bytes }) f (c.1) in
-    let enough : size ≤ length bytes = ltb-false (length bytes) size (c.0) in
-    subst (Sized p bytes) (d.1) (omega (arith, long n, length-drop size bytes))
-
-sized_magic : (bytes : List ℕ) (f : Front) → standing AtMagic bytes ≡ Some f → Sized AtMagic bytes f
-sized_magic bytes f e =
-    let c = chosen (pointwise eqb (take 8 bytes) magic) (record { item = Magic; rest = drop 8 bytes }) f e in
-    let eight : take 8 bytes ≡ magic = (bytes_decides (take 8 bytes) magic).0 (c.0) in
-    subst (Sized AtMagic bytes) (c.1) (omega (arith, length-drop 8 bytes, length-take 8 bytes, ap length eight))
-
-pub sized_here : (p : Place) (bytes : List ℕ) (f : Front) → standing p bytes ≡ Some f → Sized p bytes f
-sized_here AtMagic bytes f e = sized_magic bytes f e
-sized_here AtJob bytes f e = sized_number AtJob 4 (from_be_bytes w32) any Job bytes f (λ n. refl) e
-sized_here AtFlags bytes f e = sized_number AtFlags 4 (from_be_bytes w32) any Flags bytes f (λ n. refl) e
-sized_here AtLiteralLength bytes f e = sized_number AtLiteralLength 4 (from_be_bytes w32) (λ n. leb n 4096) LiteralLength bytes f (λ n. refl) e
-sized_here (AtLiteralByte m) [] f e = absurd (cc e)
-sized_here (AtLiteralByte m) (b ∷ bytes) f e = let same : record { item = LiteralByte b; rest = bytes } ≡ f = cc e in subst (Sized (AtLiteralByte m) (b ∷ bytes)) same (omega arith)
-sized_here AtParts bytes f e = sized_number AtParts 4 (from_be_bytes w32) (λ n. leb 1 n && leb n 1024) Parts bytes f (λ n. refl) e
-sized_here (AtSplitSize r) bytes f e = sized_number (AtSplitSize r) 4 (from_be_bytes w32) any SplitSize bytes f (λ n. refl) e
-sized_here (AtFiles r) bytes f e = sized_number (AtFiles r) 4 (from_be_bytes w32) (λ n. leb n 1024) Files bytes f (λ n. refl) e
-sized_here (AtFileLength r n) bytes f e = sized_number (AtFileLength r n) 8 (from_be_bytes w64) any FileLength bytes f (λ n. refl) e
-sized_here (AtSkips r) bytes f e = sized_number (AtSkips r) 4 (from_be_bytes w32) any Skips bytes f (λ n. refl) e
-sized_here (AtSkip r n) bytes f e = sized_bytes (AtSkip r n) 8 (Skip (skip_at bytes)) bytes f refl e
-sized_here (AtGroups r) bytes f e = sized_number (AtGroups r) 4 (from_be_bytes w32) any Groups bytes f (λ n. refl) e
-sized_here (AtEntries r g) bytes f e = sized_number (AtEntries r g) 4 (from_be_bytes w32) (λ n. leb 1 n) Entries bytes f (λ n. refl) e
-sized_here (AtEntry r g n before) bytes f e = sized_bytes (AtEntry r g n before) 12 (Entry (name_at bytes)) bytes f refl e
-sized_here AtEnd [] f e = let same : record { item = End; rest = [] } ≡ f = cc e in subst (Sized AtEnd []) same refl
-sized_here AtEnd (b ∷ bytes) f e = absurd (cc e)
-sized_here Behind bytes f e = absurd (cc e)
-
--- how many bytes the items from here on take
-abbrev pub taken : Place → List ℕ → ℕ
-taken p bytes = length (bytes_from p (items_from p bytes))
-
-pub taken_none : (p : Place) (bytes : List ℕ) → standing p bytes ≡ None → taken p bytes ≡ 0
-taken_none p bytes is = ap (λ w. length (bytes_from p w)) (items_none p bytes is)
-
-pub taken_here : (p : Place) (bytes : List ℕ) (f : Front) → standing p bytes ≡ Some f → taken p bytes + length f.rest ≡ length bytes + taken (behind p f.item) f.rest
-taken_here p bytes f is =
-    omega (
-      arith,
-      ap (λ w. length (bytes_from p w)) (items_here p bytes f is),
-      length-append (bytes_at p f.item) (bytes_from (behind p f.item) (items_from (behind p f.item) f.rest)),
-      sized_here p bytes f is,
-    )
-
--- ---- a walker's step
-
-end_or_not : (i : Item) → (i ≡ End) ⊎ (((js : List Item) → left_behind i js ≡ js) × ((p : Place) → onward p i ≡ behind p i))
+-- the end, or an item behind which a walker goes on
+pub end_or_not : (i : Item) → (i ≡ End) ⊎ (((js : List Item) → left_behind i js ≡ js) × ((p : Place) → onward p i ≡ behind p i))
 end_or_not End = inl refl
 end_or_not i = inr (λ js. refl, λ p. refl)
 
-pub item_step : (p q : Place) (bytes rest : List ℕ) (i : Item) → standing p bytes ≡ Some (record { item = i; rest = rest }) → q ≡ onward p i → items_from p bytes ≡ i ∷ left_behind i (items_from q rest)
-item_step p q bytes rest i is e =
-    let f : Front = record { item = i; rest = rest } in
-    elim (end_or_not i) [
-      | inl last ↦ items_end p bytes f is last ∙ sym (ap (λ (j : Item). j ∷ left_behind j (items_from q rest)) last)
-      | inr more ↦ items_here p bytes f is ∙ ap (λ js. i ∷ js) (sym (more.0 (items_from q rest) ∙ ap (λ w. items_from w rest) (e ∙ more.1 p)))
-    ]
+module _ (v : Version) where
+  magic_shorter : (bytes : List ℕ) (f : Front) → standing v AtMagic bytes ≡ Some f → Goes bytes f
+  magic_shorter bytes f e =
+      let c = chosen (pointwise eqb (take 8 bytes) (magic v)) (record { item = Magic; rest = drop 8 bytes }) f e in
+      let eight : take 8 bytes ≡ (magic v) = (bytes_decides (take 8 bytes) (magic v)).0 (c.0) in
+      subst (Goes bytes) (c.1) (omega (arith, length-drop 8 bytes, length-take 8 bytes, ap length eight), λ z. cc z)
 
-at_end_rest : (bytes : List ℕ) (f : Front) → standing AtEnd bytes ≡ Some f → f.rest ≡ bytes
-at_end_rest [] f is = let same : record { item = End; rest = [] } ≡ f = cc is in ap (λ (g : Front). g.rest) (sym same)
-at_end_rest (b ∷ bytes) f is = absurd (cc is)
+  pub shorter : (p : Place) (bytes : List ℕ) (f : Front) → standing v p bytes ≡ Some f → Goes bytes f ⊎ ((f.item ≡ End) × (p ≡ AtEnd))
+  shorter AtMagic bytes f e = inl (magic_shorter bytes f e)
+  shorter AtJob bytes f e = inl (numbered 4 (from_be_bytes w32) any Job bytes f (omega arith) (λ n z. cc z) e)
+  shorter AtFlags bytes f e = inl (numbered 4 (from_be_bytes w32) any Flags bytes f (omega arith) (λ n z. cc z) e)
+  shorter AtLiteralLength bytes f e = inl (numbered 4 (from_be_bytes w32) (λ n. leb n 4096) LiteralLength bytes f (omega arith) (λ n z. cc z) e)
+  shorter (AtLiteralByte m) [] f e = absurd (cc e)
+  shorter (AtLiteralByte m) (b ∷ bytes) f e = let same : record { item = LiteralByte b; rest = bytes } ≡ f = cc e in inl (subst (Goes (b ∷ bytes)) same (omega arith, λ z. cc z))
+  shorter AtParts bytes f e = inl (numbered 4 (from_be_bytes w32) (λ n. leb 1 n && leb n 1024) Parts bytes f (omega arith) (λ n z. cc z) e)
+  shorter (AtSplitSize r) bytes f e = inl (numbered 4 (from_be_bytes w32) any SplitSize bytes f (omega arith) (λ n z. cc z) e)
+  shorter (AtFiles r) bytes f e = inl (numbered 4 (from_be_bytes w32) (λ n. leb n 1024) Files bytes f (omega arith) (λ n z. cc z) e)
+  shorter (AtFileLength r n) bytes f e = inl (numbered 8 (from_be_bytes w64) any FileLength bytes f (omega arith) (λ n z. cc z) e)
+  shorter (AtSkips r) bytes f e = inl (numbered 4 (from_be_bytes w32) any Skips bytes f (omega arith) (λ n z. cc z) e)
+  shorter (AtSkip r n) bytes f e = inl (sized 8 (Skip (skip_at bytes)) bytes f (omega arith) (λ z. cc z) e)
+  shorter (AtGroups r) bytes f e = inl (numbered 4 (from_be_bytes w32) any Groups bytes f (omega arith) (λ n z. cc z) e)
+  shorter (AtEntries r g) bytes f e = inl (numbered 4 (from_be_bytes w32) (λ n. leb 1 n) Entries bytes f (omega arith) (λ n z. cc z) e)
+  shorter (AtEntry r g n before) bytes f e = inl (entry_shorter v before bytes f e)
+  shorter AtEnd [] f e = let same : record { item = End; rest = [] } ≡ f = cc e in inr (ap (λ (g : Front). g.item) (sym same), refl)
+  shorter AtEnd (b ∷ bytes) f e = absurd (cc e)
+  shorter Behind bytes f e = absurd (cc e)
 
--- behind the end the same is left
-pub end_step : (p q : Place) (bytes rest : List ℕ) (i : Item) → standing p bytes ≡ Some (record { item = i; rest = rest }) → q ≡ onward p i → i ≡ End → items_from q rest ≡ items_from p bytes
-end_step p q bytes rest i is e last =
-    elim (shorter p bytes (record { item = i; rest = rest }) is) [
-      | inl less ↦ absurd (less.1 last)
-      | inr z ↦ (
-          let f : Front = record { item = i; rest = rest } in
-          let at : standing AtEnd bytes ≡ Some f = subst (λ w. standing w bytes ≡ Some f) z.1 is in
-          let same : rest ≡ bytes = at_end_rest bytes f at in
-          let stays : q ≡ p = e ∙ ap (onward p) last in
-          ap (λ w. items_from w rest) stays ∙ ap (items_from p) same
-          )
-    ]
+  -- ---- one by one
 
--- the place where the items end is the same from behind an item
-pub taken_step : (p q : Place) (bytes rest : List ℕ) (i : Item) → standing p bytes ≡ Some (record { item = i; rest = rest }) → q ≡ onward p i → taken p bytes + length rest ≡ length bytes + taken q rest
-taken_step p q bytes rest i is e =
-    let f : Front = record { item = i; rest = rest } in
-    elim (end_or_not i) [
-      | inl last ↦ (elim (shorter p bytes f is) [
+  abbrev pub walk_from : ℕ → Place → Option Front → List Item
+  walk_from k p None = []
+  walk_from k p (Some f) = f.item ∷ walk v k (behind p f.item) f.rest
+
+  pub walk-suc : (k : ℕ) (p : Place) (bytes : List ℕ) → walk v (suc k) p bytes ≡ walk_from k p (standing v p bytes)
+  walk-suc k p bytes = by (standing v p bytes)
+    where
+      by : (o : Option Front) → (elim o [ None ↦ [] | Some f ↦ f.item ∷ walk v k (behind p f.item) f.rest ]) ≡ walk_from k p o
+      by None = refl
+      by (Some f) = refl
+
+  walk-behind : (k : ℕ) (bytes : List ℕ) → walk v k Behind bytes ≡ []
+  walk-behind zero bytes = refl
+  walk-behind (suc k) bytes = refl
+
+  behind_end : (p : Place) (i : Item) → i ≡ End → p ≡ AtEnd → behind p i ≡ Behind
+  behind_end p i e d = ap (λ q. behind q i) d
+
+  -- how far the walk may go doesn't matter, if it may go far enough
+  enough : (k j : ℕ) (p : Place) (bytes : List ℕ) → length bytes < k → length bytes < j → walk v k p bytes ≡ walk v j p bytes
+  enough zero j p bytes a b = absurd (omega arith)
+  enough (suc k) zero p bytes a b = absurd (omega arith)
+  enough (suc k) (suc j) p bytes a b = walk-suc k p bytes ∙ (by (standing v p bytes) refl (λ q rest. enough k j q rest) ∙ sym (walk-suc j p bytes))
+    where
+      by : (o : Option Front) → standing v p bytes ≡ o → ((q : Place) (rest : List ℕ) → length rest < k → length rest < j → walk v k q rest ≡ walk v j q rest) → walk_from k p o ≡ walk_from j p o
+      by None is more = refl
+      by (Some f) is more =
+          elim (shorter p bytes f is) [
+            | inl less ↦ (let l = less.0 in ap (λ js. f.item ∷ js) (more (behind p f.item) f.rest (omega arith) (omega arith)))
+            | inr last ↦ (let e = behind_end p f.item last.0 last.1 in ap (λ js. f.item ∷ js) (ap (λ q. walk v k q f.rest) e ∙ (walk-behind k f.rest ∙ (sym (walk-behind j f.rest) ∙ ap (λ q. walk v j q f.rest) (sym e)))))
+          ]
+
+  pub items_here : (p : Place) (bytes : List ℕ) (f : Front) → standing v p bytes ≡ Some f → items_from v p bytes ≡ f.item ∷ items_from v (behind p f.item) f.rest
+  unfolding items_from
+  items_here p bytes f is =
+      let far : walk v (length bytes + 1) p bytes ≡ walk v (suc (length bytes)) p bytes = enough (length bytes + 1) (suc (length bytes)) p bytes (omega arith) (omega arith) in
+      far ∙ (walk-suc (length bytes) p bytes ∙ (ap (walk_from (length bytes) p) is ∙
+      (elim (shorter p bytes f is) [
+        | inl less ↦ (let l = less.0 in ap (λ js. f.item ∷ js) (enough (length bytes) (length f.rest + 1) (behind p f.item) f.rest (omega arith) (omega arith)))
+        | inr last ↦ (let e = behind_end p f.item last.0 last.1 in ap (λ js. f.item ∷ js) (ap (λ q. walk v (length bytes) q f.rest) e ∙ (walk-behind (length bytes) f.rest ∙ (sym (walk-behind (length f.rest + 1) f.rest) ∙ ap (λ q. walk v (length f.rest + 1) q f.rest) (sym e)))))
+      ])))
+
+  pub items_none : (p : Place) (bytes : List ℕ) → standing v p bytes ≡ None → items_from v p bytes ≡ []
+  unfolding items_from
+  items_none p bytes is =
+      let far : walk v (length bytes + 1) p bytes ≡ walk v (suc (length bytes)) p bytes = enough (length bytes + 1) (suc (length bytes)) p bytes (omega arith) (omega arith) in
+      far ∙ (walk-suc (length bytes) p bytes ∙ ap (walk_from (length bytes) p) is)
+
+  -- behind the end nothing stands
+  pub items_end : (p : Place) (bytes : List ℕ) (f : Front) → standing v p bytes ≡ Some f → f.item ≡ End → items_from v p bytes ≡ End ∷ []
+  unfolding items_from
+  items_end p bytes f is e =
+      elim (shorter p bytes f is) [
+        | inl less ↦ absurd (less.1 e)
+        | inr last ↦ items_here p bytes f is ∙ (ap (λ (i : Item). i ∷ items_from v (behind p f.item) f.rest) e ∙ ap (λ js. End ∷ js) (ap (λ z. items_from v z f.rest) (behind_end p f.item e last.1) ∙ walk-behind (length f.rest + 1) f.rest))
+      ]
+
+  -- ---- the bytes that items take
+
+  -- the item and what is behind it are as long as the bytes
+  abbrev pub Sized : Place → List ℕ → Front → Type 0
+  Sized p bytes f = length (bytes_at v p f.item) + length f.rest ≡ length bytes
+
+  sized_bytes : (p : Place) (size : ℕ) (item : Item) (bytes : List ℕ) (f : Front) → length (bytes_at v p item) ≡ size → of_bytes size item bytes ≡ Some f → Sized p bytes f
+  sized_bytes p size item bytes f long e =
+      let c = not_chosen (ltb (length bytes) size) (Some (record { item = item; rest = drop size bytes })) f e in
+      let same : record { item = item; rest = drop size bytes } ≡ f = cc (c.1) in
+      let enough : size ≤ length bytes = ltb-false (length bytes) size (c.0) in
+      subst (Sized p bytes) same (omega (arith, long, length-drop size bytes))
+
+  sized_number : (p : Place) (size : ℕ) (value : List ℕ → ℕ) (ok : ℕ → Bool) (item : ℕ → Item) (bytes : List ℕ) (f : Front) → ((n : ℕ) → length (bytes_at v p (item n)) ≡ size) → number size value ok item bytes ≡ Some f → Sized p bytes f
+  sized_number p size value ok item bytes f long e =
+      let n = value (take size bytes) in
+      let c = not_chosen (ltb (length bytes) size) (cond (ok n) (Some (record { item = item n; rest = drop size bytes })) None) f e in
+      let d = chosen (ok n) (record { item = item n; rest = drop size bytes }) f (c.1) in
+      let enough : size ≤ length bytes = ltb-false (length bytes) size (c.0) in
+      subst (Sized p bytes) (d.1) (omega (arith, long n, length-drop size bytes))
+
+  sized_magic : (bytes : List ℕ) (f : Front) → standing v AtMagic bytes ≡ Some f → Sized AtMagic bytes f
+  sized_magic bytes f e =
+      let c = chosen (pointwise eqb (take 8 bytes) (magic v)) (record { item = Magic; rest = drop 8 bytes }) f e in
+      let eight : take 8 bytes ≡ (magic v) = (bytes_decides (take 8 bytes) (magic v)).0 (c.0) in
+      subst (Sized AtMagic bytes) (c.1) (omega (arith, length-drop 8 bytes, length-take 8 bytes, ap length eight))
+
+  pub sized_here : (p : Place) (bytes : List ℕ) (f : Front) → standing v p bytes ≡ Some f → Sized p bytes f
+  sized_here AtMagic bytes f e = sized_magic bytes f e
+  sized_here AtJob bytes f e = sized_number AtJob 4 (from_be_bytes w32) any Job bytes f (λ n. refl) e
+  sized_here AtFlags bytes f e = sized_number AtFlags 4 (from_be_bytes w32) any Flags bytes f (λ n. refl) e
+  sized_here AtLiteralLength bytes f e = sized_number AtLiteralLength 4 (from_be_bytes w32) (λ n. leb n 4096) LiteralLength bytes f (λ n. refl) e
+  sized_here (AtLiteralByte m) [] f e = absurd (cc e)
+  sized_here (AtLiteralByte m) (b ∷ bytes) f e = let same : record { item = LiteralByte b; rest = bytes } ≡ f = cc e in subst (Sized (AtLiteralByte m) (b ∷ bytes)) same (omega arith)
+  sized_here AtParts bytes f e = sized_number AtParts 4 (from_be_bytes w32) (λ n. leb 1 n && leb n 1024) Parts bytes f (λ n. refl) e
+  sized_here (AtSplitSize r) bytes f e = sized_number (AtSplitSize r) 4 (from_be_bytes w32) any SplitSize bytes f (λ n. refl) e
+  sized_here (AtFiles r) bytes f e = sized_number (AtFiles r) 4 (from_be_bytes w32) (λ n. leb n 1024) Files bytes f (λ n. refl) e
+  sized_here (AtFileLength r n) bytes f e = sized_number (AtFileLength r n) 8 (from_be_bytes w64) any FileLength bytes f (λ n. refl) e
+  sized_here (AtSkips r) bytes f e = sized_number (AtSkips r) 4 (from_be_bytes w32) any Skips bytes f (λ n. refl) e
+  sized_here (AtSkip r n) bytes f e = sized_bytes (AtSkip r n) 8 (Skip (skip_at bytes)) bytes f refl e
+  sized_here (AtGroups r) bytes f e = sized_number (AtGroups r) 4 (from_be_bytes w32) any Groups bytes f (λ n. refl) e
+  sized_here (AtEntries r g) bytes f e = sized_number (AtEntries r g) 4 (from_be_bytes w32) (λ n. leb 1 n) Entries bytes f (λ n. refl) e
+  sized_here (AtEntry r g n before) bytes f e = sized_entry v r g n before bytes f e
+  sized_here AtEnd [] f e = let same : record { item = End; rest = [] } ≡ f = cc e in subst (Sized AtEnd []) same refl
+  sized_here AtEnd (b ∷ bytes) f e = absurd (cc e)
+  sized_here Behind bytes f e = absurd (cc e)
+
+  -- how many bytes the items from here on take
+  abbrev pub taken : Place → List ℕ → ℕ
+  taken p bytes = length (bytes_from v p (items_from v p bytes))
+
+  pub taken_none : (p : Place) (bytes : List ℕ) → standing v p bytes ≡ None → taken p bytes ≡ 0
+  taken_none p bytes is = ap (λ w. length (bytes_from v p w)) (items_none p bytes is)
+
+  pub taken_here : (p : Place) (bytes : List ℕ) (f : Front) → standing v p bytes ≡ Some f → taken p bytes + length f.rest ≡ length bytes + taken (behind p f.item) f.rest
+  taken_here p bytes f is =
+      omega (
+        arith,
+        ap (λ w. length (bytes_from v p w)) (items_here p bytes f is),
+        length-append (bytes_at v p f.item) (bytes_from v (behind p f.item) (items_from v (behind p f.item) f.rest)),
+        sized_here p bytes f is,
+      )
+
+  -- ---- a walker's step
+
+  pub item_step : (p q : Place) (bytes rest : List ℕ) (i : Item) → standing v p bytes ≡ Some (record { item = i; rest = rest }) → q ≡ onward p i → items_from v p bytes ≡ i ∷ left_behind i (items_from v q rest)
+  item_step p q bytes rest i is e =
+      let f : Front = record { item = i; rest = rest } in
+      elim (end_or_not i) [
+        | inl last ↦ items_end p bytes f is last ∙ sym (ap (λ (j : Item). j ∷ left_behind j (items_from v q rest)) last)
+        | inr more ↦ items_here p bytes f is ∙ ap (λ js. i ∷ js) (sym (more.0 (items_from v q rest) ∙ ap (λ w. items_from v w rest) (e ∙ more.1 p)))
+      ]
+
+  at_end_rest : (bytes : List ℕ) (f : Front) → standing v AtEnd bytes ≡ Some f → f.rest ≡ bytes
+  at_end_rest [] f is = let same : record { item = End; rest = [] } ≡ f = cc is in ap (λ (g : Front). g.rest) (sym same)
+  at_end_rest (b ∷ bytes) f is = absurd (cc is)
+
+  -- behind the end the same is left
+  pub end_step : (p q : Place) (bytes rest : List ℕ) (i : Item) → standing v p bytes ≡ Some (record { item = i; rest = rest }) → q ≡ onward p i → i ≡ End → items_from v q rest ≡ items_from v p bytes
+  end_step p q bytes rest i is e last =
+      elim (shorter p bytes (record { item = i; rest = rest }) is) [
         | inl less ↦ absurd (less.1 last)
         | inr z ↦ (
-            let at : standing AtEnd bytes ≡ Some f = subst (λ w. standing w bytes ≡ Some f) z.1 is in
+            let f : Front = record { item = i; rest = rest } in
+            let at : standing v AtEnd bytes ≡ Some f = subst (λ w. standing v w bytes ≡ Some f) z.1 is in
             let same : rest ≡ bytes = at_end_rest bytes f at in
             let stays : q ≡ p = e ∙ ap (onward p) last in
-            omega (arith, ap length same, ap (λ w. taken w rest) stays, ap (taken p) same)
+            ap (λ w. items_from v w rest) stays ∙ ap (items_from v p) same
             )
-      ])
-      | inr more ↦ omega (arith, taken_here p bytes f is, ap (λ w. taken w rest) (e ∙ more.1 p))
-    ]
+      ]
 
-abbrev pub Stepped : Place → List ℕ → ℕ → Place → List ℕ → Result Item Malformed → Type 0
-Stepped p bytes whole q rest r = MatchResult r (λ i. (standing p bytes ≡ Some (record { item = i; rest = rest })) × (q ≡ onward p i)) (λ e. (standing p bytes ≡ None) × (q ≡ p) × (rest ≡ bytes) × (e.at ≡ whole - length bytes))
+  -- the place where the items end is the same from behind an item
+  pub taken_step : (p q : Place) (bytes rest : List ℕ) (i : Item) → standing v p bytes ≡ Some (record { item = i; rest = rest }) → q ≡ onward p i → taken p bytes + length rest ≡ length bytes + taken q rest
+  taken_step p q bytes rest i is e =
+      let f : Front = record { item = i; rest = rest } in
+      elim (end_or_not i) [
+        | inl last ↦ (elim (shorter p bytes f is) [
+          | inl less ↦ absurd (less.1 last)
+          | inr z ↦ (
+              let at : standing v AtEnd bytes ≡ Some f = subst (λ w. standing v w bytes ≡ Some f) z.1 is in
+              let same : rest ≡ bytes = at_end_rest bytes f at in
+              let stays : q ≡ p = e ∙ ap (onward p) last in
+              omega (arith, ap length same, ap (λ w. taken w rest) stays, ap (taken p) same)
+              )
+        ])
+        | inr more ↦ omega (arith, taken_here p bytes f is, ap (λ w. taken w rest) (e ∙ more.1 p))
+      ]
 
-pub stepped_items : (p : Place) (bytes : List ℕ) (whole : ℕ) (q : Place) (rest : List ℕ) (r : Result Item Malformed) → Stepped p bytes whole q rest r → MatchResult r (λ i. items_from p bytes ≡ i ∷ left_behind i (items_from q rest)) (λ e. (items_from p bytes ≡ []) × (items_from q rest ≡ []) × (e.at ≡ whole - length bytes + taken p bytes))
-stepped_items p bytes whole q rest (Ok i) h = item_step p q bytes rest i h.0 h.1
-stepped_items p bytes whole q rest (Err e) h =
-    (items_none p bytes h.0, ap (λ w. items_from w rest) h.1 ∙ (ap (items_from p) h.2 ∙ items_none p bytes h.0), omega (arith, h.3, taken_none p bytes h.0))
+  abbrev pub Stepped : Place → List ℕ → ℕ → Place → List ℕ → Result Item Malformed → Type 0
+  Stepped p bytes whole q rest r = MatchResult r (λ i. (standing v p bytes ≡ Some (record { item = i; rest = rest })) × (q ≡ onward p i)) (λ e. (standing v p bytes ≡ None) × (q ≡ p) × (rest ≡ bytes) × (e.at ≡ whole - length bytes))
 
-pub stepped_halt : (p : Place) (bytes : List ℕ) (whole : ℕ) (q : Place) (rest : List ℕ) (r : Result Item Malformed) → length bytes ≤ whole → length rest ≤ whole → Stepped p bytes whole q rest r
-    → whole - length rest + taken q rest ≡ whole - length bytes + taken p bytes
-stepped_halt p bytes whole q rest (Ok i) fits fit h = omega (arith, fits, fit, taken_step p q bytes rest i h.0 h.1)
-stepped_halt p bytes whole q rest (Err e) fits fit h = ap (λ w. whole - length rest + taken w rest) h.1 ∙ ap (λ b. whole - length b + taken p b) h.2
+  pub stepped_items : (p : Place) (bytes : List ℕ) (whole : ℕ) (q : Place) (rest : List ℕ) (r : Result Item Malformed) → Stepped p bytes whole q rest r → MatchResult r (λ i. items_from v p bytes ≡ i ∷ left_behind i (items_from v q rest)) (λ e. (items_from v p bytes ≡ []) × (items_from v q rest ≡ []) × (e.at ≡ whole - length bytes + taken p bytes))
+  stepped_items p bytes whole q rest (Ok i) h = item_step p q bytes rest i h.0 h.1
+  stepped_items p bytes whole q rest (Err e) h =
+      (items_none p bytes h.0, ap (λ w. items_from v w rest) h.1 ∙ (ap (items_from v p) h.2 ∙ items_none p bytes h.0), omega (arith, h.3, taken_none p bytes h.0))
 
-pub stepped_end : (p : Place) (bytes : List ℕ) (whole : ℕ) (q : Place) (rest : List ℕ) (r : Result Item Malformed) → Stepped p bytes whole q rest r → r ≡ Ok End → items_from q rest ≡ items_from p bytes
-stepped_end p bytes whole q rest (Ok i) h e = end_step p q bytes rest i h.0 h.1 (cc e)
-stepped_end p bytes whole q rest (Err f) h e = absurd (cc e)
+  pub stepped_halt : (p : Place) (bytes : List ℕ) (whole : ℕ) (q : Place) (rest : List ℕ) (r : Result Item Malformed) → length bytes ≤ whole → length rest ≤ whole → Stepped p bytes whole q rest r
+      → whole - length rest + taken q rest ≡ whole - length bytes + taken p bytes
+  stepped_halt p bytes whole q rest (Ok i) fits fit h = omega (arith, fits, fit, taken_step p q bytes rest i h.0 h.1)
+  stepped_halt p bytes whole q rest (Err e) fits fit h = ap (λ w. whole - length rest + taken w rest) h.1 ∙ ap (λ b. whole - length b + taken p b) h.2
 
-walk_few : (k : ℕ) (p : Place) (bytes : List ℕ) → length (walk k p bytes) ≤ k
-walk_few zero p bytes = omega arith
-walk_few (suc k) p bytes = subst (λ is. length is ≤ suc k) (sym (walk-suc k p bytes)) (by (standing p bytes) (λ q rest. walk_few k q rest))
-  where
-    by : (o : Option Front) → ((q : Place) (rest : List ℕ) → length (walk k q rest) ≤ k) → length (walk_from k p o) ≤ suc k
-    by None more = omega arith
-    by (Some f) more = omega (arith, more (behind p f.item) f.rest)
+  pub stepped_end : (p : Place) (bytes : List ℕ) (whole : ℕ) (q : Place) (rest : List ℕ) (r : Result Item Malformed) → Stepped p bytes whole q rest r → r ≡ Ok End → items_from v q rest ≡ items_from v p bytes
+  stepped_end p bytes whole q rest (Ok i) h e = end_step p q bytes rest i h.0 h.1 (cc e)
+  stepped_end p bytes whole q rest (Err f) h e = absurd (cc e)
 
--- each item but the last has a byte
-pub items_few : (p : Place) (bytes : List ℕ) → length (items_from p bytes) ≤ length bytes + 1
-unfolding items_from
-items_few p bytes = walk_few (length bytes + 1) p bytes
+  walk_few : (k : ℕ) (p : Place) (bytes : List ℕ) → length (walk v k p bytes) ≤ k
+  walk_few zero p bytes = omega arith
+  walk_few (suc k) p bytes = subst (λ is. length is ≤ suc k) (sym (walk-suc k p bytes)) (by (standing v p bytes) (λ q rest. walk_few k q rest))
+    where
+      by : (o : Option Front) → ((q : Place) (rest : List ℕ) → length (walk v k q rest) ≤ k) → length (walk_from k p o) ≤ suc k
+      by None more = omega arith
+      by (Some f) more = omega (arith, more (behind p f.item) f.rest)
+
+  -- each item but the last has a byte
+  pub items_few : (p : Place) (bytes : List ℕ) → length (items_from v p bytes) ≤ length bytes + 1
+  unfolding items_from
+  items_few p bytes = walk_few (length bytes + 1) p bytes

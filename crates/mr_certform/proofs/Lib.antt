@@ -1,3 +1,6 @@
+pub mod Chosen
+pub mod ShortLaws
+pub mod ShortSizes
 pub mod Fuel
 pub mod Rows
 pub mod Streams
@@ -8,5 +11,6 @@ pub mod Drafts
 pub mod Certificates
 pub mod Pieces
 pub mod Chunks
+pub mod Versions
 pub mod Spelled
 pub mod Growth

@@ -3,20 +3,21 @@ use Rattle.std.proofs.Common.{◌≡◌, ℕ, zero, suc, ◌+◌, ◌≤◌, Lis
 use Rattle.std.specs.List.{flat_map, AllByRecursion}
 use Rattle.std.proofs.lemmas.List.{length-take, length-drop, drop-drop}
 use Rattle.mr_bytes.specs.declared.Name.{Name}
+use Rattle.mr_certform.specs.declared.version.Version.{Version}
 use Rattle.mr_certform.specs.Places.{first_name}
-use Rattle.mr_certform.specs.Spelling.{u32, name_bytes}
+use Rattle.mr_certform.specs.Spelling.{u32}
 use Rattle.mr_certform.specs.Flat.{total, chunks}
 use Rattle.mr_certform.specs.Pieces.{names_bytes, group_bytes, part_bytes}
 
-pub groups_spelled : (cs : List ℕ) (n : ℕ) (ns : List ℕ) (rest : List Name) (out all : List ℕ) → cs ≡ n ∷ ns → total cs ≤ length rest → out ++ flat_map group_bytes (chunks cs rest) ≡ all → ((out ++ u32 n) ++ names_bytes first_name (take n rest)) ++ flat_map group_bytes (chunks ns (drop n rest)) ≡ all
-groups_spelled cs n ns rest out all e room h =
+pub groups_spelled : (v : Version) (cs : List ℕ) (n : ℕ) (ns : List ℕ) (rest : List Name) (out all : List ℕ) → cs ≡ n ∷ ns → total cs ≤ length rest → out ++ flat_map (group_bytes v) (chunks cs rest) ≡ all → ((out ++ u32 n) ++ names_bytes v first_name (take n rest)) ++ flat_map (group_bytes v) (chunks ns (drop n rest)) ≡ all
+groups_spelled v cs n ns rest out all e room h =
     let long : n ≤ length rest = omega (arith, ap total e) in
     let size : length (take n rest) ≡ n = omega (arith, length-take n rest) in
-    let front : out ++ ((u32 (length (take n rest)) ++ names_bytes first_name (take n rest)) ++ flat_map group_bytes (chunks ns (drop n rest))) ≡ all = sym (ap (λ w. out ++ flat_map group_bytes (chunks w rest)) e) ∙ h in
-    let sized : out ++ ((u32 n ++ names_bytes first_name (take n rest)) ++ flat_map group_bytes (chunks ns (drop n rest))) ≡ all = ap (λ w. out ++ ((u32 w ++ names_bytes first_name (take n rest)) ++ flat_map group_bytes (chunks ns (drop n rest)))) (sym size) ∙ front in
-    let a : ((out ++ u32 n) ++ names_bytes first_name (take n rest)) ++ flat_map group_bytes (chunks ns (drop n rest)) ≡ (out ++ u32 n) ++ (names_bytes first_name (take n rest) ++ flat_map group_bytes (chunks ns (drop n rest))) = append_assoc (out ++ u32 n) (names_bytes first_name (take n rest)) _ in
-    let b : (out ++ u32 n) ++ (names_bytes first_name (take n rest) ++ flat_map group_bytes (chunks ns (drop n rest))) ≡ out ++ (u32 n ++ (names_bytes first_name (take n rest) ++ flat_map group_bytes (chunks ns (drop n rest)))) = append_assoc out (u32 n) _ in
-    let c : (u32 n ++ names_bytes first_name (take n rest)) ++ flat_map group_bytes (chunks ns (drop n rest)) ≡ u32 n ++ (names_bytes first_name (take n rest) ++ flat_map group_bytes (chunks ns (drop n rest))) = append_assoc (u32 n) (names_bytes first_name (take n rest)) _ in
+    let front : out ++ ((u32 (length (take n rest)) ++ names_bytes v first_name (take n rest)) ++ flat_map (group_bytes v) (chunks ns (drop n rest))) ≡ all = sym (ap (λ w. out ++ flat_map (group_bytes v) (chunks w rest)) e) ∙ h in
+    let sized : out ++ ((u32 n ++ names_bytes v first_name (take n rest)) ++ flat_map (group_bytes v) (chunks ns (drop n rest))) ≡ all = ap (λ w. out ++ ((u32 w ++ names_bytes v first_name (take n rest)) ++ flat_map (group_bytes v) (chunks ns (drop n rest)))) (sym size) ∙ front in
+    let a : ((out ++ u32 n) ++ names_bytes v first_name (take n rest)) ++ flat_map (group_bytes v) (chunks ns (drop n rest)) ≡ (out ++ u32 n) ++ (names_bytes v first_name (take n rest) ++ flat_map (group_bytes v) (chunks ns (drop n rest))) = append_assoc (out ++ u32 n) (names_bytes v first_name (take n rest)) _ in
+    let b : (out ++ u32 n) ++ (names_bytes v first_name (take n rest) ++ flat_map (group_bytes v) (chunks ns (drop n rest))) ≡ out ++ (u32 n ++ (names_bytes v first_name (take n rest) ++ flat_map (group_bytes v) (chunks ns (drop n rest)))) = append_assoc out (u32 n) _ in
+    let c : (u32 n ++ names_bytes v first_name (take n rest)) ++ flat_map (group_bytes v) (chunks ns (drop n rest)) ≡ u32 n ++ (names_bytes v first_name (take n rest) ++ flat_map (group_bytes v) (chunks ns (drop n rest))) = append_assoc (u32 n) (names_bytes v first_name (take n rest)) _ in
     a ∙ (b ∙ (ap (λ w. out ++ w) (sym c) ∙ sized))
 
 pub groups_behind : (cs : List ℕ) (n : ℕ) (ns : List ℕ) (rest all : List Name) → cs ≡ n ∷ ns → drop (total cs) rest ≡ all → drop (total ns) (drop n rest) ≡ all
@@ -44,18 +45,18 @@ chunks_drop zero cs xs = refl
 chunks_drop (suc n) [] xs = refl
 chunks_drop (suc n) (c ∷ cs) xs = chunks_drop n cs (drop c xs) ∙ ap (chunks (drop n cs)) (drop-drop (total (take n cs)) c xs)
 
-pub parts_spelled : (gs : List ℕ) (n : ℕ) (ms cs : List ℕ) (xs : List Name) (out all : List ℕ) → gs ≡ n ∷ ms → total gs ≤ length cs → out ++ flat_map part_bytes (chunks gs (chunks cs xs)) ≡ all → ((out ++ u32 n) ++ flat_map group_bytes (chunks (take n cs) xs)) ++ flat_map part_bytes (chunks ms (chunks (drop n cs) (drop (total (take n cs)) xs))) ≡ all
-parts_spelled gs n ms cs xs out all e room h =
+pub parts_spelled : (v : Version) (gs : List ℕ) (n : ℕ) (ms cs : List ℕ) (xs : List Name) (out all : List ℕ) → gs ≡ n ∷ ms → total gs ≤ length cs → out ++ flat_map (part_bytes v) (chunks gs (chunks cs xs)) ≡ all → ((out ++ u32 n) ++ flat_map (group_bytes v) (chunks (take n cs) xs)) ++ flat_map (part_bytes v) (chunks ms (chunks (drop n cs) (drop (total (take n cs)) xs))) ≡ all
+parts_spelled v gs n ms cs xs out all e room h =
     let here : List (List Name) = chunks (take n cs) xs in
-    let more : List ℕ = flat_map part_bytes (chunks ms (chunks (drop n cs) (drop (total (take n cs)) xs))) in
+    let more : List ℕ = flat_map (part_bytes v) (chunks ms (chunks (drop n cs) (drop (total (take n cs)) xs))) in
     let long : n ≤ length cs = omega (arith, ap total e) in
     let size : length (chunks (take n cs) xs) ≡ n = omega (arith, length-chunks (take n cs) xs, length-take n cs) in
-    let front : out ++ (part_bytes (take n (chunks cs xs)) ++ flat_map part_bytes (chunks ms (drop n (chunks cs xs)))) ≡ all = sym (ap (λ w. out ++ flat_map part_bytes (chunks w (chunks cs xs))) e) ∙ h in
-    let cut : out ++ (part_bytes (chunks (take n cs) xs) ++ flat_map part_bytes (chunks ms (chunks (drop n cs) (drop (total (take n cs)) xs)))) ≡ all =
-    sym (ap (λ w. out ++ (part_bytes w ++ flat_map part_bytes (chunks ms (drop n (chunks cs xs))))) (chunks_take n cs xs) ∙ ap (λ w. out ++ (part_bytes (chunks (take n cs) xs) ++ flat_map part_bytes (chunks ms w))) (chunks_drop n cs xs)) ∙ front in
-    let sized : out ++ ((u32 n ++ flat_map group_bytes (chunks (take n cs) xs)) ++ flat_map part_bytes (chunks ms (chunks (drop n cs) (drop (total (take n cs)) xs)))) ≡ all =
-    sym (ap (λ w. out ++ ((u32 w ++ flat_map group_bytes (chunks (take n cs) xs)) ++ flat_map part_bytes (chunks ms (chunks (drop n cs) (drop (total (take n cs)) xs))))) size) ∙ cut in
-    regroup out (u32 n) (flat_map group_bytes (chunks (take n cs) xs)) (flat_map part_bytes (chunks ms (chunks (drop n cs) (drop (total (take n cs)) xs)))) ∙ sized
+    let front : out ++ (part_bytes v (take n (chunks cs xs)) ++ flat_map (part_bytes v) (chunks ms (drop n (chunks cs xs)))) ≡ all = sym (ap (λ w. out ++ flat_map (part_bytes v) (chunks w (chunks cs xs))) e) ∙ h in
+    let cut : out ++ (part_bytes v (chunks (take n cs) xs) ++ flat_map (part_bytes v) (chunks ms (chunks (drop n cs) (drop (total (take n cs)) xs)))) ≡ all =
+    sym (ap (λ w. out ++ (part_bytes v w ++ flat_map (part_bytes v) (chunks ms (drop n (chunks cs xs))))) (chunks_take n cs xs) ∙ ap (λ w. out ++ (part_bytes v (chunks (take n cs) xs) ++ flat_map (part_bytes v) (chunks ms w))) (chunks_drop n cs xs)) ∙ front in
+    let sized : out ++ ((u32 n ++ flat_map (group_bytes v) (chunks (take n cs) xs)) ++ flat_map (part_bytes v) (chunks ms (chunks (drop n cs) (drop (total (take n cs)) xs)))) ≡ all =
+    sym (ap (λ w. out ++ ((u32 w ++ flat_map (group_bytes v) (chunks (take n cs) xs)) ++ flat_map (part_bytes v) (chunks ms (chunks (drop n cs) (drop (total (take n cs)) xs))))) size) ∙ cut in
+    regroup out (u32 n) (flat_map (group_bytes v) (chunks (take n cs) xs)) (flat_map (part_bytes v) (chunks ms (chunks (drop n cs) (drop (total (take n cs)) xs)))) ∙ sized
   where
     regroup : (a b c d : List ℕ) → ((a ++ b) ++ c) ++ d ≡ a ++ ((b ++ c) ++ d)
     regroup a b c d = simp append_assoc
@@ -84,10 +85,6 @@ chunks_split (suc n) (c ∷ cs) xs = ap (λ w. take c xs ∷ w) (ap (λ w. chunk
 -- one more that fits
 pub one_more : {X : Type 0} (P : X → Type 0) (xs : List X) (x : X) (ys : List X) (Q : Type 0) → xs ≡ x ∷ ys → P x → (AllByRecursion P xs → Q) → AllByRecursion P ys → Q
 one_more P xs x ys Q e h k all = k (subst (AllByRecursion P) (sym e) (h, all))
-
-pub names_flat : (before : Name) (ns : List Name) → names_bytes before ns ≡ flat_map (name_bytes first_name) ns
-names_flat before [] = refl
-names_flat before (n ∷ ns) = ap (λ w. name_bytes first_name n ++ w) (names_flat n ns)
 
 -- ---- what a sink takes, one piece behind another
 

@@ -1,5 +1,5 @@
 -- Entries that are passed over.
-use Rattle.std.proofs.Common.{◌≡◌, ℕ, zero, suc, ◌+◌, ◌-◌, ◌*◌, ◌<◌, ◌≤◌, Option, Some, None, List, [], ◌∷◌, length, take, drop, refl, ap, sym, ◌∙◌, subst, arith, Bool, true, false, cond, ltb, nat_le, eqb, ◌&&◌}
+use Rattle.std.proofs.Common.{◌≡◌, ℕ, zero, suc, ◌+◌, ◌-◌, ◌*◌, ◌<◌, ◌≤◌, Option, Some, None, List, [], ◌∷◌, length, take, drop, refl, ap, sym, ◌∙◌, subst, inl, inr, arith, Bool, true, false, cond, ltb, nat_le, eqb, ◌&&◌}
 use Rattle.std.proofs.lemmas.Bool.{ltb-false, ltb-true}
 use Rattle.std.proofs.lemmas.List.{length-drop, drop-drop}
 use Rattle.std.specs.Cmp.Lexicographic.{pointwise}
@@ -9,21 +9,25 @@ use Rattle.mr_certform.specs.declared.item.Item.{Item}
 use Rattle.mr_certform.specs.declared.item.Item.TheVariants.{Magic, Job, Flags, LiteralLength, LiteralByte, Parts, SplitSize, Files, FileLength, Skips, Skip, Groups, Entries, Entry, End}
 use Rattle.mr_certform.specs.declared.place.Place.{Place}
 use Rattle.mr_certform.specs.declared.place.Place.TheVariants.{AtMagic, AtJob, AtFlags, AtLiteralLength, AtLiteralByte, AtParts, AtSplitSize, AtFiles, AtFileLength, AtSkips, AtSkip, AtGroups, AtEntries, AtEntry, AtEnd, Behind}
-use Rattle.mr_certform.specs.Places.{behind, groups, entries}
-use Rattle.mr_certform.specs.Spelling.{Front, magic, number, any, skip_at, name_at, standing, items_from}
+use Rattle.mr_certform.specs.declared.version.Version.{Version}
+use Rattle.mr_certform.specs.declared.version.Version.TheVariants.{V1, V2}
+use Rattle.mr_certform.specs.Places.{behind, onward, groups, entries}
+use Rattle.mr_certform.specs.Spelling.{Front, magic, number, any, skip_at, name_at, entry_of, standing, items_from, left_behind}
+use Rattle.mr_certform.specs.Short.{NameFront, short_name_at}
 use Rattle.mr_certform.specs.Rows.{entries_ahead, behind_entries}
-use Rattle.mr_certform.proofs.Fuel.{chosen, not_chosen, items_here, items_none, taken, taken_here, taken_none}
+use Rattle.mr_certform.proofs.Chosen.{chosen, not_chosen}
+use Rattle.mr_certform.proofs.Fuel.{shorter, items_here, items_none, item_step, taken, taken_here, taken_none}
 
--- ---- one entry
+-- ---- one entry of version 1
 
-stands : (r g n : ℕ) (b : Name) (bytes : List ℕ) → 12 ≤ length bytes → standing (AtEntry r g n b) bytes ≡ Some (record { item = Entry (name_at bytes); rest = drop 12 bytes })
+stands : (r g n : ℕ) (b : Name) (bytes : List ℕ) → 12 ≤ length bytes → standing V1 (AtEntry r g n b) bytes ≡ Some (record { item = Entry (name_at bytes); rest = drop 12 bytes })
 stands r g n b bytes h = by (ltb (length bytes) 12) refl
   where
     by : (t : Bool) → ltb (length bytes) 12 ≡ t → cond {A = Option Front} (ltb (length bytes) 12) None (Some (record { item = Entry (name_at bytes); rest = drop 12 bytes })) ≡ Some (record { item = Entry (name_at bytes); rest = drop 12 bytes })
     by true e = let less = ltb-true (length bytes) 12 e in absurd (omega arith)
     by false e = ap (λ t. cond {A = Option Front} t None (Some (record { item = Entry (name_at bytes); rest = drop 12 bytes }))) e
 
-lacks : (r g n : ℕ) (b : Name) (bytes : List ℕ) → length bytes < 12 → standing (AtEntry r g n b) bytes ≡ None
+lacks : (r g n : ℕ) (b : Name) (bytes : List ℕ) → length bytes < 12 → standing V1 (AtEntry r g n b) bytes ≡ None
 lacks r g n b bytes h = by (ltb (length bytes) 12) refl
   where
     by : (t : Bool) → ltb (length bytes) 12 ≡ t → cond {A = Option Front} (ltb (length bytes) 12) None (Some (record { item = Entry (name_at bytes); rest = drop 12 bytes })) ≡ None
@@ -35,9 +39,9 @@ lacks r g n b bytes h = by (ltb (length bytes) 12) refl
 -- what is told of walks from two places: these stand one after the other, k entries apart
 abbrev Apart : ℕ → Place → List ℕ → Place → List ℕ → Type 0
 Apart k p bytes q rest =
-    (entries_ahead (items_from p bytes) ≡ k + entries_ahead (items_from q rest))
-    × (behind_entries (items_from p bytes) ≡ behind_entries (items_from q rest))
-    × (taken p bytes ≡ 12 * k + taken q rest)
+    (entries_ahead (items_from V1 p bytes) ≡ k + entries_ahead (items_from V1 q rest))
+    × (behind_entries (items_from V1 p bytes) ≡ behind_entries (items_from V1 q rest))
+    × (taken V1 p bytes ≡ 12 * k + taken V1 q rest)
 
 -- the name before bears on nothing
 any_before : (r g n : ℕ) (b c : Name) (bytes : List ℕ) → Apart 0 (entries r g n b) bytes (entries r g n c) bytes
@@ -47,17 +51,17 @@ any_before r g (suc n) b c bytes = by (ltb (length bytes) 12) refl
     by : (t : Bool) → ltb (length bytes) 12 ≡ t → Apart 0 (AtEntry r g n b) bytes (AtEntry r g n c) bytes
     by true e =
         let less = ltb-true (length bytes) 12 e in
-        let one = items_none (AtEntry r g n b) bytes (lacks r g n b bytes less) in
-        let other = items_none (AtEntry r g n c) bytes (lacks r g n c bytes less) in
+        let one = items_none V1 (AtEntry r g n b) bytes (lacks r g n b bytes less) in
+        let other = items_none V1 (AtEntry r g n c) bytes (lacks r g n c bytes less) in
         let same = one ∙ sym other in
-        (omega (arith, ap entries_ahead same), ap behind_entries same, omega (arith, taken_none (AtEntry r g n b) bytes (lacks r g n b bytes less), taken_none (AtEntry r g n c) bytes (lacks r g n c bytes less)))
+        (omega (arith, ap entries_ahead same), ap behind_entries same, omega (arith, taken_none V1 (AtEntry r g n b) bytes (lacks r g n b bytes less), taken_none V1 (AtEntry r g n c) bytes (lacks r g n c bytes less)))
     by false e =
         let more = ltb-false (length bytes) 12 e in
         let f : Front = record { item = Entry (name_at bytes); rest = drop 12 bytes } in
-        let one = items_here (AtEntry r g n b) bytes f (stands r g n b bytes more) in
-        let other = items_here (AtEntry r g n c) bytes f (stands r g n c bytes more) in
+        let one = items_here V1 (AtEntry r g n b) bytes f (stands r g n b bytes more) in
+        let other = items_here V1 (AtEntry r g n c) bytes f (stands r g n c bytes more) in
         let same = one ∙ sym other in
-        (omega (arith, ap entries_ahead same), ap behind_entries same, omega (arith, taken_here (AtEntry r g n b) bytes f (stands r g n b bytes more), taken_here (AtEntry r g n c) bytes f (stands r g n c bytes more)))
+        (omega (arith, ap entries_ahead same), ap behind_entries same, omega (arith, taken_here V1 (AtEntry r g n b) bytes f (stands r g n b bytes more), taken_here V1 (AtEntry r g n c) bytes f (stands r g n c bytes more)))
 
 pub row : (k m n r g : ℕ) (b c : Name) (bytes : List ℕ) → n ≡ k + m → 12 * k ≤ length bytes → Apart k (entries r g n b) bytes (entries r g m c) (drop (12 * k) bytes)
 row zero m n r g b c bytes e h =
@@ -67,7 +71,7 @@ row (suc k) m zero r g b c bytes e h = absurd (omega (arith, e))
 row (suc k) m (suc n) r g b c bytes e h =
     let f : Front = record { item = Entry (name_at bytes); rest = drop 12 bytes } in
     let long : 12 ≤ length bytes = omega (arith, h) in
-    let here = items_here (AtEntry r g n b) bytes f (stands r g n b bytes long) in
+    let here = items_here V1 (AtEntry r g n b) bytes f (stands r g n b bytes long) in
     let size = length-drop 12 bytes in
     let ih = row k m n r g (name_at bytes) c (drop 12 bytes) (omega (arith, e)) (omega (arith, h, size)) in
     let far : 12 + 12 * k ≡ 12 * (suc k) = omega arith in
@@ -75,7 +79,7 @@ row (suc k) m (suc n) r g b c bytes e h =
     let told : Apart (suc k) (AtEntry r g n b) bytes (entries r g m c) (drop (12 * k) (drop 12 bytes)) = (
       omega (arith, ap entries_ahead here, ih.0),
       ap behind_entries here ∙ ih.1,
-      omega (arith, taken_here (AtEntry r g n b) bytes f (stands r g n b bytes long), ih.2, size),
+      omega (arith, taken_here V1 (AtEntry r g n b) bytes f (stands r g n b bytes long), ih.2, size),
     ) in
     subst (Apart (suc k) (AtEntry r g n b) bytes (entries r g m c)) rest told
 
@@ -84,59 +88,60 @@ row (suc k) m (suc n) r g b c bytes e h =
 abbrev Other : List Item → Type 0
 Other is = (entries_ahead is ≡ 0) × (behind_entries is ≡ is)
 
-other_from : (p : Place) (bytes : List ℕ) → ((f : Front) (js : List Item) → standing p bytes ≡ Some f → Other (f.item ∷ js)) → Other (items_from p bytes)
-other_from p bytes h = by (standing p bytes) refl
-  where
-    by : (o : Option Front) → standing p bytes ≡ o → Other (items_from p bytes)
-    by None e = subst Other (sym (items_none p bytes e)) (refl, refl)
-    by (Some f) e = subst Other (sym (items_here p bytes f e)) (h f (items_from (behind p f.item) f.rest) e)
+module _ (v : Version) where
+  other_from : (p : Place) (bytes : List ℕ) → ((f : Front) (js : List Item) → standing v p bytes ≡ Some f → Other (f.item ∷ js)) → Other (items_from v p bytes)
+  other_from p bytes h = by (standing v p bytes) refl
+    where
+      by : (o : Option Front) → standing v p bytes ≡ o → Other (items_from v p bytes)
+      by None e = subst Other (sym (items_none v p bytes e)) (refl, refl)
+      by (Some f) e = subst Other (sym (items_here v p bytes f e)) (h f (items_from v (behind p f.item) f.rest) e)
 
-other_number : (size : ℕ) (value : List ℕ → ℕ) (item : ℕ → Item) (ok : ℕ → Bool) (bytes : List ℕ) (f : Front) (js : List Item) → ((n : ℕ) → Other (item n ∷ js)) → number size value ok item bytes ≡ Some f → Other (f.item ∷ js)
-other_number size value item ok bytes f js other e =
-    let n = value (take size bytes) in
-    let c = not_chosen (ltb (length bytes) size) (cond (ok n) (Some (record { item = item n; rest = drop size bytes })) None) f e in
-    let d = chosen (ok n) (record { item = item n; rest = drop size bytes }) f (c.1) in
-    subst (λ (g : Front). Other (g.item ∷ js)) (d.1) (other n)
+  other_number : (size : ℕ) (value : List ℕ → ℕ) (item : ℕ → Item) (ok : ℕ → Bool) (bytes : List ℕ) (f : Front) (js : List Item) → ((n : ℕ) → Other (item n ∷ js)) → number size value ok item bytes ≡ Some f → Other (f.item ∷ js)
+  other_number size value item ok bytes f js other e =
+      let n = value (take size bytes) in
+      let c = not_chosen (ltb (length bytes) size) (cond (ok n) (Some (record { item = item n; rest = drop size bytes })) None) f e in
+      let d = chosen (ok n) (record { item = item n; rest = drop size bytes }) f (c.1) in
+      subst (λ (g : Front). Other (g.item ∷ js)) (d.1) (other n)
 
-other_four : (p : Place) (item : ℕ → Item) (ok : ℕ → Bool) (bytes : List ℕ) → ((n : ℕ) (js : List Item) → Other (item n ∷ js)) → standing p bytes ≡ number 4 (from_be_bytes w32) ok item bytes → Other (items_from p bytes)
-other_four p item ok bytes other is = other_from p bytes (λ f js e. other_number 4 (from_be_bytes w32) item ok bytes f js (λ n. other n js) (sym is ∙ e))
+  other_four : (p : Place) (item : ℕ → Item) (ok : ℕ → Bool) (bytes : List ℕ) → ((n : ℕ) (js : List Item) → Other (item n ∷ js)) → standing v p bytes ≡ number 4 (from_be_bytes w32) ok item bytes → Other (items_from v p bytes)
+  other_four p item ok bytes other is = other_from p bytes (λ f js e. other_number 4 (from_be_bytes w32) item ok bytes f js (λ n. other n js) (sym is ∙ e))
 
-other_magic : (bytes : List ℕ) (f : Front) (js : List Item) → standing AtMagic bytes ≡ Some f → Other (f.item ∷ js)
-other_magic bytes f js e =
-    let c = chosen (pointwise eqb (take 8 bytes) magic) (record { item = Magic; rest = drop 8 bytes }) f e in
-    subst (λ (g : Front). Other (g.item ∷ js)) (c.1) (refl, refl)
+  other_magic : (bytes : List ℕ) (f : Front) (js : List Item) → standing v AtMagic bytes ≡ Some f → Other (f.item ∷ js)
+  other_magic bytes f js e =
+      let c = chosen (pointwise eqb (take 8 bytes) (magic v)) (record { item = Magic; rest = drop 8 bytes }) f e in
+      subst (λ (g : Front). Other (g.item ∷ js)) (c.1) (refl, refl)
 
-other_skip : (r n : ℕ) (bytes : List ℕ) (f : Front) (js : List Item) → standing (AtSkip r n) bytes ≡ Some f → Other (f.item ∷ js)
-other_skip r n bytes f js e =
-    let c = not_chosen (ltb (length bytes) 8) (Some (record { item = Skip (skip_at bytes); rest = drop 8 bytes })) f e in
-    let same : record { item = Skip (skip_at bytes); rest = drop 8 bytes } ≡ f = cc (c.1) in
-    subst (λ (g : Front). Other (g.item ∷ js)) same (refl, refl)
+  other_skip : (r n : ℕ) (bytes : List ℕ) (f : Front) (js : List Item) → standing v (AtSkip r n) bytes ≡ Some f → Other (f.item ∷ js)
+  other_skip r n bytes f js e =
+      let c = not_chosen (ltb (length bytes) 8) (Some (record { item = Skip (skip_at bytes); rest = drop 8 bytes })) f e in
+      let same : record { item = Skip (skip_at bytes); rest = drop 8 bytes } ≡ f = cc (c.1) in
+      subst (λ (g : Front). Other (g.item ∷ js)) same (refl, refl)
 
-other_byte : (n : ℕ) (bytes : List ℕ) (f : Front) (js : List Item) → standing (AtLiteralByte n) bytes ≡ Some f → Other (f.item ∷ js)
-other_byte n [] f js e = absurd (cc e)
-other_byte n (b ∷ bytes) f js e = let same : record { item = LiteralByte b; rest = bytes } ≡ f = cc e in subst (λ (g : Front). Other (g.item ∷ js)) same (refl, refl)
+  other_byte : (n : ℕ) (bytes : List ℕ) (f : Front) (js : List Item) → standing v (AtLiteralByte n) bytes ≡ Some f → Other (f.item ∷ js)
+  other_byte n [] f js e = absurd (cc e)
+  other_byte n (b ∷ bytes) f js e = let same : record { item = LiteralByte b; rest = bytes } ≡ f = cc e in subst (λ (g : Front). Other (g.item ∷ js)) same (refl, refl)
 
-other_end : (bytes : List ℕ) (f : Front) (js : List Item) → standing AtEnd bytes ≡ Some f → Other (f.item ∷ js)
-other_end [] f js e = let same : record { item = End; rest = [] } ≡ f = cc e in subst (λ (g : Front). Other (g.item ∷ js)) same (refl, refl)
-other_end (b ∷ bytes) f js e = absurd (cc e)
+  other_end : (bytes : List ℕ) (f : Front) (js : List Item) → standing v AtEnd bytes ≡ Some f → Other (f.item ∷ js)
+  other_end [] f js e = let same : record { item = End; rest = [] } ≡ f = cc e in subst (λ (g : Front). Other (g.item ∷ js)) same (refl, refl)
+  other_end (b ∷ bytes) f js e = absurd (cc e)
 
-other_elsewhere : (p : Place) (bytes : List ℕ) → ((r g n : ℕ) (b : Name) → p ≡ AtEntry r g n b → ⊥) → Other (items_from p bytes)
-other_elsewhere AtMagic bytes h = other_from AtMagic bytes (other_magic bytes)
-other_elsewhere AtJob bytes h = other_four AtJob Job any bytes (λ n js. (refl, refl)) refl
-other_elsewhere AtFlags bytes h = other_four AtFlags Flags any bytes (λ n js. (refl, refl)) refl
-other_elsewhere AtLiteralLength bytes h = other_four AtLiteralLength LiteralLength (λ n. nat_le n 4096) bytes (λ n js. (refl, refl)) refl
-other_elsewhere (AtLiteralByte m) bytes h = other_from (AtLiteralByte m) bytes (other_byte m bytes)
-other_elsewhere AtParts bytes h = other_four AtParts Parts (λ n. nat_le 1 n && nat_le n 1024) bytes (λ n js. (refl, refl)) refl
-other_elsewhere (AtSplitSize r) bytes h = other_four (AtSplitSize r) SplitSize any bytes (λ n js. (refl, refl)) refl
-other_elsewhere (AtFiles r) bytes h = other_four (AtFiles r) Files (λ n. nat_le n 1024) bytes (λ n js. (refl, refl)) refl
-other_elsewhere (AtFileLength r m) bytes h = other_from (AtFileLength r m) bytes (λ f js e. other_number 8 (from_be_bytes w64) FileLength any bytes f js (λ n. (refl, refl)) e)
-other_elsewhere (AtSkips r) bytes h = other_four (AtSkips r) Skips any bytes (λ n js. (refl, refl)) refl
-other_elsewhere (AtSkip r m) bytes h = other_from (AtSkip r m) bytes (other_skip r m bytes)
-other_elsewhere (AtGroups r) bytes h = other_four (AtGroups r) Groups any bytes (λ n js. (refl, refl)) refl
-other_elsewhere (AtEntries r g) bytes h = other_four (AtEntries r g) Entries (λ n. nat_le 1 n) bytes (λ n js. (refl, refl)) refl
-other_elsewhere (AtEntry r g n b) bytes h = absurd (h r g n b refl)
-other_elsewhere AtEnd bytes h = other_from AtEnd bytes (other_end bytes)
-other_elsewhere Behind bytes h = other_from Behind bytes (λ f js e. absurd (cc e))
+  other_elsewhere : (p : Place) (bytes : List ℕ) → ((r g n : ℕ) (b : Name) → p ≡ AtEntry r g n b → ⊥) → Other (items_from v p bytes)
+  other_elsewhere AtMagic bytes h = other_from AtMagic bytes (other_magic bytes)
+  other_elsewhere AtJob bytes h = other_four AtJob Job any bytes (λ n js. (refl, refl)) refl
+  other_elsewhere AtFlags bytes h = other_four AtFlags Flags any bytes (λ n js. (refl, refl)) refl
+  other_elsewhere AtLiteralLength bytes h = other_four AtLiteralLength LiteralLength (λ n. nat_le n 4096) bytes (λ n js. (refl, refl)) refl
+  other_elsewhere (AtLiteralByte m) bytes h = other_from (AtLiteralByte m) bytes (other_byte m bytes)
+  other_elsewhere AtParts bytes h = other_four AtParts Parts (λ n. nat_le 1 n && nat_le n 1024) bytes (λ n js. (refl, refl)) refl
+  other_elsewhere (AtSplitSize r) bytes h = other_four (AtSplitSize r) SplitSize any bytes (λ n js. (refl, refl)) refl
+  other_elsewhere (AtFiles r) bytes h = other_four (AtFiles r) Files (λ n. nat_le n 1024) bytes (λ n js. (refl, refl)) refl
+  other_elsewhere (AtFileLength r m) bytes h = other_from (AtFileLength r m) bytes (λ f js e. other_number 8 (from_be_bytes w64) FileLength any bytes f js (λ n. (refl, refl)) e)
+  other_elsewhere (AtSkips r) bytes h = other_four (AtSkips r) Skips any bytes (λ n js. (refl, refl)) refl
+  other_elsewhere (AtSkip r m) bytes h = other_from (AtSkip r m) bytes (other_skip r m bytes)
+  other_elsewhere (AtGroups r) bytes h = other_four (AtGroups r) Groups any bytes (λ n js. (refl, refl)) refl
+  other_elsewhere (AtEntries r g) bytes h = other_four (AtEntries r g) Entries (λ n. nat_le 1 n) bytes (λ n js. (refl, refl)) refl
+  other_elsewhere (AtEntry r g n b) bytes h = absurd (h r g n b refl)
+  other_elsewhere AtEnd bytes h = other_from AtEnd bytes (other_end bytes)
+  other_elsewhere Behind bytes h = other_from Behind bytes (λ f js e. absurd (cc e))
 
 groups_elsewhere : (r m r2 g2 n : ℕ) (b : Name) → groups r m ≡ AtEntry r2 g2 n b → ⊥
 groups_elsewhere zero zero r2 g2 n b e = cc e
@@ -147,20 +152,20 @@ groups_elsewhere r (suc m) r2 g2 n b e = cc e
 
 abbrev pub Passed : ℕ → Place → List ℕ → Place → List ℕ → Type 0
 Passed k p bytes q rest =
-    (k ≡ entries_ahead (items_from p bytes))
-    × (items_from q rest ≡ behind_entries (items_from p bytes))
-    × (taken p bytes ≡ k * 12 + taken q rest)
+    (k ≡ entries_ahead (items_from V1 p bytes))
+    × (items_from V1 q rest ≡ behind_entries (items_from V1 p bytes))
+    × (taken V1 p bytes ≡ k * 12 + taken V1 q rest)
 
 -- the place holds none
 pub none_passed : (p : Place) (bytes : List ℕ) → ((r g n : ℕ) (b : Name) → p ≡ AtEntry r g n b → ⊥) → Passed 0 p bytes p bytes
-none_passed p bytes h = let none = other_elsewhere p bytes h in (sym none.0, sym none.1, omega arith)
+none_passed p bytes h = let none = other_elsewhere V1 p bytes h in (sym none.0, sym none.1, omega arith)
 
 -- all that the group has are held
 pub all_passed : (k r g : ℕ) (b : Name) (n : ℕ) (p : Place) (bytes : List ℕ) → p ≡ AtEntry r g n b → k ≡ n + 1 → k * 12 ≤ length bytes → Passed k p bytes (groups r g) (drop (k * 12) bytes)
 all_passed k r g b n p bytes is e h =
     let same : 12 * k ≡ k * 12 = omega arith in
     let told = subst (λ w. Apart k (AtEntry r g n b) bytes (groups r g) (drop w bytes)) same (row k 0 (suc n) r g b b bytes (omega (arith, e)) (omega (arith, h))) in
-    let none = other_elsewhere (groups r g) (drop (k * 12) bytes) (groups_elsewhere r g) in
+    let none = other_elsewhere V1 (groups r g) (drop (k * 12) bytes) (groups_elsewhere r g) in
     subst (λ w. Passed k w bytes (groups r g) (drop (k * 12) bytes)) (sym is) (omega (arith, told.0, none.0), sym (told.1 ∙ none.1), omega (arith, told.2))
 
 -- fewer are held
@@ -169,10 +174,53 @@ some_passed k m r g b n p bytes is e h short =
     let same : 12 * k ≡ k * 12 = omega arith in
     let told = subst (λ w. Apart k (AtEntry r g n b) bytes (AtEntry r g m b) (drop w bytes)) same (row k (suc m) (suc n) r g b b bytes (omega (arith, e)) (omega (arith, h))) in
     let size = length-drop (k * 12) bytes in
-    let none = items_none (AtEntry r g m b) (drop (k * 12) bytes) (lacks r g m b (drop (k * 12) bytes) (omega (arith, size, short, h))) in
+    let none = items_none V1 (AtEntry r g m b) (drop (k * 12) bytes) (lacks r g m b (drop (k * 12) bytes) (omega (arith, size, short, h))) in
     subst (λ w. Passed k w bytes (AtEntry r g m b) (drop (k * 12) bytes)) (sym is) (omega (arith, told.0, ap entries_ahead none), none ∙ sym (told.1 ∙ ap behind_entries none), omega (arith, told.2))
 
 -- and the place where the items stop is the same
 pub same_stop : (whole k : ℕ) (p q : Place) (bytes rest : List ℕ) → length bytes ≤ whole → k * 12 ≤ length bytes → rest ≡ drop (k * 12) bytes → Passed k p bytes q rest
-    → whole - length rest + taken q rest ≡ whole - length bytes + taken p bytes
+    → whole - length rest + taken V1 q rest ≡ whole - length bytes + taken V1 p bytes
 same_stop whole k p q bytes rest fits h e told = omega (arith, fits, h, ap length e, length-drop (k * 12) bytes, told.2)
+
+-- ---- item by item
+
+is_entry : (v : Version) (r g n : ℕ) (b : Name) (bytes : List ℕ) (i : Item) (rest : List ℕ) → standing v (AtEntry r g n b) bytes ≡ Some (record { item = i; rest = rest }) → (name : Name) × (i ≡ Entry name)
+is_entry V1 r g n b bytes i rest e =
+    let c = not_chosen (ltb (length bytes) 12) (Some (record { item = Entry (name_at bytes); rest = drop 12 bytes })) (record { item = i; rest = rest }) e in
+    let same : record { item = Entry (name_at bytes); rest = drop 12 bytes } ≡ record { item = i; rest = rest } = cc (c.1) in
+    (name_at bytes, ap (λ (f : Front). f.item) (sym same))
+is_entry V2 r g n b bytes i rest e = by (short_name_at b bytes) e
+  where
+    by : (o : Option NameFront) → entry_of o ≡ Some (record { item = i; rest = rest }) → (name : Name) × (i ≡ Entry name)
+    by None e = absurd (cc e)
+    by (Some m) e =
+        let same : record { item = Entry m.name; rest = m.rest } ≡ record { item = i; rest = rest } = cc e in
+        (m.name, ap (λ (f : Front). f.item) (sym same))
+
+-- elsewhere than at an entry none is ahead
+pub none_ahead : (v : Version) (p : Place) (bytes : List ℕ) → ((r g n : ℕ) (b : Name) → p ≡ AtEntry r g n b → ⊥)
+    → (entries_ahead (items_from v p bytes) ≡ 0) × (behind_entries (items_from v p bytes) ≡ items_from v p bytes)
+none_ahead v p bytes h = other_elsewhere v p bytes h
+
+-- an item that stands where an entry is awaited is one
+pub entry_ahead : (v : Version) (p q : Place) (bytes rest : List ℕ) (i : Item) (r g n : ℕ) (b : Name) → p ≡ AtEntry r g n b
+    → standing v p bytes ≡ Some (record { item = i; rest = rest }) → q ≡ onward p i
+    → (entries_ahead (items_from v p bytes) ≡ 1 + entries_ahead (items_from v q rest)) × (behind_entries (items_from v p bytes) ≡ behind_entries (items_from v q rest))
+entry_ahead v p q bytes rest i r g n b at is on =
+    let here : items_from v p bytes ≡ i ∷ left_behind i (items_from v q rest) = item_step v p q bytes rest i is on in
+    by i here (is_entry v r g n b bytes i rest (subst (λ w. standing v w bytes ≡ Some (record { item = i; rest = rest })) at is))
+  where
+    by : (i : Item) → items_from v p bytes ≡ i ∷ left_behind i (items_from v q rest) → (name : Name) × (i ≡ Entry name)
+        → (entries_ahead (items_from v p bytes) ≡ 1 + entries_ahead (items_from v q rest)) × (behind_entries (items_from v p bytes) ≡ behind_entries (items_from v q rest))
+    by i here e =
+        let all : items_from v p bytes ≡ Entry e.0 ∷ items_from v q rest = here ∙ ap (λ (w : Item). w ∷ left_behind w (items_from v q rest)) e.1 in
+        (ap entries_ahead all, ap behind_entries all)
+
+-- and has a byte
+pub entry_less : (v : Version) (p : Place) (bytes rest : List ℕ) (i : Item) (r g n : ℕ) (b : Name) → p ≡ AtEntry r g n b
+    → standing v p bytes ≡ Some (record { item = i; rest = rest }) → length rest < length bytes
+entry_less v p bytes rest i r g n b at is =
+    elim (shorter v p bytes (record { item = i; rest = rest }) is) [
+      | inl less ↦ less.0
+      | inr last ↦ (let bad : AtEntry r g n b ≡ AtEnd = sym at ∙ last.1 in absurd (cc bad))
+    ]

@@ -4,8 +4,9 @@ use Rattle.mr_certform.specs.declared.item.Item.{Item}
 use Rattle.mr_certform.specs.declared.item.Item.TheVariants.{Magic, Job, Flags, LiteralLength, LiteralByte, Parts, SplitSize, Files, FileLength, Skips, Skip, Groups, Entries, Entry, End}
 use Rattle.mr_certform.specs.declared.place.Place.{Place}
 use Rattle.mr_certform.specs.declared.place.Place.TheVariants.{AtMagic, AtJob, AtFlags, AtLiteralLength, AtLiteralByte, AtParts, AtSplitSize, AtFiles, AtFileLength, AtSkips, AtSkip, AtGroups, AtEntries, AtEntry, AtEnd, Behind}
+use Rattle.mr_certform.specs.declared.version.Version.{Version}
 use Rattle.mr_certform.specs.Places.{behind}
-use Rattle.mr_certform.specs.Value.{NameFits, SkipFits}
+use Rattle.mr_certform.specs.Value.{NameFits, SkipFits, CanFollow}
 
 -- the item may stand at this place: it is of the kind that is awaited there, and within its limits
 abbrev pub MayStand : Place → Item → Type 0
@@ -31,10 +32,20 @@ abbrev pub InOrder : Place → List Item → Type 0
 InOrder p [] = Unit {0}
 InOrder p (i ∷ is) = MayStand p i × InOrder (behind p i) is
 
+-- the version can spell the item there
+abbrev pub CanStand : Version → Place → Item → Type 0
+CanStand v (AtEntry r g m before) (Entry n) = CanFollow v before n
+CanStand v p i = Unit {0}
+
+-- each item where it may stand and is spelled, from this place on
+abbrev pub InOrderIn : Version → Place → List Item → Type 0
+InOrderIn v p [] = Unit {0}
+InOrderIn v p (i ∷ is) = MayStand p i × CanStand v p i × InOrderIn v (behind p i) is
+
 -- the same, the last being the end
-abbrev pub Follow : Place → List Item → Type 0
-Follow p [] = p ≡ Behind
-Follow p (i ∷ is) = MayStand p i × Follow (behind p i) is
+abbrev pub Follow : Version → Place → List Item → Type 0
+Follow v p [] = p ≡ Behind
+Follow v p (i ∷ is) = MayStand p i × CanStand v p i × Follow v (behind p i) is
 
 -- each of them is a byte
 abbrev pub AreBytes : List ℕ → Type 0

@@ -5,26 +5,27 @@ use Rattle.mr_certform.specs.declared.item.Item.{Item}
 use Rattle.mr_certform.specs.declared.item.Item.TheVariants.{End}
 use Rattle.mr_certform.specs.declared.place.Place.{Place}
 use Rattle.mr_certform.specs.declared.place.Place.TheVariants.{AtMagic}
-use Rattle.mr_certform.specs.Spelling.{Front, standing, bytes_at, bytes_from, items_of, is_ended, stop}
+use Rattle.mr_certform.specs.Spelling.{Front, version_of, standing, bytes_at, bytes_from, items_of, is_ended, stop}
 use Rattle.mr_certform.specs.Flat.{total, chunks}
-use Rattle.mr_certform.specs.Value.{Contents, certificate_items, Spells}
+use Rattle.mr_certform.specs.declared.version.Version.{Version}
+use Rattle.mr_certform.specs.Value.{Contents, certificate_items, SpellsIn, Spells}
 use Rattle.mr_certform.specs.Pieces.{SpellsSoFar, all_bytes}
-use Rattle.mr_certform.specs.Grammar.{MayStand, InOrder, AreBytes}
+use Rattle.mr_certform.specs.Grammar.{MayStand, CanStand, InOrderIn, AreBytes}
 
 -- the item that stands in front may stand there, and the bytes begin with its spelling
 abbrev pub StandingIsSpelled : Type 0
-StandingIsSpelled = (p : Place) (bytes : List ℕ) (f : Front) → AreBytes bytes → standing p bytes ≡ Some f
-    → MayStand p f.item × (bytes ≡ bytes_at p f.item ++ f.rest)
+StandingIsSpelled = (v : Version) (p : Place) (bytes : List ℕ) (f : Front) → AreBytes bytes → standing v p bytes ≡ Some f
+    → MayStand p f.item × CanStand v p f.item × (bytes ≡ bytes_at v p f.item ++ f.rest)
 
 -- an item that may stand stands where it is spelled; the end, where no byte is left
 abbrev pub SpelledStands : Type 0
-SpelledStands = (p : Place) (i : Item) (rest : List ℕ) → MayStand p i → (i ≡ End → rest ≡ [])
-    → standing p (bytes_at p i ++ rest) ≡ Some (record { item = i; rest = rest })
+SpelledStands = (v : Version) (p : Place) (i : Item) (rest : List ℕ) → MayStand p i → CanStand v p i → (i ≡ End → rest ≡ [])
+    → standing v p (bytes_at v p i ++ rest) ≡ Some (record { item = i; rest = rest })
 
 -- before the end no item's spelling begins another's
 abbrev pub SpellingsAreApart : Type 0
-SpellingsAreApart = (p : Place) (i j : Item) (more : List ℕ) → MayStand p i → MayStand p j → (i ≡ End → ⊥)
-    → bytes_at p j ≡ bytes_at p i ++ more → i ≡ j
+SpellingsAreApart = (v : Version) (p : Place) (i j : Item) (more : List ℕ) → MayStand p i → CanStand v p i → MayStand p j → CanStand v p j → (i ≡ End → ⊥)
+    → bytes_at v p j ≡ bytes_at v p i ++ more → i ≡ j
 
 -- the items of bytes that spell a certificate are the certificate's
 abbrev pub SpellingIsRead : Type 0
@@ -41,17 +42,21 @@ OneCertificate = (bytes : List ℕ) (c d : Contents) → Spells bytes c → Spel
 
 -- the bytes are those of the certificate's parts, one behind another
 abbrev pub SpelledByParts : Type 0
-SpelledByParts = (bytes : List ℕ) (c : Contents) → Spells bytes c → bytes ≡ all_bytes c
+SpelledByParts = (v : Version) (bytes : List ℕ) (c : Contents) → SpellsIn v bytes c → bytes ≡ all_bytes v c
+
+-- bytes that spell a certificate tell by their magic in which version
+abbrev pub VersionIsTold : Type 0
+VersionIsTold = (v : Version) (bytes : List ℕ) (c : Contents) → SpellsIn v bytes c → version_of bytes ≡ v
 
 -- the items of bytes stand in their order, and up to where they stop the bytes are theirs
 abbrev pub ItemsStand : Type 0
 ItemsStand = (bytes : List ℕ) → AreBytes bytes
-    → InOrder AtMagic (items_of bytes) × (take (stop bytes) bytes ≡ bytes_from AtMagic (items_of bytes))
+    → InOrderIn (version_of bytes) AtMagic (items_of bytes) × (take (stop bytes) bytes ≡ bytes_from (version_of bytes) AtMagic (items_of bytes))
 
 -- no list of items that stand is longer
 abbrev pub ItemsAreLongest : Type 0
-ItemsAreLongest = (bytes : List ℕ) (is : List Item) (more : List ℕ) → InOrder AtMagic is → (is_ended is ≡ true → more ≡ [])
-    → bytes ≡ bytes_from AtMagic is ++ more → (js : List Item) × (items_of bytes ≡ is ++ js)
+ItemsAreLongest = (v : Version) (bytes : List ℕ) (is : List Item) (more : List ℕ) → InOrderIn v AtMagic is → (is_ended is ≡ true → more ≡ [])
+    → bytes ≡ bytes_from v AtMagic is ++ more → (js : List Item) × (items_of bytes ≡ is ++ js)
 
 -- cut by counts that add up to its length, a list gives pieces of these lengths, which one behind another are the list
 abbrev pub CutByCounts : Type 0 → Type 0

@@ -1,4 +1,5 @@
 pub mod Places
+pub mod Short
 pub mod Spelling
 pub mod Numbers
 pub mod Value

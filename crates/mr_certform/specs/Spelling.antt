@@ -8,7 +8,10 @@ use Rattle.mr_certform.specs.declared.item.Item.{Item}
 use Rattle.mr_certform.specs.declared.item.Item.TheVariants.{Magic, Job, Flags, LiteralLength, LiteralByte, Parts, SplitSize, Files, FileLength, Skips, Skip, Groups, Entries, Entry, End}
 use Rattle.mr_certform.specs.declared.place.Place.{Place}
 use Rattle.mr_certform.specs.declared.place.Place.TheVariants.{AtMagic, AtJob, AtFlags, AtLiteralLength, AtLiteralByte, AtParts, AtSplitSize, AtFiles, AtFileLength, AtSkips, AtSkip, AtGroups, AtEntries, AtEntry, AtEnd, Behind}
+use Rattle.mr_certform.specs.declared.version.Version.{Version}
+use Rattle.mr_certform.specs.declared.version.Version.TheVariants.{V1, V2}
 use Rattle.mr_certform.specs.Places.{behind, first_name}
+use Rattle.mr_certform.specs.Short.{NameFront, short_name_bytes, short_name_at}
 
 -- ---- the bytes of an item at its place
 
@@ -20,13 +23,18 @@ u32 n = to_be_bytes w32 n
 abbrev pub u64 : ℕ → List ℕ
 u64 n = to_be_bytes w64 n
 
--- `MRCERT1` and a line end
-abbrev pub magic : List ℕ
-magic = 0x4d ∷ 0x52 ∷ 0x43 ∷ 0x45 ∷ 0x52 ∷ 0x54 ∷ 0x31 ∷ 0x0a ∷ []
+-- `MRCERT1` or `MRCERT2`, and a line end
+abbrev pub digit : Version → ℕ
+digit V1 = 0x31
+digit V2 = 0x32
 
--- a name, given the name before it in its group
-abbrev pub name_bytes : Name → Name → List ℕ
-name_bytes before n = u32 n.split ++ u32 n.rec ++ u32 n.place
+abbrev pub magic : Version → List ℕ
+magic v = 0x4d ∷ 0x52 ∷ 0x43 ∷ 0x45 ∷ 0x52 ∷ 0x54 ∷ digit v ∷ 0x0a ∷ []
+
+-- a name, given the name before it in its group: twelve bytes, or as few as tell it apart from that name
+abbrev pub name_bytes : Version → Name → Name → List ℕ
+name_bytes V1 before n = u32 n.split ++ u32 n.rec ++ u32 n.place
+name_bytes V2 before n = short_name_bytes before n
 
 abbrev pub skip_bytes : RecordName → List ℕ
 skip_bytes s = u32 s.split ++ u32 s.rec
@@ -36,22 +44,22 @@ abbrev pub before_of : Place → Name
 before_of (AtEntry r g n before) = before
 before_of _ = first_name
 
-abbrev pub bytes_at : Place → Item → List ℕ
-bytes_at p Magic = magic
-bytes_at p (Job n) = u32 n
-bytes_at p (Flags n) = u32 n
-bytes_at p (LiteralLength n) = u32 n
-bytes_at p (LiteralByte b) = b ∷ []
-bytes_at p (Parts n) = u32 n
-bytes_at p (SplitSize n) = u32 n
-bytes_at p (Files n) = u32 n
-bytes_at p (FileLength n) = u64 n
-bytes_at p (Skips n) = u32 n
-bytes_at p (Skip s) = skip_bytes s
-bytes_at p (Groups n) = u32 n
-bytes_at p (Entries n) = u32 n
-bytes_at p (Entry n) = name_bytes (before_of p) n
-bytes_at p End = []
+abbrev pub bytes_at : Version → Place → Item → List ℕ
+bytes_at v p Magic = magic v
+bytes_at v p (Job n) = u32 n
+bytes_at v p (Flags n) = u32 n
+bytes_at v p (LiteralLength n) = u32 n
+bytes_at v p (LiteralByte b) = b ∷ []
+bytes_at v p (Parts n) = u32 n
+bytes_at v p (SplitSize n) = u32 n
+bytes_at v p (Files n) = u32 n
+bytes_at v p (FileLength n) = u64 n
+bytes_at v p (Skips n) = u32 n
+bytes_at v p (Skip s) = skip_bytes s
+bytes_at v p (Groups n) = u32 n
+bytes_at v p (Entries n) = u32 n
+bytes_at v p (Entry n) = name_bytes v (before_of p) n
+bytes_at v p End = []
 
 -- ---- the item that stands at the front of bytes
 
@@ -86,55 +94,64 @@ name_at bytes = record { split = at bytes 0; rec = at bytes 4; place = at bytes 
 abbrev pub of_bytes : ℕ → Item → List ℕ → Option Front
 of_bytes size item bytes = if nat_lt (length bytes) size then None else Some (record { item = item; rest = drop size bytes })
 
--- the entry behind this name
-abbrev pub entry_at : Name → List ℕ → Option Front
-entry_at before bytes = of_bytes 12 (Entry (name_at bytes)) bytes
+abbrev pub entry_of : Option NameFront → Option Front
+entry_of None = None
+entry_of (Some n) = Some (record { item = Entry n.name; rest = n.rest })
 
-abbrev pub standing : Place → List ℕ → Option Front
-standing AtMagic bytes = if pointwise nat_eq (take 8 bytes) magic then Some (record { item = Magic; rest = drop 8 bytes }) else None
-standing AtJob bytes = number32 any Job bytes
-standing AtFlags bytes = number32 any Flags bytes
-standing AtLiteralLength bytes = number32 (λ n. nat_le n 4096) LiteralLength bytes
-standing (AtLiteralByte n) [] = None
-standing (AtLiteralByte n) (b ∷ bytes) = Some (record { item = LiteralByte b; rest = bytes })
-standing AtParts bytes = number32 (λ n. nat_le 1 n && nat_le n 1024) Parts bytes
-standing (AtSplitSize r) bytes = number32 any SplitSize bytes
-standing (AtFiles r) bytes = number32 (λ n. nat_le n 1024) Files bytes
-standing (AtFileLength r n) bytes = number 8 (from_be_bytes w64) any FileLength bytes
-standing (AtSkips r) bytes = number32 any Skips bytes
-standing (AtSkip r n) bytes = of_bytes 8 (Skip (skip_at bytes)) bytes
-standing (AtGroups r) bytes = number32 any Groups bytes
-standing (AtEntries r g) bytes = number32 (λ n. nat_le 1 n) Entries bytes
-standing (AtEntry r g n before) bytes = entry_at before bytes
-standing AtEnd [] = Some (record { item = End; rest = [] })
-standing AtEnd (b ∷ bytes) = None
-standing Behind bytes = None
+-- the entry behind this name
+abbrev pub entry_at : Version → Name → List ℕ → Option Front
+entry_at V1 before bytes = of_bytes 12 (Entry (name_at bytes)) bytes
+entry_at V2 before bytes = entry_of (short_name_at before bytes)
+
+abbrev pub standing : Version → Place → List ℕ → Option Front
+standing v AtMagic bytes = if pointwise nat_eq (take 8 bytes) (magic v) then Some (record { item = Magic; rest = drop 8 bytes }) else None
+standing v AtJob bytes = number32 any Job bytes
+standing v AtFlags bytes = number32 any Flags bytes
+standing v AtLiteralLength bytes = number32 (λ n. nat_le n 4096) LiteralLength bytes
+standing v (AtLiteralByte n) [] = None
+standing v (AtLiteralByte n) (b ∷ bytes) = Some (record { item = LiteralByte b; rest = bytes })
+standing v AtParts bytes = number32 (λ n. nat_le 1 n && nat_le n 1024) Parts bytes
+standing v (AtSplitSize r) bytes = number32 any SplitSize bytes
+standing v (AtFiles r) bytes = number32 (λ n. nat_le n 1024) Files bytes
+standing v (AtFileLength r n) bytes = number 8 (from_be_bytes w64) any FileLength bytes
+standing v (AtSkips r) bytes = number32 any Skips bytes
+standing v (AtSkip r n) bytes = of_bytes 8 (Skip (skip_at bytes)) bytes
+standing v (AtGroups r) bytes = number32 any Groups bytes
+standing v (AtEntries r g) bytes = number32 (λ n. nat_le 1 n) Entries bytes
+standing v (AtEntry r g n before) bytes = entry_at v before bytes
+standing v AtEnd [] = Some (record { item = End; rest = [] })
+standing v AtEnd (b ∷ bytes) = None
+standing v Behind bytes = None
 
 -- ---- the items of bytes
 
 -- the items that stand from this place on, at most so many
-abbrev pub walk : ℕ → Place → List ℕ → List Item
-walk zero p bytes = []
-walk (suc k) p bytes = elim (standing p bytes) [ None ↦ [] | Some f ↦ f.item ∷ walk k (behind p f.item) f.rest ]
+abbrev pub walk : Version → ℕ → Place → List ℕ → List Item
+walk v zero p bytes = []
+walk v (suc k) p bytes = elim (standing v p bytes) [ None ↦ [] | Some f ↦ f.item ∷ walk v k (behind p f.item) f.rest ]
 
 -- all items that stand from this place on; each but the last has a byte
-unfoldable pub items_from : Place → List ℕ → List Item
-items_from p bytes = walk (length bytes + 1) p bytes
+unfoldable pub items_from : Version → Place → List ℕ → List Item
+items_from v p bytes = walk v (length bytes + 1) p bytes
+
+-- the version of bytes, by their magic; which it is where they have none doesn't matter, since no item stands then
+abbrev pub version_of : List ℕ → Version
+version_of bytes = if pointwise nat_eq (take 8 bytes) (magic V2) then V2 else V1
 
 -- all items that stand, one behind another, from the front
 unfoldable pub items_of : List ℕ → List Item
-items_of bytes = items_from AtMagic bytes
+items_of bytes = items_from (version_of bytes) AtMagic bytes
 
 -- ---- a list of items as such
 
 -- the bytes of items in a row, the first of them at this place
-abbrev pub bytes_from : Place → List Item → List ℕ
-bytes_from p [] = []
-bytes_from p (i ∷ is) = bytes_at p i ++ bytes_from (behind p i) is
+abbrev pub bytes_from : Version → Place → List Item → List ℕ
+bytes_from v p [] = []
+bytes_from v p (i ∷ is) = bytes_at v p i ++ bytes_from v (behind p i) is
 
 -- the place in bytes behind the last item that stands: the length of all items that do
 unfoldable pub stop : List ℕ → ℕ
-stop bytes = length (bytes_from AtMagic (items_of bytes))
+stop bytes = length (bytes_from (version_of bytes) AtMagic (items_of bytes))
 
 -- the last is the end
 abbrev pub is_ended : List Item → Bool

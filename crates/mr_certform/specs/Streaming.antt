@@ -5,14 +5,17 @@ use Rattle.mr_certform.specs.Grammar.{AreBytes}
 use Rattle.mr_certform.specs.declared.item.Item.{Item}
 use Rattle.mr_certform.specs.declared.item.Item.TheVariants.{End}
 use Rattle.mr_certform.specs.declared.place.Place.{Place}
+use Rattle.mr_certform.specs.declared.place.Place.TheVariants.{AtMagic}
+use Rattle.mr_certform.specs.declared.version.Version.{Version}
 use Rattle.mr_certform.specs.declared.stream.StreamFault.{StreamFault}
 use Rattle.mr_certform.specs.declared.stream.StreamWalker.{StreamWalker}
 use Rattle.mr_certform.specs.declared.stream.StreamFault.TheVariants.{Malformed, Device}
-use Rattle.mr_certform.specs.Spelling.{items_from, bytes_from}
+use Rattle.mr_certform.specs.Spelling.{items_from, bytes_from, version_of}
 
--- the place of the next item, and how many bytes the items so far have; the bytes that were read and not told yet, and
+-- the version and the place of the next item, and how many bytes the items so far have; the bytes that were read and not told yet, and
 -- those that the reader is still to give, where they are known
 pub record Stream : Type 0 where
+  pub version : Version
   pub place : Place
   pub passed : ℕ
   pub held : List ℕ
@@ -24,7 +27,7 @@ coming_from exhausted known = if exhausted then Some [] else known
 
 -- what a walker has before it, given what its reader is still to give
 abbrev pub stream : {R : Type 0} → (R → Option (List ℕ)) → StreamWalker R → Stream
-stream remaining w = record { place = w.place; passed = w.passed; held = w.held; coming = coming_from w.exhausted (remaining w.reader) }
+stream remaining w = record { version = w.version; place = w.place; passed = w.passed; held = w.held; coming = coming_from w.exhausted (remaining w.reader) }
 
 -- where the bytes are known, they are these
 abbrev pub Agrees : Option (List ℕ) → List ℕ → Type 0
@@ -39,9 +42,15 @@ MayCome (Some xs) bytes = bytes ≡ xs
 abbrev pub IsToCome : Stream → List ℕ → Type 0
 IsToCome s bytes = (more : List ℕ) × (bytes ≡ s.held ++ more) × MayCome s.coming more
 
+-- the version of the items from this place on; at the front the bytes tell it
+abbrev pub version_at : Version → Place → List ℕ → Version
+version_at v AtMagic bytes = version_of bytes
+version_at v p bytes = v
+
 -- these items may be still to be told, and the place behind the last of them
 abbrev pub Gives : Stream → List Item → ℕ → Type 0
-Gives s is at = (bytes : List ℕ) × IsToCome s bytes × (is ≡ items_from s.place bytes) × (at ≡ s.passed + length (bytes_from s.place is))
+Gives s is at = (bytes : List ℕ) × IsToCome s bytes × (is ≡ items_from (version_at s.version s.place bytes) s.place bytes)
+    × (at ≡ s.passed + length (bytes_from (version_at s.version s.place bytes) s.place is))
 
 -- an answer takes the first of the items: behind `End` there is `End` alone, and where no item stands there is none
 abbrev pub Told : Stream → Stream → Result Item StreamFault → Type 0

@@ -6,6 +6,10 @@ use Rattle.mr_bytes.specs.declared.RecordName.{RecordName}
 use Rattle.mr_certform.specs.declared.item.Item.{Item}
 use Rattle.mr_certform.specs.declared.item.Item.TheVariants.{Magic, Job, Flags, LiteralLength, LiteralByte, Parts, SplitSize, Files, FileLength, Skips, Skip, Groups, Entries, Entry, End}
 use Rattle.mr_certform.specs.declared.place.Place.TheVariants.{AtMagic}
+use Rattle.mr_certform.specs.declared.version.Version.{Version}
+use Rattle.mr_certform.specs.declared.version.Version.TheVariants.{V1, V2}
+use Rattle.mr_certform.specs.Places.{first_name}
+use Rattle.mr_certform.specs.Short.{IsAtLeast}
 use Rattle.mr_certform.specs.Spelling.{bytes_from}
 
 -- a certificate; groups are those of each partition, each as the names of its entries
@@ -43,9 +47,9 @@ group_part_items c = flat_map part_items c.groups
 unfoldable pub certificate_items : Contents → List Item
 certificate_items c = Magic ∷ (job_items c ++ (input_items c ++ (skip_items c ++ (group_part_items c ++ End ∷ []))))
 
--- its spelling
-unfoldable pub spelling : Contents → List ℕ
-spelling c = bytes_from AtMagic (certificate_items c)
+-- its spelling in a version
+unfoldable pub spelling : Version → Contents → List ℕ
+spelling v c = bytes_from v AtMagic (certificate_items c)
 
 -- ---- what has a spelling
 
@@ -83,10 +87,35 @@ pub record Fits (c : Contents) : Type 0 where
   pub one_each : length c.groups ≡ c.parts
   pub groups : AllByRecursion PartFits c.groups
 
--- the bytes spell the value, and nothing follows
-pub record Spells (bytes : List ℕ) (c : Contents) : Type 0 where
+-- the version can spell the name behind the one before it: version 2 none that is less
+abbrev pub CanFollow : Version → Name → Name → Type 0
+CanFollow V1 before n = Unit {0}
+CanFollow V2 before n = IsAtLeast before n
+
+-- so each of these names, of which the first comes behind this one
+abbrev pub CanRow : Version → Name → List Name → Type 0
+CanRow v before [] = Unit {0}
+CanRow v before (n ∷ ns) = CanFollow v before n × CanRow v n ns
+
+-- the version can spell the groups of a partition
+abbrev pub CanSpell : Version → List (List Name) → Type 0
+CanSpell v gs = AllByRecursion (CanRow v first_name) gs
+
+-- the bytes spell the value in this version, and nothing follows
+pub record SpellsIn (v : Version) (bytes : List ℕ) (c : Contents) : Type 0 where
   pub fits : Fits c
-  pub spelled : bytes ≡ spelling c
+  pub can : AllByRecursion (CanSpell v) c.groups
+  pub spelled : bytes ≡ spelling v c
+
+-- a certificate and the version that it is to be spelled in
+pub record Versioned : Type 0 where
+  pub version : Version
+  pub certificate : Contents
+
+-- the bytes spell the value, in one of the versions
+pub record Spells (bytes : List ℕ) (c : Contents) : Type 0 where
+  pub version : Version
+  pub is : SpellsIn version bytes c
 
 -- the names of all entries, in their order
 abbrev pub names_of : Contents → List Name

@@ -3,14 +3,19 @@ ghost use Rattle.std.specs.Prelude.{◌≡◌, ◌≤◌, ◌-◌, ◌<◌, true
 ghost use Rattle.std.specs.Int.{w32, w64, from_be_bytes};
 ghost use Rattle.mr_certform.specs.Numbers.{has_number, numbered};
 ghost use Rattle.mr_certform.specs.Places.{onward};
-ghost use Rattle.mr_certform.specs.Spelling.{standing, entry_at, name_at, of_bytes, skip_at};
+ghost use Rattle.mr_certform.specs.Spelling.{standing, entry_at, name_at, of_bytes, skip_at, entry_of as entry_for};
 
 use crate::item::Item;
 use crate::number::{number_of_eight, number_of_four};
 use crate::place::{Place, entries_to_come};
+use crate::short::short_name_of;
+use crate::version::Version;
 use mr_bytes::{Name, RecordName};
 
-const MAGIC: [u8; 8] = *b"MRCERT1\n";
+/// What a certificate begins with, in each version.
+const MAGIC_1: [u8; 8] = *b"MRCERT1\n";
+
+const MAGIC_2: [u8; 8] = *b"MRCERT2\n";
 
 /// The number of the first four bytes, and the bytes behind it.
 fn four(bytes: &[u8]) -> Option<(u32, &[u8])>
@@ -36,15 +41,19 @@ fn eight(bytes: &[u8]) -> Option<(u64, &[u8])>
     }
 }
 
-/// The magic, and the bytes behind it.
-fn magic_of(bytes: &[u8]) -> Option<(Item, &[u8])>
-    ensures read { MatchOption result (standing Place.AtMagic bytes.now ≡ None) (λ r. standing Place.AtMagic bytes.now ≡ Some (record { item = r.0; rest = r.1.now })) }
+/// The magic of the version, and the bytes behind it.
+fn magic_of(version: Version, bytes: &[u8]) -> Option<(Item, &[u8])>
+    ensures read { MatchOption result (standing version Place.AtMagic bytes.now ≡ None) (λ r. standing version Place.AtMagic bytes.now ≡ Some (record { item = r.0; rest = r.1.now })) }
     ensures shorter { IfSome result (λ r. length r.1.now ≤ length bytes.now) }
 {
     if bytes.len() < 8 {
         return None;
     }
-    if bytes[..8] == MAGIC[..] {
+    let magic = match version {
+        Version::V1 => MAGIC_1,
+        Version::V2 => MAGIC_2,
+    };
+    if bytes[..8] == magic[..] {
         Some((Item::Magic, &bytes[8..]))
     } else {
         None
@@ -78,12 +87,24 @@ fn twelve(bytes: &[u8]) -> Option<(Name, &[u8])>
     Some((Name { split, rec, place }, &bytes[12..]))
 }
 
-/// One entry behind the name before it, and the bytes behind it.
-fn entry_of(before: Name, bytes: &[u8]) -> Option<(Item, &[u8])>
-    ensures read { MatchOption result (entry_at before bytes.now ≡ None) (λ r. entry_at before bytes.now ≡ Some (record { item = r.0; rest = r.1.now })) }
+/// The name of an entry behind the name before it, and the bytes behind it.
+#[inline(always)]
+fn name_of(version: Version, before: Name, bytes: &[u8]) -> Option<(Name, &[u8])>
+    ensures read { MatchOption result (entry_at version before bytes.now ≡ None) (λ r. entry_at version before bytes.now ≡ Some (record { item = Item.Entry r.0; rest = r.1.now })) }
     ensures shorter { IfSome result (λ r. length r.1.now ≤ length bytes.now) }
 {
-    let (name, rest) = twelve(bytes)?;
+    match version {
+        Version::V1 => twelve(bytes),
+        Version::V2 => short_name_of(before, bytes),
+    }
+}
+
+/// One entry behind the name before it, and the bytes behind it.
+fn entry_of(version: Version, before: Name, bytes: &[u8]) -> Option<(Item, &[u8])>
+    ensures read { MatchOption result (entry_at version before bytes.now ≡ None) (λ r. entry_at version before bytes.now ≡ Some (record { item = r.0; rest = r.1.now })) }
+    ensures shorter { IfSome result (λ r. length r.1.now ≤ length bytes.now) }
+{
+    let (name, rest) = name_of(version, before, bytes)?;
     Some((Item::Entry(name), rest))
 }
 
@@ -106,9 +127,9 @@ fn number_item(place: Place, n: u32) -> Option<Item>
 }
 
 /// The item of a number of four bytes, at a place where one stands, and the bytes behind it.
-fn number_of(place: Place, bytes: &[u8]) -> Option<(Item, &[u8])>
+fn number_of(version: Version, place: Place, bytes: &[u8]) -> Option<(Item, &[u8])>
     requires { has_number place ≡ true }
-    ensures read { MatchOption result (standing place bytes.now ≡ None) (λ r. standing place bytes.now ≡ Some (record { item = r.0; rest = r.1.now })) }
+    ensures read { MatchOption result (standing version place bytes.now ≡ None) (λ r. standing version place bytes.now ≡ Some (record { item = r.0; rest = r.1.now })) }
     ensures shorter { IfSome result (λ r. length r.1.now ≤ length bytes.now) }
 {
     let (n, rest) = four(bytes)?;
@@ -117,12 +138,12 @@ fn number_of(place: Place, bytes: &[u8]) -> Option<(Item, &[u8])>
 }
 
 /// The item that stands at the front of the bytes, and the bytes behind it.
-pub fn front_of(place: Place, bytes: &[u8]) -> Option<(Item, &[u8])>
-    ensures read { MatchOption result (standing place bytes.now ≡ None) (λ r. standing place bytes.now ≡ Some (record { item = r.0; rest = r.1.now })) }
+pub fn front_of(version: Version, place: Place, bytes: &[u8]) -> Option<(Item, &[u8])>
+    ensures read { MatchOption result (standing version place bytes.now ≡ None) (λ r. standing version place bytes.now ≡ Some (record { item = r.0; rest = r.1.now })) }
     ensures shorter { IfSome result (λ r. length r.1.now ≤ length bytes.now) }
 {
     match place {
-        Place::AtMagic => magic_of(bytes),
+        Place::AtMagic => magic_of(version, bytes),
         Place::AtLiteralByte { .. } => {
             let (byte, rest) = bytes.split_first()?;
             Some((Item::LiteralByte(*byte), rest))
@@ -132,18 +153,18 @@ pub fn front_of(place: Place, bytes: &[u8]) -> Option<(Item, &[u8])>
             Some((Item::FileLength(n), rest))
         }
         Place::AtSkip { .. } => skip_of(bytes),
-        Place::AtEntry { before, .. } => entry_of(before, bytes),
+        Place::AtEntry { before, .. } => entry_of(version, before, bytes),
         Place::AtEnd => bytes.is_empty().then_some((Item::End, bytes)),
         Place::Behind => None,
-        _ => number_of(place, bytes),
+        _ => number_of(version, place, bytes),
     }
 }
 
 /// The item that stands at the front of the bytes, the bytes behind it, and the place there; behind `End` the place is the
 /// same. Nearly all items are entries, so these come first and by themselves: a walk costs a few steps for each.
 #[inline(always)]
-pub(crate) fn step_of(place: Place, bytes: &[u8]) -> Option<(Item, &[u8], Place)>
-    ensures read { MatchOption result (standing place bytes.now ≡ None) (λ r. standing place bytes.now ≡ Some (record { item = r.0; rest = r.1.now })) }
+pub(crate) fn step_of(version: Version, place: Place, bytes: &[u8]) -> Option<(Item, &[u8], Place)>
+    ensures read { MatchOption result (standing version place bytes.now ≡ None) (λ r. standing version place bytes.now ≡ Some (record { item = r.0; rest = r.1.now })) }
     ensures shorter { IfSome result (λ r. length r.1.now ≤ length bytes.now) }
     ensures place { IfSome result (λ r. r.2 ≡ onward place r.0) }
 {
@@ -151,14 +172,14 @@ pub(crate) fn step_of(place: Place, bytes: &[u8]) -> Option<(Item, &[u8], Place)
         parts,
         groups,
         more,
-        ..
+        before,
     } = place
     {
-        let (name, rest) = twelve(bytes)?;
+        let (name, rest) = name_of(version, before, bytes)?;
         let behind = entries_to_come(parts, groups, more, name);
         return Some((Item::Entry(name), rest, behind));
     }
-    let (item, rest) = front_of(place, bytes)?;
+    let (item, rest) = front_of(version, place, bytes)?;
     let behind = match item {
         Item::End => place,
         _ => place.behind(item),

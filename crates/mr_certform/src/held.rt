@@ -90,7 +90,7 @@ impl Held {
     /// Reads some more behind them and answers how many: none only at the reader's end.
     #[inline(never)]
     pub fn read_more<R: CountedRead>(&mut self, reader: &mut R) -> Result<usize, Device>
-        requires few { length self.old < 12 }
+        requires few { length self.old < 15 }
         ensures more { MatchResult result
             (λ n. (got : List ℕ) × (length got ≡ n) × (self.new ≡ self.old ++ got) × AreBytes got
             × Consumes (R.remaining reader.old) (R.remaining reader.new) got × (n ≡ 0 → IsAtEnd (R.remaining reader.new)))

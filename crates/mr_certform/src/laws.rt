@@ -2,7 +2,7 @@
 ghost use Rattle.std.specs.Prelude.{List};
 ghost use Rattle.mr_bytes.specs.declared.Name.{Name};
 ghost use Rattle.mr_certform.specs.Laws.{StandingIsSpelled, SpelledStands, SpellingsAreApart, SpellingIsRead, EndedIsSpelled, OneCertificate};
-ghost use Rattle.mr_certform.specs.Laws.{SpelledByParts, ItemsStand, ItemsAreLongest, CutByCounts, SpelledSoFarIsSpelled};
+ghost use Rattle.mr_certform.specs.Laws.{SpelledByParts, VersionIsTold, ItemsStand, ItemsAreLongest, CutByCounts, SpelledSoFarIsSpelled};
 
 /// An item stands at the front of bytes exactly where they begin with its spelling, and the end where no byte is
 /// left. Before the end no item's spelling begins another's.
@@ -13,13 +13,14 @@ pub fn item_law()
 {}
 
 /// The items of bytes that spell a certificate are the certificate's; where the items of bytes end, the bytes spell a
-/// certificate; no two certificates have one spelling; and the bytes are those of the certificate's parts, one behind
-/// another: its job, its input, its left-out records, and its groups.
+/// certificate; no two certificates have one spelling; the bytes are those of the certificate's parts, one behind
+/// another: its job, its input, its left-out records, and its groups; and their magic tells the version.
 pub fn certificate_law()
     ensures read { SpellingIsRead }
     ensures ended { EndedIsSpelled }
     ensures one { OneCertificate }
     ensures parts { SpelledByParts }
+    ensures version { VersionIsTold }
 {}
 
 /// The items of bytes are the longest list of items that stand in their order, one behind another, from the front; up to
@@ -36,7 +37,7 @@ pub fn chunks_law()
     ensures groups { CutByCounts (List Name) }
 {}
 
-/// Bytes that spell a certificate as far as its partitions go spell it, once it has all its partitions.
+/// Bytes that spell a certificate in version 1 as far as its partitions go spell it, once it has all its partitions.
 pub fn pieces_law()
     ensures { SpelledSoFarIsSpelled }
 {}

@@ -1,4 +1,4 @@
-//! A certificate spelled piece by piece: what stands in front of its partitions, and then one partition behind another.
+//! A certificate spelled piece by piece, in version 1: what stands in front of its partitions, and then one partition behind another.
 //! No list of all names is made for it.
 ghost use Rattle.std.specs.Prelude.{◌≡◌, ◌≤◌, ◌<◌, ◌^◌, ◌++◌, ◌∷◌, [], OnOk, IfOk, length};
 ghost use Rattle.std.specs.List.{AllByRecursion};
@@ -8,6 +8,7 @@ ghost use Rattle.mr_certform.specs.Value.{Contents};
 
 use crate::building::Header;
 use crate::certificate::Flat;
+use crate::version::Version;
 use crate::writing::{
     counts_fit, numbers_fit, put_groups, put_input, put_job, put_left_out, put_number, size_of,
 };
@@ -59,7 +60,7 @@ pub fn write_front(
     };
     numbers_fit(&flat);
     let mut out = Vec::with_capacity(alloc, size_of(&flat).saturating_add(room))?;
-    put_job(&mut out, &flat)?;
+    put_job(&mut out, Version::V1, &flat)?;
     put_input(&mut out, &flat.lengths)?;
     put_left_out(&mut out, &flat.skips)?;
     Ok(out)
@@ -82,6 +83,6 @@ pub fn write_partition(out: &mut Vec<u8>, counts: &[u32], names: &[Name]) -> Res
 {
     counts_fit(counts);
     put_number(out, counts.len() as u32)?;
-    put_groups(out, counts, names)?;
+    put_groups(out, Version::V1, counts, names)?;
     Ok(())
 }

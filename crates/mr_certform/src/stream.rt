@@ -5,12 +5,13 @@ ghost use Rattle.mr_certform.specs.declared.item.Item.{Item as Read};
 ghost use Rattle.mr_certform.specs.declared.place.Place.TheVariants.{AtMagic};
 ghost use Rattle.mr_certform.specs.Places.{onward};
 ghost use Rattle.mr_certform.specs.Spelling.{items_of, stop, bytes_at};
-ghost use Rattle.mr_certform.specs.Streaming.{stream, MayCome, IsToCome, Gives, Told, Counted};
+ghost use Rattle.mr_certform.specs.Streaming.{stream, MayCome, IsToCome, version_at, Gives, Told, Counted};
 
 use crate::front::step_of;
 use crate::held::Held;
 use crate::item::Item;
 use crate::place::Place;
+use crate::version::{Version, version_of};
 use mr_store::{CountedRead, Device};
 use std::alloc::{AllocError, Global};
 use thiserror::Error;
@@ -37,7 +38,7 @@ impl From<Device> for StreamFault {
 }
 
 /// The most bytes that an item has.
-const LONGEST: usize = 12;
+const LONGEST: usize = 15;
 
 /// Walks the items of the bytes that a reader gives, from the front. It reads at most 65,536 bytes ahead, into a buffer
 /// that it takes at its start.
@@ -45,6 +46,8 @@ const LONGEST: usize = 12;
 pub struct StreamWalker<R: CountedRead + Drop> {
     reader: R,
     held: Held,
+    /// That of the bytes, once their magic was told.
+    version: Version,
     place: Place,
     passed: u64,
     exhausted: bool,
@@ -64,6 +67,7 @@ impl<R: CountedRead + Drop> StreamWalker<R> {
         Ok(StreamWalker {
             reader,
             held,
+            version: Version::V1,
             place: Place::AtMagic,
             passed: 0,
             exhausted: false,
@@ -88,9 +92,9 @@ impl<R: CountedRead + Drop> StreamWalker<R> {
     /// Reads until an item's bytes are held, or the reader is at its end.
     #[inline]
     fn fill(&mut self) -> Result<(), Device>
-        ensures filled { OnOk result ((12 ≤ length self.new.held) ⊎ (self.new.exhausted ≡ true)) }
+        ensures filled { OnOk result ((15 ≤ length self.new.held) ⊎ (self.new.exhausted ≡ true)) }
         ensures bytes { (bytes : List ℕ) → IsToCome (stream R.remaining self.new) bytes → IsToCome (stream R.remaining self.old) bytes }
-        ensures same { (self.new.place ≡ self.old.place) × (self.new.passed ≡ self.old.passed) × (self.new.fault ≡ self.old.fault) }
+        ensures same { (self.new.version ≡ self.old.version) × (self.new.place ≡ self.old.place) × (self.new.passed ≡ self.old.passed) × (self.new.fault ≡ self.old.fault) }
         ensures count { Counts (R.failed self.old.reader) (R.failed self.new.reader) result }
         ensures fails { FailsOnly (R.can_fail self.old.reader) (R.lacked self.new.reader) result }
         ensures later { R.can_fail self.new.reader → R.can_fail self.old.reader }
@@ -108,25 +112,38 @@ impl<R: CountedRead + Drop> StreamWalker<R> {
         Ok(())
     }
 
+    /// The version of the item that stands here: at the front the held bytes tell it.
+    #[inline]
+    fn version_here(&self) -> Version
+        ensures { result ≡ version_at self.now.version self.now.place self.now.held }
+    {
+        match self.place {
+            Place::AtMagic => version_of(self.held.bytes()),
+            _ => self.version,
+        }
+    }
+
     /// The item that the held bytes begin with.
     #[inline]
     fn step(&mut self) -> Result<Item, StreamFault>
-        requires filled { (12 ≤ length self.old.held) ⊎ (self.old.exhausted ≡ true) }
+        requires filled { (15 ≤ length self.old.held) ⊎ (self.old.exhausted ≡ true) }
         requires few { self.old.passed ≤ 2 ^ 63 }
         ensures told { Told (stream R.remaining self.old) (stream R.remaining self.new) result }
         ensures device { result ≡ Err StreamFault.Device → ⊥ }
         ensures place { MatchResult result
-            (λ i. (self.new.place ≡ onward self.old.place i) × (self.new.passed ≡ self.old.passed + length (bytes_at self.old.place i)))
+            (λ i. (self.new.place ≡ onward self.old.place i) × (self.new.passed ≡ self.old.passed + length (bytes_at self.new.version self.old.place i)))
             (λ _. (self.new.place ≡ self.old.place) × (self.new.passed ≡ self.old.passed)) }
         ensures same { (self.new.reader ≡ self.old.reader) × (self.new.fault ≡ self.old.fault) }
     {
+        let version = self.version_here();
         let held = self.held.bytes();
-        match step_of(self.place, held) {
+        match step_of(version, self.place, held) {
             None => Err(StreamFault::Malformed { at: self.passed }),
             Some((item, rest, place)) => {
                 let count = held.len() - rest.len();
                 self.held.pass(count);
                 self.passed += count as u64;
+                self.version = version;
                 self.place = place;
                 Ok(item)
             }
@@ -139,7 +156,7 @@ impl<R: CountedRead + Drop> StreamWalker<R> {
         requires few { self.old.passed ≤ 2 ^ 63 }
         ensures told { Told (stream R.remaining self.old) (stream R.remaining self.new) result }
         ensures place { MatchResult result
-            (λ i. (self.new.place ≡ onward self.old.place i) × (self.new.passed ≡ self.old.passed + length (bytes_at self.old.place i)))
+            (λ i. (self.new.place ≡ onward self.old.place i) × (self.new.passed ≡ self.old.passed + length (bytes_at self.new.version self.old.place i)))
             (λ _. (self.new.place ≡ self.old.place) × (self.new.passed ≡ self.old.passed)) }
         ensures fault { self.new.fault ≡ self.old.fault }
         ensures count { Counted (R.failed self.old.reader) (R.failed self.new.reader) result }
@@ -158,7 +175,7 @@ impl<R: CountedRead + Drop> StreamWalker<R> {
         requires few { self.old.passed ≤ 2 ^ 63 }
         ensures told { self.old.fault ≡ None → Told (stream R.remaining self.old) (stream R.remaining self.new) result }
         ensures place { MatchResult result
-            (λ i. (self.new.place ≡ onward self.old.place i) × (self.new.passed ≡ self.old.passed + length (bytes_at self.old.place i)))
+            (λ i. (self.new.place ≡ onward self.old.place i) × (self.new.passed ≡ self.old.passed + length (bytes_at self.new.version self.old.place i)))
             (λ _. (self.new.place ≡ self.old.place) × (self.new.passed ≡ self.old.passed)) }
         ensures fault { MatchResult result (λ _. self.new.fault ≡ None) (λ e. self.new.fault ≡ Some e) }
         ensures again { IfSome self.old.fault (λ e. (result ≡ Err e) × (self.new ≡ self.old)) }

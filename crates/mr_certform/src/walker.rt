@@ -7,6 +7,7 @@ ghost use Rattle.mr_certform.specs.Rows.{entries_ahead, behind_entries};
 use crate::front::step_of;
 use crate::item::{Item, Malformed};
 use crate::place::{Place, groups_to_come};
+use crate::version::{Version, version_of};
 
 /// The bytes behind so many entries.
 fn behind_row(bytes: &[u8], entries: u64) -> &[u8]
@@ -19,6 +20,7 @@ fn behind_row(bytes: &[u8], entries: u64) -> &[u8]
 /// Walks the items of a certificate's bytes, from the front. It takes no memory.
 #[derive(Clone, Copy)]
 pub struct Walker<'a> {
+    version: Version,
     place: Place,
     whole: u64,
     rest: &'a [u8],
@@ -34,6 +36,7 @@ impl<'a> Walker<'a> {
         ensures stop { halt result ≡ stop bytes.entry.now }
     {
         Walker {
+            version: version_of(bytes),
             place: Place::AtMagic,
             whole: bytes.len() as u64,
             rest: bytes,
@@ -44,13 +47,14 @@ impl<'a> Walker<'a> {
     #[inline]
     fn step(&mut self) -> Result<Item, Malformed>
         ensures item { MatchResult result
-            (λ i. (standing self.old.place self.old.rest.now ≡ Some (record { item = i; rest = self.new.rest.now }))
+            (λ i. (standing self.old.version self.old.place self.old.rest.now ≡ Some (record { item = i; rest = self.new.rest.now }))
             × (self.new.place ≡ onward self.old.place i))
-            (λ e. (standing self.old.place self.old.rest.now ≡ None) × (self.new.place ≡ self.old.place)
+            (λ e. (standing self.old.version self.old.place self.old.rest.now ≡ None) × (self.new.place ≡ self.old.place)
             × (self.new.rest.now ≡ self.old.rest.now) × (e.at ≡ self.old.whole - length self.old.rest.now)) }
         ensures same { self.new.whole ≡ self.old.whole }
+        ensures version { self.new.version ≡ self.old.version }
     {
-        match step_of(self.place, self.rest) {
+        match step_of(self.version, self.place, self.rest) {
             None => Err(Malformed {
                 at: self.whole - self.rest.len() as u64,
             }),
@@ -75,9 +79,38 @@ impl<'a> Walker<'a> {
         self.step()
     }
 
-    /// Passes over the entries that stand next in their group, without a look at any of them: how many these are. It
-    /// stands then where so many calls of `next` would have left it.
+    /// Passes over the entries that stand next in their group: how many these are. It stands then where so many calls of
+    /// `next` would have left it. In version 1 no entry is looked at.
     pub fn pass_entries(&mut self) -> u64
+        ensures count { result ≡ entries_ahead (items_left self.old) }
+        ensures items { items_left self.new ≡ behind_entries (items_left self.old) }
+        ensures stop { halt self.new ≡ halt self.old }
+    {
+        match self.version {
+            Version::V1 => self.pass_whole_entries(),
+            Version::V2 => self.pass_short_entries(),
+        }
+    }
+
+    /// Passes over the entries that stand next, item by item.
+    fn pass_short_entries(&mut self) -> u64
+        ensures count { result ≡ entries_ahead (items_left self.old) }
+        ensures items { items_left self.new ≡ behind_entries (items_left self.old) }
+        ensures stop { halt self.new ≡ halt self.old }
+    {
+        let mut passed = 0;
+        while let Place::AtEntry { .. } = self.place {
+            match self.step() {
+                Ok(_) => passed += 1,
+                Err(_) => return passed,
+            }
+        }
+        passed
+    }
+
+    /// Passes over the entries that stand next, each of twelve bytes, without a look at any of them.
+    fn pass_whole_entries(&mut self) -> u64
+        requires { self.old.version ≡ Version.V1 }
         ensures count { result ≡ entries_ahead (items_left self.old) }
         ensures items { items_left self.new ≡ behind_entries (items_left self.old) }
         ensures stop { halt self.new ≡ halt self.old }

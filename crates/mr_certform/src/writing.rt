@@ -1,21 +1,24 @@
 //! A certificate spelled, number by number, into whatever takes bytes: a list, or a writer behind a buffer.
-ghost use Rattle.std.specs.Prelude.{◌≡◌, ◌≤◌, ◌<◌, ◌^◌, ◌++◌, OnOk, IfOk, length, drop};
+ghost use Rattle.std.specs.Prelude.{◌≡◌, ◌↔◌, ◌≤◌, ◌<◌, ◌^◌, ◌++◌, OnOk, IfOk, length, drop};
 ghost use Rattle.std.specs.List.{flat_map, AllByRecursion};
 ghost use Rattle.mr_certform.specs.Places.{first_name};
-ghost use Rattle.mr_certform.specs.Spelling.{u32 as four, u64 as eight, name_bytes, skip_bytes};
-ghost use Rattle.mr_certform.specs.Value.{NameFits, SkipFits, Spells};
+ghost use Rattle.mr_certform.specs.Spelling.{u32 as four, u64 as eight, magic, name_bytes, skip_bytes};
+ghost use Rattle.mr_certform.specs.Value.{NameFits, SkipFits, CanFollow, CanRow, CanSpell, SpellsIn};
 ghost use Rattle.mr_certform.specs.Flat.{total, chunks, contents_of, IsWhole, HasNumbers, HasNames};
 ghost use Rattle.mr_certform.specs.Pieces.{names_bytes, group_bytes, part_bytes, job_bytes, all_bytes};
 
 use crate::certificate::{Certificate, Flat};
+use crate::short::short_name;
 use crate::sink::Sink;
+use crate::version::Version;
 use byteorder::{BigEndian, ByteOrder};
 use mr_bytes::{Name, RecordName};
 use std::alloc::{AllocError, Global};
+use thiserror::Error;
 
 /// The twelve bytes of a name.
 fn spelled_name(name: Name) -> [u8; 12]
-    ensures text { result ≡ name_bytes first_name name }
+    ensures text { result ≡ name_bytes Version.V1 first_name name }
     ensures fits { NameFits name }
 {
     let mut bytes = [0u8; 12];
@@ -52,11 +55,37 @@ fn put_long<O: Sink>(out: &mut O, n: u64) -> Result<(), O::Fault>
     out.put(&bytes)
 }
 
-fn put_names<O: Sink>(out: &mut O, names: &[Name]) -> Result<(), O::Fault>
-    ensures { OnOk result (O.takes out.old out.new (flat_map (name_bytes first_name) names.now) × AllByRecursion NameFits names.now) }
+/// The name of an entry behind the name before it.
+#[inline]
+fn put_name<O: Sink>(
+    out: &mut O,
+    version: Version,
+    before: Name,
+    name: Name,
+) -> Result<(), O::Fault>
+    requires { CanFollow version before name }
+    ensures text { OnOk result (O.takes out.old out.new (name_bytes version before name)) }
+    ensures fits { NameFits name }
 {
+    match version {
+        Version::V1 => out.put(&spelled_name(name)),
+        Version::V2 => out.put(short_name(before, name).bytes()),
+    }
+}
+
+/// The names of a group.
+fn put_names<O: Sink>(out: &mut O, version: Version, names: &[Name]) -> Result<(), O::Fault>
+    requires { CanRow version first_name names.now }
+    ensures { OnOk result (O.takes out.old out.new (names_bytes version first_name names.now) × AllByRecursion NameFits names.now) }
+{
+    let mut before = Name {
+        split: 0,
+        rec: 0,
+        place: 0,
+    };
     for name in names {
-        out.put(&spelled_name(*name))?;
+        put_name(out, version, before, *name)?;
+        before = *name;
     }
     Ok(())
 }
@@ -64,11 +93,13 @@ fn put_names<O: Sink>(out: &mut O, names: &[Name]) -> Result<(), O::Fault>
 /// The groups of these counts, from the front of the names; the names behind them are given back.
 pub(crate) fn put_groups<'a, O: Sink>(
     out: &mut O,
+    version: Version,
     counts: &[u32],
     names: &'a [Name],
 ) -> Result<&'a [Name], O::Fault>
-    requires { total counts.now ≤ length names.now }
-    ensures { IfOk result (λ rest. O.takes out.old out.new (flat_map group_bytes (chunks counts.now names.entry.now))
+    requires room { total counts.now ≤ length names.now }
+    requires can { CanSpell version (chunks counts.now names.now) }
+    ensures { IfOk result (λ rest. O.takes out.old out.new (flat_map (group_bytes version) (chunks counts.now names.entry.now))
         × (rest.now ≡ drop (total counts.now) names.entry.now)
         × AllByRecursion (AllByRecursion NameFits) (chunks counts.now names.entry.now)) }
 {
@@ -76,7 +107,7 @@ pub(crate) fn put_groups<'a, O: Sink>(
     for count in counts {
         let (here, more) = rest.split_at(*count as usize);
         put_number(out, *count)?;
-        put_names(out, here)?;
+        put_names(out, version, here)?;
         rest = more;
     }
     Ok(rest)
@@ -84,13 +115,15 @@ pub(crate) fn put_groups<'a, O: Sink>(
 
 fn put_parts<O: Sink>(
     out: &mut O,
+    version: Version,
     group_counts: &[u32],
     entry_counts: &[u32],
     names: &[Name],
 ) -> Result<(), O::Fault>
     requires groups { total group_counts.now ≡ length entry_counts.now }
     requires room { total entry_counts.now ≤ length names.now }
-    ensures { OnOk result (O.takes out.old out.new (flat_map part_bytes (chunks group_counts.now (chunks entry_counts.now names.now)))
+    requires can { CanSpell version (chunks entry_counts.now names.now) }
+    ensures { OnOk result (O.takes out.old out.new (flat_map (part_bytes version) (chunks group_counts.now (chunks entry_counts.now names.now)))
         × AllByRecursion (AllByRecursion NameFits) (chunks entry_counts.now names.now)) }
 {
     let mut counts = entry_counts;
@@ -98,7 +131,7 @@ fn put_parts<O: Sink>(
     for groups in group_counts {
         let (here, more) = counts.split_at(*groups as usize);
         put_number(out, *groups)?;
-        rest = put_groups(out, here, rest)?;
+        rest = put_groups(out, version, here, rest)?;
         counts = more;
     }
     Ok(())
@@ -122,12 +155,22 @@ fn put_skips<O: Sink>(out: &mut O, skips: &[RecordName]) -> Result<(), O::Fault>
     Ok(())
 }
 
-/// The magic and the job, up to the bytes of a split.
-pub(crate) fn put_job<O: Sink>(out: &mut O, flat: &Flat) -> Result<(), O::Fault>
-    requires { length flat.now.literal < 2 ^ 32 }
-    ensures { OnOk result (O.takes out.old out.new (job_bytes (contents_of flat.now))) }
+/// What a certificate of the version begins with.
+fn put_magic<O: Sink>(out: &mut O, version: Version) -> Result<(), O::Fault>
+    ensures { OnOk result (O.takes out.old out.new (magic version)) }
 {
-    out.put(b"MRCERT1\n")?;
+    match version {
+        Version::V1 => out.put(b"MRCERT1\n"),
+        Version::V2 => out.put(b"MRCERT2\n"),
+    }
+}
+
+/// The magic and the job, up to the bytes of a split.
+pub(crate) fn put_job<O: Sink>(out: &mut O, version: Version, flat: &Flat) -> Result<(), O::Fault>
+    requires { length flat.now.literal < 2 ^ 32 }
+    ensures { OnOk result (O.takes out.old out.new (job_bytes version (contents_of flat.now))) }
+{
+    put_magic(out, version)?;
     put_number(out, flat.job)?;
     put_number(out, flat.flags)?;
     put_number(out, flat.literal.len() as u32)?;
@@ -171,23 +214,39 @@ pub(crate) fn size_of(flat: &Flat) -> usize {
 }
 
 /// The spelling of these values.
-pub(crate) fn put_values<O: Sink>(out: &mut O, flat: &Flat) -> Result<(), O::Fault>
-    requires { IsWhole flat.now }
-    ensures { OnOk result (O.takes out.old out.new (all_bytes (contents_of flat.now)) × HasNames flat.now) }
+pub(crate) fn put_values<O: Sink>(
+    out: &mut O,
+    version: Version,
+    flat: &Flat,
+) -> Result<(), O::Fault>
+    requires whole { IsWhole flat.now }
+    requires can { CanSpell version (chunks flat.now.entry_counts flat.now.names) }
+    ensures { OnOk result (O.takes out.old out.new (all_bytes version (contents_of flat.now)) × HasNames flat.now) }
 {
-    put_job(out, flat)?;
+    put_job(out, version, flat)?;
     put_input(out, &flat.lengths)?;
     put_left_out(out, &flat.skips)?;
-    put_parts(out, &flat.group_counts, &flat.entry_counts, &flat.names)
+    put_parts(
+        out,
+        version,
+        &flat.group_counts,
+        &flat.entry_counts,
+        &flat.names,
+    )
 }
 
-/// The spelling of these values in one list, which is made at its whole size at once.
-fn spelled_values(alloc: Global, flat: &Flat) -> Result<Vec<u8>, AllocError>
-    requires { IsWhole flat.now }
-    ensures { IfOk result (λ v. (v.items ≡ all_bytes (contents_of flat.now)) × HasNames flat.now) }
+/// The spelling of these values in one list. In version 1 it is made at its whole size at once; in version 2 it grows.
+fn spelled_values(alloc: Global, version: Version, flat: &Flat) -> Result<Vec<u8>, AllocError>
+    requires whole { IsWhole flat.now }
+    requires can { CanSpell version (chunks flat.now.entry_counts flat.now.names) }
+    ensures { IfOk result (λ v. (v.items ≡ all_bytes version (contents_of flat.now)) × HasNames flat.now) }
 {
-    let mut out = Vec::with_capacity(alloc, size_of(flat))?;
-    put_values(&mut out, flat)?;
+    let room = match version {
+        Version::V1 => size_of(flat),
+        Version::V2 => 0,
+    };
+    let mut out = Vec::with_capacity(alloc, room)?;
+    put_values(&mut out, version, flat)?;
     Ok(out)
 }
 
@@ -222,11 +281,39 @@ pub(crate) fn numbers_fit(flat: &Flat)
     counts_fit(&flat.entry_counts);
 }
 
-/// The bytes that spell the certificate, in version 1.
-pub fn write(alloc: Global, certificate: &Certificate) -> Result<Vec<u8>, AllocError>
-    ensures { IfOk result (λ v. Spells v.items certificate.now) }
+/// Why a certificate isn't spelled.
+#[derive(Clone, Copy, Debug, PartialEq, Eq, Drop, Error)]
+pub enum WriteFault {
+    #[error("OutOfMemory")]
+    OutOfMemory,
+    /// A name is less than the one before it in its group, which version 2 can't spell.
+    #[error("NamesFall")]
+    NamesFall,
+}
+
+impl From<AllocError> for WriteFault {
+    ghost use Rattle.mr_certform.specs.declared.writing.WriteFault.TheVariants.{OutOfMemory as told_memory};
+
+    ghost from_gives = { λ _ f. f ≡ told_memory };
+
+    fn from(_fault: AllocError) -> WriteFault {
+        WriteFault::OutOfMemory
+    }
+}
+
+/// The bytes that spell the certificate in this version.
+pub fn write(
+    alloc: Global,
+    certificate: &Certificate,
+    version: Version,
+) -> Result<Vec<u8>, WriteFault>
+    ensures spelled { IfOk result (λ v. SpellsIn version v.items certificate.now) }
+    ensures fall { (result ≡ Err WriteFault.NamesFall) ↔ (AllByRecursion (CanSpell version) certificate.now.groups → ⊥) }
 {
-    let flat = &certificate.flat;
+    let Some(spelled) = certificate.in_version(version) else {
+        return Err(WriteFault::NamesFall);
+    };
+    let flat = spelled.flat();
     numbers_fit(flat);
-    spelled_values(alloc, flat)
+    Ok(spelled_values(alloc, version, flat)?)
 }

@@ -1,40 +1,46 @@
 //! A certificate that is written as its bytes, which nobody holds as a whole.
 ghost use Rattle.std.specs.Prelude.{◌≡◌, [], false, OnOk, OnErr};
 ghost use Rattle.mr_store.specs.Devices.{FailsOnly, TookSome, with_bytes};
-ghost use Rattle.mr_certform.specs.Flat.{contents_of, IsWhole};
-ghost use Rattle.mr_certform.specs.Pieces.{all_bytes};
-ghost use Rattle.mr_certform.specs.Value.{NameFits, SkipFits, Spells};
+ghost use Rattle.mr_certform.specs.Flat.{chunks, contents_of, IsWhole};
+ghost use Rattle.mr_certform.specs.Pieces.{all_bytes, versioned_bytes};
+ghost use Rattle.mr_certform.specs.Value.{NameFits, SkipFits, CanSpell, SpellsIn};
 ghost use Rattle.std.specs.List.{AllByRecursion};
 
 use crate::buffered::Buffered;
-use crate::certificate::{Certificate, Flat};
+use crate::certificate::Flat;
+use crate::version::{InVersion, Version};
 use crate::writing::{numbers_fit, put_values};
 use mr_bytes::{Name, RecordName};
 use mr_store::{CountedWrite, Device, Spelled};
 
 /// Writes all the bytes that spell these values, by a buffer that holds none.
-fn write_values<W: CountedWrite>(buffered: &mut Buffered<'_, W>, flat: &Flat) -> Result<(), Device>
+fn write_values<W: CountedWrite>(
+    buffered: &mut Buffered<'_, W>,
+    version: Version,
+    flat: &Flat,
+) -> Result<(), Device>
     requires whole { IsWhole flat.now }
+    requires can { CanSpell version (chunks flat.now.entry_counts flat.now.names) }
     requires empty { buffered.old.piece ≡ [] }
     requires begins { buffered.old.failed ≡ false }
     ensures same_reference { buffered.new.writer.ghost_name ≡ buffered.old.writer.ghost_name }
-    ensures whole { OnOk result (W.seen buffered.new.writer.now ≡ with_bytes (W.seen buffered.old.writer.now) (all_bytes (contents_of flat.now))) }
-    ensures beginning { OnErr result (TookSome (W.seen buffered.old.writer.now) (W.seen buffered.new.writer.now) (all_bytes (contents_of flat.now))) }
+    ensures whole { OnOk result (W.seen buffered.new.writer.now ≡ with_bytes (W.seen buffered.old.writer.now) (all_bytes version (contents_of flat.now))) }
+    ensures beginning { OnErr result (TookSome (W.seen buffered.old.writer.now) (W.seen buffered.new.writer.now) (all_bytes version (contents_of flat.now))) }
     ensures fails { FailsOnly (W.can_fail buffered.old.writer.now) (W.lacked buffered.new.writer.now) result }
     ensures later { W.can_fail buffered.new.writer.now → W.can_fail buffered.old.writer.now }
 {
-    match put_values(buffered, flat) {
+    match put_values(buffered, version, flat) {
         Ok(()) => buffered.finish(),
         Err(never) => match never {},
     }
 }
 
-impl Spelled for Certificate {
-    ghost text = { all_bytes };
+impl<'a> Spelled for InVersion<'a> {
+    ghost text = { versioned_bytes };
 
     fn write_onto<W: CountedWrite>(&self, writer: &mut W) -> Result<(), Device> {
         let mut buffered = Buffered::new(writer);
-        write_values(&mut buffered, &self.flat)
+        write_values(&mut buffered, self.version(), self.flat())
     }
 }
 
@@ -70,10 +76,10 @@ fn skips_fit(skips: &[RecordName])
 }
 
 /// The bytes that a certificate is written as spell it. This does nothing when it runs: its loops have nothing to do.
-pub fn text_law(certificate: &Certificate)
-    ensures { Spells (all_bytes certificate.now) certificate.now }
+pub fn text_law(spelled: &InVersion<'_>)
+    ensures { SpellsIn spelled.now.version (versioned_bytes spelled.now) spelled.now.certificate }
 {
-    let flat = &certificate.flat;
+    let flat = spelled.flat();
     numbers_fit(flat);
     names_fit(&flat.names);
     skips_fit(&flat.skips);

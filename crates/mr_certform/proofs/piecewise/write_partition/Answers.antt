@@ -4,29 +4,33 @@ use Rattle.std.specs.List.{flat_map}
 use Rattle.mr_bytes.specs.declared.Name.{Name}
 use Rattle.mr_certform.specs.Spelling.{u32}
 use Rattle.mr_certform.specs.Flat.{chunks}
+use Rattle.mr_certform.specs.declared.version.Version.TheVariants.{V1}
 use Rattle.mr_certform.specs.Value.{Contents, PartFits}
 use Rattle.mr_certform.specs.Pieces.{all_bytes, front_bytes, group_bytes, part_bytes}
 use Rattle.mr_certform.proofs.Pieces.{All-append, length-chunks}
-use Rattle.mr_certform.proofs.Spelled.{group_fits}
+use Rattle.mr_certform.proofs.Spelled.{group_fits, whole_groups}
 use Rattle.mr_certform.proofs.piecewise.write_partition.Goals as goal
 
 -- one partition more, behind the others
-parts-more : (parts : List (List (List Name))) (part : List (List Name)) → flat_map part_bytes (parts ++ part ∷ []) ≡ flat_map part_bytes parts ++ part_bytes part
-parts-more [] part = append-nil (part_bytes part)
-parts-more (p ∷ ps) part = ap (λ w. part_bytes p ++ w) (parts-more ps part) ∙ sym (append_assoc (part_bytes p) (flat_map part_bytes ps) (part_bytes part))
+parts-more : (parts : List (List (List Name))) (part : List (List Name)) → flat_map (part_bytes V1) (parts ++ part ∷ []) ≡ flat_map (part_bytes V1) parts ++ part_bytes V1 part
+parts-more [] part = append-nil (part_bytes V1 part)
+parts-more (p ∷ ps) part = ap (λ w. part_bytes V1 p ++ w) (parts-more ps part) ∙ sym (append_assoc (part_bytes V1 p) (flat_map (part_bytes V1) ps) (part_bytes V1 part))
 
-text-more : (d : Contents) (counts : List ℕ) (names : List Name) (old mid new : List ℕ) → old ≡ all_bytes d → mid ≡ old ++ u32 (length counts)
-    → new ≡ mid ++ flat_map group_bytes (chunks counts names) → new ≡ all_bytes (record d { groups = d.groups ++ chunks counts names ∷ [] })
+text-more : (d : Contents) (counts : List ℕ) (names : List Name) (old mid new : List ℕ) → old ≡ all_bytes V1 d → mid ≡ old ++ u32 (length counts)
+    → new ≡ mid ++ flat_map (group_bytes V1) (chunks counts names) → new ≡ all_bytes V1 (record d { groups = d.groups ++ chunks counts names ∷ [] })
 text-more d counts names old mid new o m n =
     let part : List (List Name) = chunks counts names in
     let size : u32 (length counts) ≡ u32 (length part) = ap u32 (sym (length-chunks counts names)) in
-    let front : List ℕ = front_bytes d in
-    let done : List ℕ = flat_map part_bytes d.groups in
+    let front : List ℕ = front_bytes V1 d in
+    let done : List ℕ = flat_map (part_bytes V1) d.groups in
     n
-    ∙ ap (λ w. w ++ flat_map group_bytes part) (m ∙ (λ i. o i ++ size i))
-    ∙ append_assoc (front ++ done) (u32 (length part)) (flat_map group_bytes part)
-    ∙ append_assoc front done (part_bytes part)
+    ∙ ap (λ w. w ++ flat_map (group_bytes V1) part) (m ∙ (λ i. o i ++ size i))
+    ∙ append_assoc (front ++ done) (u32 (length part)) (flat_map (group_bytes V1) part)
+    ∙ append_assoc front done (part_bytes V1 part)
     ∙ ap (λ w. front ++ w) (sym (parts-more d.groups part))
+
+pub put_groups-requires-clause-can : goal.put_groups-requires-clause-can
+put_groups-requires-clause-can c = whole_groups _
 
 pub returns : goal.returns
 returns c = λ d so_far.

@@ -31,7 +31,7 @@ returns g c =
     let lacked = g.W.CountedWrite.lacked in
     let old = c.args.buffered.now in
     let new = c.finish.new.self in
-    let text = all_bytes (contents_of c.args.flat.now) in
+    let text = all_bytes c.args.version (contents_of c.args.flat.now) in
     let took = takes_joined seen can_fail lacked old c.put_values.new.out new text [] c.in-Ok.ensures.0 c.finish.ensures.takes in
     let begun : Went seen can_fail lacked old.writer.now new.writer.now false new.failed (old.piece ++ (text ++ [])) new.piece =
     subst (λ b. Went seen can_fail lacked old.writer.now new.writer.now b new.failed (old.piece ++ (text ++ [])) new.piece) c.requires.begins took.1.1 in

@@ -9,10 +9,11 @@ loop-self-preserved g c =
     let held = c.loop-self.invariant in
     let read = c.in_ok-count.ensures in
     let left : Option (List ℕ) = g.R.CountedRead.remaining c.read_more.new.reader in
-    let behind : Stream = record { place = v.place; passed = v.passed; held = c.read_more.new.self; coming = coming_from v.exhausted left } in
+    let behind : Stream = record { version = v.version; place = v.place; passed = v.passed; held = c.read_more.new.self; coming = coming_from v.exhausted left } in
     record {
       bytes = λ bytes t.
           held.bytes bytes (filled_more (stream g.R.CountedRead.remaining v) behind v.exhausted (g.R.CountedRead.remaining v.reader) left read.more.0 held.more refl refl read.more.2 read.more.3 read.more.4 read.known bytes t);
+      version = held.version;
       place = held.place;
       passed = held.passed;
       fault = held.fault;

@@ -5,6 +5,7 @@ use Rattle.mr_certform.proofs.stream.StreamWalker.fill.Given as goal
 abbrev pub invariant-loop-self : goal.invariant-loop-self
 invariant-loop-self g l = record {
   bytes : (bytes : List ℕ) → IsToCome (stream g.R.CountedRead.remaining l.self) bytes → IsToCome (stream g.R.CountedRead.remaining l.initial.self) bytes;
+  version : l.self.version ≡ l.initial.self.version;
   place : l.self.place ≡ l.initial.self.place;
   passed : l.self.passed ≡ l.initial.self.passed;
   fault : l.self.fault ≡ l.initial.self.fault;
@@ -14,4 +15,4 @@ invariant-loop-self g l = record {
 }
 
 abbrev pub decreases-loop-self : goal.decreases-loop-self
-decreases-loop-self g l = 12 - length l.self.held
+decreases-loop-self g l = 15 - length l.self.held

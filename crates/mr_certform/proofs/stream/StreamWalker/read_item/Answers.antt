@@ -8,4 +8,4 @@ returns-clause-told g c =
     let mid : Stream = stream g.R.CountedRead.remaining c.fill.new.self in
     let new : Stream = stream g.R.CountedRead.remaining c.step.new.self in
     let e = c.fill.ensures in
-    told_back old mid new c.step.result (gives_back old mid e.same.0 e.same.1 e.bytes) c.step.ensures.told
+    told_back old mid new c.step.result (gives_back old mid e.same.0 e.same.1 e.same.2 e.bytes) c.step.ensures.told

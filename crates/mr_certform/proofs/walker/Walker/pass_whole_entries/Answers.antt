@@ -3,14 +3,14 @@ use Rattle.mr_certform.specs.Walking.{items_left, halt}
 use Rattle.mr_certform.specs.declared.place.Place.TheVariants.{AtEntry}
 use Rattle.mr_certform.specs.Places.{groups}
 use Rattle.mr_certform.proofs.Rows.{none_passed, all_passed, some_passed, same_stop}
-use Rattle.mr_certform.proofs.walker.Walker.pass_entries.Goals as goal
+use Rattle.mr_certform.proofs.walker.Walker.pass_whole_entries.Goals as goal
 
 pub returns-in_default : goal.returns-in_default
 unfolding items_left halt
 returns-in_default c =
     let v = c.args.self.now in
     let told = none_passed v.place v.rest.now (λ r g n b e. c.in_default.not-AtEntry r g n b e) in
-    record { count = told.0; items = told.1; stop = refl }
+    rw c.requires (record { count = told.0; items = told.1; stop = refl })
 
 pub returns-then-held-from : goal.returns-then-held-from
 unfolding items_left halt
@@ -20,7 +20,7 @@ returns-then-held-from c =
     let k = c.from-awaited.result + 1 in
     let fits : k * 12 ≤ length v.rest.now = omega (arith, c.if-held-from.true) in
     let told = all_passed k p.parts p.groups p.before p.more v.place v.rest.now p.is (omega (arith, c.from-awaited.ensures)) fits in
-    rw (c.groups_to_come-self.ensures, c.behind_row-self.ensures) (record {
+    rw (c.groups_to_come-self.ensures, c.behind_row-self.ensures, c.requires) (record {
       count = told.0;
       items = told.1;
       stop = same_stop v.whole k v.place (groups p.parts p.groups) v.rest.now (drop (k * 12) v.rest.now) v.in_range fits refl told;
@@ -34,7 +34,7 @@ returns c =
     let k = length v.rest.now / 12 in
     let fits : k * 12 ≤ length v.rest.now = omega arith in
     let told = some_passed k (p.more - k) p.parts p.groups p.before p.more v.place v.rest.now p.is (omega (arith, c.if-held-from.false)) fits (omega arith) in
-    rw (c.behind_row-self-2.ensures) (record {
+    rw (c.behind_row-self-2.ensures, c.requires) (record {
       count = told.0;
       items = told.1;
       stop = same_stop v.whole k v.place (AtEntry p.parts p.groups (p.more - k) p.before) v.rest.now (drop (k * 12) v.rest.now) v.in_range fits refl told;

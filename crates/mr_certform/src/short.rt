@@ -1,0 +1,184 @@
+//! A name in few bytes: its three numbers, told from the name before it in its group.
+ghost use Rattle.std.specs.Prelude.{◌≡◌, ◌↔◌, ◌<◌, ◌≤◌, ◌+◌, ◌++◌, ◌∷◌, [], Some, None, IsTrue, MatchOption, IfSome, length};
+ghost use Rattle.mr_certform.specs.Short.{added, short, short_at, place_base, record_base, short_from, short_name_at, short_name_bytes, with_lowest, IsAtLeast};
+ghost use Rattle.mr_certform.specs.Value.{NameFits};
+
+use mr_bytes::Name;
+use std::marker::Model;
+
+/// The number whose lowest byte is `first`, which isn't its last, and the bytes behind it.
+fn behind_first(first: u8, bytes: &[u8]) -> Option<(u64, &[u8])>
+    requires { 128 ≤ first }
+    ensures read { MatchOption result (with_lowest first (short_from 4 bytes.now) ≡ None)
+        (λ r. with_lowest first (short_from 4 bytes.now) ≡ Some (record { number = r.0; rest = r.1.now })) }
+    ensures shorter { IfSome result (λ r. length r.1.now ≤ length bytes.now) }
+    ensures bound { IfSome result (λ r. r.0 < 8796093022208) }
+{
+    let mut low = u64::from(first - 128);
+    let mut scale = 128u64;
+    let mut rest = bytes;
+    for i in 0..4u32 {
+        let (byte, behind) = rest.split_first()?;
+        if *byte == 0 {
+            return None;
+        }
+        if *byte < 128 {
+            return Some((low + scale * u64::from(*byte), behind));
+        }
+        low += scale * u64::from(*byte - 128);
+        scale *= 128;
+        rest = behind;
+    }
+    None
+}
+
+/// A number of more than one byte behind another, and the bytes behind it.
+fn long_of(base: u32, first: u8, bytes: &[u8]) -> Option<(u32, &[u8])>
+    requires { 128 ≤ first }
+    ensures read { MatchOption result (added base (with_lowest first (short_from 4 bytes.now)) ≡ None)
+        (λ r. added base (with_lowest first (short_from 4 bytes.now)) ≡ Some (record { number = r.0; rest = r.1.now })) }
+    ensures shorter { IfSome result (λ r. length r.1.now ≤ length bytes.now) }
+{
+    let (more, rest) = behind_first(first, bytes)?;
+    let number = u64::from(base) + more;
+    if number < 4_294_967_296 {
+        Some((number as u32, rest))
+    } else {
+        None
+    }
+}
+
+/// The number behind another, and the bytes behind it. Nearly all are of one byte, which one look finds.
+#[inline]
+fn short_of(base: u32, bytes: &[u8]) -> Option<(u32, &[u8])>
+    ensures read { MatchOption result (short_at base bytes.now ≡ None)
+        (λ r. short_at base bytes.now ≡ Some (record { number = r.0; rest = r.1.now })) }
+    ensures shorter { IfSome result (λ r. length r.1.now ≤ length bytes.now) }
+{
+    let (first, rest) = bytes.split_first()?;
+    if *first >= 128 {
+        return long_of(base, *first, rest);
+    }
+    let number = base.checked_add(u32::from(*first))?;
+    Some((number, rest))
+}
+
+/// What the record of a name is counted from, where this is its split.
+#[inline]
+fn base_of_record(before: Name, split: u32) -> u32
+    ensures { result ≡ record_base before split }
+{
+    if split == before.split { before.rec } else { 0 }
+}
+
+/// What the place of a name is counted from, where these are its split and its record.
+#[inline]
+fn base_of_place(before: Name, split: u32, rec: u32) -> u32
+    ensures { result ≡ place_base before split rec }
+{
+    if split == before.split && rec == before.rec {
+        before.place
+    } else {
+        0
+    }
+}
+
+/// The name that stands at the front of the bytes, behind the name before it in its group, and the bytes behind it.
+#[inline]
+pub(crate) fn short_name_of(before: Name, bytes: &[u8]) -> Option<(Name, &[u8])>
+    ensures read { MatchOption result (short_name_at before bytes.now ≡ None)
+        (λ r. short_name_at before bytes.now ≡ Some (record { name = r.0; rest = r.1.now })) }
+    ensures shorter { IfSome result (λ r. length r.1.now ≤ length bytes.now) }
+{
+    let (split, next) = short_of(before.split, bytes)?;
+    let (rec, last) = short_of(base_of_record(before, split), next)?;
+    let (place, rest) = short_of(base_of_place(before, split, rec), last)?;
+    Some((Name { split, rec, place }, rest))
+}
+
+/// Whether the name isn't less than the one before, in the order of the input.
+pub(crate) fn is_at_least(before: Name, name: Name) -> bool
+    ensures { IsTrue result ↔ IsAtLeast before name }
+{
+    if name.split != before.split {
+        return before.split < name.split;
+    }
+    if name.rec != before.rec {
+        return before.rec < name.rec;
+    }
+    before.place <= name.place
+}
+
+/// How many bytes a name has at most.
+const SIZE: usize = 15;
+
+/// The bytes of a name, fifteen at most.
+#[derive(Drop)]
+pub(crate) struct ShortName {
+    bytes: [u8; SIZE],
+    filled: usize,
+}
+
+impl Model for ShortName {
+    ghost use Rattle.std.specs.Prelude.{ℕ, List, ◌≤◌, take};
+
+    ghost Value = { List ℕ };
+
+    ghost view = { λ p. take p.filled p.bytes };
+
+    ghost invariant = { λ p. p.filled ≤ 15 };
+}
+
+impl ShortName {
+    /// None.
+    fn new() -> ShortName
+        ensures { result ≡ [] }
+    {
+        ShortName {
+            bytes: [0u8; SIZE],
+            filled: 0,
+        }
+    }
+
+    /// The bytes.
+    pub fn bytes(&self) -> &[u8]
+        ensures { result.now ≡ self.now }
+    {
+        &self.bytes[..self.filled]
+    }
+
+    /// Appends a byte, for which there is room.
+    fn push(&mut self, byte: u8)
+        requires { length self.old < 15 }
+        ensures { self.new ≡ self.old ++ byte ∷ [] }
+    {
+        self.bytes[self.filled] = byte;
+        self.filled += 1;
+    }
+
+    /// Appends a number, for which there is room.
+    fn push_number(&mut self, n: u32)
+        requires { length self.old ≤ 10 }
+        ensures { self.new ≡ self.old ++ short n }
+    {
+        let mut left = n;
+        while left >= 128 {
+            self.push(128 + (left % 128) as u8);
+            left /= 128;
+        }
+        self.push(left as u8);
+    }
+}
+
+/// The bytes of a name behind the name before it in its group; and its numbers are of their types.
+pub(crate) fn short_name(before: Name, name: Name) -> ShortName
+    requires { IsAtLeast before name }
+    ensures bytes { result ≡ short_name_bytes before name }
+    ensures fits { NameFits name }
+{
+    let mut out = ShortName::new();
+    out.push_number(name.split - before.split);
+    out.push_number(name.rec - base_of_record(before, name.split));
+    out.push_number(name.place - base_of_place(before, name.split, name.rec));
+    out
+}

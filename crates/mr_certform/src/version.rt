@@ -1,0 +1,137 @@
+//! The versions of a certificate.
+ghost use Rattle.std.specs.Prelude.{◌≡◌, ◌≤◌, ◌↔◌, IsTrue, MatchOption, length};
+ghost use Rattle.std.specs.List.{AllByRecursion};
+ghost use Rattle.mr_certform.specs.Flat.{total, chunks, contents_of, IsWhole};
+ghost use Rattle.mr_certform.specs.Places.{first_name};
+ghost use Rattle.mr_certform.specs.Spelling.{version_of};
+ghost use Rattle.mr_certform.specs.Value.{CanRow, CanSpell};
+
+use crate::certificate::{Certificate, Flat};
+use crate::short::is_at_least;
+use mr_bytes::Name;
+use std::marker::Model;
+
+/// How the names of a certificate are spelled; all else is the same in both.
+#[derive(Clone, Copy, Debug, PartialEq, Eq)]
+pub enum Version {
+    /// `MRCERT1`: each name in twelve bytes.
+    V1,
+    /// `MRCERT2`: each name by what it differs in from the name before it in its group, in three to fifteen bytes. It spells
+    /// no name that is less than the one before it.
+    V2,
+}
+
+/// What bytes in version 2 begin with.
+const MAGIC_2: [u8; 8] = *b"MRCERT2\n";
+
+/// The version of bytes, by their magic; version 1 where they begin with none.
+pub(crate) fn version_of(bytes: &[u8]) -> Version
+    ensures { result ≡ version_of bytes.now }
+{
+    if bytes.len() < 8 {
+        return Version::V1;
+    }
+    if bytes[..8] == MAGIC_2[..] {
+        Version::V2
+    } else {
+        Version::V1
+    }
+}
+
+/// A certificate in a version that can spell it.
+#[derive(Drop)]
+pub struct InVersion<'a> {
+    certificate: &'a Certificate,
+    version: Version,
+}
+
+impl<'a> Model for InVersion<'a> {
+    ghost use Rattle.std.specs.List.{AllByRecursion};
+    ghost use Rattle.mr_certform.specs.Value.{Versioned, CanSpell};
+
+    ghost Value = { Versioned };
+
+    ghost view = { λ s. record { version = s.version; certificate = s.certificate.now } };
+
+    ghost invariant = { λ s. AllByRecursion (CanSpell s.version) s.certificate.now.groups };
+}
+
+impl<'a> InVersion<'a> {
+    /// The version.
+    pub fn version(&self) -> Version
+        ensures { result ≡ self.now.version }
+    {
+        self.version
+    }
+
+    /// The certificate's values.
+    pub(crate) fn flat(&self) -> &'a Flat
+        ensures whole { IsWhole result.now }
+        ensures is { contents_of result.now ≡ self.now.certificate }
+        ensures can { CanSpell self.now.version (chunks result.now.entry_counts result.now.names) }
+    {
+        let certificate = self.certificate;
+        &certificate.flat
+    }
+}
+
+impl Certificate {
+    /// The certificate in this version, or none where the version can't spell it: version 2 spells none in which a name is
+    /// less than the one before it in its group.
+    pub fn in_version(&self, version: Version) -> Option<InVersion<'_>>
+        ensures { MatchOption result (AllByRecursion (CanSpell version) self.now.groups → ⊥) (λ s. s ≡ record { version = version; certificate = self.now }) }
+    {
+        if !can_spell(version, &self.flat) {
+            return None;
+        }
+        Some(InVersion {
+            certificate: self,
+            version,
+        })
+    }
+}
+
+/// Whether the version can spell the groups of these values.
+fn can_spell(version: Version, flat: &Flat) -> bool
+    requires { IsWhole flat.now }
+    ensures { IsTrue result ↔ CanSpell version (chunks flat.now.entry_counts flat.now.names) }
+{
+    match version {
+        Version::V1 => true,
+        Version::V2 => never_fall(&flat.entry_counts, &flat.names),
+    }
+}
+
+/// Whether in none of the groups of these counts a name is less than the one before it.
+fn never_fall(counts: &[u32], names: &[Name]) -> bool
+    requires { total counts.now ≤ length names.now }
+    ensures { IsTrue result ↔ CanSpell Version.V2 (chunks counts.now names.now) }
+{
+    let mut rest = names;
+    for count in counts {
+        let (here, more) = rest.split_at(*count as usize);
+        if !never_falls(here) {
+            return false;
+        }
+        rest = more;
+    }
+    true
+}
+
+/// Whether none of the names of a group is less than the one before it.
+fn never_falls(names: &[Name]) -> bool
+    ensures { IsTrue result ↔ CanRow Version.V2 first_name names.now }
+{
+    let mut before = Name {
+        split: 0,
+        rec: 0,
+        place: 0,
+    };
+    for name in names {
+        if !is_at_least(before, *name) {
+            return false;
+        }
+        before = *name;
+    }
+    true
+}
