@@ -65,4 +65,4 @@ CutByCounts X = (counts : List ℕ) (xs : List X) → total counts ≡ length xs
 
 -- bytes that spell a certificate as far as its partitions go spell it, where it has all of them
 abbrev pub SpelledSoFarIsSpelled : Type 0
-SpelledSoFarIsSpelled = (bytes : List ℕ) (c : Contents) → SpellsSoFar bytes c → length c.groups ≡ c.parts → Spells bytes c
+SpelledSoFarIsSpelled = (v : Version) (bytes : List ℕ) (c : Contents) → SpellsSoFar v bytes c → length c.groups ≡ c.parts → SpellsIn v bytes c

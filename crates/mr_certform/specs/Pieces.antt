@@ -4,9 +4,8 @@ use Rattle.std.specs.List.{AllByRecursion, flat_map}
 use Rattle.mr_bytes.specs.declared.Name.{Name}
 use Rattle.mr_certform.specs.Places.{first_name}
 use Rattle.mr_certform.specs.declared.version.Version.{Version}
-use Rattle.mr_certform.specs.declared.version.Version.TheVariants.{V1}
 use Rattle.mr_certform.specs.Spelling.{u32, u64, magic, name_bytes, skip_bytes}
-use Rattle.mr_certform.specs.Value.{Contents, Versioned, Fits, PartFits}
+use Rattle.mr_certform.specs.Value.{Contents, Versioned, Fits, PartFits, CanSpell}
 
 -- the names of a group, one behind another
 abbrev pub names_bytes : Version → Name → List Name → List ℕ
@@ -41,8 +40,9 @@ all_bytes v c = front_bytes v c ++ groups_bytes v c
 abbrev pub versioned_bytes : Versioned → List ℕ
 versioned_bytes s = all_bytes s.version s.certificate
 
--- the bytes spell the certificate in version 1 as far as its partitions go, of which some may be still to come
-pub record SpellsSoFar (bytes : List ℕ) (c : Contents) : Type 0 where
-  pub text : bytes ≡ all_bytes V1 c
+-- the bytes spell the certificate in this version as far as its partitions go, of which some may be still to come
+pub record SpellsSoFar (v : Version) (bytes : List ℕ) (c : Contents) : Type 0 where
+  pub text : bytes ≡ all_bytes v c
   pub front : (groups : List (List (List Name))) → length groups ≡ c.parts → AllByRecursion PartFits groups → Fits (record c { groups = groups })
   pub groups : AllByRecursion PartFits c.groups
+  pub can : AllByRecursion (CanSpell v) c.groups

@@ -37,7 +37,7 @@ pub fn chunks_law()
     ensures groups { CutByCounts (List Name) }
 {}
 
-/// Bytes that spell a certificate in version 1 as far as its partitions go spell it, once it has all its partitions.
+/// Bytes that spell a certificate as far as its partitions go spell it, in the same version, once it has all its partitions.
 pub fn pieces_law()
     ensures { SpelledSoFarIsSpelled }
 {}

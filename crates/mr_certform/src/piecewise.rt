@@ -1,10 +1,10 @@
-//! A certificate spelled piece by piece, in version 1: what stands in front of its partitions, and then one partition behind another.
+//! A certificate spelled piece by piece: what stands in front of its partitions, and then one partition behind another.
 //! No list of all names is made for it.
 ghost use Rattle.std.specs.Prelude.{◌≡◌, ◌≤◌, ◌<◌, ◌^◌, ◌++◌, ◌∷◌, [], OnOk, IfOk, length};
 ghost use Rattle.std.specs.List.{AllByRecursion};
 ghost use Rattle.mr_certform.specs.Flat.{total, chunks};
 ghost use Rattle.mr_certform.specs.Pieces.{SpellsSoFar};
-ghost use Rattle.mr_certform.specs.Value.{Contents};
+ghost use Rattle.mr_certform.specs.Value.{Contents, CanSpell};
 
 use crate::building::Header;
 use crate::certificate::Flat;
@@ -19,6 +19,7 @@ use std::alloc::{AllocError, Global};
 /// bytes behind them.
 pub fn write_front(
     alloc: Global,
+    version: Version,
     header: Header,
     parts: u32,
     room: usize,
@@ -27,7 +28,7 @@ pub fn write_front(
     requires files { length header.lengths.items ≤ 1024 }
     requires skips { length header.skips.items < 2 ^ 32 }
     requires parts { (1 ≤ parts) × (parts ≤ 1024) }
-    ensures { IfOk result (λ v. SpellsSoFar v.items (record {
+    ensures { IfOk result (λ v. SpellsSoFar version v.items (record {
       job = header.job;
       flags = header.flags;
       literal = header.literal.items;
@@ -60,29 +61,45 @@ pub fn write_front(
     };
     numbers_fit(&flat);
     let mut out = Vec::with_capacity(alloc, size_of(&flat).saturating_add(room))?;
-    put_job(&mut out, Version::V1, &flat)?;
+    put_job(&mut out, version, &flat)?;
     put_input(&mut out, &flat.lengths)?;
     put_left_out(&mut out, &flat.skips)?;
     Ok(out)
 }
 
-/// How many bytes a partition of so many groups and names is spelled in; no more than can be counted.
-pub fn size_of_partition(groups: usize, names: usize) -> usize {
-    (names.saturating_mul(12))
+/// How many bytes a name has in each version: in version 2 about so many, mostly.
+fn bytes_of_name(version: Version) -> usize {
+    match version {
+        Version::V1 => 12,
+        Version::V2 => 4,
+    }
+}
+
+/// How many bytes a partition of so many groups and names is spelled in, in version 2 about so many; no more than can be
+/// counted.
+pub fn size_of_partition(version: Version, groups: usize, names: usize) -> usize {
+    (names.saturating_mul(bytes_of_name(version)))
         .saturating_add(groups.saturating_mul(4))
         .saturating_add(4)
 }
 
-/// Appends the next partition of a certificate: how many entries each of its groups has, and the names of all of them.
-pub fn write_partition(out: &mut Vec<u8>, counts: &[u32], names: &[Name]) -> Result<(), AllocError>
+/// Appends the next partition of a certificate: how many entries each of its groups has, and the names of all of them, which
+/// the version can spell (`Version::can_spell`).
+pub fn write_partition(
+    out: &mut Vec<u8>,
+    version: Version,
+    counts: &[u32],
+    names: &[Name],
+) -> Result<(), AllocError>
     requires some { AllByRecursion (λ n. 1 ≤ n) counts.now }
     requires few { length counts.now < 2 ^ 32 }
     requires entries { total counts.now ≡ length names.now }
-    ensures { OnOk result ((c : Contents) → SpellsSoFar out.old.items c
-        → SpellsSoFar out.new.items (record c { groups = c.groups ++ chunks counts.now names.now ∷ [] })) }
+    requires can { CanSpell version (chunks counts.now names.now) }
+    ensures { OnOk result ((c : Contents) → SpellsSoFar version out.old.items c
+        → SpellsSoFar version out.new.items (record c { groups = c.groups ++ chunks counts.now names.now ∷ [] })) }
 {
     counts_fit(counts);
     put_number(out, counts.len() as u32)?;
-    put_groups(out, Version::V1, counts, names)?;
+    put_groups(out, version, counts, names)?;
     Ok(())
 }

@@ -21,6 +21,20 @@ pub enum Version {
     V2,
 }
 
+impl Version {
+    /// Whether the version can spell the groups that these counts cut the names into, which are enough for them. Version 2
+    /// spells no name that is less than the one before it in its group.
+    pub fn can_spell(self, counts: &[u32], names: &[Name]) -> bool
+        requires { total counts.now ≤ length names.now }
+        ensures { IsTrue result ↔ CanSpell self (chunks counts.now names.now) }
+    {
+        match self {
+            Version::V1 => true,
+            Version::V2 => never_fall(counts, names),
+        }
+    }
+}
+
 /// What bytes in version 2 begin with.
 const MAGIC_2: [u8; 8] = *b"MRCERT2\n";
 
@@ -96,10 +110,7 @@ fn can_spell(version: Version, flat: &Flat) -> bool
     requires { IsWhole flat.now }
     ensures { IsTrue result ↔ CanSpell version (chunks flat.now.entry_counts flat.now.names) }
 {
-    match version {
-        Version::V1 => true,
-        Version::V2 => never_fall(&flat.entry_counts, &flat.names),
-    }
+    version.can_spell(&flat.entry_counts, &flat.names)
 }
 
 /// Whether in none of the groups of these counts a name is less than the one before it.
