@@ -226,7 +226,7 @@ def readers_of_certificates(harness):
 
 GROUPS = {
     "scripts": built("mr_rows_tests", scripts),
-    "certificates": built("mr_rows_tests", certificates),
+    "items of certificates": built("mr_rows_tests", certificates),
     "lists of certificates": built("mr_rows_tests", lists_of_certificates),
     "readers of certificates": built("mr_rows_tests", readers_of_certificates),
 }

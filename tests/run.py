@@ -20,7 +20,11 @@ def groups():
     """All groups of checks by name, in the order in which they run."""
     out = {}
     for module in MODULES:
-        out.update(importlib.import_module(module).GROUPS)
+        own = importlib.import_module(module).GROUPS
+        twice = sorted(own.keys() & out.keys())
+        if twice:
+            raise ValueError(f"two groups are named {twice[0]}")
+        out.update(own)
     return out
 
 
