@@ -1,11 +1,12 @@
-"""Certificates of version 2, in which names are short: worked values, and each cut and each byte changed against the plain judge."""
+"""Certificates of version 2, in which names are short: worked values, and each cut and each byte changed against the plain judge,
+and what `seq --cert` writes."""
 import os
 import random
 
 from files import fed
-from harness import JUDGED, seeded, write_result
-from plain import Certificate, Request, in_version_2, judged, produced, read
-from producer import options_of
+from harness import JUDGED, WRITTEN, read_result, seeded, write_result
+from plain import JOBS, Certificate, Request, in_version_2, judged, produced, read
+from producer import options_of, random_job
 from rows import EXAMPLE
 
 ABA = Request("words", split=64), [b"a b a\n"], [b"a\t2\nb\t1\n"]
@@ -155,4 +156,52 @@ def byte_by_byte(harness):
                 told(harness, f"{request} with {byte} at {at}", request, files, outputs, changed, where)
 
 
-GROUPS = {"plain names of version 2": plain_ones, "version 2": worked, "version 2, byte by byte": byte_by_byte}
+def written(harness):
+    """`seq --cert 2` writes the parts of `seq` and the certificate of the plain writer, and `check` says yes to it."""
+    if 2 not in WRITTEN:
+        return
+    rnd, seen = seeded("seq in version 2"), set()
+    for turn in range(60):
+        request, files, skips = random_job(rnd)
+        names = {f"f{i}": data for i, data in enumerate(files)}
+        outputs, certificate, pairs = produced(request, files, skips)
+        words = [*options_of(request, "seq", skips), "--out", ".", *names]
+        alone = harness.run(words, names)
+        for version in rnd.sample(WRITTEN, 2):
+            certificate.version = version
+            name, data = f"job {turn} {request} in version {version}", certificate.bytes()
+            got = harness.run([*words, "--cert", str(version)], names)
+            harness.check(name, got[:3] == alone[:3] and got[0] == 0 and read_result(got[3]) == (outputs, data), repr(got[:3]))
+            got = harness.run([*options_of(request, "check"), "--out", ".", *names], cwd=got[3])
+            want = judged(request, files, outputs, data)
+            harness.check(f"{name}, judged", want.startswith("yes: ") and got[:3] == (0, want.encode(), b""), repr(got[:3]))
+        certificate.version = 1
+        harness.check(f"job {turn} {request}, without --cert", read_result(alone[3]) == (outputs, certificate.bytes()))
+        seen.add((request.job, bool(skips), pairs > 0))
+    missing = {(job, left, True) for job in JOBS for left in (False, True)} - seen
+    harness.check("each job was met, with and without left-out records", missing == set(), repr(missing))
+
+
+def faults(harness):
+    """Another version is a fault of the line, and nothing is written; a fault of the request comes as without `--cert`."""
+    if 2 not in WRITTEN:
+        return
+    words = ["seq", "--job", "words", "--out", "."]
+    for version in ("0", "3", "x", "", "-1", "1.0", "4294967297"):
+        got = harness.run([*words, f"--cert={version}", "a"], {"a": b"a\n"})
+        said = b"error: invalid value '%s' for '--cert <" % version.encode() if version else b"error: "
+        harness.check(f"--cert {version}", got[:2] == (2, b"") and got[2].startswith(said) and os.listdir(got[3]) == ["a"], repr(got))
+    got = harness.run([*words, "--cert", "1", "--cert", "2", "a"], {"a": b"a\n"})
+    harness.check("--cert twice", got[:2] == (2, b"") and b"cannot be used multiple times" in got[2] and os.listdir(got[3]) == ["a"], repr(got))
+    for more, said in ((["--parts", "0", "a"], b"BadParts"), (["--skips", "0:1", "--max-skips", "1", "a"], b"NoSuchRecord")):
+        got = harness.run([*words, "--cert", "2", *more], {"a": b"a\n"})
+        harness.check(f"--cert 2 and {said}", got[:3] == (2, b"", b"mapred: " + said + b"\n") and os.listdir(got[3]) == ["a"], repr(got))
+
+
+GROUPS = {
+    "plain names of version 2": plain_ones,
+    "version 2": worked,
+    "version 2, byte by byte": byte_by_byte,
+    "seq in version 2": written,
+    "faults of seq --cert": faults,
+}
