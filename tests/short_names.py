@@ -5,7 +5,8 @@ import random
 
 from files import fed
 from harness import JUDGED, WRITTEN, read_result, seeded, write_result
-from plain import JOBS, Certificate, Request, in_version_2, judged, produced, read
+from judging import ODD_NUMBERS
+from plain import JOBS, NAME, Certificate, Request, in_version_2, judged, produced, read
 from producer import options_of, random_job
 from rows import EXAMPLE
 
@@ -134,7 +135,7 @@ def results():
         (ABA[0], ABA[1], [], 0),
         (Request("grep", 2, 4, literal=b"Ab", fold=True, most=1), [b"ab\nxAB\n", b"b\naB\n"], [(0, 0)], 0),
         (Request("words", 2, 1), [late, b"", b"b\na"], [], 40),
-        (Request("words", 1, 1024, most=3), [late, b"a b\na\n"], [(0, 1), (0, 150)], 40),
+        (Request("words", 1, 1024, most=3), [late + b"c a b\n", b"a b\na\n"], [(0, 1), (0, 150)], 40),
         (Request("words", 1, 1024), [b"b " + b"a " * 140 + b"b"], [], 472),
     ]
     for request, files, skips, first in jobs:
@@ -143,8 +144,20 @@ def results():
         yield request, files, outputs, certificate.bytes(), first
 
 
+def odd_numbers(data, first):
+    """The certificate with one number of a name made each of the odd ones, and the place of the name."""
+    pieces = read(data).pieces()
+    places = [sum(map(len, pieces[:i])) for i in range(len(pieces))]
+    for i in [i for i, piece in enumerate(pieces) if NAME.fullmatch(piece) and places[i] >= first]:
+        for which in range(3):
+            for odd in ODD_NUMBERS:
+                numbers = [*NAME.fullmatch(pieces[i]).groups()]
+                numbers[which] = bytes.fromhex(odd)
+                yield f"{odd} as number {which} at {places[i]}", b"".join([*pieces[:i], *numbers, *pieces[i + 1 :]])
+
+
 def byte_by_byte(harness):
-    """A certificate cut at each place, and with each byte changed to a few others."""
+    """A certificate cut at each place, with each byte changed to a few others, and with each number of a name made an odd one."""
     if 2 not in JUDGED:
         return
     rnd = random.Random(17)
@@ -152,9 +165,11 @@ def byte_by_byte(harness):
         where = told(harness, f"{request} in version 2", request, files, outputs, data)
         for at in range(first, len(data)):
             told(harness, f"{request} cut to {at} bytes", request, files, outputs, data[:at], where)
-            for byte in sorted({data[at] ^ 1, data[at] ^ 0x80, 0, 0xFF, rnd.randrange(256)} - {data[at]}):
+            for byte in sorted({data[at] ^ 1, data[at] ^ 0x80, rnd.choice([0, 0x7F, 0xFF]), rnd.randrange(256)} - {data[at]}):
                 changed = data[:at] + bytes([byte]) + data[at + 1 :]
                 told(harness, f"{request} with {byte} at {at}", request, files, outputs, changed, where)
+        for name, changed in odd_numbers(data, first):
+            told(harness, f"{request} with {name}", request, files, outputs, changed, where)
 
 
 def written(harness):
