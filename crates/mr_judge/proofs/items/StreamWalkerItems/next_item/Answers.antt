@@ -5,7 +5,7 @@ use Rattle.mr_certform.proofs.Streams.{some_given}
 use Rattle.mr_judge.proofs.items.StreamWalkerItems.next_item.Goals as goal
 
 pub returns-then-place-clause-some : goal.returns-then-place-clause-some
-returns-then-place-clause-some g c = some_given (stream g.R.CountedRead.remaining c.next.new.self)
+returns-then-place-clause-some g c = some_given (stream g.R.CountedRead.remaining c.args.self.now)
 
 pub returns-in-Ok-clause-some : goal.returns-in-Ok-clause-some
 returns-in-Ok-clause-some g c = some_given (stream g.R.CountedRead.remaining c.next.new.self)
