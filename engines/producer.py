@@ -2,7 +2,7 @@
 """Makes a result with its certificate in Python: producer.py --out DIR --job JOB [options of the job] FILE..
 
 For those whose engine must make outputs itself: what it writes to DIR, part-00000 and so on and certificate, is byte for
-byte what `mapred seq` writes, by docs/FORMATS.md alone. Whoever makes them, `mapred check` decides. It holds the input
+byte what `mapred seq` writes, by docs/FORMATS.md alone; --cert 2 spells the names in the certificate short. Whoever makes them, `mapred check` decides. It holds the input
 and all names in memory and takes many times the processor time of `mapred seq`: where you can, let your engine start
 that in place of this."""
 import argparse
@@ -65,17 +65,39 @@ def partition_of(key, parts):
     return h % parts
 
 
+class Group:
+    """Of a key the number of its pairs, their names spelled one behind another in their order, and the ends of its lines."""
+
+    def __init__(self):
+        self.pairs, self.names, self.ends, self.last = 0, bytearray(), [], (0, 0, 0)
+
+    def add_short(self, name):
+        """Spells a name as version 2 does: the first number in which it is past the name before by how much it is, those
+        before that as 0, those behind it as they are; seven bits a byte, the lowest first, 0x80 where more come."""
+        split, number, place = (own - other for own, other in zip(name, self.last))
+        for step in (split, *name[1:]) if split else (0, number, name[2]) if number else (0, 0, place):
+            while step > 0x7F:
+                self.names.append(step & 0x7F | 0x80)
+                step >>= 7
+            self.names.append(step)
+        self.last = name
+
+
 def grouped(asked, files, skips):
-    """Of each key the names of its pairs, spelled one behind another in their order, and the ends of its lines."""
+    """The groups by their keys."""
     emitted, groups = mapper_of(asked), {}
     for split, number, file, start, line in named_records(files, asked.split):
         if (split, number) in skips:
             continue
         for place, (key, end) in enumerate(emitted(file, start, line)):
-            names, ends = groups.setdefault(key, (bytearray(), []))
-            names += name_bytes(split, number, place)
+            group = groups.get(key) or groups.setdefault(key, Group())
+            group.pairs += 1
+            if asked.cert == 1:
+                group.names += name_bytes(split, number, place)
+            else:
+                group.add_short((split, number, place))
             if end is not None:
-                ends.append(end)
+                group.ends.append(end)
     return groups
 
 
@@ -83,7 +105,7 @@ def front_of(asked, files, skips):
     """What stands in a certificate before its partitions."""
     literal = os.fsencode(asked.literal or "")
     flags = (1 if asked.keep_case else 0) + (2 if asked.fold else 0)
-    front = b"MRCERT1\n" + struct.pack(">III", JOBS[asked.job], flags, len(literal)) + literal
+    front = b"MRCERT%d\n" % asked.cert + struct.pack(">III", JOBS[asked.job], flags, len(literal)) + literal
     front += struct.pack(">III", asked.parts, asked.split, len(files)) + b"".join(struct.pack(">Q", len(data)) for data in files)
     return front + struct.pack(">I", len(skips)) + b"".join(struct.pack(">II", *skip) for skip in skips)
 
@@ -92,10 +114,9 @@ def partition(keys, groups):
     """The output of a partition, and what the certificate says of it, given its keys in their order."""
     out, names = [], [struct.pack(">I", len(keys))]
     for key in keys:
-        spelled, ends = groups[key]
-        lines = ends or [b"%d" % (len(spelled) // 12)]
-        out += [key + b"\t" + end + b"\n" for end in lines]
-        names += [struct.pack(">I", len(spelled) // 12), spelled]
+        group = groups[key]
+        out += [key + b"\t" + end + b"\n" for end in group.ends or [b"%d" % group.pairs]]
+        names += [struct.pack(">I", group.pairs), group.names]
     return b"".join(out), b"".join(names)
 
 
@@ -116,7 +137,7 @@ def produce(asked):
             with open(os.path.join(asked.out, f"part-{number:05}"), "wb") as part:
                 part.write(output)
             certificate.write(names)
-    return sum(len(names) // 12 for names, _ in groups.values())
+    return sum(group.pairs for group in groups.values())
 
 
 def main():
@@ -129,6 +150,7 @@ def main():
     parser.add_argument("--parts", type=int, default=1, help="partitions, one file each")
     parser.add_argument("--split", type=int, default=67108864, help="bytes of a split")
     parser.add_argument("--skips", default="", help="records to leave out, rising, as SPLIT:RECORD,SPLIT:RECORD")
+    parser.add_argument("--cert", type=int, choices=(1, 2), default=1, help="the version of the certificate")
     parser.add_argument("files", nargs="*", metavar="FILE")
     asked = parser.parse_args()
     if asked.job == "grep" and not asked.literal:

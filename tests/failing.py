@@ -3,7 +3,8 @@ import os
 import shutil
 import subprocess
 
-from harness import HERE
+from harness import HERE, JUDGED, WRITTEN
+from plain import in_version_2
 
 
 def shim(harness):
@@ -54,7 +55,12 @@ def failing_calls(harness):
         whole, _ = with_failing(harness, library, "none", seq, files)
         harness.check(f"{name} without a failing call", whole[0] == 0 and b"done: " in whole[1], repr(whole))
         judged_files = whole[3]
-        for words, given in ((seq, files), (["check", *options, "--out", ".", *files], judged_files), (["check", *options, "--verdict", "verdict", "--out", ".", *files], judged_files)):
+        asked = [(seq, files), (["check", *options, "--out", ".", *files], judged_files), (["check", *options, "--verdict", "verdict", "--out", ".", *files], judged_files)]
+        if 2 in JUDGED and name == "words":
+            asked.append((asked[1][0], {**judged_files, "certificate": in_version_2(judged_files["certificate"])}))
+        if 2 in WRITTEN and name == "words":
+            asked.append((["seq", "--cert", "2", *seq[1:]], files))
+        for words, given in asked:
             whole, _ = with_failing(harness, library, "none", words, given)
             short, _ = with_failing(harness, library, "short 0", words, given)
             harness.check(f"{words[0]} {name} a byte a call", short == whole and whole[0] == 0, repr(short))

@@ -6,8 +6,8 @@ from dataclasses import replace
 from functools import cache
 
 from failing import shim, with_failing
-from harness import random_log, random_text, seeded, write_result
-from plain import Request, judged, named_records, pairs_of, produced, text_of, u32s
+from harness import JUDGED, random_log, random_text, seeded, write_result
+from plain import NAME, Request, judged, named_records, pairs_of, produced, text_of, u32s
 from producer import options_of, random_job
 
 
@@ -114,9 +114,24 @@ def spoiled_bytes(rnd, data):
     return data[:at] + bytes([rnd.randrange(256)]) + data[at:]
 
 
+ODD_NUMBERS = ["", "00", "01", "7f", "80 01", "80", "80 00", "81 00", "ff ff ff ff 0f", "80 80 80 80 10", "ff ff ff ff 1f", "80 80 80 80 80 00"]
+
+
+def odd_number(rnd, pieces):
+    """The pieces of a certificate of version 2, joined, with one number of a name made another, among them such as aren't allowed."""
+    places = [at for at, piece in enumerate(pieces) if NAME.fullmatch(piece)]
+    if places:
+        at = rnd.choice(places)
+        numbers = [*NAME.fullmatch(pieces[at]).groups()]
+        numbers[rnd.randrange(3)] = bytes.fromhex(rnd.choice(ODD_NUMBERS))
+        pieces[at] = b"".join(numbers)
+    return b"".join(pieces)
+
+
 def spoiled(rnd, request, files, outputs, certificate):
-    """The request that is judged under, files, and a good result that is spoiled, or is left alone. The certificate is changed."""
-    kind, asked, outputs = rnd.randrange(10), request, list(outputs)
+    """The request that is judged under, files, and a good result that is spoiled, or is left alone. The certificate is changed;
+    where its names fall by that, it is spelled in version 1."""
+    kind, asked, outputs = rnd.randrange(10 if certificate.version == 1 else 14), request, list(outputs)
     if kind < 5:
         spoiled_groups(rnd, request, files, certificate)
         if rnd.random() < 0.8:
@@ -126,6 +141,7 @@ def spoiled(rnd, request, files, outputs, certificate):
         asked = replace(request, most=request.most + rnd.choice([0, 10]))
         if rnd.random() < 0.5 and len(certificate.partitions) == request.parts:
             outputs = rewritten(request, files, certificate)
+    certificate.version = certificate.version if certificate.rises() else 1
     data = certificate.bytes()
     if kind == 7:
         data = spoiled_bytes(rnd, data)
@@ -137,13 +153,16 @@ def spoiled(rnd, request, files, outputs, certificate):
         outputs += [b""] * (asked.parts - len(outputs))
         if rnd.random() < 0.4 and files:
             files = [*files[:-1], rnd.choice([files[-1] + b"x", files[-1][:-1], b""])]
+    elif kind > 9:
+        data = odd_number(rnd, certificate.pieces())
     return asked, files, outputs, data
 
 
-def one_spoiled(rnd):
+def one_spoiled(rnd, version):
     """A request, files, and a result that was good and is spoiled, or was left alone."""
     request, files, skips = random_job(rnd)
     outputs, certificate, _ = produced(request, files, skips)
+    certificate.version = version
     return spoiled(rnd, request, files, outputs, certificate)
 
 
@@ -155,25 +174,33 @@ def by_threads(harness, words, where):
         return list(zip(numbers, answers))
 
 
-def against_a_plain_judge(harness):
-    rnd = seeded("judging")
-    seen = {}
-    for turn in range(1500):
-        request, files, outputs, data = one_spoiled(rnd)
+def spoiled_turns(harness, rnd, version, turns):
+    """So many spoiled results, judged; what was told."""
+    seen = set()
+    for turn in range(turns):
+        request, files, outputs, data = one_spoiled(rnd, version)
         names = {f"f{i}": text for i, text in enumerate(files)}
         where = harness.directory(names)
         write_result(where, outputs, data)
         got = harness.run([*options_of(request, "check"), "--out", ".", *names], cwd=where)
         want = judged(request, files, outputs, data)
-        seen[want.split()[1] if want.startswith("no") else "yes"] = True
+        seen.add(want.split()[1] if want.startswith("no") else "yes")
         status = 0 if want.startswith("yes") else 1
-        harness.check(f"spoiled {turn} {request}", got[:3] == (status, want.encode(), b""), f"got {got[:3]!r} wanted {want!r}")
+        harness.check(f"spoiled {turn} of version {version} {request}", got[:3] == (status, want.encode(), b""), f"got {got[:3]!r} wanted {want!r}")
         words = [*options_of(request, "check"), "--out", ".", *names]
         for threads, answer in by_threads(harness, words, where):
-            harness.check(f"spoiled {turn} {request}, by {threads} threads", answer == got[:3], f"got {answer!r} wanted {want!r}")
-    faults = "Malformed OtherJob OtherInput SkipOrder NoSuchRecord TooManySkips NoSuchPair EntryOrder KeyDiffers WrongPartition KeyOrder OutputDiffers Unnamed yes"
-    missing = sorted(set(faults.split()) - set(seen))
-    harness.check("each fault was met", missing == [], repr(missing))
+            harness.check(f"spoiled {turn} of version {version} {request}, by {threads} threads", answer == got[:3], f"got {answer!r} wanted {want!r}")
+    return seen
+
+
+def against_a_plain_judge(harness):
+    often = "Malformed OtherJob OtherInput NoSuchPair EntryOrder OutputDiffers yes".split()
+    seldom = "SkipOrder NoSuchRecord TooManySkips KeyDiffers WrongPartition KeyOrder Unnamed".split()
+    for version, rnd, turns, faults in [(1, seeded("judging"), 1500, {*often, *seldom}), (2, seeded("judging version 2"), 300, {*often})]:
+        if version not in JUDGED:
+            continue
+        missing = faults - spoiled_turns(harness, rnd, version, turns)
+        harness.check(f"each fault was met in version {version}", missing == set(), repr(missing))
 
 
 def large_file(rnd, job, size):
@@ -206,13 +233,14 @@ def at_borders(rnd, request, files, names):
 def few_large_splits(harness):
     """Splits that are few and large are mapped in pieces by several threads, which say what one thread says."""
     rnd = seeded("large splits")
-    for turn in range(30):
+    for version, turn in [(1, turn) for turn in range(30)] + [(2, turn) for turn in (0, 1, 2, 9, 10, 11)] * (2 in JUDGED):
         job = ("words", "grep", "url")[turn % 3]
         request = Request(job, rnd.choice([1, 3, 7]), literal=b"the" if job == "grep" else b"")
         files = [large_file(rnd, job, rnd.choice([140_000, 300_000, 600_000])) for _ in range(rnd.choice([1, 1, 1, 2, 5]))]
         skips = at_borders(rnd, request, files, named_records(files, request.split)) if turn % 2 else []
         request.most = len(skips)
         outputs, certificate, pairs = produced(request, files, skips)
+        certificate.version = version
         good = "".join([f"yes: {pairs} pairs, {len(skips)} left out\n", *(f"left out {s} {r}\n" for s, r in skips)]).encode()
         asked, files, outputs, data = (request, files, outputs, certificate.bytes()) if turn < 9 else spoiled(rnd, request, files, outputs, certificate)
         names = {f"f{i}": text for i, text in enumerate(files)}
@@ -220,9 +248,10 @@ def few_large_splits(harness):
         write_result(where, outputs, data)
         words = [*options_of(asked, "check"), "--out", ".", *names]
         alone = harness.run(words, cwd=where)[:3]
-        harness.check(f"large splits {turn} {asked}, by one thread", alone[0] in (0, 1) and (turn >= 9 or alone == (0, good, b"")), repr((alone, good)))
+        name = f"large splits {turn} of version {version} {asked}"
+        harness.check(f"{name}, by one thread", alone[0] in (0, 1) and (turn >= 9 or alone == (0, good, b"")), repr((alone, good)))
         for threads, answer in by_threads(harness, words, where):
-            harness.check(f"large splits {turn} {asked}, by {threads} threads", answer == alone, f"got {answer!r} wanted {alone!r}")
+            harness.check(f"{name}, by {threads} threads", answer == alone, f"got {answer!r} wanted {alone!r}")
 
 
 def section_borders(groups, entries=65536):
@@ -282,15 +311,16 @@ def large_partitions(harness):
     """A large partition is judged in sections by several threads, which say what one thread says, also where the sections
     don't fit together."""
     rnd = seeded("sections")
-    for job, parts in (("words", 1), ("words", 2), ("grep", 1), ("url", 1)):
+    for version, job, parts in [(1, "words", 1), (1, "words", 2), (1, "grep", 1), (1, "url", 1)] + [(2, "grep", 1)] * (2 in JUDGED):
         request = Request(job, parts, split=100_000, literal=b"a" if job == "grep" else b"")
         words = [b"%s%d" % (rnd.choice([b"a", b"the", b"Zebra-"]), n) for n in range(1500)]
         line = {"words": lambda: b" ".join(rnd.choices(words, k=9)), "grep": lambda: b"a " + rnd.choice(words), "url": lambda: b'1.2.3.4 "GET /%s HTTP/1.0" 200' % rnd.choice(words)}[job]
         data = b"".join(line() + b"\n" for _ in range(26_000 * parts if job == "words" else 180_000))
         outputs, certificate, pairs = produced(request, [data])
+        certificate.version = version
         known = pairs_of(request, [data])
         text = cache(lambda names: text_of(request, known[names[0]][0], [known[name][1] for name in names if name in known]))
-        spelled = cache(lambda names: u32s(len(names)) + b"".join(u32s(*name) for name in names))
+        spelled = cache(lambda names: u32s(len(names)) + b"".join(certificate.named(names)))
         partitions, certificate.partitions = [[tuple(names) for names in groups] for groups in certificate.partitions], []
         front, p = certificate.bytes(), parts - 1
         borders = section_borders(partitions[p])
@@ -299,12 +329,16 @@ def large_partitions(harness):
         asked = [*options_of(request, "check"), "--out", ".", "f0"]
         for kind in AT_A_BORDER:
             groups, output = spoiled_at(kind, partitions[p], outputs[p], borders[-1], text)
+            certificate.partitions = [groups]
+            if version == 2 and not certificate.rises():
+                continue
             behind = b"".join(u32s(len(one)) + b"".join(map(spelled, one)) for one in [*partitions[:p], groups])
             write_result(where, [*outputs[:p], output], front + behind)
             alone = harness.run(asked, cwd=where)[:3]
-            harness.check(f"sections of {request}, {kind}, by one thread", (alone[1] == b"yes: %d pairs, 0 left out\n" % pairs) == (kind == "nothing"), repr(alone))
+            name = f"sections of {request} in version {version}, {kind}"
+            harness.check(f"{name}, by one thread", (alone[1] == b"yes: %d pairs, 0 left out\n" % pairs) == (kind == "nothing"), repr(alone))
             for threads, answer in by_threads(harness, asked, where):
-                harness.check(f"sections of {request}, {kind}, by {threads} threads", answer == alone, f"got {answer!r} wanted {alone!r}")
+                harness.check(f"{name}, by {threads} threads", answer == alone, f"got {answer!r} wanted {alone!r}")
 
 
 def the_same_each_time(harness):

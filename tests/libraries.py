@@ -6,6 +6,8 @@ import os
 import struct
 import subprocess
 
+from harness import JUDGED
+
 TOP = os.path.dirname(os.path.dirname(os.path.abspath(__file__)))
 
 
@@ -128,14 +130,21 @@ ITEMS = [
     (f"Entry({THIRD[0]})", THIRD[1]),
 ]
 EXAMPLE = b"".join(data for _, data in ITEMS)
-# where each item begins, and the end
-PLACES = [sum(len(data) for _, data in ITEMS[:n]) for n in range(len(ITEMS) + 1)]
 
 
-def cut(n):
+def places_of(items):
+    """Where each item begins, and the end."""
+    return [sum(len(data) for _, data in items[:n]) for n in range(len(items) + 1)]
+
+
+PLACES = places_of(ITEMS)
+
+
+def cut(n, items=ITEMS):
     """What is told of the first `n` bytes: the items that stand whole, and twice the place where they stop."""
-    whole = sum(place <= n for place in PLACES[1:])
-    return [f"Malformed at {PLACES[whole]}", *(item for item, _ in ITEMS[:whole]), *[f"stops at {PLACES[whole]}"] * 2]
+    places = places_of(items)
+    whole = sum(place <= n for place in places[1:])
+    return [f"Malformed at {places[whole]}", *(item for item, _ in items[:whole]), *[f"stops at {places[whole]}"] * 2]
 
 
 def certificates(harness):
@@ -224,9 +233,78 @@ def readers_of_certificates(harness):
         harness.check(f"20,000 names and a byte, {most} a call", said[-3:] == ["stops at 240044", "stops at 240044", "at 240044, failed 0"])
 
 
+# The same example in version 2, in which names are short: the third name is one place on from no name, the second two from the first.
+
+SHORT_ITEMS = [("Magic", b"MRCERT2\n"), *ITEMS[1:11], (ITEMS[11][0], bytes(3)), (ITEMS[12][0], b"\0\0\2"), ITEMS[13], (ITEMS[14][0], b"\0\0\1")]
+SHORT_EXAMPLE = b"".join(data for _, data in SHORT_ITEMS)
+
+# Bytes in place of the name at 55, and what is told of it behind (0, 0, 0), or nothing where it doesn't stand.
+SHORT_NAMES = [
+    ("00 00 7f", (0, 0, 127)),
+    ("00 00 80 01", (0, 0, 128)),
+    ("00 03 05", (0, 3, 5)),
+    ("02 00 05", (2, 0, 5)),
+    ("ff ff ff ff 0f ff ff ff ff 0f ff ff ff ff 0f", (2**32 - 1, 2**32 - 1, 2**32 - 1)),
+    ("00 00 80 00", None),
+    ("00 00 82 00", None),
+    ("80 00 00 02", None),
+    ("00 80 80 80 80 10 02", None),
+    ("ff ff ff ff 1f 00 02", None),
+    ("00 00 80 80 80 80 80 01", None),
+    ("00 00 80 80 80 80 00", None),
+]
+
+
+def told_of_name(spelled, told_as):
+    """The example of version 2 with other bytes at 55, and its items."""
+    items = [*SHORT_ITEMS]
+    items[12] = (f"Entry({name(*told_as or (0, 0, 0))[0]})", bytes.fromhex(spelled))
+    return b"".join(data for _, data in items), items
+
+
+def short_certificates(harness):
+    if 2 not in JUDGED:
+        return
+    tells = lambda *words: told("certificates", *words)
+    items = [item for item, _ in SHORT_ITEMS]
+    said = tells(SHORT_EXAMPLE)
+    # the fifth line tells whether it is written again as it was
+    harness.check("the example of version 2", len(SHORT_EXAMPLE) == 65 and said[:4] + said[5:] == [*tells(EXAMPLE)[:4], *tells(EXAMPLE)[5:8], *items, "End", "End"], repr(said))
+    for n in range(1, 65):
+        harness.check(f"the first {n} bytes of it", tells(SHORT_EXAMPLE[:n]) == cut(n, SHORT_ITEMS))
+        for most in (1, 7, 65_536):
+            place = cut(n, SHORT_ITEMS)[-1].split()[-1]
+            harness.check(f"the first {n} bytes of it, {most} a call", tells(SHORT_EXAMPLE[:n], most) == [*cut(n, SHORT_ITEMS)[1:], f"at {place}, failed 0"])
+    harness.check("a byte behind it", tells(SHORT_EXAMPLE + b"\0")[0] == "Malformed at 65")
+    for spelled, told_as in SHORT_NAMES:
+        data, own = told_of_name(spelled, told_as)
+        wanted = cut(55, SHORT_ITEMS) if told_as is None else [*(item for item, _ in own), "End", "End"]
+        harness.check(f"{spelled} at 55", tells(data)[-len(wanted) :] == wanted, repr(tells(data)))
+        for most in (1, 5):
+            last = f"at {55 if told_as is None else len(data)}, failed 0"
+            harness.check(f"{spelled} at 55, {most} a call", tells(data, most) == [*wanted[told_as is None :], last])
+
+
+def large_short_certificates(harness):
+    """A group of 20,000 names of 3 to 5 bytes, with pieces that end anywhere in one."""
+    if 2 not in JUDGED:
+        return
+    front = b"MRCERT2\n" + number(1) + number(0) + number(0) + number(1) + number(64) + number(0) + number(0)
+    names = [bytes(3), b"\0\0\x80\1", b"\0\xff\1\5", b"\x81\1\0\xff\1"] * 5_000
+    large = front + number(1) + number(20_000) + b"".join(names)
+    end, last = len(large), len(large) - len(names[-1])
+    for most in (65_536, 65_521, 4_099, 13, 1):
+        for what, data, stop in [("20,000 names", large, None), ("but for a byte", large[:-1], last), ("and a byte", large + b"\0", end)]:
+            said = told("certificates", data, most)
+            wanted = ["End", "End", f"at {end}, failed 0"] if stop is None else [f"stops at {stop}", f"stops at {stop}", f"at {stop}, failed 0"]
+            harness.check(f"short names: {what}, {most} a call", said[-3:] == wanted, repr(said[-3:]))
+
+
 GROUPS = {
     "scripts": built("mr_rows_tests", scripts),
-    "certificates": built("mr_rows_tests", certificates),
+    "items of certificates": built("mr_rows_tests", certificates),
     "lists of certificates": built("mr_rows_tests", lists_of_certificates),
     "readers of certificates": built("mr_rows_tests", readers_of_certificates),
+    "items of version 2": built("mr_rows_tests", short_certificates),
+    "many items of version 2": built("mr_rows_tests", large_short_certificates),
 }

@@ -5,7 +5,10 @@ import re
 import struct
 from dataclasses import dataclass, field
 
-MAGIC = b"MRCERT1\n"
+MAGICS = {1: b"MRCERT1\n", 2: b"MRCERT2\n"}
+# A number of version 2: bytes of seven bits, the lowest first, at most 4294967295, without a last byte of nothing; and a name.
+SHORT = rb"(\x00|[\x80-\xff]{0,3}[\x01-\x7f]|[\x80-\xff]{4}[\x01-\x0f])"
+NAME = re.compile(SHORT * 3)
 WORD = re.compile(rb"[0-9A-Za-z\x80-\xff]+")
 FOLD = bytes(b + 32 if 0x41 <= b <= 0x5A else b for b in range(256))
 JOBS = {"words": 1, "grep": 2, "url": 3}
@@ -117,6 +120,34 @@ def u32s(*numbers):
     return struct.pack(f">{len(numbers)}I", *numbers)
 
 
+def short(number):
+    """The bytes of a number in version 2."""
+    out = bytearray()
+    while number >= 0x80:
+        out.append(number & 0x7F | 0x80)
+        number >>= 7
+    return bytes([*out, number])
+
+
+def short_number(spelled):
+    """The number of these bytes."""
+    return sum((byte & 0x7F) << 7 * i for i, byte in enumerate(spelled))
+
+
+def steps(before, name):
+    """The numbers that tell a name in version 2: the first in which it is past the name before by how much it is, those
+    before that as 0, those behind it as they are."""
+    split, rec, place = (own - other for own, other in zip(name, before))
+    return (split, *name[1:]) if split else (0, rec, name[2]) if rec else (0, 0, place)
+
+
+def stepped(before, split, rec, place):
+    """The name that these numbers tell behind another."""
+    if split:
+        return before[0] + split, rec, place
+    return (before[0], before[1] + rec, place) if rec else (*before[:2], before[2] + place)
+
+
 @dataclass
 class Certificate:
     """A certificate as a value; `partitions` are lists of groups, each a list of names."""
@@ -129,17 +160,31 @@ class Certificate:
     lengths: list
     skips: list
     partitions: list = field(default_factory=list)
+    version: int = 1
 
-    def bytes(self):
-        out = [MAGIC, u32s(self.job, self.flags, len(self.literal)), self.literal]
+    def rises(self):
+        """Whether no name of a group is less than the one before it: others have no spelling in version 2."""
+        return all(a <= b for groups in self.partitions for names in groups for a, b in zip(names, names[1:]))
+
+    def named(self, names):
+        """The bytes of each name of a group."""
+        if self.version == 1:
+            return [u32s(*name) for name in names]
+        return [b"".join(map(short, steps(before, name))) for before, name in zip([(0, 0, 0), *names], names)]
+
+    def pieces(self):
+        out = [MAGICS[self.version], u32s(self.job, self.flags, len(self.literal)), self.literal]
         out += [u32s(self.parts, self.split, len(self.lengths))]
         out += [struct.pack(">Q", length) for length in self.lengths]
         out += [u32s(len(self.skips)), *(u32s(*skip) for skip in self.skips)]
         for groups in self.partitions:
             out.append(u32s(len(groups)))
             for names in groups:
-                out += [u32s(len(names)), *(u32s(*name) for name in names)]
-        return b"".join(out)
+                out += [u32s(len(names)), *self.named(names)]
+        return out
+
+    def bytes(self):
+        return b"".join(self.pieces())
 
 
 def certificate_of(request, files, skips):
@@ -166,10 +211,16 @@ class No(Exception):
 
 
 class Walk:
-    """The items of a certificate's bytes, from the front."""
+    """The items of a certificate's bytes, from the front. The magic tells the version."""
 
     def __init__(self, data):
-        self.data, self.at = data, 0
+        self.data, self.at, self.version = data, 0, 0
+
+    def magic(self):
+        self.version = next((version for version, magic in MAGICS.items() if self.data[:8] == magic), 0)
+        if self.version == 0:
+            raise No("Malformed at 0")
+        self.at = 8
 
     def take(self, size):
         if self.at + size > len(self.data):
@@ -187,6 +238,52 @@ class Walk:
     def numbers(self, count):
         return struct.unpack(f">{count}I", self.take(4 * count))
 
+    def name(self, names):
+        """The name of an entry behind these of its group."""
+        if self.version == 1:
+            return self.numbers(3)
+        spelled = NAME.match(self.data, self.at)
+        name = stepped(names[-1] if names else (0, 0, 0), *map(short_number, spelled.groups())) if spelled else ()
+        if not spelled or max(name) >= 2**32:
+            raise No(f"Malformed at {self.at}")
+        self.at = spelled.end()
+        return name
+
+    def group(self):
+        """The names of a group."""
+        names = []
+        for _ in range(self.u32(low=1)):
+            names.append(self.name(names))
+        return names
+
+    def end(self):
+        if self.at < len(self.data):
+            raise No(f"Malformed at {self.at}")
+
+
+def read(data):
+    """The certificate that bytes spell, in the version of their magic."""
+    walk = Walk(data)
+    walk.magic()
+    job, flags = walk.numbers(2)
+    literal = walk.take(walk.u32(high=4096))
+    parts, split = walk.u32(1, 1024), walk.u32()
+    lengths = [int.from_bytes(walk.take(8), "big") for _ in range(walk.u32(high=1024))]
+    skips = [walk.numbers(2) for _ in range(walk.u32())]
+    partitions = [[walk.group() for _ in range(walk.u32())] for _ in range(parts)]
+    walk.end()
+    return Certificate(job, flags, literal, parts, split, lengths, skips, partitions, walk.version)
+
+
+def in_version_2(data):
+    """The same certificate in version 2; None where there is none, as bytes spell none or names fall."""
+    try:
+        certificate = read(data)
+    except No:
+        return None
+    certificate.version = 2
+    return certificate.bytes() if certificate.rises() else None
+
 
 def wanted(fault, got, want):
     if got != want:
@@ -195,9 +292,7 @@ def wanted(fault, got, want):
 
 def judge_header(walk, request, files):
     """The tests before the partitions; the left-out records."""
-    if walk.data[:8] != MAGIC:
-        raise No("Malformed at 0")
-    walk.at = 8
+    walk.magic()
     wanted("OtherJob", walk.u32(), JOBS[request.job])
     wanted("OtherJob", walk.u32(), request.flags())
     wanted("OtherJob", walk.u32(high=4096), len(request.literal))
@@ -226,7 +321,7 @@ def judge_group(walk, pairs, request, p, g, before):
     """One group: its key, and the values of its entries."""
     key, names, values = None, [], []
     for e in range(walk.u32(low=1)):
-        name, place = walk.numbers(3), f"partition {p} group {g} entry {e}"
+        name, place = walk.name(names), f"partition {p} group {g} entry {e}"
         if name not in pairs:
             raise No(f"NoSuchPair {place}")
         own, value = pairs[name]
@@ -268,8 +363,7 @@ def judged(request, files, outputs, data):
         skips = judge_header(walk, request, files)
         pairs = pairs_of(request, files, skips)
         entries = sum(judge_partition(walk, pairs, request, p, output) for p, output in enumerate(outputs))
-        if walk.at < len(data):
-            raise No(f"Malformed at {walk.at}")
+        walk.end()
         if entries < len(pairs):
             raise No(f"Unnamed emitted {len(pairs)} named {entries}")
     except No as fault:

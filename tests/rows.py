@@ -1,6 +1,6 @@
 """What groups of worked rows share: a row is a command line with its files and all that it must leave."""
-from harness import parts_of, read_result as result_of, write_result
-from plain import Certificate, Request, produced
+from harness import JUDGED, WRITTEN, parts_of, read_result as result_of, write_result
+from plain import Certificate, Request, in_version_2, produced
 
 MAGIC = bytes.fromhex("4d 52 43 45 52 54 31 0a")
 
@@ -39,6 +39,29 @@ def judged(harness, words, files, where):
     return alone
 
 
+def judged_in_version_2(harness, name, words, files, where, answer):
+    """`check` says the same of the certificate that stands there put into version 2, where it can be; it stands as before then."""
+    parts, certificate = result_of(where)
+    short = in_version_2(certificate) if 2 in JUDGED else None
+    if short is not None:
+        write_result(where, parts, short)
+        got = judged(harness, words, files, where)
+        harness.check(name + ", judged in version 2", got == answer, repr(got))
+        write_result(where, parts, certificate)
+
+
+def written_in_versions(harness, name, words, files, said):
+    """`seq --cert` of the same line says the same and writes the same parts, and the certificate in the version that is asked for."""
+    if 2 not in WRITTEN:
+        return
+    parts, certificate = result_of(said[3])
+    for version, data in ((1, certificate), (2, in_version_2(certificate))):
+        got = harness.run([*words, "--cert", str(version), "--out", ".", *files], files)
+        harness.check(f"{name}, --cert {version}", got[:3] == said[:3] and result_of(got[3]) == (parts, data), repr(got[:3]))
+        answer = judged(harness, words, files, got[3])
+        harness.check(f"{name}, --cert {version}, judged", answer == yes_of(said[1], skips_of(words)), repr(answer))
+
+
 def yes_of(done, skips):
     """What `check` says where `seq` said that it was done."""
     lines = [b"yes: " + done.split(b"files, ")[1], *(b"left out %d %d\n" % skip for skip in skips)]
@@ -62,6 +85,8 @@ def row(harness, name, words, files, status=0, out=b"", err=b"", parts=None, cer
         answer = judged(harness, words, files, got[3])
         harness.check(name + ", judged", answer == yes_of(out, skips_of(words)), repr(answer))
         harness.check(name + ", judged without a change", result_of(got[3]) == stands)
+        judged_in_version_2(harness, name, words, files, got[3], answer)
+        written_in_versions(harness, name, words, files, got)
     else:
         harness.check(name + ", no certificate", stands[1] is None)
 
@@ -76,6 +101,7 @@ def refused(harness, name, said, data, parts, certificate, options=(), split="64
     for threads in ("1", "2", "64"):
         answer = harness.run([*words, "--threads", threads], cwd=where)
         harness.check(f"refused by {threads} threads: {name}", answer[:3] == got[:3], repr(answer[:3]))
+    judged_in_version_2(harness, "refused: " + name, words[:-3], ["a"], where, got[:3])
 
 
 def compared(harness, name, job, files, parts, options=(), **rules):
@@ -90,3 +116,5 @@ def compared(harness, name, job, files, parts, options=(), **rules):
     harness.check(name + ", certificate", result_of(got[3])[1] == certificate)
     answer = judged(harness, words, names, got[3])
     harness.check(name + ", judged", answer == yes_of(done, skips), repr(answer))
+    judged_in_version_2(harness, name, words, names, got[3], answer)
+    written_in_versions(harness, name, words, names, got)

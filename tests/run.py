@@ -13,14 +13,18 @@ import time
 sys.path.insert(0, os.path.dirname(os.path.abspath(__file__)))
 from harness import Harness
 
-MODULES = ["wrong_bodies", "examples", "worked", "literals", "emitted", "ground", "buffers", "master", "book", "runs", "regions", "pool", "running", "libraries", "colliding", "lanes", "command_line", "hints", "files", "failing", "memory", "producer", "judging", "verdicts", "merge", "tools"]
+MODULES = ["wrong_bodies", "examples", "worked", "literals", "emitted", "ground", "buffers", "master", "book", "runs", "regions", "pool", "running", "libraries", "colliding", "lanes", "command_line", "hints", "files", "failing", "memory", "producer", "judging", "short_names", "verdicts", "merge", "tools", "launcher"]
 
 
 def groups():
     """All groups of checks by name, in the order in which they run."""
     out = {}
     for module in MODULES:
-        out.update(importlib.import_module(module).GROUPS)
+        own = importlib.import_module(module).GROUPS
+        twice = sorted(own.keys() & out.keys())
+        if twice:
+            raise ValueError(f"two groups are named {twice[0]}")
+        out.update(own)
     return out
 
 

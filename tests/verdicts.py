@@ -2,7 +2,7 @@
 import hashlib
 import os
 
-from harness import seeded, write_result
+from harness import JUDGED, seeded, write_result
 from plain import JOBS, judged, produced
 from producer import options_of, random_job
 
@@ -32,7 +32,8 @@ def contents(where):
 
 
 def texts(harness):
-    """A yes writes the text of its verdict and says what it says without, whatever the threads; nothing else changes."""
+    """A yes writes the text of its verdict and says what it says without, whatever the threads and the certificate's version;
+    nothing else changes."""
     rnd = seeded("verdicts")
     seen = set()
     for turn in range(60):
@@ -46,7 +47,12 @@ def texts(harness):
         want = (0, judged(request, files, outputs, certificate.bytes()).encode(), b"")
         harness.check(f"{turn} {request}, no verdict asked for", harness.run(words, cwd=where)[:3] == want and contents(where) == before)
         text = verdict_text(request, names.items(), outputs, skips, pairs)
-        for threads, file in (("1", "verdict"), ("2", "another"), ("8", "verdict")):
+        for threads, file, version in (("1", "verdict", 1), ("2", "another", 1), ("8", "verdict", 1), ("1", "verdict", 2), ("3", "another", 2)):
+            if version not in JUDGED:
+                continue
+            certificate.version = version
+            before["certificate"] = certificate.bytes()
+            write_result(where, outputs, before["certificate"])
             got = harness.run([*words, "--threads", threads, "--verdict", file], cwd=where)[:3]
             before[file] = text
             harness.check(f"{turn} {request} by {threads}", got == want and contents(where) == before, repr((got, contents(where).get(file), text)))

@@ -3,7 +3,7 @@ import random
 
 from harness import read_result as result_of, write_result
 from plain import u32s
-from rows import EXAMPLE, MAGIC, certificate_of, judged, refused, row
+from rows import EXAMPLE, MAGIC, certificate_of, judged, judged_in_version_2, refused, row
 
 
 def worked_rows(harness):
@@ -138,8 +138,10 @@ def tells(harness, name, request, data, outputs, certificate, said):
     """The judge's answer on one file, yes or no."""
     where = harness.directory({"a": data})
     write_result(where, outputs, certificate)
-    got = harness.run(["check", *request, "--parts", str(len(outputs)), "--split", "64", "--out", ".", "a"], cwd=where)
+    words = ["check", *request, "--parts", str(len(outputs)), "--split", "64"]
+    got = harness.run([*words, "--out", ".", "a"], cwd=where)
     harness.check("told: " + name, got[:3] == (0 if said.startswith(b"yes") else 1, said + b"\n", b""), repr(got[:3]))
+    judged_in_version_2(harness, "told: " + name, words, ["a"], where, got[:3])
 
 
 WORDS = ["--job", "words"]

@@ -74,7 +74,7 @@ told_first (f ∷ faults) a fault e = let same : f ≡ fault = cc in ap (λ (w :
 
 pub later_items_dont_matter : LaterItemsDontMatter
 unfolding verdict_of
-later_items_dont_matter c is more fault order end tells tested =
-    let found = longest_items (bytes_from AtMagic is ++ more) is more order end refl in
-    let here = all_tell fault tested c (stop (bytes_from AtMagic is ++ more)) is found.0 tells in
-    told_first _ _ fault (ap (λ (w : List Item). first (faults (case_of c.request c.files c.outputs (bytes_from AtMagic is ++ more)) w)) found.1 ∙ here)
+later_items_dont_matter c v is more fault order end tells tested =
+    let found = longest_items v (bytes_from v AtMagic is ++ more) is more order end refl in
+    let here = all_tell fault tested c (stop (bytes_from v AtMagic is ++ more)) is found.0 tells in
+    told_first _ _ fault (ap (λ (w : List Item). first (faults (case_of c.request c.files c.outputs (bytes_from v AtMagic is ++ more)) w)) found.1 ∙ here)

@@ -3,6 +3,8 @@ use Rattle.std.proofs.Common.{◌≡◌, ℕ, refl, [], ◌∷◌, ◌++◌, tak
 use Rattle.std.proofs.lemmas.Fmt.{decimal_digit}
 use Rattle.mr_bytes.specs.Words.{extend, word_spans_from}
 use Rattle.mr_certform.specs.Spelling.{items_from, items_of, stop}
+use Rattle.mr_certform.specs.declared.version.Version.TheVariants.{V2}
+use Rattle.mr_certform.specs.Short.{short, short_at, short_name_bytes, short_name_at}
 use Rattle.mr_certform.specs.Value.{certificate_items, spelling}
 use Rattle.mr_jobs.specs.JobSpec.{WordCount}
 use Rattle.mr_partition.specs.Partition.{fnv_from}
@@ -11,11 +13,11 @@ use Rattle.mr_sequential.specs.Emitted.{placed_from}
 use Rattle.mr_splits.specs.Named.{named_from, named_files}
 use Rattle.mr_answers.specs.declared.fault.No.{No}
 use Rattle.mr_answers.specs.Verdict.{verdict_of}
-use Rattle.mr_answers.specs.VerdictRows.{words, a_b_a, a_b_aa, line, a2_b1, name, certificate, of_groups, good_bytes, says, of_a, last_name, says_without, word, b1_d1, of_third, first_record}
+use Rattle.mr_answers.specs.VerdictRows.{words, a_b_a, a_b_aa, line, a2_b1, name, certificate_in, certificate, of_groups, good_bytes, short_front, short_back, short_bytes, says, of_a, last_name, says_without, word, b1_d1, of_third, first_record}
 
 -- all that the rows compute with
 computing : ℕ
-unfolding verdict_of certificate_items spelling items_of items_from stop fnv_from lengthen records_from placed_from named_from named_files extend word_spans_from
+unfolding verdict_of certificate_items spelling short short_at short_name_bytes short_name_at items_of items_from stop fnv_from lengthen records_from placed_from named_from named_files extend word_spans_from
 computing = 0
 
 pub row_spelled : certificate 1 6 [] (((name 0 0 0 ∷ name 0 0 2 ∷ []) ∷ (name 0 0 1 ∷ []) ∷ []) ∷ []) ≡ good_bytes
@@ -25,6 +27,34 @@ row_spelled = refl
 pub row_yes : says a2_b1 good_bytes ≡ Ok (record { skips = []; pairs = 3 })
 unfolding computing
 row_yes = rw (decimal_digit 2 (omega arith), decimal_digit 1 (omega arith))
+
+pub row_short_spelled : certificate_in V2 1 6 [] (((name 0 0 0 ∷ name 0 0 2 ∷ []) ∷ (name 0 0 1 ∷ []) ∷ []) ∷ []) ≡ short_bytes
+unfolding computing
+row_short_spelled = refl
+
+pub row_short_yes : says a2_b1 short_bytes ≡ Ok (record { skips = []; pairs = 3 })
+unfolding computing
+row_short_yes = rw (decimal_digit 2 (omega arith), decimal_digit 1 (omega arith))
+
+pub row_short_twice : says a2_b1 (short_front ++ 0 ∷ 0 ∷ 0 ∷ 0 ∷ 0 ∷ 0 ∷ short_back) ≡ Err (No.EntryOrder 0 0 1)
+unfolding computing
+row_short_twice = refl
+
+pub row_short_no_number : says a2_b1 (short_front ++ 0 ∷ 0 ∷ 0 ∷ 0 ∷ 0 ∷ 0x82 ∷ 0 ∷ short_back) ≡ Err (No.Malformed 55)
+unfolding computing
+row_short_no_number = refl
+
+pub row_short_no_pair : says a2_b1 (short_front ++ 0xff ∷ 0xff ∷ 0xff ∷ 0xff ∷ 0x0f ∷ 0 ∷ 0 ∷ 0 ∷ 0 ∷ 2 ∷ short_back) ≡ Err (No.NoSuchPair 0 0 0)
+unfolding computing
+row_short_no_pair = refl
+
+pub row_short_too_great : says a2_b1 (short_front ++ 0xff ∷ 0xff ∷ 0xff ∷ 0xff ∷ 0x1f ∷ 0 ∷ 0 ∷ 0 ∷ 0 ∷ 2 ∷ short_back) ≡ Err (No.Malformed 52)
+unfolding computing
+row_short_too_great = refl
+
+pub row_short_cut : says a2_b1 (take 64 short_bytes) ≡ Err (No.Malformed 62)
+unfolding computing
+row_short_cut = rw (decimal_digit 2 (omega arith))
 
 pub row_entry_order : of_groups a2_b1 ((name 0 0 0 ∷ name 0 0 0 ∷ []) ∷ (name 0 0 1 ∷ []) ∷ []) ≡ Err (No.EntryOrder 0 0 1)
 unfolding computing

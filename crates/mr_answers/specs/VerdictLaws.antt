@@ -9,7 +9,8 @@ use Rattle.mr_splits.specs.Cut.{is_record}
 use Rattle.mr_certform.specs.declared.item.Item.{Item}
 use Rattle.mr_certform.specs.declared.item.Item.TheVariants.{Skips, Skip, Groups, End}
 use Rattle.mr_certform.specs.declared.place.Place.TheVariants.{AtMagic}
-use Rattle.mr_certform.specs.Grammar.{AreBytes, InOrder}
+use Rattle.mr_certform.specs.declared.version.Version.{Version}
+use Rattle.mr_certform.specs.Grammar.{AreBytes, InOrderIn}
 use Rattle.mr_certform.specs.Spelling.{items_of, bytes_from, is_ended}
 use Rattle.mr_sequential.specs.Emitted.{emitted}
 use Rattle.mr_sequential.specs.Good.{IsGoodResult}
@@ -131,9 +132,9 @@ IsTested fault = Unit {0}
 
 -- a fault that the tests of a beginning of the items tell is the verdict, whatever bytes follow
 abbrev pub LaterItemsDontMatter : Type 0
-LaterItemsDontMatter = (c : Case) (is : List Item) (more : List ℕ) (fault : No)
-    → InOrder AtMagic is → (is_ended is ≡ true → more ≡ []) → first (faults c is) ≡ Some fault → IsTested fault
-    → verdict_of c.request c.files c.outputs (bytes_from AtMagic is ++ more) ≡ Err fault
+LaterItemsDontMatter = (c : Case) (v : Version) (is : List Item) (more : List ℕ) (fault : No)
+    → InOrderIn v AtMagic is → (is_ended is ≡ true → more ≡ []) → first (faults c is) ≡ Some fault → IsTested fault
+    → verdict_of c.request c.files c.outputs (bytes_from v AtMagic is ++ more) ≡ Err fault
 
 -- the partition that a fault names
 abbrev pub partition_named : No → Option ℕ

@@ -3,6 +3,8 @@ use Rattle.std.specs.Prelude.{◌≡◌, ℕ, true, false, List, [], ◌∷◌, 
 use Rattle.mr_bytes.specs.declared.Name.{Name}
 use Rattle.mr_bytes.specs.declared.RecordName.{RecordName}
 use Rattle.mr_jobs.specs.JobSpec.{RequestSpec, WordCount}
+use Rattle.mr_certform.specs.declared.version.Version.{Version}
+use Rattle.mr_certform.specs.declared.version.Version.TheVariants.{V1, V2}
 use Rattle.mr_certform.specs.Value.{spelling}
 use Rattle.mr_answers.specs.declared.fault.No.{No}
 use Rattle.mr_answers.specs.Verdict.{Accepted, verdict_of}
@@ -34,10 +36,13 @@ a2_b1 = line 97 50 ++ line 98 49
 abbrev pub name : ℕ → ℕ → ℕ → Name
 name split rec place = record { split = split; rec = rec; place = place }
 
--- the certificate of words over one file of so many bytes
+-- the certificate of words over one file of so many bytes, in a version
+abbrev pub certificate_in : Version → ℕ → ℕ → List RecordName → List (List (List Name)) → List ℕ
+certificate_in version parts size skips groups =
+    spelling version (record { job = 1; flags = 0; literal = []; parts = parts; split_size = 64; lengths = size ∷ []; skips = skips; groups = groups })
+
 abbrev pub certificate : ℕ → ℕ → List RecordName → List (List (List Name)) → List ℕ
-certificate parts size skips groups =
-    spelling (record { job = 1; flags = 0; literal = []; parts = parts; split_size = 64; lengths = size ∷ []; skips = skips; groups = groups })
+certificate = certificate_in V1
 
 -- what is said of an output and one partition's groups over `a b a`
 abbrev pub of_groups : List ℕ → List (List Name) → Result Accepted No
@@ -50,6 +55,20 @@ good_bytes =
     ∷ 0 ∷ 0 ∷ 0 ∷ 0 ∷ 0 ∷ 0 ∷ 0 ∷ 6 ∷ 0 ∷ 0 ∷ 0 ∷ 0 ∷ 0 ∷ 0 ∷ 0 ∷ 2
     ∷ 0 ∷ 0 ∷ 0 ∷ 2 ∷ 0 ∷ 0 ∷ 0 ∷ 0 ∷ 0 ∷ 0 ∷ 0 ∷ 0 ∷ 0 ∷ 0 ∷ 0 ∷ 0 ∷ 0 ∷ 0 ∷ 0 ∷ 0 ∷ 0 ∷ 0 ∷ 0 ∷ 0 ∷ 0 ∷ 0 ∷ 0 ∷ 2
     ∷ 0 ∷ 0 ∷ 0 ∷ 1 ∷ 0 ∷ 0 ∷ 0 ∷ 0 ∷ 0 ∷ 0 ∷ 0 ∷ 0 ∷ 0 ∷ 0 ∷ 0 ∷ 1 ∷ []
+
+-- the same certificate in version 2: three bytes a name, each behind the name before
+abbrev pub short_front : List ℕ
+short_front =
+    0x4d ∷ 0x52 ∷ 0x43 ∷ 0x45 ∷ 0x52 ∷ 0x54 ∷ 0x32 ∷ 0x0a
+    ∷ 0 ∷ 0 ∷ 0 ∷ 1 ∷ 0 ∷ 0 ∷ 0 ∷ 0 ∷ 0 ∷ 0 ∷ 0 ∷ 0 ∷ 0 ∷ 0 ∷ 0 ∷ 1 ∷ 0 ∷ 0 ∷ 0 ∷ 0x40 ∷ 0 ∷ 0 ∷ 0 ∷ 1
+    ∷ 0 ∷ 0 ∷ 0 ∷ 0 ∷ 0 ∷ 0 ∷ 0 ∷ 6 ∷ 0 ∷ 0 ∷ 0 ∷ 0 ∷ 0 ∷ 0 ∷ 0 ∷ 2
+    ∷ 0 ∷ 0 ∷ 0 ∷ 2 ∷ []
+
+abbrev pub short_back : List ℕ
+short_back = 0 ∷ 0 ∷ 0 ∷ 1 ∷ 0 ∷ 0 ∷ 1 ∷ []
+
+abbrev pub short_bytes : List ℕ
+short_bytes = short_front ++ 0 ∷ 0 ∷ 0 ∷ 0 ∷ 0 ∷ 2 ∷ short_back
 
 -- what is said of an output and a certificate's bytes over `a b a`
 abbrev pub says : List ℕ → List ℕ → Result Accepted No
@@ -91,6 +110,13 @@ first_record = record { split = 0; rec = 0 }
 pub record WorkedVerdicts : Type 0 where
   pub spelled : certificate 1 6 [] (((name 0 0 0 ∷ name 0 0 2 ∷ []) ∷ (name 0 0 1 ∷ []) ∷ []) ∷ []) ≡ good_bytes
   pub yes : says a2_b1 good_bytes ≡ Ok (record { skips = []; pairs = 3 })
+  pub short_spelled : certificate_in V2 1 6 [] (((name 0 0 0 ∷ name 0 0 2 ∷ []) ∷ (name 0 0 1 ∷ []) ∷ []) ∷ []) ≡ short_bytes
+  pub short_yes : says a2_b1 short_bytes ≡ Ok (record { skips = []; pairs = 3 })
+  pub short_twice : says a2_b1 (short_front ++ 0 ∷ 0 ∷ 0 ∷ 0 ∷ 0 ∷ 0 ∷ short_back) ≡ Err (No.EntryOrder 0 0 1)
+  pub short_no_number : says a2_b1 (short_front ++ 0 ∷ 0 ∷ 0 ∷ 0 ∷ 0 ∷ 0x82 ∷ 0 ∷ short_back) ≡ Err (No.Malformed 55)
+  pub short_no_pair : says a2_b1 (short_front ++ 0xff ∷ 0xff ∷ 0xff ∷ 0xff ∷ 0x0f ∷ 0 ∷ 0 ∷ 0 ∷ 0 ∷ 2 ∷ short_back) ≡ Err (No.NoSuchPair 0 0 0)
+  pub short_too_great : says a2_b1 (short_front ++ 0xff ∷ 0xff ∷ 0xff ∷ 0xff ∷ 0x1f ∷ 0 ∷ 0 ∷ 0 ∷ 0 ∷ 2 ∷ short_back) ≡ Err (No.Malformed 52)
+  pub short_cut : says a2_b1 (take 64 short_bytes) ≡ Err (No.Malformed 62)
   pub entry_order : of_groups a2_b1 ((name 0 0 0 ∷ name 0 0 0 ∷ []) ∷ (name 0 0 1 ∷ []) ∷ []) ≡ Err (No.EntryOrder 0 0 1)
   pub unnamed : of_groups (line 97 50) ((name 0 0 0 ∷ name 0 0 2 ∷ []) ∷ []) ≡ Err (No.Unnamed 3 2)
   pub cut : says a2_b1 (take 91 good_bytes) ≡ Err (No.Malformed 80)

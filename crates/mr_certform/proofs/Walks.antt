@@ -14,6 +14,21 @@ use Rattle.mr_certform.specs.Grammar.{MayStand, InOrder, InOrderIn, Follow, AreB
 use Rattle.mr_certform.proofs.Fuel.{walk_from, walk-suc, items_here, items_none}
 use Rattle.mr_certform.proofs.ItemLaws.{is_front, again, end_at}
 
+-- ---- the end among items
+
+ended_behind : (i : Item) (is : List Item) → is_ended (i ∷ is) ≡ true → (is_ended is ≡ true) ⊎ ((i ≡ End) × (is ≡ []))
+ended_behind End [] e = inr (refl, refl)
+ended_behind End (j ∷ js) e = inl e
+ended_behind i is e = inl e
+
+pub ended_more : (i : Item) (is : List Item) → is_ended is ≡ true → is_ended (i ∷ is) ≡ true
+ended_more End [] e = absurd (false≢true e)
+ended_more End (j ∷ js) e = e
+ended_more i is e = e
+
+ended_last : (i : Item) (is : List Item) → i ≡ End → is ≡ [] → is_ended (i ∷ is) ≡ true
+ended_last i is e d = ap (λ (w : Item). is_ended (w ∷ is)) e ∙ ap (λ w. is_ended (End ∷ w)) d
+
 module _ (v : Version) where
   -- behind the end nothing follows
   behind_end : (p : Place) (i : Item) (is : List Item) → MayStand p i → Follow v (behind p i) is → i ≡ End → is ≡ []
@@ -32,11 +47,6 @@ module _ (v : Version) where
       let front : standing v p (bytes_at v p i ++ bytes_from v (behind p i) is) ≡ Some (record { item = i; rest = bytes_from v (behind p i) is }) =
       again v (bytes_from v (behind p i) is) p i h.0 h.1 (λ e. ap (bytes_from v (behind p i)) (behind_end p i is h.0 h.2 e)) in
       items_here v p (bytes_at v p i ++ bytes_from v (behind p i) is) (record { item = i; rest = bytes_from v (behind p i) is }) front ∙ ap (λ js. i ∷ js) (stands (behind p i) is h.2)
-
-  ended_behind : (i : Item) (is : List Item) → is_ended (i ∷ is) ≡ true → (is_ended is ≡ true) ⊎ ((i ≡ End) × (is ≡ []))
-  ended_behind End [] e = inr (refl, refl)
-  ended_behind End (j ∷ js) e = inl e
-  ended_behind i is e = inl e
 
   abbrev pub Whole : Place → List ℕ → List Item → Type 0
   Whole p bytes is = Follow v p is × (bytes ≡ bytes_from v p is)
@@ -71,14 +81,6 @@ module _ (v : Version) where
   none_behind : (is : List Item) → InOrderIn v Behind is → is ≡ []
   none_behind [] h = refl
   none_behind (i ∷ is) h = absurd (h.0)
-
-  pub ended_more : (i : Item) (is : List Item) → is_ended is ≡ true → is_ended (i ∷ is) ≡ true
-  ended_more End [] e = absurd (false≢true e)
-  ended_more End (j ∷ js) e = e
-  ended_more i is e = e
-
-  ended_last : (i : Item) (is : List Item) → i ≡ End → is ≡ [] → is_ended (i ∷ is) ≡ true
-  ended_last i is e d = ap (λ (w : Item). is_ended (w ∷ is)) e ∙ ap (λ w. is_ended (End ∷ w)) d
 
   pub longest : (p : Place) (is : List Item) (more : List ℕ) → InOrderIn v p is → (is_ended is ≡ true → more ≡ []) → (js : List Item) × (items_from v p (bytes_from v p is ++ more) ≡ is ++ js)
   longest p [] more h e = (items_from v p more, refl)

@@ -9,7 +9,7 @@ ghost use Rattle.mr_sequential.specs.Good.{IsGoodResult};
 ghost use Rattle.mr_sequential.specs.Sequential.{sequential};
 ghost use Rattle.mr_answers.specs.Headline.{IsCertified};
 
-use mr_certform::write;
+use mr_certform::{Version, WriteFault, write};
 use mr_check::{No, Yes, check};
 use mr_input::{Input, InputFault};
 use mr_jobs::{Job, Request, RequestFault};
@@ -28,6 +28,8 @@ pub enum Trouble {
     TooManySplits,
     #[error("{0}")]
     Run(#[from] RunFault),
+    #[error("{0}")]
+    Spelled(#[from] WriteFault),
     #[error("{0}")]
     Judged(#[from] No),
     #[error("out of memory")]
@@ -65,7 +67,7 @@ pub fn input_of(alloc: Global, request: &Request, text: &[u8]) -> Result<Input, 
     Ok(input)
 }
 
-/// Those who make it: the job is run, and its certificate spelled. The outputs are those of the sequential execution
+/// Those who make it: the job is run, and its certificate spelled, in the version that is shorter. The outputs are those of the sequential execution
 /// without left-out records, and with the certificate they are a good result.
 pub fn made(alloc: Global, request: &Request, input: &Input) -> Result<Handed, Trouble>
     requires { split_total request.now.split input.now ≤ 2 ^ 20 }
@@ -74,7 +76,7 @@ pub fn made(alloc: Global, request: &Request, input: &Input) -> Result<Handed, T
     ensures good { IfOk result (λ h. IsGoodResult request.now input.now (contents h.outputs.items) h.certificate.items) }
 {
     let (outputs, certificate) = run(alloc, request, input, &[])?;
-    let certificate = write(alloc, &certificate)?;
+    let certificate = write(alloc, &certificate, Version::V2)?;
     Ok(Handed {
         outputs,
         certificate,

@@ -8,8 +8,12 @@ use Rattle.mr_certform.specs.declared.place.Place.{Place}
 use Rattle.mr_certform.specs.declared.place.Place.TheVariants.{AtMagic, AtJob, AtFlags, AtLiteralLength, AtLiteralByte, AtParts, AtSplitSize, AtFiles, AtFileLength, AtSkips, AtSkip, AtGroups, AtEntries, AtEntry, AtEnd, Behind}
 use Rattle.mr_certform.specs.Places.{behind}
 use Rattle.mr_certform.specs.Grammar.{MayStand, InOrder}
-use Rattle.mr_certform.specs.Spelling.{Front, magic, number, any, of_bytes, skip_at, name_at, standing, walk, items_from, items_of}
-use Rattle.mr_certform.proofs.Fuel.{chosen, not_chosen}
+use Rattle.mr_bytes.specs.declared.Name.{Name}
+use Rattle.mr_certform.specs.declared.version.Version.{Version}
+use Rattle.mr_certform.specs.declared.version.Version.TheVariants.{V1, V2}
+use Rattle.mr_certform.specs.Short.{NameFront, short_name_at}
+use Rattle.mr_certform.specs.Spelling.{Front, magic, number, any, of_bytes, skip_at, name_at, entry_at, entry_of, version_of, standing, walk, items_from, items_of}
+use Rattle.mr_certform.proofs.Chosen.{chosen, not_chosen}
 use Rattle.mr_judge.specs.Kinds.{IsOfKind, InKind}
 
 -- ---- what stands in order is of the awaited kinds
@@ -53,47 +57,56 @@ numbered p size value ok item bytes f kind e =
     let d = chosen (ok n) (record { item = item n; rest = drop size bytes }) f (c.1) in
     subst (λ (g : Front). IsOfKind p g.item) (d.1) (kind n)
 
-kind_stands : (p : Place) (bytes : List ℕ) (f : Front) → standing p bytes ≡ Some f → IsOfKind p f.item
-kind_stands AtMagic bytes f e =
-    let c = chosen (pointwise eqb (take 8 bytes) magic) (record { item = Magic; rest = drop 8 bytes }) f e in
-    subst (λ (g : Front). IsOfKind AtMagic g.item) (c.1) tt
-kind_stands AtJob bytes f e = numbered AtJob 4 (from_be_bytes w32) any Job bytes f (λ n. tt) e
-kind_stands AtFlags bytes f e = numbered AtFlags 4 (from_be_bytes w32) any Flags bytes f (λ n. tt) e
-kind_stands AtLiteralLength bytes f e = numbered AtLiteralLength 4 (from_be_bytes w32) (λ n. leb n 4096) LiteralLength bytes f (λ n. tt) e
-kind_stands (AtLiteralByte m) [] f e = absurd (cc e)
-kind_stands (AtLiteralByte m) (x ∷ bytes) f e = let same : record { item = LiteralByte x; rest = bytes } ≡ f = cc e in subst (λ (g : Front). IsOfKind (AtLiteralByte m) g.item) same tt
-kind_stands AtParts bytes f e = numbered AtParts 4 (from_be_bytes w32) (λ n. leb 1 n && leb n 1024) Parts bytes f (λ n. tt) e
-kind_stands (AtSplitSize r) bytes f e = numbered (AtSplitSize r) 4 (from_be_bytes w32) any SplitSize bytes f (λ n. tt) e
-kind_stands (AtFiles r) bytes f e = numbered (AtFiles r) 4 (from_be_bytes w32) (λ n. leb n 1024) Files bytes f (λ n. tt) e
-kind_stands (AtFileLength r m) bytes f e = numbered (AtFileLength r m) 8 (from_be_bytes w64) any FileLength bytes f (λ n. tt) e
-kind_stands (AtSkips r) bytes f e = numbered (AtSkips r) 4 (from_be_bytes w32) any Skips bytes f (λ n. tt) e
-kind_stands (AtSkip r m) bytes f e = sized (AtSkip r m) 8 (Skip (skip_at bytes)) bytes f tt e
-kind_stands (AtGroups r) bytes f e = numbered (AtGroups r) 4 (from_be_bytes w32) any Groups bytes f (λ n. tt) e
-kind_stands (AtEntries r g) bytes f e = numbered (AtEntries r g) 4 (from_be_bytes w32) (λ n. leb 1 n) Entries bytes f (λ n. tt) e
-kind_stands (AtEntry r g m b) bytes f e = sized (AtEntry r g m b) 12 (Entry (name_at bytes)) bytes f tt e
-kind_stands AtEnd [] f e = let same : record { item = End; rest = [] } ≡ f = cc e in subst (λ (g : Front). IsOfKind AtEnd g.item) same tt
-kind_stands AtEnd (x ∷ bytes) f e = absurd (cc e)
-kind_stands Behind bytes f e = absurd (cc e)
-
-abbrev walk_from : ℕ → Place → Option Front → List Item
-walk_from k p None = []
-walk_from k p (Some f) = f.item ∷ walk k (behind p f.item) f.rest
-
-walk_is : (k : ℕ) (p : Place) (bytes : List ℕ) → walk (suc k) p bytes ≡ walk_from k p (standing p bytes)
-walk_is k p bytes = by (standing p bytes)
+entry_kind : (v : Version) (r g m : ℕ) (b : Name) (bytes : List ℕ) (f : Front) → entry_at v b bytes ≡ Some f → IsOfKind (AtEntry r g m b) f.item
+entry_kind V1 r g m b bytes f e = sized (AtEntry r g m b) 12 (Entry (name_at bytes)) bytes f tt e
+entry_kind V2 r g m b bytes f e = by (short_name_at b bytes) e
   where
-    by : (o : Option Front) → elim o [ None ↦ [] | Some f ↦ f.item ∷ walk k (behind p f.item) f.rest ] ≡ walk_from k p o
-    by None = refl
-    by (Some f) = refl
+    by : (o : Option NameFront) → entry_of o ≡ Some f → IsOfKind (AtEntry r g m b) f.item
+    by None e = absurd (cc e)
+    by (Some n) e = let same : record { item = Entry n.name; rest = n.rest } ≡ f = cc e in subst (λ (h : Front). IsOfKind (AtEntry r g m b) h.item) same tt
 
-kinds_walked : (k : ℕ) (p : Place) (bytes : List ℕ) → InKind p (walk k p bytes)
-kinds_walked zero p bytes = tt
-kinds_walked (suc k) p bytes = subst (InKind p) (sym (walk_is k p bytes)) (by (standing p bytes) refl (λ q rest. kinds_walked k q rest))
-  where
-    by : (o : Option Front) → standing p bytes ≡ o → ((q : Place) (rest : List ℕ) → InKind q (walk k q rest)) → InKind p (walk_from k p o)
-    by None is more = tt
-    by (Some f) is more = (kind_stands p bytes f is, more (behind p f.item) f.rest)
+module _ (v : Version) where
+  kind_stands : (p : Place) (bytes : List ℕ) (f : Front) → standing v p bytes ≡ Some f → IsOfKind p f.item
+  kind_stands AtMagic bytes f e =
+      let c = chosen (pointwise eqb (take 8 bytes) (magic v)) (record { item = Magic; rest = drop 8 bytes }) f e in
+      subst (λ (g : Front). IsOfKind AtMagic g.item) (c.1) tt
+  kind_stands AtJob bytes f e = numbered AtJob 4 (from_be_bytes w32) any Job bytes f (λ n. tt) e
+  kind_stands AtFlags bytes f e = numbered AtFlags 4 (from_be_bytes w32) any Flags bytes f (λ n. tt) e
+  kind_stands AtLiteralLength bytes f e = numbered AtLiteralLength 4 (from_be_bytes w32) (λ n. leb n 4096) LiteralLength bytes f (λ n. tt) e
+  kind_stands (AtLiteralByte m) [] f e = absurd (cc e)
+  kind_stands (AtLiteralByte m) (x ∷ bytes) f e = let same : record { item = LiteralByte x; rest = bytes } ≡ f = cc e in subst (λ (g : Front). IsOfKind (AtLiteralByte m) g.item) same tt
+  kind_stands AtParts bytes f e = numbered AtParts 4 (from_be_bytes w32) (λ n. leb 1 n && leb n 1024) Parts bytes f (λ n. tt) e
+  kind_stands (AtSplitSize r) bytes f e = numbered (AtSplitSize r) 4 (from_be_bytes w32) any SplitSize bytes f (λ n. tt) e
+  kind_stands (AtFiles r) bytes f e = numbered (AtFiles r) 4 (from_be_bytes w32) (λ n. leb n 1024) Files bytes f (λ n. tt) e
+  kind_stands (AtFileLength r m) bytes f e = numbered (AtFileLength r m) 8 (from_be_bytes w64) any FileLength bytes f (λ n. tt) e
+  kind_stands (AtSkips r) bytes f e = numbered (AtSkips r) 4 (from_be_bytes w32) any Skips bytes f (λ n. tt) e
+  kind_stands (AtSkip r m) bytes f e = sized (AtSkip r m) 8 (Skip (skip_at bytes)) bytes f tt e
+  kind_stands (AtGroups r) bytes f e = numbered (AtGroups r) 4 (from_be_bytes w32) any Groups bytes f (λ n. tt) e
+  kind_stands (AtEntries r g) bytes f e = numbered (AtEntries r g) 4 (from_be_bytes w32) (λ n. leb 1 n) Entries bytes f (λ n. tt) e
+  kind_stands (AtEntry r g m b) bytes f e = entry_kind v r g m b bytes f e
+  kind_stands AtEnd [] f e = let same : record { item = End; rest = [] } ≡ f = cc e in subst (λ (g : Front). IsOfKind AtEnd g.item) same tt
+  kind_stands AtEnd (x ∷ bytes) f e = absurd (cc e)
+  kind_stands Behind bytes f e = absurd (cc e)
+
+  abbrev walk_from : ℕ → Place → Option Front → List Item
+  walk_from k p None = []
+  walk_from k p (Some f) = f.item ∷ walk v k (behind p f.item) f.rest
+
+  walk_is : (k : ℕ) (p : Place) (bytes : List ℕ) → walk v (suc k) p bytes ≡ walk_from k p (standing v p bytes)
+  walk_is k p bytes = by (standing v p bytes)
+    where
+      by : (o : Option Front) → elim o [ None ↦ [] | Some f ↦ f.item ∷ walk v k (behind p f.item) f.rest ] ≡ walk_from k p o
+      by None = refl
+      by (Some f) = refl
+
+  kinds_walked : (k : ℕ) (p : Place) (bytes : List ℕ) → InKind p (walk v k p bytes)
+  kinds_walked zero p bytes = tt
+  kinds_walked (suc k) p bytes = subst (InKind p) (sym (walk_is k p bytes)) (by (standing v p bytes) refl (λ q rest. kinds_walked k q rest))
+    where
+      by : (o : Option Front) → standing v p bytes ≡ o → ((q : Place) (rest : List ℕ) → InKind q (walk v k q rest)) → InKind p (walk_from k p o)
+      by None is more = tt
+      by (Some f) is more = (kind_stands p bytes f is, more (behind p f.item) f.rest)
 
 pub kinds_of : (bytes : List ℕ) → InKind AtMagic (items_of bytes)
 unfolding items_of items_from
-kinds_of bytes = kinds_walked (length bytes + 1) AtMagic bytes
+kinds_of bytes = kinds_walked (version_of bytes) (length bytes + 1) AtMagic bytes

@@ -4,6 +4,7 @@ pub mod BlocksJudged
 pub mod Faults
 mod FromLemmas
 pub mod GrammarLemmas
+mod ItemBytes
 pub mod ItemLemmas
 pub mod JudgeLemmas
 pub mod JudgingLemmas

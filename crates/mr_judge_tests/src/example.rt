@@ -3,7 +3,7 @@ ghost use Rattle.std.specs.Prelude.{◌≤◌, ◌^◌, IfOk};
 ghost use Rattle.mr_input.specs.Files.{split_total};
 
 use crate::given::{Given, list_of, with_text};
-use mr_certform::write;
+use mr_certform::{Version, write};
 use mr_check::{No, check_watched};
 use mr_example::{Handed, Trouble, agreed, judged, made};
 use mr_sequential::run_watched;
@@ -53,7 +53,7 @@ fn counted(alloc: Global, given: &Given, watch: &Counting) -> Result<Handed, Tro
     requires { split_total given.now.request.split given.now.input ≤ 2 ^ 20 }
 {
     let (outputs, certificate) = run_watched(alloc, &given.request, &given.input, &[], watch)?;
-    let certificate = write(alloc, &certificate)?;
+    let certificate = write(alloc, &certificate, Version::V1)?;
     Ok(Handed {
         outputs,
         certificate,

@@ -7,7 +7,10 @@ ghost use Rattle.std.specs.Prelude.{◌≡◌, ◌≤◌, [], length, OnOk};
 use crate::streaming;
 use crate::telling::Teller;
 use mr_bytes::Name;
-use mr_certform::{Builder, Certificate, Groups, Header, Item, ReadFault, Walker, read, write};
+use mr_certform::{
+    Builder, Certificate, Groups, Header, InVersion, Item, ReadFault, Version, Walker, WriteFault, read,
+    write,
+};
 use mr_store::{MemoryWriter, write_spelled};
 use std::alloc::{AllocError, Global};
 use std::io;
@@ -124,20 +127,48 @@ fn show_partitions(teller: &Teller, certificate: &Certificate) {
 }
 
 /// Whether the certificate is written as these bytes onto a writer, which is given them piece by piece.
-fn is_spelled_again(alloc: Global, certificate: &Certificate, bytes: &[u8]) -> bool {
+fn is_spelled_again(alloc: Global, spelled: &InVersion<'_>, bytes: &[u8]) -> bool {
     let mut writer = MemoryWriter::new(alloc, 50_000, None);
-    let done = write_spelled(&mut writer, certificate).is_ok();
+    let done = write_spelled(&mut writer, spelled).is_ok();
     done && writer.handed_on() == bytes
 }
 
-/// Whether it is written so in a list too.
+/// The version that the bytes begin with.
+fn version_of(bytes: &[u8]) -> Version {
+    if bytes.starts_with(b"MRCERT2") {
+        Version::V2
+    } else {
+        Version::V1
+    }
+}
+
+/// The certificate's bytes in this version; none where the version can't spell it.
+fn spelled_in(
+    alloc: Global,
+    certificate: &Certificate,
+    version: Version,
+) -> Result<Option<Vec<u8>>, AllocError> {
+    match write(alloc, certificate, version) {
+        Ok(bytes) => Ok(Some(bytes)),
+        Err(WriteFault::NamesFall) => Ok(None),
+        Err(WriteFault::OutOfMemory) => Err(AllocError),
+    }
+}
+
+/// Whether it is written so in a list too, in the version of the bytes.
 fn is_written_again(
     alloc: Global,
     certificate: &Certificate,
     bytes: &[u8],
 ) -> Result<bool, AllocError> {
-    let written = write(alloc, certificate)?;
-    Ok(is_spelled_again(alloc, certificate, bytes) && written.as_slice() == bytes)
+    let version = version_of(bytes);
+    let Some(written) = spelled_in(alloc, certificate, version)? else {
+        return Ok(false);
+    };
+    let Some(spelled) = certificate.in_version(version) else {
+        return Ok(false);
+    };
+    Ok(is_spelled_again(alloc, &spelled, bytes) && written.as_slice() == bytes)
 }
 
 /// Tells the certificate that was read of the bytes, and whether it is written as they are.
@@ -165,7 +196,10 @@ fn tell(teller: &Teller, bytes: &[u8]) -> Result<(), AllocError> {
 /// The bytes of the example that is built.
 fn example_bytes(alloc: Global) -> Result<Vec<u8>, AllocError> {
     let certificate = example(alloc)?;
-    write(alloc, &certificate)
+    match spelled_in(alloc, &certificate, Version::V1)? {
+        Some(bytes) => Ok(bytes),
+        None => Ok(Vec::new(alloc)),
+    }
 }
 
 /// Tells those bytes, and how want of memory is told.

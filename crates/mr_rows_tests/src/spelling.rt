@@ -1,11 +1,12 @@
 //! A certificate of one group of names, spelled onto a writer. The words behind the first are how many names there are, how
-//! many bytes the writer takes a call, and which call of it fails (0 for none). Standard input is what should be written.
+//! many bytes the writer takes a call, which call of it fails (0 for none), and the version. Standard input is what should
+//! be written.
 use crate::certificates::begun;
 use crate::inputs::numbers_of;
 use crate::stores::writer;
 use crate::telling::Teller;
 use mr_bytes::Name;
-use mr_certform::Certificate;
+use mr_certform::{Certificate, InVersion, Version};
 use mr_store::{CountedWrite, MemoryWriter, write_spelled};
 use std::alloc::{AllocError, Global};
 use std::io;
@@ -34,8 +35,8 @@ fn certificate(alloc: Global, names: &[Name]) -> Result<Option<Certificate>, All
 }
 
 /// How many bytes are written, whether they begin those that should be, how many are handed on, and how many calls failed.
-fn show(teller: &Teller, certificate: &Certificate, bytes: &[u8], mut writer: MemoryWriter) {
-    teller.part(&write_spelled(&mut writer, certificate));
+fn show(teller: &Teller, spelled: &InVersion<'_>, bytes: &[u8], mut writer: MemoryWriter) {
+    teller.part(&write_spelled(&mut writer, spelled));
     teller.four(
         &writer.bytes().len(),
         &bytes.starts_with(writer.bytes()),
@@ -46,16 +47,23 @@ fn show(teller: &Teller, certificate: &Certificate, bytes: &[u8], mut writer: Me
 
 /// Answers these bytes, where so many names are spelled.
 fn answer_bytes(teller: &Teller, bytes: &[u8], numbers: [u32; 4]) -> Result<(), AllocError> {
-    let [count, most, failing, _] = numbers;
+    let [count, most, failing, version] = numbers;
     let names = names(teller.alloc(), count)?;
-    match certificate(teller.alloc(), &names)? {
-        Some(certificate) => show(
+    let Some(certificate) = certificate(teller.alloc(), &names)? else {
+        return Ok(());
+    };
+    let version = if version == 2 {
+        Version::V2
+    } else {
+        Version::V1
+    };
+    if let Some(spelled) = certificate.in_version(version) {
+        show(
             teller,
-            &certificate,
+            &spelled,
             bytes,
             writer(teller.alloc(), most, failing),
-        ),
-        None => {}
+        );
     }
     Ok(())
 }

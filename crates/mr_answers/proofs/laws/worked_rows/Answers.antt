@@ -1,10 +1,17 @@
-use Rattle.mr_answers.proofs.VerdictRowLemmas.{row_spelled, row_yes, row_entry_order, row_unnamed, row_cut, row_longer, row_output_longer, row_output_cut, row_too_many, row_left_out, row_skip_twice, row_no_record, row_wrong_partition, row_right_partition, row_no_pair, row_key_differs, row_key_order, row_swapped, row_other_input, row_other_job, row_two_outputs}
+use Rattle.mr_answers.proofs.VerdictRowLemmas.{row_spelled, row_yes, row_short_spelled, row_short_yes, row_short_twice, row_short_no_number, row_short_no_pair, row_short_too_great, row_short_cut, row_entry_order, row_unnamed, row_cut, row_longer, row_output_longer, row_output_cut, row_too_many, row_left_out, row_skip_twice, row_no_record, row_wrong_partition, row_right_partition, row_no_pair, row_key_differs, row_key_order, row_swapped, row_other_input, row_other_job, row_two_outputs}
 use Rattle.mr_answers.proofs.laws.worked_rows.Goals as goal
 
 pub returns : goal.returns
 returns c = record {
   spelled = row_spelled;
   yes = row_yes;
+  short_spelled = row_short_spelled;
+  short_yes = row_short_yes;
+  short_twice = row_short_twice;
+  short_no_number = row_short_no_number;
+  short_no_pair = row_short_no_pair;
+  short_too_great = row_short_too_great;
+  short_cut = row_short_cut;
   entry_order = row_entry_order;
   unnamed = row_unnamed;
   cut = row_cut;

@@ -12,7 +12,8 @@ use Rattle.mr_judge.proofs.ReadingLemmas.{some_to_come}
 use Rattle.mr_judge.proofs.from.judge_lent.Goals as goal
 
 pub judge_all-requires-clause-given : goal.judge_all-requires-clause-given
-judge_all-requires-clause-given g c = some_given _
+judge_all-requires-clause-given g c =
+    some_given (stream (λ (l : Lent g.row.C.Denot). g.C.CountedRead.remaining l.reader.now) c.in_ok-walker.walker)
 
 pub judge_all-requires-clause-front : goal.judge_all-requires-clause-front
 judge_all-requires-clause-front g c =
