@@ -36,7 +36,7 @@ def faults(harness):
         harness.check(f"a full disk at {name}", got[:3] == (3, b"", b"mapred: cannot write ./%s\n" % name.encode()), repr(got))
         stands = sorted(os.listdir(full))
         harness.check(f"the parts before {name}", stands == (["a", "part-00000"] if name == "part-00000" else ["a", "certificate", "part-00000"]), repr(stands))
-    for line in (["seq", "--job", "words", "--bad", "--out", "."], ["seq", "--job", "sort", "--out", "."], ["seq", "--out", "."], ["seq", "--job", "words"], ["sort"], [], ["seq", "--job", "words", "--parts", "x", "--out", "."], ["seq", "--job", "words", "--parts", "4294967296", "--out", "."], ["check", "--job", "words"], ["seq", "--job", "words", "--out", ""], ["check", "--job", "words", "--skips", "0:0", "--out", "."], *(["check", "--job", "words", "--threads", number, "--out", "."] for number in ("0", "65", "x", "-1", ""))):
+    for line in (["seq", "--job", "words", "--bad", "--out", "."], ["seq", "--job", "sort", "--out", "."], ["seq", "--out", "."], ["seq", "--job", "words"], ["sort"], [], ["seq", "--job", "words", "--parts", "x", "--out", "."], ["seq", "--job", "words", "--parts", "4294967296", "--out", "."], ["check", "--job", "words"], ["seq", "--job", "words", "--out", ""], ["check", "--job", "words", "--skips", "0:0", "--out", "."], *(["check", "--job", "words", "--threads", number, "--out", "."] for number in ("0", "65", "x", "-1", "")), *([command, "--job", "words", "--cert", number, "--out", "."] for command in ("seq", "run") for number in ("0", "3", "x", "")), ["check", "--job", "words", "--cert", "1", "--out", "."]):
         got = harness.run(line)
         harness.check(f"a bad line {line}", got[0] == 2 and got[1] == b"" and got[2] != b"", repr(got))
     for line in (["--help"], ["seq", "--help"], ["check", "--help"], ["--version"]):
@@ -45,7 +45,7 @@ def faults(harness):
     got = harness.run(["seq", "--job", "words", "--out", ".", b"\xff"], {b"\xff": b"a\n"})
     harness.check("a word that is not UTF-8", got[:3] == (2, b"", b"mapred: a word of the command line is not UTF-8\n") and parts_of(got[3]) == [], repr(got))
     got = harness.run(["--version"])
-    harness.check("the version tells the kit", b"rattle-kit-13b logic dac8208d650f15bf" in got[1], repr(got))
+    harness.check("the version tells the kit", b"rattle-kit-13f logic dac8208d650f15bf" in got[1], repr(got))
 
 
 def check_faults(harness):

@@ -1,4 +1,5 @@
 //! What a line can ask for, once its words are read.
+use mr_certform::Version;
 
 /// The jobs that can be asked for.
 #[derive(Clone, Copy)]
@@ -22,6 +23,16 @@ pub struct Options<'a> {
     pub files: Vec<&'a str>,
 }
 
+/// What a sequential execution is asked for.
+#[derive(Drop)]
+pub struct SeqOptions<'a> {
+    pub options: Options<'a>,
+    /// The text of its skip list.
+    pub skips: &'a str,
+    /// The version of the certificate that is written.
+    pub version: Version,
+}
+
 /// What a run by workers is asked for.
 #[derive(Drop)]
 pub struct RunOptions<'a> {
@@ -30,6 +41,8 @@ pub struct RunOptions<'a> {
     pub workers: u32,
     /// How many attempts a task may have, 1 to 16.
     pub attempts: u32,
+    /// The version of the certificate that is written.
+    pub version: Version,
     /// The name of the file that says what shall go wrong.
     pub script: Option<&'a str>,
     /// The name under which the history is written.
@@ -60,8 +73,7 @@ pub struct MergeOptions<'a> {
 /// The command that is asked for.
 #[derive(Drop)]
 pub enum Subcommand<'a> {
-    /// With the text of its skip list.
-    Seq(Options<'a>, &'a str),
+    Seq(SeqOptions<'a>),
     Run(RunOptions<'a>),
     Check(CheckOptions<'a>),
     Merge(MergeOptions<'a>),

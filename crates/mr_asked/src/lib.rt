@@ -7,7 +7,9 @@ mod fault;
 mod request;
 mod skips;
 
-pub use crate::asked::{CheckOptions, JobKind, MergeOptions, Options, RunOptions, Subcommand};
+pub use crate::asked::{
+    CheckOptions, JobKind, MergeOptions, Options, RunOptions, SeqOptions, Subcommand,
+};
 pub use crate::fault::Fault;
 pub use crate::request::request_of;
 pub use crate::skips::{skip_list_law, skips_of};

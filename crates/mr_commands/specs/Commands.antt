@@ -14,21 +14,21 @@ use Rattle.mr_judging.specs.Verdicts.{KeepsVerdict, IsCheckUnanswered, written_b
 -- nothing changed but what the command writes: the result, with a run's history; for `check` the verdict; for `merge` a
 -- merged result, of so many parts as the verdicts tell
 abbrev pub ChangesOwn : Stored → Stored → Subcommand → Type 0
-ChangesOwn old new (Seq o skips) = ChangesAmong old new (result_names o.out.now o.parts)
+ChangesOwn old new (Seq o) = ChangesAmong old new (result_names o.options.out.now o.options.parts)
 ChangesOwn old new (Run o) = ChangesAmong old new (written_by_run o)
 ChangesOwn old new (Check o) = ChangesAmong old new (written_by_check o)
 ChangesOwn old new (Merge o) = ChangesResult old new o.out.now
 
 -- what is answered where the line was understood and no fault was met
 abbrev pub Answers : Stored → Stored → Subcommand → List ℕ → ℕ → Type 0
-Answers old new (Seq o skips) text status = (status ≡ 0) × AnswersSeq old new o skips.now text
+Answers old new (Seq o) text status = (status ≡ 0) × AnswersSeq old new o text
 Answers old new (Run o) text status = AnswersRun old new o text status
 Answers old new (Check o) text status = KeepsVerdict old new o text status
 Answers old new (Merge o) text status = (status ≡ 0) × AnswersMerge old new o text
 
 -- why nothing is answered, and what was changed then
 abbrev pub IsRefusal : Stored → Stored → Faulty → Faulty → (List ℕ → List ℕ → Type 0) → Subcommand → Fault → Type 0
-IsRefusal old new unreadable unwritable alike (Seq o skips) fault = IsSeqRefusal old new unreadable unwritable o skips.now fault
+IsRefusal old new unreadable unwritable alike (Seq o) fault = IsSeqRefusal old new unreadable unwritable o fault
 IsRefusal old new unreadable unwritable alike (Run o) fault = IsRunUnanswered old new unreadable unwritable o fault
 IsRefusal old new unreadable unwritable alike (Check o) fault = IsCheckUnanswered old new unreadable unwritable o fault
 IsRefusal old new unreadable unwritable alike (Merge o) fault = IsMergeUnanswered old new unreadable unwritable alike o fault

@@ -1,21 +1,23 @@
 //! What each command does, over a store of files.
-ghost use Rattle.std.specs.Prelude.{◌≡◌, ◌≤◌, ◌^◌, IfOk, IfErr, length, string_bytes};
+ghost use Rattle.std.specs.Prelude.{◌≡◌, ℕ, ◌≤◌, ◌^◌, List, IfOk, IfErr, length, string_bytes};
 ghost use Rattle.mr_bytes.specs.declared.RecordName.{RecordName};
 ghost use Rattle.mr_input.specs.Files.{contents, split_total};
 ghost use Rattle.mr_sequential.specs.Emitted.{emitted};
 ghost use Rattle.mr_commands.specs.Outcomes.{IsSequentialResult, done_line};
+ghost use Rattle.mr_certform.specs.declared.version.Version.{Version};
+ghost use Rattle.mr_certform.specs.Value.{CanSpell, SpellsIn};
+ghost use Rattle.std.specs.List.{AllByRecursion};
 ghost use Rattle.mr_commands.specs.Answers.{AnswersSeq, IsRunRefusal, IsSeqRefusal, IsWorkRefusal, WorksOut};
 ghost use Rattle.mr_commands.specs.Commands.{Answers, ChangesOwn, IsRefusal};
 ghost use Rattle.mr_files.specs.Holding.{ChangesAmong};
 ghost use Rattle.mr_files.specs.Names.{result_names};
-ghost use Rattle.mr_certform.specs.Pieces.{all_bytes};
 
 use crate::merging::merge;
 use crate::running::run as run_by_workers;
 use crate::said::done_line;
-use mr_asked::{Fault, Options, Subcommand, request_of, skips_of};
+use mr_asked::{Fault, SeqOptions, Subcommand, request_of, skips_of};
 use mr_bytes::RecordName;
-use mr_certform::{Certificate, text_law};
+use mr_certform::{Certificate, InVersion, Version, text_law};
 use mr_files::{Store, write_files};
 use mr_input::Input;
 use mr_jobs::Request;
@@ -36,7 +38,7 @@ struct Work {
 }
 
 /// Runs the request over the input. The line is made before a file is written, so that nothing fails behind the last
-/// one.
+/// one. What spells the certificate in a version is bytes of the result in it, and each version can spell it.
 fn worked(
     alloc: Global,
     request: &Request,
@@ -45,7 +47,9 @@ fn worked(
     watch: &dyn Watch,
 ) -> Result<Work, Fault>
     requires { split_total request.now.split input ≤ 2 ^ 20 }
-    ensures result { IfOk result (λ w. IsSequentialResult request.now input skips.now (contents w.outputs.items) (all_bytes w.certificate)) }
+    ensures result { IfOk result (λ w. (version : Version) (bytes : List ℕ) → SpellsIn version bytes w.certificate
+        → IsSequentialResult version request.now input skips.now (contents w.outputs.items) bytes) }
+    ensures can { IfOk result (λ w. (version : Version) → AllByRecursion (CanSpell version) w.certificate.groups) }
     ensures line { IfOk result (λ w. string_bytes w.line ≡ done_line request.now.parts
         (length (emitted request.now.job request.now.split input skips.now)) (length skips.now)) }
     ensures refused { IfErr result (λ e. IsRunRefusal request.now input skips.now e) }
@@ -53,7 +57,6 @@ fn worked(
     let (outputs, certificate) = run_watched(alloc, request, &input, skips, watch)?;
     // What is done with is given back before memory is asked for again.
     drop(input);
-    text_law(&certificate);
     let line = done_line(alloc, outputs.len(), certificate.total(), skips.len())?;
     Ok(Work {
         outputs,
@@ -66,40 +69,53 @@ fn worked(
 fn worked_out<S: Store>(
     store: &S,
     alloc: Global,
-    options: &Options<'_>,
-    skips: &str,
+    asked: &SeqOptions<'_>,
     watch: &dyn Watch,
 ) -> Result<Work, Fault>
-    ensures work { IfOk result (λ w. WorksOut (S.holds store.now) options.now skips.now (contents w.outputs.items) (all_bytes w.certificate) (string_bytes w.line)) }
-    ensures refused { IfErr result (λ e. IsWorkRefusal (S.holds store.now) (S.unreadable store.now) options.now skips.now e) }
+    ensures work { IfOk result (λ w. (bytes : List ℕ) → SpellsIn asked.now.version bytes w.certificate
+        → WorksOut (S.holds store.now) asked.now (contents w.outputs.items) bytes (string_bytes w.line)) }
+    ensures can { IfOk result (λ w. AllByRecursion (CanSpell asked.now.version) w.certificate.groups) }
+    ensures refused { IfErr result (λ e. IsWorkRefusal (S.holds store.now) (S.unreadable store.now) asked.now e) }
 {
-    let request = request_of(alloc, options)?;
-    let skips = skips_of(alloc, skips)?;
-    let input = input_of(store, alloc, &request, options.files.as_slice())?;
+    let request = request_of(alloc, &asked.options)?;
+    let skips = skips_of(alloc, asked.skips)?;
+    let input = input_of(store, alloc, &request, asked.options.files.as_slice())?;
     worked(alloc, &request, input, skips.as_slice(), watch)
+}
+
+/// The certificate in a version that can spell it.
+fn spelled_in(certificate: &Certificate, version: Version) -> InVersion<'_>
+    requires { AllByRecursion (CanSpell version) certificate.now.groups }
+    ensures { result ≡ record { version = version; certificate = certificate.entry.now } }
+{
+    match certificate.in_version(version) {
+        Some(spelled) => spelled,
+        None => unreachable!(),
+    }
 }
 
 /// Works, and then writes the result. The line is said once all files stand.
 pub fn seq<S: Store>(
     store: &mut S,
     alloc: Global,
-    options: &Options<'_>,
-    skips: &str,
+    asked: &SeqOptions<'_>,
     watch: &dyn Watch,
 ) -> Result<Said, Fault>
     ensures status { IfOk result (λ said. said.status ≡ 0) }
-    ensures done { IfOk result (λ said. AnswersSeq (S.holds store.old) (S.holds store.new) options.now skips.now (string_bytes said.text)) }
-    ensures others { ChangesAmong (S.holds store.old) (S.holds store.new) (result_names options.now.out.now options.now.parts) }
+    ensures done { IfOk result (λ said. AnswersSeq (S.holds store.old) (S.holds store.new) asked.now (string_bytes said.text)) }
+    ensures others { ChangesAmong (S.holds store.old) (S.holds store.new) (result_names asked.now.options.out.now asked.now.options.parts) }
     ensures refused { IfErr result (λ e. IsSeqRefusal (S.holds store.old) (S.holds store.new) (S.unreadable store.old) (S.unwritable store.old)
-        options.now skips.now e) }
+        asked.now e) }
 {
-    let work = worked_out(store, alloc, options, skips, watch)?;
+    let work = worked_out(store, alloc, asked, watch)?;
+    let spelled = spelled_in(&work.certificate, asked.version);
+    text_law(&spelled);
     write_files(
         store,
         alloc,
-        options.out,
+        asked.options.out,
         work.outputs.as_slice(),
-        &work.certificate,
+        &spelled,
     )?;
     Ok(Said {
         text: work.line,
@@ -122,7 +138,7 @@ pub fn done<S: Store, R: Threads + Wait + Sync>(
 {
     match asked {
         Subcommand::Check(asked) => check(rt, store, alloc, asked, watch),
-        Subcommand::Seq(options, skips) => seq(store, alloc, options, skips, watch),
+        Subcommand::Seq(asked) => seq(store, alloc, asked, watch),
         Subcommand::Run(asked) => run_by_workers(rt, store, alloc, asked, watch),
         Subcommand::Merge(asked) => merge(rt, store, alloc, asked),
     }

@@ -188,7 +188,7 @@ pub fn verdict_hint<S: Store + Look>(
 ) -> Result<String, AllocError> {
     match asked {
         Subcommand::Check(asked) => check_hint(store, alloc, &asked.options, said),
-        Subcommand::Seq(_, _) | Subcommand::Merge(_) => Ok(String::new(alloc)),
+        Subcommand::Seq(_) | Subcommand::Merge(_) => Ok(String::new(alloc)),
         Subcommand::Run(_) => String::from_str(alloc, run_cure(said)),
     }
 }

@@ -107,7 +107,7 @@ fn merge_notes<L: Look>(
 /// Whether so many parts can be had. If not, nothing will be done.
 fn asks_for_parts(asked: &Subcommand<'_>) -> bool {
     let options = match asked {
-        Subcommand::Seq(options, _) => options,
+        Subcommand::Seq(asked) => &asked.options,
         Subcommand::Run(asked) => &asked.options,
         Subcommand::Check(asked) => &asked.options,
         Subcommand::Merge(_) => return true,
@@ -126,7 +126,7 @@ pub fn notes<L: Look>(
         return Ok(lines);
     }
     match asked {
-        Subcommand::Seq(options, _) => seq_notes(look, alloc, options, &mut lines)?,
+        Subcommand::Seq(asked) => seq_notes(look, alloc, &asked.options, &mut lines)?,
         Subcommand::Run(asked) => seq_notes(look, alloc, &asked.options, &mut lines)?,
         Subcommand::Check(asked) => {
             let Options { out, parts, .. } = &asked.options;
