@@ -126,8 +126,8 @@ impl<L: Ledger> Book<L> {
         ensures outputs { IfOk result (λ r. contents r.0.items ≡ assembled_outputs (reduced_under self.now.reduces) self.now.state) }
         ensures certificate { IfOk result
             (λ r. Spells r.1.items (assembled_certificate request.now input.now (reduced_under self.now.reduces) self.now.state)) }
-        ensures version { AllByRecursion (CanSpell version) (committed_groups self.now.reduces self.now.state) → IfOk result
-            (λ r. SpellsIn version r.1.items (assembled_certificate request.now input.now (reduced_under self.now.reduces) self.now.state)) }
+        ensures version { IfOk result (λ r. AllByRecursion (CanSpell version) (committed_groups self.now.reduces self.now.state)
+            → SpellsIn version r.1.items (assembled_certificate request.now input.now (reduced_under self.now.reduces) self.now.state)) }
     {
         // Book and input are within their limits, and the book keeps a run: that there is a certificate of them rests on
         // that.
