@@ -3,7 +3,7 @@ import os
 import shutil
 import subprocess
 
-from harness import HERE, JUDGED, WRITTEN
+from harness import HERE
 from plain import in_version_2
 
 
@@ -56,9 +56,8 @@ def failing_calls(harness):
         harness.check(f"{name} without a failing call", whole[0] == 0 and b"done: " in whole[1], repr(whole))
         judged_files = whole[3]
         asked = [(seq, files), (["check", *options, "--out", ".", *files], judged_files), (["check", *options, "--verdict", "verdict", "--out", ".", *files], judged_files)]
-        if 2 in JUDGED and name == "words":
+        if name == "words":
             asked.append((asked[1][0], {**judged_files, "certificate": in_version_2(judged_files["certificate"])}))
-        if 2 in WRITTEN and name == "words":
             asked.append((["seq", "--cert", "2", *seq[1:]], files))
         for words, given in asked:
             whole, _ = with_failing(harness, library, "none", words, given)

@@ -6,7 +6,7 @@ from dataclasses import replace
 from functools import cache
 
 from failing import shim, with_failing
-from harness import JUDGED, random_log, random_text, seeded, write_result
+from harness import random_log, random_text, seeded, write_result
 from plain import NAME, Request, judged, named_records, pairs_of, produced, text_of, u32s
 from producer import options_of, random_job
 
@@ -197,8 +197,6 @@ def against_a_plain_judge(harness):
     often = "Malformed OtherJob OtherInput NoSuchPair EntryOrder OutputDiffers yes".split()
     seldom = "SkipOrder NoSuchRecord TooManySkips KeyDiffers WrongPartition KeyOrder Unnamed".split()
     for version, rnd, turns, faults in [(1, seeded("judging"), 1500, {*often, *seldom}), (2, seeded("judging version 2"), 300, {*often})]:
-        if version not in JUDGED:
-            continue
         missing = faults - spoiled_turns(harness, rnd, version, turns)
         harness.check(f"each fault was met in version {version}", missing == set(), repr(missing))
 
@@ -233,7 +231,7 @@ def at_borders(rnd, request, files, names):
 def few_large_splits(harness):
     """Splits that are few and large are mapped in pieces by several threads, which say what one thread says."""
     rnd = seeded("large splits")
-    for version, turn in [(1, turn) for turn in range(30)] + [(2, turn) for turn in (0, 1, 2, 9, 10, 11)] * (2 in JUDGED):
+    for version, turn in [(1, turn) for turn in range(30)] + [(2, turn) for turn in (0, 1, 2, 9, 10, 11)]:
         job = ("words", "grep", "url")[turn % 3]
         request = Request(job, rnd.choice([1, 3, 7]), literal=b"the" if job == "grep" else b"")
         files = [large_file(rnd, job, rnd.choice([140_000, 300_000, 600_000])) for _ in range(rnd.choice([1, 1, 1, 2, 5]))]
@@ -311,7 +309,7 @@ def large_partitions(harness):
     """A large partition is judged in sections by several threads, which say what one thread says, also where the sections
     don't fit together."""
     rnd = seeded("sections")
-    for version, job, parts in [(1, "words", 1), (1, "words", 2), (1, "grep", 1), (1, "url", 1)] + [(2, "grep", 1)] * (2 in JUDGED):
+    for version, job, parts in [(1, "words", 1), (1, "words", 2), (1, "grep", 1), (1, "url", 1)] + [(2, "grep", 1)]:
         request = Request(job, parts, split=100_000, literal=b"a" if job == "grep" else b"")
         words = [b"%s%d" % (rnd.choice([b"a", b"the", b"Zebra-"]), n) for n in range(1500)]
         line = {"words": lambda: b" ".join(rnd.choices(words, k=9)), "grep": lambda: b"a " + rnd.choice(words), "url": lambda: b'1.2.3.4 "GET /%s HTTP/1.0" 200' % rnd.choice(words)}[job]

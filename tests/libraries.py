@@ -6,8 +6,6 @@ import os
 import struct
 import subprocess
 
-from harness import JUDGED
-
 TOP = os.path.dirname(os.path.dirname(os.path.abspath(__file__)))
 
 
@@ -263,8 +261,6 @@ def told_of_name(spelled, told_as):
 
 
 def short_certificates(harness):
-    if 2 not in JUDGED:
-        return
     tells = lambda *words: told("certificates", *words)
     items = [item for item, _ in SHORT_ITEMS]
     said = tells(SHORT_EXAMPLE)
@@ -287,8 +283,6 @@ def short_certificates(harness):
 
 def large_short_certificates(harness):
     """A group of 20,000 names of 3 to 5 bytes, with pieces that end anywhere in one."""
-    if 2 not in JUDGED:
-        return
     front = b"MRCERT2\n" + number(1) + number(0) + number(0) + number(1) + number(64) + number(0) + number(0)
     names = [bytes(3), b"\0\0\x80\1", b"\0\xff\1\5", b"\x81\1\0\xff\1"] * 5_000
     large = front + number(1) + number(20_000) + b"".join(names)

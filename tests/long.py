@@ -19,7 +19,7 @@ import time
 from multiprocessing import Pool
 
 sys.path.insert(0, os.path.dirname(os.path.abspath(__file__)))
-from harness import JUDGED
+from harness import VERSIONS
 from judging import spoiled
 from plain import judged, produced
 from producer import options_of, random_job
@@ -46,7 +46,7 @@ def good(number):
     """The good result of this number: request, files, outputs and certificate."""
     request, files, skips = random_job(random.Random(f"long, the good one {number}"))
     outputs, certificate, _ = produced(request, files, skips)
-    certificate.version = JUDGED[number % len(JUDGED)]
+    certificate.version = VERSIONS[number % len(VERSIONS)]
     return request, files, outputs, certificate
 
 

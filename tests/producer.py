@@ -3,7 +3,7 @@ import os
 import subprocess
 import sys
 
-from harness import JUDGED, random_log, random_text, read_result, seeded, write_result
+from harness import random_log, random_text, read_result, seeded, write_result
 from plain import Request, judged, named_records, produced
 
 SPLITS = [1, 3, 16, 100, 67108864]
@@ -69,9 +69,8 @@ def by_the_engines_one(harness):
         certificate.version = version
         files_made = read_result(where)
         harness.check(f"job {turn} {request}, made", made.stdout == f"made: {request.parts} files, {pairs} pairs\n".encode() and files_made == (outputs, certificate.bytes()), repr(made))
-        if version in JUDGED:
-            got = harness.run([*options_of(request, "check"), "--out", ".", *names], cwd=where)
-            harness.check(f"job {turn} {request}, judged", got[0] == 0 and got[1].startswith(b"yes: "), repr(got[:3]))
+        got = harness.run([*options_of(request, "check"), "--out", ".", *names], cwd=where)
+        harness.check(f"job {turn} {request}, judged", got[0] == 0 and got[1].startswith(b"yes: "), repr(got[:3]))
 
 
 GROUPS = {"producer": same_as_seq, "the engines' producer": by_the_engines_one}

@@ -1,5 +1,5 @@
 """What groups of worked rows share: a row is a command line with its files and all that it must leave."""
-from harness import JUDGED, WRITTEN, parts_of, read_result as result_of, write_result
+from harness import parts_of, read_result as result_of, write_result
 from plain import Certificate, Request, in_version_2, produced
 
 MAGIC = bytes.fromhex("4d 52 43 45 52 54 31 0a")
@@ -42,7 +42,7 @@ def judged(harness, words, files, where):
 def judged_in_version_2(harness, name, words, files, where, answer):
     """`check` says the same of the certificate that stands there put into version 2, where it can be; it stands as before then."""
     parts, certificate = result_of(where)
-    short = in_version_2(certificate) if 2 in JUDGED else None
+    short = in_version_2(certificate)
     if short is not None:
         write_result(where, parts, short)
         got = judged(harness, words, files, where)
@@ -52,8 +52,6 @@ def judged_in_version_2(harness, name, words, files, where, answer):
 
 def written_in_versions(harness, name, words, files, said):
     """`seq --cert` of the same line says the same and writes the same parts, and the certificate in the version that is asked for."""
-    if 2 not in WRITTEN:
-        return
     parts, certificate = result_of(said[3])
     for version, data in ((1, certificate), (2, in_version_2(certificate))):
         got = harness.run([*words, "--cert", str(version), "--out", ".", *files], files)

@@ -4,7 +4,7 @@ import os
 import random
 
 from files import fed
-from harness import JUDGED, WRITTEN, read_result, seeded, write_result
+from harness import VERSIONS, read_result, seeded, write_result
 from judging import ODD_NUMBERS
 from plain import JOBS, NAME, Certificate, Request, in_version_2, judged, produced, read
 from producer import options_of, random_job
@@ -122,9 +122,8 @@ def told(harness, name, request, files, outputs, data, where=None):
 
 
 def worked(harness):
-    if 2 in JUDGED:
-        for name, data, _ in worked_values():
-            told(harness, name, *ABA, data)
+    for name, data, _ in worked_values():
+        told(harness, name, *ABA, data)
 
 
 def results():
@@ -158,8 +157,6 @@ def odd_numbers(data, first):
 
 def byte_by_byte(harness):
     """A certificate cut at each place, with each byte changed to a few others, and with each number of a name made an odd one."""
-    if 2 not in JUDGED:
-        return
     rnd = random.Random(17)
     for request, files, outputs, data, first in results():
         where = told(harness, f"{request} in version 2", request, files, outputs, data)
@@ -174,8 +171,6 @@ def byte_by_byte(harness):
 
 def written(harness):
     """`seq --cert 2` writes the parts of `seq` and the certificate of the plain writer, and `check` says yes to it."""
-    if 2 not in WRITTEN:
-        return
     rnd, seen = seeded("seq in version 2"), set()
     for turn in range(60):
         request, files, skips = random_job(rnd)
@@ -183,7 +178,7 @@ def written(harness):
         outputs, certificate, pairs = produced(request, files, skips)
         words = [*options_of(request, "seq", skips), "--out", ".", *names]
         alone = harness.run(words, names)
-        for version in rnd.sample(WRITTEN, 2):
+        for version in rnd.sample(VERSIONS, 2):
             certificate.version = version
             name, data = f"job {turn} {request} in version {version}", certificate.bytes()
             got = harness.run([*words, "--cert", str(version)], names)
@@ -200,8 +195,6 @@ def written(harness):
 
 def faults(harness):
     """Another version is a fault of the line, and nothing is written; a fault of the request comes as without `--cert`."""
-    if 2 not in WRITTEN:
-        return
     words = ["seq", "--job", "words", "--out", "."]
     for version in ("0", "3", "x", "", "-1", "1.0", "4294967297"):
         got = harness.run([*words, f"--cert={version}", "a"], {"a": b"a\n"})
