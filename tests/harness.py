@@ -8,8 +8,8 @@ import tempfile
 HERE = os.path.dirname(os.path.abspath(__file__))
 TOP = os.path.dirname(HERE)
 # The versions of the certificate that the program judges, and those that `seq --cert` writes: 1, or 1 and 2.
-JUDGED = (1,)
-WRITTEN = (1,)
+JUDGED = (1, 2)
+WRITTEN = (1, 2)
 
 
 class Harness:
