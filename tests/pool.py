@@ -11,7 +11,7 @@ from concurrent.futures import ThreadPoolExecutor
 from failing import shim
 from judging import section_borders
 from libraries import built
-from plain import Request, produced
+from plain import Request, in_version_2, produced
 from scripts import Allowed, drawn, misstep, written
 
 TOP = os.path.dirname(os.path.dirname(os.path.abspath(__file__)))
@@ -46,9 +46,9 @@ def job_word(request):
     return request.literal.decode() if request.job == "grep" else "keep" if request.keep else request.job
 
 
-def ran(request, files, script=b"", workers=4, attempts=8, mode="history", limit=None, **environment):
-    """The answer of a run; grep folds."""
-    sizes = [request.parts, request.split, request.most, workers, attempts, len(script), *map(len, files)]
+def ran(request, files, script=b"", workers=4, attempts=8, version=1, mode="history", limit=None, **environment):
+    """The answer of a run, with its certificate in this version; grep folds."""
+    sizes = [request.parts, request.split, request.most, workers, attempts, version, len(script), *map(len, files)]
     words = [PROGRAM, mode, job_word(request), *map(str, sizes)]
     try:
         done = subprocess.run(words, input=script + b"".join(files), capture_output=True, timeout=SECONDS, preexec_fn=limit, env={**os.environ, **environment})
@@ -91,6 +91,9 @@ def worked_runs(harness):
     for request, files, script, workers, attempts, wanted in ROWS:
         answer = ran(request, files, script.encode(), workers, attempts)
         harness.check(f"{script!r}, {workers} workers", answer.short() == wanted and answer.status == 0, repr(answer))
+        second = ran(request, files, script.encode(), workers, attempts, version=2)
+        same = in_version_2(answer.certificate) == second.certificate if wanted[0] == "certified" else second.certificate == b""
+        harness.check(f"{script!r}, {workers} workers, version 2", same and second.short() == wanted and second.status == 0, repr(second))
     answer = ran(TWO_PARTS, CATS, workers=1)
     harness.check("one worker makes nine events", answer.count == 9 == len(answer.events), repr(answer))
     answer = ran(Request("words", split=64, most=1), LETTERS, b"bad 0 0\n", 1)
@@ -241,10 +244,11 @@ def random_case(start):
 
 
 def random_run(start):
-    """The answer of a run that a number draws, with its words and what it may answer."""
+    """The answer of a run that a number draws, with its words and what it may answer. Each other one is in version 2."""
     request, files, lines, workers, attempts = random_case(start)
-    answer = ran(request, files, written(lines), workers, attempts)
-    return (start, lines, workers, attempts), answer, Allowed(request, files, lines, workers, attempts)
+    version = 1 + start % 2
+    answer = ran(request, files, written(lines), workers, attempts, version)
+    return (start, lines, workers, attempts, version), answer, Allowed(request, files, lines, workers, attempts, version)
 
 
 def misfit(answer, allowed):

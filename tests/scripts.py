@@ -31,8 +31,8 @@ def drawn(rnd, splits, workers, parts):
 class Allowed:
     """What a run of the request over the files may answer."""
 
-    def __init__(self, request, files, lines, workers, attempts):
-        self.request, self.files, self.lines, self.workers, self.attempts = request, files, lines, workers, attempts
+    def __init__(self, request, files, lines, workers, attempts, version=1):
+        self.request, self.files, self.lines, self.workers, self.attempts, self.version = request, files, lines, workers, attempts, version
         there = {name for name, *_ in named_records(files, request.split)}
         self.bad = {line[1:3] for line in lines if line[0] == "bad"} & there
         self.flaky = {line[1:3] for line in lines if line[0] == "flaky" and line[3] > 0} & there
@@ -57,6 +57,7 @@ class Allowed:
         """Files, bytes of the certificate, and pairs, without these records."""
         if skips not in self.made:
             outputs, certificate, pairs = produced(self.request, self.files, skips)
+            certificate.version = self.version
             self.made[skips] = outputs, certificate.bytes(), pairs
         return self.made[skips]
 

@@ -1,5 +1,5 @@
 -- Committed outputs put together: counts and lists one behind another, and what a done job has committed.
-use Rattle.std.proofs.Common.{◌≡◌, ℕ, zero, suc, ◌+◌, ◌<◌, ◌≤◌, Option, Some, None, List, [], ◌∷◌, ◌++◌, length, map, take, drop, slice_get, get_or, refl, ap, sym, ◌∙◌, append_assoc, append-nil, arith, true, is_some}
+use Rattle.std.proofs.Common.{◌≡◌, ℕ, zero, suc, ◌+◌, ◌<◌, ◌≤◌, Option, Some, None, List, [], ◌∷◌, ◌++◌, length, map, take, drop, slice_get, get_or, refl, ap, sym, ◌∙◌, subst, append_assoc, append-nil, arith, true, is_some}
 use Rattle.std.specs.Prelude.{slice_index_or}
 use Rattle.std.specs.List.{AllByRecursion, list_all, sum_by}
 use Rattle.std.proofs.lemmas.List.Sums.{sum_by-cons}
@@ -7,8 +7,13 @@ use Rattle.mr_core.specs.Promises.{FewAreLeftOut}
 use Rattle.std.specs.Option.{option_map_or, unwrap_or}
 use Rattle.std.proofs.lemmas.Bool.{false≢true}
 use Rattle.std.proofs.lemmas.List.{take_more, take_all, length-append, length-drop, length-map, length-take, map-append, take-append-le, drop-append-le}
+use Rattle.mr_bytes.specs.declared.Name.{Name}
 use Rattle.mr_bytes.specs.declared.RecordName.{RecordName}
+use Rattle.mr_certform.specs.declared.version.Version.{Version}
+use Rattle.mr_certform.specs.declared.version.Version.TheVariants.{V1}
 use Rattle.mr_certform.specs.Flat.{AreCounted, chunks, total}
+use Rattle.mr_certform.specs.Value.{CanSpell}
+use Rattle.mr_certform.proofs.Spelled.{whole_groups}
 use Rattle.mr_task.specs.Values.{Reduced}
 use Rattle.mr_core.specs.declared.event.Event.{Event}
 use Rattle.mr_core.specs.declared.event.End.{End}
@@ -144,6 +149,28 @@ gathering_more vs p g v l is one =
 pub mapped_more : {X : Type 0} (f : Reduced → X) (vs : List Reduced) (p : ℕ) (xs : List X) (v : Reduced) → p < length vs → xs ≡ map f (take p vs) → v ≡ slice_index_or vs p nothing
     → xs ++ f v ∷ [] ≡ map f (take (p + 1) vs)
 mapped_more f vs p xs v l is one = (λ i. is i ++ f (one i) ∷ []) ∙ sym (ap (map f) (take_more vs p nothing l) ∙ map-append f (take p vs) (slice_index_or vs p nothing ∷ []))
+
+-- ---- what a version can spell
+
+-- the groups of one partition more
+pub can_more : (version : Version) (vs : List Reduced) (p : ℕ) (v : Reduced) → p < length vs → AllByRecursion (CanSpell version) (map (λ (v : Reduced). v.groups) (take p vs))
+    → v ≡ slice_index_or vs p nothing → CanSpell version v.groups → AllByRecursion (CanSpell version) (map (λ (v : Reduced). v.groups) (take (p + 1) vs))
+can_more version vs p v l so_far one can =
+    let before : List (List (List Name)) = map (λ (v : Reduced). v.groups) (take p vs) in
+    subst (AllByRecursion (CanSpell version)) (mapped_more (λ (v : Reduced). v.groups) vs p before v l refl one)
+    (All-append (CanSpell version) before (v.groups ∷ []) so_far (can, tt))
+
+-- the groups of one partition of all
+pub can_at : (version : Version) (vs : List Reduced) (p : ℕ) → p < length vs → AllByRecursion (CanSpell version) (map (λ (v : Reduced). v.groups) vs)
+    → CanSpell version (slice_index_or vs p nothing).groups
+can_at version [] p l all = absurd (omega arith)
+can_at version (v ∷ vs) zero l all = all.0
+can_at version (v ∷ vs) (suc p) l all = can_at version vs p (omega arith) all.1
+
+-- version 1 can spell all groups
+pub first_can : (parts : List (List (List Name))) → AllByRecursion (CanSpell V1) parts
+first_can [] = tt
+first_can (gs ∷ parts) = (whole_groups gs, first_can parts)
 
 pub parts_count : (sh : Shape) (h : List (Event × Reply)) (st : State) (reduces : List (ℕ × Reduced)) → 1 ≤ sh.parts → 1 ≤ sh.limits.attempts → Run sh (opening sh) h st
     → length (committed_values (reduced_under reduces) st) ≡ sh.parts

@@ -5,12 +5,16 @@ use Rattle.mr_bytes.specs.declared.Name.{Name}
 use Rattle.mr_sequential.specs.Rules.{Text}
 use Rattle.mr_task.specs.Values.{Reduced}
 use Rattle.mr_core.specs.Master.{State}
-use Rattle.mr_assembled.specs.Assembled.{nothing}
+use Rattle.mr_assembled.specs.Assembled.{committed_values, nothing}
 use Rattle.mr_book.specs.Stored.{stored_at}
 
 -- the reduce output under each number
 abbrev pub reduced_under : List (ℕ × Reduced) → ℕ → Reduced
 reduced_under stored number = unwrap_or (stored_at stored number) nothing
+
+-- the groups of each partition that is committed
+abbrev pub committed_groups : List (ℕ × Reduced) → State → List (List (List Name))
+committed_groups stored st = map (λ v. v.groups) (committed_values (reduced_under stored) st)
 
 -- of no public promise: the left-out sets of the splits
 abbrev pub sets_of : State → List (List ℕ)

@@ -1,14 +1,15 @@
 //! The result of a book whose job is done, spelled from the outputs that it stores.
-ghost use Rattle.std.specs.Prelude.{◌≡◌, ◌<◌, ◌≤◌, ◌^◌, Some, IfOk, length, map};
+ghost use Rattle.std.specs.Prelude.{◌≡◌, ◌↔◌, ◌<◌, ◌≤◌, ◌^◌, Some, IfOk, IsTrue, length};
+ghost use Rattle.std.specs.List.{AllByRecursion};
 ghost use Rattle.mr_input.specs.Files.{contents};
-ghost use Rattle.mr_certform.specs.Value.{Spells};
+ghost use Rattle.mr_certform.specs.Value.{CanSpell, Spells, SpellsIn};
 ghost use Rattle.mr_core.specs.declared.event.End.{End};
-ghost use Rattle.mr_assembled.specs.Assembled.{assembled_certificate, assembled_outputs, committed_values};
+ghost use Rattle.mr_assembled.specs.Assembled.{assembled_certificate, assembled_outputs};
 ghost use Rattle.mr_assembled.specs.Faithful.{IsOpenedFor};
-ghost use Rattle.mr_book.specs.Assembling.{reduced_under};
+ghost use Rattle.mr_book.specs.Assembling.{committed_groups, reduced_under};
 
 use crate::book::Book;
-use mr_certform::{Header, size_of_partition, write_front, write_partition};
+use mr_certform::{Header, Version, size_of_partition, write_front, write_partition};
 use mr_input::Input;
 use mr_jobs::Request;
 use mr_sequential::header_of;
@@ -32,25 +33,62 @@ impl<L: Ledger> Book<L> {
         Ok(texts)
     }
 
-    /// How many bytes the partitions are spelled in; no more than can be counted.
-    fn size_of_groups(&self) -> usize
+    /// Whether the version can spell the names of all partitions.
+    fn can_spell(&self, version: Version) -> bool
+        requires { self.now.state.end ≡ Some End.Done }
+        ensures { IsTrue result ↔ AllByRecursion (CanSpell version) (committed_groups self.now.reduces self.now.state) }
+    {
+        // As above.
+        let _limits = self.core().limits();
+        let parts = self.shape().parts;
+        for partition in 0..parts {
+            let (counts, names) = self.committed(partition).flat_groups();
+            if !version.can_spell(counts, names) {
+                return false;
+            }
+        }
+        true
+    }
+
+    /// The version asked for, where it can spell the names of all partitions. They come from workers, so nothing is known of
+    /// their order: version 1, which spells any, takes its place elsewhere.
+    fn version_for(&self, asked: Version) -> Version
+        requires { self.now.state.end ≡ Some End.Done }
+        ensures can { AllByRecursion (CanSpell result) (committed_groups self.now.reduces self.now.state) }
+        ensures asked { AllByRecursion (CanSpell asked) (committed_groups self.now.reduces self.now.state) → result ≡ asked }
+    {
+        if self.can_spell(asked) {
+            asked
+        } else {
+            Version::V1
+        }
+    }
+
+    /// How many bytes the partitions are spelled in, in version 2 about so many; no more than can be counted.
+    fn size_of_groups(&self, version: Version) -> usize
         requires { self.now.state.end ≡ Some End.Done }
     {
         let mut size = 0usize;
         for partition in 0..self.shape().parts {
             let (counts, names) = self.committed(partition).flat_groups();
-            size = size.saturating_add(size_of_partition(counts.len(), names.len()));
+            size = size.saturating_add(size_of_partition(version, counts.len(), names.len()));
         }
         size
     }
 
-    /// The bytes of the certificate that begins so.
-    fn spelled(&self, alloc: Global, header: Header) -> Result<Vec<u8>, AllocError>
+    /// The bytes of the certificate that begins so, in a version that can spell it.
+    fn spelled(
+        &self,
+        alloc: Global,
+        header: Header,
+        version: Version,
+    ) -> Result<Vec<u8>, AllocError>
         requires done { self.now.state.end ≡ Some End.Done }
         requires literal { length header.literal.items ≤ 4096 }
         requires files { length header.lengths.items ≤ 1024 }
         requires skips { length header.skips.items < 2 ^ 32 }
-        ensures { IfOk result (λ v. Spells v.items (record {
+        requires can { AllByRecursion (CanSpell version) (committed_groups self.now.reduces self.now.state) }
+        ensures { IfOk result (λ v. SpellsIn version v.items (record {
           job = header.job;
           flags = header.flags;
           literal = header.literal.items;
@@ -58,34 +96,38 @@ impl<L: Ledger> Book<L> {
           split_size = header.split_size;
           lengths = header.lengths.items;
           skips = header.skips.items;
-          groups = map (λ v. v.groups) (committed_values (reduced_under self.now.reduces) self.now.state);
+          groups = committed_groups self.now.reduces self.now.state;
         })) }
     {
         // As above.
         let _limits = self.core().limits();
         let parts = self.shape().parts;
-        let room = self.size_of_groups();
-        let mut out = write_front(alloc, header, parts, room)?;
+        let room = self.size_of_groups(version);
+        let mut out = write_front(alloc, version, header, parts, room)?;
         for partition in 0..parts {
             let (counts, names) = self.committed(partition).flat_groups();
-            write_partition(&mut out, counts, names)?;
+            write_partition(&mut out, version, counts, names)?;
         }
         Ok(out)
     }
 
-    /// The files of a job that is done, and the bytes of its certificate: what `assemble` gives, spelled. Each name is
-    /// spelled from where it is stored, and no list of all names is made.
+    /// The files of a job that is done, and the bytes of its certificate: what `assemble` gives, spelled in this version, or
+    /// in version 1 where this one can't spell it. Each name is spelled from where it is stored, and no list of all names
+    /// is made.
     pub fn assemble_bytes(
         &self,
         alloc: Global,
         request: &Request,
         input: &Input,
+        version: Version,
     ) -> Result<(Vec<Vec<u8>>, Vec<u8>), AllocError>
         requires done { self.now.state.end ≡ Some End.Done }
         requires opened { IsOpenedFor request.now input.now self.now.shape }
         ensures outputs { IfOk result (λ r. contents r.0.items ≡ assembled_outputs (reduced_under self.now.reduces) self.now.state) }
         ensures certificate { IfOk result
             (λ r. Spells r.1.items (assembled_certificate request.now input.now (reduced_under self.now.reduces) self.now.state)) }
+        ensures version { IfOk result (λ r. AllByRecursion (CanSpell version) (committed_groups self.now.reduces self.now.state)
+            → SpellsIn version r.1.items (assembled_certificate request.now input.now (reduced_under self.now.reduces) self.now.state)) }
     {
         // Book and input are within their limits, and the book keeps a run: that there is a certificate of them rests on
         // that.
@@ -95,7 +137,7 @@ impl<L: Ledger> Book<L> {
         let skips = self.records_left_out(alloc)?;
         let header = header_of(alloc, request, input, skips.as_slice())?;
         let texts = self.committed_texts(alloc)?;
-        let certificate = self.spelled(alloc, header)?;
+        let certificate = self.spelled(alloc, header, self.version_for(version))?;
         Ok((texts, certificate))
     }
 }

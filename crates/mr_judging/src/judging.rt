@@ -246,8 +246,9 @@ fn judgement<R: Threads + Sync>(
 
 /// The most bytes that a file of a good result has, over this input. A pair takes two bytes of the input at least, one of
 /// its key and one that ends its word or its line; and of a part at most 16 besides its key, where the place of a line is
-/// told, of the certificate at most 16, where it is a group of its own. The rest is for what stands in front of the
-/// partitions. No clause tells that a good result is never past it: one that is past it is judged all the same.
+/// told, of the certificate at most 17, where it is a group of its own: four for how many entries the group has, and of
+/// its name three, five and five in version 2, as an input has at most 2^20 splits. The rest is for what stands in front
+/// of the partitions. No clause tells that a good result is never past it: one that is past it is judged all the same.
 fn most_bytes(input: &Input) -> u64 {
     let mut bytes = 0u64;
     for file in 0..input.files() {

@@ -1,8 +1,10 @@
 -- What a run answers.
 use Rattle.std.specs.Prelude.{◌≡◌, ℕ, List, Some, Err, ◌⊎◌, IsTrue}
+use Rattle.std.specs.List.{AllByRecursion}
 use Rattle.mr_input.specs.Files.{contents, split_total}
 use Rattle.mr_jobs.specs.JobSpec.{RequestSpec}
-use Rattle.mr_certform.specs.Value.{Spells}
+use Rattle.mr_certform.specs.Value.{Contents, CanSpell, Spells, SpellsIn}
+use Rattle.mr_certform.specs.declared.version.Version.{Version}
 use Rattle.mr_script.specs.declared.directive.Directive.{Directive}
 use Rattle.mr_core.specs.declared.event.Shape.{Shape}
 use Rattle.mr_core.specs.declared.event.End.{End}
@@ -39,7 +41,7 @@ pub record IsHistory (sh : Shape) (h : History) (st : State) : Type 0 where
   pub promises : Promises sh h.entries.items st
   pub stored : StoresAccepted h.entries.items h.maps.items h.reduces.items
 
--- a history that ends done, with the files, and bytes of the certificate, that are assembled from it
+-- a history that ends done, with the files, and bytes of the certificate in one of the versions, that are assembled from it
 pub record IsDoneRun (request : RequestSpec) (files : List (List ℕ)) (sh : Shape) (h : History) (outputs : List (List ℕ)) (bytes : List ℕ) : Type 0 where
   pub state : State
   pub history : IsHistory sh h state
@@ -47,10 +49,12 @@ pub record IsDoneRun (request : RequestSpec) (files : List (List ℕ)) (sh : Sha
   pub outputs_are : outputs ≡ assembled_outputs (reduced_under h.reduces.items) state
   pub certificate_is : Spells bytes (assembled_certificate request files (reduced_under h.reduces.items) state)
 
--- the judge says yes to just these files and these bytes, which are assembled from a history of this shape that ends done
-pub record IsCertifiedRun (request : RequestSpec) (files : List (List ℕ)) (sh : Shape) (c : Certified) : Type 0 where
+-- the judge says yes to just these files and these bytes, which are assembled from a history of this shape that ends done,
+-- and the bytes spell its certificate in the version asked for
+pub record IsCertifiedRun (request : RequestSpec) (files : List (List ℕ)) (sh : Shape) (version : Version) (c : Certified) : Type 0 where
   pub judged : IsCertified request files (contents c.outputs.items) c.certificate.items c.skips.items c.pairs
   pub done : IsDoneRun request files sh c.history (contents c.outputs.items) c.certificate.items
+  pub in_version : SpellsIn version c.certificate.items (assembled_certificate request files (reduced_under c.history.reduces.items) done.state)
 
 -- the job failed by this fault, and the script accounts for it
 pub record IsFailedRun (script : List Directive) (sh : Shape) (fault : JobFault) (h : History) : Type 0 where
@@ -75,3 +79,11 @@ abbrev pub IsRunFault : RequestSpec → List (List ℕ) → List Directive → S
 IsRunFault request files script sh (Failed fault h) = IsFailedRun script sh fault h
 IsRunFault request files script sh (Uncertified verdict h) = IsRefusedRun request files sh verdict h ⊎ ((verdict ≡ OtherJob) × IsAstray script sh h)
 IsRunFault request files script sh OutOfMemory = Unit {0}
+
+-- of no public promise: each version can spell what certificate the bytes spell
+abbrev pub CanBeSpelled : List ℕ → Type 0
+CanBeSpelled bytes = (version : Version) (c : Contents) → Spells bytes c → AllByRecursion (CanSpell version) c.groups
+
+-- of no public promise: what certificate the bytes spell, they spell in this version
+abbrev pub IsInVersion : Version → List ℕ → Type 0
+IsInVersion version bytes = (c : Contents) → Spells bytes c → SpellsIn version bytes c

@@ -1,22 +1,24 @@
 //! A run, from its opening to its answer.
-ghost use Rattle.std.specs.Prelude.{◌≡◌, ◌↔◌, ◌⊎◌, Err, ◌≤◌, ◌<◌, ◌^◌, Some, IfOk, IfErr, IsTrue, vec_len};
+ghost use Rattle.std.specs.Prelude.{◌≡◌, ◌↔◌, ◌⊎◌, Err, ◌≤◌, ◌<◌, ◌^◌, Some, IfOk, OnOk, IfErr, IsTrue, vec_len};
+ghost use Rattle.std.specs.List.{AllByRecursion};
 ghost use Rattle.mr_pool.specs.Endings.{ending_of};
 ghost use Rattle.mr_input.specs.Files.{contents, split_total};
 ghost use Rattle.mr_core.specs.declared.event.End.{End as Ended};
 ghost use Rattle.mr_assembled.specs.Assembled.{assembled_certificate, assembled_outputs};
 ghost use Rattle.mr_assembled.specs.Faithful.{IsOpenedFor};
-ghost use Rattle.mr_book.specs.Assembling.{reduced_under};
-ghost use Rattle.mr_certform.specs.Value.{Spells};
+ghost use Rattle.mr_book.specs.Assembling.{committed_groups, reduced_under};
+ghost use Rattle.mr_certform.specs.Value.{CanSpell, Spells, SpellsIn};
 ghost use Rattle.mr_check.specs.Ahead.{IsMappedFor};
 ghost use Rattle.mr_core.specs.Core.{InLimits};
 ghost use Rattle.mr_answers.specs.declared.fault.No.{No};
 ghost use Rattle.mr_answers.specs.Headline.{IsCertified};
 ghost use Rattle.mr_answers.specs.Verdict.{verdict_of};
-ghost use Rattle.mr_pool.specs.Outcomes.{IsCertifiedRun, IsDoneRun, IsRunFault, run_shape};
+ghost use Rattle.mr_pool.specs.Outcomes.{CanBeSpelled, IsCertifiedRun, IsDoneRun, IsInVersion, IsRunFault, run_shape};
 
 use crate::progress::JudgesProgress;
 use mr_book::{Book, History, Seat};
 use mr_bytes::{Gate, OpenGate, RecordName};
+use mr_certform::Version;
 use mr_check::{MappedInput, No, Yes, check_mapped_watched, is_same_fault, map_input};
 use mr_core::{End, JobFault, Limits, Shape};
 use mr_input::Input;
@@ -83,6 +85,7 @@ fn judged_by_all<W: Watch, R: Threads + Sync>(
     requires limits { InLimits terms.shape }
     ensures headline { IfOk result (λ y. IsCertified terms.entry.request.now terms.entry.input.now (contents outputs.now) certificate.now
         y.skips.items y.pairs) }
+    ensures version { OnOk result (CanBeSpelled certificate.now) }
     ensures no { IfErr result (λ e. (e ≡ No.OutOfMemory)
         ⊎ (verdict_of terms.entry.request.now terms.entry.input.now (contents outputs.now) certificate.now ≡ Err e)) }
 {
@@ -107,12 +110,14 @@ fn answered(
     certificate: Vec<u8>,
     judged: Result<Yes, No>,
     history: History,
+    version: Version,
 ) -> Result<Certified, RunFault>
     requires done { IsDoneRun terms.request.now terms.input.now history.shape history (contents outputs.items) certificate.items }
     requires headline { IfOk judged (λ y. IsCertified terms.request.now terms.input.now (contents outputs.items) certificate.items y.skips.items y.pairs) }
+    requires version { OnOk judged (IsInVersion version certificate.items) }
     requires no { IfErr judged (λ e. (e ≡ No.OutOfMemory)
         ⊎ (verdict_of terms.request.now terms.input.now (contents outputs.items) certificate.items ≡ Err e)) }
-    ensures certified { IfOk result (IsCertifiedRun terms.entry.request.now terms.entry.input.now history.shape) }
+    ensures certified { IfOk result (IsCertifiedRun terms.entry.request.now terms.entry.input.now history.shape version) }
     ensures fault { IfErr result (IsRunFault terms.entry.request.now terms.entry.input.now terms.entry.script.now history.shape) }
 {
     match judged {
@@ -139,6 +144,7 @@ fn made_and_mapped<'p, L: Ledger, W: Watch, R: Threads + Sync>(
     plan: &'p Plan<'p>,
     terms: Terms<'_>,
     book: &Book<L>,
+    version: Version,
     watch: &W,
 ) -> Result<(Vec<Vec<u8>>, Vec<u8>, MappedInput<'p>), AllocError>
     requires plan { plan.now ≡ record { size = terms.request.now.split; files = terms.input.now } }
@@ -147,6 +153,8 @@ fn made_and_mapped<'p, L: Ledger, W: Watch, R: Threads + Sync>(
     requires opened { IsOpenedFor terms.request.now terms.input.now book.now.shape }
     ensures outputs { IfOk result (λ r. contents r.0.items ≡ assembled_outputs (reduced_under book.now.reduces) book.now.state) }
     ensures certificate { IfOk result (λ r. Spells r.1.items
+        (assembled_certificate terms.entry.request.now terms.entry.input.now (reduced_under book.now.reduces) book.now.state)) }
+    ensures version { IfOk result (λ r. AllByRecursion (CanSpell version) (committed_groups book.now.reduces book.now.state) → SpellsIn version r.1.items
         (assembled_certificate terms.entry.request.now terms.entry.input.now (reduced_under book.now.reduces) book.now.state)) }
     ensures mapped { IfOk result (λ r. IsMappedFor terms.entry.request.now terms.entry.input.now (r.2)) }
 {
@@ -170,7 +178,9 @@ fn made_and_mapped<'p, L: Ledger, W: Watch, R: Threads + Sync>(
         ensures outputs { IfOk result (λ r. contents r.0.items ≡ assembled_outputs (reduced_under book.entry.now.reduces) book.entry.now.state) }
         ensures certificate { IfOk result (λ r. Spells r.1.items
             (assembled_certificate request.entry.now input.entry.now (reduced_under book.entry.now.reduces) book.entry.now.state)) }
-    { book.assemble_bytes(alloc, request, input) };
+        ensures version { IfOk result (λ r. AllByRecursion (CanSpell version) (committed_groups book.entry.now.reduces book.entry.now.state) → SpellsIn version r.1.items
+            (assembled_certificate request.entry.now input.entry.now (reduced_under book.entry.now.reduces) book.entry.now.state)) }
+    { book.assemble_bytes(alloc, request, input, version) };
     let (mapped, made) = thread::join(rt, mapping, making);
     let (outputs, certificate) = made?;
     Ok((outputs, certificate, mapped?))
@@ -184,6 +194,7 @@ fn assembled<L: Ledger, W: Watch, R: Threads + Sync>(
     terms: Terms<'_>,
     book: Book<L>,
     seats: Vec<Seat<L>>,
+    version: Version,
     watch: &W,
 ) -> Result<Certified, RunFault>
     requires plan { plan.now ≡ record { size = terms.request.now.split; files = terms.input.now } }
@@ -192,11 +203,13 @@ fn assembled<L: Ledger, W: Watch, R: Threads + Sync>(
     requires ends { book.state.end ≡ Some Ended.Done }
     requires opened { IsOpenedFor terms.request.now terms.input.now book.shape }
     requires seats { vec_len seats ≡ L.parts }
-    ensures certified { IfOk result (IsCertifiedRun terms.entry.request.now terms.entry.input.now book.shape) }
+    ensures certified { IfOk result (IsCertifiedRun terms.entry.request.now terms.entry.input.now book.shape version) }
     ensures fault { IfErr result (IsRunFault terms.entry.request.now terms.entry.input.now terms.entry.script.now book.shape) }
 {
     watch.tell(Phase::Judging, 0, 1);
-    let (outputs, certificate, mapped) = made_and_mapped(rt, alloc, plan, terms, &book, watch)?;
+    let (outputs, certificate, mapped) = made_and_mapped(
+        rt, alloc, plan, terms, &book, version, watch,
+    )?;
     let judged = judged_by_all(
         rt,
         alloc,
@@ -207,7 +220,7 @@ fn assembled<L: Ledger, W: Watch, R: Threads + Sync>(
         watch,
     );
     let history = book.close(seats);
-    answered(terms, outputs, certificate, judged, history)
+    answered(terms, outputs, certificate, judged, history, version)
 }
 
 /// How a job ended, by what its script accounts for.
@@ -251,6 +264,7 @@ fn settled<L: Ledger, W: Watch, R: Threads + Sync>(
     terms: Terms<'_>,
     book: Book<L>,
     seats: Vec<Seat<L>>,
+    version: Version,
     watch: &W,
 ) -> Result<Certified, RunFault>
     requires plan { plan.now ≡ record { size = terms.request.now.split; files = terms.input.now } }
@@ -258,14 +272,14 @@ fn settled<L: Ledger, W: Watch, R: Threads + Sync>(
     requires limits { InLimits terms.shape }
     requires opened { IsOpenedFor terms.request.now terms.input.now terms.shape }
     requires seats { vec_len seats ≡ L.parts }
-    ensures certified { IfOk result (IsCertifiedRun terms.entry.request.now terms.entry.input.now terms.entry.shape) }
+    ensures certified { IfOk result (IsCertifiedRun terms.entry.request.now terms.entry.input.now terms.entry.shape version) }
     ensures fault { IfErr result (IsRunFault terms.entry.request.now terms.entry.input.now terms.entry.script.now terms.entry.shape) }
 {
     if !is_opened(book.shape(), terms.shape) {
         return Err(RunFault::Uncertified(No::OtherJob, book.close(seats)));
     }
     match ending_by(book.end(), terms.script, terms.shape.workers) {
-        Ending::Done => assembled(rt, alloc, plan, terms, book, seats, watch),
+        Ending::Done => assembled(rt, alloc, plan, terms, book, seats, version, watch),
         Ending::Failed(fault) => Err(RunFault::Failed(fault, book.close(seats))),
         Ending::Astray => Err(RunFault::Uncertified(No::OtherJob, book.close(seats))),
     }
@@ -278,6 +292,7 @@ fn run_in<L: Ledger + Send + Sync, G: Gate, W: Watch, R: Threads + Wait + Sync>(
     plan: &Plan<'_>,
     terms: Terms<'_>,
     gate: &G,
+    version: Version,
     watch: &W,
 ) -> Result<Certified, RunFault>
     requires ledger { (blank.name ≡ L.name) × (blank.parts ≡ L.parts) }
@@ -286,7 +301,7 @@ fn run_in<L: Ledger + Send + Sync, G: Gate, W: Watch, R: Threads + Wait + Sync>(
     requires fits { split_total terms.request.now.split terms.input.now ≤ 2 ^ 20 }
     requires opened { IsOpenedFor terms.request.now terms.input.now terms.shape }
     requires limits { InLimits terms.shape }
-    ensures certified { IfOk result (IsCertifiedRun terms.entry.request.now terms.entry.input.now terms.entry.shape) }
+    ensures certified { IfOk result (IsCertifiedRun terms.entry.request.now terms.entry.input.now terms.entry.shape version) }
     ensures fault { IfErr result (IsRunFault terms.entry.request.now terms.entry.input.now terms.entry.script.now terms.entry.shape) }
 {
     let Shape {
@@ -305,12 +320,13 @@ fn run_in<L: Ledger + Send + Sync, G: Gate, W: Watch, R: Threads + Wait + Sync>(
         workers as usize,
     )?;
     let (book, seats) = executed(rt, alloc, plan, terms, book, seats, gate, watch)?;
-    settled(rt, alloc, plan, terms, book, seats, watch)
+    settled(rt, alloc, plan, terms, book, seats, version, watch)
 }
 
 /// Runs the request's job over the input by so many workers, 1 to 64, each in a thread of its own where one can be made;
 /// each task may have so many attempts, 1 to 16. What the script orders goes wrong. The result of a job that is done is
-/// judged, and only a yes is `Certified`. The splits of the input must fit (`Request::fits`). It may wait for threads.
+/// judged, and only a yes is `Certified`; its certificate is in the version asked for, which can spell whatever the judge
+/// says yes to. The splits of the input must fit (`Request::fits`). It may wait for threads.
 pub fn run<G: Gate, R: Threads + Wait + Sync>(
     rt: &R,
     alloc: Global,
@@ -320,15 +336,16 @@ pub fn run<G: Gate, R: Threads + Wait + Sync>(
     workers: u32,
     attempts: u32,
     gate: &G,
+    version: Version,
 ) -> Result<Certified, RunFault>
     requires fits { split_total request.now.split input.now ≤ 2 ^ 20 }
     requires workers { (1 ≤ workers) × (workers ≤ 64) }
     requires attempts { (1 ≤ attempts) × (attempts ≤ 16) }
-    ensures certified { IfOk result (IsCertifiedRun request.now input.now (run_shape request.now input.now workers attempts)) }
+    ensures certified { IfOk result (IsCertifiedRun request.now input.now (run_shape request.now input.now workers attempts) version) }
     ensures fault { IfErr result (IsRunFault request.now input.now script.now (run_shape request.now input.now workers attempts)) }
 {
     run_watched(
-        rt, alloc, request, input, script, workers, attempts, gate, &Unwatched,
+        rt, alloc, request, input, script, workers, attempts, gate, version, &Unwatched,
     )
 }
 
@@ -343,12 +360,13 @@ pub fn run_watched<G: Gate, R: Threads + Wait + Sync>(
     workers: u32,
     attempts: u32,
     gate: &G,
+    version: Version,
     watch: &dyn Watch,
 ) -> Result<Certified, RunFault>
     requires fits { split_total request.now.split input.now ≤ 2 ^ 20 }
     requires workers { (1 ≤ workers) × (workers ≤ 64) }
     requires attempts { (1 ≤ attempts) × (attempts ≤ 16) }
-    ensures certified { IfOk result (IsCertifiedRun request.now input.now (run_shape request.now input.now workers attempts)) }
+    ensures certified { IfOk result (IsCertifiedRun request.now input.now (run_shape request.now input.now workers attempts) version) }
     ensures fault { IfErr result (IsRunFault request.now input.now script.now (run_shape request.now input.now workers attempts)) }
 {
     let plan = Plan::fitting(alloc, input, request.split_size())?;
@@ -374,6 +392,7 @@ pub fn run_watched<G: Gate, R: Threads + Wait + Sync>(
         &plan,
         terms,
         gate,
+        version,
         &watch,
     )
 }

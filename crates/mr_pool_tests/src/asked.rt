@@ -1,4 +1,5 @@
 //! What the program is asked to run.
+use mr_certform::Version;
 use mr_input::Input;
 use mr_jobs::{Job, Request};
 use mr_script::Script;
@@ -12,6 +13,8 @@ pub struct Order {
     pub script: Script,
     pub workers: u32,
     pub attempts: u32,
+    /// That of the certificate.
+    pub version: Version,
 }
 
 /// The number at a place; 0 where there is none.
@@ -19,6 +22,15 @@ pub fn number_at(words: &[String], place: usize) -> u32 {
     match words.get(place) {
         Some(word) => word.as_str().parse().unwrap_or(0),
         None => 0,
+    }
+}
+
+/// The version of a number: 2 is version 2, and all else version 1.
+fn version_of(number: u32) -> Version {
+    if number == 2 {
+        Version::V2
+    } else {
+        Version::V1
     }
 }
 
@@ -76,7 +88,7 @@ fn request_of(alloc: Global, words: &[String]) -> Option<Request> {
 
 /// The run that the words ask for, if they ask for one.
 pub fn order_of(alloc: Global, words: &[String], text: &[u8]) -> Result<Option<Order>, AllocError> {
-    let Some(lengths) = words.get(6..) else {
+    let Some(lengths) = words.get(7..) else {
         return Ok(None);
     };
     let Some((script, input)) = texts_of(alloc, lengths, text)? else {
@@ -89,6 +101,7 @@ pub fn order_of(alloc: Global, words: &[String], text: &[u8]) -> Result<Option<O
             script,
             workers: number_at(words, 4),
             attempts: number_at(words, 5),
+            version: version_of(number_at(words, 6)),
         })),
         None => Ok(None),
     }

@@ -1,10 +1,10 @@
 //! Runs of jobs as a program, for the checks from outside. Its arguments are a mode, a job, how many partitions there
-//! are, the size of a split, how many records may be left out, how many workers and attempts of a task there are, and
-//! then the lengths of the script and of each file, which stand one behind another on standard input. It tells what the
-//! run answers. In the mode `history` it tells each event too, in `watch` what who looks on is told, and in `gate`
-//! whether a second attempt went on while the first was held. In the mode `judge` it tells what as many threads as there
-//! are workers say of the result, and whether they shared the work, and in `tickets` what two seats draw. In the mode
-//! `book` it answers for the master's book alone.
+//! are, the size of a split, how many records may be left out, how many workers and attempts of a task there are, the
+//! version of the certificate, and then the lengths of the script and of each file, which stand one behind another on
+//! standard input. It tells what the run answers. In the mode `history` it tells each event too, in `watch` what who looks
+//! on is told, and in `gate` whether a second attempt went on while the first was held. In the mode `judge` it tells what
+//! as many threads as there are workers say of the result, and whether they shared the work, and in `tickets` what two
+//! seats draw. In the mode `book` it answers for the master's book alone.
 #![tactic(auto)]
 
 mod asked;
@@ -39,14 +39,17 @@ fn done<G: Gate, R: Threads + Wait + Sync>(
     let script = &order.script;
     let workers = order.workers;
     let attempts = order.attempts;
+    let version = order.version;
     if !request.fits(input) || workers < 1 || 64 < workers || attempts < 1 || 16 < attempts {
         return None;
     }
     Some(match watch {
         Some(watch) => run_watched(
-            rt, alloc, request, input, script, workers, attempts, gate, watch,
+            rt, alloc, request, input, script, workers, attempts, gate, version, watch,
         ),
-        None => run(rt, alloc, request, input, script, workers, attempts, gate),
+        None => run(
+            rt, alloc, request, input, script, workers, attempts, gate, version,
+        ),
     })
 }
 

@@ -1,10 +1,12 @@
 use Rattle.std.proofs.Common.{ap, sym, ◌∙◌, subst}
+use Rattle.std.specs.Prelude.{OnOk}
 use Rattle.mr_certform.specs.Value.{Spells}
 use Rattle.mr_core.specs.declared.event.Shape.{Shape}
 use Rattle.mr_assembled.specs.Assembled.{assembled_certificate, assembled_outputs}
 use Rattle.mr_book.specs.Assembling.{reduced_under}
-use Rattle.mr_pool.specs.Outcomes.{IsHistory}
+use Rattle.mr_pool.specs.Outcomes.{CanBeSpelled, IsHistory}
 use Rattle.mr_pool.proofs.Closed.{is_history}
+use Rattle.mr_pool.proofs.Versions.{yes_in_version}
 use Rattle.mr_pool.proofs.running.assembled.Goals as goal
 
 pub answered-requires-clause-done : goal.answered-requires-clause-done
@@ -22,3 +24,12 @@ answered-requires-clause-done g c =
           (assembled_certificate c.args.terms.request.now c.args.terms.input.now (reduced_under rs) b.state)) same
           c.in_ok-outputs.ensures.certificate;
     }
+
+pub answered-requires-clause-version : goal.answered-requires-clause-version
+answered-requires-clause-version g c =
+    let b = c.args.book in
+    let made = c.in_ok-outputs.ensures in
+    let judged = c.judged_by_all-judged.result in
+    let can = subst (λ bytes. OnOk judged (CanBeSpelled bytes)) c.as_slice-2.ensures.value c.judged_by_all-judged.ensures.version in
+    yes_in_version c.args.version c.in_ok-outputs.certificate.items
+    (assembled_certificate c.args.terms.request.now c.args.terms.input.now (reduced_under b.reduces) b.state) judged made.certificate made.version can

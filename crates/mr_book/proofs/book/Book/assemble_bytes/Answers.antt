@@ -1,11 +1,11 @@
-use Rattle.std.proofs.Common.{ℕ, List, length, map, ap, sym, ◌∙◌, subst, arith}
+use Rattle.std.proofs.Common.{ℕ, List, length, ap, sym, ◌∙◌, subst, arith}
 use Rattle.std.proofs.lemmas.List.{length-map}
-use Rattle.mr_certform.specs.Value.{Spells}
+use Rattle.mr_certform.specs.Value.{SpellsIn}
+use Rattle.mr_certform.specs.declared.version.Version.{Version}
 use Rattle.mr_core.specs.Core.{CoreView, InLimits}
-use Rattle.mr_task.specs.Values.{Reduced}
-use Rattle.mr_assembled.specs.Assembled.{committed_values, records_from}
+use Rattle.mr_assembled.specs.Assembled.{assembled_certificate, records_from}
 use Rattle.mr_assembled.proofs.Done.{done_sets_are_fixed}
-use Rattle.mr_book.specs.Assembling.{reduced_under, sets_of}
+use Rattle.mr_book.specs.Assembling.{committed_groups, reduced_under, sets_of}
 use Rattle.mr_book.proofs.Assemblies.{few_left_out}
 use Rattle.mr_book.proofs.book.Book.assemble_bytes.Goals as goal
 
@@ -23,16 +23,25 @@ pub returns-clause-certificate : goal.returns-clause-certificate
 returns-clause-certificate g c =
     let b = c.args.self.now in
     let limits : InLimits b.shape = subst (λ (v : CoreView). InLimits v.shape) c.core.ensures.core c.limits-limits.ensures.within in
-    let vs : List Reduced = committed_values (reduced_under b.reduces) b.state in
     let skips = c.in_ok-header.ensures.skips ∙ c.as_slice.ensures.value ∙ c.in_ok-skips.ensures ∙ sym (done_sets_are_fixed b.shape b.history b.state limits.parts.0 limits.attempts.0 c.shape-shape.ensures.kept.run c.requires.done) in
-    subst (Spells c.in_ok-certificate.certificate.items) (λ i. record {
-      job = c.in_ok-header.ensures.job i;
-      flags = c.in_ok-header.ensures.flags i;
-      literal = c.in_ok-header.ensures.literal i;
-      parts = c.requires.opened.parts i;
-      split_size = c.in_ok-header.ensures.split i;
-      lengths = c.in_ok-header.ensures.lengths i;
-      skips = skips i;
-      groups = map (λ (v : Reduced). v.groups) vs;
-    })
-    c.in_ok-certificate.ensures
+    record {
+      version = c.version_for.result;
+      is = subst (SpellsIn c.version_for.result c.in_ok-certificate.certificate.items) (λ i. record {
+        job = c.in_ok-header.ensures.job i;
+        flags = c.in_ok-header.ensures.flags i;
+        literal = c.in_ok-header.ensures.literal i;
+        parts = c.requires.opened.parts i;
+        split_size = c.in_ok-header.ensures.split i;
+        lengths = c.in_ok-header.ensures.lengths i;
+        skips = skips i;
+        groups = committed_groups b.reduces b.state;
+      })
+          c.in_ok-certificate.ensures;
+    }
+
+pub returns-clause-version : goal.returns-clause-version
+unfolding returns-clause-certificate
+returns-clause-version g c = λ can.
+    let b = c.args.self.now in
+    subst (λ (v : Version). SpellsIn v c.in_ok-certificate.certificate.items (assembled_certificate c.args.request.now c.args.input.now (reduced_under b.reduces) b.state))
+    (c.version_for.ensures.asked can) (returns-clause-certificate g c).is

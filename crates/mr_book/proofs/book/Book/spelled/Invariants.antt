@@ -6,7 +6,7 @@ use Rattle.mr_book.specs.Assembling.{reduced_under}
 use Rattle.mr_book.proofs.book.Book.spelled.Given as goal
 
 abbrev pub invariant-loop-partition : goal.invariant-loop-partition
-invariant-loop-partition g l = SpellsSoFar l.out.items (record {
+invariant-loop-partition g l = SpellsSoFar l.version l.out.items (record {
   job = l.fn.header.job;
   flags = l.fn.header.flags;
   literal = l.fn.header.literal.items;
