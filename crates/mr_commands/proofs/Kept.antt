@@ -40,13 +40,13 @@ module _ (holds : List ℕ → List ℕ → Type 0) (unreadable : List ℕ → T
 
   pub runs : (script : List Directive) (names files : List (List ℕ)) (request : RequestSpec) (ran : Ran)
       → names ≡ input_names o.options → request ≡ request_asked o.options → IsScript holds (script_name o) script → IsInput holds names request.split files
-      → IsEnding request files script (run_shape request files o.workers o.attempts) ran → Runs holds o ran
+      → IsEnding request files script (run_shape request files o.workers o.attempts) o.version ran → Runs holds o ran
   runs script names files request ran n r s i h = record {
     files = files;
     script = script;
     input = subst (λ (s : ℕ). IsInput holds (input_names o.options) s files) (ap (λ (v : RequestSpec). v.split) r) (subst (λ (v : List (List ℕ)). IsInput holds v request.split files) n i);
     scripted = s;
-    ends = subst (λ (v : RequestSpec). IsEnding v files script (run_shape v files o.workers o.attempts) ran) r h;
+    ends = subst (λ (v : RequestSpec). IsEnding v files script (run_shape v files o.workers o.attempts) o.version ran) r h;
   }
 
 -- a file that can't be written, of one name or of several

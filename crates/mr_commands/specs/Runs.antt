@@ -2,6 +2,7 @@
 use Rattle.std.specs.Prelude.{◌≡◌, ◌⊎◌, ℕ, ◌∷◌, ◌++◌, ◌<◌, Option, None, Some, IfSome, List, [], codes, decimal, ⊤, string_bytes, option_map, length, vec_len}
 use Rattle.mr_input.specs.Files.{contents}
 use Rattle.mr_jobs.specs.JobSpec.{RequestSpec}
+use Rattle.mr_certform.specs.declared.version.Version.{Version}
 use Rattle.mr_script.specs.declared.directive.Directive.{Directive}
 use Rattle.mr_script.specs.Scripts.{IsScriptFault, SpellsScript}
 use Rattle.mr_core.specs.declared.event.JobFault.{JobFault}
@@ -58,19 +59,20 @@ script_name o = option_map (λ s. s.now) o.script
 abbrev pub history_name : RunOptions → Option (List ℕ)
 history_name o = option_map (λ s. s.now) o.history
 
--- what the pool answers
-abbrev pub IsEnding : RequestSpec → List (List ℕ) → List Directive → Shape → Ran → Type 0
-IsEnding request files script shape (Certified c) = IsCertifiedRun request files shape c
-IsEnding request files script shape (Failed f h) = IsRunFault request files script shape (fault.Failed f h)
-IsEnding request files script shape (Uncertified verdict h) = IsRunFault request files script shape (fault.Uncertified verdict h)
+-- what the pool answers where it was asked for a certificate in this version
+abbrev pub IsEnding : RequestSpec → List (List ℕ) → List Directive → Shape → Version → Ran → Type 0
+IsEnding request files script shape version (Certified c) = IsCertifiedRun request files shape version c
+IsEnding request files script shape version (Failed f h) = IsRunFault request files script shape (fault.Failed f h)
+IsEnding request files script shape version (Uncertified verdict h) = IsRunFault request files script shape (fault.Uncertified verdict h)
 
--- the request that is asked for, over what stands under the names of the input, ended so by the script that is named
+-- the request that is asked for, over what stands under the names of the input, ended so by the script that is named; where
+-- it is certified, by a certificate in the version that is asked for
 pub record Runs (holds : Stored) (o : RunOptions) (ran : Ran) : Type 0 where
   pub files : List (List ℕ)
   pub script : List Directive
   pub input : IsInput holds (input_names o.options) o.options.split files
   pub scripted : IsScript holds (script_name o) script
-  pub ends : IsEnding (request_asked o.options) files script (run_shape (request_asked o.options) files o.workers o.attempts) ran
+  pub ends : IsEnding (request_asked o.options) files script (run_shape (request_asked o.options) files o.workers o.attempts) o.version ran
 
 -- ---- what stands behind a run
 

@@ -15,6 +15,7 @@ use crate::said::{certified_line, failed_line};
 use mr_asked::{Fault, RunOptions, request_of};
 use mr_book::History;
 use mr_bytes::OpenGate;
+use mr_certform::Version;
 use mr_check::No;
 use mr_core::JobFault;
 use mr_files::{FileFault, Store, read_file, write_files, write_named};
@@ -94,16 +95,17 @@ fn ended<R: Threads + Wait + Sync>(
     script: &Script,
     workers: u32,
     attempts: u32,
+    version: Version,
     watch: &dyn Watch,
 ) -> Result<Ran, Fault>
     requires fits { split_total request.now.split input.now ≤ 2 ^ 20 }
     requires workers { (1 ≤ workers) × (workers ≤ 64) }
     requires attempts { (1 ≤ attempts) × (attempts ≤ 16) }
-    ensures ends { IfOk result (λ ran. IsEnding request.now input.now script.now (run_shape request.now input.now workers attempts) ran) }
+    ensures ends { IfOk result (λ ran. IsEnding request.now input.now script.now (run_shape request.now input.now workers attempts) version ran) }
     ensures memory { IfErr result (λ e. e ≡ Fault.OutOfMemory) }
 {
     match pooled(
-        rt, alloc, request, input, script, workers, attempts, &OpenGate, watch,
+        rt, alloc, request, input, script, workers, attempts, &OpenGate, version, watch,
     ) {
         Ok(certified) => Ok(Ran::Certified(certified)),
         Err(RunFault::Failed(fault, history)) => Ok(Ran::Failed(fault, history)),
@@ -136,6 +138,7 @@ fn executed<S: Store, R: Threads + Wait + Sync>(
         &script,
         asked.workers,
         asked.attempts,
+        asked.version,
         watch,
     )
 }

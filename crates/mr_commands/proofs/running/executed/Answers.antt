@@ -28,7 +28,7 @@ returns-clause-runs g c =
     let request = c.in_ok-request.request in
     let files = c.in_ok-input.input in
     let script = c.in_ok-script.script in
-    IfOk-weaker c.ended.result (λ ran. IsEnding request files script (run_shape request files o.workers o.attempts) ran) (λ ran. Runs holds o ran)
+    IfOk-weaker c.ended.result (λ ran. IsEnding request files script (run_shape request files o.workers o.attempts) o.version ran) (λ ran. Runs holds o ran)
     (λ ran h. runs holds (g.S.Store.unreadable c.args.store.now) o script (map (λ s. s.now) c.as_slice.result.now) files request ran
     (ap (map (λ s. s.now)) c.as_slice.ensures.value) c.in_ok-request.ensures.request c.in_ok-script.ensures.script c.in_ok-input.ensures.input h)
     c.ended.ensures.ends
