@@ -6,7 +6,7 @@ ghost use Rattle.mr_certform.specs.Value.{CanSpell, Spells, SpellsIn};
 ghost use Rattle.mr_core.specs.declared.event.End.{End};
 ghost use Rattle.mr_assembled.specs.Assembled.{assembled_certificate, assembled_outputs};
 ghost use Rattle.mr_assembled.specs.Faithful.{IsOpenedFor};
-ghost use Rattle.mr_book.specs.Assembling.{committed_groups, reduced_under};
+ghost use Rattle.mr_book.specs.Assembling.{SpellsWhereItCan, committed_groups, reduced_under};
 
 use crate::book::Book;
 use mr_certform::{Header, Version, size_of_partition, write_front, write_partition};
@@ -126,8 +126,8 @@ impl<L: Ledger> Book<L> {
         ensures outputs { IfOk result (λ r. contents r.0.items ≡ assembled_outputs (reduced_under self.now.reduces) self.now.state) }
         ensures certificate { IfOk result
             (λ r. Spells r.1.items (assembled_certificate request.now input.now (reduced_under self.now.reduces) self.now.state)) }
-        ensures version { IfOk result (λ r. AllByRecursion (CanSpell version) (committed_groups self.now.reduces self.now.state)
-            → SpellsIn version r.1.items (assembled_certificate request.now input.now (reduced_under self.now.reduces) self.now.state)) }
+        ensures version { IfOk result
+            (λ r. SpellsWhereItCan version r.1.items (assembled_certificate request.now input.now (reduced_under self.now.reduces) self.now.state)) }
     {
         // Book and input are within their limits, and the book keeps a run: that there is a certificate of them rests on
         // that.

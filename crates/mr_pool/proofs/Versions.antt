@@ -18,6 +18,7 @@ use Rattle.mr_certform.proofs.Certificates.{one_certificate}
 use Rattle.mr_certform.proofs.ShortLaws.{least_in_order}
 use Rattle.mr_sequential.specs.Rules.{Key}
 use Rattle.mr_sequential.specs.Good.{IsGood, IsGoodGroup}
+use Rattle.mr_book.specs.Assembling.{SpellsWhereItCan}
 use Rattle.mr_answers.specs.declared.fault.No.{No}
 use Rattle.mr_answers.specs.declared.yes.Yes.{Yes}
 use Rattle.mr_answers.specs.Headline.{accepted_of}
@@ -69,8 +70,8 @@ yes_can request files outputs bytes (Ok y) are_bytes says = λ version c spelled
     (good_can version request files outputs good.certificate good.good)
 yes_can request files outputs bytes (Err e) are_bytes says = tt
 
--- bytes that spell a certificate in the version asked for wherever that can spell it do so where the judge says yes
-pub yes_in_version : (version : Version) (bytes : List ℕ) (c : Contents) (r : Result Yes No) → Spells bytes c → (AllByRecursion (CanSpell version) c.groups → SpellsIn version bytes c)
+-- where the judge says yes, the version asked for can spell the certificate
+pub yes_in_version : (version : Version) (bytes : List ℕ) (c : Contents) (r : Result Yes No) → Spells bytes c → SpellsWhereItCan version bytes c
     → OnOk r (CanBeSpelled bytes) → OnOk r (IsInVersion version bytes)
 yes_in_version version bytes c (Ok y) spelled asked can = λ d is. subst (SpellsIn version bytes) (one_certificate bytes c d spelled is) (asked (can version c spelled))
 yes_in_version version bytes c (Err e) spelled asked can = tt

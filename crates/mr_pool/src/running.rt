@@ -1,13 +1,12 @@
 //! A run, from its opening to its answer.
 ghost use Rattle.std.specs.Prelude.{◌≡◌, ◌↔◌, ◌⊎◌, Err, ◌≤◌, ◌<◌, ◌^◌, Some, IfOk, OnOk, IfErr, IsTrue, vec_len};
-ghost use Rattle.std.specs.List.{AllByRecursion};
 ghost use Rattle.mr_pool.specs.Endings.{ending_of};
 ghost use Rattle.mr_input.specs.Files.{contents, split_total};
 ghost use Rattle.mr_core.specs.declared.event.End.{End as Ended};
 ghost use Rattle.mr_assembled.specs.Assembled.{assembled_certificate, assembled_outputs};
 ghost use Rattle.mr_assembled.specs.Faithful.{IsOpenedFor};
-ghost use Rattle.mr_book.specs.Assembling.{committed_groups, reduced_under};
-ghost use Rattle.mr_certform.specs.Value.{CanSpell, Spells, SpellsIn};
+ghost use Rattle.mr_book.specs.Assembling.{SpellsWhereItCan, reduced_under};
+ghost use Rattle.mr_certform.specs.Value.{Spells};
 ghost use Rattle.mr_check.specs.Ahead.{IsMappedFor};
 ghost use Rattle.mr_core.specs.Core.{InLimits};
 ghost use Rattle.mr_answers.specs.declared.fault.No.{No};
@@ -154,7 +153,7 @@ fn made_and_mapped<'p, L: Ledger, W: Watch, R: Threads + Sync>(
     ensures outputs { IfOk result (λ r. contents r.0.items ≡ assembled_outputs (reduced_under book.now.reduces) book.now.state) }
     ensures certificate { IfOk result (λ r. Spells r.1.items
         (assembled_certificate terms.entry.request.now terms.entry.input.now (reduced_under book.now.reduces) book.now.state)) }
-    ensures version { IfOk result (λ r. AllByRecursion (CanSpell version) (committed_groups book.now.reduces book.now.state) → SpellsIn version r.1.items
+    ensures version { IfOk result (λ r. SpellsWhereItCan version r.1.items
         (assembled_certificate terms.entry.request.now terms.entry.input.now (reduced_under book.now.reduces) book.now.state)) }
     ensures mapped { IfOk result (λ r. IsMappedFor terms.entry.request.now terms.entry.input.now (r.2)) }
 {
@@ -178,7 +177,7 @@ fn made_and_mapped<'p, L: Ledger, W: Watch, R: Threads + Sync>(
         ensures outputs { IfOk result (λ r. contents r.0.items ≡ assembled_outputs (reduced_under book.entry.now.reduces) book.entry.now.state) }
         ensures certificate { IfOk result (λ r. Spells r.1.items
             (assembled_certificate request.entry.now input.entry.now (reduced_under book.entry.now.reduces) book.entry.now.state)) }
-        ensures version { IfOk result (λ r. AllByRecursion (CanSpell version) (committed_groups book.entry.now.reduces book.entry.now.state) → SpellsIn version r.1.items
+        ensures version { IfOk result (λ r. SpellsWhereItCan version r.1.items
             (assembled_certificate request.entry.now input.entry.now (reduced_under book.entry.now.reduces) book.entry.now.state)) }
     { book.assemble_bytes(alloc, request, input, version) };
     let (mapped, made) = thread::join(rt, mapping, making);
