@@ -8,8 +8,8 @@ use crate::streaming;
 use crate::telling::Teller;
 use mr_bytes::Name;
 use mr_certform::{
-    Builder, Certificate, Groups, Header, InVersion, Item, ReadFault, Version, Walker, WriteFault, read,
-    write,
+    Builder, Certificate, Groups, Header, InVersion, Item, ReadFault, Version, Walker, WriteFault,
+    read, write,
 };
 use mr_store::{MemoryWriter, write_spelled};
 use std::alloc::{AllocError, Global};
