@@ -1,5 +1,5 @@
 -- Items that are read ahead: what stands before those that are left, and the tests on them in turn.
-use Rattle.std.proofs.Common.{◌≡◌, ℕ, zero, suc, ◌+◌, ◌<◌, ◌≤◌, Bool, true, None, Ok, List, [], ◌∷◌, ◌++◌, length, drop, get_or, refl, ap, sym, subst, ◌∙◌, inl, inr, arith, append_assoc}
+use Rattle.std.proofs.Common.{◌≡◌, ℕ, zero, suc, ◌+◌, ◌<◌, ◌≤◌, true, None, Ok, List, [], ◌∷◌, ◌++◌, length, drop, get_or, refl, ap, sym, subst, ◌∙◌, inl, inr, arith, append_assoc}
 use Rattle.std.proofs.lemmas.List.{drop_more, drop_all}
 use Rattle.std.specs.List.{AllByRecursion}
 use Rattle.mr_certform.specs.declared.item.Item.{Item}
@@ -8,9 +8,9 @@ use Rattle.mr_certform.specs.Spelling.{left_behind}
 use Rattle.mr_judge.specs.declared.blocks.FoundItem.{FoundItem}
 use Rattle.mr_judge.specs.declared.blocks.Sought.{Sought}
 use Rattle.mr_answers.specs.declared.fault.No.{No}
-use Rattle.mr_answers.specs.Verdict.{Reached, Subject, start, tests, after, part_faults, first, entries_in}
+use Rattle.mr_answers.specs.Verdict.{Reached, Subject, tests, after, part_faults, first, entries_in}
 use Rattle.mr_judge.specs.Steps.{Answers, HasRoom, Room}
-use Rattle.mr_judge.specs.Blocks.{onto, has_end, items_in, items_sought, GoesOn, Judged}
+use Rattle.mr_judge.specs.Blocks.{onto, has_end, items_in, items_sought, GoesOn}
 use Rattle.mr_judge.specs.Items.{Coming, Took}
 use Rattle.mr_judge.proofs.Faults.{told_is}
 use Rattle.mr_judge.proofs.PartLemmas.{end_or_not, loop_more, loop_end, loop_fault, entries_more, entries_end, named_after, room_after}

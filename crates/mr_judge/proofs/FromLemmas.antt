@@ -20,7 +20,7 @@ use Rattle.mr_answers.specs.Headline.{IsCertified}
 use Rattle.mr_judge.specs.Items.{Coming}
 use Rattle.mr_judge.specs.Kinds.{InKind}
 use Rattle.mr_answers.specs.Verdict.{start}
-use Rattle.mr_judge.specs.Outputs.{Fits, Leaves, Through, AllJudged, IsVerdict}
+use Rattle.mr_judge.specs.Outputs.{Leaves, Through, AllJudged, IsVerdict}
 use Rattle.mr_judge.specs.From.{Give, AgreeAll, MayGive, IsVerdictFrom, VerdictOfSome, Judged, IsDevice}
 use Rattle.mr_judge.specs.Reading.{Reading, IsLeft, IsToCome}
 use Rattle.mr_judge.specs.Readers.{StopOfSome, TellsNoRead}

@@ -1,15 +1,12 @@
 -- What the judge's meter counts, from item to item.
-use Rattle.std.proofs.Common.{◌≡◌, ℕ, ◌+◌, List, [], ◌∷◌, ◌++◌, length, ap, arith}
+use Rattle.std.proofs.Common.{◌≡◌, ℕ, ◌+◌, List, [], ◌∷◌, ◌++◌, ap, arith}
 use Rattle.std.specs.Prelude.{Ok}
 use Rattle.mr_jobs.specs.JobSpec.{RequestSpec}
 use Rattle.mr_splits.specs.Named.{NamedRecord}
-use Rattle.mr_splits.specs.Cut.{Cut, records_of}
 use Rattle.mr_certform.specs.declared.item.Item.{Item}
 use Rattle.mr_certform.specs.declared.item.Item.TheVariants.{Skip, Entry}
-use Rattle.mr_index.specs.declared.index.Meter.{Meter}
 use Rattle.mr_answers.specs.Verdict.{Accepted, accepted_by, entries_in}
 use Rattle.mr_judge.specs.Steps.{header_met, Counted, counted, Listed, listed}
-use Rattle.mr_judge.specs.Metered.{IsBounded}
 use Rattle.mr_judge.proofs.VerdictLemmas.{counted_is, listed_accepted, header_accepted}
 
 -- each entry counts for one pair

@@ -10,7 +10,7 @@ use Rattle.std.specs.Global.{Global}
 use Rattle.std.specs.Cmp.Lexicographic.{pointwise}
 use Rattle.mr_input.specs.Files.{contents, nth_file}
 use Rattle.mr_certform.specs.declared.item.Item.{Item}
-use Rattle.mr_certform.specs.declared.item.Item.TheVariants.{Groups, Entry, End}
+use Rattle.mr_certform.specs.declared.item.Item.TheVariants.{Groups, End}
 use Rattle.mr_bytes.specs.declared.Name.{Name}
 use Rattle.mr_bytes.specs.Pairs.{Triple}
 use Rattle.mr_answers.specs.declared.fault.No.{No}
@@ -19,7 +19,6 @@ use Rattle.mr_judge.specs.declared.items.Stop.{Stop}
 use Rattle.mr_judge.specs.declared.items.Stop.TheVariants.{Fault, Device, TooLong, Output, LongOutput}
 use Rattle.mr_answers.specs.Verdict.{Reached, passes, end_tests, text_tests, order_tests, with_entry, group_tests, behind_group, entry_tests, after_entry}
 use Rattle.mr_judge.specs.Steps.{Answers, Ground, subject_with}
-use Rattle.mr_judge.specs.Items.{Stops}
 use Rattle.mr_judge.specs.Blocks.{onto}
 use Rattle.mr_sequential.specs.Rules.{rules_of}
 use Rattle.mr_judge.specs.Steps.{opens}

@@ -7,7 +7,6 @@ use Rattle.mr_certform.specs.Spelling.{left_behind}
 use Rattle.mr_bytes.specs.Pairs.{Triple}
 use Rattle.mr_sequential.specs.Good.{named}
 use Rattle.mr_answers.specs.declared.fault.No.{No}
-use Rattle.mr_answers.specs.declared.fault.No.TheVariants.{Malformed}
 use Rattle.mr_answers.specs.Verdict.{Reached, Subject, with_entry, behind_group, entry_tests, after_entry, tests, after, part_faults, first, entries_in}
 use Rattle.mr_judge.specs.Steps.{Answers, HasRoom, Room}
 use Rattle.mr_judge.proofs.Faults.{first_more, told_left, told_is}
