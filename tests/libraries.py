@@ -185,8 +185,8 @@ def lists_of_certificates(harness):
     harness.check("large counts", tells(large) == wanted)
 
 
-# Walks over readers: so many bytes a call, and a call that fails. Twelve bytes are read before an item is told, or all
-# that there are.
+# Walks over readers: so many bytes a call, and a call that fails. Fifteen bytes are read before an item is told, as many as the
+# longest item of either version has, or all that there are.
 
 
 def streamed(n, most, failing=None):
@@ -195,7 +195,7 @@ def streamed(n, most, failing=None):
     had = min(n, calls * most)
     # all items that stand whole are told, unless a call fails while the bytes that an item may have are still read
     fails = failing is not None and had <= n
-    told_by = [k for k in range(len(ITEMS)) if PLACES[k] + 12 <= had or (not fails and PLACES[k + 1] <= n)]
+    told_by = [k for k in range(len(ITEMS)) if PLACES[k] + 15 <= had or (not fails and PLACES[k + 1] <= n)]
     items = [ITEMS[k][0] for k in told_by]
     at = PLACES[len(items)]
     if fails:
