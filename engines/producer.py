@@ -13,7 +13,7 @@ import sys
 
 WORD = re.compile(rb"[0-9A-Za-z\x80-\xff]+")
 FOLD = bytes(b + 32 if 0x41 <= b <= 0x5A else b for b in range(256))
-JOBS = {"words": 1, "grep": 2, "url": 3}
+JOBS = {"words": 1, "grep": 2, "url": 3, "index": 4}
 name_bytes = struct.Struct(">III").pack
 
 
@@ -46,10 +46,11 @@ def resource_of(line):
 
 
 def mapper_of(asked):
-    """What the job emits for a record: keys, each with the end of its line where that isn't a total."""
-    if asked.job == "words":
+    """What the job emits for a record: keys, each with what its line ends in where that isn't a total."""
+    if asked.job in ("words", "index"):
         fold = None if asked.keep_case else FOLD
-        return lambda file, start, line: [(word.translate(fold), None) for word in WORD.findall(line)]
+        end_in = lambda file: b"%d" % file if asked.job == "index" else None
+        return lambda file, start, line: [(word.translate(fold), end_in(file)) for word in WORD.findall(line)]
     if asked.job == "grep":
         table = FOLD if asked.fold else None
         literal = os.fsencode(asked.literal).translate(table)
@@ -66,7 +67,8 @@ def partition_of(key, parts):
 
 
 class Group:
-    """Of a key the number of its pairs, their names spelled one behind another in their order, and the ends of its lines."""
+    """Of a key the number of its pairs, their names spelled one behind another in their order, and what its lines end in:
+    of a search a place for each pair, of an index the files, each once."""
 
     def __init__(self):
         self.pairs, self.names, self.ends, self.last = 0, bytearray(), [], (0, 0, 0)
@@ -96,7 +98,8 @@ def grouped(asked, files, skips):
                 group.names += name_bytes(split, number, place)
             else:
                 group.add_short((split, number, place))
-            if end is not None:
+            # the pairs of a file come one behind another
+            if end is not None and (asked.job != "index" or group.ends[-1:] != [end]):
                 group.ends.append(end)
     return groups
 
@@ -110,12 +113,13 @@ def front_of(asked, files, skips):
     return front + struct.pack(">I", len(skips)) + b"".join(struct.pack(">II", *skip) for skip in skips)
 
 
-def partition(keys, groups):
+def partition(asked, keys, groups):
     """The output of a partition, and what the certificate says of it, given its keys in their order."""
     out, names = [], [struct.pack(">I", len(keys))]
     for key in keys:
         group = groups[key]
-        out += [key + b"\t" + end + b"\n" for end in group.ends or [b"%d" % group.pairs]]
+        ends = [b",".join(group.ends)] if asked.job == "index" else group.ends or [b"%d" % group.pairs]
+        out += [key + b"\t" + end + b"\n" for end in ends]
         names += [struct.pack(">I", group.pairs), group.names]
     return b"".join(out), b"".join(names)
 
@@ -133,7 +137,7 @@ def produce(asked):
     with open(os.path.join(asked.out, "certificate"), "wb") as certificate:
         certificate.write(front_of(asked, files, skips))
         for number, keys in enumerate(own):
-            output, names = partition(keys, groups)
+            output, names = partition(asked, keys, groups)
             with open(os.path.join(asked.out, f"part-{number:05}"), "wb") as part:
                 part.write(output)
             certificate.write(names)
@@ -146,7 +150,7 @@ def main():
     parser.add_argument("--job", required=True, choices=JOBS)
     parser.add_argument("--literal", help="what grep looks for")
     parser.add_argument("--fold", action="store_true", help="grep: letters in either case")
-    parser.add_argument("--keep-case", action="store_true", help="words: capitals are not folded")
+    parser.add_argument("--keep-case", action="store_true", help="words, index: capitals are not folded")
     parser.add_argument("--parts", type=int, default=1, help="partitions, one file each")
     parser.add_argument("--split", type=int, default=67108864, help="bytes of a split")
     parser.add_argument("--skips", default="", help="records to leave out, rising, as SPLIT:RECORD,SPLIT:RECORD")

@@ -4,7 +4,7 @@
 The list of files is cut into shards, in order, each of whole files. Each shard is executed by `mapred seq`, judged by
 `mapred check`, and tried again where its work is lost; then `mapred merge` joins the shards that were judged. The result
 is that of one sequential execution over all files, whatever was lost on the way: a shard counts only with the judge's
-yes, and the merge tests each part against the verdict that names it.
+yes, and the merge tests each part against the verdict that names it. Shards of an index aren't merged.
 
 Work is done by a pool of processes here, or by the workers of a Dask cluster (--dask). Those workers need this program,
 the files and DIR under the same names: a shared file system."""

@@ -17,6 +17,9 @@ def faults(harness):
     other = b"mapred: option does not belong to this job\n"
     row(harness, "keep-case with grep", ["seq", "--job", "grep", "--literal", "a", "--keep-case"], one, status=2, err=other, parts=[])
     row(harness, "keep-case with url", ["seq", "--job", "url", "--keep-case"], one, status=2, err=other, parts=[])
+    row(harness, "keep-case with index", ["seq", "--job", "index", "--keep-case"], one, out=b"done: 1 files, 1 pairs, 0 left out\n", parts=[b"a\t0\n"])
+    for option in (["--fold"], ["--literal", "a"], ["--keep-case", "--literal", ""]):
+        row(harness, f"{option} with index", ["seq", "--job", "index", *option], one, status=2, err=other, parts=[])
     row(harness, "fold with words", [*words, "--fold"], one, status=2, err=other, parts=[])
     row(harness, "literal with words", [*words, "--literal", "a"], one, status=2, err=other, parts=[])
     row(harness, "grep without a literal", ["seq", "--job", "grep"], one, status=2, err=b"mapred: EmptyLiteral\n", parts=[])
@@ -82,10 +85,12 @@ def order_of_faults(harness):
     """Of several faults of one line the first is told: the line, an option of another job, the job, the numbers, the text of the skip
     list, the files in order, their limits, the fit of the splits, and the list over the input."""
     big = b"a" * 1048577
-    grep, words = ["--job", "grep"], ["--job", "words"]
+    grep, words, index = ["--job", "grep"], ["--job", "words"], ["--job", "index"]
     for said, status, line, files in [
         (b"option does not belong to this job", 2, [*grep, "--literal", "", "--keep-case", "--parts", "0", "--skips", "x"], ["none"]),
+        (b"option does not belong to this job", 2, [*index, "--fold", "--parts", "0", "--skips", "x"], ["none"]),
         (b"EmptyLiteral", 2, [*grep, "--parts", "0", "--skips", "x"], ["none"]),
+        (b"BadParts", 2, [*index, "--keep-case", "--parts", "0", "--split", "0", "--skips", "x"], ["none"]),
         (b"BadParts", 2, [*words, "--parts", "0", "--split", "0", "--max-skips", "1001", "--skips", "x"], ["none"]),
         (b"BadSplitSize", 2, [*words, "--split", "0", "--max-skips", "1001", "--skips", "x"], ["none"]),
         (b"BadSkips", 2, [*words, "--max-skips", "1001", "--skips", "x"], ["none"]),

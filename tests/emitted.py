@@ -2,6 +2,7 @@
 from rows import row
 
 WORDS, CASE, URL = ["--job", "words"], ["--job", "words", "--keep-case"], ["--job", "url"]
+INDEX, INDEX_CASE = ["--job", "index"], ["--job", "index", "--keep-case"]
 LINES, FOLDED = ["--job", "grep", "--literal", "b"], ["--job", "grep", "--literal", "AB", "--fold"]
 
 LOG = b'1.2.3.4 - - [10/Oct/2000:13:55:36 -0700] "GET /a HTTP/1.0" 200 2326'
@@ -30,6 +31,12 @@ ROWS = [
     (URL, b'"GET /a\\', 0, b""),
     (URL, b'" /a"', 1, b"/a\t1\n"),
     (URL, b"no quote", 0, b""),
+    (INDEX, b"\x41\x62\x20\xc3\x84\x42", 2, b"ab\t0\n\xc3\x84\x62\t0\n"),
+    (INDEX_CASE, b"\x41\x62\x20\xc3\x84\x42", 2, b"Ab\t0\n\xc3\x84\x42\t0\n"),
+    (INDEX, b"a b,a", 3, b"a\t0\nb\t0\n"),
+    (INDEX, b"a" * 65, 1, b"a" * 65 + b"\t0\n"),
+    (INDEX, b" -\r", 0, b""),
+    (INDEX, b"", 0, b""),
 ]
 
 

@@ -50,6 +50,7 @@ def failing_calls(harness):
         ("words", ["--job", "words", "--parts", "2", "--max-skips", "1"], text),
         ("grep", ["--job", "grep", "--literal", "THE", "--fold"], text),
         ("url", ["--job", "url", "--parts", "2"], log),
+        ("index", ["--job", "index", "--parts", "2"], text),
     ]:
         seq = ["seq", *options, *(["--skips", "0:1"] if name == "words" else []), "--out", ".", *files]
         whole, _ = with_failing(harness, library, "none", seq, files)

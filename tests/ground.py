@@ -115,15 +115,16 @@ def jobs_and_texts(harness):
         ((JOBS, b"", b""), "EmptyLiteral"),
         ((JOBS, b"\n" * 4097, b""), "LongLiteral"),
         ((JOBS, b"a\nb", b""), "LineEndInLiteral"),
-        ((JOBS, b"x" * 4096, b"fold"), "true true false"),
+        ((JOBS, b"x" * 4096, b"fold"), "true false true false false false false true"),
     ]
-    emitted = [(b"a", ONE), (b"bc", ONE), (b"f", at(1, 4))]
+    emitted = [(b"a", ONE), (b"bc", ONE), (b"f", at(1, 4)), (b"F", at(1, 4))]
     told_of = "".join(f"|({listed(key)}, {value})" for key, value in emitted)
-    rows.append(((EMISSIONS, b"a bc", b"f"), f" true 0 false 3{told_of} true 0 false 6{told_of}{told_of}"))
+    rows.append(((EMISSIONS, b"a bc", b"F"), f" true 0 false 4{told_of} true 0 false 8{told_of}{told_of}"))
     for key in (b"the", b"/a", b"", b"abc"):
         totals = b"%s\t2\n%s\t1\n%s\t2\n%s\t18446744073709551615\n" % (key, key, key, key)
         places = b"%s\t0:0\n%s\t12:4294967296\n" % (key, key)
-        rows.append(((TEXTS, key, b""), f"{listed(totals)} {listed(places)}"))
+        files = b"%s\t\n%s\t\n%s\t2,3,10\n%s\t0,12\n" % (key, key, key, key)
+        rows.append(((TEXTS, key, b""), f"{listed(totals)} {listed(places)} {listed(files)}"))
     # 70 keys, and then all of them again but for 20, and 30 more: 150 in two blocks of 64 and one of 22
     numbers = [i if i < 70 else i - 50 for i in range(150)]
     keys = "".join(f"|{listed(b'k' + bytes([i]))}" for i in range(100))

@@ -51,7 +51,7 @@ def limits(harness):
     """Each fault of the options and of the input: which option, and which limit."""
     seq = ["seq", *WORDS]
     grep = ["seq", "--job", "grep", "--out", "."]
-    other = b"--keep-case belongs to words, --literal and --fold to grep; url has none"
+    other = b"--keep-case belongs to words and index, --literal and --fold to grep; url has none"
     literal = b"--literal is 1 to 4096 bytes"
     skips = b"--skips names more records than --max-skips K allows; K is 0 where it isn't given"
     for name, words, err, hint in [
@@ -59,6 +59,7 @@ def limits(harness):
         ("a split of no bytes", [*seq, "--split", "0", "a"], b"BadSplitSize", b"--split is 1 to 67108864"),
         ("a limit above 1000", [*seq, "--max-skips", "1001", "a"], b"BadSkips", b"--max-skips is 0 to 1000"),
         ("an option of another job", [*seq, "--fold", "a"], b"option does not belong to this job", other),
+        ("an option of another job than an index", ["seq", "--job", "index", "--out", ".", "--fold", "a"], b"option does not belong to this job", other),
         ("no literal", [*grep, "a"], b"EmptyLiteral", b"grep needs --literal TEXT, of 1 to 4096 bytes"),
         ("a long literal", [*grep, "--literal", "x" * 4097, "a"], b"LongLiteral", literal),
         ("a line feed in a literal", [*grep, "--literal", "x\ny", "a"], b"LineEndInLiteral", b"--literal holds no line feed, since lines are looked at one by one"),
@@ -134,6 +135,7 @@ def verdicts(harness):
     check = ["check", "--out", "."]
     for name, words, hint in [
         ("another job", ["--job", "url", "a"], b" --job"),
+        ("an index", ["--job", "index", "a"], b" --job"),
         ("another flag", ["--job", "words", "--keep-case", "a"], b" --keep-case"),
         ("another number of parts", ["--job", "words", "--parts", "2", "a"], b" --parts"),
         ("another split", ["--job", "words", "--split", "64", "a"], b" --split"),
@@ -156,6 +158,11 @@ def verdicts(harness):
     of = rb": it is of --job grep --literal '\x1b[1m' --fold --parts 1 --split 64"
     told(harness, "another literal", ["check", "--job", "grep", "--literal", "x", "--fold", "--split", "64", "--out", ".", "a"], 1, out=other, hint=b"the certificate has other --literal" + of, where=found)
     told(harness, "not folded", ["check", "--job", "grep", "--literal", "\x1b[1m", "--split", "64", "--out", ".", "a"], 1, out=other, hint=b"the certificate has other --fold" + of, where=found)
+    indexed = harness.directory(TEXT)
+    harness.run(["seq", "--job", "index", "--keep-case", "--split", "64", "--out", ".", "a"], cwd=indexed)
+    of = b": it is of --job index --keep-case --parts 1 --split 64"
+    told(harness, "cases kept in an index", ["check", "--job", "index", "--split", "64", "--out", ".", "a"], 1, out=other, hint=b"the certificate has other --keep-case" + of, where=indexed)
+    told(harness, "words in place of an index", ["check", "--job", "words", "--keep-case", "--split", "64", "--out", ".", "a"], 1, out=other, hint=b"the certificate has other --job" + of, where=indexed)
     odd = harness.directory(TEXT)
     write_result(odd, outputs, certificate[:11] + b"\x09" + certificate[12:])
     of = b": it is of --job (no such job) --parts 1 --split 67108864"
@@ -167,6 +174,16 @@ def verdicts(harness):
     write_result(spoiled, [outputs[0][:-1] + b"x"], certificate)
     got = on_terminal(harness, [*check, "--job", "words", "a"], spoiled)
     harness.check("another no has no hint", got == harness.run([*check, "--job", "words", "a"], cwd=spoiled)[:3] and got[0] == 1 and got[2] == b"", repr(got))
+
+
+def shards(harness):
+    """Shards that can't be merged, whatever is done with them."""
+    where = harness.directory(TEXT)
+    harness.run(["seq", "--job", "index", "--out", ".", "a"], cwd=where)
+    harness.run(["check", "--job", "index", "--out", ".", "--verdict", "verdict", "a"], cwd=where)
+    os.mkdir(os.path.join(where, "whole"))
+    hint = b"the first verdict asks for nothing that is merged: where it is of an index, run that over all files"
+    told(harness, "a shard of an index", ["merge", "--out", "whole", "verdict"], 1, err=b"mapred: NoRequest\n", hint=hint, where=where)
 
 
 def runs(harness):
@@ -209,4 +226,4 @@ def memory(harness):
     harness.check("want of memory, on a terminal", got == (4, b"", b"mapred: out of memory\nhint: " + MEMORY + b"\n"), repr(got))
 
 
-GROUPS = {"hints on limits": limits, "hints on files": files, "hints on verdicts": verdicts, "hints on runs": runs, "hints on one terminal": both_streams, "hints on memory": memory}
+GROUPS = {"hints on limits": limits, "hints on files": files, "hints on verdicts": verdicts, "hints on shards": shards, "hints on runs": runs, "hints on one terminal": both_streams, "hints on memory": memory}

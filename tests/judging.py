@@ -73,7 +73,7 @@ def spoiled_header(rnd, request, files, certificate):
     names = [name for name, *_ in named_records(files, request.split)]
     kind = rnd.randrange(12)
     if kind == 0:
-        certificate.job = rnd.choice([0, 1, 2, 3, 4])
+        certificate.job = rnd.choice([0, 1, 2, 3, 4, 5])
     elif kind == 1:
         certificate.flags ^= rnd.choice([1, 2, 4])
     elif kind == 2:
@@ -231,23 +231,23 @@ def at_borders(rnd, request, files, names):
 def few_large_splits(harness):
     """Splits that are few and large are mapped in pieces by several threads, which say what one thread says."""
     rnd = seeded("large splits")
-    for version, turn in [(1, turn) for turn in range(30)] + [(2, turn) for turn in (0, 1, 2, 9, 10, 11)]:
-        job = ("words", "grep", "url")[turn % 3]
+    for version, turn in [(1, turn) for turn in range(32)] + [(2, turn) for turn in (0, 1, 2, 3, 8, 9, 10, 11)]:
+        job = ("words", "grep", "url", "index")[turn % 4]
         request = Request(job, rnd.choice([1, 3, 7]), literal=b"the" if job == "grep" else b"")
         files = [large_file(rnd, job, rnd.choice([140_000, 300_000, 600_000])) for _ in range(rnd.choice([1, 1, 1, 2, 5]))]
-        skips = at_borders(rnd, request, files, named_records(files, request.split)) if turn % 2 else []
+        skips = at_borders(rnd, request, files, named_records(files, request.split)) if turn // 4 % 2 else []
         request.most = len(skips)
         outputs, certificate, pairs = produced(request, files, skips)
         certificate.version = version
         good = "".join([f"yes: {pairs} pairs, {len(skips)} left out\n", *(f"left out {s} {r}\n" for s, r in skips)]).encode()
-        asked, files, outputs, data = (request, files, outputs, certificate.bytes()) if turn < 9 else spoiled(rnd, request, files, outputs, certificate)
+        asked, files, outputs, data = (request, files, outputs, certificate.bytes()) if turn < 8 else spoiled(rnd, request, files, outputs, certificate)
         names = {f"f{i}": text for i, text in enumerate(files)}
         where = harness.directory(names)
         write_result(where, outputs, data)
         words = [*options_of(asked, "check"), "--out", ".", *names]
         alone = harness.run(words, cwd=where)[:3]
         name = f"large splits {turn} of version {version} {asked}"
-        harness.check(f"{name}, by one thread", alone[0] in (0, 1) and (turn >= 9 or alone == (0, good, b"")), repr((alone, good)))
+        harness.check(f"{name}, by one thread", alone[0] in (0, 1) and (turn >= 8 or alone == (0, good, b"")), repr((alone, good)))
         for threads, answer in by_threads(harness, words, where):
             harness.check(f"{name}, by {threads} threads", answer == alone, f"got {answer!r} wanted {alone!r}")
 
@@ -305,26 +305,37 @@ AT_A_BORDER += ["a key that comes twice", "a key in two groups", "the group behi
 AT_A_BORDER += ["a name of the group before", "names that fall", "a name that is not there", "all behind it left out"]
 
 
+def files_of_sections(rnd, job, parts):
+    """The files of a job with large partitions: one, or of an index five, of which each has some words alone."""
+    words = [b"%s%d" % (rnd.choice([b"a", b"the", b"Zebra-"]), n) for n in range(1500)]
+    line_of = lambda words: b" ".join(rnd.choices(words, k=9)) + b"\n"
+    if job == "index":
+        return [b"".join(line_of(words[at : at + 900]) for _ in range(5200 * parts)) for at in range(0, 750, 150)]
+    if job == "words":
+        return [b"".join(line_of(words) for _ in range(26_000 * parts))]
+    line = {"grep": lambda: b"a " + rnd.choice(words), "url": lambda: b'1.2.3.4 "GET /%s HTTP/1.0" 200' % rnd.choice(words)}[job]
+    return [b"".join(line() + b"\n" for _ in range(180_000))]
+
+
 def large_partitions(harness):
     """A large partition is judged in sections by several threads, which say what one thread says, also where the sections
     don't fit together."""
     rnd = seeded("sections")
-    for version, job, parts in [(1, "words", 1), (1, "words", 2), (1, "grep", 1), (1, "url", 1)] + [(2, "grep", 1)]:
+    for version, job, parts in [(1, "words", 1), (1, "words", 2), (1, "grep", 1), (1, "url", 1), (1, "index", 1)] + [(2, "grep", 1)]:
         request = Request(job, parts, split=100_000, literal=b"a" if job == "grep" else b"")
-        words = [b"%s%d" % (rnd.choice([b"a", b"the", b"Zebra-"]), n) for n in range(1500)]
-        line = {"words": lambda: b" ".join(rnd.choices(words, k=9)), "grep": lambda: b"a " + rnd.choice(words), "url": lambda: b'1.2.3.4 "GET /%s HTTP/1.0" 200' % rnd.choice(words)}[job]
-        data = b"".join(line() + b"\n" for _ in range(26_000 * parts if job == "words" else 180_000))
-        outputs, certificate, pairs = produced(request, [data])
+        files = files_of_sections(rnd, job, parts)
+        outputs, certificate, pairs = produced(request, files)
         certificate.version = version
-        known = pairs_of(request, [data])
+        known = pairs_of(request, files)
         text = cache(lambda names: text_of(request, known[names[0]][0], [known[name][1] for name in names if name in known]))
         spelled = cache(lambda names: u32s(len(names)) + b"".join(certificate.named(names)))
         partitions, certificate.partitions = [[tuple(names) for names in groups] for groups in certificate.partitions], []
         front, p = certificate.bytes(), parts - 1
         borders = section_borders(partitions[p])
         harness.check(f"sections of {request}: there are three or more", len(borders) >= 2, repr(borders))
-        where = harness.directory({"f0": data})
-        asked = [*options_of(request, "check"), "--out", ".", "f0"]
+        names = {f"f{i}": data for i, data in enumerate(files)}
+        where = harness.directory(names)
+        asked = [*options_of(request, "check"), "--out", ".", *names]
         for kind in AT_A_BORDER:
             groups, output = spoiled_at(kind, partitions[p], outputs[p], borders[-1], text)
             certificate.partitions = [groups]

@@ -15,6 +15,8 @@ from verdicts import contents, verdict_text
 ONE = {"a": b"The cat saw the dog.\nThe dog saw nothing.\n"}
 TWO = {"b": b"a cat\n\nthe end\n"}
 WORDS = Request("words", 2, 16)
+# The jobs whose shards are merged.
+MERGED = ("words", "grep", "url")
 
 
 def cuts(rnd, count):
@@ -69,7 +71,7 @@ def random_jobs(harness):
     rnd = seeded("merge")
     seen = set()
     for turn in range(500):
-        request, files, skips = random_job(rnd)
+        request, files, skips = random_job(rnd, MERGED)
         request.split = rnd.choice([3, 16, 100, 67108864])
         names = [name for name, *_ in named_records(files, request.split)]
         skips = sorted(rnd.sample(names, min(len(names), rnd.choice([0, 0, 1, 4]))))
@@ -84,14 +86,14 @@ def random_jobs(harness):
         harness.check(f"{turn} {request} in {len(shards)}", got == (0, said(outputs, pairs, skips), b""), repr(got))
         harness.check(f"{turn} {request} in {len(shards)}, files", contents(where) == result(outputs, verdict), repr((contents(where), outputs)))
         seen.add((request.job, len(shards)))
-    harness.check("each job was cut into 1 to 5 shards", seen == {(job, n) for job in ("words", "grep", "url") for n in range(1, 6)}, repr(sorted(seen)))
+    harness.check("each job was cut into 1 to 5 shards", seen == {(job, n) for job in MERGED for n in range(1, 6)}, repr(sorted(seen)))
 
 
 def by_seq(harness):
     """The same against the program's own execution over all files, which is judged; and a merge of merges."""
     rnd = seeded("merge by seq")
     for turn in range(20):
-        request, files, _ = random_job(rnd)
+        request, files, _ = random_job(rnd, MERGED)
         files = (files + [b"the a 42\n", b"", b"a -", b"42 the\n"])[:4]
         request.most = 0
         names = [f"f{i}" for i in range(len(files))]

@@ -11,7 +11,7 @@ SHORT = rb"(\x00|[\x80-\xff]{0,3}[\x01-\x7f]|[\x80-\xff]{4}[\x01-\x0f])"
 NAME = re.compile(SHORT * 3)
 WORD = re.compile(rb"[0-9A-Za-z\x80-\xff]+")
 FOLD = bytes(b + 32 if 0x41 <= b <= 0x5A else b for b in range(256))
-JOBS = {"words": 1, "grep": 2, "url": 3}
+JOBS = {"words": 1, "grep": 2, "url": 3, "index": 4}
 
 
 @dataclass
@@ -90,8 +90,9 @@ def resource_of(line):
 
 def emitted(request, number, start, line):
     """The pairs of a record: (key, value), the value being None or (file, place)."""
-    if request.job == "words":
-        return [(word if request.keep else word.translate(FOLD), None) for word in WORD.findall(line)]
+    if request.job in ("words", "index"):
+        value = (number, start) if request.job == "index" else None
+        return [(word if request.keep else word.translate(FOLD), value) for word in WORD.findall(line)]
     if request.job == "grep":
         table = FOLD if request.fold else None
         return [(line, (number, start))] if request.literal.translate(table) in line.translate(table) else []
@@ -113,6 +114,8 @@ def text_of(request, key, values):
     """The text of a group."""
     if request.job == "grep":
         return b"".join(key + b"\t%d:%d\n" % value for value in values)
+    if request.job == "index":
+        return key + b"\t" + b",".join(b"%d" % number for number in sorted({number for number, _ in values})) + b"\n"
     return key + b"\t%d\n" % len(values)
 
 

@@ -230,12 +230,17 @@ def many_tasks(harness):
         harness.check(f"5000 map tasks over 64 workers under {script!r}", same and answer.fault == f"{pairs} pairs", repr(answer)[:300])
 
 
-def random_case(start):
-    """What a number draws: a request, its files, the lines of a script, workers, attempts."""
+# The jobs whose runs are told by the program `mr_pool_tests`, and those of all runs.
+TOLD_JOBS = ["words", "words", "grep", "url"]
+ALL_JOBS = [*TOLD_JOBS, "index", "index"]
+
+
+def random_case(start, jobs=ALL_JOBS):
+    """What a number draws: a request of one of the jobs, its files, the lines of a script, workers, attempts."""
     rnd = random.Random(start)
-    job = rnd.choice(["words", "words", "grep", "url"])
+    job = rnd.choice(jobs)
     literal = b"aB" if job == "grep" else b""
-    request = Request(job, rnd.randint(1, 4), rnd.choice([3, 8, 20, 1000]), job == "words" and rnd.random() < 0.3, literal, job == "grep", rnd.choice([0, 1, 2, 5]))
+    request = Request(job, rnd.randint(1, 4), rnd.choice([3, 8, 20, 1000]), job in ("words", "index") and rnd.random() < 0.3, literal, job == "grep", rnd.choice([0, 1, 2, 5]))
     line = lambda: rnd.choice([b"a Ab c", b"AB", b"", b"xaby the x", b'h "GET /%d x" 1' % rnd.randint(0, 3), b"b b"])
     files = [b"\n".join(line() for _ in range(rnd.randint(0, 9))) + rnd.choice([b"", b"\n"]) for _ in range(rnd.randint(0, 3))]
     splits = sum((len(data) + request.split - 1) // request.split for data in files)
@@ -245,7 +250,7 @@ def random_case(start):
 
 def random_run(start):
     """The answer of a run that a number draws, with its words and what it may answer. Each other one is in version 2."""
-    request, files, lines, workers, attempts = random_case(start)
+    request, files, lines, workers, attempts = random_case(start, TOLD_JOBS)
     version = 1 + start % 2
     answer = ran(request, files, written(lines), workers, attempts, version)
     return (start, lines, workers, attempts, version), answer, Allowed(request, files, lines, workers, attempts, version)

@@ -4,20 +4,20 @@ import subprocess
 import sys
 
 from harness import random_log, random_text, read_result, seeded, write_result
-from plain import Request, judged, named_records, produced
+from plain import JOBS, Request, judged, named_records, produced
 
 SPLITS = [1, 3, 16, 100, 67108864]
 
 
-def random_job(rnd):
-    """A request, files, and records to leave out of them."""
-    job = rnd.choice(["words", "grep", "url"])
+def random_job(rnd, jobs=tuple(JOBS)):
+    """A request of one of the jobs, files, and records to leave out of them."""
+    job = rnd.choice(jobs)
     if job == "url":
         files = [random_log(rnd, rnd.randint(0, 40)) for _ in range(rnd.randint(0, 3))]
     else:
         files = [random_text(rnd, rnd.choice([0, 1, 50, 1500])) for _ in range(rnd.randint(0, 4))]
     request = Request(job, rnd.choice([1, 2, 3, 7]), rnd.choice(SPLITS))
-    if job == "words":
+    if job in ("words", "index"):
         request.keep = rnd.random() < 0.3
     if job == "grep":
         request.literal = rnd.choice(["the", "a", "THE", "ü", " ", "42", "-"]).encode()
@@ -38,7 +38,7 @@ def options_of(request, command, skips=()):
 
 def same_as_seq(harness):
     rnd = seeded("producer")
-    for turn in range(150):
+    for turn in range(200):
         request, files, skips = random_job(rnd)
         names = {f"f{i}": data for i, data in enumerate(files)}
         outputs, certificate, pairs = produced(request, files, skips)
@@ -57,11 +57,11 @@ def by_the_engines_one(harness):
     """The same of the producer that lies beside the runner, which shares no line with these checks."""
     script = os.path.join(os.path.dirname(os.path.dirname(os.path.abspath(__file__))), "engines", "producer.py")
     rnd = seeded("the engines' producer")
-    for turn in range(90):
+    for turn in range(120):
         request, files, skips = random_job(rnd)
         names = {f"f{i}": data for i, data in enumerate(files)}
         where = harness.directory(names)
-        options, version = options_of(request, "seq", skips)[1:], 1 if turn < 60 else 2
+        options, version = options_of(request, "seq", skips)[1:], 1 if turn < 80 else 2
         options += ["--cert", "2"] if version == 2 else []
         at = options.index("--max-skips")
         made = subprocess.run([sys.executable, script, *options[:at], *options[at + 2 :], "--out", ".", *names], cwd=where, capture_output=True)

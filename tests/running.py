@@ -20,6 +20,8 @@ CATS_PARTS = [b"the\t2\n", b"cat\t1\ndog\t1\n"]
 LETTERS_LINE = b"certified: 1 files, 3 pairs, 0 left out\n"
 LETTERS_PARTS = [b"a\t1\nb\t1\nc\t1\n"]
 ONE_LEFT_OUT = Request("words", split=64, most=1)
+INDEX, TWO_FILES = Request("index", split=64), [b"b a b\n", b"a\n"]
+TWO_FILES_LINE, TWO_FILES_PARTS = b"certified: 1 files, 4 pairs, 0 left out\n", [b"a\t0,1\nb\t0\n"]
 
 # Worked by hand: request, files, script, further words, the line on standard output, and the parts (none are written
 # where nothing is certified).
@@ -37,6 +39,11 @@ ROWS = [
     (ONE_PART, LETTERS, "zombie 0 after 0\n", ["--workers", "1"], b"failed: NoWorkers\n", []),
     (ONE_PART, LETTERS, "bad 7 7\n", ["--workers", "1"], LETTERS_LINE, LETTERS_PARTS),
     (TWO_PARTS, [], "# nothing goes wrong\n\n", [], b"certified: 2 files, 0 pairs, 0 left out\n", [b"", b""]),
+    (INDEX, TWO_FILES, "", [], TWO_FILES_LINE, TWO_FILES_PARTS),
+    (INDEX, TWO_FILES, "lose 0 after 1\nflaky 1 0 1\n", ["--workers", "3"], TWO_FILES_LINE, TWO_FILES_PARTS),
+    (Request("index", split=64, most=1), TWO_FILES, "bad 1 0\n", [], b"certified: 1 files, 3 pairs, 1 left out\n", [b"a\t0\nb\t0\n"]),
+    (INDEX, TWO_FILES, "bad 1 0\n", [], b"failed: TooManySkips\n", []),
+    (INDEX, TWO_FILES, "spoil 0 4\n", [], b"uncertified: OutputDiffers partition 0 at 4\n", []),
 ]
 
 # One worker, no script, a record of each partition: each event is determined.

@@ -18,6 +18,11 @@ def against_tools(harness):
     for name, data in (("a generated text", text), ("this repository's own files", own)):
         got = harness.run(["seq", "--job", "words", "--out", ".", "input"], {"input": data})
         harness.check(f"{name} against tr, sort and uniq", got[0] == 0 and parts_of(got[3])[0] == shell(count, got[3]))
+    files = {f"f{n}": random_text(rnd, 200_000) + b"\nonly in %d\n" % n for n in range(12)}
+    own_words = r"""tr -c '0-9A-Za-z\200-\377' '\n' < f$n | tr A-Z a-z | grep -v '^$' | sort -u | awk -v n=$n '{ print $0 "\t" n }'"""
+    joined = r"""awk -F'\t' '$1 "" == key "" { printf ",%s", $2; next } { if (NR > 1) print ""; key = $1; printf "%s\t%s", $1, $2 } END { if (NR) print "" }'"""
+    got = harness.run(["seq", "--job", "index", "--out", ".", *files], files)
+    harness.check("index against tr, sort and awk", got[0] == 0 and parts_of(got[3])[0] == shell(f"for n in $(seq 0 11); do {own_words}; done | sort -s -t $'\\t' -k 1,1 | {joined}", got[3]))
     got = harness.run(["seq", "--job", "grep", "--literal", "the", "--out", ".", "input"], {"input": text})
     found = shell("grep -F -b -a the input", got[3]).split(b"\n")[:-1]
     want = sorted((line.split(b":", 1)[1], int(line.split(b":", 1)[0])) for line in found)

@@ -102,14 +102,15 @@ def changes(harness):
     rnd = random.Random(13)
     text = b"the cat the dog\na b a\nthe dog\nx\n"
     log = b"".join(b'h "GET /%s HTTP/1.0" 200 1\n' % rnd.choice([b"a", b"b", b"index.html"]) for _ in range(6))
-    for job, options, data in (
-        ("words", ["--parts", "2", "--split", "7"], text),
-        ("words", ["--parts", "3", "--split", "64", "--skips", "0:1", "--max-skips", "3"], text),
-        ("grep", ["--literal", "a"], b"a\nba\nac\n"),
-        ("url", ["--parts", "2", "--split", "16"], log),
+    for job, options, given in (
+        ("words", ["--parts", "2", "--split", "7"], {"a": text}),
+        ("words", ["--parts", "3", "--split", "64", "--skips", "0:1", "--max-skips", "3"], {"a": text}),
+        ("grep", ["--literal", "a"], {"a": b"a\nba\nac\n"}),
+        ("url", ["--parts", "2", "--split", "16"], {"a": log}),
+        ("index", ["--parts", "2", "--split", "7"], {"a": text, "b": b"a dog\nthe b\n", "c": b"dog x x\n"}),
     ):
         words = ["seq", "--job", job, *options]
-        where = harness.run([*words, "--out", ".", "a"], {"a": data})[3]
+        where = harness.run([*words, "--out", ".", *given], given)[3]
         parts, certificate = result_of(where)
         files = [*parts, certificate]
         wrong = []
@@ -121,12 +122,12 @@ def changes(harness):
             changed = [*files]
             changed[which] = files[which][:at] + bytes([byte]) + files[which][at + 1 :]
             write_result(where, changed[:-1], changed[-1])
-            got = judged(harness, words, ["a"], where)
+            got = judged(harness, words, given, where)
             if got[0] != 1 or not got[1].startswith(b"no: ") or got[2] != b"":
                 wrong.append((which, at, byte, got))
         harness.check(f"a byte changed, {job} {options}", wrong == [], repr(wrong))
         write_result(where, parts, certificate)
-        harness.check(f"and changed back, {job} {options}", judged(harness, words, ["a"], where)[0] == 0)
+        harness.check(f"and changed back, {job} {options}", judged(harness, words, given, where)[0] == 0)
 
 
 def of_words(parts, length, rest):

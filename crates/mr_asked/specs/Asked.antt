@@ -1,7 +1,7 @@
 -- What the options of the line ask for.
 use Rattle.std.specs.Prelude.{◌≡◌, ◌≢◌, ◌⊎◌, ℕ, ◌^◌, ◌<◌, ◌≤◌, Bool, true, IsSome, List, [], length, codes, Contains, ⊤}
 use Rattle.std.specs.Option.{option_map_or}
-use Rattle.mr_jobs.specs.JobSpec.{JobSpec, WordCount, LinesWith, Resources, RequestSpec, PartsFit, SplitFits}
+use Rattle.mr_jobs.specs.JobSpec.{JobSpec, WordCount, LinesWith, Resources, InvertedIndex, RequestSpec, PartsFit, SplitFits}
 use Rattle.mr_jobs.specs.declared.job.JobFault.{JobFault}
 use Rattle.mr_jobs.specs.declared.job.JobFault.TheVariants as literal_fault
 use Rattle.mr_jobs.specs.declared.request.RequestFault.{RequestFault}
@@ -10,13 +10,14 @@ use Rattle.mr_asked.specs.declared.fault.Fault.{Fault}
 use Rattle.mr_asked.specs.declared.fault.Fault.TheVariants.{OtherJobsOption, Job, Request, OutOfMemory}
 use Rattle.mr_asked.specs.declared.asked.Options.{Options}
 use Rattle.mr_asked.specs.declared.asked.JobKind.{JobKind}
-use Rattle.mr_asked.specs.declared.asked.JobKind.TheVariants.{Words, Grep, Url}
+use Rattle.mr_asked.specs.declared.asked.JobKind.TheVariants.{Words, Grep, Url, Index}
 
 -- the word that names a job
 abbrev pub Names : List ℕ → JobKind → Type 0
 Names word Words = word ≡ codes "words"
 Names word Grep = word ≡ codes "grep"
-Names word Url = (word ≢ codes "words") × (word ≢ codes "grep")
+Names word Url = (word ≢ codes "words") × (word ≢ codes "grep") × (word ≢ codes "index")
+Names word Index = word ≡ codes "index"
 
 -- the text to look for; none given is no bytes
 abbrev pub literal_asked : Options → List ℕ
@@ -26,6 +27,7 @@ abbrev pub job_with : JobKind → Bool → List ℕ → Bool → JobSpec
 job_with Words keep_case literal fold = WordCount keep_case
 job_with Grep keep_case literal fold = LinesWith literal fold
 job_with Url keep_case literal fold = Resources
+job_with Index keep_case literal fold = InvertedIndex keep_case
 
 -- the request that the options ask for
 abbrev pub request_asked : Options → RequestSpec
@@ -36,9 +38,9 @@ request_asked o = record {
   skips = o.max_skips;
 }
 
--- the case is kept in another job than words, or lines are folded or a text looked for in another than grep
+-- the case is kept in another job than words and index, or lines are folded or a text looked for in another than grep
 abbrev pub AsksForOtherJob : Options → Type 0
-AsksForOtherJob o = ((o.keep_case ≡ true) × (o.job ≢ Words)) ⊎ (((o.fold ≡ true) ⊎ IsSome o.literal) × (o.job ≢ Grep))
+AsksForOtherJob o = ((o.keep_case ≡ true) × (o.job ≢ Words) × (o.job ≢ Index)) ⊎ (((o.fold ≡ true) ⊎ IsSome o.literal) × (o.job ≢ Grep))
 
 -- what a literal lacks, the first of it
 abbrev pub IsLiteralFault : List ℕ → JobFault → Type 0
@@ -58,6 +60,7 @@ abbrev pub LiteralFits : JobSpec → Type 0
 LiteralFits (WordCount keep_case) = ⊤
 LiteralFits (LinesWith literal fold) = (0 < length literal) × (length literal ≤ 4096) × ¬ Contains literal 10
 LiteralFits Resources = ⊤
+LiteralFits (InvertedIndex keep_case) = ⊤
 
 -- the limits of the literal and of the numbers
 pub record WithinLimits (request : RequestSpec) : Type 0 where

@@ -7,6 +7,7 @@ pub enum JobKind {
     Words,
     Grep,
     Url,
+    Index,
 }
 
 /// What each command is asked for: a job over files, and where its result stands.

@@ -14,7 +14,7 @@ fn asks_for_other_job(options: &Options<'_>) -> bool
     let of_words = options.keep_case;
     let of_grep = options.fold || options.literal.is_some();
     match options.job {
-        JobKind::Words => of_grep,
+        JobKind::Words | JobKind::Index => of_grep,
         JobKind::Grep => of_words,
         JobKind::Url => of_words || of_grep,
     }
@@ -37,6 +37,7 @@ fn job_of(alloc: Global, options: &Options<'_>) -> Result<Job, Fault>
             Ok(Job::grep(alloc, literal.as_bytes(), options.fold)?)
         }
         JobKind::Url => Ok(Job::url()),
+        JobKind::Index => Ok(Job::index(options.keep_case)),
     }
 }
 

@@ -1,7 +1,8 @@
 //! Guesses at the borders at which sections begin, by the outputs that are judged. Nothing rests on them: a section that
 //! was judged from another border than the one that is reached before it is judged again. So they may be any, and cost
-//! time alone where they are wrong. They are right where no section before has a fault: each group of a job that counts
-//! gives a line, of another job each entry does, and a line is its key, a tab, and more without a tab.
+//! time alone where they are wrong. They are right where no section before has a fault: each entry gives a line
+//! where the job's texts have one for each value, and else each group does, and a line is its key, a tab, and more without
+//! a tab.
 ghost use Rattle.std.specs.Prelude.{◌≡◌, ◌≤◌, ◌<◌, ◌+◌, ◌^◌, IfSome, IsTrue, length};
 ghost use Rattle.mr_answers.specs.Verdict.{start};
 ghost use Rattle.mr_judge.specs.Borders.{at_border};
@@ -124,14 +125,14 @@ impl<'a> Guess<'a> {
 }
 
 /// What is guessed of a section, by the lines before it of its partition's output, where there are as many.
-fn guess_at<'a>(lines: &mut Lines<'a>, section: &Section<'_>, counts: bool) -> Guess<'a> {
+fn guess_at<'a>(lines: &mut Lines<'a>, section: &Section<'_>, has_lines: bool) -> Guess<'a> {
     if section.at == 0 {
         return Guess::at_front();
     }
-    let wanted = if counts {
-        section.group
-    } else {
+    let wanted = if has_lines {
         section.entries
+    } else {
+        section.group
     };
     lines.pass_to(wanted);
     // In an output that has fewer lines a look back for the key would take all of its last line, for each section anew,
@@ -153,11 +154,12 @@ fn output_of(outputs: &[Vec<u8>], p: u64) -> &[u8] {
     }
 }
 
-/// What is guessed of each section, of a job that counts or another. Each output is gone through once at most.
+/// What is guessed of each section, of a job whose texts have a line for each value or of another. Each output is gone
+/// through once at most.
 pub(crate) fn guesses_of<'a>(
     alloc: Global,
     outputs: &'a [Vec<u8>],
-    counts: bool,
+    has_lines: bool,
     sections: &[Section<'_>],
 ) -> Result<Vec<Guess<'a>>, AllocError> {
     let mut guesses = Vec::new(alloc);
@@ -166,7 +168,7 @@ pub(crate) fn guesses_of<'a>(
         if section.at == 0 {
             lines = Lines::new(output_of(outputs, section.part));
         }
-        guesses.push(guess_at(&mut lines, section, counts))?;
+        guesses.push(guess_at(&mut lines, section, has_lines))?;
     }
     Ok(guesses)
 }

@@ -178,7 +178,12 @@ pub(crate) fn least_of<'x, 'f, R: Threads + Sync, G: Gate, W: Watch>(
     requires sections { All (IsSection fronts.now) sections.now }
     ensures { IfOk result (λ o. o ≡ least_fault (subject facts.now) 0 (parts_at fronts.now)) }
 {
-    let guesses = guesses_of(alloc, facts.outputs, facts.request.job().counts(), sections)?;
+    let guesses = guesses_of(
+        alloc,
+        facts.outputs,
+        facts.request.job().has_lines(),
+        sections,
+    )?;
     let judging = Judging {
         facts,
         fronts,

@@ -56,8 +56,10 @@ fn list_cure(fault: &RunFault) -> &'static str {
 fn shards_cure(fault: &ShardFault) -> &'static str {
     match fault {
         ShardFault::NoShards => "name the verdict of each shard",
-        ShardFault::BadVerdict { .. } | ShardFault::NoRequest =>
+        ShardFault::BadVerdict { .. } =>
             "this isn't a verdict as check --verdict writes it: judge the shard again",
+        ShardFault::NoRequest =>
+            "the first verdict asks for nothing that is merged: where it is of an index, run that over all files",
         ShardFault::OtherRequest { .. } =>
             "all shards have the options of the first: run this one again with those, and judge it",
         ShardFault::OtherOutputs { .. } =>
@@ -88,7 +90,7 @@ fn shards_cure(fault: &ShardFault) -> &'static str {
 fn cure(fault: &Fault) -> &'static str {
     match fault {
         Fault::OtherJobsOption =>
-            "--keep-case belongs to words, --literal and --fold to grep; url has none",
+            "--keep-case belongs to words and index, --literal and --fold to grep; url has none",
         Fault::Job(fault) => job_cure(fault),
         Fault::Request(fault) => request_cure(fault),
         Fault::BadSkipList => "--skips is SPLIT:RECORD,SPLIT:RECORD, as in 0:1,0:7",

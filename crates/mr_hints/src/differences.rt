@@ -70,6 +70,7 @@ fn job_name(number: u32) -> &'static str {
         1 => "words",
         2 => "grep",
         3 => "url",
+        4 => "index",
         _ => "(no such job)",
     }
 }
@@ -107,10 +108,10 @@ fn add_others(text: &mut String, front: &Front, request: &Request) -> Result<(),
         is_same && front.literal.as_slice() != job.literal(),
         "--literal",
     )?;
-    let flag = if front.job == 1 {
-        "--keep-case"
-    } else {
+    let flag = if front.job == 2 {
         "--fold"
+    } else {
+        "--keep-case"
     };
     add_where(text, is_same && front.flags != job.flags(), flag)?;
     add_where(text, front.parts != request.parts(), "--parts")?;

@@ -13,7 +13,7 @@ use Rattle.mr_bytes.proofs.WordLemmas.{word_spans_from-cons, word_spans_from-nil
 use Rattle.mr_jobs.specs.Emissions.{Emission, emissions, one_for, value_at, word_key, word_emission}
 use Rattle.mr_jobs.specs.Laws.{FewEmissions, ShortKeys, KeysFitTheRecord, CountersEmitOnes, OneValueEach}
 use Rattle.mr_jobs.specs.Literal.{holds, begins_with}
-use Rattle.mr_jobs.specs.JobSpec.{JobSpec, WordCount, LinesWith, Resources}
+use Rattle.mr_jobs.specs.JobSpec.{JobSpec, WordCount, LinesWith, Resources, InvertedIndex}
 use Rattle.mr_jobs.specs.Url.{IsRequestFor, url_of, piece_bytes}
 use Rattle.mr_jobs.proofs.UrlLemmas.{parts_of-url}
 
@@ -48,11 +48,13 @@ few_if false one line = omega arith
 -- whatever the literal is
 pub few_emissions : (job : JobSpec) (file start : ℕ) (line : List ℕ) → length (emissions job file start line) ≤ length line + 1
 few_emissions (WordCount keep_case) file start line =
-    omega (arith, few_words 0 line, length-map (word_spans line) (word_emission keep_case line))
+    omega (arith, few_words 0 line, length-map (word_spans line) (word_emission One keep_case line))
 few_emissions (LinesWith literal fold) file start line =
     let one : Emission = (line, At file start) in
     few_if (holds fold line literal) one line
 few_emissions Resources file start line = omega (arith, few_one (url_of line))
+few_emissions (InvertedIndex keep_case) file start line =
+    omega (arith, few_words 0 line, length-map (word_spans line) (word_emission (At file start) keep_case line))
 
 holds-none : (fold : Bool) (x : ℕ) (xs : List ℕ) → holds fold [] (x ∷ xs) ≡ false
 unfolding holds begins_with
@@ -89,11 +91,13 @@ one_of_some line (Some key) e =
 
 pub emissions_fit : FewEmissions
 emissions_fit (WordCount keep_case) file start line fits =
-    omega (arith, few_words 0 line, length-map (word_spans line) (word_emission keep_case line))
+    omega (arith, few_words 0 line, length-map (word_spans line) (word_emission One keep_case line))
 emissions_fit (LinesWith literal fold) file start line fits =
     let one : Emission = (line, At file start) in
     one_in_some (holds fold line literal) one line (holding_some fold line literal fits.some)
 emissions_fit Resources file start line fits = one_of_some line (url_of line) refl
+emissions_fit (InvertedIndex keep_case) file start line fits =
+    omega (arith, few_words 0 line, length-map (word_spans line) (word_emission (At file start) keep_case line))
 
 -- keys
 abbrev Short : List ℕ → Emission → Type 0
@@ -114,11 +118,13 @@ short_if false one line h = All-nil (Short line)
 
 pub short_keys : ShortKeys
 short_keys (WordCount keep_case) file start line =
-    All-map (Short line) (word_emission keep_case line) (word_spans line) (λ k d less. short_word keep_case line (get_or (word_spans line) k d))
+    All-map (Short line) (word_emission One keep_case line) (word_spans line) (λ k d less. short_word keep_case line (get_or (word_spans line) k d))
 short_keys (LinesWith literal fold) file start line =
     let one : Emission = (line, At file start) in
     short_if (holds fold line literal) one line (let same : length line ≤ length line = omega arith in same)
 short_keys Resources file start line = short_one line (url_of line) refl
+short_keys (InvertedIndex keep_case) file start line =
+    All-map (Short line) (word_emission (At file start) keep_case line) (word_spans line) (λ k d less. short_word keep_case line (get_or (word_spans line) k d))
 
 -- keys, together
 abbrev span_sizes : List Span → ℕ
@@ -152,14 +158,15 @@ word_size : (keep_case : Bool) (line : List ℕ) (w : Span) → length (word_key
 word_size true line w = omega (arith, length-take (w.end - w.start) (drop w.start line))
 word_size false line w = omega (arith, length-map (span_bytes line w) fold_byte, length-take (w.end - w.start) (drop w.start line))
 
-sizes-keys : (keep_case : Bool) (line : List ℕ) (ws : List Span) → sum_by (λ (e : Emission). length e.0) (map (word_emission keep_case line) ws) ≤ span_sizes ws
-sizes-keys keep_case line [] = omega arith
-sizes-keys keep_case line (w ∷ ws) =
+sizes-keys : (value : Value) (keep_case : Bool) (line : List ℕ) (ws : List Span)
+    → sum_by (λ (e : Emission). length e.0) (map (word_emission value keep_case line) ws) ≤ span_sizes ws
+sizes-keys value keep_case line [] = omega arith
+sizes-keys value keep_case line (w ∷ ws) =
     omega (
       arith,
-      sum_by-cons (λ (e : Emission). length e.0) (word_emission keep_case line w) (map (word_emission keep_case line) ws),
+      sum_by-cons (λ (e : Emission). length e.0) (word_emission value keep_case line w) (map (word_emission value keep_case line) ws),
       word_size keep_case line w,
-      sizes-keys keep_case line ws,
+      sizes-keys value keep_case line ws,
     )
 
 size_of_one : (e : Emission) → sum_by (λ (e : Emission). length e.0) (e ∷ []) ≡ length e.0
@@ -174,9 +181,10 @@ size_of_key line None e = omega arith
 size_of_key line (Some key) e = omega (arith, size_of_one (key, One), short_request line key (parts_of-url line key e))
 
 pub keys_fit : KeysFitTheRecord
-keys_fit (WordCount keep_case) file start line = omega (arith, sizes-keys keep_case line (word_spans line), sizes-words 0 line)
+keys_fit (WordCount keep_case) file start line = omega (arith, sizes-keys One keep_case line (word_spans line), sizes-words 0 line)
 keys_fit (LinesWith literal fold) file start line = size_if (holds fold line literal) (At file start) line
 keys_fit Resources file start line = size_of_key line (url_of line) refl
+keys_fit (InvertedIndex keep_case) file start line = omega (arith, sizes-keys (At file start) keep_case line (word_spans line), sizes-words 0 line)
 
 -- values
 abbrev IsOne : Emission → Type 0
@@ -187,9 +195,10 @@ ones_one None = All-nil IsOne
 ones_one (Some key) = All-cons IsOne (key, One) [] refl (All-nil IsOne)
 
 pub counters_emit_ones : CountersEmitOnes
-counters_emit_ones (WordCount keep_case) file start line is = All-map IsOne (word_emission keep_case line) (word_spans line) (λ k d less. refl)
+counters_emit_ones (WordCount keep_case) file start line is = All-map IsOne (word_emission One keep_case line) (word_spans line) (λ k d less. refl)
 counters_emit_ones (LinesWith literal fold) file start line is = absurd (let no : false ≡ true = is in cc)
 counters_emit_ones Resources file start line is = ones_one (url_of line)
+counters_emit_ones (InvertedIndex keep_case) file start line is = absurd (let no : false ≡ true = is in cc)
 
 -- values
 abbrev Has : JobSpec → ℕ → ℕ → Emission → Type 0
@@ -205,8 +214,10 @@ has_if job file start false one h = All-nil (Has job file start)
 
 pub one_value_each : OneValueEach
 one_value_each (WordCount keep_case) file start line =
-    All-map (Has (WordCount keep_case) file start) (word_emission keep_case line) (word_spans line) (λ k d less. refl)
+    All-map (Has (WordCount keep_case) file start) (word_emission One keep_case line) (word_spans line) (λ k d less. refl)
 one_value_each (LinesWith literal fold) file start line =
     let one : Emission = (line, At file start) in
     has_if (LinesWith literal fold) file start (holds fold line literal) one refl
 one_value_each Resources file start line = has_one file start (url_of line)
+one_value_each (InvertedIndex keep_case) file start line =
+    All-map (Has (InvertedIndex keep_case) file start) (word_emission (At file start) keep_case line) (word_spans line) (λ k d less. refl)

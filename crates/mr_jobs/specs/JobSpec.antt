@@ -1,5 +1,5 @@
 -- What a job does with a record.
-use Rattle.std.specs.Prelude.{ℕ, ◌<◌, ◌≤◌, ◌^◌, Bool, true, false, if◌then◌else◌, List, [], Contains, length}
+use Rattle.std.specs.Prelude.{ℕ, ◌<◌, ◌≤◌, ◌^◌, Bool, true, false, not, if◌then◌else◌, List, [], Contains, length}
 
 pub data JobSpec : Type 0 where
   -- count words, by their exact bytes where the flag is true, and else by their folded bytes
@@ -8,6 +8,8 @@ pub data JobSpec : Type 0 where
   LinesWith : List ℕ → Bool → JobSpec
   -- count the resources that a log's lines request
   Resources : JobSpec
+  -- the files in which each word stands, by its exact bytes where the flag is true, and else by its folded bytes
+  InvertedIndex : Bool → JobSpec
 
 -- a job with its number of partitions, its split size in bytes and how many records it may leave out
 pub record RequestSpec : Type 0 where
@@ -21,6 +23,21 @@ abbrev pub counts : JobSpec → Bool
 counts (WordCount keep_case) = true
 counts (LinesWith literal fold) = false
 counts Resources = true
+counts (InvertedIndex keep_case) = false
+
+-- the text of a group has a line for each value
+abbrev pub has_lines : JobSpec → Bool
+has_lines (WordCount keep_case) = false
+has_lines (LinesWith literal fold) = true
+has_lines Resources = false
+has_lines (InvertedIndex keep_case) = false
+
+-- words are compared folded
+abbrev pub folds_words : JobSpec → Bool
+folds_words (WordCount keep_case) = not keep_case
+folds_words (LinesWith literal fold) = false
+folds_words Resources = false
+folds_words (InvertedIndex keep_case) = not keep_case
 
 -- the limits of a request
 abbrev pub PartsFit : ℕ → Type 0
@@ -34,18 +51,21 @@ abbrev pub job_number : JobSpec → ℕ
 job_number (WordCount keep_case) = 1
 job_number (LinesWith literal fold) = 2
 job_number Resources = 3
+job_number (InvertedIndex keep_case) = 4
 
 -- its flags: 1 keeps the case of words, 2 folds the case of lines
 abbrev pub job_flags : JobSpec → ℕ
 job_flags (WordCount keep_case) = if keep_case then 1 else 0
 job_flags (LinesWith literal fold) = if fold then 2 else 0
 job_flags Resources = 0
+job_flags (InvertedIndex keep_case) = if keep_case then 1 else 0
 
 -- its literal
 abbrev pub job_literal : JobSpec → List ℕ
 job_literal (WordCount keep_case) = []
 job_literal (LinesWith literal fold) = literal
 job_literal Resources = []
+job_literal (InvertedIndex keep_case) = []
 
 -- a literal has 1 to 4,096 bytes, none of them a line feed
 pub record LiteralFits (literal : List ℕ) : Type 0 where
@@ -58,3 +78,4 @@ abbrev pub JobFits : JobSpec → Type 0
 JobFits (WordCount keep_case) = Unit {0}
 JobFits (LinesWith literal fold) = LiteralFits literal
 JobFits Resources = Unit {0}
+JobFits (InvertedIndex keep_case) = Unit {0}

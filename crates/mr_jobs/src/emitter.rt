@@ -1,7 +1,7 @@
 //! The emissions of a record, one after another.
-ghost use Rattle.std.specs.Prelude.{◌≡◌, ℕ, ◌≤◌, ◌<◌, ◌^◌, ◌⊎◌, [], ◌∷◌, false, OnOk, OnErr, MatchOption, IfSome, IfNone, length, vec_capacity};
+ghost use Rattle.std.specs.Prelude.{◌≡◌, ℕ, ◌≤◌, ◌<◌, ◌^◌, ◌⊎◌, [], ◌∷◌, false, if◌then◌else◌, IsTrue, OnOk, OnErr, MatchOption, IfSome, IfNone, length, vec_capacity};
 ghost use Rattle.mr_jobs.specs.Emissions.{emissions, IsReady};
-ghost use Rattle.mr_jobs.specs.JobSpec.{WordCount};
+ghost use Rattle.mr_jobs.specs.JobSpec.{folds_words};
 
 use crate::job::{Job, Kind};
 use crate::literal::holds;
@@ -11,12 +11,13 @@ use mr_lanes::{fold_into, next_word};
 use std::alloc::AllocError;
 use std::marker::Model;
 
-/// What a record has still to emit: its text as one key with a value, or else the words of its text from a place on.
+/// What a record has still to emit: its text as one key, or else the words of its text from a place on; each with the value.
 #[derive(Drop)]
 pub struct Emitter<'a> {
     text: &'a [u8],
     from: usize,
-    whole: Option<Value>,
+    value: Value,
+    whole: bool,
 }
 
 impl<'a> Model for Emitter<'a> {
@@ -25,7 +26,7 @@ impl<'a> Model for Emitter<'a> {
 
     ghost Value = { List Emission };
 
-    ghost view = { λ e. still_emitted e.text.now e.from e.whole };
+    ghost view = { λ e. still_emitted e.text.now e.from e.value e.whole };
 
     ghost invariant = { λ e. record {
       within : e.from ≤ length e.text.now;
@@ -40,29 +41,43 @@ impl<'a> Emitter<'a> {
         ensures ended { IfNone result (self.new ≡ []) }
         ensures short { IfSome result (λ e. length e.0.now ≤ 2 ^ 30) }
     {
-        if let Some(value) = self.whole {
-            self.whole = None;
+        if self.whole {
+            self.whole = false;
             self.from = self.text.len();
-            return Some((self.text, value));
+            return Some((self.text, self.value));
         }
         let word = next_word(self.text, self.from)?;
         self.from = word.end as usize;
         Some((
             &self.text[word.start as usize..word.end as usize],
-            Value::One,
+            self.value,
         ))
     }
 }
 
-/// All words of a text.
-fn all_words(text: &[u8]) -> Emitter<'_>
+/// All words of a text, each with the value.
+fn all_words(text: &[u8], value: Value) -> Emitter<'_>
     requires { length text.now ≤ 2 ^ 30 }
-    ensures { result ≡ words_from text.entry.now 0 }
+    ensures { result ≡ words_from value text.entry.now 0 }
 {
     Emitter {
         text,
         from: 0,
-        whole: None,
+        value,
+        whole: false,
+    }
+}
+
+/// The words of the line by their exact bytes where `keep_case`, or else those of the buffer, each with the value.
+fn words_of<'a>(keep_case: bool, line: &'a [u8], buffer: &'a [u8], value: Value) -> Emitter<'a>
+    requires line { length line.now ≤ 2 ^ 30 }
+    requires buffer { keep_case ≡ false → length buffer.now ≤ 2 ^ 30 }
+    ensures { result ≡ words_from value (if keep_case then line.entry.now else buffer.entry.now) 0 }
+{
+    if keep_case {
+        all_words(line, value)
+    } else {
+        all_words(buffer, value)
     }
 }
 
@@ -74,7 +89,8 @@ pub(crate) fn nothing(text: &[u8]) -> Emitter<'_>
     Emitter {
         text,
         from: text.len(),
-        whole: None,
+        value: Value::One,
+        whole: false,
     }
 }
 
@@ -86,7 +102,8 @@ pub(crate) fn one_pair(key: &[u8], value: Value) -> Emitter<'_>
     Emitter {
         text: key,
         from: 0,
-        whole: Some(value),
+        value,
+        whole: true,
     }
 }
 
@@ -99,15 +116,17 @@ impl Job {
     #[inline]
     pub fn prepare(&self, line: &[u8], buffer: &mut Vec<u8>) -> Result<(), AllocError>
         ensures ready { OnOk result (IsReady self.now line.now buffer.new.items) }
-        ensures same { (self.now ≡ WordCount false) ⊎ (buffer.new ≡ buffer.old) }
-        ensures only { OnErr result (self.now ≡ WordCount false) }
+        ensures same { IsTrue (folds_words self.now) ⊎ (buffer.new ≡ buffer.old) }
+        ensures only { OnErr result (IsTrue (folds_words self.now)) }
         ensures full { OnErr result (vec_capacity buffer.old < length line.now) }
         ensures err { OnErr result (buffer.new.items ≡ buffer.old.items) }
     {
-        if let Kind::Words { keep_case: false } = &self.kind {
-            fill_folded(line, buffer)?;
+        match &self.kind {
+            Kind::Words { keep_case: false } | Kind::Index { keep_case: false } => {
+                fill_folded(line, buffer)
+            }
+            _ => Ok(()),
         }
-        Ok(())
     }
 
     /// What the record `line` emits, of at most 1 GiB, which begins at the place `start` of the file `file`: nothing is
@@ -118,13 +137,16 @@ impl Job {
         ensures { result ≡ emissions self.now file start line.entry.now }
     {
         match &self.kind {
-            Kind::Words { keep_case } => {
-                if *keep_case {
-                    all_words(line)
-                } else {
-                    all_words(buffer)
-                }
-            }
+            Kind::Words { keep_case } => words_of(*keep_case, line, buffer, Value::One),
+            Kind::Index { keep_case } => words_of(
+                *keep_case,
+                line,
+                buffer,
+                Value::At {
+                    file,
+                    offset: start as u64,
+                },
+            ),
             Kind::Grep { literal, fold } => {
                 if holds(line, literal.as_slice(), *fold) {
                     one_pair(

@@ -1,6 +1,6 @@
 //! What is done with each record.
 ghost use Rattle.std.specs.Prelude.{◌≡◌, ◌↔◌, ℕ, ◌≤◌, ◌<◌, IfOk, OnOk, IsOkUnless, length, [], Contains};
-ghost use Rattle.mr_jobs.specs.JobSpec.{WordCount, LinesWith, Resources, JobFits, LiteralFits, counts, job_number, job_flags, job_literal};
+ghost use Rattle.mr_jobs.specs.JobSpec.{WordCount, LinesWith, Resources, InvertedIndex, JobFits, LiteralFits, counts, has_lines, job_number, job_flags, job_literal};
 ghost use Rattle.mr_jobs.specs.Emissions.{value_at};
 
 use mr_bytes::Value;
@@ -19,9 +19,10 @@ pub(crate) enum Kind {
     Words { keep_case: bool },
     Grep { literal: Vec<u8>, fold: bool },
     Url,
+    Index { keep_case: bool },
 }
 
-/// What is done with each record: one of the three jobs of OSDI 2004, sections 2.1 and 2.3, that this library brings.
+/// What is done with each record: one of the four jobs of OSDI 2004, sections 2.1 and 2.3, that this library brings.
 #[derive(Drop)]
 pub struct Job {
     pub(crate) kind: Kind,
@@ -103,13 +104,32 @@ impl Job {
         Job { kind: Kind::Url }
     }
 
+    /// The files in which each word stands, the words taken as `words` takes them.
+    pub fn index(keep_case: bool) -> Job
+        ensures { result ≡ InvertedIndex keep_case }
+    {
+        Job {
+            kind: Kind::Index { keep_case },
+        }
+    }
+
     /// Whether reduce gives the number of a key's values, whatever the values are.
     pub fn counts(&self) -> bool
         ensures { result ≡ counts self.now }
     {
         match &self.kind {
             Kind::Words { .. } | Kind::Url => true,
-            Kind::Grep { .. } => false,
+            Kind::Grep { .. } | Kind::Index { .. } => false,
+        }
+    }
+
+    /// Whether reduce gives a line for each value that tells a place.
+    pub fn has_lines(&self) -> bool
+        ensures { result ≡ has_lines self.now }
+    {
+        match &self.kind {
+            Kind::Grep { .. } => true,
+            Kind::Words { .. } | Kind::Url | Kind::Index { .. } => false,
         }
     }
 
@@ -119,14 +139,14 @@ impl Job {
     {
         match &self.kind {
             Kind::Words { .. } | Kind::Url => Value::One,
-            Kind::Grep { .. } => Value::At {
+            Kind::Grep { .. } | Kind::Index { .. } => Value::At {
                 file,
                 offset: start as u64,
             },
         }
     }
 
-    /// The number by which a certificate tells the job: 1 words, 2 grep, 3 URL.
+    /// The number by which a certificate tells the job: 1 words, 2 grep, 3 URL, 4 index.
     pub fn number(&self) -> u32
         ensures { result ≡ job_number self.now }
     {
@@ -134,6 +154,7 @@ impl Job {
             Kind::Words { .. } => 1,
             Kind::Grep { .. } => 2,
             Kind::Url => 3,
+            Kind::Index { .. } => 4,
         }
     }
 
@@ -142,7 +163,7 @@ impl Job {
         ensures { result ≡ job_flags self.now }
     {
         match &self.kind {
-            Kind::Words { keep_case } => if *keep_case { 1 } else { 0 },
+            Kind::Words { keep_case } | Kind::Index { keep_case } => if *keep_case { 1 } else { 0 },
             Kind::Grep { literal: _, fold } => if *fold { 2 } else { 0 },
             Kind::Url => 0,
         }

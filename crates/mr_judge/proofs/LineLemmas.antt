@@ -7,7 +7,7 @@ use Rattle.std.specs.Prelude.{Err, nat_eq, Some as Just}
 use Rattle.std.specs.List.{common_prefix_len, flat_map}
 use Rattle.mr_bytes.specs.declared.Value.{Value}
 use Rattle.mr_bytes.specs.declared.Value.TheVariants.{One}
-use Rattle.mr_jobs.specs.JobSpec.{JobSpec, WordCount, LinesWith, Resources, counts}
+use Rattle.mr_jobs.specs.JobSpec.{JobSpec, WordCount, LinesWith, Resources, InvertedIndex, has_lines}
 use Rattle.mr_reduce.specs.Text.{place_line, text_of}
 use Rattle.mr_answers.specs.declared.fault.No.{No}
 use Rattle.mr_answers.specs.declared.fault.No.TheVariants.{OutputDiffers}
@@ -31,13 +31,14 @@ flat_all f (x ∷ xs) (suc i) d h =
     ∙ ap (λ k. (f x ++ flat_map f (take i xs)) ++ (flat_map f (get_or xs i d ∷ []) ++ flat_map f (drop k (x ∷ xs)))) (sym next))
 
 -- the text of all values, of which one stands behind others and before others
-pub lines_all : (job : JobSpec) (key : List ℕ) (vs : List Value) (i : ℕ) (v : Value) → counts job ≡ false → i < length vs → v ≡ get_or vs i One
+pub lines_all : (job : JobSpec) (key : List ℕ) (vs : List Value) (i : ℕ) (v : Value) → has_lines job ≡ true → i < length vs → v ≡ get_or vs i One
     → text_of job key vs ≡ text_of job key (take i vs) ++ (text_of job key (v ∷ []) ++ text_of job key (drop (i + 1) vs))
-lines_all (WordCount keep_case) key vs i v e h is = absurd (let no : true ≡ false = e in cc)
+lines_all (WordCount keep_case) key vs i v e h is = absurd (let no : false ≡ true = e in cc)
 lines_all (LinesWith literal fold) key vs i v e h is =
     flat_all (place_line key) vs i One h
     ∙ ap (λ w. flat_map (place_line key) (take i vs) ++ (flat_map (place_line key) (w ∷ []) ++ flat_map (place_line key) (drop (i + 1) vs))) (sym is)
-lines_all Resources key vs i v e h is = absurd (let no : true ≡ false = e in cc)
+lines_all Resources key vs i v e h is = absurd (let no : false ≡ true = e in cc)
+lines_all (InvertedIndex keep_case) key vs i v e h is = absurd (let no : false ≡ true = e in cc)
 
 -- ---- where texts part
 

@@ -1,7 +1,7 @@
-//! The text of a group, compared with the output as it is made: a line for each value of a job that doesn't count, so that
-//! no group makes a text of its own size, however many pairs it has.
-ghost use Rattle.std.specs.Prelude.{◌≡◌, ◌+◌, ◌∷◌, [], OnOk, false, length};
-ghost use Rattle.mr_jobs.specs.JobSpec.{counts};
+//! The text of a group, compared with the output as it is made: where a text has a line for each value, one line after
+//! another, so that no group makes a text of its own size, however many pairs it has.
+ghost use Rattle.std.specs.Prelude.{◌≡◌, ◌+◌, ◌∷◌, [], OnOk, true, length};
+ghost use Rattle.mr_jobs.specs.JobSpec.{has_lines};
 ghost use Rattle.mr_reduce.specs.Text.{text_of};
 ghost use Rattle.mr_judge.specs.Outputs.{CanCome, TextTold, Halts};
 
@@ -31,7 +31,7 @@ fn test_lines<O: Outputs>(
     values: &Values,
     line: &mut Vec<u8>,
 ) -> Result<(), Stop>
-    requires lines { counts job.now ≡ false }
+    requires lines { has_lines job.now ≡ true }
     requires begun { O.begun outputs.old }
     requires some { CanCome (O.gives outputs.old) }
     ensures told { TextTold (O.gives outputs.old) (O.gives outputs.new) p (O.place outputs.old) (text_of job.now key.now values.now) result }
@@ -65,7 +65,7 @@ pub(crate) fn test_group<O: Outputs>(
     ensures halts { Halts O.steady (O.failed outputs.old) (O.failed outputs.new) result }
 {
     let job = basis.job();
-    if !job.counts() {
+    if job.has_lines() {
         return test_lines(outputs, p, job, key, values, line);
     }
     basis.text(key, values, line)?;

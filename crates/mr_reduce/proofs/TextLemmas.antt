@@ -2,13 +2,14 @@
 use Rattle.std.proofs.Common.{◌≡◌, ℕ, zero, suc, ◌+◌, ◌<◌, ◌≤◌, ◌++◌, true, false, List, [], ◌∷◌, length, get_or, take, drop, arith, length-append, refl, ap, ◌∙◌, sym}
 use Rattle.std.proofs.lemmas.List.{take-append-le, take-append-drop, take_all}
 use Rattle.std.specs.List.{flat_map}
-use Rattle.mr_jobs.specs.JobSpec.{WordCount, LinesWith, Resources}
+use Rattle.mr_jobs.specs.JobSpec.{WordCount, LinesWith, Resources, InvertedIndex}
 use Rattle.mr_reduce.specs.Laws.{CountersTellTheNumber}
 
 pub counters_tell_the_number : CountersTellTheNumber
 counters_tell_the_number (WordCount keep_case) key values is = refl
 counters_tell_the_number (LinesWith literal fold) key values is = absurd (let no : false ≡ true = is in cc)
 counters_tell_the_number Resources key values is = refl
+counters_tell_the_number (InvertedIndex keep_case) key values is = absurd (let no : false ≡ true = is in cc)
 
 -- what stands in front stays there while the text behind it changes
 pub front-kept : (n m : ℕ) (first more middle now : List ℕ) → middle ≡ first ++ more → n ≡ length first → m ≡ length middle

@@ -1,19 +1,27 @@
 //! What reduce makes of a key with its values: the text that goes into the output file of the key's partition.
 #![tactic(auto)]
 
-ghost use Rattle.std.specs.Prelude.{◌≡◌, ◌+◌, ◌<◌, ◌≤◌, ◌++◌, OnOk, OnErr, length, take, vec_capacity, vec_len};
+ghost use Rattle.std.specs.Prelude.{◌≡◌, ◌+◌, ◌<◌, ◌≤◌, ◌++◌, OnOk, OnErr, false, length, take, vec_capacity, vec_len};
 ghost use Rattle.std.specs.List.{flat_map};
+ghost use Rattle.mr_reduce.specs.Files.{listed};
 ghost use Rattle.mr_reduce.specs.Text.{text_of, total_line, place_line};
-ghost use Rattle.mr_reduce.specs.Laws.{CountersTellTheNumber};
+ghost use Rattle.mr_reduce.specs.Laws.{CountersTellTheNumber, FilesAreTold, FilesRise};
+ghost use Rattle.mr_jobs.specs.JobSpec.{counts};
 
+mod files;
+
+use crate::files::{Listed, put_files};
 use itoa::Buffer;
 use mr_bytes::{Value, Values};
 use mr_jobs::Job;
 use std::alloc::AllocError;
 
 /// Appends the text of a key with the list of all its values, in the order of the input: for a job that counts, the
-/// key with the number of values; for lines with a literal, a line for each value that tells a place. It fails only
-/// for want of memory, and then leaves `out` as it was.
+/// key with the number of values; for lines with a literal, a line for each value that tells a place; for an index, the
+/// key with the files of those places. It fails only for want of memory, and then leaves `out` as it was.
+///
+/// The files of an index take time linear in the values where these tell their files in order, as all values of a key do
+/// in the order of the input; and else for each file that is told a look at all values.
 pub fn group_text(
     job: &Job,
     key: &[u8],
@@ -27,12 +35,7 @@ pub fn group_text(
     if job.counts() {
         return total_text(key, values.len() as u64, out);
     }
-    let before = out.len();
-    let done = put_places(key, values, out);
-    if done.is_err() {
-        out.truncate(before);
-    }
-    done
+    listed_text(job, key, Listed::Slice(values), out)
 }
 
 /// Appends the text of a key with the values of a column: what `group_text` appends for them. It fails only for want of
@@ -47,16 +50,36 @@ pub fn column_text(
     ensures err { OnErr result (out.new.items ≡ out.old.items) }
     ensures full { OnErr result (vec_capacity out.old < vec_len out.old + length (text_of job.now key.now values.now)) }
 {
-    if !job.counts() {
-        let before = out.len();
-        let done = put_column(key, values, out);
-        if done.is_err() {
-            out.truncate(before);
-        }
-        return done;
+    if job.counts() {
+        let total = values.len();
+        return total_text(key, total as u64, out);
     }
-    let total = values.len();
-    total_text(key, total as u64, out)
+    listed_text(job, key, Listed::Column(values), out)
+}
+
+/// Appends the text of a key with the values, of a job that doesn't count. It fails only for want of memory, and then
+/// leaves `out` as it was.
+fn listed_text(
+    job: &Job,
+    key: &[u8],
+    values: Listed<'_>,
+    out: &mut Vec<u8>,
+) -> Result<(), AllocError>
+    requires { counts job.now ≡ false }
+    ensures ok { OnOk result (out.new.items ≡ out.old.items ++ text_of job.now key.now (listed values.entry)) }
+    ensures err { OnErr result (out.new.items ≡ out.old.items) }
+    ensures full { OnErr result (vec_capacity out.old < vec_len out.old + length (text_of job.now key.now (listed values.entry))) }
+{
+    let before = out.len();
+    let done = if job.has_lines() {
+        put_places(key, values, out)
+    } else {
+        put_files(key, values, out)
+    };
+    if done.is_err() {
+        out.truncate(before);
+    }
+    done
 }
 
 /// Appends the line of a key with a number: what `group_text` appends for a job that counts, where the number is that
@@ -111,22 +134,10 @@ fn put_place(key: &[u8], value: Value, out: &mut Vec<u8>) -> Result<(), AllocErr
 }
 
 /// Appends the lines of a key with its places. Where it fails, what stood before still stands in front.
-fn put_places(key: &[u8], values: &[Value], out: &mut Vec<u8>) -> Result<(), AllocError>
+fn put_places(key: &[u8], values: Listed<'_>, out: &mut Vec<u8>) -> Result<(), AllocError>
     ensures kept { take (vec_len out.old) out.new.items ≡ out.old.items }
-    ensures ok { OnOk result (out.new.items ≡ out.old.items ++ flat_map (place_line key.now) values.now) }
-    ensures full { OnErr result (vec_capacity out.old < vec_len out.old + length (flat_map (place_line key.now) values.now)) }
-{
-    for value in values {
-        put_place(key, *value, out)?;
-    }
-    Ok(())
-}
-
-/// Appends the lines of a key with the places of a column. Where it fails, what stood before still stands in front.
-fn put_column(key: &[u8], values: &Values, out: &mut Vec<u8>) -> Result<(), AllocError>
-    ensures kept { take (vec_len out.old) out.new.items ≡ out.old.items }
-    ensures ok { OnOk result (out.new.items ≡ out.old.items ++ flat_map (place_line key.now) values.now) }
-    ensures full { OnErr result (vec_capacity out.old < vec_len out.old + length (flat_map (place_line key.now) values.now)) }
+    ensures ok { OnOk result (out.new.items ≡ out.old.items ++ flat_map (place_line key.now) (listed values.entry)) }
+    ensures full { OnErr result (vec_capacity out.old < vec_len out.old + length (flat_map (place_line key.now) (listed values.entry))) }
 {
     for i in 0..values.len() {
         put_place(key, values.get(i), out)?;
@@ -135,7 +146,9 @@ fn put_column(key: &[u8], values: &Values, out: &mut Vec<u8>) -> Result<(), Allo
 }
 
 /// Where a job counts, the text of a group is that of the key with the number of its values, whatever they are: the
-/// number alone is enough for `total_text`.
+/// number alone is enough for `total_text`. The files that an index tells rise, and are just those of the values.
 pub fn text_law()
-    ensures { CountersTellTheNumber }
+    ensures number { CountersTellTheNumber }
+    ensures rise { FilesRise }
+    ensures told { FilesAreTold }
 {}

@@ -14,25 +14,32 @@ const LONGEST: usize = 1 << 30;
 /// As many keys as are numbered.
 const MANY: usize = 1000;
 
-/// Whether each job counts, or why there is none of lines with this literal.
+/// Whether the job counts, and whether its texts have a line for each value.
+fn show_job(teller: &Teller, job: &Job) {
+    teller.before(&job.counts(), " ");
+    teller.before(&job.has_lines(), " ");
+}
+
+/// What each job is, or why there is none of lines with this literal.
 fn show_jobs(teller: &Teller, literal: &[u8], fold: bool) {
-    let words = Job::words(true).counts();
-    let url = Job::url().counts();
     match Job::grep(teller.alloc(), literal, fold) {
         Ok(lines) => {
-            teller.before(&words, " ");
-            teller.two(&url, &lines.counts());
+            show_job(teller, &Job::words(true));
+            show_job(teller, &Job::url());
+            show_job(teller, &Job::index(true));
+            teller.two(&lines.counts(), &lines.has_lines());
         }
         Err(fault) => teller.line(&fault),
     }
 }
 
-/// Adds the words of `a`, and the line `b`, which has itself.
+/// Adds the words of `a`, those of `b` with their place, and the line `b`, which has itself.
 fn emit(alloc: Global, a: &[u8], b: &[u8], out: &mut Emissions) -> Result<(), AllocError> {
     if LONGEST < a.len() || LONGEST < b.len() {
         return Ok(());
     }
     map(alloc, &Job::words(true), AT, a, out)?;
+    map(alloc, &Job::index(false), AT, b, out)?;
     match Job::grep(alloc, b, false) {
         Ok(lines) => map(alloc, &lines, AT, b, out),
         Err(_) => Ok(()),
@@ -100,10 +107,28 @@ fn places(alloc: Global, lines: &Job, key: &[u8], column: &Values) -> Result<Vec
     Ok(out)
 }
 
-/// The text of two places.
+/// The lines of an index: of no value, of a value without a place, of files in no order, and of a column.
+fn files(alloc: Global, key: &[u8], column: &Values) -> Result<Vec<u8>, AllocError> {
+    let index = Job::index(false);
+    let of = |file: u32| Value::At { file, offset: 0 };
+    let mut out = Vec::new(alloc);
+    group_text(&index, key, &[], &mut out)?;
+    group_text(&index, key, &[Value::One], &mut out)?;
+    group_text(
+        &index,
+        key,
+        &[of(3), of(10), Value::One, of(3), of(2), of(10)],
+        &mut out,
+    )?;
+    column_text(&index, key, column, &mut out)?;
+    Ok(out)
+}
+
+/// The text of two places, of lines and of an index.
 fn show_places(teller: &Teller, lines: &Job, key: &[u8]) -> Result<(), AllocError> {
     let column = two_places(teller.alloc())?;
-    teller.one(&places(teller.alloc(), lines, key, &column)?);
+    teller.before(&places(teller.alloc(), lines, key, &column)?, " ");
+    teller.one(&files(teller.alloc(), key, &column)?);
     Ok(())
 }
 

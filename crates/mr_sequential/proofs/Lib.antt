@@ -17,3 +17,4 @@ pub mod SourceLemmas
 pub mod TextLemmas
 pub mod UniqueLaws
 pub mod ValueLemmas
+pub mod ToldLemmas

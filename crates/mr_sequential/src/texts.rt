@@ -1,17 +1,17 @@
 //! The outputs: for each partition the texts of its groups, by rising key.
-ghost use Rattle.std.specs.Prelude.{◌≡◌, ℕ, ◌+◌, ◌≤◌, ◌<◌, [], ◌++◌, IfOk, OnOk, All, false, length, map, slice_set};
+ghost use Rattle.std.specs.Prelude.{◌≡◌, ℕ, ◌+◌, ◌≤◌, ◌<◌, [], ◌++◌, IfOk, OnOk, All, false, true, length, map, slice_set};
 ghost use Rattle.mr_input.specs.Files.{contents, nth_file};
-ghost use Rattle.mr_jobs.specs.JobSpec.{counts as is_counter};
-ghost use Rattle.mr_reduce.specs.Text.{text_of, total_line};
+ghost use Rattle.mr_jobs.specs.JobSpec.{counts as is_counter, has_lines};
+ghost use Rattle.mr_reduce.specs.Text.{files_of, text_of, total_line};
 ghost use Rattle.mr_splits.specs.Cut.{records_of};
 ghost use Rattle.mr_sequential.specs.Names.{IsOfRecord, value_under};
 ghost use Rattle.mr_sequential.specs.Rows.{count_line, names_text, row_names, row_start, row_texts};
 
-use mr_bytes::Name;
+use mr_bytes::{Name, Values};
 use mr_certform::FlatGroups;
 use mr_jobs::Job;
 use mr_ranks::Row;
-use mr_reduce::{group_text, total_text};
+use mr_reduce::{column_text, group_text, total_text};
 use mr_splits::Plan;
 use std::alloc::{AllocError, Global};
 
@@ -38,8 +38,8 @@ fn add_total(texts: &mut Vec<Vec<u8>>, row: Row<'_>, total: u32) -> Result<(), A
     total_text(row.key, total as u64, text)
 }
 
-/// Appends the line of each pair of a key, of a job that doesn't count, one name after another: a group may be all of the
-/// input, so there is no list of its values.
+/// Appends the line of each pair of a key, of a job whose texts have a line for each, one name after another: a group may
+/// be all of the input, so there is no list of its values.
 fn add_lines(
     job: &Job,
     plan: &Plan<'_>,
@@ -47,7 +47,7 @@ fn add_lines(
     names: &[Name],
     text: &mut Vec<u8>,
 ) -> Result<(), AllocError>
-    requires lines { is_counter job.now ≡ false }
+    requires lines { has_lines job.now ≡ true }
     requires named { All (IsOfRecord plan.now) names.now }
     ensures { OnOk result (text.new.items ≡ text.old.items ++ text_of job.now key.now (map (value_under job.now (records_of plan.now)) names.now)) }
 {
@@ -59,15 +59,62 @@ fn add_lines(
     Ok(())
 }
 
-/// Appends the lines of a row's pairs to the text of its partition.
+/// Makes the column a list of values that tells the files of the pairs of these names, of an index. Of pairs of one file
+/// that stand together it has one value, so it is no longer than the files are many, where names rise.
+fn fill_files(
+    job: &Job,
+    plan: &Plan<'_>,
+    names: &[Name],
+    told: &mut Values,
+) -> Result<(), AllocError>
+    requires counts { is_counter job.now ≡ false }
+    requires lines { has_lines job.now ≡ false }
+    requires named { All (IsOfRecord plan.now) names.now }
+    ensures { OnOk result (files_of told.new ≡ files_of (map (value_under job.now (records_of plan.now)) names.now)) }
+{
+    told.clear();
+    let mut last = None;
+    for name in names {
+        let record = plan.located(name.split, name.rec);
+        if last != Some(record.file) {
+            told.push(job.value_at(record.file, record.start))?;
+            last = Some(record.file);
+        }
+    }
+    Ok(())
+}
+
+/// Appends the text of a key of a job that doesn't count, with the values that the names of its pairs tell. The column is
+/// one for all keys.
+fn add_text(
+    job: &Job,
+    plan: &Plan<'_>,
+    key: &[u8],
+    names: &[Name],
+    told: &mut Values,
+    text: &mut Vec<u8>,
+) -> Result<(), AllocError>
+    requires counts { is_counter job.now ≡ false }
+    requires named { All (IsOfRecord plan.now) names.now }
+    ensures { OnOk result (text.new.items ≡ text.old.items ++ text_of job.now key.now (map (value_under job.now (records_of plan.now)) names.now)) }
+{
+    if job.has_lines() {
+        return add_lines(job, plan, key, names, text);
+    }
+    fill_files(job, plan, names, told)?;
+    column_text(job, key, told, text)
+}
+
+/// Appends the text of a row's pairs to the text of its partition.
 fn add_names(
     job: &Job,
     plan: &Plan<'_>,
     texts: &mut Vec<Vec<u8>>,
     row: Row<'_>,
     names: &[Name],
+    told: &mut Values,
 ) -> Result<(), AllocError>
-    requires lines { is_counter job.now ≡ false }
+    requires counts { is_counter job.now ≡ false }
     requires named { All (IsOfRecord plan.now) names.now }
     requires part { row.part < length texts.old.items }
     ensures count { length texts.new.items ≡ length texts.old.items }
@@ -76,7 +123,7 @@ fn add_names(
         ++ text_of job.now row.entry.key.now (map (value_under job.now (records_of plan.now)) names.now))) }
 {
     let text = &mut texts[row.part as usize];
-    add_lines(job, plan, row.key, names, text)
+    add_text(job, plan, row.key, names, told, text)
 }
 
 /// Appends the texts of a job that counts, given how many values each rank has.
@@ -101,9 +148,10 @@ fn name_texts(
     rows: &[Row<'_>],
     counts: &[u32],
     names: &[Name],
+    told: &mut Values,
     texts: &mut Vec<Vec<u8>>,
 ) -> Result<(), AllocError>
-    requires lines { is_counter job.now ≡ false }
+    requires counting { is_counter job.now ≡ false }
     requires parts { All (λ r. r.part < length texts.old.items) rows.now }
     requires counts { length counts.now ≡ length rows.now }
     requires within { row_start counts.now (length rows.now) ≤ length names.now }
@@ -115,7 +163,7 @@ fn name_texts(
     let mut start = 0;
     for (rank, row) in rows.iter().enumerate() {
         let end = start + counts[rank] as usize;
-        add_names(job, plan, texts, *row, &names[start..end])?;
+        add_names(job, plan, texts, *row, &names[start..end], told)?;
         start = end;
     }
     Ok(())
@@ -128,6 +176,7 @@ fn fill_texts(
     plan: &Plan<'_>,
     rows: &[Row<'_>],
     groups: &FlatGroups,
+    told: &mut Values,
     texts: &mut Vec<Vec<u8>>,
 ) -> Result<(), AllocError>
     requires parts { All (λ r. r.part < length texts.old.items) rows.now }
@@ -143,7 +192,15 @@ fn fill_texts(
     if job.counts() {
         count_texts(rows, counts, texts)
     } else {
-        name_texts(job, plan, rows, counts, groups.names.as_slice(), texts)
+        name_texts(
+            job,
+            plan,
+            rows,
+            counts,
+            groups.names.as_slice(),
+            told,
+            texts,
+        )
     }
 }
 
@@ -165,6 +222,7 @@ pub(crate) fn texts_of(
         ≡ row_texts (names_text job.now (records_of plan.now) groups.now.entry_counts.items groups.now.names.items) p 0 rows.now) }
 {
     let mut texts = empty_texts(alloc, parts)?;
-    fill_texts(job, plan, rows, groups, &mut texts)?;
+    let mut told = Values::new(alloc);
+    fill_texts(job, plan, rows, groups, &mut told, &mut texts)?;
     Ok(texts)
 }

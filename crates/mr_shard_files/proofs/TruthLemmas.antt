@@ -4,7 +4,7 @@ use Rattle.std.specs.Prelude.{Option}
 use Rattle.std.specs.List.{AllByRecursion}
 use Rattle.mr_files.specs.Holding.{Stored}
 use Rattle.mr_files.specs.Names.{part_files}
-use Rattle.mr_jobs.specs.JobSpec.{JobSpec, LinesWith, RequestSpec, Resources, WordCount, job_flags, job_literal, job_number}
+use Rattle.mr_jobs.specs.JobSpec.{InvertedIndex, JobSpec, LinesWith, RequestSpec, Resources, WordCount, job_flags, job_literal, job_number}
 use Rattle.mr_verdict.specs.Joined.{AreMerged, AreOnce, AreTrueOf, IsJoined, all_files}
 use Rattle.mr_verdict.specs.Truth.{AreNotesOf, Asks, IsTrueOf, notes_for}
 use Rattle.mr_verdict.specs.Verdict.{Note, Told}
@@ -23,15 +23,25 @@ same_job (WordCount false) (WordCount true) n f l = absurd (omega (arith, f))
 same_job (WordCount false) (WordCount false) n f l = refl
 same_job (WordCount k) (LinesWith literal fold) n f l = absurd (omega (arith, n))
 same_job (WordCount k) Resources n f l = absurd (omega (arith, n))
+same_job (WordCount k) (InvertedIndex j) n f l = absurd (omega (arith, n))
 same_job (LinesWith literal fold) (WordCount k) n f l = absurd (omega (arith, n))
 same_job (LinesWith literal true) (LinesWith other true) n f l = ap (λ x. LinesWith x true) l
 same_job (LinesWith literal true) (LinesWith other false) n f l = absurd (omega (arith, f))
 same_job (LinesWith literal false) (LinesWith other true) n f l = absurd (omega (arith, f))
 same_job (LinesWith literal false) (LinesWith other false) n f l = ap (λ x. LinesWith x false) l
 same_job (LinesWith literal fold) Resources n f l = absurd (omega (arith, n))
+same_job (LinesWith literal fold) (InvertedIndex k) n f l = absurd (omega (arith, n))
 same_job Resources (WordCount k) n f l = absurd (omega (arith, n))
 same_job Resources (LinesWith literal fold) n f l = absurd (omega (arith, n))
 same_job Resources Resources n f l = refl
+same_job Resources (InvertedIndex k) n f l = absurd (omega (arith, n))
+same_job (InvertedIndex k) (WordCount j) n f l = absurd (omega (arith, n))
+same_job (InvertedIndex k) (LinesWith literal fold) n f l = absurd (omega (arith, n))
+same_job (InvertedIndex k) Resources n f l = absurd (omega (arith, n))
+same_job (InvertedIndex true) (InvertedIndex true) n f l = refl
+same_job (InvertedIndex true) (InvertedIndex false) n f l = absurd (omega (arith, f))
+same_job (InvertedIndex false) (InvertedIndex true) n f l = absurd (omega (arith, f))
+same_job (InvertedIndex false) (InvertedIndex false) n f l = refl
 
 -- the same, with another number of records that may be left out
 abbrev letting : RequestSpec → ℕ → RequestSpec

@@ -127,7 +127,7 @@ IsListFault holds unreadable (Some name) inputs fault = IsListUnread holds unrea
 
 -- ---- all
 
--- there is no request
+-- there is no request of a job whose outputs can be merged
 abbrev pub IsFirstFault : List Told → ShardFault → Type 0
 IsFirstFault vs NoShards = vs ≡ []
 IsFirstFault vs NoRequest = (0 < length vs) × AsksNone (verdict_at vs 0)

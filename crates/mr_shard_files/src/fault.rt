@@ -25,7 +25,7 @@ pub enum ShardFault {
     LongVerdict {
         shard: usize,
     },
-    /// The first verdict is about no request.
+    /// The first verdict is about no request, or about one of an index, whose outputs can't be merged.
     #[error("NoRequest")]
     NoRequest,
     /// A verdict is about another request than the first.

@@ -22,7 +22,7 @@ use mr_verdict::{FileNote, Verdict, first_repeat, join_verdicts, request_of};
 use std::alloc::Global;
 use std::thread::Threads;
 
-/// The request that the first verdict is about.
+/// The request that the first verdict is about, of a job whose outputs can be merged.
 fn first_request(alloc: Global, verdicts: &[Verdict]) -> Result<Request, ShardFault>
     ensures ok { IfOk result (λ r. Asks (verdict_at verdicts.now 0) r) }
     ensures some { IfOk result (λ _. 0 < length verdicts.now) }

@@ -6,11 +6,12 @@ use Rattle.std.proofs.lemmas.List.Folds.{list_any-append}
 use Rattle.std.specs.List.{AllByRecursion, flat_map, list_any}
 use Rattle.std.specs.Str.{bytes_eq}
 use Rattle.mr_bytes.specs.declared.RecordName.{RecordName}
-use Rattle.mr_bytes.specs.declared.Value.TheVariants.{At}
+use Rattle.mr_bytes.specs.declared.Value.{Value}
+use Rattle.mr_bytes.specs.declared.Value.TheVariants.{One, At}
 use Rattle.mr_bytes.specs.Words.{word_spans}
 use Rattle.mr_records.specs.Records.{Record, records}
 use Rattle.mr_input.specs.Files.{split_count, split_total}
-use Rattle.mr_jobs.specs.JobSpec.{JobSpec, RequestSpec, WordCount, LinesWith, Resources}
+use Rattle.mr_jobs.specs.JobSpec.{JobSpec, RequestSpec, WordCount, LinesWith, Resources, InvertedIndex}
 use Rattle.mr_jobs.specs.Emissions.{Emission, emissions, word_emission, one_for}
 use Rattle.mr_jobs.specs.Literal.{holds}
 use Rattle.mr_jobs.specs.Url.{url_of}
@@ -108,9 +109,14 @@ map-two : {X Y Z : Type 0} (f : Y → Z) (g : X → Y) (h : X → Z) (xs : List 
 map-two f g h [] same = refl
 map-two f g h (x ∷ xs) same = let here = same x in let rest = map-two f g h xs same in λ i. here i ∷ rest i
 
+words-moved : (n : ℕ) (value moved : Value) (keep_case : Bool) (line : List ℕ) → moved ≡ moved_value n value
+    → map (word_emission moved keep_case line) (word_spans line) ≡ map (moved_emission n) (map (word_emission value keep_case line) (word_spans line))
+words-moved n value moved keep_case line same =
+    ap (λ (v : Value). map (word_emission v keep_case line) (word_spans line)) same
+    ∙ sym (map-two (moved_emission n) (word_emission value keep_case line) (word_emission (moved_value n value) keep_case line) (word_spans line) (λ w. refl))
+
 emissions-moved : (job : JobSpec) (n file start : ℕ) (line : List ℕ) → emissions job (n + file) start line ≡ map (moved_emission n) (emissions job file start line)
-emissions-moved (WordCount keep_case) n file start line =
-    sym (map-two (moved_emission n) (word_emission keep_case line) (word_emission keep_case line) (word_spans line) (λ w. refl))
+emissions-moved (WordCount keep_case) n file start line = words-moved n One One keep_case line refl
 emissions-moved (LinesWith literal fold) n file start line = by (holds fold line literal)
   where
     by : (b : Bool) → cond b ((line, At (n + file) start) ∷ []) [] ≡ map (moved_emission n) (cond b ((line, At file start) ∷ []) [])
@@ -121,6 +127,7 @@ emissions-moved Resources n file start line = by (url_of line)
     by : (o : Option (List ℕ)) → one_for o ≡ map (moved_emission n) (one_for o)
     by None = refl
     by (Some key) = refl
+emissions-moved (InvertedIndex keep_case) n file start line = words-moved n (At file start) (At (n + file) start) keep_case line refl
 
 placed-moved : (n m : ℕ) (name : RecordName) (place : ℕ) (es : List Emission)
     → placed_from (moved_name m name) place (map (moved_emission n) es) ≡ map (moved_triple n m) (placed_from name place es)

@@ -4,6 +4,7 @@ pub mod MergedLaws
 pub mod ReadingLemmas
 pub mod ShardLaws
 pub mod SkipLaws
+pub mod IndexLemmas
 pub mod LineLemmas
 pub mod NumberLemmas
 pub mod FrontLemmas

@@ -8,8 +8,10 @@ use Rattle.std.specs.Prelude.{decimal}
 use Rattle.std.specs.List.{flat_map}
 use Rattle.std.proofs.lemmas.List.{replicate-append-replicate, length-replicate, append-nil}
 use Rattle.mr_bytes.specs.declared.Value.TheVariants.{One, At}
-use Rattle.mr_jobs.specs.JobSpec.{JobSpec, WordCount, LinesWith, Resources, counts}
-use Rattle.mr_reduce.specs.Text.{total_line, place_line}
+use Rattle.mr_jobs.specs.JobSpec.{JobSpec, WordCount, LinesWith, Resources, InvertedIndex, counts}
+use Rattle.std.specs.Ordering.{nat_cmp}
+use Rattle.mr_bytes.specs.Lists.{sorted}
+use Rattle.mr_reduce.specs.Text.{file_in, files_line, place_line, text_of, total_line}
 use Rattle.std.specs.Int.{IsInRange}
 use Rattle.std.proofs.Common.{◌≢◌}
 use Rattle.mr_jobs.specs.Url.{before_byte}
@@ -47,16 +49,22 @@ no-places : (key : List ℕ) (n : ℕ) → flat_map (place_line key) (replicate 
 no-places key zero = refl
 no-places key (suc n) = no-places key n
 
--- a job that doesn't count writes nothing for values without a place
-pub nothing_told : (job : JobSpec) (key : List ℕ) (n : ℕ) → counts job ≡ false → group_text job (record { key = key; values = replicate n One }) ≡ []
+no-files : (n : ℕ) → flat_map file_in (replicate n One) ≡ []
+no-files zero = refl
+no-files (suc n) = no-files n
+
+-- a job that doesn't count writes for values without a place what it writes for none
+pub nothing_told : (job : JobSpec) (key : List ℕ) (n : ℕ) → counts job ≡ false → group_text job (record { key = key; values = replicate n One }) ≡ text_of job key []
 nothing_told (WordCount keep_case) key n e = absurd cc
 nothing_told (LinesWith literal fold) key n e = no-places key n
 nothing_told Resources key n e = absurd cc
+nothing_told (InvertedIndex keep_case) key n e = ap (λ fs. files_line key (sorted nat_cmp fs)) (no-files n)
 
 pub total_told : (job : JobSpec) (key : List ℕ) (n : ℕ) → counts job ≡ true → group_text job (record { key = key; values = replicate n One }) ≡ total_line key n
 total_told (WordCount keep_case) key n e = ap (total_line key) (length-replicate n One)
 total_told (LinesWith literal fold) key n e = absurd cc
 total_told Resources key n e = ap (total_line key) (length-replicate n One)
+total_told (InvertedIndex keep_case) key n e = absurd cc
 
 pub Lacks-front : (b : ℕ) (xs ys : List ℕ) → Lacks b (xs ++ ys) → Lacks b xs
 Lacks-front b [] ys h = tt
@@ -89,6 +97,7 @@ cut-text (LinesWith literal fold) (Place file offset) text line key told rest h 
 cut-text Resources (Total n) text line key told rest h is =
     cut-whole text line key told rest (decimal n) h is.0 ∙ sym (total-first key n rest) ∙ ap (λ l. l ++ rest) (sym (total_told Resources key n refl))
 cut-text Resources (Place file offset) text line key told rest h is = absurd is
+cut-text (InvertedIndex keep_case) t text line key told rest h is = absurd is
 
 -- and what it is read as
 pub cut-read : (job : JobSpec) (t : Tally) (text line key told rest : List ℕ) → IsCut text line key told rest → IsTold job t told
@@ -107,6 +116,7 @@ cut-read Resources (Total n) text line key told rest h is =
     ∙ total-read Resources key n rest (cut-clear text line key told rest h) is.1
     ∙ (let e = ap (λ m. replicate m One) (value-of n is.1) in λ i. record { key = key; values = e i } ∷ groups_in Resources rest)
 cut-read Resources (Place file offset) text line key told rest h is = absurd is
+cut-read (InvertedIndex keep_case) t text line key told rest h is = absurd is
 
 pub told-for : (job : JobSpec) (t : Tally) (told : List ℕ) → IsTold job t told → IsFor job t
 told-for (WordCount keep_case) (Total n) told h = tt
@@ -115,6 +125,7 @@ told-for (LinesWith literal fold) (Total n) told h = h
 told-for (LinesWith literal fold) (Place file offset) told h = tt
 told-for Resources (Total n) told h = tt
 told-for Resources (Place file offset) told h = h
+told-for (InvertedIndex keep_case) t told h = h
 
 pub same_key : (j k : List ℕ) → not (bytes_eq j k) ≡ false → j ≡ k
 same_key j k e = bytes_eq-is j k (by (bytes_eq j k) e)
@@ -140,10 +151,11 @@ overflow t u m n a b h =
 pub totals-alike : (t : Tally) (m total : ℕ) → t ≡ Total m → IsSameKind t (Total total)
 totals-alike t m total e = subst (λ u. IsSameKind u (Total total)) (sym e) tt
 
--- where nothing is told, nothing is written
-pub put-nothing : (job : JobSpec) (key out : List ℕ) (t : Tally) (n : ℕ) → t ≡ Total n → counts job ≡ false → out ≡ out ++ group_text job (record { key = key; values = values_of t })
-put-nothing job key out t n e is =
-    sym (ap (λ u. out ++ group_text job (record { key = key; values = values_of u })) e ∙ ap (λ l. out ++ l) (nothing_told job key n is) ∙ append-nil out)
+-- where no place is told, that is written which no values have
+pub put-nothing : (job : JobSpec) (key out new : List ℕ) (t : Tally) (n : ℕ) → t ≡ Total n → counts job ≡ false → new ≡ out ++ text_of job key []
+    → new ≡ out ++ group_text job (record { key = key; values = values_of t })
+put-nothing job key out new t n e is put =
+    put ∙ sym (ap (λ u. out ++ group_text job (record { key = key; values = values_of u })) e ∙ ap (λ l. out ++ l) (nothing_told job key n is))
 
 -- a total is where it is, however many files come before
 pub total-moved : (files n : ℕ) (t : Tally) → t ≡ Total n → replicate n One ≡ map (moved_value files) (values_of t)
@@ -183,6 +195,7 @@ told-lacks (LinesWith literal fold) (Place file offset) told b digit colon is =
     subst (Lacks b) (sym is.0) (Lacks-append b (decimal file) (58 ∷ decimal offset) (decimal-lacks b file digit (omega (arith, is.1))) (λ e. colon (sym e), decimal-lacks b offset digit is.2))
 told-lacks Resources (Total n) told b digit colon is = subst (Lacks b) (sym is.0) (decimal-lacks b n digit is.1)
 told-lacks Resources (Place file offset) told b digit colon is = absurd is
+told-lacks (InvertedIndex keep_case) t told b digit colon is = absurd is
 
 begun-line : (job : JobSpec) (text : List ℕ) → (h : BeginsWithLine job text) → Lacks 10 (h.key ++ 9 ∷ h.told)
 begun-line job text h =

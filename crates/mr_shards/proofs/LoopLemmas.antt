@@ -8,7 +8,7 @@ use Rattle.std.specs.declared.cmp.Ordering.{Ordering}
 use Rattle.std.specs.declared.cmp.Ordering.TheVariants.{Less, Equal, Greater}
 use Rattle.mr_bytes.specs.Lists.{Has, Rises}
 use Rattle.mr_bytes.specs.Order.{key_order}
-use Rattle.mr_jobs.specs.JobSpec.{JobSpec, WordCount, LinesWith, Resources}
+use Rattle.mr_jobs.specs.JobSpec.{JobSpec, WordCount, LinesWith, Resources, InvertedIndex}
 use Rattle.mr_reduce.specs.Text.{place_line}
 use Rattle.mr_sequential.proofs.KeyLaws.{key_tie, with_key-cases}
 use Rattle.mr_bytes.proofs.ListLaws.{Has-all, all_from_Has}
@@ -46,6 +46,7 @@ kind-same (LinesWith literal fold) (Place file offset) (Place file' offset') s f
 kind-same Resources (Total m) (Total n) s f = tt
 kind-same Resources (Total m) (Place file offset) s f = absurd s
 kind-same Resources (Place file offset) u s f = absurd f
+kind-same (InvertedIndex keep_case) t u s f = absurd f
 
 joined-text : (literal : List ℕ) (fold : Bool) (g h : Group) → g.key ≡ h.key
     → group_text (LinesWith literal fold) (joined g h) ≡ group_text (LinesWith literal fold) g ++ group_text (LinesWith literal fold) h
@@ -73,6 +74,7 @@ front-place job (Total n) g gs f p all = absurd p
 front-place (WordCount keep_case) (Place file offset) g gs f p all = absurd f
 front-place (LinesWith literal fold) (Place file offset) g gs f p all = front-places literal fold g gs all
 front-place Resources (Place file offset) g gs f p all = absurd f
+front-place (InvertedIndex keep_case) (Place file offset) g gs f p all = absurd f
 
 -- keys of a group and those behind it
 pub with_group-behind : (k : List ℕ) (g : Group) (gs : List Group) (P : List ℕ → Type 0) → P g.key → AllByRecursion P (keys gs) → AllByRecursion P (keys (with_group g gs))

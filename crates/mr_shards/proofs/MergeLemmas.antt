@@ -1,5 +1,5 @@
 -- Taking the least group out of lists that are merged.
-use Rattle.std.proofs.Common.{◌≡◌, ℕ, zero, suc, ◌+◌, ◌<◌, ◌++◌, List, [], ◌∷◌, length, get_or, set, refl, ap, sym, ◌∙◌, subst, inl, inr, Bool, true, false, cond, map, arith}
+use Rattle.std.proofs.Common.{◌≡◌, ℕ, ◌+◌, ◌++◌, List, [], ◌∷◌, refl, ap, sym, ◌∙◌, subst, inl, inr, Bool, true, false, cond, map, arith}
 use Rattle.std.proofs.lemmas.List.{append_assoc, map-append}
 use Rattle.std.proofs.lemmas.Cmp.{nat_list_cmp_total}
 use Rattle.std.specs.List.{AllByRecursion}
@@ -16,7 +16,7 @@ use Rattle.mr_sequential.proofs.KeyLaws.{bytes_eq-is, with_key-cases, with_key-n
 use Rattle.mr_bytes.proofs.ListLaws.{same_rising}
 use Rattle.mr_shards.specs.Merged.{Group, joined, with_group, merged, Part, merged_parts, moved_value, moved_group}
 use Rattle.mr_shards.specs.Outputs.{moved_parts}
-use Rattle.mr_shards.proofs.MergedLaws.{keys, values_if, values_at, told, told-all, told-same, with_group-values, with_group-keys, merged-rise, merged-keys, with_keys-cases}
+use Rattle.mr_shards.proofs.MergedLaws.{keys, values_if, values_at, told, told-all, told-same, with_group-values, with_group-keys, merged-rise}
 
 -- the groups of lists, merged from the last
 abbrev pub merged_all : List (List Group) → List Group

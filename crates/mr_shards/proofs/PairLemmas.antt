@@ -10,7 +10,7 @@ use Rattle.mr_bytes.specs.declared.Span.{Span}
 use Rattle.mr_bytes.specs.declared.Value.{Value}
 use Rattle.mr_bytes.specs.declared.Value.TheVariants.{One, At}
 use Rattle.mr_input.specs.Files.{nth_file}
-use Rattle.mr_jobs.specs.JobSpec.{JobSpec, RequestSpec, WordCount, LinesWith, Resources}
+use Rattle.mr_jobs.specs.JobSpec.{JobSpec, RequestSpec, WordCount, LinesWith, Resources, InvertedIndex}
 use Rattle.mr_jobs.specs.Emissions.{Emission, emissions, word_key, word_emission, one_for}
 use Rattle.mr_jobs.specs.Literal.{holds}
 use Rattle.mr_bytes.specs.Cut.{Lacks}
@@ -66,18 +66,21 @@ abbrev pub IsValueOf : JobSpec → ℕ → ℕ → Value → Type 0
 IsValueOf (WordCount keep_case) file start v = v ≡ One
 IsValueOf (LinesWith literal fold) file start v = v ≡ At file start
 IsValueOf Resources file start v = v ≡ One
+IsValueOf (InvertedIndex keep_case) file start v = v ≡ At file start
 
 pub record IsPairOf (job : JobSpec) (file start : ℕ) (key : List ℕ) (value : Value) : Type 0 where
   pub clear : Lacks 10 key
   pub value_is : IsValueOf job file start value
 
-words-pairs : (keep_case : Bool) (file start : ℕ) (line : List ℕ) (ws : List Span) (e : Emission) → Lacks 10 line → Has (map (word_emission keep_case line) ws) e → IsPairOf (WordCount keep_case) file start e.0 e.1
-words-pairs keep_case file start line [] e clear h = absurd h
-words-pairs keep_case file start line (w ∷ ws) e clear (inl is) =
-    let here : IsPairOf (WordCount keep_case) file start (word_key keep_case (span_bytes line w)) One =
-    record { clear = Lacks-word keep_case (span_bytes line w) (Lacks-take 10 (w.end - w.start) (drop w.start line) (Lacks-drop 10 w.start line clear)); value_is = refl } in
-    subst (λ (f : Emission). IsPairOf (WordCount keep_case) file start f.0 f.1) is here
-words-pairs keep_case file start line (w ∷ ws) e clear (inr h) = words-pairs keep_case file start line ws e clear h
+-- each word has a key without a line feed, and the value that all words of the line have
+words-pairs : (job : JobSpec) (file start : ℕ) (value : Value) (keep_case : Bool) (line : List ℕ) (ws : List Span) (e : Emission) → Lacks 10 line
+    → IsValueOf job file start value → Has (map (word_emission value keep_case line) ws) e → IsPairOf job file start e.0 e.1
+words-pairs job file start value keep_case line [] e clear v h = absurd h
+words-pairs job file start value keep_case line (w ∷ ws) e clear v (inl is) =
+    let here : IsPairOf job file start (word_key keep_case (span_bytes line w)) value =
+    record { clear = Lacks-word keep_case (span_bytes line w) (Lacks-take 10 (w.end - w.start) (drop w.start line) (Lacks-drop 10 w.start line clear)); value_is = v } in
+    subst (λ (f : Emission). IsPairOf job file start f.0 f.1) is here
+words-pairs job file start value keep_case line (w ∷ ws) e clear v (inr h) = words-pairs job file start value keep_case line ws e clear v h
 
 url-clear : (line key : List ℕ) → Lacks 10 line → url_of line ≡ Some key → Lacks 10 key
 url-clear line key clear is =
@@ -87,7 +90,7 @@ url-clear line key clear is =
     Lacks-front 10 key p.after (Lacks-behind 10 p.before (32 ∷ (key ++ p.after)) (subst (Lacks 10) p.request_is request)).1
 
 emission-pairs : (job : JobSpec) (file start : ℕ) (line : List ℕ) (e : Emission) → Lacks 10 line → Has (emissions job file start line) e → IsPairOf job file start e.0 e.1
-emission-pairs (WordCount keep_case) file start line e clear h = words-pairs keep_case file start line (word_spans line) e clear h
+emission-pairs (WordCount keep_case) file start line e clear h = words-pairs (WordCount keep_case) file start One keep_case line (word_spans line) e clear refl h
 emission-pairs (LinesWith literal fold) file start line e clear h = by (holds fold line literal) h
   where
     by : (b : Bool) → Has (cond b ((line, At file start) ∷ []) []) e → IsPairOf (LinesWith literal fold) file start e.0 e.1
@@ -100,6 +103,8 @@ emission-pairs Resources file start line e clear h = by (url_of line) refl h
     by None is none = absurd none
     by (Some key) is (inl at) = subst (λ (f : Emission). IsPairOf Resources file start f.0 f.1) at (record { clear = url-clear line key clear is; value_is = refl })
     by (Some key) is (inr none) = absurd none
+emission-pairs (InvertedIndex keep_case) file start line e clear h =
+    words-pairs (InvertedIndex keep_case) file start (At file start) keep_case line (word_spans line) e clear refl h
 
 placed-from : (name : RecordName) (place : ℕ) (es : List Emission) (t : Triple) → Has (placed_from name place es) t → (e : Emission) × Has es e × (e.0 ≡ t.key) × (e.1 ≡ t.value)
 unfolding placed_from
@@ -148,6 +153,7 @@ abbrev pub IsCounted : JobSpec → Value → Type 0
 IsCounted (WordCount keep_case) v = v ≡ One
 IsCounted (LinesWith literal fold) v = (file : ℕ) × (offset : ℕ) × (file < 2 ^ 64) × (offset < 2 ^ 64) × (v ≡ At file offset)
 IsCounted Resources v = v ≡ One
+IsCounted (InvertedIndex keep_case) v = (file : ℕ) × (offset : ℕ) × (file < 2 ^ 64) × (offset < 2 ^ 64) × (v ≡ At file offset)
 
 pub record IsFinePair (job : JobSpec) (t : Triple) : Type 0 where
   pub clear : Lacks 10 t.key
@@ -157,6 +163,7 @@ counted : (job : JobSpec) (file start : ℕ) (v : Value) → file < 2 ^ 64 → s
 counted (WordCount keep_case) file start v f s is = is
 counted (LinesWith literal fold) file start v f s is = (file, start, f, s, is)
 counted Resources file start v f s is = is
+counted (InvertedIndex keep_case) file start v f s is = (file, start, f, s, is)
 
 record-pairs : (job : JobSpec) (skips : List RecordName) (r : NamedRecord) (t : Triple) → IsFineRecord r → Has (record_triples job skips r) t → IsFinePair job t
 record-pairs job skips r t fine h = by (is_left_out skips r.name) h

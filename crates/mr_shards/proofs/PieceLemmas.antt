@@ -1,6 +1,6 @@
 -- Pieces that are cut off windows, one by one.
 use Rattle.std.proofs.Common.{◌≡◌, ℕ, zero, suc, ◌+◌, ◌<◌, ◌≤◌, ◌++◌, List, [], ◌∷◌, length, take, drop, get_or, refl, ap, sym, ◌∙◌, arith, append_assoc, map}
-use Rattle.std.proofs.lemmas.List.{append-nil, drop_all, drop_more, length-take-le}
+use Rattle.std.proofs.lemmas.List.{drop_all, drop_more, length-take-le}
 use Rattle.mr_shards.specs.declared.window.Held.{Held}
 use Rattle.mr_shards.specs.declared.window.Window.{Window}
 use Rattle.std.proofs.Common.{None}

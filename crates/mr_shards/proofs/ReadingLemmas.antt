@@ -9,7 +9,7 @@ use Rattle.std.specs.Int.{IsInRange}
 use Rattle.std.specs.List.{flat_map}
 use Rattle.std.specs.Str.Parse.{AllDigits, digits_value}
 use Rattle.mr_bytes.specs.declared.Value.TheVariants.{One, At}
-use Rattle.mr_jobs.specs.JobSpec.{JobSpec, WordCount, LinesWith, Resources}
+use Rattle.mr_jobs.specs.JobSpec.{JobSpec, WordCount, LinesWith, Resources, InvertedIndex}
 use Rattle.mr_bytes.specs.Cut.{Lacks}
 use Rattle.mr_jobs.specs.Url.{before_byte}
 use Rattle.mr_reduce.specs.Text.{total_line, place_line}
@@ -139,6 +139,7 @@ line-read (LinesWith literal fold) g rest h =
 line-read Resources g rest h =
     total-read Resources g.key (length g.values) rest h.0 h.1
     ∙ (let same = ap (λ n. replicate n One) (value-of (length g.values) h.1) ∙ sym h.2 in λ i. record { key = g.key; values = same i } ∷ groups_in Resources rest)
+line-read (InvertedIndex keep_case) g rest h = absurd h
 
 pub one_reading : OneReading
 one_reading job [] all = ap (map (group_in job)) lines-none

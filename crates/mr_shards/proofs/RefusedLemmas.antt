@@ -6,7 +6,7 @@ use Rattle.std.proofs.lemmas.List.{append_assoc, append-nil, append_cancel_left,
 use Rattle.std.specs.Prelude.{IfErr}
 use Rattle.std.specs.List.{AllByRecursion}
 use Rattle.mr_bytes.specs.declared.Value.TheVariants.{One}
-use Rattle.mr_jobs.specs.JobSpec.{JobSpec, WordCount, LinesWith, Resources}
+use Rattle.mr_jobs.specs.JobSpec.{JobSpec, WordCount, LinesWith, Resources, InvertedIndex}
 use Rattle.mr_bytes.specs.Cut.{Lacks}
 use Rattle.mr_shards.specs.declared.cursor.Cursor.{Cursor}
 use Rattle.mr_shards.specs.declared.fault.MergeFault.{MergeFault}
@@ -36,6 +36,7 @@ has-line Resources g (Total n) told clear is e =
     let l : length g.values ≡ n = ap length e ∙ length-replicate n One in
     (clear, omega (arith, l, is.1), e ∙ ap (λ k. replicate k One) (sym l))
 has-line Resources g (Place file offset) told clear is e = absurd is
+has-line (InvertedIndex keep_case) g t told clear is e = absurd is
 
 pub have-lines : (job : JobSpec) (gs : List Group) → AllByRecursion (IsLineOf job) gs → AllByRecursion (HasLine job) gs
 have-lines job [] all = tt

@@ -101,7 +101,7 @@ adds-whole job m hs ws cuts out out' same last are p =
           record {
             text_is = ap (λ (cs : List ℕ). text_taken job (taken_on cs rs)) are ∙ text;
             after = λ more. absurd (opposite (are_last ws) last more);
-            whole = λ _. record { stands = w.stands; text_is = all; whole = output-of_all job (outputs_of rs) (text_taken job rs ++ added) all };
+            whole = λ _. record { stands = w.stands; text_is = all; whole = output-of_all job (outputs_of rs) (text_taken job rs ++ added) w.stands all };
           });
     }
 

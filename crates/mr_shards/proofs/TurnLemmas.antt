@@ -209,6 +209,7 @@ woven_in job os = woven_parts (counts job) (parts_in job os)
 
 pub record Sums (job : JobSpec) (b : Option Bound) (rs : List Reading) (cs : List ℕ) (os : List Output) : Type 0 where
   pub woven_is : woven_taken job (taken_on cs rs) ≡ woven_taken job rs ++ woven_in job os
+  pub parts_read : AllByRecursion (IsRead job) (map (part_taken job) (taken_on cs rs))
   pub low : Low b (woven_taken job rs)
   pub high : High (strict b) (woven_in job os)
 
@@ -224,19 +225,21 @@ sum-more job b gs hs new xs ys all files files' suits e s same lg hh lx hy =
     (all-moved (IsBefore (next_bound b)) files xs lx) (all-moved (λ k. IsBefore (strict b) k → ⊥) files ys hy)
     ∙ ap (λ k. woven (counts job) gs (map (moved_group files) xs) ++ woven (counts job) hs (map (moved_group k) ys)) (sym same)
 
-read-taken : (job : JobSpec) (rs : List Reading) → AllByRecursion (IsRead job) (map (part_taken job) rs)
-read-taken job [] = tt
-read-taken job (r ∷ rs) = ((front r, refl), read-taken job rs)
+read-taken : (job : JobSpec) (b : Option Bound) (hs : List Held) (rs : List Reading) → AreTaken job b hs rs → AllByRecursion (IsRead job) (map (part_taken job) rs)
+read-taken job b [] [] t = tt
+read-taken job b [] (r ∷ rs) t = absurd t
+read-taken job b (h ∷ hs) [] t = absurd t
+read-taken job b (h ∷ hs) (r ∷ rs) t = ((front r, t.0.stands, refl), read-taken job (next_bound b) hs rs t.1)
 
-read-in : (job : JobSpec) (os : List Output) → AllByRecursion (IsRead job) (parts_in job os)
-read-in job [] = tt
-read-in job (o ∷ os) = ((o.text.now, refl), read-in job os)
+read-in : (job : JobSpec) (os : List Output) → AllStand job os → AllByRecursion (IsRead job) (parts_in job os)
+read-in job [] all = tt
+read-in job (o ∷ os) all = ((o.text.now, all.0, refl), read-in job os all.1)
 
 module _ (job : JobSpec) where
   pub sums : (b : Option Bound) (hs : List Held) (rs : List Reading) (ws : List Window) (cs : List ℕ) (os : List Output) → AreTaken job b hs rs
       → AreWindows rs ws → AreWithin cs ws
       → map told os ≡ pieces_of hs ws cs → AllStand job os → Sums job b rs cs os
-  sums b [] [] [] [] [] t v fits e all = record { woven_is = refl; low = tt; high = tt }
+  sums b [] [] [] [] [] t v fits e all = record { woven_is = refl; parts_read = tt; low = tt; high = tt }
   sums b [] [] [] [] (o ∷ os) t v fits e all = absurd (cc e)
   sums b [] [] [] (c ∷ cs) os t v fits e all = absurd fits
   sums b [] [] (w ∷ ws) cs os t v fits e all = absurd v
@@ -254,6 +257,7 @@ module _ (job : JobSpec) where
       record {
         woven_is = sum-more job b (groups_in job (front r)) (groups_in job o.text.now) (groups_in job (front (on r c))) xs ys
             (woven_taken job (taken_on cs rs)) r.output.files o.files t.0.together g.groups s.woven_is g.files g.low g.high s.low high;
+        parts_read = ((front (on r c), g.stands_on, refl), s.parts_read);
         low = woven-all (counts job) (IsBefore b) (groups_in job (front r)) (map (moved_group r.output.files) xs) g.low
             (all-moved (IsBefore b) r.output.files xs (all-map (IsBefore (next_bound b)) (IsBefore b) (keys xs) (λ k low. next-before b k low) s.low));
         high = woven-all (counts job) (λ k. IsBefore (strict b) k → ⊥) (groups_in job o.text.now) (map (moved_group o.files) ys)
@@ -266,11 +270,12 @@ module _ (job : JobSpec) where
       → map told os ≡ pieces_of hs ws cs → AllStand job os
       → text_taken job (taken_on cs rs) ≡ text_taken job rs ++ texts job (merged_parts (parts_in job os))
   text-on b hs rs ws cs os t v fits e all =
-      woven-text job (map (part_taken job) (taken_on cs rs)) (read-taken job (taken_on cs rs))
-      ∙ ap (texts job) (sums b hs rs ws cs os t v fits e all).woven_is
+      let s = sums b hs rs ws cs os t v fits e all in
+      woven-text job (map (part_taken job) (taken_on cs rs)) s.parts_read
+      ∙ ap (texts job) s.woven_is
       ∙ flat_map-append (group_text job) (woven_taken job rs) (woven_in job os)
-      ∙ ap (λ (l : List ℕ). l ++ texts job (woven_in job os)) (sym (woven-text job (map (part_taken job) rs) (read-taken job rs)))
-      ∙ ap (λ (l : List ℕ). text_taken job rs ++ l) (sym (woven-text job (parts_in job os) (read-in job os)))
+      ∙ ap (λ (l : List ℕ). l ++ texts job (woven_in job os)) (sym (woven-text job (map (part_taken job) rs) (read-taken job b hs rs t)))
+      ∙ ap (λ (l : List ℕ). text_taken job rs ++ l) (sym (woven-text job (parts_in job os) (read-in job os all)))
 
   pub after-place : (b : Option Bound) (p : Bound) (hs : List Held) (rs : List Reading) (ws : List Window) (os : List Output) → is_past b p ≡ true
       → Suits job (Some p)

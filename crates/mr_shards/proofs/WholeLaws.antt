@@ -1,5 +1,5 @@
 -- What the outputs of the sequential execution are read as, and that merged they are the output of the whole.
-use Rattle.std.proofs.Common.{◌≡◌, ℕ, suc, ◌<◌, ◌≤◌, ◌^◌, ◌++◌, List, [], ◌∷◌, length, refl, ap, sym, ◌∙◌, subst, inl, inr, ◌⊎◌, arith, Bool, true, false, cond, map, replicate}
+use Rattle.std.proofs.Common.{◌≡◌, ℕ, suc, ◌<◌, ◌≤◌, ◌^◌, ◌++◌, List, [], ◌∷◌, length, refl, ap, sym, ◌∙◌, subst, inl, inr, ◌⊎◌, arith, Bool, true, false, cond, map, replicate, None}
 use Rattle.std.proofs.lemmas.List.{append-nil}
 use Rattle.std.specs.List.{AllByRecursion, flat_map}
 use Rattle.std.specs.Str.{bytes_eq}
@@ -7,7 +7,7 @@ use Rattle.mr_bytes.specs.declared.Value.{Value}
 use Rattle.mr_bytes.specs.declared.Value.TheVariants.{One}
 use Rattle.mr_bytes.specs.Lists.{Has, Rises}
 use Rattle.mr_bytes.specs.Order.{key_order}
-use Rattle.mr_jobs.specs.JobSpec.{JobSpec, RequestSpec, WordCount, LinesWith, Resources}
+use Rattle.mr_jobs.specs.JobSpec.{JobSpec, RequestSpec, WordCount, LinesWith, Resources, InvertedIndex}
 use Rattle.mr_bytes.specs.Cut.{Lacks}
 use Rattle.mr_partition.specs.Partition.{partition_of}
 use Rattle.mr_reduce.specs.Text.{place_line}
@@ -19,12 +19,14 @@ use Rattle.mr_bytes.proofs.ListLaws.{all_from_Has, Has-map_from}
 use Rattle.mr_sequential.proofs.SourceLemmas.{flat_map-append}
 use Rattle.mr_shards.specs.declared.merge.Output.{Output}
 use Rattle.mr_shards.specs.Merged.{Group, group_for, group_text, texts, with_group, merged, Part, merged_parts, moved_group}
-use Rattle.mr_shards.specs.Lines.{HasLine, groups_in}
+use Rattle.mr_shards.specs.Lines.{CanMerge, HasLine, groups_in}
+use Rattle.mr_shards.specs.Refused.{IsRest}
 use Rattle.mr_shards.specs.Shards.{Shard, part_of, SkipsExist}
 use Rattle.mr_shards.specs.Outputs.{parts_in, moved_parts, IsJudged, AreOutputsOf, IsOutputOfAll}
 use Rattle.mr_shards.proofs.MergedLaws.{keys}
 use Rattle.mr_shards.proofs.MergeLemmas.{merged_all-rise, with_group-joined, parts-moved, groups-rise-merged}
 use Rattle.mr_shards.proofs.PairLemmas.{IsFinePair, IsCounted, pairs-fine}
+use Rattle.mr_shards.proofs.IndexLemmas.{no-lines}
 use Rattle.mr_shards.proofs.ReadingLemmas.{one_reading}
 use Rattle.mr_shards.proofs.ShardLaws.{outputs_are_texts, merged_are_sequential}
 
@@ -101,6 +103,7 @@ pub lines_of : JobSpec → List Group → List Group
 lines_of (WordCount keep_case) gs = gs
 lines_of (LinesWith literal fold) gs = flat_map (λ (g : Group). one-each g.key g.values) gs
 lines_of Resources gs = gs
+lines_of (InvertedIndex keep_case) gs = gs
 
 each-text : (literal : List ℕ) (fold : Bool) (k : List ℕ) (vs : List Value) → texts (LinesWith literal fold) (one-each k vs) ≡ flat_map (place_line k) vs
 unfolding one-each
@@ -120,6 +123,7 @@ unfolding lines_of
 lines-text (WordCount keep_case) gs = refl
 lines-text (LinesWith literal fold) gs = all-texts literal fold gs
 lines-text Resources gs = refl
+lines-text (InvertedIndex keep_case) gs = refl
 
 each-line : (literal : List ℕ) (fold : Bool) (k : List ℕ) (vs : List Value) → Lacks 10 k → AllByRecursion (IsCounted (LinesWith literal fold)) vs → AllByRecursion (HasLine (LinesWith literal fold)) (one-each k vs)
 unfolding one-each
@@ -145,15 +149,24 @@ url-lines : (gs : List Group) → AllByRecursion (IsFineGroup Resources) gs → 
 url-lines [] all = tt
 url-lines (g ∷ gs) all = ((all.0.clear, all.0.few, ones g.values all.0.values), url-lines gs all.1)
 
-have-lines : (job : JobSpec) (gs : List Group) → AllByRecursion (IsFineGroup job) gs → AllByRecursion (HasLine job) (lines_of job gs)
+have-lines : (job : JobSpec) (gs : List Group) → CanMerge job → AllByRecursion (IsFineGroup job) gs → AllByRecursion (HasLine job) (lines_of job gs)
 unfolding lines_of
-have-lines (WordCount keep_case) gs all = word-lines keep_case gs all
-have-lines (LinesWith literal fold) gs all = place-lines literal fold gs all
-have-lines Resources gs all = url-lines gs all
+have-lines (WordCount keep_case) gs can all = word-lines keep_case gs all
+have-lines (LinesWith literal fold) gs can all = place-lines literal fold gs all
+have-lines Resources gs can all = url-lines gs all
+have-lines (InvertedIndex keep_case) gs can all = absurd can
 
 -- the text of groups is read as their lines
-pub lines-read : (job : JobSpec) (gs : List Group) → AllByRecursion (IsFineGroup job) gs → groups_in job (texts job gs) ≡ lines_of job gs
-lines-read job gs all = ap (groups_in job) (sym (lines-text job gs)) ∙ one_reading job (lines_of job gs) (have-lines job gs all)
+lines-back : (job : JobSpec) (gs : List Group) → CanMerge job → AllByRecursion (IsFineGroup job) gs → groups_in job (texts job gs) ≡ lines_of job gs
+lines-back job gs can all = ap (groups_in job) (sym (lines-text job gs)) ∙ one_reading job (lines_of job gs) (have-lines job gs can all)
+
+-- and that of an index, where it is one of lines that are read
+pub lines-read : (job : JobSpec) (gs : List Group) → AllByRecursion (IsFineGroup job) gs → IsRest job None (texts job gs) → groups_in job (texts job gs) ≡ lines_of job gs
+unfolding lines_of
+lines-read (WordCount keep_case) gs all r = lines-back (WordCount keep_case) gs tt all
+lines-read (LinesWith literal fold) gs all r = lines-back (LinesWith literal fold) gs tt all
+lines-read Resources gs all r = lines-back Resources gs tt all
+lines-read (InvertedIndex keep_case) gs all r = no-lines keep_case gs r
 
 -- ---- lines merge as their groups do
 
@@ -189,34 +202,39 @@ unfolding lines_of
 merged-lines (WordCount keep_case) gs hs all rise = refl
 merged-lines (LinesWith literal fold) gs hs all rise = merged-places (LinesWith literal fold) gs hs all rise
 merged-lines Resources gs hs all rise = refl
+merged-lines (InvertedIndex keep_case) gs hs all rise = refl
 
 -- ---- the whole
 
 pub moved-rise : (n : ℕ) (parts : List Part) → Rises key_order (keys (map (moved_group n) (merged_parts parts)))
 moved-rise n parts = subst (λ (gs : List Group). Rises key_order (keys gs)) (sym (parts-moved n parts)) (merged_all-rise (moved_parts n parts))
 
-parts-whole : (request : RequestSpec) (shards : List Shard) (p : ℕ) (os : List Output) → 0 < request.split → AllByRecursion (IsJudged request) shards → AreOutputsOf request p shards os
+parts-whole : (request : RequestSpec) (shards : List Shard) (p : ℕ) (os : List Output) → 0 < request.split
+    → AllByRecursion (λ (o : Output). IsRest request.job None o.text.now) os → AllByRecursion (IsJudged request) shards → AreOutputsOf request p shards os
     → merged_parts (parts_in request.job os) ≡ merged_parts (map (part_of request p) shards)
-parts-whole request [] p [] some judged outs = refl
-parts-whole request [] p (o ∷ os) some judged outs = absurd outs
-parts-whole request (s ∷ ss) p [] some judged outs = absurd outs
-parts-whole request (s ∷ ss) p (o ∷ os) some judged outs =
+parts-whole request [] p [] some stands judged outs = refl
+parts-whole request [] p (o ∷ os) some stands judged outs = absurd outs
+parts-whole request (s ∷ ss) p [] some stands judged outs = absurd outs
+parts-whole request (s ∷ ss) p (o ∷ os) some stands judged outs =
     let job : JobSpec = request.job in
     let gs : List Group = (part_of request p s).groups in
     let fine = groups-fine request s p some judged.0 in
-    let read : groups_in job o.text.now ≡ lines_of job gs = ap (groups_in job) (outs.1 ∙ outputs_are_texts request p s) ∙ lines-read job gs fine in
+    let text : o.text.now ≡ texts job gs = outs.1 ∙ outputs_are_texts request p s in
+    let read : groups_in job o.text.now ≡ lines_of job gs = ap (groups_in job) text ∙ lines-read job gs fine (subst (IsRest job None) text stands.0) in
     let rest : List Group = map (moved_group (length s.files)) (merged_parts (map (part_of request p) ss)) in
     ap (λ (n : ℕ). merged (groups_in job o.text.now) (map (moved_group n) (merged_parts (parts_in job os)))) outs.0
     ∙ ap (λ (l : List Group). merged l (map (moved_group (length s.files)) (merged_parts (parts_in job os)))) read
-    ∙ ap (λ (l : List Group). merged (lines_of job gs) (map (moved_group (length s.files)) l)) (parts-whole request ss p os some judged.1 outs.2)
+    ∙ ap (λ (l : List Group). merged (lines_of job gs) (map (moved_group (length s.files)) l)) (parts-whole request ss p os some stands.1 judged.1 outs.2)
     ∙ merged-lines job gs rest fine (moved-rise (length s.files) (map (part_of request p) ss))
 
 skips-judged : (request : RequestSpec) (shards : List Shard) → AllByRecursion (IsJudged request) shards → AllByRecursion (λ (s : Shard). SkipsExist request.split s.files s.skips) shards
 skips-judged request [] all = tt
 skips-judged request (s ∷ ss) all = (all.0.skips_exist, skips-judged request ss all.1)
 
-pub output-of_all : (job : JobSpec) (outputs : List Output) (text : List ℕ) → text ≡ texts job (merged_parts (parts_in job outputs)) → IsOutputOfAll job outputs text
-output-of_all job outputs text is request shards p same some judged outs =
+pub output-of_all : (job : JobSpec) (outputs : List Output) (text : List ℕ) → AllByRecursion (λ (o : Output). IsRest job None o.text.now) outputs
+    → text ≡ texts job (merged_parts (parts_in job outputs)) → IsOutputOfAll job outputs text
+output-of_all job outputs text stands is request shards p same some judged outs =
+    let stand = subst (λ (t : JobSpec). AllByRecursion (λ (o : Output). IsRest t None o.text.now) outputs) same stands in
     is ∙ ap (λ (t : JobSpec). texts t (merged_parts (parts_in t outputs))) same
-    ∙ ap (texts request.job) (parts-whole request shards p outputs some judged outs)
+    ∙ ap (texts request.job) (parts-whole request shards p outputs some stand judged outs)
     ∙ merged_are_sequential request shards p some (skips-judged request shards judged)

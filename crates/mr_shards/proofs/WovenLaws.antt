@@ -1,5 +1,5 @@
 -- Lines of parts, merged without joining those of one key where they tell places: their text is that of the merged groups.
-use Rattle.std.proofs.Common.{◌≡◌, ℕ, ◌++◌, List, [], ◌∷◌, refl, ap, sym, ◌∙◌, subst, Bool, true, false, cond, map, append_assoc}
+use Rattle.std.proofs.Common.{◌≡◌, ℕ, ◌++◌, List, [], ◌∷◌, refl, ap, sym, ◌∙◌, subst, Bool, true, false, cond, map, append_assoc, None}
 use Rattle.std.proofs.lemmas.List.{map-append}
 use Rattle.std.proofs.lemmas.Cmp.{nat_list_cmp_total, tied_itself}
 use Rattle.std.specs.List.{AllByRecursion, flat_map}
@@ -9,10 +9,12 @@ use Rattle.std.specs.declared.cmp.Ordering.TheVariants.{Less, Equal, Greater}
 use Rattle.mr_bytes.specs.declared.Value.{Value}
 use Rattle.mr_bytes.specs.Lists.{Rises}
 use Rattle.mr_bytes.specs.Order.{key_order}
-use Rattle.mr_jobs.specs.JobSpec.{JobSpec, WordCount, LinesWith, Resources, counts}
+use Rattle.mr_jobs.specs.JobSpec.{JobSpec, WordCount, LinesWith, Resources, InvertedIndex, counts}
 use Rattle.mr_sequential.proofs.KeyLaws.{key_tie}
 use Rattle.mr_shards.specs.Merged.{Group, Part, joined, merged, merged_parts, moved_group, moved_value, texts, with_group}
 use Rattle.mr_shards.specs.Lines.{group_in, groups_in, lines}
+use Rattle.mr_shards.specs.Refused.{IsRest}
+use Rattle.mr_shards.proofs.IndexLemmas.{rest-no_groups}
 use Rattle.mr_shards.proofs.MergedLaws.{keys, merged-rise}
 use Rattle.mr_shards.proofs.StepLemmas.{NotLess, all-map, not_less-itself, turned}
 use Rattle.mr_shards.proofs.PlaceLemmas.{not-back}
@@ -215,9 +217,9 @@ each-parts (a ∷ rest) all =
 
 -- ---- the text of parts that are read
 
--- the groups are those of the lines of a text
+-- the groups are those of a text of lines of the job
 abbrev pub IsRead : JobSpec → Part → Type 0
-IsRead job p = (text : List ℕ) × (p.groups ≡ groups_in job text)
+IsRead job p = (text : List ℕ) × IsRest job None text × (p.groups ≡ groups_in job text)
 
 each-lines : (literal : List ℕ) (fold : Bool) (ls : List (List ℕ))
     → each (map (group_in (LinesWith literal fold)) ls) ≡ map (group_in (LinesWith literal fold)) ls
@@ -229,12 +231,32 @@ each-read : (literal : List ℕ) (fold : Bool) (ps : List Part) → AllByRecursi
     → AllByRecursion (λ (p : Part). each p.groups ≡ p.groups) ps
 each-read literal fold [] all = tt
 each-read literal fold (p ∷ ps) all = (
-  ap each all.0.1 ∙ each-lines literal fold (lines all.0.0) ∙ sym all.0.1,
+  ap each all.0.2 ∙ each-lines literal fold (lines all.0.0) ∙ sym all.0.2,
   each-read literal fold ps all.1,
 )
+
+-- of an index no groups are read, so there are none together
+none-read : (keep_case : Bool) (ps : List Part) → AllByRecursion (IsRead (InvertedIndex keep_case)) ps → AllByRecursion (λ (p : Part). p.groups ≡ []) ps
+none-read keep_case [] all = tt
+none-read keep_case (p ∷ ps) all = (all.0.2 ∙ rest-no_groups keep_case all.0.0 all.0.1, none-read keep_case ps all.1)
+
+none-merged : (ps : List Part) → AllByRecursion (λ (p : Part). p.groups ≡ []) ps → merged_parts ps ≡ []
+none-merged [] all = refl
+none-merged (p ∷ ps) all =
+    let rest = none-merged ps all.1 in
+    λ i. merged (all.0 i) (map (moved_group p.files) (rest i))
+
+none-woven : (joins : Bool) (ps : List Part) → AllByRecursion (λ (p : Part). p.groups ≡ []) ps → woven_parts joins ps ≡ []
+none-woven joins [] all = refl
+none-woven joins (p ∷ ps) all =
+    let rest = none-woven joins ps all.1 in
+    λ i. woven joins (all.0 i) (map (moved_group p.files) (rest i))
 
 pub woven-text : (job : JobSpec) (ps : List Part) → AllByRecursion (IsRead job) ps → texts job (merged_parts ps) ≡ texts job (woven_parts (counts job) ps)
 woven-text (WordCount keep_case) ps all = ap (texts (WordCount keep_case)) (parts-joined ps)
 woven-text (LinesWith literal fold) ps all =
     sym (all-texts literal fold (merged_parts ps)) ∙ ap (texts (LinesWith literal fold)) (each-parts ps (each-read literal fold ps all))
 woven-text Resources ps all = ap (texts Resources) (parts-joined ps)
+woven-text (InvertedIndex keep_case) ps all =
+    let none = none-read keep_case ps all in
+    ap (texts (InvertedIndex keep_case)) (none-merged ps none ∙ sym (none-woven false ps none))

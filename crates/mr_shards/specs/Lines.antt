@@ -6,7 +6,7 @@ use Rattle.std.specs.declared.cmp.Ordering.TheVariants.{Less}
 use Rattle.mr_bytes.specs.declared.Value.{Value}
 use Rattle.mr_bytes.specs.declared.Value.TheVariants.{One, At}
 use Rattle.mr_bytes.specs.Order.{key_order}
-use Rattle.mr_jobs.specs.JobSpec.{JobSpec, WordCount, LinesWith, Resources}
+use Rattle.mr_jobs.specs.JobSpec.{JobSpec, WordCount, LinesWith, Resources, InvertedIndex}
 use Rattle.mr_bytes.specs.Cut.{Lacks}
 use Rattle.mr_jobs.specs.Url.{before_byte}
 use Rattle.mr_shards.specs.Merged.{Group, texts}
@@ -38,11 +38,19 @@ unfoldable pub after_first : ℕ → List ℕ → List ℕ
 after_first b [] = []
 after_first b (x ∷ xs) = if x == b then xs else after_first b xs
 
--- the values that a line tells behind its last tab: so many, or a place
+-- outputs of shards of the job are merged line by line; a line of an index tells several files at once, and is joined with no other
+abbrev pub CanMerge : JobSpec → Type 0
+CanMerge (WordCount keep_case) = Unit {0}
+CanMerge (LinesWith literal fold) = Unit {0}
+CanMerge Resources = Unit {0}
+CanMerge (InvertedIndex keep_case) = ⊥
+
+-- the values that a line tells behind its last tab: so many, or a place; a line of an index is not read
 abbrev pub values_in : JobSpec → List ℕ → List Value
 values_in (WordCount keep_case) told = replicate (digits_value 10 told) One
 values_in (LinesWith literal fold) told = At (digits_value 10 (before_byte 58 told)) (digits_value 10 (after_first 58 told)) ∷ []
 values_in Resources told = replicate (digits_value 10 told) One
+values_in (InvertedIndex keep_case) told = []
 
 -- the group that a line tells
 abbrev pub group_in : JobSpec → List ℕ → Group
@@ -52,11 +60,12 @@ group_in job line = record { key = before_last 9 line; values = values_in job (a
 abbrev pub groups_in : JobSpec → List ℕ → List Group
 groups_in job text = map (group_in job) (lines text)
 
--- no line feed in the key, and a number that fits in 64 bits, or a place
+-- no line feed in the key, and a number that fits in 64 bits, or a place; no line of an index is read back
 abbrev pub HasLine : JobSpec → Group → Type 0
 HasLine (WordCount keep_case) g = Lacks 10 g.key × (length g.values < 2 ^ 64) × (g.values ≡ replicate (length g.values) One)
 HasLine (LinesWith literal fold) g = Lacks 10 g.key × ((file : ℕ) × (offset : ℕ) × (file < 2 ^ 64) × (offset < 2 ^ 64) × (g.values ≡ At file offset ∷ []))
 HasLine Resources g = Lacks 10 g.key × (length g.values < 2 ^ 64) × (g.values ≡ replicate (length g.values) One)
+HasLine (InvertedIndex keep_case) g = ⊥
 
 -- no key is before an earlier one
 abbrev pub NoneFalls : List Group → Type 0

@@ -2,7 +2,7 @@
 use Rattle.std.specs.Prelude.{◌≡◌, ◌⊎◌, ℕ, ◌<◌, ◌^◌, List, [], ◌∷◌, ◌++◌, Option, None, Some, replicate, decimal}
 use Rattle.mr_bytes.specs.declared.Value.{Value}
 use Rattle.mr_bytes.specs.declared.Value.TheVariants.{One, At}
-use Rattle.mr_jobs.specs.JobSpec.{JobSpec, WordCount, LinesWith, Resources}
+use Rattle.mr_jobs.specs.JobSpec.{JobSpec, WordCount, LinesWith, Resources, InvertedIndex}
 use Rattle.mr_bytes.specs.Cut.{Lacks}
 use Rattle.mr_shards.specs.declared.line.Line.{Line}
 use Rattle.mr_shards.specs.declared.line.Tally.{Tally}
@@ -30,6 +30,7 @@ IsTold (LinesWith literal fold) (Total n) told = ⊥
 IsTold (LinesWith literal fold) (Place file offset) told = (told ≡ decimal file ++ 58 ∷ decimal offset) × (file < 2 ^ 32) × (offset < 2 ^ 64)
 IsTold Resources (Total n) told = (told ≡ decimal n) × (n < 2 ^ 64)
 IsTold Resources (Place file offset) told = ⊥
+IsTold (InvertedIndex keep_case) tally told = ⊥
 
 -- the text begins with a line of the job
 pub record BeginsWithLine (job : JobSpec) (text : List ℕ) : Type 0 where
@@ -49,6 +50,7 @@ IsFor (LinesWith literal fold) (Total n) = ⊥
 IsFor (LinesWith literal fold) (Place file offset) = Unit {0}
 IsFor Resources (Total n) = Unit {0}
 IsFor Resources (Place file offset) = ⊥
+IsFor (InvertedIndex keep_case) tally = ⊥
 
 abbrev pub IsPlace : Tally → Type 0
 IsPlace (Total n) = ⊥

@@ -1,4 +1,5 @@
-//! Shards: an input whose files are judged a list at a time, and whose outputs are merged to those of the whole.
+//! Shards: an input whose files are judged a list at a time, and whose outputs are merged to those of the whole. Those of
+//! an index are not: each of its lines tells several files at once, and the merge takes a line as one total or one place.
 #![tactic(auto)]
 
 mod cursor;

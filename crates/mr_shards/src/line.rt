@@ -136,7 +136,7 @@ fn place_of(told: &[u8]) -> Option<(u32, u64)>
     Some((file, offset))
 }
 
-/// What a line tells behind its key.
+/// What a line tells behind its key. A line of an index, which tells several files at once, is not read.
 fn tally_of(job: &Job, told: &[u8]) -> Option<Tally>
     ensures { MatchOption result ((t : Tally) → IsTold job.now t told.now → ⊥) (λ t. IsTold job.now t told.now) }
 {
@@ -145,11 +145,13 @@ fn tally_of(job: &Job, told: &[u8]) -> Option<Tally>
             Some(total) => Some(Tally::Total(total)),
             None => None,
         }
-    } else {
+    } else if job.has_lines() {
         match place_of(told) {
             Some((file, offset)) => Some(Tally::Place { file, offset }),
             None => None,
         }
+    } else {
+        None
     }
 }
 
@@ -232,8 +234,11 @@ pub(crate) fn put(job: &Job, line: Line<'_>, out: &mut Vec<u8>) -> Result<(), Al
 {
     match line.tally {
         Tally::Total(total) => {
+            // A job that doesn't count writes the same for values without a place as for none.
             if job.counts() {
                 total_text(line.key, total, out)?;
+            } else {
+                group_text(job, line.key, &[], out)?;
             }
         }
         Tally::Place { file, offset } => {

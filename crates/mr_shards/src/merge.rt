@@ -121,7 +121,7 @@ fn merge_lines<'a>(
 }
 
 /// The outputs that shards have for one partition, in the order of the shards, merged to that of the whole. It is
-/// refused where an output isn't lines of the job with keys in their order.
+/// refused where an output isn't lines of the job with keys in their order; any line of an index is refused.
 pub fn merge_parts(alloc: Global, job: &Job, outputs: &[Output<'_>]) -> Result<Vec<u8>, MergeFault>
     ensures stands { IfOk result (λ _. AllByRecursion (λ o. IsRest job.now None o.text.now) outputs.now) }
     ensures merged { IfOk result (λ out. out.items ≡ texts job.now (merged_parts (parts_in job.now outputs.now))) }

@@ -8,6 +8,7 @@ use Rattle.mr_input.specs.Files.{nth_file}
 use Rattle.mr_jobs.specs.JobSpec.{JobFits, JobSpec, PartsFit, RequestSpec, SplitFits, job_flags, job_literal, job_number}
 use Rattle.mr_sequential.specs.Emitted.{emitted}
 use Rattle.mr_sequential.specs.Sequential.{sequential}
+use Rattle.mr_shards.specs.Lines.{CanMerge}
 use Rattle.mr_shards.specs.Shards.{SkipsExist}
 use Rattle.mr_verdict.specs.Verdict.{Note, Told}
 
@@ -71,6 +72,6 @@ verdict_for request inputs outputs left_out pairs = record {
 abbrev pub NamesJob : Told → JobSpec → Type 0
 NamesJob v job = (v.job ≡ job_number job) × (v.flags ≡ job_flags job) × (v.literal ≡ job_literal job)
 
--- there is no request that it is about
+-- there is no request that it is about, of a job whose outputs can be merged
 abbrev pub AsksNone : Told → Type 0
-AsksNone v = (request : RequestSpec) → JobFits request.job → PartsFit request.parts → SplitFits request.split → Asks v request → ⊥
+AsksNone v = (request : RequestSpec) → JobFits request.job → PartsFit request.parts → SplitFits request.split → CanMerge request.job → Asks v request → ⊥

@@ -1,6 +1,7 @@
 //! The request that a verdict is about.
-ghost use Rattle.std.specs.Prelude.{◌≡◌, ◌↔◌, IfOk, IsTrue, MatchOption};
+ghost use Rattle.std.specs.Prelude.{◌≡◌, ◌↔◌, IfOk, IfSome, IsTrue, MatchOption};
 ghost use Rattle.mr_jobs.specs.JobSpec.{JobFits, JobSpec};
+ghost use Rattle.mr_shards.specs.Lines.{CanMerge};
 ghost use Rattle.mr_verdict.specs.Truth.{Asks, AsksNone, NamesJob};
 
 use crate::verdict::Verdict;
@@ -19,10 +20,11 @@ pub fn asks(verdict: &Verdict, request: &Request) -> bool
         && verdict.split == request.split_size()
 }
 
-/// The one job that a verdict may name.
+/// The one job that a verdict may name, where its outputs can be merged: not those of an index.
 fn job_named(alloc: Global, verdict: &Verdict) -> Result<Option<Job>, AllocError>
-    ensures { IfOk result (λ r. MatchOption r ((job : JobSpec) → JobFits job → NamesJob verdict.now job → ⊥)
+    ensures named { IfOk result (λ r. MatchOption r ((job : JobSpec) → JobFits job → CanMerge job → NamesJob verdict.now job → ⊥)
         (λ j. (job : JobSpec) → JobFits job → NamesJob verdict.now job → j ≡ job)) }
+    ensures mergeable { IfOk result (λ r. IfSome r (λ j. CanMerge j)) }
 {
     match verdict.job {
         1 => Ok(Some(Job::words(verdict.flags == 1))),
@@ -31,13 +33,16 @@ fn job_named(alloc: Global, verdict: &Verdict) -> Result<Option<Job>, AllocError
             Err(JobFault::OutOfMemory) => Err(AllocError),
             Err(_) => Ok(None),
         },
+        4 => Ok(None),
         _ => Ok(Some(Job::url())),
     }
 }
 
-/// A request that a verdict is about, which lets no record be left out; none where there is no such request.
+/// A request that a verdict is about, which lets no record be left out, of a job whose outputs can be merged; none where
+/// there is no such request. The outputs of an index can't be merged.
 pub fn request_of(alloc: Global, verdict: &Verdict) -> Result<Option<Request>, AllocError>
-    ensures { IfOk result (λ r. MatchOption r (AsksNone verdict.now) (λ q. Asks verdict.now q)) }
+    ensures asks { IfOk result (λ r. MatchOption r (AsksNone verdict.now) (λ q. Asks verdict.now q)) }
+    ensures mergeable { IfOk result (λ r. IfSome r (λ q. CanMerge q.job)) }
 {
     let Some(job) = job_named(alloc, verdict)? else {
         return Ok(None);

@@ -1,5 +1,6 @@
-use Rattle.std.proofs.Common.{arith, rules, ◌<◌, ◌+◌, ap, length, take, vec_len, vec_capacity, length-append}
+use Rattle.std.proofs.Common.{arith, rules, ◌≡◌, ◌<◌, ◌+◌, ap, length, get_or, take, vec_len, vec_capacity, length-append}
 use Rattle.std.specs.List.{flat_map}
+use Rattle.mr_reduce.specs.Files.{listed}
 use Rattle.mr_reduce.specs.Text.{place_line}
 use Rattle.mr_bytes.specs.declared.Value.TheVariants.{One}
 use Rattle.mr_reduce.proofs.TextLemmas.{front-kept, flat-part}
@@ -8,25 +9,28 @@ use Rattle.mr_reduce.proofs.put_places.Goals as goal
 pub returns-in_err-put_place-clause-kept : goal.returns-in_err-put_place-clause-kept
 returns-in_err-put_place-clause-kept c =
     let before = c.args.out.now in
-    let middle = c.loop-value.out in
-    front-kept (vec_len before) (vec_len middle) before.items (flat_map (place_line c.args.key.now) (take c.loop-value.value-index c.args.values.now)) middle.items
-    c.put_place.new.out.items c.loop-value.invariant.text (omega (arith, before.ok.0)) (omega (arith, middle.ok.0)) c.put_place.ensures.kept
+    let middle = c.loop-i.out in
+    front-kept (vec_len before) (vec_len middle) before.items (flat_map (place_line c.args.key.now) (take c.loop-i.i (listed c.args.values))) middle.items
+    c.put_place.new.out.items c.loop-i.invariant.text (omega (arith, before.ok.0)) (omega (arith, middle.ok.0)) c.put_place.ensures.kept
 
 pub returns-in_err-put_place-clause-full : goal.returns-in_err-put_place-clause-full
 returns-in_err-put_place-clause-full c =
     let before = c.args.out.now in
-    let middle = c.loop-value.out in
-    let values = c.args.values.now in
-    let i = c.loop-value.value-index in
+    let middle = c.loop-i.out in
+    let values = (listed c.args.values) in
+    let i = c.loop-i.i in
     let line = place_line c.args.key.now in
-    let part = flat-part line values i One c.loop-value-test.true in
+    let inside : i < length values = omega (arith, c.loop-i-test.true, c.len-i-end.ensures) in
+    let part = flat-part line values i One inside in
+    let here : length (line c.get.result) ≡ length (line (get_or values i One)) = ap (λ v. length (line v)) c.get.ensures in
     let few : vec_capacity before < vec_len before + length (flat_map line values) =
     omega (
       arith,
       part,
+      here,
       c.in_err-put_place.ensures.full,
-      c.loop-value.invariant.room,
-      ap length c.loop-value.invariant.text,
+      c.loop-i.invariant.room,
+      ap length c.loop-i.invariant.text,
       length-append before.items (flat_map line (take i values)),
       before.ok.0,
       middle.ok.0,
