@@ -16,7 +16,7 @@ use Rattle.mr_certform.specs.Spelling.{Front, magic, number, any, skip_at, name_
 use Rattle.mr_certform.specs.Short.{NameFront, short_name_at}
 use Rattle.mr_certform.specs.Rows.{entries_ahead, behind_entries}
 use Rattle.mr_certform.proofs.Chosen.{chosen, not_chosen}
-use Rattle.mr_certform.proofs.Fuel.{shorter, items_here, items_none, item_step, taken, taken_here, taken_none}
+use Rattle.mr_certform.proofs.Fuel.{shorter, items_here, items_none, item_step, taken, taken_here, taken_none, taken_step}
 
 -- ---- one entry of version 1
 
@@ -224,3 +224,66 @@ entry_less v p bytes rest i r g n b at is =
       | inl less ↦ less.0
       | inr last ↦ (let bad : AtEntry r g n b ≡ AtEnd = sym at ∙ last.1 in absurd (cc bad))
     ]
+
+-- ---- names of version 2, one after another
+
+-- what is told of walks from two places: these stand one after the other, so many entries apart
+pub record NamesPassed (k : ℕ) (p : Place) (bytes : List ℕ) (q : Place) (rest : List ℕ) : Type 0 where
+  pub count : entries_ahead (items_from V2 p bytes) ≡ k + entries_ahead (items_from V2 q rest)
+  pub items : behind_entries (items_from V2 p bytes) ≡ behind_entries (items_from V2 q rest)
+  pub size : taken V2 p bytes ≡ length bytes - length rest + taken V2 q rest
+  pub shorter : k + length rest ≤ length bytes
+
+pub nothing_passed : (p : Place) (bytes : List ℕ) → NamesPassed 0 p bytes p bytes
+nothing_passed p bytes = record { count = omega arith; items = refl; size = omega arith; shorter = omega arith }
+
+-- one name more
+pub name_passed : (k : ℕ) (p : Place) (bytes : List ℕ) (r g n : ℕ) (b name : Name) (rest behind : List ℕ) → NamesPassed k p bytes (AtEntry r g n b) rest
+    → short_name_at b rest ≡ Some (record { name = name; rest = behind }) → NamesPassed (k + 1) p bytes (entries r g n name) behind
+name_passed k p bytes r g n b name rest behind was is =
+    let here : standing V2 (AtEntry r g n b) rest ≡ Some (record { item = Entry name; rest = behind }) = ap entry_of is in
+    let one = entry_ahead V2 (AtEntry r g n b) (entries r g n name) rest behind (Entry name) r g n b refl here refl in
+    let less = entry_less V2 (AtEntry r g n b) rest behind (Entry name) r g n b refl here in
+    let step = taken_step V2 (AtEntry r g n b) (entries r g n name) rest behind (Entry name) here refl in
+    record {
+      count = omega (arith, was.count, one.0);
+      items = was.items ∙ one.1;
+      size = omega (arith, was.size, was.shorter, step, less);
+      shorter = omega (arith, was.shorter, less);
+    }
+
+-- where no name stands, nothing comes
+pub no_name : (k : ℕ) (p : Place) (bytes : List ℕ) (r g n : ℕ) (b : Name) (rest : List ℕ) → NamesPassed k p bytes (AtEntry r g n b) rest → short_name_at b rest ≡ None
+    → (k ≡ entries_ahead (items_from V2 p bytes)) × (items_from V2 (AtEntry r g n b) rest ≡ behind_entries (items_from V2 p bytes))
+no_name k p bytes r g n b rest was is =
+    let nothing = items_none V2 (AtEntry r g n b) rest (ap entry_of is) in
+    (omega (arith, was.count, ap entries_ahead nothing), nothing ∙ (sym (ap behind_entries nothing) ∙ sym was.items))
+
+-- behind the last name of a group no entry stands
+pub last_name : (k : ℕ) (p : Place) (bytes : List ℕ) (q : Place) (rest : List ℕ) → NamesPassed k p bytes q rest → ((r g n : ℕ) (b : Name) → q ≡ AtEntry r g n b → ⊥)
+    → (k ≡ entries_ahead (items_from V2 p bytes)) × (items_from V2 q rest ≡ behind_entries (items_from V2 p bytes))
+last_name k p bytes q rest was other =
+    let none = none_ahead V2 q rest other in
+    (omega (arith, was.count, none.0), sym none.1 ∙ sym was.items)
+
+pub groups_no_entry : (r g r' g' n : ℕ) (b : Name) → groups r g ≡ AtEntry r' g' n b → ⊥
+groups_no_entry zero zero r' g' n b e = cc e
+groups_no_entry (suc r) zero r' g' n b e = cc e
+groups_no_entry zero (suc g) r' g' n b e = cc e
+groups_no_entry (suc r) (suc g) r' g' n b e = cc e
+
+pub name_less : (r g n : ℕ) (b name : Name) (rest behind : List ℕ) → short_name_at b rest ≡ Some (record { name = name; rest = behind }) → length behind < length rest
+name_less r g n b name rest behind is = entry_less V2 (AtEntry r g n b) rest behind (Entry name) r g n b refl (ap entry_of is)
+
+-- the last name of a group, and another one
+pub last_passed : (k : ℕ) (p : Place) (bytes : List ℕ) (r g n : ℕ) (b name : Name) (rest behind : List ℕ) (q : Place) → NamesPassed k p bytes (AtEntry r g n b) rest
+    → short_name_at b rest ≡ Some (record { name = name; rest = behind }) → n ≡ 0 → q ≡ groups r g → NamesPassed (k + 1) p bytes q behind
+last_passed k p bytes r g n b name rest behind q was is none at =
+    subst (λ w. NamesPassed (k + 1) p bytes w behind) (ap (λ m. entries r g m name) none ∙ sym at) (name_passed k p bytes r g n b name rest behind was is)
+
+pub next_passed : (k : ℕ) (p : Place) (bytes : List ℕ) (r g n : ℕ) (b name : Name) (rest behind : List ℕ) → NamesPassed k p bytes (AtEntry r g n b) rest
+    → short_name_at b rest ≡ Some (record { name = name; rest = behind }) → (n ≡ 0 → ⊥) → NamesPassed (k + 1) p bytes (AtEntry r g (n - 1) name) behind
+next_passed k p bytes r g zero b name rest behind was is some = absurd (some refl)
+next_passed k p bytes r g (suc n) b name rest behind was is some =
+    let same : n ≡ suc n - 1 = omega arith in
+    subst (λ m. NamesPassed (k + 1) p bytes (AtEntry r g m name) behind) same (name_passed k p bytes r g (suc n) b name rest behind was is)

@@ -1,4 +1,4 @@
--- A certificate as a value, its items in their order, and its one spelling.
+-- A certificate as a value, its items in their order, and its one spelling in each version.
 use Rattle.std.specs.Prelude.{◌≡◌, ℕ, ◌^◌, ◌<◌, ◌≤◌, List, [], ◌∷◌, ◌++◌, length, map}
 use Rattle.std.specs.List.{AllByRecursion, flat_map}
 use Rattle.mr_bytes.specs.declared.Name.{Name}

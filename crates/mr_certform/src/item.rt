@@ -7,7 +7,7 @@ use thiserror::Error;
 pub enum Item {
     /// `MRCERT1` and a line end.
     Magic,
-    /// 1 words, 2 grep, 3 URL.
+    /// 1 words, 2 grep, 3 URL, 4 index.
     Job(u32),
     /// Bit 0: keep the case of words. Bit 1: fold the case of lines.
     Flags(u32),

@@ -1,13 +1,17 @@
 //! A walk over the items of bytes, front to back. It takes no memory, and each item costs a look at its own bytes.
 ghost use Rattle.std.specs.Prelude.{◌≡◌, ◌≤◌, ◌-◌, ◌+◌, ◌∷◌, [], Some, None, MatchResult, length, ◌*◌, drop};
 ghost use Rattle.mr_certform.specs.Places.{onward};
-ghost use Rattle.mr_certform.specs.Spelling.{standing, items_of, stop, left_behind};
-ghost use Rattle.mr_certform.specs.Rows.{entries_ahead, behind_entries};
+ghost use Rattle.mr_certform.specs.Spelling.{standing, items_from, items_of, stop, left_behind};
+ghost use Rattle.mr_certform.specs.declared.place.Place.TheVariants.{AtEntry};
+ghost use Rattle.mr_certform.specs.declared.version.Version.TheVariants.{V2};
+ghost use Rattle.mr_certform.specs.Rows.{entries_ahead, behind_entries, items_size};
 
 use crate::front::step_of;
 use crate::item::{Item, Malformed};
 use crate::place::{Place, groups_to_come};
+use crate::short::short_name_of;
 use crate::version::{Version, version_of};
+use mr_bytes::Name;
 
 /// The bytes behind so many entries.
 fn behind_row(bytes: &[u8], entries: u64) -> &[u8]
@@ -15,6 +19,44 @@ fn behind_row(bytes: &[u8], entries: u64) -> &[u8]
     ensures { result.now ≡ drop (entries * 12) bytes.now }
 {
     &bytes[entries as usize * 12..]
+}
+
+/// How many entries of version 2 stand next, of which so many more are to come behind the first, the bytes behind them and
+/// the place there. Each is told from the one before it, so each is looked at; what is known of the place stays in a few
+/// numbers until the last of them.
+fn behind_names(
+    bytes: &[u8],
+    parts: u32,
+    groups: u32,
+    more: u32,
+    before: Name,
+) -> (u64, &[u8], Place)
+    ensures count { result.0 ≡ entries_ahead (items_from V2 (AtEntry parts groups more before) bytes.entry.now) }
+    ensures items { items_from V2 (result.2) (result.1.now) ≡ behind_entries (items_from V2 (AtEntry parts groups more before) bytes.entry.now) }
+    ensures shorter { length result.1.now ≤ length bytes.entry.now }
+    ensures taken { items_size V2 (AtEntry parts groups more before) bytes.entry.now
+        ≡ length bytes.entry.now - length result.1.now + items_size V2 (result.2) (result.1.now) }
+{
+    let mut passed = 0;
+    let mut rest = bytes;
+    let mut left = more;
+    let mut last = before;
+    while let Some((name, behind)) = short_name_of(last, rest) {
+        passed += 1;
+        rest = behind;
+        if left == 0 {
+            return (passed, rest, groups_to_come(parts, groups));
+        }
+        left -= 1;
+        last = name;
+    }
+    let place = Place::AtEntry {
+        parts,
+        groups,
+        more: left,
+        before: last,
+    };
+    (passed, rest, place)
 }
 
 /// Walks the items of a certificate's bytes, from the front. It takes no memory.
@@ -92,19 +134,25 @@ impl<'a> Walker<'a> {
         }
     }
 
-    /// Passes over the entries that stand next, item by item.
+    /// Passes over the entries that stand next, name by name.
     fn pass_short_entries(&mut self) -> u64
+        requires { self.old.version ≡ Version.V2 }
         ensures count { result ≡ entries_ahead (items_left self.old) }
         ensures items { items_left self.new ≡ behind_entries (items_left self.old) }
         ensures stop { halt self.new ≡ halt self.old }
     {
-        let mut passed = 0;
-        while let Place::AtEntry { .. } = self.place {
-            match self.step() {
-                Ok(_) => passed += 1,
-                Err(_) => return passed,
-            }
-        }
+        let Place::AtEntry {
+            parts,
+            groups,
+            more,
+            before,
+        } = self.place
+        else {
+            return 0;
+        };
+        let (passed, rest, place) = behind_names(self.rest, parts, groups, more, before);
+        self.rest = rest;
+        self.place = place;
         passed
     }
 

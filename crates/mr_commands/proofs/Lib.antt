@@ -1,3 +1,2 @@
 pub mod Refused
 pub mod Kept
-pub mod Rising

@@ -18,3 +18,4 @@ pub mod TextLemmas
 pub mod UniqueLaws
 pub mod ValueLemmas
 pub mod ToldLemmas
+pub mod VersionLaws

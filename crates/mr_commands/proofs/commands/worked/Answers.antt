@@ -1,4 +1,4 @@
-use Rattle.mr_commands.proofs.Rising.{good_can}
+use Rattle.mr_sequential.proofs.VersionLaws.{good_can}
 use Rattle.mr_commands.proofs.commands.worked.Goals as goal
 
 pub returns-clause-can : goal.returns-clause-can
