@@ -1,7 +1,7 @@
 #!/usr/bin/env python3
 """Runs mapred and its rivals side by side, alternating, and prints ratios.
 
-    bench.py MAPRED [--mb 16] [--lines 200000] [--rounds 3] [--dir FOLDER] [--jobs words,grep,url]
+    bench.py MAPRED [--mb 16] [--lines 200000] [--rounds 3] [--dir FOLDER] [--jobs words,grep,url,index]
              [--timeout 120] [--json FILE] [--real FILE] [--workers 4] [--parts 8] [--no-check-equal]
 
 MAPRED may be '-' (the rivals alone). A job, subcommand or option that the binary does not
@@ -128,6 +128,19 @@ def same(a, b, parts):
     return "same files" if not bad else "DIFFERS: " + " ".join(bad[:4])
 
 
+def cut(room, text):
+    """The text as sixteen files, cut at line ends: of several files an index tells the most."""
+    folder = os.path.join(room, "pieces")
+    os.makedirs(folder, exist_ok=True)
+    names = [os.path.join(folder, f"{n:02}") for n in range(16)]
+    size = os.path.getsize(text) // 16 + 1
+    with open(text, "rb") as file:
+        for name in names:
+            with open(name, "wb") as piece:
+                piece.write(file.read(size) + file.readline())
+    return names
+
+
 def main():
     ask = argparse.ArgumentParser(description=__doc__, formatter_class=argparse.RawDescriptionHelpFormatter)
     ask.add_argument("mapred")
@@ -135,7 +148,7 @@ def main():
     ask.add_argument("--lines", type=int, default=200_000)
     ask.add_argument("--rounds", type=int, default=3)
     ask.add_argument("--dir", default=os.path.join(tempfile.gettempdir(), "mapred-bench"))
-    ask.add_argument("--jobs", default="words,grep,url")
+    ask.add_argument("--jobs", default="words,grep,url,index")
     ask.add_argument("--timeout", type=float, default=120)
     ask.add_argument("--workers", type=int, default=4)
     ask.add_argument("--parts", type=int, default=8)
@@ -147,30 +160,34 @@ def main():
     os.makedirs(room, exist_ok=True)
     native, tuned = build(room)
     text, log = data(room, it)
+    pieces = cut(room, text)
     results, lines = [], []
     mapred = None if it.mapred == "-" else it.mapred
     rg = shutil.which("rg")
     jobs = {
-        "words": (text, ["--job", "words"], [
+        "words": ([text], ["--job", "words"], [
             Rival("tr|tr|sort|uniq -c", f"tr -cs '0-9A-Za-z\\200-\\377' '\\n' < {text} | tr A-Z a-z | sort -S 2G --parallel=1 | uniq -c"),
             Rival("mawk RS=.. tolower | sort", f"mawk -v RS='{WORD}' '{{c[tolower($0)]++}} END{{for(k in c) print k \"\\t\" c[k]}}' {text} | sort"),
             Rival("tr|tr|mawk|sort", f"tr -cs '0-9A-Za-z\\200-\\377' '\\n' < {text} | tr A-Z a-z | mawk '{{c[$0]++}} END{{for(k in c) print k \"\\t\" c[k]}}' | sort"),
         ], 4),
-        "grep": (text, ["--job", "grep", "--literal", "because of"], [
+        "grep": ([text], ["--job", "grep", "--literal", "because of"], [
             Rival("grep -a -F -b | cat", f"grep -a -F -b 'because of' {text} | cat"),
             *([Rival("rg -a -j1 -F -b | cat", f"rg -a -j1 -F -b -N 'because of' {text} | cat")] if rg else []),
         ], 2),
-        "url": (log, ["--job", "url"], [
+        "url": ([log], ["--job", "url"], [
             Rival("mawk -F'\"' | sort", f"mawk -F'\"' '{{split($2,a,\" \"); if (a[2]!=\"\") c[a[2]]++}} END{{for(k in c) print k \"\\t\" c[k]}}' {log} | sort"),
             Rival("cut|cut|sort|uniq -c", f"cut -d'\"' -f2 {log} | cut -d' ' -f2 | sort -S 2G --parallel=1 | uniq -c"),
+        ], 2),
+        "index": (pieces, ["--job", "index"], [
+            Rival("mawk RS=.. last[k] | sort", f"mawk -v RS='{WORD}' 'FNR==1{{n++}} {{k=tolower($0); if (last[k]!=n) {{last[k]=n; l[k]=l[k] \",\" n-1}}}} END{{for(k in l) print k \"\\t\" substr(l[k],2)}}' {' '.join(pieces)} | sort"),
         ], 2),
     }
     print(f"mapred: {mapred or 'none'}; {it.rounds} rounds; parts {it.parts}; load {os.getloadavg()[0]:.1f} on {os.cpu_count()} processors")
     floor = [Rival("cat FILE | cat > /dev/null", f"cat {text} | cat"), Rival("wc -l", f"wc -l {text}"), Rival("cp", f"cp {text} {room}/copy")]
     race("floor", os.path.getsize(text), floor, it.rounds, it.timeout, results, "cat FILE | cat > /dev/null")
     for job in it.jobs.split(","):
-        file, words, peers, _ = jobs[job]
-        size, common = os.path.getsize(file), [*words, "--parts", str(it.parts)]
+        files, words, peers, _ = jobs[job]
+        size, common = sum(map(os.path.getsize, files)), [*words, "--parts", str(it.parts)]
         # about 4 map tasks a worker
         split = ["--split", str(max(1, min(67108864, size // (4 * it.workers) + 1)))]
         dirs = {n: f"{room}/{job}-{n}" for n in ("m", "mr", "a", "s", "ar", "t", "c")}
@@ -179,11 +196,11 @@ def main():
         literal = words + ["--threads"]
         can_tune = job == "words" and size <= 67108864
         rivals = [
-            *([Rival("mapred seq", [mapred, "seq", *common, "--out", dirs["m"], file], out=dirs["m"])] if mapred else []),
-            Rival("native seq", [native, "seq", *common, "--out", dirs["a"], file], out=dirs["a"]),
-            Rival("native simple (HashMap of Vecs)", [native, "simple", *common, "--out", dirs["s"], file], out=dirs["s"]),
-            *([Rival("tuned seq", [tuned, "seq", file, dirs["t"], str(it.parts)], out=dirs["t"])] if can_tune else []),
-            Rival("native count (no certificate)", [native, "count", *literal, "1", file]),
+            *([Rival("mapred seq", [mapred, "seq", *common, "--out", dirs["m"], *files], out=dirs["m"])] if mapred else []),
+            Rival("native seq", [native, "seq", *common, "--out", dirs["a"], *files], out=dirs["a"]),
+            Rival("native simple (HashMap of Vecs)", [native, "simple", *common, "--out", dirs["s"], *files], out=dirs["s"]),
+            *([Rival("tuned seq", [tuned, "seq", *files, dirs["t"], str(it.parts)], out=dirs["t"])] if can_tune else []),
+            Rival("native count (no certificate)", [native, "count", *literal, "1", *files]),
             *peers,
         ]
         got = race(f"{job}: seq", size, rivals, it.rounds, it.timeout, results, "native seq")
@@ -193,15 +210,15 @@ def main():
             lines.append(f"{job} seq: {got['mapred seq'].best / got['native seq'].best:.2f} x native; {got['mapred seq'].best / got[peers[0].name].best if peers[0].best else float('nan'):.2f} x {peers[0].name}; files: {same(dirs['m'], dirs['a'], it.parts)}")
         # what is judged is the native's: in c cut into many splits, for the threads
         os.makedirs(dirs["c"], exist_ok=True)
-        subprocess.run([native, "seq", *common, *split, "--out", dirs["c"], file], check=True, stdout=subprocess.DEVNULL)
-        many = [*common, *split, "--threads", str(it.workers), "--out", dirs["c"], file]
+        subprocess.run([native, "seq", *common, *split, "--out", dirs["c"], *files], check=True, stdout=subprocess.DEVNULL)
+        many = [*common, *split, "--threads", str(it.workers), "--out", dirs["c"], *files]
         rivals = [
-            *([Rival("mapred check", [mapred, "check", *common, "--out", dirs["a"], file]),
+            *([Rival("mapred check", [mapred, "check", *common, "--out", dirs["a"], *files]),
                Rival(f"mapred check --threads {it.workers}", [mapred, "check", *many])] if mapred else []),
-            Rival("native check", [native, "check", *common, "--out", dirs["a"], file]),
+            Rival("native check", [native, "check", *common, "--out", dirs["a"], *files]),
             Rival(f"native check --threads {it.workers}", [native, "check", *many]),
-            *([Rival("tuned check", [tuned, "check", file, dirs["a"], str(it.parts)])] if can_tune else []),
-            *([Rival("mapred seq (again)", [mapred, "seq", *common, "--out", dirs["m"], file], out=dirs["m"])] if mapred and got["mapred seq"].best else []),
+            *([Rival("tuned check", [tuned, "check", *files, dirs["a"], str(it.parts)])] if can_tune else []),
+            *([Rival("mapred seq (again)", [mapred, "seq", *common, "--out", dirs["m"], *files], out=dirs["m"])] if mapred and got["mapred seq"].best else []),
         ]
         got = race(f"{job}: check", size, rivals, it.rounds, it.timeout, results, "native check")
         if it.ir:
@@ -210,12 +227,12 @@ def main():
             of = got.get("mapred seq (again)")
             lines.append(f"{job} check: {got['mapred check'].best / got['native check'].best:.2f} x native; {got['mapred check'].best / of.best if of and of.best else float('nan'):.2f} x mapred seq")
         rivals = [
-            *([Rival(f"mapred run --workers {it.workers}", [mapred, "run", *common, *split, "--workers", str(it.workers), "--out", dirs["mr"], file], out=dirs["mr"]),
-               Rival("mapred run --workers 1", [mapred, "run", *common, *split, "--workers", "1", "--out", dirs["mr"], file], out=dirs["mr"]),
-               Rival("mapred seq, same splits", [mapred, "seq", *common, *split, "--out", dirs["m"], file], out=dirs["m"])] if mapred else []),
-            Rival(f"native run --workers {it.workers}", [native, "run", *common, *split, "--workers", str(it.workers), "--out", dirs["ar"], file], out=dirs["ar"]),
-            Rival("native run --workers 1", [native, "run", *common, *split, "--workers", "1", "--out", dirs["ar"], file], out=dirs["ar"]),
-            Rival("native seq, same splits", [native, "seq", *common, *split, "--out", dirs["a"], file], out=dirs["a"]),
+            *([Rival(f"mapred run --workers {it.workers}", [mapred, "run", *common, *split, "--workers", str(it.workers), "--out", dirs["mr"], *files], out=dirs["mr"]),
+               Rival("mapred run --workers 1", [mapred, "run", *common, *split, "--workers", "1", "--out", dirs["mr"], *files], out=dirs["mr"]),
+               Rival("mapred seq, same splits", [mapred, "seq", *common, *split, "--out", dirs["m"], *files], out=dirs["m"])] if mapred else []),
+            Rival(f"native run --workers {it.workers}", [native, "run", *common, *split, "--workers", str(it.workers), "--out", dirs["ar"], *files], out=dirs["ar"]),
+            Rival("native run --workers 1", [native, "run", *common, *split, "--workers", "1", "--out", dirs["ar"], *files], out=dirs["ar"]),
+            Rival("native seq, same splits", [native, "seq", *common, *split, "--out", dirs["a"], *files], out=dirs["a"]),
         ]
         got = race(f"{job}: run, which also judges", size, rivals, it.rounds, it.timeout, results, f"native run --workers {it.workers}")
         many = got.get(f"mapred run --workers {it.workers}")
