@@ -55,6 +55,8 @@ INPUTS = [
     ("grep: lines of a, the literal a..ab", ["--job", "grep", "--literal", "a" * 63 + "b"], lambda: [(b"a" * 63 + b"\n") * (MB // 2)]),
     ("grep: lines of a..b, the literal a..b, folded", ["--job", "grep", "--fold", "--literal", "a" * 63 + "B"], lambda: [(b"a" * 300 + b"b\n") * (MB // 8)]),
     ("url: short requests", ["--job", "url"], lambda: [b'"G / H"\n' * (4 * MB)]),
+    ("index: words of a byte, one record", ["--job", "index"], lambda: [b"a " * (16 * MB)]),
+    ("index: words of a byte, a record each", ["--job", "index"], lambda: [b"a\n" * (16 * MB)]),
     ("splits of a byte", ["--job", "words", "--split", "1"], lambda: [b"a\n" * (MB // 2)]),
 ]
 
@@ -89,7 +91,31 @@ def told_no(mapred, room):
         sys.exit(f"seq: status {status} {said!r}")
     written(os.path.join(room, "no-line-feed"), lambda: [b"a" * MB] * 500)
     shutil.copy(os.path.join(room, "no-line-feed"), os.path.join(where, "part-00000"))
+    return judged_by(mapred, asked)
+
+
+def judged_by(mapred, asked):
     return [("check", [mapred, "check", *asked]), ("check, 4 threads", [mapred, "check", "--threads", "4", *asked])]
+
+
+def least_names(mapred, room):
+    """The commands over a certificate of version 2 that names the pair of the least name 66 million times, beside 24 MB of
+    words."""
+    text = written(os.path.join(room, "few-words"), lambda: [b"a word\n" * (24 * MB // 7)])
+    where = os.path.join(room, "least")
+    shutil.rmtree(where, ignore_errors=True)
+    os.mkdir(where)
+    asked = ["--job", "words", "--split", str(4 * MB), "--out", where, text]
+    made, _, _, status, said = timed([mapred, "seq", "--cert", "2", *asked], 120)
+    if status != 0:
+        sys.exit(f"seq: status {status} {said!r}")
+    path, names = os.path.join(where, "certificate"), 66_000_000
+    with open(path, "rb") as file:
+        front = file.read(44)
+    with open(path, "wb") as file:
+        file.write(front + struct.pack(">II", 1, names))
+        file.write(bytes(3 * names))
+    return judged_by(mapred, asked)
 
 
 def show(name, size, command, words, it, wants):
@@ -126,10 +152,10 @@ def main():
         size = os.path.getsize(path) / 1e6
         for command, words in rows_of(os.path.abspath(it.mapred), it.dir, options, files):
             show(name, size, command, words, it, 0)
-    name = "no: a part without a line feed"
-    if not it.only or any(part in name for part in it.only.split(",")):
-        for command, words in told_no(os.path.abspath(it.mapred), it.dir):
-            show(name, 524.3, command, words, it, 1)
+    for name, size, made in [("no: a part without a line feed", 524.3, told_no), ("no: the least names, version 2", 198.0, least_names)]:
+        if not it.only or any(part in name for part in it.only.split(",")):
+            for command, words in made(os.path.abspath(it.mapred), it.dir):
+                show(name, size, command, words, it, 1)
 
 
 if __name__ == "__main__":
