@@ -190,7 +190,7 @@ def words():
     parser.add_argument("--progress", action="store_true", help="tell how far it is, also where that is read by no person")
     parser.add_argument("--tries", type=int, default=3, metavar="N", help="attempts at a shard (3)")
     parser.add_argument("--inputs", metavar="LIST", help="what sha256sum told of all files; the merge compares")
-    parser.add_argument("--program", default=os.path.join(TOP, "crates/mr_cli/out/mr_cli"), help="the built mapred")
+    parser.add_argument("--program", default=os.environ.get("MAPRED", os.path.join(TOP, "mapred")), help="the program ($MAPRED, or else mapred of this repository)")
     parser.add_argument("files", nargs="*", metavar="FILE")
     return parser.parse_args()
 
@@ -206,7 +206,7 @@ def job_of(asked):
 def main():
     asked = words()
     if not os.path.exists(asked.program):
-        raise SystemExit(f"shards.py: there is no program {asked.program}: ./mapred --help builds it")
+        raise SystemExit(f"shards.py: there is no program {asked.program}")
     tell = lambda line: print(line, file=sys.stderr, flush=True)
     progress = tell if asked.progress or sys.stderr.isatty() else lambda line: None
     shards = shards_of(asked.files, asked.shard_size)

@@ -2,7 +2,8 @@
 
 The library `mr_book` is reached through the small program `mr_pool_tests`, which the gate leaves beside the checked
 one: a line of numbers is a call with a seat, and the line that answers it tells the reply, the output that comes with
-it, and all that can be looked at. At the end of the lines the book is closed, and its history and outputs are told."""
+it, and all that can be looked at. At the end of the lines the book is closed, and its history and outputs are told; and
+the result that it assembled before, where the job is done, over as many files of one word as there are splits."""
 import os
 import re
 import subprocess
@@ -10,6 +11,7 @@ import subprocess
 from failing import shim
 from libraries import built
 from master import ACCEPTED, GONE, KINDS, WAIT, Draws, Plain, map_task, reduce_task, region, truth
+from plain import Request, produced
 
 TOP = os.path.dirname(os.path.dirname(os.path.abspath(__file__)))
 PROGRAM = os.path.join(TOP, "crates", "mr_pool_tests", "out", "mr_pool_tests")
@@ -32,9 +34,10 @@ class Book:
         return reply, output, looks[:-1]
 
     def close(self):
-        """The history, as texts, and the program's status."""
+        """The history, as texts, and the program's status; the lines of the result are kept."""
         self.process.stdin.close()
         told = self.process.stdout.readline().rstrip("\n").split("|")
+        self.result = self.process.stdout.read().splitlines()
         self.process.stdout.close()
         return told, self.process.wait()
 
@@ -52,6 +55,10 @@ def map_told(number):
 
 def reduce_told(number):
     return bytes_told(f"w{number}\t1\n")
+
+
+def file_told(number):
+    return "file " + f"w{number}\t1\n".encode().hex()
 
 
 def event_told(event, place):
@@ -116,6 +123,13 @@ class Shadow:
         reduces = [f"{place} {reduce_told(number)}" for place, number in self.reduces.items()]
         return [self.looks()[0], *self.entries, *maps, *reduces]
 
+    def files(self):
+        """The lines of the files that a done job's book assembles; none of another's."""
+        if self.plain.end != "Done":
+            return []
+        numbers = [self.reduces[self.plain.outputs[task]] for task in self.plain.partitions]
+        return [file_told(number) for number in numbers]
+
 
 def a_thousand_histories(harness):
     """Reply by reply, output by output and look by look, the book of the library is the plain one."""
@@ -131,7 +145,7 @@ def a_thousand_histories(harness):
                 difference = event
                 break
         told, status = book.close()
-        fits = difference is None and told == shadow.closed() and status == 0
+        fits = difference is None and told == shadow.closed() and book.result[: len(shadow.plain.partitions)] == shadow.files() and status == 0
         harness.check(f"history {history}: as the plain master has it" + (f", but for {difference}" if difference else ""), fits)
         came = {"an output that is handed out": shadow.handed, "an output of a reduce task": shadow.reduces, "waiting": shadow.grown < len(shadow.entries)}
         came["an output that stays after a loss"] = len(shadow.maps) > len(shadow.plain.holders)
@@ -153,6 +167,16 @@ DONE = [
     (0, ("reduce done", 2, 82)),
     (1, ("ask", 0)),
 ]
+
+
+def a_done_job(harness):
+    """The committed output of the one partition, and the certificate of its one pair."""
+    book = Book((1, 1, 3, 8, 1), 2)
+    for seat, event in DONE:
+        book.answer(seat, event)
+    _, status = book.close()
+    certificate = produced(Request("words", split=64, most=1), [b"w\n"])[1].bytes()
+    harness.check("a done job is assembled", book.result == [file_told(82), f"certificate {certificate.hex()}"] and status == 0, repr(book.result))
 
 
 def stands(book, shadow, calls):
@@ -177,7 +201,9 @@ def stands(book, shadow, calls):
             return False, back
         before = shadow.looks()
     told, status = book.close()
-    return told == [""] or told == shadow.closed() and status == 0, back
+    # Where memory for the lines of the result is refused, they are cut, and the status tells it.
+    is_cut = status == 1 and len(book.result) < 2
+    return told == [""] or told == shadow.closed() and (status == 0 or is_cut), back
 
 
 def each_allocation(harness):
@@ -200,4 +226,5 @@ def each_allocation(harness):
     harness.check("outputs of both kinds of tasks are handed back", handed_back == {"map done", "reduce done"})
 
 
-GROUPS = {"a lost output": built("mr_pool_tests", a_lost_output), "each allocation of a book": built("mr_pool_tests", each_allocation), "a thousand histories of a book": built("mr_pool_tests", a_thousand_histories)}
+ALL = {"a lost output": a_lost_output, "a done job's result": a_done_job, "each allocation of a book": each_allocation, "a thousand histories of a book": a_thousand_histories}
+GROUPS = {name: built("mr_pool_tests", group) for name, group in ALL.items()}

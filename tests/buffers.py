@@ -4,6 +4,7 @@ The libraries `mr_spill` and `mr_merge` are reached through the small program `m
 the checked one. For two partitions a key's is 1 less the parity of its odd bytes."""
 from ground import at, listed, named
 from libraries import built, told
+from regions import spelled
 
 # A buffer with the pairs of `b a b`, sealed for one partition and for two; one of two pairs refuses the third.
 SEALED = [
@@ -67,6 +68,16 @@ def merged(regions):
     return lines[:-1], lines[-1:]
 
 
+def merged_bytes(regions):
+    """What the regions are merged to over their bytes, each of the split of its first pair."""
+    lines = ""
+    for region in regions:
+        split = region[0][2] if region else 0
+        data = spelled(split, 0, [(key, value, (own, 0, place)) for key, value, own, place in region])
+        lines += " ".join(str(number) for number in (split, *data)) + "\n"
+    return told("merged", lines.encode())
+
+
 def shown(regions):
     """The names of each region, and of one with room for them."""
     return [f"{names((split, place) for _, _, split, place in region)} 0 []" for region in regions]
@@ -76,11 +87,14 @@ def merging(harness):
     for what, regions, groups, all_names in MERGED:
         values = lambda own: "".join(" One" if value is None else f" {at(*value)}" for value in own)
         wanted = "".join(f"{listed(key)} {len(own)}{values(own)}|" for key, own in groups)
-        answer = merged(regions)
-        harness.check(what, answer == (shown(regions), [f"{len(groups)} {wanted}{names(all_names)}"]), repr(answer))
+        wanted = f"{len(groups)} {wanted}{names(all_names)}"
+        answer, by_bytes = merged(regions), merged_bytes(regions)
+        harness.check(what, answer == (shown(regions), [wanted]), repr(answer))
+        harness.check(f"{what}, as bytes", by_bytes == [wanted], repr(by_bytes))
     for what, regions in DAMAGED:
-        answer = merged(regions)
+        answer, by_bytes = merged(regions), merged_bytes(regions)
         harness.check(what, answer == (shown(regions), ["RegionDamaged RegionDamaged"]), repr(answer))
+        harness.check(f"{what}, as bytes", by_bytes == ["RegionDamaged RegionDamaged"], repr(by_bytes))
     harness.check("names of a region that falls", merged([FALLING])[0] == shown([FALLING]))
 
 

@@ -77,8 +77,9 @@ def check_faults(harness):
     os.remove(os.path.join(where, "certificate"))
     got = harness.run([*words, "--parts", "2", "a"], cwd=where)
     harness.check("a missing certificate is told first", got[:3] == (3, b"", b"mapred: cannot read ./certificate\n"), repr(got[:3]))
-    got = harness.run([*words, "a", "--parts", "3"], cwd=where)
-    harness.check("a missing part is told before", got[:3] == (3, b"", b"mapred: cannot read ./part-00002\n"), repr(got[:3]))
+    for more in ([], ["--threads", "2"], ["--verdict", "verdict"]):
+        got = harness.run([*words, "a", "--parts", "3", *more], cwd=where)
+        harness.check(f"a missing part is told before, {more}", got[:3] == (3, b"", b"mapred: cannot read ./part-00002\n"), repr(got[:3]))
 
 
 def order_of_faults(harness):

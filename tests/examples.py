@@ -45,7 +45,8 @@ def each_runs(harness):
         os.symlink(os.path.join(TOP, "engines"), os.path.join(where, "engines"))
         text = open(os.path.join(FOLDER, name, "run.sh"), encoding="utf-8").read()
         for command, wanted in steps(text):
-            ran = subprocess.run(["bash", "-c", command], cwd=where, stdout=subprocess.PIPE, stderr=subprocess.STDOUT)
+            own = {**os.environ, "MAPRED": harness.program}
+            ran = subprocess.run(["bash", "-c", command], cwd=where, env=own, stdout=subprocess.PIPE, stderr=subprocess.STDOUT)
             said = ran.stdout.decode().splitlines()
             harness.check(f"{name}: {command}", said == wanted, f"said {said} wanted {wanted}")
         stands = files_below(where)

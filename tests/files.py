@@ -133,6 +133,57 @@ def few_open_files(harness):
     harness.check("the files of many parts", result_of(where) == (stands[0], stands[2]))
 
 
+def same_files(harness):
+    """No file that a command writes is one that it reads, or one that it writes twice, by whatever name: nothing is written then. It is
+    told behind what can't be read and the limits of an input, and before the fit of the splits."""
+    text = b"the cat the dog\n"
+    words = ["--job", "words", "--parts", "2", "--out", "o"]
+
+    def clash(name, command, more, told, files=(), err=None, script=b"old"):
+        where = harness.directory({"a": text, "big": b"a" * 1048577})
+        os.makedirs(os.path.join(where, "o"))
+        write_result(os.path.join(where, "o"), [script, b"older"], b"oldest")
+        for kind, new, old in files:
+            if kind == "link":
+                os.remove(os.path.join(where, new))
+            {"link": os.link, "symlink": lambda there, here: os.symlink(os.path.abspath(there), here)}[kind](os.path.join(where, old), os.path.join(where, new))
+        stands = sorted(os.listdir(where)), result_of(os.path.join(where, "o")), open(os.path.join(where, "a"), "rb").read()
+        got = harness.run([command, *words, *more], cwd=where)[:3]
+        now = sorted(os.listdir(where)), result_of(os.path.join(where, "o")), open(os.path.join(where, "a"), "rb").read()
+        harness.check(f"{command} {name}", got == (2 if err is None else 3, b"", b"mapred: " + (err or b"SameFile " + told) + b"\n") and now == stands, repr(got))
+
+    for command in ("seq", "run"):
+        clash("over its input", command, ["o/part-00000"], b"o/part-00000")
+        clash("over one of its inputs", command, ["a", "o/certificate"], b"o/certificate")
+        clash("over an input by another path", command, ["./o/../o/part-00001"], b"o/part-00001")
+        clash("over an input by a symbolic link", command, ["b"], b"o/part-00001", [("symlink", "b", "o/part-00001")])
+        clash("through a part that is a link", command, ["a"], b"o/part-00001", [("link", "o/part-00001", "a")])
+        clash("two parts that are one file", command, ["a"], b"o/part-00001", [("link", "o/part-00001", "o/part-00000")])
+        clash("a part that is the certificate", command, ["a"], b"o/certificate", [("link", "o/certificate", "o/part-00000")])
+        clash("of several the first", command, ["o/certificate", "o/part-00001", "a"], b"o/part-00001")
+        clash("before too many splits", command, ["big", "o/part-00000", "--split", "1"], b"o/part-00000")
+        clash("behind a file that isn't there", command, ["o/part-00000", "none"], None, err=b"cannot read none")
+        clash("behind a directory", command, ["o/part-00000", "."], None, err=b"cannot read .")
+    for command, more in (("seq", ["--skips", "9:9"]), ("run", ["--max-skips", "1"])):
+        clash("before the run", command, ["o/part-00000", *more], b"o/part-00000")
+    clash("a script", "run", ["a", "--script", "b"], b"o/part-00000", [("symlink", "b", "o/part-00000")], script=b"")
+    where = harness.directory({"a": text})
+    got = harness.run(["seq", *words[:-1], "missing", "missing/part-00000"], cwd=where)[:3]
+    harness.check("a folder that isn't there", got == (3, b"", b"mapred: cannot read missing/part-00000\n"), repr(got))
+    os.makedirs(os.path.join(where, "o"))
+    for name in ("part-00000", "part-00001"):
+        os.symlink("target", os.path.join(where, "o", name))
+    got = harness.run(["seq", *words, "a"], cwd=where)[:3]
+    harness.check("links to one file that isn't there", got == (2, b"", b"mapred: SameFile o/part-00001\n") and not os.path.exists(os.path.join(where, "o/target")), repr(got))
+    for name in ("part-00000", "part-00001", "certificate"):
+        path = os.path.join(where, "o", name)
+        if os.path.lexists(path):
+            os.remove(path)
+        os.symlink("/dev/null", path)
+    got = harness.run(["seq", *words, "a", "a", "/dev/null", "/dev/null"], cwd=where)[:3]
+    harness.check("devices pass, and files that are read twice", got == (0, b"done: 2 files, 8 pairs, 0 left out\n", b""), repr(got))
+
+
 def fed(path, data):
     """A thread that writes this into a pipe, once somebody reads it; what is left when nobody reads any more is let go."""
     def feed():
@@ -173,4 +224,20 @@ def pipes(harness):
         harness.check(f"a good result is judged good {more}", harness.run([*words[:-1], *more, "a"], {**files, "a": data})[:3] == (0, b"yes: %d pairs, 0 left out\n" % pairs, b""))
 
 
-GROUPS = {"directories": directories, "sizes": sizes, "streams and disks": streams_and_disks, "few open files": few_open_files, "pipes": pipes}
+def certificate_that_goes_on(harness):
+    """A no comes though the pipe of the certificate stays open behind what it is told by."""
+    data = b"the cat the dog\n"
+    outputs, pairs, certificate = plain("index", [data], 1)
+    where = harness.directory({"a": data})
+    write_result(where, outputs, b"")
+    os.remove(os.path.join(where, "certificate"))
+    os.mkfifo(os.path.join(where, "certificate"))
+    # held open for reading and writing, so that no reader sees its end
+    pipe = os.open(os.path.join(where, "certificate"), os.O_RDWR)
+    os.write(pipe, certificate)
+    got = harness.run(["check", "--job", "words", "--parts", "1", "--out", ".", "a"], cwd=where, timeout=60)
+    os.close(pipe)
+    harness.check("a no while the certificate's pipe stays open", got[:3] == (1, b"no: OtherJob\n", b""), repr(got[:3]))
+
+
+GROUPS = {"directories": directories, "sizes": sizes, "streams and disks": streams_and_disks, "few open files": few_open_files, "same files": same_files, "pipes": pipes, "a certificate that goes on": certificate_that_goes_on}

@@ -79,7 +79,7 @@ def random_log(rnd, lines):
     """Lines of an access log, some of them odd."""
     out = []
     for _ in range(lines):
-        path = "/" + rnd.choice(["a", "b", "index.html", "x?y=1", 'q\\"uote', "", "z" * 20])
+        path = rnd.choice(["", "", "http://a.example", "HTTPS://A.Example:80", "http://b", "http:/", "ftp://a.example"]) + "/" + rnd.choice(["a", "b", "index.html", "x?y=1", 'q\\"uote', "", "z" * 20])
         shape = rnd.choice(['h - - [t] "GET %s HTTP/1.0" 200 1', 'h - - [t] "POST %s" 200 1', 'h "-" %s', "no quotes %s", 'open "GET %s', '"GET  %s"', '" %s"', '"GET /a\\ %s"'])
         out.append(shape % path)
     return "\n".join(out).encode()

@@ -64,6 +64,7 @@ def limits(harness):
         ("a long literal", [*grep, "--literal", "x" * 4097, "a"], b"LongLiteral", literal),
         ("a line feed in a literal", [*grep, "--literal", "x\ny", "a"], b"LineEndInLiteral", b"--literal holds no line feed, since lines are looked at one by one"),
         ("a line feed in a name", ["check", *WORDS, "--verdict", "v", "a", "x\ny"], b"LineEndInName file 1", b"--verdict tells each name in one line: give the file another name, or a link"),
+        ("a verdict over an input", ["check", *WORDS, "--verdict", "./a", "a"], b"SameFile ./a", b"this file is read, or written under another name, and would be lost: give another name"),
         ("a bad skip list", [*seq, "--skips", "0", "a"], b"bad skip list", b"--skips is SPLIT:RECORD,SPLIT:RECORD, as in 0:1,0:7"),
         ("too many files", [*seq, *["a"] * 1025], b"TooManyFiles", b"at most 1024 files: join some with cat, or cut the input into several runs"),
         ("too many left-out records", [*seq, "--skips", "0:1", "a"], b"TooManySkips", skips),

@@ -1,6 +1,7 @@
-"""The launcher `./mapred`: when it builds, what it tells meanwhile, and what it runs. A copy of it stands over four small
-crates with an `rt` that builds nothing: it writes what the kit's would, and puts a copy of `cat` where the program belongs,
-which shows its own name, words and environment."""
+"""The launcher `./mapred`: which program it runs, when it builds one, and what it tells meanwhile. A copy of it stands over four
+small crates with an `rt` that builds nothing: it writes what the kit's would, and puts a copy of `cat` where the program belongs,
+which shows its own words and environment."""
+import hashlib
 import os
 import shutil
 import subprocess
@@ -26,39 +27,49 @@ TOLD = FIRST + b"".join(COUNTS)
 REFUSED = b"== mr_low\nlow is fine\n== mr_high\nfn high: not proved\n== summary\nmr_cli: not run\n"
 FINE = b"== mr_low\nlow is fine\n== mr_high\nhigh is fine\n== mr_cli\ncli is fine\n== summary\n3 of 3 crates ok\n"
 NO_RT = b"mapred: it has to be built first, and rt, which does that, is not on the PATH (README.md names the kit)\n"
+RUNNING = b"mapred: running dist/mapred, which was built of these sources; ./test proves them and builds it again\n"
 CAT = os.path.realpath(shutil.which("cat"))
-PROGRAM = "crates/mr_cli/out/mr_cli"
+BUILT, CARRIED = "crates/mr_cli/out/mr_cli", "dist/mapred"
 SHOWN = ["/proc/self/cmdline"]
-RAN = (0, b"mapred\0/proc/self/cmdline\0", b""), []
-BUILT = (0, RAN[0][1], TOLD), CALLS
+OWN = ("mapred", ".ci/lanes", ".ci/sources", "packaging/start.sh")
 
 
 class Place:
-    """A directory with the launcher, crates, and an `rt` that goes well or as named; all files are of one time."""
+    """A directory with the launcher, crates, and an `rt` that goes well or as named."""
 
     def __init__(self, harness, rt="works"):
         self.top, self.rt, self.tools = harness.directory(), rt, os.environ["PATH"]
         self.put("bin/rt", RT, mode=0o755)
         self.put("crates.txt", CRATES)
+        self.put("HANDLES", "Handles allowed: none.\n")
         self.put("crates/mr_low/src/lib.rt")
+        self.put("crates/mr_high/src/lib.rt")
         self.put("crates/mr_cli/src/main.rt")
         os.mkdir(self.path("tmp"))
-        os.mkdir(self.path(".ci"))
-        for name in ("mapred", ".ci/lanes"):
+        for name in OWN:
+            os.makedirs(os.path.dirname(self.path(name)), exist_ok=True)
             shutil.copy(os.path.join(TOP, name), self.path(name))
 
     def path(self, name):
         return os.path.join(self.top, name)
 
-    def put(self, name, text="", mode=0o644, later=0):
+    def put(self, name, text="", mode=0o644):
         os.makedirs(os.path.dirname(self.path(name)), exist_ok=True)
         with open(self.path(name), "w") as file:
             file.write(text)
         os.chmod(self.path(name), mode)
-        self.date(name, later)
 
-    def date(self, name, later):
-        os.utime(self.path(name), (1_000_000 + later, 1_000_000 + later))
+    def sources(self):
+        return subprocess.run([self.path(".ci/sources")], capture_output=True, text=True, check=True).stdout.strip()
+
+    def carry(self, more=b""):
+        """Puts a program into dist/, said to be of the sources that stand; `more` behind it is said nowhere."""
+        data = open(CAT, "rb").read()
+        os.makedirs(self.path("dist"), exist_ok=True)
+        with open(self.path(CARRIED), "wb") as file:
+            file.write(data + more)
+        os.chmod(self.path(CARRIED), 0o755)
+        self.put("dist/SOURCES", f"kit: another\nsources: {self.sources()}\nprogram: {hashlib.sha256(data).hexdigest()}\n")
 
     def run(self, words=SHOWN, given=b"", **more):
         """(status, standard output, standard error) of the launcher, and the calls of `rt` that it made."""
@@ -69,26 +80,103 @@ class Place:
         ran = subprocess.run([self.path("mapred"), *words], cwd="/", input=given, capture_output=True, env=env)
         return (ran.returncode, ran.stdout, ran.stderr), open(self.path("calls")).read().splitlines()
 
+    def ran(self, told=b"", calls=()):
+        """What `run` gives where the program shows its words, under the name that it has for users, and this was told before."""
+        return (0, f"mapred\0{SHOWN[0]}\0".encode(), told), list(calls)
+
+    def which(self, program):
+        return f"{os.path.realpath(self.path(program))}\n".encode()
+
+    def built(self):
+        return self.ran(told=TOLD, calls=CALLS)
+
 
 def builds(harness):
     """What a build tells, and that the program runs behind it."""
     place = Place(harness)
     got = place.run()
-    harness.check("it is built, and runs", got == BUILT, repr(got))
+    harness.check("it is built, and runs", got == place.built(), repr(got))
     got = place.run()
-    harness.check("it is built once", got == RAN, repr(got))
+    harness.check("it is built once", got == place.ran(), repr(got))
     got = place.run(["none", "a word", ""])
     harness.check("its words and its status", got[0][0] == 1 and got[0][2].count(b"No such file") == 3, repr(got))
+    got = place.run(["--build", *SHOWN])
+    harness.check("it is built where that is asked", got == place.built(), repr(got))
+    got = place.run(["--build"])
+    harness.check("it is built and not run", got == ((0, b"", TOLD), CALLS), repr(got))
+    got = place.run(["--which"])
+    harness.check("its path", got == ((0, place.which(BUILT), b""), []), repr(got))
     got = Place(harness).run(["-"], b"a line\n")
     harness.check("what comes in is for the program and not for rt", got == ((0, b"a line\n", TOLD), CALLS), repr(got))
     place = Place(harness)
     os.makedirs(place.path("elsewhere/crates/mr_cli"))
     os.mkdir(place.path("a folder"))
-    for name in ("mapred", ".ci", "crates", "crates.txt"):
+    for name in ("mapred", ".ci", "crates", "crates.txt", "HANDLES", "packaging"):
         os.rename(place.path(name), place.path(f"a folder/{name}"))
     os.symlink("a folder/mapred", place.path("mapred"))
     got = place.run(CDPATH=place.path("elsewhere"))
-    harness.check("through a link", got == BUILT, repr(got))
+    harness.check("through a link", got == place.ran(TOLD, CALLS), repr(got))
+
+
+def carried(harness):
+    """The program of dist/ runs where it is of the sources that stand, and nothing else decides that."""
+    place = Place(harness)
+    place.carry()
+    got = place.run()
+    harness.check("the carried program is named once, and runs", got == place.ran(RUNNING), repr(got))
+    got = place.run()
+    harness.check("and runs", got == place.ran(), repr(got))
+    got = place.run(["--which"])
+    harness.check("its path", got == ((0, place.which(CARRIED), b""), []), repr(got))
+    for name in ("crates.txt", "crates/mr_low/src/lib.rt", "dist/mapred", "dist/SOURCES"):
+        os.utime(place.path(name))
+        got = place.run()
+        harness.check(f"{name} is touched", got == place.ran(), repr(got))
+    for name in ("crates/mr_low/src/lib.rt~", "crates/mr_low/out/kept", "crates/mr_low/must-fail/a.edit", "crates/mr_low/wrong-bodies/a.edit", "crates/mr_beside/src/lib.rt", "docs/NEW.md"):
+        place.put(name, "another")
+        got = place.run()
+        harness.check(f"{name} stands beside", got == place.ran(), repr(got))
+    copy = Place(harness)
+    shutil.rmtree(copy.top)
+    subprocess.run(["cp", "-r", place.top, copy.top], check=True)
+    got = copy.run()
+    harness.check("a copied tree", got[0][:2] == copy.ran()[0][:2] and not got[1], repr(got))
+    for name, text in (("crates.txt", CRATES + "# a comment\n"), ("crates/mr_low/src/lib.rt", "// another\n"), ("crates/mr_cli/specs/Lib.antt", "-- another\n"), ("HANDLES", "Handles allowed: Threads.\n")):
+        before = open(place.path(name)).read() if os.path.exists(place.path(name)) else None
+        place.put(name, text)
+        os.utime(place.path(name), (1_000_000, 1_000_000))
+        got = place.run()
+        harness.check(f"{name} is another", got == place.built(), repr(got))
+        got = place.run(), place.run(["--which"])[0][1]
+        harness.check(f"{name} is another, and it is built once", got == (place.ran(), place.which(BUILT)), repr(got))
+        os.remove(place.path(name)) if before is None else place.put(name, before)
+        got = place.run(), place.run(["--which"])[0][1]
+        harness.check(f"{name} is as before", got == (place.ran(RUNNING), place.which(CARRIED)), repr(got))
+    got = place.run(["--build", *SHOWN])
+    harness.check("it is built where that is asked", got == place.built(), repr(got))
+    got = place.run(), place.run(["--which"])[0][1]
+    harness.check("what was built here goes before what is carried", got == (place.ran(), place.which(BUILT)), repr(got))
+    place = Place(harness)
+    place.carry(b"one byte more")
+    got = place.run()
+    harness.check("a carried program of other bytes isn't run", got == place.built(), repr(got))
+    place = Place(harness)
+    place.carry()
+    place.put("out", "no folder")
+    for _ in range(2):
+        got = place.run()
+        harness.check("a tree that can't be written", got == place.ran(RUNNING), repr(got))
+
+
+def other_machine(harness):
+    """A processor without an instruction that the program may use is told, and nothing is run."""
+    place = Place(harness)
+    place.carry()
+    text = open(place.path("packaging/start.sh")).read()
+    place.put("cpuinfo", "processor\t: 0\nflags\t\t: fpu cx16 lahf_lm pni sse4_1 ssse3\n")
+    place.put("packaging/start.sh", text.replace("/proc/cpuinfo", place.path("cpuinfo")))
+    got = place.run()
+    harness.check("another processor", got[0][:2] == (125, b"") and got[0][2].startswith(RUNNING + b"mapred: the program is for Linux on x86-64-v2") and got[0][2].endswith(b"lacks popcnt sse4_2\n"), repr(got))
 
 
 def large_pages(harness):
@@ -110,26 +198,6 @@ def lanes(harness):
         harness.check(f"crates at a time {own}", got.returncode == 0 and int(got.stdout) in wanted, repr(got))
 
 
-def builds_anew(harness):
-    """What is newer than the program has it built again, and what it isn't made of doesn't."""
-    place = Place(harness)
-    place.run()
-    for name in ("crates.txt", "crates/mr_low/src/lib.rt", "crates/mr_cli/src/main.rt", "crates/mr_cli/specs/Lib.antt"):
-        place.put(name, CRATES if name == "crates.txt" else "", later=20)
-        place.date(PROGRAM, 10)
-        got = place.run()
-        harness.check(f"{name} is newer", got == BUILT, repr(got))
-        got = place.run()
-        harness.check(f"{name} is built once", got == RAN, repr(got))
-        place.date(PROGRAM, 30)
-        got = place.run()
-        harness.check(f"{name} is older", got == RAN, repr(got))
-    for name in ("crates/mr_low/out/kept", "crates/mr_low/must-fail/a.edit", "crates/mr_low/wrong-bodies/a.edit", "crates/mr_low_tests/src/main.rt", "docs/NEW.md"):
-        place.put(name, later=40)
-        got = place.run()
-        harness.check(f"{name} is newer", got == RAN, repr(got))
-
-
 def fails(harness):
     """A build that fails: all that rt said, status 125, and no program run."""
     for rt, told, said, calls in (("refuses", FIRST + COUNTS[0] + COUNTS[1], REFUSED, 1), ("stops", TOLD, FINE + b"clang stopped\n", 2), ("makes-nothing", TOLD, FINE + b"done\n", 2)):
@@ -140,24 +208,29 @@ def fails(harness):
     place = Place(harness)
     place.run()
     place.rt = "refuses"
-    place.date(PROGRAM, -10)
+    place.put("crates/mr_low/src/lib.rt", "// another\n")
     got = place.run()
-    harness.check("no program older than its sources is run", got[0][:2] == (125, b"") and got[1] == CALLS[:1], repr(got))
-    place = Place(harness)
-    os.remove(place.path("bin/rt"))
-    place.tools = place.path("tools")
-    os.mkdir(place.tools)
-    for name in ("bash", "readlink", "dirname", "find", "awk", "nproc"):
-        os.symlink(shutil.which(name), place.path(f"tools/{name}"))
-    got = place.run()
-    harness.check("no rt", got == ((125, b"", NO_RT), []), repr(got))
+    harness.check("no program of other sources is run", got[0][:2] == (125, b"") and got[1] == CALLS[:1], repr(got))
+    for is_carried in (False, True):
+        place = Place(harness)
+        os.remove(place.path("bin/rt"))
+        place.tools = place.path("tools")
+        os.mkdir(place.tools)
+        for name in ("bash", "readlink", "dirname", "find", "awk", "nproc", "sha256sum", "cut", "sort", "xargs", "cksum", "sed", "cat", "mkdir", "mv", "uname"):
+            os.symlink(shutil.which(name), place.path(f"tools/{name}"))
+        if is_carried:
+            place.carry()
+        got = place.run()
+        wanted = place.ran(RUNNING) if is_carried else ((125, b"", NO_RT), [])
+        harness.check(f"no rt, carried {is_carried}", got == wanted, repr(got))
 
 
 def launcher(harness):
     builds(harness)
+    carried(harness)
+    other_machine(harness)
     large_pages(harness)
     lanes(harness)
-    builds_anew(harness)
     fails(harness)
 
 

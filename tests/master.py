@@ -1,7 +1,7 @@
 """The master, event by event: worked histories, and a thousand drawn at random against a plain master.
 
 The library `mr_core` is reached through the small program `mr_rows_tests`, which the gate leaves beside the checked one: a
-line of numbers is an event, and the line that answers it tells the reply, made twice, and all that can be looked at."""
+line of numbers is an event, and the line that answers it tells the reply, made twice or once, and all that can be looked at."""
 import random
 import re
 import subprocess
@@ -25,9 +25,9 @@ class Master:
         """Opens a master of these splits, partitions, workers, attempts of a task, and records that may be left out."""
         self.tell(0, *sizes)
 
-    def answer(self, event):
-        """The reply, the same once more, and what can be looked at, as texts; no texts where a call failed."""
-        self.tell(KINDS[event[0]], *event[1:])
+    def answer(self, event, once=False):
+        """The reply, the same once more or `once`, and what can be looked at, as texts; no texts where a call failed."""
+        self.tell(KINDS[event[0]], *[*event[1:], 0][:2], int(once))
         reply, again, *looks = self.process.stdout.readline().rstrip("\n").split("|") + [""]
         return reply, again, looks[:-1]
 
@@ -180,15 +180,16 @@ HISTORIES = {
 
 
 def histories_by_hand(harness):
-    for name, (sizes, events, wanted) in HISTORIES.items():
-        master = Master()
-        master.open(*sizes)
-        looks = None
-        for event, reply in events:
-            told, again, looks = master.answer(event)
-            harness.check(f"{name}: {event} is answered {reply}", told == reply and again == reply)
-        harness.check(f"{name}: what can be looked at", looks == wanted)
-        harness.check(f"{name}: no call fails", master.close() == 0)
+    for once in (False, True):
+        for name, (sizes, events, wanted) in HISTORIES.items():
+            master = Master()
+            master.open(*sizes)
+            looks = None
+            for event, reply in events:
+                told, again, looks = master.answer(event, once)
+                harness.check(f"{name}: {event} is answered {reply}", told == reply and again == ("once" if once else reply))
+            harness.check(f"{name}: what can be looked at", looks == wanted)
+            harness.check(f"{name}: no call fails", master.close() == 0)
 
 
 def a_whole_job(harness):

@@ -93,11 +93,11 @@ def input_without_end(harness):
         file.truncate(3 << 30)
     limit = lambda: resource.setrlimit(resource.RLIMIT_AS, (5 << 29, 5 << 29))
     for command in ("seq", "check", "run"):
-        for files in (["/dev/zero"], ["small", "large", "nowhere"]):
+        for files in (["/dev/zero"], ["small", "large", "nowhere"], ["large", *["small"] * 1024]):
             words = [command, "--job", "words", "--parts", "1", "--out", ".", *files]
             ran = subprocess.run([harness.program, *words], cwd=where, capture_output=True, preexec_fn=limit, timeout=120)
             got = (ran.returncode, ran.stdout, ran.stderr, *result_of(where))
-            harness.check(f"{command} of {files}", got == (2, b"", b"mapred: TooLarge\n", [b""], b""), repr(got)[:300])
+            harness.check(f"{command} of {files[:3]}", got == (2, b"", b"mapred: TooLarge\n", [b""], b""), repr(got)[:300])
 
 
 def result_without_end(harness):

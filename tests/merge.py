@@ -7,6 +7,7 @@ import shutil
 import subprocess
 import sys
 
+from failing import shim, with_failing
 from harness import TOP, parts_of, seeded
 from plain import Request, named_records, produced
 from producer import options_of, random_job
@@ -14,7 +15,8 @@ from verdicts import contents, verdict_text
 
 ONE = {"a": b"The cat saw the dog.\nThe dog saw nothing.\n"}
 TWO = {"b": b"a cat\n\nthe end\n"}
-WORDS = Request("words", 2, 16)
+THREE = {"c": TWO["b"]}
+WORDS, THREE_PARTS = Request("words", 2, 16), Request("words", 3, 16)
 # The jobs whose shards are merged.
 MERGED = ("words", "grep", "url")
 
@@ -254,6 +256,55 @@ def files(harness):
     over_a_shard(harness)
 
 
+def in_both(name, old, new):
+    """The same change in the second and the third shard."""
+    return lambda shards: [changed(shard, name, old, new) for shard in shards[1:]]
+
+
+def with_three_parts(shards):
+    """The second shard is made with another number of partitions than the others."""
+    outputs, _, pairs = produced(THREE_PARTS, [*TWO.values()], [])
+    for name, data in result(outputs, verdict_text(THREE_PARTS, TWO.items(), outputs, [], pairs)).items():
+        with open(os.path.join(shards[1], name), "wb") as file:
+            file.write(data)
+
+
+def first_and_other(first, *others):
+    """Several changes."""
+    return lambda shards: [spoil(shards) for spoil in (first, *others)]
+
+
+# Of several faults the first is told: of one kind that of the first shard, of several kinds that which is tested first.
+FIRST_FAULTS = [
+    ("two texts that are no verdicts", in_both("verdict", b"verdict 1", b"verdict 2"), b"BadVerdict shard 1 line 0"),
+    ("two other requests", in_both("verdict", b"split 16\n", b"split 17\n"), b"OtherRequest shard 1"),
+    ("two parts that are others", in_both("part-00001", b"\t1", b"\t2"), b"OtherPart shard 1 partition 1"),
+    ("two parts of which the first shard's is of a later partition", first_and_other(edit("part-00001", b"\t1", b"\t2"), lambda shards: changed(shards[2], "part-00000", b"\t1", b"\t2")), b"OtherPart shard 2 partition 0"),
+    ("another number of partitions", with_three_parts, b"OtherRequest shard 1"),
+    ("an output too few, and before it another request", first_and_other(one_less, lambda shards: changed(shards[2], "verdict", b"split 16\n", b"split 17\n")), b"OtherRequest shard 2"),
+    ("an output too few, and an input that came before", first_and_other(one_less, edit("verdict", b" b\n", b" a\n")), b"OtherOutputs shard 1"),
+    ("an input that came before, and a part that is another", first_and_other(edit("verdict", b" b\n", b" a\n"), edit("part-00000", b"\t1", b"\t2")), b"RepeatedInput input 1"),
+]
+
+
+def first_faults(harness):
+    """Three shards with several faults, and the folder of a shard beside earlier ones: the first is told, and nothing but the result
+    changes."""
+    for name, spoil, text in FIRST_FAULTS:
+        shards = [write_shard(harness, WORDS, [*given], [*given.values()], []) for given in (ONE, TWO, THREE)]
+        spoil(shards)
+        before = [contents(shard) for shard in shards]
+        got = merged(harness, harness.directory(), shards)
+        harness.check(name, got == (1, b"", b"mapred: " + text + b"\n") and [contents(s) for s in shards] == before, repr(got))
+    shards = two_shards(harness)
+    other = os.path.join(harness.directory({"list": b""}), "list")
+    rows = [(["--inputs", other], [], 1, b"OtherInputs line 0"), (["--inputs", "missing"], [], 3, b"cannot read missing"), ([], [shards[0]], 1, b"RepeatedInput input 2"), ([], [], 2, b"SameFolder shard 1")]
+    before = [contents(shard) for shard in shards]
+    for more, again, status, text in rows:
+        got = merged(harness, shards[1], [*shards, *again], more)
+        harness.check(f"into a shard's folder, {text}", got == (status, b"", b"mapred: " + text + b"\n") and [contents(s) for s in shards] == before, repr(got))
+
+
 def over_a_shard(harness):
     """The folder of a shard is refused for the result, by its name and by others, and nothing in it changes."""
     shards = two_shards(harness)
@@ -264,6 +315,35 @@ def over_a_shard(harness):
     for out, shard in ((shards[1], 1), (shards[0] + "/", 0), (os.path.relpath(shards[1], where), 1), ("link", 1), (shards[0] + "/../" + os.path.basename(shards[0]), 0)):
         got = harness.run(["merge", "--out", out, *verdicts], cwd=where)[:3]
         harness.check(f"over a shard, {out}", got == (2, b"", b"mapred: SameFolder shard %d\n" % shard) and [contents(s) for s in shards] == before, repr(got))
+
+
+def same_files(harness):
+    """A file of the result that is one that is read, by its name or by a link, or that is written twice, is refused, and nothing
+    changes; what goes to a device passes."""
+    text = listing([*ONE.items(), *TWO.items()])
+    rows = [
+        ("the list as a part", lambda where, shards: harness.directory({"part-00001": text}, where), ["--inputs", "part-00001"], b"./part-00001"),
+        ("the list as the verdict", lambda where, shards: harness.directory({"verdict": text}, where), ["--inputs", "verdict"], b"./verdict"),
+        ("a link to a verdict", lambda where, shards: os.symlink(os.path.join(shards[1], "verdict"), os.path.join(where, "verdict")), [], b"./verdict"),
+        ("a link to a shard's part", lambda where, shards: os.symlink(os.path.join(shards[0], "part-00001"), os.path.join(where, "part-00000")), [], b"./part-00000"),
+        ("a second name of a shard's part", lambda where, shards: os.link(os.path.join(shards[1], "part-00000"), os.path.join(where, "part-00001")), [], b"./part-00001"),
+        ("a link to a part that is to be", lambda where, shards: os.symlink("part-00000", os.path.join(where, "part-00001")), [], b"./part-00001"),
+        ("a link from the verdict to a part", lambda where, shards: os.symlink("part-00001", os.path.join(where, "verdict")), [], b"./verdict"),
+    ]
+    for name, put, more, told in rows:
+        shards, where = two_shards(harness), harness.directory({"part-00000": b"old"} if told != b"./part-00000" else {})
+        put(where, shards)
+        before = [sorted(os.listdir(where)), *map(contents, shards)]
+        got = merged(harness, where, shards, more)
+        harness.check(name, got == (2, b"", b"mapred: SameFile " + told + b"\n") and [sorted(os.listdir(where)), *map(contents, shards)] == before, repr(got))
+    where = harness.directory({"part-00001": listing([*TWO.items()])})
+    got = merged(harness, where, two_shards(harness), ["--inputs", "part-00001"])
+    harness.check("another list is told first", got == (1, b"", b"mapred: OtherInputs line 0\n"), repr(got))
+    where = harness.directory()
+    for part in ("part-00000", "part-00001"):
+        os.symlink("/dev/null", os.path.join(where, part))
+    got = merged(harness, where, two_shards(harness))
+    harness.check("a device may be written twice", got[0] == 0, repr(got))
 
 
 def in_little_memory(harness, shards, size=32):
@@ -324,17 +404,18 @@ def falling_keys(harness):
 
 
 def long_lines(harness):
-    """A line of 4 MiB, and two of them, in one of eight parts of 3 MB: the windows of the others don't grow by as much."""
-    count, words = 250_000, Request("words", 1, 16)
-    for lines in (1, 2):
-        long = [b"%d" % line + b"x" * (4 << 20) + b"\t1\n" for line in range(lines)]
+    """A line of 4 MiB, and two of them, in one of eight parts, behind its other lines or among them: the windows of the others don't
+    grow by as much."""
+    words = Request("words", 1, 16)
+    for name, count, keys in (("a line", 250_000, [b"0"]), ("two lines", 250_000, [b"0", b"1"]), ("a line in the middle", 500_000, [b"02000000"])):
+        long = [key + b"x" * (4 << 20) + b"\t1\n" for key in keys]
         parts = [lines_of(range(shard, 8 * count, 8)) for shard in range(8)]
         parts[3] = b"".join(sorted([*parts[3].splitlines(True), *long]))
         pairs = [part.count(b"\n") for part in parts]
         got = in_little_memory(harness, [(words, part, 9 << 20, number) for part, number in zip(parts, pairs)], 80)
         want = (0, b"merged: 1 files, %d pairs, 0 left out\n" % sum(pairs), b"")
         whole = b"".join(sorted(b"".join(parts).splitlines(True)))
-        harness.check(f"{lines} lines of 4 MiB in little memory", got == (want, whole), repr(got[0]))
+        harness.check(f"{name} of 4 MiB in little memory", got == (want, whole), repr(got[0]))
 
 
 def listing(given):
@@ -374,6 +455,48 @@ def lists(harness):
     harness.check("the same, not escaped", got == (1, b"", b"mapred: OtherInputs line 0\n"), repr(got))
     got = merged(harness, where, two_shards(harness), ["--inputs", "missing"])
     harness.check("no list", got == (3, b"", b"mapred: cannot read missing\n"), repr(got))
+
+
+def is_left(stands, whole, given):
+    """Whether this is what a merge leaves that is cut short: all as it was; or an empty verdict, the first parts whole, the next one
+    as it was or in part, and the others as they were; or all parts, and a beginning of the verdict."""
+    parts = sorted(name for name in whole if name.startswith("part-"))
+    made = next((at for at, name in enumerate(parts) if stands.get(name) != whole[name]), len(parts))
+    as_was = all(stands.get(name) == given.get(name) for name in ["list", *parts[made + 1:]])
+    begun = all(stands.get(name) == given.get(name) or (name in stands and whole[name].startswith(stands[name])) for name in parts[made:made + 1])
+    verdict = whole["verdict"] if made == len(parts) else b""
+    return stands == given or (as_was and begun and set(stands) <= set(whole) and verdict.startswith(stands["verdict"]))
+
+
+def failing_calls(harness):
+    """Each allocation, opening, read and write of a merge fails in turn: the answer is the refusal's own, and nothing else changes."""
+    library = shim(harness)
+    if library is None:
+        return
+    given = {"list": listing([*ONE.items(), *TWO.items()]), "part-00001": b"old", "verdict": b"old"}
+    words = ["merge", "--out", ".", "--inputs", "list", *(os.path.join(shard, "verdict") for shard in two_shards(harness))]
+    whole, _ = with_failing(harness, library, "none", words, given)
+    harness.check("a merge without a failing call", whole[:3] == (0, b"merged: 2 files, 13 pairs, 0 left out\n", b""), repr(whole))
+    short, _ = with_failing(harness, library, "short 0", words, given)
+    harness.check("a merge a byte a call", short == whole, repr(short))
+    for kind, status, said in (("malloc", 4, b"mapred: out of memory\n"), ("open", 3, b"mapred: cannot "), ("read", 3, b"mapred: cannot read "), ("write", 3, b"mapred: cannot write ")):
+        number, marked = 0, True
+        while marked:
+            number += 1
+            got, marked = with_failing(harness, library, f"{kind} {number}", words, given)
+            failed = got
+            refused = got[:2] == (status, b"") and got[2].startswith(said) and got[2].count(b"\n") == 1 and is_left(got[3], whole[3], given)
+            unprinted = kind == "write" and got == (0, b"", b"", whole[3])
+            # a thread that can't be made is done without
+            harness.check(f"merge, {kind} {number} fails", refused or unprinted or (got == whole and (kind == "malloc" or not marked)), repr(got))
+            if kind != "malloc" and marked:
+                if not unprinted:
+                    got, _ = with_failing(harness, library, f"{kind} {number}", words, given, FAIL_MEMORY="1")
+                    harness.check(f"merge, {kind} {number} wants memory", got[:3] == (4, b"", b"mapred: out of memory\n") and is_left(got[3], whole[3], given), repr(got))
+                want = whole if kind == "open" or unprinted else failed
+                got, _ = with_failing(harness, library, f"{kind} {number}", words, given, FAIL_INTERRUPTED="1")
+                harness.check(f"merge, {kind} {number} is interrupted", got == want, repr(got))
+        harness.check(f"a merge comes to some {kind}", number > 1)
 
 
 # A program that is killed, or kills who started it, at its first attempt at a name, and then is mapred.
@@ -442,4 +565,4 @@ def dask(harness, words, where, whole):
     harness.check("by Dask, a worker killed", ran.returncode == 0 and os.listdir(room) == ["worker"] and parts_of(os.path.join(where, "out")) == parts_of(whole), repr(ran))
 
 
-GROUPS = {"shards merged": random_jobs, "misspelled verdicts of shards": bad_texts, "shards and one execution": by_seq, "shards refused": refusals, "shards in files": files, "shards' inputs": lists, "shards in little memory": little_memory, "equal lines of shards": equal_lines, "keys that fall in shards": falling_keys, "long lines of shards": long_lines, "shards by a runner": runner}
+GROUPS = {"shards merged": random_jobs, "misspelled verdicts of shards": bad_texts, "shards and one execution": by_seq, "shards refused": refusals, "shards in files": files, "the first fault of shards": first_faults, "files that a merge reads and would write": same_files, "failing calls of a merge": failing_calls, "shards' inputs": lists, "shards in little memory": little_memory, "equal lines of shards": equal_lines, "keys that fall in shards": falling_keys, "long lines of shards": long_lines, "shards by a runner": runner}

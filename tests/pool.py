@@ -25,7 +25,7 @@ class Answer:
     def __init__(self, text, status=0, is_late=False):
         self.status, self.is_late, self.lines = status, is_late, text.splitlines()
         words = (self.lines or [""])[0].split(" ", 1)
-        self.kind, self.fault = words[0], words[1] if len(words) > 1 else ""
+        self.kind, self.fault = words[0].rstrip(":"), words[1] if len(words) > 1 else ""
         of = lambda what: [line[len(what) + 1 :] for line in self.lines if line.startswith(what + " ")]
         self.outputs = [bytes.fromhex(digits) for digits in of("file")]
         self.certificate = bytes.fromhex("".join(of("certificate")))
@@ -156,6 +156,10 @@ def a_gate(harness):
         harness.check(f"of {workers} workers one goes on while another is held", answer.gate == "passed" and answer.short() == CATS_DONE, repr(answer))
     answer = ran(TWO_PARTS, CATS, workers=1, mode="gate")
     harness.check("one worker can't", answer.gate == "failed" and answer.short() == CATS_DONE, repr(answer))
+    library = shim(harness)
+    if library is not None:
+        answer = ran(TWO_PARTS, CATS, workers=4, mode="gate", LD_PRELOAD=library, FAIL="thread 1")
+        harness.check("four workers on one thread can't", answer.gate == "failed" and answer.short() == CATS_DONE, repr(answer))
 
 
 def a_backup_whose_output_is_lost(harness):
@@ -228,6 +232,17 @@ def many_tasks(harness):
         answer = ran(request, files, script, 64, mode="brief")
         same = answer.outputs == outputs and answer.certificate == certificate.bytes()
         harness.check(f"5000 map tasks over 64 workers under {script!r}", same and answer.fault == f"{pairs} pairs", repr(answer)[:300])
+
+
+def many_pairs(harness):
+    """One split of more pairs than a map task keeps at once: its output has several runs, and a reduce task takes them all."""
+    words = [b"w%d" % (number % 997) for number in range(100_000)]
+    files = [b"".join(b" ".join(words[at : at + 10]) + b"\n" for at in range(0, len(words), 10))]
+    request = Request("words", parts=2)
+    outputs, certificate, _ = produced(request, files)
+    answer = ran(request, files, mode="brief")
+    same = answer.outputs == outputs and answer.certificate == certificate.bytes()
+    harness.check("100,000 words in one split", same and answer.fault == "100000 pairs", repr(answer)[:300])
 
 
 # The jobs whose runs are told by the program `mr_pool_tests`, and those of all runs.
@@ -304,10 +319,10 @@ def each_allocation(harness):
             # the program itself ends with status 1 where it is refused memory while it reads or tells
             is_own = answer.status == 1 and answer.lines == whole.lines[: len(answer.lines)] or answer.kind == "refused"
             refused |= {answer.kind}
-            fits = not answer.is_late and (marked and (answer.kind == "out" or is_own) or answer.short() == whole.short())
+            fits = not answer.is_late and (marked and (answer.kind == "OutOfMemory" or is_own) or answer.short() == whole.short())
             harness.check(f"allocation {number} of {workers} workers fails", fits, repr(answer))
         harness.check(f"{workers} workers take memory", number > 50, str(number))
-    harness.check("a run is refused memory", "out" in refused, repr(refused))
+    harness.check("a run is refused memory", "OutOfMemory" in refused, repr(refused))
 
 
 def no_threads(harness):
@@ -316,7 +331,7 @@ def no_threads(harness):
     for workers in (2, 16, 64):
         for script in (b"", b"lose 1 after 0\nhold 0\nflaky 0 0 1\n"):
             answer = ran(TWO_PARTS, CATS, script, workers, limit=room)
-            harness.check(f"{workers} workers with little memory under {script!r}", answer.short() == CATS_DONE or answer.kind == "out", repr(answer))
+            harness.check(f"{workers} workers with little memory under {script!r}", answer.short() == CATS_DONE or answer.kind == "OutOfMemory", repr(answer))
 
 
 ALL = {
@@ -329,6 +344,7 @@ ALL = {
     "who looks on at a run": who_looks_on,
     "sections that fit together": sections_fit,
     "many tasks": many_tasks,
+    "many pairs in a split": many_pairs,
     "random runs": random_runs,
     "each allocation of a run": each_allocation,
     "runs without threads": no_threads,

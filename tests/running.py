@@ -9,7 +9,7 @@ import time
 from concurrent.futures import ThreadPoolExecutor
 
 from failing import shim, with_failing
-from harness import parts_of, read_result
+from harness import parts_of, read_result, write_result
 from hints import on_terminal
 from plain import Request
 from pool import CATS, LETTERS, ONE_PART, TWO_PARTS, random_case
@@ -196,15 +196,31 @@ def faults(harness):
     harness.check("run: the result's directory isn't there", got == (3, b"", b"mapred: cannot write none/part-00000\n"), repr(got))
 
 
-def a_history_named_as_a_part(harness):
-    """Whatever the history's name, a certified result stands whole."""
-    for name in ("out/part-00000", "out/certificate", "in0"):
-        named = {"in0": CATS[0]}
-        where = harness.directory(named)
+def a_history_named_as_another_file(harness):
+    """A history takes the place of no file that a run reads or writes besides, by whatever name: nothing is written then."""
+    words = ["run", *TWO_PARTS.options(), "--script", "script", "--out", "out", "in0", "--history"]
+    for made in (False, True):
+        for name in ("out/part-00000", "./out/part-00001", "out/../out/certificate", "in0", "./in0", "script", "to-in0", "to-part", "in0-again"):
+            where = harness.directory({"in0": CATS[0], "script": b""})
+            os.makedirs(os.path.join(where, "out"))
+            if made:
+                write_result(os.path.join(where, "out"), [b"old", b"older"], b"oldest")
+            os.symlink("in0", os.path.join(where, "to-in0"))
+            os.symlink("out/part-00000", os.path.join(where, "to-part"))
+            os.link(os.path.join(where, "in0"), os.path.join(where, "in0-again"))
+            stands = read_result(os.path.join(where, "out")) if made else os.listdir(os.path.join(where, "out"))
+            got = harness.run([*words, name], cwd=where)[:3]
+            # the history is written first, so it is told where it clashes with what is read; else the file of the result is
+            first = name if name in ("in0", "./in0", "script", "to-in0", "in0-again") else {"out/part-00000": "out/part-00000", "./out/part-00001": "out/part-00001", "to-part": "out/part-00000"}.get(name, "out/certificate")
+            kept = (read_result(os.path.join(where, "out")) if made else os.listdir(os.path.join(where, "out"))) == stands
+            same = [open(os.path.join(where, file), "rb").read() for file in ("in0", "script")] == [CATS[0], b""]
+            harness.check(f"a history named {name}, {made}", got == (2, b"", b"mapred: SameFile %s\n" % first.encode()) and kept and same, repr(got))
+    for name in ("/dev/null", "/dev/stdout"):
+        where = harness.directory({"in0": CATS[0]})
         os.makedirs(os.path.join(where, "out"))
+        os.symlink("/dev/null", os.path.join(where, "out", "part-00001"))
         status, out, _, _ = harness.run(["run", *TWO_PARTS.options(), "--history", name, "--out", "out", "in0"], cwd=where)
-        parts, certificate = read_result(os.path.join(where, "out"))
-        harness.check(f"a history named {name}", (status, out, parts) == (0, CATS_LINE, CATS_PARTS) and certificate[:7] == b"MRCERT1", repr((status, out, parts)))
+        harness.check(f"a history to {name}", status == 0 and out.endswith(CATS_LINE) and open(os.path.join(where, "out/part-00000"), "rb").read() == CATS_PARTS[0], repr(out))
 
 
 def stopped(harness):
@@ -317,7 +333,7 @@ GROUPS = {
     "worked runs of the program": worked_runs,
     "random runs of the program": random_runs,
     "faults of a run": faults,
-    "a history named as a part": a_history_named_as_a_part,
+    "a history named as another file": a_history_named_as_another_file,
     "a run that is stopped": stopped,
     "progress at a terminal": progress,
     "many tasks of the program": many_tasks,

@@ -99,14 +99,27 @@ def refused(harness):
 
 
 def over_what_was_judged(harness):
-    """Names aren't compared: a verdict under the name of a part or of an input stands in its place, and is about what stood there."""
-    for file in ("b", "part-00000", "certificate"):
+    """A verdict takes the place of no file that is judged, by whatever name: nothing is written then, whatever the judge would say."""
+    for file in ("b", "./b", "part-00000", "../%s/part-00001", "certificate", "to-b", "to-part", "other-b", "other-certificate"):
         where = harness.run(["seq", *WORDS, *TEXT], TEXT)[3]
-        given = contents(where)
-        apart = os.path.join(harness.directory(), "verdict")
-        harness.run(["check", *WORDS, "--verdict", apart, *TEXT], cwd=where)
-        got = harness.run(["check", *WORDS, "--verdict", file, *TEXT], cwd=where)[:3]
-        harness.check(f"over {file}", got[0] == 0 and contents(where) == {**given, file: open(apart, "rb").read()}, repr(got))
+        os.symlink("b", os.path.join(where, "to-b"))
+        os.symlink(os.path.join(where, "part-00000"), os.path.join(where, "to-part"))
+        os.link(os.path.join(where, "b"), os.path.join(where, "other-b"))
+        os.link(os.path.join(where, "certificate"), os.path.join(where, "other-certificate"))
+        file = file.replace("%s", os.path.basename(where))
+        for data in (TEXT["a"], b"other\n"):
+            harness.directory({"a": data}, where)
+            stands = contents(where)
+            got = harness.run(["check", *WORDS, "--verdict", file, *TEXT], cwd=where)[:3]
+            harness.check(f"over {file}", got == (2, b"", b"mapred: SameFile %s\n" % file.encode()) and contents(where) == stands, repr(got))
+    where = harness.run(["seq", *WORDS, *TEXT], TEXT)[3]
+    os.remove(os.path.join(where, "certificate"))
+    stands = contents(where)
+    got = harness.run(["check", *WORDS, "--verdict", "./certificate", *TEXT], cwd=where)[:3]
+    harness.check("over a certificate that isn't there", got == (2, b"", b"mapred: SameFile ./certificate\n") and contents(where) == stands, repr(got))
+    where = harness.run(["seq", *WORDS, *TEXT], TEXT)[3]
+    got = harness.run(["check", *WORDS, "--verdict", "/dev/stdout", *TEXT], cwd=where)[:3]
+    harness.check("a verdict on standard output", got[0] == 0 and got[1].startswith(b"verdict 1\n") and got[1].endswith(b"yes: 11 pairs, 0 left out\n"), repr(got))
 
 
 GROUPS = {"verdicts": texts, "verdicts not written": not_written, "verdicts refused": refused, "verdicts over what was judged": over_what_was_judged}

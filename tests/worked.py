@@ -86,6 +86,9 @@ def refusals(harness):
     refused(harness, "other partitions", b"OtherJob", data, [*good, b""], EXAMPLE)
     wrong = certificate_of((1, 0), b"", (3, 64), [2], [], [[[(0, 0, 0)]], [], []])
     refused(harness, "a key in another's partition", b"WrongPartition " + entry % (0, 0), b"a\n", [b"a\t1\n", b"", b""], wrong)
+    # of eight partitions `a` falls in 4 and `b` in 5; the last part is read though no key falls there
+    eight = certificate_of((1, 0), b"", (8, 64), [6], [], [[], [], [], [], [[(0, 0, 0), (0, 0, 2)]], [[(0, 0, 1)]], [], []])
+    refused(harness, "bytes in a partition without keys", b"OutputDiffers partition 7 at 0", data, [*[b""] * 4, b"a\t2\n", b"b\t1\n", b"", b"x"], eight)
     listed = lambda *skips: certificate_of((1, 0), b"", (1, 64), [6], skips, [[[(0, 1, 0)]]])
     two, most = (b"a b\nc\n", [b"c\t1\n"]), ["--max-skips", "2"]
     refused(harness, "a left-out record too many", b"TooManySkips listed 1", *two, listed((0, 0)))

@@ -4,13 +4,17 @@
 Those in crates/CRATE/must-fail/ the gate tries (`rt ci`), by checks of the whole crate. Those in crates/CRATE/wrong-bodies/
 stand beside, and are tried by a check of the function that they change and of those that it calls, which takes seconds:
 
-    python3 tests/wrong_bodies.py [CRATE ..]      all of these crates (of all crates: hours)
-    python3 tests/wrong_bodies.py --each-test     those with a line `only: FUNCTION`, as each ./test does
+    python3 tests/wrong_bodies.py [CRATE ..]              all of these crates (of all crates: hours)
+    python3 tests/wrong_bodies.py --each-test [CRATE ..]  those with a line `only: FUNCTION`, as each ./test does
+    python3 tests/wrong_bodies.py --compile [CRATE ..]    that each of both folders compiles, by the front end alone
 
 It stands on the libraries that the gate left, or builds them, and first sees that the functions are proved as they are.
-A body that such a check lets pass is tried by a check of its whole crate. The last line is 'N passed, M failed'."""
+A body that such a check lets pass is tried by a check of its whole crate. Those of a crate that change different lines
+are compiled together, and by halves where that fails; a crate is passed over where out/compiled names the digest of what
+is compiled. The last line is 'N passed, M failed'."""
 import argparse
 import functools
+import hashlib
 import os
 import re
 import shutil
@@ -23,8 +27,10 @@ TOP = os.path.dirname(os.path.dirname(os.path.abspath(__file__)))
 CRATES = os.path.join(TOP, "crates")
 # What a crate is checked from.
 PARTS = ("src", "specs", "proofs")
-# How long a check may take, in seconds, and what memory it may take.
-LONGEST, LARGEST = 3600, 4_000_000_000
+# How long a check may take, in seconds, and what memory it may take; what one of the front end alone takes.
+LONGEST, LARGEST, FRONT = 3600, 4_000_000_000, 1_500_000_000
+# For each crate whose wrong bodies compiled, a file of its name with the digest of what was compiled.
+COMPILED = os.path.join(TOP, "out", "compiled")
 
 
 class Edit:
@@ -50,6 +56,11 @@ class Edit:
                 return None
             wrong = wrong.replace(old, new)
         return wrong if wrong != text and self.is_whole else None
+
+    def lines(self):
+        """The lines of its file that it changes."""
+        text = read(os.path.join(CRATES, self.crate, self.file))
+        return {(self.file, text.count("\n", 0, max(text.find(old), 0))) for old, _ in self.pairs}
 
     def functions(self):
         """The functions that its lines `only:` name, else the one that it changes first, by its name and that of the impl around it."""
@@ -188,7 +199,69 @@ class Room:
                 ran = self.check([])
         finally:
             write(path, text)
-        return None if is_refusal(ran, edit) else ran.stdout[-900:]
+        return None if is_refusal(ran, edit) else "NOT REFUSED: " + ran.stdout[-900:]
+
+    def compiles(self, bodies):
+        """Whether the crate compiles with all of these wrong bodies at once."""
+        files = {edit.file: read(os.path.join(self.folder, edit.file)) for edit in bodies}
+        changed = dict(files)
+        for edit in bodies:
+            changed[edit.file] = changed[edit.file] and edit.changed(changed[edit.file])
+        if None in changed.values():
+            return False
+        try:
+            for name, text in changed.items():
+                write(os.path.join(self.folder, name), text)
+            return self.check([""]).returncode == 0
+        finally:
+            for name, text in files.items():
+                write(os.path.join(self.folder, name), text)
+
+    def not_compiling(self, bodies):
+        """Those of these wrong bodies, which change different lines, that don't compile."""
+        if self.compiles(bodies):
+            return []
+        half = len(bodies) // 2
+        return [*self.not_compiling(bodies[:half]), *self.not_compiling(bodies[half:])] if half else bodies
+
+
+def apart(bodies):
+    """These wrong bodies in groups, in each of which all change different lines."""
+    groups = []
+    for edit in bodies:
+        for lines, group in groups:
+            if not lines & edit.lines():
+                break
+        else:
+            lines, group = set(), []
+            groups.append((lines, group))
+        lines.update(edit.lines())
+        group.append(edit)
+    return [group for _, group in groups]
+
+
+def digest(crate, bodies):
+    """The digest of all that the wrong bodies of a crate are compiled from: the kit, the code of the crate and below it, and the bodies."""
+    found = hashlib.sha256(subprocess.run(["rt", "version"], capture_output=True).stdout)
+    names = [name for it in [*crate.below(), crate] for name in sorted(it.files()) if name.endswith(".rt")]
+    for name in [*names, *(os.path.join(CRATES, edit.crate, edit.folder, edit.name) for edit in bodies)]:
+        found.update(f"{os.path.relpath(name, TOP)}\n{read(name)}".encode())
+    return found.hexdigest()
+
+
+def compiled(crate, bodies):
+    """For each wrong body of a crate, nothing where it compiles, else why not."""
+    found, kept = digest(crate_named(crate), bodies), os.path.join(COMPILED, crate)
+    if os.path.isfile(kept) and read(kept) == found:
+        return [(edit, None) for edit in bodies]
+    crate_named(crate).build_below()
+    with tempfile.TemporaryDirectory(prefix="mapred-wrong-") as folder:
+        room = Room(crate, folder)
+        failed = [edit for group in apart(bodies) for edit in room.not_compiling(group)]
+    if not failed:
+        os.makedirs(COMPILED, exist_ok=True)
+        write(kept, found)
+    return [(edit, "it doesn't compile" if edit in failed else None) for edit in bodies]
 
 
 def tried(crate, of_crate):
@@ -202,27 +275,36 @@ def tried(crate, of_crate):
         return [(edit, room.why_let_pass(edit, known)) for edit in of_crate]
 
 
-def lanes():
-    """How many checks run side by side: one for each processor but one, which the checks from outside take."""
+def lanes(each):
+    """How many checks of this memory run side by side: one for each processor but one, which the checks from outside take."""
     free = 1024 * int(re.search(r"MemAvailable:\s+(\d+)", read("/proc/meminfo")).group(1))
-    return max(min(len(os.sched_getaffinity(0)) - 1, free // LARGEST), 1)
+    return max(min(len(os.sched_getaffinity(0)) - 1, free // each), 1)
+
+
+def print_each(work, found, each, good):
+    """Prints what came of each wrong body of these, by crate, and gives how many went well and how many didn't."""
+    passed = failed = 0
+    with ThreadPoolExecutor(lanes(each)) as pool:
+        for given in pool.map(work, found, found.values()):
+            for edit, why in given:
+                if why or good:
+                    print(f"{edit}: {why or good}", flush=True)
+                passed, failed = passed + (why is None), failed + (why is not None)
+    return passed, failed
 
 
 def main():
     parser = argparse.ArgumentParser(description=__doc__, formatter_class=argparse.RawDescriptionHelpFormatter)
     parser.add_argument("crates", nargs="*", metavar="CRATE", help="the crates whose wrong bodies are tried")
     parser.add_argument("--each-test", action="store_true", help="try those with a line only: alone")
+    parser.add_argument("--compile", action="store_true", help="see that all compile, and try none")
     asked = parser.parse_args()
     found = {}
     for edit in edits():
-        if edit.folder == "wrong-bodies" and (edit.only or not asked.each_test) and (edit.crate in asked.crates or not asked.crates):
+        is_meant = asked.compile or (edit.folder == "wrong-bodies" and (edit.only or not asked.each_test))
+        if is_meant and (edit.crate in asked.crates or not asked.crates):
             found.setdefault(edit.crate, []).append(edit)
-    passed = failed = 0
-    with ThreadPoolExecutor(lanes()) as pool:
-        for given in pool.map(tried, found, found.values()):
-            for edit, why in given:
-                print(f"{edit}: {'NOT REFUSED: ' + why if why else 'refused'}", flush=True)
-                passed, failed = passed + (why is None), failed + (why is not None)
+    passed, failed = print_each(compiled, found, FRONT, None) if asked.compile else print_each(tried, found, LARGEST, "refused")
     print(f"{passed} passed, {failed} failed")
     return 1 if failed else 0
 

@@ -1,7 +1,7 @@
 -- The exit statuses.
 use Rattle.std.specs.Prelude.{◌≡◌, ℕ}
 use Rattle.mr_asked.specs.declared.fault.Fault.{Fault}
-use Rattle.mr_asked.specs.declared.fault.Fault.TheVariants.{Job, Run, Script, Shards, CannotRead, CannotWrite, OutOfMemory}
+use Rattle.mr_asked.specs.declared.fault.Fault.TheVariants.{Job, Run, Script, Shards, CannotRead, CannotWrite, SameFile, OutOfMemory}
 use Rattle.mr_files.specs.declared.store.FileFault.{FileFault}
 use Rattle.mr_files.specs.declared.store.FileFault.TheVariants as file
 use Rattle.mr_jobs.specs.declared.job.JobFault.{JobFault}
@@ -46,10 +46,11 @@ abbrev pub TellsScript : ScriptFault → Fault → Type 0
 TellsScript script.OutOfMemory told = told ≡ OutOfMemory
 TellsScript fault told = told ≡ Script fault
 
--- a file that can't be read or written too
+-- a file that can't be read or written too, and one that would be written over
 abbrev pub TellsShards : ShardFault → Fault → Type 0
 TellsShards (shards.CannotRead name) told = told ≡ CannotRead name
 TellsShards (shards.CannotWrite name) told = told ≡ CannotWrite name
+TellsShards (shards.SameFile name) told = told ≡ SameFile name
 TellsShards shards.OutOfMemory told = told ≡ OutOfMemory
 TellsShards fault told = told ≡ Shards fault
 

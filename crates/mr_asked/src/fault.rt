@@ -33,6 +33,8 @@ pub enum Fault {
     Script(ScriptFault),
     /// Why shards are not merged; faults of files and want of memory are told as themselves.
     Shards(ShardFault),
+    /// The file of this name would be written, and is read too, or written under another name before.
+    SameFile(String),
     CannotRead(String),
     CannotWrite(String),
     OutOfMemory,
@@ -110,6 +112,7 @@ impl From<ShardFault> for Fault {
         match fault {
             ShardFault::CannotRead(name) => Fault::CannotRead(name),
             ShardFault::CannotWrite(name) => Fault::CannotWrite(name),
+            ShardFault::SameFile(name) => Fault::SameFile(name),
             ShardFault::OutOfMemory => Fault::OutOfMemory,
             other => Fault::Shards(other),
         }
@@ -170,6 +173,7 @@ impl fmt::Display for Fault {
             Fault::LineEndInName { file } => write!(f, "mapred: LineEndInName file {file}\n"),
             Fault::Script(fault) => write_told(f, fault),
             Fault::Shards(fault) => write_told(f, fault),
+            Fault::SameFile(name) => write!(f, "mapred: SameFile {name}\n"),
             Fault::CannotRead(name) => write!(f, "mapred: cannot read {name}\n"),
             Fault::CannotWrite(name) => write!(f, "mapred: cannot write {name}\n"),
             Fault::OutOfMemory => write_told(f, &"out of memory"),

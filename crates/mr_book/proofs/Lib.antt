@@ -2,3 +2,4 @@ pub mod Histories
 pub mod Shelves
 pub mod StoredLaws
 pub mod Assemblies
+pub mod Faithful

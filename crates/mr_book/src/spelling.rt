@@ -4,8 +4,9 @@ ghost use Rattle.std.specs.List.{AllByRecursion};
 ghost use Rattle.mr_input.specs.Files.{contents};
 ghost use Rattle.mr_certform.specs.Value.{CanSpell, Spells, SpellsIn};
 ghost use Rattle.mr_core.specs.declared.event.End.{End};
+ghost use Rattle.mr_sequential.specs.Good.{IsGoodResult};
 ghost use Rattle.mr_assembled.specs.Assembled.{assembled_certificate, assembled_outputs};
-ghost use Rattle.mr_assembled.specs.Faithful.{IsOpenedFor};
+ghost use Rattle.mr_assembled.specs.Faithful.{IsFaithful, IsOpenedFor};
 ghost use Rattle.mr_book.specs.Assembling.{SpellsWhereItCan, committed_groups, reduced_under};
 
 use crate::book::Book;
@@ -112,8 +113,8 @@ impl<L: Ledger> Book<L> {
     }
 
     /// The files of a job that is done, and the bytes of its certificate: what `assemble` gives, spelled in this version, or
-    /// in version 1 where this one can't spell it. Each name is spelled from where it is stored, and no list of all names
-    /// is made.
+    /// in version 1 where this one can't spell it. They are a good result where `assemble` says that the files are good. Each
+    /// name is spelled from where it is stored, and no list of all names is made.
     pub fn assemble_bytes(
         &self,
         alloc: Global,
@@ -128,12 +129,15 @@ impl<L: Ledger> Book<L> {
             (λ r. Spells r.1.items (assembled_certificate request.now input.now (reduced_under self.now.reduces) self.now.state)) }
         ensures version { IfOk result
             (λ r. SpellsWhereItCan version r.1.items (assembled_certificate request.now input.now (reduced_under self.now.reduces) self.now.state)) }
+        ensures good { IsFaithful request.now input.now self.now.history self.now.state (reduced_under self.now.reduces)
+            → IfOk result (λ r. IsGoodResult request.now input.now (contents r.0.items) r.1.items) }
     {
-        // Book and input are within their limits, and the book keeps a run: that there is a certificate of them rests on
-        // that.
+        // Book, input and request are within their limits, and the book keeps a run: that there is a certificate of them,
+        // and that it is good, rests on that.
         let _limits = self.core().limits();
         let _shape = self.shape();
         let _files = input.files();
+        let _size = request.split_size();
         let skips = self.records_left_out(alloc)?;
         let header = header_of(alloc, request, input, skips.as_slice())?;
         let texts = self.committed_texts(alloc)?;

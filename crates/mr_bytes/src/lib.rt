@@ -58,6 +58,15 @@ pub enum Value {
     At { file: u32, offset: u64 },
 }
 
+/// What of a key chooses its partition.
+#[derive(Clone, Copy, PartialEq, Eq, Debug)]
+pub enum By {
+    /// The whole key.
+    Key,
+    /// The host of the resource that the key is.
+    Host,
+}
+
 /// Whether the byte is an upper-case letter of ASCII, 0x41 to 0x5A.
 pub fn is_upper(b: u8) -> bool
     ensures { result ≡ is_upper b }

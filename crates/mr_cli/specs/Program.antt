@@ -4,6 +4,7 @@ use Rattle.clap.specs.Matches.{subcommand_name_of}
 use Rattle.clap.specs.Simple.{subcommand_rows_of}
 use Rattle.clap.specs.declared.parser.matches.ArgMatches.{ArgMatches}
 use Rattle.mr_files.specs.Holding.{ChangesAmong, Faulty, Stored}
+use Rattle.mr_files.specs.Identities.{Known}
 use Rattle.mr_asked.specs.declared.asked.Subcommand.{Subcommand}
 use Rattle.mr_asked.specs.declared.fault.Fault.{Fault}
 use Rattle.mr_commands.specs.Commands.{Answers, ChangesOwn, IsRefusal}
@@ -17,24 +18,24 @@ abbrev pub IsAskedIn : ArgMatches → Subcommand → Type 0
 IsAskedIn parsed asked = IsAskedBy (subcommand_name_of parsed) (option_map (λ p. p.1) (subcommand_rows_of parsed)) asked
 
 -- the parsed command was done, and nothing else changed than the files that it writes
-pub record IsDone (old new : Stored) (text : List ℕ) (status : ℕ) : Type 0 where
+pub record IsDone (old new : Stored) (known : Known) (text : List ℕ) (status : ℕ) : Type 0 where
   pub parsed : ArgMatches
   pub asked : Subcommand
   pub named : IsAskedIn parsed asked
-  pub answers : Answers old new asked text status
+  pub answers : Answers old new known asked text status
   pub others : ChangesOwn old new asked
 
 -- the parsed command was refused, by this fault
-pub record IsRefused (old new : Stored) (unreadable unwritable : Faulty) (alike : List ℕ → List ℕ → Type 0) (fault : Fault) : Type 0 where
+pub record IsRefused (old new : Stored) (unreadable unwritable : Faulty) (alike : List ℕ → List ℕ → Type 0) (known : Known) (fault : Fault) : Type 0 where
   pub parsed : ArgMatches
   pub asked : Subcommand
   pub named : IsAskedIn parsed asked
-  pub refused : IsRefusal old new unreadable unwritable alike asked fault
+  pub refused : IsRefusal old new unreadable unwritable alike known asked fault
 
 -- why nothing is answered: the line is told before a fault of what it asks for, and nothing is changed then
-abbrev pub IsUnanswered : Stored → Stored → Faulty → Faulty → (List ℕ → List ℕ → Type 0) → Failure → Type 0
-IsUnanswered old new unreadable unwritable alike (Command fault) =
-    ((Command fault ≡ no_memory_left) × ChangesAmong old new []) ⊎ IsRefused old new unreadable unwritable alike fault
-IsUnanswered old new unreadable unwritable alike (Line error) = ChangesAmong old new []
-IsUnanswered old new unreadable unwritable alike NotUtf8 = ⊥
-IsUnanswered old new unreadable unwritable alike NoCommand = ChangesAmong old new []
+abbrev pub IsUnanswered : Stored → Stored → Faulty → Faulty → (List ℕ → List ℕ → Type 0) → Known → Failure → Type 0
+IsUnanswered old new unreadable unwritable alike known (Command fault) =
+    ((Command fault ≡ no_memory_left) × ChangesAmong old new []) ⊎ IsRefused old new unreadable unwritable alike known fault
+IsUnanswered old new unreadable unwritable alike known (Line error) = ChangesAmong old new []
+IsUnanswered old new unreadable unwritable alike known NotUtf8 = ⊥
+IsUnanswered old new unreadable unwritable alike known NoCommand = ChangesAmong old new []

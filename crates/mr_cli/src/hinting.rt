@@ -56,7 +56,8 @@ fn hint_of<F: Store + Look>(
 fn tells_words(answered: &Result<Said, Failure>) -> Option<bool> {
     match answered {
         Err(Failure::Line(_)) => Some(true),
-        Err(Failure::Command(Fault::CannotRead(_) | Fault::CannotWrite(_))) => Some(false),
+        Err(Failure::Command(Fault::CannotRead(_) | Fault::CannotWrite(_) | Fault::SameFile(_))) =>
+            Some(false),
         _ => None,
     }
 }

@@ -11,37 +11,42 @@ use Rattle.mr_files.specs.declared.store.FileFault.{FileFault}
 use Rattle.mr_asked.specs.declared.fault.Fault.{Fault}
 use Rattle.mr_asked.specs.declared.asked.SeqOptions.{SeqOptions}
 use Rattle.mr_jobs.specs.JobSpec.{RequestSpec}
-use Rattle.mr_files.specs.Holding.{ChangesAmong, Holding}
+use Rattle.mr_files.specs.Holding.{ChangesAmong, Faulty, Holding, Stored}
+use Rattle.mr_files.specs.Identities.{AreApart, Known}
 use Rattle.mr_files.specs.Names.{name_of_certificate, part_names, result_names}
 use Rattle.mr_certform.specs.declared.version.Version.{Version}
 use Rattle.mr_certform.specs.Pieces.{versioned_bytes}
 use Rattle.mr_certform.specs.Value.{Contents, SpellsIn, Versioned}
 use Rattle.mr_commands.specs.Outcomes.{IsSequentialResult, done_line}
 use Rattle.mr_asked.specs.Asked.{request_asked}
-use Rattle.mr_commands.specs.Answers.{AnswersSeq, IsRunRefusal, IsWorkRefusal, IsSeqRefusal, WorksOut}
+use Rattle.mr_commands.specs.Answers.{AnswersSeq, IsRunRefusal, IsWorkRefusal, IsSeqRefusal, WorksOut, written_by_seq}
 use Rattle.mr_judging.proofs.Refused.{stopped_as}
-use Rattle.mr_judging.specs.Inputs.{IsAsked, IsInput, IsInputRefusal, input_names}
+use Rattle.mr_judging.specs.Inputs.{IsAsked, IsInput, IsInputRefusal}
+use Rattle.mr_judging.specs.Named.{input_names}
 use Rattle.mr_asked.specs.Statuses.{TellsFile}
 use Rattle.mr_bytes.specs.declared.RecordName.{RecordName}
 use Rattle.mr_asked.specs.SkipList.{SpellsNames}
 
-pub work_input_stage : (holds : List ℕ → List ℕ → Type 0) (unreadable : List ℕ → Type 0) (o : SeqOptions) (skips : List RecordName) (names : List (List ℕ)) (request : RequestSpec) (e : Fault)
-    → names ≡ input_names o.options → request ≡ request_asked o.options → IsAsked o.options → SpellsNames o.skips.now skips → IsInputRefusal holds unreadable names request.split e → IsWorkRefusal holds unreadable o e
-work_input_stage holds unreadable o skips names request e n r a s h =
-    inr (inr (inl (a, (skips, s), subst (λ (s : ℕ). IsInputRefusal holds unreadable (input_names o.options) s e) (ap (λ (v : RequestSpec). v.split) r) (subst (λ (v : List (List ℕ)). IsInputRefusal holds unreadable v request.split e) n h))))
+pub work_input_stage : (holds : Stored) (unreadable : Faulty) (known : Known) (o : SeqOptions) (skips : List RecordName) (request : RequestSpec) (e : Fault)
+    → request ≡ request_asked o.options → IsAsked o.options → SpellsNames o.skips.now skips
+    → IsInputRefusal holds unreadable known (input_names o.options) (input_names o.options) (written_by_seq o) request.split e → IsWorkRefusal holds unreadable known o e
+work_input_stage holds unreadable known o skips request e r a s h =
+    inr (inr (inl (a, (skips, s), subst (λ (s : ℕ). IsInputRefusal holds unreadable known (input_names o.options) (input_names o.options) (written_by_seq o) s e) (ap (λ (v : RequestSpec). v.split) r) h)))
 
-pub work_run_stage : (holds : List ℕ → List ℕ → Type 0) (unreadable : List ℕ → Type 0) (o : SeqOptions) (skips : List RecordName) (names files : List (List ℕ)) (request : RequestSpec) (e : Fault)
-    → names ≡ input_names o.options → request ≡ request_asked o.options → IsAsked o.options → SpellsNames o.skips.now skips → IsInput holds names request.split files → IsRunRefusal request files skips e → IsWorkRefusal holds unreadable o e
-work_run_stage holds unreadable o skips names files request e n r a s i h =
-    inr (inr (inr (a, (files, skips, subst (λ (s : ℕ). IsInput holds (input_names o.options) s files) (ap (λ (v : RequestSpec). v.split) r) (subst (λ (v : List (List ℕ)). IsInput holds v request.split files) n i), s, subst (λ (v : RequestSpec). IsRunRefusal v files skips e) r h))))
+pub work_run_stage : (holds : Stored) (unreadable : Faulty) (known : Known) (o : SeqOptions) (skips : List RecordName) (files : List (List ℕ)) (request : RequestSpec) (e : Fault)
+    → request ≡ request_asked o.options → IsAsked o.options → SpellsNames o.skips.now skips → IsInput holds (input_names o.options) request.split files
+    → AreApart known (input_names o.options) (written_by_seq o) → IsRunRefusal request files skips e → IsWorkRefusal holds unreadable known o e
+work_run_stage holds unreadable known o skips files request e r a s i apart h =
+    inr (inr (inr (a, (files, skips, subst (λ (s : ℕ). IsInput holds (input_names o.options) s files) (ap (λ (v : RequestSpec). v.split) r) i, apart, s, subst (λ (v : RequestSpec). IsRunRefusal v files skips e) r h))))
 
-pub works_out : (holds : List ℕ → List ℕ → Type 0) (o : SeqOptions) (skips : List RecordName) (names files outputs : List (List ℕ)) (bytes line : List ℕ) (request : RequestSpec)
-    → names ≡ input_names o.options → request ≡ request_asked o.options → SpellsNames o.skips.now skips → IsInput holds names request.split files
-    → IsSequentialResult o.version request files skips outputs bytes → line ≡ done_line request.parts (length (emitted request.job request.split files skips)) (length skips) → WorksOut holds o outputs bytes line
-works_out holds o skips names files outputs bytes line request n r s i h l = record {
+pub works_out : (holds : Stored) (known : Known) (o : SeqOptions) (skips : List RecordName) (files outputs : List (List ℕ)) (bytes line : List ℕ) (request : RequestSpec)
+    → request ≡ request_asked o.options → SpellsNames o.skips.now skips → IsInput holds (input_names o.options) request.split files → AreApart known (input_names o.options) (written_by_seq o)
+    → IsSequentialResult o.version request files skips outputs bytes → line ≡ done_line request.parts (length (emitted request.job request.split files skips)) (length skips) → WorksOut holds known o outputs bytes line
+works_out holds known o skips files outputs bytes line request r s i apart h l = record {
   files = files;
   names = skips;
-  input = subst (λ (s : ℕ). IsInput holds (input_names o.options) s files) (ap (λ (v : RequestSpec). v.split) r) (subst (λ (v : List (List ℕ)). IsInput holds v request.split files) n i);
+  input = subst (λ (s : ℕ). IsInput holds (input_names o.options) s files) (ap (λ (v : RequestSpec). v.split) r) i;
+  apart = apart;
   spelled = s;
   result = subst (λ (v : RequestSpec). IsSequentialResult o.version v files skips outputs bytes) r h;
   said = subst (λ (v : RequestSpec). line ≡ done_line v.parts (length (emitted v.job v.split files skips)) (length skips)) r l;
@@ -57,39 +62,40 @@ pub spelled_so : (version : Version) (certificate : Contents) (s : Versioned) �
 spelled_so version certificate s e h = subst (λ (v : Versioned). SpellsIn v.version (versioned_bytes s) v.certificate) e h
 
 -- as many files are written as there are partitions
-pub all_parts : (old : List ℕ → List ℕ → Type 0) (o : SeqOptions) (outputs given : List (Vec ℕ Global)) (bytes line : List ℕ)
-    → WorksOut old o (contents outputs) bytes line → given ≡ outputs → length given ≡ o.options.parts
-all_parts old o outputs given bytes line work same = ap length same ∙ (sym (length-map outputs (λ o. o.items)) ∙ work.result.count)
+pub all_parts : (old : Stored) (known : Known) (o : SeqOptions) (outputs given : List (Vec ℕ Global)) (bytes line : List ℕ)
+    → WorksOut old known o (contents outputs) bytes line → given ≡ outputs → length given ≡ o.options.parts
+all_parts old known o outputs given bytes line work same = ap length same ∙ (sym (length-map outputs (λ o. o.items)) ∙ work.result.count)
 
 -- the result was not all written
-pub stopped_stage : (old new : List ℕ → List ℕ → Type 0) (unreadable unwritable : List ℕ → Type 0) (o : SeqOptions) (outputs given : List (Vec ℕ Global)) (bytes line : List ℕ) (e : FileFault) (f : Fault)
-    → WorksOut old o (contents outputs) bytes line → given ≡ outputs
-    → IsWriteRefusal old new unwritable (result_names o.options.out.now (length given)) (contents given ++ bytes ∷ []) e → TellsFile e f → IsSeqRefusal old new unreadable unwritable o f
-stopped_stage old new unreadable unwritable o outputs given bytes line e f work same h t =
-    let all : length given ≡ o.options.parts = all_parts old o outputs given bytes line work same in
+pub stopped_stage : (old new : Stored) (unreadable unwritable : Faulty) (known : Known) (o : SeqOptions) (outputs given : List (Vec ℕ Global)) (bytes line : List ℕ) (e : FileFault) (f : Fault)
+    → WorksOut old known o (contents outputs) bytes line → given ≡ outputs
+    → IsWriteRefusal old new unwritable (result_names o.options.out.now (length given)) (contents given ++ bytes ∷ []) e → TellsFile e f → IsSeqRefusal old new unreadable unwritable known o f
+stopped_stage old new unreadable unwritable known o outputs given bytes line e f work same h t =
+    let all : length given ≡ o.options.parts = all_parts old known o outputs given bytes line work same in
     let texts : contents given ++ bytes ∷ [] ≡ contents outputs ++ bytes ∷ [] = ap (λ (v : List (Vec ℕ Global)). contents v ++ bytes ∷ []) same in
     inr (contents outputs, bytes, line, work, stopped_as old new unwritable (result_names o.options.out.now o.options.parts) (contents outputs ++ bytes ∷ []) e f (subst (λ (v : List (List ℕ)). IsWriteRefusal old new unwritable (result_names o.options.out.now o.options.parts) v e) texts (subst (λ (n : ℕ). IsWriteRefusal old new unwritable (result_names o.options.out.now n) (contents given ++ bytes ∷ []) e) all h)) t)
 
 -- so nothing else changed
-pub changed_own : (old new : List ℕ → List ℕ → Type 0) (o : SeqOptions) (outputs given : List (Vec ℕ Global)) (bytes line : List ℕ)
-    → WorksOut old o (contents outputs) bytes line → given ≡ outputs
+pub changed_own : (old new : Stored) (known : Known) (o : SeqOptions) (outputs given : List (Vec ℕ Global)) (bytes line : List ℕ)
+    → WorksOut old known o (contents outputs) bytes line → given ≡ outputs
     → ChangesAmong old new (result_names o.options.out.now (length given)) → ChangesAmong old new (result_names o.options.out.now o.options.parts)
-changed_own old new o outputs given bytes line work same h =
-    subst (λ (n : ℕ). ChangesAmong old new (result_names o.options.out.now n)) (all_parts old o outputs given bytes line work same) h
+changed_own old new known o outputs given bytes line work same h =
+    subst (λ (n : ℕ). ChangesAmong old new (result_names o.options.out.now n)) (all_parts old known o outputs given bytes line work same) h
 
 -- and the result stands there
-pub answers_seq : (old new : List ℕ → List ℕ → Type 0) (o : SeqOptions) (outputs given : List (Vec ℕ Global)) (bytes line : List ℕ)
-    → WorksOut old o (contents outputs) bytes line → given ≡ outputs
-    → Holding new (part_names o.options.out.now (length given)) (contents given) → new (name_of_certificate o.options.out.now) bytes → AnswersSeq old new o line
-answers_seq old new o outputs given bytes line work same parts certificate = record {
+pub answers_seq : (old new : Stored) (known : Known) (o : SeqOptions) (outputs given : List (Vec ℕ Global)) (bytes line : List ℕ)
+    → WorksOut old known o (contents outputs) bytes line → given ≡ outputs
+    → Holding new (part_names o.options.out.now (length given)) (contents given) → new (name_of_certificate o.options.out.now) bytes → AnswersSeq old new known o line
+answers_seq old new known o outputs given bytes line work same parts certificate = record {
   files = work.files;
   names = work.names;
   outputs = contents outputs;
   bytes = bytes;
   input = work.input;
+  apart = work.apart;
   spelled = work.spelled;
   result = work.result;
-  parts = subst (λ (n : ℕ). Holding new (part_names o.options.out.now n) (contents outputs)) (all_parts old o outputs given bytes line work same)
+  parts = subst (λ (n : ℕ). Holding new (part_names o.options.out.now n) (contents outputs)) (all_parts old known o outputs given bytes line work same)
       (subst (λ (v : List (Vec ℕ Global)). Holding new (part_names o.options.out.now (length given)) (contents v)) same parts);
   certificate = certificate;
   said = work.said;

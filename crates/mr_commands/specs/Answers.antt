@@ -5,20 +5,27 @@ use Rattle.mr_jobs.specs.JobSpec.{RequestSpec}
 use Rattle.mr_sequential.specs.Emitted.{emitted}
 use Rattle.mr_sequential.specs.Skips.{skip_fault}
 use Rattle.mr_files.specs.Holding.{ChangesAmong, Faulty, Holding, Stored}
+use Rattle.mr_files.specs.Identities.{AreApart, Known}
 use Rattle.mr_files.specs.Names.{part_names, name_of_certificate, result_names}
 use Rattle.mr_asked.specs.declared.fault.Fault.{Fault}
 use Rattle.mr_asked.specs.declared.fault.Fault.TheVariants.{BadSkipList, Run, OutOfMemory}
 use Rattle.mr_asked.specs.declared.asked.SeqOptions.{SeqOptions}
 use Rattle.mr_asked.specs.Asked.{IsRequestRefusal, request_asked}
-use Rattle.mr_judging.specs.Inputs.{IsAsked, IsInput, IsInputRefusal, IsStopped, input_names}
+use Rattle.mr_judging.specs.Inputs.{IsAsked, IsInput, IsInputRefusal, IsStopped}
+use Rattle.mr_judging.specs.Named.{input_names}
 use Rattle.mr_commands.specs.Outcomes.{IsSequentialResult, done_line}
 use Rattle.mr_asked.specs.SkipList.{SpellsNames}
 
+-- the names of the result of `seq`
+abbrev pub written_by_seq : SeqOptions → List (List ℕ)
+written_by_seq o = result_names o.options.out.now o.options.parts
+
 -- the result of the sequential execution over what stands under the names of the input, and the line that is said of it
-pub record WorksOut (holds : Stored) (o : SeqOptions) (outputs : List (List ℕ)) (bytes line : List ℕ) : Type 0 where
+pub record WorksOut (holds : Stored) (known : Known) (o : SeqOptions) (outputs : List (List ℕ)) (bytes line : List ℕ) : Type 0 where
   pub files : List (List ℕ)
   pub names : List RecordName
   pub input : IsInput holds (input_names o.options) o.options.split files
+  pub apart : AreApart known (input_names o.options) (written_by_seq o)
   pub spelled : SpellsNames o.skips.now names
   pub result : IsSequentialResult o.version (request_asked o.options) files names outputs bytes
   pub said : line ≡ done_line o.options.parts (length (emitted (request_asked o.options).job (request_asked o.options).split files names)) (length names)
@@ -30,24 +37,25 @@ IsRunRefusal request files names OutOfMemory = ⊤
 IsRunRefusal request files names fault = ⊥
 
 -- why there is no work: the request, then the text of the skip list, then the input, then the list over the input
-abbrev pub IsWorkRefusal : Stored → Faulty → SeqOptions → Fault → Type 0
-IsWorkRefusal holds unreadable o fault = IsRequestRefusal o.options fault
+abbrev pub IsWorkRefusal : Stored → Faulty → Known → SeqOptions → Fault → Type 0
+IsWorkRefusal holds unreadable known o fault = IsRequestRefusal o.options fault
     ⊎ (IsAsked o.options × (fault ≡ BadSkipList) × ((names : List RecordName) → ¬ SpellsNames o.skips.now names))
     ⊎ (IsAsked o.options × ((names : List RecordName) × SpellsNames o.skips.now names)
-    × IsInputRefusal holds unreadable (input_names o.options) o.options.split fault)
+    × IsInputRefusal holds unreadable known (input_names o.options) (input_names o.options) (written_by_seq o) o.options.split fault)
     ⊎ (IsAsked o.options × ((files : List (List ℕ)) × (names : List RecordName)
-    × IsInput holds (input_names o.options) o.options.split files × SpellsNames o.skips.now names
+    × IsInput holds (input_names o.options) o.options.split files × AreApart known (input_names o.options) (written_by_seq o) × SpellsNames o.skips.now names
     × IsRunRefusal (request_asked o.options) files names fault))
 
 -- what `seq` did where it says that it is done: behind it the result of the sequential execution over what stood under
 -- the names of the input stands under the names of the parts and of the certificate, which is spelled in the version that is
--- asked for
-pub record AnswersSeq (old new : Stored) (o : SeqOptions) (text : List ℕ) : Type 0 where
+-- asked for; none of these is a file of the input, and no two are one
+pub record AnswersSeq (old new : Stored) (known : Known) (o : SeqOptions) (text : List ℕ) : Type 0 where
   pub files : List (List ℕ)
   pub names : List RecordName
   pub outputs : List (List ℕ)
   pub bytes : List ℕ
   pub input : IsInput old (input_names o.options) o.options.split files
+  pub apart : AreApart known (input_names o.options) (written_by_seq o)
   pub spelled : SpellsNames o.skips.now names
   pub result : IsSequentialResult o.version (request_asked o.options) files names outputs bytes
   pub parts : Holding new (part_names o.options.out.now o.options.parts) outputs
@@ -55,7 +63,7 @@ pub record AnswersSeq (old new : Stored) (o : SeqOptions) (text : List ℕ) : Ty
   pub said : text ≡ done_line o.options.parts (length (emitted (request_asked o.options).job (request_asked o.options).split files names)) (length names)
 
 -- why `seq` is not done: there is no work and nothing was written; or the work's result was not all written
-abbrev pub IsSeqRefusal : Stored → Stored → Faulty → Faulty → SeqOptions → Fault → Type 0
-IsSeqRefusal old new unreadable unwritable o fault = (ChangesAmong old new [] × IsWorkRefusal old unreadable o fault)
-    ⊎ ((outputs : List (List ℕ)) × (bytes line : List ℕ) × WorksOut old o outputs bytes line
+abbrev pub IsSeqRefusal : Stored → Stored → Faulty → Faulty → Known → SeqOptions → Fault → Type 0
+IsSeqRefusal old new unreadable unwritable known o fault = (ChangesAmong old new [] × IsWorkRefusal old unreadable known o fault)
+    ⊎ ((outputs : List (List ℕ)) × (bytes line : List ℕ) × WorksOut old known o outputs bytes line
     × IsStopped old new unwritable (result_names o.options.out.now o.options.parts) (outputs ++ bytes ∷ []) fault)

@@ -1,6 +1,7 @@
 -- What is answered to each command, over the files of a store.
 use Rattle.std.specs.Prelude.{◌≡◌, ℕ, List}
 use Rattle.mr_files.specs.Holding.{ChangesAmong, Faulty, Stored}
+use Rattle.mr_files.specs.Identities.{Known}
 use Rattle.mr_files.specs.Names.{result_names}
 use Rattle.mr_shard_files.specs.Merging.{ChangesResult}
 use Rattle.mr_asked.specs.declared.fault.Fault.{Fault}
@@ -9,7 +10,8 @@ use Rattle.mr_asked.specs.declared.asked.Subcommand.TheVariants.{Seq, Run, Check
 use Rattle.mr_commands.specs.Answers.{AnswersSeq, IsSeqRefusal}
 use Rattle.mr_commands.specs.Merges.{AnswersMerge, IsMergeUnanswered}
 use Rattle.mr_commands.specs.Runs.{AnswersRun, IsRunUnanswered, written_by_run}
-use Rattle.mr_judging.specs.Verdicts.{KeepsVerdict, IsCheckUnanswered, written_by_check}
+use Rattle.mr_judging.specs.Named.{written_by_check}
+use Rattle.mr_judging.specs.Verdicts.{KeepsVerdict, IsCheckUnanswered}
 
 -- nothing changed but what the command writes: the result, with a run's history; for `check` the verdict; for `merge` a
 -- merged result, of so many parts as the verdicts tell
@@ -20,15 +22,15 @@ ChangesOwn old new (Check o) = ChangesAmong old new (written_by_check o)
 ChangesOwn old new (Merge o) = ChangesResult old new o.out.now
 
 -- what is answered where the line was understood and no fault was met
-abbrev pub Answers : Stored → Stored → Subcommand → List ℕ → ℕ → Type 0
-Answers old new (Seq o) text status = (status ≡ 0) × AnswersSeq old new o text
-Answers old new (Run o) text status = AnswersRun old new o text status
-Answers old new (Check o) text status = KeepsVerdict old new o text status
-Answers old new (Merge o) text status = (status ≡ 0) × AnswersMerge old new o text
+abbrev pub Answers : Stored → Stored → Known → Subcommand → List ℕ → ℕ → Type 0
+Answers old new known (Seq o) text status = (status ≡ 0) × AnswersSeq old new known o text
+Answers old new known (Run o) text status = AnswersRun old new known o text status
+Answers old new known (Check o) text status = KeepsVerdict old new known o text status
+Answers old new known (Merge o) text status = (status ≡ 0) × AnswersMerge old new known o text
 
 -- why nothing is answered, and what was changed then
-abbrev pub IsRefusal : Stored → Stored → Faulty → Faulty → (List ℕ → List ℕ → Type 0) → Subcommand → Fault → Type 0
-IsRefusal old new unreadable unwritable alike (Seq o) fault = IsSeqRefusal old new unreadable unwritable o fault
-IsRefusal old new unreadable unwritable alike (Run o) fault = IsRunUnanswered old new unreadable unwritable o fault
-IsRefusal old new unreadable unwritable alike (Check o) fault = IsCheckUnanswered old new unreadable unwritable o fault
-IsRefusal old new unreadable unwritable alike (Merge o) fault = IsMergeUnanswered old new unreadable unwritable alike o fault
+abbrev pub IsRefusal : Stored → Stored → Faulty → Faulty → (List ℕ → List ℕ → Type 0) → Known → Subcommand → Fault → Type 0
+IsRefusal old new unreadable unwritable alike known (Seq o) fault = IsSeqRefusal old new unreadable unwritable known o fault
+IsRefusal old new unreadable unwritable alike known (Run o) fault = IsRunUnanswered old new unreadable unwritable known o fault
+IsRefusal old new unreadable unwritable alike known (Check o) fault = IsCheckUnanswered old new unreadable unwritable known o fault
+IsRefusal old new unreadable unwritable alike known (Merge o) fault = IsMergeUnanswered old new unreadable unwritable alike known o fault

@@ -1,6 +1,7 @@
 -- What `merge` answers, over the files of a store.
 use Rattle.std.specs.Prelude.{◌≡◌, ℕ, ◌++◌, List, Option, codes, decimal, length, map, option_map}
 use Rattle.mr_files.specs.Holding.{Faulty, Stored}
+use Rattle.mr_files.specs.Identities.{Known}
 use Rattle.mr_verdict.specs.Verdict.{Told}
 use Rattle.mr_shard_files.specs.Faults.{IsShardRefusal}
 use Rattle.mr_shard_files.specs.Merging.{IsMerged}
@@ -24,12 +25,12 @@ list_name o = option_map (λ s. s.now) o.inputs
 
 -- what `merge` did where it answers: the shards whose verdicts are named were merged in their order, the result stands in the
 -- directory that is named, and the text tells the outputs, the pairs and the left-out records of its verdict
-pub record AnswersMerge (old new : Stored) (o : MergeOptions) (text : List ℕ) : Type 0 where
+pub record AnswersMerge (old new : Stored) (known : Known) (o : MergeOptions) (text : List ℕ) : Type 0 where
   pub joined : Told
-  pub merged : IsMerged old new (verdict_names o) (list_name o) o.out.now joined
+  pub merged : IsMerged old new known (verdict_names o) (list_name o) o.out.now joined
   pub said : text ≡ merged_line (length joined.outputs) joined.pairs (length joined.left_out)
 
 -- why `merge` doesn't answer, as the merge of these shards tells it, and what stands then
-abbrev pub IsMergeUnanswered : Stored → Stored → Faulty → Faulty → (List ℕ → List ℕ → Type 0) → MergeOptions → Fault → Type 0
-IsMergeUnanswered old new unreadable unwritable alike o fault =
-    (e : ShardFault) × TellsShards e fault × IsShardRefusal old new unreadable unwritable alike (verdict_names o) (list_name o) o.out.now e
+abbrev pub IsMergeUnanswered : Stored → Stored → Faulty → Faulty → (List ℕ → List ℕ → Type 0) → Known → MergeOptions → Fault → Type 0
+IsMergeUnanswered old new unreadable unwritable alike known o fault =
+    (e : ShardFault) × TellsShards e fault × IsShardRefusal old new unreadable unwritable alike known (verdict_names o) (list_name o) o.out.now e

@@ -1,5 +1,5 @@
 -- What `run` answers, over the files of a store.
-use Rattle.std.specs.Prelude.{◌≡◌, ◌⊎◌, ℕ, ◌∷◌, ◌++◌, ◌<◌, Option, None, Some, IfSome, List, [], codes, decimal, ⊤, string_bytes, option_map, length, vec_len}
+use Rattle.std.specs.Prelude.{◌≡◌, ◌⊎◌, ℕ, ◌∷◌, ◌++◌, ◌<◌, ◌≤◌, Option, None, Some, IfSome, List, [], codes, decimal, ⊤, string_bytes, option_map, length, vec_len}
 use Rattle.mr_input.specs.Files.{contents}
 use Rattle.mr_jobs.specs.JobSpec.{RequestSpec}
 use Rattle.mr_certform.specs.declared.version.Version.{Version}
@@ -13,6 +13,7 @@ use Rattle.mr_pool.specs.Outcomes.{IsCertifiedRun, IsRunFault, run_shape}
 use Rattle.mr_pool.specs.declared.running.Certified.{Certified as Kept}
 use Rattle.mr_pool.specs.declared.running.RunFault.TheVariants as fault
 use Rattle.mr_files.specs.Holding.{Begins, ChangesAmong, Differs, Faulty, Holding, Stored}
+use Rattle.mr_files.specs.Identities.{AreApart, Known}
 use Rattle.mr_files.specs.Refusals.{IsOneUnwritten, IsWriteRefusal}
 use Rattle.mr_files.specs.declared.store.FileFault.{FileFault}
 use Rattle.mr_files.specs.Names.{part_names, name_of_certificate, result_names}
@@ -22,11 +23,11 @@ use Rattle.mr_asked.specs.declared.asked.RunOptions.{RunOptions}
 use Rattle.mr_commands.specs.declared.running.Ran.{Ran}
 use Rattle.mr_commands.specs.declared.running.Ran.TheVariants.{Certified, Failed, Uncertified}
 use Rattle.mr_asked.specs.Asked.{IsRequestRefusal, request_asked}
-use Rattle.mr_judging.specs.Inputs.{IsAsked, IsInput, IsInputRefusal, input_names}
+use Rattle.mr_judging.specs.Inputs.{IsAsked, IsInput, IsInputRefusal}
+use Rattle.mr_judging.specs.Named.{input_names, named}
 use Rattle.mr_asked.specs.Statuses.{TellsFile}
 use Rattle.mr_commands.specs.HistoryLines.{fault_name, history_text}
 use Rattle.mr_judging.specs.NoLines.{fault_text}
-use Rattle.mr_judging.specs.Verdicts.{named}
 
 -- ---- what is said
 
@@ -59,6 +60,14 @@ script_name o = option_map (λ s. s.now) o.script
 abbrev pub history_name : RunOptions → Option (List ℕ)
 history_name o = option_map (λ s. s.now) o.history
 
+-- all that a run reads: its script and its input
+abbrev pub read_by_run : RunOptions → List (List ℕ)
+read_by_run o = named (script_name o) ++ input_names o.options
+
+-- all that a run may write: its history and its result
+abbrev pub written_by_run : RunOptions → List (List ℕ)
+written_by_run o = named (history_name o) ++ result_names o.options.out.now o.options.parts
+
 -- what the pool answers where it was asked for a certificate in this version
 abbrev pub IsEnding : RequestSpec → List (List ℕ) → List Directive → Shape → Version → Ran → Type 0
 IsEnding request files script shape version (Certified c) = IsCertifiedRun request files shape version c
@@ -66,11 +75,13 @@ IsEnding request files script shape version (Failed f h) = IsRunFault request fi
 IsEnding request files script shape version (Uncertified verdict h) = IsRunFault request files script shape (fault.Uncertified verdict h)
 
 -- the request that is asked for, over what stands under the names of the input, ended so by the script that is named; where
--- it is certified, by a certificate in the version that is asked for
-pub record Runs (holds : Stored) (o : RunOptions) (ran : Ran) : Type 0 where
+-- it is certified, by a certificate in the version that is asked for. No file that a run writes is one that it reads, and no
+-- two are one
+pub record Runs (holds : Stored) (known : Known) (o : RunOptions) (ran : Ran) : Type 0 where
   pub files : List (List ℕ)
   pub script : List Directive
   pub input : IsInput holds (input_names o.options) o.options.split files
+  pub apart : AreApart known (read_by_run o) (written_by_run o)
   pub scripted : IsScript holds (script_name o) script
   pub ends : IsEnding (request_asked o.options) files script (run_shape (request_asked o.options) files o.workers o.attempts) o.version ran
 
@@ -86,7 +97,7 @@ abbrev pub KeepsResult : Stored → Stored → RunOptions → Ran → Type 0
 KeepsResult old new o (Certified c) = Holding new (part_names o.options.out.now o.options.parts) (contents c.outputs.items) × new (name_of_certificate o.options.out.now) c.certificate.items
 KeepsResult old new o ran = ChangesAmong old new (named (history_name o))
 
--- the history stands under its name, unless a file of the result has that name
+-- the history stands under its name, unless a file of the result has that name (a pipe, a socket or a device may)
 abbrev pub KeepsHistory : Stored → RunOptions → Ran → Type 0
 KeepsHistory new o ran = IfSome (history_name o) (λ name. Differs name (result_names o.options.out.now o.options.parts) → new name (history_text (history_of ran)))
 
@@ -111,14 +122,10 @@ IsResultRefused old new unwritable out (Certified c) fault =
     IsWriteRefusal old new unwritable (result_names out (length c.outputs.items)) (contents c.outputs.items ++ c.certificate.items ∷ []) fault
 IsResultRefused old new unwritable out ran fault = ⊥
 
--- all that a run may write: its history and its result
-abbrev pub written_by_run : RunOptions → List (List ℕ)
-written_by_run o = named (history_name o) ++ result_names o.options.out.now o.options.parts
-
 -- what `run` did where it tells of a run
-pub record AnswersRun (old new : Stored) (o : RunOptions) (text : List ℕ) (status : ℕ) : Type 0 where
+pub record AnswersRun (old new : Stored) (known : Known) (o : RunOptions) (text : List ℕ) (status : ℕ) : Type 0 where
   pub ran : Ran
-  pub runs : Runs old o ran
+  pub runs : Runs old known o ran
   pub told : TellsRan ran text status
   pub result : KeepsResult old new o ran
   pub history : KeepsHistory new o ran
@@ -131,11 +138,23 @@ AreBadWorkers n = (n ≡ 0) ⊎ (64 < n)
 abbrev pub AreBadAttempts : ℕ → Type 0
 AreBadAttempts n = (n ≡ 0) ⊎ (16 < n)
 
--- the numbers of workers and of attempts, in this order
+abbrev pub AreGoodWorkers : ℕ → Type 0
+AreGoodWorkers n = (1 ≤ n) × (n ≤ 64)
+
+abbrev pub AreGoodAttempts : ℕ → Type 0
+AreGoodAttempts n = (1 ≤ n) × (n ≤ 16)
+
+-- the number of workers; that being good, the number of attempts
 abbrev pub IsCrewRefusal : RunOptions → Fault → Type 0
 IsCrewRefusal o BadWorkers = AreBadWorkers o.workers
-IsCrewRefusal o BadAttempts = AreBadAttempts o.attempts
+IsCrewRefusal o BadAttempts = AreGoodWorkers o.workers × AreBadAttempts o.attempts
 IsCrewRefusal o fault = ⊥
+
+-- the options ask for a run that can be had
+pub record AreGood (o : RunOptions) : Type 0 where
+  pub job : IsAsked o.options
+  pub workers : AreGoodWorkers o.workers
+  pub attempts : AreGoodAttempts o.attempts
 
 -- the script can't be read, or a line of it is bad
 abbrev pub IsScriptRefusal : Stored → Faulty → Option (List ℕ) → Fault → Type 0
@@ -151,12 +170,13 @@ IsBadScript bytes (Script f) = IsScriptFault bytes f
 IsBadScript bytes OutOfMemory = ⊤
 IsBadScript bytes fault = ⊥
 
--- why there is no run: the request, the numbers, the script, the input
-abbrev pub IsStartRefusal : Stored → Faulty → RunOptions → Fault → Type 0
-IsStartRefusal holds unreadable o fault = IsRequestRefusal o.options fault
+-- why there is no run: the request, the numbers, the script, the input; each where all before it is good
+abbrev pub IsStartRefusal : Stored → Faulty → Known → RunOptions → Fault → Type 0
+IsStartRefusal holds unreadable known o fault = IsRequestRefusal o.options fault
     ⊎ (IsAsked o.options × IsCrewRefusal o fault)
-    ⊎ (IsAsked o.options × IsScriptRefusal holds unreadable (script_name o) fault)
-    ⊎ (IsAsked o.options × ((script : List Directive) × IsScript holds (script_name o) script) × IsInputRefusal holds unreadable (input_names o.options) o.options.split fault)
+    ⊎ (AreGood o × IsScriptRefusal holds unreadable (script_name o) fault)
+    ⊎ (AreGood o × ((script : List Directive) × IsScript holds (script_name o) script)
+    × IsInputRefusal holds unreadable known (input_names o.options) (read_by_run o) (written_by_run o) o.options.split fault)
 
 -- one of these can't be written, and is told
 abbrev pub TellsUnwritten : Faulty → List (List ℕ) → Fault → Type 0
@@ -185,13 +205,17 @@ IsResultStopped old new unwritable o c (CannotWrite told) = IsStoppedAt old new 
 IsResultStopped old new unwritable o c OutOfMemory = ⊤
 IsResultStopped old new unwritable o c fault = ⊥
 
+-- under the name of the history stands what stood there or a beginning of it, and nothing else has changed
+abbrev pub BeginsHistory : Stored → Stored → RunOptions → Ran → Type 0
+BeginsHistory old new o ran = ChangesAmong old new (named (history_name o)) × IfSome (history_name o) (λ name. Begins old new name (history_text (history_of ran)))
+
 -- the history could not be written, and nothing else was; or a file of a certified result could not
 abbrev pub IsUnkept : Stored → Stored → Faulty → RunOptions → Ran → Fault → Type 0
-IsUnkept old new unwritable o (Certified c) fault = (ChangesAmong old new (named (history_name o)) × TellsUnwritten unwritable (named (history_name o)) fault)
+IsUnkept old new unwritable o (Certified c) fault = (BeginsHistory old new o (Certified c) × TellsUnwritten unwritable (named (history_name o)) fault)
     ⊎ IsResultStopped old new unwritable o c fault
-IsUnkept old new unwritable o ran fault = ChangesAmong old new (named (history_name o)) × TellsUnwritten unwritable (named (history_name o)) fault
+IsUnkept old new unwritable o ran fault = BeginsHistory old new o ran × TellsUnwritten unwritable (named (history_name o)) fault
 
 -- why nothing is told: there is no run, and nothing was written; or not all that it leaves could be written
-abbrev pub IsRunUnanswered : Stored → Stored → Faulty → Faulty → RunOptions → Fault → Type 0
-IsRunUnanswered old new unreadable unwritable o fault = (ChangesAmong old new [] × IsStartRefusal old unreadable o fault)
-    ⊎ ((ran : Ran) × Runs old o ran × IsUnkept old new unwritable o ran fault)
+abbrev pub IsRunUnanswered : Stored → Stored → Faulty → Faulty → Known → RunOptions → Fault → Type 0
+IsRunUnanswered old new unreadable unwritable known o fault = (ChangesAmong old new [] × IsStartRefusal old unreadable known o fault)
+    ⊎ ((ran : Ran) × Runs old known o ran × IsUnkept old new unwritable o ran fault)

@@ -1,5 +1,5 @@
 //! What each command does, over a store of files.
-ghost use Rattle.std.specs.Prelude.{◌≡◌, ℕ, ◌≤◌, ◌^◌, List, IfOk, IfErr, length, string_bytes};
+ghost use Rattle.std.specs.Prelude.{◌≡◌, ℕ, ◌≤◌, ◌^◌, List, IfOk, IfErr, OnOk, length, string_bytes};
 ghost use Rattle.mr_bytes.specs.declared.RecordName.{RecordName};
 ghost use Rattle.mr_input.specs.Files.{contents, split_total};
 ghost use Rattle.mr_sequential.specs.Emitted.{emitted};
@@ -10,15 +10,18 @@ ghost use Rattle.std.specs.List.{AllByRecursion};
 ghost use Rattle.mr_commands.specs.Answers.{AnswersSeq, IsRunRefusal, IsSeqRefusal, IsWorkRefusal, WorksOut};
 ghost use Rattle.mr_commands.specs.Commands.{Answers, ChangesOwn, IsRefusal};
 ghost use Rattle.mr_files.specs.Holding.{ChangesAmong};
+ghost use Rattle.mr_files.specs.Identities.{AreApart};
 ghost use Rattle.mr_files.specs.Names.{result_names};
+ghost use Rattle.mr_judging.specs.Inputs.{IsInput, IsInputRefusal};
+ghost use Rattle.mr_judging.specs.Named.{input_names};
 
 use crate::merging::merge;
 use crate::running::run as run_by_workers;
 use crate::said::done_line;
-use mr_asked::{Fault, SeqOptions, Subcommand, request_of, skips_of};
+use mr_asked::{Fault, Options, SeqOptions, Subcommand, request_of, skips_of};
 use mr_bytes::RecordName;
 use mr_certform::{Certificate, InVersion, Version, text_law};
-use mr_files::{Store, write_files};
+use mr_files::{Store, names_of_result, write_files};
 use mr_input::Input;
 use mr_jobs::Request;
 use mr_judging::{Said, check, input_of};
@@ -65,7 +68,25 @@ fn worked(
     })
 }
 
-/// Tests the request, then the files, then their fit, and only then works; nothing is written.
+/// The input of a sequential execution, apart from the files of its result.
+fn input_apart<S: Store>(
+    store: &S,
+    alloc: Global,
+    request: &Request,
+    options: &Options<'_>,
+) -> Result<Input, Fault>
+    ensures input { IfOk result (λ input. IsInput (S.holds store.now) (input_names options.now) request.now.split input) }
+    ensures apart { OnOk result (AreApart (S.known_as store.now) (input_names options.now) (result_names options.now.out.now options.now.parts)) }
+    ensures refused { IfErr result (λ e. IsInputRefusal (S.holds store.now) (S.unreadable store.now) (S.known_as store.now) (input_names options.now)
+        (input_names options.now) (result_names options.now.out.now options.now.parts) request.now.split e) }
+{
+    let besides = Vec::new(alloc);
+    let written = names_of_result(alloc, options.out, options.parts as usize)?;
+    let names = options.files.as_slice();
+    input_of(store, alloc, request, names, besides, written.as_slice())
+}
+
+/// Tests the request, then the files, that none of them is written, then their fit, and only then works; nothing is written.
 fn worked_out<S: Store>(
     store: &S,
     alloc: Global,
@@ -73,13 +94,13 @@ fn worked_out<S: Store>(
     watch: &dyn Watch,
 ) -> Result<Work, Fault>
     ensures work { IfOk result (λ w. (bytes : List ℕ) → SpellsIn asked.now.version bytes w.certificate
-        → WorksOut (S.holds store.now) asked.now (contents w.outputs.items) bytes (string_bytes w.line)) }
+        → WorksOut (S.holds store.now) (S.known_as store.now) asked.now (contents w.outputs.items) bytes (string_bytes w.line)) }
     ensures can { IfOk result (λ w. AllByRecursion (CanSpell asked.now.version) w.certificate.groups) }
-    ensures refused { IfErr result (λ e. IsWorkRefusal (S.holds store.now) (S.unreadable store.now) asked.now e) }
+    ensures refused { IfErr result (λ e. IsWorkRefusal (S.holds store.now) (S.unreadable store.now) (S.known_as store.now) asked.now e) }
 {
     let request = request_of(alloc, &asked.options)?;
     let skips = skips_of(alloc, asked.skips)?;
-    let input = input_of(store, alloc, &request, asked.options.files.as_slice())?;
+    let input = input_apart(store, alloc, &request, &asked.options)?;
     worked(alloc, &request, input, skips.as_slice(), watch)
 }
 
@@ -102,10 +123,10 @@ pub fn seq<S: Store>(
     watch: &dyn Watch,
 ) -> Result<Said, Fault>
     ensures status { IfOk result (λ said. said.status ≡ 0) }
-    ensures done { IfOk result (λ said. AnswersSeq (S.holds store.old) (S.holds store.new) asked.now (string_bytes said.text)) }
+    ensures done { IfOk result (λ said. AnswersSeq (S.holds store.old) (S.holds store.new) (S.known_as store.old) asked.now (string_bytes said.text)) }
     ensures others { ChangesAmong (S.holds store.old) (S.holds store.new) (result_names asked.now.options.out.now asked.now.options.parts) }
     ensures refused { IfErr result (λ e. IsSeqRefusal (S.holds store.old) (S.holds store.new) (S.unreadable store.old) (S.unwritable store.old)
-        asked.now e) }
+        (S.known_as store.old) asked.now e) }
 {
     let work = worked_out(store, alloc, asked, watch)?;
     let spelled = spelled_in(&work.certificate, asked.version);
@@ -131,10 +152,10 @@ pub fn done<S: Store, R: Threads + Wait + Sync>(
     asked: &Subcommand<'_>,
     watch: &dyn Watch,
 ) -> Result<Said, Fault>
-    ensures answers { IfOk result (λ said. Answers (S.holds store.old) (S.holds store.new) asked.now (string_bytes said.text) said.status) }
+    ensures answers { IfOk result (λ said. Answers (S.holds store.old) (S.holds store.new) (S.known_as store.old) asked.now (string_bytes said.text) said.status) }
     ensures others { ChangesOwn (S.holds store.old) (S.holds store.new) asked.now }
     ensures refused { IfErr result (λ e. IsRefusal (S.holds store.old) (S.holds store.new) (S.unreadable store.old) (S.unwritable store.old)
-        (S.alike store.old) asked.now e) }
+        (S.alike store.old) (S.known_as store.old) asked.now e) }
 {
     match asked {
         Subcommand::Check(asked) => check(rt, store, alloc, asked, watch),

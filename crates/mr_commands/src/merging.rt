@@ -55,10 +55,10 @@ pub fn merge<S: Store, T: Threads>(
     asked: &MergeOptions<'_>,
 ) -> Result<Said, Fault>
     ensures status { IfOk result (λ said. said.status ≡ 0) }
-    ensures done { IfOk result (λ said. AnswersMerge (S.holds store.old) (S.holds store.new) asked.now (string_bytes said.text)) }
+    ensures done { IfOk result (λ said. AnswersMerge (S.holds store.old) (S.holds store.new) (S.known_as store.old) asked.now (string_bytes said.text)) }
     ensures others { ChangesResult (S.holds store.old) (S.holds store.new) asked.now.out.now }
     ensures refused { IfErr result (λ e. IsMergeUnanswered (S.holds store.old) (S.holds store.new) (S.unreadable store.old) (S.unwritable store.old)
-        (S.alike store.old) asked.now e) }
+        (S.alike store.old) (S.known_as store.old) asked.now e) }
 {
     let room = String::with_capacity(alloc, LINE_ROOM)?;
     let joined = merge_shards(

@@ -1,13 +1,16 @@
 //! A run by workers: what it is of, how it ended, and what it leaves.
-ghost use Rattle.std.specs.Prelude.{◌≡◌, ℕ, ◌≤◌, ◌^◌, List, IfOk, IfErr, OnOk, option_map, string_bytes};
+ghost use Rattle.std.specs.Prelude.{◌≡◌, ℕ, ◌≤◌, ◌^◌, List, IfOk, IfErr, IfSome, OnOk, map, option_map, string_bytes};
 ghost use Rattle.mr_input.specs.Files.{split_total};
-ghost use Rattle.mr_files.specs.Holding.{ChangesAmong};
+ghost use Rattle.mr_files.specs.Holding.{Begins, ChangesAmong};
+ghost use Rattle.mr_files.specs.Identities.{AreApart};
 ghost use Rattle.mr_files.specs.Refusals.{IsOneUnwritten};
 ghost use Rattle.mr_pool.specs.Outcomes.{run_shape};
-ghost use Rattle.mr_commands.specs.Runs.{AnswersRun, IsBadScript, IsCrewRefusal, IsEnding, IsHistoryKept, IsResultKept, IsResultRefused};
+ghost use Rattle.mr_commands.specs.Runs.{AnswersRun, AreGoodAttempts, AreGoodWorkers, IsBadScript, IsCrewRefusal, IsEnding, IsHistoryKept, IsResultKept, IsResultRefused};
 ghost use Rattle.mr_commands.specs.Runs.{IsStartRefusal, IsRunUnanswered, IsScript, IsScriptRefusal, Runs, TellsRan, history_of as history_in};
-ghost use Rattle.mr_judging.specs.Verdicts.{named};
-ghost use Rattle.mr_commands.specs.Runs.{names_left, written_by_run};
+ghost use Rattle.mr_judging.specs.Inputs.{IsInput, IsInputRefusal};
+ghost use Rattle.mr_judging.specs.Named.{input_names, named};
+ghost use Rattle.mr_commands.specs.HistoryLines.{history_text};
+ghost use Rattle.mr_commands.specs.Runs.{names_left, read_by_run, written_by_run};
 ghost use Rattle.mr_script.specs.Scripts.{SpellsScript};
 
 use crate::history::history_text;
@@ -18,10 +21,10 @@ use mr_bytes::OpenGate;
 use mr_certform::Version;
 use mr_check::No;
 use mr_core::JobFault;
-use mr_files::{FileFault, Store, read_file, write_files, write_named};
+use mr_files::{FileFault, Store, names_of_result, read_file, write_files, write_named};
 use mr_input::Input;
 use mr_jobs::Request;
-use mr_judging::{Said, fault_text, input_of};
+use mr_judging::{Said, fault_text, input_of, name_given};
 use mr_pool::{Certified, RunFault, run_watched as pooled};
 use mr_script::Script;
 use mr_store::Bytes;
@@ -51,8 +54,8 @@ pub enum Ran {
 
 /// The numbers of workers and of attempts are within their limits.
 fn expect_crew(asked: &RunOptions<'_>) -> Result<(), Fault>
-    ensures workers { OnOk result ((1 ≤ asked.now.workers) × (asked.now.workers ≤ 64)) }
-    ensures attempts { OnOk result ((1 ≤ asked.now.attempts) × (asked.now.attempts ≤ 16)) }
+    ensures workers { OnOk result (AreGoodWorkers asked.now.workers) }
+    ensures attempts { OnOk result (AreGoodAttempts asked.now.attempts) }
     ensures refused { IfErr result (λ e. IsCrewRefusal asked.now e) }
 {
     if asked.workers == 0 || asked.workers > MAX_WORKERS {
@@ -114,8 +117,37 @@ fn ended<R: Threads + Wait + Sync>(
     }
 }
 
-/// Tests the request, the numbers, the script, the files and their fit, in this order, and only then runs; nothing is
-/// written.
+/// The names that a run writes: those of its history, where one is asked for, and of its result.
+fn names_written(alloc: Global, asked: &RunOptions<'_>) -> Result<Vec<String>, AllocError>
+    ensures { IfOk result (λ v. map string_bytes v.items ≡ written_by_run asked.now) }
+{
+    let mut names = name_given(alloc, asked.history)?;
+    let options = &asked.options;
+    let mut files = names_of_result(alloc, options.out, options.parts as usize)?;
+    names.append(&mut files)?;
+    Ok(names)
+}
+
+/// The input of a run, apart from its history and its result, as is its script.
+fn input_apart<S: Store>(
+    store: &S,
+    alloc: Global,
+    request: &Request,
+    asked: &RunOptions<'_>,
+) -> Result<Input, Fault>
+    ensures input { IfOk result (λ input. IsInput (S.holds store.now) (input_names asked.now.options) request.now.split input) }
+    ensures apart { OnOk result (AreApart (S.known_as store.now) (read_by_run asked.now) (written_by_run asked.now)) }
+    ensures refused { IfErr result (λ e. IsInputRefusal (S.holds store.now) (S.unreadable store.now) (S.known_as store.now) (input_names asked.now.options)
+        (read_by_run asked.now) (written_by_run asked.now) request.now.split e) }
+{
+    let besides = name_given(alloc, asked.script)?;
+    let written = names_written(alloc, asked)?;
+    let names = asked.options.files.as_slice();
+    input_of(store, alloc, request, names, besides, written.as_slice())
+}
+
+/// Tests the request, the numbers, the script, the files, that none of these is written, and their fit, in this order, and
+/// only then runs; nothing is written.
 fn executed<S: Store, R: Threads + Wait + Sync>(
     rt: &R,
     store: &S,
@@ -123,13 +155,13 @@ fn executed<S: Store, R: Threads + Wait + Sync>(
     asked: &RunOptions<'_>,
     watch: &dyn Watch,
 ) -> Result<Ran, Fault>
-    ensures runs { IfOk result (λ ran. Runs (S.holds store.now) asked.now ran) }
-    ensures refused { IfErr result (λ e. IsStartRefusal (S.holds store.now) (S.unreadable store.now) asked.now e) }
+    ensures runs { IfOk result (λ ran. Runs (S.holds store.now) (S.known_as store.now) asked.now ran) }
+    ensures refused { IfErr result (λ e. IsStartRefusal (S.holds store.now) (S.unreadable store.now) (S.known_as store.now) asked.now e) }
 {
     let request = request_of(alloc, &asked.options)?;
     expect_crew(asked)?;
     let script = script_of(store, alloc, asked.script)?;
-    let input = input_of(store, alloc, &request, asked.options.files.as_slice())?;
+    let input = input_apart(store, alloc, &request, asked)?;
     ended(
         rt,
         alloc,
@@ -184,13 +216,15 @@ fn keep_history<S: Store>(
 ) -> Result<(), FileFault>
     ensures kept { OnOk result (IsHistoryKept (S.holds store.new) (option_map (λ n. n.now) name.entry) history.now) }
     ensures others { ChangesAmong (S.holds store.old) (S.holds store.new) (named (option_map (λ n. n.now) name.entry)) }
+    ensures begins { IfSome (option_map (λ n. n.now) name.entry) (λ own. Begins (S.holds store.old) (S.holds store.new) own (history_text history.now)) }
     ensures refused { IfErr result (λ e. IsOneUnwritten (S.unwritable store.old) (named (option_map (λ n. n.now) name.entry)) e) }
     ensures still { (n : List ℕ) → S.unwritable store.new n → S.unwritable store.old n }
 {
-    if let Some(name) = name {
-        let text = history_text(alloc, history)?;
-        write_named(store, alloc, name, text.as_bytes())?;
-    }
+    let Some(name) = name else {
+        return Ok(());
+    };
+    let text = history_text(alloc, history)?;
+    write_named(store, alloc, name, text.as_bytes())?;
     Ok(())
 }
 
@@ -244,10 +278,10 @@ pub fn run<S: Store, R: Threads + Wait + Sync>(
     asked: &RunOptions<'_>,
     watch: &dyn Watch,
 ) -> Result<Said, Fault>
-    ensures done { IfOk result (λ said. AnswersRun (S.holds store.old) (S.holds store.new) asked.now (string_bytes said.text) said.status) }
+    ensures done { IfOk result (λ said. AnswersRun (S.holds store.old) (S.holds store.new) (S.known_as store.old) asked.now (string_bytes said.text) said.status) }
     ensures others { ChangesAmong (S.holds store.old) (S.holds store.new) (written_by_run asked.now) }
     ensures refused { IfErr result (λ e. IsRunUnanswered (S.holds store.old) (S.holds store.new) (S.unreadable store.old)
-        (S.unwritable store.old) asked.now e) }
+        (S.unwritable store.old) (S.known_as store.old) asked.now e) }
 {
     let ran = executed(rt, store, alloc, asked, watch)?;
     let said = said_of(alloc, &ran)?;

@@ -5,3 +5,4 @@ pub mod Digits
 pub mod Written
 pub mod Stopped
 pub mod Readers
+pub mod Known

@@ -8,10 +8,11 @@ use Rattle.std.specs.Io.KnownBytes.{Consumes}
 use Rattle.mr_input.specs.Files.{contents, total_size}
 use Rattle.mr_files.specs.Holding.{Agrees, Faulty, Holding, Stored}
 use Rattle.mr_files.specs.Names.{name_of_certificate, name_of_part, part_names, result_names}
-use Rattle.mr_files.specs.Refusals.{IsOneUnreadWithin, IsReadRefusalWithin, IsUnreadWithin}
+use Rattle.mr_files.specs.Refusals.{AreBefore, IsOneUnreadWithin, IsReadRefusalWithin, IsUnreadWithin}
 use Rattle.mr_files.specs.declared.within.WithinFault.{WithinFault}
 use Rattle.mr_files.specs.declared.within.WithinFault.TheVariants.{File, TooLong}
-use Rattle.mr_files.proofs.Lists.{contents_more, holding_more, one_part, part_among, refused_at}
+use Rattle.mr_files.specs.declared.store.FileFault.TheVariants.{CannotRead, CannotWrite, OutOfMemory}
+use Rattle.mr_files.proofs.Lists.{contents_more, one_part, part_among}
 
 -- what was read begins what stands there
 pub read_begins : (known left : Option (List ℕ)) (got : List ℕ) → Consumes known left got → (b : List ℕ) × Agrees known b × (length got ≤ length b)
@@ -33,12 +34,16 @@ sizes_pushed files after v is = ap (λ fs. total_size (contents fs)) is ∙ (ap 
 pub refused_within : (holds : Stored) (unreadable : Faulty) (names before after read : List (List ℕ)) (name : List ℕ) (limit left : ℕ) (e : WithinFault)
     → names ≡ before ++ name ∷ after → Holding holds before read → total_size read + left ≡ limit
     → IsUnreadWithin holds unreadable name left e → IsReadRefusalWithin holds unreadable names limit e
-refused_within holds unreadable names before after read name limit left (File fault) is h room u = refused_at holds unreadable names before after read name fault is h u
+refused_within holds unreadable names before after read name limit left (File (CannotRead told)) is h room u =
+    subst (λ (n : List ℕ). unreadable n × AreBefore holds names limit n) (sym u.1) (u.0, record { before = before; after = after; names_are = is; read = read; held = h; within = omega (arith, room) })
+refused_within holds unreadable names before after read name limit left (File (CannotWrite told)) is h room u = absurd u
+refused_within holds unreadable names before after read name limit left (File OutOfMemory) is h room u = tt
 refused_within holds unreadable names before after read name limit left TooLong is h room u = (
-  before ++ name ∷ [],
-  after,
-  is ∙ sym (append_assoc before (name ∷ []) after),
-  (read ++ u.0 ∷ [], holding_more holds before read name u.0 h u.1, omega (arith, sizes_more read u.0, room, u.2)),
+  name,
+  u.0,
+  record { before = before; after = after; names_are = is; read = read; held = h; within = omega (arith, room) },
+  u.1,
+  omega (arith, room, u.2),
 )
 
 -- ---- a limit for each file

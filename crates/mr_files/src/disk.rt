@@ -10,11 +10,14 @@ use crate::store::{Store, WriteFault};
 use mr_store::{CountedRead, CountedWrite, Device, ReadFault};
 use std::alloc::{AllocError, Global};
 use std::cell::Cell;
-use std::fs::{self, File};
+use std::fs::{self, File, Metadata};
 use std::io::{self, ErrorKind, Write};
 use std::mem;
 use std::os::unix::fs::MetadataExt;
 use std::rt::Files;
+
+/// The most links, one behind another, that the system follows.
+const MOST_LINKS: u32 = 40;
 
 /// A file from before its first use to behind its last. Taken out, it is closed where it isn't put back.
 #[derive(Drop)]
@@ -197,6 +200,54 @@ fn are_one_file<R: Files>(rt: &R, name: &str, other: &str) -> bool {
     }
 }
 
+/// The identity of a file or a folder that is there: its device and its number there.
+fn identity_of(alloc: Global, seen: &Metadata) -> Result<Option<String>, AllocError> {
+    if !seen.is_file() && !seen.is_dir() {
+        return Ok(None);
+    }
+    let (device, number) = (seen.dev(), seen.ino());
+    Ok(Some(format!(in alloc; "{device}:{number}")?))
+}
+
+/// The folder of a name that is not there, and the last of its name.
+fn parted(name: &str) -> (&str, &str) {
+    match name.rsplit_once('/') {
+        Some(("", last)) => ("/", last),
+        Some(parts) => parts,
+        None => (".", name),
+    }
+}
+
+/// The identity of a file that would be made under a name: that of its folder, and the last of the name.
+fn identity_to_be<R: Files>(
+    rt: &R,
+    alloc: Global,
+    name: &str,
+) -> Result<Option<String>, AllocError> {
+    let (folder, last) = parted(name);
+    match fs::metadata(rt, folder) {
+        Ok(seen) => {
+            let (device, number) = (seen.dev(), seen.ino());
+            Ok(Some(format!(in alloc; "{device}:{number}/{last}")?))
+        }
+        Err(_) => Ok(None),
+    }
+}
+
+/// Where a symbolic link leads; none, where the name is no link.
+fn link_target<R: Files>(rt: &R, alloc: Global, name: &str) -> Result<Option<String>, AllocError> {
+    let target = match rt.read_link(alloc, name) {
+        Ok(target) => target.into_string(),
+        Err(error) if error.kind() == ErrorKind::OutOfMemory => return Err(AllocError),
+        Err(_) => return Ok(None),
+    };
+    if target.as_str().starts_with('/') {
+        return Ok(Some(target));
+    }
+    let (folder, _) = parted(name);
+    Ok(Some(format!(in alloc; "{folder}/{target}")?))
+}
+
 impl<'a, R: Files> Store for DiskFiles<'a, R> {
     type Reader = FileReader<'a, R>;
 
@@ -210,8 +261,25 @@ impl<'a, R: Files> Store for DiskFiles<'a, R> {
 
     ghost alike = { λ _ _ _. ⊤ };
 
+    ghost known_as = { λ _ _ _. ⊤ };
+
     fn is_same_folder(&self, name: &str, other: &str) -> bool {
         name == other || are_one_file(self.rt, name, other)
+    }
+
+    // A link to a file that isn't there is followed: who writes under its name makes that file.
+    fn identity(&self, alloc: Global, name: &str) -> Result<Option<String>, AllocError> {
+        let mut name = String::from_str(alloc, name)?;
+        for _ in 0..MOST_LINKS {
+            if let Ok(seen) = fs::metadata(self.rt, name.as_str()) {
+                return identity_of(alloc, &seen);
+            }
+            match link_target(self.rt, alloc, name.as_str())? {
+                Some(target) => name = target,
+                None => return identity_to_be(self.rt, alloc, name.as_str()),
+            }
+        }
+        Ok(None)
     }
 
     fn try_open(&self, name: &str) -> Result<(), ReadFault> {

@@ -1,6 +1,7 @@
 //! Files by their names, behind a trait whose contract says what stands under a name.
 #![tactic(auto)]
 
+mod apart;
 mod counted;
 mod disk;
 mod look;
@@ -13,11 +14,14 @@ mod store;
 mod within;
 mod writing;
 
+pub use crate::apart::first_shared;
 pub use crate::disk::DiskFiles;
 pub use crate::look::{Look, Standing};
 pub use crate::memory::{MemoryFiles, one_content_law};
 pub use crate::named::{Cause, NamedReader};
-pub use crate::names::{certificate_name, folder_of, part_file, part_name, verdict_name};
+pub use crate::names::{
+    add_names, certificate_name, folder_of, names_of_result, part_file, part_name, verdict_name,
+};
 pub use crate::reading::{read_file, read_files};
 pub use crate::result::{ResultReaders, result_readers};
 pub use crate::store::{FileFault, Store, WriteFault};

@@ -1,5 +1,5 @@
 //! Files in memory, for tests of what goes over a store; each may be made to fail. A look costs a pass over all.
-ghost use Rattle.std.specs.Prelude.{◌≡◌, ◌∷◌, [], IfOk, OnOk, OnErr, MatchOption, true};
+ghost use Rattle.std.specs.Prelude.{◌≡◌, ◌∷◌, [], Some, IfOk, OnOk, OnErr, MatchOption, true};
 ghost use Rattle.mr_files.specs.declared.memory.Entry.{Entry};
 ghost use Rattle.mr_files.specs.Memory.{Found, Stands, OneContent, IsPut, IsUnreadable, IsUnwritable};
 
@@ -103,8 +103,14 @@ impl Store for MemoryFiles {
 
     ghost alike = { λ _ name other. name ≡ other };
 
+    ghost known_as = { λ _ name id. id ≡ Some name };
+
     fn is_same_folder(&self, name: &str, other: &str) -> bool {
         name == other
+    }
+
+    fn identity(&self, alloc: Global, name: &str) -> Result<Option<String>, AllocError> {
+        Ok(Some(String::from_str(alloc, name)?))
     }
 
     fn try_open(&self, name: &str) -> Result<(), ReadFault> {

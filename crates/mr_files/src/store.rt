@@ -1,5 +1,5 @@
 //! What a store of files is: files by their names, each read and written by a counted reader and writer.
-ghost use Rattle.std.specs.Prelude.{◌≡◌, ◌≢◌, ◌⊎◌, ℕ, Some, List, [], OnOk, IfOk, false, true};
+ghost use Rattle.std.specs.Prelude.{◌≡◌, ◌≢◌, ◌⊎◌, ℕ, Option, Some, List, [], OnOk, IfOk, false, true, option_map, string_bytes};
 ghost use Rattle.mr_files.specs.Holding.{Agrees, ChangesOnly, Shrinks};
 ghost use Rattle.mr_store.specs.Devices.{Seen};
 
@@ -42,10 +42,18 @@ pub trait Store {
     // Two names may lead to one folder.
     ghost alike: { Self → List ℕ → List ℕ → Type 0 };
 
+    // A name may have this identity; none, where a pipe, a socket or a device stands under it.
+    ghost known_as: { Self → List ℕ → Option (List ℕ) → Type 0 };
+
     /// Whether two names lead to one folder, as far as it can be told; a name leads where it leads itself.
     fn is_same_folder(&self, name: &str, other: &str) -> bool
         ensures same { result ≡ true → alike self.now name.now other.now }
         ensures apart { result ≡ false → name.now ≢ other.now };
+
+    /// What tells the file of that name from others: names that lead to one file have one identity, whether it is there
+    /// already or not. A pipe, a socket or a device has none, and may be read and written under any number of names.
+    fn identity(&self, alloc: Global, name: &str) -> Result<Option<String>, AllocError>
+        ensures known { IfOk result (λ i. known_as self.now name.now (option_map (λ text. string_bytes text) i)) };
 
     /// Whether the file can be opened; it is closed again.
     fn try_open(&self, name: &str) -> Result<(), ReadFault>

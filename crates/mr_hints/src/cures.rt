@@ -81,7 +81,7 @@ fn shards_cure(fault: &ShardFault) -> &'static str {
         ShardFault::TooManyFiles | ShardFault::FileTooFar { .. } =>
             "files of all shards are numbered in 32 bits: merge fewer shards",
         ShardFault::TooManyPairs | ShardFault::TotalTooLarge { .. } => "",
-        ShardFault::CannotRead(_) | ShardFault::CannotWrite(_) => "",
+        ShardFault::CannotRead(_) | ShardFault::CannotWrite(_) | ShardFault::SameFile(_) => "",
         ShardFault::OutOfMemory => MEMORY,
     }
 }
@@ -106,6 +106,8 @@ fn cure(fault: &Fault) -> &'static str {
         Fault::Script(_) =>
             "a line is `lose W after N`, `zombie W after N`, `bad S R`, `flaky S R N`, `hold W` or `spoil P B`",
         Fault::Shards(fault) => shards_cure(fault),
+        Fault::SameFile(_) =>
+            "this file is read, or written under another name, and would be lost: give another name",
         Fault::CannotRead(_) | Fault::CannotWrite(_) => "",
         Fault::OutOfMemory => MEMORY,
     }

@@ -17,10 +17,10 @@ use Rattle.mr_files.specs.declared.store.FileFault.TheVariants as file
 use Rattle.mr_asked.specs.declared.asked.CheckOptions.{CheckOptions}
 use Rattle.mr_asked.specs.declared.fault.Fault.{Fault}
 use Rattle.mr_asked.specs.declared.fault.Fault.TheVariants.{OutOfMemory as no_memory}
-use Rattle.mr_judging.specs.Inputs.{input_names}
+use Rattle.mr_judging.specs.Named.{input_names, verdict_file}
 use Rattle.mr_asked.specs.Statuses.{TellsFile}
 use Rattle.mr_judging.specs.Streamed.{AnswersResult, GivesAnswer, IsAnswer, IsSaid, TellsOther, TellsRead}
-use Rattle.mr_judging.specs.Verdicts.{IsJudgement, JudgesResult, verdict_file}
+use Rattle.mr_judging.specs.Verdicts.{IsJudgement, JudgesResult}
 
 -- two words for what readers may give
 agree_one : (known : Option (List ℕ)) (bytes : List ℕ) → MayBe known bytes → Agrees known bytes
@@ -41,7 +41,7 @@ no_read request files outs bytes e other h = h
 
 module _ (request : RequestSpec) (files : List (List ℕ)) (parts : List (Option (List ℕ))) (certificate : Option (List ℕ)) where
   pub yes_given : (y : Yes) → Judged request files parts certificate (Ok y) → GivesAnswer request files parts certificate (Ok y)
-  yes_given y j = (j.outs, j.bytes, agree_all parts j.outs j.given.outputs_agree, agree_one certificate j.bytes j.given.certificate_agrees, j.headline)
+  yes_given y j = (j.outs, j.bytes, agree_all parts j.outs j.given.outputs_agree, agree_one certificate j.bytes j.given.certificate_agrees, record { verdict = j.verdict; certified = j.headline })
 
   pub no_given : (e told : No) → Judged request files parts certificate (Err e) → TellsOther e told → GivesAnswer request files parts certificate (Err told)
   no_given e told j t = (

@@ -3,9 +3,9 @@ use Rattle.std.proofs.Common.{◌≡◌, ℕ, List, [], ◌∷◌, Option, None,
 use Rattle.std.specs.Prelude.{IfSome, option_map}
 use Rattle.mr_bytes.specs.declared.RecordName.{RecordName}
 use Rattle.mr_jobs.specs.JobSpec.{RequestSpec}
-use Rattle.mr_answers.specs.Headline.{IsCertified}
 use Rattle.mr_verdict.specs.Verdict.{Told, spelling}
-use Rattle.mr_files.specs.Holding.{Begins, ChangesAmong, ChangesOnly, Holding}
+use Rattle.mr_files.specs.Holding.{Begins, ChangesAmong, ChangesOnly, Holding, Stored}
+use Rattle.mr_files.specs.Identities.{AreApart, Known}
 use Rattle.mr_files.specs.Names.{name_of_certificate, part_names}
 use Rattle.mr_files.specs.Refusals.{IsUnwritten, IsWriteRefusal}
 use Rattle.mr_files.specs.declared.store.FileFault.{FileFault}
@@ -13,31 +13,32 @@ use Rattle.mr_files.specs.declared.store.FileFault.TheVariants as file
 use Rattle.mr_asked.specs.declared.fault.Fault.{Fault}
 use Rattle.mr_asked.specs.declared.asked.CheckOptions.{CheckOptions}
 use Rattle.mr_asked.specs.Asked.{request_asked}
-use Rattle.mr_judging.specs.Checks.{AnswersCheck}
-use Rattle.mr_judging.specs.Inputs.{IsInput, IsStopped, input_names}
+use Rattle.mr_judging.specs.Checks.{AnswersCheck, IsYes}
+use Rattle.mr_judging.specs.Inputs.{IsInput, IsStopped}
+use Rattle.mr_judging.specs.Named.{AreClear, input_names, named, read_by_check, verdict_file, written_by_check}
 use Rattle.mr_asked.specs.Statuses.{TellsFile}
 use Rattle.mr_judging.specs.Checks.{IsJudged}
 use Rattle.mr_judging.specs.YesLines.{yes_text}
-use Rattle.mr_judging.specs.Verdicts.{named}
-use Rattle.mr_judging.specs.Verdicts.{AreClear, IsCheckUnanswered, IsJudgement, IsKeptUnder, IsTextRefused, IsVerdictOf, Judges, JudgesResult, KeepsVerdict, names_kept, verdict_about, verdict_file}
+use Rattle.mr_judging.specs.Verdicts.{IsCheckUnanswered, IsJudgement, IsKeptUnder, IsTextRefused, IsVerdictOf, Judges, JudgesResult, KeepsVerdict, names_kept, verdict_about}
 use Rattle.mr_judging.proofs.Inputs.{holding_lengths}
 use Rattle.mr_judging.proofs.Noted.{true_of}
 use Rattle.mr_judging.proofs.Refused.{stopped_as}
 
 -- a judgement under the request that was asked for
-pub judges : (holds : List ℕ → List ℕ → Type 0) (asked : CheckOptions) (names files : List (List ℕ)) (request : RequestSpec) (text : List ℕ) (status : ℕ) (kept : Option (List ℕ))
-    → names ≡ input_names asked.options → request ≡ request_asked asked.options → IsInput holds names request.split files
-    → IfSome (verdict_file asked) (λ name. AreClear asked.options) → JudgesResult holds request asked files text status kept → Judges holds asked text status kept
-judges holds asked names files request text status kept n r i clear judged =
+pub judges : (holds : Stored) (known : Known) (asked : CheckOptions) (files : List (List ℕ)) (request : RequestSpec) (text : List ℕ) (status : ℕ) (kept : Option (List ℕ))
+    → request ≡ request_asked asked.options → IsInput holds (input_names asked.options) request.split files → AreApart known (read_by_check asked) (written_by_check asked)
+    → IfSome (verdict_file asked) (λ name. AreClear asked.options) → JudgesResult holds request asked files text status kept → Judges holds known asked text status kept
+judges holds known asked files request text status kept r i apart clear judged =
     let o = asked.options in
     let given = verdict_file asked in
     record {
       files = files;
       outputs = judged.outputs;
       bytes = judged.bytes;
-      input = subst (λ (s : ℕ). IsInput holds (input_names o) s files) (ap (λ (v : RequestSpec). v.split) r) (subst (λ (v : List (List ℕ)). IsInput holds v request.split files) n i);
+      input = subst (λ (s : ℕ). IsInput holds (input_names o) s files) (ap (λ (v : RequestSpec). v.split) r) i;
       parts = judged.parts;
       certificate = judged.certificate;
+      apart = apart;
       clear = clear;
       judgement = subst (λ (v : RequestSpec). IsJudgement v given (input_names o) files judged.outputs judged.bytes text status kept) r judged.judgement;
     }
@@ -111,31 +112,32 @@ none_refused old new unwritable None kept e n h = h
 none_refused old new unwritable (Some name) None e n h = h
 none_refused old new unwritable (Some name) (Some text) e n h = absurd (cc n)
 
-module _ (old : List ℕ → List ℕ → Type 0) (asked : CheckOptions) (text : List ℕ) where
+module _ (old : Stored) (known : Known) (asked : CheckOptions) (text : List ℕ) where
   -- the verdict of a yes
-  yes_verdict : (status : ℕ) (kept : Option (List ℕ)) (j : Judges old asked text status kept) (skips : List RecordName) (pairs : ℕ) → AreClear asked.options → text ≡ yes_text pairs skips
-      → IsCertified (request_asked asked.options) j.files j.outputs j.bytes skips pairs
+  yes_verdict : (status : ℕ) (kept : Option (List ℕ)) (j : Judges old known asked text status kept) (skips : List RecordName) (pairs : ℕ) → AreClear asked.options → text ≡ yes_text pairs skips
+      → IsYes (request_asked asked.options) j.files j.outputs j.bytes skips pairs
       → IsVerdictOf asked.options j.files j.outputs j.bytes text (verdict_about (request_asked asked.options) (input_names asked.options) j.files j.outputs skips pairs)
-  yes_verdict status kept j skips pairs clear said certified = record {
+  yes_verdict status kept j skips pairs clear said yes_is = record {
     skips = skips;
     pairs = pairs;
     said = said;
-    certified = certified;
+    judged = yes_is;
     about = refl;
-    is_true = true_of (request_asked asked.options) (input_names asked.options) j.files j.outputs j.bytes skips pairs (holding_lengths old (input_names asked.options) j.files j.input.held) certified;
+    is_true = true_of (request_asked asked.options) (input_names asked.options) j.files j.outputs j.bytes skips pairs (holding_lengths old (input_names asked.options) j.files j.input.held) yes_is.certified;
     clear = clear;
   }
 
-  abbrev says : (status told : ℕ) (kept : Option (List ℕ)) (j : Judges old asked text status kept) → IsJudged (request_asked asked.options) j.files j.outputs j.bytes text told → AnswersCheck old asked.options text told
+  abbrev says : (status told : ℕ) (kept : Option (List ℕ)) (j : Judges old known asked text status kept) → IsJudged (request_asked asked.options) j.files j.outputs j.bytes text told → AnswersCheck old asked.options text told
   says status told kept j judged = record { files = j.files; outputs = j.outputs; bytes = j.bytes; input = j.input; parts = j.parts; certificate = j.certificate; judged = judged }
 
   module _ (new : List ℕ → List ℕ → Type 0) where
-    keeps_as : (status : ℕ) (kept : Option (List ℕ)) (j : Judges old asked text status kept)
+    keeps_as : (status : ℕ) (kept : Option (List ℕ)) (j : Judges old known asked text status kept)
         → IsJudgement (request_asked asked.options) (verdict_file asked) (input_names asked.options) j.files j.outputs j.bytes text status kept
-        → IsKeptUnder new (verdict_file asked) kept → ChangesAmong old new (names_kept (verdict_file asked) kept) → KeepsVerdict old new asked text status
+        → IsKeptUnder new (verdict_file asked) kept → ChangesAmong old new (names_kept (verdict_file asked) kept) → KeepsVerdict old new known asked text status
     keeps_as status kept j (inl (zero_is, skips, pairs, said, certified, text_is)) k among =
         let v = verdict_about (request_asked asked.options) (input_names asked.options) j.files j.outputs skips pairs in (
           says status status kept j (inl (zero_is, skips, pairs, said, certified)),
+          j.apart,
           (
             (λ _. stands new (verdict_file asked) kept (IsVerdictOf asked.options j.files j.outputs j.bytes text) v (if_some (verdict_file asked) (λ (clear : AreClear asked.options). yes_verdict status kept j skips pairs clear said certified) j.clear) text_is k),
             λ one. absurd (apart status zero_is one),
@@ -146,25 +148,26 @@ module _ (old : List ℕ → List ℕ → Type 0) (asked : CheckOptions) (text :
         apart s a b = omega (arith, a, b)
     keeps_as status kept j (inr (one_is, fault, said, refused, none)) k among = (
       says status status kept j (inr (one_is, fault, said, refused)),
+      j.apart,
       ((λ zero_is. absurd (apart status zero_is one_is)), λ _. none_kept old new (verdict_file asked) kept none among),
     )
       where
         apart : (s : ℕ) → s ≡ 0 → s ≡ 1 → ⊥
         apart s a b = omega (arith, a, b)
 
-    pub keeps : (status : ℕ) (kept : Option (List ℕ)) (j : Judges old asked text status kept)
-        → IsKeptUnder new (verdict_file asked) kept → ChangesAmong old new (names_kept (verdict_file asked) kept) → KeepsVerdict old new asked text status
+    pub keeps : (status : ℕ) (kept : Option (List ℕ)) (j : Judges old known asked text status kept)
+        → IsKeptUnder new (verdict_file asked) kept → ChangesAmong old new (names_kept (verdict_file asked) kept) → KeepsVerdict old new known asked text status
     keeps status kept j = keeps_as status kept j j.judgement
 
-    unkept_as : (unreadable unwritable : List ℕ → Type 0) (status : ℕ) (kept : Option (List ℕ)) (e : FileFault) (f : Fault) (j : Judges old asked text status kept)
+    unkept_as : (unreadable unwritable : List ℕ → Type 0) (status : ℕ) (kept : Option (List ℕ)) (e : FileFault) (f : Fault) (j : Judges old known asked text status kept)
         → IsJudgement (request_asked asked.options) (verdict_file asked) (input_names asked.options) j.files j.outputs j.bytes text status kept
-        → IsTextRefused old new unwritable (verdict_file asked) kept e → TellsFile e f → IsCheckUnanswered old new unreadable unwritable asked f
+        → IsTextRefused old new unwritable (verdict_file asked) kept e → TellsFile e f → IsCheckUnanswered old new unreadable unwritable known asked f
     unkept_as unreadable unwritable status kept e f j (inl (zero_is, skips, pairs, said, certified, text_is)) h tells =
         let v = verdict_about (request_asked asked.options) (input_names asked.options) j.files j.outputs skips pairs in
         let s = stopped old new unwritable (verdict_file asked) kept v e f text_is h tells in
-        inr (text, s.0, v, says status 0 kept j (inl (refl, skips, pairs, said, certified)), s.1, yes_verdict status kept j skips pairs (subst (λ (o : Option (List ℕ)). IfSome o (λ name. AreClear asked.options)) s.1 j.clear) said certified, s.2)
+        inr (text, s.0, v, says status 0 kept j (inl (refl, skips, pairs, said, certified)), j.apart, s.1, yes_verdict status kept j skips pairs (subst (λ (o : Option (List ℕ)). IfSome o (λ name. AreClear asked.options)) s.1 j.clear) said certified, s.2)
     unkept_as unreadable unwritable status kept e f j (inr (one_is, fault, said, refused, none)) h tells = absurd (none_refused old new unwritable (verdict_file asked) kept e none h)
 
-    pub unkept : (unreadable unwritable : List ℕ → Type 0) (status : ℕ) (kept : Option (List ℕ)) (e : FileFault) (f : Fault) (j : Judges old asked text status kept)
-        → IsTextRefused old new unwritable (verdict_file asked) kept e → TellsFile e f → IsCheckUnanswered old new unreadable unwritable asked f
+    pub unkept : (unreadable unwritable : List ℕ → Type 0) (status : ℕ) (kept : Option (List ℕ)) (e : FileFault) (f : Fault) (j : Judges old known asked text status kept)
+        → IsTextRefused old new unwritable (verdict_file asked) kept e → TellsFile e f → IsCheckUnanswered old new unreadable unwritable known asked f
     unkept unreadable unwritable status kept e f j = unkept_as unreadable unwritable status kept e f j j.judgement

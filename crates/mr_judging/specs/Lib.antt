@@ -1,5 +1,6 @@
 pub mod NoLines
 pub mod YesLines
+pub mod Named
 pub mod Inputs
 pub mod Checks
 pub mod Verdicts

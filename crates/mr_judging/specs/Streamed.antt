@@ -6,10 +6,10 @@ use Rattle.mr_answers.specs.declared.fault.No.TheVariants.{Device, OutOfMemory}
 use Rattle.mr_answers.specs.declared.fault.Source.{Source}
 use Rattle.mr_answers.specs.declared.fault.Source.TheVariants.{Certificate, Output}
 use Rattle.mr_answers.specs.declared.yes.Yes.{Yes}
-use Rattle.mr_answers.specs.Headline.{IsCertified}
 use Rattle.mr_answers.specs.Verdict.{verdict_of}
 use Rattle.mr_files.specs.Holding.{Agrees, AllAgree, Holding, Stored}
 use Rattle.mr_files.specs.Names.{name_of_certificate, part_names}
+use Rattle.mr_judging.specs.Checks.{IsYes}
 use Rattle.mr_judging.specs.NoLines.{no_line}
 use Rattle.mr_judging.specs.YesLines.{yes_text}
 use Rattle.mr_asked.specs.declared.fault.Fault.{Fault}
@@ -27,7 +27,7 @@ TellsOther was e = (e ≡ was) × ((s : Source) → was ≡ Device s → ⊥)
 
 -- what an answer says of a result
 abbrev pub IsAnswer : RequestSpec → List (List ℕ) → List (List ℕ) → List ℕ → Result Yes No → Type 0
-IsAnswer request files outputs bytes (Ok y) = IsCertified request files outputs bytes y.skips.items y.pairs
+IsAnswer request files outputs bytes (Ok y) = IsYes request files outputs bytes y.skips.items y.pairs
 IsAnswer request files outputs bytes (Err e) = (e ≡ OutOfMemory) ⊎ (verdict_of request files outputs bytes ≡ Err e)
 
 -- and so of a result that readers give

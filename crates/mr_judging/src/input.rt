@@ -1,46 +1,79 @@
-//! The input of a request.
-ghost use Rattle.std.specs.Prelude.{◌≡◌, ◌<◌, ◌≤◌, map, IfOk, IfErr};
-ghost use Rattle.mr_input.specs.declared.InputFault.TheVariants as limits;
-ghost use Rattle.mr_judging.specs.Inputs.{IsInput, IsInputRefusal};
+//! The input of a request, apart from what is written.
+ghost use Rattle.std.specs.Prelude.{◌≡◌, ◌++◌, ◌<◌, ◌≤◌, map, IfOk, IfErr, OnOk, option_map, string_bytes};
+ghost use Rattle.mr_files.specs.Identities.{AreApart};
+ghost use Rattle.mr_judging.specs.Inputs.{AreRead, IsClash, IsInput, IsInputRefusal, IsUnreadInput};
+ghost use Rattle.mr_judging.specs.Named.{named};
 
 use mr_asked::Fault;
-use mr_files::{Store, WithinFault, read_files_within};
-use mr_input::{Input, InputFault, MAX_BYTES, MAX_FILES};
+use mr_files::{Store, WithinFault, add_names, first_shared, read_files_within};
+use mr_input::{Input, InputFault, MAX_BYTES};
 use mr_jobs::Request;
-use std::alloc::Global;
+use std::alloc::{AllocError, Global};
 
-/// The fault of so many files, the first of which pass the limit of bytes: that of their number is told before it.
-fn limit_passed(count: usize) -> InputFault
-    ensures many { result ≡ limits.TooManyFiles → 1024 < count }
-    ensures large { result ≡ limits.TooLarge → count ≤ 1024 }
+/// The files of these names, within the limits of an input: they are read in order, and no more than one byte past the limit
+/// of their bytes, which is told before a later file; then their number is tested.
+fn input_read<S: Store>(store: &S, alloc: Global, names: &[&str]) -> Result<Input, Fault>
+    ensures read { IfOk result (λ input. AreRead (S.holds store.now) (map (λ s. s.now) names.now) input) }
+    ensures refused { IfErr result (λ e. IsUnreadInput (S.holds store.now) (S.unreadable store.now) (map (λ s. s.now) names.now) e) }
 {
-    if MAX_FILES < count {
-        InputFault::TooManyFiles
-    } else {
-        InputFault::TooLarge
+    let files = match read_files_within(store, alloc, names, MAX_BYTES as u64) {
+        Ok(files) => files,
+        Err(WithinFault::TooLong) => return Err(Fault::Input(InputFault::TooLarge)),
+        Err(WithinFault::File(fault)) => return Err(Fault::from(fault)),
+    };
+    match Input::of(files) {
+        Ok(input) => Ok(input),
+        Err(fault) => Err(Fault::Input(fault)),
     }
 }
 
-/// The input of a request, which fits it: the files are read in order, and no more than one byte past the limit of their
-/// bytes; then the limits are tested, then the fit.
+/// The name that is given, where one is.
+pub fn name_given(alloc: Global, name: Option<&str>) -> Result<Vec<String>, AllocError>
+    ensures { IfOk result (λ v. map string_bytes v.items ≡ named (option_map (λ n. n.now) name.entry)) }
+{
+    let mut names = Vec::new(alloc);
+    if let Some(name) = name {
+        add_names(alloc, &mut names, &[name])?;
+    }
+    Ok(names)
+}
+
+/// No file that is written is one that is read, be it of the input or besides, or one that is written before.
+fn expect_apart<S: Store>(
+    store: &S,
+    alloc: Global,
+    names: &[&str],
+    besides: Vec<String>,
+    written: &[String],
+) -> Result<(), Fault>
+    ensures apart { OnOk result (AreApart (S.known_as store.now) (map string_bytes besides.items ++ map (λ s. s.now) names.now) (map string_bytes written.now)) }
+    ensures refused { IfErr result (λ e. IsClash (S.known_as store.now) (map string_bytes besides.items ++ map (λ s. s.now) names.now) (map string_bytes written.now) e) }
+{
+    let mut read = besides;
+    add_names(alloc, &mut read, names)?;
+    match first_shared(store, alloc, read.as_slice(), written)? {
+        Some(name) => Err(Fault::SameFile(name)),
+        None => Ok(()),
+    }
+}
+
+/// The input of a request, which fits it. The files are read, and the limits tested; then that no file that is written is one
+/// of them, one that is read besides, or written twice; then the fit.
 pub fn input_of<S: Store>(
     store: &S,
     alloc: Global,
     request: &Request,
     names: &[&str],
+    besides: Vec<String>,
+    written: &[String],
 ) -> Result<Input, Fault>
     ensures input { IfOk result (λ input. IsInput (S.holds store.now) (map (λ s. s.now) names.now) request.now.split input) }
-    ensures refused { IfErr result (λ e. IsInputRefusal (S.holds store.now) (S.unreadable store.now) (map (λ s. s.now) names.now) request.now.split e) }
+    ensures apart { OnOk result (AreApart (S.known_as store.now) (map string_bytes besides.items ++ map (λ s. s.now) names.now) (map string_bytes written.now)) }
+    ensures refused { IfErr result (λ e. IsInputRefusal (S.holds store.now) (S.unreadable store.now) (S.known_as store.now) (map (λ s. s.now) names.now)
+        (map string_bytes besides.items ++ map (λ s. s.now) names.now) (map string_bytes written.now) request.now.split e) }
 {
-    let files = match read_files_within(store, alloc, names, MAX_BYTES as u64) {
-        Ok(files) => files,
-        Err(WithinFault::TooLong) => return Err(Fault::Input(limit_passed(names.len()))),
-        Err(WithinFault::File(fault)) => return Err(Fault::from(fault)),
-    };
-    let input = match Input::of(files) {
-        Ok(input) => input,
-        Err(fault) => return Err(Fault::Input(fault)),
-    };
+    let input = input_read(store, alloc, names)?;
+    expect_apart(store, alloc, names, besides, written)?;
     if !request.fits(&input) {
         return Err(Fault::TooManySplits);
     }

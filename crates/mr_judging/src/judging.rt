@@ -3,7 +3,6 @@ ghost use Rattle.std.specs.Prelude.{◌≡◌, ◌≢◌, ℕ, [], ◌∷◌, �
 ghost use Rattle.std.specs.Prelude.{Contains, map, option_map, slice_index_or, length, string_bytes};
 ghost use Rattle.mr_input.specs.Files.{contents, split_total};
 ghost use Rattle.mr_answers.specs.declared.fault.No.{No};
-ghost use Rattle.mr_answers.specs.Headline.{IsCertified};
 ghost use Rattle.mr_answers.specs.Verdict.{verdict_of};
 ghost use Rattle.mr_verdict.specs.Verdict.{spelling};
 ghost use Rattle.mr_verdict.specs.Truth.{note_for as note_of, notes_for};
@@ -13,19 +12,21 @@ ghost use Rattle.mr_files.specs.Refusals.{IsOneLonger};
 ghost use Rattle.mr_judging.specs.NoLines.{no_line as line_of_no};
 ghost use Rattle.mr_judging.specs.YesLines.{yes_text as text_of_yes};
 ghost use Rattle.mr_asked.specs.Asked.{request_asked};
-ghost use Rattle.mr_judging.specs.Checks.{AreBadThreads, IsCheckRefusal, IsFirstLineEnd, IsNameRefusal, IsOptionRefusal, IsResultRefusal};
-ghost use Rattle.mr_judging.specs.Inputs.{IsAsked, input_names};
-ghost use Rattle.mr_judging.specs.Verdicts.{AreClear, KeepsVerdict, IsCheckUnanswered, IsJudgement, IsKeptUnder, IsTextRefused, Judges, JudgesResult};
-ghost use Rattle.mr_judging.specs.Verdicts.{names_kept, verdict_about, verdict_file, written_by_check};
+ghost use Rattle.mr_files.specs.Identities.{AreApart};
+ghost use Rattle.mr_judging.specs.Checks.{AreBadThreads, AreGoodThreads, IsCheckRefusal, IsFirstLineEnd, IsNameRefusal, IsOptionRefusal, IsResultRefusal, IsYes};
+ghost use Rattle.mr_judging.specs.Inputs.{IsAsked, IsInput, IsInputRefusal};
+ghost use Rattle.mr_judging.specs.Named.{AreClear, input_names, read_by_check, verdict_file, written_by_check};
+ghost use Rattle.mr_judging.specs.Verdicts.{KeepsVerdict, IsCheckUnanswered, IsJudgement, IsKeptUnder, IsTextRefused, Judges, JudgesResult};
+ghost use Rattle.mr_judging.specs.Verdicts.{names_kept, verdict_about};
 
-use crate::input::input_of;
+use crate::input::{input_of, name_given};
 use crate::no_lines::no_line;
 use crate::said::{Said, yes_text};
 use crate::streaming::{judged_as_read, refused_as_read};
 use mr_asked::{CheckOptions, Fault, Options, request_of};
 use mr_bytes::OpenGate;
 use mr_check::{No, Yes, check_gated_watched, check_watched};
-use mr_files::{FileFault, Store, WithinFault, read_result_within, write_named};
+use mr_files::{FileFault, Store, WithinFault, names_of_result, read_result_within, write_named};
 use mr_input::Input;
 use mr_jobs::Request;
 use mr_shard_files::part_notes;
@@ -50,7 +51,7 @@ pub(crate) struct Judged {
 
 /// The number of threads is within its limits.
 fn expect_threads(threads: u32) -> Result<(), Fault>
-    ensures within { OnOk result ((1 ≤ threads) × (threads ≤ 64)) }
+    ensures within { OnOk result (AreGoodThreads threads) }
     ensures refused { IfErr result (λ e. (e ≡ Fault.BadThreads) × AreBadThreads threads) }
 {
     if threads == 0 || threads > MAX_THREADS {
@@ -99,7 +100,7 @@ fn verdict<R: Threads + Sync>(
 ) -> Result<Yes, No>
     requires fits { split_total request.now.split input.now ≤ 2 ^ 20 }
     requires threads { (1 ≤ threads) × (threads ≤ 64) }
-    ensures headline { IfOk result (λ y. IsCertified request.now input.now (contents outputs.now) certificate.now y.skips.items y.pairs) }
+    ensures yes { IfOk result (λ y. IsYes request.now input.now (contents outputs.now) certificate.now y.skips.items y.pairs) }
     ensures no { IfErr result (λ e. (e ≡ No.OutOfMemory) ⊎ (verdict_of request.now input.now (contents outputs.now) certificate.now ≡ Err e)) }
 {
     if threads == 1 {
@@ -371,12 +372,31 @@ fn result_judged<S: Store, R: Threads + Sync>(
 
 /// The number of threads is within its limits, and the verdict can tell the names of the input.
 fn expect_options(asked: &CheckOptions<'_>) -> Result<(), Fault>
-    ensures threads { OnOk result ((1 ≤ asked.now.threads) × (asked.now.threads ≤ 64)) }
+    ensures threads { OnOk result (AreGoodThreads asked.now.threads) }
     ensures clear { OnOk result (IfSome (verdict_file asked.now) (λ _. AreClear asked.now.options)) }
     ensures refused { IfErr result (λ e. IsOptionRefusal asked.now e) }
 {
     expect_threads(asked.threads)?;
     expect_names(asked)
+}
+
+/// The input of a judgement, apart from the verdict that is to be written, as is the result.
+fn input_apart<S: Store>(
+    store: &S,
+    alloc: Global,
+    request: &Request,
+    asked: &CheckOptions<'_>,
+) -> Result<Input, Fault>
+    ensures input { IfOk result (λ input. IsInput (S.holds store.now) (input_names asked.now.options) request.now.split input) }
+    ensures apart { OnOk result (AreApart (S.known_as store.now) (read_by_check asked.now) (written_by_check asked.now)) }
+    ensures refused { IfErr result (λ e. IsInputRefusal (S.holds store.now) (S.unreadable store.now) (S.known_as store.now) (input_names asked.now.options)
+        (read_by_check asked.now) (written_by_check asked.now) request.now.split e) }
+{
+    let options = &asked.options;
+    let besides = names_of_result(alloc, options.out, options.parts as usize)?;
+    let written = name_given(alloc, asked.verdict)?;
+    let names = options.files.as_slice();
+    input_of(store, alloc, request, names, besides, written.as_slice())
 }
 
 /// Tests the number of threads and the names that a verdict is to tell, then reads the input, then the result, and judges
@@ -391,11 +411,11 @@ fn checked_for<S: Store, R: Threads + Sync>(
 ) -> Result<Judged, Fault>
     requires request { request.now ≡ request_asked asked.now.options }
     requires asked { IsAsked asked.now.options }
-    ensures judges { IfOk result (λ j. Judges (S.holds store.now) asked.now (string_bytes j.said.text) j.said.status (option_map (λ v. v.items) j.verdict)) }
-    ensures refused { IfErr result (λ e. IsCheckRefusal (S.holds store.now) (S.unreadable store.now) asked.now e) }
+    ensures judges { IfOk result (λ j. Judges (S.holds store.now) (S.known_as store.now) asked.now (string_bytes j.said.text) j.said.status (option_map (λ v. v.items) j.verdict)) }
+    ensures refused { IfErr result (λ e. IsCheckRefusal (S.holds store.now) (S.unreadable store.now) (S.known_as store.now) asked.now e) }
 {
     expect_options(asked)?;
-    let input = input_of(store, alloc, request, asked.options.files.as_slice())?;
+    let input = input_apart(store, alloc, request, asked)?;
     result_judged(rt, store, alloc, request, asked, &input, watch)
 }
 
@@ -408,8 +428,8 @@ fn checked<S: Store, R: Threads + Sync>(
     asked: &CheckOptions<'_>,
     watch: &dyn Watch,
 ) -> Result<Judged, Fault>
-    ensures judges { IfOk result (λ j. Judges (S.holds store.now) asked.now (string_bytes j.said.text) j.said.status (option_map (λ v. v.items) j.verdict)) }
-    ensures refused { IfErr result (λ e. IsCheckRefusal (S.holds store.now) (S.unreadable store.now) asked.now e) }
+    ensures judges { IfOk result (λ j. Judges (S.holds store.now) (S.known_as store.now) asked.now (string_bytes j.said.text) j.said.status (option_map (λ v. v.items) j.verdict)) }
+    ensures refused { IfErr result (λ e. IsCheckRefusal (S.holds store.now) (S.unreadable store.now) (S.known_as store.now) asked.now e) }
 {
     let request = request_of(alloc, &asked.options)?;
     checked_for(rt, store, alloc, &request, asked, watch)
@@ -438,7 +458,7 @@ fn keep<S: Store>(
 
 /// Judges a result, as `seq` tests its request and its input and with the number of threads tested between them, and then
 /// writes the verdict of a yes, where a name is given for it. A name of the input that no verdict can tell is refused before
-/// anything is read. Names aren't compared: under the verdict's own, be it one of those judged, stands the verdict then.
+/// anything is read, and a verdict that would take the place of a file of the input or of the result before that is judged.
 pub fn check<S: Store, R: Threads + Sync>(
     rt: &R,
     store: &mut S,
@@ -446,10 +466,10 @@ pub fn check<S: Store, R: Threads + Sync>(
     asked: &CheckOptions<'_>,
     watch: &dyn Watch,
 ) -> Result<Said, Fault>
-    ensures answer { IfOk result (λ said. KeepsVerdict (S.holds store.old) (S.holds store.new) asked.now (string_bytes said.text) said.status) }
+    ensures answer { IfOk result (λ said. KeepsVerdict (S.holds store.old) (S.holds store.new) (S.known_as store.old) asked.now (string_bytes said.text) said.status) }
     ensures others { ChangesAmong (S.holds store.old) (S.holds store.new) (written_by_check asked.now) }
     ensures refused { IfErr result (λ e. IsCheckUnanswered (S.holds store.old) (S.holds store.new) (S.unreadable store.old) (S.unwritable store.old)
-        asked.now e) }
+        (S.known_as store.old) asked.now e) }
 {
     let Judged { said, verdict } = checked(rt, store, alloc, asked, watch)?;
     keep(store, alloc, asked.verdict, verdict)?;

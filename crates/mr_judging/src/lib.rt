@@ -8,7 +8,7 @@ mod no_lines;
 mod said;
 mod streaming;
 
-pub use crate::input::input_of;
+pub use crate::input::{input_of, name_given};
 pub use crate::judging::check;
 pub use crate::no_lines::{fault_text, no_line};
 pub use crate::said::Said;

@@ -4,7 +4,8 @@ ghost use Rattle.mr_input.specs.Files.{split_total};
 ghost use Rattle.mr_files.specs.Names.{result_names};
 ghost use Rattle.mr_files.specs.Refusals.{IsUnreadAmong, TellsOf};
 ghost use Rattle.mr_judging.specs.Streamed.{AnswersResult, DidFail, GivesAnswer, IsSaid, TellsOther, TellsRead};
-ghost use Rattle.mr_judging.specs.Verdicts.{JudgesResult, verdict_file};
+ghost use Rattle.mr_judging.specs.Named.{verdict_file};
+ghost use Rattle.mr_judging.specs.Verdicts.{JudgesResult};
 
 use crate::judging::{Judged, no_judged};
 use crate::said::{Said, yes_text};

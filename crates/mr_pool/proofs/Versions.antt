@@ -1,4 +1,4 @@
--- What the judge says yes to, each version can spell.
+-- What the judge says yes to is a good result, and each version can spell its certificate.
 use Rattle.std.proofs.Common.{◌≡◌, ℕ, List, subst}
 use Rattle.std.specs.Prelude.{Result, Ok, Err, IfOk, OnOk}
 use Rattle.std.specs.List.{AllByRecursion}
@@ -7,6 +7,7 @@ use Rattle.mr_certform.specs.declared.version.Version.{Version}
 use Rattle.mr_certform.specs.Grammar.{AreBytes}
 use Rattle.mr_certform.specs.Value.{Contents, CanSpell, Spells, SpellsIn}
 use Rattle.mr_certform.proofs.Certificates.{one_certificate}
+use Rattle.mr_sequential.specs.Good.{IsGoodResult}
 use Rattle.mr_sequential.proofs.VersionLaws.{good_can}
 use Rattle.mr_book.specs.Assembling.{SpellsWhereItCan}
 use Rattle.mr_answers.specs.declared.fault.No.{No}
@@ -14,20 +15,19 @@ use Rattle.mr_answers.specs.declared.yes.Yes.{Yes}
 use Rattle.mr_answers.specs.Headline.{accepted_of}
 use Rattle.mr_answers.specs.Verdict.{verdict_of}
 use Rattle.mr_answers.proofs.VerdictYes.{yes_is_good}
-use Rattle.mr_pool.specs.Outcomes.{CanBeSpelled, IsInVersion}
+use Rattle.mr_pool.specs.Outcomes.{IsInVersion}
 
--- ---- verdicts
+pub yes_good : (request : RequestSpec) (files outputs : List (List ℕ)) (bytes : List ℕ) (r : Result Yes No) → AreBytes bytes
+    → IfOk r (λ y. verdict_of request files outputs bytes ≡ Ok (accepted_of y)) → OnOk r (IsGoodResult request files outputs bytes)
+yes_good request files outputs bytes (Ok y) are_bytes says = (yes_is_good request files outputs bytes (accepted_of y) are_bytes says).0
+yes_good request files outputs bytes (Err e) are_bytes says = tt
 
-pub yes_can : (request : RequestSpec) (files outputs : List (List ℕ)) (bytes : List ℕ) (r : Result Yes No) → AreBytes bytes
-    → IfOk r (λ y. verdict_of request files outputs bytes ≡ Ok (accepted_of y)) → OnOk r (CanBeSpelled bytes)
-yes_can request files outputs bytes (Ok y) are_bytes says = λ version c spelled.
-    let good = (yes_is_good request files outputs bytes (accepted_of y) are_bytes says).0 in
-    subst (λ (d : Contents). AllByRecursion (CanSpell version) d.groups) (one_certificate bytes good.certificate c good.spelled spelled)
-    (good_can version request files outputs good.certificate good.good)
-yes_can request files outputs bytes (Err e) are_bytes says = tt
-
--- where the judge says yes, the version asked for can spell the certificate
-pub yes_in_version : (version : Version) (bytes : List ℕ) (c : Contents) (r : Result Yes No) → Spells bytes c → SpellsWhereItCan version bytes c
-    → OnOk r (CanBeSpelled bytes) → OnOk r (IsInVersion version bytes)
-yes_in_version version bytes c (Ok y) spelled asked can = λ d is. subst (SpellsIn version bytes) (one_certificate bytes c d spelled is) (asked (can version c spelled))
-yes_in_version version bytes c (Err e) spelled asked can = tt
+-- where the result is good, the version asked for can spell the certificate
+pub good_in_version : (version : Version) (request : RequestSpec) (files outputs : List (List ℕ)) (bytes : List ℕ) (c : Contents) (r : Result Yes No)
+    → Spells bytes c → SpellsWhereItCan version bytes c → OnOk r (IsGoodResult request files outputs bytes) → OnOk r (IsInVersion version bytes)
+good_in_version version request files outputs bytes c (Ok y) spelled asked good = λ d is.
+    let can =
+    subst (λ (e : Contents). AllByRecursion (CanSpell version) e.groups) (one_certificate bytes good.certificate c good.spelled spelled)
+    (good_can version request files outputs good.certificate good.good) in
+    subst (SpellsIn version bytes) (one_certificate bytes c d spelled is) (asked can)
+good_in_version version request files outputs bytes c (Err e) spelled asked good = tt

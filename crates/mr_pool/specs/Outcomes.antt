@@ -1,9 +1,8 @@
 -- What a run answers.
-use Rattle.std.specs.Prelude.{◌≡◌, ℕ, List, Some, Err, ◌⊎◌, IsTrue}
-use Rattle.std.specs.List.{AllByRecursion}
+use Rattle.std.specs.Prelude.{◌≡◌, ℕ, List, Some, Ok, Err, ◌⊎◌, IsTrue}
 use Rattle.mr_input.specs.Files.{contents, split_total}
 use Rattle.mr_jobs.specs.JobSpec.{RequestSpec}
-use Rattle.mr_certform.specs.Value.{Contents, CanSpell, Spells, SpellsIn}
+use Rattle.mr_certform.specs.Value.{Contents, Spells, SpellsIn}
 use Rattle.mr_certform.specs.declared.version.Version.{Version}
 use Rattle.mr_script.specs.declared.directive.Directive.{Directive}
 use Rattle.mr_core.specs.declared.event.Shape.{Shape}
@@ -15,6 +14,7 @@ use Rattle.mr_assembled.specs.Assembled.{assembled_certificate, assembled_output
 use Rattle.mr_book.specs.View.{StoresAccepted}
 use Rattle.mr_book.specs.Assembling.{reduced_under}
 use Rattle.mr_book.specs.declared.book.History.{History}
+use Rattle.mr_sequential.specs.Good.{IsGoodResult}
 use Rattle.mr_answers.specs.declared.fault.No.{No}
 use Rattle.mr_answers.specs.declared.fault.No.TheVariants.{OtherJob}
 use Rattle.mr_answers.specs.Headline.{IsCertified}
@@ -49,9 +49,12 @@ pub record IsDoneRun (request : RequestSpec) (files : List (List ℕ)) (sh : Sha
   pub outputs_are : outputs ≡ assembled_outputs (reduced_under h.reduces.items) state
   pub certificate_is : Spells bytes (assembled_certificate request files (reduced_under h.reduces.items) state)
 
--- the judge says yes to just these files and these bytes, which are assembled from a history of this shape that ends done,
--- and the bytes spell its certificate in the version asked for
+-- the verdict on just these files and these bytes is yes, with these left-out records and so many pairs, and they are a
+-- good result; they are assembled from a history of this shape that ends done, and the bytes spell its certificate in the
+-- version asked for
 pub record IsCertifiedRun (request : RequestSpec) (files : List (List ℕ)) (sh : Shape) (version : Version) (c : Certified) : Type 0 where
+  pub verdict : verdict_of request files (contents c.outputs.items) c.certificate.items ≡ Ok (record { skips = c.skips.items; pairs = c.pairs })
+  pub good : IsGoodResult request files (contents c.outputs.items) c.certificate.items
   pub judged : IsCertified request files (contents c.outputs.items) c.certificate.items c.skips.items c.pairs
   pub done : IsDoneRun request files sh c.history (contents c.outputs.items) c.certificate.items
   pub in_version : SpellsIn version c.certificate.items (assembled_certificate request files (reduced_under c.history.reduces.items) done.state)
@@ -79,10 +82,6 @@ abbrev pub IsRunFault : RequestSpec → List (List ℕ) → List Directive → S
 IsRunFault request files script sh (Failed fault h) = IsFailedRun script sh fault h
 IsRunFault request files script sh (Uncertified verdict h) = IsRefusedRun request files sh verdict h ⊎ ((verdict ≡ OtherJob) × IsAstray script sh h)
 IsRunFault request files script sh OutOfMemory = Unit {0}
-
--- of no public promise: each version can spell what certificate the bytes spell
-abbrev pub CanBeSpelled : List ℕ → Type 0
-CanBeSpelled bytes = (version : Version) (c : Contents) → Spells bytes c → AllByRecursion (CanSpell version) c.groups
 
 -- of no public promise: what certificate the bytes spell, they spell in this version
 abbrev pub IsInVersion : Version → List ℕ → Type 0

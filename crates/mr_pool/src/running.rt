@@ -1,5 +1,5 @@
 //! A run, from its opening to its answer.
-ghost use Rattle.std.specs.Prelude.{◌≡◌, ◌↔◌, ◌⊎◌, Err, ◌≤◌, ◌<◌, ◌^◌, Some, IfOk, OnOk, IfErr, IsTrue, vec_len};
+ghost use Rattle.std.specs.Prelude.{◌≡◌, ◌↔◌, ◌⊎◌, Err, ◌≤◌, ◌<◌, ◌^◌, Some, Ok, IfOk, OnOk, IfErr, IsTrue, vec_len};
 ghost use Rattle.mr_pool.specs.Endings.{ending_of};
 ghost use Rattle.mr_input.specs.Files.{contents, split_total};
 ghost use Rattle.mr_core.specs.declared.event.End.{End as Ended};
@@ -10,9 +10,10 @@ ghost use Rattle.mr_certform.specs.Value.{Spells};
 ghost use Rattle.mr_check.specs.Ahead.{IsMappedFor};
 ghost use Rattle.mr_core.specs.Core.{InLimits};
 ghost use Rattle.mr_answers.specs.declared.fault.No.{No};
-ghost use Rattle.mr_answers.specs.Headline.{IsCertified};
+ghost use Rattle.mr_sequential.specs.Good.{IsGoodResult};
+ghost use Rattle.mr_answers.specs.Headline.{IsCertified, accepted_of};
 ghost use Rattle.mr_answers.specs.Verdict.{verdict_of};
-ghost use Rattle.mr_pool.specs.Outcomes.{CanBeSpelled, IsCertifiedRun, IsDoneRun, IsInVersion, IsRunFault, run_shape};
+ghost use Rattle.mr_pool.specs.Outcomes.{IsCertifiedRun, IsDoneRun, IsInVersion, IsRunFault, run_shape};
 
 use crate::progress::JudgesProgress;
 use mr_book::{Book, History, Seat};
@@ -27,11 +28,13 @@ use mr_splits::Plan;
 use mr_watch::{Phase, Unwatched, Watch};
 use mr_workers::{Terms, accounts_for, executed};
 use std::alloc::{AllocError, Global};
+use std::fmt::{self, Debug, Formatter};
 use std::marker::Brand;
 use std::sync::Wait;
 use std::sync::ledger::{Blank, Ledger};
 use std::thread;
 use std::thread::Threads;
+use thiserror::Error;
 
 /// A result that the judge said yes to, with the history of the run that made it.
 #[derive(Drop)]
@@ -48,15 +51,25 @@ pub struct Certified {
 }
 
 /// Why a run gives no certified result.
-#[derive(Drop)]
+#[derive(Drop, Error)]
 pub enum RunFault {
     /// The job failed, and the script accounts for that.
+    #[error("failed: {0}")]
     Failed(JobFault, History),
     /// The judge said no to the assembled result; or the book has not ended, or otherwise than it may, and then the no
     /// is `OtherJob`.
+    #[error("uncertified: {0}")]
     Uncertified(No, History),
     /// The machine refused memory.
+    #[error("OutOfMemory")]
     OutOfMemory,
+}
+
+// The fault alone: a history may have a million events.
+impl Debug for RunFault {
+    fn fmt<W: fmt::Write>(&self, f: &mut Formatter<W>) -> fmt::Result {
+        write!(f, "{self}")
+    }
 }
 
 impl From<AllocError> for RunFault {
@@ -84,7 +97,9 @@ fn judged_by_all<W: Watch, R: Threads + Sync>(
     requires limits { InLimits terms.shape }
     ensures headline { IfOk result (λ y. IsCertified terms.entry.request.now terms.entry.input.now (contents outputs.now) certificate.now
         y.skips.items y.pairs) }
-    ensures version { OnOk result (CanBeSpelled certificate.now) }
+    ensures yes { IfOk result (λ y. verdict_of terms.entry.request.now terms.entry.input.now (contents outputs.now) certificate.now
+        ≡ Ok (accepted_of y)) }
+    ensures good { OnOk result (IsGoodResult terms.entry.request.now terms.entry.input.now (contents outputs.now) certificate.now) }
     ensures no { IfErr result (λ e. (e ≡ No.OutOfMemory)
         ⊎ (verdict_of terms.entry.request.now terms.entry.input.now (contents outputs.now) certificate.now ≡ Err e)) }
 {
@@ -113,6 +128,8 @@ fn answered(
 ) -> Result<Certified, RunFault>
     requires done { IsDoneRun terms.request.now terms.input.now history.shape history (contents outputs.items) certificate.items }
     requires headline { IfOk judged (λ y. IsCertified terms.request.now terms.input.now (contents outputs.items) certificate.items y.skips.items y.pairs) }
+    requires yes { IfOk judged (λ y. verdict_of terms.request.now terms.input.now (contents outputs.items) certificate.items ≡ Ok (accepted_of y)) }
+    requires good { OnOk judged (IsGoodResult terms.request.now terms.input.now (contents outputs.items) certificate.items) }
     requires version { OnOk judged (IsInVersion version certificate.items) }
     requires no { IfErr judged (λ e. (e ≡ No.OutOfMemory)
         ⊎ (verdict_of terms.request.now terms.input.now (contents outputs.items) certificate.items ≡ Err e)) }

@@ -1,16 +1,21 @@
 //! The master's book: the words are how many splits, partitions, workers, attempts of a task, records that may be left out,
 //! and seats there are. Each line of standard input is a call: its kind, its seat, and its numbers. A line answers it with
 //! the reply, the output that comes with it, and all that can be looked at. At the end of the lines the book is closed, and
-//! its history told.
+//! its history told; and where the job is done, the result that the book assembled before, for a job over as many files as
+//! splits, each of one word.
 ghost use Rattle.std.specs.Prelude.{◌≡◌, vec_len};
 
 use crate::asked::number_at;
 use crate::outputs;
 use crate::telling::Teller;
 use mr_book::{Book, History, Seat, Stored};
-use mr_core::{Limits, Reply, Shape, Task};
+use mr_certform::{Certificate, Version, write};
+use mr_core::{End, Limits, Reply, Shape, Task};
+use mr_input::Input;
+use mr_jobs::{Job, Request};
+use mr_splits::Plan;
 use mr_task::{MapOutput, ReduceOutput};
-use std::alloc::AllocFailed;
+use std::alloc::{AllocFailed, Global};
 use std::marker::Brand;
 use std::sync::Arc;
 use std::sync::ledger::{Blank, Ledger};
@@ -185,12 +190,58 @@ fn show_history(out: &Teller, history: &History) {
     show_stored(out, history);
 }
 
-/// Answers each line by the book, closes it, and tells its history.
+/// So many files, each of one word.
+fn input_of(alloc: Global, count: u32) -> Option<Input> {
+    let mut files = Vec::new(alloc);
+    for _ in 0..count {
+        files.push(Vec::from_slice(alloc, b"w\n").ok()?).ok()?;
+    }
+    Input::of(files).ok()
+}
+
+/// The result of a book whose job is done, where it was opened for this request and this input.
+fn assembled<L: Ledger>(
+    alloc: Global,
+    book: &Book<L>,
+    request: &Request,
+    input: &Input,
+) -> Option<(Vec<Vec<u8>>, Certificate)> {
+    let shape = book.shape();
+    let plan = Plan::of(alloc, input, request.split_size()).ok()?;
+    if plan.splits() != shape.maps || request.parts() != shape.parts {
+        return None;
+    }
+    if request.max_skips() != shape.limits.skips || book.end() != Some(End::Done) {
+        return None;
+    }
+    book.assemble(alloc, request, input).ok()
+}
+
+/// The result of a book whose job is done, over as many files as it has splits.
+fn result_of<L: Ledger>(alloc: Global, book: &Book<L>) -> Option<(Vec<Vec<u8>>, Certificate)> {
+    let shape = book.shape();
+    let input = input_of(alloc, shape.maps)?;
+    let request = Request::new(Job::words(false), shape.parts, 64, shape.limits.skips).ok()?;
+    assembled(alloc, book, &request, &input)
+}
+
+/// Tells a result, as a run's is told.
+fn show_result(out: &Teller, outputs: &[Vec<u8>], certificate: &Certificate) {
+    if let Ok(certificate) = write(out.alloc(), certificate, Version::V1) {
+        out.result(outputs, certificate.as_slice());
+    }
+}
+
+/// Answers each line by the book, closes it, and tells its history, and the result of a job that is done.
 fn serve_all<L: Ledger>(out: &Teller, mut book: Book<L>, mut seats: Vec<Seat<L>>)
     requires all { vec_len seats ≡ L.parts }
 {
     serve(out, &mut book, seats.as_mut_slice());
+    let assembled = result_of(out.alloc(), &book);
     show_history(out, &book.close(seats));
+    if let Some((outputs, certificate)) = assembled {
+        show_result(out, outputs.as_slice(), &certificate);
+    }
 }
 
 /// Opens a book of these sizes, where they are within the limits of a small job, and closes it at the end of the lines.

@@ -30,10 +30,7 @@ fn reduced(alloc: Global, output: &MapOutput) -> Option<ReduceOutput> {
     if output.parts() == 0 {
         return None;
     }
-    let mut regions = Vec::new(alloc);
-    for run in 0..output.runs() {
-        regions.push(output.region(0, run)).ok()?;
-    }
+    let regions = output.regions(alloc, 0).ok()?;
     reduce_task(alloc, &Job::words(false), 0, regions.as_slice()).ok()
 }
 

@@ -113,6 +113,14 @@ impl Teller {
             Err(refused) => self.lack(refused),
         }
     }
+
+    /// The files and the certificate of a result, each on a line.
+    pub fn result(&self, outputs: &[Vec<u8>], certificate: &[u8]) {
+        for output in outputs {
+            self.bytes("file", output.as_slice());
+        }
+        self.bytes("certificate", certificate);
+    }
 }
 
 /// Bytes, each as two digits.
@@ -146,25 +154,21 @@ fn show_skips(out: &Teller, certified: &Certified) {
 
 fn show_certified(out: &Teller, certified: &Certified) {
     out.tell(format_args!("certified {} pairs\n", certified.pairs));
-    for output in &certified.outputs {
-        out.bytes("file", output.as_slice());
-    }
-    out.bytes("certificate", certified.certificate.as_slice());
+    out.result(
+        certified.outputs.as_slice(),
+        certified.certificate.as_slice(),
+    );
     show_skips(out, certified);
 }
 
 /// Tells why a run has no result.
 fn show_fault(out: &Teller, fault: &RunFault, has_events: bool) {
+    out.tell(format_args!("{fault}\n"));
     match fault {
-        RunFault::Failed(fault, history) => {
-            out.named("failed", fault);
+        RunFault::Failed(_, history) | RunFault::Uncertified(_, history) => {
             show_history(out, history, has_events);
         }
-        RunFault::Uncertified(no, history) => {
-            out.named("uncertified", no);
-            show_history(out, history, has_events);
-        }
-        RunFault::OutOfMemory => out.line("out of memory"),
+        RunFault::OutOfMemory => {}
     }
 }
 

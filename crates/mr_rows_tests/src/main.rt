@@ -55,6 +55,7 @@ fn answer(teller: &Teller, word: &str, behind: &[String]) -> io::Result<()> {
         "kernels" => kernels::answer(teller),
         "master" => master::answer(teller),
         "merging" => merging::answer(teller),
+        "merged" => merging::answer_bytes(teller),
         "regions" => regions::answer(teller),
         "scripts" => scripts::answer(teller),
         "stores" => stores::answer(teller),

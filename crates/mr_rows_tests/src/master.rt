@@ -1,5 +1,5 @@
 //! The master: each line of standard input is an event, and is answered by a line that tells the reply, made twice, and all
-//! that can be looked at.
+//! that can be looked at. A line whose fourth number isn't 0 has its reply made once.
 ghost use Rattle.std.specs.Prelude.{◌<◌};
 
 use crate::telling::Teller;
@@ -73,11 +73,29 @@ fn show(teller: &Teller, core: &Core) {
     teller.end_line();
 }
 
-/// Gives the event to the master, and tells what it replies.
-fn hear(teller: &Teller, core: &mut Core, event: Event) -> Result<(), AllocError> {
+/// Gives the event to the master, and tells what it replies, made twice.
+fn hear_twice(teller: &Teller, core: &mut Core, event: Event) -> Result<(), AllocError> {
     let (reply, again) = core.apply_twice(teller.alloc(), event)?;
     teller.part(&reply);
     teller.behind("|", &again);
+    Ok(())
+}
+
+/// Gives the event to the master, and tells what it replies, made once.
+fn hear_once(teller: &Teller, core: &mut Core, event: Event) -> Result<(), AllocError> {
+    let reply = core.apply(teller.alloc(), event)?;
+    teller.part(&reply);
+    teller.text("|once");
+    Ok(())
+}
+
+/// Gives the event of a line to the master, and tells what it replies, and what can be looked at.
+fn hear(teller: &Teller, core: &mut Core, numbers: [u32; 6]) -> Result<(), AllocError> {
+    if numbers[3] == 0 {
+        hear_twice(teller, core, event_of(numbers))?;
+    } else {
+        hear_once(teller, core, event_of(numbers))?;
+    }
     show(teller, core);
     Ok(())
 }
@@ -93,7 +111,7 @@ fn answer_line(
         return Ok(());
     }
     match master {
-        Some(core) => hear(teller, core, event_of(numbers)),
+        Some(core) => hear(teller, core, numbers),
         None => Ok(()),
     }
 }

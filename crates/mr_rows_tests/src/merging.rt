@@ -1,11 +1,12 @@
 //! Regions merged. Each line of standard input is one, five numbers for each of its pairs: the byte of its key, its split
 //! and place, and the file and offset that its value tells. A line tells each region's names, and how many pairs are in one
-//! with room for them; then come the groups, and all names, or the fault.
-use crate::regions::numbers_of;
+//! with room for them; then come the groups, and all names, or the fault. Or each line is a split, and the bytes of a region
+//! of partition 0, as numbers; then the groups come alone.
+use crate::regions::{bytes_of, numbers_of};
 use crate::telling::Teller;
 use mr_bytes::{Name, Value};
-use mr_merge::{Groups, merge};
-use mr_spill::Pairs;
+use mr_merge::{Groups, MergeFault, merge, merge_regions};
+use mr_spill::{Pairs, Region};
 use std::alloc::{AllocError, Global};
 use std::io;
 
@@ -92,8 +93,8 @@ fn show_groups(teller: &Teller, groups: Groups) {
     teller.one(&groups.into_names());
 }
 
-fn show_merged(teller: &Teller, lent: &[&Pairs]) {
-    match merge(teller.alloc(), lent) {
+fn show_merged(teller: &Teller, merged: Result<Groups, MergeFault>) {
+    match merged {
         Ok(groups) => show_groups(teller, groups),
         Err(fault) => teller.fault(&fault),
     }
@@ -104,7 +105,7 @@ fn show(teller: &Teller, regions: &[Pairs]) -> Result<(), AllocError> {
         show_region(teller, region)?;
     }
     let lent = lent(teller.alloc(), regions)?;
-    show_merged(teller, &lent);
+    show_merged(teller, merge(teller.alloc(), &lent));
     Ok(())
 }
 
@@ -113,5 +114,58 @@ pub fn answer(teller: &Teller) -> io::Result<()> {
     let mut regions = Vec::new(teller.alloc());
     add_regions(teller, &mut regions)?;
     show(teller, &regions)?;
+    Ok(())
+}
+
+/// A split, and the bytes of a region.
+#[derive(Drop)]
+struct Spelled {
+    split: u32,
+    bytes: Vec<u8>,
+}
+
+/// What a line spells: a split, and bytes.
+fn spelled_by(alloc: Global, line: &str) -> Result<Spelled, AllocError> {
+    let numbers = numbers_of(alloc, line)?;
+    match numbers.as_slice() {
+        [split, rest @ ..] => Ok(Spelled {
+            split: *split,
+            bytes: bytes_of(alloc, rest)?,
+        }),
+        [] => Ok(Spelled {
+            split: 0,
+            bytes: Vec::new(alloc),
+        }),
+    }
+}
+
+/// Adds what each line spells.
+fn add_spelled(teller: &Teller, all: &mut Vec<Spelled>) -> io::Result<()> {
+    for line in teller.lines() {
+        all.push(spelled_by(teller.alloc(), line?.as_str())?)?;
+    }
+    Ok(())
+}
+
+/// The regions, lent as bytes.
+fn regions_of(alloc: Global, all: &[Spelled]) -> Result<Vec<Region<'_>>, AllocError> {
+    let mut regions = Vec::new(alloc);
+    for one in all {
+        regions.push(Region::of(one.bytes.as_slice(), one.split))?;
+    }
+    Ok(regions)
+}
+
+fn show_bytes(teller: &Teller, all: &[Spelled]) -> Result<(), AllocError> {
+    let regions = regions_of(teller.alloc(), all)?;
+    show_merged(teller, merge_regions(teller.alloc(), regions.as_slice(), 0));
+    Ok(())
+}
+
+/// Answers standard input, where each line is a region's bytes.
+pub fn answer_bytes(teller: &Teller) -> io::Result<()> {
+    let mut all = Vec::new(teller.alloc());
+    add_spelled(teller, &mut all)?;
+    show_bytes(teller, all.as_slice())?;
     Ok(())
 }

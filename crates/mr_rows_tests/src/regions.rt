@@ -19,7 +19,7 @@ pub fn numbers_of(alloc: Global, line: &str) -> Result<Vec<u32>, AllocError> {
 }
 
 /// The numbers as bytes, those past 255 as 255.
-fn bytes_of(alloc: Global, numbers: &[u32]) -> Result<Vec<u8>, AllocError> {
+pub fn bytes_of(alloc: Global, numbers: &[u32]) -> Result<Vec<u8>, AllocError> {
     let mut bytes = Vec::new(alloc);
     for number in numbers {
         bytes.push(u8::try_from(*number).unwrap_or(255))?;

@@ -1,5 +1,5 @@
 -- Lists whose items are changed one after another.
-use Rattle.std.proofs.Common.{◌≡◌, ℕ, zero, suc, ◌<◌, List, [], ◌∷◌, length, get_or, refl, ap, sym, subst, arith}
+use Rattle.std.proofs.Common.{◌≡◌, ℕ, zero, suc, ◌<◌, List, [], ◌∷◌, length, get_or, take, refl, ap, sym, subst, arith}
 use Rattle.std.proofs.Math.ListN.{set}
 use Rattle.mr_shard_files.specs.Streams.{AllAre}
 
@@ -25,6 +25,13 @@ module _ {X A : Type 0} (P : X → A → A → Type 0) where
   kept_all (x ∷ xs) [] ns e h = absurd (omega (arith, e))
   kept_all (x ∷ xs) (o ∷ os) [] e h = absurd h
   kept_all (x ∷ xs) (o ∷ os) (n ∷ ns) e h = (h.0, kept_all xs os ns (omega (arith, e)) h.1)
+
+  pub kept_first : (i : ℕ) (xs : List X) (os ns : List A) → KeptTo P i xs os ns → AllAre P (take i xs) (take i os) (take i ns)
+  kept_first zero xs os ns h = tt
+  kept_first (suc i) [] os ns h = absurd h
+  kept_first (suc i) (x ∷ xs) [] ns h = absurd h
+  kept_first (suc i) (x ∷ xs) (o ∷ os) [] h = absurd h
+  kept_first (suc i) (x ∷ xs) (o ∷ os) (n ∷ ns) h = (h.0, kept_first i xs os ns h.1)
 
   pub kept_same : (i : ℕ) (xs : List X) (os ns : List A) (d : A) → KeptTo P i xs os ns → get_or ns i d ≡ get_or os i d
   kept_same zero xs os ns d h = ap (λ us. get_or us zero d) h

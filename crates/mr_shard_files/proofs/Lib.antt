@@ -14,3 +14,4 @@ pub mod TurnLemmas
 pub mod SettleLemmas
 pub mod RestLemmas
 pub mod ResultLemmas
+pub mod SharingLemmas

@@ -1,6 +1,6 @@
 -- The parts of shards for one partition, one behind another.
-use Rattle.std.proofs.Common.{◌≡◌, ℕ, zero, suc, ◌<◌, ◌≤◌, ◌++◌, inr, List, [], ◌∷◌, length, length-append, get_or, map, refl, ap, sym, ◌∙◌, subst, arith}
-use Rattle.std.proofs.lemmas.List.{get_or-map, length-map, map-append}
+use Rattle.std.proofs.Common.{◌≡◌, ℕ, zero, suc, ◌<◌, ◌≤◌, ◌++◌, inr, List, [], ◌∷◌, length, length-append, get_or, map, take, refl, ap, sym, ◌∙◌, subst, arith}
+use Rattle.std.proofs.lemmas.List.{get_or-map, length-map, map-append, take-map}
 use Rattle.mr_jobs.specs.JobSpec.{JobSpec}
 use Rattle.mr_verdict.specs.Joined.{inputs_of}
 use Rattle.mr_verdict.specs.Verdict.{Told, spelling}
@@ -18,10 +18,16 @@ heard_next holds names all n vs after v is more h k =
     subst (λ (w : List (List ℕ)). Holding holds w (map spelling after)) (sym is)
     (subst (Holding holds (names ++ n ∷ [])) (sym (ap (map spelling) more ∙ map-append spelling vs (v ∷ []))) (holding_more holds names (map spelling vs) n (spelling v) h k))
 
-pub unheard_at : {A : Type 0} (f : A → List ℕ) (holds : Stored) (unreadable : Faulty) (xs : List A) (i : ℕ) (d : A) (e : ShardFault) → i < length xs
-    → IsUnheard holds unreadable i (f (get_or xs i d)) e → IsUngathered holds unreadable (map f xs) e
-unheard_at f holds unreadable xs i d e less u =
-    inr (i, omega (arith, length-map xs f, less), subst (λ (n : List ℕ). IsUnheard holds unreadable i n e) (sym (get_or-map f xs i d [] less)) u)
+-- one is not read
+pub unheard_at : {A : Type 0} (f : A → List ℕ) (holds : Stored) (unreadable : Faulty) (xs : List A) (i : ℕ) (d : A) (vs : List Told) (e : ShardFault) → i < length xs
+    → Holding holds (map f (take i xs)) (map spelling vs) → IsUnheard holds unreadable i (f (get_or xs i d)) e → IsUngathered holds unreadable (map f xs) e
+unheard_at f holds unreadable xs i d vs e less held u = inr (record {
+  at = i;
+  before = vs;
+  within = omega (arith, length-map xs f, less);
+  held = subst (λ (l : List (List ℕ)). Holding holds l (map spelling vs)) (sym (take-map f i xs)) held;
+  why = subst (λ (n : List ℕ). IsUnheard holds unreadable i n e) (sym (get_or-map f xs i d [] less)) u;
+})
 
 pub held_count : (holds : Stored) (ns bs : List (List ℕ)) → Holding holds ns bs → length ns ≡ length bs
 held_count holds [] [] h = refl

@@ -2,6 +2,7 @@
 use Rattle.std.proofs.Common.{◌≡◌, ◌≢◌, ℕ, zero, suc, ◌+◌, ◌<◌, ◌≤◌, ◌^◌, ◌⊎◌, inl, inr, List, [], ◌∷◌, ◌++◌, length, map, take, refl, sym, ◌∙◌, subst, arith}
 use Rattle.std.specs.Prelude.{Option}
 use Rattle.mr_files.specs.Holding.{Begins, ChangesAmong, ChangesOnly, Differs, Faulty, Holding, Stored}
+use Rattle.mr_files.specs.Identities.{Known}
 use Rattle.mr_files.specs.Names.{merged_names, name_of_part, name_of_verdict, part_names}
 use Rattle.mr_files.proofs.Digits.{differs_parts, differs_verdict}
 use Rattle.mr_files.proofs.Lists.{differs_front, differs_last, differs_more, holding_kept, holding_more, parts_more, parts_none}
@@ -10,6 +11,7 @@ use Rattle.mr_verdict.specs.Verdict.{Note, Told, spelling}
 use Rattle.mr_shard_files.specs.declared.fault.ShardFault.{ShardFault}
 use Rattle.mr_shard_files.specs.Beside.{ArePartitions}
 use Rattle.mr_shard_files.specs.Faults.{IsCutShort, IsPartitionFault, IsPartsFault, IsUnfinished}
+use Rattle.mr_shard_files.specs.Sharing.{AreUnshared}
 use Rattle.mr_shard_files.specs.Made.{TellsUnwritten}
 use Rattle.mr_shard_files.proofs.MadeLemmas.{unwritten_back}
 use Rattle.mr_shard_files.specs.Merging.{ArePartsWritten, ChangesResult, IsMerged, IsReady, with_outputs}
@@ -105,35 +107,36 @@ cut_short old mid new unreadable first later request names vs dir texts n e coun
     by (inl h) = inl h
     by (inr h) = inr (unwritten_back (later (name_of_part dir n)) (first (name_of_part dir n)) (name_of_part dir n) (name_of_part dir n) e (still (name_of_part dir n)) refl h)
 
-module _ (old mid new : Stored) (names : List (List ℕ)) (list : Option (List ℕ)) (dir : List ℕ) (vs was : List Told) (r : RequestSpec) (m : Told) (notes : List Note) where
+module _ (old mid new : Stored) (known : Known) (names : List (List ℕ)) (list : Option (List ℕ)) (dir : List ℕ) (vs was : List Told) (r : RequestSpec) (m : Told) (notes : List Note) where
   -- the verdict is written behind all parts
-  pub named : (text : List ℕ) → was ≡ vs → text ≡ spelling (with_outputs m notes) → Holding old names (map spelling vs) → length names ≡ length was → IsReady old names list dir was r m
-      → ArePartsWritten old mid r names was dir notes → ChangesOnly mid new (name_of_verdict dir) → new (name_of_verdict dir) text → IsMerged old new names list dir (with_outputs m notes)
+  pub named : (text : List ℕ) → was ≡ vs → text ≡ spelling (with_outputs m notes) → Holding old names (map spelling vs) → length names ≡ length was → IsReady old known names list dir was r m
+      → ArePartsWritten old mid r names was dir notes → ChangesOnly mid new (name_of_verdict dir) → new (name_of_verdict dir) text → IsMerged old new known names list dir (with_outputs m notes)
   named text v t held same k w only here = record {
     verdicts = was;
     outputs = w.texts;
     held = subst (λ (l : List Told). Holding old names (map spelling l)) (sym v) held;
     apart = k.apart;
-    merging = merging_ready old mid names list dir was r m notes same k w;
+    unshared = subst (λ c. AreUnshared known names list dir c) (sym w.count) k.unshared;
+    merging = merging_ready old mid known names list dir was r m notes same k w;
     parts = subst (λ c. Holding new (part_names dir c) w.texts) (sym w.count) (whole_still old mid new dir r.parts w.texts only w.whole);
     verdict = subst (new (name_of_verdict dir)) t here;
     others = subst (λ c. ChangesAmong old new (merged_names dir c)) (sym w.count) (among_again old mid new dir r.parts w.others only);
   }
 
   -- it is not
-  pub unnamed : (unreadable first later : Faulty) (e : ShardFault) → was ≡ vs → Holding old names (map spelling vs) → length names ≡ length was → IsReady old names list dir was r m
+  pub unnamed : (unreadable first later : Faulty) (e : ShardFault) → was ≡ vs → Holding old names (map spelling vs) → length names ≡ length was → IsReady old known names list dir was r m
       → ArePartsWritten old mid r names was dir notes → ChangesOnly mid new (name_of_verdict dir) → Begins mid new (name_of_verdict dir) (spelling (with_outputs m notes)) → ((n : List ℕ) → later n → first n)
-      → TellsUnwritten (later (name_of_verdict dir)) (name_of_verdict dir) e → IsUnfinished old new unreadable first names list dir e
+      → TellsUnwritten (later (name_of_verdict dir)) (name_of_verdict dir) e → IsUnfinished old new unreadable first known names list dir e
   unnamed unreadable first later e v held same k w only begins still tells = record {
     verdicts = was;
     request = r;
+    joined = m;
     held = subst (λ (l : List Told). Holding old names (map spelling l)) (sym v) held;
-    asks = k.asks;
-    apart = k.apart;
+    ready = k;
     why = inr (record {
       joined = with_outputs m notes;
       texts = w.texts;
-      merging = merging_ready old mid names list dir was r m notes same k w;
+      merging = merging_ready old mid known names list dir was r m notes same k w;
       whole = subst (λ c. Holding new (part_names dir c) w.texts) (sym w.count) (whole_still old mid new dir r.parts w.texts only w.whole);
       begins = begun_again old mid new dir (spelling (with_outputs m notes)) w.begins begins;
       others = subst (λ c. ChangesAmong old new (merged_names dir c)) (sym w.count) (among_again old mid new dir r.parts w.others only);

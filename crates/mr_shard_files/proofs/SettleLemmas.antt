@@ -1,8 +1,8 @@
 -- Parts that are read as far as they go, and compared with what their verdicts tell.
-use Rattle.std.proofs.Common.{◌≡◌, ℕ, zero, suc, ◌+◌, ◌<◌, ◌^◌, ◌||◌, ◌⊎◌, Bool, true, false, inl, inr, List, [], ◌∷◌, ◌++◌, append_assoc, append-nil, length, length-append, get_or, map, take, refl, ap, sym, ◌∙◌, subst, arith, Some, None, Result, Ok, Err, string_bytes}
+use Rattle.std.proofs.Common.{◌≡◌, ℕ, zero, suc, ◌+◌, ◌<◌, ◌^◌, ◌||◌, ◌⊎◌, Bool, true, false, inl, inr, List, [], ◌∷◌, ◌++◌, append_assoc, append-nil, length, length-append, get_or, map, take, refl, ap, sym, ◌∙◌, subst, arith, Some, None, string_bytes}
 use Rattle.std.proofs.lemmas.List.{get_or-map, length-map, take-map, take-take, take_more}
 use Rattle.std.specs.Io.KnownBytes.{Consumes, IsAtEnd}
-use Rattle.std.specs.Prelude.{Option, IfErr, IfOk, IsTrue, ◌↔◌}
+use Rattle.std.specs.Prelude.{Option, IsTrue, ◌↔◌}
 use Rattle.mr_files.specs.Holding.{Agrees, Faulty, Holding, Stored}
 use Rattle.mr_files.specs.Names.{name_of_part}
 use Rattle.mr_jobs.specs.JobSpec.{JobSpec}
@@ -13,7 +13,7 @@ use Rattle.mr_shard_files.specs.declared.fault.ShardFault.{ShardFault}
 use Rattle.mr_shard_files.specs.declared.fault.ShardFault.TheVariants.{CannotRead, OtherPart, OutOfMemory}
 use Rattle.mr_shard_files.specs.declared.stream.Part.{Part}
 use Rattle.mr_shard_files.specs.Beside.{AreOutputs, IsPartition, StandsBeside, Tells, TellsOf}
-use Rattle.mr_shard_files.specs.Faults.{IsPartAt, IsPartFault, IsPartitionFault, IsUnopened, name_at}
+use Rattle.mr_shard_files.specs.Faults.{AreTold, IsPartAt, IsPartFault, IsPartitionFault, IsUnopened, name_at}
 use Rattle.mr_shard_files.specs.Streams.{AllAre, AllMayBe, AreJoined, AreOpened, AreUnsettled, CountsDown, Ends, HasRead, IsOpened, IsOther, IsRefused, IsSettled, IsStream, MayBe, Moves, OneIs, TellsUnread, is_done, length_told}
 use Rattle.mr_files.proofs.Lists.{names_more}
 use Rattle.mr_shard_files.proofs.FaultLemmas.{blamed}
@@ -227,19 +227,42 @@ module _ {R : Type 0} (remaining : R → Option (List ℕ)) (can_fail : R → Ty
     unread_part n v x q i e s t = absurd t
 
     part_at : (ns : List (List ℕ)) (vs : List Told) (xs : List (List ℕ)) (qs : List (Part R)) (i : ℕ) (d : Part R) (e : ShardFault) → AreStreams ns vs xs qs → i < length qs
+        → ((read : List (List ℕ)) × Holding (StandsBeside holds p) (take i ns) read × AreTold p (take i vs) read e)
         → (Stream (name_at ns i) (verdict_at vs i) (get_or xs i []) (get_or qs i d) → IsPartFault holds unreadable p i (name_at ns i) (verdict_at vs i) e) → IsPartAt holds unreadable p ns vs e
-    part_at ns vs xs qs i d e h less f =
+    part_at ns vs xs qs i d e h less before f =
         let here = stream_at ns vs xs qs i d h less in
-        let before = first_stand ns vs xs qs i h in
-        record { at = i; read = before.0; within = here.0; stand = before.1; why = f here.1 }
+        record { at = i; read = before.0; within = here.0; stand = before.1; told = before.2; why = f here.1 }
+
+    -- where a part can't be read, nothing is said of what those before hold
+    told_unread : (vs : List Told) (ts : List (List ℕ)) (P : Type 0) (n : List ℕ) (e : ShardFault) → TellsUnread P n e → AreTold p vs ts e
+    told_unread vs ts P n (CannotRead told) t = tt
+    told_unread vs ts P n OutOfMemory t = tt
+    told_unread vs ts P n e t = absurd t
 
     unread_at : (ns : List (List ℕ)) (vs : List Told) (xs : List (List ℕ)) (qs : List (Part R)) (e : ShardFault) → AreStreams ns vs xs qs
         → OneIs (λ _ q. TellsUnread (can_fail q.reader) (string_bytes q.name) e) qs → IsPartAt holds unreadable p ns vs e
-    unread_at ns vs xs qs e h (i, d, less, t) = part_at ns vs xs qs i d e h less (λ s. unread_part (name_at ns i) (verdict_at vs i) (get_or xs i []) (get_or qs i d) i e s t)
+    unread_at ns vs xs qs e h (i, d, less, t) =
+        let before = first_stand ns vs xs qs i h in
+        part_at ns vs xs qs i d e h less (before.0, before.1, told_unread (take i vs) before.0 (can_fail (get_or qs i d).reader) (string_bytes (get_or qs i d).name) e t)
+        (λ s. unread_part (name_at ns i) (verdict_at vs i) (get_or xs i []) (get_or qs i d) i e s t)
+
+    streams_first : (i : ℕ) (ns : List (List ℕ)) (vs : List Told) (xs : List (List ℕ)) (qs : List (Part R)) → AreStreams ns vs xs qs → AreStreams (take i ns) (take i vs) (take i xs) (take i qs)
+    streams_first zero ns vs xs qs h = tt
+    streams_first (suc i) [] [] [] [] h = tt
+    streams_first (suc i) [] [] [] (q ∷ qs) h = absurd h
+    streams_first (suc i) [] [] (x ∷ xs) qs h = absurd h
+    streams_first (suc i) [] (v ∷ vs) xs qs h = absurd h
+    streams_first (suc i) (n ∷ ns) [] xs qs h = absurd h
+    streams_first (suc i) (n ∷ ns) (v ∷ vs) [] qs h = absurd h
+    streams_first (suc i) (n ∷ ns) (v ∷ vs) (x ∷ xs) [] h = absurd h
+    streams_first (suc i) (n ∷ ns) (v ∷ vs) (x ∷ xs) (q ∷ qs) h = (h.0, streams_first i ns vs xs qs h.1)
 
     unsettled_at : (ns : List (List ℕ)) (vs : List Told) (xs : List (List ℕ)) (qs : List (Part R)) (e : ShardFault) → AreStreams ns vs xs qs → AreUnsettled remaining can_fail p vs qs e → IsPartAt holds unreadable p ns vs e
-    unsettled_at ns vs xs qs (OtherPart shard partition) h (same, (i, d, less, one)) =
-        part_at ns vs xs qs i d (OtherPart shard partition) h less (λ s. (one.0, same, other_part (name_at ns i) (verdict_at vs i) (get_or xs i []) (get_or qs i d) s one.1))
+    unsettled_at ns vs xs qs (OtherPart shard partition) h (same, (i, d, less, one), (ends, settled)) =
+        let before = wholes (take i ns) (take i vs) (take i xs) (take i qs) ends (streams_first i ns vs xs qs h)
+        (subst (λ k. AllAre (IsSettled remaining can_fail p) (take k vs) (take k qs) ends) one.0 settled) in
+        part_at ns vs xs qs i d (OtherPart shard partition) h less (before.texts, before.stand, before.told)
+        (λ s. (one.0, same, other_part (name_at ns i) (verdict_at vs i) (get_or xs i []) (get_or qs i d) s one.1))
     unsettled_at ns vs xs qs e h u = unread_at ns vs xs qs e h u
 
     pub partition_joined : (job : JobSpec) (ns : List (List ℕ)) (vs : List Told) (qs : List (Part R)) (files : List ℕ) (text : List ℕ) → files ≡ map (λ (v : Told). length v.inputs) vs
@@ -270,6 +293,7 @@ module _ {R : Type 0} (remaining : R → Option (List ℕ)) (can_fail : R → Ty
           parts = w.texts;
           outputs = outputs_of w.readings;
           stand = w.stand;
+          told = w.told;
           outputs_are = w.outputs;
           why = blamed job vs w.texts (outputs_of w.readings) p b.cause few w.outputs why;
         }))
@@ -298,6 +322,11 @@ module _ {R : Type 0} (remaining : R → Option (List ℕ)) (can_fail : R → Ty
     unopened n v i OutOfMemory u = tt
     unopened n v i e u = absurd u
 
+    told_unopened : (vs : List Told) (ts : List (List ℕ)) (n : List ℕ) (e : ShardFault) → IsUnopened unreadable p n e → AreTold p vs ts e
+    told_unopened vs ts n (CannotRead told) u = tt
+    told_unopened vs ts n OutOfMemory u = tt
+    told_unopened vs ts n e u = absurd u
+
     -- one can't be opened
     pub unopened_at : {A : Type 0} (f : A → List ℕ) (names : List A) (vs : List Told) (i : ℕ) (d : A) (qs : List (Part R)) (e : ShardFault) → i < length names
         → AreOpened holds unreadable remaining can_fail p (map f (take i names)) (take i vs) qs → IsUnopened unreadable p (f (get_or names i d)) e → IsPartAt holds unreadable p (map f names) vs e
@@ -310,6 +339,7 @@ module _ {R : Type 0} (remaining : R → Option (List ℕ)) (can_fail : R → Ty
           read = before.0;
           within = omega (arith, length-map names f, less);
           stand = subst (λ (l : List (List ℕ)). Holding (StandsBeside holds p) l before.0) all before.1;
+          told = told_unopened (take i vs) before.0 (f (get_or names i d)) e u;
           why = subst (λ (n : List ℕ). IsPartFault holds unreadable p i n (verdict_at vs i) e) name (unopened (f (get_or names i d)) (verdict_at vs i) i e u);
         }
 

@@ -1,6 +1,5 @@
 -- Parts that are read in pieces.
-use Rattle.std.proofs.Common.{◌≡◌, ℕ, zero, suc, ◌<◌, ◌≤◌, ◌⊎◌, ◌||◌, inl, inr, true, List, [], ◌∷◌, ◌++◌, append_assoc, append-nil, ap, drop, refl, sym, ◌∙◌, subst, length, length-append, take, arith, ◌&&◌, get_or, ◌+◌}
-use Rattle.std.proofs.lemmas.Bool.{cases_lt}
+use Rattle.std.proofs.Common.{◌≡◌, ℕ, zero, suc, ◌<◌, ◌≤◌, ◌||◌, true, List, [], ◌∷◌, ◌++◌, append_assoc, append-nil, ap, drop, refl, sym, ◌∙◌, subst, length, length-append, take, arith, ◌&&◌, get_or, ◌+◌}
 use Rattle.std.proofs.lemmas.List.{drop_more as drop_next, take-append-drop, take_all}
 use Rattle.std.proofs.KnownBytes.{Consumes-nil, Consumes-trans}
 use Rattle.std.specs.Prelude.{Option}

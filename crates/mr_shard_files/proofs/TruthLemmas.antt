@@ -3,6 +3,7 @@ use Rattle.std.proofs.Common.{◌≡◌, ℕ, ◌<◌, ◌^◌, List, [], ◌∷
 use Rattle.std.specs.Prelude.{Option}
 use Rattle.std.specs.List.{AllByRecursion}
 use Rattle.mr_files.specs.Holding.{Stored}
+use Rattle.mr_files.specs.Identities.{Known}
 use Rattle.mr_files.specs.Names.{part_files}
 use Rattle.mr_jobs.specs.JobSpec.{InvertedIndex, JobSpec, LinesWith, RequestSpec, Resources, WordCount, job_flags, job_literal, job_number}
 use Rattle.mr_verdict.specs.Joined.{AreMerged, AreOnce, AreTrueOf, IsJoined, all_files}
@@ -113,7 +114,7 @@ merging holds names list vs r m outputs notes split some names_are count all joi
     }
 
 -- what is merged of verdicts that can be, where the parts of all partitions were written
-pub merging_ready : (old new : Stored) (names : List (List ℕ)) (list : Option (List ℕ)) (dir : List ℕ) (vs : List Told) (r : RequestSpec) (m : Told) (notes : List Note) → length names ≡ length vs
-    → IsReady old names list dir vs r m → (w : ArePartsWritten old new r names vs dir notes) → IsMerging old names list vs (with_outputs m notes) w.texts
-merging_ready old new names list dir vs r m notes same k w =
-    merging old names list vs r m w.texts notes k.split k.some same w.count w.merged k.joined k.told k.once k.few k.listed w.notes_are
+pub merging_ready : (old new : Stored) (known : Known) (names : List (List ℕ)) (list : Option (List ℕ)) (dir : List ℕ) (vs : List Told) (r : RequestSpec) (m : Told) (notes : List Note) → length names ≡ length vs
+    → IsReady old known names list dir vs r m → (w : ArePartsWritten old new r names vs dir notes) → IsMerging old names list vs (with_outputs m notes) w.texts
+merging_ready old new known names list dir vs r m notes same k w =
+    merging old names list vs r m w.texts notes k.split k.some same w.count w.merged k.all.joined k.all.told k.all.once k.all.few k.listed w.notes_are

@@ -3,23 +3,25 @@
 use Rattle.std.specs.Prelude.{◌≡◌, ◌≢◌, ◌⊎◌, ℕ, ◌+◌, ◌<◌, ◌≤◌, ◌^◌, ⊤, List, [], ◌∷◌, Option, None, Some, length, map, slice_index_or, string_bytes, take}
 use Rattle.mr_files.specs.Folders.{IsFolderOf}
 use Rattle.mr_files.specs.Holding.{Begins, ChangesAmong, Faulty, Holding, Stored}
+use Rattle.mr_files.specs.Identities.{Known}
 use Rattle.mr_files.specs.Names.{merged_names, name_of_part, name_of_verdict, part_names}
 use Rattle.mr_jobs.specs.JobSpec.{JobSpec, RequestSpec}
 use Rattle.mr_shards.specs.declared.fault.MergeFault.TheVariants as merge
 use Rattle.mr_shards.specs.declared.merge.Output.{Output}
 use Rattle.mr_shards.specs.Refused.{Blames, HasFarLine}
 use Rattle.mr_verdict.specs.declared.joining.JoinFault.TheVariants as join
-use Rattle.mr_verdict.specs.Joined.{IsJoinFault, IsRepeated, inputs_of, verdict_at}
+use Rattle.mr_verdict.specs.Joined.{IsJoinFault, IsJoined, IsRepeated, inputs_of, verdict_at}
 use Rattle.mr_verdict.specs.Reading.{Fits}
 use Rattle.mr_verdict.specs.Truth.{Asks, AsksNone}
 use Rattle.mr_verdict.specs.Verdict.{Note, Told, spelling}
 use Rattle.mr_shard_files.specs.declared.fault.ShardFault.{ShardFault}
 use Rattle.mr_shard_files.specs.declared.fault.ShardFault.TheVariants.{BadLine, BadVerdict, CannotRead, FileTooFar, LongList, LongVerdict, NoRequest, NoShards, OtherInputs, OtherOutputs, OtherPart, OtherRequest, OutOfMemory, RepeatedInput, TooManyFiles, TooManyPairs, TooManySplits, TotalTooLarge}
 use Rattle.mr_shard_files.specs.Apart.{AreApart, IsSameFolder}
-use Rattle.mr_shard_files.specs.Beside.{AreOutputs, ArePartitions, StandsBeside, TellsOf}
-use Rattle.mr_shard_files.specs.Listing.{DifferIn, listing}
+use Rattle.mr_shard_files.specs.Beside.{AreOutputs, ArePartitions, StandsBeside, Tells, TellsOf}
+use Rattle.mr_shard_files.specs.Listing.{DifferIn, IsListed, listing}
 use Rattle.mr_shard_files.specs.Made.{TellsUnwritten}
-use Rattle.mr_shard_files.specs.Merging.{IsMerging}
+use Rattle.mr_shard_files.specs.Sharing.{IsShared}
+use Rattle.mr_shard_files.specs.Merging.{AreCounted, IsJoinedOnce, IsMerging, IsReady}
 
 abbrev pub name_at : List (List ℕ) → ℕ → List ℕ
 name_at names i = slice_index_or names i []
@@ -42,10 +44,17 @@ IsUnheard holds unreadable at name (BadVerdict shard line) = (shard ≡ at) × I
 IsUnheard holds unreadable at name OutOfMemory = ⊤
 IsUnheard holds unreadable at name fault = ⊥
 
+-- the verdict under one name is not read, and those under the names before are
+pub record IsUnheardAt (holds : Stored) (unreadable : Faulty) (names : List (List ℕ)) (fault : ShardFault) : Type 0 where
+  pub at : ℕ
+  pub before : List Told
+  pub within : at < length names
+  pub held : Holding holds (take at names) (map spelling before)
+  pub why : IsUnheard holds unreadable at (name_at names at) fault
+
 -- the verdicts are not all read
 abbrev pub IsUngathered : Stored → Faulty → List (List ℕ) → ShardFault → Type 0
-IsUngathered holds unreadable names fault = (fault ≡ OutOfMemory)
-    ⊎ ((at : ℕ) × (at < length names) × IsUnheard holds unreadable at (name_at names at) fault)
+IsUngathered holds unreadable names fault = (fault ≡ OutOfMemory) ⊎ IsUnheardAt holds unreadable names fault
 
 -- ---- parts
 
@@ -70,12 +79,18 @@ IsUnopened unreadable p name (CannotRead told) = IsPartUnread unreadable p name 
 IsUnopened unreadable p name OutOfMemory = ⊤
 IsUnopened unreadable p name fault = ⊥
 
+-- where a part is another, those before it are the ones that their verdicts tell of
+abbrev pub AreTold : ℕ → List Told → List (List ℕ) → ShardFault → Type 0
+AreTold p vs texts (OtherPart shard partition) = Tells p vs texts
+AreTold p vs texts fault = ⊤
+
 -- those before it stand there
 pub record IsPartAt (holds : Stored) (unreadable : Faulty) (p : ℕ) (names : List (List ℕ)) (vs : List Told) (fault : ShardFault) : Type 0 where
   pub at : ℕ
   pub read : List (List ℕ)
   pub within : at < length names
   pub stand : Holding (StandsBeside holds p) (take at names) read
+  pub told : AreTold p (take at vs) read fault
   pub why : IsPartFault holds unreadable p at (name_at names at) (verdict_at vs at) fault
 
 -- the parts of a partition are not all read
@@ -86,7 +101,7 @@ IsTextsFault holds unreadable p names vs fault = (fault ≡ OutOfMemory) ⊎ IsP
 abbrev pub AreUnopened : Stored → Faulty → ℕ → List (List ℕ) → List Told → ShardFault → Type 0
 AreUnopened holds unreadable count names vs fault = (fault ≡ OutOfMemory) ⊎ ((p : ℕ) × (p < count) × IsTextsFault holds unreadable p names vs fault)
 
--- what stands beside the verdicts for a partition can't be merged
+-- what the parts of a partition hold can't be merged
 abbrev pub IsBlamed : JobSpec → List Output → ℕ → ShardFault → Type 0
 IsBlamed job os p (BadLine shard partition line) = (partition ≡ p) × Blames job os (merge.BadLine shard line)
 IsBlamed job os p (TotalTooLarge partition) = (partition ≡ p) × Blames job os merge.TotalTooLarge
@@ -94,10 +109,12 @@ IsBlamed job os p (FileTooFar partition) = (partition ≡ p) × HasFarLine job o
 IsBlamed job os p OutOfMemory = ⊤
 IsBlamed job os p fault = ⊥
 
+-- each part is the one that its verdict tells of, and they can't be merged
 pub record IsUnmergedAt (holds : Stored) (job : JobSpec) (names : List (List ℕ)) (vs : List Told) (p : ℕ) (fault : ShardFault) : Type 0 where
   pub parts : List (List ℕ)
   pub outputs : List Output
   pub stand : Holding (StandsBeside holds p) names parts
+  pub told : Tells p vs parts
   pub outputs_are : AreOutputs vs parts outputs
   pub why : IsBlamed job outputs p fault
 
@@ -134,15 +151,16 @@ IsFirstFault vs NoRequest = (0 < length vs) × AsksNone (verdict_at vs 0)
 IsFirstFault vs OutOfMemory = ⊤
 IsFirstFault vs fault = ⊥
 
--- a verdict tells of more outputs than there are partitions, or of fewer
+-- a verdict tells of more outputs than there are partitions, or of fewer, and those before of as many
 abbrev pub IsMiscounted : List Told → ℕ → ShardFault → Type 0
-IsMiscounted vs parts (OtherOutputs shard) = (shard < length vs) × (length (verdict_at vs shard).outputs ≢ parts)
+IsMiscounted vs parts (OtherOutputs shard) =
+    (shard < length vs) × AreCounted (take shard vs) parts × (length (verdict_at vs shard).outputs ≢ parts)
 IsMiscounted vs parts fault = ⊥
 
--- the inputs can't be numbered, or one has the name of another
+-- the inputs can't be numbered; or they can, and one has the name of another
 abbrev pub IsInputsFault : List Note → ShardFault → Type 0
 IsInputsFault inputs TooManyFiles = 2 ^ 32 ≤ length inputs
-IsInputsFault inputs (RepeatedInput input) = IsRepeated inputs input
+IsInputsFault inputs (RepeatedInput input) = (length inputs < 2 ^ 32) × IsRepeated inputs input
 IsInputsFault inputs OutOfMemory = ⊤
 IsInputsFault inputs fault = ⊥
 
@@ -154,19 +172,26 @@ IsUnjoined request vs TooManyPairs = IsJoinFault request vs join.TooManyPairs
 IsUnjoined request vs OutOfMemory = ⊤
 IsUnjoined request vs fault = ⊥
 
--- they are not joined, or tell of other outputs, or of inputs that can't be told apart
+-- they are not joined; or they are, and tell of other outputs; or not of others, and of inputs that can't be told apart
 abbrev pub IsJoinedFault : RequestSpec → List Told → ShardFault → Type 0
-IsJoinedFault request vs fault = IsUnjoined request vs fault ⊎ (IsMiscounted vs request.parts fault ⊎ IsInputsFault (inputs_of vs) fault)
+IsJoinedFault request vs fault = IsUnjoined request vs fault
+    ⊎ ((m : Told) × IsJoined request vs m
+    × (IsMiscounted vs request.parts fault ⊎ (AreCounted vs request.parts × IsInputsFault (inputs_of vs) fault)))
 
--- they are not joined, or other inputs were meant, or the result would stand in a shard's folder
-abbrev pub IsRequestFault : Stored → Faulty → (List ℕ → List ℕ → Type 0) → RequestSpec → List (List ℕ) → Option (List ℕ) → List ℕ → List Told → ShardFault → Type 0
-IsRequestFault holds unreadable alike request names list dir vs fault =
-    IsJoinedFault request vs fault ⊎ (IsListFault holds unreadable list (inputs_of vs) fault ⊎ IsSameFolder alike names dir fault)
+-- other inputs were meant; or just these, and the result would stand in a shard's folder; or in none, and over a file that is read
+abbrev pub IsUnmeant : Stored → Faulty → (List ℕ → List ℕ → Type 0) → Known → List (List ℕ) → Option (List ℕ) → List ℕ → ℕ → List Note → ShardFault → Type 0
+IsUnmeant holds unreadable alike known names list dir parts inputs fault = IsListFault holds unreadable list inputs fault
+    ⊎ (IsListed holds list inputs × (IsSameFolder alike names dir fault ⊎ (AreApart names dir × IsShared known names list dir parts fault)))
+
+-- they are not joined; or they are, and were not meant so
+abbrev pub IsRequestFault : Stored → Faulty → (List ℕ → List ℕ → Type 0) → Known → RequestSpec → List (List ℕ) → Option (List ℕ) → List ℕ → List Told → ShardFault → Type 0
+IsRequestFault holds unreadable alike known request names list dir vs fault = IsJoinedFault request vs fault
+    ⊎ ((m : Told) × IsJoinedOnce request vs m × IsUnmeant holds unreadable alike known names list dir request.parts m.inputs fault)
 
 -- nothing is merged: there is no request, or under that of the first verdict there is no merge
-abbrev pub IsMergingFault : Stored → Faulty → (List ℕ → List ℕ → Type 0) → List (List ℕ) → Option (List ℕ) → List ℕ → List Told → ShardFault → Type 0
-IsMergingFault holds unreadable alike names list dir vs fault = (fault ≡ OutOfMemory) ⊎ (IsFirstFault vs fault
-    ⊎ ((request : RequestSpec) × Asks (verdict_at vs 0) request × IsRequestFault holds unreadable alike request names list dir vs fault))
+abbrev pub IsMergingFault : Stored → Faulty → (List ℕ → List ℕ → Type 0) → Known → List (List ℕ) → Option (List ℕ) → List ℕ → List Told → ShardFault → Type 0
+IsMergingFault holds unreadable alike known names list dir vs fault = (fault ≡ OutOfMemory) ⊎ (IsFirstFault vs fault
+    ⊎ ((request : RequestSpec) × Asks (verdict_at vs 0) request × IsRequestFault holds unreadable alike known request names list dir vs fault))
 
 -- ---- the result
 
@@ -174,10 +199,10 @@ IsMergingFault holds unreadable alike names list dir vs fault = (fault ≡ OutOf
 abbrev pub IsUnbegun : Stored → Stored → Faulty → RequestSpec → List (List ℕ) → List Told → ShardFault → Type 0
 IsUnbegun old new unreadable request names vs fault = ChangesAmong old new [] × AreUnopened old unreadable request.parts names vs fault
 
--- the verdict that stood in the folder is not emptied, and nothing else changed
+-- the verdict that stood in the folder is not emptied: it stands there as before, or empty; and nothing else changed
 abbrev pub IsUnemptied : Stored → Stored → Faulty → List ℕ → ShardFault → Type 0
-IsUnemptied old new unwritable dir fault =
-    ChangesAmong old new (name_of_verdict dir ∷ []) × TellsUnwritten (unwritable (name_of_verdict dir)) (name_of_verdict dir) fault
+IsUnemptied old new unwritable dir fault = ChangesAmong old new (name_of_verdict dir ∷ [])
+    × Begins old new (name_of_verdict dir) [] × TellsUnwritten (unwritable (name_of_verdict dir)) (name_of_verdict dir) fault
 
 -- the first partitions are merged, and their parts stand whole; the next one is not merged, or not written; the verdict is
 -- empty, and all else stands as before
@@ -208,19 +233,19 @@ pub record IsUnnamed (old new : Stored) (unwritable : Faulty) (names : List (Lis
   pub why : TellsUnwritten (unwritable (name_of_verdict dir)) (name_of_verdict dir) fault
 
 -- nothing changed, as the verdicts are not all read, or are not of shards that can be merged
-abbrev pub IsUnmerged : Stored → Stored → Faulty → (List ℕ → List ℕ → Type 0) → List (List ℕ) → Option (List ℕ) → List ℕ → ShardFault → Type 0
-IsUnmerged old new unreadable alike names list dir fault = ChangesAmong old new []
-    × (IsUngathered old unreadable names fault ⊎ ((vs : List Told) × Holding old names (map spelling vs) × IsMergingFault old unreadable alike names list dir vs fault))
+abbrev pub IsUnmerged : Stored → Stored → Faulty → (List ℕ → List ℕ → Type 0) → Known → List (List ℕ) → Option (List ℕ) → List ℕ → ShardFault → Type 0
+IsUnmerged old new unreadable alike known names list dir fault = ChangesAmong old new [] × (IsUngathered old unreadable names fault
+    ⊎ ((vs : List Told) × Holding old names (map spelling vs) × IsMergingFault old unreadable alike known names list dir vs fault))
 
--- the result is not all written, in a folder that is no shard's
-pub record IsUnfinished (old new : Stored) (unreadable unwritable : Faulty) (names : List (List ℕ)) (list : Option (List ℕ)) (dir : List ℕ) (fault : ShardFault) : Type 0 where
+-- the verdicts can be merged to that folder, and the result is not all written
+pub record IsUnfinished (old new : Stored) (unreadable unwritable : Faulty) (known : Known) (names : List (List ℕ)) (list : Option (List ℕ)) (dir : List ℕ) (fault : ShardFault) : Type 0 where
   pub verdicts : List Told
   pub request : RequestSpec
+  pub joined : Told
   pub held : Holding old names (map spelling verdicts)
-  pub asks : Asks (verdict_at verdicts 0) request
-  pub apart : AreApart names dir
+  pub ready : IsReady old known names list dir verdicts request joined
   pub why : IsPartsFault old new unreadable unwritable request names verdicts dir fault ⊎ IsUnnamed old new unwritable names list verdicts dir fault
 
-abbrev pub IsShardRefusal : Stored → Stored → Faulty → Faulty → (List ℕ → List ℕ → Type 0) → List (List ℕ) → Option (List ℕ) → List ℕ → ShardFault → Type 0
-IsShardRefusal old new unreadable unwritable alike names list dir fault =
-    IsUnmerged old new unreadable alike names list dir fault ⊎ IsUnfinished old new unreadable unwritable names list dir fault
+abbrev pub IsShardRefusal : Stored → Stored → Faulty → Faulty → (List ℕ → List ℕ → Type 0) → Known → List (List ℕ) → Option (List ℕ) → List ℕ → ShardFault → Type 0
+IsShardRefusal old new unreadable unwritable alike known names list dir fault =
+    IsUnmerged old new unreadable alike known names list dir fault ⊎ IsUnfinished old new unreadable unwritable known names list dir fault

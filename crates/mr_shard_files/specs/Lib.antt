@@ -6,3 +6,4 @@ pub mod Faults
 pub mod Streams
 pub mod Made
 pub mod Apart
+pub mod Sharing

@@ -3,6 +3,7 @@ use Rattle.std.specs.Prelude.{◌≡◌, ℕ, ◌<◌, ◌^◌, List, [], ◌∷
 use Rattle.std.specs.List.{AllByRecursion}
 use Rattle.mr_input.specs.Files.{nth_file}
 use Rattle.mr_files.specs.Holding.{Begins, ChangesAmong, Holding, Stored}
+use Rattle.mr_files.specs.Identities.{Known}
 use Rattle.mr_files.specs.Names.{merged_names, name_of_verdict, part_files, part_names}
 use Rattle.mr_jobs.specs.JobSpec.{JobSpec, RequestSpec}
 use Rattle.mr_shards.specs.Refused.{IsRest}
@@ -10,6 +11,7 @@ use Rattle.mr_verdict.specs.Joined.{AreMerged, AreOnce, AreTrueOf, IsJoined, all
 use Rattle.mr_verdict.specs.Truth.{Asks, IsTrueOf, notes_for}
 use Rattle.mr_verdict.specs.Verdict.{Note, Told, spelling}
 use Rattle.mr_shard_files.specs.Apart.{AreApart}
+use Rattle.mr_shard_files.specs.Sharing.{AreUnshared}
 use Rattle.mr_shard_files.specs.Beside.{ArePartitions, StandsBeside, TellsOf}
 use Rattle.mr_shard_files.specs.Listing.{IsListed}
 
@@ -46,18 +48,27 @@ abbrev pub IsTrueOfAll : List Told → List (List (List ℕ)) → Told → List 
 IsTrueOfAll vs parts m outputs = (request : RequestSpec) (files : List (List (List ℕ)))
     → AreTrueOf request vs files parts → IsTrueOf request m (all_files files) outputs
 
--- verdicts can be merged: they are about one request, each tells of one output for each partition, no input is named twice,
--- where a list is named it has just these inputs, and none stands in the folder that is to hold the result
-pub record IsReady (holds : Stored) (names : List (List ℕ)) (list : Option (List ℕ)) (dir : List ℕ) (vs : List Told) (request : RequestSpec) (m : Told) : Type 0 where
+-- each tells of so many outputs
+abbrev pub AreCounted : List Told → ℕ → Type 0
+AreCounted vs count = AllByRecursion (λ v. length v.outputs ≡ count) vs
+
+-- verdicts are joined: they are about one request, each tells of one output for each partition, and no input is named twice
+pub record IsJoinedOnce (request : RequestSpec) (vs : List Told) (m : Told) : Type 0 where
+  pub joined : IsJoined request vs m
+  pub told : AreCounted vs request.parts
+  pub once : AreOnce m.inputs
+  pub few : length m.inputs < 2 ^ 32
+
+-- verdicts can be merged: they are joined, where a list is named it has just their inputs, none stands in the folder that is to
+-- hold the result, and no file that is written there is one that is read
+pub record IsReady (holds : Stored) (known : Known) (names : List (List ℕ)) (list : Option (List ℕ)) (dir : List ℕ) (vs : List Told) (request : RequestSpec) (m : Told) : Type 0 where
   pub asks : Asks (verdict_at vs 0) request
   pub some : 0 < length vs
   pub split : 0 < request.split
-  pub joined : IsJoined request vs m
-  pub told : AllByRecursion (λ v. length v.outputs ≡ request.parts) vs
-  pub once : AreOnce m.inputs
-  pub few : length m.inputs < 2 ^ 32
+  pub all : IsJoinedOnce request vs m
   pub listed : IsListed holds list m.inputs
   pub apart : AreApart names dir
+  pub unshared : AreUnshared known names list dir request.parts
 
 -- each partition was merged to its text, which stands in the folder and has its note; the verdict there was emptied, and all
 -- else stands as before
@@ -86,13 +97,15 @@ pub record IsMerging (holds : Stored) (names : List (List ℕ)) (list : Option (
   pub notes_are : m.outputs ≡ notes_for (part_files request.parts) outputs
   pub true_of : IsTrueOfAll vs parts m outputs
 
--- under the names stood verdicts, in other folders than this, that were merged to this one; now the outputs stand in the folder, and the text of the
+-- under the names stood verdicts, in other folders than this, that were merged to this one, and no file that was written is one
+-- that was read; now the outputs stand in the folder, and the text of the
 -- verdict, and all else as before
-pub record IsMerged (old new : Stored) (names : List (List ℕ)) (list : Option (List ℕ)) (dir : List ℕ) (m : Told) : Type 0 where
+pub record IsMerged (old new : Stored) (known : Known) (names : List (List ℕ)) (list : Option (List ℕ)) (dir : List ℕ) (m : Told) : Type 0 where
   pub verdicts : List Told
   pub outputs : List (List ℕ)
   pub held : Holding old names (map spelling verdicts)
   pub apart : AreApart names dir
+  pub unshared : AreUnshared known names list dir (length outputs)
   pub merging : IsMerging old names list verdicts m outputs
   pub parts : Holding new (part_names dir (length outputs)) outputs
   pub verdict : new (name_of_verdict dir) (spelling m)

@@ -1,5 +1,5 @@
 -- Parts of shards that are read in pieces.
-use Rattle.std.specs.Prelude.{◌≡◌, ℕ, ◌+◌, ◌<◌, ◌≤◌, ◌&&◌, ◌||◌, ◌⊎◌, Bool, true, false, ⊤, List, [], ◌∷◌, ◌++◌, Option, Result, Ok, Err, Vec, drop, length, slice_index_or, string_bytes}
+use Rattle.std.specs.Prelude.{◌≡◌, ℕ, ◌+◌, ◌<◌, ◌≤◌, ◌&&◌, ◌||◌, ◌⊎◌, Bool, true, false, ⊤, List, [], ◌∷◌, ◌++◌, Option, Result, Ok, Err, Vec, drop, length, slice_index_or, string_bytes, take}
 use Rattle.std.specs.Global.{Global}
 use Rattle.std.specs.declared.alloc.AllocError.{AllocError}
 use Rattle.std.specs.Io.KnownBytes.{Consumes, IsAtEnd}
@@ -210,9 +210,10 @@ abbrev pub Ends : {R : Type 0} → (R → Option (List ℕ)) → (R → Type 0) 
 Ends remaining can_fail p v true old new = IsSettled remaining can_fail p v old new
 Ends remaining can_fail p v false old new = IsOther remaining can_fail p v old
 
--- one of the parts is another, or can't be read
+-- one of the parts is another, and those before it are the ones that their verdicts tell of; or one can't be read
 abbrev pub AreUnsettled : {R : Type 0} → (R → Option (List ℕ)) → (R → Type 0) → ℕ → List Told → List (Part R) → ShardFault → Type 0
-AreUnsettled remaining can_fail p vs qs (OtherPart shard partition) = (partition ≡ p) × OneIs (λ i q. (shard ≡ i) × IsOther remaining can_fail p (verdict_at vs i) q) qs
+AreUnsettled {R} remaining can_fail p vs qs (OtherPart shard partition) = (partition ≡ p) × OneIs (λ i q. (shard ≡ i) × IsOther remaining can_fail p (verdict_at vs i) q) qs
+    × ((ends : List (Part R)) × AllAre (IsSettled remaining can_fail p) (take shard vs) (take shard qs) ends)
 AreUnsettled remaining can_fail p vs qs fault = OneIs (λ _ q. TellsUnread (can_fail q.reader) (string_bytes q.name) fault) qs
 
 -- ---- a turn

@@ -80,6 +80,9 @@ pub enum ShardFault {
     SameFolder {
         shard: usize,
     },
+    /// A file that the merge would write is one that it reads, or one that it writes before.
+    #[error("SameFile {0}")]
+    SameFile(String),
     /// A verdict does not tell of one output for each partition.
     #[error("OtherOutputs shard {shard}")]
     OtherOutputs {

@@ -13,6 +13,7 @@ mod naming;
 mod noting;
 mod opening;
 mod partition;
+mod sharing;
 mod stream;
 mod streams;
 mod tails;

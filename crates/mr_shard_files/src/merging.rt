@@ -1,14 +1,14 @@
 //! Shards, merged.
-ghost use Rattle.std.specs.Prelude.{◌≡◌, ◌<◌, ◌^◌, ◌⊎◌, IfErr, IfOk, OnOk, length, map, option_map};
-ghost use Rattle.std.specs.List.{AllByRecursion};
+ghost use Rattle.std.specs.Prelude.{◌≡◌, ◌<◌, ◌^◌, IfErr, IfOk, OnOk, length, map, option_map};
 ghost use Rattle.mr_files.specs.Holding.{Holding};
-ghost use Rattle.mr_verdict.specs.Joined.{AreOnce, IsJoined, verdict_at};
+ghost use Rattle.mr_verdict.specs.Joined.{AreOnce, verdict_at};
 ghost use Rattle.mr_verdict.specs.Truth.{Asks};
 ghost use Rattle.mr_verdict.specs.Verdict.{spelling};
-ghost use Rattle.mr_shard_files.specs.Merging.{ChangesResult, IsMerged, IsReady, with_outputs as with_notes};
-ghost use Rattle.mr_shard_files.specs.Apart.{AreApart, IsSameFolder};
+ghost use Rattle.mr_shard_files.specs.Merging.{AreCounted, ChangesResult, IsJoinedOnce, IsMerged, IsReady, with_outputs as with_notes};
+ghost use Rattle.mr_shard_files.specs.Apart.{AreApart};
 ghost use Rattle.mr_shard_files.specs.Listing.{IsListed};
-ghost use Rattle.mr_shard_files.specs.Faults.{IsFirstFault, IsInputsFault, IsJoinedFault, IsListFault, IsMergingFault, IsMiscounted, IsShardRefusal};
+ghost use Rattle.mr_shard_files.specs.Sharing.{AreUnshared};
+ghost use Rattle.mr_shard_files.specs.Faults.{IsFirstFault, IsInputsFault, IsJoinedFault, IsMergingFault, IsMiscounted, IsShardRefusal, IsUnmeant};
 
 use crate::apart::expect_apart;
 use crate::fault::ShardFault;
@@ -16,6 +16,7 @@ use crate::gathering::read_verdicts;
 use crate::listing::expect_listed;
 use crate::naming::put_told;
 use crate::partition::partitions_written;
+use crate::sharing::expect_unshared;
 use mr_files::Store;
 use mr_jobs::Request;
 use mr_verdict::{FileNote, Verdict, first_repeat, join_verdicts, request_of};
@@ -44,7 +45,7 @@ fn first_request(alloc: Global, verdicts: &[Verdict]) -> Result<Request, ShardFa
 
 /// Each verdict tells of one output for each partition.
 fn expect_outputs(verdicts: &[Verdict], parts: u32) -> Result<(), ShardFault>
-    ensures ok { OnOk result (AllByRecursion (λ v. length v.outputs ≡ parts) verdicts.now) }
+    ensures ok { OnOk result (AreCounted verdicts.now parts) }
     ensures err { IfErr result (IsMiscounted verdicts.now parts) }
 {
     for (shard, verdict) in verdicts.iter().enumerate() {
@@ -76,10 +77,7 @@ fn joined_once(
     request: &Request,
     verdicts: &[Verdict],
 ) -> Result<Verdict, ShardFault>
-    ensures joined { IfOk result (IsJoined request.now verdicts.now) }
-    ensures told { IfOk result (λ _. AllByRecursion (λ v. length v.outputs ≡ request.now.parts) verdicts.now) }
-    ensures once { IfOk result (λ m. AreOnce m.inputs) }
-    ensures few { IfOk result (λ m. length m.inputs < 2 ^ 32) }
+    ensures ok { IfOk result (IsJoinedOnce request.now verdicts.now) }
     ensures err { IfErr result (IsJoinedFault request.now verdicts.now) }
 {
     let joined = join_verdicts(alloc, request, verdicts)?;
@@ -95,7 +93,8 @@ fn noted(verdict: Verdict, outputs: Vec<FileNote>) -> Verdict
     Verdict { outputs, ..verdict }
 }
 
-/// The inputs are those of the list, where one is named, and no shard stands in the folder that is to hold the result.
+/// The inputs are those of the list, where one is named, no shard stands in the folder that is to hold the result, and no file
+/// that is written there is one that is read.
 fn expect_meant<S: Store>(
     store: &S,
     alloc: Global,
@@ -103,14 +102,17 @@ fn expect_meant<S: Store>(
     list: Option<&str>,
     inputs: &[FileNote],
     out: &str,
+    parts: u32,
 ) -> Result<(), ShardFault>
     ensures listed { OnOk result (IsListed (S.holds store.now) (option_map (λ n. n.now) list.entry) inputs.now) }
     ensures apart { OnOk result (AreApart (map (λ s. s.now) names.now) out.now) }
-    ensures err { IfErr result (λ e. IsListFault (S.holds store.now) (S.unreadable store.now) (option_map (λ n. n.now) list.entry) inputs.now e
-        ⊎ IsSameFolder (S.alike store.now) (map (λ s. s.now) names.now) out.now e) }
+    ensures unshared { OnOk result (AreUnshared (S.known_as store.now) (map (λ s. s.now) names.now) (option_map (λ n. n.now) list.entry) out.now parts) }
+    ensures err { IfErr result (IsUnmeant (S.holds store.now) (S.unreadable store.now) (S.alike store.now) (S.known_as store.now) (map (λ s. s.now) names.now)
+        (option_map (λ n. n.now) list.entry) out.now parts inputs.now) }
 {
     expect_listed(store, alloc, list, inputs)?;
-    expect_apart(store, names, out)
+    expect_apart(store, names, out)?;
+    expect_unshared(store, alloc, names, list, out, parts)
 }
 
 /// The request of verdicts that can be merged to that folder, and what they are together.
@@ -122,14 +124,23 @@ fn prepared<S: Store>(
     verdicts: &[Verdict],
     out: &str,
 ) -> Result<(Request, Verdict), ShardFault>
-    ensures ok { IfOk result (λ r. IsReady (S.holds store.now) (map (λ s. s.now) names.now) (option_map (λ n. n.now) inputs.entry)
+    ensures ok { IfOk result (λ r. IsReady (S.holds store.now) (S.known_as store.now) (map (λ s. s.now) names.now) (option_map (λ n. n.now) inputs.entry)
         out.now verdicts.now r.0 r.1) }
-    ensures err { IfErr result (IsMergingFault (S.holds store.now) (S.unreadable store.now) (S.alike store.now) (map (λ s. s.now) names.now)
+    ensures err { IfErr result (IsMergingFault (S.holds store.now) (S.unreadable store.now) (S.alike store.now) (S.known_as store.now) (map (λ s. s.now) names.now)
         (option_map (λ n. n.now) inputs.entry) out.now verdicts.now) }
 {
     let request = first_request(alloc, verdicts)?;
     let joined = joined_once(alloc, &request, verdicts)?;
-    expect_meant(store, alloc, names, inputs, joined.inputs.as_slice(), out)?;
+    let parts = request.parts();
+    expect_meant(
+        store,
+        alloc,
+        names,
+        inputs,
+        joined.inputs.as_slice(),
+        out,
+        parts,
+    )?;
     Ok((request, joined))
 }
 
@@ -144,11 +155,11 @@ fn merged_of<S: Store, T: Threads>(
     out: &str,
 ) -> Result<Verdict, ShardFault>
     requires { Holding (S.holds store.old) (map (λ s. s.now) names.now) (map spelling verdicts.now) }
-    ensures ok { IfOk result (IsMerged (S.holds store.old) (S.holds store.new) (map (λ s. s.now) names.now)
+    ensures ok { IfOk result (IsMerged (S.holds store.old) (S.holds store.new) (S.known_as store.old) (map (λ s. s.now) names.now)
         (option_map (λ n. n.now) inputs.entry) out.now) }
     ensures others { ChangesResult (S.holds store.old) (S.holds store.new) out.now }
     ensures refused { IfErr result (IsShardRefusal (S.holds store.old) (S.holds store.new) (S.unreadable store.old) (S.unwritable store.old)
-        (S.alike store.old) (map (λ s. s.now) names.now) (option_map (λ n. n.now) inputs.entry) out.now) }
+        (S.alike store.old) (S.known_as store.old) (map (λ s. s.now) names.now) (option_map (λ n. n.now) inputs.entry) out.now) }
 {
     let (request, joined) = prepared(store, alloc, names, inputs, verdicts, out)?;
     let notes = partitions_written(rt, store, alloc, &request, names, verdicts, out)?;
@@ -175,11 +186,11 @@ pub fn merge_shards<S: Store, T: Threads>(
     inputs: Option<&str>,
     out: &str,
 ) -> Result<Verdict, ShardFault>
-    ensures ok { IfOk result (IsMerged (S.holds store.old) (S.holds store.new) (map (λ s. s.now) names.now)
+    ensures ok { IfOk result (IsMerged (S.holds store.old) (S.holds store.new) (S.known_as store.old) (map (λ s. s.now) names.now)
         (option_map (λ n. n.now) inputs.entry) out.now) }
     ensures others { ChangesResult (S.holds store.old) (S.holds store.new) out.now }
     ensures refused { IfErr result (IsShardRefusal (S.holds store.old) (S.holds store.new) (S.unreadable store.old) (S.unwritable store.old)
-        (S.alike store.old) (map (λ s. s.now) names.now) (option_map (λ n. n.now) inputs.entry) out.now) }
+        (S.alike store.old) (S.known_as store.old) (map (λ s. s.now) names.now) (option_map (λ n. n.now) inputs.entry) out.now) }
 {
     let verdicts = read_verdicts(store, alloc, names)?;
     merged_of(rt, store, alloc, names, inputs, verdicts.as_slice(), out)

@@ -1,4 +1,4 @@
--- Of no public promise: what it is to read onto a list.
+-- What it is to read onto a list: `Grew` stands in promises, the others in what private functions pass on.
 use Rattle.std.specs.Prelude.{◌≡◌, ◌≤◌, ◌+◌, ℕ, List, ◌++◌, length, Option, Result, Ok, Err}
 use Rattle.std.specs.Io.KnownBytes.{Consumes, IsAtEnd}
 use Rattle.mr_store.specs.declared.limited.LimitedFault.{LimitedFault}
@@ -7,7 +7,7 @@ use Rattle.mr_store.specs.declared.reading.ReadFault.{ReadFault}
 use Rattle.mr_store.specs.declared.reading.ReadFault.TheVariants.{Device, OutOfMemory}
 use Rattle.mr_store.specs.Devices.{counted}
 
--- the list grew by what was read
+-- the list grew by what was read: what stood in it stays
 abbrev pub Grew : Option (List ℕ) → Option (List ℕ) → List ℕ → List ℕ → Type 0
 Grew known left was is = (got : List ℕ) × (is ≡ was ++ got) × Consumes known left got
 

@@ -2,7 +2,7 @@
 ghost use Rattle.std.specs.Prelude.{◌≡◌, ◌↔◌, ◌⊎◌, ◌≤◌, ◌<◌, ◌+◌, ℕ, List, ◌++◌, IfOk, OnOk, OnErr, IfSome, true, length};
 ghost use Rattle.std.specs.Io.KnownBytes.{Consumes, IsAtEnd, ReadConsumes};
 ghost use Rattle.mr_store.specs.Devices.{Counts, FailsOnly, counted};
-ghost use Rattle.mr_store.specs.Reads.{LimitedOnto};
+ghost use Rattle.mr_store.specs.Reads.{Grew, LimitedOnto};
 
 use crate::device::{CountedRead, Device};
 use std::alloc::AllocError;
@@ -110,6 +110,7 @@ pub fn read_limited<R: CountedRead>(
     out: &mut Vec<u8>,
     limit: u64,
 ) -> Result<(), LimitedFault>
+    ensures grew { OnOk result (Grew (R.remaining reader.old) (R.remaining reader.new) out.old.items out.new.items) }
     ensures bytes { OnOk result (IfSome (R.remaining reader.old) (λ xs. out.new.items ≡ out.old.items ++ xs)) }
     ensures end { OnOk result (IsAtEnd (R.remaining reader.new)) }
     ensures err { OnErr result (out.new.items ≡ out.old.items) }

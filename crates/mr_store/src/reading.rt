@@ -2,7 +2,7 @@
 ghost use Rattle.std.specs.Prelude.{◌≡◌, ◌↔◌, ◌⊎◌, ℕ, List, ◌++◌, OnOk, OnErr, IfSome, MatchResult, true, length};
 ghost use Rattle.std.specs.Io.KnownBytes.{Consumes, IsAtEnd};
 ghost use Rattle.mr_store.specs.Devices.{counted};
-ghost use Rattle.mr_store.specs.Reads.{ReadOnto};
+ghost use Rattle.mr_store.specs.Reads.{Grew, ReadOnto};
 
 use crate::device::{CountedRead, Device};
 use std::alloc::AllocError;
@@ -59,6 +59,7 @@ fn read_onto<R: CountedRead>(reader: &mut R, out: &mut Vec<u8>) -> Result<(), Re
 /// Appends all bytes of the reader, up to its end. Device exactly where a read failed in this call. After a refusal
 /// the list is as before; the reader has given what was read.
 pub fn read_all<R: CountedRead>(reader: &mut R, out: &mut Vec<u8>) -> Result<(), ReadFault>
+    ensures grew { OnOk result (Grew (R.remaining reader.old) (R.remaining reader.new) out.old.items out.new.items) }
     ensures bytes { OnOk result (IfSome (R.remaining reader.old) (λ xs. out.new.items ≡ out.old.items ++ xs)) }
     ensures end { OnOk result (IsAtEnd (R.remaining reader.new)) }
     ensures err { OnErr result (out.new.items ≡ out.old.items) }

@@ -1,4 +1,4 @@
--- Of no public promise: bytes with a bit changed.
+-- Bytes with a bit changed, as a spoiled output has them.
 use Rattle.std.specs.Prelude.{ℕ, zero, suc, ◌+◌, ◌-◌, ◌%◌, ◌==◌, if◌then◌else◌, List, [], ◌∷◌}
 
 -- a byte with its lowest bit changed

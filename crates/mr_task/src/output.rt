@@ -4,7 +4,7 @@ ghost use Rattle.std.specs.List.{AllByRecursion, flat_map};
 ghost use Rattle.mr_certform.specs.Flat.{chunks, total};
 ghost use Rattle.mr_merge.specs.Groups.{nth_group};
 ghost use Rattle.mr_reduce.specs.Text.{text_of};
-ghost use Rattle.mr_task.specs.Mapped.{nth_run, region_of};
+ghost use Rattle.mr_task.specs.Mapped.{nth_run, region_of, regions_at};
 ghost use Rattle.mr_task.specs.Outputs.{flipped, with_other_bit};
 ghost use Rattle.mr_task.specs.Values.{group_text, reduced};
 
@@ -76,6 +76,18 @@ impl MapOutput {
         ensures { result ≡ region_of p (nth_run self.now.runs i) }
     {
         self.runs[i].region(p)
+    }
+
+    /// The regions that all runs have for partition `p`, from 0, run by run.
+    pub fn regions(&self, alloc: Global, p: u32) -> Result<Vec<Region<'_>>, AllocError>
+        requires { p < self.now.parts }
+        ensures { IfOk result (λ v. v.items ≡ regions_at p self.now.runs) }
+    {
+        let mut regions = Vec::with_capacity(alloc, self.runs.len())?;
+        for i in 0..self.runs() {
+            regions.push(self.region(p, i))?;
+        }
+        Ok(regions)
     }
 }
 

@@ -1,6 +1,5 @@
 -- Verdicts joined one after another.
-use Rattle.std.proofs.Common.{◌≡◌, ℕ, zero, suc, ◌+◌, ◌-◌, ◌/◌, ◌<◌, ◌≤◌, ◌^◌, ◌++◌, ◌⊎◌, inl, inr, List, [], ◌∷◌, length, map, take, drop, get_or, refl, ap, sym, ◌∙◌, subst, arith}
-use Rattle.std.proofs.Math.Nat.{add-div_right, div-eq_of_lt}
+use Rattle.std.proofs.Common.{◌≡◌, ℕ, zero, suc, ◌+◌, ◌<◌, ◌≤◌, ◌^◌, ◌++◌, ◌⊎◌, inl, inr, List, [], ◌∷◌, length, map, take, drop, get_or, refl, ap, sym, ◌∙◌, subst, arith}
 use Rattle.std.proofs.Math.Seq.{take-suc}
 use Rattle.std.proofs.lemmas.List.{append_assoc, append-nil, get_or_default, take-append-drop}
 use Rattle.std.specs.List.{AllByRecursion}
@@ -12,7 +11,7 @@ use Rattle.mr_verdict.specs.declared.joining.JoinFault.{JoinFault}
 use Rattle.mr_verdict.specs.declared.joining.JoinFault.TheVariants.{OtherRequest, TooManySplits, TooManyPairs, OutOfMemory}
 use Rattle.mr_verdict.specs.Verdict.{Note, Told}
 use Rattle.mr_verdict.specs.Truth.{Asks}
-use Rattle.mr_verdict.specs.Joined.{AreTooManySplits, IsCounted, IsJoinFault, IsJoined, inputs_of, left_out_from, no_verdict, pairs_of, splits_in, splits_told, verdict_at}
+use Rattle.mr_verdict.specs.Joined.{AreTooManySplits, GoTogether, IsCounted, IsJoinFault, IsJoined, inputs_of, left_out_from, no_verdict, pairs_of, splits_in, splits_told, verdict_at}
 use Rattle.mr_verdict.specs.Joining.{Follows, IsShardFault, IsTooFar}
 
 splits-append : (size : ℕ) (ns ms : List Note) → splits_told size (ns ++ ms) ≡ splits_told size ns + splits_told size ms
@@ -50,6 +49,22 @@ next vs i d less = let e : i + 1 ≡ suc i = omega arith in ap (λ k. take k vs)
 pub record IsJoinedTo (request : RequestSpec) (vs : List Told) (m : Told) (splits : ℕ) : Type 0 where
   pub joined : IsJoined request vs m
   pub splits_are : splits ≡ splits_told request.split (inputs_of vs)
+  pub few : splits < 2 ^ 64
+  pub fit : m.pairs < 2 ^ 64
+  pub near : AllByRecursion (λ n. n.split < 2 ^ 32) m.left_out
+
+-- what is joined so far goes together
+together : (request : RequestSpec) (vs : List Told) (m : Told) (splits : ℕ) → IsJoinedTo request vs m splits → GoTogether request vs
+together request vs m splits was = record {
+  alike = was.joined.alike;
+  splits = omega (arith, was.splits_are, was.few);
+  pairs = omega (arith, was.joined.pairs_are, was.fit);
+  near = subst (AllByRecursion (λ n. n.split < 2 ^ 32)) was.joined.left_out_is was.near;
+}
+
+all-both : {X : Type 0} (P : X → Type 0) (xs ys : List X) → AllByRecursion P xs → AllByRecursion P ys → AllByRecursion P (xs ++ ys)
+all-both P [] ys h k = k
+all-both P (x ∷ xs) ys h k = (h.0, all-both P xs ys h.1 k)
 
 asks-same : (request : RequestSpec) (old new : Told) → (old.job ≡ new.job) × (old.flags ≡ new.flags) × (old.literal ≡ new.literal) × (old.parts ≡ new.parts) × (old.split ≡ new.split)
     → Asks old request → Asks new request
@@ -74,40 +89,65 @@ joined-step request vs i d old new before after less was f =
         pairs_are = (let e = pairs-more xs (v ∷ []) in omega (arith, f.pairs_are, was.joined.pairs_are, e));
       };
       splits_are = (let e = ap (splits_told request.split) told ∙ splits-append request.split (inputs_of xs) v.inputs in omega (arith, f.splits_are, was.splits_are, e));
+      few = f.few;
+      fit = f.fit;
+      near = subst (AllByRecursion (λ n. n.split < 2 ^ 32)) (sym f.left_out_is) (all-both (λ n. n.split < 2 ^ 32) old.left_out (map (moved_name before) v.left_out) was.near f.near);
     })
 
 at-of : (vs : List Told) (i : ℕ) (d : Told) (at : ℕ) → i < length vs → at ≡ i → get_or vs i d ≡ get_or vs at no_verdict
 at-of vs i d at less e = get_or_default vs i d no_verdict less ∙ ap (λ k. get_or vs k no_verdict) (sym e)
 
--- the pairs of the first are no more than those of all
-pairs-first : (vs : List Told) (k : ℕ) → pairs_of (take k vs) ≤ pairs_of vs
-pairs-first vs k =
-    let e = ap pairs_of (take-append-drop k vs) in
-    omega (arith, e, pairs-more (take k vs) (drop k vs))
-
 too_far : (before : ℕ) (names : List RecordName) (n : ℕ) → before ≡ n → IsTooFar before names → (name : RecordName) × Has names name × (2 ^ 32 ≤ n + name.split)
 too_far before names n e far = (far.0, far.1, omega (arith, e, far.2))
 
+-- the splits and the pairs with those of one more
+splits-with : (request : RequestSpec) (vs : List Told) (i : ℕ) (d old : Told) (before : ℕ) → i < length vs → IsJoinedTo request (take i vs) old before
+    → splits_told request.split (inputs_of (take (i + 1) vs)) ≡ before + splits_told request.split (get_or vs i d).inputs
+splits-with request vs i d old before less was =
+    let e = ap (λ l. splits_told request.split (inputs_of l)) (next vs i d less)
+    ∙ ap (splits_told request.split) (inputs-more (take i vs) (get_or vs i d))
+    ∙ splits-append request.split (inputs_of (take i vs)) (get_or vs i d).inputs in
+    omega (arith, e, was.splits_are)
+
+pairs-with : (request : RequestSpec) (vs : List Told) (i : ℕ) (d old : Told) (before : ℕ) → i < length vs → IsJoinedTo request (take i vs) old before
+    → pairs_of (take (i + 1) vs) ≡ old.pairs + (get_or vs i d).pairs
+pairs-with request vs i d old before less was =
+    let e = ap pairs_of (next vs i d less) ∙ pairs-more (take i vs) (get_or vs i d ∷ []) in
+    omega (arith, e, was.joined.pairs_are)
+
 pub joined-fault : (request : RequestSpec) (vs : List Told) (i : ℕ) (d old : Told) (before : ℕ) (e : JoinFault) → i < length vs
     → IsJoinedTo request (take i vs) old before → IsShardFault request old (get_or vs i d) i before e → IsJoinFault request vs e
-joined-fault request vs i d old before (OtherRequest at) less was h =
-    (omega (arith, h.0, less), λ a. h.1 (subst (λ (v : Told). Asks v request) (sym (at-of vs i d at less h.0)) a))
-joined-fault request vs i d old before (TooManySplits at) less was h = (omega (arith, h.0, less), by h.1)
+joined-fault request vs i d old before (OtherRequest at) less was h = (
+  omega (arith, h.0, less),
+  subst (λ k. GoTogether request (take k vs)) (sym h.0) (together request (take i vs) old before was),
+  λ a. h.1 (subst (λ (v : Told). Asks v request) (sym (at-of vs i d at less h.0)) a),
+)
+joined-fault request vs i d old before (TooManySplits at) less was h = (
+  omega (arith, h.0, less),
+  subst (λ k. GoTogether request (take k vs)) (sym h.0) (together request (take i vs) old before was),
+  subst (λ (v : Told). Asks v request) (at-of vs i d at less h.0) h.1,
+  by h.2,
+)
   where
-    by : (2 ^ 64 ≤ before + splits_told request.split (get_or vs i d).inputs) ⊎ IsTooFar before (get_or vs i d).left_out → AreTooManySplits request.split vs at
+    by : (2 ^ 64 ≤ before + splits_told request.split (get_or vs i d).inputs) ⊎ ((old.pairs + (get_or vs i d).pairs < 2 ^ 64) × IsTooFar before (get_or vs i d).left_out) → AreTooManySplits request.split vs at
     by (inl many) =
-        let e = ap (λ k. splits_told request.split (inputs_of (take (k + 1) vs))) h.0
-        ∙ ap (λ l. splits_told request.split (inputs_of l)) (next vs i d less)
-        ∙ ap (splits_told request.split) (inputs-more (take i vs) (get_or vs i d))
-        ∙ splits-append request.split (inputs_of (take i vs)) (get_or vs i d).inputs in
-        inl (omega (arith, many, was.splits_are, e))
+        let e = ap (λ k. splits_told request.split (inputs_of (take (k + 1) vs))) h.0 in
+        inl (omega (arith, many, e, splits-with request vs i d old before less was))
     by (inr far) =
+        let fit = ap (λ k. pairs_of (take (k + 1) vs)) h.0 in
         let e : before ≡ splits_told request.split (inputs_of (take at vs)) = was.splits_are ∙ ap (λ k. splits_told request.split (inputs_of (take k vs))) (sym h.0) in
-        inr (too_far before (verdict_at vs at).left_out (splits_told request.split (inputs_of (take at vs))) e
-        (subst (λ (v : Told). IsTooFar before v.left_out) (at-of vs i d at less h.0) far))
-joined-fault request vs i d old before TooManyPairs less was h =
-    let e = ap pairs_of (next vs i d less) ∙ pairs-more (take i vs) (get_or vs i d ∷ []) in
-    omega (arith, h, was.joined.pairs_are, e, pairs-first vs (i + 1))
+        inr (
+          omega (arith, far.0, fit, pairs-with request vs i d old before less was),
+          too_far before (verdict_at vs at).left_out (splits_told request.split (inputs_of (take at vs))) e
+              (subst (λ (v : Told). IsTooFar before v.left_out) (at-of vs i d at less h.0) far.1),
+        )
+joined-fault request vs i d old before TooManyPairs less was h = (
+  i,
+  less,
+  together request (take i vs) old before was,
+  subst (λ (v : Told). Asks v request) (at-of vs i d i less refl) h.0,
+  (omega (arith, h.1, splits-with request vs i d old before less was), omega (arith, h.2, pairs-with request vs i d old before less was)),
+)
 joined-fault request vs i d old before OutOfMemory less was h = tt
 
 -- ---- splits of a file

@@ -56,9 +56,9 @@ pub record IsJoined (request : RequestSpec) (vs : List Told) (m : Told) : Type 0
 abbrev pub AreOnce : List Note → Type 0
 AreOnce notes = Distinct (map (λ n. n.name) notes)
 
--- the names of the inputs before that number, and the name of that number
+-- the names of the inputs before that number differ, and one of them is the name of that number
 abbrev pub IsRepeated : List Note → ℕ → Type 0
-IsRepeated notes at = (at < length notes) × Has (map (λ n. n.name) (take at notes)) (slice_index_or (map (λ n. n.name) notes) at [])
+IsRepeated notes at = (at < length notes) × AreOnce (take at notes) × Has (map (λ n. n.name) (take at notes)) (slice_index_or (map (λ n. n.name) notes) at [])
 
 -- ---- refusals
 
@@ -68,16 +68,31 @@ no_verdict = record { job = 0; flags = 0; literal = []; parts = 0; split = 0; in
 abbrev pub verdict_at : List Told → ℕ → Told
 verdict_at vs i = slice_index_or vs i no_verdict
 
--- the splits of the first verdicts don't fit in 64 bits, or a left-out record's moved split not in 32
+-- nothing is wrong with these: they are about the request, their splits and pairs fit in 64 bits, and the moved splits of
+-- their left-out records in 32
+pub record GoTogether (request : RequestSpec) (vs : List Told) : Type 0 where
+  pub alike : AllByRecursion (λ v. Asks v request) vs
+  pub splits : splits_told request.split (inputs_of vs) < 2 ^ 64
+  pub pairs : pairs_of vs < 2 ^ 64
+  pub near : AllByRecursion (λ n. n.split < 2 ^ 32) (left_out_from request.split 0 vs)
+
+-- the splits of the first verdicts don't fit in 64 bits; or their pairs do, and a left-out record's moved split doesn't in 32
 abbrev pub AreTooManySplits : ℕ → List Told → ℕ → Type 0
 AreTooManySplits size vs shard = (2 ^ 64 ≤ splits_told size (inputs_of (take (shard + 1) vs)))
-    ⊎ ((name : RecordName) × Has (verdict_at vs shard).left_out name × (2 ^ 32 ≤ splits_told size (inputs_of (take shard vs)) + name.split))
+    ⊎ ((pairs_of (take (shard + 1) vs) < 2 ^ 64)
+    × ((name : RecordName) × Has (verdict_at vs shard).left_out name × (2 ^ 32 ≤ splits_told size (inputs_of (take shard vs)) + name.split)))
 
--- a verdict is about another request, split numbers don't fit, or the pairs of all don't fit in 64 bits
+-- the splits of the first verdicts fit in 64 bits, and their pairs don't
+abbrev pub AreTooManyPairs : ℕ → List Told → ℕ → Type 0
+AreTooManyPairs size vs shard = (splits_told size (inputs_of (take (shard + 1) vs)) < 2 ^ 64) × (2 ^ 64 ≤ pairs_of (take (shard + 1) vs))
+
+-- nothing is wrong with the verdicts before; this one is about another request, or splits or pairs don't fit with its own
 abbrev pub IsJoinFault : RequestSpec → List Told → JoinFault → Type 0
-IsJoinFault request vs (OtherRequest shard) = (shard < length vs) × (Asks (verdict_at vs shard) request → ⊥)
-IsJoinFault request vs (TooManySplits shard) = (shard < length vs) × AreTooManySplits request.split vs shard
-IsJoinFault request vs TooManyPairs = 2 ^ 64 ≤ pairs_of vs
+IsJoinFault request vs (OtherRequest shard) = (shard < length vs) × GoTogether request (take shard vs) × (Asks (verdict_at vs shard) request → ⊥)
+IsJoinFault request vs (TooManySplits shard) =
+    (shard < length vs) × GoTogether request (take shard vs) × Asks (verdict_at vs shard) request × AreTooManySplits request.split vs shard
+IsJoinFault request vs TooManyPairs =
+    (shard : ℕ) × (shard < length vs) × GoTogether request (take shard vs) × Asks (verdict_at vs shard) request × AreTooManyPairs request.split vs shard
 IsJoinFault request vs OutOfMemory = Unit {0}
 
 -- ---- what the joined verdict is true of

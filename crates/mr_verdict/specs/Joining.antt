@@ -1,5 +1,6 @@
 -- How verdicts are joined one after another.
-use Rattle.std.specs.Prelude.{◌≡◌, ◌⊎◌, ℕ, ◌+◌, ◌≤◌, ◌^◌, List, ◌++◌, map}
+use Rattle.std.specs.Prelude.{◌≡◌, ◌⊎◌, ℕ, ◌+◌, ◌<◌, ◌≤◌, ◌^◌, List, ◌++◌, map}
+use Rattle.std.specs.List.{AllByRecursion}
 use Rattle.mr_bytes.specs.declared.RecordName.{RecordName}
 use Rattle.mr_bytes.specs.Lists.{Has}
 use Rattle.mr_jobs.specs.JobSpec.{RequestSpec}
@@ -23,6 +24,9 @@ pub record Follows (request : RequestSpec) (old new v : Told) (before after : �
   pub left_out_is : new.left_out ≡ old.left_out ++ map (moved_name before) v.left_out
   pub pairs_are : new.pairs ≡ old.pairs + v.pairs
   pub splits_are : after ≡ before + splits_told request.split v.inputs
+  pub few : after < 2 ^ 64
+  pub fit : new.pairs < 2 ^ 64
+  pub near : AllByRecursion (λ n. n.split < 2 ^ 32) (map (moved_name before) v.left_out)
 
 -- a left-out record's split does not fit in 32 bits behind so many splits
 abbrev pub IsTooFar : ℕ → List RecordName → Type 0
@@ -31,6 +35,8 @@ IsTooFar before names = (name : RecordName) × Has names name × (2 ^ 32 ≤ bef
 -- why one verdict does not go in
 abbrev pub IsShardFault : RequestSpec → Told → Told → ℕ → ℕ → JoinFault → Type 0
 IsShardFault request old v shard before (OtherRequest at) = (at ≡ shard) × (Asks v request → ⊥)
-IsShardFault request old v shard before (TooManySplits at) = (at ≡ shard) × ((2 ^ 64 ≤ before + splits_told request.split v.inputs) ⊎ IsTooFar before v.left_out)
-IsShardFault request old v shard before TooManyPairs = 2 ^ 64 ≤ old.pairs + v.pairs
+IsShardFault request old v shard before (TooManySplits at) = (at ≡ shard) × Asks v request
+    × ((2 ^ 64 ≤ before + splits_told request.split v.inputs) ⊎ ((old.pairs + v.pairs < 2 ^ 64) × IsTooFar before v.left_out))
+IsShardFault request old v shard before TooManyPairs =
+    Asks v request × (before + splits_told request.split v.inputs < 2 ^ 64) × (2 ^ 64 ≤ old.pairs + v.pairs)
 IsShardFault request old v shard before OutOfMemory = Unit {0}

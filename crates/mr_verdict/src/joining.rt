@@ -97,6 +97,7 @@ enum Unmoved {
 /// Adds a record behind so many splits.
 fn add_name(names: &mut Vec<RecordName>, name: RecordName, splits: u64) -> Result<(), Unmoved>
     ensures ok { OnOk result (names.new.items ≡ names.old.items ++ moved_name splits name ∷ []) }
+    ensures near { OnOk result ((moved_name splits name).split < 2 ^ 32) }
     ensures far { result ≡ Err Unmoved.TooFar → 2 ^ 32 ≤ splits + name.split }
 {
     let Some(name) = moved(name, splits) else {
@@ -111,6 +112,7 @@ fn add_name(names: &mut Vec<RecordName>, name: RecordName, splits: u64) -> Resul
 /// Adds records behind so many splits.
 fn add_names(names: &mut Vec<RecordName>, more: &[RecordName], splits: u64) -> Result<(), Unmoved>
     ensures ok { OnOk result (names.new.items ≡ names.old.items ++ map (moved_name splits) more.now) }
+    ensures near { OnOk result (AllByRecursion (λ n. n.split < 2 ^ 32) (map (moved_name splits) more.now)) }
     ensures far { result ≡ Err Unmoved.TooFar → IsTooFar splits more.now }
 {
     for name in more {

@@ -17,18 +17,19 @@ returns-in_err-input-clause-refused g c =
     let p = err_from_is_err_and c.from_residual-in_err-input.result c.from_residual-in_err-input.ensures.1 in
     let o = c.args.asked.now in
     let a = asked o.options c.in_ok-request.request c.in_ok-request.ensures.other c.in_ok-request.ensures.within in
-    rw p.1 (rw p.2 (work_input_stage (g.S.Store.holds c.args.store.now) (g.S.Store.unreadable c.args.store.now) o c.in_ok-skips.skips.items (map (λ s. s.now) c.as_slice.result.now) c.in_ok-request.request c.in_err-input.field-0.0 (ap (map (λ s. s.now)) c.as_slice.ensures.value) c.in_ok-request.ensures.request a c.in_ok-skips.ensures.ok c.in_err-input.ensures.refused))
+    rw p.1 (rw p.2 (work_input_stage (g.S.Store.holds c.args.store.now) (g.S.Store.unreadable c.args.store.now) (g.S.Store.known_as c.args.store.now) o c.in_ok-skips.skips.items c.in_ok-request.request c.in_err-input.field-0.0 c.in_ok-request.ensures.request a c.in_ok-skips.ensures.ok c.in_err-input.ensures.refused))
 
 pub returns-clause-work : goal.returns-clause-work
 returns-clause-work g c =
     let holds = g.S.Store.holds c.args.store.now in
+    let known = g.S.Store.known_as c.args.store.now in
     let o = c.args.asked.now in
     let request = c.in_ok-request.request in
     let files = c.in_ok-input.input in
-    let skips = c.as_slice-2.result.now in
+    let skips = c.as_slice.result.now in
     both_ok c.worked.result (λ w. (version : Version) (bytes : List ℕ) → SpellsIn version bytes w.certificate → IsSequentialResult version request files skips (contents w.outputs.items) bytes) (λ w. string_bytes w.line ≡ done_line request.parts (length (emitted request.job request.split files skips)) (length skips))
-    (λ w. (bytes : List ℕ) → SpellsIn o.version bytes w.certificate → WorksOut holds o (contents w.outputs.items) bytes (string_bytes w.line))
-    (λ w h l bytes s. works_out holds o skips (map (λ s. s.now) c.as_slice.result.now) files (contents w.outputs.items) bytes (string_bytes w.line) request (ap (map (λ s. s.now)) c.as_slice.ensures.value) c.in_ok-request.ensures.request (rw c.as_slice-2.ensures.value c.in_ok-skips.ensures.ok) c.in_ok-input.ensures.input (h o.version bytes s) l)
+    (λ w. (bytes : List ℕ) → SpellsIn o.version bytes w.certificate → WorksOut holds known o (contents w.outputs.items) bytes (string_bytes w.line))
+    (λ w h l bytes s. works_out holds known o skips files (contents w.outputs.items) bytes (string_bytes w.line) request c.in_ok-request.ensures.request (rw c.as_slice.ensures.value c.in_ok-skips.ensures.ok) c.in_ok-input.ensures.input c.in_ok-input.ensures.apart (h o.version bytes s) l)
     c.worked.ensures.result c.worked.ensures.line
 
 pub returns-clause-can : goal.returns-clause-can
@@ -39,12 +40,13 @@ returns-clause-can g c =
 pub returns-clause-refused : goal.returns-clause-refused
 returns-clause-refused g c =
     let holds = g.S.Store.holds c.args.store.now in
+    let known = g.S.Store.known_as c.args.store.now in
     let unreadable = g.S.Store.unreadable c.args.store.now in
     let o = c.args.asked.now in
     let request = c.in_ok-request.request in
     let files = c.in_ok-input.input in
-    let skips = c.as_slice-2.result.now in
+    let skips = c.as_slice.result.now in
     let a = asked o.options c.in_ok-request.request c.in_ok-request.ensures.other c.in_ok-request.ensures.within in
-    IfErr-weaker c.worked.result (λ e. IsRunRefusal request files skips e) (λ e. IsWorkRefusal holds unreadable o e)
-    (λ e h. work_run_stage holds unreadable o skips (map (λ s. s.now) c.as_slice.result.now) files request e (ap (map (λ s. s.now)) c.as_slice.ensures.value) c.in_ok-request.ensures.request a (rw c.as_slice-2.ensures.value c.in_ok-skips.ensures.ok) c.in_ok-input.ensures.input h)
+    IfErr-weaker c.worked.result (λ e. IsRunRefusal request files skips e) (λ e. IsWorkRefusal holds unreadable known o e)
+    (λ e h. work_run_stage holds unreadable known o skips files request e c.in_ok-request.ensures.request a (rw c.as_slice.ensures.value c.in_ok-skips.ensures.ok) c.in_ok-input.ensures.input c.in_ok-input.ensures.apart h)
     c.worked.ensures.refused

@@ -1,7 +1,7 @@
 use Rattle.std.proofs.Common.{map, ap}
 use Rattle.std.proofs.lemmas.Result.{err_from_is_err_and, IfOk-weaker}
 use Rattle.mr_pool.specs.Outcomes.{run_shape}
-use Rattle.mr_commands.specs.Runs.{IsEnding, Runs}
+use Rattle.mr_commands.specs.Runs.{AreGood, IsEnding, Runs}
 use Rattle.mr_judging.proofs.Refused.{asked}
 use Rattle.mr_commands.proofs.Kept.{script_stage, input_stage, runs}
 use Rattle.mr_commands.proofs.running.executed.Goals as goal
@@ -10,25 +10,34 @@ pub returns-in_err-script-clause-refused : goal.returns-in_err-script-clause-ref
 returns-in_err-script-clause-refused g c =
     let p = err_from_is_err_and c.from_residual-in_err-script.result c.from_residual-in_err-script.ensures.1 in
     let o = c.args.asked.now in
-    let a = asked o.options c.in_ok-request.request c.in_ok-request.ensures.other c.in_ok-request.ensures.within in
-    rw p.1 (rw p.2 (script_stage (g.S.Store.holds c.args.store.now) (g.S.Store.unreadable c.args.store.now) o c.in_err-script.field-0.0 a c.in_err-script.ensures.refused))
+    let good : AreGood o = record {
+      job = asked o.options c.in_ok-request.request c.in_ok-request.ensures.other c.in_ok-request.ensures.within;
+      workers = c.in_ok-expect_crew.ensures.workers;
+      attempts = c.in_ok-expect_crew.ensures.attempts;
+    } in
+    rw p.1 (rw p.2 (script_stage (g.S.Store.holds c.args.store.now) (g.S.Store.unreadable c.args.store.now) (g.S.Store.known_as c.args.store.now) o c.in_err-script.field-0.0 good c.in_err-script.ensures.refused))
 
 pub returns-in_err-input-clause-refused : goal.returns-in_err-input-clause-refused
 returns-in_err-input-clause-refused g c =
     let p = err_from_is_err_and c.from_residual-in_err-input.result c.from_residual-in_err-input.ensures.1 in
     let o = c.args.asked.now in
-    let a = asked o.options c.in_ok-request.request c.in_ok-request.ensures.other c.in_ok-request.ensures.within in
-    rw p.1 (rw p.2 (input_stage (g.S.Store.holds c.args.store.now) (g.S.Store.unreadable c.args.store.now) o c.in_ok-script.script (map (λ s. s.now) c.as_slice.result.now) c.in_ok-request.request c.in_err-input.field-0.0
-    (ap (map (λ s. s.now)) c.as_slice.ensures.value) c.in_ok-request.ensures.request a c.in_ok-script.ensures.script c.in_err-input.ensures.refused))
+    let good : AreGood o = record {
+      job = asked o.options c.in_ok-request.request c.in_ok-request.ensures.other c.in_ok-request.ensures.within;
+      workers = c.in_ok-expect_crew.ensures.workers;
+      attempts = c.in_ok-expect_crew.ensures.attempts;
+    } in
+    rw p.1 (rw p.2 (input_stage (g.S.Store.holds c.args.store.now) (g.S.Store.unreadable c.args.store.now) (g.S.Store.known_as c.args.store.now) o c.in_ok-script.script c.in_ok-request.request c.in_err-input.field-0.0
+    c.in_ok-request.ensures.request good c.in_ok-script.ensures.script c.in_err-input.ensures.refused))
 
 pub returns-clause-runs : goal.returns-clause-runs
 returns-clause-runs g c =
     let holds = g.S.Store.holds c.args.store.now in
+    let known = g.S.Store.known_as c.args.store.now in
     let o = c.args.asked.now in
     let request = c.in_ok-request.request in
     let files = c.in_ok-input.input in
     let script = c.in_ok-script.script in
-    IfOk-weaker c.ended.result (λ ran. IsEnding request files script (run_shape request files o.workers o.attempts) o.version ran) (λ ran. Runs holds o ran)
-    (λ ran h. runs holds (g.S.Store.unreadable c.args.store.now) o script (map (λ s. s.now) c.as_slice.result.now) files request ran
-    (ap (map (λ s. s.now)) c.as_slice.ensures.value) c.in_ok-request.ensures.request c.in_ok-script.ensures.script c.in_ok-input.ensures.input h)
+    IfOk-weaker c.ended.result (λ ran. IsEnding request files script (run_shape request files o.workers o.attempts) o.version ran) (λ ran. Runs holds known o ran)
+    (λ ran h. runs holds (g.S.Store.unreadable c.args.store.now) known o script files request ran
+    c.in_ok-request.ensures.request c.in_ok-script.ensures.script c.in_ok-input.ensures.input c.in_ok-input.ensures.apart h)
     c.ended.ensures.ends

@@ -1,12 +1,14 @@
 use Rattle.std.proofs.Common.{ap, sym, ◌∙◌, subst}
 use Rattle.std.specs.Prelude.{OnOk}
+use Rattle.mr_input.specs.Files.{contents}
 use Rattle.mr_certform.specs.Value.{Spells}
 use Rattle.mr_core.specs.declared.event.Shape.{Shape}
+use Rattle.mr_sequential.specs.Good.{IsGoodResult}
 use Rattle.mr_assembled.specs.Assembled.{assembled_certificate, assembled_outputs}
 use Rattle.mr_book.specs.Assembling.{reduced_under}
-use Rattle.mr_pool.specs.Outcomes.{CanBeSpelled, IsHistory}
+use Rattle.mr_pool.specs.Outcomes.{IsHistory}
 use Rattle.mr_pool.proofs.Closed.{is_history}
-use Rattle.mr_pool.proofs.Versions.{yes_in_version}
+use Rattle.mr_pool.proofs.Versions.{good_in_version}
 use Rattle.mr_pool.proofs.running.assembled.Goals as goal
 
 pub answered-requires-clause-done : goal.answered-requires-clause-done
@@ -30,6 +32,11 @@ answered-requires-clause-version g c =
     let b = c.args.book in
     let made = c.in_ok-outputs.ensures in
     let judged = c.judged_by_all-judged.result in
-    let can = subst (λ bytes. OnOk judged (CanBeSpelled bytes)) c.as_slice-2.ensures.value c.judged_by_all-judged.ensures.version in
-    yes_in_version c.args.version c.in_ok-outputs.certificate.items
-    (assembled_certificate c.args.terms.request.now c.args.terms.input.now (reduced_under b.reduces) b.state) judged made.certificate made.version can
+    let request = c.args.terms.request.now in
+    let files = c.args.terms.input.now in
+    let good =
+    subst (λ outs. OnOk judged (IsGoodResult request files (contents outs) c.in_ok-outputs.certificate.items)) c.as_slice.ensures.value
+    (subst (λ bytes. OnOk judged (IsGoodResult request files (contents c.as_slice.result.now) bytes)) c.as_slice-2.ensures.value
+    c.judged_by_all-judged.ensures.good) in
+    good_in_version c.args.version request files (contents c.in_ok-outputs.outputs.items) c.in_ok-outputs.certificate.items
+    (assembled_certificate request files (reduced_under b.reduces) b.state) judged made.certificate made.version good

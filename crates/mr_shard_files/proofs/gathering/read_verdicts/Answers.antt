@@ -7,7 +7,7 @@ use Rattle.mr_shard_files.proofs.gathering.read_verdicts.Goals as goal
 pub returns-in_err-verdict-clause-err : goal.returns-in_err-verdict-clause-err
 returns-in_err-verdict-clause-err g c =
     let p = err_from_is_err_and c.from_residual.result c.from_residual.ensures.1 in
-    rw p.1 (rw p.2 (unheard_at (λ s. s.now) (g.S.Store.holds c.args.store.now) (g.S.Store.unreadable c.args.store.now) c.args.names.now c.loop-shard.shard _ c.in_err-verdict.field-0.0 c.loop-shard-test.true c.in_err-verdict.ensures.err))
+    rw p.1 (rw p.2 (unheard_at (λ s. s.now) (g.S.Store.holds c.args.store.now) (g.S.Store.unreadable c.args.store.now) c.args.names.now c.loop-shard.shard _ c.loop-shard.verdicts.items c.in_err-verdict.field-0.0 c.loop-shard-test.true c.loop-shard.invariant c.in_err-verdict.ensures.err))
 
 pub loop-shard-preserved : goal.loop-shard-preserved
 loop-shard-preserved g c =

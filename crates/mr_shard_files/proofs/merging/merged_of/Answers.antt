@@ -26,9 +26,9 @@ returns-in_err-notes-clause-refused g c =
     rw p.1 (rw p.2 (inr (record {
       verdicts = c.args.verdicts.now;
       request = c.in_ok-request.request;
+      joined = c.in_ok-request.joined;
       held = c.requires;
-      asks = k.asks;
-      apart = k.apart;
+      ready = k;
       why = inl c.in_err-notes.ensures.err;
     })))
 
@@ -55,7 +55,7 @@ returns-in_err-put_told-clause-refused g c =
     let same : length names ≡ length vs = held_count (holds c.args.store.now) names (map spelling vs) c.requires ∙ length-map vs spelling in
     let mid = holds c.partitions_written.new.store in
     let new = holds c.put_told.new.store in
-    rw p.1 (rw p.2 (inr (unnamed (holds c.args.store.now) mid new names list dir vs vs c.in_ok-request.request c.in_ok-request.joined c.in_ok-notes.notes.items (g.S.Store.unreadable c.args.store.now) (g.S.Store.unwritable c.args.store.now) (g.S.Store.unwritable c.partitions_written.new.store) c.in_err-put_told.field-0.0
+    rw p.1 (rw p.2 (inr (unnamed (holds c.args.store.now) mid new (g.S.Store.known_as c.args.store.now) names list dir vs vs c.in_ok-request.request c.in_ok-request.joined c.in_ok-notes.notes.items (g.S.Store.unreadable c.args.store.now) (g.S.Store.unwritable c.args.store.now) (g.S.Store.unwritable c.partitions_written.new.store) c.in_err-put_told.field-0.0
     refl c.requires same c.in_ok-request.ensures.ok c.in_ok-notes.ensures.ok c.in_err-put_told.ensures.others (subst (λ v. Begins mid new (name_of_verdict dir) (spelling v)) c.noted-merged.ensures c.in_err-put_told.ensures.begins) c.in_ok-notes.ensures.still c.in_err-put_told.ensures.err)))
 
 pub returns-clause-ok : goal.returns-clause-ok
@@ -68,5 +68,5 @@ returns-clause-ok g c =
     let same : length names ≡ length vs = held_count (holds c.args.store.now) names (map spelling vs) c.requires ∙ length-map vs spelling in
     let mid = holds c.partitions_written.new.store in
     let new = holds c.put_told.new.store in
-    rw c.noted-merged.ensures (named (holds c.args.store.now) mid new names list dir vs vs c.in_ok-request.request c.in_ok-request.joined c.in_ok-notes.notes.items (spelling c.noted-merged.result)
+    rw c.noted-merged.ensures (named (holds c.args.store.now) mid new (g.S.Store.known_as c.args.store.now) names list dir vs vs c.in_ok-request.request c.in_ok-request.joined c.in_ok-notes.notes.items (spelling c.noted-merged.result)
     refl (ap spelling c.noted-merged.ensures) c.requires same c.in_ok-request.ensures.ok c.in_ok-notes.ensures.ok c.in_ok-put_told.ensures.others c.in_ok-put_told.ensures.whole)

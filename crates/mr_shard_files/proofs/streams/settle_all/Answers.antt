@@ -1,10 +1,10 @@
-use Rattle.std.proofs.Common.{◌≡◌, ◌+◌, ◌<◌, ◌∙◌, suc, get_or, length, subst, refl, sym, string_bytes, arith}
+use Rattle.std.proofs.Common.{◌≡◌, ◌+◌, ◌<◌, ◌∙◌, suc, get_or, length, take, subst, refl, sym, string_bytes, arith}
 use Rattle.std.proofs.lemmas.List.{get_or_default}
 use Rattle.std.proofs.lemmas.Result.{err_from_is_err_and}
 use Rattle.std.proofs.Math.ListN.{set}
 use Rattle.mr_verdict.specs.Joined.{no_verdict, verdict_at}
 use Rattle.mr_shard_files.specs.Streams.{IsOther, IsSettled, TellsUnread}
-use Rattle.mr_shard_files.proofs.AllLemmas.{KeptTo, kept_all, kept_more, kept_same}
+use Rattle.mr_shard_files.proofs.AllLemmas.{KeptTo, kept_all, kept_first, kept_more, kept_same}
 use Rattle.mr_shard_files.proofs.SettleLemmas.{is_other, is_settled, unsettled_unread}
 use Rattle.mr_shard_files.proofs.streams.settle_all.Goals as goal
 
@@ -31,7 +31,8 @@ returns-then-not-branch-clause-err g c =
     let same = kept_same (IsSettled remaining can_fail c.args.partition) i vs c.args.parts.now c.loop-shard.parts d c.loop-shard.invariant in
     let verdict : w ≡ verdict_at vs i = c.index-verdicts-shard.is ∙ get_or_default vs i w no_verdict less in
     let other = is_other remaining can_fail c.args.partition w c.in_ok-settle.field-0 (get_or c.loop-shard.parts i d) c.settle.new.part c.if-not-branch.true c.in_ok-settle.ensures.ends in
-    (refl, (i, d, c.loop-shard-test.true, (refl, subst (λ v. IsOther remaining can_fail c.args.partition v (get_or c.args.parts.now i d)) verdict (subst (IsOther remaining can_fail c.args.partition w) same other))))
+    let before = kept_first (IsSettled remaining can_fail c.args.partition) i vs c.args.parts.now c.loop-shard.parts c.loop-shard.invariant in
+    (refl, (i, d, c.loop-shard-test.true, (refl, subst (λ v. IsOther remaining can_fail c.args.partition v (get_or c.args.parts.now i d)) verdict (subst (IsOther remaining can_fail c.args.partition w) same other))), (take i c.loop-shard.parts, before))
 
 pub loop-shard-preserved : goal.loop-shard-preserved
 loop-shard-preserved g c =

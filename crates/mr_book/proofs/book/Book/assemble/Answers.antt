@@ -1,19 +1,14 @@
 use Rattle.std.proofs.Common.{◌≡◌, ℕ, ◌≤◌, List, length, ap, sym, ◌∙◌, subst, arith}
 use Rattle.std.proofs.lemmas.List.{length-map}
 use Rattle.mr_input.specs.Files.{contents}
-use Rattle.mr_jobs.specs.JobSpec.{RequestSpec}
 use Rattle.mr_sequential.specs.Good.{IsGood}
-use Rattle.std.specs.Prelude.{Some}
-use Rattle.mr_core.specs.declared.event.End.{End}
 use Rattle.mr_core.specs.Core.{CoreView, InLimits}
-use Rattle.mr_assembled.specs.Faithful.{IsFaithful, IsOpenedFor}
-use Rattle.mr_book.specs.View.{BookView, IsKept}
 use Rattle.mr_task.specs.Values.{Reduced}
 use Rattle.mr_assembled.specs.Assembled.{assembled_outputs, committed_values, records_from}
-use Rattle.mr_assembled.specs.Laws.{IsDone}
 use Rattle.mr_assembled.proofs.Done.{done_is_good, done_sets_are_fixed}
 use Rattle.mr_book.specs.Assembling.{Gathering, reduced_under, sets_of}
 use Rattle.mr_book.proofs.Assemblies.{parts_count, few_left_out}
+use Rattle.mr_book.proofs.Faithful.{is_done}
 use Rattle.mr_book.proofs.book.Book.assemble.Goals as goal
 
 pub of-requires-clause-files : goal.of-requires-clause-files
@@ -62,19 +57,6 @@ returns-clause-certificate g c =
       skips = skips i;
       groups = groups i;
     })
-
--- what faithful workers did
-is_done : (request : RequestSpec) (files : List (List ℕ)) (b : BookView) → 1 ≤ request.split → InLimits b.shape → IsOpenedFor request files b.shape → IsKept b → b.state.end ≡ Some End.Done
-    → IsFaithful request files b.history b.state (reduced_under b.reduces) → IsDone request files b.shape b.history b.state (reduced_under b.reduces)
-is_done request files b split limits opened kept ends faithful = record {
-  split = omega (arith, split);
-  parts = limits.parts.0;
-  attempts = limits.attempts.0;
-  opened = opened;
-  run = kept.run;
-  ends = ends;
-  faithful = faithful;
-}
 
 pub returns-clause-good : goal.returns-clause-good
 returns-clause-good g c = λ faithful.

@@ -1,0 +1,98 @@
+//! The files of the result, apart from those that are read.
+ghost use Rattle.std.specs.Prelude.{◌≡◌, ◌++◌, ℕ, List, IfErr, IfOk, OnOk, map, option_map, string_bytes};
+ghost use Rattle.mr_files.specs.Folders.{IsFolderOf};
+ghost use Rattle.mr_files.specs.Names.{merged_names, part_names};
+ghost use Rattle.mr_shard_files.specs.Sharing.{AreBeside, AreRead, AreUnshared, IsShared, names_with};
+
+use crate::fault::ShardFault;
+use mr_files::{Store, add_names, first_shared, folder_of, part_name, verdict_name};
+use std::alloc::{AllocError, Global};
+
+/// Adds the names of the first so many parts in a folder.
+fn add_parts(
+    alloc: Global,
+    names: &mut Vec<String>,
+    folder: &str,
+    parts: usize,
+) -> Result<(), AllocError>
+    ensures { OnOk result (map string_bytes names.new.items ≡ map string_bytes names.old.items ++ part_names folder.now parts) }
+{
+    for part in 0..parts {
+        let name = part_name(alloc, folder, part)?;
+        names.push(name).map_err(AllocError::from)?;
+    }
+    Ok(())
+}
+
+/// The names of the parts that stand beside the verdicts.
+fn names_beside(alloc: Global, names: &[&str], parts: usize) -> Result<Vec<String>, AllocError>
+    ensures { IfOk result (λ all. AreBeside parts (map (λ s. s.now) names.now) (map string_bytes all.items)) }
+{
+    let mut all = Vec::new(alloc);
+    for shard in 0..names.len() {
+        add_parts(alloc, &mut all, folder_of(names[shard]), parts)?;
+    }
+    Ok(all)
+}
+
+/// Adds the names of verdicts, and that of the list, where one is named.
+fn add_told(
+    alloc: Global,
+    all: &mut Vec<String>,
+    names: &[&str],
+    list: Option<&str>,
+) -> Result<(), AllocError>
+    ensures { OnOk result (map string_bytes all.new.items ≡ map string_bytes all.old.items
+        ++ names_with (map (λ s. s.now) names.now) (option_map (λ n. n.now) list.entry)) }
+{
+    add_names(alloc, all, names)?;
+    match list {
+        Some(name) => add_names(alloc, all, &[name]),
+        None => Ok(()),
+    }
+}
+
+/// The names of all files that a merge reads.
+fn names_read(
+    alloc: Global,
+    names: &[&str],
+    list: Option<&str>,
+    parts: usize,
+) -> Result<Vec<String>, AllocError>
+    ensures { IfOk result (λ read. AreRead (map (λ s. s.now) names.now) (option_map (λ n. n.now) list.entry) parts (map string_bytes read.items)) }
+{
+    let mut read = names_beside(alloc, names, parts)?;
+    add_told(alloc, &mut read, names, list)?;
+    Ok(read)
+}
+
+/// The names of all files that a merge writes: the parts, and then the verdict.
+fn names_written(alloc: Global, out: &str, parts: usize) -> Result<Vec<String>, AllocError>
+    ensures { IfOk result (λ written. map string_bytes written.items ≡ merged_names out.now parts) }
+{
+    let mut written = Vec::new(alloc);
+    add_parts(alloc, &mut written, out, parts)?;
+    let last = verdict_name(alloc, out)?;
+    written.push(last).map_err(AllocError::from)?;
+    Ok(written)
+}
+
+/// No file that a merge writes is one that it reads, or one that it writes before.
+pub(crate) fn expect_unshared<S: Store>(
+    store: &S,
+    alloc: Global,
+    names: &[&str],
+    list: Option<&str>,
+    out: &str,
+    parts: u32,
+) -> Result<(), ShardFault>
+    ensures ok { OnOk result (AreUnshared (S.known_as store.now) (map (λ s. s.now) names.now) (option_map (λ n. n.now) list.entry) out.now parts) }
+    ensures err { IfErr result (IsShared (S.known_as store.now) (map (λ s. s.now) names.now) (option_map (λ n. n.now) list.entry) out.now parts) }
+{
+    let read = names_read(alloc, names, list, parts as usize)?;
+    let written = names_written(alloc, out, parts as usize)?;
+    match first_shared(store, alloc, read.as_slice(), written.as_slice())? {
+        Some(name) => Err(ShardFault::SameFile(name)),
+        None => Ok(()),
+    }
+}

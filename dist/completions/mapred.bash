@@ -1,0 +1,48 @@
+# Completions of mapred for bash, made from the help of its parser.
+_mapred() {
+    local word=${COMP_WORDS[COMP_CWORD]} before=${COMP_WORDS[COMP_CWORD - 1]}
+    COMPREPLY=()
+    if [ "$COMP_CWORD" = 1 ]; then
+        mapfile -t COMPREPLY < <(compgen -W 'seq run check merge help --help --version' -- "$word")
+        return
+    fi
+    case "${COMP_WORDS[1]} $before" in
+    'seq --job') mapfile -t COMPREPLY < <(compgen -W 'words grep url index' -- "$word") && return ;;
+    'seq --literal') return ;;
+    'seq --parts') return ;;
+    'seq --split') return ;;
+    'seq --max-skips') return ;;
+    'seq --out') mapfile -t COMPREPLY < <(compgen -d -- "$word") && return ;;
+    'seq --skips') mapfile -t COMPREPLY < <(compgen -f -- "$word") && return ;;
+    'seq --cert') return ;;
+    'run --job') mapfile -t COMPREPLY < <(compgen -W 'words grep url index' -- "$word") && return ;;
+    'run --literal') return ;;
+    'run --parts') return ;;
+    'run --split') return ;;
+    'run --max-skips') return ;;
+    'run --out') mapfile -t COMPREPLY < <(compgen -d -- "$word") && return ;;
+    'run --workers') return ;;
+    'run --attempts') return ;;
+    'run --script') mapfile -t COMPREPLY < <(compgen -f -- "$word") && return ;;
+    'run --history') mapfile -t COMPREPLY < <(compgen -f -- "$word") && return ;;
+    'run --cert') return ;;
+    'check --job') mapfile -t COMPREPLY < <(compgen -W 'words grep url index' -- "$word") && return ;;
+    'check --literal') return ;;
+    'check --parts') return ;;
+    'check --split') return ;;
+    'check --max-skips') return ;;
+    'check --out') mapfile -t COMPREPLY < <(compgen -d -- "$word") && return ;;
+    'check --threads') return ;;
+    'check --verdict') mapfile -t COMPREPLY < <(compgen -f -- "$word") && return ;;
+    'merge --out') mapfile -t COMPREPLY < <(compgen -d -- "$word") && return ;;
+    'merge --inputs') mapfile -t COMPREPLY < <(compgen -f -- "$word") && return ;;
+    esac
+    case "${COMP_WORDS[1]} $word" in
+    'seq -'*) mapfile -t COMPREPLY < <(compgen -W '--job --keep-case --literal --fold --parts --split --max-skips --out --skips --cert --help' -- "$word") ;;
+    'run -'*) mapfile -t COMPREPLY < <(compgen -W '--job --keep-case --literal --fold --parts --split --max-skips --out --workers --attempts --script --history --cert --help' -- "$word") ;;
+    'check -'*) mapfile -t COMPREPLY < <(compgen -W '--job --keep-case --literal --fold --parts --split --max-skips --out --threads --verdict --help' -- "$word") ;;
+    'merge -'*) mapfile -t COMPREPLY < <(compgen -W '--out --inputs --help' -- "$word") ;;
+    *) mapfile -t COMPREPLY < <(compgen -f -- "$word") ;;
+    esac
+}
+complete -o filenames -F _mapred mapred
