@@ -1,5 +1,7 @@
 -- What a job does with a record.
-use Rattle.std.specs.Prelude.{ℕ, ◌<◌, ◌≤◌, ◌^◌, Bool, true, false, not, if◌then◌else◌, List, [], Contains, length}
+use Rattle.std.specs.Prelude.{◌≡◌, ℕ, ◌+◌, ◌<◌, ◌≤◌, ◌^◌, Bool, true, false, not, if◌then◌else◌, List, [], Contains, length}
+use Rattle.mr_bytes.specs.declared.By.{By}
+use Rattle.mr_bytes.specs.declared.By.TheVariants.{Key, Host}
 
 pub data JobSpec : Type 0 where
   -- count words, by their exact bytes where the flag is true, and else by their folded bytes
@@ -11,9 +13,11 @@ pub data JobSpec : Type 0 where
   -- the files in which each word stands, by its exact bytes where the flag is true, and else by its folded bytes
   InvertedIndex : Bool → JobSpec
 
--- a job with its number of partitions, its split size in bytes and how many records it may leave out
+-- a job with what of a key chooses its partition, the number of partitions, the split size in bytes and how many records it may
+-- leave out
 pub record RequestSpec : Type 0 where
   pub job : JobSpec
+  pub by : By
   pub parts : ℕ
   pub split : ℕ
   pub skips : ℕ
@@ -59,6 +63,20 @@ job_flags (WordCount keep_case) = if keep_case then 1 else 0
 job_flags (LinesWith literal fold) = if fold then 2 else 0
 job_flags Resources = 0
 job_flags (InvertedIndex keep_case) = if keep_case then 1 else 0
+
+-- 4 where the host of a key chooses its partition
+abbrev pub by_flag : By → ℕ
+by_flag Key = 0
+by_flag Host = 4
+
+-- the flags of a request: those of its job, and that one
+abbrev pub flags_of : RequestSpec → ℕ
+flags_of request = job_flags request.job + by_flag request.by
+
+-- only resources have hosts
+abbrev pub ByFits : JobSpec → By → Type 0
+ByFits job Key = Unit {0}
+ByFits job Host = job ≡ Resources
 
 -- its literal
 abbrev pub job_literal : JobSpec → List ℕ

@@ -1,5 +1,5 @@
 //! What is done with each record.
-ghost use Rattle.std.specs.Prelude.{◌≡◌, ◌↔◌, ℕ, ◌≤◌, ◌<◌, IfOk, OnOk, IsOkUnless, length, [], Contains};
+ghost use Rattle.std.specs.Prelude.{◌≡◌, ◌↔◌, ℕ, ◌≤◌, ◌<◌, IfOk, IsTrue, OnOk, IsOkUnless, length, [], Contains};
 ghost use Rattle.mr_jobs.specs.JobSpec.{WordCount, LinesWith, Resources, InvertedIndex, JobFits, LiteralFits, counts, has_lines, job_number, job_flags, job_literal};
 ghost use Rattle.mr_jobs.specs.Emissions.{value_at};
 
@@ -158,9 +158,20 @@ impl Job {
         }
     }
 
+    /// Whether its keys are resources, which have hosts.
+    pub(crate) fn has_hosts(&self) -> bool
+        ensures { IsTrue result ↔ (self.now ≡ Resources) }
+    {
+        match &self.kind {
+            Kind::Url => true,
+            Kind::Words { .. } | Kind::Grep { .. } | Kind::Index { .. } => false,
+        }
+    }
+
     /// The job's flags in a certificate: 1 keeps the case of words, 2 folds the case of lines.
-    pub fn flags(&self) -> u32
-        ensures { result ≡ job_flags self.now }
+    pub(crate) fn flags(&self) -> u32
+        ensures of { result ≡ job_flags self.now }
+        ensures small { result ≤ 2 }
     {
         match &self.kind {
             Kind::Words { keep_case } | Kind::Index { keep_case } => if *keep_case { 1 } else { 0 },

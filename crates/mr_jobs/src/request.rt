@@ -1,9 +1,11 @@
 //! A job with its numbers.
 ghost use Rattle.std.specs.Prelude.{◌≡◌, ◌↔◌, ℕ, ◌≤◌, ◌<◌, ◌^◌, ◌⊎◌, IfOk, IsOk, IsTrue};
+ghost use Rattle.mr_bytes.specs.declared.By.{By};
 ghost use Rattle.mr_input.specs.Files.{split_total};
-ghost use Rattle.mr_jobs.specs.JobSpec.{JobFits, RequestSpec, PartsFit, SplitFits};
+ghost use Rattle.mr_jobs.specs.JobSpec.{ByFits, JobFits, PartsFit, RequestSpec, Resources, SplitFits, flags_of};
 
 use crate::job::Job;
+use mr_bytes::By;
 use mr_input::{Input, MAX_SPLIT_SIZE, MAX_SPLITS};
 use std::marker::Model;
 use thiserror::Error;
@@ -16,10 +18,12 @@ pub const MAX_SKIPS: u32 = 1000;
 // The numbers that the clauses give.
 const _: () = prove!(MAX_PARTS == 1024 && MAX_SKIPS == 1000);
 
-/// A job with its number of partitions, its split size in bytes, and how many records may be left out.
+/// A job with what of a key chooses its partition, the number of partitions, the split size in bytes, and how many records may
+/// be left out.
 #[derive(Drop)]
 pub struct Request {
     job: Job,
+    by: By,
     parts: u32,
     size: u32,
     skips: u32,
@@ -27,11 +31,11 @@ pub struct Request {
 
 impl Model for Request {
     ghost use Rattle.std.specs.Prelude.{◌≤◌, ◌^◌};
-    ghost use Rattle.mr_jobs.specs.JobSpec.{RequestSpec};
+    ghost use Rattle.mr_jobs.specs.JobSpec.{ByFits, RequestSpec};
 
     ghost Value = { RequestSpec };
 
-    ghost view = { λ r. record { job = r.job; parts = r.parts; split = r.size; skips = r.skips } };
+    ghost view = { λ r. record { job = r.job; by = r.by; parts = r.parts; split = r.size; skips = r.skips } };
 
     ghost invariant = { λ r. record {
       some_parts : 1 ≤ r.parts;
@@ -39,6 +43,7 @@ impl Model for Request {
       some_split : 1 ≤ r.size;
       split : r.size ≤ 2 ^ 26;
       skips : r.skips ≤ 1000;
+      by : ByFits r.job r.by;
     } };
 }
 
@@ -54,13 +59,16 @@ pub enum RequestFault {
     /// More than 1,000 records may be left out.
     #[error("BadSkips")]
     BadSkips,
+    /// The host of a key is to choose its partition, and the keys of the job have none.
+    #[error("HostNeedsUrl")]
+    HostNeedsUrl,
 }
 
 impl Request {
-    /// A job with `parts` partitions, splits of `split` bytes, and at most `skips` records left out. Of several faults
-    /// the first of `RequestFault` is told.
+    /// A job with `parts` partitions, chosen by the whole key, splits of `split` bytes, and at most `skips` records left out. Of
+    /// several faults the first of `RequestFault` is told.
     pub fn new(job: Job, parts: u32, split: u32, skips: u32) -> Result<Request, RequestFault>
-        ensures value { IfOk result (λ r. r ≡ record { job = job; parts = parts; split = split; skips = skips }) }
+        ensures value { IfOk result (λ r. r ≡ record { job = job; by = By.Key; parts = parts; split = split; skips = skips }) }
         ensures succeeds { PartsFit parts → SplitFits split → skips ≤ 1000 → IsOk result }
         ensures bad_parts { (result ≡ Err RequestFault.BadParts) ↔ ((parts ≡ 0) ⊎ (1024 < parts)) }
         ensures bad_split { (result ≡ Err RequestFault.BadSplitSize) ↔ (PartsFit parts × ((split ≡ 0) ⊎ (2 ^ 26 < split))) }
@@ -77,9 +85,26 @@ impl Request {
         }
         Ok(Request {
             job,
+            by: By::Key,
             parts,
             size: split,
             skips,
+        })
+    }
+
+    /// The request with the host of a key for what chooses its partition. Its only fault is `HostNeedsUrl`.
+    pub fn by_host(self) -> Result<Request, RequestFault>
+        ensures value { IfOk result (λ r. r
+            ≡ record { job = self.job; by = By.Host; parts = self.parts; split = self.split; skips = self.skips }) }
+        ensures succeeds { self.job ≡ Resources → IsOk result }
+        ensures needs_url { (result ≡ Err RequestFault.HostNeedsUrl) ↔ (self.job ≡ Resources → ⊥) }
+    {
+        if !self.job.has_hosts() {
+            return Err(RequestFault::HostNeedsUrl);
+        }
+        Ok(Request {
+            by: By::Host,
+            ..self
         })
     }
 
@@ -91,6 +116,25 @@ impl Request {
         // A job's literal fits.
         let _literal = self.job.literal();
         &self.job
+    }
+
+    /// What of a key chooses its partition.
+    pub fn by(&self) -> By
+        ensures same { result ≡ self.now.by }
+        ensures fits { ByFits self.now.job self.now.by }
+    {
+        self.by
+    }
+
+    /// The request's flags in a certificate: those of its job, and 4 where the host of a key chooses its partition.
+    pub fn flags(&self) -> u32
+        ensures { result ≡ flags_of self.now }
+    {
+        let by = match self.by {
+            By::Key => 0,
+            By::Host => 4,
+        };
+        self.job.flags() + by
     }
 
     /// The number of partitions.
