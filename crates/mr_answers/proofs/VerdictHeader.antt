@@ -6,7 +6,7 @@ use Rattle.std.specs.List.{AllByRecursion, flat_map}
 use Rattle.mr_bytes.specs.declared.Name.{Name}
 use Rattle.mr_bytes.specs.declared.RecordName.{RecordName}
 use Rattle.mr_bytes.specs.Lists.{Has}
-use Rattle.mr_jobs.specs.JobSpec.{RequestSpec, job_number, job_flags, job_literal}
+use Rattle.mr_jobs.specs.JobSpec.{RequestSpec, flags_of, job_literal, job_number}
 use Rattle.mr_splits.specs.Named.{NamedRecord, named_records}
 use Rattle.mr_splits.specs.Cut.{is_record}
 use Rattle.mr_certform.specs.declared.item.Item.{Item}
@@ -66,7 +66,7 @@ pub equal_job : (o : RequestSpec) → AreEqual (job_wanted o)
 equal_job o =
     let literal = equal_literal (job_literal o.job) (Parts o.parts ∷ SplitSize o.split ∷ []) (eq-eqb o.parts o.parts refl, (eq-eqb o.split o.split refl, tt)) in
     let long = eq-eqb (length (job_literal o.job)) (length (job_literal o.job)) refl in
-    (refl, (eq-eqb (job_number o.job) (job_number o.job) refl, (eq-eqb (job_flags o.job) (job_flags o.job) refl, (long, literal))))
+    (refl, (eq-eqb (job_number o.job) (job_number o.job) refl, (eq-eqb (flags_of o) (flags_of o) refl, (long, literal))))
 
 equal_lengths : (files : List (List ℕ)) → AreEqual (map (λ (f : List ℕ). FileLength (length f)) files)
 equal_lengths [] = tt
@@ -105,7 +105,7 @@ job_of job flags literal parts size = Magic ∷ (Job job ∷ Flags flags ∷ Lit
 
 pub record SameJob (c : Contents) (o : RequestSpec) : Type 0 where
   pub job : c.job ≡ job_number o.job
-  pub flags : c.flags ≡ job_flags o.job
+  pub flags : c.flags ≡ flags_of o
   pub literal : c.literal ≡ job_literal o.job
   pub parts : c.parts ≡ o.parts
   pub size : c.split_size ≡ o.split
@@ -116,7 +116,7 @@ job_is c o h = λ i. job_of (h.job i) (h.flags i) (h.literal i) (h.parts i) (h.s
 pub job_same : (c : Contents) (o : RequestSpec) (is js : List Item) → Magic ∷ (job_items c ++ is) ≡ job_wanted o ++ js → SameJob c o × (is ≡ js)
 job_same c o is js e =
     let job : Job c.job ≡ Job (job_number o.job) = cc in
-    let flags : Flags c.flags ≡ Flags (job_flags o.job) = cc in
+    let flags : Flags c.flags ≡ Flags (flags_of o) = cc in
     let long : LiteralLength (length c.literal) ≡ LiteralLength (length (job_literal o.job)) = cc in
     let tail : (map LiteralByte c.literal ++ (Parts c.parts ∷ SplitSize c.split_size ∷ [])) ++ is ≡ (map LiteralByte (job_literal o.job) ++ (Parts o.parts ∷ SplitSize o.split ∷ [])) ++ js = cc in
     let whole : map LiteralByte c.literal ++ (Parts c.parts ∷ SplitSize c.split_size ∷ is) ≡ map LiteralByte (job_literal o.job) ++ (Parts o.parts ∷ SplitSize o.split ∷ js) =

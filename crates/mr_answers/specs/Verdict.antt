@@ -10,7 +10,7 @@ use Rattle.mr_bytes.specs.declared.RecordName.{RecordName}
 use Rattle.mr_bytes.specs.declared.Value.{Value}
 use Rattle.mr_bytes.specs.Order.{key_order, name_order}
 use Rattle.mr_input.specs.Files.{nth_file}
-use Rattle.mr_jobs.specs.JobSpec.{RequestSpec, job_number, job_flags, job_literal}
+use Rattle.mr_jobs.specs.JobSpec.{RequestSpec, flags_of, job_literal, job_number}
 use Rattle.mr_splits.specs.Named.{named_records}
 use Rattle.mr_splits.specs.Cut.{is_record}
 use Rattle.mr_certform.specs.declared.item.Item.{Item}
@@ -184,7 +184,7 @@ item_eq _ _ = false
 -- the items that are wanted of the job, and of the input
 abbrev pub job_wanted : RequestSpec → List Item
 job_wanted o =
-    Magic ∷ Job (job_number o.job) ∷ Flags (job_flags o.job) ∷ LiteralLength (length (job_literal o.job))
+    Magic ∷ Job (job_number o.job) ∷ Flags (flags_of o) ∷ LiteralLength (length (job_literal o.job))
     ∷ (map LiteralByte (job_literal o.job) ++ (Parts o.parts ∷ SplitSize o.split ∷ []))
 
 abbrev pub input_wanted : List (List ℕ) → List Item

@@ -1,5 +1,6 @@
 -- Worked verdicts.
 use Rattle.std.specs.Prelude.{◌≡◌, ℕ, true, false, List, [], ◌∷◌, ◌++◌, take, Result, Ok, Err}
+use Rattle.mr_bytes.specs.declared.By.TheVariants.{Key}
 use Rattle.mr_bytes.specs.declared.Name.{Name}
 use Rattle.mr_bytes.specs.declared.RecordName.{RecordName}
 use Rattle.mr_jobs.specs.JobSpec.{RequestSpec, WordCount}
@@ -11,7 +12,7 @@ use Rattle.mr_answers.specs.Verdict.{Accepted, verdict_of}
 
 -- count words, folded: so many partitions, splits of 64 bytes, at most so many records left out
 abbrev pub words : ℕ → ℕ → RequestSpec
-words parts skips = record { job = WordCount false; parts = parts; split = 64; skips = skips }
+words parts skips = record { job = WordCount false; by = Key; parts = parts; split = 64; skips = skips }
 
 -- `a b a`
 abbrev pub a_b_a : List ℕ

@@ -1,7 +1,7 @@
 -- Items that are met, one list of wanted items after another.
 use Rattle.std.proofs.Common.{◌≡◌, ℕ, Bool, true, false, cond, List, [], ◌∷◌, ◌++◌, length, map, refl, ap, sym, ◌∙◌}
 use Rattle.std.specs.Prelude.{Ok, Err}
-use Rattle.mr_jobs.specs.JobSpec.{JobSpec, RequestSpec, job_number, job_flags, job_literal}
+use Rattle.mr_jobs.specs.JobSpec.{JobSpec, RequestSpec, flags_of, job_literal, job_number}
 use Rattle.mr_certform.specs.declared.item.Item.{Item}
 use Rattle.mr_certform.specs.declared.item.Item.TheVariants.{Magic, Job, Flags, LiteralLength, LiteralByte, Parts, SplitSize}
 use Rattle.mr_answers.specs.declared.fault.No.{No}
@@ -38,6 +38,6 @@ met_not a at f w all ws is e d same h = ap (λ k. met at k f is) d ∙ (ap (λ n
 -- ---- the items of a job
 
 -- from the numbers that the code reads
-pub job_is : (o : RequestSpec) (job : JobSpec) (lits : List ℕ) (number flags parts split : ℕ) → job ≡ o.job → lits ≡ job_literal job → number ≡ job_number job → flags ≡ job_flags job → parts ≡ o.parts → split ≡ o.split
+pub job_is : (o : RequestSpec) (job : JobSpec) (lits : List ℕ) (number flags parts split : ℕ) → job ≡ o.job → lits ≡ job_literal job → number ≡ job_number job → flags ≡ flags_of o → parts ≡ o.parts → split ≡ o.split
     → job_wanted o ≡ (Magic ∷ Job number ∷ Flags flags ∷ LiteralLength (length lits) ∷ []) ++ (map LiteralByte lits ++ (Parts parts ∷ SplitSize split ∷ []))
 job_is o job lits number flags parts split t l n g p s = rw (l, n, g, p, s, t) refl

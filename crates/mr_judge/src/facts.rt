@@ -1,13 +1,13 @@
 //! What the groups are judged against.
 ghost use Rattle.std.specs.Prelude.{◌≡◌, ◌<◌, ◌+◌, ◌^◌, MatchOption, OnOk, length, None, Some};
-ghost use Rattle.mr_partition.specs.Partition.{partition_of};
 ghost use Rattle.mr_reduce.specs.Text.{text_of};
 ghost use Rattle.mr_sequential.specs.Good.{named};
+ghost use Rattle.mr_sequential.specs.Rules.{part};
 
 use mr_bytes::{Name, Values};
 use mr_index::{EmissionIndex, Found, Meter};
 use mr_jobs::{Job, Request};
-use mr_partition::partition;
+use mr_partition::partition_by;
 use mr_reduce::column_text;
 use std::alloc::AllocError;
 use std::marker::Model;
@@ -30,9 +30,9 @@ impl<'a> Model for Basis<'a> {
 impl<'a> Basis<'a> {
     /// The partition of a key.
     pub fn part(&self, key: &[u8]) -> u64
-        ensures { result ≡ partition_of key.now self.now.request.parts }
+        ensures { result ≡ part self.now.request key.now }
     {
-        u64::from(partition(key, self.request.parts()))
+        u64::from(partition_by(self.request.by(), key, self.request.parts()))
     }
 
     /// The job.

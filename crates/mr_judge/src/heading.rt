@@ -102,7 +102,7 @@ fn expect_job<I: Items>(items: &mut I, request: &Request) -> Result<(), Stop>
     let front = [
         Item::Magic,
         Item::Job(job.number()),
-        Item::Flags(job.flags()),
+        Item::Flags(request.flags()),
         Item::LiteralLength(literal.len() as u32),
     ];
     let back = [

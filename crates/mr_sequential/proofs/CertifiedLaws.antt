@@ -11,10 +11,11 @@ use Rattle.mr_bytes.specs.declared.Value.{Value}
 use Rattle.mr_bytes.specs.Lists.{Has, Rises, Distinct}
 use Rattle.mr_bytes.specs.Order.{key_order, name_order}
 use Rattle.mr_input.specs.Files.{nth_file}
-use Rattle.mr_partition.specs.Partition.{partition_of}
 use Rattle.mr_reduce.specs.Text.{text_of}
 use Rattle.mr_bytes.specs.Pairs.{Triple}
+use Rattle.mr_partition.proofs.HostLemmas.{below}
 use Rattle.mr_sequential.specs.Emitted.{emitted}
+use Rattle.mr_sequential.specs.Rules.{part}
 use Rattle.mr_sequential.specs.Sequential.{keys_of, triples_with, values_of, texts_of}
 use Rattle.mr_sequential.specs.Good.{named, key_under, key_of, values_under, text_under, IsGoodGroup, AreGoodGroups, IsGoodPart, groups_at, entries_of, AreGood}
 use Rattle.mr_sequential.specs.Certified.{names_with, groups_of}
@@ -185,8 +186,6 @@ module _ (part : List ℕ → ℕ) (text : List ℕ → List Value → List ℕ)
         omega (arith, up, down, length-map ts (λ (t : Triple). t.name));
   }
 
-partition_below : (k : List ℕ) (parts : ℕ) → 1 ≤ parts → partition_of k parts < parts
-partition_below k parts some = omega arith
 
 pub sequential_is_good : SequentialIsGood
 sequential_is_good request files outputs skips split some none count same =
@@ -201,7 +200,7 @@ sequential_is_good request files outputs skips split some none count same =
       skips_rise = facts.1;
       skips_exist = facts.2;
       skips_few = facts.0;
-      one_each = length-map-range_with_len (groups_of (λ k. partition_of k request.parts) (emitted request.job request.split files skips)) 0 request.parts;
-      result = parts_are_good (λ k. partition_of k request.parts) (text_of request.job) (emitted request.job request.split files skips) (names_rise request files skips split) request.parts outputs
-          (λ t h. partition_below t.key request.parts some) count same;
+      one_each = length-map-range_with_len (groups_of (part request) (emitted request.job request.split files skips)) 0 request.parts;
+      result = parts_are_good (part request) (text_of request.job) (emitted request.job request.split files skips) (names_rise request files skips split) request.parts outputs
+          (λ t h. below request.by t.key request.parts some) count same;
     }

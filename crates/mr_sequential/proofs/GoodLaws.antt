@@ -11,10 +11,10 @@ use Rattle.mr_bytes.specs.declared.Value.{Value}
 use Rattle.mr_bytes.specs.Lists.{Has, Rises}
 use Rattle.mr_bytes.specs.Order.{name_order}
 use Rattle.mr_input.specs.Files.{nth_file}
-use Rattle.mr_partition.specs.Partition.{partition_of}
 use Rattle.mr_reduce.specs.Text.{text_of}
 use Rattle.mr_bytes.specs.Pairs.{Triple}
 use Rattle.mr_sequential.specs.Emitted.{emitted}
+use Rattle.mr_sequential.specs.Rules.{part}
 use Rattle.mr_sequential.specs.Sequential.{keys_of, triples_with, values_of, texts_of}
 use Rattle.mr_sequential.specs.Good.{named, key_under, key_of, text_under, IsGoodGroup, groups_at, entries_of, AreGood}
 use Rattle.mr_sequential.specs.GoodLaws.{GoodPartsAreSequential, GoodIsSequential}
@@ -152,5 +152,5 @@ good_parts_are_sequential rules ts parts outputs rise good p lt = is_sequential 
 
 pub good_is_sequential : GoodIsSequential
 good_is_sequential request files outputs c some good p lt =
-    is_sequential (λ k. partition_of k request.parts) (text_of request.job) (emitted request.job request.split files c.skips) c.groups outputs (names_rise request files c.skips some) good.result p
+    is_sequential (part request) (text_of request.job) (emitted request.job request.split files c.skips) c.groups outputs (names_rise request files c.skips some) good.result p
     (omega (arith, lt, good.one_each))

@@ -5,9 +5,9 @@ use Rattle.mr_bytes.specs.declared.Name.{Name}
 use Rattle.mr_bytes.specs.declared.Value.{Value}
 use Rattle.mr_bytes.specs.Lists.{Has, Rises}
 use Rattle.mr_bytes.specs.Order.{name_order}
-use Rattle.mr_partition.specs.Partition.{partition_of}
 use Rattle.mr_reduce.specs.Text.{text_of}
 use Rattle.mr_bytes.specs.Pairs.{Triple}
+use Rattle.mr_sequential.specs.Rules.{part}
 use Rattle.mr_sequential.specs.Emitted.{emitted}
 use Rattle.mr_sequential.specs.Good.{named, key_of, IsGoodGroup, groups_at, AreGood}
 use Rattle.mr_sequential.specs.Certified.{names_with, groups_of, certificate_of}
@@ -54,11 +54,10 @@ module _ (part : List ℕ → ℕ) (text : List ℕ → List Value → List ℕ)
 
 pub certificate_is_sequential : CertificateIsSequential
 certificate_is_sequential request files outputs c some good =
-    let part : List ℕ → ℕ = λ k. partition_of k request.parts in
     let ts : List Triple = emitted request.job request.split files c.skips in
-    let groups : c.groups ≡ map (groups_of part ts) (range_with_len 0 request.parts) =
-    parts_are part (text_of request.job) ts c.groups outputs (names_rise request files c.skips some) good.result
-    ∙ ap (λ n. map (groups_of part ts) (range_with_len 0 n)) good.one_each in
+    let groups : c.groups ≡ map (groups_of (part request) ts) (range_with_len 0 request.parts) =
+    parts_are (part request) (text_of request.job) ts c.groups outputs (names_rise request files c.skips some) good.result
+    ∙ ap (λ n. map (groups_of (part request) ts) (range_with_len 0 n)) good.one_each in
     λ i. record {
       job = good.job i;
       flags = good.flags i;

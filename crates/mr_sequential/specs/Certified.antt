@@ -3,7 +3,7 @@ use Rattle.std.specs.Prelude.{ℕ, List, map, length}
 use Rattle.std.specs.List.{range_with_len}
 use Rattle.mr_bytes.specs.declared.Name.{Name}
 use Rattle.mr_bytes.specs.declared.RecordName.{RecordName}
-use Rattle.mr_jobs.specs.JobSpec.{RequestSpec, job_number, job_flags, job_literal}
+use Rattle.mr_jobs.specs.JobSpec.{RequestSpec, flags_of, job_literal, job_number}
 use Rattle.mr_certform.specs.Value.{Contents}
 use Rattle.mr_bytes.specs.Pairs.{Triple}
 use Rattle.mr_sequential.specs.Emitted.{emitted}
@@ -22,7 +22,7 @@ groups_of part ts p = map (names_with ts) (keys_of part (map (λ t. t.key) ts) p
 abbrev pub certificate_of : RequestSpec → List (List ℕ) → List RecordName → Contents
 certificate_of request files skips = record {
   job = job_number request.job;
-  flags = job_flags request.job;
+  flags = flags_of request;
   literal = job_literal request.job;
   parts = request.parts;
   split_size = request.split;

@@ -6,7 +6,7 @@ use Rattle.mr_bytes.specs.declared.Name.{Name}
 use Rattle.mr_bytes.specs.declared.Value.{Value}
 use Rattle.mr_bytes.specs.Lists.{Rises}
 use Rattle.mr_bytes.specs.Order.{key_order, name_order, record_order}
-use Rattle.mr_jobs.specs.JobSpec.{RequestSpec, job_number, job_flags, job_literal}
+use Rattle.mr_jobs.specs.JobSpec.{RequestSpec, flags_of, job_literal, job_number}
 use Rattle.mr_input.specs.Files.{nth_file}
 use Rattle.mr_splits.specs.Named.{named_records}
 use Rattle.mr_splits.specs.Cut.{is_record}
@@ -75,7 +75,7 @@ pub record AreGood (rules : Rules) (ts : List Triple) (parts : List (List (List 
 -- good against all that is emitted without that
 pub record IsGood (request : RequestSpec) (files outputs : List (List ℕ)) (c : Contents) : Type 0 where
   pub job : c.job ≡ job_number request.job
-  pub flags : c.flags ≡ job_flags request.job
+  pub flags : c.flags ≡ flags_of request
   pub literal : c.literal ≡ job_literal request.job
   pub parts : c.parts ≡ request.parts
   pub split_size : c.split_size ≡ request.split

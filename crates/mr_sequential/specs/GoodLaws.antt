@@ -1,5 +1,6 @@
 -- What good results are worth: they leave nothing out, they are the sequential execution's, and their certificate is one.
 use Rattle.std.specs.Prelude.{◌≡◌, ℕ, false, ◌<◌, ◌≤◌, None, List, [], ◌∷◌, length, map}
+use Rattle.mr_bytes.specs.declared.By.TheVariants.{Key as WholeKey}
 use Rattle.mr_bytes.specs.declared.Name.{Name}
 use Rattle.mr_bytes.specs.declared.RecordName.{RecordName}
 use Rattle.mr_bytes.specs.Lists.{Has, Rises, Distinct}
@@ -59,7 +60,7 @@ CertificateIsUnique = (request : RequestSpec) (files outputs outputs' : List (Li
 
 -- a worked row: the words of one line `a b a`, in one partition
 abbrev pub one_line : RequestSpec
-one_line = record { job = WordCount false; parts = 1; split = 64; skips = 0 }
+one_line = record { job = WordCount false; by = WholeKey; parts = 1; split = 64; skips = 0 }
 
 abbrev pub a_b_a : List (List ℕ)
 a_b_a = (97 ∷ 32 ∷ 98 ∷ 32 ∷ 97 ∷ 10 ∷ []) ∷ []

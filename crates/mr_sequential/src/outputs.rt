@@ -4,7 +4,8 @@ ghost use Rattle.std.specs.List.{range_with_len, zip};
 ghost use Rattle.mr_bytes.specs.Lists.{Has, Rises};
 ghost use Rattle.mr_certform.specs.Flat.{AreCounted, chunks};
 ghost use Rattle.mr_input.specs.Files.{contents, nth_file};
-ghost use Rattle.mr_partition.specs.Partition.{partition_of};
+ghost use Rattle.mr_bytes.specs.declared.By.{By};
+ghost use Rattle.mr_partition.specs.Hosts.{partition_by};
 ghost use Rattle.mr_ranks.specs.Rows.{row_cmp};
 ghost use Rattle.mr_reduce.specs.Text.{text_of};
 ghost use Rattle.mr_splits.specs.Cut.{records_of};
@@ -16,6 +17,7 @@ ghost use Rattle.mr_sequential.specs.Rows.{AreGrouped, bucket_text, row_texts};
 use crate::gathered::Gathered;
 use crate::groups::grouped;
 use crate::texts::texts_of;
+use mr_bytes::By;
 use mr_certform::FlatGroups;
 use mr_jobs::Job;
 use mr_ranks::{RankedPairs, Row, ranked};
@@ -62,6 +64,7 @@ pub(crate) fn outputs(
     kept: &Kept<'_>,
     gathered: Gathered,
     counts: Vec<u32>,
+    by: By,
     parts: u32,
 ) -> Result<(Vec<Vec<u8>>, FlatGroups), AllocError>
     requires some { 0 < parts }
@@ -70,15 +73,15 @@ pub(crate) fn outputs(
     requires all { length (names_beside (kept_records kept.now.skips (records_of kept.now.cut)) counts.items) ≡ length gathered }
     ensures count { IfOk result (λ r. length r.0.items ≡ parts) }
     ensures texts { IfOk result (λ r. (p : ℕ) → p < parts → nth_file (contents r.0.items) p
-        ≡ texts_in (λ k. partition_of k parts) (text_of job.now)
+        ≡ texts_in (λ k. partition_by by k parts) (text_of job.now)
         (valued job.now (records_of kept.now.cut) gathered (names_beside (kept_records kept.now.skips (records_of kept.now.cut)) counts.items)) p) }
     ensures parts { IfOk result (λ r. length r.1.group_counts.items ≡ parts) }
     ensures counted { IfOk result (λ r. AreCounted r.1.group_counts.items r.1.entry_counts.items r.1.names.items) }
     ensures groups { IfOk result (λ r. chunks r.1.group_counts.items (chunks r.1.entry_counts.items r.1.names.items)
-        ≡ map (groups_in (λ k. partition_of k parts) gathered (names_beside (kept_records kept.now.skips (records_of kept.now.cut)) counts.items))
+        ≡ map (groups_in (λ k. partition_by by k parts) gathered (names_beside (kept_records kept.now.skips (records_of kept.now.cut)) counts.items))
         (range_with_len 0 parts)) }
 {
     let Gathered { keys, numbers } = gathered;
-    let RankedPairs { rows, numbers } = ranked(alloc, &keys, parts, numbers)?;
+    let RankedPairs { rows, numbers } = ranked(alloc, &keys, by, parts, numbers)?;
     outputs_by_rank(alloc, job, kept, rows.as_slice(), numbers, counts, parts)
 }

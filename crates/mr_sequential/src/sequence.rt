@@ -2,7 +2,7 @@
 ghost use Rattle.std.specs.Prelude.{◌≡◌, ◌↔◌, ℕ, ◌≤◌, ◌<◌, ◌^◌, ◌⊎◌, IfOk, OnOk, IfErr, IfSome, ◌≢◌, None, Some, length, map};
 ghost use Rattle.mr_certform.specs.Flat.{AreCounted, chunks};
 ghost use Rattle.mr_input.specs.Files.{contents, nth_file, split_total};
-ghost use Rattle.mr_jobs.specs.JobSpec.{job_number, job_flags, job_literal};
+ghost use Rattle.mr_jobs.specs.JobSpec.{flags_of, job_literal, job_number};
 ghost use Rattle.mr_splits.specs.Cut.{records_of};
 ghost use Rattle.mr_sequential.specs.Certified.{certificate_of};
 ghost use Rattle.mr_sequential.specs.Good.{IsGood};
@@ -111,7 +111,7 @@ pub fn header_of(
     skips: &[RecordName],
 ) -> Result<Header, AllocError>
     ensures job { IfOk result (λ h. h.job ≡ job_number request.now.job) }
-    ensures flags { IfOk result (λ h. h.flags ≡ job_flags request.now.job) }
+    ensures flags { IfOk result (λ h. h.flags ≡ flags_of request.now) }
     ensures literal { IfOk result (λ h. h.literal.items ≡ job_literal request.now.job) }
     ensures short { IfOk result (λ h. length h.literal.items ≤ 4096) }
     ensures split { IfOk result (λ h. h.split_size ≡ request.now.split) }
@@ -121,7 +121,7 @@ pub fn header_of(
     let job = request.job();
     Ok(Header {
         job: job.number(),
-        flags: job.flags(),
+        flags: request.flags(),
         literal: Vec::from_slice(alloc, job.literal())?,
         split_size: request.split_size(),
         lengths: lengths_of(alloc, input)?,
@@ -151,7 +151,7 @@ fn outputs_of(
     let job = request.job();
     let Emitted { pairs, counts } = gather(alloc, job, kept, watch)?;
     watch.tell(Phase::Reducing, 0, 1);
-    let made = outputs(alloc, job, kept, pairs, counts, request.parts())?;
+    let made = outputs(alloc, job, kept, pairs, counts, request.by(), request.parts())?;
     watch.tell(Phase::Reducing, 1, 1);
     Ok(made)
 }

@@ -4,10 +4,10 @@ use Rattle.std.specs.List.{AllByRecursion, flat_map}
 use Rattle.mr_bytes.specs.declared.Value.{Value}
 use Rattle.mr_input.specs.Files.{split_total}
 use Rattle.mr_jobs.specs.JobSpec.{RequestSpec}
-use Rattle.mr_partition.specs.Partition.{partition_of}
 use Rattle.mr_reduce.specs.Text.{text_of}
 use Rattle.mr_bytes.specs.Pairs.{Triple}
 use Rattle.mr_sequential.specs.Emitted.{emitted}
+use Rattle.mr_sequential.specs.Rules.{part}
 use Rattle.mr_sequential.specs.Sequential.{keys_of, values_of}
 use Rattle.mr_shards.specs.Merged.{Group, group_for, groups_of, texts, merged, merged_parts, moved_group}
 use Rattle.mr_shards.specs.Shards.{Shard, files_of, skips_of, part_of, SkipsExist, OutputsAreTexts, MergedAreSequential}
@@ -22,22 +22,21 @@ text-told text ts (k ∷ ks) = ap (λ l. text k (values_of ts k) ++ l) (text-tol
 pub outputs_are_texts : OutputsAreTexts
 outputs_are_texts request p s =
     let ts : List Triple = emitted request.job request.split s.files s.skips in
-    text-told (text_of request.job) ts (keys_of (λ k. partition_of k request.parts) (map (λ (t : Triple). t.key) ts) p)
+    text-told (text_of request.job) ts (keys_of (part request) (map (λ (t : Triple). t.key) ts) p)
 
 -- the groups of the whole are the merged groups of the shards
 pub groups-whole : (request : RequestSpec) (shards : List Shard) (p : ℕ) → 0 < request.split → AllByRecursion (λ s. SkipsExist request.split s.files s.skips) shards
-    → groups_of (λ k. partition_of k request.parts) (emitted request.job request.split (files_of shards) (skips_of request.split shards)) p ≡ merged_parts (map (part_of request p) shards)
-groups-whole request [] p some exist = ap (λ ts. groups_of (λ k. partition_of k request.parts) ts p) (emitted-none request)
+    → groups_of (part request) (emitted request.job request.split (files_of shards) (skips_of request.split shards)) p ≡ merged_parts (map (part_of request p) shards)
+groups-whole request [] p some exist = ap (λ ts. groups_of (part request) ts p) (emitted-none request)
 groups-whole request (s ∷ ss) p some exist =
-    let part : List ℕ → ℕ = λ k. partition_of k request.parts in
     let here : List Triple = emitted request.job request.split s.files s.skips in
     let later : List Triple = emitted request.job request.split (files_of ss) (skips_of request.split ss) in
     let n : ℕ = length s.files in
     let m : ℕ = split_total request.split s.files in
-    ap (λ ts. groups_of part ts p) (emitted-append request s.files (files_of ss) s.skips (skips_of request.split ss) some exist.0)
-    ∙ groups-append part p here (map (moved_triple n m) later)
-    ∙ ap (merged (groups_of part here p)) (groups-moved part n m later p)
-    ∙ ap (λ gs. merged (groups_of part here p) (map (moved_group n) gs)) (groups-whole request ss p some exist.1)
+    ap (λ ts. groups_of (part request) ts p) (emitted-append request s.files (files_of ss) s.skips (skips_of request.split ss) some exist.0)
+    ∙ groups-append (part request) p here (map (moved_triple n m) later)
+    ∙ ap (merged (groups_of (part request) here p)) (groups-moved (part request) n m later p)
+    ∙ ap (λ gs. merged (groups_of (part request) here p) (map (moved_group n) gs)) (groups-whole request ss p some exist.1)
 
 pub merged_are_sequential : MergedAreSequential
 merged_are_sequential request shards p some exist =

@@ -9,10 +9,10 @@ use Rattle.mr_bytes.specs.Lists.{Has, Rises}
 use Rattle.mr_bytes.specs.Order.{key_order}
 use Rattle.mr_jobs.specs.JobSpec.{JobSpec, RequestSpec, WordCount, LinesWith, Resources, InvertedIndex}
 use Rattle.mr_bytes.specs.Cut.{Lacks}
-use Rattle.mr_partition.specs.Partition.{partition_of}
 use Rattle.mr_reduce.specs.Text.{place_line}
 use Rattle.mr_bytes.specs.Pairs.{Triple}
 use Rattle.mr_sequential.specs.Emitted.{emitted}
+use Rattle.mr_sequential.specs.Rules.{part}
 use Rattle.mr_sequential.specs.Sequential.{keys_of, triples_with, values_of}
 use Rattle.mr_sequential.proofs.KeyLaws.{bytes_eq-same, keys_rise}
 use Rattle.mr_bytes.proofs.ListLaws.{all_from_Has, Has-map_from}
@@ -86,12 +86,11 @@ fine-group job ts k fine few h =
 
 pub groups-fine : (request : RequestSpec) (s : Shard) (p : ℕ) → 0 < request.split → IsJudged request s → AllByRecursion (IsFineGroup request.job) (part_of request p s).groups
 groups-fine request s p some judged =
-    let part : List ℕ → ℕ = λ k. partition_of k request.parts in
     let ts : List Triple = emitted request.job request.split s.files s.skips in
-    let ks : List (List ℕ) = keys_of part (map (λ (t : Triple). t.key) ts) p in
+    let ks : List (List ℕ) = keys_of (part request) (map (λ (t : Triple). t.key) ts) p in
     all_from_Has (IsFineGroup request.job) (map (group_for ts) ks)
     (λ g h. (let w = Has-map_from (group_for ts) ks g h in
-    subst (IsFineGroup request.job) w.2 (fine-group request.job ts w.0 (λ t a. pairs-fine request s t some judged a) judged.few_pairs (((keys_rise part (map (λ (t : Triple). t.key) ts) p).1 w.0).0 w.1).0)))
+    subst (IsFineGroup request.job) w.2 (fine-group request.job ts w.0 (λ t a. pairs-fine request s t some judged a) judged.few_pairs (((keys_rise (part request) (map (λ (t : Triple). t.key) ts) p).1 w.0).0 w.1).0)))
 
 -- ---- the lines of groups: of a total one for each group, of places one for each value
 

@@ -6,10 +6,10 @@ use Rattle.mr_bytes.specs.Lists.{Rises}
 use Rattle.mr_bytes.specs.Order.{record_order}
 use Rattle.mr_input.specs.Files.{split_total}
 use Rattle.mr_jobs.specs.JobSpec.{RequestSpec}
-use Rattle.mr_partition.specs.Partition.{partition_of}
 use Rattle.mr_splits.specs.Named.{named_records}
 use Rattle.mr_splits.specs.Cut.{is_record}
 use Rattle.mr_sequential.specs.Emitted.{emitted}
+use Rattle.mr_sequential.specs.Rules.{part}
 use Rattle.mr_sequential.specs.Sequential.{sequential}
 use Rattle.mr_shards.specs.Merged.{groups_of, texts, Part, merged_parts}
 
@@ -40,7 +40,7 @@ SkipsExist size files skips = AllByRecursion (λ name. IsTrue (is_record (named_
 abbrev pub part_of : RequestSpec → ℕ → Shard → Part
 part_of request p s = record {
   files = length s.files;
-  groups = groups_of (λ k. partition_of k request.parts) (emitted request.job request.split s.files s.skips) p;
+  groups = groups_of (part request) (emitted request.job request.split s.files s.skips) p;
 }
 
 -- an output of the sequential execution is the text of groups

@@ -5,7 +5,7 @@ use Rattle.mr_bytes.specs.declared.RecordName.{RecordName}
 use Rattle.mr_bytes.specs.Lists.{Rises}
 use Rattle.mr_bytes.specs.Order.{record_order}
 use Rattle.mr_input.specs.Files.{nth_file}
-use Rattle.mr_jobs.specs.JobSpec.{JobFits, JobSpec, PartsFit, RequestSpec, SplitFits, job_flags, job_literal, job_number}
+use Rattle.mr_jobs.specs.JobSpec.{ByFits, JobFits, PartsFit, RequestSpec, SplitFits, flags_of, job_literal, job_number}
 use Rattle.mr_sequential.specs.Emitted.{emitted}
 use Rattle.mr_sequential.specs.Sequential.{sequential}
 use Rattle.mr_shards.specs.Lines.{CanMerge}
@@ -29,7 +29,7 @@ AreNotesOf (n ∷ ns) (f ∷ fs) = IsNoteOf n f × AreNotesOf ns fs
 
 -- the verdict is about this request; how many records it lets be left out is not told
 abbrev pub Asks : Told → RequestSpec → Type 0
-Asks v request = (v.job ≡ job_number request.job) × (v.flags ≡ job_flags request.job) × (v.literal ≡ job_literal request.job)
+Asks v request = (v.job ≡ job_number request.job) × (v.flags ≡ flags_of request) × (v.literal ≡ job_literal request.job)
     × (v.parts ≡ request.parts) × (v.split ≡ request.split)
 
 -- the notes are those of the files and of the outputs, the left-out records rise and exist, each output is that of the
@@ -56,7 +56,7 @@ notes_for (n ∷ ns) (f ∷ fs) = note_for n f ∷ notes_for ns fs
 abbrev pub verdict_for : RequestSpec → List Note → List Note → List RecordName → ℕ → Told
 verdict_for request inputs outputs left_out pairs = record {
   job = job_number request.job;
-  flags = job_flags request.job;
+  flags = flags_of request;
   literal = job_literal request.job;
   parts = request.parts;
   split = request.split;
@@ -68,10 +68,14 @@ verdict_for request inputs outputs left_out pairs = record {
 
 -- ---- the request that a verdict is about
 
--- the verdict names the job
-abbrev pub NamesJob : Told → JobSpec → Type 0
-NamesJob v job = (v.job ≡ job_number job) × (v.flags ≡ job_flags job) × (v.literal ≡ job_literal job)
+-- the verdict names the request's job
+abbrev pub NamesJob : Told → RequestSpec → Type 0
+NamesJob v request = (v.job ≡ job_number request.job) × (v.flags ≡ flags_of request) × (v.literal ≡ job_literal request.job)
+
+-- the request can be made
+abbrev pub CanBeMade : RequestSpec → Type 0
+CanBeMade request = JobFits request.job × ByFits request.job request.by × PartsFit request.parts × SplitFits request.split
 
 -- there is no request that it is about, of a job whose outputs can be merged
 abbrev pub AsksNone : Told → Type 0
-AsksNone v = (request : RequestSpec) → JobFits request.job → PartsFit request.parts → SplitFits request.split → CanMerge request.job → Asks v request → ⊥
+AsksNone v = (request : RequestSpec) → CanBeMade request → CanMerge request.job → Asks v request → ⊥

@@ -44,7 +44,7 @@ pub fn verdict_for(
     let job = request.job();
     Ok(Verdict {
         job: job.number(),
-        flags: job.flags(),
+        flags: request.flags(),
         literal: Vec::from_slice(alloc, job.literal())?,
         parts: request.parts(),
         split: request.split_size(),

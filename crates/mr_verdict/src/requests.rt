@@ -1,8 +1,8 @@
 //! The request that a verdict is about.
 ghost use Rattle.std.specs.Prelude.{◌≡◌, ◌↔◌, IfOk, IfSome, IsTrue, MatchOption};
-ghost use Rattle.mr_jobs.specs.JobSpec.{JobFits, JobSpec};
+ghost use Rattle.mr_jobs.specs.JobSpec.{RequestSpec};
 ghost use Rattle.mr_shards.specs.Lines.{CanMerge};
-ghost use Rattle.mr_verdict.specs.Truth.{Asks, AsksNone, NamesJob};
+ghost use Rattle.mr_verdict.specs.Truth.{Asks, AsksNone, CanBeMade, NamesJob};
 
 use crate::verdict::Verdict;
 use mr_jobs::{Job, JobFault, Request};
@@ -14,7 +14,7 @@ pub fn asks(verdict: &Verdict, request: &Request) -> bool
 {
     let job = request.job();
     verdict.job == job.number()
-        && verdict.flags == job.flags()
+        && verdict.flags == request.flags()
         && verdict.literal.as_slice() == job.literal()
         && verdict.parts == request.parts()
         && verdict.split == request.split_size()
@@ -22,8 +22,9 @@ pub fn asks(verdict: &Verdict, request: &Request) -> bool
 
 /// The one job that a verdict may name, where its outputs can be merged: not those of an index.
 fn job_named(alloc: Global, verdict: &Verdict) -> Result<Option<Job>, AllocError>
-    ensures named { IfOk result (λ r. MatchOption r ((job : JobSpec) → JobFits job → CanMerge job → NamesJob verdict.now job → ⊥)
-        (λ j. (job : JobSpec) → JobFits job → NamesJob verdict.now job → j ≡ job)) }
+    ensures named { IfOk result (λ r. MatchOption r
+        ((request : RequestSpec) → CanBeMade request → CanMerge request.job → NamesJob verdict.now request → ⊥)
+        (λ j. (request : RequestSpec) → CanBeMade request → NamesJob verdict.now request → j ≡ request.job)) }
     ensures mergeable { IfOk result (λ r. IfSome r (λ j. CanMerge j)) }
 {
     match verdict.job {
@@ -38,6 +39,15 @@ fn job_named(alloc: Global, verdict: &Verdict) -> Result<Option<Job>, AllocError
     }
 }
 
+/// The request, by the host of a key where the verdict's flags say so; none where its keys have no host.
+fn by_named(request: Request, verdict: &Verdict) -> Option<Request> {
+    if verdict.flags == 4 {
+        request.by_host().ok()
+    } else {
+        Some(request)
+    }
+}
+
 /// A request that a verdict is about, which lets no record be left out, of a job whose outputs can be merged; none where
 /// there is no such request. The outputs of an index can't be merged.
 pub fn request_of(alloc: Global, verdict: &Verdict) -> Result<Option<Request>, AllocError>
@@ -48,6 +58,9 @@ pub fn request_of(alloc: Global, verdict: &Verdict) -> Result<Option<Request>, A
         return Ok(None);
     };
     let Ok(request) = Request::new(job, verdict.parts, verdict.split, 0) else {
+        return Ok(None);
+    };
+    let Some(request) = by_named(request, verdict) else {
         return Ok(None);
     };
     if asks(verdict, &request) {

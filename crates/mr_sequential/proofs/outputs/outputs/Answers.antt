@@ -6,7 +6,7 @@ use Rattle.mr_bytes.specs.declared.Name.{Name}
 use Rattle.mr_bytes.specs.declared.Value.{Value}
 use Rattle.mr_bytes.specs.Lists.{Rises}
 use Rattle.mr_keys.specs.Keys.{key_at}
-use Rattle.mr_partition.specs.Partition.{partition_of}
+use Rattle.mr_partition.specs.Hosts.{partition_by}
 use Rattle.mr_reduce.specs.Text.{text_of}
 use Rattle.mr_ranks.specs.declared.rows.Row.{Row}
 use Rattle.mr_ranks.specs.Rows.{IsRanked, row_cmp, row_part}
@@ -33,7 +33,7 @@ pub outputs_by_rank-requires-clause-used : goal.outputs_by_rank-requires-clause-
 outputs_by_rank-requires-clause-used c = λ r h.
     let g = c.gathered.inside in
     let rows : List Row = c.in_ok-rows.field-0.rows.items in
-    ranks-used c.args.parts g.keys rows g.numbers.items c.in_ok-rows.field-0.numbers.items c.in_ok-rows.ensures.rows c.in_ok-rows.ensures.numbers
+    ranks-used (λ k. partition_by c.args.by k c.args.parts) g.keys rows g.numbers.items c.in_ok-rows.field-0.numbers.items c.in_ok-rows.ensures.rows c.in_ok-rows.ensures.numbers
     c.gathered.invariant.used r (omega (arith, h, ap length c.as_slice.ensures.value))
 
 pub outputs_by_rank-requires-clause-sorted : goal.outputs_by_rank-requires-clause-sorted
@@ -68,8 +68,8 @@ returns-clause-texts c =
     IfOk-weaker c.outputs_by_rank.result _ _
     (λ r told p h. told p h
     ∙ ap (λ (l : List Row). row_texts (bucket_text job (zip rs vs)) p 0 l) c.as_slice.ensures.value
-    ∙ texts-rows job parts p g.keys rows g.numbers.items rs vs c.in_ok-rows.ensures.rows c.in_ok-rows.ensures.numbers c.gathered.invariant.used same
-    ∙ ap (λ (l : List (List ℕ)). texts_in (λ k. partition_of k parts) (text_of job) (zip l vs) p) c.gathered.view_is)
+    ∙ texts-rows job (λ k. partition_by c.args.by k parts) p g.keys rows g.numbers.items rs vs c.in_ok-rows.ensures.rows c.in_ok-rows.ensures.numbers c.gathered.invariant.used same
+    ∙ ap (λ (l : List (List ℕ)). texts_in (λ k. partition_by c.args.by k parts) (text_of job) (zip l vs) p) c.gathered.view_is)
     c.outputs_by_rank.ensures.texts
 
 pub returns-clause-parts : goal.returns-clause-parts
@@ -88,6 +88,6 @@ returns-clause-groups c =
     IfOk-weaker c.outputs_by_rank.result _ _
     (λ r told. told.groups
     ∙ ap (λ (l : List Row). buckets m (zip (map row_part l) (buckets (length l) (zip rs beside)))) c.as_slice.ensures.value
-    ∙ groups-rows m m g.keys rows g.numbers.items rs beside c.in_ok-rows.ensures.rows c.in_ok-rows.ensures.numbers c.gathered.invariant.used
-    ∙ ap (λ (l : List (List ℕ)). map (groups_in (λ k. partition_of k m) l beside) (range_with_len 0 m)) c.gathered.view_is)
+    ∙ groups-rows (λ k. partition_by c.args.by k m) m g.keys rows g.numbers.items rs beside c.in_ok-rows.ensures.rows c.in_ok-rows.ensures.numbers c.gathered.invariant.used
+    ∙ ap (λ (l : List (List ℕ)). map (groups_in (λ k. partition_by c.args.by k m) l beside) (range_with_len 0 m)) c.gathered.view_is)
     c.outputs_by_rank.ensures.groups

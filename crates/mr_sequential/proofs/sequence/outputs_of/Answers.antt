@@ -5,13 +5,14 @@ use Rattle.mr_bytes.specs.declared.RecordName.{RecordName}
 use Rattle.mr_input.specs.Files.{total_size}
 use Rattle.mr_jobs.specs.Emissions.{Emission}
 use Rattle.mr_jobs.specs.JobSpec.{RequestSpec, JobSpec}
-use Rattle.mr_partition.specs.Partition.{partition_of}
+use Rattle.mr_partition.specs.Hosts.{partition_by}
 use Rattle.mr_reduce.specs.Text.{text_of}
 use Rattle.mr_splits.specs.Named.{NamedRecord, named_records}
 use Rattle.mr_splits.specs.Cut.{Cut, records_of}
 use Rattle.mr_splits.specs.Kept.{Choice, kept_records}
 use Rattle.mr_bytes.specs.Pairs.{Triple}
 use Rattle.mr_sequential.specs.Emitted.{emitted}
+use Rattle.mr_sequential.specs.Rules.{part}
 use Rattle.mr_sequential.specs.Names.{kept_names, names_beside, pair_count}
 use Rattle.mr_sequential.specs.Pairs.{groups_in, kept_pairs, texts_in, valued}
 use Rattle.mr_sequential.proofs.SourceLemmas.{beside-counts, few_pairs, pair_of, emitted-pairs, emitted-names, even_lists, kept-names, texts-triples, triple-keys, groups-triples}
@@ -92,6 +93,7 @@ returns-clause-texts g c = λ p h.
     let ks : List (List ℕ) = c.in_ok-pairs.field-0.pairs in
     let ns : List Name = names_beside (kept_records skips (named_records size files)) c.in_ok-pairs.field-0.counts.items in
     let n : ℕ = c.parts.result in
+    let b = c.by.result in
     let used : JobSpec = c.job-job.result.now in
     let keys = keys_are request files skips used size ks c.job-job.ensures.same c.requires.size c.in_ok-pairs.ensures.keys in
     let names = names_are request files skips used size c.in_ok-pairs.field-0.counts.items c.job-job.ensures.same c.requires.size c.in_ok-pairs.ensures.counts in
@@ -103,10 +105,11 @@ returns-clause-texts g c = λ p h.
     ∙ ap (λ (l : List Name). valued job (named_records request.split files) (map (λ (t : Triple). t.key) ts) l) names
     ∙ emitted-valued job request.split files skips some in
     c.in_ok-made.ensures.texts p (omega (arith, h, c.parts.ensures.same))
-    ∙ ap (λ (l : List Emission). texts_in (λ k. partition_of k n) (text_of used) l p) pairs
-    ∙ ap (λ m. texts_in (λ k. partition_of k m) (text_of used) (map pair_of ts) p) c.parts.ensures.same
-    ∙ ap (λ (t : JobSpec). texts_in (λ k. partition_of k request.parts) (text_of t) (map pair_of ts) p) c.job-job.ensures.same
-    ∙ texts-triples (λ k. partition_of k request.parts) (text_of job) ts p
+    ∙ ap (λ (l : List Emission). texts_in (λ k. partition_by b k n) (text_of used) l p) pairs
+    ∙ ap (λ m. texts_in (λ k. partition_by b k m) (text_of used) (map pair_of ts) p) c.parts.ensures.same
+    ∙ ap (λ a. texts_in (λ k. partition_by a k request.parts) (text_of used) (map pair_of ts) p) c.by.ensures.same
+    ∙ ap (λ (t : JobSpec). texts_in (part request) (text_of t) (map pair_of ts) p) c.job-job.ensures.same
+    ∙ texts-triples (part request) (text_of job) ts p
 
 pub returns-clause-groups : goal.returns-clause-groups
 returns-clause-groups g c =
@@ -120,7 +123,8 @@ returns-clause-groups g c =
     let keys = keys_are request files skips c.job-job.result.now size ks c.job-job.ensures.same c.requires.size c.in_ok-pairs.ensures.keys in
     let names = names_are request files skips c.job-job.result.now size c.in_ok-pairs.field-0.counts.items c.job-job.ensures.same c.requires.size c.in_ok-pairs.ensures.counts in
     c.in_ok-made.ensures.groups
-    ∙ ap (λ m. map (groups_in (λ k. partition_of k m) ks ns) (range_with_len 0 m)) c.parts.ensures.same
-    ∙ ap (λ (l : List (List ℕ)). map (groups_in (λ k. partition_of k request.parts) l ns) (range_with_len 0 request.parts)) keys
-    ∙ ap (λ (l : List Name). map (groups_in (λ k. partition_of k request.parts) (map (λ (t : Triple). t.key) ts) l) (range_with_len 0 request.parts)) names
-    ∙ groups-triples (λ k. partition_of k request.parts) ts (range_with_len 0 request.parts)
+    ∙ ap (λ m. map (groups_in (λ k. partition_by c.by.result k m) ks ns) (range_with_len 0 m)) c.parts.ensures.same
+    ∙ ap (λ b. map (groups_in (λ k. partition_by b k request.parts) ks ns) (range_with_len 0 request.parts)) c.by.ensures.same
+    ∙ ap (λ (l : List (List ℕ)). map (groups_in (part request) l ns) (range_with_len 0 request.parts)) keys
+    ∙ ap (λ (l : List Name). map (groups_in (part request) (map (λ (t : Triple). t.key) ts) l) (range_with_len 0 request.parts)) names
+    ∙ groups-triples (part request) ts (range_with_len 0 request.parts)
