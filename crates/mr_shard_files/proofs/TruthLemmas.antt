@@ -1,16 +1,15 @@
 -- What the joined verdict is worth, whatever request the verdicts are about.
-use Rattle.std.proofs.Common.{◌≡◌, ℕ, ◌+◌, ◌<◌, ◌^◌, List, [], ◌∷◌, length, refl, ap, sym, ◌∙◌, subst, arith, true, false}
+use Rattle.std.proofs.Common.{◌≡◌, ℕ, ◌<◌, ◌^◌, List, [], ◌∷◌, length, refl, ap, sym, ◌∙◌, subst, arith, true, false}
 use Rattle.std.specs.Prelude.{Option}
 use Rattle.std.specs.List.{AllByRecursion}
 use Rattle.mr_files.specs.Holding.{Stored}
 use Rattle.mr_files.specs.Identities.{Known}
 use Rattle.mr_files.specs.Names.{part_files}
-use Rattle.mr_bytes.specs.declared.By.{By}
-use Rattle.mr_bytes.specs.declared.By.TheVariants.{Host, Key}
-use Rattle.mr_jobs.specs.JobSpec.{InvertedIndex, JobSpec, LinesWith, RequestSpec, Resources, WordCount, by_flag, flags_of, job_flags, job_literal, job_number}
+use Rattle.mr_jobs.specs.JobSpec.{InvertedIndex, JobSpec, LinesWith, RequestSpec, Resources, WordCount, job_flags, job_literal, job_number}
 use Rattle.mr_verdict.specs.Joined.{AreMerged, AreOnce, AreTrueOf, IsJoined, all_files}
 use Rattle.mr_verdict.specs.Truth.{AreNotesOf, Asks, IsTrueOf, notes_for}
 use Rattle.mr_verdict.specs.Verdict.{Note, Told}
+use Rattle.mr_verdict.proofs.FlagLemmas.{one_flag}
 use Rattle.mr_verdict.proofs.JoinedLaws.{joined_is_true}
 use Rattle.mr_shard_files.specs.Beside.{ArePartitions}
 use Rattle.mr_shard_files.specs.Listing.{IsListed}
@@ -46,23 +45,6 @@ same_job (InvertedIndex true) (InvertedIndex false) n f l = absurd (omega (arith
 same_job (InvertedIndex false) (InvertedIndex true) n f l = absurd (omega (arith, f))
 same_job (InvertedIndex false) (InvertedIndex false) n f l = refl
 
--- the flags of a job are below that of a partition by host
-flags_below : (job : JobSpec) → job_flags job < 4
-flags_below (WordCount true) = omega arith
-flags_below (WordCount false) = omega arith
-flags_below (LinesWith literal true) = omega arith
-flags_below (LinesWith literal false) = omega arith
-flags_below Resources = omega arith
-flags_below (InvertedIndex true) = omega arith
-flags_below (InvertedIndex false) = omega arith
-
--- the flags of a request tell those of its job, and what chooses its partitions
-one_flag : (a b : JobSpec) (m n : By) → job_flags a + by_flag m ≡ job_flags b + by_flag n → (job_flags a ≡ job_flags b) × (m ≡ n)
-one_flag a b Key Key same = (omega (arith, same), refl)
-one_flag a b Key Host same = absurd (omega (arith, same, flags_below a))
-one_flag a b Host Key same = absurd (omega (arith, same, flags_below b))
-one_flag a b Host Host same = (omega (arith, same), refl)
-
 -- the same, with another number of records that may be left out
 abbrev letting : RequestSpec → ℕ → RequestSpec
 letting r skips = record { job = r.job; by = r.by; parts = r.parts; split = r.split; skips = skips }
@@ -71,10 +53,9 @@ same_request : (v : Told) (r q : RequestSpec) → Asks v r → Asks v q → lett
 same_request v r q a b =
     let flags = one_flag r.job q.job r.by q.by (sym a.1 ∙ b.1) in
     let job : r.job ≡ q.job = same_job r.job q.job (sym a.0 ∙ b.0) flags.0 (sym a.2 ∙ b.2) in
-    let by : r.by ≡ q.by = flags.1 in
     let parts : r.parts ≡ q.parts = sym a.3 ∙ b.3 in
     let split : r.split ≡ q.split = sym a.4 ∙ b.4 in
-    λ i. record { job = job i; by = by i; parts = parts i; split = split i; skips = q.skips }
+    λ i. record { job = job i; by = flags.1 i; parts = parts i; split = split i; skips = q.skips }
 
 asks_all : (r : RequestSpec) (skips : ℕ) (vs : List Told) → AllByRecursion (λ v. Asks v r) vs → AllByRecursion (λ v. Asks v (letting r skips)) vs
 asks_all r skips [] h = tt

@@ -1,3 +1,4 @@
+pub mod FlagLemmas
 pub mod TextLemmas
 pub mod ReadLemmas
 pub mod SpellLemmas

@@ -1,6 +1,8 @@
 -- When a verdict is true of files.
-use Rattle.std.specs.Prelude.{◌≡◌, ℕ, ◌<◌, List, [], ◌∷◌, length}
+use Rattle.std.specs.Prelude.{◌≡◌, ◌==◌, if◌then◌else◌, ℕ, ◌<◌, List, [], ◌∷◌, length}
 use Rattle.sha2.specs.Sha256.{sha256}
+use Rattle.mr_bytes.specs.declared.By.{By}
+use Rattle.mr_bytes.specs.declared.By.TheVariants.{Host, Key}
 use Rattle.mr_bytes.specs.declared.RecordName.{RecordName}
 use Rattle.mr_bytes.specs.Lists.{Rises}
 use Rattle.mr_bytes.specs.Order.{record_order}
@@ -71,6 +73,10 @@ verdict_for request inputs outputs left_out pairs = record {
 -- the verdict names the request's job
 abbrev pub NamesJob : Told → RequestSpec → Type 0
 NamesJob v request = (v.job ≡ job_number request.job) × (v.flags ≡ flags_of request) × (v.literal ≡ job_literal request.job)
+
+-- what chooses the partitions of the request that has these flags
+abbrev pub by_told : ℕ → By
+by_told flags = if flags == 4 then Host else Key
 
 -- the request can be made
 abbrev pub CanBeMade : RequestSpec → Type 0

@@ -1,8 +1,9 @@
 //! The request that a verdict is about.
 ghost use Rattle.std.specs.Prelude.{◌≡◌, ◌↔◌, IfOk, IfSome, IsTrue, MatchOption};
-ghost use Rattle.mr_jobs.specs.JobSpec.{RequestSpec};
+ghost use Rattle.mr_bytes.specs.declared.By.{By};
+ghost use Rattle.mr_jobs.specs.JobSpec.{RequestSpec, Resources};
 ghost use Rattle.mr_shards.specs.Lines.{CanMerge};
-ghost use Rattle.mr_verdict.specs.Truth.{Asks, AsksNone, CanBeMade, NamesJob};
+ghost use Rattle.mr_verdict.specs.Truth.{Asks, AsksNone, CanBeMade, NamesJob, by_told};
 
 use crate::verdict::Verdict;
 use mr_jobs::{Job, JobFault, Request};
@@ -40,7 +41,11 @@ fn job_named(alloc: Global, verdict: &Verdict) -> Result<Option<Job>, AllocError
 }
 
 /// The request, by the host of a key where the verdict's flags say so; none where its keys have no host.
-fn by_named(request: Request, verdict: &Verdict) -> Option<Request> {
+fn by_named(request: Request, verdict: &Verdict) -> Option<Request>
+    requires { request.by ≡ By.Key }
+    ensures { MatchOption result ((verdict.now.flags ≡ 4) × (request.job ≡ Resources → ⊥))
+        (λ q. q ≡ record { job = request.job; by = by_told verdict.now.flags; parts = request.parts; split = request.split; skips = request.skips }) }
+{
     if verdict.flags == 4 {
         request.by_host().ok()
     } else {
