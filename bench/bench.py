@@ -1,7 +1,7 @@
 #!/usr/bin/env python3
 """Runs mapred and its rivals side by side, alternating, and prints ratios.
 
-    bench.py MAPRED [--mb 16] [--lines 200000] [--rounds 3] [--dir FOLDER] [--jobs words,grep,url,index]
+    bench.py MAPRED [--mb 16] [--lines 200000] [--rounds 3] [--dir FOLDER] [--jobs words,grep,url,url-by-host,index]
              [--timeout 120] [--json FILE] [--real FILE] [--workers 4] [--parts 8] [--no-check-equal]
 
 MAPRED may be '-' (the rivals alone). A job, subcommand or option that the binary does not
@@ -28,12 +28,14 @@ def build(room):
 
 
 def data(room, it):
-    text, log = f"{room}/text-{it.mb}.txt", f"{room}/log-{it.lines}.log"
+    text, log, hosts = f"{room}/text-{it.mb}.txt", f"{room}/log-{it.lines}.log", f"{room}/hosts-{it.lines}.log"
     if not os.path.exists(text):
         subprocess.run([sys.executable, f"{HERE}/gen_text.py", str(it.mb), text], check=True)
     if not os.path.exists(log):
         subprocess.run([sys.executable, f"{HERE}/gen_log.py", str(it.lines), log], check=True)
-    return it.real or text, log
+    if not os.path.exists(hosts):
+        subprocess.run([sys.executable, f"{HERE}/gen_log.py", str(it.lines), hosts, "--absolute"], check=True)
+    return it.real or text, log, hosts
 
 
 def once(words, limit, to="/dev/null"):
@@ -148,7 +150,7 @@ def main():
     ask.add_argument("--lines", type=int, default=200_000)
     ask.add_argument("--rounds", type=int, default=3)
     ask.add_argument("--dir", default=os.path.join(tempfile.gettempdir(), "mapred-bench"))
-    ask.add_argument("--jobs", default="words,grep,url,index")
+    ask.add_argument("--jobs", default="words,grep,url,url-by-host,index")
     ask.add_argument("--timeout", type=float, default=120)
     ask.add_argument("--workers", type=int, default=4)
     ask.add_argument("--parts", type=int, default=8)
@@ -159,7 +161,7 @@ def main():
     room, it.mapred = os.path.abspath(it.dir), it.mapred if it.mapred == "-" else os.path.abspath(it.mapred)
     os.makedirs(room, exist_ok=True)
     native, tuned = build(room)
-    text, log = data(room, it)
+    text, log, hosts = data(room, it)
     pieces = cut(room, text)
     results, lines = [], []
     mapred = None if it.mapred == "-" else it.mapred
@@ -177,6 +179,12 @@ def main():
         "url": ([log], ["--job", "url"], [
             Rival("mawk -F'\"' | sort", f"mawk -F'\"' '{{split($2,a,\" \"); if (a[2]!=\"\") c[a[2]]++}} END{{for(k in c) print k \"\\t\" c[k]}}' {log} | sort"),
             Rival("cut|cut|sort|uniq -c", f"cut -d'\"' -f2 {log} | cut -d' ' -f2 | sort -S 2G --parallel=1 | uniq -c"),
+        ], 2),
+        # url over a log whose resources name their host
+        "url-by-host": ([hosts], ["--job", "url", "--by-host"], [
+            Rival("mawk -F'\"' | sort", f"mawk -F'\"' '{{split($2,a,\" \"); if (a[2]!=\"\") c[a[2]]++}} END{{for(k in c) print k \"\\t\" c[k]}}' {hosts} | sort"),
+            *([Rival("mapred seq by key", [mapred, "seq", "--job", "url", "--parts", str(it.parts), "--out", f"{room}/by-key", hosts], out=f"{room}/by-key")] if mapred else []),
+            Rival("native seq by key", [native, "seq", "--job", "url", "--parts", str(it.parts), "--out", f"{room}/by-key-n", hosts], out=f"{room}/by-key-n"),
         ], 2),
         "index": (pieces, ["--job", "index"], [
             Rival("mawk RS=.. last[k] | sort", f"mawk -v RS='{WORD}' 'FNR==1{{n++}} {{k=tolower($0); if (last[k]!=n) {{last[k]=n; l[k]=l[k] \",\" n-1}}}} END{{for(k in l) print k \"\\t\" substr(l[k],2)}}' {' '.join(pieces)} | sort"),
@@ -208,6 +216,9 @@ def main():
             instructions(f"{job}: seq", rivals, results, "native seq")
         if mapred and got["mapred seq"].best:
             lines.append(f"{job} seq: {got['mapred seq'].best / got['native seq'].best:.2f} x native; {got['mapred seq'].best / got[peers[0].name].best if peers[0].best else float('nan'):.2f} x {peers[0].name}; files: {same(dirs['m'], dirs['a'], it.parts)}")
+        by_key = got.get("mapred seq by key")
+        if by_key and by_key.best and got["mapred seq"].best:
+            lines.append(f"{job} seq: {got['mapred seq'].best / by_key.best:.2f} x by key")
         # what is judged is the native's: in c cut into many splits, for the threads
         os.makedirs(dirs["c"], exist_ok=True)
         subprocess.run([native, "seq", *common, *split, "--out", dirs["c"], *files], check=True, stdout=subprocess.DEVNULL)

@@ -58,12 +58,21 @@ def mapper_of(asked):
     return lambda file, start, line: [(key, None) for key in [resource_of(line)] if key is not None]
 
 
-def partition_of(key, parts):
-    """FNV-1a in 64 bits, modulo the number of partitions."""
+def host_of(key):
+    """The host of a resource, folded: what stands behind its scheme up to its end; nothing where it has no such scheme."""
+    folded = key.translate(FOLD)
+    for scheme in (b"http://", b"https://"):
+        if folded.startswith(scheme):
+            return re.split(rb"[/:?#]", folded[len(scheme) :], maxsplit=1)[0]
+    return b""
+
+
+def partition_of(asked, key):
+    """FNV-1a in 64 bits of the key or of its host, modulo the number of partitions."""
     h = 0xCBF29CE484222325
-    for byte in key:
+    for byte in host_of(key) if asked.by_host else key:
         h = ((h ^ byte) * 0x100000001B3) & 0xFFFFFFFFFFFFFFFF
-    return h % parts
+    return h % asked.parts
 
 
 class Group:
@@ -107,7 +116,7 @@ def grouped(asked, files, skips):
 def front_of(asked, files, skips):
     """What stands in a certificate before its partitions."""
     literal = os.fsencode(asked.literal or "")
-    flags = (1 if asked.keep_case else 0) + (2 if asked.fold else 0)
+    flags = (1 if asked.keep_case else 0) + (2 if asked.fold else 0) + (4 if asked.by_host else 0)
     front = b"MRCERT%d\n" % asked.cert + struct.pack(">III", JOBS[asked.job], flags, len(literal)) + literal
     front += struct.pack(">III", asked.parts, asked.split, len(files)) + b"".join(struct.pack(">Q", len(data)) for data in files)
     return front + struct.pack(">I", len(skips)) + b"".join(struct.pack(">II", *skip) for skip in skips)
@@ -133,7 +142,7 @@ def produce(asked):
     groups = grouped(asked, files, set(skips))
     own = [[] for _ in range(asked.parts)]
     for key in sorted(groups):
-        own[partition_of(key, asked.parts)].append(key)
+        own[partition_of(asked, key)].append(key)
     with open(os.path.join(asked.out, "certificate"), "wb") as certificate:
         certificate.write(front_of(asked, files, skips))
         for number, keys in enumerate(own):
@@ -151,6 +160,7 @@ def main():
     parser.add_argument("--literal", help="what grep looks for")
     parser.add_argument("--fold", action="store_true", help="grep: letters in either case")
     parser.add_argument("--keep-case", action="store_true", help="words, index: capitals are not folded")
+    parser.add_argument("--by-host", action="store_true", help="url: a key's output file is that of its host")
     parser.add_argument("--parts", type=int, default=1, help="partitions, one file each")
     parser.add_argument("--split", type=int, default=67108864, help="bytes of a split")
     parser.add_argument("--skips", default="", help="records to leave out, rising, as SPLIT:RECORD,SPLIT:RECORD")

@@ -182,6 +182,7 @@ def words():
     parser.add_argument("--literal", help="what grep looks for")
     parser.add_argument("--fold", action="store_true", help="grep: letters in either case")
     parser.add_argument("--keep-case", action="store_true", help="words: capitals are not folded")
+    parser.add_argument("--by-host", action="store_true", help="url: a key's output file is that of its host")
     parser.add_argument("--parts", default="1", help="partitions, one file each")
     parser.add_argument("--split", help="bytes of a split")
     parser.add_argument("--shard-size", type=size_of, default=size_of("256M"), metavar="SIZE", help="the most bytes of a shard, as 100M or 1G (256M)")
@@ -200,7 +201,7 @@ def job_of(asked):
     job = ["--job", asked.job, "--parts", asked.parts]
     job += [f"--literal={asked.literal}"] if asked.literal is not None else []
     job += ["--split", asked.split] if asked.split else []
-    return job + ["--fold"] * asked.fold + ["--keep-case"] * asked.keep_case
+    return job + ["--fold"] * asked.fold + ["--keep-case"] * asked.keep_case + ["--by-host"] * asked.by_host
 
 
 def main():

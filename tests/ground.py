@@ -6,7 +6,7 @@ says what is asked. Expected values are worked out by hand, or stand in the rule
 import lanes
 from libraries import built, name, number, told
 
-NEXT_WORD, CLASSES, FOLDS, CUT, KEYS_ORDER, HASH, RECORDS, ORDERS, PAIRS, COLUMN = range(8, 18)
+NEXT_WORD, CLASSES, FOLDS, CUT, KEYS_ORDER, HASH, RECORDS, ORDERS, PAIRS, COLUMN, PARTITIONS = range(8, 19)
 JOBS, EMISSIONS, TEXTS, NUMBERS = range(30, 34)
 
 ONE = "One"
@@ -105,6 +105,25 @@ def hashes(harness):
     for key, line in zip(keys, lanes.answers([(HASH, key, b"xx") for key in keys])):
         parity = sum(byte & 1 for byte in key) % 2
         harness.check(f"of two partitions that of {key!r}", line.split(" ")[1:] == [str(1 ^ parity)], line)
+
+
+# Published hashes, and keys with these hosts.
+HASHES = {b"": 0xCBF29CE484222325, b"a": 0xAF63DC4C8601EC8C, b"foobar": 0x85944171F73967E8}
+HOSTS = {
+    b"": b"/z| http://a/|http:/a|http:///a|https://:80|http://|http|ftp://a/x|shttp://a/||xhttp://a|http:a",
+    b"a": b"http://a|http://a/x|HTTP://A:80/|hTtps://A?q|https://a#p|http://a:b@c/|https://a/http://b",
+    b"foobar": b"http://foobar/|HTTPS://FooBar|http://FOOBAR:8080/x|https://foobar?a/b#c",
+}
+
+
+def partitions(harness):
+    """Of two partitions those of no byte and of `foobar` are the second and the first; of three `a` has the second."""
+    worked = [(b"http://A/y", 2, 0), (b"/z", 2, 1), (b"http://a/x", 3, 1), (b"http://foobar", 2, 0), (b"https://FOOBAR:1", 16, 8)]
+    rows = [((PARTITIONS, key, b"x" * parts), f"{lanes.fnv(key) % parts} {wanted}") for key, parts, wanted in worked]
+    for host, keys in HOSTS.items():
+        for key in keys.split(b"|"):
+            rows += [((PARTITIONS, key, b"x" * parts), f"{lanes.fnv(key) % parts} {HASHES[host] % parts}") for parts in (1, 2, 7, 1024)]
+    check_cases(harness, rows)
 
 
 # Jobs, texts and keys.
@@ -408,6 +427,7 @@ def faults_by_name(harness):
 GROUPS = {
     "bytes and orders": built("mr_rows_tests", bytes_and_orders),
     "hashes": built("mr_rows_tests", hashes),
+    "partitions by key and by host": built("mr_rows_tests", partitions),
     "jobs and texts": built("mr_rows_tests", jobs_and_texts),
     "inputs and plans": built("mr_rows_tests", inputs_and_plans),
     "limits of inputs": built("mr_rows_tests", limits_of_inputs),

@@ -150,6 +150,7 @@ def spoiled(rnd, request, files, outputs, certificate):
         outputs[p] = spoiled_bytes(rnd, outputs[p])
     elif kind == 9:
         asked = replace(request, parts=request.parts + rnd.choice([0, 1]), split=request.split + rnd.choice([0, 0, 1]) if request.split < 2**26 else 5, most=rnd.choice([0, request.most]))
+        asked.by_host = request.job == "url" and rnd.choice([request.by_host, request.by_host, True])
         outputs += [b""] * (asked.parts - len(outputs))
         if rnd.random() < 0.4 and files:
             files = [*files[:-1], rnd.choice([files[-1] + b"x", files[-1][:-1], b""])]

@@ -10,6 +10,7 @@ MAGICS = {1: b"MRCERT1\n", 2: b"MRCERT2\n"}
 SHORT = rb"(\x00|[\x80-\xff]{0,3}[\x01-\x7f]|[\x80-\xff]{4}[\x01-\x0f])"
 NAME = re.compile(SHORT * 3)
 WORD = re.compile(rb"[0-9A-Za-z\x80-\xff]+")
+HOST = re.compile(rb"https?://([^/:?#]*)", re.I)
 FOLD = bytes(b + 32 if 0x41 <= b <= 0x5A else b for b in range(256))
 JOBS = {"words": 1, "grep": 2, "url": 3, "index": 4}
 
@@ -25,6 +26,7 @@ class Request:
     literal: bytes = b""
     fold: bool = False
     most: int = 0
+    by_host: bool = False
 
     def options(self):
         words = ["--job", self.job, "--parts", str(self.parts), "--split", str(self.split)]
@@ -34,10 +36,12 @@ class Request:
             words += ["--literal", self.literal.decode()]
         if self.fold:
             words.append("--fold")
+        if self.by_host:
+            words.append("--by-host")
         return [*words, "--max-skips", str(self.most)]
 
     def flags(self):
-        return 1 * self.keep + 2 * self.fold
+        return 1 * self.keep + 2 * self.fold + 4 * self.by_host
 
 
 def fnv(key):
@@ -45,6 +49,17 @@ def fnv(key):
     for byte in key:
         h = ((h ^ byte) * 0x100000001B3) % 2**64
     return h
+
+
+def host_of(key):
+    """The host of a key, folded: what stands behind http:// or https:// up to its end; nothing behind no such scheme."""
+    named = HOST.match(key)
+    return named[1].translate(FOLD) if named else b""
+
+
+def partition_of(request, key):
+    """The partition of a key, by its host or by all of it."""
+    return fnv(host_of(key) if request.by_host else key) % request.parts
 
 
 def records(data):
@@ -203,7 +218,7 @@ def produced(request, files, skips=()):
     outputs, certificate = [b""] * request.parts, certificate_of(request, files, skips)
     certificate.partitions = [[] for _ in range(request.parts)]
     for key in sorted(groups):
-        p = fnv(key) % request.parts
+        p = partition_of(request, key)
         certificate.partitions[p].append([name for name, _ in groups[key]])
         outputs[p] += text_of(request, key, [value for _, value in groups[key]])
     return outputs, certificate, len(pairs)
@@ -332,7 +347,7 @@ def judge_group(walk, pairs, request, p, g, before):
             raise No(f"EntryOrder {place}")
         if e > 0 and own != key:
             raise No(f"KeyDiffers {place}")
-        if e == 0 and fnv(own) % request.parts != p:
+        if e == 0 and partition_of(request, own) != p:
             raise No(f"WrongPartition {place}")
         if e == 0 and before is not None and own <= before:
             raise No(f"KeyOrder {place}")

@@ -22,6 +22,8 @@ def random_job(rnd, jobs=tuple(JOBS)):
     if job == "grep":
         request.literal = rnd.choice(["the", "a", "THE", "ü", " ", "42", "-"]).encode()
         request.fold = rnd.random() < 0.5
+    if job == "url":
+        request.by_host = rnd.random() < 0.5
     names = [name for name, *_ in named_records(files, request.split)]
     skips = sorted(rnd.sample(names, min(len(names), rnd.choice([0, 0, 0, 1, 5]))))
     request.most = len(skips) + rnd.choice([0, 0, 3])

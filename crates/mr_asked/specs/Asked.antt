@@ -1,11 +1,12 @@
 -- What the options of the line ask for.
-use Rattle.std.specs.Prelude.{◌≡◌, ◌≢◌, ◌⊎◌, ℕ, ◌^◌, ◌<◌, ◌≤◌, Bool, true, IsSome, List, [], length, codes, Contains, ⊤}
+use Rattle.std.specs.Prelude.{◌≡◌, ◌≢◌, ◌⊎◌, ℕ, ◌^◌, ◌<◌, ◌≤◌, Bool, true, IsSome, List, [], length, codes, Contains, if◌then◌else◌, ⊤}
 use Rattle.std.specs.Option.{option_map_or}
+use Rattle.mr_bytes.specs.declared.By.TheVariants.{Key, Host}
 use Rattle.mr_jobs.specs.JobSpec.{JobSpec, WordCount, LinesWith, Resources, InvertedIndex, RequestSpec, PartsFit, SplitFits}
 use Rattle.mr_jobs.specs.declared.job.JobFault.{JobFault}
 use Rattle.mr_jobs.specs.declared.job.JobFault.TheVariants as literal_fault
 use Rattle.mr_jobs.specs.declared.request.RequestFault.{RequestFault}
-use Rattle.mr_jobs.specs.declared.request.RequestFault.TheVariants.{BadParts, BadSplitSize, BadSkips}
+use Rattle.mr_jobs.specs.declared.request.RequestFault.TheVariants.{BadParts, BadSplitSize, BadSkips, HostNeedsUrl}
 use Rattle.mr_asked.specs.declared.fault.Fault.{Fault}
 use Rattle.mr_asked.specs.declared.fault.Fault.TheVariants.{OtherJobsOption, Job, Request, OutOfMemory}
 use Rattle.mr_asked.specs.declared.asked.Options.{Options}
@@ -33,14 +34,18 @@ job_with Index keep_case literal fold = InvertedIndex keep_case
 abbrev pub request_asked : Options → RequestSpec
 request_asked o = record {
   job = job_with o.job o.keep_case (literal_asked o) o.fold;
+  by = if o.by_host then Host else Key;
   parts = o.parts;
   split = o.split;
   skips = o.max_skips;
 }
 
--- the case is kept in another job than words and index, or lines are folded or a text looked for in another than grep
+-- the case is kept in another job than words and index, lines are folded or a text looked for in another than grep, or the
+-- host chooses the partition in another than url
 abbrev pub AsksForOtherJob : Options → Type 0
-AsksForOtherJob o = ((o.keep_case ≡ true) × (o.job ≢ Words) × (o.job ≢ Index)) ⊎ (((o.fold ≡ true) ⊎ IsSome o.literal) × (o.job ≢ Grep))
+AsksForOtherJob o = ((o.keep_case ≡ true) × (o.job ≢ Words) × (o.job ≢ Index))
+    ⊎ (((o.fold ≡ true) ⊎ IsSome o.literal) × (o.job ≢ Grep))
+    ⊎ ((o.by_host ≡ true) × (o.job ≢ Url))
 
 -- what a literal lacks, the first of it
 abbrev pub IsLiteralFault : List ℕ → JobFault → Type 0
@@ -49,11 +54,12 @@ IsLiteralFault literal literal_fault.LongLiteral = 4096 < length literal
 IsLiteralFault literal literal_fault.LineEndInLiteral = (0 < length literal) × (length literal ≤ 4096) × Contains literal 10
 IsLiteralFault literal literal_fault.OutOfMemory = ⊥
 
--- what the numbers lack, the first of it
+-- what the numbers lack, the first of it; a host that belongs to another job is told before
 abbrev pub IsNumberFault : RequestSpec → RequestFault → Type 0
 IsNumberFault request BadParts = (request.parts ≡ 0) ⊎ (1024 < request.parts)
 IsNumberFault request BadSplitSize = PartsFit request.parts × ((request.split ≡ 0) ⊎ (2 ^ 26 < request.split))
 IsNumberFault request BadSkips = PartsFit request.parts × SplitFits request.split × (1000 < request.skips)
+IsNumberFault request HostNeedsUrl = ⊥
 
 -- the literal of a search has 1 to 4,096 bytes and no line feed
 abbrev pub LiteralFits : JobSpec → Type 0

@@ -19,6 +19,7 @@ pub struct Options<'a> {
     pub keep_case: bool,
     pub literal: Option<&'a str>,
     pub fold: bool,
+    pub by_host: bool,
     pub max_skips: u32,
     pub out: &'a str,
     pub files: Vec<&'a str>,

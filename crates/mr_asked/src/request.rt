@@ -13,9 +13,10 @@ fn asks_for_other_job(options: &Options<'_>) -> bool
 {
     let of_words = options.keep_case;
     let of_grep = options.fold || options.literal.is_some();
+    let of_url = options.by_host;
     match options.job {
-        JobKind::Words | JobKind::Index => of_grep,
-        JobKind::Grep => of_words,
+        JobKind::Words | JobKind::Index => of_grep || of_url,
+        JobKind::Grep => of_words || of_url,
         JobKind::Url => of_words || of_grep,
     }
 }
@@ -49,5 +50,11 @@ pub fn request_of(alloc: Global, options: &Options<'_>) -> Result<Request, Fault
     ensures fault { IfErr result (λ e. IsRequestRefusal options.now e) }
 {
     let job = job_of(alloc, options)?;
-    Request::new(job, options.parts, options.split, options.max_skips).map_err(Fault::Request)
+    let request = Request::new(job, options.parts, options.split, options.max_skips).map_err(
+        Fault::Request,
+    )?;
+    if options.by_host {
+        return request.by_host().map_err(Fault::Request);
+    }
+    Ok(request)
 }

@@ -29,6 +29,7 @@ fn request_cure(fault: &RequestFault) -> &'static str {
         RequestFault::BadParts => "--parts is 1 to 1024",
         RequestFault::BadSplitSize => "--split is 1 to 67108864",
         RequestFault::BadSkips => "--max-skips is 0 to 1000",
+        RequestFault::HostNeedsUrl => "--by-host belongs to url",
     }
 }
 
@@ -90,7 +91,7 @@ fn shards_cure(fault: &ShardFault) -> &'static str {
 fn cure(fault: &Fault) -> &'static str {
     match fault {
         Fault::OtherJobsOption =>
-            "--keep-case belongs to words and index, --literal and --fold to grep; url has none",
+            "--keep-case belongs to words and index, --literal and --fold to grep, --by-host to url",
         Fault::Job(fault) => job_cure(fault),
         Fault::Request(fault) => request_cure(fault),
         Fault::BadSkipList => "--skips is SPLIT:RECORD,SPLIT:RECORD, as in 0:1,0:7",

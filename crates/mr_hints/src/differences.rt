@@ -82,6 +82,13 @@ fn add_where(text: &mut String, holds: bool, word: &str) -> Result<(), AllocErro
     Ok(())
 }
 
+/// Adds the options that flags tell of.
+fn add_flags(text: &mut String, flags: u32) -> Result<(), AllocError> {
+    add_where(text, flags % 2 == 1, "--keep-case")?;
+    add_where(text, flags / 2 % 2 == 1, "--fold")?;
+    add_where(text, flags / 4 % 2 == 1, "--by-host")
+}
+
 /// Adds the options that a certificate is of.
 fn add_options(text: &mut String, front: &Front) -> Result<(), AllocError> {
     let job = job_name(front.job);
@@ -92,8 +99,7 @@ fn add_options(text: &mut String, front: &Front) -> Result<(), AllocError> {
         );
         write!(text, " --literal '{literal}'")?;
     }
-    add_where(text, front.flags % 2 == 1, "--keep-case")?;
-    add_where(text, front.flags / 2 == 1, "--fold")?;
+    add_flags(text, front.flags)?;
     let Front { parts, split, .. } = front;
     write!(text, " --parts {parts} --split {split}")
 }
@@ -108,12 +114,9 @@ fn add_others(text: &mut String, front: &Front, request: &Request) -> Result<(),
         is_same && front.literal.as_slice() != job.literal(),
         "--literal",
     )?;
-    let flag = if front.job == 2 {
-        "--fold"
-    } else {
-        "--keep-case"
-    };
-    add_where(text, is_same && front.flags != job.flags(), flag)?;
+    if is_same {
+        add_flags(text, front.flags ^ request.flags())?;
+    }
     add_where(text, front.parts != request.parts(), "--parts")?;
     add_where(text, front.split != request.split_size(), "--split")
 }

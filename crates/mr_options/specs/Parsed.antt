@@ -46,6 +46,7 @@ pub record AreOptionsOf (found : Found) (o : Options) : Type 0 where
   pub max_skips : IsNumberOf (one_text found (codes "max-skips")) 0 o.max_skips
   pub keep_case : IsFlagOf (one_text found (codes "keep-case")) o.keep_case
   pub fold : IsFlagOf (one_text found (codes "fold")) o.fold
+  pub by_host : IsFlagOf (one_text found (codes "by-host")) o.by_host
   pub literal : option_map (λ s. s.now) o.literal ≡ first_value found (codes "literal")
   pub out : o.out.now ≡ unwrap_or (first_value found (codes "out")) (codes ".")
   pub files : map (λ s. s.now) o.files.items ≡ option_map_or raw_values (matched_of found (codes "files")) []

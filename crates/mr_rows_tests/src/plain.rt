@@ -2,10 +2,10 @@
 //! ground.
 use crate::telling::Teller;
 use mr_bytes::{
-    Name, Pair, RecordName, Value, Values, compare_keys, compare_names, compare_pairs,
+    By, Name, Pair, RecordName, Value, Values, compare_keys, compare_names, compare_pairs,
     compare_records, cut, fold_in_place, folded, is_word_byte, next_word,
 };
-use mr_partition::{fnv, partition};
+use mr_partition::{fnv, partition, partition_by};
 use mr_records::Records;
 use std::alloc::{AllocError, Global};
 
@@ -153,6 +153,13 @@ fn show_hash(teller: &Teller, key: &[u8], parts: usize) {
     teller.two(&fnv(key), &partition(key, parts));
 }
 
+/// The partition of a key among so many, by all of it and by its host.
+fn show_partitions(teller: &Teller, key: &[u8], parts: usize) {
+    let parts = parts.clamp(1, 1024) as u32;
+    let by_host = partition_by(By::Host, key, parts);
+    teller.two(&partition_by(By::Key, key, parts), &by_host);
+}
+
 /// Answers a case of a kernel that takes no memory.
 fn answer_plain(teller: &Teller, kernel: u8, a: &[u8], b: &[u8]) {
     match kernel {
@@ -161,6 +168,7 @@ fn answer_plain(teller: &Teller, kernel: u8, a: &[u8], b: &[u8]) {
         11 => teller.one(&cut(a, b':')),
         12 => teller.one(&compare_keys(a, b)),
         13 => show_hash(teller, a, b.len()),
+        18 => show_partitions(teller, a, b.len()),
         _ => show_orders(teller, a, b),
     }
 }
@@ -168,7 +176,7 @@ fn answer_plain(teller: &Teller, kernel: u8, a: &[u8], b: &[u8]) {
 /// Answers a case of one of these kernels.
 pub fn answer(teller: &Teller, kernel: u8, a: &[u8], b: &[u8]) -> Result<(), AllocError> {
     match kernel {
-        8 | 9 | 11..=13 | 15 => {
+        8 | 9 | 11..=13 | 15 | 18 => {
             answer_plain(teller, kernel, a, b);
             Ok(())
         }
