@@ -9,7 +9,7 @@ ghost use Rattle.mr_merge.specs.Merged.{AreSound, joined, values_of};
 ghost use Rattle.mr_merge.specs.Merging.{IsPast, IsUpTo, NamesDiffer};
 
 use crate::merging::merged_all;
-use mr_bytes::{Name, compare_names};
+use mr_bytes::{By, Name, compare_names};
 use mr_spill::{Pairs, gathered};
 use std::alloc::{AllocError, Global};
 use std::cmp::Ordering;
@@ -92,7 +92,7 @@ pub(crate) fn merged_pairs(alloc: Global, regions: &[&Pairs]) -> Result<Pairs, A
     ensures { IfOk result (λ p. p ≡ sorted pair_order (joined (values_of regions.now))) }
 {
     if names_follow(regions) {
-        return Ok(only(gathered(alloc, regions, 1)?));
+        return Ok(only(gathered(alloc, regions, By::Key, 1)?));
     }
     merged_all(alloc, regions)
 }

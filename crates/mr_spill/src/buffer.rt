@@ -2,7 +2,7 @@
 ghost use Rattle.std.specs.Prelude.{◌≡◌, ◌↔◌, ◌++◌, ◌∷◌, [], ◌<◌, ◌==◌, if◌then◌else◌, IfOk, IfErr, OnOk, OnErr, length};
 ghost use Rattle.mr_bytes.specs.Lists.{Rises};
 ghost use Rattle.mr_bytes.specs.Order.{name_order};
-ghost use Rattle.mr_partition.specs.Partition.{partition_of};
+ghost use Rattle.mr_partition.specs.Hosts.{partition_by};
 ghost use Rattle.mr_spill.specs.Buffer.{Buffered};
 ghost use Rattle.mr_spill.specs.Column.{names_of};
 ghost use Rattle.mr_spill.specs.Regions.{regions};
@@ -10,7 +10,7 @@ ghost use Rattle.mr_spill.specs.Regions.{regions};
 use crate::column::Pairs;
 use crate::numbered::Numbered;
 use crate::regions::cut;
-use mr_bytes::{Name, Pair, Value};
+use mr_bytes::{By, Name, Pair, Value};
 use std::alloc::{AllocError, Global};
 use std::marker::Model;
 use thiserror::Error;
@@ -120,13 +120,13 @@ impl Buffer {
 
     /// A region for each partition, in order, of the pairs that it holds: by key, and then name. It holds none then.
     /// It fails only for want of memory, and then leaves the buffer as it was.
-    pub fn seal(&mut self, alloc: Global, parts: u32) -> Result<Vec<Pairs>, AllocError>
+    pub fn seal(&mut self, alloc: Global, parts: u32, by: By) -> Result<Vec<Pairs>, AllocError>
         requires { 0 < parts }
-        ensures ok { IfOk result (λ v. v.items ≡ regions (λ k. partition_of k parts) parts self.old.pairs) }
+        ensures ok { IfOk result (λ v. v.items ≡ regions (λ k. partition_by by k parts) parts self.old.pairs) }
         ensures empty { OnOk result (self.new ≡ record { limit = self.old.limit; pairs = [] }) }
         ensures err { OnErr result (self.new ≡ self.old) }
     {
-        let regions = cut(alloc, &self.pairs, parts)?;
+        let regions = cut(alloc, &self.pairs, by, parts)?;
         self.pairs.clear();
         Ok(regions)
     }

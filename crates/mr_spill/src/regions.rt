@@ -2,7 +2,7 @@
 ghost use Rattle.std.specs.Prelude.{◌≡◌, ℕ, ◌+◌, ◌<◌, ◌≤◌, ◌∷◌, ◌++◌, [], IfOk, OnOk, MatchOption, All, length, map, drop};
 ghost use Rattle.std.specs.List.{range_with_len};
 ghost use Rattle.mr_bytes.specs.Lists.{Distinct, Rises};
-ghost use Rattle.mr_partition.specs.Partition.{partition_of};
+ghost use Rattle.mr_partition.specs.Hosts.{partition_by};
 ghost use Rattle.mr_spill.specs.Column.{IsSealed, names_of};
 ghost use Rattle.mr_spill.specs.Regions.{RegionsHave, RegionsRise, RisesUnderKeys, regions};
 ghost use Rattle.mr_ranks.specs.Rows.{row_cmp};
@@ -12,6 +12,7 @@ ghost use Rattle.mr_spill.specs.Table.{columns_of, pairs_under};
 use crate::column::Pairs;
 use crate::lists::{Lists, lists_of};
 use crate::numbered::{Numbered, numbered_columns};
+use mr_bytes::By;
 use mr_ranks::{RankedPairs, Row, ranked};
 use std::alloc::{AllocError, Global};
 
@@ -113,39 +114,50 @@ fn regions_of(
 pub(crate) fn rows_with_lists<'a>(
     alloc: Global,
     pairs: &'a Numbered,
+    by: By,
     parts: u32,
 ) -> Result<(Vec<Row<'a>>, Lists), AllocError>
     requires some { 0 < parts }
-    ensures { IfOk result (λ r. AreListed pairs.entry.now parts r.0.items r.1) }
+    ensures { IfOk result (λ r. AreListed pairs.entry.now (λ k. partition_by by k parts) r.0.items r.1) }
 {
     let numbers = Vec::from_slice(alloc, pairs.numbers.as_slice())?;
-    let RankedPairs { rows, numbers } = ranked(alloc, &pairs.keys, parts, numbers)?;
+    let RankedPairs { rows, numbers } = ranked(alloc, &pairs.keys, by, parts, numbers)?;
     let lists = lists_of(alloc, numbers.as_slice(), &pairs.entries, rows.len())?;
     Ok((rows, lists))
 }
 
 /// For each partition, in order, the pairs that belong to it, by key and then name. Under each key the names rise already,
 /// and no name stands twice. It fails only for want of memory.
-pub(crate) fn cut(alloc: Global, pairs: &Numbered, parts: u32) -> Result<Vec<Pairs>, AllocError>
+pub(crate) fn cut(
+    alloc: Global,
+    pairs: &Numbered,
+    by: By,
+    parts: u32,
+) -> Result<Vec<Pairs>, AllocError>
     requires some { 0 < parts }
     requires rise { RisesUnderKeys pairs.now }
     requires differ { Distinct (names_of pairs.now) }
-    ensures { IfOk result (λ v. v.items ≡ regions (λ k. partition_of k parts) parts pairs.now) }
+    ensures { IfOk result (λ v. v.items ≡ regions (λ k. partition_by by k parts) parts pairs.now) }
 {
-    let (rows, lists) = rows_with_lists(alloc, pairs, parts)?;
+    let (rows, lists) = rows_with_lists(alloc, pairs, by, parts)?;
     regions_of(alloc, &lists, rows.as_slice(), parts)
 }
 
 /// For each partition, in order, the pairs of all columns that belong to it, by key and then name. Under each key the
 /// names rise from column to column already, and no name stands twice. It fails only for want of memory.
-pub fn gathered(alloc: Global, columns: &[&Pairs], parts: u32) -> Result<Vec<Pairs>, AllocError>
+pub fn gathered(
+    alloc: Global,
+    columns: &[&Pairs],
+    by: By,
+    parts: u32,
+) -> Result<Vec<Pairs>, AllocError>
     requires some { 0 < parts }
     requires rise { RisesUnderKeys (columns_of columns.now) }
     requires differ { Distinct (names_of (columns_of columns.now)) }
-    ensures { IfOk result (λ v. v.items ≡ regions (λ k. partition_of k parts) parts (columns_of columns.now)) }
+    ensures { IfOk result (λ v. v.items ≡ regions (λ k. partition_by by k parts) parts (columns_of columns.now)) }
 {
     let pairs = numbered_columns(alloc, columns)?;
-    cut(alloc, &pairs, parts)
+    cut(alloc, &pairs, by, parts)
 }
 
 /// What regions are: they rise strictly by key and name, and a region has just the pairs of its partition.

@@ -2,7 +2,7 @@
 ghost use Rattle.std.specs.Prelude.{◌≡◌, ℕ, ◌+◌, ◌<◌, ◌≤◌, ◌^◌, ◌==◌, if◌then◌else◌, ◌++◌, ◌∷◌, [], IfOk, OnOk, OnErr, All, length, drop, slice_index_or};
 ghost use Rattle.std.specs.List.{AllByRecursion, flat_map};
 ghost use Rattle.mr_bytes.specs.Lists.{Distinct, Rises};
-ghost use Rattle.mr_partition.specs.Partition.{partition_of};
+ghost use Rattle.mr_partition.specs.Hosts.{partition_by};
 ghost use Rattle.mr_ranks.specs.Rows.{row_cmp};
 ghost use Rattle.mr_spill.specs.Column.{names_of};
 ghost use Rattle.mr_spill.specs.Lent.{AreRunsOf};
@@ -18,7 +18,7 @@ use crate::lists::Lists;
 use crate::numbered::Numbered;
 use crate::regions::{row_in, rows_with_lists};
 use crate::spelling::{put_header, put_pair};
-use mr_bytes::Value;
+use mr_bytes::{By, Value};
 use mr_ranks::Row;
 use std::alloc::{AllocError, Global};
 use std::marker::Model;
@@ -244,14 +244,15 @@ fn cut_texts(
     alloc: Global,
     pairs: &Numbered,
     split: u32,
+    by: By,
     parts: u32,
 ) -> Result<Vec<SealedRegion>, AllocError>
     requires some { 0 < parts }
     requires rise { RisesUnderKeys pairs.now }
     requires differ { Distinct (names_of pairs.now) }
-    ensures { IfOk result (λ v. AreFor (λ p. IsSealedAs split p (region (λ k. partition_of k parts) pairs.now p)) parts v.items) }
+    ensures { IfOk result (λ v. AreFor (λ p. IsSealedAs split p (region (λ k. partition_by by k parts) pairs.now p)) parts v.items) }
 {
-    let (rows, lists) = rows_with_lists(alloc, pairs, parts)?;
+    let (rows, lists) = rows_with_lists(alloc, pairs, by, parts)?;
     texts_of(alloc, &lists, rows.as_slice(), split, parts)
 }
 
@@ -263,14 +264,15 @@ impl Buffer {
         alloc: Global,
         split: u32,
         parts: u32,
+        by: By,
     ) -> Result<SealedRun, AllocError>
         requires some { 0 < parts }
         requires own { AllByRecursion (λ t. t.name.split ≡ split) self.old.pairs }
-        ensures ok { IfOk result (λ r. SpellsRun r split parts (region (λ k. partition_of k parts) self.old.pairs)) }
+        ensures ok { IfOk result (λ r. SpellsRun r split parts (region (λ k. partition_by by k parts) self.old.pairs)) }
         ensures empty { OnOk result (self.new ≡ record { limit = self.old.limit; pairs = [] }) }
         ensures err { OnErr result (self.new ≡ self.old) }
     {
-        let regions = cut_texts(alloc, &self.pairs, split, parts)?;
+        let regions = cut_texts(alloc, &self.pairs, split, by, parts)?;
         self.pairs.clear();
         Ok(SealedRun { split, regions })
     }

@@ -4,66 +4,72 @@ use Rattle.std.proofs.lemmas.List.{append-nil, map-append}
 use Rattle.std.proofs.lemmas.List.FromFn.{get_or-map-range_with_len, length-map-range_with_len}
 use Rattle.std.specs.List.{range_with_len}
 use Rattle.std.specs.declared.cmp.Ordering.TheVariants.{Less}
+use Rattle.mr_bytes.specs.declared.By.{By}
 use Rattle.mr_bytes.specs.declared.Name.{Name}
 use Rattle.mr_bytes.specs.Lists.{Rises}
 use Rattle.mr_bytes.specs.Order.{name_order}
 use Rattle.mr_bytes.specs.Pairs.{Triple}
 use Rattle.mr_bytes.proofs.ListLaws.{all_from_Has, Has-all, Has-append_left}
-use Rattle.mr_partition.specs.Partition.{partition_of}
+use Rattle.mr_partition.specs.Hosts.{partition_by}
 use Rattle.mr_sequential.proofs.SourceLemmas.{flat_map-append}
 use Rattle.mr_spill.specs.Column.{names_of}
 use Rattle.mr_spill.specs.Regions.{region}
 use Rattle.mr_task.specs.declared.runs.Runs.{Runs}
 use Rattle.mr_spill.specs.Sealed.{RunText, SpellsRun}
 use Rattle.mr_spill.specs.Spelling.{SpellsRegion}
-use Rattle.mr_spill.proofs.SealedLemmas.{all-append}
 use Rattle.mr_merge.specs.Bytes.{AreSpelled}
 use Rattle.mr_merge.specs.Merged.{joined}
 use Rattle.mr_task.specs.Mapped.{IsMapped, regions_at}
-use Rattle.mr_task.specs.Runs.{AreNext, AreOf, AreRuns, HasTaken, Takes}
+use Rattle.mr_task.specs.Runs.{AreNext, AreRuns, HasTaken, Takes, part_in}
 
 -- one run more
-pub runs-more : (split parts : ℕ) (sealed : List (List Triple)) (ts : List Triple) (runs : List RunText) (run : RunText) → AreRuns split parts sealed runs
-    → SpellsRun run split parts (region (λ k. partition_of k parts) ts) → AreRuns split parts (sealed ++ ts ∷ []) (runs ++ run ∷ [])
-runs-more split parts [] ts [] run all one = (one, tt)
-runs-more split parts [] ts (r ∷ rs) run all one = absurd all
-runs-more split parts (s ∷ ss) ts [] run all one = absurd all
-runs-more split parts (s ∷ ss) ts (r ∷ rs) run all one = (all.0, runs-more split parts ss ts rs run all.1 one)
+pub runs-more : (split : ℕ) (part : List ℕ → ℕ) (parts : ℕ) (sealed : List (List Triple)) (ts : List Triple) (runs : List RunText) (run : RunText) → AreRuns split part parts sealed runs
+    → SpellsRun run split parts (region part ts) → AreRuns split part parts (sealed ++ ts ∷ []) (runs ++ run ∷ [])
+runs-more split part parts [] ts [] run all one = (one, tt)
+runs-more split part parts [] ts (r ∷ rs) run all one = absurd all
+runs-more split part parts (s ∷ ss) ts [] run all one = absurd all
+runs-more split part parts (s ∷ ss) ts (r ∷ rs) run all one = (all.0, runs-more split part parts ss ts rs run all.1 one)
 
 -- its pairs come behind
 pub joined-one : (sealed : List (List Triple)) (ts : List Triple) → joined (sealed ++ ts ∷ []) ≡ joined sealed ++ ts
 joined-one sealed ts = flat_map-append (λ (l : List Triple). l) sealed (ts ∷ []) ∙ ap (λ (l : List Triple). joined sealed ++ l) (append-nil ts)
 
 -- the runs spell the regions of a partition
-spelled-at : (split parts : ℕ) (sealed : List (List Triple)) (runs : List RunText) (p : ℕ) → p < parts → AreRuns split parts sealed runs
-    → AreSpelled p (regions_at p runs) (map (λ ts. region (λ k. partition_of k parts) ts p) sealed)
-spelled-at split parts [] [] p h all = tt
-spelled-at split parts [] (r ∷ rs) p h all = absurd all
-spelled-at split parts (s ∷ ss) [] p h all = absurd all
-spelled-at split parts (s ∷ ss) (r ∷ rs) p h all = (
-  subst (λ n. SpellsRegion (get_or r.regions p []) n p (region (λ k. partition_of k parts) s p)) (sym all.0.own) (all.0.each p h),
-  spelled-at split parts ss rs p h all.1,
+spelled-at : (split : ℕ) (part : List ℕ → ℕ) (parts : ℕ) (sealed : List (List Triple)) (runs : List RunText) (p : ℕ) → p < parts → AreRuns split part parts sealed runs
+    → AreSpelled p (regions_at p runs) (map (λ ts. region part ts p) sealed)
+spelled-at split part parts [] [] p h all = tt
+spelled-at split part parts [] (r ∷ rs) p h all = absurd all
+spelled-at split part parts (s ∷ ss) [] p h all = absurd all
+spelled-at split part parts (s ∷ ss) (r ∷ rs) p h all = (
+  subst (λ n. SpellsRegion (get_or r.regions p []) n p (region part s p)) (sym all.0.own) (all.0.each p h),
+  spelled-at split part parts ss rs p h all.1,
 )
 
-mapped-by : (pairs : List Triple) (split parts : ℕ) (sealed : List (List Triple)) (runs : List RunText) → AreRuns split parts sealed runs → joined sealed ≡ pairs
-    → IsMapped (λ k. partition_of k parts) parts pairs (record { parts = parts; runs = runs })
-mapped-by pairs split parts sealed runs all is =
-    let regions_for : ℕ → List (List Triple) = λ p. map (λ ts. region (λ k. partition_of k parts) ts p) sealed in
+mapped-by : (pairs : List Triple) (split : ℕ) (part : List ℕ → ℕ) (parts : ℕ) (sealed : List (List Triple)) (runs : List RunText) → AreRuns split part parts sealed runs → joined sealed ≡ pairs
+    → IsMapped part parts pairs (record { parts = parts; runs = runs })
+mapped-by pairs split part parts sealed runs all is =
+    let regions_for : ℕ → List (List Triple) = λ p. map (λ ts. region part ts p) sealed in
     let at : (p : ℕ) → p < parts → get_or (map regions_for (range_with_len 0 parts)) p [] ≡ regions_for p =
     λ p h. get_or-map-range_with_len regions_for 0 parts p p [] h (omega arith) in
     record {
       regions = map regions_for (range_with_len 0 parts);
       parts_are = refl;
       cut = record { runs = sealed; all = is; one_each = length-map-range_with_len regions_for 0 parts; each = at };
-      spelled = λ p h. subst (AreSpelled p (regions_at p runs)) (sym (at p h)) (spelled-at split parts sealed runs p h all);
+      spelled = λ p h. subst (AreSpelled p (regions_at p runs)) (sym (at p h)) (spelled-at split part parts sealed runs p h all);
     }
 
+-- what holds of the partition that runs give, holds where that is written out
+pub written : (P : (List ℕ → ℕ) → ℕ → Type 0) (r : Runs) (by : By) (parts : ℕ) → r.by ≡ by → r.sealed.parts ≡ parts
+    → P (part_in r) r.sealed.parts → P (λ k. partition_by by k parts) parts
+written P r by parts b e holds =
+    subst (λ (n : ℕ). P (λ k. partition_by by k n) n) e (subst (λ (w : By). P (λ k. partition_by w k r.sealed.parts) r.sealed.parts) b holds)
+
 -- where nothing waits, all that was taken is in the runs
-pub all-mapped : (pairs : List Triple) (r : Runs) (parts : ℕ) → HasTaken pairs r → r.buffer.pairs ≡ [] → r.sealed.parts ≡ parts
-    → IsMapped (λ k. partition_of k parts) parts pairs r.sealed
-all-mapped pairs r parts h none e =
+pub all-mapped : (pairs : List Triple) (r : Runs) (by : By) (parts : ℕ) → HasTaken pairs r → r.buffer.pairs ≡ [] → r.by ≡ by → r.sealed.parts ≡ parts
+    → IsMapped (λ k. partition_by by k parts) parts pairs r.sealed
+all-mapped pairs r by parts h none b e =
     let same : joined h.sealed ≡ pairs = sym (append-nil (joined h.sealed)) ∙ ap (λ (l : List Triple). joined h.sealed ++ l) (sym none) ∙ h.all in
-    subst (λ (n : ℕ). IsMapped (λ k. partition_of k n) n pairs r.sealed) e (mapped-by pairs r.split r.sealed.parts h.sealed r.sealed.runs h.each same)
+    written (λ part n. IsMapped part n pairs r.sealed) r by parts b e (mapped-by pairs r.split (part_in r) r.sealed.parts h.sealed r.sealed.runs h.each same)
 
 pub takes-none : (r : Runs) → Takes [] r r
 takes-none r pairs h = subst (λ (l : List Triple). HasTaken l r) (sym (append-nil pairs)) h

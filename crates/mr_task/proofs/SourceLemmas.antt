@@ -3,6 +3,7 @@ use Rattle.std.proofs.Common.{◌≡◌, ℕ, ◌+◌, ◌<◌, Bool, true, fals
 use Rattle.std.proofs.lemmas.List.{append-nil, map-append, take_more, drop_more, take-append-drop}
 use Rattle.std.specs.List.{flat_map}
 use Rattle.std.specs.declared.cmp.Ordering.TheVariants.{Less}
+use Rattle.mr_bytes.specs.declared.By.TheVariants.{Key}
 use Rattle.mr_bytes.specs.declared.RecordName.{RecordName}
 use Rattle.mr_bytes.specs.Lists.{Rises}
 use Rattle.mr_bytes.specs.Order.{name_order}
@@ -78,7 +79,7 @@ emitted-without ts split numbers skips same = λ i. filter (λ (t : Triple). (t.
 
 pub emitted-rises : (job : JobSpec) (size : ℕ) (files : List (List ℕ)) → 0 < size → Rises by_name (emitted job size files [])
 emitted-rises job size files some =
-    rises-names (emitted job size files []) (names_rise (record { job = job; parts = 1; split = size; skips = 0 }) files [] some)
+    rises-names (emitted job size files []) (names_rise (record { job = job; by = Key; parts = 1; split = size; skips = 0 }) files [] some)
 
 pub names-rises : (ts : List Triple) → Rises by_name ts → Rises name_order (names_of ts)
 names-rises [] r = tt

@@ -5,7 +5,7 @@ use Rattle.mr_bytes.specs.Pairs.{Triple}
 use Rattle.mr_jobs.specs.JobSpec.{JobSpec}
 use Rattle.mr_jobs.specs.Emissions.{emissions}
 use Rattle.mr_merge.specs.Merged.{joined}
-use Rattle.mr_partition.specs.Partition.{partition_of}
+use Rattle.mr_partition.specs.Hosts.{partition_by}
 use Rattle.mr_sequential.specs.Emitted.{placed_from}
 use Rattle.mr_spill.specs.Regions.{region}
 use Rattle.mr_spill.specs.Sealed.{RunText, SpellsRun}
@@ -13,17 +13,21 @@ use Rattle.mr_splits.specs.Named.{NamedRecord}
 use Rattle.mr_task.specs.declared.runs.Runs.{Runs}
 use Rattle.mr_task.specs.Values.{has_number}
 
+-- the partition that runs give a key
+abbrev pub part_in : Runs → List ℕ → ℕ
+part_in runs key = partition_by runs.by key runs.sealed.parts
+
 -- each run spells the regions of its pairs
-abbrev pub AreRuns : ℕ → ℕ → List (List Triple) → List RunText → Type 0
-AreRuns split parts [] [] = Unit {0}
-AreRuns split parts [] (run ∷ runs) = ⊥
-AreRuns split parts (ts ∷ sealed) [] = ⊥
-AreRuns split parts (ts ∷ sealed) (run ∷ runs) = SpellsRun run split parts (region (λ k. partition_of k parts) ts) × AreRuns split parts sealed runs
+abbrev pub AreRuns : ℕ → (List ℕ → ℕ) → ℕ → List (List Triple) → List RunText → Type 0
+AreRuns split part parts [] [] = Unit {0}
+AreRuns split part parts [] (run ∷ runs) = ⊥
+AreRuns split part parts (ts ∷ sealed) [] = ⊥
+AreRuns split part parts (ts ∷ sealed) (run ∷ runs) = SpellsRun run split parts (region part ts) × AreRuns split part parts sealed runs
 
 -- the pairs are those of the sealed runs, with those that wait in the buffer
 pub record HasTaken (pairs : List Triple) (runs : Runs) : Type 0 where
   pub sealed : List (List Triple)
-  pub each : AreRuns runs.split runs.sealed.parts sealed runs.sealed.runs
+  pub each : AreRuns runs.split (part_in runs) runs.sealed.parts sealed runs.sealed.runs
   pub all : joined sealed ++ runs.buffer.pairs ≡ pairs
 
 -- all pairs are of the split

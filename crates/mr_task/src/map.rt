@@ -2,16 +2,16 @@
 ghost use Rattle.std.specs.Prelude.{◌≡◌, ◌≤◌, ◌<◌, [], IfOk, IsTrue, MatchOption, OnOk, false};
 ghost use Rattle.std.specs.List.Sorted.{IsNonDecreasing};
 ghost use Rattle.mr_input.specs.Files.{split_total};
-ghost use Rattle.mr_partition.specs.Partition.{partition_of};
+ghost use Rattle.mr_partition.specs.Hosts.{partition_by};
 ghost use Rattle.mr_sequential.specs.Emitted.{emitted};
 ghost use Rattle.mr_task.specs.Mapped.{IsMapped};
-ghost use Rattle.mr_task.specs.Runs.{AreOf, HasTaken};
+ghost use Rattle.mr_task.specs.Runs.{AreOf, HasTaken, part_in};
 ghost use Rattle.mr_task.specs.Values.{emitted_in};
 
 use crate::left_out::{has, in_order};
 use crate::output::MapOutput;
 use crate::runs::Runs;
-use mr_bytes::RecordName;
+use mr_bytes::{By, RecordName};
 use mr_jobs::Job;
 use mr_merge::{Demand, Unending};
 use mr_splits::Plan;
@@ -31,12 +31,13 @@ pub fn map_task(
     parts: u32,
     split: u32,
     skips: &[u32],
+    by: By,
 ) -> Result<MapOutput, AllocError>
     requires parts { 1 ≤ parts }
     requires split { split < split_total plan.now.size plan.now.files }
-    ensures { IfOk result (IsMapped (λ k. partition_of k parts) parts (emitted_in (emitted job.now plan.now.size plan.now.files []) split skips.now)) }
+    ensures { IfOk result (IsMapped (λ k. partition_by by k parts) parts (emitted_in (emitted job.now plan.now.size plan.now.files []) split skips.now)) }
 {
-    map_task_with(alloc, plan, job, parts, split, skips, RUN_PAIRS)
+    map_task_with(alloc, plan, job, parts, split, skips, RUN_PAIRS, by)
 }
 
 /// What `map_task` gives, and `None` where it was no longer wanted before it was there: it is asked before each record.
@@ -48,13 +49,15 @@ pub fn map_task_while<D: Demand>(
     split: u32,
     skips: &[u32],
     demand: &D,
+    by: By,
 ) -> Result<Option<MapOutput>, AllocError>
     requires parts { 1 ≤ parts }
     requires split { split < split_total plan.now.size plan.now.files }
     ensures { IfOk result (λ o. MatchOption o (D.unending → ⊥)
-        (IsMapped (λ k. partition_of k parts) parts (emitted_in (emitted job.now plan.now.size plan.now.files []) split skips.now))) }
+        (IsMapped (λ k. partition_by by k parts) parts (emitted_in (emitted job.now plan.now.size plan.now.files []) split skips.now))) }
 {
-    mapped(alloc, plan, job, parts, split, skips, RUN_PAIRS, demand)
+    let runs = Runs::new(alloc, split, by, parts, RUN_PAIRS);
+    mapped(alloc, plan, job, split, skips, runs, demand)
 }
 
 /// What `map_task` gives, where a run ends as soon as it has `limit` pairs: each run that has any gives one region to
@@ -67,36 +70,39 @@ pub fn map_task_with(
     split: u32,
     skips: &[u32],
     limit: usize,
+    by: By,
 ) -> Result<MapOutput, AllocError>
     requires parts { 1 ≤ parts }
     requires split { split < split_total plan.now.size plan.now.files }
     requires limit { 1 ≤ limit }
-    ensures { IfOk result (IsMapped (λ k. partition_of k parts) parts (emitted_in (emitted job.now plan.now.size plan.now.files []) split skips.now)) }
+    ensures { IfOk result (IsMapped (λ k. partition_by by k parts) parts (emitted_in (emitted job.now plan.now.size plan.now.files []) split skips.now)) }
 {
-    match mapped(alloc, plan, job, parts, split, skips, limit, &Unending)? {
+    let runs = Runs::new(alloc, split, by, parts, limit);
+    match mapped(alloc, plan, job, split, skips, runs, &Unending)? {
         Some(output) => Ok(output),
         None => unreachable!(),
     }
 }
 
-/// What a map task gives in runs of at most `limit` pairs, as long as it is wanted.
+/// What a map task gives in these runs, which have nothing yet, as long as it is wanted.
 fn mapped<D: Demand>(
     alloc: Global,
     plan: &Plan<'_>,
     job: &Job,
-    parts: u32,
     split: u32,
     skips: &[u32],
-    limit: usize,
+    mut runs: Runs,
     demand: &D,
 ) -> Result<Option<MapOutput>, AllocError>
-    requires parts { 1 ≤ parts }
     requires split { split < split_total plan.now.size plan.now.files }
+    requires some { 0 < runs.sealed.parts }
+    requires here { runs.split ≡ split }
+    requires none { HasTaken [] runs }
+    requires empty { runs.buffer.pairs ≡ [] }
     ensures { IfOk result (λ o. MatchOption o (D.unending → ⊥)
-        (IsMapped (λ k. partition_of k parts) parts (emitted_in (emitted job.now plan.now.size plan.now.files []) split skips.now))) }
+        (IsMapped (part_in runs) runs.sealed.parts (emitted_in (emitted job.now plan.now.size plan.now.files []) split skips.now))) }
 {
     let left_out = in_order(alloc, skips)?;
-    let mut runs = Runs::new(alloc, split, parts, limit);
     if !take_records(
         alloc,
         plan,
@@ -128,6 +134,7 @@ fn take_records<D: Demand>(
     requires here { runs.old.split ≡ split }
     requires none { HasTaken [] runs.old }
     requires empty { runs.old.buffer.pairs ≡ [] }
+    ensures by { OnOk result (runs.new.by ≡ runs.old.by) }
     ensures parts { OnOk result (runs.new.sealed.parts ≡ runs.old.sealed.parts) }
     ensures own { OnOk result (AreOf runs.new.split runs.new.buffer.pairs) }
     ensures taken { IfOk result (λ b. IsTrue b → HasTaken (emitted_in (emitted job.now plan.now.size plan.now.files []) split left_out.now) runs.new) }

@@ -5,14 +5,13 @@ ghost use Rattle.mr_bytes.specs.Order.{name_order};
 ghost use Rattle.mr_bytes.specs.Pairs.{Triple};
 ghost use Rattle.mr_jobs.specs.Emissions.{emissions};
 ghost use Rattle.mr_jobs.specs.Hits.{IsLine};
-ghost use Rattle.mr_partition.specs.Partition.{partition_of};
 ghost use Rattle.mr_sequential.specs.Emitted.{placed_from};
 ghost use Rattle.mr_spill.specs.Column.{names_of};
 ghost use Rattle.mr_task.specs.Mapped.{IsMapped};
-ghost use Rattle.mr_task.specs.Runs.{AreNext, AreOf, HasTaken, Takes};
+ghost use Rattle.mr_task.specs.Runs.{AreNext, AreOf, HasTaken, Takes, part_in};
 
 use crate::output::MapOutput;
-use mr_bytes::{Name, RecordName, Value};
+use mr_bytes::{By, Name, RecordName, Value};
 use mr_jobs::Mapper;
 use mr_spill::{Buffer, PushRefusal};
 use mr_splits::Located;
@@ -22,20 +21,23 @@ use std::alloc::{AllocError, Global};
 #[derive(Drop)]
 pub(crate) struct Runs {
     split: u32,
+    by: By,
     sealed: MapOutput,
     buffer: Buffer,
 }
 
 impl Runs {
     /// No pairs yet.
-    pub fn new(alloc: Global, split: u32, parts: u32, limit: usize) -> Runs
+    pub fn new(alloc: Global, split: u32, by: By, parts: u32, limit: usize) -> Runs
         ensures split { result.split ≡ split }
+        ensures by { result.by ≡ by }
         ensures parts { result.sealed.parts ≡ parts }
         ensures taken { HasTaken [] result }
         ensures waiting { result.buffer.pairs ≡ [] }
     {
         Runs {
             split,
+            by,
             sealed: MapOutput::new(alloc, parts),
             buffer: Buffer::new(alloc, limit),
         }
@@ -46,13 +48,14 @@ impl Runs {
         requires some { 0 < self.old.sealed.parts }
         requires own { AreOf self.old.split self.old.buffer.pairs }
         ensures split { OnOk result (self.new.split ≡ self.old.split) }
+        ensures by { OnOk result (self.new.by ≡ self.old.by) }
         ensures parts { OnOk result (self.new.sealed.parts ≡ self.old.sealed.parts) }
         ensures taken { OnOk result (Takes [] self.old self.new) }
         ensures waiting { OnOk result (self.new.buffer.pairs ≡ []) }
     {
         let run = self
             .buffer
-            .seal_run(alloc, self.split, self.sealed.parts())?;
+            .seal_run(alloc, self.split, self.sealed.parts(), self.by)?;
         self.sealed.push(run)
     }
 
@@ -68,6 +71,7 @@ impl Runs {
         requires own { AreOf self.old.split self.old.buffer.pairs }
         requires here { name.split ≡ self.old.split }
         requires rise { Rises name_order (names_of self.old.buffer.pairs ++ name ∷ []) }
+        ensures by { OnOk result (self.new.by ≡ self.old.by) }
         ensures parts { OnOk result (self.new.sealed.parts ≡ self.old.sealed.parts) }
         ensures split { OnOk result (self.new.split ≡ self.old.split) }
         ensures own { OnOk result (AreOf self.new.split self.new.buffer.pairs) }
@@ -104,6 +108,7 @@ impl Runs {
         requires rise { Rises name_order
             (names_of (self.old.buffer.pairs ++ placed_from number 0 (emissions mapper.old.job line.file line.start line.bytes.now))) }
         ensures same { mapper.new ≡ mapper.old }
+        ensures by { OnOk result (self.new.by ≡ self.old.by) }
         ensures parts { OnOk result (self.new.sealed.parts ≡ self.old.sealed.parts) }
         ensures split { OnOk result (self.new.split ≡ self.old.split) }
         ensures own { OnOk result (AreOf self.new.split self.new.buffer.pairs) }
@@ -130,7 +135,7 @@ impl Runs {
         requires some { 0 < self.sealed.parts }
         requires own { AreOf self.split self.buffer.pairs }
         ensures { IfOk result (λ out. (pairs : List Triple) → HasTaken pairs self
-            → IsMapped (λ k. partition_of k self.sealed.parts) self.sealed.parts pairs out) }
+            → IsMapped (part_in self) self.sealed.parts pairs out) }
     {
         let waiting = self.buffer.len();
         if waiting > 0 {
@@ -138,6 +143,7 @@ impl Runs {
         }
         let Runs {
             split: _,
+            by: _,
             sealed,
             buffer: _,
         } = self;

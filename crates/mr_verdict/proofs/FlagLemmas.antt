@@ -1,8 +1,8 @@
 -- What flags tell.
-use Rattle.std.proofs.Common.{◌≡◌, ℕ, ◌+◌, ◌<◌, refl, sym, ap, ◌∙◌, arith, true, false}
+use Rattle.std.proofs.Common.{◌≡◌, ◌+◌, ◌<◌, refl, ap, arith, true, false}
 use Rattle.mr_bytes.specs.declared.By.{By}
 use Rattle.mr_bytes.specs.declared.By.TheVariants.{Host, Key}
-use Rattle.mr_jobs.specs.JobSpec.{ByFits, InvertedIndex, JobSpec, LinesWith, RequestSpec, Resources, WordCount, by_flag, flags_of, job_flags}
+use Rattle.mr_jobs.specs.JobSpec.{ByFits, InvertedIndex, JobSpec, LinesWith, Resources, WordCount, by_flag, job_flags}
 use Rattle.mr_verdict.specs.Truth.{by_told}
 
 -- the flags of a job are below that of a partition by host

@@ -53,17 +53,18 @@ take_record-requires-clause-rise g c =
     (task-rises c.args.job.now c.args.plan.now.size c.args.plan.now.files c.args.split skips (omega (arith, c.size-size.ensures.same, c.size-size.ensures.within.0))))
 
 -- what the loop knows after some records
-abbrev IsSoFar : ℕ → ℕ → Source → List Triple → Runs → Source → Type 0
-IsSoFar s n source pairs r m =
-    record { parts : r.sealed.parts ≡ n; split : r.split ≡ s; own : AreOf r.split r.buffer.pairs; mapper : m ≡ source; taken : HasTaken pairs r }
+abbrev IsSoFar : Runs → ℕ → Source → List Triple → Runs → Source → Type 0
+IsSoFar first s source pairs r m =
+    record { by : r.by ≡ first.by; parts : r.sealed.parts ≡ first.sealed.parts; split : r.split ≡ s; own : AreOf r.split r.buffer.pairs; mapper : m ≡ source; taken : HasTaken pairs r }
 
-kept-step : (split parts : ℕ) (source : Source) (all so_far more : List Triple) (old new now : Runs) (m m_new m_now : Source) → now ≡ new → m_now ≡ m_new → m_new ≡ m
-    → all ≡ so_far ++ more → IsSoFar split parts source so_far old m
-    → record { parts : new.sealed.parts ≡ old.sealed.parts; split : new.split ≡ old.split; own : AreOf new.split new.buffer.pairs; taken : Takes more old new }
-    → IsSoFar split parts source all now m_now
-kept-step split parts source all so_far more old new now m m_new m_now is m_is same e before step =
-    subst (λ (r : Runs). IsSoFar split parts source all r m_now) (sym is)
+kept-step : (first : Runs) (split : ℕ) (source : Source) (all so_far more : List Triple) (old new now : Runs) (m m_new m_now : Source) → now ≡ new → m_now ≡ m_new → m_new ≡ m
+    → all ≡ so_far ++ more → IsSoFar first split source so_far old m
+    → record { by : new.by ≡ old.by; parts : new.sealed.parts ≡ old.sealed.parts; split : new.split ≡ old.split; own : AreOf new.split new.buffer.pairs; taken : Takes more old new }
+    → IsSoFar first split source all now m_now
+kept-step first split source all so_far more old new now m m_new m_now is m_is same e before step =
+    subst (λ (r : Runs). IsSoFar first split source all r m_now) (sym is)
     (record {
+      by = step.by ∙ before.by;
       parts = step.parts ∙ before.parts;
       split = step.split ∙ before.split;
       own = step.own;
@@ -90,17 +91,17 @@ loop-rec-preserved g c =
           let gave : gives (nth_named rs i) ≡ placed_from is.name 0 (emissions c.loop-rec.mapper.job line.file line.start line.bytes.now) =
           gives-kept c.args.job.now skips (nth_named rs i) is c.located-line.ensures.record kept
           ∙ ap (λ (m : Source). placed_from is.name 0 (emissions m.job line.file line.start line.bytes.now)) (sym c.loop-rec.invariant.mapper) in
-          kept-step c.args.split c.args.runs.now.sealed.parts source (flat_map gives (take (i + 1) rs)) so_far (placed_from is.name 0 (emissions c.loop-rec.mapper.job line.file line.start line.bytes.now))
+          kept-step c.args.runs.now c.args.split source (flat_map gives (take (i + 1) rs)) so_far (placed_from is.name 0 (emissions c.loop-rec.mapper.job line.file line.start line.bytes.now))
           c.loop-rec.runs w.take_record.new.self c.if-not-has.runs c.loop-rec.mapper w.take_record.new.mapper c.if-not-has.mapper
           w.runs-is w.mapper-is w.take_record.ensures.same (more ∙ ap (λ (l : List Triple). so_far ++ l) gave)
-          c.loop-rec.invariant (let step = w.in_ok-take_record.ensures in record { parts = step.parts; split = step.split; own = step.own; taken = step.taken })
+          c.loop-rec.invariant (let step = w.in_ok-take_record.ensures in record { by = step.by; parts = step.parts; split = step.split; own = step.own; taken = step.taken })
       | else-not-has w ↦
           let out : has_number skips i ≡ true = sym has ∙ w.if-not-has.false in
           let nothing : flat_map gives (take (i + 1) rs) ≡ so_far =
           more ∙ ap (λ (l : List Triple). so_far ++ l) (gives-nothing c.args.job.now skips (nth_named rs i) is c.located-line.ensures.record out) ∙ append-nil so_far in
-          subst (λ (r : Runs). IsSoFar c.args.split c.args.runs.now.sealed.parts source (flat_map gives (take (i + 1) rs)) r c.if-not-has.mapper) (sym w.runs-is)
-          (subst (λ (m : Source). IsSoFar c.args.split c.args.runs.now.sealed.parts source (flat_map gives (take (i + 1) rs)) c.loop-rec.runs m) (sym w.mapper-is)
-          (subst (λ (l : List Triple). IsSoFar c.args.split c.args.runs.now.sealed.parts source l c.loop-rec.runs c.loop-rec.mapper) (sym nothing) c.loop-rec.invariant))
+          subst (λ (r : Runs). IsSoFar c.args.runs.now c.args.split source (flat_map gives (take (i + 1) rs)) r c.if-not-has.mapper) (sym w.runs-is)
+          (subst (λ (m : Source). IsSoFar c.args.runs.now c.args.split source (flat_map gives (take (i + 1) rs)) c.loop-rec.runs m) (sym w.mapper-is)
+          (subst (λ (l : List Triple). IsSoFar c.args.runs.now c.args.split source l c.loop-rec.runs c.loop-rec.mapper) (sym nothing) c.loop-rec.invariant))
     ]
 
 pub returns-clause-taken : goal.returns-clause-taken

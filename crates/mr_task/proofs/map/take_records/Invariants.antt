@@ -7,6 +7,7 @@ use Rattle.mr_task.proofs.map.take_records.Given as goal
 
 abbrev pub invariant-loop-rec : goal.invariant-loop-rec
 invariant-loop-rec g l = record {
+  by : l.runs.by ≡ l.fn.runs.by;
   parts : l.runs.sealed.parts ≡ l.fn.runs.sealed.parts;
   split : l.runs.split ≡ l.split;
   own : AreOf l.runs.split l.runs.buffer.pairs;

@@ -1,4 +1,4 @@
-use Rattle.std.proofs.Common.{◌≡◌, ap, sym, ◌∙◌, subst}
+use Rattle.std.proofs.Common.{◌≡◌, ap, sym, ◌∙◌, subst, true≢false}
 use Rattle.std.specs.Prelude.{Option, Some, MatchOption}
 use Rattle.mr_bytes.specs.declared.By.TheVariants.{Host}
 use Rattle.mr_jobs.specs.JobSpec.{ByFits, JobSpec, RequestSpec, Resources}
@@ -33,4 +33,4 @@ returns-else-asks-clause-asks c = λ request fits can asks.
     let split : c.in-Ok.request.split ≡ request.split = ap (λ (r : RequestSpec). r.split) value ∙ ap (λ (v : Told). v.split) c.verdict.view_is ∙ asks.4 in
     let q : c.in-Some-by_named.request ≡ record { job = request.job; by = request.by; parts = request.parts; split = request.split; skips = c.in-Ok.request.skips } =
     c.in-Some-by_named.ensures ∙ (λ i. record { job = job i; by = by i; parts = parts i; split = split i; skips = c.in-Ok.request.skips }) in
-    c.if-asks.ensures.1 (subst (Asks c.args.verdict.now) (sym q) asks)
+    true≢false (sym (c.if-asks.ensures.1 (subst (Asks c.args.verdict.now) (sym q) asks)))

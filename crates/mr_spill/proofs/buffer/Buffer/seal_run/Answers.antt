@@ -4,7 +4,7 @@ use Rattle.std.specs.List.{AllByRecursion}
 use Rattle.mr_bytes.specs.Lists.{Distinct}
 use Rattle.mr_bytes.specs.Pairs.{Triple}
 use Rattle.mr_bytes.proofs.ListLaws.{Distinct-rises}
-use Rattle.mr_partition.specs.Partition.{partition_of}
+use Rattle.mr_partition.specs.Hosts.{partition_by}
 use Rattle.mr_spill.specs.Buffer.{Buffered}
 use Rattle.mr_spill.specs.Column.{names_of}
 use Rattle.mr_spill.specs.declared.sealed.SealedRegion.{SealedRegion}
@@ -37,7 +37,7 @@ invariant_of-result c =
     let own : AllByRecursion (λ (t : Triple). t.name.split ≡ split) ts =
     subst (AllByRecursion (λ (t : Triple). t.name.split ≡ split)) (sym (ap (λ (b : Buffered). b.pairs) c.self.view_is)) c.requires.own in
     (λ p d h.
-    region-sealed-text (λ k. partition_of k c.args.parts) ts split p (get_or texts p d) differ own
+    region-sealed-text (λ k. partition_by c.args.by k c.args.parts) ts split p (get_or texts p d) differ own
     (c.in_ok-regions.ensures.each p d (omega (arith, h, c.in_ok-regions.ensures.many))))
 
 pub returns-clause-ok : goal.returns-clause-ok
@@ -51,13 +51,13 @@ returns-clause-ok c =
     let own : AllByRecursion (λ (t : Triple). t.name.split ≡ split) ts =
     subst (AllByRecursion (λ (t : Triple). t.name.split ≡ split)) (sym same) c.requires.own in
     let run : RunText = record { split = split; regions = map (λ b. b.bytes.items) texts } in
-    subst (λ (us : List Triple). SpellsRun run split parts (region (λ k. partition_of k parts) us)) same
+    subst (λ (us : List Triple). SpellsRun run split parts (region (λ k. partition_by c.args.by k parts) us)) same
     (record {
       own = refl;
       count = length-map texts (λ b. b.bytes.items) ∙ c.in_ok-regions.ensures.many;
       each = λ p h.
-          each-of texts p (λ (l : List ℕ). SpellsRegion l split p (region (λ k. partition_of k parts) ts p)) (omega (arith, h, c.in_ok-regions.ensures.many))
+          each-of texts p (λ (l : List ℕ). SpellsRegion l split p (region (λ k. partition_by c.args.by k parts) ts p)) (omega (arith, h, c.in_ok-regions.ensures.many))
           (λ d.
-          subst (λ (l : List ℕ). SpellsRegion l split p (region (λ k. partition_of k parts) ts p)) (sym (get_or-map (λ b. b.bytes.items) texts p d [] (omega (arith, h, c.in_ok-regions.ensures.many))))
-          (region-spells (λ k. partition_of k parts) ts split p (get_or texts p d).bytes.items differ own (c.in_ok-regions.ensures.each p d h).text));
+          subst (λ (l : List ℕ). SpellsRegion l split p (region (λ k. partition_by c.args.by k parts) ts p)) (sym (get_or-map (λ b. b.bytes.items) texts p d [] (omega (arith, h, c.in_ok-regions.ensures.many))))
+          (region-spells (λ k. partition_by c.args.by k parts) ts split p (get_or texts p d).bytes.items differ own (c.in_ok-regions.ensures.each p d h).text));
     })

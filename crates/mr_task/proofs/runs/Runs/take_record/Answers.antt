@@ -33,6 +33,7 @@ left name place ts now later key value e is = e ∙ ap (placed_from name place) 
 
 pub loop-key-init : goal.loop-key-init
 loop-key-init c = record {
+  by = refl;
   parts = refl;
   split = refl;
   own = c.requires.own;
@@ -68,6 +69,7 @@ loop-key-preserved c =
     let is = left c.args.number place ts c.loop-key.emitter c.next.new.self c.in-Some.key.now c.in-Some.value c.loop-key.invariant.left c.in-Some.ensures.next in
     let later : drop (place + 1) ts ≡ rest = next-left ts place t rest is in
     record {
+      by = c.in_ok-push.ensures.by ∙ c.loop-key.invariant.by;
       parts = c.in_ok-push.ensures.parts ∙ c.loop-key.invariant.parts;
       split = c.in_ok-push.ensures.split ∙ c.loop-key.invariant.split;
       own = c.in_ok-push.ensures.own;

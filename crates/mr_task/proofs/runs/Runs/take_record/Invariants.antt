@@ -12,6 +12,7 @@ invariant-loop-key l =
     let es = emissions l.fn.mapper.job l.line.file l.line.start l.line.bytes.now in
     let ts = placed_from l.number 0 es in
     record {
+      by : l.self.by ≡ l.fn.self.by;
       parts : l.self.sealed.parts ≡ l.fn.self.sealed.parts;
       split : l.self.split ≡ l.fn.self.split;
       own : AreOf l.self.split l.self.buffer.pairs;
