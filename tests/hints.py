@@ -51,7 +51,7 @@ def limits(harness):
     """Each fault of the options and of the input: which option, and which limit."""
     seq = ["seq", *WORDS]
     grep = ["seq", "--job", "grep", "--out", "."]
-    other = b"--keep-case belongs to words and index, --literal and --fold to grep; url has none"
+    other = b"--keep-case belongs to words and index, --literal and --fold to grep, --by-host to url"
     literal = b"--literal is 1 to 4096 bytes"
     skips = b"--skips names more records than --max-skips K allows; K is 0 where it isn't given"
     for name, words, err, hint in [
@@ -60,6 +60,7 @@ def limits(harness):
         ("a limit above 1000", [*seq, "--max-skips", "1001", "a"], b"BadSkips", b"--max-skips is 0 to 1000"),
         ("an option of another job", [*seq, "--fold", "a"], b"option does not belong to this job", other),
         ("an option of another job than an index", ["seq", "--job", "index", "--out", ".", "--fold", "a"], b"option does not belong to this job", other),
+        ("the host for another job than url", [*seq, "--by-host", "a"], b"option does not belong to this job", other),
         ("no literal", [*grep, "a"], b"EmptyLiteral", b"grep needs --literal TEXT, of 1 to 4096 bytes"),
         ("a long literal", [*grep, "--literal", "x" * 4097, "a"], b"LongLiteral", literal),
         ("a line feed in a literal", [*grep, "--literal", "x\ny", "a"], b"LineEndInLiteral", b"--literal holds no line feed, since lines are looked at one by one"),
@@ -124,6 +125,22 @@ def files(harness):
     harness.check("a name with control bytes, without", got[:3] == (3, b"", b"mapred: cannot read " + name.encode() + b"no\n"), repr(got))
     got = on_terminal(harness, ["seq", *WORDS, "-" + name], harness.directory(odd))
     harness.check("one that the parser tells", got[0] == 2 and not set(got[2]) & set(b"\x1b\x07\x7f\r"), repr(got))
+
+
+def other_partitions(harness):
+    """In what a certificate is of another partition of keys, or of another job besides."""
+    log = {"a": b'h "GET http://a/x HTTP/1.0" 200 1\n'}
+    for by_host in ([], ["--by-host"]):
+        made = harness.directory(log)
+        harness.run(["seq", "--job", "url", *by_host, "--out", ".", "a"], cwd=made)
+        of = b": it is of --job url%s --parts 1 --split 67108864" % (b" --by-host" if by_host else b"")
+        for name, words, hint in [
+            ("the other partition", ["--job", "url", *([] if by_host else ["--by-host"])], b" --by-host"),
+            ("another split", ["--job", "url", *by_host, "--split", "64"], b" --split"),
+            ("the other partition and another split", ["--job", "url", *([] if by_host else ["--by-host"]), "--split", "64"], b" --by-host --split"),
+            ("another job", ["--job", "words"], b" --job"),
+        ]:
+            told(harness, f"{name} than {of}", ["check", *words, "--out", ".", "a"], 1, out=b"no: OtherJob\n", hint=b"the certificate has other" + hint + of, where=made)
 
 
 def verdicts(harness):
@@ -227,4 +244,4 @@ def memory(harness):
     harness.check("want of memory, on a terminal", got == (4, b"", b"mapred: out of memory\nhint: " + MEMORY + b"\n"), repr(got))
 
 
-GROUPS = {"hints on limits": limits, "hints on files": files, "hints on verdicts": verdicts, "hints on shards": shards, "hints on runs": runs, "hints on one terminal": both_streams, "hints on memory": memory}
+GROUPS = {"hints on limits": limits, "hints on files": files, "hints on verdicts": verdicts, "hints on partitions": other_partitions, "hints on shards": shards, "hints on runs": runs, "hints on one terminal": both_streams, "hints on memory": memory}
