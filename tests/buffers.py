@@ -6,21 +6,24 @@ from ground import at, listed, named
 from libraries import built, told
 from regions import spelled
 
-# A buffer with the pairs of `b a b`, sealed for one partition and for two; one of two pairs refuses the third.
+# A buffer with the pairs of `b a b`, sealed for one partition and for two; one of two pairs refuses the third. One with those of
+# `http://a/x`, `/z` and `http://A/y`, sealed for two by host: that of the host `a` is 0, and that of a key without one is 1.
 SEALED = [
     [[(b"a", "One", 1), (b"b", "One", 0), (b"b", "One", 2)]],
     [[(b"a", "One", 1)], [(b"b", "One", 0), (b"b", "One", 2)]],
 ]
+BY_HOST = [[(b"http://A/y", "One", 2), (b"http://a/x", "One", 0)], [(b"/z", "One", 1)]]
+
+
+def sealed(regions):
+    """What is told of a buffer that gives these regions: it holds no pairs then, and seals as many regions without any."""
+    told_of = ["".join(f"|{listed(key)} {value} {named(0, 0, place)}" for key, value, place in region) for region in regions]
+    return [*told_of, "0", *([""] * len(regions))]
 
 
 def buffers(harness):
-    wanted = []
-    for regions in SEALED:
-        for region in regions:
-            wanted.append("".join(f"|{listed(key)} {value} {named(0, 0, place)}" for key, value, place in region))
-        # it holds no pairs then, and seals as many regions without any
-        wanted += ["0"] + [""] * len(regions)
-    wanted.append("BufferFull BufferFull")
+    wanted = [line for regions in SEALED for line in sealed(regions)]
+    wanted += ["BufferFull BufferFull", *sealed(BY_HOST)]
     # of the mark that it is sealed no clause speaks
     wanted += ["1 0", "true 38"]
     wanted.append(f"BufferFull BufferFull(Pair {{ key: {listed(b'y')}, value: One, name: {named(0, 0, 5)} }})")

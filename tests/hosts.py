@@ -4,7 +4,7 @@ import os
 from dataclasses import replace
 
 from harness import parts_of, random_log, read_result as result_of, seeded, write_result
-from merge import merged, run_shard, said, write_shard
+from merge import cuts, merged, run_shard, said, shards_of, write_shard
 from plain import JOBS, Request, fnv, host_of, judged as plain_judged, named_records, produced, u32s
 from producer import options_of
 from rows import MAGIC, judged, judged_in_version_2, row
@@ -192,7 +192,8 @@ def some_log(rnd):
 
 
 def random_logs(harness):
-    """1,000 random logs: by `seq`, by `check` and by workers, against the rules; and results by key that are said to be by host."""
+    """1,000 random logs: by `seq`, by `check`, in shards that are merged and by workers, against the rules; and results by key that
+    are said to be by host."""
     rnd, told = seeded("logs by host"), set()
     for turn in range(1000):
         files = [some_log(rnd) for _ in range(rnd.randint(0, 3))]
@@ -211,6 +212,10 @@ def random_logs(harness):
         want = plain_judged(request, files, outputs, data)
         answer = harness.run(check, cwd=got[3])[:3]
         harness.check(f"{name}, judged", want.startswith("yes") and answer == (0, want.encode(), b""), repr(answer))
+        shards = [write_shard(harness, request, *shard) for shard in shards_of(request, files, skips, cuts(rnd, len(files)))]
+        where = harness.directory()
+        got_merged = merged(harness, where, shards)
+        harness.check(f"{name}, merged of {len(shards)}", got_merged == (0, said(outputs, pairs, skips), b"") and parts_of(where) == outputs, repr(got_merged))
         status, out, err, where = ran(harness, request, files, words=["--workers", rnd.choice("148"), "--cert", str(version)])
         outputs, certificate, pairs = produced(request, files)
         certificate.version = version

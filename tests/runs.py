@@ -12,13 +12,14 @@ from libraries import built, words_of
 import plain
 import regions
 
-NUMBER = {"words": 0, "grep": 1, "url": 2}
+# A job, and whether a host chooses the partition of its keys.
+NUMBER = {("words", False): 0, ("grep", False): 1, ("url", False): 2, ("url", True): 3}
 NAME = re.compile(r"Name \{ split: (\d+), rec: (\d+), place: (\d+) \}")
 LIMITS = [1, 2, 3, 7, 65536]
 
 
 def lines_of(request, data, limit, skips=()):
-    words = words_of("runs", NUMBER[request.job], request.parts, request.split, limit, *skips)
+    words = words_of("runs", NUMBER[request.job, request.by_host], request.parts, request.split, limit, *skips)
     return subprocess.run(words, input=data + b"\0", capture_output=True).stdout.decode().splitlines()
 
 
@@ -61,13 +62,13 @@ def regions_of(request, data, limit):
 
 
 def region(request, split, partition, run):
-    own = [pair for pair in run if plain.fnv(pair[0]) % request.parts == partition]
+    own = [pair for pair in run if plain.partition_of(request, pair[0]) == partition]
     return regions.spelled(split, partition, sorted(own, key=lambda pair: (pair[0], pair[2])))
 
 
 def text_of(rnd):
-    """A file of short lines, each ended by LF, of few words, so that keys come again in many runs."""
-    words = [b"a", b"b", b"B", b"ab", b"ba", b"c1", b"<a href=x>", b"href=\"/b\"", b"http://h/b", b"--", b""]
+    """A file of short lines, each ended by LF, of few words, so that keys come again in many runs; many are of a log."""
+    words = [b"a", b"b", b"B", b"ab", b"ba", b"c1", b"--", b"", *(b'"GET %s HTTP/1.0"' % it for it in [b"http://h/b", b"http://H/c", b"HTTPS://i/b", b"/b"])]
     lines = [b" ".join(rnd.choice(words) for _ in range(rnd.randrange(6))) for _ in range(rnd.randrange(1, 30))]
     return b"".join(line + b"\n" for line in lines)
 
@@ -80,6 +81,11 @@ def worked(harness):
         harness.check(f"b a b in runs of {limit}", [[len(one) for one in split] for split in sealed] == [sizes] and reduced_to == [output])
     sealed, _ = told(plain.Request("words", parts=2, split=64), b"a\n", 65536)
     harness.check("a region without pairs has 20 bytes", [sorted(len(one) for one in split) for split in sealed] == [[20, 38]])
+    # by the whole key the first would have partition 1, and `/z` partition 0
+    log = b"".join(b'"GET %s HTTP/1.0"\n' % key for key in (b"http://a/x", b"/z", b"http://A/y"))
+    sealed, reduced_to = told(plain.Request("url", parts=2, split=4096, by_host=True), log, 65536)
+    output = [(b"http://A/y\t1\nhttp://a/x\t1\n", [[(0, 2, 0)], [(0, 0, 0)]]), (b"/z\t1\n", [[(0, 1, 0)]])]
+    harness.check("resources of one host are in one partition", [[len(one) for one in split] for split in sealed] == [[74, 39]] and reduced_to == output)
 
 
 def whole_splits(harness):
@@ -103,7 +109,8 @@ def whole_splits(harness):
 def random_runs(harness):
     rnd = random.Random(65536)
     for number in range(100):
-        request = plain.Request(rnd.choice(list(NUMBER)), parts=rnd.choice([1, 2, 3, 5]), split=rnd.choice([1, 7, 20, 64, 4096]), literal=b"b")
+        job, by_host = rnd.choice(list(NUMBER))
+        request = plain.Request(job, parts=rnd.choice([1, 2, 3, 5]), split=rnd.choice([1, 7, 20, 64, 4096]), literal=b"b", by_host=by_host)
         data = text_of(rnd)
         texts, certificate, _ = plain.produced(request, [data])
         wanted = list(zip(texts, certificate.partitions))

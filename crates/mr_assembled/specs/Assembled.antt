@@ -2,7 +2,7 @@
 use Rattle.std.specs.Prelude.{ℕ, suc, if◌then◌else◌, List, [], ◌∷◌, ◌++◌, map, length}
 use Rattle.std.specs.Option.{option_map_or}
 use Rattle.mr_bytes.specs.declared.RecordName.{RecordName}
-use Rattle.mr_jobs.specs.JobSpec.{RequestSpec, job_number, job_flags, job_literal}
+use Rattle.mr_jobs.specs.JobSpec.{RequestSpec, flags_of, job_literal, job_number}
 use Rattle.mr_certform.specs.Value.{Contents}
 use Rattle.mr_core.specs.declared.entries.Split.{Split}
 use Rattle.mr_core.specs.Master.{State}
@@ -45,7 +45,7 @@ assembled_outputs what st = map (λ v. v.output) (committed_values what st)
 abbrev pub assembled_certificate : RequestSpec → List (List ℕ) → (ℕ → Reduced) → State → Contents
 assembled_certificate request files what st = record {
   job = job_number request.job;
-  flags = job_flags request.job;
+  flags = flags_of request;
   literal = job_literal request.job;
   parts = request.parts;
   split_size = request.split;

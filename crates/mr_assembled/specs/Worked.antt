@@ -1,6 +1,7 @@
 -- A worked run: the words of `a b` and `c`, of which record 0 fails twice and is left out.
 use Rattle.std.specs.Prelude.{◌≡◌, ℕ, false, Some, List, [], ◌∷◌}
 use Rattle.std.specs.Option.{option_map, unwrap_or}
+use Rattle.mr_bytes.specs.declared.By.TheVariants.{Key}
 use Rattle.mr_bytes.specs.declared.Name.{Name}
 use Rattle.mr_bytes.specs.declared.Value.TheVariants.{One}
 use Rattle.mr_bytes.specs.Pairs.{Triple}
@@ -45,7 +46,7 @@ bab_value = record { output = 97 ∷ 9 ∷ 49 ∷ 10 ∷ 98 ∷ 9 ∷ 50 ∷ 10 
 -- ---- a run that leaves out a record
 
 abbrev pub one_request : RequestSpec
-one_request = record { job = WordCount false; parts = 1; split = 64; skips = 1 }
+one_request = record { job = WordCount false; by = Key; parts = 1; split = 64; skips = 1 }
 
 -- its reduce value, of whatever regions
 abbrev pub WorkedValue : Type 0

@@ -1,5 +1,6 @@
 //! Outputs that tell a number.
 use crate::telling::Teller;
+use mr_bytes::By;
 use mr_input::Input;
 use mr_jobs::Job;
 use mr_spill::{Region, RegionPair, open_region};
@@ -22,7 +23,7 @@ pub fn map_output(alloc: Global, number: u32) -> Option<MapOutput> {
     if plan.splits() == 0 {
         return None;
     }
-    map_task(alloc, &plan, &Job::words(false), 1, 0, &[]).ok()
+    map_task(alloc, &plan, &Job::words(false), 1, 0, &[], By::Key).ok()
 }
 
 /// What the reduce task makes of an output.

@@ -3,7 +3,7 @@ ghost use Rattle.std.specs.Prelude.{◌≡◌, ◌≤◌, [], IfOk, length};
 
 use crate::regions::show_pairs;
 use crate::telling::Teller;
-use mr_bytes::{Name, Pair, Value};
+use mr_bytes::{By, Name, Pair, Value};
 use mr_spill::{Buffer, Pairs, PushFault, PushRefusal, SealedRun};
 use std::alloc::{AllocError, Global};
 
@@ -17,13 +17,13 @@ fn name(place: u32) -> Name
     }
 }
 
-/// Pushes the pairs of `b a b`.
-fn fill(buffer: &mut Buffer) -> Result<(), PushRefusal>
+/// Pushes a pair of each key.
+fn fill(buffer: &mut Buffer, keys: [&[u8]; 3]) -> Result<(), PushRefusal>
     requires { buffer.old.pairs ≡ [] }
 {
-    buffer.push_key(b"b", Value::One, name(0))?;
-    buffer.push_key(b"a", Value::One, name(1))?;
-    buffer.push_key(b"b", Value::One, name(2))
+    buffer.push_key(keys[0], Value::One, name(0))?;
+    buffer.push_key(keys[1], Value::One, name(1))?;
+    buffer.push_key(keys[2], Value::One, name(2))
 }
 
 fn show_regions(teller: &Teller, regions: &[Pairs]) {
@@ -33,17 +33,17 @@ fn show_regions(teller: &Teller, regions: &[Pairs]) {
 }
 
 /// The regions for so many partitions of what it holds.
-fn seal(teller: &Teller, buffer: &mut Buffer, parts: u32) -> Result<(), AllocError> {
-    let regions = buffer.seal(teller.alloc(), parts.max(1))?;
+fn seal(teller: &Teller, buffer: &mut Buffer, parts: u32, by: By) -> Result<(), AllocError> {
+    let regions = buffer.seal(teller.alloc(), parts.max(1), by)?;
     show_regions(teller, &regions);
     Ok(())
 }
 
 /// Its regions, how many pairs it holds behind them, and the regions of those.
-fn show_sealed(teller: &Teller, buffer: &mut Buffer, parts: u32) -> Result<(), AllocError> {
-    seal(teller, buffer, parts)?;
+fn show_sealed(teller: &Teller, buffer: &mut Buffer, parts: u32, by: By) -> Result<(), AllocError> {
+    seal(teller, buffer, parts, by)?;
     teller.line(&buffer.len());
-    seal(teller, buffer, parts)
+    seal(teller, buffer, parts, by)
 }
 
 /// A run, and how many pairs the buffer holds behind it.
@@ -63,7 +63,7 @@ fn show_run(teller: &Teller) -> Result<(), AllocError> {
     if buffer.push_key(b"a", Value::One, name(0)).is_err() {
         return Ok(());
     }
-    let run = buffer.seal_run(teller.alloc(), 0, 1)?;
+    let run = buffer.seal_run(teller.alloc(), 0, 1, By::Key)?;
     show_run_of(teller, &run, 1, buffer.len());
     Ok(())
 }
@@ -108,11 +108,17 @@ fn show_refused(teller: &Teller) -> Result<(), AllocError> {
     Ok(())
 }
 
-/// A buffer of so many pairs, filled.
-fn show_filled(teller: &Teller, limit: usize, parts: u32) -> Result<(), AllocError> {
+/// A buffer of so many pairs, filled with those of the keys.
+fn show_filled(
+    teller: &Teller,
+    limit: usize,
+    keys: [&[u8]; 3],
+    parts: u32,
+    by: By,
+) -> Result<(), AllocError> {
     let mut buffer = Buffer::new(teller.alloc(), limit);
-    match fill(&mut buffer) {
-        Ok(()) => show_sealed(teller, &mut buffer, parts),
+    match fill(&mut buffer, keys) {
+        Ok(()) => show_sealed(teller, &mut buffer, parts, by),
         Err(fault) => {
             teller.fault(&fault);
             Ok(())
@@ -120,12 +126,15 @@ fn show_filled(teller: &Teller, limit: usize, parts: u32) -> Result<(), AllocErr
     }
 }
 
-/// Tells the regions of `b a b` for one partition and for two, and where only two pairs may be; a run; and a pair that is
-/// handed back.
+/// Tells the regions of `b a b` for one partition and for two, and where only two pairs may be; those of resources for two
+/// partitions by host; a run; and a pair that is handed back.
 pub fn answer(teller: &Teller) -> Result<(), AllocError> {
-    show_filled(teller, 3, 1)?;
-    show_filled(teller, 3, 2)?;
-    show_filled(teller, 2, 1)?;
+    let letters: [&[u8]; 3] = [b"b", b"a", b"b"];
+    let resources: [&[u8]; 3] = [b"http://a/x", b"/z", b"http://A/y"];
+    show_filled(teller, 3, letters, 1, By::Key)?;
+    show_filled(teller, 3, letters, 2, By::Key)?;
+    show_filled(teller, 2, letters, 1, By::Key)?;
+    show_filled(teller, 3, resources, 2, By::Host)?;
     show_run(teller)?;
     show_refused(teller)
 }

@@ -1,5 +1,5 @@
-//! Tasks whose runs end at a limit. The words behind the first are the job (0 for words, 1 for
-//! lines with `b`, 2 for links), how many partitions there are, the size of a split, and how many pairs a run has at most,
+//! Tasks whose runs end at a limit. The words behind the first are the job (0 for words, 1 for lines with `b`, 2 for the
+//! resources of a log, 3 for these by host), how many partitions there are, the size of a split, and how many pairs a run has at most,
 //! 0 for as many as there are where nobody says; behind them may be a list of the records that each split leaves out.
 //! Standard input is the files, each ended by a byte 0. For each split a line tells the bytes of its regions,
 //! those of all partitions run by run; and for each partition a line its text, how many names each group has, all names,
@@ -11,6 +11,7 @@ ghost use Rattle.mr_input.specs.Files.{split_total};
 use crate::inputs::{input, numbers_of};
 use crate::regions::numbers_of as numbers_in;
 use crate::telling::Teller;
+use mr_bytes::By;
 use mr_input::Input;
 use mr_jobs::Job;
 use mr_spill::Region;
@@ -35,6 +36,11 @@ pub fn job_of(alloc: Global, number: u32) -> Option<Job> {
     }
 }
 
+/// What chooses the partition of a key under the job of that number.
+fn by_of(number: u32) -> By {
+    if number == 3 { By::Host } else { By::Key }
+}
+
 /// What the map task of a split gives, by its own limit where there is no other.
 fn map_split(
     alloc: Global,
@@ -44,14 +50,15 @@ fn map_split(
     split: u32,
     skips: &[u32],
     limit: usize,
+    by: By,
 ) -> Result<MapOutput, AllocError>
     requires parts { 1 ≤ parts }
     requires split { split < split_total plan.now.size plan.now.files }
 {
     if limit < 1 {
-        map_task(alloc, plan, job, parts, split, skips)
+        map_task(alloc, plan, job, parts, split, skips, by)
     } else {
-        map_task_with(alloc, plan, job, parts, split, skips, limit)
+        map_task_with(alloc, plan, job, parts, split, skips, limit, by)
     }
 }
 
@@ -60,16 +67,18 @@ fn map_splits(
     alloc: Global,
     plan: &Plan<'_>,
     job: &Job,
-    parts: u32,
-    limit: usize,
+    numbers: [u32; 4],
     skips: &[u32],
     outputs: &mut Vec<MapOutput>,
 ) -> Result<(), AllocError> {
+    let [number, parts, _, limit] = numbers;
     if parts < 1 {
         return Ok(());
     }
+    let by = by_of(number);
     for split in 0..plan.splits() {
-        outputs.push(map_split(alloc, plan, job, parts, split, skips, limit)?)?;
+        let output = map_split(alloc, plan, job, parts, split, skips, limit as usize, by)?;
+        outputs.push(output)?;
     }
     Ok(())
 }
@@ -189,17 +198,8 @@ fn work(
     numbers: [u32; 4],
     skips: &[u32],
 ) -> Result<(), AllocError> {
-    let [_, parts, _, limit] = numbers;
     let mut outputs = Vec::new(teller.alloc());
-    map_splits(
-        teller.alloc(),
-        plan,
-        job,
-        parts,
-        limit as usize,
-        skips,
-        &mut outputs,
-    )?;
+    map_splits(teller.alloc(), plan, job, numbers, skips, &mut outputs)?;
     show_tasks(teller, job, numbers, &outputs)
 }
 

@@ -186,7 +186,6 @@ module _ (part : List ℕ → ℕ) (text : List ℕ → List Value → List ℕ)
         omega (arith, up, down, length-map ts (λ (t : Triple). t.name));
   }
 
-
 pub sequential_is_good : SequentialIsGood
 sequential_is_good request files outputs skips split some none count same =
     let facts = (good_skips request files skips).0 none in

@@ -151,7 +151,15 @@ fn outputs_of(
     let job = request.job();
     let Emitted { pairs, counts } = gather(alloc, job, kept, watch)?;
     watch.tell(Phase::Reducing, 0, 1);
-    let made = outputs(alloc, job, kept, pairs, counts, request.by(), request.parts())?;
+    let made = outputs(
+        alloc,
+        job,
+        kept,
+        pairs,
+        counts,
+        request.by(),
+        request.parts(),
+    )?;
     watch.tell(Phase::Reducing, 1, 1);
     Ok(made)
 }

@@ -5,7 +5,7 @@ use crate::progress::Progress;
 use mr_book::{Book, Seat};
 use mr_bytes::Gate;
 use mr_core::{Reply, Task};
-use mr_jobs::Job;
+use mr_jobs::Request;
 use mr_splits::Plan;
 use mr_task::{MapOutput, ReduceOutput};
 use mr_watch::Watch;
@@ -27,8 +27,7 @@ pub(crate) struct Shared<'a, L: Ledger, G: Gate, W: Watch> {
     pub news: Condvar,
     pub stopped: AtomicBool,
     pub plan: &'a Plan<'a>,
-    pub job: &'a Job,
-    pub parts: u32,
+    pub request: &'a Request,
     pub orders: Orders<'a>,
     pub completed: Completed,
     pub gate: &'a G,
@@ -112,7 +111,7 @@ impl<'a, L: Ledger, G: Gate, W: Watch> Shared<'a, L, G, W> {
         attempt: u32,
         split: u32,
     ) -> Result<bool, AllocError> {
-        let nothing = MapOutput::new(self.alloc, self.parts);
+        let nothing = MapOutput::new(self.alloc, self.request.parts());
         let mut book = self.book.lock(rt);
         if !book.complete(Task::Map(split)) {
             return Ok(false);

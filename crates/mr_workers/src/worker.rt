@@ -1,5 +1,5 @@
 //! A worker: it asks for a task, does it, reports, and asks again.
-ghost use Rattle.std.specs.Prelude.{◌≤◌, ◌<◌};
+ghost use Rattle.std.specs.Prelude.{◌<◌};
 ghost use Rattle.mr_input.specs.Files.{split_total};
 
 use crate::shared::Shared;
@@ -117,8 +117,7 @@ impl<L: Ledger> Worker<L> {
         split: u32,
         skips: &Skips,
     ) -> Result<(), Halt>
-        requires parts { 1 ≤ shared.now.parts }
-        requires split { split < split_total shared.now.plan.now.size shared.now.plan.now.files }
+        requires { split < split_total shared.now.plan.now.size shared.now.plan.now.files }
     {
         let skips = skips.as_slice();
         if let Some(rec) = shared.orders.failing(shared.plan, split, skips) {
@@ -128,11 +127,12 @@ impl<L: Ledger> Worker<L> {
             let output = map_task_while(
                 shared.alloc,
                 shared.plan,
-                shared.job,
-                shared.parts,
+                shared.request.job(),
+                shared.request.parts(),
                 split,
                 skips,
                 &shared.completed.demand(Task::Map(split)),
+                shared.request.by(),
             )?;
             self.before_report(rt, shared, Task::Map(split))?;
             self.report_map(rt, shared, attempt, split, skips, output)?;
@@ -152,8 +152,7 @@ impl<L: Ledger> Worker<L> {
         skips: &[u32],
         output: Option<MapOutput>,
     ) -> Result<(), AllocError>
-        requires parts { 1 ≤ shared.now.parts }
-        requires split { split < split_total shared.now.plan.now.size shared.now.plan.now.files }
+        requires { split < split_total shared.now.plan.now.size shared.now.plan.now.files }
     {
         let output = match output {
             Some(output) => output,
@@ -164,10 +163,11 @@ impl<L: Ledger> Worker<L> {
                 map_task(
                     shared.alloc,
                     shared.plan,
-                    shared.job,
-                    shared.parts,
+                    shared.request.job(),
+                    shared.request.parts(),
                     split,
                     skips,
+                    shared.request.by(),
                 )?
             }
         };
@@ -205,7 +205,7 @@ impl<L: Ledger> Worker<L> {
         let regions = regions_of(shared.alloc, outputs.as_slice(), partition)?;
         let output = reduce_task_while(
             shared.alloc,
-            shared.job,
+            shared.request.job(),
             partition,
             regions.as_slice(),
             &shared.completed.demand(Task::Reduce(partition)),
@@ -245,11 +245,11 @@ impl<L: Ledger> Worker<L> {
                 attempt,
                 split,
                 skips,
-            } if 0 < shared.parts && *split < shared.plan.splits() => {
+            } if *split < shared.plan.splits() => {
                 shared.gate.enter(self.number, *attempt);
                 (*attempt, self.map(rt, shared, *attempt, *split, skips))
             }
-            Reply::Reduce { attempt, partition } if *partition < shared.parts => {
+            Reply::Reduce { attempt, partition } if *partition < shared.request.parts() => {
                 shared.gate.enter(self.number, *attempt);
                 (*attempt, self.reduce(rt, shared, *attempt, *partition))
             }
