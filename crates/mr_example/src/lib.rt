@@ -3,6 +3,7 @@
 #![tactic(auto)]
 
 ghost use Rattle.std.specs.Prelude.{◌≡◌, ℕ, ◌≤◌, ◌<◌, ◌^◌, ◌∷◌, [], false, IfOk, IsOk};
+ghost use Rattle.mr_bytes.specs.declared.By.{By};
 ghost use Rattle.mr_input.specs.Files.{contents, nth_file, split_total};
 ghost use Rattle.mr_jobs.specs.JobSpec.{WordCount};
 ghost use Rattle.mr_sequential.specs.Good.{IsGoodResult};
@@ -45,7 +46,7 @@ pub struct Handed {
 
 /// What both sides agree on: words are counted, in two partitions, and no record is left out.
 pub fn agreed() -> Result<Request, Trouble>
-    ensures request { IfOk result (λ r. r ≡ record { job = WordCount false; parts = 2; split = 67108864; skips = 0 }) }
+    ensures request { IfOk result (λ r. r ≡ record { job = WordCount false; by = By.Key; parts = 2; split = 67108864; skips = 0 }) }
     ensures some { IsOk result }
 {
     Ok(Request::new(Job::words(false), 2, 67_108_864, 0)?)
