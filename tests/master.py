@@ -8,7 +8,7 @@ import subprocess
 
 from libraries import built, words_of
 
-KINDS = {"ask": 1, "fetch": 2, "map done": 3, "map failed": 4, "reduce done": 5, "lose": 6}
+KINDS = {"ask": 1, "fetch": 2, "map done": 3, "map failed": 4, "reduce done": 5, "lose": 6, "damaged": 7}
 
 
 class Master:
@@ -114,6 +114,56 @@ HISTORIES = {
             (("ask", 1), map_task(2, 0)),
         ],
         ["Shape { maps: 1, parts: 1, workers: 2, limits: Limits { attempts: 8, skips: 0 } }", "None", "false None []", "false None"],
+    ),
+    "a region that can't be read": (
+        (1, 1, 2, 8, 0),
+        [
+            (("ask", 0), map_task(0, 0)),
+            (("map done", 0, 10), ACCEPTED),
+            (("ask", 1), reduce_task(1, 0)),
+            (("fetch", 1, 0), region(10)),
+            (("damaged", 1, 0), ACCEPTED),
+            (("damaged", 1, 0), IGNORED),
+            (("ask", 0), map_task(2, 0)),
+            (("map done", 2, 11), ACCEPTED),
+            (("ask", 1), reduce_task(3, 0)),
+            (("fetch", 3, 0), region(11)),
+            (("reduce done", 3, 20), ACCEPTED),
+            (("ask", 1), stop(DONE)),
+        ],
+        ["Shape { maps: 1, parts: 1, workers: 2, limits: Limits { attempts: 8, skips: 0 } }", "Some(Done)", "true Some(11) []", "true Some(20)"],
+    ),
+    "damage of a map attempt, of a split that wasn't fetched, and of an output that is gone": (
+        (1, 1, 3, 8, 0),
+        [
+            (("ask", 0), map_task(0, 0)),
+            (("damaged", 0, 0), IGNORED),
+            (("map done", 0, 10), ACCEPTED),
+            (("ask", 1), reduce_task(1, 0)),
+            (("damaged", 1, 0), IGNORED),
+            (("fetch", 1, 0), IGNORED),
+            (("ask", 1), reduce_task(2, 0)),
+            (("fetch", 2, 0), region(10)),
+            (("lose", 0), ACCEPTED),
+            (("ask", 2), map_task(3, 0)),
+            (("map done", 3, 11), ACCEPTED),
+            (("damaged", 2, 0), ACCEPTED),
+            (("ask", 1), reduce_task(4, 0)),
+        ],
+        ["Shape { maps: 1, parts: 1, workers: 3, limits: Limits { attempts: 8, skips: 0 } }", "None", "true Some(11) []", "false None"],
+    ),
+    "damage that ends the job": (
+        (1, 1, 1, 1, 0),
+        [
+            (("ask", 0), map_task(0, 0)),
+            (("map done", 0, 10), ACCEPTED),
+            (("ask", 0), reduce_task(1, 0)),
+            (("fetch", 1, 0), region(10)),
+            (("damaged", 1, 0), ACCEPTED),
+            (("ask", 0), stop(TOO_MANY_ATTEMPTS)),
+            (("damaged", 1, 0), IGNORED),
+        ],
+        ["Shape { maps: 1, parts: 1, workers: 1, limits: Limits { attempts: 1, skips: 0 } }", f"Some({TOO_MANY_ATTEMPTS})", "false None []", "false None"],
     ),
     "a record that fails twice is left out": (
         (1, 1, 2, 8, 1),
@@ -228,7 +278,7 @@ class Plain:
         self.fixed, self.failures = set(), set()
         # of a task that is complete: its output, and of a map task the worker that has it
         self.outputs, self.holders = {}, {}
-        self.has_refused = False
+        self.has_refused, self.damages = False, 0
 
     # which task may be given
 
@@ -275,7 +325,7 @@ class Plain:
         task = (told[1], int(told[2]))
         fits, number = self.may_take(worker, task), len(self.tries)
         without = self.left_out[task[1]] if task in self.splits else set()
-        self.tries.append({"worker": worker, "task": task, "live": True, "without": set(without), "fetched": set()})
+        self.tries.append({"worker": worker, "task": task, "live": True, "without": set(without), "fetched": {}})
         return fits and reply == (map_task(number, task[1], *without) if task in self.splits else reduce_task(number, task[1]))
 
     def live(self, attempt, kind):
@@ -291,8 +341,20 @@ class Plain:
         if task not in self.outputs:
             tried["live"] = False
             return reply == GONE
-        tried["fetched"].add(split)
+        tried["fetched"][split] = self.outputs[task]
         return reply == region(self.outputs[task])
+
+    def hears_damaged(self, attempt, split, reply):
+        tried, task = self.live(attempt, "Reduce"), ("Map", split)
+        if tried is None:
+            return reply == IGNORED
+        tried["live"] = False
+        if split not in tried["fetched"]:
+            return reply == IGNORED
+        if self.outputs.get(task) == tried["fetched"][split]:
+            del self.outputs[task], self.holders[task]
+            self.damages += 1
+        return reply == ACCEPTED
 
     def hears_map_done(self, attempt, output, reply):
         tried = self.live(attempt, "Map")
@@ -400,7 +462,9 @@ class Draws:
         attempt, task = work
         if task in plain.splits:
             return ("map failed", attempt, self.record()) if self.up_to(2) == 0 else ("map done", attempt, output)
-        split = plain.next_fetch(attempt)
+        split, fetched = plain.next_fetch(attempt), sorted(plain.tries[attempt]["fetched"])
+        if fetched and self.up_to(9) == 0:
+            return "damaged", attempt, fetched[self.up_to(len(fetched) - 1)]
         return ("reduce done", attempt, output) if split is None else ("fetch", attempt, split)
 
     def any_event(self, plain, worker, output):
@@ -412,8 +476,9 @@ class Draws:
             ("map done", attempt, output),
             ("map failed", attempt, self.record()),
             ("reduce done", attempt, output),
+            ("damaged", attempt, self.up_to(len(plain.splits))),
             ("lose", worker),
-        ][min(self.up_to(6), 5)]
+        ][min(self.up_to(7), 6)]
 
 
 def contest(number, second):
@@ -431,6 +496,7 @@ def rare(plain, replies):
         "waiting": WAIT in replies,
         "an output that is gone": GONE in replies,
         "an output refused for its left-out records": plain.has_refused,
+        "an output that was damaged": plain.damages > 0,
         **{end: plain.end == end for end in (DONE, TOO_MANY_ATTEMPTS, TOO_MANY_SKIPS, NO_WORKERS)},
     }
 

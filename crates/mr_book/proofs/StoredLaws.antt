@@ -84,6 +84,7 @@ module _ (sh : Shape) (st : State) where
     leaves = λ a s r at l t m less. length-update _ s st.splits;
     commits = λ a o p at l t e f. refl;
     loses = λ w act. length-map st.splits _;
+    damages = λ a m p o at l t e. length-update _ m st.splits;
     issues_map = λ w a s k act m l. refl;
     issues_reduce = λ w a p act m. refl;
   }

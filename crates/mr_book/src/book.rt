@@ -223,6 +223,22 @@ impl<L: Ledger> Book<L> {
         self.hear(seat, Event::Lose(worker))
     }
 
+    /// A reduce attempt can't read what it fetched of a split. The output stays stored, though the split has it no more.
+    /// Without memory book and seat stay as they were.
+    pub fn damaged(
+        &mut self,
+        seat: &mut Seat<L>,
+        attempt: u32,
+        map: u32,
+    ) -> Result<Reply, AllocError>
+        ensures call { IfOk result (λ r. Calls self.old (Event.Damaged attempt map) r self.new) }
+        ensures stored { StoresNothing self.old self.new }
+        ensures seat { OnOk result (seat.new ≡ seat.old + 1) }
+        ensures err { OnErr result ((self.new ≡ self.old) × (seat.new ≡ seat.old)) }
+    {
+        self.hear(seat, Event::Damaged(attempt, map))
+    }
+
     /// The whole history, with all seats that the book was opened with.
     pub fn close(self, seats: Vec<Seat<L>>) -> History
         requires { vec_len seats ≡ L.parts }

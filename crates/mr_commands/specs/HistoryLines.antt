@@ -41,6 +41,7 @@ event_text (event.MapDone attempt output) = numbered (codes "map-done attempt ")
 event_text (event.MapFailed attempt rec) = numbered (codes "map-failed attempt ") attempt ++ numbered (codes " record ") rec
 event_text (event.ReduceDone attempt output) = numbered (codes "reduce-done attempt ") attempt ++ numbered (codes " output ") output
 event_text (event.Lose worker) = numbered (codes "lose ") worker
+event_text (event.Damaged attempt split) = numbered (codes "damaged attempt ") attempt ++ numbered (codes " split ") split
 
 abbrev pub reply_text : Reply → List ℕ
 reply_text (reply.Map attempt split skips) = map_text attempt split skips

@@ -37,6 +37,7 @@ fn add_event(text: &mut String, event: Event) -> Result<(), AllocError>
             write!(text, "reduce-done attempt {attempt} output {output}")
         }
         Event::Lose(worker) => write!(text, "lose {worker}"),
+        Event::Damaged(attempt, split) => write!(text, "damaged attempt {attempt} split {split}"),
     }
 }
 

@@ -12,7 +12,7 @@ use Rattle.mr_core.specs.declared.event.Reply.{Reply}
 use Rattle.mr_core.specs.declared.event.End.{End}
 use Rattle.mr_core.specs.declared.event.Shape.{Shape}
 use Rattle.mr_core.specs.declared.entries.Split.{Split}
-use Rattle.mr_core.specs.Master.{State, Attempt, Outcome, Step, Run, reply_eq, fetched_from, fetch_by, on_live, live_attempt, next_by, opening, update_at, finish, issue, nothing_fetched, leave_out, note_failure, lose, left_by, gone_with, held_by}
+use Rattle.mr_core.specs.Master.{State, Attempt, Outcome, Step, Run, reply_eq, fetched_from, fetch_by, on_live, live_attempt, next_by, opening, update_at, finish, issue, nothing_fetched, leave_out, note_failure, lose, damage, left_by, gone_with, held_by, without_output, is_numbered}
 use Rattle.mr_core.specs.declared.event.Task.TheVariants.{Map as MapTask, Reduce as ReduceTask}
 use Rattle.mr_core.specs.declared.event.Event.TheVariants.{Fetch, MapDone, ReduceDone}
 use Rattle.mr_core.specs.declared.event.Reply.TheVariants.{Accepted, Region}
@@ -179,6 +179,7 @@ module _ (K : ℕ → ℕ → Type 0) (F : ℕ → ℕ → ℕ → Type 0) (sh :
             (y.0, subst (λ i. F i s y.0) same (fed.each s y.0 y.1));
       };
       loses = λ w act. plain _ _ (lose w st) (outs_map (gone_with w) (λ sp o e. kept_output (held_by w sp.output) sp.output o e) st.splits) (atts_lose w st.attempts) (λ b x d acc. cc d);
+      damages = λ a m p o at l t e. plain _ _ (damage m o (finish a st)) (outs_update (without_output o) (λ sp x e. kept_output (is_numbered o sp.output) sp.output x e) m st.splits) (atts_finish a st.attempts) (λ b x d acc. cc d);
       issues_map = λ w a s k act m listed. issued_one _ _ w (MapTask s) k (λ b x d acc. cc d);
       issues_reduce = λ w a p act m. issued_one _ _ w (ReduceTask p) [] (λ b x d acc. cc d);
     }

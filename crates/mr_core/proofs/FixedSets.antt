@@ -7,10 +7,10 @@ use Rattle.mr_core.specs.declared.event.Event.{Event}
 use Rattle.mr_core.specs.declared.event.Reply.{Reply}
 use Rattle.mr_core.specs.declared.event.Shape.{Shape}
 use Rattle.mr_core.specs.declared.entries.Split.{Split}
-use Rattle.mr_core.specs.Master.{State, Attempt, Step, Run, update_at, complete, finish, leave_out, note_failure, lose, gone_with, takes, may_leave_out, with_number, same_list}
+use Rattle.mr_core.specs.Master.{State, Attempt, Step, Run, update_at, complete, finish, leave_out, note_failure, lose, damage, gone_with, without_output, takes, may_leave_out, with_number, same_list}
 use Rattle.mr_core.specs.Laws.{IsFixedTo}
 use Rattle.mr_core.proofs.StepCases.{Rule, step_holds}
-use Rattle.mr_core.proofs.Places.{map-update, map-map_same, get-update_here, get-update_other, get-map_from}
+use Rattle.mr_core.proofs.Places.{map-update, map-update_same, map-map_same, get-update_here, get-update_other, get-map_from}
 use Rattle.mr_core.proofs.Steps.{set_of, sets, set_at}
 use Rattle.mr_core.proofs.Views.{Sets}
 
@@ -69,6 +69,7 @@ module _ (sh : Shape) (st : State) where
     leaves = λ a s r at l t m less. left_out_more a s r m;
     commits = λ a o p at l t c f i k h. h;
     loses = λ w act i k h. ap (λ l. slice_get l i) (map-map_same set_of (gone_with w) (λ sp. refl) st.splits) ∙ h;
+    damages = λ a m p o at l t e i k h. ap (λ l. slice_get l i) (map-update_same set_of (without_output o) (λ sp. refl) m st.splits) ∙ h;
     issues_map = λ w a s k act m listed i j h. h;
     issues_reduce = λ w a p act m i k h. h;
   }

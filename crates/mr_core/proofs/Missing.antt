@@ -5,7 +5,7 @@ use Rattle.std.specs.List.{list_all, count_by}
 use Rattle.std.proofs.lemmas.List.Sums.{sum_by-cons}
 use Rattle.std.proofs.lemmas.Bool.Decides.{nat_tests}
 use Rattle.mr_core.specs.declared.entries.Split.{Split}
-use Rattle.mr_core.specs.Master.{update_at}
+use Rattle.mr_core.specs.Master.{update_at, is_numbered, without_output}
 use Rattle.mr_core.specs.Index.{vacancy}
 use Rattle.mr_core.proofs.Places.{sum-update}
 
@@ -51,6 +51,22 @@ split_filled f i xs d h has = filled (λ (sp : Split). is_none sp.output) f i xs
     there [] i d h = absurd (omega arith)
     there (x ∷ xs) zero d h = refl
     there (x ∷ xs) (suc i) d h = there xs i d (omega arith)
+
+pub split_emptied : (o i : ℕ) (xs : List Split) (d : Split) → i < length xs
+    → count_by (λ (sp : Split). is_none sp.output) (update_at (without_output o) i xs) ≡ count_by (λ (sp : Split). is_none sp.output) xs + cond (is_numbered o (slice_index_or xs i d).output) 1 0
+split_emptied o i [] d h = absurd (omega arith)
+split_emptied o zero (x ∷ xs) d h =
+    omega (arith, more x.output, sum_by-cons (λ (sp : Split). cond (is_none sp.output) 1 0) x xs, sum_by-cons (λ (sp : Split). cond (is_none sp.output) 1 0) (without_output o x) xs)
+  where
+    more : (y : Option (ℕ × ℕ)) → ◌≡◌ {A = ℕ} (cond (is_none (cond (is_numbered o y) None y)) 1 0) (cond (is_none y) 1 0 + cond (is_numbered o y) 1 0)
+    more None = refl
+    more (Some z) = by (z.0 == o)
+      where
+        by : (b : Bool) → ◌≡◌ {A = ℕ} (cond (is_none (cond b None (Some z))) 1 0) (0 + cond b 1 0)
+        by true = refl
+        by false = refl
+split_emptied o (suc i) (x ∷ xs) d h =
+    omega (arith, split_emptied o i xs d (omega arith), sum_by-cons (λ (sp : Split). cond (is_none sp.output) 1 0) x xs, sum_by-cons (λ (sp : Split). cond (is_none sp.output) 1 0) x (update_at (without_output o) i xs))
 
 pub output_filled : (o i : ℕ) (xs : List (Option ℕ)) → count_by is_none (update_at (λ x. Some o) i xs) + vacancy (slice_get xs i) ≡ count_by is_none xs
 output_filled o i [] = refl

@@ -5,7 +5,7 @@ use Rattle.mr_core.specs.declared.event.JobFault.TheVariants.{TooManyAttempts, T
 use Rattle.mr_core.specs.declared.event.End.{End}
 use Rattle.mr_core.specs.declared.event.End.TheVariants.{Done, Dismissed, Failed}
 use Rattle.mr_core.specs.declared.event.Event.{Event}
-use Rattle.mr_core.specs.declared.event.Event.TheVariants.{Ask, Fetch, MapDone, MapFailed, ReduceDone, Lose}
+use Rattle.mr_core.specs.declared.event.Event.TheVariants.{Ask, Fetch, MapDone, MapFailed, ReduceDone, Lose, Damaged}
 use Rattle.mr_core.specs.declared.event.Reply.{Reply}
 use Rattle.mr_core.specs.declared.event.Reply.TheVariants.{Map, Reduce, Wait, Stop, Region, Gone, Accepted, Ignored}
 use Rattle.mr_core.specs.declared.event.Shape.{Shape}
@@ -51,6 +51,7 @@ report_going sh st (MapDone a o) r is = refl
 report_going sh st (MapFailed a m) r is = refl
 report_going sh st (ReduceDone a o) r is = refl
 report_going sh st (Lose w) r is = refl
+report_going sh st (Damaged a m) r is = refl
 
 -- where the job goes on
 pub report_step : (sh : Shape) (st : State) (e : Event) (r : Reply) (mid : State) (over : Bool) (new : State) → IsReport e → st.end ≡ None → outcome sh st e ≡ record { reply = r; state = mid; over = over } → new ≡ settled sh mid over → Step sh st e r new

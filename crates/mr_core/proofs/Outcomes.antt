@@ -4,10 +4,10 @@ use Rattle.std.specs.List.{list_all}
 use Rattle.mr_core.specs.declared.event.Task.{Task}
 use Rattle.mr_core.specs.declared.event.Shape.{Shape}
 use Rattle.mr_core.specs.declared.entries.Split.{Split}
-use Rattle.mr_core.specs.Master.{State, Attempt, Outcome, live_attempt, on_live, fetch_by, fetched_from, map_done_by, map_failed_by, reduce_done_by, outcome, replies, finish, fetch, complete, commit, takes, is_complete, leave_out, note_failure, may_leave_out, failed_before, left_out, update_at, is_open, issued, maps_complete}
+use Rattle.mr_core.specs.Master.{State, Attempt, Outcome, live_attempt, on_live, fetch_by, fetched_from, map_done_by, map_failed_by, reduce_done_by, outcome, replies, finish, fetch, complete, commit, takes, is_complete, leave_out, note_failure, may_leave_out, failed_before, left_out, update_at, is_open, issued, maps_complete, damage, latest_in, damaged_from, damaged_by}
 use Rattle.mr_core.specs.Queries.{IsLive}
 use Rattle.mr_core.specs.declared.event.Task.TheVariants.{Map as MapTask, Reduce as ReduceTask}
-use Rattle.mr_core.specs.declared.event.Event.TheVariants.{Fetch, MapDone, MapFailed, ReduceDone}
+use Rattle.mr_core.specs.declared.event.Event.TheVariants.{Fetch, MapDone, MapFailed, ReduceDone, Damaged}
 use Rattle.mr_core.specs.declared.event.Reply.TheVariants.{Region, Gone, Accepted, Ignored}
 
 module _ (st : State) (a : ℕ) where
@@ -49,6 +49,21 @@ module _ (st : State) (a : ℕ) where
   pub reduce_commits : (sh : Shape) (o p : ℕ) (at : Attempt) (new : State) → live_attempt st a ≡ Some at → at.task ≡ ReduceTask p → (not (is_complete st (ReduceTask p)) && list_all is_some at.fetched) ≡ true → new ≡ commit p o (finish a st) → outcome sh st (ReduceDone a o) ≡ replies Accepted new
   reduce_commits sh o p at new l t b n =
       alive (λ at t. reduce_done_by st a o at t) at (ReduceTask p) l t ∙ ap (λ c. cond c (replies Accepted (commit p o (finish a st))) (replies Ignored (finish a st))) b ∙ ap (replies Accepted) (sym n)
+
+  -- ---- what can't be read
+  pub damaged_dead : (sh : Shape) (m : ℕ) → live_attempt st a ≡ None → outcome sh st (Damaged a m) ≡ replies Ignored st
+  damaged_dead sh m l = dead _ l
+
+  pub damaged_of_map : (sh : Shape) (m s : ℕ) → IsLive st a (MapTask s) → outcome sh st (Damaged a m) ≡ replies Ignored st
+  damaged_of_map sh m s l = alive (λ at t. damaged_by st a m at t) l.0 (MapTask s) l.1 l.2
+
+  pub damaged_unfetched : (sh : Shape) (m p : ℕ) (at : Attempt) (new : State) → live_attempt st a ≡ Some at → at.task ≡ ReduceTask p → latest_in (slice_get at.fetched m) ≡ None → new ≡ finish a st → outcome sh st (Damaged a m) ≡ replies Ignored new
+  damaged_unfetched sh m p at new l t e n =
+      alive (λ at t. damaged_by st a m at t) at (ReduceTask p) l t ∙ ap (damaged_from st a m) e ∙ ap (replies Ignored) (sym n)
+
+  pub damaged_fetched : (sh : Shape) (m p o : ℕ) (at : Attempt) (new : State) → live_attempt st a ≡ Some at → at.task ≡ ReduceTask p → latest_in (slice_get at.fetched m) ≡ Some o → new ≡ damage m o (finish a st) → outcome sh st (Damaged a m) ≡ replies Accepted new
+  damaged_fetched sh m p o at new l t e n =
+      alive (λ at t. damaged_by st a m at t) at (ReduceTask p) l t ∙ ap (damaged_from st a m) e ∙ ap (replies Accepted) (sym n)
 
   -- ---- completions of maps
   pub map_dead : (sh : Shape) (o : ℕ) → live_attempt st a ≡ None → outcome sh st (MapDone a o) ≡ replies Ignored st

@@ -120,6 +120,7 @@ module _ (sh : Shape) (st : State) (sound : Sound sh st) where
     leaves = λ a s r at v t m l. (record { splits_long = length-update _ s st.splits ∙ sound.splits_long; parts_long = sound.parts_long; of_active = ended_active a; of_shape = ended_shape a }, λ p o e. e);
     commits = λ a o p at l t e f. (record { splits_long = sound.splits_long; parts_long = length-update _ p st.committed ∙ sound.parts_long; of_active = ended_active a; of_shape = ended_shape a }, λ q x h. commit_stays a o p q x e h);
     loses = λ w act. (record { splits_long = length-map st.splits _ ∙ sound.splits_long; parts_long = sound.parts_long; of_active = lost_active w st.attempts sound.of_active; of_shape = lost_shape w st.attempts sound.of_shape }, λ p o e. e);
+    damages = λ a m p o at l t e. (record { splits_long = length-update _ m st.splits ∙ sound.splits_long; parts_long = sound.parts_long; of_active = ended_active a; of_shape = ended_shape a }, λ p o e. e);
     issues_map = λ w a s k act m l. issue_active w (MapTask s) k act m;
     issues_reduce = λ w a p act m. issue_active w (ReduceTask p) [] act m;
   }

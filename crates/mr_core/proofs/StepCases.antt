@@ -11,11 +11,11 @@ use Rattle.mr_core.specs.declared.event.Reply.{Reply}
 use Rattle.mr_core.specs.declared.event.End.{End}
 use Rattle.mr_core.specs.declared.event.Shape.{Shape}
 use Rattle.mr_core.specs.declared.entries.Split.{Split}
-use Rattle.mr_core.specs.Master.{State, Attempt, Outcome, Step, finish, issue, fetch, complete, leave_out, note_failure, commit, lose, settled, replies, live_attempt, fetched_from, fetch_by, takes, map_done_by, may_leave_out, failed_before, map_failed_by, reduce_done_by, on_live, outcome, given, asked, then_settled, next_going, next_by, reply_ended, reply_eq, end_eq, may_give, left_out, is_complete, is_active, same_list, tasks}
+use Rattle.mr_core.specs.Master.{State, Attempt, Outcome, Step, finish, issue, fetch, complete, leave_out, note_failure, commit, lose, damage, latest_in, damaged_from, damaged_by, settled, replies, live_attempt, fetched_from, fetch_by, takes, map_done_by, may_leave_out, failed_before, map_failed_by, reduce_done_by, on_live, outcome, given, asked, then_settled, next_going, next_by, reply_ended, reply_eq, end_eq, may_give, left_out, is_complete, is_active, same_list, tasks}
 use Rattle.mr_core.specs.declared.event.Task.TheVariants.{Map as MapTask, Reduce as ReduceTask}
 use Rattle.mr_core.specs.declared.event.JobFault.TheVariants.{TooManyAttempts, TooManySkips, NoWorkers}
 use Rattle.mr_core.specs.declared.event.End.TheVariants.{Done, Dismissed, Failed}
-use Rattle.mr_core.specs.declared.event.Event.TheVariants.{Ask, Fetch, MapDone, MapFailed, ReduceDone, Lose}
+use Rattle.mr_core.specs.declared.event.Event.TheVariants.{Ask, Fetch, MapDone, MapFailed, ReduceDone, Lose, Damaged}
 use Rattle.mr_core.specs.declared.event.Reply.TheVariants.{Map, Reduce, Wait, Stop, Region, Gone, Accepted, Ignored}
 
 end_eq-is : (e f : End) → end_eq e f ≡ true → e ≡ f
@@ -50,6 +50,7 @@ pub record Rule (sh : Shape) (st : State) (Q : Event → Reply → State → Typ
   pub leaves : (a s r : ℕ) (at : Attempt) → live_attempt st a ≡ Some at → at.task ≡ MapTask s → may_leave_out r (slice_get st.splits s) ≡ true → left_out st < sh.limits.skips → Q (MapFailed a r) Accepted (leave_out s r (note_failure s r (finish a st)))
   pub commits : (a o p : ℕ) (at : Attempt) → live_attempt st a ≡ Some at → at.task ≡ ReduceTask p → is_complete st (ReduceTask p) ≡ false → list_all is_some at.fetched ≡ true → Q (ReduceDone a o) Accepted (commit p o (finish a st))
   pub loses : (w : ℕ) → is_active st w ≡ true → Q (Lose w) Accepted (lose w st)
+  pub damages : (a m p o : ℕ) (at : Attempt) → live_attempt st a ≡ Some at → at.task ≡ ReduceTask p → latest_in (slice_get at.fetched m) ≡ Some o → Q (Damaged a m) Accepted (damage m o (finish a st))
   pub issues_map : (w a s : ℕ) (k : List ℕ) → is_active st w ≡ true → may_give sh st w (MapTask s) ≡ true → option_map_or (λ (sp : Split). same_list sp.skips k) (slice_get st.splits s) false ≡ true → Q (Ask w) (Map a s k) (issue w (MapTask s) k sh st)
   pub issues_reduce : (w a p : ℕ) → is_active st w ≡ true → may_give sh st w (ReduceTask p) ≡ true → Q (Ask w) (Reduce a p) (issue w (ReduceTask p) [] sh st)
 
@@ -99,6 +100,14 @@ module _ (sh : Shape) (st : State) (Q : Event → Reply → State → Type 0) (r
       by true e = let both = and_parts (not (is_complete st (ReduceTask p))) (list_all is_some at.fetched) e in rule.commits a o p at l t (not-true _ both.0) both.1
       by false e = rule.finishes (ReduceDone a o) Ignored a (λ d. cc d)
 
+  damaged_case : (a m : ℕ) (at : Attempt) (t : Task) → live_attempt st a ≡ Some at → at.task ≡ t → At (Damaged a m) (damaged_by st a m at t)
+  damaged_case a m at (MapTask s) l t = rule.stays (Damaged a m) Ignored (λ d. cc d)
+  damaged_case a m at (ReduceTask p) l t = by (latest_in (slice_get at.fetched m)) refl
+    where
+      by : (o : Option ℕ) → latest_in (slice_get at.fetched m) ≡ o → At (Damaged a m) (damaged_from st a m o)
+      by None e = rule.finishes (Damaged a m) Ignored a (λ d. cc d)
+      by (Some o) e = rule.damages a m p o at l t e
+
   live_case : (e : Event) (a : ℕ) (x : Option Attempt) (f : Attempt → Outcome) → live_attempt st a ≡ x → ((at : Attempt) → live_attempt st a ≡ Some at → At e (f at)) → At e (on_live st x f)
   live_case e a None f d g = rule.stays e Ignored (λ d. cc d)
   live_case e a (Some at) f d g = g at d
@@ -109,6 +118,7 @@ module _ (sh : Shape) (st : State) (Q : Event → Reply → State → Type 0) (r
   outcome_case (MapDone a o) = live_case (MapDone a o) a (live_attempt st a) _ refl (λ at l. done_case a o at at.task l refl)
   outcome_case (MapFailed a r) = live_case (MapFailed a r) a (live_attempt st a) _ refl (λ at l. failed_case a r at at.task l refl)
   outcome_case (ReduceDone a o) = live_case (ReduceDone a o) a (live_attempt st a) _ refl (λ at l. reduced_case a o at at.task l refl)
+  outcome_case (Damaged a m) = live_case (Damaged a m) a (live_attempt st a) _ refl (λ at l. damaged_case a m at at.task l refl)
   outcome_case (Lose w) = by (is_active st w) refl
     where
       by : (b : Bool) → is_active st w ≡ b → At (Lose w) (cond b (replies Accepted (lose w st)) (replies Ignored st))
@@ -161,6 +171,7 @@ module _ (sh : Shape) (st : State) (Q : Event → Reply → State → Type 0) (r
   going_case (MapFailed a m) r new h = out_case (MapFailed a m) r new h
   going_case (ReduceDone a o) r new h = out_case (ReduceDone a o) r new h
   going_case (Lose w) r new h = out_case (Lose w) r new h
+  going_case (Damaged a m) r new h = out_case (Damaged a m) r new h
 
   ended_reply : (end : End) (e : Event) → reply_ended end e ≡ Accepted → ⊥
   ended_reply end (Ask w) d = cc d

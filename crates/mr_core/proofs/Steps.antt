@@ -12,7 +12,7 @@ use Rattle.mr_core.specs.declared.event.Event.{Event}
 use Rattle.mr_core.specs.declared.event.Reply.{Reply}
 use Rattle.mr_core.specs.declared.event.Shape.{Shape}
 use Rattle.mr_core.specs.declared.entries.Split.{Split}
-use Rattle.mr_core.specs.Master.{State, Attempt, Step, Run, opening, update_at, finish, issue, fetch, complete, leave_out, note_failure, commit, lose, left_by, gone_with, live_attempt, only_live, takes, may_leave_out, may_give, issued, left_out, is_complete, is_open, may_newly, may_backup, with_number, is_task, has_live, same_list}
+use Rattle.mr_core.specs.Master.{State, Attempt, Step, Run, opening, update_at, finish, issue, fetch, complete, leave_out, note_failure, commit, lose, damage, left_by, gone_with, without_output, live_attempt, only_live, takes, may_leave_out, may_give, issued, left_out, is_complete, is_open, may_newly, may_backup, with_number, is_task, has_live, same_list}
 use Rattle.mr_core.specs.declared.event.Task.TheVariants.{Map as MapTask, Reduce as ReduceTask}
 use Rattle.mr_core.specs.declared.event.Event.TheVariants.{MapDone}
 use Rattle.mr_core.specs.declared.event.Reply.TheVariants.{Accepted}
@@ -145,6 +145,7 @@ module _ (sh : Shape) (st : State) (kept : KeptAt sh st) where
     leaves = λ a s r at l t m less. plainly _ _ (leave_out s r (note_failure s r (finish a st))) (λ b x d acc. cc d) (widen_goes s r a (slice_get st.splits s) refl m less);
     commits = λ a o p at l t c f. plainly _ _ (commit p o (finish a st)) (λ b x d acc. cc d) (unmoved (commit p o (finish a st)) (finished a st) refl);
     loses = λ w act. plainly _ _ (lose w st) (λ b x d acc. cc d) (unmoved (lose w st) (map-map_same job_of (left_by w) (λ a. refl) st.attempts) (map-map_same set_of (gone_with w) (λ sp. refl) st.splits));
+    damages = λ a m p o at l t e. plainly _ _ (damage m o (finish a st)) (λ b x d acc. cc d) (unmoved (damage m o (finish a st)) (finished a st) (map-update_same set_of (without_output o) (λ sp. refl) m st.splits));
     issues_map = λ w a s k act m listed. plainly _ _ (issue w (MapTask s) k sh st) (λ b x d acc. cc d) (issue_goes w (MapTask s) k m (λ t d. let same : s ≡ t = cc d in subst (λ v. (f : Bool) × (slice_get (sets st) v ≡ Some (k, f))) same (set_now st s k (slice_get st.splits s) refl listed)));
     issues_reduce = λ w a p act m. plainly _ _ (issue w (ReduceTask p) [] sh st) (λ b x d acc. cc d) (issue_goes w (ReduceTask p) [] m (λ t d. absurd (cc d)));
   }

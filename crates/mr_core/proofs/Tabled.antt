@@ -72,6 +72,16 @@ module _ (st : State) (iss : Issued) (nm np : ℕ) (tab : IsTabled st iss nm np)
             | inr other ↦ ap (λ (o : Option Split). option_map_or (λ (sp : Split). is_some sp.output) o false) (get-update_other f i s st.splits other) ∙ e
           ]
 
+  -- the split has no output any more, and the cursor stands at it or below
+  pub tabled_empty : (f : Split → Split) (i nm' : ℕ) → nm' ≤ nm → nm' ≤ i → IsTabled (record st { splits = update_at f i st.splits }) iss nm' np
+  tabled_empty f i nm' back low = record {
+    maps = tab.maps ∙ sym (length-update f i st.splits);
+    parts = tab.parts;
+    workers = tab.workers;
+    idle_maps = λ s h. busy (is_complete st (MapTask s)) _ (live st (MapTask s)) _ (tab.idle_maps s (omega (arith, back, h))) (λ e. ap (λ (o : Option Split). option_map_or (λ (sp : Split). is_some sp.output) o false) (get-update_other f i s st.splits (λ d. absurd (omega (arith, low, h, d)))) ∙ e) (λ l. l);
+    idle_parts = tab.idle_parts;
+  }
+
   -- the split of the attempt that has ended is complete
   pub tabled_complete : (a s : ℕ) (x : Attempt) (f : Split → Split) → slice_get st.attempts a ≡ Some x → x.task ≡ MapTask s → IsBelow iss.maps iss.parts x.task → ((sp : Split) → is_some (f sp).output ≡ true)
       → IsTabled (record (finish a st) { splits = update_at f s st.splits }) (record iss { items = update_at (λ b. record b { live = false }) a iss.items }) nm np

@@ -14,11 +14,11 @@ use Rattle.mr_core.specs.declared.entries.Split.{Split}
 use Rattle.mr_core.specs.declared.event.Task.TheVariants.{Map as MapTask, Reduce as ReduceTask}
 use Rattle.mr_core.specs.declared.event.JobFault.TheVariants.{TooManyAttempts, NoWorkers, TooManySkips}
 use Rattle.mr_core.specs.declared.event.End.TheVariants.{Done, Dismissed, Failed}
-use Rattle.mr_core.specs.declared.event.Event.TheVariants.{Ask, Fetch, MapDone, MapFailed, ReduceDone, Lose}
+use Rattle.mr_core.specs.declared.event.Event.TheVariants.{Ask, Fetch, MapDone, MapFailed, ReduceDone, Lose, Damaged}
 use Rattle.mr_core.specs.declared.event.Reply.TheVariants.{Map, Reduce, Wait, Stop, Region, Gone, Accepted, Ignored}
-use Rattle.mr_core.specs.Master.{State, Attempt, Outcome, Step, Run, opening, update_at, task_eq, finish, issue, fetch, complete, leave_out, note_failure, commit, lose, settled, end_of, is_stuck, is_complete, is_active, is_task, issued, live, tasks, live_attempt, only_live, fetch_by, fetched_from, map_done_by, map_failed_by, reduce_done_by, takes, may_leave_out, failed_before, left_out, on_live, outcome, replies, given, asked, may_give, same_list, with_number, reply_eq, reply_ended, next_going, next_by}
+use Rattle.mr_core.specs.Master.{State, Attempt, Outcome, Step, Run, opening, update_at, task_eq, finish, issue, fetch, complete, leave_out, note_failure, commit, lose, damage, without_output, damaged_from, damaged_by, latest_in, settled, end_of, is_stuck, is_complete, is_active, is_task, issued, live, tasks, live_attempt, only_live, fetch_by, fetched_from, map_done_by, map_failed_by, reduce_done_by, takes, may_leave_out, failed_before, left_out, on_live, outcome, replies, given, asked, may_give, same_list, with_number, reply_eq, reply_ended, next_going, next_by}
 use Rattle.mr_core.specs.Core.{InLimits, IsReached}
-use Rattle.mr_core.specs.Index.{IsGoing, IsTouched, task_at, IsPlain}
+use Rattle.mr_core.specs.Index.{IsGoing, IsTouched, IsTouchedBoth, task_at, IsPlain}
 use Rattle.mr_core.proofs.StepCases.{Rule, step_case, reply_eq-is}
 use Rattle.mr_core.proofs.AttemptBounds.{attempts_few}
 use Rattle.mr_core.proofs.TaskSearch.{one_of_all}
@@ -41,6 +41,7 @@ nothing sh st = record {
   leaves = λ a s r at l t m less. tt;
   commits = λ a o p at l t e f. tt;
   loses = λ w act. tt;
+  damages = λ a m p o at l t e. tt;
   issues_map = λ w a s k act m l. tt;
   issues_reduce = λ w a p act m. tt;
 }
@@ -307,10 +308,18 @@ module _ (sh : Shape) (st : State) (a : ℕ) where
   good : (e : Event) → IsBy e → Good (outcome sh st e)
   good (Ask w) is = absurd is
   good (Lose w) is = absurd is
+  good (Damaged b m) is = absurd is
   good (Fetch b m) is = subst (λ (n : ℕ). Good (outcome sh st (Fetch n m))) (sym is) (live_case (live_attempt st a) _ refl (λ at l. fetch_case at l m at.task (slice_get st.splits m)))
   good (MapDone b o) is = subst (λ (n : ℕ). Good (outcome sh st (MapDone n o))) (sym is) (live_case (live_attempt st a) _ refl (λ at l. done_case at l o at.task refl))
   good (MapFailed b r) is = subst (λ (n : ℕ). Good (outcome sh st (MapFailed n r))) (sym is) (live_case (live_attempt st a) _ refl (λ at l. failed_case at l r at.task))
   good (ReduceDone b o) is = subst (λ (n : ℕ). Good (outcome sh st (ReduceDone n o))) (sym is) (live_case (live_attempt st a) _ refl (λ at l. reduced_case at l o at.task refl))
+
+  task_in_shape : IsGoing sh st → (x : Option Attempt) → slice_get st.attempts a ≡ x → (t : Task) → task_at st a ≡ Some t → is_task sh t ≡ true
+  task_in_shape on None is t d = let gone : None ≡ Some t = sym (ap (option_map (λ (x : Attempt). x.task)) is) ∙ d in absurd (cc gone)
+  task_in_shape on (Some x) is t d =
+      let seen : Some x.task ≡ Some t = sym (ap (option_map (λ (x : Attempt). x.task)) is) ∙ d in
+      let same : x.task ≡ t = cc seen in
+      subst (λ (u : Task). is_task sh u ≡ true) same (on.tasks a x is)
 
   pub touched : (e : Event) → IsBy e → InLimits sh → IsReached sh st → st.end ≡ None → (r : Reply) (mid : State) (over : Bool) (task : Option Task) → outcome sh st e ≡ record { reply = r; state = mid; over = over } → task ≡ task_at st a → IsTouched sh mid task
   touched e is limits h none r mid over task out e_task =
@@ -319,13 +328,46 @@ module _ (sh : Shape) (st : State) (a : ℕ) where
       let state : (outcome sh st e).state ≡ mid = ap (λ (o : Outcome). o.state) out in
       subst (λ (o : Option Task). IsTouched sh mid o) (sym e_task) (subst (λ (v : State). IsTouched sh v (task_at st a)) state (record {
         active = ap (list_all (λ x. x)) g.lost ∙ on.active;
-        here = λ t d. in_shape on (slice_get st.attempts a) refl t d;
+        here = λ t d. task_in_shape on (slice_get st.attempts a) refl t d;
         others = λ t in_tasks n. g.others t n ∙ on.whole t in_tasks;
       }))
+
+-- ---- what an attempt can't read touches its task, and the map task of the split
+
+module _ (sh : Shape) (st : State) (a m : ℕ) where
+  record GoodBoth (out : Outcome) : Type 0 where
+    lost : out.state.lost ≡ st.lost
+    others : (t : Task) → (task_at st a ≡ Some t → ⊥) → (MapTask m ≡ t → ⊥) → is_stuck sh out.state t ≡ is_stuck sh st t
+
+  of_good : (out : Outcome) → Good sh st a out → GoodBoth out
+  of_good out g = record { lost = g.lost; others = λ t n k. g.others t n }
+
+  damaged_case : (at : Attempt) → live_attempt st a ≡ Some at → (t : Task) → GoodBoth (damaged_by st a m at t)
+  damaged_case at is (MapTask s) = of_good _ (good_same sh st a Ignored tt)
+  damaged_case at is (ReduceTask p) = by (latest_in (slice_get at.fetched m))
     where
-      in_shape : IsGoing sh st → (x : Option Attempt) → slice_get st.attempts a ≡ x → (t : Task) → task_at st a ≡ Some t → is_task sh t ≡ true
-      in_shape on None is t d = let gone : None ≡ Some t = sym (ap (option_map (λ (x : Attempt). x.task)) is) ∙ d in absurd (cc gone)
-      in_shape on (Some x) is t d =
-          let seen : Some x.task ≡ Some t = sym (ap (option_map (λ (x : Attempt). x.task)) is) ∙ d in
-          let same : x.task ≡ t = cc seen in
-          subst (λ (u : Task). is_task sh u ≡ true) same (on.tasks a x is)
+      whole : (o : ℕ) (t : Task) → (MapTask m ≡ t → ⊥) → is_complete (damage m o (finish a st)) t ≡ is_complete st t
+      whole o (MapTask r) n = ap (λ (w : Option Split). option_map_or (λ (sp : Split). is_some sp.output) w false) (get-update_other (without_output o) m r st.splits (λ d. n (ap MapTask d)))
+      whole o (ReduceTask q) n = refl
+
+      by : (o : Option ℕ) → GoodBoth (damaged_from st a m o)
+      by None = of_good _ (good_finish sh st a at is Ignored tt)
+      by (Some o) = record {
+        lost = refl;
+        others = λ t n k. stuck_as sh st a t (is_complete (damage m o (finish a st)) t) (live (damage m o (finish a st)) t) (issued (damage m o (finish a st)) t) (whole o t k) (ended_live sh st a at is t n) (ended_issued sh st a at is t);
+      }
+
+  live_both : (x : Option Attempt) → live_attempt st a ≡ x → GoodBoth (on_live st x (λ at. damaged_by st a m at at.task))
+  live_both None d = of_good _ (good_same sh st a Ignored tt)
+  live_both (Some at) d = damaged_case at d at.task
+
+  pub touched_both : InLimits sh → IsReached sh st → st.end ≡ None → (r : Reply) (mid : State) (task : Option Task) → outcome sh st (Damaged a m) ≡ replies r mid → task ≡ task_at st a → IsTouchedBoth sh mid task m
+  touched_both limits h none r mid task out e_task =
+      let g = live_both (live_attempt st a) refl in
+      let on = going sh st limits h none in
+      let state : (outcome sh st (Damaged a m)).state ≡ mid = ap (λ (o : Outcome). o.state) out in
+      subst (λ (o : Option Task). IsTouchedBoth sh mid o m) (sym e_task) (subst (λ (v : State). IsTouchedBoth sh v (task_at st a) m) state (record {
+        active = ap (list_all (λ x. x)) g.lost ∙ on.active;
+        here = λ t d. task_in_shape sh st a on (slice_get st.attempts a) refl t d;
+        others = λ t in_tasks n k. g.others t n k ∙ on.whole t in_tasks;
+      }))

@@ -7,7 +7,7 @@ use Rattle.mr_core.specs.declared.event.Task.{Task}
 use Rattle.mr_core.specs.declared.event.Event.{Event}
 use Rattle.mr_core.specs.declared.event.Reply.{Reply}
 use Rattle.mr_core.specs.declared.event.Shape.{Shape}
-use Rattle.mr_core.specs.Master.{State, Attempt, Step, Run, opening, update_at, with_number, finish, issue, fetch, complete, leave_out, note_failure, commit, lose, left_by, gone_with}
+use Rattle.mr_core.specs.Master.{State, Attempt, Step, Run, opening, update_at, with_number, finish, issue, fetch, complete, leave_out, note_failure, commit, lose, damage, left_by, gone_with, without_output}
 use Rattle.mr_core.specs.declared.event.Task.TheVariants.{Map as MapTask, Reduce as ReduceTask}
 use Rattle.mr_core.specs.declared.event.Event.TheVariants.{MapFailed, ReduceDone}
 use Rattle.mr_core.specs.declared.event.Reply.TheVariants.{Accepted}
@@ -98,6 +98,7 @@ module _ (G : ℕ → List ℕ → Type 0) (P C : ℕ → ℕ → Type 0) (empty
         };
       };
       loses = λ w act. same _ _ (lose w st) (map-map_same job_of (left_by w) (λ a. refl) st.attempts) (map-map_same set_of (gone_with w) (λ sp. refl) st.splits) refl;
+      damages = λ a m p o at l t e. same _ _ (damage m o (finish a st)) (finished a st) (map-update_same set_of (without_output o) (λ sp. refl) m st.splits) refl;
       issues_map = λ w a s k act m listed. issued_one _ _ w (MapTask s) k (λ t d. let same : s ≡ t = cc d in subst (λ v. (f : Bool) × (slice_get (sets st) v ≡ Some (k, f))) same (set_now st s k (slice_get st.splits s) refl listed));
       issues_reduce = λ w a p act m. issued_one _ _ w (ReduceTask p) [] (λ t d. absurd (cc d));
     }

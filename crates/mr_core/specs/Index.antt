@@ -117,6 +117,12 @@ pub record IsTouched (sh : Shape) (st : State) (task : Option Task) : Type 0 whe
   pub here : (t : Task) → task ≡ Some t → is_task sh t ≡ true
   pub others : (t : Task) → is_task sh t ≡ true → (task ≡ Some t → ⊥) → is_stuck sh st t ≡ false
 
+-- what is known after an event that touched no task but this one and the map task of this split
+pub record IsTouchedBoth (sh : Shape) (st : State) (task : Option Task) (map : ℕ) : Type 0 where
+  pub active : list_all (λ x. x) st.lost ≡ false
+  pub here : (t : Task) → task ≡ Some t → is_task sh t ≡ true
+  pub others : (t : Task) → is_task sh t ≡ true → (task ≡ Some t → ⊥) → (MapTask map ≡ t → ⊥) → is_stuck sh st t ≡ false
+
 -- a reply with no list
 abbrev pub IsPlain : Reply → Type 0
 IsPlain (Map a s k) = ⊥

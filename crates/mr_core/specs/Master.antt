@@ -13,7 +13,7 @@ use Rattle.mr_core.specs.declared.event.JobFault.TheVariants.{TooManyAttempts, T
 use Rattle.mr_core.specs.declared.event.End.{End}
 use Rattle.mr_core.specs.declared.event.End.TheVariants.{Done, Dismissed, Failed}
 use Rattle.mr_core.specs.declared.event.Event.{Event}
-use Rattle.mr_core.specs.declared.event.Event.TheVariants.{Ask, Fetch, MapDone, MapFailed, ReduceDone, Lose}
+use Rattle.mr_core.specs.declared.event.Event.TheVariants.{Ask, Fetch, MapDone, MapFailed, ReduceDone, Lose, Damaged}
 use Rattle.mr_core.specs.declared.event.Reply.{Reply}
 use Rattle.mr_core.specs.declared.entries.Split.{Split}
 use Rattle.mr_core.specs.declared.event.Reply.TheVariants.{Map, Reduce, Wait, Stop, Region, Gone, Accepted, Ignored}
@@ -170,6 +170,17 @@ lose w st =
       splits = map (gone_with w) st.splits;
     }
 
+-- the split has no output any more, where it has the one of this number
+abbrev pub is_numbered : ℕ → Option (ℕ × ℕ) → Bool
+is_numbered o None = false
+is_numbered o (Some x) = x.0 == o
+
+abbrev pub without_output : ℕ → Split → Split
+without_output o sp = record sp { output = if is_numbered o sp.output then None else sp.output }
+
+abbrev pub damage : ℕ → ℕ → State → State
+damage m o st = record st { splits = update_at (without_output o) m st.splits }
+
 -- ---- ends
 
 -- a task that can't be finished any more
@@ -247,6 +258,19 @@ reduce_done_by st a o at (MapTask s) = replies Ignored st
 reduce_done_by st a o at (ReduceTask p) =
     if not (is_complete st (ReduceTask p)) && list_all is_some at.fetched then replies Accepted (commit p o (finish a st)) else replies Ignored (finish a st)
 
+-- the output of the latest fetch of a split, where there was one
+abbrev pub latest_in : Option (Option ℕ) → Option ℕ
+latest_in None = None
+latest_in (Some o) = o
+
+abbrev pub damaged_from : State → ℕ → ℕ → Option ℕ → Outcome
+damaged_from st a m None = replies Ignored (finish a st)
+damaged_from st a m (Some o) = replies Accepted (damage m o (finish a st))
+
+abbrev pub damaged_by : State → ℕ → ℕ → Attempt → Task → Outcome
+damaged_by st a m at (MapTask s) = replies Ignored st
+damaged_by st a m at (ReduceTask p) = damaged_from st a m (latest_in (slice_get at.fetched m))
+
 abbrev pub on_live : State → Option Attempt → (Attempt → Outcome) → Outcome
 on_live st None f = replies Ignored st
 on_live st (Some at) f = f at
@@ -259,6 +283,7 @@ outcome sh st (MapDone a o) = on_live st (live_attempt st a) (λ at. map_done_by
 outcome sh st (MapFailed a r) = on_live st (live_attempt st a) (λ at. map_failed_by sh st a r at.task)
 outcome sh st (ReduceDone a o) = on_live st (live_attempt st a) (λ at. reduce_done_by st a o at at.task)
 outcome sh st (Lose w) = if is_active st w then replies Accepted (lose w st) else replies Ignored st
+outcome sh st (Damaged a m) = on_live st (live_attempt st a) (λ at. damaged_by st a m at at.task)
 
 -- ---- one step
 

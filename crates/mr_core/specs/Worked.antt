@@ -53,6 +53,23 @@ left_out_late =
     ∷ (Event.Ask 0, Reply.Map 4 0 [])
     ∷ []
 
+-- a region that can't be read: its map task is done again
+abbrev pub damaged_region : List (Event × Reply)
+damaged_region =
+    (Event.Ask 0, Reply.Map 0 0 [])
+    ∷ (Event.MapDone 0 10, Reply.Accepted)
+    ∷ (Event.Ask 1, Reply.Reduce 1 0)
+    ∷ (Event.Fetch 1 0, Reply.Region 10)
+    ∷ (Event.Damaged 1 0, Reply.Accepted)
+    ∷ (Event.Damaged 1 0, Reply.Ignored)
+    ∷ (Event.Ask 0, Reply.Map 2 0 [])
+    ∷ (Event.MapDone 2 11, Reply.Accepted)
+    ∷ (Event.Ask 1, Reply.Reduce 3 0)
+    ∷ (Event.Fetch 3 0, Reply.Region 11)
+    ∷ (Event.ReduceDone 3 20, Reply.Accepted)
+    ∷ (Event.Ask 1, Reply.Stop End.Done)
+    ∷ []
+
 abbrev pub too_many_attempts : List (Event × Reply)
 too_many_attempts =
     (Event.Ask 0, Reply.Map 0 0 [])

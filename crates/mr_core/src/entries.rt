@@ -2,7 +2,7 @@
 ghost use Rattle.std.specs.Prelude.{◌≡◌, ℕ, Bool, true, false, Option, Some, None, List, [], ◌∷◌, ◌==◌, ◌&&◌, map, is_some, is_none, nat_lt, length};
 ghost use Rattle.std.specs.Prelude.{slice_get, OnOk, OnErr, IfOk, replicate};
 ghost use Rattle.std.specs.List.{list_any, list_all, count_by, sum_by};
-ghost use Rattle.mr_core.specs.Master.{Attempt, update_at, left_by, gone_with, held_by, task_eq, only_live, takes, with_number};
+ghost use Rattle.mr_core.specs.Master.{Attempt, update_at, left_by, gone_with, held_by, latest_in, task_eq, only_live, takes, with_number};
 
 use crate::event::Task;
 use crate::skips::Skips;
@@ -105,6 +105,16 @@ impl Attempt {
         ensures { result.now ≡ self.now.fetched }
     {
         self.fetched.items.as_slice()
+    }
+
+    /// The output of the latest fetch of the split, where there was one.
+    pub(crate) fn latest(&self, map: u32) -> Option<u64>
+        ensures { result ≡ latest_in (slice_get self.now.fetched map) }
+    {
+        match self.fetched().get(map as usize) {
+            Some(output) => *output,
+            None => None,
+        }
     }
 
     /// The attempt ends.

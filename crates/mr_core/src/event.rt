@@ -65,6 +65,8 @@ pub enum Event {
     ReduceDone(u32, u64),
     /// This worker is lost.
     Lose(u32),
+    /// This reduce attempt can't read what it fetched of this split's map task.
+    Damaged(u32, u32),
 }
 
 /// What a master answers.

@@ -11,13 +11,14 @@ ghost use Rattle.mr_core.specs.Promises.{SomeTaskMayBeGiven, OfEveryRun, OfEvery
 ghost use Rattle.mr_bytes.specs.Lists.{Has, Rises};
 ghost use Rattle.std.specs.Ordering.{nat_cmp};
 ghost use Rattle.mr_core.specs.Laws.{IsMapOf, IsOutputOf, IsPartOf};
-ghost use Rattle.mr_core.specs.Worked.{shape, repeated, lost_output, left_out_late, too_many_attempts, no_maps, no_workers};
+ghost use Rattle.mr_core.specs.Worked.{shape, repeated, lost_output, left_out_late, damaged_region, too_many_attempts, no_maps, no_workers};
 
 /// The worked runs are runs.
 pub fn worked_runs()
     ensures repeated { is_some (replay (shape 1 1 2 8 0) repeated) ≡ true }
     ensures lost { is_some (replay (shape 1 1 2 8 0) lost_output) ≡ true }
     ensures late { is_some (replay (shape 1 1 2 8 1) left_out_late) ≡ true }
+    ensures damaged { is_some (replay (shape 1 1 2 8 0) damaged_region) ≡ true }
     ensures attempts { is_some (replay (shape 1 1 1 1 0) too_many_attempts) ≡ true }
     ensures none { is_some (replay (shape 0 1 2 8 0) no_maps) ≡ true }
     ensures workers { is_some (replay (shape 1 1 1 8 0) no_workers) ≡ true }

@@ -81,6 +81,19 @@ impl Core {
         reply
     }
 
+    /// A reduce attempt can't read what it fetched of a split. Takes no memory.
+    pub fn damaged(&mut self, attempt: u32, map: u32) -> Reply
+        ensures { IsStep self.old (Event.Damaged attempt map) result self.new }
+    {
+        if self.tables.end().is_some() {
+            return Reply::Ignored;
+        }
+        let task = self.tables.task_at(attempt);
+        let reply = self.tables.damaged(attempt, map);
+        self.tables.settle_at_both(self.shape, task, map);
+        reply
+    }
+
     /// A map attempt failed on a record of its split.
     pub fn map_failed(&mut self, attempt: u32, number: u32) -> Result<Reply, AllocError>
         ensures ok { IfOk result (λ r. IsStep self.old (Event.MapFailed attempt number) r self.new) }
@@ -177,6 +190,7 @@ impl Core {
             Event::MapFailed(attempt, number) => Ok(twice(self.map_failed(attempt, number)?)),
             Event::ReduceDone(attempt, output) => Ok(twice(self.reduce_done(attempt, output))),
             Event::Lose(worker) => Ok(twice(self.lose(worker))),
+            Event::Damaged(attempt, map) => Ok(twice(self.damaged(attempt, map))),
         }
     }
 

@@ -2,7 +2,7 @@
 ghost use Rattle.std.specs.Prelude.{◌≡◌, ◌+◌, if◌then◌else◌, is_none, List, [], None, false, Some, true, map, is_some, nat_lt, replicate, length};
 ghost use Rattle.std.specs.Prelude.{IfOk, OnOk, OnErr};
 ghost use Rattle.std.specs.List.{list_all, sum_by, count_by};
-ghost use Rattle.mr_core.specs.Master.{update_at, gone_with, with_number};
+ghost use Rattle.mr_core.specs.Master.{update_at, gone_with, is_numbered, with_number, without_output};
 
 use crate::entries::{Split, count_missing, has_room, leave_out, leave_outputs, new_splits};
 use crate::skips::Skips;
@@ -80,6 +80,14 @@ impl Splits {
         self.missing = count_missing(self.items.as_slice());
     }
 
+    /// The split has no output any more, where it has the one of this number.
+    pub(crate) fn damage(&mut self, at: u32, output: u64)
+        ensures { self.new ≡ update_at (without_output output) at self.old }
+    {
+        let emptied = empty_at(self.items.as_mut_slice(), at, output);
+        self.missing += emptied;
+    }
+
     /// Whether fewer records than the limit are left out.
     pub(crate) fn has_room(&self, limit: u32) -> bool
         ensures { result ≡ nat_lt (sum_by (λ sp. length sp.skips) self.now) limit }
@@ -111,4 +119,40 @@ fn fix(split: &mut Split, skips: &mut Skips, output: u64, worker: u32) -> usize
     split.fixed = true;
     split.output = Some((output, worker));
     filled
+}
+
+/// Takes away the output of the split at the place, where it has the one of this number. Answers how many splits more have
+/// none.
+#[tactic(auto, using(crate::proofs::Missing::split_emptied, crate::proofs::Updates::update_is_set, crate::proofs::Updates::update_past))]
+fn empty_at(splits: &mut [Split], at: u32, output: u64) -> usize
+    ensures splits { splits.new ≡ update_at (without_output output) at splits.old }
+    ensures count { count_by (λ sp. is_none sp.output) splits.new ≡ count_by (λ sp. is_none sp.output) splits.old + result }
+{
+    let at = at as usize;
+    if at >= splits.len() {
+        return 0;
+    }
+    empty(&mut splits[at], output)
+}
+
+/// Takes away the split's output, where it has the one of this number. Answers 1 where it had.
+fn empty(split: &mut Split, output: u64) -> usize
+    ensures split { split.new ≡ without_output output split.old }
+    ensures count { result ≡ (if is_numbered output split.old.output then 1 else 0) }
+{
+    if !is_numbered(split.output, output) {
+        return 0;
+    }
+    split.output = None;
+    1
+}
+
+/// Whether it is the output of this number.
+fn is_numbered(output: Option<(u64, u32)>, number: u64) -> bool
+    ensures { result ≡ is_numbered number output }
+{
+    match output {
+        Some((own, _)) => own == number,
+        None => false,
+    }
 }

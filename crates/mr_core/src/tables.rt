@@ -1,13 +1,14 @@
 //! The master's state: its lists, and the ends of the job.
 ghost use Rattle.std.specs.Prelude.{◌≡◌, ℕ, true, false, Option, Some, None, ◌==◌, ◌<◌, nat_lt, MatchOption, IfOk, slice_get};
 ghost use Rattle.std.specs.List.{list_any};
+ghost use Rattle.std.specs.Option.{option_map_or};
 ghost use Rattle.mr_core.specs.declared.event.Shape.{Shape};
 ghost use Rattle.mr_core.specs.declared.event.Task.{Task};
 ghost use Rattle.mr_core.specs.declared.entries.Split.{Split};
 ghost use Rattle.mr_core.specs.Queries.{IsLive};
 ghost use Rattle.mr_core.specs.Looks.{output_of, committed_of, number_of, set_of};
 ghost use Rattle.mr_core.specs.Master.{State, tasks, is_active, is_complete, maps_complete, issued, live, is_stuck, live_attempt, end_of, settled, opening};
-ghost use Rattle.mr_core.specs.Index.{counted, task_at, IsTouched};
+ghost use Rattle.mr_core.specs.Index.{counted, task_at, IsTouched, IsTouchedBoth};
 
 use crate::attempts::Attempts;
 use crate::counts::Count;
@@ -245,6 +246,48 @@ impl Tables {
         ensures { self.new ≡ settled shape self.old over }
     {
         self.end = self.end_after(shape, task, over);
+    }
+
+    /// Whether the task or the map task of this split, which are the only ones that may be, can't be finished any more.
+    #[tactic(auto, using(crate::proofs::EndTests::stuck_at_both, crate::proofs::EndTests::stuck_at_first, crate::proofs::EndTests::stuck_at_second))]
+    fn is_stuck_at_both(&self, shape: Shape, task: Option<Task>, map: u32) -> bool
+        requires { IsTouchedBoth shape self.now task map }
+        ensures { result ≡ list_any (is_stuck shape self.now) (tasks shape) }
+    {
+        self.is_stuck_one(shape, task) || (map < shape.maps && self.is_stuck(shape, Task::Map(map)))
+    }
+
+    /// Whether the task, where there is one, can't be finished any more.
+    fn is_stuck_one(&self, shape: Shape, task: Option<Task>) -> bool
+        ensures { result ≡ option_map_or (is_stuck shape self.now) task false }
+    {
+        match task {
+            Some(task) => self.is_stuck(shape, task),
+            None => false,
+        }
+    }
+
+    /// The end that the job has reached by an event that touched only this task and the map task of this split.
+    #[tactic(auto, using(crate::proofs::EndTests::end_left))]
+    fn end_after_both(&self, shape: Shape, task: Option<Task>, map: u32) -> Option<End>
+        requires { IsTouchedBoth shape self.now task map }
+        ensures { result ≡ end_of shape self.now false }
+    {
+        if self.committed.is_whole() {
+            Some(End::Done)
+        } else if self.is_stuck_at_both(shape, task, map) {
+            Some(End::Failed(JobFault::TooManyAttempts))
+        } else {
+            None
+        }
+    }
+
+    /// Tests the ends, after an event that touched only this task and the map task of this split.
+    pub(crate) fn settle_at_both(&mut self, shape: Shape, task: Option<Task>, map: u32)
+        requires { IsTouchedBoth shape self.old task map }
+        ensures { self.new ≡ settled shape self.old false }
+    {
+        self.end = self.end_after_both(shape, task, map);
     }
 
     /// The lists at the opening.

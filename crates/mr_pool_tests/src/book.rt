@@ -59,6 +59,7 @@ fn call<L: Ledger>(out: &Teller, book: &mut Book<L>, seat: &mut Seat<L>, numbers
         3 => map_done(out, book, seat, first, second),
         4 => out.reply(book.map_failed(seat, first, second)),
         5 => reduce_done(out, book, seat, first, second),
+        7 => out.reply(book.damaged(seat, first, second)),
         _ => out.reply(book.lose(seat, first)),
     }
 }

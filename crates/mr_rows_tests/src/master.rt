@@ -41,6 +41,7 @@ fn event_of(numbers: [u32; 6]) -> Event {
         3 => Event::MapDone(first, u64::from(second)),
         4 => Event::MapFailed(first, second),
         5 => Event::ReduceDone(first, u64::from(second)),
+        7 => Event::Damaged(first, second),
         _ => Event::Lose(first),
     }
 }

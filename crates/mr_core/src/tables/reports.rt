@@ -6,7 +6,7 @@ ghost use Rattle.mr_core.specs.declared.event.Task.{Task};
 ghost use Rattle.mr_core.specs.declared.event.Event.{Event};
 ghost use Rattle.mr_core.specs.declared.entries.Split.{Split};
 ghost use Rattle.mr_core.specs.Queries.{IsLive};
-ghost use Rattle.mr_core.specs.Master.{Attempt, finish, fetch, commit, complete, lose, live_attempt, outcome, replies, takes, may_leave_out, failed_before, left_out, leave_out, note_failure};
+ghost use Rattle.mr_core.specs.Master.{Attempt, finish, fetch, commit, complete, damage, latest_in, lose, live_attempt, outcome, replies, takes, may_leave_out, failed_before, left_out, leave_out, note_failure};
 
 use super::Tables;
 use crate::entries::{all_some, put};
@@ -157,6 +157,43 @@ impl Tables {
             return Reply::Ignored;
         }
         self.leave(worker);
+        Reply::Accepted
+    }
+
+    /// The output of the latest fetch that the attempt made of the split.
+    fn latest(&self, attempt: u32, map: u32) -> Option<u64>
+        ensures { (at : Attempt) → live_attempt self.now attempt ≡ Some at → result ≡ latest_in (slice_get at.fetched map) }
+    {
+        match self.attempts.as_slice().get(attempt as usize) {
+            Some(attempt) => attempt.latest(map),
+            None => None,
+        }
+    }
+
+    /// The split has no output any more, where it has the one of this number: the cursor moves back to it.
+    fn empty(&mut self, map: u32, output: u64)
+        ensures { self.new ≡ damage map output self.old }
+    {
+        self.next_map = map_cursor(self.next_map, Task::Map(map));
+        self.splits.damage(map, output);
+    }
+
+    /// A reduce attempt can't read what it fetched of a split.
+    pub(crate) fn damaged(&mut self, attempt: u32, map: u32) -> Reply
+        ensures { (sh : Shape) → outcome sh self.old (Event.Damaged attempt map) ≡ replies result self.new }
+    {
+        let Some(task) = self.live_task(attempt) else {
+            return Reply::Ignored;
+        };
+        let Task::Reduce(_) = task else {
+            return Reply::Ignored;
+        };
+        let Some(output) = self.latest(attempt, map) else {
+            self.finish(attempt, task);
+            return Reply::Ignored;
+        };
+        self.finish(attempt, task);
+        self.empty(map, output);
         Reply::Accepted
     }
 
