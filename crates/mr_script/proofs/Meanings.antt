@@ -4,7 +4,7 @@ use Rattle.std.specs.Prelude.{codes}
 use Rattle.std.specs.Cmp.Lexicographic.{bytes_decides, pointwise}
 use Rattle.std.proofs.lemmas.Option.{some_pair_parts, same_Some}
 use Rattle.mr_script.specs.declared.directive.Directive.{Directive}
-use Rattle.mr_script.specs.declared.directive.Directive.TheVariants.{Lose, Zombie, Bad, Flaky, Hold, Spoil}
+use Rattle.mr_script.specs.declared.directive.Directive.TheVariants.{Lose, Zombie, Bad, Flaky, Hold, Spoil, Damage}
 use Rattle.mr_script.specs.declared.line.Keyword.{Keyword}
 use Rattle.mr_script.specs.declared.line.Keyword.TheVariants as key
 use Rattle.mr_script.specs.Lines.{Word, Fixed, Number, SpellsWords, SpellsNumber, SpellsLine}
@@ -24,6 +24,7 @@ text_of key.Bad = codes "bad"
 text_of key.Flaky = codes "flaky"
 text_of key.Hold = codes "hold"
 text_of key.Spoil = codes "spoil"
+text_of key.Damage = codes "damage"
 
 -- a number, and the words behind it
 number_before : (text rest : List ℕ) (n : ℕ) (v : Word) (ws : List Word) → number_and_rest text ≡ Some (n, rest) → SpellsWords rest (v ∷ ws) → SpellsWords text (Number n ∷ v ∷ ws)
@@ -102,9 +103,12 @@ keyword_is w k e =
             | inl h ↦ is_text w key.Flaky k h
             | inr e ↦ elim (first_of_two (pointwise eqb w (codes "hold")) key.Hold _ k e) [
               | inl h ↦ is_text w key.Hold k h
-              | inr e ↦ elim (first_of_two (pointwise eqb w (codes "spoil")) key.Spoil None k e) [
+              | inr e ↦ elim (first_of_two (pointwise eqb w (codes "spoil")) key.Spoil _ k e) [
                 | inl h ↦ is_text w key.Spoil k h
-                | inr e ↦ absurd (cc e)
+                | inr e ↦ elim (first_of_two (pointwise eqb w (codes "damage")) key.Damage None k e) [
+                  | inl h ↦ is_text w key.Damage k h
+                  | inr e ↦ absurd (cc e)
+                ]
               ]
             ]
           ]
@@ -133,6 +137,9 @@ behind_keyword line w rest key.Hold d j t e =
 behind_keyword line w rest key.Spoil d j t e =
     let a = bind_some (λ (a : ℕ × ℕ). Some (Spoil a.0 a.1)) (number_and_number rest) d e in
     subst (SpellsLine line) (same_Some (Spoil a.0.0 a.0.1) d a.2) (w, rest, j, t, two rest a.0.0 a.0.1 a.1)
+behind_keyword line w rest key.Damage d j t e =
+    let a = bind_some (λ (a : ℕ × ℕ × ℕ). Some (Damage a.0 a.1 a.2)) (three_numbers rest) d e in
+    subst (SpellsLine line) (same_Some (Damage a.0.0 a.0.1 a.0.2) d a.2) (w, rest, j, t, three rest a.0.0 a.0.1 a.0.2 a.1)
 
 pub meant_is_spelled : (line : List ℕ) (d : Directive) → directive_of line ≡ Some d → SpellsLine line d
 unfolding directive_of

@@ -6,7 +6,7 @@ use Rattle.std.proofs.lemmas.Option.{none-some, same_Some}
 use Rattle.mr_records.specs.Records.{Record, records}
 use Rattle.std.specs.Cmp.Lexicographic.{pointwise}
 use Rattle.mr_script.specs.declared.directive.Directive.{Directive}
-use Rattle.mr_script.specs.declared.directive.Directive.TheVariants.{Lose, Zombie, Bad, Flaky, Hold, Spoil}
+use Rattle.mr_script.specs.declared.directive.Directive.TheVariants.{Lose, Zombie, Bad, Flaky, Hold, Spoil, Damage}
 use Rattle.mr_script.specs.declared.line.Keyword.{Keyword}
 use Rattle.mr_script.specs.declared.line.Keyword.TheVariants as key
 use Rattle.mr_script.specs.Lines.{Fixed, Number, SpellsWords, SpellsNumber, SpellsLine, SaysNothing, Stands}
@@ -180,6 +180,23 @@ spoil_meant line x y h = at_keyword line h.0 (codes "spoil") h.1 key.Spoil (Spoi
 spoil_speaks : (line : List ℕ) (x y : ℕ) → SaysNothing line → SpellsLine line (Spoil x y) → ⊥
 spoil_speaks line x y says h = begins line h.0 h.1 115 (codes "poil") h.2 h.3 (λ z. cc z) says
 
+damage_no_space : Lacks 0x20 (codes "damage")
+damage_no_space = (λ e. cc e, (λ e. cc e, (λ e. cc e, (λ e. cc e, (λ e. cc e, (λ e. cc e, tt))))))
+
+damage_keyword : keyword_of (codes "damage") ≡ Some key.Damage
+unfolding keyword_of
+damage_keyword = refl
+
+damage_rest : (rest : List ℕ) (x y z : ℕ) → three_numbers rest ≡ Some (x, y, z) → directive_with key.Damage rest ≡ Some (Damage x y z)
+unfolding directive_with
+damage_rest rest x y z h = bind_to (λ (a : ℕ × ℕ × ℕ). Some (Damage a.0 a.1 a.2)) (three_numbers rest) (x, y, z) (Some (Damage x y z)) h refl
+
+damage_meant : (line : List ℕ) (x y z : ℕ) → SpellsLine line (Damage x y z) → directive_of line ≡ Some (Damage x y z)
+damage_meant line x y z h = at_keyword line h.0 (codes "damage") h.1 key.Damage (Damage x y z) h.2 h.3 damage_no_space damage_keyword (damage_rest h.1 x y z (three h.1 x y z h.4))
+
+damage_speaks : (line : List ℕ) (x y z : ℕ) → SaysNothing line → SpellsLine line (Damage x y z) → ⊥
+damage_speaks line x y z says h = begins line h.0 h.1 100 (codes "amage") h.2 h.3 (λ z. cc z) says
+
 pub spelled_is_meant : (line : List ℕ) (d : Directive) → SpellsLine line d → directive_of line ≡ Some d
 spelled_is_meant line (Lose x y) h = lose_meant line x y h
 spelled_is_meant line (Zombie x y) h = zombie_meant line x y h
@@ -187,6 +204,7 @@ spelled_is_meant line (Bad x y) h = bad_meant line x y h
 spelled_is_meant line (Flaky x y z) h = flaky_meant line x y z h
 spelled_is_meant line (Hold x) h = hold_meant line x h
 spelled_is_meant line (Spoil x y) h = spoil_meant line x y h
+spelled_is_meant line (Damage x y z) h = damage_meant line x y z h
 
 pub nothing_spelled : (line : List ℕ) (d : Directive) → SaysNothing line → SpellsLine line d → ⊥
 nothing_spelled line (Lose x y) says h = lose_speaks line x y says h
@@ -195,6 +213,7 @@ nothing_spelled line (Bad x y) says h = bad_speaks line x y says h
 nothing_spelled line (Flaky x y z) says h = flaky_speaks line x y z says h
 nothing_spelled line (Hold x) says h = hold_speaks line x says h
 nothing_spelled line (Spoil x y) says h = spoil_speaks line x y says h
+nothing_spelled line (Damage x y z) says h = damage_speaks line x y z says h
 
 pub one_directive : (line : List ℕ) (d e : Directive) → SpellsLine line d → SpellsLine line e → d ≡ e
 one_directive line d e h k = same_Some d e (sym (spelled_is_meant line d h) ∙ spelled_is_meant line e k)

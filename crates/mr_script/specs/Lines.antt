@@ -2,7 +2,7 @@
 use Rattle.std.specs.Prelude.{◌≡◌, ◌⊎◌, ℕ, ◌^◌, ◌<◌, ◌≤◌, List, [], ◌∷◌, ◌++◌, length, slice_index, codes}
 use Rattle.std.specs.Str.Parse.{IsNumeral, digits_value}
 use Rattle.mr_script.specs.declared.directive.Directive.{Directive}
-use Rattle.mr_script.specs.declared.directive.Directive.TheVariants.{Lose, Zombie, Bad, Flaky, Hold, Spoil}
+use Rattle.mr_script.specs.declared.directive.Directive.TheVariants.{Lose, Zombie, Bad, Flaky, Hold, Spoil, Damage}
 
 -- a word of a line: a fixed one, or one that spells a number
 pub data Word : Type 0 where
@@ -17,6 +17,7 @@ words_of (Bad split rec) = Fixed (codes "bad") ∷ Number split ∷ Number rec �
 words_of (Flaky split rec attempts) = Fixed (codes "flaky") ∷ Number split ∷ Number rec ∷ Number attempts ∷ []
 words_of (Hold worker) = Fixed (codes "hold") ∷ Number worker ∷ []
 words_of (Spoil partition place) = Fixed (codes "spoil") ∷ Number partition ∷ Number place ∷ []
+words_of (Damage split partition place) = Fixed (codes "damage") ∷ Number split ∷ Number partition ∷ Number place ∷ []
 
 -- 1 to 10 decimal digits that write n, which fits in 32 bits
 pub record SpellsNumber (bytes : List ℕ) (n : ℕ) : Type 0 where

@@ -5,7 +5,7 @@ use Rattle.std.specs.Str.Parse.{digits_value}
 use Rattle.std.specs.Cmp.Lexicographic.{pointwise}
 use Rattle.mr_bytes.specs.Cut.{cut}
 use Rattle.mr_script.specs.declared.directive.Directive.{Directive}
-use Rattle.mr_script.specs.declared.directive.Directive.TheVariants.{Lose, Zombie, Bad, Flaky, Hold, Spoil}
+use Rattle.mr_script.specs.declared.directive.Directive.TheVariants.{Lose, Zombie, Bad, Flaky, Hold, Spoil, Damage}
 use Rattle.mr_script.specs.declared.line.Keyword.{Keyword}
 use Rattle.mr_script.specs.declared.line.Keyword.TheVariants as key
 
@@ -42,7 +42,8 @@ keyword_of word =
     if pointwise nat_eq word (codes "bad") then Some key.Bad else
     if pointwise nat_eq word (codes "flaky") then Some key.Flaky else
     if pointwise nat_eq word (codes "hold") then Some key.Hold else
-    if pointwise nat_eq word (codes "spoil") then Some key.Spoil else None
+    if pointwise nat_eq word (codes "spoil") then Some key.Spoil else
+    if pointwise nat_eq word (codes "damage") then Some key.Damage else None
 
 -- the directive of a keyword and the bytes behind it
 unfoldable pub directive_with : Keyword → List ℕ → Option Directive
@@ -52,6 +53,7 @@ directive_with key.Bad rest = number_and_number rest >>= λ a. Some (Bad a.0 a.1
 directive_with key.Flaky rest = three_numbers rest >>= λ a. Some (Flaky a.0 a.1 a.2)
 directive_with key.Hold rest = number_of rest >>= λ a. Some (Hold a)
 directive_with key.Spoil rest = number_and_number rest >>= λ a. Some (Spoil a.0 a.1)
+directive_with key.Damage rest = three_numbers rest >>= λ a. Some (Damage a.0 a.1 a.2)
 
 unfoldable pub directive_of : List ℕ → Option Directive
 directive_of line = cut 0x20 line >>= λ c. keyword_of c.0 >>= λ k. directive_with k c.1

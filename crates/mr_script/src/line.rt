@@ -16,6 +16,7 @@ enum Keyword {
     Flaky,
     Hold,
     Spoil,
+    Damage,
 }
 
 /// Whether the line is empty or begins with `#`.
@@ -120,6 +121,9 @@ fn keyword_of(word: &[u8]) -> Option<Keyword>
     if word == b"spoil".as_slice() {
         return Some(Keyword::Spoil);
     }
+    if word == b"damage".as_slice() {
+        return Some(Keyword::Damage);
+    }
     None
 }
 
@@ -157,6 +161,14 @@ pub(crate) fn directive_of(line: &[u8]) -> Option<Directive>
         Keyword::Spoil => {
             let (partition, place) = number_and_number(rest)?;
             Some(Directive::Spoil { partition, place })
+        }
+        Keyword::Damage => {
+            let (split, partition, place) = three_numbers(rest)?;
+            Some(Directive::Damage {
+                split,
+                partition,
+                place,
+            })
         }
     }
 }

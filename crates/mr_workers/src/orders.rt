@@ -21,10 +21,12 @@ pub(crate) enum About {
     Record,
     /// A byte of a partition's output.
     Output,
+    /// A byte of the first region of a partition that is put for a split.
+    Region,
 }
 
 /// A line of a script, in the order in which lines are looked up: by what it bears on, by the worker, the split or the
-/// partition, by the number of reports, the record or the byte, and then by its number.
+/// partition, by the number of reports, the record, the byte or the partition, and then by its number.
 #[derive(Clone, Copy, PartialEq, Eq, PartialOrd, Ord)]
 pub(crate) struct Line {
     about: About,
@@ -51,6 +53,9 @@ fn line_of(directive: &Directive, number: usize) -> Line {
         Directive::Bad { split, rec } => (About::Record, split, rec),
         Directive::Flaky { split, rec, .. } => (About::Record, split, rec),
         Directive::Spoil { partition, place } => (About::Output, partition, place),
+        Directive::Damage {
+            split, partition, ..
+        } => (About::Region, split, partition),
     };
     Line {
         about,
