@@ -1,5 +1,5 @@
 -- A pair taken from the front of what is still to come.
-use Rattle.std.proofs.Common.{◌≡◌, ℕ, suc, List, [], ◌∷◌, ◌++◌, Option, Some, None, refl, sym, ◌∙◌, ap, subst, arith}
+use Rattle.std.proofs.Common.{◌≡◌, ℕ, suc, ◌+◌, ◌<◌, ◌≤◌, length, List, [], ◌∷◌, ◌++◌, Option, Some, None, refl, sym, ◌∙◌, ap, subst, arith}
 use Rattle.std.specs.List.{AllByRecursion, flat_map}
 use Rattle.std.specs.declared.cmp.Ordering.TheVariants.{Less}
 use Rattle.mr_bytes.specs.Lists.{Rises}
@@ -7,8 +7,8 @@ use Rattle.mr_bytes.specs.Pairs.{Triple, pair_order}
 use Rattle.mr_bytes.proofs.ListLaws.{Has-all, all_from_Has}
 use Rattle.mr_spill.specs.declared.cursor.RegionPair.{RegionPair}
 use Rattle.mr_spill.specs.declared.cursor.RegionCursor.{RegionCursor}
-use Rattle.mr_spill.specs.Cursor.{AreAhead, IsBehind, IsNextOf, RiseBehind, lent_pair}
-use Rattle.mr_spill.specs.Spelling.{PairFits, pair_bytes}
+use Rattle.mr_spill.specs.Cursor.{AreAhead, IsBehind, IsNextOf, IsOpened, RiseBehind, lent_pair}
+use Rattle.mr_spill.specs.Spelling.{PairFits, SpellsRegion, pair_bytes}
 use Rattle.mr_spill.proofs.ReadingLemmas.{pair-front}
 use Rattle.mr_spill.proofs.RegionLaws.{pair_total}
 
@@ -69,3 +69,45 @@ next-of p old new last split left text fit own behind = record { on = on; only =
             fit = a.fit.1;
           },
         )
+
+-- ---- a walk to the end
+
+-- what is still to come makes a region of the bytes, and whatever they spell, it is still to come behind so many pairs of so many
+pub record IsWalk (bytes : List ℕ) (split partition : ℕ) (cursor : RegionCursor) (gone count : ℕ) : Type 0 where
+  pub on : (us : List Triple) → AreAhead cursor us → (ts : List Triple) × SpellsRegion bytes split partition ts
+  pub left : (ts : List Triple) → SpellsRegion bytes split partition ts → (us : List Triple) × AreAhead cursor us × (length us + gone ≡ count)
+
+pub walk-start : (bytes : List ℕ) (split partition : ℕ) (cursor : RegionCursor) (count : ℕ) → IsOpened bytes split partition cursor
+    → ((ts : List Triple) → AreAhead cursor ts → count ≡ length ts) → IsWalk bytes split partition cursor 0 count
+walk-start bytes split partition cursor count o l = record {
+  on = λ us a. (us, o.on us a);
+  left = λ ts h. let a = o.only ts h in (ts, a, omega (arith, l ts a));
+}
+
+pub walk-more : (bytes : List ℕ) (split partition : ℕ) (cursor later : RegionCursor) (t : Triple) (gone count : ℕ) → IsNextOf t cursor later
+    → IsWalk bytes split partition cursor gone count → IsWalk bytes split partition later (gone + 1) count
+walk-more bytes split partition cursor later t gone count n w = record {
+  on = λ us a. w.on (t ∷ us) (n.on us a);
+  left = λ ts h.
+      let was = w.left ts h in
+      let next = n.only was.0 was.1 in
+      let len : length was.0 ≡ suc (length next.0) = ap length next.1 in
+      (next.0, next.2, omega (arith, was.2, len));
+}
+
+pub walk-none : (bytes : List ℕ) (split partition : ℕ) (cursor : RegionCursor) (gone count : ℕ) → ((ts : List Triple) → AreAhead cursor ts → ts ≡ []) → gone < count
+    → IsWalk bytes split partition cursor gone count → (ts : List Triple) → SpellsRegion bytes split partition ts → ⊥
+walk-none bytes split partition cursor gone count none less w ts h =
+    let was = w.left ts h in
+    let empty : ◌≡◌ {A = ℕ} (length was.0) 0 = ap length (none was.0 was.1) in
+    omega (arith, was.2, empty, less)
+
+pub walk-end : (bytes : List ℕ) (split partition : ℕ) (cursor : RegionCursor) (gone count : ℕ) → (AreAhead cursor [] → ⊥) → count ≤ gone
+    → IsWalk bytes split partition cursor gone count → (ts : List Triple) → SpellsRegion bytes split partition ts → ⊥
+walk-end bytes split partition cursor gone count not all w ts h =
+    let was = w.left ts h in
+    not (subst (AreAhead cursor) (none-of-length was.0 (omega (arith, was.2, all))) was.1)
+  where
+    none-of-length : (us : List Triple) → length us ≡ 0 → us ≡ []
+    none-of-length [] e = refl
+    none-of-length (u ∷ us) e = absurd (omega (arith, e))

@@ -1,5 +1,5 @@
 //! A region walked pair by pair over its bytes: nothing is copied, and nothing believed that the bytes don't spell.
-ghost use Rattle.std.specs.Prelude.{◌≡◌, ◌↔◌, ◌<◌, [], List, Some, IsTrue, MatchOption, drop, length};
+ghost use Rattle.std.specs.Prelude.{◌≡◌, ◌↔◌, ◌<◌, [], List, Some, IsTrue, MatchOption, drop, false, length};
 ghost use Rattle.mr_bytes.specs.Pairs.{Triple};
 ghost use Rattle.mr_spill.specs.Cursor.{AheadAgain, AreAhead, IsBehind, IsKeyOf, IsNextOf, IsOpened, lent_pair};
 ghost use Rattle.mr_spill.specs.Spelling.{SpellsRegion};
@@ -151,4 +151,21 @@ impl<'a> RegionCursor<'a> {
         self.last = Some(pair);
         Some(pair)
     }
+}
+
+/// Whether bytes are a region of this split and partition, by a walk over all of it.
+pub fn is_region(bytes: &[u8], split: u32, partition: u32) -> bool
+    ensures spelled { IsTrue result → (ts : List Triple) × SpellsRegion bytes.now split partition ts }
+    ensures damaged { result ≡ false → (ts : List Triple) → SpellsRegion bytes.now split partition ts → ⊥ }
+{
+    let Some(mut cursor) = open_region(bytes, split, partition) else {
+        return false;
+    };
+    let count = cursor.left();
+    for _ in 0..count {
+        let Some(_) = cursor.next() else {
+            return false;
+        };
+    }
+    cursor.is_at_end()
 }

@@ -46,6 +46,13 @@ impl Entries {
         })
     }
 
+    /// Makes room for the names of so many more.
+    pub fn reserve(&mut self, more: usize) -> Result<(), AllocError>
+        ensures { self.new ≡ self.old }
+    {
+        self.names.reserve(more)
+    }
+
     /// How many values there are.
     pub fn len(&self) -> usize
         ensures { result ≡ length self.now }

@@ -80,6 +80,14 @@ impl Numbered {
         })
     }
 
+    /// Makes room for so many pairs more. Whether there is any or not, the pairs are those that were there.
+    pub fn reserve(&mut self, more: usize) -> Result<(), AllocError>
+        ensures { self.new ≡ self.old }
+    {
+        self.numbers.reserve(more)?;
+        self.entries.reserve(more)
+    }
+
     /// How many pairs there are.
     pub fn len(&self) -> usize
         ensures { result ≡ length self.now }

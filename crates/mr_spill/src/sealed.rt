@@ -1,5 +1,5 @@
 //! The pairs of a run, cut by partition into sorted regions that are spelled at once.
-ghost use Rattle.std.specs.Prelude.{◌≡◌, ℕ, ◌+◌, ◌<◌, ◌≤◌, ◌^◌, ◌==◌, if◌then◌else◌, ◌++◌, ◌∷◌, [], IfOk, OnOk, OnErr, All, length, drop, slice_index_or};
+ghost use Rattle.std.specs.Prelude.{◌≡◌, ℕ, ◌+◌, ◌<◌, ◌≤◌, ◌^◌, ◌==◌, if◌then◌else◌, ◌++◌, ◌∷◌, [], IfOk, OnOk, OnErr, All, length, map, drop, slice_index_or};
 ghost use Rattle.std.specs.List.{AllByRecursion, flat_map};
 ghost use Rattle.mr_bytes.specs.Lists.{Distinct, Rises};
 ghost use Rattle.mr_partition.specs.Hosts.{partition_by};
@@ -78,6 +78,18 @@ impl SealedRun {
             self.split,
             p,
         )
+    }
+
+    /// The bytes of each region, moved, not copied.
+    pub fn into_texts(self, alloc: Global) -> Result<Vec<Vec<u8>>, AllocError>
+        ensures { IfOk result (λ v. map (λ b. b.items) v.items ≡ self.regions) }
+    {
+        let SealedRun { split: _, regions } = self;
+        let mut texts = Vec::with_capacity(alloc, regions.len())?;
+        for region in regions {
+            texts.push(region.bytes)?;
+        }
+        Ok(texts)
     }
 }
 
