@@ -1,5 +1,5 @@
 -- Regions taken pair by pair over their bytes.
-use Rattle.std.proofs.Common.{◌≡◌, ℕ, zero, suc, ◌<◌, ◌≤◌, ◌-◌, drop, take, arith, get_or, Option, Some, None, List, [], ◌∷◌, ◌++◌, length, refl, sym, ◌∙◌, ap, subst, append_assoc}
+use Rattle.std.proofs.Common.{◌≡◌, ℕ, zero, suc, ◌+◌, ◌<◌, ◌≤◌, ◌-◌, drop, take, arith, get_or, Option, Some, None, List, [], ◌∷◌, ◌++◌, length, refl, sym, ◌∙◌, ap, subst, append_assoc, map}
 use Rattle.std.proofs.lemmas.List.{append-nil, flat_map_more, map-append}
 use Rattle.std.specs.List.{AllByRecursion}
 use Rattle.std.specs.Prelude.{MatchOption}
@@ -18,6 +18,8 @@ use Rattle.mr_merge.specs.declared.taking.Gathering.{Gathering}
 use Rattle.mr_merge.specs.Bytes.{AreSpelled}
 use Rattle.mr_merge.specs.Merged.{AreSound, joined}
 use Rattle.mr_merge.specs.Merging.{IsPast, IsUpTo, NamesDiffer}
+use Rattle.mr_bytes.proofs.ListLaws.{Has-map}
+use Rattle.mr_merge.specs.Following.{packed}
 use Rattle.mr_merge.specs.Taking.{AreTaken, IsBegun, IsTaken, RunsAhead}
 use Rattle.mr_merge.proofs.GatherLemmas.{All-weaker, differs, follows, later-last}
 use Rattle.mr_ranks.proofs.ListLemmas.{All-more}
@@ -65,6 +67,36 @@ pub begun-end : (partition : ℕ) (region : RegionText) (old new : Gathering) (c
 begun-end partition region old new cursor b a d =
     let spelled : SpellsRegion region.bytes region.split partition b.taken = subst (SpellsRegion region.bytes region.split partition) (append-nil b.taken) (b.on [] a) in
     record { value = b.taken; takes = b.takes; spelled = spelled; differ = d partition b.taken spelled }
+
+distinct-from_map : {X Y : Type 0} (f : X → Y) (xs : List X) → Distinct (map f xs) → Distinct xs
+distinct-from_map f [] d = tt
+distinct-from_map f (x ∷ xs) d = (λ h. d.0 (Has-map f xs x h), distinct-from_map f xs d.1)
+
+-- those that were taken have names of these numbers
+abbrev pub IsNamed : ℕ → RegionText → Gathering → Gathering → RegionCursor → List ℕ → Type 0
+IsNamed partition region old new cursor names = (b : IsBegun partition region old new cursor) × (names ≡ map packed (names_of b.taken))
+
+pub named-start : (partition : ℕ) (region : RegionText) (all : Gathering) (cursor : RegionCursor) (bytes : List ℕ) (split : ℕ)
+    → IsOpened bytes split partition cursor → bytes ≡ region.bytes → split ≡ region.split → IsNamed partition region all all cursor []
+unfolding begun-start
+named-start partition region all cursor bytes split o b s = (begun-start partition region all cursor bytes split o b s, refl)
+
+pub named-more : (partition : ℕ) (region : RegionText) (old now new : Gathering) (cursor later : RegionCursor) (p : RegionPair) (names : List ℕ)
+    → IsNamed partition region old now cursor names → IsNextOf (lent_pair p) cursor later → later.last ≡ Some p
+    → new.pairs ≡ now.pairs ++ lent_pair p ∷ [] → EndsWithKey new.pairs p.key.now → IsPast old.last p.name
+    → ((n : Name) → IsUpTo now.last n → IsUpTo new.last n) → IsUpTo new.last p.name → IsNamed partition region old new later (names ++ packed p.name ∷ [])
+unfolding begun-more
+named-more partition region old now new cursor later p names b next last is key past up it = (
+  begun-more partition region old now new cursor later p b.0 next last is key past up it,
+  ap (λ (l : List ℕ). l ++ packed p.name ∷ []) b.1 ∙ sym (ap (map packed) (map-append (λ (u : Triple). u.name) b.0.taken (lent_pair p ∷ [])) ∙ map-append packed (names_of b.0.taken) (p.name ∷ [])),
+)
+
+-- and here all were, and their names differ
+pub named-end : (partition : ℕ) (region : RegionText) (old new : Gathering) (cursor : RegionCursor) (names : List ℕ) → IsNamed partition region old new cursor names
+    → AreAhead cursor [] → Distinct names → IsTaken partition region old new
+named-end partition region old new cursor names b a d =
+    let spelled : SpellsRegion region.bytes region.split partition b.0.taken = subst (SpellsRegion region.bytes region.split partition) (append-nil b.0.taken) (b.0.on [] a) in
+    record { value = b.0.taken; takes = b.0.takes; spelled = spelled; differ = distinct-from_map packed (names_of b.0.taken) (subst Distinct b.1 d) }
 
 -- ---- runs of a region
 
@@ -192,3 +224,39 @@ spelled-sound partition rs vs a d = record { in_order = spelled-rise partition r
 
 pub matched : (partition : ℕ) (rs : List RegionText) (o : Option Gathering) (all : Gathering) → o ≡ Some all → MatchOption o (Unit {0}) (AreTaken partition rs) → AreTaken partition rs all
 matched partition rs o all e m = subst (λ (w : Option Gathering). MatchOption w (Unit {0}) (AreTaken partition rs)) e m
+
+-- ---- what is still to come of a region
+
+-- whatever pairs the region spells, with those still to come there are so many behind the others
+abbrev pub AreLeft : ℕ → RegionText → RegionCursor → ℕ → ℕ → Type 0
+AreLeft partition region cursor gone count = (ts : List Triple) → SpellsRegion region.bytes region.split partition ts → (us : List Triple) × AreAhead cursor us × (length us + gone ≡ count)
+
+pub left-start : (partition : ℕ) (region : RegionText) (cursor : RegionCursor) (bytes : List ℕ) (split count : ℕ)
+    → IsOpened bytes split partition cursor → bytes ≡ region.bytes → split ≡ region.split → ((ts : List Triple) → AreAhead cursor ts → count ≡ length ts) → AreLeft partition region cursor 0 count
+left-start partition region cursor bytes split count o b s l ts h =
+    let a : AreAhead cursor ts = o.only ts (subst (λ (w : List ℕ). SpellsRegion w split partition ts) (sym b) (subst (λ (w : ℕ). SpellsRegion region.bytes w partition ts) (sym s) h)) in
+    (ts, a, omega (arith, l ts a))
+
+pub left-more : (partition : ℕ) (region : RegionText) (cursor later : RegionCursor) (t : Triple) (gone count : ℕ) → IsNextOf t cursor later → AreLeft partition region cursor gone count → AreLeft partition region later (gone + 1) count
+left-more partition region cursor later t gone count n l ts h =
+    let was = l ts h in
+    let next = n.only was.0 was.1 in
+    let len : length was.0 ≡ suc (length next.0) = ap length next.1 in
+    (next.0, next.2, omega (arith, was.2, len))
+
+pub left-none : (partition : ℕ) (region : RegionText) (cursor : RegionCursor) (gone count : ℕ) → ((ts : List Triple) → AreAhead cursor ts → ts ≡ []) → gone < count
+    → AreLeft partition region cursor gone count → (ts : List Triple) → SpellsRegion region.bytes region.split partition ts → ⊥
+left-none partition region cursor gone count none less l ts h =
+    let was = l ts h in
+    let empty : ◌≡◌ {A = ℕ} (length was.0) 0 = ap length (none was.0 was.1) in
+    omega (arith, was.2, empty, less)
+
+pub left-end : (partition : ℕ) (region : RegionText) (cursor : RegionCursor) (count : ℕ) → (AreAhead cursor [] → ⊥)
+    → AreLeft partition region cursor count count → (ts : List Triple) → SpellsRegion region.bytes region.split partition ts → ⊥
+left-end partition region cursor count not l ts h =
+    let was = l ts h in
+    not (subst (AreAhead cursor) (none-of-length was.0 (omega (arith, was.2))) was.1)
+  where
+    none-of-length : (us : List Triple) → length us ≡ 0 → us ≡ []
+    none-of-length [] e = refl
+    none-of-length (u ∷ us) e = absurd (omega (arith, e))

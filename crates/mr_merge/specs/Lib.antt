@@ -5,3 +5,4 @@ pub mod Groups
 pub mod Merging
 pub mod Bytes
 pub mod Taking
+pub mod Following

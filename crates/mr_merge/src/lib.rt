@@ -11,6 +11,7 @@
 
 mod bytes;
 mod demand;
+mod following;
 mod gathering;
 mod groups;
 mod merged;
@@ -20,5 +21,6 @@ mod taking;
 
 pub use bytes::{merge_regions, merge_regions_while};
 pub use demand::{Demand, Unending};
+pub use following::{Came, Follower};
 pub use groups::Groups;
 pub use merged::{MergeFault, merge, merge_law, worked_groups};

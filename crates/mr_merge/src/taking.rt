@@ -30,7 +30,7 @@ fn room_for(regions: &[Region<'_>]) -> usize {
 
 /// Takes a pair of a region, if its name is past those of all regions before.
 #[inline(always)]
-fn take_pair(
+pub(crate) fn take_pair(
     all: &mut Gathering,
     before: Option<Name>,
     pair: RegionPair<'_>,

@@ -1,0 +1,180 @@
+//! Regions of one partition that come one behind another: of each the pairs are taken, and its bytes may be let go.
+ghost use Rattle.std.specs.Prelude.{◌≡◌, ◌∷◌, ◌++◌, [], List, IfOk, IfSome, IsTrue, length, true};
+ghost use Rattle.mr_bytes.specs.Pairs.{Triple};
+ghost use Rattle.mr_spill.specs.Spelling.{SpellsRegion};
+ghost use Rattle.std.specs.Ordering.{nat_cmp};
+ghost use Rattle.mr_bytes.specs.Lists.{Distinct, Rises};
+ghost use Rattle.mr_spill.specs.Lent.{RegionText};
+ghost use Rattle.mr_merge.specs.Bytes.{AreMerged};
+ghost use Rattle.mr_merge.specs.Following.{HasTaken, packed};
+ghost use Rattle.mr_merge.specs.Taking.{IsTaken};
+ghost use Rattle.mr_merge.specs.declared.following.Came.TheVariants.{Damaged, Taken};
+
+use crate::groups::{Groups, grouped};
+use crate::taking::{Gathering, take_pair};
+use mr_bytes::Name;
+use mr_spill::{Numbered, Region, open_region};
+use std::alloc::{AllocError, Global};
+use std::marker::Model;
+
+/// What came of a region.
+#[derive(Clone, Copy, Debug, PartialEq, Eq)]
+pub enum Came {
+    /// All its pairs were taken.
+    Taken,
+    /// Its bytes are no region of the partition and of the split that they are told to be of.
+    Damaged,
+    /// Its names don't all differ, or not all are past those of the regions before: what was taken counts for nothing now.
+    Unordered,
+}
+
+/// What the regions of a partition gave that came so far.
+#[derive(Drop)]
+pub struct Follower {
+    partition: u32,
+    whole: bool,
+    all: Gathering,
+    names: Vec<u64>,
+}
+
+impl Model for Follower {
+    ghost use Rattle.std.specs.Prelude.{◌≡◌, true, List};
+    ghost use Rattle.mr_spill.specs.Lent.{RegionText};
+    ghost use Rattle.mr_merge.specs.Following.{Followed, HasTaken};
+
+    ghost Value = { Followed };
+
+    ghost view = { λ f. record { partition = f.partition; whole = f.whole; all = f.all } };
+
+    ghost invariant = { λ f. f.whole ≡ true → (regions : List RegionText) × HasTaken regions (record { partition = f.partition; whole = f.whole; all = f.all }) };
+}
+
+/// Number and place of a name, in one number.
+fn packed(name: Name) -> u64
+    ensures { result ≡ packed name }
+{
+    u64::from(name.rec) * 4_294_967_296 + u64::from(name.place)
+}
+
+/// Whether the numbers rise.
+fn numbers_rise(numbers: &[u64]) -> bool
+    ensures { IsTrue result → Rises nat_cmp numbers.now }
+{
+    for i in 1..numbers.len() {
+        if numbers[i - 1] >= numbers[i] {
+            return false;
+        }
+    }
+    true
+}
+
+/// Whether the numbers differ: they are put in order.
+fn differ(numbers: &mut Vec<u64>) -> bool
+    ensures { IsTrue result → Distinct numbers.old.items }
+{
+    numbers.sort_unstable();
+    numbers_rise(numbers.as_slice())
+}
+
+/// Takes the pairs of a region; `names` is room for its names. Where it isn't taken, what was taken counts for nothing.
+fn take_whole(
+    all: &mut Gathering,
+    names: &mut Vec<u64>,
+    region: &Region<'_>,
+    partition: u32,
+) -> Result<Came, AllocError>
+    ensures taken { IfOk result (λ c. c ≡ Taken → IsTaken partition region.now all.old all.new) }
+    ensures damaged { IfOk result (λ c. c ≡ Damaged → (ts : List Triple) → SpellsRegion region.now.bytes region.now.split partition ts → ⊥) }
+{
+    let Some(mut cursor) = open_region(region.bytes(), region.split(), partition) else {
+        return Ok(Came::Damaged);
+    };
+    let before = all.last;
+    let count = cursor.left();
+    names.clear();
+    for _ in 0..count {
+        let Some(pair) = cursor.next() else {
+            return Ok(Came::Damaged);
+        };
+        names.push(packed(pair.name))?;
+        if !take_pair(all, before, pair)? {
+            return Ok(Came::Unordered);
+        }
+    }
+    if !cursor.is_at_end() {
+        return Ok(Came::Damaged);
+    }
+    if !differ(names) {
+        return Ok(Came::Unordered);
+    }
+    Ok(Came::Taken)
+}
+
+impl Follower {
+    /// No regions of the partition came yet. It takes no memory.
+    pub fn new(alloc: Global, partition: u32) -> Follower
+        ensures partition { result.partition ≡ partition }
+        ensures none { HasTaken [] result }
+    {
+        Follower {
+            partition,
+            whole: true,
+            all: Gathering {
+                pairs: Numbered::new(alloc),
+                last: None,
+            },
+            names: Vec::new(alloc),
+        }
+    }
+
+    /// Makes room for so many pairs more. Whether there is any or not, nothing else changes.
+    pub fn reserve(&mut self, more: usize) -> Result<(), AllocError>
+        ensures { self.new ≡ self.old }
+    {
+        self.all.pairs.reserve(more)
+    }
+
+    /// Whether each region that came was taken.
+    pub fn is_whole(&self) -> bool
+        ensures whole { result ≡ self.now.whole }
+        ensures known { result ≡ true → (regions : List RegionText) × HasTaken regions self.now }
+    {
+        self.whole
+    }
+
+    /// One region more. Where it isn't taken, or for want of memory, what came counts for nothing from then on.
+    pub fn take(&mut self, region: &Region<'_>) -> Result<Came, AllocError>
+        ensures partition { self.new.partition ≡ self.old.partition }
+        ensures damaged { IfOk result (λ c. c ≡ Damaged → (ts : List Triple) → SpellsRegion region.now.bytes region.now.split self.old.partition ts → ⊥) }
+        ensures taken { IfOk result (λ c. c ≡ Taken → (regions : List RegionText) → HasTaken regions self.old → HasTaken (regions ++ region.now ∷ []) self.new) }
+    {
+        let was = self.whole;
+        self.whole = false;
+        match take_whole(&mut self.all, &mut self.names, region, self.partition)? {
+            Came::Taken => {
+                self.whole = was;
+                Ok(Came::Taken)
+            }
+            Came::Damaged => Ok(Came::Damaged),
+            Came::Unordered => Ok(Came::Unordered),
+        }
+    }
+
+    /// How many pairs were taken.
+    pub fn len(&self) -> usize
+        ensures { result ≡ length self.now.all.pairs }
+    {
+        self.all.pairs.len()
+    }
+
+    /// The groups of all regions that came, if each was taken.
+    pub fn groups(self, alloc: Global) -> Result<Option<Groups>, AllocError>
+        ensures { (regions : List RegionText) → HasTaken regions self → IfOk result (λ o. IfSome o (AreMerged self.partition regions)) }
+    {
+        if !self.whole {
+            return Ok(None);
+        }
+        let Follower { all, .. } = self;
+        Ok(Some(grouped(alloc, all.pairs)?))
+    }
+}
