@@ -1,4 +1,5 @@
 pub mod LeftOutLemmas
+pub mod FollowLemmas
 pub mod OutputLemmas
 pub mod RunLemmas
 pub mod SourceLemmas

@@ -4,3 +4,4 @@ pub mod Runs
 pub mod Values
 pub mod Worked
 pub mod Mapped
+pub mod Laid

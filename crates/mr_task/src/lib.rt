@@ -12,10 +12,12 @@ mod map;
 mod output;
 mod reduce;
 mod runs;
+mod stored;
 
 pub use fault::TaskFault;
 pub use laws::{map_values_law, worked_tasks};
 pub use map::{map_task, map_task_while, map_task_with};
-pub use mr_merge::{Demand, Unending};
+pub use mr_merge::{Came, Demand, Follower, Unending};
 pub use output::{GroupNames, MapOutput, ReduceOutput};
-pub use reduce::{reduce_task, reduce_task_while};
+pub use reduce::{reduce_followed, reduce_task, reduce_task_while};
+pub use stored::{Place, Stored};

@@ -21,8 +21,20 @@ use std::alloc::{AllocError, Global};
 /// stands in few runs.
 const RUN_PAIRS: usize = 65_536;
 
+/// How many pairs a run has at most where partitions are many: a region for each comes of it, and each is a file where regions
+/// lie in files.
+const MANY_PAIRS: usize = 1_048_576;
+
+/// How many pairs a run has at most, by how many partitions there are: 1,024 a region, if keys are spread evenly, within these.
+fn run_pairs(parts: u32) -> usize
+    ensures { 1 ≤ result }
+{
+    (parts as usize * 1_024).clamp(RUN_PAIRS, MANY_PAIRS)
+}
+
 /// What a job emits for the records of a split, without those whose numbers are listed, as sorted regions by partition,
-/// spelled as bytes: a region for each run of at most 65,536 pairs. Numbers may stand in any order, more than once, and need not be those of
+/// spelled as bytes: a region for each run. A run has at most 65,536 pairs, or 1,024 for each partition where that is more, up
+/// to 1,048,576. Numbers may stand in any order, more than once, and need not be those of
 /// records. It fails only for want of memory.
 pub fn map_task(
     alloc: Global,
@@ -37,7 +49,16 @@ pub fn map_task(
     requires split { split < split_total plan.now.size plan.now.files }
     ensures { IfOk result (IsMapped (λ k. partition_by by k parts) parts (emitted_in (emitted job.now plan.now.size plan.now.files []) split skips.now)) }
 {
-    map_task_with(alloc, plan, job, parts, split, skips, RUN_PAIRS, by)
+    map_task_with(
+        alloc,
+        plan,
+        job,
+        parts,
+        split,
+        skips,
+        run_pairs(parts),
+        by,
+    )
 }
 
 /// What `map_task` gives, and `None` where it was no longer wanted before it was there: it is asked before each record.
@@ -56,7 +77,7 @@ pub fn map_task_while<D: Demand>(
     ensures { IfOk result (λ o. MatchOption o (D.unending → ⊥)
         (IsMapped (λ k. partition_by by k parts) parts (emitted_in (emitted job.now plan.now.size plan.now.files []) split skips.now))) }
 {
-    let runs = Runs::new(alloc, split, by, parts, RUN_PAIRS);
+    let runs = Runs::new(alloc, split, by, parts, run_pairs(parts));
     mapped(alloc, plan, job, split, skips, runs, demand)
 }
 

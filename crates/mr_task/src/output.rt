@@ -89,6 +89,15 @@ impl MapOutput {
         }
         Ok(regions)
     }
+
+    /// The runs, moved, not copied.
+    pub fn into_runs(self) -> Vec<SealedRun>
+        ensures runs { result.items ≡ self.runs }
+        ensures parts { AllByRecursion (λ r. length r.regions ≡ self.parts) result.items }
+    {
+        let MapOutput { parts: _, runs } = self;
+        runs
+    }
 }
 
 /// What a reduce task gives: the text of its partition, and the names of each group's pairs, one group behind another.

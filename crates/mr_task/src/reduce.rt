@@ -1,18 +1,20 @@
 //! Reduce tasks.
-ghost use Rattle.std.specs.Prelude.{◌≡◌, ◌≤◌, ◌<◌, List, IfErr, IfOk, MatchOption, length};
+ghost use Rattle.std.specs.Prelude.{◌≡◌, ◌≤◌, ◌<◌, List, IfErr, IfOk, IfSome, MatchOption, length};
 ghost use Rattle.mr_bytes.specs.Pairs.{Triple};
 ghost use Rattle.mr_merge.specs.Bytes.{AreSpelled};
+ghost use Rattle.mr_merge.specs.Following.{HasTaken};
 ghost use Rattle.mr_merge.specs.Merged.{joined};
 ghost use Rattle.mr_reduce.specs.Text.{text_of};
+ghost use Rattle.mr_spill.specs.Lent.{RegionText};
 ghost use Rattle.mr_spill.specs.Spelling.{SpellsRegion};
 ghost use Rattle.mr_task.specs.Values.{CanMerge, IsReduced};
 
 use crate::fault::TaskFault;
 use crate::output::ReduceOutput;
 use mr_jobs::Job;
-use mr_merge::{Demand, Unending, merge_regions_while};
+use mr_merge::{Demand, Follower, Unending, merge_regions_while};
 use mr_spill::{Region, open_region};
-use std::alloc::Global;
+use std::alloc::{AllocError, Global};
 
 /// The most pairs that a reduce task takes: an input within its limits emits no more.
 const MAX_PAIRS: usize = 1_073_741_824;
@@ -88,6 +90,27 @@ pub fn reduce_task_while<D: Demand>(
     // The pairs are so few that a u32 counts those of each group, and the groups.
     count_all(regions, partition)?;
     let Some(groups) = merge_regions_while(alloc, regions, partition, demand)? else {
+        return Ok(None);
+    };
+    Ok(Some(ReduceOutput::of(alloc, job, groups)?))
+}
+
+/// What `reduce_task` gives of the regions that came one behind another; `None` where one of them was not taken, or where they
+/// have too many pairs: then `reduce_task` tells why.
+pub fn reduce_followed(
+    alloc: Global,
+    job: &Job,
+    regions: Follower,
+) -> Result<Option<ReduceOutput>, AllocError>
+    ensures { (texts : List RegionText) → HasTaken texts regions → IfOk result (λ o. IfSome o (IsReduced (text_of job.now) regions.partition texts)) }
+{
+    if !regions.is_whole() {
+        return Ok(None);
+    }
+    if regions.len() > MAX_PAIRS {
+        return Ok(None);
+    }
+    let Some(groups) = regions.groups(alloc)? else {
         return Ok(None);
     };
     Ok(Some(ReduceOutput::of(alloc, job, groups)?))
