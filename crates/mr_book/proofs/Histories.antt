@@ -12,7 +12,7 @@ use Rattle.mr_core.specs.declared.event.Event.TheVariants.{MapDone, ReduceDone}
 use Rattle.mr_core.specs.declared.event.Reply.{Reply}
 use Rattle.mr_core.specs.declared.event.Reply.TheVariants.{Accepted}
 use Rattle.mr_book.specs.Stored.{numbers, stored_by}
-use Rattle.mr_task.specs.Mapped.{Mapped}
+use Rattle.mr_task.specs.Laid.{Laid}
 use Rattle.mr_book.specs.View.{accepted_map, accepted_reduce, accepted_maps, accepted_reduces, output_with, AreNumbered, StoresAccepted}
 
 abbrev pub Events : Type 0
@@ -68,7 +68,7 @@ one_reduce (ReduceDone a o, Accepted) = inr (o, refl, refl)
 one_reduce _ = inl refl
 
 -- the number of events is past the numbers of all outputs
-pub next_map : (h : Events) (stored l : List (ℕ × Mapped)) (n : ℕ) → AreNumbered 0 h → numbers stored ≡ accepted_maps h → l ≡ stored → n ≡ length h → Rises nat_cmp (numbers l ++ n ∷ [])
+pub next_map : (h : Events) (stored l : List (ℕ × Laid)) (n : ℕ) → AreNumbered 0 h → numbers stored ≡ accepted_maps h → l ≡ stored → n ≡ length h → Rises nat_cmp (numbers l ++ n ∷ [])
 next_map h stored l n all same e len = subst (λ (l : List ℕ). Rises nat_cmp (l ++ n ∷ [])) (sym (ap numbers e ∙ same)) ((rises_up accepted_map one_map 0 n h (omega (arith, len)) all).0)
 
 pub next_reduce : (h : Events) (stored l : List (ℕ × Reduced)) (n : ℕ) → AreNumbered 0 h → numbers stored ≡ accepted_reduces h → l ≡ stored → n ≡ length h → Rises nat_cmp (numbers l ++ n ∷ [])
@@ -84,7 +84,7 @@ numbers_push : {V : Type 0} (stored : List (ℕ × V)) (n : ℕ) (v : V) → num
 numbers_push [] n v = refl
 numbers_push (s ∷ stored) n v = ap (λ l. s.0 ∷ l) (numbers_push stored n v)
 
-stored_map : (stored : List (ℕ × Mapped)) (a n : ℕ) (v : Mapped) (r : Reply) → numbers (stored_by stored n v r) ≡ numbers stored ++ accepted_map (MapDone a n, r)
+stored_map : (stored : List (ℕ × Laid)) (a n : ℕ) (v : Laid) (r : Reply) → numbers (stored_by stored n v r) ≡ numbers stored ++ accepted_map (MapDone a n, r)
 stored_map stored a n v Accepted = numbers_push stored n v
 stored_map stored a n v _ = sym (append-nil (numbers stored))
 
@@ -108,7 +108,7 @@ no_reduce _ r none = refl
 
 -- ---- a call more
 
-module _ (h : Events) (maps : List (ℕ × Mapped)) (reduces : List (ℕ × Reduced)) (old : StoresAccepted h maps reduces) where
+module _ (h : Events) (maps : List (ℕ × Laid)) (reduces : List (ℕ × Reduced)) (old : StoresAccepted h maps reduces) where
   heard : (e : Event) (r : Reply) → output_with e ≡ None → StoresAccepted (h ++ (e, r) ∷ []) maps reduces
   heard e r none = record {
     numbered = numbered_next h (e, r) old.numbered (subst (λ (o : Option ℕ). IfSome o (λ n. n ≡ length h)) (sym none) tt);
@@ -122,7 +122,7 @@ module _ (h : Events) (maps : List (ℕ × Mapped)) (reduces : List (ℕ × Redu
   hears e (Err y) h' none ok err = subst (λ (k : Events). StoresAccepted k maps reduces) (sym err) old
 
   -- after a map task's output came
-  pub takes_map : (a n : ℕ) (v : Mapped) (r : Reply) (h' : Events) (maps' : List (ℕ × Mapped)) → n ≡ length h → h' ≡ h ++ (MapDone a n, r) ∷ [] → maps' ≡ stored_by maps n v r → StoresAccepted h' maps' reduces
+  pub takes_map : (a n : ℕ) (v : Laid) (r : Reply) (h' : Events) (maps' : List (ℕ × Laid)) → n ≡ length h → h' ≡ h ++ (MapDone a n, r) ∷ [] → maps' ≡ stored_by maps n v r → StoresAccepted h' maps' reduces
   takes_map a n v r h' maps' len is now = subst (λ (k : Events). StoresAccepted k maps' reduces) (sym is) record {
     numbered = numbered_next h (MapDone a n, r) old.numbered len;
     maps = same_numbers accepted_map h (MapDone a n, r) (numbers maps) (numbers maps') old.maps (ap numbers now ∙ stored_map maps a n v r);

@@ -18,7 +18,7 @@ use Rattle.mr_core.proofs.Progress.{length-update}
 use Rattle.mr_core.proofs.StepCases.{Rule, step_holds}
 use Rattle.mr_book.specs.Stored.{numbers, stored_at}
 use Rattle.mr_task.specs.Values.{Reduced}
-use Rattle.mr_task.specs.Mapped.{Mapped}
+use Rattle.mr_task.specs.Laid.{Laid}
 use Rattle.mr_book.specs.View.{accepted_map, accepted_maps, accepted_reduce, accepted_reduces}
 
 -- ---- what a split has is stored
@@ -49,7 +49,7 @@ has_output sh h st run s x e = by (slice_get st.splits s) refl e
     by (Some sp) at e = of_output sp sp.output at refl e
 
 -- the output that a split has is stored
-pub output_stored : (sh : Shape) (h : List (Event × Reply)) (st : State) (maps : List (ℕ × Mapped)) → Run sh (opening sh) h st → numbers maps ≡ accepted_maps h
+pub output_stored : (sh : Shape) (h : List (Event × Reply)) (st : State) (maps : List (ℕ × Laid)) → Run sh (opening sh) h st → numbers maps ≡ accepted_maps h
     → (s x : ℕ) → output_of st s ≡ Some x → IsSome (stored_at maps x)
 output_stored sh h st maps run same s x e = stored_there maps x (subst (λ (l : List ℕ). Has l x) (sym same) (has_output sh h st run s x e))
 

@@ -1,7 +1,7 @@
 -- What contracts see of a book, and what every book keeps.
 use Rattle.std.specs.Prelude.{◌≡◌, ℕ, suc, List, [], ◌∷◌, Option, Some, None, IfSome}
 use Rattle.std.specs.List.{flat_map}
-use Rattle.mr_task.specs.Mapped.{Mapped}
+use Rattle.mr_task.specs.Laid.{Laid}
 use Rattle.mr_task.specs.Values.{Reduced}
 use Rattle.mr_core.specs.declared.event.Shape.{Shape}
 use Rattle.mr_core.specs.declared.event.Event.{Event}
@@ -16,7 +16,7 @@ pub record BookView : Type 0 where
   pub shape : Shape
   pub state : State
   pub history : List (Event × Reply)
-  pub maps : List (ℕ × Mapped)
+  pub maps : List (ℕ × Laid)
   pub reduces : List (ℕ × Reduced)
 
 -- ---- what histories accept
@@ -53,7 +53,7 @@ AreNumbered place (x ∷ h) = IfSome (output_with (x.0)) (λ output. output ≡ 
 -- ---- what every book keeps
 
 -- each output is numbered by its place in the history, and the outputs stored are just those that the history accepted
-pub record StoresAccepted (history : List (Event × Reply)) (mapped : List (ℕ × Mapped)) (reduced : List (ℕ × Reduced)) : Type 0 where
+pub record StoresAccepted (history : List (Event × Reply)) (mapped : List (ℕ × Laid)) (reduced : List (ℕ × Reduced)) : Type 0 where
   pub numbered : AreNumbered 0 history
   pub maps : numbers mapped ≡ accepted_maps history
   pub reduces : numbers reduced ≡ accepted_reduces history

@@ -6,15 +6,15 @@ ghost use Rattle.mr_core.specs.Master.{opening, is_complete, replay};
 ghost use Rattle.mr_core.specs.Looks.{output_of};
 ghost use Rattle.mr_core.specs.Promises.{Promises};
 ghost use Rattle.mr_book.specs.View.{IsKept, output_with};
-ghost use Rattle.mr_book.specs.Calls.{Calls, StoresNothing, Hands, Shares, region_in, grown};
+ghost use Rattle.mr_book.specs.Calls.{Calls, StoresNothing, Hands, Shares, region_in, grown, has_damage};
 ghost use Rattle.mr_book.specs.Stored.{stored_at, stored_by};
 
 use crate::entry::Entry;
 use crate::log::Log;
 use crate::seat::Seat;
-use crate::shelf::{Shelf, Stored};
+use crate::shelf::{Kept, Shelf};
 use mr_core::{Core, End, Event, Limits, Reply, Shape, Task};
-use mr_task::{MapOutput, ReduceOutput};
+use mr_task::{ReduceOutput, Stored};
 use std::alloc::{AllocError, AllocFailed, Global};
 use std::marker::Model;
 use std::sync::Arc;
@@ -25,8 +25,8 @@ use std::sync::ledger::{Blank, Ledger};
 pub struct History {
     pub shape: Shape,
     pub entries: Vec<Entry>,
-    pub maps: Vec<Stored<MapOutput>>,
-    pub reduces: Vec<Stored<ReduceOutput>>,
+    pub maps: Vec<Kept<Stored>>,
+    pub reduces: Vec<Kept<ReduceOutput>>,
 }
 
 /// The master of a job with its whole history and the outputs that it accepted. Each call is one event of the master,
@@ -35,7 +35,7 @@ pub struct History {
 #[derive(Drop)]
 pub struct Book<L: Ledger> {
     log: Log<L>,
-    maps: Shelf<MapOutput>,
+    maps: Shelf<Stored>,
     reduces: Shelf<ReduceOutput>,
     alloc: Global,
 }
@@ -114,6 +114,13 @@ impl<L: Ledger> Book<L> {
         self.log.grown()
     }
 
+    /// Whether some attempt could not read what it had fetched.
+    pub fn has_damage(&self) -> bool
+        ensures { result ≡ has_damage self.now.history }
+    {
+        self.log.has_damage()
+    }
+
     /// A worker asks for a task. Without memory book and seat stay as they were.
     pub fn ask(&mut self, seat: &mut Seat<L>, worker: u32) -> Result<Reply, AllocError>
         ensures call { IfOk result (λ r. Calls self.old (Event.Ask worker) r self.new) }
@@ -131,7 +138,7 @@ impl<L: Ledger> Book<L> {
         seat: &mut Seat<L>,
         attempt: u32,
         map: u32,
-    ) -> Result<(Reply, Option<Arc<MapOutput>>), AllocError>
+    ) -> Result<(Reply, Option<Arc<Stored>>), AllocError>
         ensures call { IfOk result (λ r. Calls self.old (Event.Fetch attempt map) r.0 self.new) }
         ensures output { IfOk result (λ r. Hands self.old.maps r.0 r.1) }
         ensures stored { StoresNothing self.old self.new }
@@ -150,8 +157,8 @@ impl<L: Ledger> Book<L> {
         &mut self,
         seat: &mut Seat<L>,
         attempt: u32,
-        output: MapOutput,
-    ) -> Result<Reply, AllocFailed<MapOutput>>
+        output: Stored,
+    ) -> Result<Reply, AllocFailed<Stored>>
         ensures call { IfOk result (λ r. Calls self.old (Event.MapDone attempt (length self.old.history)) r self.new) }
         ensures maps { IfOk result (λ r. self.new.maps ≡ stored_by self.old.maps (length self.old.history) output r) }
         ensures reduces { self.new.reduces ≡ self.old.reduces }
@@ -295,7 +302,7 @@ impl<L: Ledger> Book<L> {
     }
 
     /// The output of a split that is complete, shared once more.
-    fn output(&self, map: u32) -> Result<Option<Arc<MapOutput>>, AllocError>
+    fn output(&self, map: u32) -> Result<Option<Arc<Stored>>, AllocError>
         ensures { IfOk result (λ share. Shares self.now.maps (output_of self.now.state map) share) }
     {
         let core = self.log.core();
@@ -310,7 +317,7 @@ impl<L: Ledger> Book<L> {
 }
 
 /// What is handed out with the reply: the share where it tells a region.
-fn handed(reply: &Reply, share: Option<Arc<MapOutput>>) -> Option<Arc<MapOutput>>
+fn handed(reply: &Reply, share: Option<Arc<Stored>>) -> Option<Arc<Stored>>
     ensures { result ≡ (if is_some (region_in reply.now) then share else None) }
 {
     match reply {

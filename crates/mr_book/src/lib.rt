@@ -15,4 +15,4 @@ pub use book::{Book, History};
 pub use entry::Entry;
 pub use laws::what_is_complete_is_stored;
 pub use seat::Seat;
-pub use shelf::Stored;
+pub use shelf::Kept;

@@ -1,7 +1,8 @@
 //! The master with its history.
 ghost use Rattle.std.specs.Prelude.{◌≡◌, ◌+◌, ◌≤◌, ◌∷◌, ◌++◌, [], length, replicate, sum, vec_len, IfOk, OnOk, OnErr};
+ghost use Rattle.mr_core.specs.declared.event.Reply.{Reply};
 ghost use Rattle.mr_core.specs.Core.{IsStep, IsRun, TakesMemory};
-ghost use Rattle.mr_book.specs.Calls.{grown, is_wait};
+ghost use Rattle.mr_book.specs.Calls.{grown, has_damage, is_damage, is_wait};
 
 use crate::entry::Entry;
 use crate::seat::{Seat, gather, seats_of};
@@ -11,13 +12,15 @@ use std::marker::Model;
 use std::sync::ledger;
 use std::sync::ledger::{Blank, Ledger, Share};
 
-/// A master, and the events that it heard with its replies; `growth` is how many of these are no ask answered by Wait.
+/// A master, and the events that it heard with its replies; `growth` is how many of these are no ask answered by Wait, and
+/// `damage` whether one tells that a region could not be read.
 /// `calls` is the ledger of all calls, of which each seat has a share; the share left beside the seats has no part.
 #[derive(Drop)]
 pub(crate) struct Log<L: Ledger> {
     core: Core,
     entries: Vec<Entry>,
     growth: u64,
+    damage: bool,
     calls: ledger::Book<L>,
     rest: Share<L>,
 }
@@ -26,7 +29,7 @@ impl<L: Ledger> Model for Log<L> {
     ghost use Rattle.std.specs.Prelude.{◌≡◌, ◌-◌, vec_len, vec_capacity};
     ghost use Rattle.mr_core.specs.Core.{IsRun};
     ghost use Rattle.mr_book.specs.Log.{LogView};
-    ghost use Rattle.mr_book.specs.Calls.{grown};
+    ghost use Rattle.mr_book.specs.Calls.{grown, has_damage};
 
     ghost Value = { LogView };
 
@@ -35,6 +38,7 @@ impl<L: Ledger> Model for Log<L> {
     ghost invariant = { λ l. record {
       run : IsRun l.core l.entries.items;
       growth : l.growth ≡ grown l.entries.items;
+      damage : l.damage ≡ has_damage l.entries.items;
       calls : l.calls.total ≡ vec_len l.entries;
       rest : (l.rest.parts ≡ 0) × (l.rest.amount ≡ 0);
     } };
@@ -61,6 +65,7 @@ impl<L: Ledger> Log<L> {
             core,
             entries: Vec::new(alloc),
             growth: 0,
+            damage: false,
             calls,
             rest,
         };
@@ -79,6 +84,13 @@ impl<L: Ledger> Log<L> {
         ensures { result ≡ grown self.now.history }
     {
         self.growth
+    }
+
+    /// Whether some attempt could not read what it had fetched.
+    pub(crate) fn has_damage(&self) -> bool
+        ensures { result ≡ has_damage self.now.history }
+    {
+        self.damage
     }
 
     /// The master.
@@ -116,6 +128,7 @@ impl<L: Ledger> Log<L> {
         if !is_wait(event, &reply) {
             self.growth += 1;
         }
+        self.damage = self.damage || is_damage(event);
         self.entries.push_reserved(Entry::of(event, again));
         seat.count(&mut self.calls);
         Ok(reply)
@@ -133,6 +146,7 @@ impl<L: Ledger> Log<L> {
             core,
             entries,
             growth: _,
+            damage: _,
             mut calls,
             mut rest,
         } = self;
@@ -147,4 +161,11 @@ fn is_wait(event: Event, reply: &Reply) -> bool
     ensures { result ≡ is_wait (event, reply.now) }
 {
     matches!((event, reply), (Event::Ask(_), Reply::Wait))
+}
+
+/// Whether a reduce attempt could not read what it had fetched.
+fn is_damage(event: Event) -> bool
+    ensures { (reply : Reply) → result ≡ is_damage (event, reply) }
+{
+    matches!(event, Event::Damaged(..))
 }

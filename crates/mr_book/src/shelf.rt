@@ -12,12 +12,12 @@ use std::sync::Arc;
 
 /// An output, shared, under the number that it was given.
 #[derive(Drop)]
-pub struct Stored<T> {
+pub struct Kept<T> {
     number: u64,
     output: Arc<T>,
 }
 
-impl<T> Model for Stored<T> {
+impl<T> Model for Kept<T> {
     ghost use Rattle.std.specs.Prelude.{ℕ};
     ghost use Rattle.std.specs.Arc.{arc_value};
 
@@ -26,11 +26,11 @@ impl<T> Model for Stored<T> {
     ghost view = { λ s. (s.number, arc_value s.output) };
 }
 
-impl<T> Stored<T> {
-    fn of(number: u64, output: Arc<T>) -> Stored<T>
+impl<T> Kept<T> {
+    fn of(number: u64, output: Arc<T>) -> Kept<T>
         ensures { result ≡ (number, arc_value output) }
     {
-        Stored { number, output }
+        Kept { number, output }
     }
 
     /// Its number: how many events the history had before its own.
@@ -58,7 +58,7 @@ impl<T> Stored<T> {
 /// Outputs by rising number.
 #[derive(Drop)]
 pub(crate) struct Shelf<T> {
-    outputs: Vec<Stored<T>>,
+    outputs: Vec<Kept<T>>,
 }
 
 impl<T> Model for Shelf<T> {
@@ -99,12 +99,12 @@ impl<T: Drop> Shelf<T> {
         ensures { self.new.outputs ≡ stored_by self.old.outputs number (arc_value output) reply.now }
     {
         if matches!(reply, Reply::Accepted) {
-            self.outputs.push_reserved(Stored::of(number, output));
+            self.outputs.push_reserved(Kept::of(number, output));
         }
     }
 
     /// The output of a number that is there: a binary search.
-    pub(crate) fn at(&self, number: u64) -> &Stored<T>
+    pub(crate) fn at(&self, number: u64) -> &Kept<T>
         requires { IsSome (stored_at self.now.outputs number) }
         ensures { stored_at self.now.outputs number ≡ Some (result.now.1) }
     {
@@ -115,7 +115,7 @@ impl<T: Drop> Shelf<T> {
         }
     }
 
-    pub(crate) fn into_vec(self) -> Vec<Stored<T>>
+    pub(crate) fn into_vec(self) -> Vec<Kept<T>>
         ensures { result.items ≡ self.outputs }
     {
         let Shelf { outputs } = self;
