@@ -1,5 +1,5 @@
 -- Which failures of a job its script accounts for.
-use Rattle.std.specs.Prelude.{ℕ, Bool, true, false, ◌||◌, ◌==◌, List}
+use Rattle.std.specs.Prelude.{ℕ, Bool, true, false, not, ◌||◌, ◌==◌, List}
 use Rattle.std.specs.List.{list_all, list_any, range_with_len}
 use Rattle.mr_script.specs.declared.directive.Directive.{Directive}
 use Rattle.mr_script.specs.declared.directive.Directive.TheVariants.{Lose, Zombie, Bad, Flaky}
@@ -28,9 +28,10 @@ fails_record _ = false
 abbrev pub is_worker_lost : List Directive → ℕ → Bool
 is_worker_lost ds w = list_any (loses_worker w) ds
 
--- no worker is left where each has a line that loses it; too many records are left out where a line lets one fail; a
--- task has had all its attempts where a line lets a record fail or loses a worker
-abbrev pub accounts : List Directive → ℕ → JobFault → Bool
-accounts ds workers NoWorkers = list_all (is_worker_lost ds) (range_with_len 0 workers)
-accounts ds workers TooManySkips = list_any fails_record ds
-accounts ds workers TooManyAttempts = list_any fails_record ds || list_any loses_some ds
+-- no worker is left where each has a line that loses it, or where the store's device may have failed; too many records are
+-- left out where a line lets one fail; a task has had all its attempts where a line lets a record fail or loses a worker, where
+-- a region could not be read (`damage`), or where the store is not steady
+abbrev pub accounts : List Directive → Bool → Bool → ℕ → JobFault → Bool
+accounts ds damage steady workers NoWorkers = list_all (is_worker_lost ds) (range_with_len 0 workers) || not steady
+accounts ds damage steady workers TooManySkips = list_any fails_record ds
+accounts ds damage steady workers TooManyAttempts = (list_any fails_record ds || list_any loses_some ds) || (damage || not steady)

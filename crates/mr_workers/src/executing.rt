@@ -12,6 +12,7 @@ use mr_core::Shape;
 use mr_input::Input;
 use mr_jobs::Request;
 use mr_script::Script;
+use mr_spill::RegionStore;
 use mr_splits::Plan;
 use mr_watch::Watch;
 use std::alloc::{AllocError, Global};
@@ -66,10 +67,10 @@ fn seats_of<L: Ledger>(alloc: Global, mut left: Vec<Left<L>>) -> Result<Vec<Seat
 }
 
 /// All workers' turns over what they share, each in a thread of its own where one can be made: the seats that come back.
-fn turns<L: Ledger + Send + Sync, G: Gate, W: Watch, R: Threads + Wait + Sync>(
+fn turns<L: Ledger + Send + Sync, G: Gate, W: Watch, S: RegionStore, R: Threads + Wait + Sync>(
     rt: &R,
     alloc: Global,
-    shared: &Shared<'_, L, G, W>,
+    shared: &Shared<'_, L, G, W, S>,
     seats: Vec<Seat<L>>,
 ) -> Result<Vec<Seat<L>>, AllocError>
     requires { vec_len seats < 2 ^ 32 }
@@ -80,8 +81,14 @@ fn turns<L: Ledger + Send + Sync, G: Gate, W: Watch, R: Threads + Wait + Sync>(
     seats_of(alloc, left)
 }
 
-/// All workers' turns, each in a thread of its own where one can be made. The book, and the seats.
-pub fn executed<L: Ledger + Send + Sync, G: Gate, W: Watch, R: Threads + Wait + Sync>(
+/// All workers' turns, each in a thread of its own where one can be made. The book, and the seats; the store is let go.
+pub fn executed<
+    L: Ledger + Send + Sync,
+    G: Gate,
+    W: Watch,
+    S: RegionStore + Drop,
+    R: Threads + Wait + Sync,
+>(
     rt: &R,
     alloc: Global,
     plan: &Plan<'_>,
@@ -89,6 +96,7 @@ pub fn executed<L: Ledger + Send + Sync, G: Gate, W: Watch, R: Threads + Wait + 
     book: Book<L>,
     seats: Vec<Seat<L>>,
     gate: &G,
+    store: S,
     watch: &W,
 ) -> Result<(Book<L>, Vec<Seat<L>>), AllocError>
     requires { vec_len seats < 2 ^ 32 }
@@ -104,6 +112,7 @@ pub fn executed<L: Ledger + Send + Sync, G: Gate, W: Watch, R: Threads + Wait + 
         orders: Orders::of(alloc, terms.script)?,
         completed: Completed::new(alloc, terms.shape.maps, terms.shape.parts)?,
         gate,
+        store,
         progress: Progress::new(watch, terms.shape.maps, terms.shape.parts),
     };
     let seats = turns(rt, alloc, &shared, seats)?;

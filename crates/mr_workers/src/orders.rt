@@ -54,7 +54,9 @@ fn line_of(directive: &Directive, number: usize) -> Line {
         Directive::Flaky { split, rec, .. } => (About::Record, split, rec),
         Directive::Spoil { partition, place } => (About::Output, partition, place),
         Directive::Damage {
-            split, partition, ..
+            split,
+            partition,
+            ..
         } => (About::Region, split, partition),
     };
     Line {
@@ -155,11 +157,40 @@ impl<'a> Orders<'a> {
         failing
     }
 
+    /// The lines that damage the region of a partition that is put for a split now, where it is the first.
+    fn damaging(&self, split: u32, partition: u32) -> &[Line] {
+        let lines = self.lines_between(About::Region, split, partition, partition);
+        match lines.first() {
+            Some(line) => match self.reached.get(line.number) {
+                Some(reached) if reached.fetch_add(1, Ordering::SeqCst) == 0 => lines,
+                _ => &[],
+            },
+            None => &[],
+        }
+    }
+
+    /// Changes the bytes of a region that is put now, where it is the first of a partition for a split: of each byte that a line
+    /// names the lowest bit, once for each line.
+    pub(crate) fn damage(&self, split: u32, partition: u32, region: &mut [u8]) {
+        for line in self.damaging(split, partition) {
+            if let Some(Directive::Damage { place, .. }) = self.directive(line) {
+                flip(region, *place);
+            }
+        }
+    }
+
     /// Changes the bytes of a reduce output that are to be spoiled: of each the lowest bit, once for each line.
     pub(crate) fn spoil(&self, partition: u32, output: &mut ReduceOutput) {
         for line in self.lines_of(About::Output, partition) {
             output.flip(line.at);
         }
+    }
+}
+
+/// Changes the lowest bit of the byte at the place; nothing where no byte stands there.
+fn flip(bytes: &mut [u8], place: u32) {
+    if let Some(byte) = bytes.get_mut(place as usize) {
+        *byte ^= 1;
     }
 }
 
@@ -222,14 +253,23 @@ fn workers_are_lost(directives: &[Directive]) -> bool
     false
 }
 
-/// Whether a job of so many workers may fail by this fault, by what its script orders.
-pub fn accounts_for(script: &Script, workers: u32, fault: JobFault) -> bool
-    ensures { result ≡ accounts script.now workers fault }
+/// Whether a job of so many workers may fail by this fault, by what its script orders, by whether a region could not be read,
+/// and by whether the store is steady.
+pub fn accounts_for(
+    script: &Script,
+    damage: bool,
+    steady: bool,
+    workers: u32,
+    fault: JobFault,
+) -> bool
+    ensures { result ≡ accounts script.now damage steady workers fault }
 {
     let directives = script.directives();
     match fault {
-        JobFault::NoWorkers => all_are_lost(directives, workers),
+        JobFault::NoWorkers => all_are_lost(directives, workers) || !steady,
         JobFault::TooManySkips => records_fail(directives),
-        JobFault::TooManyAttempts => records_fail(directives) || workers_are_lost(directives),
+        JobFault::TooManyAttempts => {
+            records_fail(directives) || workers_are_lost(directives) || damage || !steady
+        }
     }
 }

@@ -1,4 +1,4 @@
-//! What the workers of a run share: the book under its lock, and all that they only read.
+//! What the workers of a run share: the book under its lock, the store of regions, and all that they only read.
 use crate::completed::Completed;
 use crate::orders::Orders;
 use crate::progress::Progress;
@@ -6,8 +6,9 @@ use mr_book::{Book, Seat};
 use mr_bytes::Gate;
 use mr_core::{Reply, Task};
 use mr_jobs::Request;
+use mr_spill::RegionStore;
 use mr_splits::Plan;
-use mr_task::{MapOutput, ReduceOutput};
+use mr_task::{ReduceOutput, Stored};
 use mr_watch::Watch;
 use std::alloc::{AllocError, Global};
 use std::sync::atomic::{AtomicBool, Ordering};
@@ -21,7 +22,7 @@ const LOOKS: u32 = 1_000;
 /// The book under its lock, which is held for one call of it and for nothing else; `news` wakes those who wait for a
 /// task. `stopped` is set once a worker can't go on.
 #[derive(Drop)]
-pub(crate) struct Shared<'a, L: Ledger, G: Gate, W: Watch> {
+pub(crate) struct Shared<'a, L: Ledger, G: Gate, W: Watch, S: RegionStore> {
     pub alloc: Global,
     pub book: Mutex<Book<L>>,
     pub news: Condvar,
@@ -31,10 +32,11 @@ pub(crate) struct Shared<'a, L: Ledger, G: Gate, W: Watch> {
     pub orders: Orders<'a>,
     pub completed: Completed,
     pub gate: &'a G,
+    pub store: S,
     pub progress: Progress<'a, W>,
 }
 
-impl<'a, L: Ledger, G: Gate, W: Watch> Shared<'a, L, G, W> {
+impl<'a, L: Ledger, G: Gate, W: Watch, S: RegionStore> Shared<'a, L, G, W, S> {
     /// Whether the workers end after their present turn.
     pub(crate) fn is_stopped(&self) -> bool {
         self.stopped.load(Ordering::SeqCst)
@@ -75,7 +77,7 @@ impl<'a, L: Ledger, G: Gate, W: Watch> Shared<'a, L, G, W> {
         seat: &mut Seat<L>,
         attempt: u32,
         split: u32,
-    ) -> Result<Option<Arc<MapOutput>>, AllocError> {
+    ) -> Result<Option<Arc<Stored>>, AllocError> {
         let (_reply, output) = self.book.lock(rt).fetch(seat, attempt, split)?;
         if output.is_none() {
             self.news.notify_all();
@@ -90,7 +92,7 @@ impl<'a, L: Ledger, G: Gate, W: Watch> Shared<'a, L, G, W> {
         seat: &mut Seat<L>,
         attempt: u32,
         split: u32,
-        output: MapOutput,
+        output: Stored,
     ) -> Result<(), AllocError> {
         let told = self.book.lock(rt).map_done(seat, attempt, output);
         self.news.notify_all();
@@ -110,8 +112,9 @@ impl<'a, L: Ledger, G: Gate, W: Watch> Shared<'a, L, G, W> {
         seat: &mut Seat<L>,
         attempt: u32,
         split: u32,
+        worker: u32,
     ) -> Result<bool, AllocError> {
-        let nothing = MapOutput::new(self.alloc, self.request.parts());
+        let nothing = Stored::new(self.alloc, self.request.parts(), worker);
         let mut book = self.book.lock(rt);
         if !book.complete(Task::Map(split)) {
             return Ok(false);
@@ -121,6 +124,20 @@ impl<'a, L: Ledger, G: Gate, W: Watch> Shared<'a, L, G, W> {
         self.news.notify_all();
         told?;
         Ok(true)
+    }
+
+    /// A reduce attempt can't read what it fetched of a split.
+    pub(crate) fn damaged<R: Wait>(
+        &self,
+        rt: &R,
+        seat: &mut Seat<L>,
+        attempt: u32,
+        split: u32,
+    ) -> Result<(), AllocError> {
+        let told = self.book.lock(rt).damaged(seat, attempt, split);
+        self.news.notify_all();
+        told?;
+        Ok(())
     }
 
     /// A map attempt failed on a record.

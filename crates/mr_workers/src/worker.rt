@@ -7,47 +7,15 @@ use mr_book::Seat;
 use mr_bytes::Gate;
 use mr_core::{Reply, Skips, Task};
 use mr_script::Directive;
-use mr_spill::Region;
-use mr_task::{MapOutput, ReduceOutput, TaskFault, map_task, map_task_while, reduce_task_while};
+use mr_spill::{GetFault, PutFault, Region, RegionStore, SealedRun, is_region};
+use mr_task::{
+    Came, Demand, Follower, MapOutput, ReduceOutput, Stored, TaskFault, map_task, map_task_while,
+    reduce_followed, reduce_task,
+};
 use mr_watch::Watch;
 use std::alloc::{AllocError, Global};
 use std::sync::ledger::Ledger;
 use std::sync::{Arc, Wait};
-
-/// Why a worker can't go on.
-#[derive(Clone, Copy, PartialEq, Eq)]
-pub(crate) enum Halt {
-    /// It was refused memory.
-    Refused,
-    /// The regions that it fetched can't be merged.
-    Damaged,
-}
-
-impl From<AllocError> for Halt {
-    ghost use Rattle.mr_workers.specs.declared.worker.Halt.TheVariants.{Refused};
-    ghost use Rattle.std.specs.Prelude.{◌≡◌};
-
-    ghost from_gives = { λ _ h. h ≡ Refused };
-
-    fn from(_: AllocError) -> Halt {
-        Halt::Refused
-    }
-}
-
-impl From<TaskFault> for Halt {
-    ghost use Rattle.mr_workers.specs.declared.worker.Halt.TheVariants.{Refused, Damaged};
-    ghost use Rattle.mr_task.specs.declared.fault.TaskFault.TheVariants.{RegionDamaged};
-    ghost use Rattle.std.specs.Prelude.{◌≡◌, ◌↔◌};
-
-    ghost from_gives = { λ fault h. (h ≡ Damaged) ↔ (fault ≡ RegionDamaged) };
-
-    fn from(fault: TaskFault) -> Halt {
-        match fault {
-            TaskFault::OutOfMemory => Halt::Refused,
-            TaskFault::RegionDamaged => Halt::Damaged,
-        }
-    }
-}
 
 /// What comes after a turn.
 #[derive(Clone, Copy, PartialEq, Eq)]
@@ -71,29 +39,108 @@ pub(crate) struct Left<L: Ledger> {
     pub refused: bool,
 }
 
-/// The regions of a partition, of all these outputs.
-fn regions_of<'o>(
-    alloc: Global,
-    outputs: &'o [Arc<MapOutput>],
-    partition: u32,
-) -> Result<Vec<Region<'o>>, AllocError> {
-    let mut regions = Vec::new(alloc);
-    for output in outputs {
-        if partition < output.parts() {
-            for run in 0..output.runs() {
-                regions.push(output.region(partition, run))?;
-            }
-        }
+/// A region that was got: whose split it is, and its bytes.
+#[derive(Drop)]
+struct Got {
+    split: u32,
+    bytes: Vec<u8>,
+}
+
+/// What came of a reduce attempt.
+#[derive(Drop)]
+enum Made {
+    Output(ReduceOutput),
+    /// It is no longer wanted.
+    Unwanted,
+    /// A split has no output any more, and the attempt has ended.
+    Gone,
+    /// What is stored for this split can't be read.
+    Damaged(u32),
+}
+
+/// The regions, lent.
+fn lent<'g>(alloc: Global, got: &'g [Got]) -> Result<Vec<Region<'g>>, AllocError> {
+    let mut regions = Vec::with_capacity(alloc, got.len())?;
+    for one in got {
+        regions.push(Region::of(one.bytes.as_slice(), one.split))?;
     }
     Ok(regions)
 }
 
+/// Gets the regions that are stored of a split for a partition, behind those before: whether each could be read, and is one of
+/// the split and the partition.
+fn get_regions<S: RegionStore>(
+    store: &S,
+    alloc: Global,
+    stored: &Stored,
+    split: u32,
+    partition: u32,
+    got: &mut Vec<Got>,
+) -> Result<bool, AllocError> {
+    if partition >= stored.parts() {
+        return Ok(false);
+    }
+    for run in 0..stored.runs() {
+        let place = stored.place(partition, run);
+        let mut bytes = Vec::new(alloc);
+        match store.get(place.worker, place.number, &mut bytes) {
+            Ok(()) => {}
+            Err(GetFault::OutOfMemory) => return Err(AllocError),
+            Err(GetFault::Device | GetFault::NoRegion) => return Ok(false),
+        }
+        if !is_region(bytes.as_slice(), split, partition) {
+            return Ok(false);
+        }
+        got.push(Got { split, bytes })?;
+    }
+    Ok(true)
+}
+
+/// Takes the regions that are stored of a split for a partition, one after another, into the same buffer: whether each could
+/// be read, and is one of the split and the partition.
+fn follow<S: RegionStore>(
+    store: &S,
+    stored: &Stored,
+    split: u32,
+    partition: u32,
+    buffer: &mut Vec<u8>,
+    follower: &mut Follower,
+) -> Result<bool, AllocError> {
+    if partition >= stored.parts() {
+        return Ok(false);
+    }
+    for run in 0..stored.runs() {
+        let place = stored.place(partition, run);
+        buffer.clear();
+        match store.get(place.worker, place.number, buffer) {
+            Ok(()) => {}
+            Err(GetFault::OutOfMemory) => return Err(AllocError),
+            Err(GetFault::Device | GetFault::NoRegion) => return Ok(false),
+        }
+        if follower.is_whole() {
+            if let Came::Damaged = follower.take(&Region::of(buffer.as_slice(), split))? {
+                return Ok(false);
+            }
+        } else if !is_region(buffer.as_slice(), split, partition) {
+            return Ok(false);
+        }
+    }
+    Ok(true)
+}
+
+/// How many pairs more there may be, where the first of so many splits has so many: a sixteenth more than as many from each.
+fn guessed(first: usize, splits: u32) -> usize {
+    first
+        .saturating_add(first / 16)
+        .saturating_mul(splits as usize)
+}
+
 impl<L: Ledger> Worker<L> {
     /// What is ordered just before the worker's next report, in the order of the lines.
-    fn before_report<R: Wait, G: Gate, W: Watch>(
+    fn before_report<R: Wait, G: Gate, W: Watch, S: RegionStore>(
         &mut self,
         rt: &R,
-        shared: &Shared<'_, L, G, W>,
+        shared: &Shared<'_, L, G, W, S>,
         task: Task,
     ) -> Result<(), AllocError> {
         for line in shared.orders.before_report(self.number, self.reports) {
@@ -108,15 +155,68 @@ impl<L: Ledger> Worker<L> {
         Ok(())
     }
 
-    /// Executes a map task, and reports.
-    fn map<R: Wait, G: Gate, W: Watch>(
+    /// Puts a region, damaged where a line says so: its number, and `None` where the store's device failed.
+    fn put<G: Gate, W: Watch, S: RegionStore>(
+        &self,
+        shared: &Shared<'_, L, G, W, S>,
+        split: u32,
+        partition: u32,
+        mut region: Vec<u8>,
+    ) -> Result<Option<u64>, AllocError> {
+        shared
+            .orders
+            .damage(split, partition, region.as_mut_slice());
+        match shared.store.put_owned(self.number, region) {
+            Ok(number) => Ok(Some(number)),
+            Err(PutFault::OutOfMemory) => Err(AllocError),
+            Err(PutFault::Device) => Ok(None),
+        }
+    }
+
+    /// Puts the regions of a run, one after another; false where the store's device failed.
+    fn put_run<G: Gate, W: Watch, S: RegionStore>(
+        &self,
+        shared: &Shared<'_, L, G, W, S>,
+        split: u32,
+        run: SealedRun,
+        stored: &mut Stored,
+    ) -> Result<bool, AllocError> {
+        let mut partition = 0u32;
+        for region in run.into_texts(shared.alloc)? {
+            match self.put(shared, split, partition, region)? {
+                Some(number) => stored.push(number)?,
+                None => return Ok(false),
+            }
+            partition = partition.saturating_add(1);
+        }
+        Ok(true)
+    }
+
+    /// Puts all regions of a map task's output, each of which is let go then; `None` where the store's device failed.
+    fn put_all<G: Gate, W: Watch, S: RegionStore>(
+        &self,
+        shared: &Shared<'_, L, G, W, S>,
+        split: u32,
+        output: MapOutput,
+    ) -> Result<Option<Stored>, AllocError> {
+        let mut stored = Stored::new(shared.alloc, shared.request.parts(), self.number);
+        for run in output.into_runs() {
+            if !self.put_run(shared, split, run, &mut stored)? {
+                return Ok(None);
+            }
+        }
+        Ok(Some(stored))
+    }
+
+    /// Executes a map task, and reports. A worker whose store fails is lost.
+    fn map<R: Wait, G: Gate, W: Watch, S: RegionStore>(
         &mut self,
         rt: &R,
-        shared: &Shared<'_, L, G, W>,
+        shared: &Shared<'_, L, G, W, S>,
         attempt: u32,
         split: u32,
         skips: &Skips,
-    ) -> Result<(), Halt>
+    ) -> Result<Next, AllocError>
         requires { split < split_total shared.now.plan.now.size shared.now.plan.now.files }
     {
         let skips = skips.as_slice();
@@ -134,82 +234,159 @@ impl<L: Ledger> Worker<L> {
                 &shared.completed.demand(Task::Map(split)),
                 shared.request.by(),
             )?;
-            self.before_report(rt, shared, Task::Map(split))?;
-            self.report_map(rt, shared, attempt, split, skips, output)?;
+            return self.report_map(rt, shared, attempt, split, skips, output);
         }
         self.reports = self.reports.saturating_add(1);
-        Ok(())
+        Ok(Next::Ask)
+    }
+
+    /// Stores what a map attempt gave, and reports it; what is ordered before the report is done first, where it wasn't yet.
+    fn store_map<R: Wait, G: Gate, W: Watch, S: RegionStore>(
+        &mut self,
+        rt: &R,
+        shared: &Shared<'_, L, G, W, S>,
+        attempt: u32,
+        split: u32,
+        output: MapOutput,
+        is_ordered: bool,
+    ) -> Result<Next, AllocError> {
+        let Some(stored) = self.put_all(shared, split, output)? else {
+            shared.lose(rt, &mut self.seat, self.number)?;
+            return Ok(Next::End);
+        };
+        if !is_ordered {
+            self.before_report(rt, shared, Task::Map(split))?;
+        }
+        shared.map_done(rt, &mut self.seat, attempt, split, stored)?;
+        self.reports = self.reports.saturating_add(1);
+        Ok(Next::Ask)
     }
 
     /// Reports what a map attempt gave. One that left off has nothing to report but that it ends; where the task's output
     /// is lost meanwhile, it is done to the end after all.
-    fn report_map<R: Wait, G: Gate, W: Watch>(
+    fn report_map<R: Wait, G: Gate, W: Watch, S: RegionStore>(
         &mut self,
         rt: &R,
-        shared: &Shared<'_, L, G, W>,
+        shared: &Shared<'_, L, G, W, S>,
         attempt: u32,
         split: u32,
         skips: &[u32],
         output: Option<MapOutput>,
-    ) -> Result<(), AllocError>
+    ) -> Result<Next, AllocError>
         requires { split < split_total shared.now.plan.now.size shared.now.plan.now.files }
     {
-        let output = match output {
-            Some(output) => output,
-            None => {
-                if shared.leave_map(rt, &mut self.seat, attempt, split)? {
-                    return Ok(());
-                }
-                map_task(
-                    shared.alloc,
-                    shared.plan,
-                    shared.request.job(),
-                    shared.request.parts(),
-                    split,
-                    skips,
-                    shared.request.by(),
-                )?
-            }
-        };
-        shared.map_done(rt, &mut self.seat, attempt, split, output)
-    }
-
-    /// The outputs of all splits, or none where one of them is gone.
-    fn fetch_all<R: Wait, G: Gate, W: Watch>(
-        &mut self,
-        rt: &R,
-        shared: &Shared<'_, L, G, W>,
-        attempt: u32,
-    ) -> Result<Option<Vec<Arc<MapOutput>>>, AllocError> {
-        let mut outputs = Vec::new(shared.alloc);
-        for split in 0..shared.plan.splits() {
-            match shared.fetch(rt, &mut self.seat, attempt, split)? {
-                Some(output) => outputs.push(output)?,
-                None => return Ok(None),
-            }
+        if let Some(output) = output {
+            return self.store_map(rt, shared, attempt, split, output, false);
         }
-        Ok(Some(outputs))
+        self.before_report(rt, shared, Task::Map(split))?;
+        if shared.leave_map(rt, &mut self.seat, attempt, split, self.number)? {
+            self.reports = self.reports.saturating_add(1);
+            return Ok(Next::Ask);
+        }
+        let output = map_task(
+            shared.alloc,
+            shared.plan,
+            shared.request.job(),
+            shared.request.parts(),
+            split,
+            skips,
+            shared.request.by(),
+        )?;
+        self.store_map(rt, shared, attempt, split, output, true)
     }
 
-    /// Executes a reduce task, and reports; where an output that it needs is gone it makes no report.
-    fn reduce<R: Wait, G: Gate, W: Watch>(
-        &mut self,
-        rt: &R,
-        shared: &Shared<'_, L, G, W>,
-        attempt: u32,
+    /// The output of a partition over all regions at once.
+    fn reduce_whole<G: Gate, W: Watch, S: RegionStore>(
+        &self,
+        shared: &Shared<'_, L, G, W, S>,
         partition: u32,
-    ) -> Result<(), Halt> {
-        let Some(outputs) = self.fetch_all(rt, shared, attempt)? else {
-            return Ok(());
-        };
-        let regions = regions_of(shared.alloc, outputs.as_slice(), partition)?;
-        let output = reduce_task_while(
+        outputs: &[Arc<Stored>],
+    ) -> Result<Made, AllocError> {
+        let mut got = Vec::new(shared.alloc);
+        let mut split = 0u32;
+        for stored in outputs {
+            if !get_regions(
+                &shared.store,
+                shared.alloc,
+                stored,
+                split,
+                partition,
+                &mut got,
+            )? {
+                return Ok(Made::Damaged(split));
+            }
+            split = split.saturating_add(1);
+        }
+        let regions = lent(shared.alloc, got.as_slice())?;
+        match reduce_task(
             shared.alloc,
             shared.request.job(),
             partition,
             regions.as_slice(),
-            &shared.completed.demand(Task::Reduce(partition)),
-        )?;
+        ) {
+            Ok(output) => Ok(Made::Output(output)),
+            Err(TaskFault::OutOfMemory) => Err(AllocError),
+            Err(TaskFault::RegionDamaged) => Ok(Made::Damaged(0)),
+        }
+    }
+
+    /// Fetches the output of each split, and takes its regions of the partition, of which one is at hand at a time. Where their
+    /// names are out of order, all are got again.
+    fn make_reduce<R: Wait, G: Gate, W: Watch, S: RegionStore>(
+        &mut self,
+        rt: &R,
+        shared: &Shared<'_, L, G, W, S>,
+        attempt: u32,
+        partition: u32,
+    ) -> Result<Made, AllocError> {
+        let demand = shared.completed.demand(Task::Reduce(partition));
+        let mut follower = Follower::new(shared.alloc, partition);
+        let mut buffer = Vec::new(shared.alloc);
+        let mut outputs = Vec::new(shared.alloc);
+        for split in 0..shared.plan.splits() {
+            if !demand.lasts() {
+                return Ok(Made::Unwanted);
+            }
+            let Some(stored) = shared.fetch(rt, &mut self.seat, attempt, split)? else {
+                return Ok(Made::Gone);
+            };
+            if !follow(
+                &shared.store,
+                &stored,
+                split,
+                partition,
+                &mut buffer,
+                &mut follower,
+            )? {
+                return Ok(Made::Damaged(split));
+            }
+            outputs.push(stored)?;
+            if split == 0 {
+                follower.reserve(guessed(follower.len(), shared.plan.splits()))?;
+            }
+        }
+        match reduce_followed(shared.alloc, shared.request.job(), follower)? {
+            Some(output) => Ok(Made::Output(output)),
+            None => self.reduce_whole(shared, partition, outputs.as_slice()),
+        }
+    }
+
+    /// Executes a reduce task, and reports; where an output that it needs is gone, or can't be read, it makes no report.
+    fn reduce<R: Wait, G: Gate, W: Watch, S: RegionStore>(
+        &mut self,
+        rt: &R,
+        shared: &Shared<'_, L, G, W, S>,
+        attempt: u32,
+        partition: u32,
+    ) -> Result<(), AllocError> {
+        let output = match self.make_reduce(rt, shared, attempt, partition)? {
+            Made::Output(output) => Some(output),
+            Made::Unwanted => None,
+            Made::Gone => return Ok(()),
+            Made::Damaged(split) => {
+                return shared.damaged(rt, &mut self.seat, attempt, split);
+            }
+        };
         self.before_report(rt, shared, Task::Reduce(partition))?;
         self.report_reduce(rt, shared, attempt, partition, output)?;
         self.reports = self.reports.saturating_add(1);
@@ -218,10 +395,10 @@ impl<L: Ledger> Worker<L> {
 
     /// Reports what a reduce attempt gave. One that left off has nothing to report but that it ends: what is committed
     /// stays so.
-    fn report_reduce<R: Wait, G: Gate, W: Watch>(
+    fn report_reduce<R: Wait, G: Gate, W: Watch, S: RegionStore>(
         &mut self,
         rt: &R,
-        shared: &Shared<'_, L, G, W>,
+        shared: &Shared<'_, L, G, W, S>,
         attempt: u32,
         partition: u32,
         output: Option<ReduceOutput>,
@@ -234,12 +411,12 @@ impl<L: Ledger> Worker<L> {
     }
 
     /// An attempt, between entering the gate and leaving it.
-    fn attempt<R: Wait, G: Gate, W: Watch>(
+    fn attempt<R: Wait, G: Gate, W: Watch, S: RegionStore>(
         &mut self,
         rt: &R,
-        shared: &Shared<'_, L, G, W>,
+        shared: &Shared<'_, L, G, W, S>,
         reply: &Reply,
-    ) -> Result<Next, Halt> {
+    ) -> Result<Next, AllocError> {
         let (attempt, done) = match reply {
             Reply::Map {
                 attempt,
@@ -251,22 +428,22 @@ impl<L: Ledger> Worker<L> {
             }
             Reply::Reduce { attempt, partition } if *partition < shared.request.parts() => {
                 shared.gate.enter(self.number, *attempt);
-                (*attempt, self.reduce(rt, shared, *attempt, *partition))
+                let done = self.reduce(rt, shared, *attempt, *partition);
+                (*attempt, done.map(|()| Next::Ask))
             }
             Reply::Wait => return Ok(Next::Ask),
             _ => return Ok(Next::End),
         };
         shared.gate.leave(self.number, attempt);
-        done?;
-        Ok(Next::Ask)
+        done
     }
 
     /// One turn: the worker is lost where that is due; else it asks, and does what it is told.
-    fn turn<R: Wait, G: Gate, W: Watch>(
+    fn turn<R: Wait, G: Gate, W: Watch, S: RegionStore>(
         &mut self,
         rt: &R,
-        shared: &Shared<'_, L, G, W>,
-    ) -> Result<Next, Halt> {
+        shared: &Shared<'_, L, G, W, S>,
+    ) -> Result<Next, AllocError> {
         if shared.orders.loses(self.number, self.reports) {
             shared.lose(rt, &mut self.seat, self.number)?;
             return Ok(Next::End);
@@ -276,18 +453,18 @@ impl<L: Ledger> Worker<L> {
     }
 
     /// Turn after turn, until it is dismissed, or a worker can't go on.
-    pub(crate) fn work<R: Wait, G: Gate, W: Watch>(
+    pub(crate) fn work<R: Wait, G: Gate, W: Watch, S: RegionStore>(
         mut self,
         rt: &R,
-        shared: &Shared<'_, L, G, W>,
+        shared: &Shared<'_, L, G, W, S>,
     ) -> Left<L> {
         let mut refused = false;
         for _ in rt.forever() {
             match self.turn(rt, shared) {
                 Ok(Next::Ask) if !shared.is_stopped() => {}
                 Ok(_) => break,
-                Err(halt) => {
-                    refused = halt == Halt::Refused;
+                Err(_) => {
+                    refused = true;
                     shared.stop(rt);
                     break;
                 }
