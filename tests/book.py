@@ -50,7 +50,7 @@ def bytes_told(text):
 
 
 def map_told(number):
-    return bytes_told(f"w{number}")
+    return f"Place {{ worker: 0, number: {number} }}"
 
 
 def reduce_told(number):

@@ -6,6 +6,7 @@ import os
 import random
 import resource
 import subprocess
+import tempfile
 from concurrent.futures import ThreadPoolExecutor
 
 from failing import shim
@@ -46,12 +47,12 @@ def job_word(request):
     return request.literal.decode() if request.job == "grep" else "keep" if request.keep else request.job
 
 
-def ran(request, files, script=b"", workers=4, attempts=8, version=1, mode="history", limit=None, **environment):
+def ran(request, files, script=b"", workers=4, attempts=8, version=1, mode="history", limit=None, folder=None, **environment):
     """The answer of a run, with its certificate in this version; grep folds."""
     sizes = [request.parts, request.split, request.most, workers, attempts, version, len(script), *map(len, files)]
     words = [PROGRAM, mode, job_word(request), *map(str, sizes)]
     try:
-        done = subprocess.run(words, input=script + b"".join(files), capture_output=True, timeout=SECONDS, preexec_fn=limit, env={**os.environ, **environment})
+        done = subprocess.run(words, input=script + b"".join(files), capture_output=True, timeout=SECONDS, preexec_fn=limit, cwd=folder, env={**os.environ, **environment})
     except subprocess.TimeoutExpired:
         return Answer("", is_late=True)
     return Answer(done.stdout.decode(), done.returncode)
@@ -75,6 +76,13 @@ ROWS = [
     (TWO_PARTS, CATS, "spoil 0 0\nspoil 0 0\n", 4, 8, CATS_DONE),
     (TWO_PARTS, CATS, "spoil 0 6\nspoil 2 0\n", 4, 8, CATS_DONE),
     (TWO_PARTS, [], "", 4, 8, ("certified", [b"", b""], [])),
+    (TWO_PARTS, CATS, "damage 0 0 0\n", 1, 8, CATS_DONE),
+    (TWO_PARTS, CATS, "damage 0 1 24\n", 1, 8, ("uncertified", "OutputDiffers partition 1 at 0")),
+    (TWO_PARTS, CATS, "damage 0 1 24\ndamage 0 1 24\n", 1, 8, CATS_DONE),
+    (TWO_PARTS, CATS, "damage 0 2 0\ndamage 1 0 0\ndamage 0 0 4000\n", 1, 8, CATS_DONE),
+    (ONE_PART, [b"a\n"], "damage 0 0 36\n", 1, 8, ("uncertified", "NoSuchPair partition 0 group 0 entry 0")),
+    (TWO_PARTS, CATS, "damage 0 0 0\n", 1, 1, ("failed", "TooManyAttempts")),
+    (TWO_PARTS, CATS, "damage 0 0 19\ndamage 0 1 8\n", 4, 16, CATS_DONE),
     (ONE_PART, LETTERS, "flaky 0 0 1\n", 1, 8, LETTERS_DONE),
     (ONE_PART, LETTERS, "flaky 0 0 2\n", 1, 8, ("failed", "TooManySkips")),
     (ONE_PART, LETTERS, "flaky 0 0 1\n", 1, 1, ("failed", "TooManyAttempts")),
@@ -94,6 +102,10 @@ def worked_runs(harness):
         second = ran(request, files, script.encode(), workers, attempts, version=2)
         same = in_version_2(answer.certificate) == second.certificate if wanted[0] == "certified" else second.certificate == b""
         harness.check(f"{script!r}, {workers} workers, version 2", same and second.short() == wanted and second.status == 0, repr(second))
+    for request, files, script, workers, attempts, wanted in ROWS:
+        with tempfile.TemporaryDirectory() as folder:
+            answer = ran(request, files, script.encode(), workers, attempts, mode="scratch", folder=folder)
+            harness.check(f"{script!r}, {workers} workers, regions in files", answer.short() == wanted and answer.status == 0, repr(answer))
     answer = ran(TWO_PARTS, CATS, workers=1)
     harness.check("one worker makes nine events", answer.count == 9 == len(answer.events), repr(answer))
     answer = ran(Request("words", split=64, most=1), LETTERS, b"bad 0 0\n", 1)
@@ -101,11 +113,45 @@ def worked_runs(harness):
     harness.check("a certificate with a left-out record", answer.certificate == names and len(names) == 72, repr(answer))
 
 
+def regions_in_files(harness):
+    """Each region lies in a file of its own, and none is removed; a file that is there is written over. In a folder that
+    isn't there none can be put, so that each worker is lost; where nothing is emitted, none is put."""
+    with tempfile.TemporaryDirectory() as folder:
+        for script, count in ((b"", 2), (b"damage 0 0 0\n", 4)):
+            stray = os.path.join(folder, "region-00-00000000")
+            with open(stray, "wb") as file:
+                file.write(b"of another run, and longer than a region of this one: " * 20)
+            answer = ran(TWO_PARTS, CATS, script, 1, mode="scratch", folder=folder)
+            names = sorted(os.listdir(folder))
+            harness.check(f"regions under {script!r}", answer.short() == CATS_DONE and names == [*(f"region-00-{n:08}" for n in range(count)), "regions.lock"], f"{answer!r} {names}")
+        with open(os.path.join(folder, "region-00-00000002"), "rb") as file:
+            text = file.read()
+        harness.check("a region as bytes", text[:16] == b"MRREGN1\n" + bytes(8) and len(text) == 60, text.hex())
+    for workers, attempts, fault in ((1, 8, "NoWorkers"), (4, 8, "NoWorkers"), (4, 2, "TooManyAttempts")):
+        answer = ran(TWO_PARTS, CATS, b"", workers, attempts, mode="nowhere")
+        harness.check(f"no folder, {workers} workers, {attempts} attempts", answer.short() == ("failed", fault), repr(answer))
+    answer = ran(TWO_PARTS, [b""], mode="nowhere")
+    harness.check("no folder, and nothing to put", answer.short() == ("certified", [b"", b""], []), repr(answer))
+
+
 # Of one worker each event is determined, but for which of several tasks is given.
 MAP = "Map {{ attempt: {}, split: 0, skips: Skips {{ items: [{}] }} }}"
 REDUCE = "Reduce {{ attempt: {}, partition: 0 }}"
 HISTORIES = {
     "lose 0 after 1\n": [("Ask(0)", MAP.format(0, "")), ("MapDone(0, 1)", "Accepted"), ("Lose(0)", "Accepted")],
+    "damage 0 0 0\n": [
+        ("Ask(0)", MAP.format(0, "")),
+        ("MapDone(0, 1)", "Accepted"),
+        ("Ask(0)", REDUCE.format(1)),
+        ("Fetch(1, 0)", "Region { output: 1 }"),
+        ("Damaged(1, 0)", "Accepted"),
+        ("Ask(0)", MAP.format(2, "")),
+        ("MapDone(2, 6)", "Accepted"),
+        ("Ask(0)", REDUCE.format(3)),
+        ("Fetch(3, 0)", "Region { output: 6 }"),
+        ("ReduceDone(3, 9)", "Accepted"),
+        ("Ask(0)", "Stop(Done)"),
+    ],
     "zombie 0 after 0\nhold 0\n": [("Ask(0)", MAP.format(0, "")), ("Lose(0)", "Accepted"), ("MapDone(0, 2)", "Ignored"), ("Ask(0)", "Stop(Failed(NoWorkers))")],
     "zombie 0 after 1\n": [
         ("Ask(0)", MAP.format(0, "")),
@@ -337,6 +383,7 @@ def no_threads(harness):
 ALL = {
     "worked runs": worked_runs,
     "worked histories of runs": worked_histories,
+    "regions in files": regions_in_files,
     "a gate that holds a worker": a_gate,
     "a backup whose output is lost": a_backup_whose_output_is_lost,
     "threads that judge": threads_that_judge,

@@ -24,8 +24,10 @@ def drawn(rnd, splits, workers, parts):
         lambda: ("flaky", split(), rec(), rnd.randint(0, 4)),
         lambda: ("hold", worker()),
         lambda: ("spoil", rnd.randint(0, parts), rnd.choice([0, 1, 2, 7, 500])),
+        # a byte of what stands before the pairs, so that the region is none: or one that isn't there
+        lambda: ("damage", split(), rnd.randint(0, parts), rnd.choice([0, 7, 8, 12, 19, 100000])),
     ]
-    return [rnd.choice(kinds if rnd.random() < 0.3 else kinds[:5])() for _ in range(rnd.randint(0, 6))]
+    return [rnd.choice(kinds if rnd.random() < 0.4 else kinds[:5])() for _ in range(rnd.randint(0, 6))]
 
 
 class Allowed:
@@ -38,6 +40,7 @@ class Allowed:
         self.flaky = {line[1:3] for line in lines if line[0] == "flaky" and line[3] > 0} & there
         # to be left out a record must have failed twice
         self.twice = {line[1:3] for line in lines if line[0] == "flaky" and line[3] > 1} & there - self.bad
+        self.damages = len({line[1:3] for line in lines if line[0] == "damage"})
         self.made = {}
 
     def has(self, *words):
@@ -75,7 +78,9 @@ class Allowed:
             return False
         failing = self.bad | self.flaky
         most = max((sum(name[0] == split for name in failing) for split, _ in failing), default=0)
-        return self.attempts >= 3 * most + 1 and (not self.flaky or self.attempts >= 1 + sum(line[3] for line in self.lines if line[0] == "flaky") + 3 * most)
+        # a damaged region may cost each of two attempts at it, and others that find the split's output gone
+        most = 3 * most + 4 * self.damages
+        return self.attempts >= most + 1 and (not self.flaky or self.attempts >= 1 + sum(line[3] for line in self.lines if line[0] == "flaky") + most)
 
     def certified(self, outputs, certificate, skips, pairs):
         skips = tuple(skips)
@@ -87,7 +92,7 @@ class Allowed:
         return {
             "NoWorkers": all(self.loses(worker) for worker in range(self.workers)),
             "TooManySkips": len(self.bad | self.twice) > self.request.most,
-            "TooManyAttempts": bool(self.bad or self.flaky) or any(self.loses(worker) for worker in range(self.workers)),
+            "TooManyAttempts": bool(self.bad or self.flaky or self.damages) or any(self.loses(worker) for worker in range(self.workers)),
         }[fault]
 
     def uncertified(self, fault):
@@ -139,8 +144,8 @@ class Turns:
             return self.asked(first, reply)
         if name == "Lose":
             return self.lost(first)
-        if name == "Fetch":
-            return self.of_attempt[first][1] == "Reduce"
+        if name in ("Fetch", "Damaged"):
+            return self.of_attempt[first][1] == "Reduce" and (name == "Fetch" or any(line[0] == "damage" for line in self.lines))
         return self.reported(name, first, more[0])
 
 

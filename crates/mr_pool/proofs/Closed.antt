@@ -4,7 +4,7 @@ use Rattle.mr_core.specs.declared.event.Event.{Event}
 use Rattle.mr_core.specs.declared.event.Reply.{Reply}
 use Rattle.mr_core.specs.Master.{Run, opening}
 use Rattle.mr_core.specs.Promises.{Promises}
-use Rattle.mr_task.specs.Mapped.{Mapped}
+use Rattle.mr_task.specs.Laid.{Laid}
 use Rattle.mr_task.specs.Values.{Reduced}
 use Rattle.mr_book.specs.View.{BookView, IsKept, StoresAccepted}
 use Rattle.mr_book.specs.declared.book.History.{History}
@@ -18,6 +18,6 @@ is_history b h shape entries maps reduces kept promises = record {
   promises = subst (λ (e : List (Event × Reply)). Promises b.shape e b.state) (sym entries) promises;
   stored =
       subst (λ (e : List (Event × Reply)). StoresAccepted e h.maps.items h.reduces.items) (sym entries)
-      (subst (λ (m : List (ℕ × Mapped)). StoresAccepted b.history m h.reduces.items) (sym maps)
+      (subst (λ (m : List (ℕ × Laid)). StoresAccepted b.history m h.reduces.items) (sym maps)
       (subst (λ (r : List (ℕ × Reduced)). StoresAccepted b.history b.maps r) (sym reduces) kept.stored));
 }

@@ -1,5 +1,5 @@
 -- What a run answers.
-use Rattle.std.specs.Prelude.{◌≡◌, ℕ, List, Some, Ok, Err, ◌⊎◌, IsTrue}
+use Rattle.std.specs.Prelude.{◌≡◌, ℕ, Bool, List, Some, Ok, Err, ◌⊎◌, IsTrue}
 use Rattle.mr_input.specs.Files.{contents, split_total}
 use Rattle.mr_jobs.specs.JobSpec.{RequestSpec}
 use Rattle.mr_certform.specs.Value.{Contents, Spells, SpellsIn}
@@ -13,6 +13,7 @@ use Rattle.mr_core.specs.Promises.{Promises}
 use Rattle.mr_assembled.specs.Assembled.{assembled_certificate, assembled_outputs}
 use Rattle.mr_book.specs.View.{StoresAccepted}
 use Rattle.mr_book.specs.Assembling.{reduced_under}
+use Rattle.mr_book.specs.Calls.{has_damage}
 use Rattle.mr_book.specs.declared.book.History.{History}
 use Rattle.mr_sequential.specs.Good.{IsGoodResult}
 use Rattle.mr_answers.specs.declared.fault.No.{No}
@@ -59,12 +60,12 @@ pub record IsCertifiedRun (request : RequestSpec) (files : List (List ℕ)) (sh 
   pub done : IsDoneRun request files sh c.history (contents c.outputs.items) c.certificate.items
   pub in_version : SpellsIn version c.certificate.items (assembled_certificate request files (reduced_under c.history.reduces.items) done.state)
 
--- the job failed by this fault, and the script accounts for it
-pub record IsFailedRun (script : List Directive) (sh : Shape) (fault : JobFault) (h : History) : Type 0 where
+-- the job failed by this fault, and the script accounts for it, or what the store may do or the history tells
+pub record IsFailedRun (script : List Directive) (steady : Bool) (sh : Shape) (fault : JobFault) (h : History) : Type 0 where
   pub state : State
   pub history : IsHistory sh h state
   pub ends : state.end ≡ Some (End.Failed fault)
-  pub accounted : IsTrue (accounts script sh.workers fault)
+  pub accounted : IsTrue (accounts script (has_damage h.entries.items) steady sh.workers fault)
 
 -- the verdict over the files and the bytes that are assembled from the history is this no
 pub record IsRefusedRun (request : RequestSpec) (files : List (List ℕ)) (sh : Shape) (verdict : No) (h : History) : Type 0 where
@@ -74,14 +75,14 @@ pub record IsRefusedRun (request : RequestSpec) (files : List (List ℕ)) (sh : 
   pub refused : verdict_of request files outputs bytes ≡ Err verdict
 
 -- the history has another shape, or has not ended done, or failed without the script's account
-abbrev pub IsAstray : List Directive → Shape → History → Type 0
-IsAstray script sh h = (st : State) × Run h.shape (opening h.shape) h.entries.items st
-    × ((h.shape ≡ sh) → (st.end ≡ Some End.Done → ⊥) × ((fault : JobFault) → st.end ≡ Some (End.Failed fault) → IsTrue (accounts script sh.workers fault) → ⊥))
+abbrev pub IsAstray : List Directive → Bool → Shape → History → Type 0
+IsAstray script steady sh h = (st : State) × Run h.shape (opening h.shape) h.entries.items st
+    × ((h.shape ≡ sh) → (st.end ≡ Some End.Done → ⊥) × ((fault : JobFault) → st.end ≡ Some (End.Failed fault) → IsTrue (accounts script (has_damage h.entries.items) steady sh.workers fault) → ⊥))
 
-abbrev pub IsRunFault : RequestSpec → List (List ℕ) → List Directive → Shape → RunFault → Type 0
-IsRunFault request files script sh (Failed fault h) = IsFailedRun script sh fault h
-IsRunFault request files script sh (Uncertified verdict h) = IsRefusedRun request files sh verdict h ⊎ ((verdict ≡ OtherJob) × IsAstray script sh h)
-IsRunFault request files script sh OutOfMemory = Unit {0}
+abbrev pub IsRunFault : RequestSpec → List (List ℕ) → List Directive → Bool → Shape → RunFault → Type 0
+IsRunFault request files script steady sh (Failed fault h) = IsFailedRun script steady sh fault h
+IsRunFault request files script steady sh (Uncertified verdict h) = IsRefusedRun request files sh verdict h ⊎ ((verdict ≡ OtherJob) × IsAstray script steady sh h)
+IsRunFault request files script steady sh OutOfMemory = Unit {0}
 
 -- of no public promise: what certificate the bytes spell, they spell in this version
 abbrev pub IsInVersion : Version → List ℕ → Type 0

@@ -24,6 +24,7 @@ use mr_core::{End, JobFault, Limits, Shape};
 use mr_input::Input;
 use mr_jobs::Request;
 use mr_script::Script;
+use mr_spill::RegionStore;
 use mr_splits::Plan;
 use mr_watch::{Phase, Unwatched, Watch};
 use mr_workers::{Terms, accounts_for, executed};
@@ -125,6 +126,7 @@ fn answered(
     judged: Result<Yes, No>,
     history: History,
     version: Version,
+    steady: bool,
 ) -> Result<Certified, RunFault>
     requires done { IsDoneRun terms.request.now terms.input.now history.shape history (contents outputs.items) certificate.items }
     requires headline { IfOk judged (λ y. IsCertified terms.request.now terms.input.now (contents outputs.items) certificate.items y.skips.items y.pairs) }
@@ -134,7 +136,7 @@ fn answered(
     requires no { IfErr judged (λ e. (e ≡ No.OutOfMemory)
         ⊎ (verdict_of terms.request.now terms.input.now (contents outputs.items) certificate.items ≡ Err e)) }
     ensures certified { IfOk result (IsCertifiedRun terms.entry.request.now terms.entry.input.now history.shape version) }
-    ensures fault { IfErr result (IsRunFault terms.entry.request.now terms.entry.input.now terms.entry.script.now history.shape) }
+    ensures fault { IfErr result (IsRunFault terms.entry.request.now terms.entry.input.now terms.entry.script.now steady history.shape) }
 {
     match judged {
         Ok(yes) => Ok(Certified {
@@ -211,6 +213,7 @@ fn assembled<L: Ledger, W: Watch, R: Threads + Sync>(
     book: Book<L>,
     seats: Vec<Seat<L>>,
     version: Version,
+    steady: bool,
     watch: &W,
 ) -> Result<Certified, RunFault>
     requires plan { plan.now ≡ record { size = terms.request.now.split; files = terms.input.now } }
@@ -220,7 +223,7 @@ fn assembled<L: Ledger, W: Watch, R: Threads + Sync>(
     requires opened { IsOpenedFor terms.request.now terms.input.now book.shape }
     requires seats { vec_len seats ≡ L.parts }
     ensures certified { IfOk result (IsCertifiedRun terms.entry.request.now terms.entry.input.now book.shape version) }
-    ensures fault { IfErr result (IsRunFault terms.entry.request.now terms.entry.input.now terms.entry.script.now book.shape) }
+    ensures fault { IfErr result (IsRunFault terms.entry.request.now terms.entry.input.now terms.entry.script.now steady book.shape) }
 {
     watch.tell(Phase::Judging, 0, 1);
     let (outputs, certificate, mapped) = made_and_mapped(
@@ -236,7 +239,15 @@ fn assembled<L: Ledger, W: Watch, R: Threads + Sync>(
         watch,
     );
     let history = book.close(seats);
-    answered(terms, outputs, certificate, judged, history, version)
+    answered(
+        terms,
+        outputs,
+        certificate,
+        judged,
+        history,
+        version,
+        steady,
+    )
 }
 
 /// How a job ended, by what its script accounts for.
@@ -249,13 +260,13 @@ enum Ending {
     Astray,
 }
 
-fn ending_by(end: Option<End>, script: &Script, workers: u32) -> Ending
-    ensures { result ≡ ending_of end script.now workers }
+fn ending_by(end: Option<End>, script: &Script, damage: bool, steady: bool, workers: u32) -> Ending
+    ensures { result ≡ ending_of end script.now damage steady workers }
 {
     match end {
         Some(End::Done) => Ending::Done,
         Some(End::Failed(fault)) => {
-            if accounts_for(script, workers, fault) {
+            if accounts_for(script, damage, steady, workers, fault) {
                 Ending::Failed(fault)
             } else {
                 Ending::Astray
@@ -281,6 +292,7 @@ fn settled<L: Ledger, W: Watch, R: Threads + Sync>(
     book: Book<L>,
     seats: Vec<Seat<L>>,
     version: Version,
+    steady: bool,
     watch: &W,
 ) -> Result<Certified, RunFault>
     requires plan { plan.now ≡ record { size = terms.request.now.split; files = terms.input.now } }
@@ -289,25 +301,38 @@ fn settled<L: Ledger, W: Watch, R: Threads + Sync>(
     requires opened { IsOpenedFor terms.request.now terms.input.now terms.shape }
     requires seats { vec_len seats ≡ L.parts }
     ensures certified { IfOk result (IsCertifiedRun terms.entry.request.now terms.entry.input.now terms.entry.shape version) }
-    ensures fault { IfErr result (IsRunFault terms.entry.request.now terms.entry.input.now terms.entry.script.now terms.entry.shape) }
+    ensures fault { IfErr result (IsRunFault terms.entry.request.now terms.entry.input.now terms.entry.script.now steady terms.entry.shape) }
 {
     if !is_opened(book.shape(), terms.shape) {
         return Err(RunFault::Uncertified(No::OtherJob, book.close(seats)));
     }
-    match ending_by(book.end(), terms.script, terms.shape.workers) {
-        Ending::Done => assembled(rt, alloc, plan, terms, book, seats, version, watch),
+    match ending_by(
+        book.end(),
+        terms.script,
+        book.has_damage(),
+        steady,
+        terms.shape.workers,
+    ) {
+        Ending::Done => assembled(rt, alloc, plan, terms, book, seats, version, steady, watch),
         Ending::Failed(fault) => Err(RunFault::Failed(fault, book.close(seats))),
         Ending::Astray => Err(RunFault::Uncertified(No::OtherJob, book.close(seats))),
     }
 }
 
-fn run_in<L: Ledger + Send + Sync, G: Gate, W: Watch, R: Threads + Wait + Sync>(
+fn run_in<
+    L: Ledger + Send + Sync,
+    G: Gate,
+    S: RegionStore + Drop,
+    W: Watch,
+    R: Threads + Wait + Sync,
+>(
     rt: &R,
     alloc: Global,
     blank: Blank,
     plan: &Plan<'_>,
     terms: Terms<'_>,
     gate: &G,
+    store: S,
     version: Version,
     watch: &W,
 ) -> Result<Certified, RunFault>
@@ -318,7 +343,7 @@ fn run_in<L: Ledger + Send + Sync, G: Gate, W: Watch, R: Threads + Wait + Sync>(
     requires opened { IsOpenedFor terms.request.now terms.input.now terms.shape }
     requires limits { InLimits terms.shape }
     ensures certified { IfOk result (IsCertifiedRun terms.entry.request.now terms.entry.input.now terms.entry.shape version) }
-    ensures fault { IfErr result (IsRunFault terms.entry.request.now terms.entry.input.now terms.entry.script.now terms.entry.shape) }
+    ensures fault { IfErr result (IsRunFault terms.entry.request.now terms.entry.input.now terms.entry.script.now S.steady terms.entry.shape) }
 {
     let Shape {
         maps,
@@ -335,15 +360,16 @@ fn run_in<L: Ledger + Send + Sync, G: Gate, W: Watch, R: Threads + Wait + Sync>(
         limits,
         workers as usize,
     )?;
-    let (book, seats) = executed(rt, alloc, plan, terms, book, seats, gate, watch)?;
-    settled(rt, alloc, plan, terms, book, seats, version, watch)
+    let steady = S::is_steady();
+    let (book, seats) = executed(rt, alloc, plan, terms, book, seats, gate, store, watch)?;
+    settled(rt, alloc, plan, terms, book, seats, version, steady, watch)
 }
 
 /// Runs the request's job over the input by so many workers, 1 to 64, each in a thread of its own where one can be made;
 /// each task may have so many attempts, 1 to 16. What the script orders goes wrong. The result of a job that is done is
 /// judged, and only a yes is `Certified`; its certificate is in the version asked for, which can spell whatever the judge
 /// says yes to. The splits of the input must fit (`Request::fits`). It may wait for threads.
-pub fn run<G: Gate, R: Threads + Wait + Sync>(
+pub fn run<G: Gate, S: RegionStore + Drop, R: Threads + Wait + Sync>(
     rt: &R,
     alloc: Global,
     request: &Request,
@@ -352,22 +378,23 @@ pub fn run<G: Gate, R: Threads + Wait + Sync>(
     workers: u32,
     attempts: u32,
     gate: &G,
+    store: S,
     version: Version,
 ) -> Result<Certified, RunFault>
     requires fits { split_total request.now.split input.now ≤ 2 ^ 20 }
     requires workers { (1 ≤ workers) × (workers ≤ 64) }
     requires attempts { (1 ≤ attempts) × (attempts ≤ 16) }
     ensures certified { IfOk result (IsCertifiedRun request.now input.now (run_shape request.now input.now workers attempts) version) }
-    ensures fault { IfErr result (IsRunFault request.now input.now script.now (run_shape request.now input.now workers attempts)) }
+    ensures fault { IfErr result (IsRunFault request.now input.now script.now S.steady (run_shape request.now input.now workers attempts)) }
 {
     run_watched(
-        rt, alloc, request, input, script, workers, attempts, gate, version, &Unwatched,
+        rt, alloc, request, input, script, workers, attempts, gate, store, version, &Unwatched,
     )
 }
 
 /// Runs a job as `run` does, and tells who looks on: how many outputs of map tasks the book has accepted, and of reduce
 /// tasks, each worker that is lost, and that the result is judged. It is told by several threads at once, and waited for.
-pub fn run_watched<G: Gate, R: Threads + Wait + Sync>(
+pub fn run_watched<G: Gate, S: RegionStore + Drop, R: Threads + Wait + Sync>(
     rt: &R,
     alloc: Global,
     request: &Request,
@@ -376,6 +403,7 @@ pub fn run_watched<G: Gate, R: Threads + Wait + Sync>(
     workers: u32,
     attempts: u32,
     gate: &G,
+    store: S,
     version: Version,
     watch: &dyn Watch,
 ) -> Result<Certified, RunFault>
@@ -383,7 +411,7 @@ pub fn run_watched<G: Gate, R: Threads + Wait + Sync>(
     requires workers { (1 ≤ workers) × (workers ≤ 64) }
     requires attempts { (1 ≤ attempts) × (attempts ≤ 16) }
     ensures certified { IfOk result (IsCertifiedRun request.now input.now (run_shape request.now input.now workers attempts) version) }
-    ensures fault { IfErr result (IsRunFault request.now input.now script.now (run_shape request.now input.now workers attempts)) }
+    ensures fault { IfErr result (IsRunFault request.now input.now script.now S.steady (run_shape request.now input.now workers attempts)) }
 {
     let plan = Plan::fitting(alloc, input, request.split_size())?;
     let shape = Shape {
@@ -401,13 +429,14 @@ pub fn run_watched<G: Gate, R: Threads + Wait + Sync>(
         script,
         shape,
     };
-    run_in::<Brand, G, &dyn Watch, R>(
+    run_in::<Brand, G, S, &dyn Watch, R>(
         rt,
         alloc,
         Blank::new(workers as u64),
         &plan,
         terms,
         gate,
+        store,
         version,
         &watch,
     )

@@ -8,13 +8,13 @@ ghost use Rattle.std.specs.Prelude.{◌≡◌, vec_len};
 use crate::asked::number_at;
 use crate::outputs;
 use crate::telling::Teller;
-use mr_book::{Book, History, Seat, Stored};
+use mr_book::{Book, History, Kept, Seat};
 use mr_certform::{Certificate, Version, write};
 use mr_core::{End, Limits, Reply, Shape, Task};
 use mr_input::Input;
 use mr_jobs::{Job, Request};
 use mr_splits::Plan;
-use mr_task::{MapOutput, ReduceOutput};
+use mr_task::{ReduceOutput, Stored};
 use std::alloc::{AllocFailed, Global};
 use std::marker::Brand;
 use std::sync::Arc;
@@ -65,7 +65,7 @@ fn call<L: Ledger>(out: &Teller, book: &mut Book<L>, seat: &mut Seat<L>, numbers
 }
 
 /// Tells a reply, and the output that comes with it.
-fn show_fetched(out: &Teller, reply: &Reply, output: &Option<Arc<MapOutput>>) {
+fn show_fetched(out: &Teller, reply: &Reply, output: &Option<Arc<Stored>>) {
     out.before_bar(reply);
     if let Some(output) = output {
         outputs::show_map(out, output);
@@ -80,7 +80,7 @@ fn fetch<L: Ledger>(out: &Teller, book: &mut Book<L>, seat: &mut Seat<L>, attemp
 }
 
 /// Tells a reply, or an output that was handed back.
-fn show_map_done(out: &Teller, done: &Result<Reply, AllocFailed<MapOutput>>) {
+fn show_map_done(out: &Teller, done: &Result<Reply, AllocFailed<Stored>>) {
     match done {
         Ok(reply) => out.before_bar(reply),
         Err(refused) => outputs::show_map(out, &refused.value),
@@ -94,7 +94,7 @@ fn map_done<L: Ledger>(
     attempt: u32,
     number: u32,
 ) {
-    let Some(output) = outputs::map_output(out.alloc(), number) else {
+    let Some(output) = outputs::stored(out.alloc(), number) else {
         return;
     };
     show_map_done(out, &book.map_done(seat, attempt, output));
@@ -162,12 +162,12 @@ fn serve<L: Ledger>(out: &Teller, book: &mut Book<L>, seats: &mut [Seat<L>]) {
     }
 }
 
-fn show_stored_map(out: &Teller, stored: &Stored<MapOutput>) {
+fn show_stored_map(out: &Teller, stored: &Kept<Stored>) {
     out.tell(format_args!("|{} ", stored.number()));
     outputs::show_map(out, stored.output());
 }
 
-fn show_stored_reduce(out: &Teller, stored: &Stored<ReduceOutput>) {
+fn show_stored_reduce(out: &Teller, stored: &Kept<ReduceOutput>) {
     out.behind_bar_with(&stored.number(), &stored.output().text());
 }
 

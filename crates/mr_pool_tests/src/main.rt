@@ -1,7 +1,8 @@
 //! Runs of jobs as a program, for the checks from outside. Its arguments are a mode, a job, how many partitions there
 //! are, the size of a split, how many records may be left out, how many workers and attempts of a task there are, the
 //! version of the certificate, and then the lengths of the script and of each file, which stand one behind another on
-//! standard input. It tells what the run answers. In the mode `history` it tells each event too, in `watch` what who looks
+//! standard input. It tells what the run answers. In the mode `history` it tells each event too, in `scratch` the same of a
+//! run whose regions lie in files of the folder where it runs, in `nowhere` in those of one that isn't there, in `watch` what who looks
 //! on is told, and in `gate` whether a second attempt went on while the first was held. In the mode `judge` it tells what
 //! as many threads as there are workers say of the result, and whether they shared the work, and in `tickets` what two
 //! seats draw. In the mode `book` it answers for the master's book alone.
@@ -18,6 +19,7 @@ use asked::Order;
 use judging::PhasesHeld;
 use mr_bytes::{Gate, OpenGate};
 use mr_pool::{Certified, RunFault, run, run_watched};
+use mr_spill::{DiskScratch, MemoryStore, RegionStore, Scratch};
 use onlookers::{Holding, Tally};
 use std::alloc::Global;
 use std::io::Read;
@@ -26,12 +28,13 @@ use std::thread::Threads;
 use std::{env, io};
 use telling::Teller;
 
-/// Runs the job, where its numbers are within the limits.
-fn done<G: Gate, R: Threads + Wait + Sync>(
+/// Runs the job over a store, where its numbers are within the limits.
+fn done_over<G: Gate, S: RegionStore + Drop, R: Threads + Wait + Sync>(
     rt: &R,
     alloc: Global,
     order: &Order,
     gate: &G,
+    store: S,
     watch: Option<&Tally>,
 ) -> Option<Result<Certified, RunFault>> {
     let request = &order.request;
@@ -45,12 +48,46 @@ fn done<G: Gate, R: Threads + Wait + Sync>(
     }
     Some(match watch {
         Some(watch) => run_watched(
-            rt, alloc, request, input, script, workers, attempts, gate, version, watch,
+            rt, alloc, request, input, script, workers, attempts, gate, store, version, watch,
         ),
         None => run(
-            rt, alloc, request, input, script, workers, attempts, gate, version,
+            rt, alloc, request, input, script, workers, attempts, gate, store, version,
         ),
     })
+}
+
+/// Runs the job over regions in memory.
+fn done<G: Gate, R: Threads + Wait + Sync>(
+    rt: &R,
+    alloc: Global,
+    order: &Order,
+    gate: &G,
+    watch: Option<&Tally>,
+) -> Option<Result<Certified, RunFault>> {
+    if order.workers < 1 {
+        return None;
+    }
+    match MemoryStore::new(rt, alloc, order.workers) {
+        Ok(store) => done_over(rt, alloc, order, gate, store, watch),
+        Err(_) => Some(Err(RunFault::OutOfMemory)),
+    }
+}
+
+/// Runs the job over regions in files of the folder.
+fn done_in<C: Scratch, R: Threads + Wait + Sync>(
+    rt: &R,
+    alloc: Global,
+    order: &Order,
+    scratch: &C,
+    folder: &str,
+) -> Option<Result<Certified, RunFault>> {
+    if order.workers < 1 {
+        return None;
+    }
+    match scratch.open(alloc, folder, order.workers) {
+        Ok(store) => done_over(rt, alloc, order, &OpenGate, store, None),
+        Err(_) => Some(Err(RunFault::OutOfMemory)),
+    }
 }
 
 // Each mode has a function of its own: what a function holds at once is what its proof costs.
@@ -66,6 +103,18 @@ fn told<G: Gate, R: Threads + Wait + Sync>(
     has_events: bool,
 ) {
     telling::answer(out, &done(threads, alloc, order, gate, watch), has_events);
+}
+
+/// A run whose regions lie in files of the folder.
+fn scratched<R: Threads + Wait + Sync>(
+    threads: &R,
+    out: &Teller,
+    alloc: Global,
+    order: &Order,
+    folder: &str,
+) {
+    let scratch = DiskScratch::new(out.runtime());
+    telling::answer(out, &done_in(threads, alloc, order, &scratch, folder), true);
 }
 
 /// A run whose first attempt is held, and whether a second one went on meanwhile.
@@ -117,6 +166,8 @@ fn answer<R: Threads + Wait + Sync>(
         "watch" => watched(threads, out, alloc, order),
         "judge" => judged(threads, out, alloc, order),
         "tickets" => judging::show_draws(out, alloc),
+        "scratch" => scratched(threads, out, alloc, order, "."),
+        "nowhere" => scratched(threads, out, alloc, order, "no/such/folder"),
         _ => told(
             threads,
             out,

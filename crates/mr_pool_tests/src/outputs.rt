@@ -3,9 +3,8 @@ use crate::telling::Teller;
 use mr_bytes::By;
 use mr_input::Input;
 use mr_jobs::Job;
-use mr_spill::{Region, RegionPair, open_region};
 use mr_splits::Plan;
-use mr_task::{MapOutput, ReduceOutput, map_task, reduce_task};
+use mr_task::{MapOutput, ReduceOutput, Stored, map_task, reduce_task};
 use std::alloc::Global;
 
 /// The input of the one word that is `w` with the number.
@@ -17,7 +16,7 @@ fn input_of(alloc: Global, number: u32) -> Option<Input> {
 }
 
 /// What the map task gives for that word.
-pub fn map_output(alloc: Global, number: u32) -> Option<MapOutput> {
+fn map_output(alloc: Global, number: u32) -> Option<MapOutput> {
     let input = input_of(alloc, number)?;
     let plan = Plan::of(alloc, &input, 64).ok()?;
     if plan.splits() == 0 {
@@ -40,20 +39,19 @@ pub fn reduce_output(alloc: Global, number: u32) -> Option<ReduceOutput> {
     reduced(alloc, &map_output(alloc, number)?)
 }
 
-/// The first pair of a region of partition 0.
-fn first_pair<'a>(region: &Region<'a>) -> Option<RegionPair<'a>> {
-    let mut cursor = open_region(region.bytes(), region.split(), 0)?;
-    cursor.next()
+/// Where the one region of a map task lies, under that number.
+pub fn stored(alloc: Global, number: u32) -> Option<Stored> {
+    let mut stored = Stored::new(alloc, 1, 0);
+    stored.push(u64::from(number)).ok()?;
+    Some(stored)
 }
 
-/// Tells the first word of the output.
-pub fn show_map(out: &Teller, output: &MapOutput) {
-    if output.parts() == 0 {
+/// Tells where the regions of partition 0 lie.
+pub fn show_map(out: &Teller, stored: &Stored) {
+    if stored.parts() == 0 {
         return;
     }
-    for run in 0..output.runs() {
-        if let Some(pair) = first_pair(&output.region(0, run)) {
-            out.value(&pair.key);
-        }
+    for run in 0..stored.runs() {
+        out.value(&stored.place(0, run));
     }
 }
