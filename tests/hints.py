@@ -215,8 +215,11 @@ def runs(harness):
         ("a spoiled output", ["spoil", "a"], b"uncertified: OutputDiffers partition 0 at 0\n", None),
     ]:
         told(harness, name, [*run, *words], 1, out=out, hint=hint, files=text)
+    room = b"a worker that can't keep a region is lost: see that the directory of --scratch is there, may be written to, and has room"
+    gone = b"note: there is no directory nowhere: make it first\n"
+    told(harness, "no directory for regions", [*run, "flaky", "--scratch", "nowhere", "a"], 1, out=b"failed: NoWorkers\n", before=gone, hint=room, files=text)
     told(harness, "a certified run", [*run, "flaky", "a"], 0, out=b"certified: 1 files, 9 pairs, 0 left out\n", files=text)
-    kinds = b"a line is `lose W after N`, `zombie W after N`, `bad S R`, `flaky S R N`, `hold W` or `spoil P B`"
+    kinds = b"a line is `lose W after N`, `zombie W after N`, `bad S R`, `flaky S R N`, `hold W`, `spoil P B` or `damage S P B`"
     told(harness, "a bad line", [*run, "odd", "a"], 2, err=b"mapred: BadLine 1\n", hint=kinds, files=text)
 
 

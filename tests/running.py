@@ -1,15 +1,17 @@
 """`mapred run`: worked runs with exact streams and files, random jobs under random scripts against the rules and against
 `seq` and `check`, the history, and what stands where a run is stopped."""
+import fcntl
 import os
 import random
 import re
 import signal
 import subprocess
+import threading
 import time
 from concurrent.futures import ThreadPoolExecutor
 
 from failing import shim, with_failing
-from harness import parts_of, read_result, write_result
+from harness import parts_of, random_text, read_result, write_result
 from hints import on_terminal
 from plain import Request
 from pool import CATS, LETTERS, ONE_PART, TWO_PARTS, random_case
@@ -38,6 +40,9 @@ ROWS = [
     (ONE_PART, LETTERS, "flaky 0 0 1\n", ["--workers", "1", "--attempts", "1"], b"failed: TooManyAttempts\n", []),
     (ONE_PART, LETTERS, "zombie 0 after 0\n", ["--workers", "1"], b"failed: NoWorkers\n", []),
     (ONE_PART, LETTERS, "bad 7 7\n", ["--workers", "1"], LETTERS_LINE, LETTERS_PARTS),
+    (TWO_PARTS, CATS, "damage 0 0 0\n", ["--workers", "1"], CATS_LINE, CATS_PARTS),
+    (TWO_PARTS, CATS, "damage 0 1 24\n", ["--workers", "1"], b"uncertified: OutputDiffers partition 1 at 0\n", []),
+    (ONE_PART, [b"a\n"], "damage 0 0 36\n", ["--workers", "1"], b"uncertified: NoSuchPair partition 0 group 0 entry 0\n", []),
     (TWO_PARTS, [], "# nothing goes wrong\n\n", [], b"certified: 2 files, 0 pairs, 0 left out\n", [b"", b""]),
     (INDEX, TWO_FILES, "", [], TWO_FILES_LINE, TWO_FILES_PARTS),
     (INDEX, TWO_FILES, "lose 0 after 1\nflaky 1 0 1\n", ["--workers", "3"], TWO_FILES_LINE, TWO_FILES_PARTS),
@@ -68,6 +73,19 @@ map-done attempt 2 output 5: accepted
 ask 0: reduce attempt 3 partition 0
 fetch attempt 3 split 0: output 5
 reduce-done attempt 3 output 8: accepted
+ask 0: stop done
+"""
+DAMAGED_HISTORY = b"""history 1 maps 1 parts 1 workers 1 attempts 8 skips 0
+ask 0: map attempt 0 split 0
+map-done attempt 0 output 1: accepted
+ask 0: reduce attempt 1 partition 0
+fetch attempt 1 split 0: output 1
+damaged attempt 1 split 0: accepted
+ask 0: map attempt 2 split 0
+map-done attempt 2 output 6: accepted
+ask 0: reduce attempt 3 partition 0
+fetch attempt 3 split 0: output 6
+reduce-done attempt 3 output 9: accepted
 ask 0: stop done
 """
 LOST_HISTORY = b"""history 1 maps 1 parts 2 workers 1 attempts 8 skips 0
@@ -104,15 +122,103 @@ def worked_runs(harness):
         (TWO_PARTS, CATS, b"", HISTORY),
         (ONE_LEFT_OUT, LETTERS, b"bad 0 0\n", LEFT_OUT_HISTORY),
         (TWO_PARTS, CATS, b"lose 0 after 1\n", LOST_HISTORY),
+        (ONE_PART, LETTERS, b"damage 0 0 0\n", DAMAGED_HISTORY),
     ]:
         where = ran(harness, request, files, script, ["--workers", "1"])[3]
         harness.check(f"the history of one worker under {script!r}", history_of(where) == history, repr(history_of(where)))
 
 
+def regions_in_files(harness):
+    """The same rows, with regions in files of a directory: nothing else is written there, and no file is removed."""
+    for request, files, script, words, line, parts in ROWS:
+        name = f"run under {script!r} {words} with --scratch"
+        where = harness.directory()
+        os.makedirs(os.path.join(where, "scratch"))
+        harness.directory({"kept": b"of another run"}, os.path.join(where, "scratch"))
+        status, out, err, _ = ran(harness, request, files, script.encode(), [*words, "--scratch", "scratch"], where)
+        harness.check(name, (status, out, err) == (0 if parts else 1, line, b""), f"{status} {out} {err}")
+        written_parts, certificate = read_result(os.path.join(where, "out"))
+        harness.check(name + ": files", written_parts == parts and (certificate is not None) == bool(parts), repr(written_parts))
+        left = sorted(os.listdir(os.path.join(where, "scratch")))
+        harness.check(name + ": what is left", left[:1] == ["kept"] and left[-1] == "regions.lock" and all(re.fullmatch(r"region-\d\d-\d{8}", region) for region in left[1:-1]), repr(left))
+    for workers, attempts, fault in (("1", "8", b"NoWorkers"), ("4", "2", b"TooManyAttempts")):
+        status, out, err, where = ran(harness, TWO_PARTS, CATS, words=["--workers", workers, "--attempts", attempts, "--scratch", "none"])
+        harness.check(f"a directory that isn't there, {workers} workers", (status, out, err) == (1, b"failed: " + fault + b"\n", b""), f"{status} {out} {err}")
+    where = harness.directory()
+    os.makedirs(os.path.join(where, "scratch"))
+    with open(os.path.join(where, "scratch", "regions.lock"), "wb") as locked:
+        fcntl.flock(locked, fcntl.LOCK_EX)
+        status, out, err, _ = ran(harness, TWO_PARTS, CATS, words=["--scratch", "scratch"], where=where)
+        left = os.listdir(os.path.join(where, "out")), os.listdir(os.path.join(where, "scratch")), history_of(where)
+        harness.check("a directory that another run has", (status, out, err, left) == (2, b"", b"mapred: ScratchInUse\n", ([], ["regions.lock"], None)), f"{status} {out} {err} {left}")
+    status, out, err, _ = ran(harness, TWO_PARTS, CATS, words=["--scratch", "scratch"], where=where)
+    harness.check("a directory that another run had", (status, out, err) == (0, b"certified: 2 files, 4 pairs, 0 left out\n", b""), f"{status} {out} {err}")
+    status, out, err, where = ran(harness, TWO_PARTS, [b""], words=["--scratch", "none"])
+    harness.check("a directory that isn't there, and nothing to keep", (status, out, err) == (0, b"certified: 2 files, 0 pairs, 0 left out\n", b""), f"{status} {out} {err}")
+
+
+def change_a_region(folder, rnd):
+    """Does something to a region's file, of those that are there: a byte, its end, all of it, or the file goes."""
+    names = [name for name in os.listdir(folder) if name.startswith("region-")]
+    if not names:
+        return
+    path, kind = os.path.join(folder, rnd.choice(names)), rnd.randrange(4)
+    if kind == 0:
+        with open(path, "r+b") as file:
+            place = rnd.randrange(os.path.getsize(path) + 1)
+            file.seek(place)
+            byte = file.read(1)
+            file.seek(place)
+            file.write(bytes([byte[0] ^ 1]) if byte else b"x")
+    elif kind == 1:
+        os.truncate(path, rnd.randrange(os.path.getsize(path) + 1))
+    elif kind == 2:
+        with open(os.path.join(folder, rnd.choice(names)), "rb") as other, open(path, "wb") as file:
+            file.write(other.read())
+    else:
+        os.remove(path)
+
+
+def change_regions(folder, rnd, ended, pause):
+    """Goes on with that until the run has ended."""
+    while not ended.wait(pause):
+        try:
+            change_a_region(folder, rnd)
+        except OSError:
+            pass
+
+
+def regions_changed_under_way(harness, runs=40):
+    """Files of regions are changed while a run goes on: it is certified with the right bytes, or refused by the judge, or a task
+    has had all its attempts. Nothing else is told, and no wrong byte is written."""
+    rnd = random.Random(int(os.environ.get("MAPRED_SEED") or 61))
+    request = Request("words", parts=3, split=16384)
+    where = harness.directory({"in0": random_text(rnd, 1 << 20)})
+    os.makedirs(os.path.join(where, "whole"))
+    harness.check("the whole", harness.run(["seq", *request.options(), "--out", "whole", "in0"], cwd=where)[0] == 0)
+    whole, seen = read_result(os.path.join(where, "whole")), {}
+    for number in range(runs):
+        for folder in ("scratch", "out"):
+            os.makedirs(os.path.join(where, f"{folder}{number}"))
+        words = ["--scratch", f"scratch{number}", "--workers", str(rnd.choice([1, 2, 4, 8])), "--attempts", "16", "--out", f"out{number}"]
+        ended = threading.Event()
+        changer = threading.Thread(target=change_regions, args=(os.path.join(where, f"scratch{number}"), rnd, ended, rnd.choice([0, 0.001, 0.01, 0.05])))
+        changer.start()
+        status, out, err, _ = harness.run(["run", *request.options(), *words, "in0"], cwd=where, timeout=300)
+        ended.set()
+        changer.join()
+        result = read_result(os.path.join(where, f"out{number}"))
+        kind = out.split(b":")[0]
+        refused = status == 1 and (kind == b"uncertified" or out == b"failed: TooManyAttempts\n") and result == ([], None)
+        harness.check(f"run {number} {words}", err == b"" and (refused or status == 0 and kind == b"certified" and result == whole), f"{status} {out} {err}")
+        seen[kind] = seen.get(kind, 0) + 1
+    harness.check("some are certified, some aren't", seen.get(b"certified") and len(seen) > 1, repr(seen))
+
+
 EVENT = re.compile(
     rb"(ask \d+: (map attempt \d+ split \d+( without( \d+)+)?|reduce attempt \d+ partition \d+|wait|stop (done|dismissed|failed \w+))"
     rb"|fetch attempt \d+ split \d+: (output \d+|gone|ignored)|(map|reduce)-done attempt \d+ output \d+: (accepted|ignored)"
-    rb"|map-failed attempt \d+ record \d+: (accepted|ignored)|lose \d+: (accepted|ignored))"
+    rb"|map-failed attempt \d+ record \d+: (accepted|ignored)|damaged attempt \d+ split \d+: (accepted|ignored)|lose \d+: (accepted|ignored))"
 )
 
 
@@ -179,6 +285,7 @@ def faults(harness):
         ("a script is tested before files", ["--script", "bad", "none"], 2, b"mapred: BadLine 3\n"),
         ("a file that isn't there", ["--script", "good", "none"], 3, b"mapred: cannot read none\n"),
         ("a history that can't be written", ["--history", "none/h", "a"], 3, b"mapred: cannot write none/h\n"),
+        ("an empty directory for regions", ["--scratch", "", "a"], 2, None),
         ("no worker", ["--workers", "0", "a"], 2, None),
         ("65 workers", ["--workers", "65", "a"], 2, None),
         ("no attempt", ["--attempts", "0", "a"], 2, None),
@@ -329,13 +436,47 @@ def failing_calls(harness):
         harness.check(f"run by four workers, malloc {number} fails", refused or same, repr(got))
 
 
+def failing_scratch(harness):
+    """Each opening, read and write of a run whose regions lie in files fails in turn. A region that can't be put loses its
+    worker, and one that can't be read its map task's output; what is written is the same where the run is certified."""
+    library = shim(harness)
+    if library is None:
+        return
+    given = {"a": b"The cat saw the dog.\n\nThe dog saw nothing.\n"}
+    words = ["run", "--job", "words", "--parts", "2", "--split", "16", "--scratch", ".", "--history", "history", "--out", "."]
+    written = lambda files: {name: data for name, data in files.items() if name != "history" and not name.startswith("region")}
+    for workers in ("1", "4"):
+        asked = [*words, "--workers", workers, "a"]
+        whole, _ = with_failing(harness, library, "none", asked, given)
+        harness.check(f"{workers} workers, no failing call", whole[:3] == (0, b"certified: 2 files, 9 pairs, 0 left out\n", b""), repr(whole))
+        lost, damaged = 0, 0
+        for kind, said in (("open", b"mapred: cannot "), ("read", b"mapred: cannot read "), ("write", b"mapred: cannot write ")):
+            for more in ({}, {"FAIL_INTERRUPTED": "1"}, {"FAIL_MEMORY": "1"}):
+                number, marked = 0, True
+                while marked:
+                    number += 1
+                    got, marked = with_failing(harness, library, f"{kind} {number}", asked, given, **more)
+                    told = got[3].get("history", b"")
+                    lost += b"lose" in told or got[1] == b"failed: NoWorkers\n"
+                    damaged += b"damaged attempt " in told
+                    refused = got[:2] == (3, b"") and got[2].startswith(said) or "FAIL_MEMORY" in more and got[:2] == (4, b"")
+                    alone = workers == "1" and "FAIL_MEMORY" not in more and got[:2] == (1, b"failed: NoWorkers\n") and kind != "read"
+                    unprinted = kind == "write" and got[:3] == (0, b"", b"")
+                    same = got[:3] == whole[:3] and written(got[3]) == written(whole[3])
+                    harness.check(f"{workers} workers, {kind} {number} fails {more}", refused or alone or unprinted or same, repr(got))
+        harness.check(f"{workers} workers: some are lost, some regions can't be read", lost and damaged, f"{lost} {damaged}")
+
+
 GROUPS = {
     "worked runs of the program": worked_runs,
     "random runs of the program": random_runs,
     "faults of a run": faults,
+    "regions in files of a run": regions_in_files,
+    "regions changed under way": regions_changed_under_way,
     "a history named as another file": a_history_named_as_another_file,
     "a run that is stopped": stopped,
     "progress at a terminal": progress,
     "many tasks of the program": many_tasks,
     "failing calls of a run": failing_calls,
+    "failing calls on regions": failing_scratch,
 }

@@ -49,6 +49,8 @@ pub struct RunOptions<'a> {
     pub script: Option<&'a str>,
     /// The name under which the history is written.
     pub history: Option<&'a str>,
+    /// The directory of the files in which regions lie; without one they lie in memory.
+    pub scratch: Option<&'a str>,
 }
 
 /// What a judgement is asked for.

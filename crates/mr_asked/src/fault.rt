@@ -31,6 +31,8 @@ pub enum Fault {
     /// The name of this file of the input, numbered from 0, holds a line feed, and so no verdict can tell it.
     LineEndInName { file: usize },
     Script(ScriptFault),
+    /// Another run keeps its regions in the directory.
+    ScratchInUse,
     /// Why shards are not merged; faults of files and want of memory are told as themselves.
     Shards(ShardFault),
     /// The file of this name would be written, and is read too, or written under another name before.
@@ -172,6 +174,7 @@ impl fmt::Display for Fault {
             Fault::BadThreads => write_told(f, &"BadThreads"),
             Fault::LineEndInName { file } => write!(f, "mapred: LineEndInName file {file}\n"),
             Fault::Script(fault) => write_told(f, fault),
+            Fault::ScratchInUse => write_told(f, &"ScratchInUse"),
             Fault::Shards(fault) => write_told(f, fault),
             Fault::SameFile(name) => write!(f, "mapred: SameFile {name}\n"),
             Fault::CannotRead(name) => write!(f, "mapred: cannot read {name}\n"),

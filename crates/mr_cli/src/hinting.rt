@@ -7,6 +7,7 @@ use mr_commands::Said;
 use mr_files::{Look, Store};
 use mr_hints::{NOT_UTF8, fault_hint, notes, shown, verdict_hint};
 use mr_options::{Failure, command, subcommand_of};
+use mr_spill::Scratch;
 use mr_watch::Watch;
 use std::alloc::{AllocError, Global};
 use std::io::Write;
@@ -102,8 +103,16 @@ fn tell<F: Store + Look, O: Write, E: Write>(
 
 /// Answers the words, of which the first is the program's name, as for a program, with notes before the answer and a
 /// hint behind it, and a line of progress in between; gives the exit status.
-pub fn tell_person<F: Store + Look, R: Threads + Wait + Sync, C: Clock, O: Write, E: Write>(
+pub fn tell_person<
+    F: Store + Look,
+    D: Scratch,
+    R: Threads + Wait + Sync,
+    C: Clock,
+    O: Write,
+    E: Write,
+>(
     rt: &R,
+    scratch: &D,
     files: &mut F,
     alloc: Global,
     words: Result<Vec<String>, Failure>,
@@ -120,7 +129,7 @@ pub fn tell_person<F: Store + Look, R: Threads + Wait + Sync, C: Clock, O: Write
     if let Some(asked) = &asked {
         show_notes(files, alloc, asked, err);
     }
-    let answered = answer(rt, files, alloc, words.as_slice(), watch);
+    let answered = answer(rt, scratch, files, alloc, words.as_slice(), watch);
     progress.wipe();
     tell(files, alloc, &asked, answered, out, err)
 }

@@ -22,7 +22,7 @@ use Rattle.mr_asked.specs.Asked.{request_asked}
 use Rattle.mr_judging.specs.Inputs.{IsInput, IsInputRefusal}
 use Rattle.mr_judging.specs.Named.{input_names, named}
 use Rattle.mr_asked.specs.Statuses.{TellsFile}
-use Rattle.mr_commands.specs.Runs.{AreGood, BeginsHistory, IsEnding, IsHistoryKept, IsResultKept, IsResultRefused, IsResultStopped, IsScript, IsScriptRefusal, IsStartRefusal, IsStoppedAt, IsUnkept, KeepsHistory, KeepsResult, Runs, history_name, history_of, names_left, read_by_run, script_name, written_by_run}
+use Rattle.mr_commands.specs.Runs.{AreGood, BeginsHistory, EndsOver, IsHistoryKept, IsResultKept, IsResultRefused, IsResultStopped, IsScratchRefusal, IsScript, IsScriptRefusal, IsStartRefusal, IsStoppedAt, IsUnkept, KeepsHistory, KeepsResult, Runs, history_name, history_of, names_left, read_by_run, scratch_name, script_name, written_by_run}
 
 module _ (holds : Stored) (unreadable : Faulty) (known : Known) (o : RunOptions) where
   pub script_stage : (e : Fault) → AreGood o → IsScriptRefusal holds unreadable (script_name o) e → IsStartRefusal holds unreadable known o e
@@ -31,18 +31,24 @@ module _ (holds : Stored) (unreadable : Faulty) (known : Known) (o : RunOptions)
   pub input_stage : (script : List Directive) (request : RequestSpec) (e : Fault) → request ≡ request_asked o.options → AreGood o → IsScript holds (script_name o) script
       → IsInputRefusal holds unreadable known (input_names o.options) (read_by_run o) (written_by_run o) request.split e → IsStartRefusal holds unreadable known o e
   input_stage script request e r a s h =
-      inr (inr (inr (a, (script, s), subst (λ (s : ℕ). IsInputRefusal holds unreadable known (input_names o.options) (read_by_run o) (written_by_run o) s e) (ap (λ (v : RequestSpec). v.split) r) h)))
+      inr (inr (inr (inl (a, (script, s), subst (λ (s : ℕ). IsInputRefusal holds unreadable known (input_names o.options) (read_by_run o) (written_by_run o) s e) (ap (λ (v : RequestSpec). v.split) r) h))))
+
+  pub scratch_stage : (script : List Directive) (files : List (List ℕ)) (request : RequestSpec) (e : Fault) → request ≡ request_asked o.options → AreGood o
+      → IsScript holds (script_name o) script → IsInput holds (input_names o.options) request.split files → AreApart known (read_by_run o) (written_by_run o)
+      → IsScratchRefusal (scratch_name o) e → IsStartRefusal holds unreadable known o e
+  scratch_stage script files request e r a s i apart h =
+      inr (inr (inr (inr (a, (script, s), (files, subst (λ (s : ℕ). IsInput holds (input_names o.options) s files) (ap (λ (v : RequestSpec). v.split) r) i), apart, h))))
 
   pub runs : (script : List Directive) (files : List (List ℕ)) (request : RequestSpec) (ran : Ran)
       → request ≡ request_asked o.options → IsScript holds (script_name o) script → IsInput holds (input_names o.options) request.split files → AreApart known (read_by_run o) (written_by_run o)
-      → IsEnding request files script (run_shape request files o.workers o.attempts) o.version ran → Runs holds known o ran
+      → EndsOver (scratch_name o) request files script (run_shape request files o.workers o.attempts) o.version ran → Runs holds known o ran
   runs script files request ran r s i apart h = record {
     files = files;
     script = script;
     input = subst (λ (s : ℕ). IsInput holds (input_names o.options) s files) (ap (λ (v : RequestSpec). v.split) r) i;
     apart = apart;
     scripted = s;
-    ends = subst (λ (v : RequestSpec). IsEnding v files script (run_shape v files o.workers o.attempts) o.version ran) r h;
+    ends = subst (λ (v : RequestSpec). EndsOver (scratch_name o) v files script (run_shape v files o.workers o.attempts) o.version ran) r h;
   }
 
 -- a file that can't be written, of one name or of several
@@ -71,7 +77,7 @@ alone old mid new opt p q n b d = both old mid new opt [] p q n b (first_alone o
 
 module _ (old mid new : Stored) (known : Known) (o : RunOptions) where
   count_is : (c : Certified) → Runs old known o (Ran.Certified c) → length c.outputs.items ≡ o.options.parts
-  count_is c r = sym (length-map c.outputs.items (λ v. v.items)) ∙ r.ends.judged.count
+  count_is c r = sym (length-map c.outputs.items (λ v. v.items)) ∙ r.ends.2.judged.count
 
   pub written : (ran : Ran) → Runs old known o ran → ChangesAmong old mid (named (history_name o)) → ChangesAmong mid new (names_left o.options.out.now ran) → ChangesAmong old new (written_by_run o)
   written (Ran.Certified c) r p q = both old mid new (history_name o) (result_names o.options.out.now o.options.parts) p (subst (λ (k : ℕ). ChangesAmong mid new (result_names o.options.out.now k)) (count_is c r) q)

@@ -1,5 +1,5 @@
 -- What `run` answers, over the files of a store.
-use Rattle.std.specs.Prelude.{◌≡◌, ◌⊎◌, ℕ, ◌∷◌, ◌++◌, ◌<◌, ◌≤◌, Option, None, Some, IfSome, List, [], codes, decimal, ⊤, string_bytes, option_map, length, vec_len}
+use Rattle.std.specs.Prelude.{Bool, true, ◌≡◌, ◌⊎◌, ℕ, ◌∷◌, ◌++◌, ◌<◌, ◌≤◌, Option, None, Some, IfSome, List, [], codes, decimal, ⊤, string_bytes, option_map, length, vec_len}
 use Rattle.mr_input.specs.Files.{contents}
 use Rattle.mr_jobs.specs.JobSpec.{RequestSpec}
 use Rattle.mr_certform.specs.declared.version.Version.{Version}
@@ -18,7 +18,7 @@ use Rattle.mr_files.specs.Refusals.{IsOneUnwritten, IsWriteRefusal}
 use Rattle.mr_files.specs.declared.store.FileFault.{FileFault}
 use Rattle.mr_files.specs.Names.{part_names, name_of_certificate, result_names}
 use Rattle.mr_asked.specs.declared.fault.Fault.{Fault}
-use Rattle.mr_asked.specs.declared.fault.Fault.TheVariants.{BadWorkers, BadAttempts, Script, CannotRead, CannotWrite, OutOfMemory}
+use Rattle.mr_asked.specs.declared.fault.Fault.TheVariants.{BadWorkers, BadAttempts, Script, ScratchInUse, CannotRead, CannotWrite, OutOfMemory}
 use Rattle.mr_asked.specs.declared.asked.RunOptions.{RunOptions}
 use Rattle.mr_commands.specs.declared.running.Ran.{Ran}
 use Rattle.mr_commands.specs.declared.running.Ran.TheVariants.{Certified, Failed, Uncertified}
@@ -60,6 +60,9 @@ script_name o = option_map (λ s. s.now) o.script
 abbrev pub history_name : RunOptions → Option (List ℕ)
 history_name o = option_map (λ s. s.now) o.history
 
+abbrev pub scratch_name : RunOptions → Option (List ℕ)
+scratch_name o = option_map (λ s. s.now) o.scratch
+
 -- all that a run reads: its script and its input
 abbrev pub read_by_run : RunOptions → List (List ℕ)
 read_by_run o = named (script_name o) ++ input_names o.options
@@ -68,11 +71,15 @@ read_by_run o = named (script_name o) ++ input_names o.options
 abbrev pub written_by_run : RunOptions → List (List ℕ)
 written_by_run o = named (history_name o) ++ result_names o.options.out.now o.options.parts
 
--- what the pool answers where it was asked for a certificate in this version
-abbrev pub IsEnding : RequestSpec → List (List ℕ) → List Directive → Shape → Version → Ran → Type 0
-IsEnding request files script shape version (Certified c) = IsCertifiedRun request files shape version c
-IsEnding request files script shape version (Failed f h) = IsRunFault request files script shape (fault.Failed f h)
-IsEnding request files script shape version (Uncertified verdict h) = IsRunFault request files script shape (fault.Uncertified verdict h)
+-- what the pool answers over a store that is steady or not, where it was asked for a certificate in this version
+abbrev pub IsEnding : RequestSpec → List (List ℕ) → List Directive → Bool → Shape → Version → Ran → Type 0
+IsEnding request files script steady shape version (Certified c) = IsCertifiedRun request files shape version c
+IsEnding request files script steady shape version (Failed f h) = IsRunFault request files script steady shape (fault.Failed f h)
+IsEnding request files script steady shape version (Uncertified verdict h) = IsRunFault request files script steady shape (fault.Uncertified verdict h)
+
+-- the same over some store of regions: without a directory for them, over one in memory, which is steady
+abbrev pub EndsOver : Option (List ℕ) → RequestSpec → List (List ℕ) → List Directive → Shape → Version → Ran → Type 0
+EndsOver dir request files script shape version ran = (steady : Bool) × (dir ≡ None → steady ≡ true) × IsEnding request files script steady shape version ran
 
 -- the request that is asked for, over what stands under the names of the input, ended so by the script that is named; where
 -- it is certified, by a certificate in the version that is asked for. No file that a run writes is one that it reads, and no
@@ -83,7 +90,7 @@ pub record Runs (holds : Stored) (known : Known) (o : RunOptions) (ran : Ran) : 
   pub input : IsInput holds (input_names o.options) o.options.split files
   pub apart : AreApart known (read_by_run o) (written_by_run o)
   pub scripted : IsScript holds (script_name o) script
-  pub ends : IsEnding (request_asked o.options) files script (run_shape (request_asked o.options) files o.workers o.attempts) o.version ran
+  pub ends : EndsOver (scratch_name o) (request_asked o.options) files script (run_shape (request_asked o.options) files o.workers o.attempts) o.version ran
 
 -- ---- what stands behind a run
 
@@ -170,13 +177,22 @@ IsBadScript bytes (Script f) = IsScriptFault bytes f
 IsBadScript bytes OutOfMemory = ⊤
 IsBadScript bytes fault = ⊥
 
--- why there is no run: the request, the numbers, the script, the input; each where all before it is good
+-- the machine refused memory, or another run has its regions in the directory
+abbrev pub IsScratchRefusal : Option (List ℕ) → Fault → Type 0
+IsScratchRefusal dir OutOfMemory = ⊤
+IsScratchRefusal (Some dir) ScratchInUse = ⊤
+IsScratchRefusal dir fault = ⊥
+
+-- why there is no run: the request, the numbers, the script, the input, the directory; each where all before it is good
 abbrev pub IsStartRefusal : Stored → Faulty → Known → RunOptions → Fault → Type 0
 IsStartRefusal holds unreadable known o fault = IsRequestRefusal o.options fault
     ⊎ (IsAsked o.options × IsCrewRefusal o fault)
     ⊎ (AreGood o × IsScriptRefusal holds unreadable (script_name o) fault)
     ⊎ (AreGood o × ((script : List Directive) × IsScript holds (script_name o) script)
     × IsInputRefusal holds unreadable known (input_names o.options) (read_by_run o) (written_by_run o) o.options.split fault)
+    ⊎ (AreGood o × ((script : List Directive) × IsScript holds (script_name o) script)
+    × ((files : List (List ℕ)) × IsInput holds (input_names o.options) o.options.split files) × AreApart known (read_by_run o) (written_by_run o)
+    × IsScratchRefusal (scratch_name o) fault)
 
 -- one of these can't be written, and is told
 abbrev pub TellsUnwritten : Faulty → List (List ℕ) → Fault → Type 0

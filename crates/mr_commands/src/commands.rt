@@ -26,6 +26,7 @@ use mr_input::Input;
 use mr_jobs::Request;
 use mr_judging::{Said, check, input_of};
 use mr_sequential::run_watched;
+use mr_spill::Scratch;
 use mr_watch::Watch;
 use std::alloc::Global;
 use std::sync::Wait;
@@ -145,8 +146,9 @@ pub fn seq<S: Store>(
 }
 
 /// Does what is asked for, and nothing else. The watch is told how far long work has come.
-pub fn done<S: Store, R: Threads + Wait + Sync>(
+pub fn done<S: Store, C: Scratch, R: Threads + Wait + Sync>(
     rt: &R,
+    scratch: &C,
     store: &mut S,
     alloc: Global,
     asked: &Subcommand<'_>,
@@ -160,7 +162,7 @@ pub fn done<S: Store, R: Threads + Wait + Sync>(
     match asked {
         Subcommand::Check(asked) => check(rt, store, alloc, asked, watch),
         Subcommand::Seq(asked) => seq(store, alloc, asked, watch),
-        Subcommand::Run(asked) => run_by_workers(rt, store, alloc, asked, watch),
+        Subcommand::Run(asked) => run_by_workers(rt, scratch, store, alloc, asked, watch),
         Subcommand::Merge(asked) => merge(rt, store, alloc, asked),
     }
 }

@@ -5,7 +5,7 @@ ghost use Rattle.mr_files.specs.Holding.{Begins, ChangesAmong};
 ghost use Rattle.mr_files.specs.Identities.{AreApart};
 ghost use Rattle.mr_files.specs.Refusals.{IsOneUnwritten};
 ghost use Rattle.mr_pool.specs.Outcomes.{run_shape};
-ghost use Rattle.mr_commands.specs.Runs.{AnswersRun, AreGoodAttempts, AreGoodWorkers, IsBadScript, IsCrewRefusal, IsEnding, IsHistoryKept, IsResultKept, IsResultRefused};
+ghost use Rattle.mr_commands.specs.Runs.{AnswersRun, AreGoodAttempts, AreGoodWorkers, EndsOver, IsBadScript, IsCrewRefusal, IsEnding, IsHistoryKept, IsResultKept, IsResultRefused, IsScratchRefusal};
 ghost use Rattle.mr_commands.specs.Runs.{IsStartRefusal, IsRunUnanswered, IsScript, IsScriptRefusal, Runs, TellsRan, history_of as history_in};
 ghost use Rattle.mr_judging.specs.Inputs.{IsInput, IsInputRefusal};
 ghost use Rattle.mr_judging.specs.Named.{input_names, named};
@@ -27,6 +27,7 @@ use mr_jobs::Request;
 use mr_judging::{Said, fault_text, input_of, name_given};
 use mr_pool::{Certified, RunFault, run_watched as pooled};
 use mr_script::Script;
+use mr_spill::{MemoryStore, RegionStore, Scratch, ScratchFault};
 use mr_store::Bytes;
 use mr_watch::Watch;
 use std::alloc::{AllocError, Global};
@@ -89,8 +90,8 @@ fn script_of<S: Store>(store: &S, alloc: Global, name: Option<&str>) -> Result<S
     }
 }
 
-/// Runs the request over the input.
-fn ended<R: Threads + Wait + Sync>(
+/// Runs the request over the input, with regions in this store.
+fn ended_over<S: RegionStore + Drop, R: Threads + Wait + Sync>(
     rt: &R,
     alloc: Global,
     request: &Request,
@@ -98,17 +99,18 @@ fn ended<R: Threads + Wait + Sync>(
     script: &Script,
     workers: u32,
     attempts: u32,
+    store: S,
     version: Version,
     watch: &dyn Watch,
 ) -> Result<Ran, Fault>
     requires fits { split_total request.now.split input.now ≤ 2 ^ 20 }
     requires workers { (1 ≤ workers) × (workers ≤ 64) }
     requires attempts { (1 ≤ attempts) × (attempts ≤ 16) }
-    ensures ends { IfOk result (λ ran. IsEnding request.now input.now script.now (run_shape request.now input.now workers attempts) version ran) }
+    ensures ends { IfOk result (λ ran. IsEnding request.now input.now script.now S.steady (run_shape request.now input.now workers attempts) version ran) }
     ensures memory { IfErr result (λ e. e ≡ Fault.OutOfMemory) }
 {
     match pooled(
-        rt, alloc, request, input, script, workers, attempts, &OpenGate, version, watch,
+        rt, alloc, request, input, script, workers, attempts, &OpenGate, store, version, watch,
     ) {
         Ok(certified) => Ok(Ran::Certified(certified)),
         Err(RunFault::Failed(fault, history)) => Ok(Ran::Failed(fault, history)),
@@ -146,10 +148,51 @@ fn input_apart<S: Store>(
     input_of(store, alloc, request, names, besides, written.as_slice())
 }
 
-/// Tests the request, the numbers, the script, the files, that none of these is written, and their fit, in this order, and
-/// only then runs; nothing is written.
-fn executed<S: Store, R: Threads + Wait + Sync>(
+/// Runs the request over the input, with regions in files of the directory, or in memory where there is none.
+fn ended<C: Scratch, R: Threads + Wait + Sync>(
     rt: &R,
+    scratch: &C,
+    dir: Option<&str>,
+    alloc: Global,
+    request: &Request,
+    input: &Input,
+    script: &Script,
+    workers: u32,
+    attempts: u32,
+    version: Version,
+    watch: &dyn Watch,
+) -> Result<Ran, Fault>
+    requires fits { split_total request.now.split input.now ≤ 2 ^ 20 }
+    requires workers { (1 ≤ workers) × (workers ≤ 64) }
+    requires attempts { (1 ≤ attempts) × (attempts ≤ 16) }
+    ensures ends { IfOk result (λ ran. EndsOver (option_map (λ d. d.now) dir.entry) request.now input.now script.now
+        (run_shape request.now input.now workers attempts) version ran) }
+    ensures refused { IfErr result (λ e. IsScratchRefusal (option_map (λ d. d.now) dir.entry) e) }
+{
+    match dir {
+        None => {
+            let Ok(store) = MemoryStore::new(rt, alloc, workers) else {
+                return Err(Fault::OutOfMemory);
+            };
+            ended_over(
+                rt, alloc, request, input, script, workers, attempts, store, version, watch,
+            )
+        }
+        Some(dir) => match scratch.open(alloc, dir, workers) {
+            Ok(store) => ended_over(
+                rt, alloc, request, input, script, workers, attempts, store, version, watch,
+            ),
+            Err(ScratchFault::InUse) => Err(Fault::ScratchInUse),
+            Err(ScratchFault::OutOfMemory) => Err(Fault::OutOfMemory),
+        },
+    }
+}
+
+/// Tests the request, the numbers, the script, the files, that none of these is written, their fit, and that no other run has
+/// its regions in the directory, in this order, and only then runs; nothing is written.
+fn executed<S: Store, C: Scratch, R: Threads + Wait + Sync>(
+    rt: &R,
+    scratch: &C,
     store: &S,
     alloc: Global,
     asked: &RunOptions<'_>,
@@ -164,6 +207,8 @@ fn executed<S: Store, R: Threads + Wait + Sync>(
     let input = input_apart(store, alloc, &request, asked)?;
     ended(
         rt,
+        scratch,
+        asked.scratch,
         alloc,
         &request,
         &input,
@@ -233,7 +278,7 @@ fn let_go<R: Threads>(rt: &R, history: History) -> Option<JoinHandle<()>> {
     thread::spawn(rt, move || drop(history)).ok()
 }
 
-/// Writes the result, where it is certified. The memory of the run's history, which is most of what it takes, is given back
+/// Writes the result, where it is certified. The memory of the run's history, with all reduce outputs, is given back
 /// meanwhile.
 fn keep_result<S: Store, R: Threads>(
     rt: &R,
@@ -271,8 +316,9 @@ fn keep_result<S: Store, R: Threads>(
 
 /// Runs a job by workers, and then writes the history, where one is asked for, and the result, where it is certified.
 /// The history comes first: a result that stands is whole, whatever the history's name.
-pub fn run<S: Store, R: Threads + Wait + Sync>(
+pub fn run<S: Store, C: Scratch, R: Threads + Wait + Sync>(
     rt: &R,
+    scratch: &C,
     store: &mut S,
     alloc: Global,
     asked: &RunOptions<'_>,
@@ -283,7 +329,7 @@ pub fn run<S: Store, R: Threads + Wait + Sync>(
     ensures refused { IfErr result (λ e. IsRunUnanswered (S.holds store.old) (S.holds store.new) (S.unreadable store.old)
         (S.unwritable store.old) (S.known_as store.old) asked.now e) }
 {
-    let ran = executed(rt, store, alloc, asked, watch)?;
+    let ran = executed(rt, scratch, store, alloc, asked, watch)?;
     let said = said_of(alloc, &ran)?;
     keep_history(store, alloc, asked.history, history_of(&ran))?;
     keep_result(rt, store, alloc, asked.options.out, ran)?;

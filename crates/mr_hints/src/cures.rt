@@ -105,7 +105,9 @@ fn cure(fault: &Fault) -> &'static str {
         Fault::LineEndInName { .. } =>
             "--verdict tells each name in one line: give the file another name, or a link",
         Fault::Script(_) =>
-            "a line is `lose W after N`, `zombie W after N`, `bad S R`, `flaky S R N`, `hold W` or `spoil P B`",
+            "a line is `lose W after N`, `zombie W after N`, `bad S R`, `flaky S R N`, `hold W`, `spoil P B` or `damage S P B`",
+        Fault::ScratchInUse =>
+            "another run keeps its regions in the directory of --scratch: name another, one for each run",
         Fault::Shards(fault) => shards_cure(fault),
         Fault::SameFile(_) =>
             "this file is read, or written under another name, and would be lost: give another name",
@@ -124,9 +126,12 @@ pub fn fault_hint<L: Look>(look: &L, alloc: Global, fault: &Fault) -> Result<Str
     }
 }
 
-/// What can be done where a run by workers is not certified; no text where there is nothing.
-pub(crate) fn run_cure(said: &str) -> &'static str {
+/// What can be done where a run by workers is not certified, given whether its regions lie in files; no text where there is
+/// nothing.
+pub(crate) fn run_cure(said: &str, in_files: bool) -> &'static str {
     match said {
+        "failed: NoWorkers\n" if in_files =>
+            "a worker that can't keep a region is lost: see that the directory of --scratch is there, may be written to, and has room",
         "failed: TooManySkips\n" =>
             "more records fail than --max-skips K lets be left out; K is 0 where it isn't given",
         "failed: TooManyAttempts\n" =>

@@ -193,6 +193,8 @@ pub fn verdict_hint<S: Store + Look>(
     match asked {
         Subcommand::Check(asked) => check_hint(store, alloc, &asked.options, said),
         Subcommand::Seq(_) | Subcommand::Merge(_) => Ok(String::new(alloc)),
-        Subcommand::Run(_) => String::from_str(alloc, run_cure(said)),
+        Subcommand::Run(asked) => {
+            String::from_str(alloc, run_cure(said, asked.scratch.is_some()))
+        }
     }
 }

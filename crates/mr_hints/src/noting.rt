@@ -1,6 +1,6 @@
 //! What is told of the directory of the result before the work: that it isn't there, that a result stands in it, that
-//! other parts lie beside those of this one.
-use mr_asked::{Options, Subcommand};
+//! other parts lie beside those of this one; and of the directory of regions, that it isn't there.
+use mr_asked::{Options, RunOptions, Subcommand};
 use mr_files::{Look, Standing, certificate_name, part_name, verdict_name};
 use std::alloc::{AllocError, Global};
 
@@ -92,6 +92,19 @@ fn seq_notes<L: Look>(
     note_others(look, alloc, options.out, options.parts as usize, lines)
 }
 
+fn run_notes<L: Look>(
+    look: &L,
+    alloc: Global,
+    asked: &RunOptions<'_>,
+    lines: &mut Vec<String>,
+) -> Result<(), AllocError> {
+    seq_notes(look, alloc, &asked.options, lines)?;
+    match asked.scratch {
+        Some(dir) => note_directory(look, alloc, dir, lines),
+        None => Ok(()),
+    }
+}
+
 /// How many parts a merge writes its verdicts tell, so that other parts can't be told from these.
 fn merge_notes<L: Look>(
     look: &L,
@@ -115,7 +128,7 @@ fn asks_for_parts(asked: &Subcommand<'_>) -> bool {
     0 < options.parts && options.parts as usize <= MOST_PARTS
 }
 
-/// Lines on the directory of the result, without line ends; none where there is nothing to tell.
+/// Lines on the directories of the result and of regions, without line ends; none where there is nothing to tell.
 pub fn notes<L: Look>(
     look: &L,
     alloc: Global,
@@ -127,7 +140,7 @@ pub fn notes<L: Look>(
     }
     match asked {
         Subcommand::Seq(asked) => seq_notes(look, alloc, &asked.options, &mut lines)?,
-        Subcommand::Run(asked) => seq_notes(look, alloc, &asked.options, &mut lines)?,
+        Subcommand::Run(asked) => run_notes(look, alloc, asked, &mut lines)?,
         Subcommand::Check(asked) => {
             let Options { out, parts, .. } = &asked.options;
             note_others(look, alloc, out, *parts as usize, &mut lines)?

@@ -65,6 +65,7 @@ pub record AreRunOptionsOf (found : Found) (o : RunOptions) : Type 0 where
   pub version : IsVersionOf (one_text found (codes "cert")) o.version
   pub script : option_map (λ s. s.now) o.script ≡ first_value found (codes "script")
   pub history : option_map (λ s. s.now) o.history ≡ first_value found (codes "history")
+  pub scratch : option_map (λ s. s.now) o.scratch ≡ first_value found (codes "scratch")
 
 -- the same of a judgement
 pub record AreCheckOptionsOf (found : Found) (o : CheckOptions) : Type 0 where

@@ -1,9 +1,9 @@
 use Rattle.std.proofs.Common.{map, ap}
-use Rattle.std.proofs.lemmas.Result.{err_from_is_err_and, IfOk-weaker}
+use Rattle.std.proofs.lemmas.Result.{err_from_is_err_and, IfErr-weaker, IfOk-weaker}
 use Rattle.mr_pool.specs.Outcomes.{run_shape}
-use Rattle.mr_commands.specs.Runs.{AreGood, IsEnding, Runs}
+use Rattle.mr_commands.specs.Runs.{AreGood, EndsOver, IsScratchRefusal, IsStartRefusal, Runs, scratch_name}
 use Rattle.mr_judging.proofs.Refused.{asked}
-use Rattle.mr_commands.proofs.Kept.{script_stage, input_stage, runs}
+use Rattle.mr_commands.proofs.Kept.{script_stage, input_stage, scratch_stage, runs}
 use Rattle.mr_commands.proofs.running.executed.Goals as goal
 
 pub returns-in_err-script-clause-refused : goal.returns-in_err-script-clause-refused
@@ -37,7 +37,22 @@ returns-clause-runs g c =
     let request = c.in_ok-request.request in
     let files = c.in_ok-input.input in
     let script = c.in_ok-script.script in
-    IfOk-weaker c.ended.result (λ ran. IsEnding request files script (run_shape request files o.workers o.attempts) o.version ran) (λ ran. Runs holds known o ran)
+    IfOk-weaker c.ended.result (λ ran. EndsOver (scratch_name o) request files script (run_shape request files o.workers o.attempts) o.version ran) (λ ran. Runs holds known o ran)
     (λ ran h. runs holds (g.S.Store.unreadable c.args.store.now) known o script files request ran
     c.in_ok-request.ensures.request c.in_ok-script.ensures.script c.in_ok-input.ensures.input c.in_ok-input.ensures.apart h)
     c.ended.ensures.ends
+
+pub returns-clause-refused : goal.returns-clause-refused
+returns-clause-refused g c =
+    let holds = g.S.Store.holds c.args.store.now in
+    let known = g.S.Store.known_as c.args.store.now in
+    let o = c.args.asked.now in
+    let good : AreGood o = record {
+      job = asked o.options c.in_ok-request.request c.in_ok-request.ensures.other c.in_ok-request.ensures.within;
+      workers = c.in_ok-expect_crew.ensures.workers;
+      attempts = c.in_ok-expect_crew.ensures.attempts;
+    } in
+    IfErr-weaker c.ended.result (λ e. IsScratchRefusal (scratch_name o) e) (λ e. IsStartRefusal holds (g.S.Store.unreadable c.args.store.now) known o e)
+    (λ e h. scratch_stage holds (g.S.Store.unreadable c.args.store.now) known o c.in_ok-script.script c.in_ok-input.input c.in_ok-request.request e
+    c.in_ok-request.ensures.request good c.in_ok-script.ensures.script c.in_ok-input.ensures.input c.in_ok-input.ensures.apart h)
+    c.ended.ensures.refused
