@@ -49,16 +49,7 @@ pub fn map_task(
     requires split { split < split_total plan.now.size plan.now.files }
     ensures { IfOk result (IsMapped (λ k. partition_by by k parts) parts (emitted_in (emitted job.now plan.now.size plan.now.files []) split skips.now)) }
 {
-    map_task_with(
-        alloc,
-        plan,
-        job,
-        parts,
-        split,
-        skips,
-        run_pairs(parts),
-        by,
-    )
+    map_task_with(alloc, plan, job, parts, split, skips, run_pairs(parts), by)
 }
 
 /// What `map_task` gives, and `None` where it was no longer wanted before it was there: it is asked before each record.
