@@ -25,6 +25,7 @@ _mapred() {
     'run --attempts') return ;;
     'run --script') mapfile -t COMPREPLY < <(compgen -f -- "$word") && return ;;
     'run --history') mapfile -t COMPREPLY < <(compgen -f -- "$word") && return ;;
+    'run --scratch') mapfile -t COMPREPLY < <(compgen -d -- "$word") && return ;;
     'run --cert') return ;;
     'check --job') mapfile -t COMPREPLY < <(compgen -W 'words grep url index' -- "$word") && return ;;
     'check --literal') return ;;
@@ -38,9 +39,9 @@ _mapred() {
     'merge --inputs') mapfile -t COMPREPLY < <(compgen -f -- "$word") && return ;;
     esac
     case "${COMP_WORDS[1]} $word" in
-    'seq -'*) mapfile -t COMPREPLY < <(compgen -W '--job --keep-case --literal --fold --parts --split --max-skips --out --skips --cert --help' -- "$word") ;;
-    'run -'*) mapfile -t COMPREPLY < <(compgen -W '--job --keep-case --literal --fold --parts --split --max-skips --out --workers --attempts --script --history --cert --help' -- "$word") ;;
-    'check -'*) mapfile -t COMPREPLY < <(compgen -W '--job --keep-case --literal --fold --parts --split --max-skips --out --threads --verdict --help' -- "$word") ;;
+    'seq -'*) mapfile -t COMPREPLY < <(compgen -W '--job --keep-case --literal --fold --by-host --parts --split --max-skips --out --skips --cert --help' -- "$word") ;;
+    'run -'*) mapfile -t COMPREPLY < <(compgen -W '--job --keep-case --literal --fold --by-host --parts --split --max-skips --out --workers --attempts --script --history --scratch --cert --help' -- "$word") ;;
+    'check -'*) mapfile -t COMPREPLY < <(compgen -W '--job --keep-case --literal --fold --by-host --parts --split --max-skips --out --threads --verdict --help' -- "$word") ;;
     'merge -'*) mapfile -t COMPREPLY < <(compgen -W '--out --inputs --help' -- "$word") ;;
     *) mapfile -t COMPREPLY < <(compgen -f -- "$word") ;;
     esac
