@@ -153,8 +153,29 @@ def regions_in_files(harness):
         harness.check("a directory that another run has", (status, out, err, left) == (2, b"", b"mapred: ScratchInUse\n", ([], ["regions.lock"], None)), f"{status} {out} {err} {left}")
     status, out, err, _ = ran(harness, TWO_PARTS, CATS, words=["--scratch", "scratch"], where=where)
     harness.check("a directory that another run had", (status, out, err) == (0, b"certified: 2 files, 4 pairs, 0 left out\n", b""), f"{status} {out} {err}")
+    where = harness.directory({"region-00-00000003": b"the cat\n", "regions.lock": b""})
+    stands = sorted(os.listdir(where))
+    for words, told in [
+        (["region-00-00000003"], b"region-00-00000003"),
+        (["./region-00-00000003"], b"./region-00-00000003"),
+        (["--script", "regions.lock", "/dev/null"], b"regions.lock"),
+        (["--history", "region-01-00000000", "/dev/null"], b"region-01-00000000"),
+    ]:
+        got = harness.run(["run", "--job", "words", "--scratch", "../" + os.path.basename(where), "--out", ".", *words], cwd=where)[:3]
+        harness.check(f"{words} where regions are kept", got == (2, b"", b"mapred: SameFile " + told + b"\n") and sorted(os.listdir(where)) == stands, repr(got))
     status, out, err, where = ran(harness, TWO_PARTS, [b""], words=["--scratch", "none"])
     harness.check("a directory that isn't there, and nothing to keep", (status, out, err) == (0, b"certified: 2 files, 0 pairs, 0 left out\n", b""), f"{status} {out} {err}")
+
+
+def files_of_many_partitions(harness):
+    """Where partitions are many a run of a map task has more pairs, so that regions, and their files, don't become tiny."""
+    text = b"".join(b"w%d\n" % (number % 997) for number in range(100_000))
+    for parts, count in ((2, 4), (1024, 1024)):
+        where = harness.directory()
+        os.makedirs(os.path.join(where, "scratch"))
+        status, out, err, _ = ran(harness, Request("words", parts=parts), [text], words=["--workers", "1", "--scratch", "scratch"], where=where)
+        left = len(os.listdir(os.path.join(where, "scratch"))) - 1
+        harness.check(f"regions of {parts} partitions", (status, out, err, left) == (0, b"certified: %d files, 100000 pairs, 0 left out\n" % parts, b"", count), f"{status} {out} {err} {left}")
 
 
 def change_a_region(folder, rnd):
@@ -472,6 +493,7 @@ GROUPS = {
     "random runs of the program": random_runs,
     "faults of a run": faults,
     "regions in files of a run": regions_in_files,
+    "files of many partitions": files_of_many_partitions,
     "regions changed under way": regions_changed_under_way,
     "a history named as another file": a_history_named_as_another_file,
     "a run that is stopped": stopped,

@@ -1,5 +1,5 @@
 # Three splits for four workers, one of which is lost behind its first report: the result is certified all the same, and
-# the judge says yes to it. Where a worker's output is spoiled, nothing is written.
+# the judge says yes to it. Where a worker's output is spoiled, nothing is written. What map tasks give may lie in files.
 printf 'The cat saw the dog.\nThe dog saw nothing.\n' > night.txt
 mkdir counted refused
 printf 'lose 0 after 1\n' > losses
@@ -11,6 +11,10 @@ printf 'spoil 1 0\n' > damage
 ./mapred run --job words --parts 2 --split 16 --script damage --out refused night.txt
 # uncertified: OutputDiffers partition 1 at 0
 ls refused
+mkdir regions
+./mapred run --job words --parts 2 --scratch regions --out counted night.txt
+# certified: 2 files, 9 pairs, 0 left out
+rm regions/region*
 mkdir alone
 ./mapred run --job words --workers 1 --history events --out alone night.txt
 # certified: 1 files, 9 pairs, 0 left out

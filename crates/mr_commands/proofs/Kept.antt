@@ -22,20 +22,20 @@ use Rattle.mr_asked.specs.Asked.{request_asked}
 use Rattle.mr_judging.specs.Inputs.{IsInput, IsInputRefusal}
 use Rattle.mr_judging.specs.Named.{input_names, named}
 use Rattle.mr_asked.specs.Statuses.{TellsFile}
-use Rattle.mr_commands.specs.Runs.{AreGood, BeginsHistory, EndsOver, IsHistoryKept, IsResultKept, IsResultRefused, IsResultStopped, IsScratchRefusal, IsScript, IsScriptRefusal, IsStartRefusal, IsStoppedAt, IsUnkept, KeepsHistory, KeepsResult, Runs, history_name, history_of, names_left, read_by_run, scratch_name, script_name, written_by_run}
+use Rattle.mr_commands.specs.Runs.{AreGood, BeginsHistory, EndsOver, IsHistoryKept, IsResultKept, IsResultRefused, IsResultStopped, IsScratchClash, IsScratchRefusal, IsScript, IsScriptRefusal, IsStartRefusal, IsStoppedAt, IsUnkept, KeepsHistory, KeepsResult, Runs, history_name, history_of, names_left, read_by_run, scratch_name, script_name, written_by_run}
 
-module _ (holds : Stored) (unreadable : Faulty) (known : Known) (o : RunOptions) where
-  pub script_stage : (e : Fault) → AreGood o → IsScriptRefusal holds unreadable (script_name o) e → IsStartRefusal holds unreadable known o e
+module _ (holds : Stored) (unreadable : Faulty) (alike : List ℕ → List ℕ → Type 0) (known : Known) (o : RunOptions) where
+  pub script_stage : (e : Fault) → AreGood o → IsScriptRefusal holds unreadable (script_name o) e → IsStartRefusal holds unreadable alike known o e
   script_stage e a h = inr (inr (inl (a, h)))
 
   pub input_stage : (script : List Directive) (request : RequestSpec) (e : Fault) → request ≡ request_asked o.options → AreGood o → IsScript holds (script_name o) script
-      → IsInputRefusal holds unreadable known (input_names o.options) (read_by_run o) (written_by_run o) request.split e → IsStartRefusal holds unreadable known o e
+      → IsInputRefusal holds unreadable known (input_names o.options) (read_by_run o) (written_by_run o) request.split e → IsStartRefusal holds unreadable alike known o e
   input_stage script request e r a s h =
       inr (inr (inr (inl (a, (script, s), subst (λ (s : ℕ). IsInputRefusal holds unreadable known (input_names o.options) (read_by_run o) (written_by_run o) s e) (ap (λ (v : RequestSpec). v.split) r) h))))
 
   pub scratch_stage : (script : List Directive) (files : List (List ℕ)) (request : RequestSpec) (e : Fault) → request ≡ request_asked o.options → AreGood o
       → IsScript holds (script_name o) script → IsInput holds (input_names o.options) request.split files → AreApart known (read_by_run o) (written_by_run o)
-      → IsScratchRefusal (scratch_name o) e → IsStartRefusal holds unreadable known o e
+      → IsScratchClash alike (read_by_run o ++ written_by_run o) (scratch_name o) e ⊎ IsScratchRefusal (scratch_name o) e → IsStartRefusal holds unreadable alike known o e
   scratch_stage script files request e r a s i apart h =
       inr (inr (inr (inr (a, (script, s), (files, subst (λ (s : ℕ). IsInput holds (input_names o.options) s files) (ap (λ (v : RequestSpec). v.split) r) i), apart, h))))
 

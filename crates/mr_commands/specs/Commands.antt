@@ -31,6 +31,6 @@ Answers old new known (Merge o) text status = (status ≡ 0) × AnswersMerge old
 -- why nothing is answered, and what was changed then
 abbrev pub IsRefusal : Stored → Stored → Faulty → Faulty → (List ℕ → List ℕ → Type 0) → Known → Subcommand → Fault → Type 0
 IsRefusal old new unreadable unwritable alike known (Seq o) fault = IsSeqRefusal old new unreadable unwritable known o fault
-IsRefusal old new unreadable unwritable alike known (Run o) fault = IsRunUnanswered old new unreadable unwritable known o fault
+IsRefusal old new unreadable unwritable alike known (Run o) fault = IsRunUnanswered old new unreadable unwritable alike known o fault
 IsRefusal old new unreadable unwritable alike known (Check o) fault = IsCheckUnanswered old new unreadable unwritable known o fault
 IsRefusal old new unreadable unwritable alike known (Merge o) fault = IsMergeUnanswered old new unreadable unwritable alike known o fault

@@ -1,5 +1,5 @@
 -- What `run` answers, over the files of a store.
-use Rattle.std.specs.Prelude.{Bool, true, ◌≡◌, ◌⊎◌, ℕ, ◌∷◌, ◌++◌, ◌<◌, ◌≤◌, Option, None, Some, IfSome, List, [], codes, decimal, ⊤, string_bytes, option_map, length, vec_len}
+use Rattle.std.specs.Prelude.{Bool, true, ◌≡◌, ◌⊎◌, ℕ, ◌∷◌, ◌++◌, ◌<◌, ◌≤◌, Option, None, Some, IfSome, List, [], Contains, codes, decimal, ⊤, string_bytes, option_map, length, vec_len}
 use Rattle.mr_input.specs.Files.{contents}
 use Rattle.mr_jobs.specs.JobSpec.{RequestSpec}
 use Rattle.mr_certform.specs.declared.version.Version.{Version}
@@ -12,13 +12,14 @@ use Rattle.mr_answers.specs.declared.fault.No.{No}
 use Rattle.mr_pool.specs.Outcomes.{IsCertifiedRun, IsRunFault, run_shape}
 use Rattle.mr_pool.specs.declared.running.Certified.{Certified as Kept}
 use Rattle.mr_pool.specs.declared.running.RunFault.TheVariants as fault
+use Rattle.mr_files.specs.Folders.{IsFolderOf}
 use Rattle.mr_files.specs.Holding.{Begins, ChangesAmong, Differs, Faulty, Holding, Stored}
 use Rattle.mr_files.specs.Identities.{AreApart, Known}
 use Rattle.mr_files.specs.Refusals.{IsOneUnwritten, IsWriteRefusal}
 use Rattle.mr_files.specs.declared.store.FileFault.{FileFault}
 use Rattle.mr_files.specs.Names.{part_names, name_of_certificate, result_names}
 use Rattle.mr_asked.specs.declared.fault.Fault.{Fault}
-use Rattle.mr_asked.specs.declared.fault.Fault.TheVariants.{BadWorkers, BadAttempts, Script, ScratchInUse, CannotRead, CannotWrite, OutOfMemory}
+use Rattle.mr_asked.specs.declared.fault.Fault.TheVariants.{BadWorkers, BadAttempts, Script, ScratchInUse, SameFile, CannotRead, CannotWrite, OutOfMemory}
 use Rattle.mr_asked.specs.declared.asked.RunOptions.{RunOptions}
 use Rattle.mr_commands.specs.declared.running.Ran.{Ran}
 use Rattle.mr_commands.specs.declared.running.Ran.TheVariants.{Certified, Failed, Uncertified}
@@ -177,6 +178,16 @@ IsBadScript bytes (Script f) = IsScriptFault bytes f
 IsBadScript bytes OutOfMemory = ⊤
 IsBadScript bytes fault = ⊥
 
+-- the file of a name stands in a directory, as far as it can be told
+abbrev pub StandsIn : (List ℕ → List ℕ → Type 0) → List ℕ → List ℕ → Type 0
+StandsIn alike dir name = (folder : List ℕ) × IsFolderOf name folder × alike dir folder
+
+-- one of the files stands where regions are kept, and may be written over
+abbrev pub IsScratchClash : (List ℕ → List ℕ → Type 0) → List (List ℕ) → Option (List ℕ) → Fault → Type 0
+IsScratchClash alike names dir OutOfMemory = ⊤
+IsScratchClash alike names (Some dir) (SameFile told) = Contains names (string_bytes told) × StandsIn alike dir (string_bytes told)
+IsScratchClash alike names dir fault = ⊥
+
 -- the machine refused memory, or another run has its regions in the directory
 abbrev pub IsScratchRefusal : Option (List ℕ) → Fault → Type 0
 IsScratchRefusal dir OutOfMemory = ⊤
@@ -184,15 +195,15 @@ IsScratchRefusal (Some dir) ScratchInUse = ⊤
 IsScratchRefusal dir fault = ⊥
 
 -- why there is no run: the request, the numbers, the script, the input, the directory; each where all before it is good
-abbrev pub IsStartRefusal : Stored → Faulty → Known → RunOptions → Fault → Type 0
-IsStartRefusal holds unreadable known o fault = IsRequestRefusal o.options fault
+abbrev pub IsStartRefusal : Stored → Faulty → (List ℕ → List ℕ → Type 0) → Known → RunOptions → Fault → Type 0
+IsStartRefusal holds unreadable alike known o fault = IsRequestRefusal o.options fault
     ⊎ (IsAsked o.options × IsCrewRefusal o fault)
     ⊎ (AreGood o × IsScriptRefusal holds unreadable (script_name o) fault)
     ⊎ (AreGood o × ((script : List Directive) × IsScript holds (script_name o) script)
     × IsInputRefusal holds unreadable known (input_names o.options) (read_by_run o) (written_by_run o) o.options.split fault)
     ⊎ (AreGood o × ((script : List Directive) × IsScript holds (script_name o) script)
     × ((files : List (List ℕ)) × IsInput holds (input_names o.options) o.options.split files) × AreApart known (read_by_run o) (written_by_run o)
-    × IsScratchRefusal (scratch_name o) fault)
+    × (IsScratchClash alike (read_by_run o ++ written_by_run o) (scratch_name o) fault ⊎ IsScratchRefusal (scratch_name o) fault))
 
 -- one of these can't be written, and is told
 abbrev pub TellsUnwritten : Faulty → List (List ℕ) → Fault → Type 0
@@ -232,6 +243,6 @@ IsUnkept old new unwritable o (Certified c) fault = (BeginsHistory old new o (Ce
 IsUnkept old new unwritable o ran fault = BeginsHistory old new o ran × TellsUnwritten unwritable (named (history_name o)) fault
 
 -- why nothing is told: there is no run, and nothing was written; or not all that it leaves could be written
-abbrev pub IsRunUnanswered : Stored → Stored → Faulty → Faulty → Known → RunOptions → Fault → Type 0
-IsRunUnanswered old new unreadable unwritable known o fault = (ChangesAmong old new [] × IsStartRefusal old unreadable known o fault)
+abbrev pub IsRunUnanswered : Stored → Stored → Faulty → Faulty → (List ℕ → List ℕ → Type 0) → Known → RunOptions → Fault → Type 0
+IsRunUnanswered old new unreadable unwritable alike known o fault = (ChangesAmong old new [] × IsStartRefusal old unreadable alike known o fault)
     ⊎ ((ran : Ran) × Runs old known o ran × IsUnkept old new unwritable o ran fault)

@@ -1,11 +1,11 @@
 //! A run by workers: what it is of, how it ended, and what it leaves.
-ghost use Rattle.std.specs.Prelude.{◌≡◌, ℕ, ◌≤◌, ◌^◌, List, IfOk, IfErr, IfSome, OnOk, map, option_map, string_bytes};
+ghost use Rattle.std.specs.Prelude.{◌≡◌, ℕ, ◌≤◌, ◌^◌, ◌++◌, Some, List, IfOk, IfErr, IfSome, IsTrue, OnOk, map, option_map, string_bytes};
 ghost use Rattle.mr_input.specs.Files.{split_total};
 ghost use Rattle.mr_files.specs.Holding.{Begins, ChangesAmong};
 ghost use Rattle.mr_files.specs.Identities.{AreApart};
 ghost use Rattle.mr_files.specs.Refusals.{IsOneUnwritten};
 ghost use Rattle.mr_pool.specs.Outcomes.{run_shape};
-ghost use Rattle.mr_commands.specs.Runs.{AnswersRun, AreGoodAttempts, AreGoodWorkers, EndsOver, IsBadScript, IsCrewRefusal, IsEnding, IsHistoryKept, IsResultKept, IsResultRefused, IsScratchRefusal};
+ghost use Rattle.mr_commands.specs.Runs.{AnswersRun, AreGoodAttempts, AreGoodWorkers, EndsOver, IsBadScript, IsCrewRefusal, IsEnding, IsHistoryKept, IsResultKept, IsResultRefused, IsScratchClash, IsScratchRefusal, StandsIn, scratch_name};
 ghost use Rattle.mr_commands.specs.Runs.{IsStartRefusal, IsRunUnanswered, IsScript, IsScriptRefusal, Runs, TellsRan, history_of as history_in};
 ghost use Rattle.mr_judging.specs.Inputs.{IsInput, IsInputRefusal};
 ghost use Rattle.mr_judging.specs.Named.{input_names, named};
@@ -21,7 +21,9 @@ use mr_bytes::OpenGate;
 use mr_certform::Version;
 use mr_check::No;
 use mr_core::JobFault;
-use mr_files::{FileFault, Store, names_of_result, read_file, write_files, write_named};
+use mr_files::{
+    FileFault, Store, add_names, folder_of, names_of_result, read_file, write_files, write_named,
+};
 use mr_input::Input;
 use mr_jobs::Request;
 use mr_judging::{Said, fault_text, input_of, name_given};
@@ -148,6 +150,65 @@ fn input_apart<S: Store>(
     input_of(store, alloc, request, names, besides, written.as_slice())
 }
 
+/// Whether the last of a name may be one of a region or of their lock.
+fn is_region_name(name: &str) -> bool {
+    let last = match name.rsplit_once('/') {
+        Some((_, last)) => last,
+        None => name,
+    };
+    last.starts_with("region-") || last == "regions.lock"
+}
+
+/// Whether the file of a name stands in the directory, and has a name as a region's there.
+fn is_region_file<S: Store>(store: &S, dir: &str, name: &str) -> bool
+    ensures { IsTrue result → StandsIn (S.alike store.now) dir.now name.now }
+{
+    is_region_name(name) && store.is_same_folder(dir, folder_of(name))
+}
+
+/// None of these files may be one of a region in the directory.
+fn expect_no_region<S: Store>(
+    store: &S,
+    alloc: Global,
+    dir: &str,
+    names: &[String],
+) -> Result<(), Fault>
+    ensures { IfErr result (λ e. IsScratchClash (S.alike store.now) (map string_bytes names.now) (Some dir.now) e) }
+{
+    for name in names {
+        if is_region_file(store, dir, name.as_str()) {
+            return Err(Fault::SameFile(String::from_str(alloc, name.as_str())?));
+        }
+    }
+    Ok(())
+}
+
+/// The names of all that a run reads, and then of what it may write besides regions.
+fn names_of_run(alloc: Global, asked: &RunOptions<'_>) -> Result<Vec<String>, AllocError>
+    ensures { IfOk result (λ v. map string_bytes v.items ≡ read_by_run asked.now ++ written_by_run asked.now) }
+{
+    let mut names = name_given(alloc, asked.script)?;
+    add_names(alloc, &mut names, asked.options.files.as_slice())?;
+    let mut written = names_written(alloc, asked)?;
+    names.append(&mut written)?;
+    Ok(names)
+}
+
+/// No file that a run reads, or writes besides, may be one of a region in the directory, where one is asked for.
+fn expect_scratch_apart<S: Store>(
+    store: &S,
+    alloc: Global,
+    asked: &RunOptions<'_>,
+) -> Result<(), Fault>
+    ensures { IfErr result (λ e. IsScratchClash (S.alike store.now) (read_by_run asked.now ++ written_by_run asked.now) (scratch_name asked.now) e) }
+{
+    let Some(dir) = asked.scratch else {
+        return Ok(());
+    };
+    let names = names_of_run(alloc, asked)?;
+    expect_no_region(store, alloc, dir, names.as_slice())
+}
+
 /// Runs the request over the input, with regions in files of the directory, or in memory where there is none.
 fn ended<C: Scratch, R: Threads + Wait + Sync>(
     rt: &R,
@@ -188,8 +249,8 @@ fn ended<C: Scratch, R: Threads + Wait + Sync>(
     }
 }
 
-/// Tests the request, the numbers, the script, the files, that none of these is written, their fit, and that no other run has
-/// its regions in the directory, in this order, and only then runs; nothing is written.
+/// Tests the request, the numbers, the script, the files, that none of these is written, their fit, that none is a
+/// region's, and that no other run has its regions in the directory, in this order, and only then runs; nothing is written.
 fn executed<S: Store, C: Scratch, R: Threads + Wait + Sync>(
     rt: &R,
     scratch: &C,
@@ -199,12 +260,13 @@ fn executed<S: Store, C: Scratch, R: Threads + Wait + Sync>(
     watch: &dyn Watch,
 ) -> Result<Ran, Fault>
     ensures runs { IfOk result (λ ran. Runs (S.holds store.now) (S.known_as store.now) asked.now ran) }
-    ensures refused { IfErr result (λ e. IsStartRefusal (S.holds store.now) (S.unreadable store.now) (S.known_as store.now) asked.now e) }
+    ensures refused { IfErr result (λ e. IsStartRefusal (S.holds store.now) (S.unreadable store.now) (S.alike store.now) (S.known_as store.now) asked.now e) }
 {
     let request = request_of(alloc, &asked.options)?;
     expect_crew(asked)?;
     let script = script_of(store, alloc, asked.script)?;
     let input = input_apart(store, alloc, &request, asked)?;
+    expect_scratch_apart(store, alloc, asked)?;
     ended(
         rt,
         scratch,
@@ -327,7 +389,7 @@ pub fn run<S: Store, C: Scratch, R: Threads + Wait + Sync>(
     ensures done { IfOk result (λ said. AnswersRun (S.holds store.old) (S.holds store.new) (S.known_as store.old) asked.now (string_bytes said.text) said.status) }
     ensures others { ChangesAmong (S.holds store.old) (S.holds store.new) (written_by_run asked.now) }
     ensures refused { IfErr result (λ e. IsRunUnanswered (S.holds store.old) (S.holds store.new) (S.unreadable store.old)
-        (S.unwritable store.old) (S.known_as store.old) asked.now e) }
+        (S.unwritable store.old) (S.alike store.old) (S.known_as store.old) asked.now e) }
 {
     let ran = executed(rt, scratch, store, alloc, asked, watch)?;
     let said = said_of(alloc, &ran)?;

@@ -1,4 +1,4 @@
-use Rattle.std.proofs.Common.{map, ap}
+use Rattle.std.proofs.Common.{inl, inr, map, ap}
 use Rattle.std.proofs.lemmas.Result.{err_from_is_err_and, IfErr-weaker, IfOk-weaker}
 use Rattle.mr_pool.specs.Outcomes.{run_shape}
 use Rattle.mr_commands.specs.Runs.{AreGood, EndsOver, IsScratchRefusal, IsStartRefusal, Runs, scratch_name}
@@ -15,7 +15,7 @@ returns-in_err-script-clause-refused g c =
       workers = c.in_ok-expect_crew.ensures.workers;
       attempts = c.in_ok-expect_crew.ensures.attempts;
     } in
-    rw p.1 (rw p.2 (script_stage (g.S.Store.holds c.args.store.now) (g.S.Store.unreadable c.args.store.now) (g.S.Store.known_as c.args.store.now) o c.in_err-script.field-0.0 good c.in_err-script.ensures.refused))
+    rw p.1 (rw p.2 (script_stage (g.S.Store.holds c.args.store.now) (g.S.Store.unreadable c.args.store.now) (g.S.Store.alike c.args.store.now) (g.S.Store.known_as c.args.store.now) o c.in_err-script.field-0.0 good c.in_err-script.ensures.refused))
 
 pub returns-in_err-input-clause-refused : goal.returns-in_err-input-clause-refused
 returns-in_err-input-clause-refused g c =
@@ -26,7 +26,7 @@ returns-in_err-input-clause-refused g c =
       workers = c.in_ok-expect_crew.ensures.workers;
       attempts = c.in_ok-expect_crew.ensures.attempts;
     } in
-    rw p.1 (rw p.2 (input_stage (g.S.Store.holds c.args.store.now) (g.S.Store.unreadable c.args.store.now) (g.S.Store.known_as c.args.store.now) o c.in_ok-script.script c.in_ok-request.request c.in_err-input.field-0.0
+    rw p.1 (rw p.2 (input_stage (g.S.Store.holds c.args.store.now) (g.S.Store.unreadable c.args.store.now) (g.S.Store.alike c.args.store.now) (g.S.Store.known_as c.args.store.now) o c.in_ok-script.script c.in_ok-request.request c.in_err-input.field-0.0
     c.in_ok-request.ensures.request good c.in_ok-script.ensures.script c.in_err-input.ensures.refused))
 
 pub returns-clause-runs : goal.returns-clause-runs
@@ -38,13 +38,28 @@ returns-clause-runs g c =
     let files = c.in_ok-input.input in
     let script = c.in_ok-script.script in
     IfOk-weaker c.ended.result (λ ran. EndsOver (scratch_name o) request files script (run_shape request files o.workers o.attempts) o.version ran) (λ ran. Runs holds known o ran)
-    (λ ran h. runs holds (g.S.Store.unreadable c.args.store.now) known o script files request ran
+    (λ ran h. runs holds (g.S.Store.unreadable c.args.store.now) (g.S.Store.alike c.args.store.now) known o script files request ran
     c.in_ok-request.ensures.request c.in_ok-script.ensures.script c.in_ok-input.ensures.input c.in_ok-input.ensures.apart h)
     c.ended.ensures.ends
+
+pub returns-in_err-expect_scratch_apart-clause-refused : goal.returns-in_err-expect_scratch_apart-clause-refused
+returns-in_err-expect_scratch_apart-clause-refused g c =
+    let p = err_from_is_err_and c.from_residual-in_err-expect_scratch_apart.result c.from_residual-in_err-expect_scratch_apart.ensures.1 in
+    let o = c.args.asked.now in
+    let good : AreGood o = record {
+      job = asked o.options c.in_ok-request.request c.in_ok-request.ensures.other c.in_ok-request.ensures.within;
+      workers = c.in_ok-expect_crew.ensures.workers;
+      attempts = c.in_ok-expect_crew.ensures.attempts;
+    } in
+    rw p.1 (rw p.2 (scratch_stage (g.S.Store.holds c.args.store.now) (g.S.Store.unreadable c.args.store.now) (g.S.Store.alike c.args.store.now) (g.S.Store.known_as c.args.store.now) o
+    c.in_ok-script.script c.in_ok-input.input c.in_ok-request.request c.in_err-expect_scratch_apart.field-0.0
+    c.in_ok-request.ensures.request good c.in_ok-script.ensures.script c.in_ok-input.ensures.input c.in_ok-input.ensures.apart (inl c.in_err-expect_scratch_apart.ensures)))
 
 pub returns-clause-refused : goal.returns-clause-refused
 returns-clause-refused g c =
     let holds = g.S.Store.holds c.args.store.now in
+    let unreadable = g.S.Store.unreadable c.args.store.now in
+    let alike = g.S.Store.alike c.args.store.now in
     let known = g.S.Store.known_as c.args.store.now in
     let o = c.args.asked.now in
     let good : AreGood o = record {
@@ -52,7 +67,7 @@ returns-clause-refused g c =
       workers = c.in_ok-expect_crew.ensures.workers;
       attempts = c.in_ok-expect_crew.ensures.attempts;
     } in
-    IfErr-weaker c.ended.result (λ e. IsScratchRefusal (scratch_name o) e) (λ e. IsStartRefusal holds (g.S.Store.unreadable c.args.store.now) known o e)
-    (λ e h. scratch_stage holds (g.S.Store.unreadable c.args.store.now) known o c.in_ok-script.script c.in_ok-input.input c.in_ok-request.request e
-    c.in_ok-request.ensures.request good c.in_ok-script.ensures.script c.in_ok-input.ensures.input c.in_ok-input.ensures.apart h)
+    IfErr-weaker c.ended.result (λ e. IsScratchRefusal (scratch_name o) e) (λ e. IsStartRefusal holds unreadable alike known o e)
+    (λ e h. scratch_stage holds unreadable alike known o c.in_ok-script.script c.in_ok-input.input c.in_ok-request.request e
+    c.in_ok-request.ensures.request good c.in_ok-script.ensures.script c.in_ok-input.ensures.input c.in_ok-input.ensures.apart (inr h))
     c.ended.ensures.refused
