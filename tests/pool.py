@@ -310,11 +310,13 @@ def random_case(start, jobs=ALL_JOBS):
 
 
 def random_run(start):
-    """The answer of a run that a number draws, with its words and what it may answer. Each other one is in version 2."""
+    """The answer of a run that a number draws, with its words and what it may answer. Each other one is in version 2, and each
+    other two have their regions in files."""
     request, files, lines, workers, attempts = random_case(start, TOLD_JOBS)
-    version = 1 + start % 2
-    answer = ran(request, files, written(lines), workers, attempts, version)
-    return (start, lines, workers, attempts, version), answer, Allowed(request, files, lines, workers, attempts, version)
+    version, mode = 1 + start % 2, ("history", "scratch")[start // 2 % 2]
+    with tempfile.TemporaryDirectory() as folder:
+        answer = ran(request, files, written(lines), workers, attempts, version, mode=mode, folder=folder)
+    return (start, lines, workers, attempts, version, mode), answer, Allowed(request, files, lines, workers, attempts, version)
 
 
 def misfit(answer, allowed):

@@ -250,12 +250,15 @@ def told_by(harness, where, names, request):
 
 
 def random_run(harness, start):
-    """A run that a number draws, and why what it left doesn't fit; None where it does."""
+    """A run that a number draws, each other one with its regions in files, and why what it left doesn't fit; None where it does."""
     request, files, lines, workers, attempts = random_case(start)
     allowed = Allowed(request, files, lines, workers, attempts)
-    words = ["--workers", str(workers), "--attempts", str(attempts)]
+    words, where = ["--workers", str(workers), "--attempts", str(attempts)], harness.directory()
+    if start % 2:
+        os.makedirs(os.path.join(where, "scratch"))
+        words += ["--scratch", "scratch"]
     try:
-        status, out, err, where = ran(harness, request, files, written(lines), words, timeout=120)
+        status, out, err, _ = ran(harness, request, files, written(lines), words, where, timeout=120)
     except subprocess.TimeoutExpired:
         return "late", "no answer"
     kind, _, rest = out.decode().rstrip("\n").partition(": ")
