@@ -352,24 +352,26 @@ def random_runs(harness, first=20260, runs=400):
 
 
 def each_allocation(harness):
-    """Each allocation fails in turn, of one worker and of several: the answer is that, or what it is without."""
+    """Each allocation fails in turn, of one worker and of several, with regions in memory and in files: the answer is that, or
+    what it is without."""
     library = shim(harness)
     if library is None:
         return
-    request, script, refused = Request("words", parts=2, split=4, most=1), b"bad 0 0\nhold 0\nlose 2 after 1\nspoil 0 900\n", set()
-    for workers in (1, 4):
-        whole, number, marked = ran(request, LETTERS, script, workers, mode="brief"), 0, True
+    request, script, refused = Request("words", parts=2, split=4, most=1), b"bad 0 0\nhold 0\nlose 2 after 1\nspoil 0 900\ndamage 1 0 0\n", set()
+    for workers, mode in ((1, "brief"), (4, "brief"), (1, "scratch"), (4, "scratch")):
+        folder = harness.directory()
+        whole, number, marked = ran(request, LETTERS, script, workers, mode=mode, folder=folder), 0, True
         while marked:
             number += 1
-            mark = os.path.join(harness.room, f"pool-{workers}-{number}.mark")
-            answer = ran(request, LETTERS, script, workers, mode="brief", LD_PRELOAD=library, FAIL=f"malloc {number}", FAIL_MARK=mark)
+            mark = os.path.join(harness.room, f"pool-{workers}-{mode}-{number}.mark")
+            answer = ran(request, LETTERS, script, workers, mode=mode, folder=folder, LD_PRELOAD=library, FAIL=f"malloc {number}", FAIL_MARK=mark)
             marked = os.path.exists(mark)
             # the program itself ends with status 1 where it is refused memory while it reads or tells
             is_own = answer.status == 1 and answer.lines == whole.lines[: len(answer.lines)] or answer.kind == "refused"
             refused |= {answer.kind}
             fits = not answer.is_late and (marked and (answer.kind == "OutOfMemory" or is_own) or answer.short() == whole.short())
-            harness.check(f"allocation {number} of {workers} workers fails", fits, repr(answer))
-        harness.check(f"{workers} workers take memory", number > 50, str(number))
+            harness.check(f"allocation {number} of {workers} workers fails, {mode}", fits, repr(answer))
+        harness.check(f"{workers} workers take memory, {mode}", number > 50, str(number))
     harness.check("a run is refused memory", "OutOfMemory" in refused, repr(refused))
 
 
