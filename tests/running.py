@@ -4,6 +4,7 @@ import fcntl
 import os
 import random
 import re
+import resource
 import signal
 import subprocess
 import threading
@@ -412,6 +413,16 @@ def many_tasks(harness):
     harness.check("... with their parts", len(parts_of(os.path.join(where, "out"))) == 8)
 
 
+def short_files_behind_a_long_one(harness):
+    """Files of a byte behind one of a megabyte: room is made for no more pairs than the input can have."""
+    limit = lambda: resource.setrlimit(resource.RLIMIT_AS, (1 << 30, 1 << 30))
+    files = [b"a " * (1 << 19), *[b"b\n"] * 300]
+    for more in ([], ["--scratch", "."]):
+        status, out, err, _ = ran(harness, Request("words", parts=2), files, words=["--workers", "2", *more], preexec_fn=limit)
+        want = (0, b"certified: 2 files, %d pairs, 0 left out\n" % ((1 << 19) + 300), b"")
+        harness.check(f"short files behind a long one {more}", (status, out, err) == want, f"{status} {out} {err}")
+
+
 def is_beginning(stands, whole, given):
     """Whether of the files that a whole run writes, the history, the parts in order and then the certificate, those up to
     some file stand, the last of them perhaps in part, and all else is as it was."""
@@ -495,6 +506,7 @@ GROUPS = {
     "worked runs of the program": worked_runs,
     "random runs of the program": random_runs,
     "faults of a run": faults,
+    "short files behind a long one": short_files_behind_a_long_one,
     "regions in files of a run": regions_in_files,
     "files of many partitions": files_of_many_partitions,
     "regions changed under way": regions_changed_under_way,

@@ -6,8 +6,10 @@ use crate::shared::Shared;
 use mr_book::Seat;
 use mr_bytes::Gate;
 use mr_core::{Reply, Skips, Task};
+use mr_input::Input;
 use mr_script::Directive;
 use mr_spill::{GetFault, PutFault, Region, RegionStore, SealedRun, is_region};
+use mr_splits::Plan;
 use mr_task::{
     Came, Demand, Follower, MapOutput, ReduceOutput, Stored, TaskFault, map_task, map_task_while,
     reduce_followed, reduce_task,
@@ -128,11 +130,22 @@ fn follow<S: RegionStore>(
     Ok(true)
 }
 
-/// How many pairs more there may be, where the first of so many splits has so many: a sixteenth more than as many from each.
-fn guessed(first: usize, splits: u32) -> usize {
+/// The most pairs that an input can have: each takes two bytes of it, or ends a file.
+fn most_pairs(input: &Input) -> usize {
+    let mut bytes = input.files();
+    for i in 0..input.files() {
+        bytes = bytes.saturating_add(input.len(i));
+    }
+    bytes / 2
+}
+
+/// How many pairs more there may be, where the first split has so many: a sixteenth more than as many from each, and no more
+/// than the input can have. Files of all lengths may follow a long one.
+fn guessed(first: usize, plan: &Plan<'_>) -> usize {
     first
         .saturating_add(first / 16)
-        .saturating_mul(splits as usize)
+        .saturating_mul(plan.splits() as usize)
+        .min(most_pairs(plan.input()))
 }
 
 impl<L: Ledger> Worker<L> {
@@ -362,7 +375,7 @@ impl<L: Ledger> Worker<L> {
             }
             outputs.push(stored)?;
             if split == 0 {
-                follower.reserve(guessed(follower.len(), shared.plan.splits()))?;
+                follower.reserve(guessed(follower.len(), shared.plan))?;
             }
         }
         match reduce_followed(shared.alloc, shared.request.job(), follower)? {
