@@ -1,8 +1,6 @@
 -- Regions whose names follow one another, put together by key.
-use denote.Ref.{Bor}
-use Rattle.std.proofs.Common.{◌≡◌, ℕ, ◌+◌, ◌<◌, List, [], ◌∷◌, ◌++◌, length, get_or, take, refl, ap, sym, ◌∙◌, subst, inl, inr, Option, Some, None}
-use Rattle.std.proofs.lemmas.List.{flat_map_more, map-append, take_more}
-use Rattle.std.proofs.lemmas.List.Folds.{flat_map-map}
+use Rattle.std.proofs.Common.{◌≡◌, List, [], ◌∷◌, ◌++◌, refl, ap, sym, ◌∙◌, subst, inl, inr, Option, Some, None}
+use Rattle.std.proofs.lemmas.List.{map-append}
 use Rattle.std.proofs.lemmas.Cmp.{tied_itself, nat_list_cmp_total}
 use Rattle.std.specs.List.{AllByRecursion}
 use Rattle.std.specs.Ordering.{ordering_reverse, ordering_then}
@@ -15,26 +13,13 @@ use Rattle.mr_bytes.specs.Pairs.{Triple, pair_order}
 use Rattle.mr_bytes.proofs.ListLaws.{Distinct-append, Has-all, all_from_Has, Has-append_cases, Has-map, Has-map_from}
 use Rattle.mr_spill.specs.Column.{names_of}
 use Rattle.mr_spill.specs.Regions.{RisesUnderKeys}
-use Rattle.mr_spill.specs.Table.{columns_of}
-use Rattle.mr_merge.specs.Merged.{joined, values_of}
 use Rattle.mr_merge.specs.Merging.{IsPast, IsUpTo, NamesDiffer}
 use Rattle.mr_spill.proofs.RegionLaws.{names_total}
 use Rattle.mr_merge.proofs.MergeLemmas.{name-tie}
-use Rattle.mr_ranks.proofs.ListLemmas.{All-more}
-
-pub All-next : {X : Type 0} (P : X → Type 0) (xs : List X) (i : ℕ) (d : X) → i < length xs → AllByRecursion P (take i xs) → P (get_or xs i d) → AllByRecursion P (take (i + 1) xs)
-All-next P xs i d h all p = subst (AllByRecursion P) (sym (take_more xs i d h)) (All-more P (take i xs) (get_or xs i d) all p)
 
 pub All-weaker : {X : Type 0} (P Q : X → Type 0) (xs : List X) → ((x : X) → P x → Q x) → AllByRecursion P xs → AllByRecursion Q xs
 All-weaker P Q [] f all = tt
 All-weaker P Q (x ∷ xs) f all = (f x all.0, All-weaker P Q xs f all.1)
-
-pub joined-next : (rs : List (Bor (List Triple))) (i : ℕ) (r : Bor (List Triple)) → i < length rs → r ≡ get_or rs i r
-    → joined (values_of (take i rs)) ++ r.now ≡ joined (values_of (take (i + 1) rs))
-joined-next rs i r h is =
-    flat_map_more (λ (l : List Triple). l) [] (values_of (take i rs)) r.now
-    ∙ ap joined (sym (map-append (λ (b : Bor (List Triple)). b.now) (take i rs) (r ∷ [])))
-    ∙ ap (λ l. joined (values_of l)) (sym (take_more rs i r h ∙ ap (λ (y : Bor (List Triple)). take i rs ++ y ∷ []) (sym is)))
 
 -- pairs that rise, rise under their keys
 pub rising-under : (ts : List Triple) → Rises pair_order ts → RisesUnderKeys ts
@@ -92,6 +77,3 @@ later-last xs ys last end names are up below all t h = elim (Has-append_cases xs
   | inl a ↦ up t.name (below t a)
   | inr b ↦ Has-all (IsUpTo end) names t.name all (subst (λ (l : List Name). Has l t.name) (sym are) (Has-map (λ (w : Triple). w.name) ys t b))
 ]
-
-pub columns-joined : (rs : List (Bor (List Triple))) → columns_of rs ≡ joined (values_of rs)
-columns-joined rs = sym (flat_map-map (λ (l : List Triple). l) (λ (b : Bor (List Triple)). b.now) rs)

@@ -1,26 +1,25 @@
 -- Regions taken pair by pair over their bytes.
-use Rattle.std.proofs.Common.{◌≡◌, ℕ, zero, suc, ◌+◌, ◌<◌, ◌≤◌, ◌-◌, drop, take, arith, get_or, Option, Some, None, List, [], ◌∷◌, ◌++◌, length, refl, sym, ◌∙◌, ap, subst, append_assoc, map}
+use Rattle.std.proofs.Common.{◌≡◌, ℕ, zero, suc, ◌+◌, ◌<◌, arith, get_or, Option, Some, None, List, [], ◌∷◌, ◌++◌, length, refl, sym, ◌∙◌, ap, subst, append_assoc, map}
 use Rattle.std.proofs.lemmas.List.{append-nil, flat_map_more, map-append}
 use Rattle.std.specs.List.{AllByRecursion}
-use Rattle.std.specs.Prelude.{MatchOption}
 use Rattle.mr_bytes.specs.declared.Name.{Name}
 use Rattle.mr_bytes.specs.Lists.{Distinct, Has, Rises}
 use Rattle.mr_bytes.specs.Pairs.{Triple, pair_order}
 use Rattle.mr_spill.specs.declared.cursor.RegionCursor.{RegionCursor}
 use Rattle.mr_spill.specs.declared.cursor.RegionPair.{RegionPair}
 use Rattle.mr_spill.specs.Column.{names_of}
-use Rattle.mr_spill.specs.Cursor.{AheadAgain, AreAhead, EndsWithKey, IsKeyOf, IsNextOf, IsOpened, lent_pair}
-use Rattle.mr_spill.specs.Lent.{AreRunsOf, IsSealedText, RegionText}
+use Rattle.mr_spill.specs.Cursor.{AreAhead, EndsWithKey, IsNextOf, IsOpened, lent_pair}
+use Rattle.mr_spill.specs.Lent.{RegionText}
 use Rattle.mr_spill.specs.Regions.{RisesUnderKeys}
 use Rattle.mr_spill.specs.Spelling.{SpellsRegion}
 use Rattle.mr_spill.proofs.ReadingLemmas.{spells-one}
-use Rattle.mr_merge.specs.declared.taking.Gathering.{Gathering}
+use Rattle.mr_merge.specs.declared.following.Gathering.{Gathering}
 use Rattle.mr_merge.specs.Bytes.{AreSpelled}
 use Rattle.mr_merge.specs.Merged.{AreSound, joined}
 use Rattle.mr_merge.specs.Merging.{IsPast, IsUpTo, NamesDiffer}
 use Rattle.mr_bytes.proofs.ListLaws.{Has-map}
 use Rattle.mr_merge.specs.Following.{packed}
-use Rattle.mr_merge.specs.Taking.{AreTaken, IsBegun, IsTaken, RunsAhead}
+use Rattle.mr_merge.specs.Taking.{AreTaken, IsBegun, IsTaken}
 use Rattle.mr_merge.proofs.GatherLemmas.{All-weaker, differs, follows, later-last}
 use Rattle.mr_ranks.proofs.ListLemmas.{All-more}
 
@@ -61,13 +60,6 @@ begun-start partition region all cursor bytes split o b s = record {
   key = λ p e. absurd (none-some p (sym o.none ∙ e));
 }
 
--- and here all were
-pub begun-end : (partition : ℕ) (region : RegionText) (old new : Gathering) (cursor : RegionCursor) → IsBegun partition region old new cursor → AreAhead cursor []
-    → ((q : ℕ) (ts : List Triple) → SpellsRegion region.bytes region.split q ts → Distinct (names_of ts)) → IsTaken partition region old new
-begun-end partition region old new cursor b a d =
-    let spelled : SpellsRegion region.bytes region.split partition b.taken = subst (SpellsRegion region.bytes region.split partition) (append-nil b.taken) (b.on [] a) in
-    record { value = b.taken; takes = b.takes; spelled = spelled; differ = d partition b.taken spelled }
-
 distinct-from_map : {X Y : Type 0} (f : X → Y) (xs : List X) → Distinct (map f xs) → Distinct xs
 distinct-from_map f [] d = tt
 distinct-from_map f (x ∷ xs) d = (λ h. d.0 (Has-map f xs x h), distinct-from_map f xs d.1)
@@ -97,78 +89,6 @@ pub named-end : (partition : ℕ) (region : RegionText) (old new : Gathering) (c
 named-end partition region old new cursor names b a d =
     let spelled : SpellsRegion region.bytes region.split partition b.0.taken = subst (SpellsRegion region.bytes region.split partition) (append-nil b.0.taken) (b.0.on [] a) in
     record { value = b.0.taken; takes = b.0.takes; spelled = spelled; differ = distinct-from_map packed (names_of b.0.taken) (subst Distinct b.1 d) }
-
--- ---- runs of a region
-
-pub again-ahead : (n : ℕ) (counts : List ℕ) (cursor : RegionCursor) → RunsAhead n counts cursor → 0 < n → AheadAgain cursor
-again-ahead n counts cursor runs h = by n runs.left runs.ahead runs.many runs.same h
-  where
-    by : (m : ℕ) (ts : List Triple) → AreAhead cursor ts → m ≤ length ts → AllByRecursion (λ t. IsKeyOf cursor.last t.key) (take m ts) → 0 < m → AheadAgain cursor
-    by zero ts a many same h = absurd (omega (arith, h))
-    by (suc m) [] a many same h = absurd (omega (arith, many))
-    by (suc m) (t ∷ ts) a many same h = (t, (ts, (a, same.0)))
-
-rekeyed : (old new : Option RegionPair) (p : RegionPair) → new ≡ Some p → IsKeyOf old p.key.now → (ts : List Triple) → AllByRecursion (λ t. IsKeyOf old t.key) ts → AllByRecursion (λ t. IsKeyOf new t.key) ts
-rekeyed old new p is key [] all = tt
-rekeyed None new p is key (t ∷ ts) all = absurd key
-rekeyed (Some q) new p is key (t ∷ ts) all =
-    (subst (λ (l : Option RegionPair). IsKeyOf l t.key) (sym is) (sym key ∙ all.0), rekeyed (Some q) new p is key ts all.1)
-
--- the next pair of a run
-pub runs-next : (n : ℕ) (counts : List ℕ) (cursor later : RegionCursor) (p : RegionPair) → RunsAhead n counts cursor → 0 < n → IsNextOf (lent_pair p) cursor later
-    → later.last ≡ Some p → IsKeyOf cursor.last p.key.now → RunsAhead (n - 1) counts later
-runs-next n counts cursor later p runs h next last key =
-    let on = next.only runs.left runs.ahead in
-    by n runs.left on.0 on.1 on.2 runs.many runs.same runs.runs h
-  where
-    by : (m : ℕ) (ts us : List Triple) → ts ≡ lent_pair p ∷ us → AreAhead later us → m ≤ length ts → AllByRecursion (λ t. IsKeyOf cursor.last t.key) (take m ts)
-        → AreRunsOf counts (drop m ts) → 0 < m → RunsAhead (m - 1) counts later
-    by zero ts us is a many same rest h = absurd (omega (arith, h))
-    by (suc m) ts us is a many same rest h = subst (λ (k : ℕ). RunsAhead k counts later) (let e : m ≡ suc m - 1 = omega arith in e) (record {
-      left = us;
-      ahead = a;
-      many = omega (arith, many, ap length is);
-      same = rekeyed cursor.last later.last p last key (take m us)
-          ((subst (λ (l : List Triple). AllByRecursion (λ t. IsKeyOf cursor.last t.key) (take (suc m) l)) is same).1);
-      runs = subst (λ (l : List Triple). AreRunsOf counts (drop (suc m) l)) is rest;
-    })
-
-keys-of : (p : RegionPair) (ts : List Triple) → AllByRecursion (λ (t : Triple). t.key ≡ p.key.now) ts → AllByRecursion (λ (t : Triple). IsKeyOf (Some p) t.key) ts
-keys-of p [] all = tt
-keys-of p (t ∷ ts) all = (sym all.0, keys-of p ts all.1)
-
--- the first pair of a run
-pub runs-first : (n : ℕ) (counts : List ℕ) (cursor later : RegionCursor) (p : RegionPair) → RunsAhead 0 (n ∷ counts) cursor → IsNextOf (lent_pair p) cursor later
-    → later.last ≡ Some p → RunsAhead (n - 1) counts later
-runs-first n counts cursor later p runs next last =
-    let on = next.only runs.left runs.ahead in
-    by n on.0 on.2 (subst (AreRunsOf (n ∷ counts)) on.1 runs.runs)
-  where
-    by : (m : ℕ) (us : List Triple) → AreAhead later us → AreRunsOf (m ∷ counts) (lent_pair p ∷ us) → RunsAhead (m - 1) counts later
-    by zero us a rest = absurd (omega (arith, rest.0))
-    by (suc m) us a rest = subst (λ (k : ℕ). RunsAhead k counts later) (let e : m ≡ suc m - 1 = omega arith in e) (record {
-      left = us;
-      ahead = a;
-      many = omega (arith, rest.1.0);
-      same = subst (λ (l : Option RegionPair). AllByRecursion (λ t. IsKeyOf l t.key) (take m us)) (sym last) (keys-of p (take m us) rest.1.1.0.1);
-      runs = rest.1.1.1;
-    })
-
--- all runs of a region that a seal made
-pub runs-opened : (split partition : ℕ) (bytes counts : List ℕ) (cursor : RegionCursor) → IsSealedText split partition bytes counts → IsOpened bytes split partition cursor
-    → RunsAhead 0 counts cursor
-runs-opened split partition bytes counts cursor s o = record {
-  left = s.pairs;
-  ahead = o.only s.pairs s.spelled;
-  many = omega arith;
-  same = tt;
-  runs = s.runs;
-}
-
-pub sealed-differ : (split partition : ℕ) (bytes counts : List ℕ) → IsSealedText split partition bytes counts
-    → (q : ℕ) (ts : List Triple) → SpellsRegion bytes split q ts → Distinct (names_of ts)
-sealed-differ split partition bytes counts s q ts spelled =
-    subst (λ (l : List Triple). Distinct (names_of l)) (sym (spells-one bytes split partition q s.pairs ts s.spelled spelled)) s.differ
 
 -- ---- a region
 
@@ -221,9 +141,6 @@ spelled-rise partition (r ∷ rs) (v ∷ vs) a = (a.0.rise, spelled-rise partiti
 
 pub spelled-sound : (partition : ℕ) (rs : List RegionText) (vs : List (List Triple)) → AreSpelled partition rs vs → NamesDiffer (joined vs) → AreSound vs
 spelled-sound partition rs vs a d = record { in_order = spelled-rise partition rs vs a; names_differ = d }
-
-pub matched : (partition : ℕ) (rs : List RegionText) (o : Option Gathering) (all : Gathering) → o ≡ Some all → MatchOption o (Unit {0}) (AreTaken partition rs) → AreTaken partition rs all
-matched partition rs o all e m = subst (λ (w : Option Gathering). MatchOption w (Unit {0}) (AreTaken partition rs)) e m
 
 -- ---- what is still to come of a region
 

@@ -2,7 +2,7 @@
 use Rattle.std.specs.Prelude.{◌≡◌, ℕ, ◌+◌, ◌*◌, Bool, true, List}
 use Rattle.mr_bytes.specs.declared.Name.{Name}
 use Rattle.mr_spill.specs.Lent.{RegionText}
-use Rattle.mr_merge.specs.declared.taking.Gathering.{Gathering}
+use Rattle.mr_merge.specs.declared.following.Gathering.{Gathering}
 use Rattle.mr_merge.specs.Taking.{AreTaken}
 
 -- the partition, whether each region was taken whole, and what they gave

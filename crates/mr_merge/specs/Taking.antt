@@ -1,5 +1,5 @@
 -- Of no public promise: regions taken pair by pair, one behind another.
-use Rattle.std.specs.Prelude.{◌≡◌, ℕ, ◌≤◌, Option, Some, List, [], ◌∷◌, ◌++◌, drop, length, take}
+use Rattle.std.specs.Prelude.{◌≡◌, ℕ, Option, Some, List, [], ◌∷◌, ◌++◌}
 use Rattle.std.specs.List.{AllByRecursion}
 use Rattle.mr_bytes.specs.declared.Name.{Name}
 use Rattle.mr_bytes.specs.Lists.{Has}
@@ -7,11 +7,11 @@ use Rattle.mr_bytes.specs.Pairs.{Triple}
 use Rattle.mr_spill.specs.declared.cursor.RegionCursor.{RegionCursor}
 use Rattle.mr_spill.specs.declared.cursor.RegionPair.{RegionPair}
 use Rattle.mr_spill.specs.Column.{names_of}
-use Rattle.mr_spill.specs.Cursor.{AreAhead, EndsWithKey, IsKeyOf, lent_pair}
-use Rattle.mr_spill.specs.Lent.{AreRunsOf, RegionText}
+use Rattle.mr_spill.specs.Cursor.{AreAhead, EndsWithKey, lent_pair}
+use Rattle.mr_spill.specs.Lent.{RegionText}
 use Rattle.mr_spill.specs.Regions.{RisesUnderKeys}
 use Rattle.mr_spill.specs.Spelling.{SpellsRegion}
-use Rattle.mr_merge.specs.declared.taking.Gathering.{Gathering}
+use Rattle.mr_merge.specs.declared.following.Gathering.{Gathering}
 use Rattle.mr_merge.specs.Bytes.{AreSpelled}
 use Rattle.mr_merge.specs.Merged.{joined}
 use Rattle.mr_merge.specs.Merging.{IsPast, IsUpTo, NamesDiffer}
@@ -30,14 +30,6 @@ pub record IsPut (before : Option Name) (p : RegionPair) (old new : Gathering) :
   pub past : IsPast before p.name
   pub up : (n : Name) → IsUpTo old.last n → IsUpTo new.last n
   pub it : IsUpTo new.last p.name
-
--- of the pairs that are still to come the first so many have the key of the one before, and the others stand in runs
-pub record RunsAhead (n : ℕ) (counts : List ℕ) (cursor : RegionCursor) : Type 0 where
-  pub left : List Triple
-  pub ahead : AreAhead cursor left
-  pub many : n ≤ length left
-  pub same : AllByRecursion (λ t. IsKeyOf cursor.last t.key) (take n left)
-  pub runs : AreRunsOf counts (drop n left)
 
 -- those of a region in front were taken, and the others are still to come
 pub record IsBegun (partition : ℕ) (region : RegionText) (old new : Gathering) (cursor : RegionCursor) : Type 0 where

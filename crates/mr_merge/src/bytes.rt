@@ -1,5 +1,6 @@
 //! All regions of a partition, merged over their bytes.
-ghost use Rattle.std.specs.Prelude.{◌≡◌, ◌++◌, ◌∷◌, [], List, IfErr, IfOk, MatchOption, OnOk};
+ghost use Rattle.std.specs.Prelude.{◌≡◌, ◌++◌, ◌∷◌, [], List};
+ghost use Rattle.std.specs.Prelude.{IfErr, IfOk, IfSome, MatchOption, OnOk};
 ghost use Rattle.mr_bytes.specs.Pairs.{Triple};
 ghost use Rattle.mr_merge.specs.Bytes.{AreMerged, AreSpelled};
 ghost use Rattle.mr_merge.specs.Merged.{AreSound, values_of};
@@ -7,9 +8,9 @@ ghost use Rattle.mr_merge.specs.declared.merged.MergeFault.TheVariants.{RegionDa
 ghost use Rattle.mr_spill.specs.declared.reading.RegionFault.TheVariants.{RegionDamaged as CantRead};
 
 use crate::demand::{Demand, Unending};
-use crate::groups::{Groups, grouped};
+use crate::following::{Came, Follower};
+use crate::groups::Groups;
 use crate::merged::{MergeFault, merge};
-use crate::taking::taken_regions;
 use mr_spill::{Pairs, Region, RegionFault, read_region};
 use std::alloc::{AllocError, Global};
 
@@ -75,6 +76,44 @@ fn merged_whole(alloc: Global, regions: &[Region<'_>], partition: u32) -> Result
     Ok(groups)
 }
 
+/// The fewest bytes that a pair of a region has.
+const PAIR_BYTES: usize = 17;
+
+/// Room for as many pairs as the bytes of the regions can have.
+fn room_for(regions: &[Region<'_>]) -> usize {
+    let mut bytes = 0usize;
+    for region in regions {
+        bytes = bytes.saturating_add(region.bytes().len());
+    }
+    bytes / PAIR_BYTES
+}
+
+/// The regions merged, taken one behind another: `None` where one isn't taken, or where they are no
+/// longer wanted.
+fn followed<D: Demand>(
+    alloc: Global,
+    regions: &[Region<'_>],
+    partition: u32,
+    demand: &D,
+) -> Result<Option<Groups>, AllocError>
+    ensures { IfOk result (λ o. IfSome o (AreMerged partition regions.now)) }
+{
+    let mut all = Follower::new(alloc, partition);
+    all.reserve(room_for(regions))?;
+    for region in regions {
+        if !demand.lasts() {
+            return Ok(None);
+        }
+        let Came::Taken = all.take(region)? else {
+            return Ok(None);
+        };
+    }
+    if !demand.lasts() {
+        return Ok(None);
+    }
+    all.groups(alloc)
+}
+
 /// What `merge_regions` gives, and `None` where it was no longer wanted before it was there: it is asked before each region,
 /// and before and behind the putting together by key.
 pub fn merge_regions_while<D: Demand>(
@@ -86,18 +125,14 @@ pub fn merge_regions_while<D: Demand>(
     ensures merged { IfOk result (λ o. MatchOption o (D.unending → ⊥) (AreMerged partition regions.now)) }
     ensures damaged { IfErr result (λ e. e ≡ RegionDamaged → (values : List (List Triple)) → AreSpelled partition regions.now values → AreSound values → ⊥) }
 {
-    let taken = taken_regions(alloc, regions, partition, demand)?;
+    let followed = followed(alloc, regions, partition, demand)?;
     if !demand.lasts() {
         return Ok(None);
     }
-    let Some(all) = taken else {
-        return Ok(Some(merged_whole(alloc, regions, partition)?));
-    };
-    let groups = grouped(alloc, all.pairs)?;
-    if !demand.lasts() {
-        return Ok(None);
+    match followed {
+        Some(groups) => Ok(Some(groups)),
+        None => Ok(Some(merged_whole(alloc, regions, partition)?)),
     }
-    Ok(Some(groups))
 }
 
 /// The regions of one partition, merged over their bytes: each key once, rising, with its pairs by name. Bytes that spell no

@@ -1,20 +1,23 @@
 //! Regions of one partition that come one behind another: of each the pairs are taken, and its bytes may be let go.
-ghost use Rattle.std.specs.Prelude.{◌≡◌, ◌∷◌, ◌++◌, [], List, IfOk, IfSome, IsTrue, length, true};
+ghost use Rattle.std.specs.Prelude.{◌≡◌, ◌↔◌, ◌∷◌, ◌++◌, [], List};
+ghost use Rattle.std.specs.Prelude.{IfOk, IfSome, IsTrue, length, true};
 ghost use Rattle.mr_bytes.specs.Pairs.{Triple};
+ghost use Rattle.mr_spill.specs.Cursor.{EndsWithKey};
 ghost use Rattle.mr_spill.specs.Spelling.{SpellsRegion};
 ghost use Rattle.std.specs.Ordering.{nat_cmp};
 ghost use Rattle.mr_bytes.specs.Lists.{Distinct, Rises};
 ghost use Rattle.mr_spill.specs.Lent.{RegionText};
 ghost use Rattle.mr_merge.specs.Bytes.{AreMerged};
 ghost use Rattle.mr_merge.specs.Following.{HasTaken, packed};
-ghost use Rattle.mr_merge.specs.Taking.{IsTaken};
+ghost use Rattle.mr_merge.specs.Merging.{IsPast, IsUpTo};
+ghost use Rattle.mr_merge.specs.Taking.{IsPut, IsTaken};
 ghost use Rattle.mr_merge.specs.declared.following.Came.TheVariants.{Damaged, Taken};
 
 use crate::groups::{Groups, grouped};
-use crate::taking::{Gathering, take_pair};
-use mr_bytes::Name;
-use mr_spill::{Numbered, Region, open_region};
+use mr_bytes::{Name, compare_names};
+use mr_spill::{Numbered, Region, RegionPair, open_region};
 use std::alloc::{AllocError, Global};
+use std::cmp::Ordering;
 use std::marker::Model;
 
 /// What came of a region.
@@ -26,6 +29,13 @@ pub enum Came {
     Damaged,
     /// Its names don't all differ, or not all are past those of the regions before: what was taken counts for nothing now.
     Unordered,
+}
+
+/// What was taken of regions, and the last of its names.
+#[derive(Drop)]
+pub(crate) struct Gathering {
+    pub pairs: Numbered,
+    pub last: Option<Name>,
 }
 
 /// What the regions of a partition gave that came so far.
@@ -47,6 +57,46 @@ impl Model for Follower {
     ghost view = { λ f. record { partition = f.partition; whole = f.whole; all = f.all } };
 
     ghost invariant = { λ f. f.whole ≡ true → (regions : List RegionText) × HasTaken regions (record { partition = f.partition; whole = f.whole; all = f.all }) };
+}
+
+/// Whether the name is past this one, if there is one.
+fn is_past(last: Option<Name>, name: Name) -> bool
+    ensures { IsTrue result ↔ IsPast last name }
+{
+    match last {
+        None => true,
+        Some(last) => matches!(compare_names(last, name), Ordering::Less),
+    }
+}
+
+/// The later one of two names.
+fn later(last: Option<Name>, name: Name) -> Option<Name>
+    ensures up_to { (n : Name) → IsUpTo last n → IsUpTo result n }
+    ensures it { IsUpTo result name }
+{
+    if is_past(last, name) {
+        Some(name)
+    } else {
+        last
+    }
+}
+
+/// Takes a pair of a region, if its name is past those of all regions before.
+#[inline(always)]
+fn take_pair(
+    all: &mut Gathering,
+    before: Option<Name>,
+    pair: RegionPair<'_>,
+) -> Result<bool, AllocError>
+    requires { IsTrue pair.again → EndsWithKey all.old.pairs pair.key.now }
+    ensures { IfOk result (λ b. IsTrue b → IsPut before pair.entry all.old all.new) }
+{
+    if !is_past(before, pair.name) {
+        return Ok(false);
+    }
+    all.last = later(all.last, pair.name);
+    all.pairs.take(pair)?;
+    Ok(true)
 }
 
 /// Number and place of a name, in one number.

@@ -1,23 +1,26 @@
 //! Sorted regions of one partition, merged into groups: each key once, with all its pairs (OSDI 2004, section 4.2).
 //!
-//! Time: where a seal made each region and their names follow one another, as those of map tasks and of their runs do, no two
-//! pairs are compared: each name is compared with the last one of the regions before, each run of a key is looked up once,
-//! distinct keys are sorted, and each name is moved once behind that. Else the names are sorted, n log n comparisons; and where
-//! the names of regions don't follow one another, each pair takes one comparison of keys and one copy for each doubling of the
-//! number of regions. Memory beside the regions: 12 bytes for each name while names are compared, and then 28 for each pair, of
-//! which 12 stay, with a copy of each distinct key. Regions as bytes are walked and merged so too; where that can't be, each is
-//! read whole first.
+//! Regions are bytes, taken one behind another (`Follower`). Each pair is compared with the one
+//! before it in its region, and its name with the last one of the regions before. A key is looked up
+//! once for each run of it. The names of a region are sorted as numbers, which shows whether they
+//! differ. Distinct keys are sorted at the end, and each name is moved once behind that.
+//!
+//! Where the names of regions don't follow one another, or a name stands twice, each region is read
+//! whole. Then all names are sorted, and each pair takes one comparison of keys and one copy for
+//! each doubling of the number of regions.
+//!
+//! Memory beside the regions: 28 bytes for each pair, of which 12 stay, 8 for each name of the
+//! largest region, and a copy of each distinct key. Regions read whole take 12 for each name while
+//! names are compared.
 #![tactic(auto)]
 
 mod bytes;
 mod demand;
 mod following;
-mod gathering;
 mod groups;
 mod merged;
 mod merging;
 mod sound;
-mod taking;
 
 pub use bytes::{merge_regions, merge_regions_while};
 pub use demand::{Demand, Unending};

@@ -4,8 +4,8 @@ ghost use Rattle.mr_merge.specs.Merged.{AreSound, joined, merged, values_of};
 ghost use Rattle.mr_merge.specs.Laws.{GroupsHave, GroupsRise, MergedHas, MergedIsOne};
 ghost use Rattle.mr_merge.specs.Worked.{WorkedFalling, WorkedGroups, WorkedTwice, WorkedTwoKeys};
 
-use crate::gathering::merged_pairs;
 use crate::groups::{Groups, grouped_column};
+use crate::merging::merged_all;
 use crate::sound::are_sound;
 use mr_spill::Pairs;
 use std::alloc::{AllocError, Global};
@@ -45,7 +45,7 @@ pub fn merge(alloc: Global, regions: &[&Pairs]) -> Result<Groups, MergeFault>
     if !are_sound(alloc, regions)? {
         return Err(MergeFault::RegionDamaged);
     }
-    let pairs = merged_pairs(alloc, regions)?;
+    let pairs = merged_all(alloc, regions)?;
     Ok(grouped_column(alloc, &pairs)?)
 }
 

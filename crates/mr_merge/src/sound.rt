@@ -6,9 +6,7 @@ ghost use Rattle.mr_bytes.specs.Order.{name_order};
 ghost use Rattle.mr_bytes.specs.Pairs.{pair_order};
 ghost use Rattle.mr_spill.specs.Column.{names_of};
 ghost use Rattle.mr_merge.specs.Merged.{AreSound, joined, values_of};
-ghost use Rattle.mr_merge.specs.Merging.{NamesDiffer};
 
-use crate::gathering::names_follow;
 use crate::merging::is_before;
 use mr_bytes::{Name, compare_names};
 use mr_spill::Pairs;
@@ -77,27 +75,10 @@ fn names_differ(alloc: Global, regions: &[&Pairs]) -> Result<bool, AllocError>
     Ok(names_rise(names.as_slice()))
 }
 
-/// Whether a seal made each region.
-fn are_sealed(regions: &[&Pairs]) -> bool
-    ensures rise { IsTrue result → AllByRecursion (Rises pair_order) (values_of regions.now) }
-    ensures differ { IsTrue result → AllByRecursion NamesDiffer (values_of regions.now) }
-{
-    for region in regions {
-        if !region.is_sealed() {
-            return false;
-        }
-    }
-    true
-}
-
-/// Whether each region is in order, and no name stands twice. Pairs are not compared where a seal made each region, and their
-/// names follow one another. It fails only for want of memory.
+/// Whether each region is in order, and no name stands twice. It fails only for want of memory.
 pub(crate) fn are_sound(alloc: Global, regions: &[&Pairs]) -> Result<bool, AllocError>
     ensures { IfOk result (λ b. IsTrue b ↔ AreSound (values_of regions.now)) }
 {
-    if are_sealed(regions) && names_follow(regions) {
-        return Ok(true);
-    }
     if !all_rise(regions) {
         return Ok(false);
     }

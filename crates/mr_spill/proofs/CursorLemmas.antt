@@ -23,7 +23,7 @@ rise-on : (last : Option RegionPair) (t : Triple) (us : List Triple) → RiseBeh
 rise-on None t us r = r
 rise-on (Some l) t us r = r.1
 
-pub rise-first : (last : Option RegionPair) (t : Triple) (us : List Triple) → RiseBehind last (t ∷ us) → IsBehind last t.key t.name
+rise-first : (last : Option RegionPair) (t : Triple) (us : List Triple) → RiseBehind last (t ∷ us) → IsBehind last t.key t.name
 rise-first None t us r = tt
 rise-first (Some l) t us r = r.0.0
 

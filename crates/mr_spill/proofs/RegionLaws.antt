@@ -1,22 +1,21 @@
 -- What the region of a partition is: it rises, it has the pairs of the partition, and it is the only such list.
-use Rattle.std.proofs.Common.{◌≡◌, ◌↔◌, ℕ, List, [], ◌∷◌, filter, ◌==◌, refl, ap, sym, ◌∙◌, subst, inl, inr}
+use Rattle.std.proofs.Common.{◌≡◌, ◌↔◌, ℕ, List, [], ◌∷◌, filter, ◌==◌, ap, sym, ◌∙◌, subst, inl, inr}
 use Rattle.std.specs.List.{AllByRecursion}
 use Rattle.std.proofs.lemmas.Bool.{eqb-true, eq-eqb}
-use Rattle.std.proofs.lemmas.Cmp.{nat_list_cmp_total, nat_cmp_total, then_total, on_total, tied_itself}
+use Rattle.std.proofs.lemmas.Cmp.{nat_list_cmp_total, nat_cmp_total, then_total, on_total}
 use Rattle.std.specs.Cmp.{IsTotalOrder}
 use Rattle.std.specs.Ordering.{ordering_reverse, ordering_then}
 use Rattle.std.specs.declared.cmp.Ordering.{Ordering}
 use Rattle.std.specs.declared.cmp.Ordering.TheVariants.{Less, Equal, Greater}
 use Rattle.mr_bytes.specs.declared.Name.{Name}
-use Rattle.mr_bytes.specs.Lists.{Distinct, Has, HasNoTies, Rises}
+use Rattle.mr_bytes.specs.Lists.{Has, HasNoTies, Rises}
 use Rattle.mr_bytes.specs.Order.{key_order, name_order}
 use Rattle.mr_bytes.specs.Pairs.{Triple, pair_order}
-use Rattle.mr_bytes.proofs.ListLaws.{Has-all, all_from_Has, Has-map, Has-map_from, Has-filter, Has-filter_from, same_rising}
+use Rattle.mr_bytes.proofs.ListLaws.{Has-all, all_from_Has, Has-map, Has-filter, Has-filter_from, same_rising}
 use Rattle.mr_bytes.proofs.SortLaws.{rising_tie, sorted-Has, sorted-Has_from, sorted-rises}
-use Rattle.mr_spill.specs.Column.{IsSealed, names_of}
+use Rattle.mr_spill.specs.Column.{names_of}
 use Rattle.mr_spill.specs.Regions.{region, RegionsHave, RegionsRise, RisesUnderKeys}
 use Rattle.mr_ranks.proofs.OrderLemmas.{key_tie, then-equal}
-use Rattle.mr_ranks.proofs.ListLemmas.{same_image}
 
 pub names_total : IsTotalOrder name_order
 names_total =
@@ -87,24 +86,3 @@ gathered-only part ts p rs r rise has =
     (λ x y a b e. under_no_ties ts r x y (Has-filter_from (λ (u : Triple). part u.key == p) ts x a).0 (Has-filter_from (λ (u : Triple). part u.key == p) ts y b).0 e)
     t (Has-filter (λ (u : Triple). part u.key == p) ts t g.0 (eq-eqb (part t.key) p g.1)))
     (λ t h. (has t).1 (let f = Has-filter_from (λ (u : Triple). part u.key == p) ts t (sorted-Has_from pair_order (filter (λ u. part u.key == p) ts) t h) in (f.0, eqb-true (part t.key) p f.1)))
-
--- ---- names that differ
-
--- pairs that rise, of those whose names differ
-rising-differ : (rs ts : List Triple) → Rises pair_order rs → ((t : Triple) → Has rs t → Has ts t) → Distinct (names_of ts) → Distinct (names_of rs)
-rising-differ [] ts rise within d = tt
-rising-differ (r ∷ rs) ts rise within d = (
-  λ h. let m = Has-map_from (λ (w : Triple). w.name) rs r.name h in
-      let same : m.0 ≡ r = same_image (λ (w : Triple). w.name) ts m.0 r d (within m.0 (inr m.1)) (within r (inl refl)) m.2 in
-      let less : pair_order r r ≡ Less = subst (λ u. pair_order r u ≡ Less) same (Has-all (λ u. pair_order r u ≡ Less) rs m.0 rise.0 m.1) in
-      absurd (cc (less, tied_itself pair_total r)),
-  rising-differ rs ts rise.1 (λ t h. within t (inr h)) d,
-)
-
--- a region of pairs whose names differ is what a seal makes
-pub region-sealed : (part : List ℕ → ℕ) (ts : List Triple) (p : ℕ) → Distinct (names_of ts) → IsSealed (region part ts p)
-region-sealed part ts p d = record {
-  rise = regions_rise part ts p;
-  differ = rising-differ (region part ts p) ts (regions_rise part ts p)
-      (λ t h. (Has-filter_from (λ (u : Triple). part u.key == p) ts t (sorted-Has_from pair_order (filter (λ u. part u.key == p) ts) t h)).0) d;
-}

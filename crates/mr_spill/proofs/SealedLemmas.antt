@@ -1,23 +1,17 @@
 -- Regions spelled one behind another.
-use Rattle.std.proofs.Common.{cond, eqb, ◌≡◌, ℕ, suc, ◌+◌, ◌<◌, List, [], ◌∷◌, ◌++◌, length, filter, get_or, map, take, refl, sym, ◌∙◌, ap, subst, arith, inl, inr, ◌==◌}
-use Rattle.std.proofs.lemmas.Bool.{cases_lt, ne_eqb}
+use Rattle.std.proofs.Common.{◌≡◌, ℕ, ◌+◌, ◌<◌, List, [], ◌∷◌, ◌++◌, length, filter, get_or, map, take, sym, ◌∙◌, ap, subst, arith, inl, inr, ◌==◌}
+use Rattle.std.proofs.lemmas.Bool.{cases_lt}
 use Rattle.std.proofs.lemmas.Grind.{flat_map-append}
 use Rattle.std.proofs.lemmas.List.{append-nil, get_or_push, length-append, map-append, take_more, get_or_append_left}
 use Rattle.std.specs.List.{AllByRecursion, flat_map}
-use Rattle.mr_bytes.specs.Lists.{Distinct}
 use Rattle.mr_bytes.proofs.SortLaws.{sorted-Has_from}
 use Rattle.mr_bytes.specs.Pairs.{Triple, pair_order}
 use Rattle.mr_bytes.proofs.ListLaws.{Has-all, Has-filter_from, all_from_Has}
-use Rattle.mr_ranks.proofs.BucketLemmas.{take_front}
-use Rattle.mr_spill.specs.declared.sealed.SealedRegion.{SealedRegion}
-use Rattle.mr_spill.specs.Column.{names_of}
 use Rattle.mr_spill.specs.Entries.{Entry, nth_entry, under_key}
-use Rattle.mr_spill.specs.Lent.{AreRunsOf, IsSealedText}
 use Rattle.mr_spill.specs.Regions.{region}
-use Rattle.mr_spill.specs.Sealed.{AreFor, IsSealedAs, IsText}
+use Rattle.mr_spill.specs.Sealed.{AreFor, IsText}
 use Rattle.mr_spill.specs.Spelling.{SpellsRegion, pair_bytes}
-use Rattle.mr_spill.proofs.RegionLaws.{region-sealed}
-use Rattle.std.proofs.Math.Seq.{drop-append_seam}
+use Rattle.mr_spill.proofs.RegionLaws.{regions_rise}
 
 pub all-append : {X : Type 0} (P : X → Type 0) (xs ys : List X) → AllByRecursion P xs → AllByRecursion P ys → AllByRecursion P (xs ++ ys)
 all-append P [] ys a b = b
@@ -47,53 +41,16 @@ are-more {X} F n xs x are new = record {
   ];
 }
 
--- ---- runs of one key
-
--- pairs under one key, in front of others that stand in runs
-pub runs-front : (key : List ℕ) (run later : List Triple) (counts : List ℕ) → AllByRecursion (λ (t : Triple). t.key ≡ key) run → AreRunsOf counts later
-    → AreRunsOf (cond (eqb (length run) 0) [] (length run ∷ []) ++ counts) (run ++ later)
-runs-front key [] later counts same runs = runs
-runs-front key (t ∷ run) later counts same runs =
-    subst (λ b. AreRunsOf (cond b [] (suc (length run) ∷ []) ++ counts) (t ∷ run ++ later)) (sym (ne_eqb (suc (length run)) 0 (λ e. absurd (omega (arith, e))))) (
-      omega arith,
-      (
-        omega (arith, length-append run later),
-        (
-          subst (AllByRecursion (λ (u : Triple). u.key ≡ t.key)) (sym (ap (λ (l : List Triple). t ∷ l) (take_front (length run) run later refl)))
-              (refl, rekeyed run same.1),
-          subst (AreRunsOf counts) (sym (drop-append_seam run later)) runs,
-        ),
-      ),
-    )
-  where
-    rekeyed : (us : List Triple) → AllByRecursion (λ (u : Triple). u.key ≡ key) us → AllByRecursion (λ (u : Triple). u.key ≡ t.key) us
-    rekeyed [] all = tt
-    rekeyed (u ∷ us) all = (all.0 ∙ sym same.0, rekeyed us all.1)
-
-pub under-key : (key : List ℕ) (es : List Entry) → AllByRecursion (λ (t : Triple). t.key ≡ key) (map (under_key key) es)
-under-key key [] = tt
-under-key key (e ∷ es) = (refl, under-key key es)
-
 -- ---- the text of a region
 
-pub region-spells : (part : List ℕ → ℕ) (ts : List Triple) (split p : ℕ) (text : List ℕ) → Distinct (names_of ts) → AllByRecursion (λ (t : Triple). t.name.split ≡ split) ts
+pub region-spells : (part : List ℕ → ℕ) (ts : List Triple) (split p : ℕ) (text : List ℕ) → AllByRecursion (λ (t : Triple). t.name.split ≡ split) ts
     → IsText split p (region part ts p) text → SpellsRegion text split p (region part ts p)
-region-spells part ts split p text differ own is = record {
+region-spells part ts split p text own is = record {
   is = is.is;
-  rise = (region-sealed part ts p differ).rise;
+  rise = regions_rise part ts p;
   own = all_from_Has (λ (t : Triple). t.name.split ≡ split) (region part ts p)
       (λ t h. Has-all (λ (u : Triple). u.name.split ≡ split) ts t own
       (Has-filter_from (λ (u : Triple). part u.key == p) ts t (sorted-Has_from pair_order (filter (λ (u : Triple). part u.key == p) ts) t h)).0);
   fit = is.fit;
   few = is.few;
-}
-
--- and a sealed region is one of its bytes
-pub region-sealed-text : (part : List ℕ → ℕ) (ts : List Triple) (split p : ℕ) (r : SealedRegion) → Distinct (names_of ts) → AllByRecursion (λ (t : Triple). t.name.split ≡ split) ts
-    → IsSealedAs split p (region part ts p) r → IsSealedText split p r.bytes.items r.counts.items
-region-sealed-text part ts split p r differ own is = record {
-  pairs = region part ts p;
-  spelled = region-spells part ts split p r.bytes.items differ own is.text;
-  differ = (region-sealed part ts p differ).differ;
-  runs = is.runs;
 }

@@ -4,8 +4,7 @@ use Rattle.mr_bytes.specs.declared.Name.{Name}
 use Rattle.mr_bytes.specs.declared.Span.{Span}
 use Rattle.mr_bytes.specs.declared.Value.{Value}
 use Rattle.mr_bytes.specs.declared.Value.TheVariants.{One}
-use Rattle.mr_bytes.specs.Lists.{Distinct, Rises}
-use Rattle.mr_bytes.specs.Pairs.{Triple, pair_order}
+use Rattle.mr_bytes.specs.Pairs.{Triple}
 
 -- the key that stands at a span of the bytes
 abbrev pub key_of : List ℕ → Span → List ℕ
@@ -33,8 +32,3 @@ nth_pair ts i = slice_index_or ts i no_pair
 
 abbrev pub names_of : List Triple → List Name
 names_of ts = map (λ t. t.name) ts
-
--- what a seal makes: the pairs rise by key and name, and no name stands twice
-pub record IsSealed (ts : List Triple) : Type 0 where
-  pub rise : Rises pair_order ts
-  pub differ : Distinct (names_of ts)

@@ -45,10 +45,6 @@ pub record IsNextOf (t : Triple) (old new : RegionCursor) : Type 0 where
   pub on : (us : List Triple) → AreAhead new us → AreAhead old (t ∷ us)
   pub only : (ts : List Triple) → AreAhead old ts → (us : List Triple) × (ts ≡ t ∷ us) × AreAhead new us
 
--- pairs are still to come, the first of them under the key of the one that was given last
-abbrev pub AheadAgain : RegionCursor → Type 0
-AheadAgain cursor = (t : Triple) × ((us : List Triple) × (AreAhead cursor (t ∷ us) × IsKeyOf cursor.last t.key))
-
 -- the pairs that are still to come at first are those of the region that the bytes spell
 pub record IsOpened (bytes : List ℕ) (split partition : ℕ) (cursor : RegionCursor) : Type 0 where
   pub none : cursor.last ≡ None

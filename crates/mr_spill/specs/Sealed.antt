@@ -2,8 +2,6 @@
 use Rattle.std.specs.Prelude.{◌≡◌, ℕ, ◌<◌, ◌^◌, List, [], length, slice_index_or}
 use Rattle.std.specs.List.{AllByRecursion}
 use Rattle.mr_bytes.specs.Pairs.{Triple}
-use Rattle.mr_spill.specs.declared.sealed.SealedRegion.{SealedRegion}
-use Rattle.mr_spill.specs.Lent.{AreRunsOf}
 use Rattle.mr_spill.specs.Spelling.{PairFits, SpellsRegion, region_bytes}
 
 -- the split whose run it is, and the bytes of its regions, by partition
@@ -27,8 +25,3 @@ pub record IsText (split partition : ℕ) (ts : List Triple) (text : List ℕ) :
   pub is : text ≡ region_bytes split partition ts
   pub fit : AllByRecursion PairFits ts
   pub few : length ts < 2 ^ 32
-
--- Of no public promise: and how many each of their keys has
-pub record IsSealedAs (split partition : ℕ) (ts : List Triple) (r : SealedRegion) : Type 0 where
-  pub text : IsText split partition ts r.bytes.items
-  pub runs : AreRunsOf r.counts.items ts

@@ -1,16 +1,11 @@
--- Of no public promise but `columns_of`: pairs put together by their keys.
-use denote.Ref.{Bor}
+-- Of no public promise: pairs put together by their keys.
 use Rattle.std.specs.Prelude.{◌≡◌, ℕ, ◌<◌, List, [], length, map, filter, slice_index_or}
-use Rattle.std.specs.List.{flat_map, zip}
+use Rattle.std.specs.List.{zip}
 use Rattle.std.specs.Str.{bytes_eq}
 use Rattle.mr_bytes.specs.Lists.{Has}
 use Rattle.mr_bytes.specs.Pairs.{Triple}
 use Rattle.mr_keys.specs.Keys.{key_at}
 use Rattle.mr_spill.specs.Entries.{Entry, under_key}
-
--- the pairs of all columns, one column behind another
-abbrev pub columns_of : List (Bor (List Triple)) → List Triple
-columns_of columns = flat_map (λ c. c.now) columns
 
 -- the pair of an entry that has the number of its key
 abbrev pub pair_at : List (List ℕ) → ℕ × Entry → Triple

@@ -1,8 +1,6 @@
 //! Pairs with their names, in flat columns.
 ghost use Rattle.std.specs.Prelude.{◌≡◌, ◌↔◌, ◌+◌, ◌-◌, ◌++◌, ◌∷◌, [], ◌<◌, IfOk, IsTrue, OnOk, OnErr, length};
-ghost use Rattle.mr_bytes.specs.Lists.{Distinct, Rises};
-ghost use Rattle.mr_bytes.specs.Pairs.{pair_order};
-ghost use Rattle.mr_spill.specs.Column.{IsSealed, names_of, nth_pair};
+ghost use Rattle.mr_spill.specs.Column.{names_of, nth_pair};
 
 use mr_bytes::{Name, Span, Value, Values, is_same_span};
 use std::alloc::{AllocError, Global};
@@ -18,15 +16,13 @@ pub struct Pairs {
     spans: Vec<Span>,
     values: Values,
     names: Vec<Name>,
-    /// A seal made the pairs, and none was added since.
-    sealed: bool,
 }
 
 impl Model for Pairs {
-    ghost use Rattle.std.specs.Prelude.{◌≡◌, IsTrue, List, length};
+    ghost use Rattle.std.specs.Prelude.{◌≡◌, List, length};
     ghost use Rattle.std.specs.List.{AllByRecursion};
     ghost use Rattle.mr_bytes.specs.Pairs.{Triple};
-    ghost use Rattle.mr_spill.specs.Column.{IsSealed, IsSpan, triples_of};
+    ghost use Rattle.mr_spill.specs.Column.{IsSpan, triples_of};
 
     ghost Value = { List Triple };
 
@@ -36,7 +32,6 @@ impl Model for Pairs {
       spans : AllByRecursion (IsSpan (length p.keys.items)) p.spans.items;
       values : length p.values ≡ length p.spans.items;
       names : length p.names.items ≡ length p.spans.items;
-      sealed : IsTrue p.sealed → IsSealed (triples_of p.keys.items p.spans.items p.values p.names.items);
     } };
 }
 
@@ -66,7 +61,6 @@ impl Pairs {
             spans: Vec::new(alloc),
             values: Values::new(alloc),
             names: Vec::new(alloc),
-            sealed: false,
         }
     }
 
@@ -80,7 +74,6 @@ impl Pairs {
             spans: Vec::with_capacity(alloc, count)?,
             values: Values::new(alloc),
             names: Vec::with_capacity(alloc, count)?,
-            sealed: false,
         })
     }
 
@@ -154,7 +147,6 @@ impl Pairs {
         ensures ok { OnOk result (self.new ≡ self.old ++ record { key = key.now; value = value; name = name } ∷ []) }
         ensures err { OnErr result (self.new ≡ self.old) }
     {
-        self.sealed = false;
         let span = span_behind(self.keys.len(), key)?;
         self.keys.reserve(key.len())?;
         self.spans.reserve(1)?;
@@ -175,7 +167,6 @@ impl Pairs {
             ≡ self.old ++ record { key = (nth_pair self.old (length self.old - 1)).key; value = value; name = name } ∷ []) }
         ensures err { OnErr result (self.new ≡ self.old) }
     {
-        self.sealed = false;
         let span = self.spans[self.spans.len() - 1];
         self.spans.reserve(1)?;
         self.names.reserve(1)?;
@@ -186,28 +177,10 @@ impl Pairs {
         Ok(())
     }
 
-    /// Whether a seal made the pairs, and none was added since: then they rise by key and name, and no name stands
-    /// twice.
-    pub fn is_sealed(&self) -> bool
-        ensures rise { IsTrue result → Rises pair_order self.now }
-        ensures differ { IsTrue result → Distinct (names_of self.now) }
-    {
-        self.sealed
-    }
-
-    /// Marks the pairs as those that a seal made.
-    pub(crate) fn mark_sealed(&mut self)
-        requires { IsSealed self.old }
-        ensures { self.new ≡ self.old }
-    {
-        self.sealed = true;
-    }
-
     /// No pairs any more. What they took stays for later ones.
     pub fn clear(&mut self)
         ensures { self.new ≡ [] }
     {
-        self.sealed = false;
         self.keys.clear();
         self.spans.clear();
         self.values.clear();

@@ -1,10 +1,11 @@
 //! A region walked pair by pair over its bytes: nothing is copied, and nothing believed that the bytes don't spell.
-ghost use Rattle.std.specs.Prelude.{◌≡◌, ◌↔◌, ◌<◌, [], List, Some, IsTrue, MatchOption, drop, false, length};
+ghost use Rattle.std.specs.Prelude.{◌≡◌, ◌↔◌, ◌<◌, [], List, Some};
+ghost use Rattle.std.specs.Prelude.{IsTrue, MatchOption, false, length};
 ghost use Rattle.mr_bytes.specs.Pairs.{Triple};
-ghost use Rattle.mr_spill.specs.Cursor.{AheadAgain, AreAhead, IsBehind, IsKeyOf, IsNextOf, IsOpened, lent_pair};
+ghost use Rattle.mr_spill.specs.Cursor.{AreAhead, IsBehind, IsKeyOf, IsNextOf, IsOpened, lent_pair};
 ghost use Rattle.mr_spill.specs.Spelling.{SpellsRegion};
 
-use crate::reading::{Front, take_header, take_name, take_pair, take_value};
+use crate::reading::{Front, take_header, take_pair};
 use mr_bytes::{Name, Value, compare_keys, compare_names};
 use std::cmp::Ordering;
 
@@ -61,16 +62,6 @@ pub fn open_region<'a>(bytes: &'a [u8], split: u32, partition: u32) -> Option<Re
     })
 }
 
-/// The bytes behind so many, where there are so many.
-fn behind(bytes: &[u8], count: usize) -> Option<&[u8]>
-    ensures { MatchOption result Unit (λ r. r.now ≡ drop count bytes.entry.now) }
-{
-    if bytes.len() < count {
-        return None;
-    }
-    Some(&bytes[count..])
-}
-
 impl<'a> RegionCursor<'a> {
     /// How many pairs are still to come, as the header tells.
     pub fn left(&self) -> u32
@@ -118,33 +109,6 @@ impl<'a> RegionCursor<'a> {
             value,
             name,
             again,
-        };
-        self.rest = rest;
-        self.left -= 1;
-        self.last = Some(pair);
-        Some(pair)
-    }
-    /// The next pair, where it is known that it has the key of the one before: neither its key is looked at nor its name.
-    pub fn next_again(&mut self) -> Option<RegionPair<'a>>
-        ensures next { MatchOption result Unit (λ p. AheadAgain self.old → IsNextOf (lent_pair p) self.old self.new) }
-        ensures last { MatchOption result Unit (λ p. self.new.last ≡ Some p) }
-        ensures key { MatchOption result Unit (λ p. IsKeyOf self.old.last p.key.now) }
-    {
-        let Some(last) = self.last else {
-            return None;
-        };
-        if self.left == 0 {
-            return None;
-        }
-        let behind_count = behind(self.rest, 4)?;
-        let behind_key = behind(behind_count, last.key.len())?;
-        let (name, behind_name) = take_name(behind_key)?;
-        let (value, rest) = take_value(behind_name)?;
-        let pair = RegionPair {
-            key: last.key,
-            value,
-            name,
-            again: true,
         };
         self.rest = rest;
         self.left -= 1;

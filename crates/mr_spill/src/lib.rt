@@ -39,7 +39,7 @@ pub use lent::Region;
 pub use memory_store::MemoryStore;
 pub use numbered::Numbered;
 pub use reading::{RegionFault, read_region};
-pub use regions::{gathered, spill_law};
+pub use regions::spill_law;
 pub use scratch::{DiskScratch, MemoryScratch, Scratch, ScratchFault};
 pub use sealed::SealedRun;
 pub use spelling::{worked_regions, write_region};

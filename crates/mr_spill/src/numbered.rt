@@ -3,7 +3,6 @@ ghost use Rattle.std.specs.Prelude.{◌≡◌, ℕ, ◌-◌, ◌≤◌, ◌<◌,
 ghost use Rattle.mr_keys.specs.Keys.{IsKeyAt, key_at};
 ghost use Rattle.mr_spill.specs.Column.{nth_pair};
 ghost use Rattle.mr_spill.specs.Cursor.{EndsWithKey, lent_pair};
-ghost use Rattle.mr_spill.specs.Table.{columns_of};
 
 use crate::column::Pairs;
 use crate::cursor::RegionPair;
@@ -66,18 +65,6 @@ impl Numbered {
             numbers: Vec::new(alloc),
             entries: Entries::new(alloc),
         }
-    }
-
-    /// No pairs, and room for so many. It fails only for want of memory.
-    pub fn with_room(alloc: Global, count: usize) -> Result<Numbered, AllocError>
-        ensures { IfOk result (λ n. n ≡ []) }
-    {
-        Ok(Numbered {
-            alloc,
-            keys: Keys::new(alloc),
-            numbers: Vec::with_capacity(alloc, count)?,
-            entries: Entries::with_room(alloc, count)?,
-        })
     }
 
     /// Makes room for so many pairs more. Whether there is any or not, the pairs are those that were there.
@@ -170,7 +157,7 @@ impl Numbered {
     }
 
     /// Takes the pairs of a column, at the end.
-    fn take_column(&mut self, column: &Pairs) -> Result<(), AllocError>
+    pub(crate) fn take_column(&mut self, column: &Pairs) -> Result<(), AllocError>
         ensures { OnOk result (self.new ≡ self.old ++ column.now) }
     {
         for i in 0..column.len() {
@@ -178,24 +165,4 @@ impl Numbered {
         }
         Ok(())
     }
-}
-
-/// How many pairs the columns have together.
-fn count_of(columns: &[&Pairs]) -> usize {
-    let mut count = 0usize;
-    for column in columns {
-        count = count.saturating_add(column.len());
-    }
-    count
-}
-
-/// All pairs of the columns, one column behind another.
-pub(crate) fn numbered_columns(alloc: Global, columns: &[&Pairs]) -> Result<Numbered, AllocError>
-    ensures { IfOk result (λ n. n ≡ columns_of columns.now) }
-{
-    let mut all = Numbered::with_room(alloc, count_of(columns))?;
-    for column in columns {
-        all.take_column(column)?;
-    }
-    Ok(all)
 }

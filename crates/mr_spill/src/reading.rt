@@ -81,7 +81,7 @@ fn take_key<'a>(bytes: &'a [u8], count: u32) -> Option<(&'a [u8], &'a [u8])>
 }
 
 /// The name in front, and the bytes behind it.
-pub(crate) fn take_name<'a>(bytes: &'a [u8]) -> Option<(Name, &'a [u8])>
+fn take_name<'a>(bytes: &'a [u8]) -> Option<(Name, &'a [u8])>
     ensures { MatchOption result (length bytes.entry.now < 12) (λ r. bytes.entry.now ≡ name_bytes (r.0) ++ r.1.now) }
 {
     let (split, behind_split) = take_number(bytes)?;
@@ -91,7 +91,7 @@ pub(crate) fn take_name<'a>(bytes: &'a [u8]) -> Option<(Name, &'a [u8])>
 }
 
 /// The value in front, and the bytes behind it.
-pub(crate) fn take_value<'a>(bytes: &'a [u8]) -> Option<(Value, &'a [u8])>
+fn take_value<'a>(bytes: &'a [u8]) -> Option<(Value, &'a [u8])>
     ensures { MatchOption result ((v : Carried) (rest : List ℕ) → bytes.entry.now ≡ value_bytes v ++ rest → ⊥)
         (λ r. bytes.entry.now ≡ value_bytes (r.0) ++ r.1.now) }
 {

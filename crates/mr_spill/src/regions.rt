@@ -1,17 +1,16 @@
 //! Pairs cut by partition into sorted regions.
-ghost use Rattle.std.specs.Prelude.{◌≡◌, ℕ, ◌+◌, ◌<◌, ◌≤◌, ◌∷◌, ◌++◌, [], IfOk, OnOk, MatchOption, All, length, map, drop};
+ghost use Rattle.std.specs.Prelude.{◌≡◌, ◌+◌, ◌<◌, ◌≤◌, ◌∷◌, ◌++◌, [], IfOk, OnOk, MatchOption, All, length, map, drop};
 ghost use Rattle.std.specs.List.{range_with_len};
-ghost use Rattle.mr_bytes.specs.Lists.{Distinct, Rises};
+ghost use Rattle.mr_bytes.specs.Lists.{Rises};
 ghost use Rattle.mr_partition.specs.Hosts.{partition_by};
-ghost use Rattle.mr_spill.specs.Column.{IsSealed, names_of};
 ghost use Rattle.mr_spill.specs.Regions.{RegionsHave, RegionsRise, RisesUnderKeys, regions};
 ghost use Rattle.mr_ranks.specs.Rows.{row_cmp};
 ghost use Rattle.mr_spill.specs.Rows.{AreListed, behind, front, pairs_in, row_pairs};
-ghost use Rattle.mr_spill.specs.Table.{columns_of, pairs_under};
+ghost use Rattle.mr_spill.specs.Table.{pairs_under};
 
 use crate::column::Pairs;
 use crate::lists::{Lists, lists_of};
-use crate::numbered::{Numbered, numbered_columns};
+use crate::numbered::Numbered;
 use mr_bytes::By;
 use mr_ranks::{RankedPairs, Row, ranked};
 use std::alloc::{AllocError, Global};
@@ -95,14 +94,12 @@ fn regions_of(
 ) -> Result<Vec<Pairs>, AllocError>
     requires inside { All (λ r. r.number < length lists.now) rows.now }
     requires rise { Rises row_cmp rows.now }
-    requires sealed { (p : ℕ) → IsSealed (pairs_in lists.now rows.now p) }
     ensures { IfOk result (λ v. v.items ≡ map (pairs_in lists.now rows.now) (range_with_len 0 parts)) }
 {
     let mut regions = Vec::with_capacity(alloc, parts as usize)?;
     let mut at = 0;
     for part in 0..parts {
-        let (mut region, next) = region_at(alloc, lists, rows, at, part)?;
-        region.mark_sealed();
+        let (region, next) = region_at(alloc, lists, rows, at, part)?;
         regions.push(region)?;
         at = next;
     }
@@ -126,8 +123,8 @@ pub(crate) fn rows_with_lists<'a>(
     Ok((rows, lists))
 }
 
-/// For each partition, in order, the pairs that belong to it, by key and then name. Under each key the names rise already,
-/// and no name stands twice. It fails only for want of memory.
+/// For each partition, in order, the pairs that belong to it, by key and then name. Under each key
+/// the names rise already. It fails only for want of memory.
 pub(crate) fn cut(
     alloc: Global,
     pairs: &Numbered,
@@ -136,28 +133,10 @@ pub(crate) fn cut(
 ) -> Result<Vec<Pairs>, AllocError>
     requires some { 0 < parts }
     requires rise { RisesUnderKeys pairs.now }
-    requires differ { Distinct (names_of pairs.now) }
     ensures { IfOk result (λ v. v.items ≡ regions (λ k. partition_by by k parts) parts pairs.now) }
 {
     let (rows, lists) = rows_with_lists(alloc, pairs, by, parts)?;
     regions_of(alloc, &lists, rows.as_slice(), parts)
-}
-
-/// For each partition, in order, the pairs of all columns that belong to it, by key and then name. Under each key the
-/// names rise from column to column already, and no name stands twice. It fails only for want of memory.
-pub fn gathered(
-    alloc: Global,
-    columns: &[&Pairs],
-    by: By,
-    parts: u32,
-) -> Result<Vec<Pairs>, AllocError>
-    requires some { 0 < parts }
-    requires rise { RisesUnderKeys (columns_of columns.now) }
-    requires differ { Distinct (names_of (columns_of columns.now)) }
-    ensures { IfOk result (λ v. v.items ≡ regions (λ k. partition_by by k parts) parts (columns_of columns.now)) }
-{
-    let pairs = numbered_columns(alloc, columns)?;
-    cut(alloc, &pairs, by, parts)
 }
 
 /// What regions are: they rise strictly by key and name, and a region has just the pairs of its partition.

@@ -1,14 +1,13 @@
 //! The pairs of a run, cut by partition into sorted regions that are spelled at once.
-ghost use Rattle.std.specs.Prelude.{◌≡◌, ℕ, ◌+◌, ◌<◌, ◌≤◌, ◌^◌, ◌==◌, if◌then◌else◌, ◌++◌, ◌∷◌, [], IfOk, OnOk, OnErr, All, length, map, drop, slice_index_or};
+ghost use Rattle.std.specs.Prelude.{◌≡◌, ◌+◌, ◌<◌, ◌≤◌, ◌++◌, [], IfOk, OnOk, OnErr};
+ghost use Rattle.std.specs.Prelude.{All, length, map, drop, slice_index_or};
 ghost use Rattle.std.specs.List.{AllByRecursion, flat_map};
-ghost use Rattle.mr_bytes.specs.Lists.{Distinct, Rises};
+ghost use Rattle.mr_bytes.specs.Lists.{Rises};
 ghost use Rattle.mr_partition.specs.Hosts.{partition_by};
 ghost use Rattle.mr_ranks.specs.Rows.{row_cmp};
-ghost use Rattle.mr_spill.specs.Column.{names_of};
-ghost use Rattle.mr_spill.specs.Lent.{AreRunsOf};
 ghost use Rattle.mr_spill.specs.Regions.{RisesUnderKeys, region};
 ghost use Rattle.mr_spill.specs.Rows.{behind, front, pairs_in, row_pairs};
-ghost use Rattle.mr_spill.specs.Sealed.{AreFor, IsSealedAs, SpellsRun};
+ghost use Rattle.mr_spill.specs.Sealed.{AreFor, IsText, SpellsRun};
 ghost use Rattle.mr_spill.specs.Spelling.{PairFits, pair_bytes, value_bytes};
 ghost use Rattle.mr_spill.specs.Table.{pairs_under};
 
@@ -23,32 +22,20 @@ use mr_ranks::Row;
 use std::alloc::{AllocError, Global};
 use std::marker::Model;
 
-/// A region, spelled, and how many pairs each of its keys has.
-#[derive(Drop)]
-pub(crate) struct SealedRegion {
-    bytes: Vec<u8>,
-    counts: Vec<u32>,
-}
-
-/// The regions of a run of a split, spelled: one for each partition. In none a name stands twice.
+/// The regions of a run of a split, spelled: one for each partition.
 #[derive(Drop)]
 pub struct SealedRun {
     split: u32,
-    regions: Vec<SealedRegion>,
+    regions: Vec<Vec<u8>>,
 }
 
 impl Model for SealedRun {
-    ghost use Rattle.std.specs.Prelude.{ℕ, ◌<◌, length, map, slice_index_or};
-    ghost use Rattle.mr_spill.specs.Lent.{IsSealedText};
+    ghost use Rattle.std.specs.Prelude.{map};
     ghost use Rattle.mr_spill.specs.Sealed.{RunText};
-    ghost use Rattle.mr_spill.specs.declared.sealed.SealedRegion.{SealedRegion};
 
     ghost Value = { RunText };
 
-    ghost view = { λ r. record { split = r.split; regions = map (λ b. b.bytes.items) r.regions.items } };
-
-    ghost invariant = { λ r. (p : ℕ) (d : SealedRegion) → p < length r.regions.items
-        → IsSealedText r.split p (slice_index_or r.regions.items p d).bytes.items (slice_index_or r.regions.items p d).counts.items };
+    ghost view = { λ r. record { split = r.split; regions = map (λ b. b.items) r.regions.items } };
 }
 
 impl SealedRun {
@@ -71,25 +58,15 @@ impl SealedRun {
         requires { p < length self.now.regions }
         ensures { result ≡ record { split = self.now.split; bytes = slice_index_or self.now.regions p [] } }
     {
-        let region = &self.regions[p as usize];
-        Region::of_sealed(
-            region.bytes.as_slice(),
-            region.counts.as_slice(),
-            self.split,
-            p,
-        )
+        Region::of(self.regions[p as usize].as_slice(), self.split)
     }
 
     /// The bytes of each region, moved, not copied.
-    pub fn into_texts(self, alloc: Global) -> Result<Vec<Vec<u8>>, AllocError>
+    pub fn into_texts(self, _alloc: Global) -> Result<Vec<Vec<u8>>, AllocError>
         ensures { IfOk result (λ v. map (λ b. b.items) v.items ≡ self.regions) }
     {
-        let SealedRun { split: _, regions } = self;
-        let mut texts = Vec::with_capacity(alloc, regions.len())?;
-        for region in regions {
-            texts.push(region.bytes)?;
-        }
-        Ok(texts)
+        let SealedRun { regions, .. } = self;
+        Ok(regions)
     }
 }
 
@@ -111,22 +88,10 @@ fn spell_under(
     Ok(())
 }
 
-/// Tells how many pairs a key has, if it has any.
-fn tell_count(counts: &mut Vec<u32>, count: usize) -> Result<(), AllocError>
-    requires { count < 2 ^ 32 }
-    ensures { OnOk result (counts.new.items ≡ counts.old.items ++ (if count == 0 then [] else count ∷ [])) }
-{
-    if count > 0 {
-        counts.push(count as u32)?;
-    }
-    Ok(())
-}
-
-/// Appends the pairs of the rows of a partition, which begin at `from`, as they are spelled, and tells how many each key
-/// has: the place behind these rows.
+/// Appends the pairs of the rows of a partition, which begin at `from`, as they are spelled: the
+/// place behind these rows.
 fn spell_rows(
     out: &mut Vec<u8>,
-    counts: &mut Vec<u32>,
     lists: &Lists,
     rows: &[Row<'_>],
     from: usize,
@@ -134,17 +99,13 @@ fn spell_rows(
 ) -> Result<usize, AllocError>
     requires inside { All (λ r. r.number < length lists.now) rows.now }
     requires from { from ≤ length rows.now }
-    requires few { length (row_pairs lists.now (front part (drop from rows.now))) < 2 ^ 32 }
-    requires none { counts.old.items ≡ [] }
     ensures text { OnOk result (out.new.items ≡ out.old.items ++ flat_map pair_bytes (row_pairs lists.now (front part (drop from rows.now)))) }
-    ensures runs { OnOk result (AreRunsOf counts.new.items (row_pairs lists.now (front part (drop from rows.now)))) }
     ensures fit { OnOk result (AllByRecursion PairFits (row_pairs lists.now (front part (drop from rows.now)))) }
     ensures rest { IfOk result (λ at. (at ≤ length rows.now) × (drop at rows.now ≡ behind part (drop from rows.now))) }
 {
     let mut at = from;
     while let Some(row) = row_in(rows, at, part) {
         spell_under(out, row.key, lists, row.number as usize)?;
-        tell_count(counts, lists.count(row.number as usize))?;
         at += 1;
     }
     Ok(at)
@@ -214,18 +175,18 @@ fn text_at(
     from: usize,
     split: u32,
     part: u32,
-) -> Result<(SealedRegion, usize), AllocError>
+) -> Result<(Vec<u8>, usize), AllocError>
     requires inside { All (λ r. r.number < length lists.now) rows.now }
     requires from { from ≤ length rows.now }
-    ensures region { IfOk result (λ r. IsSealedAs split part (row_pairs lists.now (front part (drop from rows.now))) (r.0)) }
+    ensures region { IfOk result (λ r.
+        IsText split part (row_pairs lists.now (front part (drop from rows.now))) r.0.items) }
     ensures rest { IfOk result (λ r. (r.1 ≤ length rows.now) × (drop (r.1) rows.now ≡ behind part (drop from rows.now))) }
 {
     let (count, room) = size_at(lists, rows, from, part)?;
     let mut bytes = Vec::with_capacity(alloc, room)?;
-    let mut counts = Vec::new(alloc);
     put_header(&mut bytes, split, part, count)?;
-    let next = spell_rows(&mut bytes, &mut counts, lists, rows, from, part)?;
-    Ok((SealedRegion { bytes, counts }, next))
+    let next = spell_rows(&mut bytes, lists, rows, from, part)?;
+    Ok((bytes, next))
 }
 
 /// The regions of all partitions, spelled, given what each key has and the rows of the keys in their order.
@@ -235,10 +196,12 @@ fn texts_of(
     rows: &[Row<'_>],
     split: u32,
     parts: u32,
-) -> Result<Vec<SealedRegion>, AllocError>
+) -> Result<Vec<Vec<u8>>, AllocError>
     requires inside { All (λ r. r.number < length lists.now) rows.now }
     requires rise { Rises row_cmp rows.now }
-    ensures { IfOk result (λ v. AreFor (λ p. IsSealedAs split p (pairs_in lists.now rows.now p)) parts v.items) }
+    ensures { IfOk result (λ v.
+        AreFor (λ p. IsText split p (pairs_in lists.now rows.now p)) parts
+        (map (λ b. b.items) v.items)) }
 {
     let mut texts = Vec::with_capacity(alloc, parts as usize)?;
     let mut at = 0;
@@ -251,18 +214,19 @@ fn texts_of(
 }
 
 /// For each partition, in order, the pairs that belong to it, by key and then name, spelled as the region of a run of that
-/// split. Under each key the names rise already, and no name stands twice.
+/// split. Under each key the names rise already.
 fn cut_texts(
     alloc: Global,
     pairs: &Numbered,
     split: u32,
     by: By,
     parts: u32,
-) -> Result<Vec<SealedRegion>, AllocError>
+) -> Result<Vec<Vec<u8>>, AllocError>
     requires some { 0 < parts }
     requires rise { RisesUnderKeys pairs.now }
-    requires differ { Distinct (names_of pairs.now) }
-    ensures { IfOk result (λ v. AreFor (λ p. IsSealedAs split p (region (λ k. partition_by by k parts) pairs.now p)) parts v.items) }
+    ensures { IfOk result (λ v.
+        AreFor (λ p. IsText split p (region (λ k. partition_by by k parts) pairs.now p)) parts
+        (map (λ b. b.items) v.items)) }
 {
     let (rows, lists) = rows_with_lists(alloc, pairs, by, parts)?;
     texts_of(alloc, &lists, rows.as_slice(), split, parts)

@@ -1,13 +1,11 @@
-use Rattle.std.proofs.Common.{◌≡◌, ◌<◌, ℕ, List, map, ap, sym, ◌∙◌, subst, All, IfOk, length}
+use Rattle.std.proofs.Common.{◌≡◌, ◌<◌, List, map, ap, sym, ◌∙◌, subst, All, IfOk, length}
 use Rattle.std.specs.List.{range_with_len}
 use Rattle.mr_bytes.specs.Lists.{Rises}
 use Rattle.mr_bytes.specs.Pairs.{Triple}
 use Rattle.mr_partition.specs.Hosts.{partition_by}
 use Rattle.mr_ranks.specs.declared.rows.Row.{Row}
 use Rattle.mr_ranks.specs.Rows.{row_cmp}
-use Rattle.mr_spill.specs.Column.{IsSealed}
 use Rattle.mr_spill.specs.Rows.{pairs_in}
-use Rattle.mr_spill.proofs.RegionLaws.{region-sealed}
 use Rattle.mr_spill.proofs.RowLemmas.{listed-inside, listed-region}
 use Rattle.mr_spill.proofs.regions.cut.Goals as goal
 
@@ -18,13 +16,6 @@ regions_of-requires-clause-inside c =
 
 pub regions_of-requires-clause-rise : goal.regions_of-requires-clause-rise
 regions_of-requires-clause-rise c = subst (Rises row_cmp) (sym c.as_slice.ensures.value) c.in_ok-rows.ensures.rise
-
-pub regions_of-requires-clause-sealed : goal.regions_of-requires-clause-sealed
-regions_of-requires-clause-sealed c p =
-    let part : List ℕ → ℕ = λ k. partition_by c.args.by k c.args.parts in
-    subst (λ (rs : List Row). IsSealed (pairs_in c.in_ok-rows.lists rs p)) (sym c.as_slice.ensures.value)
-    (subst IsSealed (sym (listed-region (λ k. partition_by c.args.by k c.args.parts) c.args.pairs.now c.in_ok-rows.rows.items c.in_ok-rows.lists c.in_ok-rows.ensures c.requires.rise p))
-    (region-sealed part c.args.pairs.now p c.requires.differ))
 
 pub returns : goal.returns
 returns c =

@@ -1,4 +1,4 @@
-use Rattle.std.proofs.Common.{◌≡◌, ◌<◌, ℕ, List, ap, sym, ◌∙◌, subst, All, IfOk, length}
+use Rattle.std.proofs.Common.{◌≡◌, ◌<◌, ℕ, List, ap, sym, ◌∙◌, subst, All, IfOk, length, map}
 use Rattle.mr_bytes.specs.Lists.{Rises}
 use Rattle.mr_bytes.specs.Pairs.{Triple}
 use Rattle.mr_partition.specs.Hosts.{partition_by}
@@ -6,7 +6,7 @@ use Rattle.mr_ranks.specs.declared.rows.Row.{Row}
 use Rattle.mr_ranks.specs.Rows.{row_cmp}
 use Rattle.mr_spill.specs.Regions.{region}
 use Rattle.mr_spill.specs.Rows.{pairs_in}
-use Rattle.mr_spill.specs.Sealed.{AreFor, IsSealedAs}
+use Rattle.mr_spill.specs.Sealed.{AreFor, IsText}
 use Rattle.mr_spill.proofs.RowLemmas.{listed-inside, listed-region}
 use Rattle.mr_spill.proofs.sealed.cut_texts.Goals as goal
 
@@ -24,6 +24,7 @@ returns c =
     let each : (p : ℕ) → pairs_in c.in_ok-rows.lists c.as_slice.result.now p ≡ region (λ k. partition_by c.args.by k c.args.parts) ts p =
     λ p. ap (λ (rs : List Row). pairs_in c.in_ok-rows.lists rs p) c.as_slice.ensures.value
     ∙ listed-region (λ k. partition_by c.args.by k c.args.parts) ts c.in_ok-rows.rows.items c.in_ok-rows.lists c.in_ok-rows.ensures c.requires.rise p in
-    subst (λ (f : ℕ → List Triple). IfOk c.texts_of.result (λ v. AreFor (λ p. IsSealedAs c.args.split p (f p)) c.args.parts v.items))
+    subst (λ (f : ℕ → List Triple). IfOk c.texts_of.result (λ v.
+    AreFor (λ p. IsText c.args.split p (f p)) c.args.parts (map (λ b. b.items) v.items)))
     (λ i p. each p i)
     c.texts_of.ensures

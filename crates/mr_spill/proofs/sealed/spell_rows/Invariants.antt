@@ -1,6 +1,5 @@
-use Rattle.std.proofs.Common.{◌≡◌, ◌++◌, ◌≤◌, ◌<◌, ◌-◌, ◌^◌, ℕ, List, drop, length}
+use Rattle.std.proofs.Common.{◌≡◌, ◌++◌, ◌≤◌, ◌-◌, drop, length}
 use Rattle.std.specs.List.{AllByRecursion, flat_map}
-use Rattle.mr_spill.specs.Lent.{AreRunsOf}
 use Rattle.mr_spill.specs.Rows.{behind, front, row_pairs}
 use Rattle.mr_spill.specs.Spelling.{PairFits, pair_bytes}
 use Rattle.mr_spill.proofs.sealed.spell_rows.Given as goal
@@ -11,9 +10,6 @@ invariant-loop-row l = record {
   text : l.out.items ++ flat_map pair_bytes (row_pairs l.lists (front l.part (drop l.at l.rows)))
       ≡ l.fn.out.items ++ flat_map pair_bytes (row_pairs l.lists (front l.part (drop l.from l.rows)));
   fit : AllByRecursion PairFits (row_pairs l.lists (front l.part (drop l.at l.rows))) → AllByRecursion PairFits (row_pairs l.lists (front l.part (drop l.from l.rows)));
-  few : length (row_pairs l.lists (front l.part (drop l.at l.rows))) < 2 ^ 32;
-  runs : (counts : List ℕ) → AreRunsOf counts (row_pairs l.lists (front l.part (drop l.at l.rows)))
-      → AreRunsOf (l.counts.items ++ counts) (row_pairs l.lists (front l.part (drop l.from l.rows)));
   rest : behind l.part (drop l.at l.rows) ≡ behind l.part (drop l.from l.rows);
 }
 

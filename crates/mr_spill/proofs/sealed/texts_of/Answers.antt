@@ -1,11 +1,12 @@
-use Rattle.std.proofs.Common.{◌≡◌, ℕ, ◌+◌, List, drop, ap, sym, ◌∙◌, subst, arith}
+use Rattle.std.proofs.Common.{◌≡◌, ℕ, ◌+◌, List, [], ◌∷◌, drop, map, ap, sym, ◌∙◌, subst, arith}
+use Rattle.std.proofs.lemmas.List.{map-append}
 use Rattle.mr_bytes.specs.Lists.{Rises}
 use Rattle.mr_bytes.specs.Pairs.{Triple}
 use Rattle.mr_ranks.specs.declared.rows.Row.{Row}
 use Rattle.mr_ranks.specs.Rows.{row_cmp}
 use Rattle.mr_spill.specs.Entries.{Entry}
 use Rattle.mr_spill.specs.Rows.{behind, front, pairs_in, row_pairs, rows_in}
-use Rattle.mr_spill.specs.Sealed.{AreFor, IsSealedAs}
+use Rattle.mr_spill.specs.Sealed.{AreFor, IsText}
 use Rattle.mr_spill.proofs.RowLemmas.{AreFrom, behind-from, behind-in, behind-rises, front-is}
 use Rattle.mr_spill.proofs.SealedLemmas.{are-more}
 use Rattle.mr_spill.proofs.sealed.texts_of.Goals as goal
@@ -19,12 +20,17 @@ loop-part-preserved c =
     let rest : drop c.in_ok-text.next rows ≡ behind p left = c.in_ok-text.ensures.rest.1 in
     let pairs : row_pairs ls (front p left) ≡ pairs_in ls rows p =
     ap (row_pairs ls) (front-is p left c.loop-part.invariant.rise c.loop-part.invariant.low ∙ c.loop-part.invariant.same p (omega arith)) in
-    let text : IsSealedAs c.args.split p (pairs_in ls rows p) c.in_ok-text.text =
-    subst (λ (ts : List Triple). IsSealedAs c.args.split p ts c.in_ok-text.text) pairs c.in_ok-text.ensures.region in
+    let is : ℕ → List ℕ → Type 0 = λ q. IsText c.args.split q (pairs_in ls rows q) in
+    let text : is p c.in_ok-text.text.items =
+    subst (λ (ts : List Triple). IsText c.args.split p ts c.in_ok-text.text.items) pairs
+    c.in_ok-text.ensures.region in
     record {
       within = c.in_ok-text.ensures.rest.0;
-      texts = subst (AreFor (λ q. IsSealedAs c.args.split q (pairs_in ls rows q)) (p + 1)) (sym c.in_ok-push.ensures.items)
-          (are-more (λ q. IsSealedAs c.args.split q (pairs_in ls rows q)) p c.loop-part.texts.items c.in_ok-text.text c.loop-part.invariant.texts text);
+      texts = subst (AreFor is (p + 1))
+          (sym (ap (map (λ b. b.items)) c.in_ok-push.ensures.items
+          ∙ map-append (λ b. b.items) c.loop-part.texts.items (c.in_ok-text.text ∷ [])))
+          (are-more is p (map (λ b. b.items) c.loop-part.texts.items) c.in_ok-text.text.items
+          c.loop-part.invariant.texts text);
       rise = subst (Rises row_cmp) (sym rest) (behind-rises p left c.loop-part.invariant.rise);
       low = subst (AreFrom (p + 1)) (sym rest) (behind-from p left c.loop-part.invariant.rise c.loop-part.invariant.low);
       same = λ q h. ap (rows_in q) rest ∙ behind-in p q left (omega (arith, h)) ∙ c.loop-part.invariant.same q (omega (arith, h));

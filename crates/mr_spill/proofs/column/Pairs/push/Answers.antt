@@ -31,7 +31,6 @@ invariant_of-self-2 c =
           (omega (arith, start, end, length-append p.keys.items key), omega (arith, end))));
       values = omega (arith, ap length values-are, ap length spans, length_push values c.args.value, length_push p.spans.items s, c.self.invariant.values);
       names = omega (arith, ap length names, ap length spans, length_push p.names.items c.args.name, length_push p.spans.items s, c.self.invariant.names);
-      sealed = λ h. absurd (cc h);
     }
 
 pub returns-clause-ok : goal.returns-clause-ok
