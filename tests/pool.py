@@ -211,7 +211,7 @@ def a_gate(harness):
 def a_backup_whose_output_is_lost(harness):
     """The first attempt is held until another worker has done its task; and one of the two is lost behind its first report.
     Where that is the other one, the task's output is lost with it, and the held attempt can't leave off, though it was told
-    to: it does the task after all."""
+    to: it goes on with the task."""
     for lost in (0, 1):
         for _ in range(10):
             answer = ran(TWO_PARTS, CATS, b"lose %d after 1\n" % lost, workers=2, mode="gate")
@@ -280,15 +280,33 @@ def many_tasks(harness):
         harness.check(f"5000 map tasks over 64 workers under {script!r}", same and answer.fault == f"{pairs} pairs", repr(answer)[:300])
 
 
+# What may happen to a split of several pieces: mode, workers, script. Where the gate holds a worker until the other has done its
+# task, it leaves off, or goes on where that output is lost.
+OF_PIECES = [
+    ("brief", 1, b""),
+    ("brief", 4, b"zombie 0 after 0\nlose 1 after 1\nflaky 0 9000 1\n"),
+    ("scratch", 1, b""),
+    ("scratch", 4, b"lose 1 after 0\nhold 0\nflaky 0 9000 1\n"),
+    ("gate", 2, b"lose 0 after 1\n"),
+    ("gate", 2, b"lose 1 after 1\n"),
+]
+
+
 def many_pairs(harness):
-    """One split of more pairs than a map task keeps at once: its output has several runs, and a reduce task takes them all."""
-    words = [b"w%d" % (number % 997) for number in range(100_000)]
+    """One split of more pairs than a map task keeps at once: it is mapped in pieces, each of a run, and a reduce task takes them
+    all. One worker puts four runs, each of as many records of ten words as come first to 15/16 of 65,536."""
+    words = [b"w%d" % (number % 997) for number in range(200_000)]
     files = [b"".join(b" ".join(words[at : at + 10]) + b"\n" for at in range(0, len(words), 10))]
     request = Request("words", parts=2)
     outputs, certificate, _ = produced(request, files)
-    answer = ran(request, files, mode="brief")
-    same = answer.outputs == outputs and answer.certificate == certificate.bytes()
-    harness.check("100,000 words in one split", same and answer.fault == "100000 pairs", repr(answer)[:300])
+    for mode, workers, script in OF_PIECES:
+        with tempfile.TemporaryDirectory() as folder:
+            answer = ran(request, files, script, workers, mode=mode, folder=folder)
+            same = answer.outputs == outputs and answer.certificate == certificate.bytes()
+            harness.check(f"200,000 words in one split, {mode}, {workers} workers, {script!r}", same and answer.fault == "200000 pairs", repr(answer)[:300])
+            if (mode, workers) == ("scratch", 1):
+                names = sorted(os.listdir(folder))
+                harness.check("four runs of two regions", names == [*(f"region-00-{n:08}" for n in range(8)), "regions.lock"], repr(names))
 
 
 # The jobs whose runs are told by the program `mr_pool_tests`, and those of all runs.

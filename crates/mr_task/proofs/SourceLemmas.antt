@@ -1,6 +1,7 @@
 -- What a split emits without the records that are left out, record by record; and its names rise.
-use Rattle.std.proofs.Common.{◌≡◌, ℕ, ◌+◌, ◌<◌, Bool, true, false, not, ◌&&◌, ◌==◌, cond, List, [], ◌∷◌, ◌++◌, length, get_or, filter, take, drop, refl, sym, ◌∙◌, ap, subst, append_assoc}
-use Rattle.std.proofs.lemmas.List.{append-nil, map-append, take_more, drop_more, take-append-drop}
+use Rattle.std.proofs.Common.{◌≡◌, ℕ, zero, suc, ◌+◌, ◌<◌, ◌≤◌, Bool, true, false, not, ◌&&◌, ◌==◌, cond, List, [], ◌∷◌, ◌++◌, length, get_or, filter, take, drop, refl, sym, ◌∙◌, ap, subst, arith, append_assoc}
+use Rattle.std.proofs.lemmas.List.{append-nil, map-append, take_more, drop_more, take_all, take-append-drop, drop-append-le, length-take-le}
+use Rattle.std.proofs.Math.Seq.{take-nil, drop-nil}
 use Rattle.std.specs.List.{flat_map}
 use Rattle.std.specs.declared.cmp.Ordering.TheVariants.{Less}
 use Rattle.mr_bytes.specs.declared.By.TheVariants.{Key}
@@ -17,8 +18,8 @@ use Rattle.mr_sequential.proofs.NameLaws.{names_rise}
 use Rattle.mr_sequential.proofs.SourceLemmas.{flat_map-append}
 use Rattle.mr_spill.specs.Column.{names_of}
 use Rattle.mr_spill.proofs.RegionLaws.{by_name, rises-names}
-use Rattle.mr_task.specs.Runs.{record_gives}
-use Rattle.mr_task.specs.Values.{emitted_in, has_number, is_of}
+use Rattle.mr_task.specs.Laws.{PiecesAreAll, PiecesJoin}
+use Rattle.mr_task.specs.Values.{emitted_between, emitted_in, has_number, is_of, record_gives}
 use Rattle.mr_task.proofs.RunLemmas.{back-rises, front-rises}
 
 -- ---- record by record
@@ -71,9 +72,47 @@ pub emitted-gives : (job : JobSpec) (size : ℕ) (files : List (List ℕ)) (spli
 emitted-gives job size files split skips = split-gives job split skips (named_records size files)
 
 -- lists with the same numbers leave out the same
-pub emitted-without : (ts : List Triple) (split : ℕ) (numbers skips : List ℕ) → ((n : ℕ) → has_number numbers n ≡ has_number skips n)
-    → emitted_in ts split numbers ≡ emitted_in ts split skips
-emitted-without ts split numbers skips same = λ i. filter (λ (t : Triple). (t.name.split == split) && not (same t.name.rec i)) ts
+pub between-same : (job : JobSpec) (size : ℕ) (files : List (List ℕ)) (split : ℕ) (numbers skips : List ℕ) (from next : ℕ)
+    → ((n : ℕ) → has_number numbers n ≡ has_number skips n)
+    → emitted_between job size files split numbers from next ≡ emitted_between job size files split skips from next
+between-same job size files split numbers skips from next same =
+    λ i. flat_map (λ (r : NamedRecord). cond (same r.name.rec i) [] (placed_from r.name 0 (emissions job r.file r.start r.bytes)))
+    (drop from (take next (of_split split (named_records size files))))
+
+-- ---- pieces
+
+pieces-join : {X : Type 0} (xs : List X) (from mid next : ℕ) → from ≤ mid → mid ≤ next
+    → drop from (take mid xs) ++ drop mid (take next xs) ≡ drop from (take next xs)
+pieces-join {X} [] from mid next g h =
+    ap (λ (l : List X). drop from l ++ drop mid (take next [])) (take-nil mid)
+    ∙ ap (λ (l : List X). l ++ drop mid (take next [])) (drop-nil from)
+    ∙ ap (λ (l : List X). drop mid l) (take-nil next) ∙ drop-nil mid
+    ∙ sym (ap (λ (l : List X). drop from l) (take-nil next) ∙ drop-nil from)
+pieces-join (x ∷ xs) zero zero next g h = refl
+pieces-join (x ∷ xs) zero (suc mid) zero g h = absurd (omega (arith, h))
+pieces-join (x ∷ xs) zero (suc mid) (suc next) g h = ap (λ l. x ∷ l) (pieces-join xs zero mid next (omega arith) (omega (arith, h)))
+pieces-join (x ∷ xs) (suc from) zero next g h = absurd (omega (arith, g))
+pieces-join (x ∷ xs) (suc from) (suc mid) zero g h = absurd (omega (arith, h))
+pieces-join (x ∷ xs) (suc from) (suc mid) (suc next) g h = pieces-join xs from mid next (omega (arith, g)) (omega (arith, h))
+
+between-join : {X : Type 0} (f : X → List Triple) (rs : List X) (from mid next : ℕ) → from ≤ mid → mid ≤ next
+    → flat_map f (drop from (take mid rs)) ++ flat_map f (drop mid (take next rs)) ≡ flat_map f (drop from (take next rs))
+between-join f rs from mid next g h =
+    sym (flat_map-append f (drop from (take mid rs)) (drop mid (take next rs))) ∙ ap (flat_map f) (pieces-join rs from mid next g h)
+
+pub pieces_join : PiecesJoin
+pieces_join job size files split skips = between-join (record_gives job skips) (of_split split (named_records size files))
+
+pub pieces_are_all : PiecesAreAll
+pieces_are_all job size files split skips =
+    let rs : List NamedRecord = of_split split (named_records size files) in
+    ap (flat_map (record_gives job skips)) (take_all (length rs) rs (omega arith)) ∙ sym (emitted-gives job size files split skips)
+
+-- no record gives nothing
+pub nothing-between : {X : Type 0} (xs : List X) (n : ℕ) → drop n (take n xs) ≡ []
+nothing-between xs zero = refl
+nothing-between [] (suc n) = refl
+nothing-between (x ∷ xs) (suc n) = nothing-between xs n
 
 -- ---- their names rise
 
@@ -105,25 +144,31 @@ middle-rises front middle behind r =
 
 -- ---- one record more
 
-pub gives-more : {X : Type 0} (f : X → List Triple) (rs : List X) (i : ℕ) (d : X) → i < length rs
-    → flat_map f (take (i + 1) rs) ≡ flat_map f (take i rs) ++ f (get_or rs i d)
-gives-more f rs i d h =
-    ap (flat_map f) (take_more rs i d h) ∙ flat_map-append f (take i rs) (get_or rs i d ∷ [])
-    ∙ ap (λ (l : List Triple). flat_map f (take i rs) ++ l) (append-nil (f (get_or rs i d)))
+pub between-more : {X : Type 0} (f : X → List Triple) (rs : List X) (from i : ℕ) (d : X) → from ≤ i → i < length rs
+    → flat_map f (drop from (take (i + 1) rs)) ≡ flat_map f (drop from (take i rs)) ++ f (get_or rs i d)
+between-more f rs from i d g h =
+    let some : from ≤ length (take i rs) = omega (arith, g, h, length-take-le i rs (omega (arith, h))) in
+    let so_far = drop from (take i rs) in
+    ap (flat_map f) (ap (drop from) (take_more rs i d h) ∙ drop-append-le from (take i rs) (get_or rs i d ∷ []) some)
+    ∙ flat_map-append f so_far (get_or rs i d ∷ []) ∙ ap (λ (l : List Triple). flat_map f so_far ++ l) (append-nil (f (get_or rs i d)))
 
 -- what waits, with what the next record gives, rises
-pub record-rises : {X : Type 0} (f : X → List Triple) (rs : List X) (i : ℕ) (d : X) (sealed waiting : List Triple) → i < length rs
-    → sealed ++ waiting ≡ flat_map f (take i rs) → Rises name_order (names_of (flat_map f rs)) → Rises name_order (names_of (waiting ++ f (get_or rs i d)))
-record-rises f rs i d sealed waiting h so_far r =
+pub record-rises : {X : Type 0} (f : X → List Triple) (rs : List X) (from i : ℕ) (d : X) (sealed waiting : List Triple) → from ≤ i → i < length rs
+    → sealed ++ waiting ≡ flat_map f (drop from (take i rs)) → Rises name_order (names_of (flat_map f rs))
+    → Rises name_order (names_of (waiting ++ f (get_or rs i d)))
+record-rises f rs from i d sealed waiting g h so_far r =
     let here : List Triple = f (get_or rs i d) in
     let behind : List Triple = flat_map f (drop (i + 1) rs) in
+    let before : List Triple = flat_map f (take from rs) in
+    let front : flat_map f (take i rs) ≡ (before ++ sealed) ++ waiting =
+    sym (between-join f rs 0 from i (omega arith) g) ∙ ap (λ (l : List Triple). before ++ l) (sym so_far) ∙ sym (append_assoc before sealed waiting) in
     let split : flat_map f rs ≡ flat_map f (take i rs) ++ (here ++ behind) =
     ap (flat_map f) (sym (take-append-drop i rs)) ∙ flat_map-append f (take i rs) (drop i rs)
     ∙ ap (λ l. flat_map f (take i rs) ++ flat_map f l) (drop_more rs i d h) in
-    let all : flat_map f rs ≡ sealed ++ ((waiting ++ here) ++ behind) =
-    split ∙ ap (λ (l : List Triple). l ++ (here ++ behind)) (sym so_far) ∙ append_assoc sealed waiting (here ++ behind)
-    ∙ ap (λ (l : List Triple). sealed ++ l) (sym (append_assoc waiting here behind)) in
-    middle-rises sealed (waiting ++ here) behind (subst (λ (l : List Triple). Rises name_order (names_of l)) all r)
+    let all : flat_map f rs ≡ (before ++ sealed) ++ ((waiting ++ here) ++ behind) =
+    split ∙ ap (λ (l : List Triple). l ++ (here ++ behind)) front ∙ append_assoc (before ++ sealed) waiting (here ++ behind)
+    ∙ ap (λ (l : List Triple). (before ++ sealed) ++ l) (sym (append_assoc waiting here behind)) in
+    middle-rises (before ++ sealed) (waiting ++ here) behind (subst (λ (l : List Triple). Rises name_order (names_of l)) all r)
 
 -- what a record gives that is kept, and one that is left out
 pub gives-kept : (job : JobSpec) (skips : List ℕ) (r is : NamedRecord) → r ≡ is → has_number skips is.name.rec ≡ false

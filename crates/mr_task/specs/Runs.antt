@@ -1,17 +1,12 @@
--- Of no public promise: what a map task has of the pairs that it was given, and what its records give.
-use Rattle.std.specs.Prelude.{◌≡◌, ℕ, if◌then◌else◌, List, [], ◌∷◌, ◌++◌, ◌⊎◌}
+-- Of no public promise: what a map task has of the pairs that it was given.
+use Rattle.std.specs.Prelude.{◌≡◌, ℕ, List, [], ◌∷◌, ◌++◌, ◌⊎◌}
 use Rattle.std.specs.List.{AllByRecursion}
 use Rattle.mr_bytes.specs.Pairs.{Triple}
-use Rattle.mr_jobs.specs.JobSpec.{JobSpec}
-use Rattle.mr_jobs.specs.Emissions.{emissions}
 use Rattle.mr_merge.specs.Merged.{joined}
 use Rattle.mr_partition.specs.Hosts.{partition_by}
-use Rattle.mr_sequential.specs.Emitted.{placed_from}
 use Rattle.mr_spill.specs.Regions.{region}
 use Rattle.mr_spill.specs.Sealed.{RunText, SpellsRun}
-use Rattle.mr_splits.specs.Named.{NamedRecord}
 use Rattle.mr_task.specs.declared.runs.Runs.{Runs}
-use Rattle.mr_task.specs.Values.{has_number}
 
 -- the partition that runs give a key
 abbrev pub part_in : Runs → List ℕ → ℕ
@@ -41,7 +36,3 @@ Takes more old new = (pairs : List Triple) → HasTaken pairs old → HasTaken (
 -- the pair came behind those that waited, or it is the first of a new run
 abbrev pub AreNext : Triple → List Triple → List Triple → Type 0
 AreNext t old new = (new ≡ old ++ t ∷ []) ⊎ (new ≡ t ∷ [])
-
--- what a record of a split gives, unless its number is left out
-abbrev pub record_gives : JobSpec → List ℕ → NamedRecord → List Triple
-record_gives job skips r = if has_number skips r.name.rec then [] else placed_from r.name 0 (emissions job r.file r.start r.bytes)

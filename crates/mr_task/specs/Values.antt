@@ -1,15 +1,19 @@
 -- The values of map and reduce tasks: what they give, however the work is cut (OSDI 2004, sections 3.1, 4.1 and 4.2).
-use Rattle.std.specs.Prelude.{◌≡◌, ℕ, ◌<◌, ◌≤◌, ◌==◌, Bool, not, ◌&&◌, List, [], length, map, filter, slice_index_or}
+use Rattle.std.specs.Prelude.{◌≡◌, ℕ, ◌<◌, ◌≤◌, ◌==◌, Bool, not, ◌&&◌, if◌then◌else◌, List, [], length, map, filter, take, drop, slice_index_or}
 use Rattle.std.specs.List.{flat_map, list_any}
 use Rattle.mr_bytes.specs.declared.Name.{Name}
 use Rattle.mr_bytes.specs.declared.Value.{Value}
 use Rattle.mr_bytes.specs.Pairs.{Triple}
+use Rattle.mr_jobs.specs.Emissions.{emissions}
+use Rattle.mr_jobs.specs.JobSpec.{JobSpec}
 use Rattle.mr_spill.specs.Regions.{region}
 use Rattle.mr_spill.specs.Column.{names_of}
 use Rattle.mr_spill.specs.Lent.{RegionText}
 use Rattle.mr_merge.specs.Bytes.{AreSpelled}
 use Rattle.mr_merge.specs.Merged.{Group, AreSound, joined, merged}
+use Rattle.mr_sequential.specs.Emitted.{placed_from}
 use Rattle.mr_sequential.specs.Rules.{Key, Text}
+use Rattle.mr_splits.specs.Named.{NamedRecord, named_records, of_split}
 
 -- ---- map tasks
 
@@ -24,6 +28,15 @@ is_of split skips t = (t.name.split == split) && not (has_number skips t.name.re
 -- what the split emits without these records, of all that the job emits
 abbrev pub emitted_in : List Triple → ℕ → List ℕ → List Triple
 emitted_in ts split skips = filter (is_of split skips) ts
+
+-- what a record of a split gives, unless its number is left out
+abbrev pub record_gives : JobSpec → List ℕ → NamedRecord → List Triple
+record_gives job skips r = if has_number skips r.name.rec then [] else placed_from r.name 0 (emissions job r.file r.start r.bytes)
+
+-- what the records of a split give from number `from` on and before number `next`
+abbrev pub emitted_between : JobSpec → ℕ → List (List ℕ) → ℕ → List ℕ → ℕ → ℕ → List Triple
+emitted_between job size files split skips from next =
+    flat_map (record_gives job skips) (drop from (take next (of_split split (named_records size files))))
 
 -- what the map task of a split without these records has for partition `p`, by key, then by name
 abbrev pub map_value : (Key → ℕ) → List Triple → ℕ → List ℕ → ℕ → List Triple

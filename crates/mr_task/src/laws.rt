@@ -3,7 +3,7 @@ ghost use Rattle.std.specs.Prelude.{◌≡◌, false, [], ◌∷◌};
 ghost use Rattle.mr_jobs.specs.JobSpec.{WordCount};
 ghost use Rattle.mr_merge.specs.Merged.{AreSound};
 ghost use Rattle.mr_reduce.specs.Text.{text_of};
-ghost use Rattle.mr_task.specs.Laws.{MapValuesHave, MapValuesRise};
+ghost use Rattle.mr_task.specs.Laws.{MapValuesHave, MapValuesRise, PiecesAreAll, PiecesJoin};
 ghost use Rattle.mr_task.specs.Values.{IsCutOf, map_value, reduce_value};
 ghost use Rattle.mr_task.specs.Worked.{emitted_letters, first_run, letters, letters_reduced, only_partition, second_run};
 
@@ -12,6 +12,12 @@ ghost use Rattle.mr_task.specs.Worked.{emitted_letters, first_run, letters, lett
 pub fn map_values_law()
     ensures rise { MapValuesRise }
     ensures have { MapValuesHave }
+{}
+
+/// Pieces of a split, one behind another from its first record to its last, give what the split emits.
+pub fn pieces_law()
+    ensures join { PiecesJoin }
+    ensures all { PiecesAreAll }
 {}
 
 /// The values of both tasks on worked rows.

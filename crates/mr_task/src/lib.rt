@@ -15,8 +15,8 @@ mod runs;
 mod stored;
 
 pub use fault::TaskFault;
-pub use laws::{map_values_law, worked_tasks};
-pub use map::{map_task, map_task_while, map_task_with};
+pub use laws::{map_values_law, pieces_law, worked_tasks};
+pub use map::{map_piece, map_task, map_task_with};
 pub use mr_merge::{Came, Demand, Follower, Unending};
 pub use output::{GroupNames, MapOutput, ReduceOutput};
 pub use reduce::{reduce_followed, reduce_task, reduce_task_while};

@@ -23,6 +23,7 @@ pub(crate) struct Runs {
     split: u32,
     by: By,
     sealed: MapOutput,
+    limit: usize,
     buffer: Buffer,
 }
 
@@ -39,8 +40,14 @@ impl Runs {
             split,
             by,
             sealed: MapOutput::new(alloc, parts),
+            limit,
             buffer: Buffer::new(alloc, limit),
         }
+    }
+
+    /// Whether a run has ended, or is as good as full: 15 of 16 pairs that it may have.
+    pub fn has_run(&self) -> bool {
+        self.sealed.runs() > 0 || self.buffer.len() >= self.limit - self.limit / 16
     }
 
     /// Ends the run: the pairs in the buffer become a region for each partition.
@@ -145,6 +152,7 @@ impl Runs {
             split: _,
             by: _,
             sealed,
+            limit: _,
             buffer: _,
         } = self;
         Ok(sealed)

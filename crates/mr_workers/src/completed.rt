@@ -45,6 +45,13 @@ impl Completed {
         }
     }
 
+    /// The task is wanted again, its output being lost.
+    pub(crate) fn reopen(&self, task: Task) {
+        if let Some(flag) = self.flag(task) {
+            flag.store(false, Ordering::SeqCst);
+        }
+    }
+
     /// The demand for one more output of the task, which ends once it has been complete.
     pub(crate) fn demand(&self, task: Task) -> WhileOpen<'_> {
         WhileOpen {

@@ -5,14 +5,14 @@ ghost use Rattle.mr_input.specs.Files.{split_total};
 use crate::shared::Shared;
 use mr_book::Seat;
 use mr_bytes::Gate;
-use mr_core::{Reply, Skips, Task};
+use mr_core::{Reply, Task};
 use mr_input::Input;
 use mr_script::Directive;
-use mr_spill::{GetFault, PutFault, Region, RegionStore, SealedRun, is_region};
+use mr_spill::{GetFault, PutFault, Region, RegionStore, is_region};
 use mr_splits::Plan;
 use mr_task::{
-    Came, Demand, Follower, MapOutput, ReduceOutput, Stored, TaskFault, map_task, map_task_while,
-    reduce_followed, reduce_task,
+    Came, Demand, Follower, MapOutput, ReduceOutput, Stored, TaskFault, map_piece, reduce_followed,
+    reduce_task,
 };
 use mr_watch::Watch;
 use std::alloc::{AllocError, Global};
@@ -186,39 +186,25 @@ impl<L: Ledger> Worker<L> {
         }
     }
 
-    /// Puts the regions of a run, one after another; false where the store's device failed.
-    fn put_run<G: Gate, W: Watch, S: RegionStore>(
+    /// Puts the regions of each run of a piece, which are let go then; false where the store's device failed.
+    fn put_piece<G: Gate, W: Watch, S: RegionStore>(
         &self,
         shared: &Shared<'_, L, G, W, S>,
         split: u32,
-        run: SealedRun,
+        piece: MapOutput,
         stored: &mut Stored,
     ) -> Result<bool, AllocError> {
-        let mut partition = 0u32;
-        for region in run.into_texts(shared.alloc)? {
-            match self.put(shared, split, partition, region)? {
-                Some(number) => stored.push(number)?,
-                None => return Ok(false),
+        for run in piece.into_runs() {
+            let mut partition = 0u32;
+            for region in run.into_texts(shared.alloc)? {
+                match self.put(shared, split, partition, region)? {
+                    Some(number) => stored.push(number)?,
+                    None => return Ok(false),
+                }
+                partition = partition.saturating_add(1);
             }
-            partition = partition.saturating_add(1);
         }
         Ok(true)
-    }
-
-    /// Puts all regions of a map task's output, each of which is let go then; `None` where the store's device failed.
-    fn put_all<G: Gate, W: Watch, S: RegionStore>(
-        &self,
-        shared: &Shared<'_, L, G, W, S>,
-        split: u32,
-        output: MapOutput,
-    ) -> Result<Option<Stored>, AllocError> {
-        let mut stored = Stored::new(shared.alloc, shared.request.parts(), self.number);
-        for run in output.into_runs() {
-            if !self.put_run(shared, split, run, &mut stored)? {
-                return Ok(None);
-            }
-        }
-        Ok(Some(stored))
     }
 
     /// Executes a map task, and reports. A worker whose store fails is lost.
@@ -228,84 +214,69 @@ impl<L: Ledger> Worker<L> {
         shared: &Shared<'_, L, G, W, S>,
         attempt: u32,
         split: u32,
-        skips: &Skips,
+        skips: &[u32],
     ) -> Result<Next, AllocError>
         requires { split < split_total shared.now.plan.now.size shared.now.plan.now.files }
     {
-        let skips = skips.as_slice();
         if let Some(rec) = shared.orders.failing(shared.plan, split, skips) {
             self.before_report(rt, shared, Task::Map(split))?;
             shared.map_failed(rt, &mut self.seat, attempt, rec)?;
-        } else {
-            let output = map_task_while(
-                shared.alloc,
-                shared.plan,
-                shared.request.job(),
-                shared.request.parts(),
-                split,
-                skips,
-                &shared.completed.demand(Task::Map(split)),
-                shared.request.by(),
-            )?;
-            return self.report_map(rt, shared, attempt, split, skips, output);
-        }
-        self.reports = self.reports.saturating_add(1);
-        Ok(Next::Ask)
-    }
-
-    /// Stores what a map attempt gave, and reports it; what is ordered before the report is done first, where it wasn't yet.
-    fn store_map<R: Wait, G: Gate, W: Watch, S: RegionStore>(
-        &mut self,
-        rt: &R,
-        shared: &Shared<'_, L, G, W, S>,
-        attempt: u32,
-        split: u32,
-        output: MapOutput,
-        is_ordered: bool,
-    ) -> Result<Next, AllocError> {
-        let Some(stored) = self.put_all(shared, split, output)? else {
+        } else if !self.map_pieces(rt, shared, attempt, split, skips)? {
             shared.lose(rt, &mut self.seat, self.number)?;
             return Ok(Next::End);
-        };
-        if !is_ordered {
-            self.before_report(rt, shared, Task::Map(split))?;
         }
-        shared.map_done(rt, &mut self.seat, attempt, split, stored)?;
         self.reports = self.reports.saturating_add(1);
         Ok(Next::Ask)
     }
 
-    /// Reports what a map attempt gave. One that left off has nothing to report but that it ends; where the task's output
-    /// is lost meanwhile, it is done to the end after all.
-    fn report_map<R: Wait, G: Gate, W: Watch, S: RegionStore>(
+    /// Maps a split piece by piece, puts the regions of each before it maps the next, and reports; false where the store's
+    /// device failed. Once another worker has completed the task it leaves off, and reports no output: the regions that it
+    /// has put stay in the store. Where that worker's output is lost meanwhile, it goes on.
+    fn map_pieces<R: Wait, G: Gate, W: Watch, S: RegionStore>(
         &mut self,
         rt: &R,
         shared: &Shared<'_, L, G, W, S>,
         attempt: u32,
         split: u32,
         skips: &[u32],
-        output: Option<MapOutput>,
-    ) -> Result<Next, AllocError>
+    ) -> Result<bool, AllocError>
         requires { split < split_total shared.now.plan.now.size shared.now.plan.now.files }
     {
-        if let Some(output) = output {
-            return self.store_map(rt, shared, attempt, split, output, false);
+        let task = Task::Map(split);
+        let demand = shared.completed.demand(task);
+        let mut stored = Stored::new(shared.alloc, shared.request.parts(), self.number);
+        let mut is_ordered = false;
+        let mut next = 0;
+        while next < shared.plan.records_in(split) {
+            if !demand.lasts() {
+                if !is_ordered {
+                    self.before_report(rt, shared, task)?;
+                    is_ordered = true;
+                }
+                if shared.leave_map(rt, &mut self.seat, attempt, split, self.number)? {
+                    return Ok(true);
+                }
+                shared.completed.reopen(task);
+            }
+            let (piece, behind) = map_piece(
+                shared.alloc,
+                shared.plan,
+                shared.request,
+                split,
+                skips,
+                next,
+                &demand,
+            )?;
+            if !self.put_piece(shared, split, piece, &mut stored)? {
+                return Ok(false);
+            }
+            next = behind;
         }
-        self.before_report(rt, shared, Task::Map(split))?;
-        if shared.leave_map(rt, &mut self.seat, attempt, split, self.number)? {
-            self.reports = self.reports.saturating_add(1);
-            return Ok(Next::Ask);
+        if !is_ordered {
+            self.before_report(rt, shared, task)?;
         }
-        let output = map_task(
-            shared.alloc,
-            shared.plan,
-            shared.request.job(),
-            shared.request.parts(),
-            split,
-            skips,
-            shared.request.by(),
-        )?;
-        self.store_map(rt, shared, attempt, split, output, true)
+        shared.map_done(rt, &mut self.seat, attempt, split, stored)?;
+        Ok(true)
     }
 
     /// The output of a partition over all regions at once.
@@ -437,7 +408,8 @@ impl<L: Ledger> Worker<L> {
                 skips,
             } if *split < shared.plan.splits() => {
                 shared.gate.enter(self.number, *attempt);
-                (*attempt, self.map(rt, shared, *attempt, *split, skips))
+                let done = self.map(rt, shared, *attempt, *split, skips.as_slice());
+                (*attempt, done)
             }
             Reply::Reduce { attempt, partition } if *partition < shared.request.parts() => {
                 shared.gate.enter(self.number, *attempt);
