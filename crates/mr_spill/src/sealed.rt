@@ -62,11 +62,11 @@ impl SealedRun {
     }
 
     /// The bytes of each region, moved, not copied.
-    pub fn into_texts(self, _alloc: Global) -> Result<Vec<Vec<u8>>, AllocError>
-        ensures { IfOk result (λ v. map (λ b. b.items) v.items ≡ self.regions) }
+    pub fn into_texts(self) -> Vec<Vec<u8>>
+        ensures { map (λ b. b.items) result.items ≡ self.regions }
     {
         let SealedRun { regions, .. } = self;
-        Ok(regions)
+        regions
     }
 }
 

@@ -196,7 +196,7 @@ impl<L: Ledger> Worker<L> {
     ) -> Result<bool, AllocError> {
         for run in piece.into_runs() {
             let mut partition = 0u32;
-            for region in run.into_texts(shared.alloc)? {
+            for region in run.into_texts() {
                 match self.put(shared, split, partition, region)? {
                     Some(number) => stored.push(number)?,
                     None => return Ok(false),
