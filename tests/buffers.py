@@ -24,8 +24,7 @@ def sealed(regions):
 def buffers(harness):
     wanted = [line for regions in SEALED for line in sealed(regions)]
     wanted += ["BufferFull BufferFull", *sealed(BY_HOST)]
-    # of the mark that it is sealed no clause speaks
-    wanted += ["1 0", "true 38"]
+    wanted += ["1 0", "38"]
     wanted.append(f"BufferFull BufferFull(Pair {{ key: {listed(b'y')}, value: One, name: {named(0, 0, 5)} }})")
     wanted.append("OutOfMemory")
     lines = told("buffer", b"")
