@@ -23,7 +23,7 @@ use Rattle.mr_core.specs.declared.entries.Split.{Split}
 use Rattle.mr_core.specs.Master.{State, Run, opening}
 use Rattle.mr_core.specs.Looks.{committed_of, part_output, set_of, split_set}
 use Rattle.mr_core.proofs.Progress.{Going, run_going, going_at_opening}
-use Rattle.mr_assembled.specs.Assembled.{committed_values, in_split, nothing, records_from}
+use Rattle.mr_book.specs.Assembled.{committed_values, in_split, nothing, records_from}
 use Rattle.mr_book.specs.Assembling.{Gathering, gathering_of, reduced_under, sets_of}
 use Rattle.mr_book.specs.Stored.{stored_at}
 

@@ -4,8 +4,8 @@ use Rattle.std.specs.Prelude.{Some}
 use Rattle.mr_jobs.specs.JobSpec.{RequestSpec}
 use Rattle.mr_core.specs.declared.event.End.{End}
 use Rattle.mr_core.specs.Core.{InLimits}
-use Rattle.mr_assembled.specs.Faithful.{IsFaithful, IsOpenedFor}
-use Rattle.mr_assembled.specs.Laws.{IsDone}
+use Rattle.mr_book.specs.Faithful.{IsFaithful, IsOpenedFor}
+use Rattle.mr_book.specs.AssembledLaws.{IsDone}
 use Rattle.mr_book.specs.View.{BookView, IsKept}
 use Rattle.mr_book.specs.Assembling.{reduced_under}
 

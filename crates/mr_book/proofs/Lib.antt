@@ -3,3 +3,10 @@ pub mod Shelves
 pub mod StoredLaws
 pub mod Assemblies
 pub mod Faithful
+pub mod Emissions
+pub mod LeftOut
+pub mod Handed
+pub mod Cuts
+pub mod Skips
+pub mod Done
+pub mod Premises

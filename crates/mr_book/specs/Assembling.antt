@@ -8,7 +8,7 @@ use Rattle.mr_certform.specs.Value.{Contents, CanSpell, SpellsIn}
 use Rattle.mr_sequential.specs.Rules.{Text}
 use Rattle.mr_task.specs.Values.{Reduced}
 use Rattle.mr_core.specs.Master.{State}
-use Rattle.mr_assembled.specs.Assembled.{committed_values, nothing}
+use Rattle.mr_book.specs.Assembled.{committed_values, nothing}
 use Rattle.mr_book.specs.Stored.{stored_at}
 
 -- the reduce output under each number

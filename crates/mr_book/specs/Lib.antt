@@ -4,3 +4,7 @@ pub mod Laws
 pub mod Log
 pub mod Stored
 pub mod View
+pub mod Assembled
+pub mod Faithful
+pub mod AssembledLaws
+pub mod Worked

@@ -4,8 +4,8 @@ ghost use Rattle.mr_input.specs.Files.{contents};
 ghost use Rattle.mr_certform.specs.Value.{Spells};
 ghost use Rattle.mr_core.specs.declared.event.End.{End};
 ghost use Rattle.mr_sequential.specs.Good.{IsGood, IsGoodResult};
-ghost use Rattle.mr_assembled.specs.Assembled.{assembled_certificate, assembled_outputs, committed_values, in_split, left_out_records, nothing, records_from};
-ghost use Rattle.mr_assembled.specs.Faithful.{IsFaithful, IsOpenedFor};
+ghost use Rattle.mr_book.specs.Assembled.{assembled_certificate, assembled_outputs, committed_values, in_split, left_out_records, nothing, records_from};
+ghost use Rattle.mr_book.specs.Faithful.{IsFaithful, IsOpenedFor};
 ghost use Rattle.mr_book.specs.Assembling.{gathering_of, reduced_under, sets_of};
 
 use crate::book::Book;

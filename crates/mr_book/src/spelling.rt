@@ -5,8 +5,8 @@ ghost use Rattle.mr_input.specs.Files.{contents};
 ghost use Rattle.mr_certform.specs.Value.{CanSpell, Spells, SpellsIn};
 ghost use Rattle.mr_core.specs.declared.event.End.{End};
 ghost use Rattle.mr_sequential.specs.Good.{IsGoodResult};
-ghost use Rattle.mr_assembled.specs.Assembled.{assembled_certificate, assembled_outputs};
-ghost use Rattle.mr_assembled.specs.Faithful.{IsFaithful, IsOpenedFor};
+ghost use Rattle.mr_book.specs.Assembled.{assembled_certificate, assembled_outputs};
+ghost use Rattle.mr_book.specs.Faithful.{IsFaithful, IsOpenedFor};
 ghost use Rattle.mr_book.specs.Assembling.{SpellsWhereItCan, committed_groups, reduced_under};
 
 use crate::book::Book;

@@ -1,4 +1,5 @@
-//! Names, values and bytes that every other crate speaks of.
+//! Names, values and bytes that every other crate speaks of; and who is told how far long work has
+//! come.
 #![tactic(auto)]
 
 ghost use Rattle.std.specs.Prelude.{◌≡◌, IfOk, OnOk, OnErr, ◌++◌};
@@ -11,6 +12,7 @@ mod marks;
 mod names;
 mod pairs;
 mod places;
+mod progress;
 mod same;
 mod values;
 mod words;
@@ -19,6 +21,7 @@ pub use gates::{Gate, OpenGate};
 pub use marks::cut;
 pub use names::{compare_keys, compare_names, compare_records, order_law};
 pub use pairs::{Pair, compare_pairs, sorted_law};
+pub use progress::{Pace, Phase, Unwatched, Watch};
 pub use same::{
     clone_of_name, clone_of_record, clone_of_span, clone_of_value, is_same_name, is_same_record,
     is_same_span, is_same_value,

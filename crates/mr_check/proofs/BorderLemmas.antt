@@ -8,8 +8,8 @@ use Rattle.mr_certform.specs.declared.item.Item.{Item}
 use Rattle.mr_certform.specs.declared.item.Item.TheVariants.{Groups, Entries, Entry, End}
 use Rattle.mr_certform.specs.Places.{first_name}
 use Rattle.mr_sequential.specs.Good.{named}
-use Rattle.mr_answers.specs.Verdict.{Reached, Subject, order_tests, with_entry, group_tests, behind_group, entry_tests, after_entry, tests}
-use Rattle.mr_answers.specs.VerdictLaws.{told, piece}
+use Rattle.mr_verdict.specs.Verdict.{Reached, Subject, order_tests, with_entry, group_tests, behind_group, entry_tests, after_entry, tests}
+use Rattle.mr_verdict.specs.VerdictLaws.{told, piece}
 use Rattle.mr_judge.specs.Borders.{between}
 use Rattle.mr_check.specs.Fronts.{is_own}
 use Rattle.mr_check.specs.Sections.{GroupBegins}

@@ -12,13 +12,13 @@ use Rattle.mr_certform.specs.Spelling.{is_ended, left_behind}
 use Rattle.mr_certform.specs.Walking.{items_left}
 use Rattle.mr_certform.specs.Rows.{entries_ahead, behind_entries}
 use Rattle.mr_check.specs.declared.front.Front.{Front}
-use Rattle.mr_answers.specs.declared.fault.No.TheVariants.{Malformed, Unnamed}
+use Rattle.mr_verdict.specs.declared.fault.No.TheVariants.{Malformed, Unnamed}
 use Rattle.std.specs.Prelude.{nat_le}
-use Rattle.mr_answers.specs.Verdict.{Subject, passes, start, part_faults, first, entries_in}
-use Rattle.mr_answers.specs.VerdictLaws.{told, piece, or_else, part_fault, least_fault, back_fault, parts_in}
-use Rattle.mr_judge.specs.Steps.{opens}
+use Rattle.mr_verdict.specs.Verdict.{Subject, passes, start, part_faults, first, entries_in}
+use Rattle.mr_verdict.specs.VerdictLaws.{told, piece, or_else, part_fault, least_fault, back_fault, parts_in}
+use Rattle.mr_verdict.specs.Steps.{opens}
 use Rattle.mr_check.specs.Fronts.{closes, part_here, parts_at, part_at, ends_at}
-use Rattle.mr_answers.proofs.VerdictPlace.{splits}
+use Rattle.mr_verdict.proofs.VerdictPlace.{splits}
 
 -- ---- the walk
 

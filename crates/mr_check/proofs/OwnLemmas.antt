@@ -7,12 +7,12 @@ use Rattle.mr_certform.specs.declared.item.Item.{Item}
 use Rattle.mr_certform.specs.declared.item.Item.TheVariants.{Groups, Entry, End}
 use Rattle.mr_certform.specs.Spelling.{left_behind}
 use Rattle.mr_judge.specs.declared.blocks.FoundItem.{FoundItem}
-use Rattle.mr_answers.specs.declared.fault.No.{No}
-use Rattle.mr_answers.specs.Verdict.{Reached, Subject, start, tests, after, first}
-use Rattle.mr_answers.specs.VerdictLaws.{told, piece}
-use Rattle.mr_judge.specs.Steps.{Answers, HasRoom, Room}
+use Rattle.mr_verdict.specs.declared.fault.No.{No}
+use Rattle.mr_verdict.specs.Verdict.{Reached, Subject, start, tests, after, first}
+use Rattle.mr_verdict.specs.VerdictLaws.{told, piece}
+use Rattle.mr_verdict.specs.Steps.{Answers, HasRoom, Room}
 use Rattle.mr_judge.specs.Blocks.{onto, items_in}
-use Rattle.mr_judge.specs.Steps.{opens}
+use Rattle.mr_verdict.specs.Steps.{opens}
 use Rattle.mr_check.specs.Fronts.{is_own, part_here, OwnGoesOn, OwnJudged, Opened}
 use Rattle.mr_judge.proofs.Faults.{first_more, told_left, told_is}
 use Rattle.mr_judge.proofs.PartLemmas.{room_after}

@@ -13,11 +13,11 @@ use Rattle.mr_judge.specs.declared.blocks.FoundItem.{FoundItem}
 use Rattle.mr_judge.specs.declared.border.Border.{Border}
 use Rattle.mr_judge.specs.Borders.{at_border}
 use Rattle.mr_judge.proofs.Faults.{told_is}
-use Rattle.mr_answers.specs.declared.fault.No.{No}
-use Rattle.mr_answers.specs.Verdict.{Reached, Subject, first}
-use Rattle.mr_answers.specs.VerdictLaws.{told, piece, or_else, part_fault, least_fault}
+use Rattle.mr_verdict.specs.declared.fault.No.{No}
+use Rattle.mr_verdict.specs.Verdict.{Reached, Subject, first}
+use Rattle.mr_verdict.specs.VerdictLaws.{told, piece, or_else, part_fault, least_fault}
 use Rattle.mr_judge.specs.Blocks.{onto, items_in}
-use Rattle.mr_judge.specs.Steps.{opens, Room}
+use Rattle.mr_verdict.specs.Steps.{opens, Room}
 use Rattle.mr_check.specs.declared.front.Front.{Front}
 use Rattle.mr_check.specs.declared.front.Section.{Section}
 use Rattle.mr_check.specs.declared.fronts.Reach.{Reach}

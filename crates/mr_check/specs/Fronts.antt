@@ -3,11 +3,11 @@ use Rattle.std.specs.Prelude.{◌≡◌, ℕ, zero, suc, ◌+◌, Bool, true, fa
 use Rattle.mr_certform.specs.declared.item.Item.{Item}
 use Rattle.mr_certform.specs.declared.item.Item.TheVariants.{Groups, End}
 use Rattle.mr_certform.specs.Walking.{items_left}
-use Rattle.mr_answers.specs.declared.fault.No.{No}
+use Rattle.mr_verdict.specs.declared.fault.No.{No}
 use Rattle.mr_check.specs.declared.front.Front.{Front}
-use Rattle.mr_answers.specs.Verdict.{Reached, Subject, first}
-use Rattle.mr_answers.specs.VerdictLaws.{told, piece}
-use Rattle.mr_judge.specs.Steps.{Answers, Room}
+use Rattle.mr_verdict.specs.Verdict.{Reached, Subject, first}
+use Rattle.mr_verdict.specs.VerdictLaws.{told, piece}
+use Rattle.mr_verdict.specs.Steps.{Answers, Room}
 use Rattle.mr_judge.specs.Blocks.{onto}
 
 -- the item ends all

@@ -4,11 +4,11 @@ use Rattle.mr_certform.specs.declared.item.Item.{Item}
 use Rattle.mr_certform.specs.declared.item.Item.TheVariants.{Entries}
 use Rattle.mr_certform.specs.Walking.{items_left}
 use Rattle.mr_certform.specs.declared.walker.Walker.{Walker}
-use Rattle.mr_answers.specs.declared.fault.No.{No}
-use Rattle.mr_answers.specs.Verdict.{Reached, Subject, first}
-use Rattle.mr_answers.specs.VerdictLaws.{told, piece}
+use Rattle.mr_verdict.specs.declared.fault.No.{No}
+use Rattle.mr_verdict.specs.Verdict.{Reached, Subject, first}
+use Rattle.mr_verdict.specs.VerdictLaws.{told, piece}
 use Rattle.mr_judge.specs.declared.border.Border.{Border}
-use Rattle.mr_judge.specs.Steps.{Answers}
+use Rattle.mr_verdict.specs.Steps.{Answers}
 use Rattle.mr_judge.specs.Borders.{at_border}
 use Rattle.mr_check.specs.declared.front.Front.{Front}
 use Rattle.mr_check.specs.declared.front.Section.{Section}

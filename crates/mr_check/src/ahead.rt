@@ -4,10 +4,9 @@ ghost use Rattle.mr_index.specs.Index.{triples_of};
 ghost use Rattle.mr_check.specs.Ahead.{IsMappedFor};
 
 use crate::mapping::{Crew, Mapped, Source, index_of};
-use mr_bytes::Gate;
+use mr_bytes::{Gate, Watch};
 use mr_jobs::Request;
 use mr_splits::Plan;
-use mr_watch::Watch;
 use std::alloc::{AllocError, Global};
 use std::marker::Model;
 use std::thread::Threads;

@@ -3,11 +3,11 @@ ghost use Rattle.std.specs.Prelude.{◌≡◌, ◌⊎◌, ◌<◌, ◌≤◌, �
 ghost use Rattle.std.specs.List.{AllByRecursion};
 ghost use Rattle.mr_certform.specs.declared.item.Item.{Item as Read};
 ghost use Rattle.mr_certform.specs.Walking.{items_left, halt};
-ghost use Rattle.mr_answers.specs.declared.fault.No.TheVariants.{Malformed, OutOfMemory};
+ghost use Rattle.mr_verdict.specs.declared.fault.No.TheVariants.{Malformed, OutOfMemory};
 ghost use Rattle.mr_input.specs.Files.{contents};
-ghost use Rattle.mr_answers.specs.Verdict.{entries_in, tests, after};
-ghost use Rattle.mr_answers.specs.VerdictLaws.{part_fault, piece};
-ghost use Rattle.mr_judge.specs.Steps.{subject, Answers, HasRoom, Room};
+ghost use Rattle.mr_verdict.specs.Verdict.{entries_in, tests, after};
+ghost use Rattle.mr_verdict.specs.VerdictLaws.{part_fault, piece};
+ghost use Rattle.mr_verdict.specs.Steps.{subject, Answers, HasRoom, Room};
 ghost use Rattle.mr_judge.specs.Blocks.{items_in, onto, IsFound};
 ghost use Rattle.mr_judge.specs.Outputs.{Leaves};
 ghost use Rattle.mr_judge.specs.Borders.{at_border};
@@ -18,10 +18,10 @@ use crate::facts::Facts;
 use crate::front::{Front, Section};
 use crate::fronts::is_opening;
 use crate::section::{Judged, Outcome};
-use mr_answers::{No, is_same_fault};
 use mr_certform::{Item, Walker};
 use mr_index::Meter;
-use mr_judge::{AtHand, Block, Border, FoundItem, Progress, Stop, read_block};
+use mr_judge::{AtHand, Block, Border, FoundItem, Progress, read_block};
+use mr_verdict::{No, Stop, is_same_fault};
 use std::alloc::{AllocError, Global};
 
 /// Whether the item belongs to the partition that is open.

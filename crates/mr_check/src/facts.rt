@@ -17,7 +17,7 @@ pub(crate) struct Facts<'a> {
 
 impl<'a> Model for Facts<'a> {
     ghost use Rattle.mr_input.specs.Files.{contents};
-    ghost use Rattle.mr_judge.specs.Steps.{Known};
+    ghost use Rattle.mr_verdict.specs.Steps.{Known};
 
     ghost Value = { Known };
 

@@ -2,16 +2,15 @@
 ghost use Rattle.std.specs.Prelude.{◌≡◌, ◌⊎◌, [], OnOk, MatchResult, IsTrue};
 ghost use Rattle.mr_splits.specs.Cut.{records_of};
 ghost use Rattle.mr_certform.specs.Walking.{items_left, halt};
-ghost use Rattle.mr_answers.specs.declared.fault.No.TheVariants.{OutOfMemory};
-ghost use Rattle.mr_judge.specs.Steps.{header_met, awaits_skips, counted, skips_in_front, listed};
+ghost use Rattle.mr_verdict.specs.declared.fault.No.TheVariants.{OutOfMemory};
+ghost use Rattle.mr_verdict.specs.Steps.{header_met, awaits_skips, counted, skips_in_front, listed};
 
-use mr_answers::No;
 use mr_bytes::RecordName;
 use mr_certform::Walker;
 use mr_input::Input;
 use mr_jobs::Request;
-use mr_judge::{Stop, expect_count, expect_header, take_skips};
 use mr_splits::Plan;
+use mr_verdict::{No, Stop, expect_count, expect_header, take_skips};
 use std::alloc::Global;
 
 /// The items that the request and the input fix come next.

@@ -4,9 +4,9 @@ ghost use Rattle.mr_certform.specs.declared.item.Item.{Item as Read};
 ghost use Rattle.mr_certform.specs.declared.item.Item.TheVariants.{Groups, Entries};
 ghost use Rattle.mr_certform.specs.Spelling.{is_ended};
 ghost use Rattle.mr_certform.specs.Walking.{items_left, halt};
-ghost use Rattle.mr_answers.specs.Verdict.{entries_in};
-ghost use Rattle.mr_answers.specs.VerdictLaws.{parts_in};
-ghost use Rattle.mr_judge.specs.Steps.{opens};
+ghost use Rattle.mr_verdict.specs.Verdict.{entries_in};
+ghost use Rattle.mr_verdict.specs.VerdictLaws.{parts_in};
+ghost use Rattle.mr_verdict.specs.Steps.{opens};
 ghost use Rattle.mr_check.specs.Fronts.{closes, part_here, part_at, parts_at, ends_at};
 ghost use Rattle.mr_check.specs.Sections.{IsSection, IsOpened, HasWalked};
 

@@ -4,7 +4,7 @@
 //! where the job's texts have one for each value, and else each group does, and a line is its key, a tab, and more without
 //! a tab.
 ghost use Rattle.std.specs.Prelude.{◌≡◌, ◌≤◌, ◌<◌, ◌+◌, ◌^◌, IfSome, IsTrue, length};
-ghost use Rattle.mr_answers.specs.Verdict.{start};
+ghost use Rattle.mr_verdict.specs.Verdict.{start};
 ghost use Rattle.mr_judge.specs.Borders.{at_border};
 
 use crate::front::Section;

@@ -1,4 +1,4 @@
-//! The judge of a result: by one thread, as `mr_judge` has it, and by many; and what it answers, as `mr_answers` says.
+//! The judge of a result: by one thread, as `mr_judge` has it, and by many; and what it answers, as `mr_verdict` says.
 #![tactic(auto)]
 
 mod ahead;
@@ -14,9 +14,9 @@ mod sections;
 mod threads;
 
 pub use ahead::{MappedInput, map_input};
-pub use mr_answers::{
+pub use mr_judge::{check, check_from, check_from_watched, check_metered, check_watched};
+pub use mr_verdict::{
     No, Source, Yes, fault_law, is_same_fault, locality_law, partition_law, place_law,
     worked_places, worked_rows, yes_law,
 };
-pub use mr_judge::{check, check_from, check_from_watched, check_metered, check_watched};
 pub use threads::{check_gated, check_gated_watched, check_mapped_watched, check_threads};

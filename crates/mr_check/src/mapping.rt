@@ -3,12 +3,11 @@ ghost use Rattle.std.specs.Prelude.{◌≡◌, ◌<◌, ◌≤◌, ◌+◌, ◌*
 ghost use Rattle.mr_input.specs.Files.{split_total};
 ghost use Rattle.mr_index.specs.Index.{triples_in, triples_of};
 
-use mr_bytes::{Gate, RecordName};
+use mr_bytes::{Gate, Phase, RecordName, Watch};
 use mr_index::{DividedSplit, EmissionIndex, Part, Piece};
 use mr_jobs::Job;
 use mr_splits::{Kept, Plan};
 use mr_tickets::{Pieces, draw_all};
-use mr_watch::{Phase, Watch};
 use std::alloc::{AllocError, Global};
 use std::thread::Threads;
 

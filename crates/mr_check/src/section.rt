@@ -1,6 +1,6 @@
 //! What judging a section of a partition comes to.
-use mr_answers::No;
 use mr_judge::Border;
+use mr_verdict::No;
 
 /// What judging a section came to.
 #[derive(Clone, Copy)]

@@ -1,7 +1,7 @@
 //! The sections of all partitions, judged each by itself, and put together.
 ghost use Rattle.std.specs.Prelude.{◌≡◌, ◌<◌, ◌≤◌, ◌+◌, ◌^◌, ℕ, List, All, IfOk, length, drop, slice_index_or};
-ghost use Rattle.mr_answers.specs.VerdictLaws.{part_fault, least_fault};
-ghost use Rattle.mr_judge.specs.Steps.{subject};
+ghost use Rattle.mr_verdict.specs.VerdictLaws.{part_fault, least_fault};
+ghost use Rattle.mr_verdict.specs.Steps.{subject};
 ghost use Rattle.mr_check.specs.declared.front.Front.{Front as Begun};
 ghost use Rattle.mr_check.specs.declared.front.Section.{Section as Begins};
 ghost use Rattle.mr_check.specs.Fronts.{part_at, parts_at};
@@ -13,11 +13,10 @@ use crate::front::{Front, Section};
 use crate::guesses::{Guess, guesses_of};
 use crate::mapping::Crew;
 use crate::section::{Judged, Outcome};
-use mr_answers::No;
-use mr_bytes::Gate;
+use mr_bytes::{Gate, Phase, Watch};
 use mr_judge::Border;
 use mr_tickets::{Pieces, draw_all};
-use mr_watch::{Phase, Watch};
+use mr_verdict::No;
 use std::alloc::{AllocError, Global};
 use std::thread::Threads;
 
@@ -72,7 +71,7 @@ struct Judging<'a, 'f, 'g, 'w, W: Watch> {
 
 impl<'a, 'f, 'g, 'w, W: Watch> Pieces for Judging<'a, 'f, 'g, 'w, W> {
     ghost use Rattle.std.specs.Prelude.{◌≡◌, ◌<◌, ◌≤◌, ◌^◌, All, length};
-    ghost use Rattle.mr_judge.specs.Steps.{subject};
+    ghost use Rattle.mr_verdict.specs.Steps.{subject};
     ghost use Rattle.mr_check.specs.Sections.{IsSection, IsJudgedAt};
 
     type Out = Judged<'a>;

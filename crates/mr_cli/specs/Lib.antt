@@ -1,1 +1,4 @@
 pub mod Program
+pub mod Parsed
+pub mod Statuses
+pub mod Shown

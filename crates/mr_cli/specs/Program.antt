@@ -5,13 +5,13 @@ use Rattle.clap.specs.Simple.{subcommand_rows_of}
 use Rattle.clap.specs.declared.parser.matches.ArgMatches.{ArgMatches}
 use Rattle.mr_files.specs.Holding.{ChangesAmong, Faulty, Stored}
 use Rattle.mr_files.specs.Identities.{Known}
-use Rattle.mr_asked.specs.declared.asked.Subcommand.{Subcommand}
-use Rattle.mr_asked.specs.declared.fault.Fault.{Fault}
+use Rattle.mr_args.specs.declared.asked.Subcommand.{Subcommand}
+use Rattle.mr_args.specs.declared.fault.Fault.{Fault}
 use Rattle.mr_commands.specs.Commands.{Answers, ChangesOwn, IsRefusal}
-use Rattle.mr_options.specs.declared.failure.Failure.{Failure}
-use Rattle.mr_options.specs.declared.failure.Failure.TheVariants.{Line, NotUtf8, NoCommand, Command}
-use Rattle.mr_options.specs.Parsed.{IsAskedBy}
-use Rattle.mr_options.specs.Statuses.{no_memory_left}
+use Rattle.mr_cli.specs.declared.failure.Failure.{Failure}
+use Rattle.mr_cli.specs.declared.failure.Failure.TheVariants.{Line, NotUtf8, NoCommand, Command}
+use Rattle.mr_cli.specs.Parsed.{IsAskedBy}
+use Rattle.mr_cli.specs.Statuses.{no_memory_left}
 
 -- the command is the one that was parsed, with its options
 abbrev pub IsAskedIn : ArgMatches → Subcommand → Type 0

@@ -1,14 +1,18 @@
 //! What a person at a terminal is told beside the program's own lines. Nothing here has a say in what is done, in what
 //! is answered, or in the exit status: those come from `answer` and `finish`, which are called as they are.
+use crate::cures::{NOT_UTF8, fault_hint};
+use crate::differences::verdict_hint;
+use crate::failure::Failure;
+use crate::noting::notes;
+use crate::options::{command, subcommand_of};
 use crate::program::{answer, finish};
 use crate::progress::ProgressLine;
-use mr_asked::{Fault, Subcommand};
+use crate::showing::shown;
+use mr_args::{Fault, Subcommand};
+use mr_bytes::Watch;
 use mr_commands::Said;
 use mr_files::{Look, Store};
-use mr_hints::{NOT_UTF8, fault_hint, notes, shown, verdict_hint};
-use mr_options::{Failure, command, subcommand_of};
 use mr_spill::Scratch;
-use mr_watch::Watch;
 use std::alloc::{AllocError, Global};
 use std::io::Write;
 use std::sync::Wait;

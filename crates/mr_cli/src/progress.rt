@@ -1,7 +1,7 @@
 //! One line at a terminal that tells how far long work has come: the phase, its share done, workers lost. It is drawn
 //! again a few times a second at most, by whichever thread tells first then, and wiped before anything else is said. No
 //! clause speaks of it, and it has no say in the work.
-use mr_watch::{Phase, Watch};
+use mr_bytes::{Phase, Watch};
 use std::alloc::{AllocError, Global};
 use std::io::{Stderr, Write};
 use std::sync::atomic::{AtomicBool, AtomicU64, Ordering};

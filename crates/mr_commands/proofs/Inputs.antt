@@ -3,7 +3,7 @@ use Rattle.std.proofs.Common.{◌≡◌, ◌++◌, ℕ, List, Result, subst}
 use Rattle.std.specs.Prelude.{OnOk}
 use Rattle.mr_files.specs.Holding.{Stored}
 use Rattle.mr_files.specs.Identities.{AreApart, Known}
-use Rattle.mr_judging.specs.Inputs.{IsInput}
+use Rattle.mr_commands.specs.Inputs.{IsInput}
 
 pub input_as : (holds : Stored) (was names files : List (List ℕ)) (size : ℕ) → was ≡ names → IsInput holds was size files → IsInput holds names size files
 input_as holds was names files size n h = subst (λ (v : List (List ℕ)). IsInput holds v size files) n h

@@ -14,14 +14,14 @@ use Rattle.mr_files.specs.declared.store.FileFault.TheVariants as file
 use Rattle.mr_book.specs.declared.book.History.{History}
 use Rattle.mr_pool.specs.Outcomes.{run_shape}
 use Rattle.mr_pool.specs.declared.running.Certified.{Certified}
-use Rattle.mr_asked.specs.declared.fault.Fault.{Fault}
-use Rattle.mr_asked.specs.declared.asked.RunOptions.{RunOptions}
+use Rattle.mr_args.specs.declared.fault.Fault.{Fault}
+use Rattle.mr_args.specs.declared.asked.RunOptions.{RunOptions}
 use Rattle.mr_commands.specs.declared.running.Ran.{Ran}
 use Rattle.mr_commands.specs.HistoryLines.{history_text}
-use Rattle.mr_asked.specs.Asked.{request_asked}
-use Rattle.mr_judging.specs.Inputs.{IsInput, IsInputRefusal}
-use Rattle.mr_judging.specs.Named.{input_names, named}
-use Rattle.mr_asked.specs.Statuses.{TellsFile}
+use Rattle.mr_args.specs.Asked.{request_asked}
+use Rattle.mr_commands.specs.Inputs.{IsInput, IsInputRefusal}
+use Rattle.mr_commands.specs.Named.{input_names, named}
+use Rattle.mr_args.specs.Statuses.{TellsFile}
 use Rattle.mr_commands.specs.Runs.{AreGood, BeginsHistory, EndsOver, IsHistoryKept, IsResultKept, IsResultRefused, IsResultStopped, IsScratchClash, IsScratchRefusal, IsScript, IsScriptRefusal, IsStartRefusal, IsStoppedAt, IsUnkept, KeepsHistory, KeepsResult, Runs, history_name, history_of, names_left, read_by_run, scratch_name, script_name, written_by_run}
 
 module _ (holds : Stored) (unreadable : Faulty) (alike : List ℕ → List ℕ → Type 0) (known : Known) (o : RunOptions) where

@@ -8,8 +8,8 @@ use Rattle.std.specs.Prelude.{IfOk}
 use Rattle.mr_sequential.specs.Emitted.{emitted}
 use Rattle.mr_files.specs.Refusals.{IsWriteRefusal}
 use Rattle.mr_files.specs.declared.store.FileFault.{FileFault}
-use Rattle.mr_asked.specs.declared.fault.Fault.{Fault}
-use Rattle.mr_asked.specs.declared.asked.SeqOptions.{SeqOptions}
+use Rattle.mr_args.specs.declared.fault.Fault.{Fault}
+use Rattle.mr_args.specs.declared.asked.SeqOptions.{SeqOptions}
 use Rattle.mr_jobs.specs.JobSpec.{RequestSpec}
 use Rattle.mr_files.specs.Holding.{ChangesAmong, Faulty, Holding, Stored}
 use Rattle.mr_files.specs.Identities.{AreApart, Known}
@@ -18,14 +18,14 @@ use Rattle.mr_certform.specs.declared.version.Version.{Version}
 use Rattle.mr_certform.specs.Pieces.{versioned_bytes}
 use Rattle.mr_certform.specs.Value.{Contents, SpellsIn, Versioned}
 use Rattle.mr_commands.specs.Outcomes.{IsSequentialResult, done_line}
-use Rattle.mr_asked.specs.Asked.{request_asked}
+use Rattle.mr_args.specs.Asked.{request_asked}
 use Rattle.mr_commands.specs.Answers.{AnswersSeq, IsRunRefusal, IsWorkRefusal, IsSeqRefusal, WorksOut, written_by_seq}
-use Rattle.mr_judging.proofs.Refused.{stopped_as}
-use Rattle.mr_judging.specs.Inputs.{IsAsked, IsInput, IsInputRefusal}
-use Rattle.mr_judging.specs.Named.{input_names}
-use Rattle.mr_asked.specs.Statuses.{TellsFile}
+use Rattle.mr_commands.proofs.JudgingRefused.{stopped_as}
+use Rattle.mr_commands.specs.Inputs.{IsAsked, IsInput, IsInputRefusal}
+use Rattle.mr_commands.specs.Named.{input_names}
+use Rattle.mr_args.specs.Statuses.{TellsFile}
 use Rattle.mr_bytes.specs.declared.RecordName.{RecordName}
-use Rattle.mr_asked.specs.SkipList.{SpellsNames}
+use Rattle.mr_args.specs.SkipList.{SpellsNames}
 
 pub work_input_stage : (holds : Stored) (unreadable : Faulty) (known : Known) (o : SeqOptions) (skips : List RecordName) (request : RequestSpec) (e : Fault)
     → request ≡ request_asked o.options → IsAsked o.options → SpellsNames o.skips.now skips

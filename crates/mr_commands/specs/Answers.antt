@@ -7,14 +7,14 @@ use Rattle.mr_sequential.specs.Skips.{skip_fault}
 use Rattle.mr_files.specs.Holding.{ChangesAmong, Faulty, Holding, Stored}
 use Rattle.mr_files.specs.Identities.{AreApart, Known}
 use Rattle.mr_files.specs.Names.{part_names, name_of_certificate, result_names}
-use Rattle.mr_asked.specs.declared.fault.Fault.{Fault}
-use Rattle.mr_asked.specs.declared.fault.Fault.TheVariants.{BadSkipList, Run, OutOfMemory}
-use Rattle.mr_asked.specs.declared.asked.SeqOptions.{SeqOptions}
-use Rattle.mr_asked.specs.Asked.{IsRequestRefusal, request_asked}
-use Rattle.mr_judging.specs.Inputs.{IsAsked, IsInput, IsInputRefusal, IsStopped}
-use Rattle.mr_judging.specs.Named.{input_names}
+use Rattle.mr_args.specs.declared.fault.Fault.{Fault}
+use Rattle.mr_args.specs.declared.fault.Fault.TheVariants.{BadSkipList, Run, OutOfMemory}
+use Rattle.mr_args.specs.declared.asked.SeqOptions.{SeqOptions}
+use Rattle.mr_args.specs.Asked.{IsRequestRefusal, request_asked}
+use Rattle.mr_commands.specs.Inputs.{IsAsked, IsInput, IsInputRefusal, IsStopped}
+use Rattle.mr_commands.specs.Named.{input_names}
 use Rattle.mr_commands.specs.Outcomes.{IsSequentialResult, done_line}
-use Rattle.mr_asked.specs.SkipList.{SpellsNames}
+use Rattle.mr_args.specs.SkipList.{SpellsNames}
 
 -- the names of the result of `seq`
 abbrev pub written_by_seq : SeqOptions → List (List ℕ)

@@ -4,14 +4,14 @@ use Rattle.mr_files.specs.Holding.{ChangesAmong, Faulty, Stored}
 use Rattle.mr_files.specs.Identities.{Known}
 use Rattle.mr_files.specs.Names.{result_names}
 use Rattle.mr_shard_files.specs.Merging.{ChangesResult}
-use Rattle.mr_asked.specs.declared.fault.Fault.{Fault}
-use Rattle.mr_asked.specs.declared.asked.Subcommand.{Subcommand}
-use Rattle.mr_asked.specs.declared.asked.Subcommand.TheVariants.{Seq, Run, Check, Merge}
+use Rattle.mr_args.specs.declared.fault.Fault.{Fault}
+use Rattle.mr_args.specs.declared.asked.Subcommand.{Subcommand}
+use Rattle.mr_args.specs.declared.asked.Subcommand.TheVariants.{Seq, Run, Check, Merge}
 use Rattle.mr_commands.specs.Answers.{AnswersSeq, IsSeqRefusal}
 use Rattle.mr_commands.specs.Merges.{AnswersMerge, IsMergeUnanswered}
 use Rattle.mr_commands.specs.Runs.{AnswersRun, IsRunUnanswered, written_by_run}
-use Rattle.mr_judging.specs.Named.{written_by_check}
-use Rattle.mr_judging.specs.Verdicts.{KeepsVerdict, IsCheckUnanswered}
+use Rattle.mr_commands.specs.Named.{written_by_check}
+use Rattle.mr_commands.specs.Verdicts.{KeepsVerdict, IsCheckUnanswered}
 
 -- nothing changed but what the command writes: the result, with a run's history; for `check` the verdict; for `merge` a
 -- merged result, of so many parts as the verdicts tell

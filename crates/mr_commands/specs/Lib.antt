@@ -4,3 +4,10 @@ pub mod HistoryLines
 pub mod Runs
 pub mod Merges
 pub mod Commands
+pub mod NoLines
+pub mod YesLines
+pub mod Named
+pub mod Inputs
+pub mod Checks
+pub mod Verdicts
+pub mod Streamed

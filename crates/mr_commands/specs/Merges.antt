@@ -2,13 +2,13 @@
 use Rattle.std.specs.Prelude.{◌≡◌, ℕ, ◌++◌, List, Option, codes, decimal, length, map, option_map}
 use Rattle.mr_files.specs.Holding.{Faulty, Stored}
 use Rattle.mr_files.specs.Identities.{Known}
-use Rattle.mr_verdict.specs.Verdict.{Told}
+use Rattle.mr_shards.specs.Verdict.{Told}
 use Rattle.mr_shard_files.specs.Faults.{IsShardRefusal}
 use Rattle.mr_shard_files.specs.Merging.{IsMerged}
 use Rattle.mr_shard_files.specs.declared.fault.ShardFault.{ShardFault}
-use Rattle.mr_asked.specs.declared.asked.MergeOptions.{MergeOptions}
-use Rattle.mr_asked.specs.declared.fault.Fault.{Fault}
-use Rattle.mr_asked.specs.Statuses.{TellsShards}
+use Rattle.mr_args.specs.declared.asked.MergeOptions.{MergeOptions}
+use Rattle.mr_args.specs.declared.fault.Fault.{Fault}
+use Rattle.mr_args.specs.Statuses.{TellsShards}
 
 -- what is said of merged shards
 abbrev pub merged_line : ℕ → ℕ → ℕ → List ℕ

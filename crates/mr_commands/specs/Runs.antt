@@ -8,7 +8,7 @@ use Rattle.mr_script.specs.Scripts.{IsScriptFault, SpellsScript}
 use Rattle.mr_core.specs.declared.event.JobFault.{JobFault}
 use Rattle.mr_core.specs.declared.event.Shape.{Shape}
 use Rattle.mr_book.specs.declared.book.History.{History}
-use Rattle.mr_answers.specs.declared.fault.No.{No}
+use Rattle.mr_verdict.specs.declared.fault.No.{No}
 use Rattle.mr_pool.specs.Outcomes.{IsCertifiedRun, IsRunFault, run_shape}
 use Rattle.mr_pool.specs.declared.running.Certified.{Certified as Kept}
 use Rattle.mr_pool.specs.declared.running.RunFault.TheVariants as fault
@@ -18,17 +18,17 @@ use Rattle.mr_files.specs.Identities.{AreApart, Known}
 use Rattle.mr_files.specs.Refusals.{IsOneUnwritten, IsWriteRefusal}
 use Rattle.mr_files.specs.declared.store.FileFault.{FileFault}
 use Rattle.mr_files.specs.Names.{part_names, name_of_certificate, result_names}
-use Rattle.mr_asked.specs.declared.fault.Fault.{Fault}
-use Rattle.mr_asked.specs.declared.fault.Fault.TheVariants.{BadWorkers, BadAttempts, Script, ScratchInUse, SameFile, CannotRead, CannotWrite, OutOfMemory}
-use Rattle.mr_asked.specs.declared.asked.RunOptions.{RunOptions}
+use Rattle.mr_args.specs.declared.fault.Fault.{Fault}
+use Rattle.mr_args.specs.declared.fault.Fault.TheVariants.{BadWorkers, BadAttempts, Script, ScratchInUse, SameFile, CannotRead, CannotWrite, OutOfMemory}
+use Rattle.mr_args.specs.declared.asked.RunOptions.{RunOptions}
 use Rattle.mr_commands.specs.declared.running.Ran.{Ran}
 use Rattle.mr_commands.specs.declared.running.Ran.TheVariants.{Certified, Failed, Uncertified}
-use Rattle.mr_asked.specs.Asked.{IsRequestRefusal, request_asked}
-use Rattle.mr_judging.specs.Inputs.{IsAsked, IsInput, IsInputRefusal}
-use Rattle.mr_judging.specs.Named.{input_names, named}
-use Rattle.mr_asked.specs.Statuses.{TellsFile}
+use Rattle.mr_args.specs.Asked.{IsRequestRefusal, request_asked}
+use Rattle.mr_commands.specs.Inputs.{IsAsked, IsInput, IsInputRefusal}
+use Rattle.mr_commands.specs.Named.{input_names, named}
+use Rattle.mr_args.specs.Statuses.{TellsFile}
 use Rattle.mr_commands.specs.HistoryLines.{fault_name, history_text}
-use Rattle.mr_judging.specs.NoLines.{fault_text}
+use Rattle.mr_commands.specs.NoLines.{fault_text}
 
 -- ---- what is said
 

@@ -1,15 +1,22 @@
-//! What the commands of the program do, over a store of files: the sequential execution, the run by workers, the
-//! judgement as `mr_judging` has it, the merge of shards, and what is said of each.
+//! What the commands of the program do, over a store of files: the sequential execution, the run by
+//! workers, the judgement of a result, the merge of shards; and what is said of each.
 #![tactic(auto)]
 
+mod answer_lines;
 mod commands;
 mod history;
+mod input;
+mod judging;
 mod merging;
+mod no_lines;
 mod running;
 mod said;
+mod streaming;
 
 pub use crate::commands::{done, seq};
 pub use crate::history::history_text;
+pub use crate::judging::check;
 pub use crate::merging::merge;
+pub use crate::no_lines::no_line;
 pub use crate::running::{Ran, run};
-pub use mr_judging::{Said, check, no_line};
+pub use crate::said::Said;

@@ -3,10 +3,10 @@ ghost use Rattle.std.specs.Prelude.{◌≡◌, ◌+◌, ◌≤◌, ◌++◌, [],
 ghost use Rattle.mr_shard_files.specs.Merging.{ChangesResult};
 ghost use Rattle.mr_commands.specs.Merges.{AnswersMerge, IsMergeUnanswered, merged_line as line_of_merged};
 
+use crate::said::Said;
 use itoa::Buffer;
-use mr_asked::{Fault, MergeOptions};
+use mr_args::{Fault, MergeOptions};
 use mr_files::Store;
-use mr_judging::Said;
 use mr_shard_files::merge_shards;
 use std::alloc::Global;
 use std::thread::Threads;

@@ -8,7 +8,7 @@ ghost use Rattle.mr_input.specs.Files.{contents, nth_file, split_total};
 ghost use Rattle.mr_jobs.specs.JobSpec.{WordCount};
 ghost use Rattle.mr_sequential.specs.Good.{IsGoodResult};
 ghost use Rattle.mr_sequential.specs.Sequential.{sequential};
-ghost use Rattle.mr_answers.specs.Headline.{IsCertified};
+ghost use Rattle.mr_verdict.specs.Headline.{IsCertified};
 
 use mr_certform::{Version, WriteFault, write};
 use mr_check::{No, Yes, check};

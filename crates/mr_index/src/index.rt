@@ -9,10 +9,9 @@ ghost use Rattle.mr_index.specs.Index.{triples_of, triples_in, mapped_among, Are
 ghost use Rattle.mr_index.specs.Building.{joined};
 
 use crate::part::{Found, Part, map_split};
-use mr_bytes::{Name, RecordName, Value};
+use mr_bytes::{Name, Pace, Phase, RecordName, Unwatched, Value, Watch};
 use mr_jobs::Job;
 use mr_splits::{Kept, Plan};
-use mr_watch::{Pace, Phase, Unwatched, Watch};
 use std::alloc::{AllocError, Global};
 use std::marker::Model;
 

@@ -14,10 +14,9 @@ ghost use Rattle.mr_index.specs.Pairs.{pairs_seen, EndsRise, Sound, Fits};
 ghost use Rattle.mr_index.specs.Building.{numbered, ended};
 
 use crate::pairs::{Pairs, fill, push_end, start_of};
-use mr_bytes::{Name, Value};
+use mr_bytes::{Name, Pace, Value, Watch};
 use mr_jobs::{Job, Mapper};
 use mr_splits::{Kept, Located, Plan};
-use mr_watch::{Pace, Watch};
 use std::alloc::{AllocError, Global};
 use std::marker::Model;
 

@@ -7,11 +7,11 @@ use Rattle.mr_certform.specs.declared.item.Item.TheVariants.{Magic, Entry, End}
 use Rattle.mr_certform.specs.Spelling.{left_behind}
 use Rattle.mr_judge.specs.declared.blocks.FoundItem.{FoundItem}
 use Rattle.mr_judge.specs.declared.blocks.Sought.{Sought}
-use Rattle.mr_answers.specs.declared.fault.No.{No}
-use Rattle.mr_answers.specs.Verdict.{Reached, Subject, tests, after, part_faults, first, entries_in}
-use Rattle.mr_judge.specs.Steps.{Answers, HasRoom, Room}
+use Rattle.mr_verdict.specs.declared.fault.No.{No}
+use Rattle.mr_verdict.specs.Verdict.{Reached, Subject, tests, after, part_faults, first, entries_in}
+use Rattle.mr_verdict.specs.Steps.{Answers, HasRoom, Room}
 use Rattle.mr_judge.specs.Blocks.{onto, has_end, items_in, items_sought, GoesOn}
-use Rattle.mr_judge.specs.Items.{Coming, Took}
+use Rattle.mr_verdict.specs.Items.{Coming, Took}
 use Rattle.mr_judge.proofs.Faults.{told_is}
 use Rattle.mr_judge.proofs.PartLemmas.{end_or_not, loop_more, loop_end, loop_fault, entries_more, entries_end, named_after, room_after}
 

@@ -2,12 +2,12 @@
 use Rattle.std.proofs.Common.{◌≡◌, ℕ, ◌+◌, ◌≤◌, true, false, Some, List, sym, subst, arith}
 use Rattle.std.specs.Prelude.{Ok, Err}
 use Rattle.mr_certform.specs.declared.item.Item.{Item}
-use Rattle.mr_answers.specs.declared.fault.No.TheVariants.{Malformed}
-use Rattle.mr_judge.specs.declared.items.Stop.{Stop}
-use Rattle.mr_judge.specs.declared.items.Stop.TheVariants.{Fault, Device, TooLong, Output, LongOutput}
-use Rattle.mr_answers.specs.Verdict.{Reached, start, entries_in}
-use Rattle.mr_judge.specs.Steps.{Ground, subject_with, Room}
-use Rattle.mr_judge.specs.Items.{Coming, Each, CanCome}
+use Rattle.mr_verdict.specs.declared.fault.No.TheVariants.{Malformed}
+use Rattle.mr_verdict.specs.declared.items.Stop.{Stop}
+use Rattle.mr_verdict.specs.declared.items.Stop.TheVariants.{Fault, Device, TooLong, Output, LongOutput}
+use Rattle.mr_verdict.specs.Verdict.{Reached, start, entries_in}
+use Rattle.mr_verdict.specs.Steps.{Ground, subject_with, Room}
+use Rattle.mr_verdict.specs.Items.{Coming, Each, CanCome}
 use Rattle.mr_judge.specs.Blocks.{onto, Read, IsHalted, Judges, Judged}
 use Rattle.mr_judge.specs.Outputs.{Ahead, Onward, Through, Fits, CanCome as CanComeAhead, RowsJudged, begins}
 use Rattle.mr_judge.proofs.BlockLemmas.{Reads}

@@ -10,22 +10,22 @@ use Rattle.mr_certform.specs.Grammar.{AreBytes}
 use Rattle.mr_certform.specs.Spelling.{items_of, stop}
 use Rattle.mr_certform.specs.Streaming.{Agrees, MayCome}
 use Rattle.mr_certform.proofs.Streams.{none_are, come_bytes, come_agrees}
-use Rattle.mr_answers.specs.declared.fault.No.{No}
-use Rattle.mr_answers.specs.declared.fault.No.TheVariants.{OutputCount, OutOfMemory, Device as AtRead}
-use Rattle.mr_answers.specs.declared.fault.Source.{Source}
-use Rattle.mr_judge.specs.declared.items.Stop.{Stop}
-use Rattle.mr_judge.specs.declared.items.Stop.TheVariants.{Fault, Device, TooLong, Output, LongOutput}
-use Rattle.mr_answers.specs.declared.yes.Yes.{Yes}
-use Rattle.mr_answers.specs.Headline.{IsCertified}
-use Rattle.mr_judge.specs.Items.{Coming}
+use Rattle.mr_verdict.specs.declared.fault.No.{No}
+use Rattle.mr_verdict.specs.declared.fault.No.TheVariants.{OutputCount, OutOfMemory, Device as AtRead}
+use Rattle.mr_verdict.specs.declared.fault.Source.{Source}
+use Rattle.mr_verdict.specs.declared.items.Stop.{Stop}
+use Rattle.mr_verdict.specs.declared.items.Stop.TheVariants.{Fault, Device, TooLong, Output, LongOutput}
+use Rattle.mr_verdict.specs.declared.yes.Yes.{Yes}
+use Rattle.mr_verdict.specs.Headline.{IsCertified}
+use Rattle.mr_verdict.specs.Items.{Coming}
 use Rattle.mr_judge.specs.Kinds.{InKind}
-use Rattle.mr_answers.specs.Verdict.{start}
+use Rattle.mr_verdict.specs.Verdict.{start}
 use Rattle.mr_judge.specs.Outputs.{Leaves, Through, AllJudged, IsVerdict}
 use Rattle.mr_judge.specs.From.{Give, AgreeAll, MayGive, IsVerdictFrom, VerdictOfSome, Judged, IsDevice}
 use Rattle.mr_judge.specs.Reading.{Reading, IsLeft, IsToCome}
 use Rattle.mr_judge.specs.Readers.{StopOfSome, TellsNoRead}
-use Rattle.mr_answers.proofs.FaultTruth.{tells_of_bytes}
-use Rattle.mr_answers.proofs.HeadlineLemmas.{certified}
+use Rattle.mr_verdict.proofs.FaultTruth.{tells_of_bytes}
+use Rattle.mr_verdict.proofs.HeadlineLemmas.{certified}
 use Rattle.mr_judge.proofs.KindLemmas.{kinds_of}
 use Rattle.mr_judge.proofs.ReadingLemmas.{all_agreeing}
 use Rattle.mr_judge.proofs.VerdictLemmas.{verdict_count}

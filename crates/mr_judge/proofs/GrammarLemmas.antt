@@ -10,10 +10,10 @@ use Rattle.mr_certform.specs.declared.place.Place.{Place}
 use Rattle.mr_certform.specs.declared.place.Place.TheVariants.{AtMagic, AtParts, AtFiles, AtSkips, AtGroups, AtEntries, AtEntry, AtEnd, Behind}
 use Rattle.mr_certform.specs.Places.{behind, literal_bytes, file_lengths, partitions, skips, groups, entries, first_name}
 use Rattle.mr_judge.specs.Kinds.{IsOfKind}
-use Rattle.mr_answers.specs.declared.fault.No.{No}
-use Rattle.mr_answers.specs.Verdict.{item_eq, job_wanted, input_wanted, last_of}
-use Rattle.mr_judge.specs.Steps.{met, no_skip, skips_in_front, awaits_skips, Counted, counted, listed, unless, skip_fault, Listed}
-use Rattle.mr_answers.specs.declared.fault.No.TheVariants.{TooManySkips}
+use Rattle.mr_verdict.specs.declared.fault.No.{No}
+use Rattle.mr_verdict.specs.Verdict.{item_eq, job_wanted, input_wanted, last_of}
+use Rattle.mr_verdict.specs.Steps.{met, no_skip, skips_in_front, awaits_skips, Counted, counted, listed, unless, skip_fault, Listed}
+use Rattle.mr_verdict.specs.declared.fault.No.TheVariants.{TooManySkips}
 use Rattle.mr_bytes.specs.declared.RecordName.{RecordName}
 use Rattle.mr_splits.specs.Named.{NamedRecord}
 

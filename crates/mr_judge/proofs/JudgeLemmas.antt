@@ -7,11 +7,11 @@ use Rattle.mr_jobs.specs.JobSpec.{RequestSpec}
 use Rattle.mr_input.specs.Files.{contents}
 use Rattle.mr_certform.specs.declared.item.Item.{Item}
 use Rattle.mr_certform.specs.Spelling.{items_of, stop}
-use Rattle.mr_answers.specs.declared.yes.Yes.{Yes}
-use Rattle.mr_answers.specs.declared.fault.No.{No}
-use Rattle.mr_answers.specs.declared.fault.No.TheVariants.{OutOfMemory}
-use Rattle.mr_answers.specs.Verdict.{count_faults, accepted_by, verdict_of, first}
-use Rattle.mr_judge.specs.Steps.{Answers, header_met, case_at}
+use Rattle.mr_verdict.specs.declared.yes.Yes.{Yes}
+use Rattle.mr_verdict.specs.declared.fault.No.{No}
+use Rattle.mr_verdict.specs.declared.fault.No.TheVariants.{OutOfMemory}
+use Rattle.mr_verdict.specs.Verdict.{count_faults, accepted_by, verdict_of, first}
+use Rattle.mr_verdict.specs.Steps.{Answers, header_met, case_at}
 use Rattle.mr_judge.proofs.VerdictLemmas.{accepted, verdict_fault, verdict_ok}
 
 pub as_many : (files : List (Vec ℕ Global)) (n m : ℕ) → length files ≡ n → n ≡ m → length (contents files) ≡ m

@@ -2,13 +2,13 @@
 use Rattle.std.proofs.Common.{◌≡◌, ℕ, zero, suc, ◌+◌, ◌≤◌, true, false, Option, Some, None, Ok, Err, List, [], ◌∷◌, length, refl, ap, sym, subst, ◌∙◌, inl, inr, arith}
 use Rattle.mr_certform.specs.declared.item.Item.{Item}
 use Rattle.mr_certform.specs.declared.item.Item.TheVariants.{Magic, End}
-use Rattle.mr_answers.specs.declared.fault.No.{No}
-use Rattle.mr_answers.specs.declared.fault.No.TheVariants.{Malformed}
-use Rattle.mr_judge.specs.declared.items.Stop.{Stop}
-use Rattle.mr_judge.specs.declared.items.Stop.TheVariants.{Fault, Device, TooLong, Output, LongOutput}
-use Rattle.mr_answers.specs.Verdict.{Reached, Subject, start, part_faults, first, entries_in}
-use Rattle.mr_judge.specs.Steps.{Answers, Room}
-use Rattle.mr_judge.specs.Items.{Coming, CanCome}
+use Rattle.mr_verdict.specs.declared.fault.No.{No}
+use Rattle.mr_verdict.specs.declared.fault.No.TheVariants.{Malformed}
+use Rattle.mr_verdict.specs.declared.items.Stop.{Stop}
+use Rattle.mr_verdict.specs.declared.items.Stop.TheVariants.{Fault, Device, TooLong, Output, LongOutput}
+use Rattle.mr_verdict.specs.Verdict.{Reached, Subject, start, part_faults, first, entries_in}
+use Rattle.mr_verdict.specs.Steps.{Answers, Room}
+use Rattle.mr_verdict.specs.Items.{Coming, CanCome}
 use Rattle.mr_judge.specs.Blocks.{onto, has_end, Read, IsHalted, IsTold, Judges, GoesOn, Judged}
 use Rattle.mr_judge.proofs.Faults.{told_is}
 use Rattle.mr_judge.proofs.BlockLemmas.{Reads, ended_counts}

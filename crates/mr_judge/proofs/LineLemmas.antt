@@ -9,12 +9,12 @@ use Rattle.mr_bytes.specs.declared.Value.{Value}
 use Rattle.mr_bytes.specs.declared.Value.TheVariants.{One}
 use Rattle.mr_jobs.specs.JobSpec.{JobSpec, WordCount, LinesWith, Resources, InvertedIndex, has_lines}
 use Rattle.mr_reduce.specs.Text.{place_line, text_of}
-use Rattle.mr_answers.specs.declared.fault.No.{No}
-use Rattle.mr_answers.specs.declared.fault.No.TheVariants.{OutputDiffers}
-use Rattle.mr_judge.specs.declared.items.Stop.{Stop}
-use Rattle.mr_judge.specs.declared.items.Stop.TheVariants.{Fault, Device, TooLong, Output, LongOutput}
-use Rattle.mr_answers.specs.Verdict.{first, passes}
-use Rattle.mr_judge.specs.Steps.{Answers}
+use Rattle.mr_verdict.specs.declared.fault.No.{No}
+use Rattle.mr_verdict.specs.declared.fault.No.TheVariants.{OutputDiffers}
+use Rattle.mr_verdict.specs.declared.items.Stop.{Stop}
+use Rattle.mr_verdict.specs.declared.items.Stop.TheVariants.{Fault, Device, TooLong, Output, LongOutput}
+use Rattle.mr_verdict.specs.Verdict.{first, passes}
+use Rattle.mr_verdict.specs.Steps.{Answers}
 use Rattle.mr_judge.specs.Outputs.{Ahead, TextTold}
 
 -- ---- the lines of a group

@@ -5,8 +5,8 @@ use Rattle.mr_jobs.specs.JobSpec.{RequestSpec}
 use Rattle.mr_splits.specs.Named.{NamedRecord}
 use Rattle.mr_certform.specs.declared.item.Item.{Item}
 use Rattle.mr_certform.specs.declared.item.Item.TheVariants.{Skip, Entry}
-use Rattle.mr_answers.specs.Verdict.{Accepted, accepted_by, entries_in}
-use Rattle.mr_judge.specs.Steps.{header_met, Counted, counted, Listed, listed}
+use Rattle.mr_verdict.specs.Verdict.{Accepted, accepted_by, entries_in}
+use Rattle.mr_verdict.specs.Steps.{header_met, Counted, counted, Listed, listed}
 use Rattle.mr_judge.proofs.VerdictLemmas.{counted_is, listed_accepted, header_accepted}
 
 -- each entry counts for one pair

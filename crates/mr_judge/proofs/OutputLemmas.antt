@@ -13,15 +13,15 @@ use Rattle.mr_certform.specs.declared.item.Item.{Item}
 use Rattle.mr_certform.specs.declared.item.Item.TheVariants.{Groups, End}
 use Rattle.mr_bytes.specs.declared.Name.{Name}
 use Rattle.mr_bytes.specs.Pairs.{Triple}
-use Rattle.mr_answers.specs.declared.fault.No.{No}
-use Rattle.mr_answers.specs.declared.fault.No.TheVariants.{OutputDiffers}
-use Rattle.mr_judge.specs.declared.items.Stop.{Stop}
-use Rattle.mr_judge.specs.declared.items.Stop.TheVariants.{Fault, Device, TooLong, Output, LongOutput}
-use Rattle.mr_answers.specs.Verdict.{Reached, passes, end_tests, text_tests, order_tests, with_entry, group_tests, behind_group, entry_tests, after_entry}
-use Rattle.mr_judge.specs.Steps.{Answers, Ground, subject_with}
+use Rattle.mr_verdict.specs.declared.fault.No.{No}
+use Rattle.mr_verdict.specs.declared.fault.No.TheVariants.{OutputDiffers}
+use Rattle.mr_verdict.specs.declared.items.Stop.{Stop}
+use Rattle.mr_verdict.specs.declared.items.Stop.TheVariants.{Fault, Device, TooLong, Output, LongOutput}
+use Rattle.mr_verdict.specs.Verdict.{Reached, passes, end_tests, text_tests, order_tests, with_entry, group_tests, behind_group, entry_tests, after_entry}
+use Rattle.mr_verdict.specs.Steps.{Answers, Ground, subject_with}
 use Rattle.mr_judge.specs.Blocks.{onto}
 use Rattle.mr_sequential.specs.Rules.{rules_of}
-use Rattle.mr_judge.specs.Steps.{opens}
+use Rattle.mr_verdict.specs.Steps.{opens}
 use Rattle.mr_judge.specs.Outputs.{Ahead, CanCome, Leaves, Fits, Onward, Through, Tested, Opens, TextTold, EndTold, Halts, HaltsItems, begins}
 use Rattle.mr_judge.proofs.Faults.{fine, failed, told_left, told_right, both_fine, group_goes_on, behind_goes_on}
 

@@ -6,9 +6,9 @@ use Rattle.mr_certform.specs.declared.item.Item.TheVariants.{Groups, Entries, En
 use Rattle.mr_certform.specs.Spelling.{left_behind}
 use Rattle.mr_bytes.specs.Pairs.{Triple}
 use Rattle.mr_sequential.specs.Good.{named}
-use Rattle.mr_answers.specs.declared.fault.No.{No}
-use Rattle.mr_answers.specs.Verdict.{Reached, Subject, with_entry, behind_group, entry_tests, after_entry, tests, after, part_faults, first, entries_in}
-use Rattle.mr_judge.specs.Steps.{Answers, HasRoom, Room}
+use Rattle.mr_verdict.specs.declared.fault.No.{No}
+use Rattle.mr_verdict.specs.Verdict.{Reached, Subject, with_entry, behind_group, entry_tests, after_entry, tests, after, part_faults, first, entries_in}
+use Rattle.mr_verdict.specs.Steps.{Answers, HasRoom, Room}
 use Rattle.mr_judge.proofs.Faults.{first_more, told_left, told_is}
 
 -- the faults from an item on that isn't the end

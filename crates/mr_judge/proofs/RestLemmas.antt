@@ -10,13 +10,13 @@ use Rattle.mr_certform.specs.declared.place.Place.TheVariants.{AtMagic, AtSkips}
 use Rattle.mr_certform.specs.Places.{partitions}
 use Rattle.mr_judge.specs.Kinds.{InKind}
 use Rattle.mr_certform.specs.Spelling.{items_of, stop}
-use Rattle.mr_answers.specs.declared.yes.Yes.{Yes}
-use Rattle.mr_answers.specs.declared.fault.No.TheVariants.{OtherJob, OtherInput, OutOfMemory}
-use Rattle.mr_judge.specs.declared.items.Stop.{Stop}
-use Rattle.mr_judge.specs.declared.items.Stop.TheVariants.{Fault, Device, TooLong, Output, LongOutput}
-use Rattle.mr_answers.specs.Verdict.{start, subject_of, part_faults, count_faults, accepted_by, entries_in, first}
-use Rattle.mr_judge.specs.Steps.{Counted, Listed, counted, listed, header_met, case_at}
-use Rattle.mr_judge.specs.Items.{Coming, CanCome, Answered, IsStopped, Each}
+use Rattle.mr_verdict.specs.declared.yes.Yes.{Yes}
+use Rattle.mr_verdict.specs.declared.fault.No.TheVariants.{OtherJob, OtherInput, OutOfMemory}
+use Rattle.mr_verdict.specs.declared.items.Stop.{Stop}
+use Rattle.mr_verdict.specs.declared.items.Stop.TheVariants.{Fault, Device, TooLong, Output, LongOutput}
+use Rattle.mr_verdict.specs.Verdict.{start, subject_of, part_faults, count_faults, accepted_by, entries_in, first}
+use Rattle.mr_verdict.specs.Steps.{Counted, Listed, counted, listed, header_met, case_at}
+use Rattle.mr_verdict.specs.Items.{Coming, CanCome, Answered, IsStopped, Each}
 use Rattle.mr_judge.specs.Blocks.{IsTold, Judges}
 use Rattle.mr_input.specs.Files.{nth_file}
 use Rattle.mr_judge.specs.Outputs.{Ahead, Fits, Leaves, Through, Looked, IsRestTold, RestJudged, OfBytes, IsVerdict, AllJudged, begins}

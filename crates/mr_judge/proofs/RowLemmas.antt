@@ -5,10 +5,10 @@ use Rattle.std.proofs.lemmas.List.{drop_more}
 use Rattle.mr_certform.specs.declared.item.Item.{Item}
 use Rattle.mr_certform.specs.declared.item.Item.TheVariants.{End}
 use Rattle.mr_judge.specs.declared.blocks.FoundItem.{FoundItem}
-use Rattle.mr_judge.specs.declared.items.Stop.{Stop}
-use Rattle.mr_judge.specs.declared.items.Stop.TheVariants.{Fault, Device, TooLong, Output, LongOutput}
-use Rattle.mr_answers.specs.Verdict.{Reached, tests, after}
-use Rattle.mr_judge.specs.Steps.{Ground, subject_with}
+use Rattle.mr_verdict.specs.declared.items.Stop.{Stop}
+use Rattle.mr_verdict.specs.declared.items.Stop.TheVariants.{Fault, Device, TooLong, Output, LongOutput}
+use Rattle.mr_verdict.specs.Verdict.{Reached, tests, after}
+use Rattle.mr_verdict.specs.Steps.{Ground, subject_with}
 use Rattle.mr_judge.specs.Blocks.{items_in, Judged}
 use Rattle.mr_judge.specs.Outputs.{Ahead, Onward, Tested, RowsJudged, begins}
 use Rattle.mr_judge.proofs.BlockLemmas.{Stands, blank, stands_next, stands_more, stands_ended, stands_fault, stands_all}

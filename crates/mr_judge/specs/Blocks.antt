@@ -5,15 +5,15 @@ use Rattle.mr_certform.specs.declared.item.Item.{Item}
 use Rattle.mr_certform.specs.declared.item.Item.TheVariants.{Entry, End}
 use Rattle.mr_bytes.specs.Pairs.{Triple}
 use Rattle.mr_sequential.specs.Good.{named}
-use Rattle.mr_answers.specs.declared.fault.No.{No}
+use Rattle.mr_verdict.specs.declared.fault.No.{No}
 use Rattle.mr_judge.specs.declared.blocks.Sought.{Sought}
 use Rattle.mr_judge.specs.declared.blocks.FoundItem.{FoundItem}
-use Rattle.mr_answers.specs.Verdict.{Reached, Subject, start, part_faults, first, entries_in}
-use Rattle.mr_answers.specs.declared.fault.No.TheVariants.{OutOfMemory}
-use Rattle.mr_judge.specs.declared.items.Stop.{Stop}
-use Rattle.mr_judge.specs.declared.items.Stop.TheVariants.{Fault}
-use Rattle.mr_judge.specs.Items.{Coming, CanCome}
-use Rattle.mr_judge.specs.Steps.{Answers, Room}
+use Rattle.mr_verdict.specs.Verdict.{Reached, Subject, start, part_faults, first, entries_in}
+use Rattle.mr_verdict.specs.declared.fault.No.TheVariants.{OutOfMemory}
+use Rattle.mr_verdict.specs.declared.items.Stop.{Stop}
+use Rattle.mr_verdict.specs.declared.items.Stop.TheVariants.{Fault}
+use Rattle.mr_verdict.specs.Items.{Coming, CanCome}
+use Rattle.mr_verdict.specs.Steps.{Answers, Room}
 
 -- items with others behind them; behind an end nothing is left
 abbrev pub onto : List Item → List Item → List Item

@@ -1,6 +1,6 @@
 -- Of no public promise: the borders between the groups of a partition, from which it may be judged on.
 use Rattle.std.specs.Option.{option_map}
-use Rattle.mr_answers.specs.Verdict.{Reached, start}
+use Rattle.mr_verdict.specs.Verdict.{Reached, start}
 use Rattle.mr_judge.specs.declared.border.Border.{Border}
 
 -- what is remembered at a border, of all that bears on what stands behind it

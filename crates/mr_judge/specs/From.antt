@@ -3,12 +3,12 @@ use Rattle.std.specs.Prelude.{◌≡◌, ◌⊎◌, ℕ, ◌<◌, List, [], ◌�
 use Rattle.mr_jobs.specs.JobSpec.{RequestSpec}
 use Rattle.mr_certform.specs.Grammar.{AreBytes}
 use Rattle.mr_certform.specs.Streaming.{Agrees}
-use Rattle.mr_answers.specs.declared.fault.No.{No}
-use Rattle.mr_answers.specs.declared.fault.No.TheVariants.{OutOfMemory, Device}
-use Rattle.mr_answers.specs.declared.fault.Source.TheVariants.{Certificate, Output}
-use Rattle.mr_answers.specs.declared.yes.Yes.{Yes}
-use Rattle.mr_answers.specs.Verdict.{verdict_of}
-use Rattle.mr_answers.specs.Headline.{IsCertified, accepted_of}
+use Rattle.mr_verdict.specs.declared.fault.No.{No}
+use Rattle.mr_verdict.specs.declared.fault.No.TheVariants.{OutOfMemory, Device}
+use Rattle.mr_verdict.specs.declared.fault.Source.TheVariants.{Certificate, Output}
+use Rattle.mr_verdict.specs.declared.yes.Yes.{Yes}
+use Rattle.mr_verdict.specs.Verdict.{verdict_of}
+use Rattle.mr_verdict.specs.Headline.{IsCertified, accepted_of}
 
 -- the readers give these: of each output and of the certificate its reader has just these bytes left
 pub record Give (outputs : List (Option (List ℕ))) (certificate : Option (List ℕ)) (outs : List (List ℕ)) (bytes : List ℕ) : Type 0 where

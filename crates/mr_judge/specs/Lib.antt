@@ -1,7 +1,5 @@
-pub mod Steps
 pub mod Borders
 pub mod Kinds
-pub mod Items
 pub mod Outputs
 pub mod Reading
 pub mod Readers

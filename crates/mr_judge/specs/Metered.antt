@@ -6,7 +6,7 @@ use Rattle.mr_splits.specs.Cut.{Cut, records_of}
 use Rattle.mr_certform.specs.declared.item.Item.{Item}
 use Rattle.mr_index.specs.declared.index.Meter.{Meter}
 use Rattle.mr_index.specs.Index.{mapped_among}
-use Rattle.mr_answers.specs.Verdict.{entries_in}
+use Rattle.mr_verdict.specs.Verdict.{entries_in}
 
 abbrev pub cut_by : RequestSpec → List (List ℕ) → Cut
 cut_by request files = record { size = request.split; files = files }

@@ -5,20 +5,20 @@ use Rattle.mr_store.specs.Devices.{counted}
 use Rattle.mr_input.specs.Files.{nth_file}
 use Rattle.mr_certform.specs.declared.item.Item.{Item}
 use Rattle.mr_certform.specs.declared.item.Item.TheVariants.{Groups, End}
-use Rattle.mr_answers.specs.declared.fault.No.{No}
-use Rattle.mr_answers.specs.declared.fault.No.TheVariants.{OutputDiffers, OutOfMemory}
-use Rattle.mr_judge.specs.declared.items.Stop.{Stop}
-use Rattle.mr_judge.specs.declared.items.Stop.TheVariants.{Fault, Device as NoItem, TooLong as LongItems, Output, LongOutput}
+use Rattle.mr_verdict.specs.declared.fault.No.{No}
+use Rattle.mr_verdict.specs.declared.fault.No.TheVariants.{OutputDiffers, OutOfMemory}
+use Rattle.mr_verdict.specs.declared.items.Stop.{Stop}
+use Rattle.mr_verdict.specs.declared.items.Stop.TheVariants.{Fault, Device as NoItem, TooLong as LongItems, Output, LongOutput}
 use Rattle.mr_judge.specs.declared.outputs.Lack.{Lack}
 use Rattle.mr_judge.specs.declared.outputs.Lack.TheVariants.{Device, TooLong}
 use Rattle.mr_jobs.specs.JobSpec.{RequestSpec}
 use Rattle.mr_certform.specs.Grammar.{AreBytes}
 use Rattle.mr_certform.specs.Spelling.{items_of, stop}
-use Rattle.mr_answers.specs.Verdict.{Reached, Accepted, passes, count_faults, accepted_by, entries_in, first, verdict_of}
-use Rattle.mr_judge.specs.Steps.{Answers, Ground, subject_with, case_at}
-use Rattle.mr_answers.specs.declared.yes.Yes.{Yes}
-use Rattle.mr_answers.specs.Headline.{accepted_of}
-use Rattle.mr_judge.specs.Items.{Coming}
+use Rattle.mr_verdict.specs.Verdict.{Reached, Accepted, passes, count_faults, accepted_by, entries_in, first, verdict_of}
+use Rattle.mr_verdict.specs.Steps.{Answers, Ground, subject_with, case_at}
+use Rattle.mr_verdict.specs.declared.yes.Yes.{Yes}
+use Rattle.mr_verdict.specs.Headline.{accepted_of}
+use Rattle.mr_verdict.specs.Items.{Coming}
 use Rattle.mr_judge.specs.Blocks.{Judged}
 
 -- what may be still to come of the output that is open, and which outputs behind it

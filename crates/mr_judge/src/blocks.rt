@@ -3,15 +3,15 @@
 ghost use Rattle.std.specs.Prelude.{◌≡◌, ◌⊎◌, None, false, IfOk, ◌<◌, ◌≤◌, ◌+◌, ◌^◌, [], ◌∷◌, ◌++◌, OnOk, List, length};
 ghost use Rattle.std.specs.List.{AllByRecursion};
 ghost use Rattle.mr_bytes.specs.Pairs.{Triple};
-ghost use Rattle.mr_judge.specs.Items.{CanCome, Stops};
-ghost use Rattle.mr_answers.specs.Verdict.{entries_in};
+ghost use Rattle.mr_verdict.specs.Items.{CanCome, Stops};
+ghost use Rattle.mr_verdict.specs.Verdict.{entries_in};
 ghost use Rattle.mr_judge.specs.Blocks.{has_end, Read, items_sought, items_in, IsPlaced, IsFound};
 
 use crate::facts::Basis;
-use crate::items::{Halt, Items, Stop};
 use mr_bytes::Value;
 use mr_certform::Item;
 use mr_index::{Found, Meter};
+use mr_verdict::{Halt, Items, Stop};
 use std::alloc::AllocError;
 
 /// How many items are read and looked up ahead.

@@ -1,7 +1,7 @@
 //! Borders between the groups of a partition, from which it may be judged on.
 ghost use Rattle.std.specs.Prelude.{◌≡◌, ◌↔◌, IsTrue};
 ghost use Rattle.std.specs.Option.{option_map};
-ghost use Rattle.mr_answers.specs.Verdict.{start};
+ghost use Rattle.mr_verdict.specs.Verdict.{start};
 ghost use Rattle.mr_judge.specs.Borders.{at_border};
 
 /// A border between two groups of a partition: the number of the next partition; how many groups of this one are still

@@ -2,16 +2,15 @@
 ghost use Rattle.std.specs.Prelude.{◌≡◌, ◌+◌, [], MatchResult, OnOk, length, nat_le};
 ghost use Rattle.std.specs.Option.{option_map};
 ghost use Rattle.mr_sequential.specs.Rules.{rules_of};
-ghost use Rattle.mr_answers.specs.Verdict.{passes, first_tests, later_tests};
-ghost use Rattle.mr_judge.specs.Steps.{Answers};
+ghost use Rattle.mr_verdict.specs.Verdict.{passes, first_tests, later_tests};
+ghost use Rattle.mr_verdict.specs.Steps.{Answers};
 ghost use Rattle.mr_judge.specs.Outputs.{CanCome, EndTold, TextTold, Halts};
 
 use crate::comparing::{is_key_less, is_name_less};
 use crate::facts::Basis;
-use crate::items::Stop;
 use crate::outputs::Outputs;
-use mr_answers::No;
 use mr_bytes::Name;
+use mr_verdict::{No, Stop};
 
 /// Whether a partition that has no more groups ends where its output does.
 pub(crate) fn test_end<O: Outputs>(outputs: &mut O, p: u64, groups: u64) -> Result<(), Stop>

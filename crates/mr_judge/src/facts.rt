@@ -20,7 +20,7 @@ pub struct Basis<'a> {
 }
 
 impl<'a> Model for Basis<'a> {
-    ghost use Rattle.mr_judge.specs.Steps.{Ground};
+    ghost use Rattle.mr_verdict.specs.Steps.{Ground};
 
     ghost Value = { Ground };
 

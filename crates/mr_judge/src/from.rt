@@ -3,22 +3,21 @@ ghost use Rattle.std.specs.Prelude.{◌≡◌, ◌⊎◌, ◌<◌, ◌≤◌, �
 ghost use Rattle.mr_input.specs.Files.{split_total};
 ghost use Rattle.mr_jobs.specs.JobSpec.{RequestSpec};
 ghost use Rattle.mr_certform.specs.Grammar.{AreBytes};
-ghost use Rattle.mr_answers.specs.Headline.{IsCertified};
+ghost use Rattle.mr_verdict.specs.Headline.{IsCertified};
 ghost use Rattle.mr_judge.specs.Outputs.{IsVerdict};
 ghost use Rattle.mr_judge.specs.From.{Give, Judged, VerdictOfSome, IsVerdictFrom, IsDevice};
 ghost use Rattle.mr_judge.specs.Readers.{StopOfSome, TellsNoRead};
 
-use crate::items::Stop;
 use crate::judge::judge_all;
 use crate::lent::Lent;
 use crate::readers::FromReaders;
-use mr_answers::{No, Source, Yes};
+use mr_bytes::{Unwatched, Watch};
 use mr_certform::StreamWalker;
 use mr_index::Meter;
 use mr_input::Input;
 use mr_jobs::Request;
 use mr_store::CountedRead;
-use mr_watch::{Unwatched, Watch};
+use mr_verdict::{No, Source, Stop, Yes};
 use std::alloc::{AllocError, Global};
 
 /// How many reads of each have failed.

@@ -6,30 +6,26 @@ ghost use Rattle.mr_certform.specs.declared.item.Item.{Item as Read};
 ghost use Rattle.mr_certform.specs.declared.place.Place.TheVariants.{AtMagic, AtSkips};
 ghost use Rattle.mr_certform.specs.Walking.{items_left, halt};
 ghost use Rattle.mr_certform.specs.Spelling.{items_of, stop};
-ghost use Rattle.mr_answers.specs.declared.fault.No.TheVariants.{OutOfMemory};
-ghost use Rattle.mr_answers.specs.Verdict.{start, subject_of, verdict_of};
-ghost use Rattle.mr_answers.specs.Headline.{IsCertified, accepted_of};
+ghost use Rattle.mr_verdict.specs.declared.fault.No.TheVariants.{OutOfMemory};
+ghost use Rattle.mr_verdict.specs.Verdict.{start, subject_of, verdict_of};
+ghost use Rattle.mr_verdict.specs.Headline.{IsCertified, accepted_of};
 ghost use Rattle.mr_judge.specs.Metered.{IsBounded, IsExact, cut_by};
-ghost use Rattle.mr_judge.specs.Steps.{case_at};
+ghost use Rattle.mr_verdict.specs.Steps.{case_at};
 ghost use Rattle.mr_judge.specs.Blocks.{Judges};
 ghost use Rattle.mr_judge.specs.Kinds.{InKind};
-ghost use Rattle.mr_judge.specs.Items.{CanCome, Each};
+ghost use Rattle.mr_verdict.specs.Items.{CanCome, Each};
 ghost use Rattle.mr_judge.specs.Outputs.{CanCome as CanComeAhead, Fits, Through, RestJudged, AllJudged, HaltsItems, HaltsOutputs, begins};
 
 use crate::facts::Basis;
-use crate::heading::expect_header;
-use crate::items::{Items, Stop};
 use crate::outputs::{AtHand, Outputs};
 use crate::parts::check_parts;
-use crate::skips::{expect_count, take_skips};
-use mr_answers::{No, Yes};
-use mr_bytes::RecordName;
+use mr_bytes::{RecordName, Unwatched, Watch};
 use mr_certform::Walker;
 use mr_index::{EmissionIndex, Meter};
 use mr_input::Input;
 use mr_jobs::Request;
 use mr_splits::Plan;
-use mr_watch::{Unwatched, Watch};
+use mr_verdict::{Items, No, Stop, Yes, expect_count, expect_header, take_skips};
 use std::alloc::{AllocError, Global};
 
 /// The plan of an input under a request that fits it.

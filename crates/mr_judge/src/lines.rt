@@ -7,11 +7,11 @@ ghost use Rattle.mr_judge.specs.Outputs.{CanCome, TextTold, Halts};
 
 use crate::entry_tests::test_text;
 use crate::facts::Basis;
-use crate::items::Stop;
 use crate::outputs::Outputs;
 use mr_bytes::{Value, Values};
 use mr_jobs::Job;
 use mr_reduce::group_text;
+use mr_verdict::Stop;
 use std::alloc::AllocError;
 
 /// The text of a key with one value, in place of what the buffer held.

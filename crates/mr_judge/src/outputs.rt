@@ -4,6 +4,7 @@ ghost use Rattle.mr_input.specs.Files.{contents, nth_file};
 ghost use Rattle.mr_judge.specs.Outputs.{CanCome, Opens, Compares, Ends, Lacks};
 
 use crate::comparing::agreement;
+use mr_verdict::Stop;
 
 /// Why an output can't be compared.
 #[derive(Clone, Copy, Debug, PartialEq, Eq, Drop)]
@@ -12,6 +13,19 @@ pub enum Lack {
     Device { partition: u64 },
     /// It has 2^63 bytes or more.
     TooLong,
+}
+
+impl From<Lack> for Stop {
+    ghost from_gives = { λ l s. s ≡ stop_of l };
+
+    ghost use Rattle.mr_judge.specs.Outputs.{stop_of};
+
+    fn from(lack: Lack) -> Stop {
+        match lack {
+            Lack::Device { partition } => Stop::Output { partition },
+            Lack::TooLong => Stop::LongOutput,
+        }
+    }
 }
 
 /// Outputs that are opened in turn. Each is read from its front and no byte of it twice.

@@ -1,21 +1,20 @@
 //! The partitions of a certificate, with the outputs.
 ghost use Rattle.std.specs.Prelude.{◌≡◌, ◌⊎◌, ◌<◌, ◌≤◌, ◌+◌, ◌-◌, ◌^◌, IfOk, OnOk, true, false, length};
 ghost use Rattle.std.specs.List.{AllByRecursion};
-ghost use Rattle.mr_answers.specs.Verdict.{start, entries_in};
-ghost use Rattle.mr_judge.specs.Steps.{subject_with, Room};
+ghost use Rattle.mr_verdict.specs.Verdict.{start, entries_in};
+ghost use Rattle.mr_verdict.specs.Steps.{subject_with, Room};
 ghost use Rattle.mr_judge.specs.Blocks.{items_in, IsFound, Judges};
-ghost use Rattle.mr_judge.specs.Items.{CanCome, Each};
+ghost use Rattle.mr_verdict.specs.Items.{CanCome, Each};
 ghost use Rattle.mr_judge.specs.Outputs.{CanCome as CanComeAhead, Fits, Through, RowsJudged, Halts, HaltsItems, HaltsOutputs, begins};
 
 use crate::blocks::{BLOCK, FoundItem, Sought, fetch_all, read_block, seek_all, touch};
 use crate::facts::Basis;
-use crate::items::{Items, Stop};
 use crate::outputs::Outputs;
 use crate::progress::Progress;
-use mr_answers::No;
+use mr_bytes::{Pace, Phase, Watch};
 use mr_certform::Item;
 use mr_index::Meter;
-use mr_watch::{Pace, Phase, Watch};
+use mr_verdict::{Items, No, Stop};
 use std::alloc::{AllocError, Global};
 
 /// Judges rows in turn: whether they end the certificate, or the first fault.

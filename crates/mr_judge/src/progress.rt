@@ -4,9 +4,9 @@ ghost use Rattle.mr_sequential.specs.Good.{named};
 ghost use Rattle.mr_input.specs.Files.{nth_file};
 ghost use Rattle.mr_sequential.specs.Rules.{rules_of};
 ghost use Rattle.mr_certform.specs.declared.item.Item.TheVariants.{Entry};
-ghost use Rattle.mr_answers.specs.Verdict.{start, first_tests, later_tests, order_tests, with_entry, group_tests, behind_group, entry_tests, after_entry};
-ghost use Rattle.mr_answers.specs.Verdict.{tests, after, end_tests};
-ghost use Rattle.mr_judge.specs.Steps.{subject_with, Answers, HasRoom, opens};
+ghost use Rattle.mr_verdict.specs.Verdict.{start, first_tests, later_tests, order_tests, with_entry, group_tests, behind_group, entry_tests, after_entry};
+ghost use Rattle.mr_verdict.specs.Verdict.{tests, after, end_tests};
+ghost use Rattle.mr_verdict.specs.Steps.{subject_with, Answers, HasRoom, opens};
 ghost use Rattle.mr_judge.specs.Blocks.{IsFound};
 ghost use Rattle.mr_judge.specs.Borders.{at_border, between};
 ghost use Rattle.mr_judge.specs.Outputs.{CanCome, Tested, Halts};
@@ -15,12 +15,11 @@ use crate::blocks::FoundItem;
 use crate::border::Border;
 use crate::entry_tests::{test_end, test_first, test_later, test_named};
 use crate::facts::Basis;
-use crate::items::Stop;
 use crate::lines::test_group;
 use crate::outputs::Outputs;
-use mr_answers::No;
 use mr_bytes::{Name, Value, Values};
 use mr_certform::Item;
+use mr_verdict::{No, Stop};
 use std::alloc::{AllocError, Global};
 use std::marker::Model;
 
@@ -46,7 +45,7 @@ pub struct Progress<'a> {
 
 impl<'a> Model for Progress<'a> {
     ghost use Rattle.std.specs.Option.{option_map};
-    ghost use Rattle.mr_answers.specs.Verdict.{Reached};
+    ghost use Rattle.mr_verdict.specs.Verdict.{Reached};
 
     ghost Value = { Reached };
 

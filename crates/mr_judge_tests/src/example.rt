@@ -3,11 +3,11 @@ ghost use Rattle.std.specs.Prelude.{◌≤◌, ◌^◌, IfOk};
 ghost use Rattle.mr_input.specs.Files.{split_total};
 
 use crate::given::{Given, list_of, with_text};
+use mr_bytes::{Phase, Watch};
 use mr_certform::{Version, write};
 use mr_check::{No, check_watched};
 use mr_example::{Handed, Trouble, agreed, judged, made};
 use mr_sequential::run_watched;
-use mr_watch::{Phase, Watch};
 use std::alloc::{AllocError, Global};
 use std::sync::atomic::{AtomicU64, Ordering};
 use std::test::Fail;

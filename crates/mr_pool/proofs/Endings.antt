@@ -6,7 +6,7 @@ use Rattle.mr_script.specs.declared.directive.Directive.{Directive}
 use Rattle.mr_core.specs.declared.event.End.{End}
 use Rattle.mr_core.specs.declared.event.End.TheVariants.{Done as Finished, Dismissed, Failed as EndedBy}
 use Rattle.mr_core.specs.declared.event.JobFault.{JobFault}
-use Rattle.mr_workers.specs.Accounts.{accounts}
+use Rattle.mr_pool.specs.Accounts.{accounts}
 use Rattle.mr_pool.specs.Endings.{ending_of}
 use Rattle.mr_pool.specs.declared.running.Ending.TheVariants.{Done, Failed, Astray}
 

@@ -1,3 +1,4 @@
 pub mod Closed
 pub mod Endings
 pub mod Versions
+pub mod Ranges

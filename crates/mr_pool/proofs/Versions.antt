@@ -10,11 +10,11 @@ use Rattle.mr_certform.proofs.Certificates.{one_certificate}
 use Rattle.mr_sequential.specs.Good.{IsGoodResult}
 use Rattle.mr_sequential.proofs.VersionLaws.{good_can}
 use Rattle.mr_book.specs.Assembling.{SpellsWhereItCan}
-use Rattle.mr_answers.specs.declared.fault.No.{No}
-use Rattle.mr_answers.specs.declared.yes.Yes.{Yes}
-use Rattle.mr_answers.specs.Headline.{accepted_of}
-use Rattle.mr_answers.specs.Verdict.{verdict_of}
-use Rattle.mr_answers.proofs.VerdictYes.{yes_is_good}
+use Rattle.mr_verdict.specs.declared.fault.No.{No}
+use Rattle.mr_verdict.specs.declared.yes.Yes.{Yes}
+use Rattle.mr_verdict.specs.Headline.{accepted_of}
+use Rattle.mr_verdict.specs.Verdict.{verdict_of}
+use Rattle.mr_verdict.proofs.VerdictYes.{yes_is_good}
 use Rattle.mr_pool.specs.Outcomes.{IsInVersion}
 
 pub yes_good : (request : RequestSpec) (files outputs : List (List ℕ)) (bytes : List ℕ) (r : Result Yes No) → AreBytes bytes

@@ -3,7 +3,7 @@ use Rattle.std.specs.Prelude.{ℕ, Bool, Option, Some, List, if◌then◌else◌
 use Rattle.mr_script.specs.declared.directive.Directive.{Directive}
 use Rattle.mr_core.specs.declared.event.End.{End}
 use Rattle.mr_core.specs.declared.event.End.TheVariants.{Done as Finished, Failed as EndedBy}
-use Rattle.mr_workers.specs.Accounts.{accounts}
+use Rattle.mr_pool.specs.Accounts.{accounts}
 use Rattle.mr_pool.specs.declared.running.Ending.{Ending}
 use Rattle.mr_pool.specs.declared.running.Ending.TheVariants.{Done, Failed, Astray}
 

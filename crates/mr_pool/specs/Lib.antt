@@ -1,2 +1,3 @@
 pub mod Endings
 pub mod Outcomes
+pub mod Accounts

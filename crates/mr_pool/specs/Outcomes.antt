@@ -10,17 +10,17 @@ use Rattle.mr_core.specs.declared.event.End.{End}
 use Rattle.mr_core.specs.declared.event.JobFault.{JobFault}
 use Rattle.mr_core.specs.Master.{State, Run, opening}
 use Rattle.mr_core.specs.Promises.{Promises}
-use Rattle.mr_assembled.specs.Assembled.{assembled_certificate, assembled_outputs}
+use Rattle.mr_book.specs.Assembled.{assembled_certificate, assembled_outputs}
 use Rattle.mr_book.specs.View.{StoresAccepted}
 use Rattle.mr_book.specs.Assembling.{reduced_under}
 use Rattle.mr_book.specs.Calls.{has_damage}
 use Rattle.mr_book.specs.declared.book.History.{History}
 use Rattle.mr_sequential.specs.Good.{IsGoodResult}
-use Rattle.mr_answers.specs.declared.fault.No.{No}
-use Rattle.mr_answers.specs.declared.fault.No.TheVariants.{OtherJob}
-use Rattle.mr_answers.specs.Headline.{IsCertified}
-use Rattle.mr_answers.specs.Verdict.{verdict_of}
-use Rattle.mr_workers.specs.Accounts.{accounts}
+use Rattle.mr_verdict.specs.declared.fault.No.{No}
+use Rattle.mr_verdict.specs.declared.fault.No.TheVariants.{OtherJob}
+use Rattle.mr_verdict.specs.Headline.{IsCertified}
+use Rattle.mr_verdict.specs.Verdict.{verdict_of}
+use Rattle.mr_pool.specs.Accounts.{accounts}
 use Rattle.mr_pool.specs.declared.running.Certified.{Certified}
 use Rattle.mr_pool.specs.declared.running.RunFault.{RunFault}
 use Rattle.mr_pool.specs.declared.running.RunFault.TheVariants.{Failed, Uncertified, OutOfMemory}

@@ -1,7 +1,6 @@
 //! A gate that holds one attempt back, and a watch that counts what it is told.
 use crate::telling::Teller;
-use mr_bytes::Gate;
-use mr_watch::{Phase, Watch};
+use mr_bytes::{Gate, Phase, Watch};
 use std::sync::atomic::{AtomicBool, AtomicU64, Ordering};
 use std::thread;
 

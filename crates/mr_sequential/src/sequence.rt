@@ -12,12 +12,11 @@ ghost use Rattle.mr_sequential.specs.Skips.{list_fault, skip_fault};
 use crate::fault::RunFault;
 use crate::outputs::outputs;
 use crate::source::{Emitted, gather};
-use mr_bytes::RecordName;
+use mr_bytes::{Phase, RecordName, Unwatched, Watch};
 use mr_certform::{Certificate, FlatGroups, Header};
 use mr_input::Input;
 use mr_jobs::Request;
 use mr_splits::{Kept, Plan, SkipFault};
-use mr_watch::{Phase, Unwatched, Watch};
 use std::alloc::{AllocError, Global};
 
 /// The first fault of a list of left-out records, each tested for its order before its existence.

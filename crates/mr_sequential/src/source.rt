@@ -10,9 +10,9 @@ ghost use Rattle.mr_sequential.specs.Pairs.{kept_pairs};
 
 use crate::gathered::Gathered;
 use crate::gathering::Gathering;
+use mr_bytes::{Pace, Phase, Watch};
 use mr_jobs::{Job, Mapper};
 use mr_splits::{Kept, Located};
-use mr_watch::{Pace, Phase, Watch};
 use std::alloc::{AllocError, Global};
 
 /// Adds the keys that a job emits for a record.

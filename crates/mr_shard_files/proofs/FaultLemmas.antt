@@ -2,12 +2,12 @@
 use Rattle.std.proofs.Common.{◌≡◌, ◌<◌, ◌+◌, ◌^◌, ℕ, List, [], ◌∷◌, inl, inr, length, length-append, refl, arith}
 use Rattle.std.proofs.lemmas.List.Sums.{sum_by-cons}
 use Rattle.mr_jobs.specs.JobSpec.{JobSpec}
-use Rattle.mr_shards.specs.declared.fault.MergeFault.{MergeFault}
-use Rattle.mr_shards.specs.declared.fault.MergeFault.TheVariants as merge
+use Rattle.mr_shards.specs.declared.merge_fault.MergeFault.{MergeFault}
+use Rattle.mr_shards.specs.declared.merge_fault.MergeFault.TheVariants as merge
 use Rattle.mr_shards.specs.declared.merge.Output.{Output}
 use Rattle.mr_shards.specs.Refused.{Blames, HasFarLine, files_in}
-use Rattle.mr_verdict.specs.Joined.{inputs_of}
-use Rattle.mr_verdict.specs.Verdict.{Told}
+use Rattle.mr_shards.specs.Joined.{inputs_of}
+use Rattle.mr_shards.specs.Verdict.{Told}
 use Rattle.mr_shard_files.specs.Beside.{AreOutputs}
 use Rattle.mr_shard_files.specs.Told.{told_of_merge}
 use Rattle.mr_shard_files.specs.Faults.{IsBlamed}

@@ -6,8 +6,8 @@ use Rattle.std.specs.Global.{Global}
 use Rattle.mr_input.specs.Files.{contents}
 use Rattle.mr_files.specs.Names.{part_file, part_files}
 use Rattle.mr_files.proofs.Lists.{names_more}
-use Rattle.mr_verdict.specs.Verdict.{Note}
-use Rattle.mr_verdict.specs.Truth.{AreNotesOf, note_for, notes_for}
+use Rattle.mr_shards.specs.Verdict.{Note}
+use Rattle.mr_shards.specs.Truth.{AreNotesOf, note_for, notes_for}
 
 notes_more : (ns fs : List (List ℕ)) (n f : List ℕ) → length ns ≡ length fs → notes_for (ns ++ n ∷ []) (fs ++ f ∷ []) ≡ notes_for ns fs ++ note_for n f ∷ []
 notes_more [] [] n f e = refl

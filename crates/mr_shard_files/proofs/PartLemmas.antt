@@ -2,8 +2,8 @@
 use Rattle.std.proofs.Common.{◌≡◌, ℕ, zero, suc, ◌<◌, ◌≤◌, ◌++◌, inr, List, [], ◌∷◌, length, length-append, get_or, map, take, refl, ap, sym, ◌∙◌, subst, arith}
 use Rattle.std.proofs.lemmas.List.{get_or-map, length-map, map-append, take-map}
 use Rattle.mr_jobs.specs.JobSpec.{JobSpec}
-use Rattle.mr_verdict.specs.Joined.{inputs_of}
-use Rattle.mr_verdict.specs.Verdict.{Told, spelling}
+use Rattle.mr_shards.specs.Joined.{inputs_of}
+use Rattle.mr_shards.specs.Verdict.{Told, spelling}
 use Rattle.mr_files.specs.Holding.{Faulty, Holding, Stored}
 use Rattle.mr_files.proofs.Lists.{holding_more}
 use Rattle.mr_shard_files.specs.declared.fault.ShardFault.{ShardFault}

@@ -8,7 +8,7 @@ use Rattle.std.specs.Prelude.{Option, Vec}
 use Rattle.std.specs.Global.{Global}
 use Rattle.std.specs.List.{AllByRecursion}
 use Rattle.mr_files.specs.Holding.{Faulty, Stored}
-use Rattle.mr_verdict.specs.Verdict.{Told}
+use Rattle.mr_shards.specs.Verdict.{Told}
 use Rattle.mr_shard_files.specs.declared.stream.Part.{Part}
 use Rattle.mr_shard_files.specs.Streams.{AreOpened, AreRows}
 

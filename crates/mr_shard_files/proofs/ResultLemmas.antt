@@ -7,7 +7,7 @@ use Rattle.mr_files.specs.Names.{merged_names, name_of_part, name_of_verdict, pa
 use Rattle.mr_files.proofs.Digits.{differs_parts, differs_verdict}
 use Rattle.mr_files.proofs.Lists.{differs_front, differs_last, differs_more, holding_kept, holding_more, parts_more, parts_none}
 use Rattle.mr_jobs.specs.JobSpec.{RequestSpec}
-use Rattle.mr_verdict.specs.Verdict.{Note, Told, spelling}
+use Rattle.mr_shards.specs.Verdict.{Note, Told, spelling}
 use Rattle.mr_shard_files.specs.declared.fault.ShardFault.{ShardFault}
 use Rattle.mr_shard_files.specs.Beside.{ArePartitions}
 use Rattle.mr_shard_files.specs.Faults.{IsCutShort, IsPartitionFault, IsPartsFault, IsUnfinished}

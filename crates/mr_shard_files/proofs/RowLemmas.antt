@@ -10,8 +10,8 @@ use Rattle.mr_files.specs.Holding.{Holding, Stored}
 use Rattle.mr_jobs.specs.JobSpec.{JobSpec}
 use Rattle.mr_shards.specs.declared.merge.Output.{Output}
 use Rattle.mr_shards.specs.Refused.{IsRest}
-use Rattle.mr_verdict.specs.Joined.{AreOutputsAt, IsMergedAt}
-use Rattle.mr_verdict.specs.Verdict.{Told}
+use Rattle.mr_shards.specs.Joined.{AreOutputsAt, IsMergedAt}
+use Rattle.mr_shards.specs.Verdict.{Told}
 use Rattle.mr_shard_files.specs.Beside.{AreOutputs, IsPartition, StandsBeside, Tells, TellsOf}
 use Rattle.mr_shard_files.specs.Merging.{AreParts, ArePartsOf}
 use Rattle.mr_shard_files.proofs.ListLemmas.{each_more}

@@ -7,8 +7,8 @@ use Rattle.mr_files.specs.Holding.{Agrees, Faulty, Holding, Stored}
 use Rattle.mr_files.specs.Names.{name_of_part}
 use Rattle.mr_jobs.specs.JobSpec.{JobSpec}
 use Rattle.mr_shards.specs.Pieces.{Reading, output_with, outputs_of}
-use Rattle.mr_verdict.specs.Joined.{inputs_of, verdict_at}
-use Rattle.mr_verdict.specs.Verdict.{Told}
+use Rattle.mr_shards.specs.Joined.{inputs_of, verdict_at}
+use Rattle.mr_shards.specs.Verdict.{Told}
 use Rattle.mr_shard_files.specs.declared.fault.ShardFault.{ShardFault}
 use Rattle.mr_shard_files.specs.declared.fault.ShardFault.TheVariants.{CannotRead, OtherPart, OutOfMemory}
 use Rattle.mr_shard_files.specs.declared.stream.Part.{Part}

@@ -6,11 +6,11 @@ use Rattle.mr_files.specs.Holding.{Stored}
 use Rattle.mr_files.specs.Identities.{Known}
 use Rattle.mr_files.specs.Names.{part_files}
 use Rattle.mr_jobs.specs.JobSpec.{InvertedIndex, JobSpec, LinesWith, RequestSpec, Resources, WordCount, job_flags, job_literal, job_number}
-use Rattle.mr_verdict.specs.Joined.{AreMerged, AreOnce, AreTrueOf, IsJoined, all_files}
-use Rattle.mr_verdict.specs.Truth.{AreNotesOf, Asks, IsTrueOf, notes_for}
-use Rattle.mr_verdict.specs.Verdict.{Note, Told}
-use Rattle.mr_verdict.proofs.FlagLemmas.{one_flag}
-use Rattle.mr_verdict.proofs.JoinedLaws.{joined_is_true}
+use Rattle.mr_shards.specs.Joined.{AreMerged, AreOnce, AreTrueOf, IsJoined, all_files}
+use Rattle.mr_shards.specs.Truth.{AreNotesOf, Asks, IsTrueOf, notes_for}
+use Rattle.mr_shards.specs.Verdict.{Note, Told}
+use Rattle.mr_shards.proofs.FlagLemmas.{one_flag}
+use Rattle.mr_shards.proofs.JoinedLaws.{joined_is_true}
 use Rattle.mr_shard_files.specs.Beside.{ArePartitions}
 use Rattle.mr_shard_files.specs.Listing.{IsListed}
 use Rattle.mr_shard_files.specs.Merging.{ArePartsWritten, IsMerging, IsReady, IsTrueOfAll, with_outputs}

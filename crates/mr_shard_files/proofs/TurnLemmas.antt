@@ -5,10 +5,10 @@ use Rattle.std.proofs.lemmas.Result.{IfErr-at_err}
 use Rattle.std.specs.Prelude.{Err, IfErr, Option, Result}
 use Rattle.mr_jobs.specs.JobSpec.{JobSpec}
 use Rattle.mr_shards.specs.declared.window.Window.{Window}
-use Rattle.mr_shards.specs.declared.fault.MergeFault.{MergeFault}
+use Rattle.mr_shards.specs.declared.merge_fault.MergeFault.{MergeFault}
 use Rattle.mr_shards.specs.Refused.{Blames}
 use Rattle.mr_shards.specs.Pieces.{AreFresh, AreWindows, AreWithin, IsAfter, IsMerged, IsWindow, Reading, Standing, are_last, outputs_of, taken_on, text_taken}
-use Rattle.mr_verdict.specs.Verdict.{Told}
+use Rattle.mr_shards.specs.Verdict.{Told}
 use Rattle.mr_shard_files.specs.declared.stream.Part.{Part}
 use Rattle.mr_shard_files.specs.declared.fault.ShardFault.TheVariants.{OutOfMemory}
 use Rattle.mr_shard_files.specs.declared.turns.Beside.{Beside}

@@ -10,8 +10,8 @@ use Rattle.mr_shards.specs.declared.merge.Output.{Output}
 use Rattle.mr_shards.specs.Merged.{merged_parts, texts}
 use Rattle.mr_shards.specs.Outputs.{IsOutputOfAll, parts_in}
 use Rattle.mr_shards.specs.Refused.{IsRest}
-use Rattle.mr_verdict.specs.Truth.{IsNoteOf}
-use Rattle.mr_verdict.specs.Verdict.{Note, Told}
+use Rattle.mr_shards.specs.Truth.{IsNoteOf}
+use Rattle.mr_shards.specs.Verdict.{Note, Told}
 
 -- a part stands in the folder of the verdict of that name
 abbrev pub StandsBeside : Stored → ℕ → List ℕ → List ℕ → Type 0

@@ -6,14 +6,14 @@ use Rattle.mr_files.specs.Holding.{Begins, ChangesAmong, Faulty, Holding, Stored
 use Rattle.mr_files.specs.Identities.{Known}
 use Rattle.mr_files.specs.Names.{merged_names, name_of_part, name_of_verdict, part_names}
 use Rattle.mr_jobs.specs.JobSpec.{JobSpec, RequestSpec}
-use Rattle.mr_shards.specs.declared.fault.MergeFault.TheVariants as merge
+use Rattle.mr_shards.specs.declared.merge_fault.MergeFault.TheVariants as merge
 use Rattle.mr_shards.specs.declared.merge.Output.{Output}
 use Rattle.mr_shards.specs.Refused.{Blames, HasFarLine}
-use Rattle.mr_verdict.specs.declared.joining.JoinFault.TheVariants as join
-use Rattle.mr_verdict.specs.Joined.{IsJoinFault, IsJoined, IsRepeated, inputs_of, verdict_at}
-use Rattle.mr_verdict.specs.Reading.{Fits}
-use Rattle.mr_verdict.specs.Truth.{Asks, AsksNone}
-use Rattle.mr_verdict.specs.Verdict.{Note, Told, spelling}
+use Rattle.mr_shards.specs.declared.joining.JoinFault.TheVariants as join
+use Rattle.mr_shards.specs.Joined.{IsJoinFault, IsJoined, IsRepeated, inputs_of, verdict_at}
+use Rattle.mr_shards.specs.Reading.{Fits}
+use Rattle.mr_shards.specs.Truth.{Asks, AsksNone}
+use Rattle.mr_shards.specs.Verdict.{Note, Told, spelling}
 use Rattle.mr_shard_files.specs.declared.fault.ShardFault.{ShardFault}
 use Rattle.mr_shard_files.specs.declared.fault.ShardFault.TheVariants.{BadLine, BadVerdict, CannotRead, FileTooFar, LongList, LongVerdict, NoRequest, NoShards, OtherInputs, OtherOutputs, OtherPart, OtherRequest, OutOfMemory, RepeatedInput, TooManyFiles, TooManyPairs, TooManySplits, TotalTooLarge}
 use Rattle.mr_shard_files.specs.Apart.{AreApart, IsSameFolder}

@@ -4,7 +4,7 @@ use Rattle.std.specs.List.{common_prefix_len, flat_map}
 use Rattle.std.specs.Str.{bytes_eq}
 use Rattle.hex.specs.Hex.{encode_lower}
 use Rattle.mr_files.specs.Holding.{Stored}
-use Rattle.mr_verdict.specs.Verdict.{Note}
+use Rattle.mr_shards.specs.Verdict.{Note}
 
 -- a backslash, a line feed and a carriage return are written as `\\`, `\n` and `\r`
 abbrev pub escaped_byte : ℕ → List ℕ

@@ -7,9 +7,9 @@ use Rattle.mr_files.specs.Identities.{Known}
 use Rattle.mr_files.specs.Names.{merged_names, name_of_verdict, part_files, part_names}
 use Rattle.mr_jobs.specs.JobSpec.{JobSpec, RequestSpec}
 use Rattle.mr_shards.specs.Refused.{IsRest}
-use Rattle.mr_verdict.specs.Joined.{AreMerged, AreOnce, AreTrueOf, IsJoined, all_files, verdict_at}
-use Rattle.mr_verdict.specs.Truth.{Asks, IsTrueOf, notes_for}
-use Rattle.mr_verdict.specs.Verdict.{Note, Told, spelling}
+use Rattle.mr_shards.specs.Joined.{AreMerged, AreOnce, AreTrueOf, IsJoined, all_files, verdict_at}
+use Rattle.mr_shards.specs.Truth.{Asks, IsTrueOf, notes_for}
+use Rattle.mr_shards.specs.Verdict.{Note, Told, spelling}
 use Rattle.mr_shard_files.specs.Apart.{AreApart}
 use Rattle.mr_shard_files.specs.Sharing.{AreUnshared}
 use Rattle.mr_shard_files.specs.Beside.{ArePartitions, StandsBeside, TellsOf}

@@ -2,12 +2,12 @@
 use Rattle.std.specs.Prelude.{ℕ}
 use Rattle.mr_files.specs.declared.store.FileFault.{FileFault}
 use Rattle.mr_files.specs.declared.store.FileFault.TheVariants as file
-use Rattle.mr_shards.specs.declared.fault.MergeFault.{MergeFault}
-use Rattle.mr_shards.specs.declared.fault.MergeFault.TheVariants as merge
-use Rattle.mr_verdict.specs.declared.fault.VerdictFault.{VerdictFault}
-use Rattle.mr_verdict.specs.declared.fault.VerdictFault.TheVariants as text
-use Rattle.mr_verdict.specs.declared.joining.JoinFault.{JoinFault}
-use Rattle.mr_verdict.specs.declared.joining.JoinFault.TheVariants as join
+use Rattle.mr_shards.specs.declared.merge_fault.MergeFault.{MergeFault}
+use Rattle.mr_shards.specs.declared.merge_fault.MergeFault.TheVariants as merge
+use Rattle.mr_shards.specs.declared.verdict_fault.VerdictFault.{VerdictFault}
+use Rattle.mr_shards.specs.declared.verdict_fault.VerdictFault.TheVariants as text
+use Rattle.mr_shards.specs.declared.joining.JoinFault.{JoinFault}
+use Rattle.mr_shards.specs.declared.joining.JoinFault.TheVariants as join
 use Rattle.mr_shard_files.specs.declared.fault.ShardFault.{ShardFault}
 use Rattle.mr_shard_files.specs.declared.fault.ShardFault.TheVariants.{BadLine, BadVerdict, CannotRead, CannotWrite, FileTooFar, OtherRequest, OutOfMemory, TooManyPairs, TooManySplits, TotalTooLarge}
 

@@ -3,8 +3,7 @@ ghost use Rattle.std.specs.Prelude.{◌≡◌};
 ghost use Rattle.mr_shard_files.specs.Told.{told_of_merge, told_of_verdict};
 
 use mr_files::FileFault;
-use mr_shards::MergeFault;
-use mr_verdict::{JoinFault, VerdictFault};
+use mr_shards::{JoinFault, MergeFault, VerdictFault};
 use std::alloc::AllocError;
 use thiserror::Error;
 

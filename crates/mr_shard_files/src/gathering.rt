@@ -1,12 +1,12 @@
 //! The verdicts of shards, read.
 ghost use Rattle.std.specs.Prelude.{◌≡◌, IfErr, IfOk, map};
 ghost use Rattle.mr_files.specs.Holding.{Holding};
-ghost use Rattle.mr_verdict.specs.Verdict.{spelling};
+ghost use Rattle.mr_shards.specs.Verdict.{spelling};
 ghost use Rattle.mr_shard_files.specs.Faults.{IsUnheard, IsUngathered};
 
 use crate::fault::{ShardFault, of_verdict};
 use mr_files::{Store, WithinFault, read_file_within};
-use mr_verdict::{Verdict, read_verdict};
+use mr_shards::{Verdict, read_verdict};
 use std::alloc::{AllocError, Global};
 
 /// The most bytes of a verdict's text, and of the list of inputs: 1 GiB.

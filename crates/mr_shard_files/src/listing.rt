@@ -9,7 +9,7 @@ use crate::gathering::MAX_TEXT_BYTES;
 use hex::encode_to_slice;
 use mr_files::{Store, WithinFault, read_file_within};
 use mr_lanes::first_difference;
-use mr_verdict::FileNote;
+use mr_shards::FileNote;
 use std::alloc::{AllocError, Global};
 
 /// Appends a byte of a name.

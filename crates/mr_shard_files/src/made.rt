@@ -2,13 +2,13 @@
 ghost use Rattle.std.specs.Prelude.{◌≡◌, ℕ, [], ◌++◌, List, IfErr, IfOk, OnOk, false, string_bytes};
 ghost use Rattle.mr_files.specs.Holding.{Agrees};
 ghost use Rattle.mr_files.specs.Names.{part_file as file_of_part};
-ghost use Rattle.mr_verdict.specs.Truth.{note_for};
+ghost use Rattle.mr_shards.specs.Truth.{note_for};
 ghost use Rattle.mr_shard_files.specs.Made.{HasWritten, TellsUnwritten};
 
 use crate::fault::ShardFault;
 use mr_files::part_file;
+use mr_shards::FileNote;
 use mr_store::{CountedWrite, write_all};
-use mr_verdict::FileNote;
 use sha2::{Digest, Sha256};
 use std::alloc::{AllocError, Global};
 

@@ -1,9 +1,9 @@
 //! Shards, merged.
 ghost use Rattle.std.specs.Prelude.{◌≡◌, ◌<◌, ◌^◌, IfErr, IfOk, OnOk, length, map, option_map};
 ghost use Rattle.mr_files.specs.Holding.{Holding};
-ghost use Rattle.mr_verdict.specs.Joined.{AreOnce, verdict_at};
-ghost use Rattle.mr_verdict.specs.Truth.{Asks};
-ghost use Rattle.mr_verdict.specs.Verdict.{spelling};
+ghost use Rattle.mr_shards.specs.Joined.{AreOnce, verdict_at};
+ghost use Rattle.mr_shards.specs.Truth.{Asks};
+ghost use Rattle.mr_shards.specs.Verdict.{spelling};
 ghost use Rattle.mr_shard_files.specs.Merging.{AreCounted, ChangesResult, IsJoinedOnce, IsMerged, IsReady, with_outputs as with_notes};
 ghost use Rattle.mr_shard_files.specs.Apart.{AreApart};
 ghost use Rattle.mr_shard_files.specs.Listing.{IsListed};
@@ -19,7 +19,7 @@ use crate::partition::partitions_written;
 use crate::sharing::expect_unshared;
 use mr_files::Store;
 use mr_jobs::Request;
-use mr_verdict::{FileNote, Verdict, first_repeat, join_verdicts, request_of};
+use mr_shards::{FileNote, Verdict, first_repeat, join_verdicts, request_of};
 use std::alloc::Global;
 use std::thread::Threads;
 

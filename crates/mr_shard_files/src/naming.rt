@@ -2,12 +2,12 @@
 ghost use Rattle.std.specs.Prelude.{ℕ, List, IfErr, OnOk};
 ghost use Rattle.mr_files.specs.Holding.{Begins, ChangesOnly};
 ghost use Rattle.mr_files.specs.Names.{name_of_verdict};
-ghost use Rattle.mr_verdict.specs.Verdict.{spelling};
+ghost use Rattle.mr_shards.specs.Verdict.{spelling};
 ghost use Rattle.mr_shard_files.specs.Made.{TellsUnwritten};
 
 use crate::fault::ShardFault;
 use mr_files::{Store, verdict_name, write_named};
-use mr_verdict::{Verdict, write_verdict};
+use mr_shards::{Verdict, write_verdict};
 use std::alloc::Global;
 
 /// Writes the text of the verdict in that folder.

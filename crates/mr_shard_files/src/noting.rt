@@ -2,10 +2,10 @@
 ghost use Rattle.std.specs.Prelude.{◌≡◌, IfOk, OnOk, ◌++◌, ◌∷◌, [], length};
 ghost use Rattle.mr_input.specs.Files.{contents};
 ghost use Rattle.mr_files.specs.Names.{part_file as file_of_part, part_files};
-ghost use Rattle.mr_verdict.specs.Truth.{note_for as note_telling, notes_for};
+ghost use Rattle.mr_shards.specs.Truth.{note_for as note_telling, notes_for};
 
 use mr_files::part_file;
-use mr_verdict::{FileNote, note_for};
+use mr_shards::{FileNote, note_for};
 use std::alloc::{AllocError, Global};
 
 /// The note of the output of a partition.

@@ -1,14 +1,14 @@
 //! The parts that stand beside the verdicts of shards, opened.
 ghost use Rattle.std.specs.Prelude.{◌≡◌, ◌<◌, ◌^◌, IfErr, IfOk, length, map};
-ghost use Rattle.mr_verdict.specs.Joined.{inputs_of};
+ghost use Rattle.mr_shards.specs.Joined.{inputs_of};
 ghost use Rattle.mr_shard_files.specs.Faults.{AreUnopened, IsTextsFault, IsUnopened};
 ghost use Rattle.mr_shard_files.specs.Streams.{AreOpened, AreRows, IsOpened, length_told as length_of};
 
 use crate::fault::ShardFault;
 use crate::stream::{Part, fault_of};
 use mr_files::{Store, folder_of, part_name};
+use mr_shards::Verdict;
 use mr_store::ReadFault;
-use mr_verdict::Verdict;
 use std::alloc::{AllocError, Global};
 
 /// How many bytes the verdict tells of that output; none where it tells of no such output.

@@ -2,8 +2,8 @@
 ghost use Rattle.std.specs.Prelude.{◌≡◌, ◌<◌, ◌^◌, ◌⊎◌, ℕ, [], List, IfErr, IfOk, OnOk, length, map, string_bytes};
 ghost use Rattle.mr_files.specs.Holding.{ChangesOnly};
 ghost use Rattle.mr_files.specs.Names.{name_of_part, part_file};
-ghost use Rattle.mr_verdict.specs.Joined.{inputs_of};
-ghost use Rattle.mr_verdict.specs.Truth.{note_for};
+ghost use Rattle.mr_shards.specs.Joined.{inputs_of};
+ghost use Rattle.mr_shards.specs.Truth.{note_for};
 ghost use Rattle.mr_shard_files.specs.Faults.{IsPartsFault};
 ghost use Rattle.mr_shard_files.specs.Made.{HasWritten, TellsUnwritten};
 ghost use Rattle.mr_shard_files.specs.Merging.{ArePartsWritten};
@@ -17,8 +17,8 @@ use crate::stream::Part;
 use crate::turns::joined;
 use mr_files::{Store, WriteFault, part_name};
 use mr_jobs::{Job, Request};
+use mr_shards::{FileNote, Verdict};
 use mr_store::{CountedRead, CountedWrite};
-use mr_verdict::{FileNote, Verdict};
 use std::alloc::{AllocError, Global};
 use std::thread::Threads;
 

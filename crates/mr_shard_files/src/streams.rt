@@ -6,9 +6,8 @@ ghost use Rattle.mr_shard_files.specs.Beside.{TellsOf};
 
 use crate::fault::ShardFault;
 use crate::stream::Part;
-use mr_shards::Window;
+use mr_shards::{Verdict, Window};
 use mr_store::CountedRead;
-use mr_verdict::Verdict;
 use std::alloc::{AllocError, Global};
 
 /// Reads of each part until so many bytes are held, or nothing more is read.

@@ -27,3 +27,11 @@ pub mod BlameLemmas
 pub mod GoesLaws
 pub mod StepLaws
 pub mod OrderLemmas
+pub mod FlagLemmas
+pub mod TextLemmas
+pub mod ReadLemmas
+pub mod SpellLemmas
+pub mod OneLaws
+pub mod JoinedLaws
+pub mod JoinLemmas
+pub mod SeenLemmas

@@ -8,3 +8,9 @@ pub mod Refused
 pub mod Shards
 pub mod Views
 pub mod Places
+pub mod Laws
+pub mod Verdict
+pub mod Reading
+pub mod Truth
+pub mod Joined
+pub mod Joining

@@ -8,8 +8,8 @@ ghost use Rattle.mr_bytes.specs.Order.{key_order};
 ghost use Rattle.mr_shards.specs.Cursors.{AreBeyond, AreBehind, Differs, DoesNotFall, HasFront, IsFound, IsFronted, IsHeadFor, left, least_from, lesser};
 ghost use Rattle.mr_shards.specs.Refused.{BlamesOnly, IsReadOf, IsRestOf, MayFollow, last_key};
 
-use crate::fault::MergeFault;
 use crate::line::{Line, first_line, moved};
+use crate::merge_fault::MergeFault;
 use mr_bytes::compare_keys;
 use mr_jobs::Job;
 use std::cmp::Ordering;

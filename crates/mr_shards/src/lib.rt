@@ -1,24 +1,41 @@
 //! Shards: an input whose files are judged a list at a time, and whose outputs are merged to those of the whole. Those of
 //! an index are not: each of its lines tells several files at once, and the merge takes a line as one total or one place.
+//! And verdicts: what a judge said yes to, as a text that others can read. Those of shards are
+//! joined to that of the whole.
 #![tactic(auto)]
 
 mod cursor;
-mod fault;
+mod joining;
 mod line;
 mod merge;
+mod merge_fault;
 mod merger;
+mod noting;
 mod piece;
+mod reading;
+mod requests;
+mod verdict;
+mod verdict_fault;
 mod window;
+mod writing;
 
 ghost use Rattle.mr_shards.specs.Judged.{GoodIsJudged};
 ghost use Rattle.mr_shards.specs.Lines.{OneReading};
 ghost use Rattle.mr_shards.specs.Shards.{MergedAreSequential, OutputsAreTexts, SkipsStand};
+ghost use Rattle.mr_shards.specs.Laws.{OneText};
 
-pub use fault::MergeFault;
+pub use joining::{JoinFault, first_repeat, join_verdicts, joined_law};
 pub use line::number_of;
 pub use merge::{Output, merge_parts};
+pub use merge_fault::MergeFault;
 pub use merger::Merger;
+pub use noting::{is_note_of, note_for, verdict_for};
+pub use reading::read_verdict;
+pub use requests::{asks, request_of};
+pub use verdict::{FileNote, Verdict};
+pub use verdict_fault::VerdictFault;
 pub use window::Window;
+pub use writing::write_verdict;
 
 /// The text of the merged groups of shards is the output of the sequential execution over all their files, without the
 /// records that the shards left out; where those rise and exist in each shard, so they do in the whole.
@@ -36,4 +53,9 @@ pub fn reading_law()
 /// A good result, over files within the limits of an input, is that of a shard whose outputs can be merged.
 pub fn judged_law()
     ensures { GoodIsJudged }
+{}
+
+/// Verdicts that fit and have one text are one.
+pub fn verdict_law()
+    ensures { OneText }
 {}

@@ -8,8 +8,8 @@ ghost use Rattle.mr_shards.specs.Outputs.{AreAtFirst, IsOutputOfAll, parts_in};
 ghost use Rattle.mr_shards.specs.Pieces.{IsMerged};
 
 use crate::cursor::{Cursor, advanced, next_line};
-use crate::fault::MergeFault;
 use crate::line::{Line, combined, put};
+use crate::merge_fault::MergeFault;
 use mr_jobs::Job;
 use std::alloc::{AllocError, Global};
 

@@ -6,9 +6,9 @@ ghost use Rattle.mr_shards.specs.Pieces.{cuts_before, fresh, nothing, numbered, 
 ghost use Rattle.mr_shards.specs.Places.{shown};
 ghost use Rattle.mr_shards.specs.Refused.{Blames};
 
-use crate::fault::MergeFault;
 use crate::line::cut_last;
 use crate::merge::{Output, merge_parts};
+use crate::merge_fault::MergeFault;
 use crate::window::{Held, Place, Window, bytes_to, in_next, line_count, place_of};
 use mr_jobs::Job;
 use std::alloc::{AllocError, Global};

@@ -1,8 +1,19 @@
-pub mod FlagLemmas
-pub mod TextLemmas
-pub mod ReadLemmas
-pub mod SpellLemmas
-pub mod OneLaws
-pub mod JoinedLaws
-pub mod JoinLemmas
-pub mod SeenLemmas
+pub mod FaultPart
+pub mod FaultRead
+pub mod FaultTruth
+pub mod HeadlineLemmas
+pub mod VerdictCompared
+pub mod VerdictGroups
+pub mod VerdictHeader
+pub mod VerdictLater
+pub mod VerdictLocal
+pub mod VerdictOutputs
+pub mod VerdictParts
+pub mod VerdictPlace
+pub mod VerdictRowLemmas
+pub mod VerdictTests
+pub mod VerdictYes
+mod ItemBytes
+pub mod ItemLemmas
+pub mod MetLemmas
+pub mod SkipLemmas

@@ -1,6 +1,7 @@
-pub mod Laws
 pub mod Verdict
-pub mod Reading
-pub mod Truth
-pub mod Joined
-pub mod Joining
+pub mod VerdictLaws
+pub mod VerdictRows
+pub mod FaultLaws
+pub mod Headline
+pub mod Items
+pub mod Steps

@@ -1,27 +1,129 @@
-//! Why a text is no verdict.
-ghost use Rattle.std.specs.Prelude.{◌≡◌};
+//! Why a result is not good.
+ghost use Rattle.std.specs.Prelude.{◌≡◌, ◌↔◌, IsTrue};
 
+use mr_certform::Malformed;
 use std::alloc::AllocError;
 use thiserror::Error;
 
-/// Why a text is read as no verdict.
-#[derive(Clone, Copy, Debug, PartialEq, Eq, Drop, Error)]
-pub enum VerdictFault {
-    /// The text is that of no verdict. Its lines from this one on, numbered from 0, differ from those of the verdict that
-    /// its lines tell.
-    #[error("BadLine {line}")]
-    BadLine { line: u64 },
-    /// The machine refused memory.
-    #[error("OutOfMemory")]
-    OutOfMemory,
+/// What a read failed of.
+#[derive(Clone, Copy, Debug, PartialEq, Eq, Drop)]
+pub enum Source {
+    Certificate,
+    /// The output of this partition, numbered from 0.
+    Output(u64),
 }
 
-impl From<AllocError> for VerdictFault {
-    ghost use Rattle.mr_verdict.specs.declared.fault.VerdictFault.TheVariants.{OutOfMemory as told_memory};
+/// Why a result is not good: the first of the judge's tests that fails. Partitions, groups, entries and left-out
+/// records are numbered from 0, places are in bytes from the front.
+#[derive(Clone, Copy, Debug, PartialEq, Eq, Drop, Error)]
+pub enum No {
+    /// There are not as many outputs as the request has partitions.
+    #[error("OutputCount")]
+    OutputCount,
+    /// No item of a certificate stands at this place of its bytes.
+    #[error("Malformed at {at}")]
+    Malformed {
+        at: u64,
+    },
+    /// The certificate is of another job, or of other partitions or splits.
+    #[error("OtherJob")]
+    OtherJob,
+    /// The certificate is of another input.
+    #[error("OtherInput")]
+    OtherInput,
+    /// A left-out record is not past the one before it.
+    #[error("SkipOrder skip {skip}")]
+    SkipOrder {
+        skip: u64,
+    },
+    /// A left-out record does not exist.
+    #[error("NoSuchRecord skip {skip}")]
+    NoSuchRecord {
+        skip: u64,
+    },
+    /// More records are left out than the request allows.
+    #[error("TooManySkips listed {listed}")]
+    TooManySkips {
+        listed: u64,
+    },
+    /// No emitted pair has the entry's name.
+    #[error("NoSuchPair partition {partition} group {group} entry {entry}")]
+    NoSuchPair {
+        partition: u64,
+        group: u64,
+        entry: u64,
+    },
+    /// The entry's name is not past the one before it.
+    #[error("EntryOrder partition {partition} group {group} entry {entry}")]
+    EntryOrder {
+        partition: u64,
+        group: u64,
+        entry: u64,
+    },
+    /// The entry's key is not that of its group.
+    #[error("KeyDiffers partition {partition} group {group} entry {entry}")]
+    KeyDiffers {
+        partition: u64,
+        group: u64,
+        entry: u64,
+    },
+    /// The group's key belongs to another partition.
+    #[error("WrongPartition partition {partition} group {group} entry {entry}")]
+    WrongPartition {
+        partition: u64,
+        group: u64,
+        entry: u64,
+    },
+    /// The group's key is not past that of the group before it.
+    #[error("KeyOrder partition {partition} group {group} entry {entry}")]
+    KeyOrder {
+        partition: u64,
+        group: u64,
+        entry: u64,
+    },
+    /// The output has another byte at this place than its groups' texts, or ends there, or goes on.
+    #[error("OutputDiffers partition {partition} at {at}")]
+    OutputDiffers {
+        partition: u64,
+        at: u64,
+    },
+    /// Fewer entries are named than pairs are emitted.
+    #[error("Unnamed emitted {emitted} named {named}")]
+    Unnamed {
+        emitted: u64,
+        named: u64,
+    },
+    /// The machine refused memory; nothing is said of the result.
+    #[error("OutOfMemory")]
+    OutOfMemory,
+    /// A read failed; nothing is said of the result. Told by `check_from` alone.
+    #[error("Device")]
+    Device(Source),
+}
 
-    ghost from_gives = { λ _ f. f ≡ told_memory };
+impl From<Malformed> for No {
+    ghost use Rattle.mr_verdict.specs.declared.fault.No.TheVariants.{Malformed as no_item};
 
-    fn from(_fault: AllocError) -> VerdictFault {
-        VerdictFault::OutOfMemory
+    ghost from_gives = { λ m f. f ≡ no_item m.at };
+
+    fn from(fault: Malformed) -> No {
+        No::Malformed { at: fault.at }
     }
+}
+
+impl From<AllocError> for No {
+    ghost use Rattle.mr_verdict.specs.declared.fault.No.TheVariants.{OutOfMemory as no_memory};
+
+    ghost from_gives = { λ _ f. f ≡ no_memory };
+
+    fn from(_fault: AllocError) -> No {
+        No::OutOfMemory
+    }
+}
+
+/// Whether the faults are one.
+pub fn is_same_fault(a: No, b: No) -> bool
+    ensures { IsTrue result ↔ (a ≡ b) }
+{
+    a == b
 }

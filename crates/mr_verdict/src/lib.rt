@@ -1,25 +1,20 @@
-//! Verdicts: what a judge said yes to, as a text that others can read.
+//! What a judge must answer: the verdict over bytes, the faults that it tells, what a yes is worth,
+//! and laws of these; and its tests of a certificate's header and of the left-out records, over
+//! whatever gives the items.
 #![tactic(auto)]
 
-ghost use Rattle.mr_verdict.specs.Laws.{OneText};
-
 mod fault;
-mod joining;
-mod noting;
-mod reading;
-mod requests;
-mod verdict;
-mod writing;
+mod heading;
+mod items;
+mod laws;
+mod skips;
+mod yes;
 
-pub use crate::fault::VerdictFault;
-pub use crate::joining::{JoinFault, first_repeat, join_verdicts, joined_law};
-pub use crate::noting::{is_note_of, note_for, verdict_for};
-pub use crate::reading::read_verdict;
-pub use crate::requests::{asks, request_of};
-pub use crate::verdict::{FileNote, Verdict};
-pub use crate::writing::write_verdict;
-
-/// Verdicts that fit and have one text are one.
-pub fn verdict_law()
-    ensures { OneText }
-{}
+pub use fault::{No, Source, is_same_fault};
+pub use heading::expect_header;
+pub use items::{Halt, Items, Stop};
+pub use laws::{
+    fault_law, locality_law, partition_law, place_law, worked_places, worked_rows, yes_law,
+};
+pub use skips::{expect_count, take_skips};
+pub use yes::Yes;

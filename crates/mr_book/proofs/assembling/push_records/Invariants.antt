@@ -1,5 +1,5 @@
 use Rattle.std.proofs.Common.{◌≡◌, ◌++◌, map, take}
-use Rattle.mr_assembled.specs.Assembled.{in_split}
+use Rattle.mr_book.specs.Assembled.{in_split}
 use Rattle.mr_book.proofs.assembling.push_records.Given as goal
 
 abbrev pub invariant-loop-number : goal.invariant-loop-number

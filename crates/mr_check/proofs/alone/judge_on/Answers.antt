@@ -1,9 +1,9 @@
 use Rattle.std.proofs.Common.{◌∙◌, false, Ok, Bool, List, drop, ap, sym, subst}
 use Rattle.mr_certform.specs.declared.item.Item.{Item}
 use Rattle.mr_certform.specs.Walking.{items_left}
-use Rattle.mr_answers.specs.Verdict.{first}
-use Rattle.mr_answers.specs.VerdictLaws.{told, piece}
-use Rattle.mr_judge.specs.Steps.{subject}
+use Rattle.mr_verdict.specs.Verdict.{first}
+use Rattle.mr_verdict.specs.VerdictLaws.{told, piece}
+use Rattle.mr_verdict.specs.Steps.{subject}
 use Rattle.mr_check.specs.Sections.{StretchJudged}
 use Rattle.mr_check.proofs.BorderLemmas.{piece_own, drop_own, told_between}
 use Rattle.mr_check.proofs.alone.judge_on.Goals as goal

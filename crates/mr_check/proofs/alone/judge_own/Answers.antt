@@ -2,8 +2,8 @@ use Rattle.std.proofs.Common.{◌≡◌, ◌+◌, List, length, drop, get_or, sy
 use Rattle.std.proofs.lemmas.List.{drop_more}
 use Rattle.std.specs.List.{AllByRecursion}
 use Rattle.mr_judge.specs.declared.blocks.FoundItem.{FoundItem}
-use Rattle.mr_answers.specs.Verdict.{Reached}
-use Rattle.mr_judge.specs.Steps.{subject}
+use Rattle.mr_verdict.specs.Verdict.{Reached}
+use Rattle.mr_verdict.specs.Steps.{subject}
 use Rattle.mr_judge.specs.Blocks.{items_in, IsFound}
 use Rattle.mr_judge.proofs.BlockLemmas.{blank, items_long}
 use Rattle.mr_check.proofs.OwnLemmas.{OwnStands, own_next, own_more, own_all, own_room}

@@ -2,7 +2,7 @@ use Rattle.std.proofs.Common.{◌≡◌, drop}
 use Rattle.mr_input.specs.Files.{contents}
 use Rattle.mr_judge.specs.Outputs.{Leaves}
 use Rattle.std.specs.List.{AllByRecursion}
-use Rattle.mr_judge.specs.Steps.{subject}
+use Rattle.mr_verdict.specs.Steps.{subject}
 use Rattle.mr_judge.specs.Blocks.{items_in, IsFound}
 use Rattle.mr_check.proofs.OwnLemmas.{OwnStands}
 use Rattle.mr_check.proofs.alone.judge_own.Given as goal

@@ -1,9 +1,9 @@
 use Rattle.std.proofs.Common.{◌≡◌, ◌+◌, ◌∙◌, ◌≤◌, List, drop, length, ap, sym, subst, arith}
 use Rattle.mr_certform.specs.declared.item.Item.{Item}
 use Rattle.mr_certform.specs.Walking.{items_left}
-use Rattle.mr_answers.specs.Verdict.{Reached}
-use Rattle.mr_answers.specs.VerdictLaws.{piece}
-use Rattle.mr_judge.specs.Steps.{subject, Room}
+use Rattle.mr_verdict.specs.Verdict.{Reached}
+use Rattle.mr_verdict.specs.VerdictLaws.{piece}
+use Rattle.mr_verdict.specs.Steps.{subject, Room}
 use Rattle.mr_judge.specs.Borders.{at_border}
 use Rattle.mr_check.specs.Fronts.{part_here}
 use Rattle.mr_check.specs.Sections.{part_from, GroupBegins, SectionJudged}

@@ -2,10 +2,10 @@ use Rattle.std.proofs.Common.{◌≡◌, ◌+◌, ◌≤◌, ◌^◌, true, fals
 use Rattle.std.proofs.lemmas.Result.{err_from_is_err_and}
 use Rattle.mr_certform.specs.declared.item.Item.{Item}
 use Rattle.mr_certform.specs.Walking.{items_left}
-use Rattle.mr_answers.specs.Verdict.{first}
-use Rattle.mr_answers.specs.VerdictLaws.{told, piece}
-use Rattle.mr_answers.specs.declared.fault.No.{No}
-use Rattle.mr_judge.specs.Steps.{subject, Answers}
+use Rattle.mr_verdict.specs.Verdict.{first}
+use Rattle.mr_verdict.specs.VerdictLaws.{told, piece}
+use Rattle.mr_verdict.specs.declared.fault.No.{No}
+use Rattle.mr_verdict.specs.Steps.{subject, Answers}
 use Rattle.mr_judge.proofs.Faults.{told_is}
 use Rattle.mr_judge.specs.Blocks.{items_in, onto}
 use Rattle.mr_check.specs.Fronts.{OwnGoesOn, OwnJudged}

@@ -2,9 +2,9 @@ use Rattle.std.proofs.Common.{◌≡◌, ◌^◌, ◌+◌, ◌-◌, ◌≤◌, l
 use Rattle.mr_input.specs.Files.{contents}
 use Rattle.mr_judge.specs.Outputs.{Leaves}
 use Rattle.mr_certform.specs.Walking.{items_left}
-use Rattle.mr_answers.specs.Verdict.{first}
-use Rattle.mr_answers.specs.VerdictLaws.{told, piece}
-use Rattle.mr_judge.specs.Steps.{subject, Room}
+use Rattle.mr_verdict.specs.Verdict.{first}
+use Rattle.mr_verdict.specs.VerdictLaws.{told, piece}
+use Rattle.mr_verdict.specs.Steps.{subject, Room}
 use Rattle.mr_check.proofs.alone.judge_stretch.Given as goal
 
 abbrev pub invariant-loop-left : goal.invariant-loop-left

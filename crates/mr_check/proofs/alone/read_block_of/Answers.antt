@@ -3,10 +3,10 @@ use Rattle.std.proofs.lemmas.Bool.{eqb-true}
 use Rattle.mr_certform.specs.declared.item.Item.{Item}
 use Rattle.mr_certform.specs.declared.walker.Walker.{Walker}
 use Rattle.mr_certform.specs.Walking.{items_left, halt}
-use Rattle.mr_answers.specs.declared.fault.No.TheVariants.{Malformed}
-use Rattle.mr_answers.specs.Verdict.{entries_in}
+use Rattle.mr_verdict.specs.declared.fault.No.TheVariants.{Malformed}
+use Rattle.mr_verdict.specs.Verdict.{entries_in}
 use Rattle.mr_judge.specs.Blocks.{onto, Read}
-use Rattle.mr_judge.proofs.ItemLemmas.{over}
+use Rattle.mr_verdict.proofs.ItemLemmas.{over}
 use Rattle.mr_check.proofs.alone.read_block_of.Goals as goal
 
 none : (is : List Item) → length is ≡ 0 → is ≡ []

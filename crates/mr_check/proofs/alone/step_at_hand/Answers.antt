@@ -1,7 +1,7 @@
 use Rattle.std.proofs.Common.{◌≡◌, ℕ, List, [], refl, sym, subst}
 use Rattle.mr_input.specs.Files.{contents}
-use Rattle.mr_answers.specs.Verdict.{tests, after}
-use Rattle.mr_judge.specs.Steps.{Ground, subject_with}
+use Rattle.mr_verdict.specs.Verdict.{tests, after}
+use Rattle.mr_verdict.specs.Steps.{Ground, subject_with}
 use Rattle.mr_judge.specs.Outputs.{Leaves}
 use Rattle.mr_check.proofs.alone.step_at_hand.Goals as goal
 

@@ -1,7 +1,7 @@
 use Rattle.std.proofs.Common.{refl}
 use Rattle.mr_certform.specs.Walking.{items_left, halt}
-use Rattle.mr_judge.specs.Steps.{Counted, counted}
-use Rattle.mr_judge.proofs.ItemLemmas.{walked_ok}
+use Rattle.mr_verdict.specs.Steps.{Counted, counted}
+use Rattle.mr_verdict.proofs.ItemLemmas.{walked_ok}
 use Rattle.mr_check.proofs.front_bytes.expect_count_of.Goals as goal
 
 pub returns-in-Ok-clause-counted : goal.returns-in-Ok-clause-counted

@@ -1,7 +1,7 @@
 use Rattle.std.proofs.Common.{refl}
 use Rattle.mr_certform.specs.Walking.{items_left, halt}
-use Rattle.mr_judge.specs.Steps.{header_met}
-use Rattle.mr_judge.proofs.ItemLemmas.{walked_ok}
+use Rattle.mr_verdict.specs.Steps.{header_met}
+use Rattle.mr_verdict.proofs.ItemLemmas.{walked_ok}
 use Rattle.mr_check.proofs.front_bytes.expect_header_of.Goals as goal
 
 pub returns-in-Ok-clause-met : goal.returns-in-Ok-clause-met

@@ -1,8 +1,8 @@
 use Rattle.std.proofs.Common.{refl, []}
 use Rattle.mr_splits.specs.Cut.{records_of}
 use Rattle.mr_certform.specs.Walking.{items_left, halt}
-use Rattle.mr_judge.specs.Steps.{Listed, listed}
-use Rattle.mr_judge.proofs.ItemLemmas.{walked_ok}
+use Rattle.mr_verdict.specs.Steps.{Listed, listed}
+use Rattle.mr_verdict.proofs.ItemLemmas.{walked_ok}
 use Rattle.mr_check.proofs.front_bytes.take_skips_of.Goals as goal
 
 pub returns-in-Ok-clause-listed : goal.returns-in-Ok-clause-listed

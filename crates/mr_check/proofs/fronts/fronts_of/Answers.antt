@@ -4,8 +4,8 @@ use Rattle.mr_certform.specs.declared.item.Item.{Item}
 use Rattle.mr_certform.specs.Spelling.{is_ended}
 use Rattle.mr_certform.specs.Walking.{items_left}
 use Rattle.mr_certform.specs.Rows.{behind_entries}
-use Rattle.mr_answers.specs.Verdict.{entries_in}
-use Rattle.mr_answers.specs.VerdictLaws.{parts_in}
+use Rattle.mr_verdict.specs.Verdict.{entries_in}
+use Rattle.mr_verdict.specs.VerdictLaws.{parts_in}
 use Rattle.mr_check.specs.declared.front.Front.{Front}
 use Rattle.mr_check.specs.Fronts.{closes, part_here, part_at, parts_at}
 use Rattle.mr_check.specs.Sections.{IsSection, HasWalked}

@@ -2,8 +2,8 @@ use Rattle.std.proofs.Common.{◌≡◌, ◌+◌, ◌++◌, ◌≤◌, ◌^◌, 
 use Rattle.std.specs.Prelude.{All}
 use Rattle.mr_certform.specs.Spelling.{is_ended}
 use Rattle.mr_certform.specs.Walking.{items_left, halt}
-use Rattle.mr_answers.specs.Verdict.{entries_in}
-use Rattle.mr_answers.specs.VerdictLaws.{parts_in}
+use Rattle.mr_verdict.specs.Verdict.{entries_in}
+use Rattle.mr_verdict.specs.VerdictLaws.{parts_in}
 use Rattle.mr_check.specs.Fronts.{parts_at}
 use Rattle.mr_check.specs.Sections.{IsSection, HasWalked}
 use Rattle.mr_check.proofs.fronts.fronts_of.Given as goal

@@ -1,6 +1,6 @@
 use Rattle.std.proofs.Common.{◌≡◌, false, ap, arith}
 use Rattle.mr_certform.specs.Walking.{items_left}
-use Rattle.mr_judge.specs.Steps.{opens}
+use Rattle.mr_verdict.specs.Steps.{opens}
 use Rattle.mr_check.proofs.SectionLemmas.{walk_item, opens_not}
 use Rattle.mr_check.proofs.fronts.keep_section.Goals as goal
 

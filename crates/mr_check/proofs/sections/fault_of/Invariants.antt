@@ -1,7 +1,7 @@
 use Rattle.std.proofs.Common.{◌≡◌, ◌-◌, length, drop}
-use Rattle.mr_answers.specs.Verdict.{first}
-use Rattle.mr_answers.specs.VerdictLaws.{told, part_fault}
-use Rattle.mr_judge.specs.Steps.{subject}
+use Rattle.mr_verdict.specs.Verdict.{first}
+use Rattle.mr_verdict.specs.VerdictLaws.{told, part_fault}
+use Rattle.mr_verdict.specs.Steps.{subject}
 use Rattle.mr_judge.specs.Borders.{at_border}
 use Rattle.mr_check.specs.Fronts.{part_at}
 use Rattle.mr_check.proofs.sections.fault_of.Given as goal

@@ -1,5 +1,5 @@
 use Rattle.std.proofs.Common.{◌∙◌, sym}
-use Rattle.mr_judge.specs.Steps.{subject}
+use Rattle.mr_verdict.specs.Steps.{subject}
 use Rattle.mr_check.proofs.SectionLemmas.{least_found, least_on}
 use Rattle.mr_check.proofs.sections.first_fault.Goals as goal
 

@@ -1,6 +1,6 @@
 use Rattle.std.proofs.Common.{◌≡◌, drop}
-use Rattle.mr_answers.specs.VerdictLaws.{least_fault}
-use Rattle.mr_judge.specs.Steps.{subject}
+use Rattle.mr_verdict.specs.VerdictLaws.{least_fault}
+use Rattle.mr_verdict.specs.Steps.{subject}
 use Rattle.mr_check.specs.Fronts.{parts_at}
 use Rattle.mr_check.proofs.sections.first_fault.Given as goal
 

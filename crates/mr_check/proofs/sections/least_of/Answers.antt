@@ -1,5 +1,5 @@
 use Rattle.std.proofs.Common.{◌≡◌, length, sym, subst, arith}
-use Rattle.mr_judge.specs.Steps.{subject}
+use Rattle.mr_verdict.specs.Steps.{subject}
 use Rattle.mr_check.specs.Sections.{AreJudged}
 use Rattle.mr_check.proofs.sections.least_of.Goals as goal
 

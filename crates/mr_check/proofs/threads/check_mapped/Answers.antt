@@ -1,8 +1,8 @@
 use Rattle.std.proofs.Common.{◌≡◌, None, MatchResult, refl, subst}
 use Rattle.mr_input.specs.Files.{contents}
 use Rattle.mr_certform.specs.Walking.{items_left, halt}
-use Rattle.mr_answers.specs.Verdict.{Subject, start, part_faults, first, entries_in}
-use Rattle.mr_judge.specs.Steps.{Answers, case_at}
+use Rattle.mr_verdict.specs.Verdict.{Subject, start, part_faults, first, entries_in}
+use Rattle.mr_verdict.specs.Steps.{Answers, case_at}
 use Rattle.mr_judge.proofs.VerdictLemmas.{known_subject}
 use Rattle.mr_check.proofs.threads.check_mapped.Goals as goal
 

@@ -3,9 +3,9 @@ use Rattle.std.specs.Prelude.{All}
 use Rattle.mr_certform.specs.declared.item.Item.{Item}
 use Rattle.mr_certform.specs.Spelling.{is_ended}
 use Rattle.mr_certform.specs.Walking.{items_left, halt}
-use Rattle.mr_answers.specs.Verdict.{start, part_faults, entries_in}
-use Rattle.mr_answers.specs.VerdictLaws.{least_fault, back_fault, or_else, parts_in}
-use Rattle.mr_judge.specs.Steps.{subject}
+use Rattle.mr_verdict.specs.Verdict.{start, part_faults, entries_in}
+use Rattle.mr_verdict.specs.VerdictLaws.{least_fault, back_fault, or_else, parts_in}
+use Rattle.mr_verdict.specs.Steps.{subject}
 use Rattle.mr_check.specs.declared.front.Front.{Front}
 use Rattle.mr_check.specs.Fronts.{parts_at}
 use Rattle.mr_check.specs.Sections.{IsSection}

@@ -4,9 +4,9 @@ use Rattle.mr_bytes.specs.declared.RecordName.{RecordName}
 use Rattle.mr_input.specs.Files.{contents}
 use Rattle.mr_splits.specs.Cut.{Cut, records_of}
 use Rattle.mr_certform.specs.Walking.{items_left, halt}
-use Rattle.mr_answers.specs.declared.fault.No.{No}
-use Rattle.mr_answers.specs.Verdict.{Case, start, subject_of, part_faults, count_faults, first}
-use Rattle.mr_judge.specs.Steps.{Listed, case_at}
+use Rattle.mr_verdict.specs.declared.fault.No.{No}
+use Rattle.mr_verdict.specs.Verdict.{Case, start, subject_of, part_faults, count_faults, first}
+use Rattle.mr_verdict.specs.Steps.{Listed, case_at}
 use Rattle.mr_judge.proofs.Faults.{told_is}
 use Rattle.mr_certform.specs.Grammar.{InOrder}
 use Rattle.mr_judge.proofs.GrammarLemmas.{awaits, partitions_place}

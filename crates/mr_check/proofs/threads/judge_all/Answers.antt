@@ -10,8 +10,8 @@ use Rattle.mr_certform.specs.Grammar.{InOrder}
 use Rattle.mr_certform.specs.Spelling.{items_of, stop}
 use Rattle.mr_certform.specs.Walking.{items_left, halt}
 use Rattle.mr_certform.proofs.Walks.{read_front}
-use Rattle.mr_answers.specs.declared.fault.No.{No}
-use Rattle.mr_answers.specs.declared.fault.No.TheVariants.{OtherJob, OtherInput}
+use Rattle.mr_verdict.specs.declared.fault.No.{No}
+use Rattle.mr_verdict.specs.declared.fault.No.TheVariants.{OtherJob, OtherInput}
 use Rattle.mr_judge.proofs.GrammarLemmas.{skips_place}
 use Rattle.mr_judge.proofs.KindLemmas.{in_order}
 use Rattle.mr_judge.proofs.JudgeLemmas.{as_many, header_is, rest_verdict}

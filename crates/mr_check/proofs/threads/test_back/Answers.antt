@@ -1,10 +1,10 @@
 use Rattle.std.proofs.Common.{ap, sym, ◌∙◌, inr, refl, nat_le}
 use Rattle.std.proofs.lemmas.Result.{err_from_is_err_and}
-use Rattle.mr_answers.specs.declared.fault.No.{No}
-use Rattle.mr_answers.specs.declared.fault.No.TheVariants.{Unnamed}
-use Rattle.mr_answers.specs.Verdict.{passes, first}
-use Rattle.mr_answers.specs.VerdictLaws.{back_fault}
-use Rattle.mr_judge.specs.Steps.{subject}
+use Rattle.mr_verdict.specs.declared.fault.No.{No}
+use Rattle.mr_verdict.specs.declared.fault.No.TheVariants.{Unnamed}
+use Rattle.mr_verdict.specs.Verdict.{passes, first}
+use Rattle.mr_verdict.specs.VerdictLaws.{back_fault}
+use Rattle.mr_verdict.specs.Steps.{subject}
 use Rattle.mr_check.proofs.FrontLemmas.{back_stop, back_end}
 use Rattle.mr_judge.proofs.JudgeLemmas.{told_same}
 use Rattle.mr_check.proofs.threads.test_back.Goals as goal

@@ -3,9 +3,9 @@ use Rattle.std.specs.Prelude.{OnOk}
 use Rattle.std.proofs.lemmas.Result.{IfErr-weaker, IfOk-weaker}
 use Rattle.mr_files.specs.Identities.{AreApart}
 use Rattle.mr_files.specs.Names.{result_names}
-use Rattle.mr_judging.specs.Inputs.{IsInput, IsInputRefusal}
-use Rattle.mr_judging.specs.Named.{input_names}
-use Rattle.mr_judging.proofs.Inputs.{refused_of}
+use Rattle.mr_commands.specs.Inputs.{IsInput, IsInputRefusal}
+use Rattle.mr_commands.specs.Named.{input_names}
+use Rattle.mr_commands.proofs.JudgingInputs.{refused_of}
 use Rattle.mr_commands.proofs.Inputs.{apart_of, input_as}
 use Rattle.mr_commands.proofs.commands.input_apart.Goals as goal
 

@@ -8,7 +8,7 @@ use Rattle.mr_certform.specs.Value.{CanSpell, SpellsIn}
 use Rattle.mr_sequential.specs.Emitted.{emitted}
 use Rattle.mr_commands.specs.Outcomes.{IsSequentialResult, done_line}
 use Rattle.mr_commands.specs.Answers.{WorksOut, IsRunRefusal, IsWorkRefusal}
-use Rattle.mr_judging.proofs.Refused.{asked}
+use Rattle.mr_commands.proofs.JudgingRefused.{asked}
 use Rattle.mr_commands.proofs.Refused.{work_input_stage, work_run_stage, works_out, both_ok}
 use Rattle.mr_commands.proofs.commands.worked_out.Goals as goal
 

@@ -2,7 +2,7 @@ use Rattle.std.proofs.Common.{inl, inr, map, ap}
 use Rattle.std.proofs.lemmas.Result.{err_from_is_err_and, IfErr-weaker, IfOk-weaker}
 use Rattle.mr_pool.specs.Outcomes.{run_shape}
 use Rattle.mr_commands.specs.Runs.{AreGood, EndsOver, IsScratchRefusal, IsStartRefusal, Runs, scratch_name}
-use Rattle.mr_judging.proofs.Refused.{asked}
+use Rattle.mr_commands.proofs.JudgingRefused.{asked}
 use Rattle.mr_commands.proofs.Kept.{script_stage, input_stage, scratch_stage, runs}
 use Rattle.mr_commands.proofs.running.executed.Goals as goal
 

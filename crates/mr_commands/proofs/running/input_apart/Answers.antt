@@ -1,8 +1,8 @@
 use Rattle.std.proofs.Common.{◌≡◌, ◌∙◌, map, ap, string_bytes}
 use Rattle.std.proofs.lemmas.Result.{IfErr-weaker, IfOk-weaker}
-use Rattle.mr_judging.specs.Inputs.{IsInput, IsInputRefusal}
-use Rattle.mr_judging.specs.Named.{input_names, named}
-use Rattle.mr_judging.proofs.Inputs.{refused_of}
+use Rattle.mr_commands.specs.Inputs.{IsInput, IsInputRefusal}
+use Rattle.mr_commands.specs.Named.{input_names, named}
+use Rattle.mr_commands.proofs.JudgingInputs.{refused_of}
 use Rattle.mr_commands.proofs.Inputs.{apart_of, input_as}
 use Rattle.mr_commands.specs.Runs.{read_by_run, script_name, written_by_run}
 use Rattle.mr_commands.proofs.running.input_apart.Goals as goal

@@ -1,6 +1,6 @@
 use Rattle.std.proofs.Common.{rules, ◌≡◌, ◌∙◌, ◌++◌, ℕ, List, map, ap, string_bytes}
 use Rattle.std.proofs.lemmas.List.{map-append}
-use Rattle.mr_judging.specs.Named.{input_names, named}
+use Rattle.mr_commands.specs.Named.{input_names, named}
 use Rattle.mr_commands.specs.Runs.{read_by_run, script_name}
 use Rattle.mr_commands.proofs.running.names_of_run.Goals as goal
 

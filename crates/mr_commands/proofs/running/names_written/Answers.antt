@@ -1,6 +1,6 @@
 use Rattle.std.proofs.Common.{rules, ◌≡◌, ◌∙◌, ◌++◌, ℕ, List, map, ap, string_bytes}
 use Rattle.std.proofs.lemmas.List.{map-append}
-use Rattle.mr_judging.specs.Named.{named}
+use Rattle.mr_commands.specs.Named.{named}
 use Rattle.mr_commands.specs.Runs.{history_name}
 use Rattle.mr_commands.proofs.running.names_written.Goals as goal
 

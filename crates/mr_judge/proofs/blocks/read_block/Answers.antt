@@ -1,7 +1,7 @@
 use Rattle.std.proofs.Common.{◌∷◌, [], sym, List, length, ap, ◌∙◌, arith, length-append}
 use Rattle.std.proofs.lemmas.Bool.{false≢true}
 use Rattle.mr_certform.specs.declared.item.Item.{Item}
-use Rattle.mr_answers.specs.Verdict.{entries_in}
+use Rattle.mr_verdict.specs.Verdict.{entries_in}
 use Rattle.mr_judge.proofs.BlockLemmas.{reads_next, no_end, entries_few, entries_append}
 use Rattle.mr_judge.proofs.blocks.read_block.Goals as goal
 

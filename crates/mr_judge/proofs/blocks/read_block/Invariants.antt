@@ -1,5 +1,5 @@
 use Rattle.std.proofs.Common.{◌≡◌, ◌≤◌, ◌+◌, ◌-◌, length}
-use Rattle.mr_judge.specs.Items.{CanCome}
+use Rattle.mr_verdict.specs.Items.{CanCome}
 use Rattle.mr_judge.proofs.BlockLemmas.{Reads}
 use Rattle.mr_judge.proofs.blocks.read_block.Given as goal
 

@@ -4,7 +4,7 @@ use Rattle.std.specs.List.{AllByRecursion}
 use Rattle.mr_certform.specs.declared.item.Item.{Item}
 use Rattle.mr_certform.specs.declared.item.Item.TheVariants.{Magic}
 use Rattle.mr_judge.specs.declared.blocks.Sought.{Sought}
-use Rattle.mr_answers.specs.Verdict.{entries_in}
+use Rattle.mr_verdict.specs.Verdict.{entries_in}
 use Rattle.mr_judge.specs.Blocks.{items_sought, IsPlaced}
 use Rattle.mr_judge.proofs.PartLemmas.{entries_more}
 use Rattle.mr_judge.proofs.BlockLemmas.{entries_append, sought_more, all_more}

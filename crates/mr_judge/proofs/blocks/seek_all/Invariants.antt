@@ -1,6 +1,6 @@
 use Rattle.std.proofs.Common.{◌≡◌, ◌+◌, ◌++◌, drop}
 use Rattle.std.specs.List.{AllByRecursion}
-use Rattle.mr_answers.specs.Verdict.{entries_in}
+use Rattle.mr_verdict.specs.Verdict.{entries_in}
 use Rattle.mr_judge.specs.Blocks.{items_sought, IsPlaced}
 use Rattle.mr_judge.proofs.blocks.seek_all.Given as goal
 

@@ -1,6 +1,6 @@
 use Rattle.std.proofs.Common.{subst}
 use Rattle.std.specs.Prelude.{Err}
-use Rattle.mr_judge.specs.declared.items.Stop.{Stop}
+use Rattle.mr_verdict.specs.declared.items.Stop.{Stop}
 use Rattle.mr_judge.specs.Outputs.{IsVerdict}
 use Rattle.mr_judge.specs.Readers.{TellsNoRead}
 use Rattle.mr_judge.proofs.FromLemmas.{fault_told, fault_device}

@@ -3,7 +3,7 @@ use Rattle.std.specs.Prelude.{map}
 use Rattle.std.proofs.lemmas.Result.{err_from_is_err_and}
 use Rattle.mr_certform.specs.Streaming.{stream, Gives}
 use Rattle.mr_certform.proofs.Streams.{some_given}
-use Rattle.mr_judge.specs.Items.{Coming}
+use Rattle.mr_verdict.specs.Items.{Coming}
 use Rattle.mr_judge.specs.Readers.{reading}
 use Rattle.mr_judge.specs.Reading.{Reading}
 use Rattle.mr_judge.specs.declared.lent.Lent.{Lent}

@@ -3,10 +3,10 @@ use Rattle.std.specs.Prelude.{Err}
 use Rattle.std.proofs.lemmas.Result.{err_from_is_err_and}
 use Rattle.mr_splits.specs.Cut.{records_of}
 use Rattle.mr_index.proofs.WorkLemmas.{mapped-few}
-use Rattle.mr_answers.specs.declared.fault.No.TheVariants.{OutOfMemory}
-use Rattle.mr_judge.specs.declared.items.Stop.TheVariants.{Fault}
-use Rattle.mr_answers.specs.Verdict.{Subject, start, subject_of}
-use Rattle.mr_judge.specs.Steps.{subject_with, case_at}
+use Rattle.mr_verdict.specs.declared.fault.No.TheVariants.{OutOfMemory}
+use Rattle.mr_verdict.specs.declared.items.Stop.TheVariants.{Fault}
+use Rattle.mr_verdict.specs.Verdict.{Subject, start, subject_of}
+use Rattle.mr_verdict.specs.Steps.{subject_with, case_at}
 use Rattle.mr_judge.specs.Blocks.{Judges}
 use Rattle.mr_judge.proofs.VerdictLemmas.{known_subject}
 use Rattle.mr_judge.proofs.OutputLemmas.{through_as, through_all}

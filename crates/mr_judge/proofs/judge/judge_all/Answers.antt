@@ -1,6 +1,6 @@
 use Rattle.std.specs.Prelude.{Err}
 use Rattle.std.proofs.lemmas.Result.{err_from_is_err_and}
-use Rattle.mr_answers.specs.Verdict.{start}
+use Rattle.mr_verdict.specs.Verdict.{start}
 use Rattle.mr_judge.specs.Outputs.{RestJudged, AllJudged}
 use Rattle.mr_judge.proofs.OutputLemmas.{through_as, through_all}
 use Rattle.mr_judge.proofs.RestLemmas.{order_behind, header_judged, all_judged}

@@ -11,8 +11,8 @@ use Rattle.mr_judge.specs.Outputs.{OfBytes, IsVerdict}
 use Rattle.mr_judge.proofs.VerdictLemmas.{verdict_count}
 use Rattle.mr_judge.proofs.JudgeLemmas.{as_many}
 use Rattle.mr_judge.proofs.RestLemmas.{Only, held, only_fits, at_hand}
-use Rattle.mr_judge.proofs.ItemLemmas.{over}
-use Rattle.mr_judge.specs.declared.items.Stop.{Stop}
+use Rattle.mr_verdict.proofs.ItemLemmas.{over}
+use Rattle.mr_verdict.specs.declared.items.Stop.{Stop}
 use Rattle.mr_judge.proofs.judge.judge_at_hand.Goals as goal
 
 pub returns-then-outputs-parts-clause-verdict : goal.returns-then-outputs-parts-clause-verdict

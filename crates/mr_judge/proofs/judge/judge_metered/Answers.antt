@@ -1,6 +1,6 @@
 use Rattle.std.proofs.Common.{arith}
 use Rattle.mr_input.specs.Files.{contents}
-use Rattle.mr_answers.proofs.HeadlineLemmas.{certified}
+use Rattle.mr_verdict.proofs.HeadlineLemmas.{certified}
 use Rattle.mr_judge.proofs.judge.judge_metered.Goals as goal
 
 pub returns-clause-headline : goal.returns-clause-headline

@@ -1,6 +1,6 @@
 use Rattle.std.proofs.Common.{◌≡◌, ◌⊎◌, ◌+◌}
-use Rattle.mr_judge.specs.Steps.{Room}
-use Rattle.mr_judge.specs.Items.{CanCome, Each}
+use Rattle.mr_verdict.specs.Steps.{Room}
+use Rattle.mr_verdict.specs.Items.{CanCome, Each}
 use Rattle.mr_judge.specs.Outputs.{CanCome as CanComeAhead, begins}
 use Rattle.mr_judge.proofs.BlocksJudged.{Going}
 use Rattle.mr_judge.proofs.parts.judge_blocks.Given as goal

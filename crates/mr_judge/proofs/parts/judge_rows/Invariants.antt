@@ -1,6 +1,6 @@
 use Rattle.std.proofs.Common.{◌≡◌, ◌⊎◌, true, drop}
 use Rattle.std.specs.List.{AllByRecursion}
-use Rattle.mr_judge.specs.Steps.{subject_with}
+use Rattle.mr_verdict.specs.Steps.{subject_with}
 use Rattle.mr_judge.specs.Blocks.{items_in, IsFound}
 use Rattle.mr_judge.specs.Outputs.{Onward, CanCome as CanComeAhead, begins}
 use Rattle.mr_judge.proofs.BlockLemmas.{Stands}

@@ -4,7 +4,7 @@ use Rattle.mr_input.specs.Files.{contents}
 use Rattle.mr_certform.specs.Value.{Spells}
 use Rattle.mr_core.specs.declared.event.Shape.{Shape}
 use Rattle.mr_sequential.specs.Good.{IsGoodResult}
-use Rattle.mr_assembled.specs.Assembled.{assembled_certificate, assembled_outputs}
+use Rattle.mr_book.specs.Assembled.{assembled_certificate, assembled_outputs}
 use Rattle.mr_book.specs.Assembling.{reduced_under}
 use Rattle.mr_pool.specs.Outcomes.{IsHistory}
 use Rattle.mr_pool.proofs.Closed.{is_history}

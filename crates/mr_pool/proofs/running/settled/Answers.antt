@@ -2,7 +2,7 @@ use Rattle.std.proofs.Common.{◌≡◌, Bool, ap, sym, ◌∙◌, subst}
 use Rattle.std.specs.Prelude.{IsTrue}
 use Rattle.mr_core.specs.declared.event.Shape.{Shape}
 use Rattle.mr_book.specs.Calls.{has_damage}
-use Rattle.mr_workers.specs.Accounts.{accounts}
+use Rattle.mr_pool.specs.Accounts.{accounts}
 use Rattle.mr_pool.specs.Outcomes.{IsHistory}
 use Rattle.mr_pool.proofs.Closed.{is_history}
 use Rattle.mr_pool.proofs.Endings.{failed_is}

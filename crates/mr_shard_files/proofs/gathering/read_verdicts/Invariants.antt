@@ -1,6 +1,6 @@
 use Rattle.std.proofs.Common.{map, take}
 use Rattle.mr_files.specs.Holding.{Holding}
-use Rattle.mr_verdict.specs.Verdict.{spelling}
+use Rattle.mr_shards.specs.Verdict.{spelling}
 use Rattle.mr_shard_files.proofs.gathering.read_verdicts.Given as goal
 
 abbrev pub invariant-loop-shard : goal.invariant-loop-shard

@@ -3,7 +3,7 @@ use Rattle.std.proofs.lemmas.List.{length-map}
 use Rattle.std.proofs.lemmas.Result.{err_from_is_err_and}
 use Rattle.mr_files.specs.Holding.{Begins}
 use Rattle.mr_files.specs.Names.{name_of_verdict}
-use Rattle.mr_verdict.specs.Verdict.{spelling}
+use Rattle.mr_shards.specs.Verdict.{spelling}
 use Rattle.mr_shard_files.proofs.PartLemmas.{held_count}
 use Rattle.mr_shard_files.proofs.ResultLemmas.{among_again, named, parts_change, unnamed}
 use Rattle.mr_shard_files.proofs.merging.merged_of.Goals as goal

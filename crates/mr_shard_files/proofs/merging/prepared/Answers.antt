@@ -1,6 +1,6 @@
 use Rattle.std.proofs.Common.{◌≡◌, ◌∙◌, List, ℕ, ap, arith, inr, map, option_map, subst}
 use Rattle.std.proofs.lemmas.Result.{err_from_is_err_and}
-use Rattle.mr_verdict.specs.Verdict.{Note, Told}
+use Rattle.mr_shards.specs.Verdict.{Note, Told}
 use Rattle.mr_shard_files.specs.Faults.{IsUnmeant}
 use Rattle.mr_shard_files.proofs.merging.prepared.Goals as goal
 

@@ -1,7 +1,7 @@
 use Rattle.std.proofs.Common.{◌≡◌, take}
 use Rattle.mr_input.specs.Files.{contents}
 use Rattle.mr_files.specs.Names.{part_files}
-use Rattle.mr_verdict.specs.Truth.{notes_for}
+use Rattle.mr_shards.specs.Truth.{notes_for}
 use Rattle.mr_shard_files.proofs.noting.part_notes.Given as goal
 
 abbrev pub invariant-loop-partition : goal.invariant-loop-partition

@@ -1,6 +1,6 @@
 use Rattle.std.proofs.Common.{◌≡◌, ◌∙◌, ◌++◌, ◌∷◌, [], ap, get_or, length, map, sym, take, arith, rules}
 use Rattle.std.proofs.lemmas.List.{map-append, take_more}
-use Rattle.mr_verdict.specs.Verdict.{Told}
+use Rattle.mr_shards.specs.Verdict.{Told}
 use Rattle.mr_shard_files.proofs.PartLemmas.{inputs_count}
 use Rattle.mr_shard_files.proofs.opening.file_counts.Goals as goal
 

@@ -3,8 +3,8 @@ use Rattle.std.proofs.lemmas.List.{length-map}
 use Rattle.std.proofs.lemmas.Result.{err_from_is_err_and}
 use Rattle.mr_files.specs.Names.{name_of_part, part_files}
 use Rattle.mr_jobs.specs.JobSpec.{JobSpec}
-use Rattle.mr_verdict.specs.Truth.{notes_for}
-use Rattle.mr_verdict.specs.Verdict.{Note, Told}
+use Rattle.mr_shards.specs.Truth.{notes_for}
+use Rattle.mr_shards.specs.Verdict.{Note, Told}
 use Rattle.mr_shard_files.specs.Beside.{IsPartition}
 use Rattle.mr_shard_files.specs.Faults.{IsPartitionFault}
 use Rattle.mr_shard_files.specs.Made.{TellsUnwritten}

@@ -1,7 +1,7 @@
 use Rattle.std.proofs.Common.{◌≡◌, ℕ, List, [], length, map}
 use Rattle.mr_files.specs.Holding.{Begins, ChangesAmong, Holding}
 use Rattle.mr_files.specs.Names.{merged_names, name_of_verdict, part_files, part_names}
-use Rattle.mr_verdict.specs.Truth.{notes_for}
+use Rattle.mr_shards.specs.Truth.{notes_for}
 use Rattle.mr_shard_files.specs.Beside.{ArePartitions}
 use Rattle.mr_shard_files.specs.Streams.{AreRows}
 use Rattle.mr_shard_files.proofs.partition.partitions_written.Given as goal

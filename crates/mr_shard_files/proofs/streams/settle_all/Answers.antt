@@ -2,7 +2,7 @@ use Rattle.std.proofs.Common.{◌≡◌, ◌+◌, ◌<◌, ◌∙◌, suc, get_o
 use Rattle.std.proofs.lemmas.List.{get_or_default}
 use Rattle.std.proofs.lemmas.Result.{err_from_is_err_and}
 use Rattle.std.proofs.Math.ListN.{set}
-use Rattle.mr_verdict.specs.Joined.{no_verdict, verdict_at}
+use Rattle.mr_shards.specs.Joined.{no_verdict, verdict_at}
 use Rattle.mr_shard_files.specs.Streams.{IsOther, IsSettled, TellsUnread}
 use Rattle.mr_shard_files.proofs.AllLemmas.{KeptTo, kept_all, kept_first, kept_more, kept_same}
 use Rattle.mr_shard_files.proofs.SettleLemmas.{is_other, is_settled, unsettled_unread}

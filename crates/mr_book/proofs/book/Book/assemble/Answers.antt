@@ -4,8 +4,8 @@ use Rattle.mr_input.specs.Files.{contents}
 use Rattle.mr_sequential.specs.Good.{IsGood}
 use Rattle.mr_core.specs.Core.{CoreView, InLimits}
 use Rattle.mr_task.specs.Values.{Reduced}
-use Rattle.mr_assembled.specs.Assembled.{assembled_outputs, committed_values, records_from}
-use Rattle.mr_assembled.proofs.Done.{done_is_good, done_sets_are_fixed}
+use Rattle.mr_book.specs.Assembled.{assembled_outputs, committed_values, records_from}
+use Rattle.mr_book.proofs.Done.{done_is_good, done_sets_are_fixed}
 use Rattle.mr_book.specs.Assembling.{Gathering, reduced_under, sets_of}
 use Rattle.mr_book.proofs.Assemblies.{parts_count, few_left_out}
 use Rattle.mr_book.proofs.Faithful.{is_done}

@@ -5,8 +5,8 @@ use Rattle.mr_certform.specs.Value.{SpellsIn}
 use Rattle.mr_certform.specs.declared.version.Version.{Version}
 use Rattle.mr_sequential.specs.Good.{IsGoodResult}
 use Rattle.mr_core.specs.Core.{CoreView, InLimits}
-use Rattle.mr_assembled.specs.Assembled.{assembled_certificate, assembled_outputs, records_from}
-use Rattle.mr_assembled.proofs.Done.{done_is_a_good_result, done_sets_are_fixed}
+use Rattle.mr_book.specs.Assembled.{assembled_certificate, assembled_outputs, records_from}
+use Rattle.mr_book.proofs.Done.{done_is_a_good_result, done_sets_are_fixed}
 use Rattle.mr_book.specs.Assembling.{committed_groups, reduced_under, sets_of}
 use Rattle.mr_book.proofs.Assemblies.{few_left_out}
 use Rattle.mr_book.proofs.Faithful.{is_done}

@@ -8,7 +8,7 @@ use Rattle.mr_certform.specs.Value.{CanSpell}
 use Rattle.mr_core.specs.Core.{CoreView}
 use Rattle.mr_core.specs.declared.event.Shape.{Shape}
 use Rattle.mr_task.specs.Values.{Reduced}
-use Rattle.mr_assembled.specs.Assembled.{committed_values, nothing}
+use Rattle.mr_book.specs.Assembled.{committed_values, nothing}
 use Rattle.mr_book.specs.Assembling.{reduced_under}
 use Rattle.mr_book.proofs.Assemblies.{can_at, can_more, parts_count}
 use Rattle.mr_book.proofs.book.Book.can_spell.Goals as goal

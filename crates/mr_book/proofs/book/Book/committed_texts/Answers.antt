@@ -5,7 +5,7 @@ use Rattle.mr_core.specs.Core.{CoreView}
 use Rattle.mr_core.specs.declared.event.Shape.{Shape}
 use Rattle.mr_task.specs.Values.{Reduced}
 use Rattle.mr_sequential.specs.Rules.{Text}
-use Rattle.mr_assembled.specs.Assembled.{committed_values}
+use Rattle.mr_book.specs.Assembled.{committed_values}
 use Rattle.mr_book.specs.Assembling.{reduced_under}
 use Rattle.mr_book.proofs.Assemblies.{mapped_more, parts_count}
 use Rattle.mr_book.proofs.book.Book.committed_texts.Goals as goal

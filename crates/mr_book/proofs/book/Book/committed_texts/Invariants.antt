@@ -1,7 +1,7 @@
 use Rattle.std.proofs.Common.{◌≡◌, map, take}
 use Rattle.mr_input.specs.Files.{contents}
 use Rattle.mr_task.specs.Values.{Reduced}
-use Rattle.mr_assembled.specs.Assembled.{committed_values}
+use Rattle.mr_book.specs.Assembled.{committed_values}
 use Rattle.mr_book.specs.Assembling.{reduced_under}
 use Rattle.mr_book.proofs.book.Book.committed_texts.Given as goal
 

@@ -3,7 +3,7 @@ use Rattle.std.proofs.lemmas.List.{take_all}
 use Rattle.mr_core.specs.Core.{CoreView}
 use Rattle.mr_core.specs.declared.event.Shape.{Shape}
 use Rattle.mr_task.specs.Values.{Reduced}
-use Rattle.mr_assembled.specs.Assembled.{committed_values}
+use Rattle.mr_book.specs.Assembled.{committed_values}
 use Rattle.mr_book.specs.Assembling.{gathering_of, reduced_under}
 use Rattle.mr_book.proofs.Assemblies.{gathering_more, parts_count}
 use Rattle.mr_book.proofs.book.Book.gathered.Goals as goal

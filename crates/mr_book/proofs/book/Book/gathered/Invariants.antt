@@ -1,5 +1,5 @@
 use Rattle.std.proofs.Common.{◌≡◌, take}
-use Rattle.mr_assembled.specs.Assembled.{committed_values}
+use Rattle.mr_book.specs.Assembled.{committed_values}
 use Rattle.mr_book.specs.Assembling.{gathering_of, reduced_under}
 use Rattle.mr_book.proofs.book.Book.gathered.Given as goal
 

@@ -3,7 +3,7 @@ use Rattle.std.proofs.lemmas.List.{length-map, take_all}
 use Rattle.mr_bytes.specs.declared.RecordName.{RecordName}
 use Rattle.mr_core.specs.Core.{CoreView}
 use Rattle.mr_core.specs.declared.entries.Split.{Split}
-use Rattle.mr_assembled.specs.Assembled.{in_split, records_from}
+use Rattle.mr_book.specs.Assembled.{in_split, records_from}
 use Rattle.mr_book.specs.Assembling.{sets_of}
 use Rattle.mr_book.proofs.Assemblies.{records_more, splits_count}
 use Rattle.mr_book.proofs.book.Book.records_left_out.Goals as goal

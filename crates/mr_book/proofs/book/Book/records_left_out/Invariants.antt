@@ -1,5 +1,5 @@
 use Rattle.std.proofs.Common.{◌≡◌, take}
-use Rattle.mr_assembled.specs.Assembled.{records_from}
+use Rattle.mr_book.specs.Assembled.{records_from}
 use Rattle.mr_book.specs.Assembling.{sets_of}
 use Rattle.mr_book.proofs.book.Book.records_left_out.Given as goal
 

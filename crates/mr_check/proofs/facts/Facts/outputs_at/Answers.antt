@@ -1,6 +1,6 @@
 use Rattle.std.proofs.Common.{drop, ap, ◌∙◌}
 use Rattle.mr_input.specs.Files.{contents}
-use Rattle.mr_judge.specs.Steps.{Known}
+use Rattle.mr_verdict.specs.Steps.{Known}
 use Rattle.mr_judge.proofs.OutputLemmas.{contents_drop}
 use Rattle.mr_check.proofs.facts.Facts.outputs_at.Goals as goal
 

@@ -1,6 +1,6 @@
 use Rattle.std.proofs.Common.{◌≡◌, ap, sym, ◌∙◌}
-use Rattle.mr_answers.specs.Verdict.{Reached, group_tests, behind_group}
-use Rattle.mr_judge.specs.Steps.{subject_with}
+use Rattle.mr_verdict.specs.Verdict.{Reached, group_tests, behind_group}
+use Rattle.mr_verdict.specs.Steps.{subject_with}
 use Rattle.mr_judge.proofs.OutputLemmas.{tested_as}
 use Rattle.mr_judge.proofs.progress.Progress.end_entry.Goals as goal
 

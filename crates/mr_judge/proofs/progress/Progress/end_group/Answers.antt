@@ -1,8 +1,8 @@
 use Rattle.std.proofs.Common.{◌≡◌, ◌-◌, ap, ◌∙◌}
 use Rattle.std.proofs.lemmas.Result.{err_from_is_err_and}
 use Rattle.mr_reduce.specs.Text.{text_of}
-use Rattle.mr_answers.specs.Verdict.{Reached, behind_group}
-use Rattle.mr_judge.specs.Steps.{subject_with}
+use Rattle.mr_verdict.specs.Verdict.{Reached, behind_group}
+use Rattle.mr_verdict.specs.Steps.{subject_with}
 use Rattle.mr_judge.proofs.OutputLemmas.{text_fault, group_fault, group_fine, closed_at}
 use Rattle.mr_judge.proofs.progress.Progress.end_group.Goals as goal
 

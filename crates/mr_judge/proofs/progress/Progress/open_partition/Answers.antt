@@ -1,5 +1,5 @@
 use Rattle.std.proofs.Common.{subst, ap, Err}
-use Rattle.mr_answers.specs.Verdict.{Reached}
+use Rattle.mr_verdict.specs.Verdict.{Reached}
 use Rattle.mr_judge.specs.Outputs.{EndTold}
 use Rattle.std.proofs.lemmas.Result.{err_from_is_err_and}
 use Rattle.mr_judge.proofs.OutputLemmas.{open_fault, open_fine, opened_at}

@@ -1,5 +1,0 @@
-pub mod Verdict
-pub mod VerdictLaws
-pub mod VerdictRows
-pub mod FaultLaws
-pub mod Headline

@@ -1,0 +1,61 @@
+-- The exit statuses.
+use Rattle.std.specs.Prelude.{◌≡◌, ℕ}
+use Rattle.mr_args.specs.declared.fault.Fault.{Fault}
+use Rattle.mr_args.specs.declared.fault.Fault.TheVariants.{Job, Run, Script, Shards, CannotRead, CannotWrite, SameFile, OutOfMemory}
+use Rattle.mr_files.specs.declared.store.FileFault.{FileFault}
+use Rattle.mr_files.specs.declared.store.FileFault.TheVariants as file
+use Rattle.mr_jobs.specs.declared.job.JobFault.{JobFault}
+use Rattle.mr_jobs.specs.declared.job.JobFault.TheVariants as job
+use Rattle.mr_script.specs.declared.script.ScriptFault.{ScriptFault}
+use Rattle.mr_script.specs.declared.script.ScriptFault.TheVariants as script
+use Rattle.mr_sequential.specs.declared.fault.RunFault.{RunFault}
+use Rattle.mr_sequential.specs.declared.fault.RunFault.TheVariants as run
+use Rattle.mr_shard_files.specs.declared.fault.ShardFault.{ShardFault}
+use Rattle.mr_shard_files.specs.declared.fault.ShardFault.TheVariants as shards
+
+-- 1 where the shards aren't what their verdicts say, or not shards of the whole that is meant; 2 for usage or a limit
+abbrev pub status_of_shards : ShardFault → ℕ
+status_of_shards (shards.BadVerdict shard line) = 1
+status_of_shards shards.NoRequest = 1
+status_of_shards (shards.OtherRequest shard) = 1
+status_of_shards (shards.RepeatedInput input) = 1
+status_of_shards (shards.OtherInputs line) = 1
+status_of_shards (shards.OtherPart shard partition) = 1
+status_of_shards (shards.BadLine shard partition line) = 1
+status_of_shards (shards.OtherOutputs shard) = 1
+status_of_shards fault = 2
+
+-- 3 for a file, 4 for want of memory, 1 for shards that aren't those of one whole, 2 for usage or a limit
+abbrev pub status_of : Fault → ℕ
+status_of (CannotRead name) = 3
+status_of (CannotWrite name) = 3
+status_of OutOfMemory = 4
+status_of (Shards fault) = status_of_shards fault
+status_of fault = 2
+
+-- want of memory is told as itself, wherever it was met
+abbrev pub TellsJob : JobFault → Fault → Type 0
+TellsJob job.OutOfMemory told = told ≡ OutOfMemory
+TellsJob fault told = told ≡ Job fault
+
+abbrev pub TellsRun : RunFault → Fault → Type 0
+TellsRun run.OutOfMemory told = told ≡ OutOfMemory
+TellsRun fault told = told ≡ Run fault
+
+abbrev pub TellsScript : ScriptFault → Fault → Type 0
+TellsScript script.OutOfMemory told = told ≡ OutOfMemory
+TellsScript fault told = told ≡ Script fault
+
+-- a file that can't be read or written too, and one that would be written over
+abbrev pub TellsShards : ShardFault → Fault → Type 0
+TellsShards (shards.CannotRead name) told = told ≡ CannotRead name
+TellsShards (shards.CannotWrite name) told = told ≡ CannotWrite name
+TellsShards (shards.SameFile name) told = told ≡ SameFile name
+TellsShards shards.OutOfMemory told = told ≡ OutOfMemory
+TellsShards fault told = told ≡ Shards fault
+
+-- a fault of files is told as itself
+abbrev pub TellsFile : FileFault → Fault → Type 0
+TellsFile (file.CannotRead name) told = told ≡ CannotRead name
+TellsFile (file.CannotWrite name) told = told ≡ CannotWrite name
+TellsFile file.OutOfMemory told = told ≡ OutOfMemory

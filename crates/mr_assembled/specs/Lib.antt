@@ -1,4 +1,0 @@
-pub mod Assembled
-pub mod Faithful
-pub mod Laws
-pub mod Worked

@@ -1,0 +1,87 @@
+-- The options, as the parsed line has them.
+use Rattle.std.specs.Prelude.{◌≡◌, ◌≢◌, ℕ, ◌<◌, ◌^◌, Bool, true, false, Option, None, Some, List, [], map, option_map, unwrap_or, codes}
+use Rattle.std.specs.Option.{option_map_or}
+use Rattle.std.specs.Str.Parse.{IsNumeral, digits_value, without_leading_plus}
+use Rattle.clap.specs.Matches.{matched_of, raw_values, first_value, one_text}
+use Rattle.clap.specs.declared.parser.matches.Found.{Found}
+use Rattle.clap.specs.Walk.{Row, rows_of}
+use Rattle.mr_certform.specs.declared.version.Version.{Version}
+use Rattle.mr_certform.specs.declared.version.Version.TheVariants.{V1, V2}
+use Rattle.mr_args.specs.declared.asked.Options.{Options}
+use Rattle.mr_args.specs.declared.asked.CheckOptions.{CheckOptions}
+use Rattle.mr_args.specs.declared.asked.MergeOptions.{MergeOptions}
+use Rattle.mr_args.specs.declared.asked.RunOptions.{RunOptions}
+use Rattle.mr_args.specs.declared.asked.SeqOptions.{SeqOptions}
+use Rattle.mr_args.specs.declared.asked.Subcommand.{Subcommand}
+use Rattle.mr_args.specs.declared.asked.Subcommand.TheVariants.{Seq, Run, Check, Merge}
+use Rattle.mr_args.specs.Asked.{Names}
+
+-- decimal digits, a plus allowed in front, whose number fits in 32 bits
+abbrev pub WritesNumber : List ℕ → Type 0
+WritesNumber text = IsNumeral 10 (without_leading_plus text) × (digits_value 10 (without_leading_plus text) < 2 ^ 32)
+
+-- the number that the text writes; without one, the number that stands for none
+abbrev pub IsNumberOf : Option (List ℕ) → ℕ → ℕ → Type 0
+IsNumberOf None none n = n ≡ none
+IsNumberOf (Some text) none n = (WritesNumber text → n ≡ digits_value 10 (without_leading_plus text)) × (¬ WritesNumber text → n ≡ none)
+
+abbrev pub IsFlagOf : Option (List ℕ) → Bool → Type 0
+IsFlagOf None flag = flag ≡ false
+IsFlagOf (Some text) flag = (text ≡ codes "true" → flag ≡ true) × (text ≡ codes "false" → flag ≡ false)
+
+-- 2 is the number of version 2; any other asks for version 1
+abbrev pub NumbersVersion : ℕ → Version → Type 0
+NumbersVersion n V1 = n ≢ 2
+NumbersVersion n V2 = n ≡ 2
+
+-- the version of the number that the text writes; without one, version 1
+abbrev pub IsVersionOf : Option (List ℕ) → Version → Type 0
+IsVersionOf text version = (n : ℕ) × IsNumberOf text 1 n × NumbersVersion n version
+
+-- each option is that of its own name, and where the line doesn't have it, what the program takes for it
+pub record AreOptionsOf (found : Found) (o : Options) : Type 0 where
+  pub job : Names (unwrap_or (first_value found (codes "job")) (codes "words")) o.job
+  pub parts : IsNumberOf (one_text found (codes "parts")) 1 o.parts
+  pub split : IsNumberOf (one_text found (codes "split")) (2 ^ 26) o.split
+  pub max_skips : IsNumberOf (one_text found (codes "max-skips")) 0 o.max_skips
+  pub keep_case : IsFlagOf (one_text found (codes "keep-case")) o.keep_case
+  pub fold : IsFlagOf (one_text found (codes "fold")) o.fold
+  pub by_host : IsFlagOf (one_text found (codes "by-host")) o.by_host
+  pub literal : option_map (λ s. s.now) o.literal ≡ first_value found (codes "literal")
+  pub out : o.out.now ≡ unwrap_or (first_value found (codes "out")) (codes ".")
+  pub files : map (λ s. s.now) o.files.items ≡ option_map_or raw_values (matched_of found (codes "files")) []
+
+-- the same of a sequential execution
+pub record AreSeqOptionsOf (found : Found) (o : SeqOptions) : Type 0 where
+  pub options : AreOptionsOf found o.options
+  pub skips : o.skips.now ≡ unwrap_or (first_value found (codes "skips")) []
+  pub version : IsVersionOf (one_text found (codes "cert")) o.version
+
+-- the same of a run by workers
+pub record AreRunOptionsOf (found : Found) (o : RunOptions) : Type 0 where
+  pub options : AreOptionsOf found o.options
+  pub workers : IsNumberOf (one_text found (codes "workers")) 4 o.workers
+  pub attempts : IsNumberOf (one_text found (codes "attempts")) 8 o.attempts
+  pub version : IsVersionOf (one_text found (codes "cert")) o.version
+  pub script : option_map (λ s. s.now) o.script ≡ first_value found (codes "script")
+  pub history : option_map (λ s. s.now) o.history ≡ first_value found (codes "history")
+  pub scratch : option_map (λ s. s.now) o.scratch ≡ first_value found (codes "scratch")
+
+-- the same of a judgement
+pub record AreCheckOptionsOf (found : Found) (o : CheckOptions) : Type 0 where
+  pub options : AreOptionsOf found o.options
+  pub threads : IsNumberOf (one_text found (codes "threads")) 1 o.threads
+  pub verdict : option_map (λ s. s.now) o.verdict ≡ first_value found (codes "verdict")
+
+-- the same of a merge
+pub record AreMergeOptionsOf (found : Found) (o : MergeOptions) : Type 0 where
+  pub out : o.out.now ≡ unwrap_or (first_value found (codes "out")) (codes ".")
+  pub inputs : option_map (λ s. s.now) o.inputs ≡ first_value found (codes "inputs")
+  pub verdicts : map (λ s. s.now) o.verdicts.items ≡ option_map_or raw_values (matched_of found (codes "verdicts")) []
+
+-- the subcommand is that of its own name, and its options are those of its matches
+abbrev pub IsAskedBy : Option (List ℕ) → Option (List Row) → Subcommand → Type 0
+IsAskedBy name rows (Seq o) = (name ≡ Some (codes "seq")) × ((found : Found) × (rows ≡ Some (rows_of found)) × AreSeqOptionsOf found o)
+IsAskedBy name rows (Run o) = (name ≡ Some (codes "run")) × ((found : Found) × (rows ≡ Some (rows_of found)) × AreRunOptionsOf found o)
+IsAskedBy name rows (Check o) = (name ≡ Some (codes "check")) × ((found : Found) × (rows ≡ Some (rows_of found)) × AreCheckOptionsOf found o)
+IsAskedBy name rows (Merge o) = (name ≡ Some (codes "merge")) × ((found : Found) × (rows ≡ Some (rows_of found)) × AreMergeOptionsOf found o)

@@ -1,0 +1,200 @@
+//! How a certificate differs from what was asked for, where the judge says that it is of another job or input.
+use crate::cures::run_cure;
+use mr_args::{Options, Subcommand, request_of};
+use mr_certform::{Item, Walker};
+use mr_files::{Look, Standing, Store, certificate_name, read_files};
+use mr_jobs::Request;
+use std::alloc::{AllocError, Global};
+
+/// The items of a certificate's front are at most those of a literal and of file lengths, and nine more.
+const MOST_ITEMS: usize = 4096 + 1024 + 9;
+
+/// What a certificate says of the job and of the files.
+#[derive(Drop)]
+struct Front {
+    job: u32,
+    flags: u32,
+    literal: Vec<u8>,
+    parts: u32,
+    split: u32,
+    lengths: Vec<u64>,
+    is_whole: bool,
+}
+
+impl Front {
+    fn new(alloc: Global) -> Front {
+        Front {
+            job: 0,
+            flags: 0,
+            literal: Vec::new(alloc),
+            parts: 0,
+            split: 0,
+            lengths: Vec::new(alloc),
+            is_whole: false,
+        }
+    }
+
+    fn take(&mut self, item: Item) -> Result<(), AllocError> {
+        match item {
+            Item::Job(n) => self.job = n,
+            Item::Flags(n) => self.flags = n,
+            Item::LiteralByte(b) => self.literal.push(b)?,
+            Item::Parts(n) => self.parts = n,
+            Item::SplitSize(n) => self.split = n,
+            Item::FileLength(n) => self.lengths.push(n)?,
+            Item::Skips(_) => self.is_whole = true,
+            _ => {}
+        }
+        Ok(())
+    }
+}
+
+/// The front of a certificate, as far as it stands.
+fn front_of(alloc: Global, bytes: &[u8]) -> Result<Front, AllocError> {
+    let mut walker = Walker::new(bytes);
+    let mut front = Front::new(alloc);
+    for _ in 0..MOST_ITEMS {
+        if front.is_whole {
+            return Ok(front);
+        }
+        match walker.next() {
+            Ok(item) => front.take(item)?,
+            Err(_) => return Ok(front),
+        }
+    }
+    Ok(front)
+}
+
+fn job_name(number: u32) -> &'static str {
+    match number {
+        1 => "words",
+        2 => "grep",
+        3 => "url",
+        4 => "index",
+        _ => "(no such job)",
+    }
+}
+
+fn add_where(text: &mut String, holds: bool, word: &str) -> Result<(), AllocError> {
+    if holds {
+        write!(text, " {word}")?;
+    }
+    Ok(())
+}
+
+/// Adds the options that flags tell of.
+fn add_flags(text: &mut String, flags: u32) -> Result<(), AllocError> {
+    add_where(text, flags % 2 == 1, "--keep-case")?;
+    add_where(text, flags / 2 % 2 == 1, "--fold")?;
+    add_where(text, flags / 4 % 2 == 1, "--by-host")
+}
+
+/// Adds the options that a certificate is of.
+fn add_options(text: &mut String, front: &Front) -> Result<(), AllocError> {
+    let job = job_name(front.job);
+    write!(text, " --job {job}")?;
+    if front.job == 2 {
+        let literal = str::from_utf8(front.literal.as_slice()).unwrap_or(
+            "(bytes that are not UTF-8)",
+        );
+        write!(text, " --literal '{literal}'")?;
+    }
+    add_flags(text, front.flags)?;
+    let Front { parts, split, .. } = front;
+    write!(text, " --parts {parts} --split {split}")
+}
+
+/// Adds the names of the options in which a certificate is of another job.
+fn add_others(text: &mut String, front: &Front, request: &Request) -> Result<(), AllocError> {
+    let job = request.job();
+    let is_same = front.job == job.number();
+    add_where(text, !is_same, "--job")?;
+    add_where(
+        text,
+        is_same && front.literal.as_slice() != job.literal(),
+        "--literal",
+    )?;
+    if is_same {
+        add_flags(text, front.flags ^ request.flags())?;
+    }
+    add_where(text, front.parts != request.parts(), "--parts")?;
+    add_where(text, front.split != request.split_size(), "--split")
+}
+
+/// In which options a certificate is of another job, and what they are in it.
+fn job_difference(alloc: Global, front: &Front, request: &Request) -> Result<String, AllocError> {
+    let mut text = String::from_str(alloc, "the certificate has other")?;
+    add_others(&mut text, front, request)?;
+    write!(&mut text, ": it is of")?;
+    add_options(&mut text, front)?;
+    Ok(text)
+}
+
+/// In which file a certificate is of another input: of what number, or the first of another length.
+fn input_difference<L: Look>(
+    look: &L,
+    alloc: Global,
+    front: &Front,
+    names: &[&str],
+) -> Result<String, AllocError> {
+    let (was, is) = (front.lengths.len(), names.len());
+    if was != is {
+        return format!(in alloc; "the certificate is of {was} files, not {is}");
+    }
+    for (length, name) in front.lengths.iter().zip(names) {
+        if let Standing::File(now) = look.standing(name)
+            && now != *length
+        {
+            return format!(in alloc; "{name} has {now} bytes, and had {length} by the certificate");
+        }
+    }
+    Ok(String::new(alloc))
+}
+
+/// The front of the certificate in a directory, where it can be read.
+fn front_in<S: Store>(store: &S, alloc: Global, dir: &str) -> Result<Front, AllocError> {
+    let name = certificate_name(alloc, dir)?;
+    match read_files(store, alloc, &[name.as_str()]) {
+        Ok(files) => match files.first() {
+            Some(bytes) => front_of(alloc, bytes),
+            None => Ok(Front::new(alloc)),
+        },
+        Err(_) => Ok(Front::new(alloc)),
+    }
+}
+
+fn check_hint<S: Store + Look>(
+    store: &S,
+    alloc: Global,
+    options: &Options<'_>,
+    said: &str,
+) -> Result<String, AllocError> {
+    let is_other_job = said == "no: OtherJob\n";
+    if !is_other_job && said != "no: OtherInput\n" {
+        return Ok(String::new(alloc));
+    }
+    let front = front_in(store, alloc, options.out)?;
+    if !front.is_whole {
+        return Ok(String::new(alloc));
+    }
+    match request_of(alloc, options) {
+        Ok(request) if is_other_job => job_difference(alloc, &front, &request),
+        _ => input_difference(store, alloc, &front, options.files.as_slice()),
+    }
+}
+
+/// The hint for what was said, without a line end; no text where there is none.
+pub fn verdict_hint<S: Store + Look>(
+    store: &S,
+    alloc: Global,
+    asked: &Subcommand<'_>,
+    said: &str,
+) -> Result<String, AllocError> {
+    match asked {
+        Subcommand::Check(asked) => check_hint(store, alloc, &asked.options, said),
+        Subcommand::Seq(_) | Subcommand::Merge(_) => Ok(String::new(alloc)),
+        Subcommand::Run(asked) => {
+            String::from_str(alloc, run_cure(said, asked.scratch.is_some()))
+        }
+    }
+}

@@ -1,0 +1,99 @@
+//! Why the program ends with nothing to answer, with its exit status and what it says then.
+ghost use Rattle.std.specs.Prelude.{◌≡◌, ◌↔◌, IsTrue};
+ghost use Rattle.std.specs.IoError.{error_kind};
+ghost use Rattle.mr_cli.specs.Statuses.{IsHelp, IsStatus, TellsWords};
+
+use mr_args::Fault;
+use std::alloc::AllocError;
+use std::fmt;
+use std::io::{self, ErrorKind};
+
+/// Why the program ends with nothing to answer.
+#[derive(Drop)]
+pub enum Failure {
+    /// The words of the command line, also where they ask for help.
+    Line(clap::Error),
+    /// A word of the command line that is not UTF-8.
+    NotUtf8,
+    /// They ask for nothing. The parser tells that by itself before.
+    NoCommand,
+    /// What they ask for.
+    Command(Fault),
+}
+
+impl From<AllocError> for Failure {
+    ghost use Rattle.mr_cli.specs.Statuses.{no_memory_left};
+
+    ghost from_gives = { λ _ f. f ≡ no_memory_left };
+
+    fn from(_error: AllocError) -> Failure {
+        Failure::Command(Fault::OutOfMemory)
+    }
+}
+
+impl From<clap::Error> for Failure {
+    ghost use Rattle.mr_cli.specs.Statuses.{TellsLine};
+
+    ghost from_gives = { λ e f. TellsLine e f };
+
+    fn from(error: clap::Error) -> Failure {
+        match error.kind() {
+            clap::error::ErrorKind::OutOfMemory => Failure::Command(Fault::OutOfMemory),
+            _ => Failure::Line(error),
+        }
+    }
+}
+
+impl From<Fault> for Failure {
+    ghost use Rattle.mr_cli.specs.declared.failure.Failure.TheVariants.{Command};
+
+    ghost from_gives = { λ e f. f ≡ Command e };
+
+    fn from(fault: Fault) -> Failure {
+        Failure::Command(fault)
+    }
+}
+
+impl Failure {
+    /// Why the words of the command line can't be had.
+    pub fn of_words(error: io::Error) -> Failure
+        ensures { TellsWords (error_kind error) result }
+    {
+        match error.kind() {
+            ErrorKind::OutOfMemory => Failure::Command(Fault::OutOfMemory),
+            _ => Failure::NotUtf8,
+        }
+    }
+
+    /// The exit status: 0 where help was asked for, 2 for other words, or that of the command's fault.
+    pub fn status(&self) -> u8
+        ensures { IsStatus self.now result }
+    {
+        match self {
+            Failure::Line(error) => { if error.use_stderr() { 2 } else { 0 } }
+            Failure::NotUtf8 | Failure::NoCommand => 2,
+            Failure::Command(fault) => fault.status(),
+        }
+    }
+
+    /// Whether the text is help that was asked for, and belongs on standard output.
+    pub fn is_help(&self) -> bool
+        ensures { IsTrue result ↔ IsHelp self.now }
+    {
+        match self {
+            Failure::Line(error) => !error.use_stderr(),
+            _ => false,
+        }
+    }
+}
+
+impl fmt::Display for Failure {
+    fn fmt<W: fmt::Write>(&self, f: &mut fmt::Formatter<W>) -> fmt::Result {
+        match self {
+            Failure::Line(error) => write!(f, "{error}"),
+            Failure::NotUtf8 => write!(f, "mapred: a word of the command line is not UTF-8\n"),
+            Failure::NoCommand => write!(f, "mapred: no command\n"),
+            Failure::Command(fault) => write!(f, "{fault}"),
+        }
+    }
+}

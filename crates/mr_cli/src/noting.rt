@@ -1,0 +1,151 @@
+//! What is told of the directory of the result before the work: that it isn't there, that a result stands in it, that
+//! other parts lie beside those of this one; and of the directory of regions, that it isn't there.
+use mr_args::{Options, RunOptions, Subcommand};
+use mr_files::{Look, Standing, certificate_name, part_name, verdict_name};
+use std::alloc::{AllocError, Global};
+
+/// A result has at most so many parts.
+const MOST_PARTS: usize = 1024;
+
+fn stands<L: Look>(look: &L, name: &str) -> bool {
+    match look.standing(name) {
+        Standing::Nothing => false,
+        _ => true,
+    }
+}
+
+/// Where the directory isn't one.
+fn note_directory<L: Look>(
+    look: &L,
+    alloc: Global,
+    dir: &str,
+    lines: &mut Vec<String>,
+) -> Result<(), AllocError> {
+    let line = match look.standing(dir) {
+        Standing::Directory => return Ok(()),
+        Standing::Nothing => format!(in alloc; "note: there is no directory {dir}: make it first")?,
+        _ => format!(in alloc; "note: {dir} is no directory")?,
+    };
+    lines.push(line).map_err(AllocError::from)
+}
+
+/// Where a result stands there already, by its first part or by the file that is written last.
+fn note_result<L: Look>(
+    look: &L,
+    alloc: Global,
+    dir: &str,
+    last: &str,
+    lines: &mut Vec<String>,
+) -> Result<(), AllocError> {
+    let part = part_name(alloc, dir, 0)?;
+    if stands(look, last) || stands(look, part.as_str()) {
+        let line = format!(in alloc;
+            "note: {dir} has a result already, which will be written over"
+        )?;
+        lines.push(line).map_err(AllocError::from)?;
+    }
+    Ok(())
+}
+
+/// The first part that lies there and isn't one of so many, if there is one.
+fn first_other<L: Look>(
+    look: &L,
+    alloc: Global,
+    dir: &str,
+    parts: usize,
+) -> Result<Option<usize>, AllocError> {
+    for part in parts..MOST_PARTS {
+        let name = part_name(alloc, dir, part)?;
+        if stands(look, name.as_str()) {
+            return Ok(Some(part));
+        }
+    }
+    Ok(None)
+}
+
+/// Where other parts lie there.
+fn note_others<L: Look>(
+    look: &L,
+    alloc: Global,
+    dir: &str,
+    parts: usize,
+    lines: &mut Vec<String>,
+) -> Result<(), AllocError> {
+    if let Some(part) = first_other(look, alloc, dir, parts)? {
+        let line = format!(in alloc;
+            "note: {dir} has part-{part:05} too, which is none of this result (--parts {parts}) and stays"
+        )?;
+        lines.push(line).map_err(AllocError::from)?;
+    }
+    Ok(())
+}
+
+fn seq_notes<L: Look>(
+    look: &L,
+    alloc: Global,
+    options: &Options<'_>,
+    lines: &mut Vec<String>,
+) -> Result<(), AllocError> {
+    let certificate = certificate_name(alloc, options.out)?;
+    note_directory(look, alloc, options.out, lines)?;
+    note_result(look, alloc, options.out, certificate.as_str(), lines)?;
+    note_others(look, alloc, options.out, options.parts as usize, lines)
+}
+
+fn run_notes<L: Look>(
+    look: &L,
+    alloc: Global,
+    asked: &RunOptions<'_>,
+    lines: &mut Vec<String>,
+) -> Result<(), AllocError> {
+    seq_notes(look, alloc, &asked.options, lines)?;
+    match asked.scratch {
+        Some(dir) => note_directory(look, alloc, dir, lines),
+        None => Ok(()),
+    }
+}
+
+/// How many parts a merge writes its verdicts tell, so that other parts can't be told from these.
+fn merge_notes<L: Look>(
+    look: &L,
+    alloc: Global,
+    dir: &str,
+    lines: &mut Vec<String>,
+) -> Result<(), AllocError> {
+    let verdict = verdict_name(alloc, dir)?;
+    note_directory(look, alloc, dir, lines)?;
+    note_result(look, alloc, dir, verdict.as_str(), lines)
+}
+
+/// Whether so many parts can be had. If not, nothing will be done.
+fn asks_for_parts(asked: &Subcommand<'_>) -> bool {
+    let options = match asked {
+        Subcommand::Seq(asked) => &asked.options,
+        Subcommand::Run(asked) => &asked.options,
+        Subcommand::Check(asked) => &asked.options,
+        Subcommand::Merge(_) => return true,
+    };
+    0 < options.parts && options.parts as usize <= MOST_PARTS
+}
+
+/// Lines on the directories of the result and of regions, without line ends; none where there is nothing to tell.
+pub fn notes<L: Look>(
+    look: &L,
+    alloc: Global,
+    asked: &Subcommand<'_>,
+) -> Result<Vec<String>, AllocError> {
+    let mut lines = Vec::new(alloc);
+    if !asks_for_parts(asked) {
+        return Ok(lines);
+    }
+    match asked {
+        Subcommand::Seq(asked) => seq_notes(look, alloc, &asked.options, &mut lines)?,
+        Subcommand::Run(asked) => run_notes(look, alloc, asked, &mut lines)?,
+        Subcommand::Check(asked) => {
+            let Options { out, parts, .. } = &asked.options;
+            note_others(look, alloc, out, *parts as usize, &mut lines)?
+        }
+        Subcommand::Merge(asked) => merge_notes(look, alloc, asked.out, &mut lines)?,
+    }
+    Ok(lines)
+}

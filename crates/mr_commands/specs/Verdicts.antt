@@ -1,0 +1,106 @@
+-- What `check` leaves: the verdict of a yes, under the name that is given for it.
+use Rattle.std.specs.Prelude.{◌≡◌, ◌⊎◌, ℕ, ◌∷◌, Option, None, Some, IfSome, Err, List, [], length, option_map, ⊤}
+use Rattle.std.specs.List.{AllByRecursion}
+use Rattle.mr_bytes.specs.Cut.{Lacks}
+use Rattle.mr_bytes.specs.declared.RecordName.{RecordName}
+use Rattle.mr_jobs.specs.JobSpec.{RequestSpec}
+use Rattle.mr_verdict.specs.declared.fault.No.{No}
+use Rattle.mr_verdict.specs.Verdict.{verdict_of}
+use Rattle.mr_shards.specs.Verdict.{Told, spelling}
+use Rattle.mr_shards.specs.Truth.{IsTrueOf, notes_for, verdict_for}
+use Rattle.mr_files.specs.Holding.{ChangesAmong, Faulty, Holding, Stored}
+use Rattle.mr_files.specs.Identities.{AreApart, Known}
+use Rattle.mr_files.specs.Names.{name_of_certificate, part_files, part_names}
+use Rattle.mr_files.specs.Refusals.{IsWriteRefusal}
+use Rattle.mr_files.specs.declared.store.FileFault.{FileFault}
+use Rattle.mr_args.specs.declared.fault.Fault.{Fault}
+use Rattle.mr_args.specs.declared.asked.CheckOptions.{CheckOptions}
+use Rattle.mr_args.specs.declared.asked.Options.{Options}
+use Rattle.mr_args.specs.Asked.{request_asked}
+use Rattle.mr_commands.specs.Checks.{AnswersCheck, IsCheckRefusal, IsYes}
+use Rattle.mr_commands.specs.Inputs.{IsInput, IsStopped}
+use Rattle.mr_commands.specs.Named.{AreClear, input_names, read_by_check, verdict_file, written_by_check}
+use Rattle.mr_commands.specs.NoLines.{no_line}
+use Rattle.mr_commands.specs.YesLines.{yes_text}
+
+-- the verdict about files of these names, and about outputs by the names of their parts in a folder
+abbrev pub verdict_about : RequestSpec → List (List ℕ) → List (List ℕ) → List (List ℕ) → List RecordName → ℕ → Told
+verdict_about request names files outputs skips pairs =
+    verdict_for request (notes_for names files) (notes_for (part_files (length outputs)) outputs) skips pairs
+
+-- the verdict of the yes that the text says: about what was judged, by the names that were given, and true of it
+pub record IsVerdictOf (o : Options) (files outputs : List (List ℕ)) (bytes text : List ℕ) (verdict : Told) : Type 0 where
+  pub skips : List RecordName
+  pub pairs : ℕ
+  pub said : text ≡ yes_text pairs skips
+  pub judged : IsYes (request_asked o) files outputs bytes skips pairs
+  pub about : verdict ≡ verdict_about (request_asked o) (input_names o) files outputs skips pairs
+  pub is_true : IsTrueOf (request_asked o) verdict files outputs
+  pub clear : AreClear o
+
+-- on a yes its verdict stands under the name that is given for it, and on a no all stands as before
+abbrev pub Leaves : Stored → Stored → CheckOptions → List (List ℕ) → List (List ℕ) → List ℕ → List ℕ → ℕ → Type 0
+Leaves old new asked files outputs bytes text status =
+    (status ≡ 0 → IfSome (verdict_file asked) (λ name. (verdict : Told) × IsVerdictOf asked.options files outputs bytes text verdict × new name (spelling verdict)))
+    × (status ≡ 1 → ChangesAmong old new [])
+
+-- what `check` says of what stood there, and what it leaves; the file of the verdict is none of those that it read
+abbrev pub KeepsVerdict : Stored → Stored → Known → CheckOptions → List ℕ → ℕ → Type 0
+KeepsVerdict old new known asked text status =
+    (says : AnswersCheck old asked.options text status) × AreApart known (read_by_check asked) (written_by_check asked)
+    × Leaves old new asked says.files says.outputs says.bytes text status
+
+-- the verdict of a yes could not be written whole: under its name stands what stood there, or a beginning of its text
+abbrev pub IsVerdictStopped : Stored → Stored → Faulty → Known → CheckOptions → Fault → Type 0
+IsVerdictStopped old new unwritable known asked fault =
+    (text name : List ℕ) × (verdict : Told) × (says : AnswersCheck old asked.options text 0) × AreApart known (read_by_check asked) (written_by_check asked) × (verdict_file asked ≡ Some name)
+    × IsVerdictOf asked.options says.files says.outputs says.bytes text verdict × IsStopped old new unwritable (name ∷ []) (spelling verdict ∷ []) fault
+
+-- why `check` doesn't answer: it says nothing, and nothing was written; or the verdict was not written whole
+abbrev pub IsCheckUnanswered : Stored → Stored → Faulty → Faulty → Known → CheckOptions → Fault → Type 0
+IsCheckUnanswered old new unreadable unwritable known asked fault =
+    (ChangesAmong old new [] × IsCheckRefusal old unreadable known asked fault) ⊎ IsVerdictStopped old new unwritable known asked fault
+
+-- ---- what each stage gives
+
+-- what is said of a judgement, and the text that is to be kept: on a yes that of its verdict, where a name is given for it
+abbrev pub IsJudgement : RequestSpec → Option (List ℕ) → List (List ℕ) → List (List ℕ) → List (List ℕ) → List ℕ → List ℕ → ℕ → Option (List ℕ) → Type 0
+IsJudgement request given names files outputs bytes text status kept =
+    ((status ≡ 0) × (skips : List RecordName) × (pairs : ℕ) × (text ≡ yes_text pairs skips) × IsYes request files outputs bytes skips pairs
+    × (kept ≡ option_map (λ name. spelling (verdict_about request names files outputs skips pairs)) given))
+    ⊎ ((status ≡ 1) × (fault : No) × (text ≡ no_line fault) × (verdict_of request files outputs bytes ≡ Err fault) × (kept ≡ None))
+
+-- the judgement of what stands under the names of the parts and of the certificate, against files
+pub record JudgesResult (holds : Stored) (request : RequestSpec) (asked : CheckOptions) (files : List (List ℕ)) (text : List ℕ) (status : ℕ) (kept : Option (List ℕ)) : Type 0 where
+  pub outputs : List (List ℕ)
+  pub bytes : List ℕ
+  pub parts : Holding holds (part_names asked.options.out.now asked.options.parts) outputs
+  pub certificate : holds (name_of_certificate asked.options.out.now) bytes
+  pub judgement : IsJudgement request (verdict_file asked) (input_names asked.options) files outputs bytes text status kept
+
+-- the judgement of what stands under the names of the input, of the parts and of the certificate
+pub record Judges (holds : Stored) (known : Known) (asked : CheckOptions) (text : List ℕ) (status : ℕ) (kept : Option (List ℕ)) : Type 0 where
+  pub files : List (List ℕ)
+  pub outputs : List (List ℕ)
+  pub bytes : List ℕ
+  pub input : IsInput holds (input_names asked.options) asked.options.split files
+  pub parts : Holding holds (part_names asked.options.out.now asked.options.parts) outputs
+  pub certificate : holds (name_of_certificate asked.options.out.now) bytes
+  pub apart : AreApart known (read_by_check asked) (written_by_check asked)
+  pub clear : IfSome (verdict_file asked) (λ name. AreClear asked.options)
+  pub judgement : IsJudgement (request_asked asked.options) (verdict_file asked) (input_names asked.options) files outputs bytes text status kept
+
+-- the text stands under the name, where there are both
+abbrev pub IsKeptUnder : Stored → Option (List ℕ) → Option (List ℕ) → Type 0
+IsKeptUnder new (Some name) (Some text) = new name text
+IsKeptUnder new name text = ⊤
+
+-- the name is written under where there are both
+abbrev pub names_kept : Option (List ℕ) → Option (List ℕ) → List (List ℕ)
+names_kept (Some name) (Some text) = name ∷ []
+names_kept name text = []
+
+-- why the text was not written whole; where there is nothing to write, nothing is refused
+abbrev pub IsTextRefused : Stored → Stored → Faulty → Option (List ℕ) → Option (List ℕ) → FileFault → Type 0
+IsTextRefused old new unwritable (Some name) (Some text) fault = IsWriteRefusal old new unwritable (name ∷ []) (text ∷ []) fault
+IsTextRefused old new unwritable name text fault = ⊥

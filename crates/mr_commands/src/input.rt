@@ -1,0 +1,81 @@
+//! The input of a request, apart from what is written.
+ghost use Rattle.std.specs.Prelude.{◌≡◌, ◌++◌, ◌<◌, ◌≤◌, map, IfOk, IfErr, OnOk, option_map, string_bytes};
+ghost use Rattle.mr_files.specs.Identities.{AreApart};
+ghost use Rattle.mr_commands.specs.Inputs.{AreRead, IsClash, IsInput, IsInputRefusal, IsUnreadInput};
+ghost use Rattle.mr_commands.specs.Named.{named};
+
+use mr_args::Fault;
+use mr_files::{Store, WithinFault, add_names, first_shared, read_files_within};
+use mr_input::{Input, InputFault, MAX_BYTES};
+use mr_jobs::Request;
+use std::alloc::{AllocError, Global};
+
+/// The files of these names, within the limits of an input: they are read in order, and no more than one byte past the limit
+/// of their bytes, which is told before a later file; then their number is tested.
+fn input_read<S: Store>(store: &S, alloc: Global, names: &[&str]) -> Result<Input, Fault>
+    ensures read { IfOk result (λ input. AreRead (S.holds store.now) (map (λ s. s.now) names.now) input) }
+    ensures refused { IfErr result (λ e. IsUnreadInput (S.holds store.now) (S.unreadable store.now) (map (λ s. s.now) names.now) e) }
+{
+    let files = match read_files_within(store, alloc, names, MAX_BYTES as u64) {
+        Ok(files) => files,
+        Err(WithinFault::TooLong) => return Err(Fault::Input(InputFault::TooLarge)),
+        Err(WithinFault::File(fault)) => return Err(Fault::from(fault)),
+    };
+    match Input::of(files) {
+        Ok(input) => Ok(input),
+        Err(fault) => Err(Fault::Input(fault)),
+    }
+}
+
+/// The name that is given, where one is.
+pub fn name_given(alloc: Global, name: Option<&str>) -> Result<Vec<String>, AllocError>
+    ensures { IfOk result (λ v. map string_bytes v.items ≡ named (option_map (λ n. n.now) name.entry)) }
+{
+    let mut names = Vec::new(alloc);
+    if let Some(name) = name {
+        add_names(alloc, &mut names, &[name])?;
+    }
+    Ok(names)
+}
+
+/// No file that is written is one that is read, be it of the input or besides, or one that is written before.
+fn expect_apart<S: Store>(
+    store: &S,
+    alloc: Global,
+    names: &[&str],
+    besides: Vec<String>,
+    written: &[String],
+) -> Result<(), Fault>
+    ensures apart { OnOk result (AreApart (S.known_as store.now) (map string_bytes besides.items ++ map (λ s. s.now) names.now) (map string_bytes written.now)) }
+    ensures refused { IfErr result (λ e. IsClash (S.known_as store.now) (map string_bytes besides.items ++ map (λ s. s.now) names.now) (map string_bytes written.now) e) }
+{
+    let mut read = besides;
+    add_names(alloc, &mut read, names)?;
+    match first_shared(store, alloc, read.as_slice(), written)? {
+        Some(name) => Err(Fault::SameFile(name)),
+        None => Ok(()),
+    }
+}
+
+/// The input of a request, which fits it. The files are read, and the limits tested; then that no file that is written is one
+/// of them, one that is read besides, or written twice; then the fit.
+pub fn input_of<S: Store>(
+    store: &S,
+    alloc: Global,
+    request: &Request,
+    names: &[&str],
+    besides: Vec<String>,
+    written: &[String],
+) -> Result<Input, Fault>
+    ensures input { IfOk result (λ input. IsInput (S.holds store.now) (map (λ s. s.now) names.now) request.now.split input) }
+    ensures apart { OnOk result (AreApart (S.known_as store.now) (map string_bytes besides.items ++ map (λ s. s.now) names.now) (map string_bytes written.now)) }
+    ensures refused { IfErr result (λ e. IsInputRefusal (S.holds store.now) (S.unreadable store.now) (S.known_as store.now) (map (λ s. s.now) names.now)
+        (map string_bytes besides.items ++ map (λ s. s.now) names.now) (map string_bytes written.now) request.now.split e) }
+{
+    let input = input_read(store, alloc, names)?;
+    expect_apart(store, alloc, names, besides, written)?;
+    if !request.fits(&input) {
+        return Err(Fault::TooManySplits);
+    }
+    Ok(input)
+}

@@ -1,2 +1,0 @@
-pub mod Parsed
-pub mod Statuses

@@ -1,0 +1,51 @@
+//! How far a run has come, for who looks on.
+use mr_bytes::{Phase, Watch};
+use std::sync::atomic::{AtomicU64, Ordering};
+
+/// Counts the outputs that the book accepts, without its lock. A map task that is done again after a loss is counted
+/// again, so what is told stops at all that there are.
+#[derive(Drop)]
+pub(crate) struct Progress<'a, W: Watch> {
+    watch: &'a W,
+    maps: u64,
+    parts: u64,
+    mapped: AtomicU64,
+    reduced: AtomicU64,
+}
+
+/// One more is done, but never more than all.
+fn count(done: &AtomicU64, all: u64) -> u64 {
+    done.fetch_add(1, Ordering::SeqCst)
+        .saturating_add(1)
+        .min(all)
+}
+
+impl<'a, W: Watch> Progress<'a, W> {
+    /// Nothing is done yet.
+    pub(crate) fn new(watch: &'a W, maps: u32, parts: u32) -> Progress<'a, W> {
+        Progress {
+            watch,
+            maps: u64::from(maps),
+            parts: u64::from(parts),
+            mapped: AtomicU64::new(0),
+            reduced: AtomicU64::new(0),
+        }
+    }
+
+    /// An output of a map task is accepted.
+    pub(crate) fn mapped(&self) {
+        let done = count(&self.mapped, self.maps);
+        self.watch.tell(Phase::Mapping, done, self.maps);
+    }
+
+    /// An output of a reduce task is accepted.
+    pub(crate) fn reduced(&self) {
+        let done = count(&self.reduced, self.parts);
+        self.watch.tell(Phase::Reducing, done, self.parts);
+    }
+
+    /// The loss of a worker is accepted.
+    pub(crate) fn lost(&self) {
+        self.watch.lost();
+    }
+}

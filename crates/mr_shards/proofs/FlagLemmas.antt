@@ -1,0 +1,34 @@
+-- What flags tell.
+use Rattle.std.proofs.Common.{◌≡◌, ◌+◌, ◌<◌, refl, ap, arith, true, false}
+use Rattle.mr_bytes.specs.declared.By.{By}
+use Rattle.mr_bytes.specs.declared.By.TheVariants.{Host, Key}
+use Rattle.mr_jobs.specs.JobSpec.{ByFits, InvertedIndex, JobSpec, LinesWith, Resources, WordCount, by_flag, job_flags}
+use Rattle.mr_shards.specs.Truth.{by_told}
+
+-- the flags of a job are below that of a partition by host
+flags_below : (job : JobSpec) → job_flags job < 4
+flags_below (WordCount true) = omega arith
+flags_below (WordCount false) = omega arith
+flags_below (LinesWith literal true) = omega arith
+flags_below (LinesWith literal false) = omega arith
+flags_below Resources = omega arith
+flags_below (InvertedIndex true) = omega arith
+flags_below (InvertedIndex false) = omega arith
+
+-- the flags of a request tell those of its job, and what chooses its partitions
+pub one_flag : (a b : JobSpec) (m n : By) → job_flags a + by_flag m ≡ job_flags b + by_flag n → (job_flags a ≡ job_flags b) × (m ≡ n)
+one_flag a b Key Key same = (omega (arith, same), refl)
+one_flag a b Key Host same = absurd (omega (arith, same, flags_below a))
+one_flag a b Host Key same = absurd (omega (arith, same, flags_below b))
+one_flag a b Host Host same = (omega (arith, same), refl)
+
+-- what chooses the partitions of a job is told by the flags
+pub by_of : (job : JobSpec) (by : By) → ByFits job by → by_told (job_flags job + by_flag by) ≡ by
+by_of (WordCount true) Key fits = refl
+by_of (WordCount false) Key fits = refl
+by_of (LinesWith literal true) Key fits = refl
+by_of (LinesWith literal false) Key fits = refl
+by_of Resources Key fits = refl
+by_of (InvertedIndex true) Key fits = refl
+by_of (InvertedIndex false) Key fits = refl
+by_of job Host fits = ap (λ j. by_told (job_flags j + 4)) fits

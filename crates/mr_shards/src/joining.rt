@@ -1,0 +1,224 @@
+//! The verdicts of shards, joined to one.
+ghost use Rattle.std.specs.Prelude.{◌≡◌, ◌↔◌, ◌⊎◌, ℕ, ◌+◌, ◌<◌, ◌≤◌, ◌^◌, ◌++◌, List, [], ◌∷◌, true, false, IfErr, IfOk, IfSome, MatchOption, OnOk, map};
+ghost use Rattle.std.specs.List.{AllByRecursion};
+ghost use Rattle.mr_bytes.specs.Lists.{Has};
+ghost use Rattle.mr_shards.specs.Shards.{moved_name};
+ghost use Rattle.mr_shards.specs.Joined.{AreOnce, IsJoinFault, IsJoined, IsRepeated, JoinedIsTrue, splits_in as split_number, splits_told};
+ghost use Rattle.mr_shards.specs.Joining.{Follows, IsShardFault, IsTooFar};
+
+use crate::noting::verdict_for;
+use crate::requests::asks;
+use crate::verdict::{FileNote, Verdict};
+use mr_bytes::RecordName;
+use mr_jobs::Request;
+use std::alloc::{AllocError, Global};
+use std::collections::BTreeSet;
+use thiserror::Error;
+
+/// Why verdicts are not joined. Verdicts are numbered from 0.
+#[derive(Clone, Copy, Debug, PartialEq, Eq, Drop, Error)]
+pub enum JoinFault {
+    /// A verdict is about another request.
+    #[error("OtherRequest shard {shard}")]
+    OtherRequest { shard: usize },
+    /// The number of a left-out record's split would not fit in 32 bits, or that of the splits not in 64.
+    #[error("TooManySplits shard {shard}")]
+    TooManySplits { shard: usize },
+    /// The pairs of all don't fit in 64 bits.
+    #[error("TooManyPairs")]
+    TooManyPairs,
+    /// The machine refused memory.
+    #[error("OutOfMemory")]
+    OutOfMemory,
+}
+
+impl From<AllocError> for JoinFault {
+    ghost use Rattle.mr_shards.specs.declared.joining.JoinFault.TheVariants.{OutOfMemory as told_memory};
+
+    ghost from_gives = { λ _ f. f ≡ told_memory };
+
+    fn from(_fault: AllocError) -> JoinFault {
+        JoinFault::OutOfMemory
+    }
+}
+
+/// The splits of a file of so many bytes.
+fn splits_in(bytes: u64, size: u32) -> u64
+    requires { 0 < size }
+    ensures { result ≡ split_number size bytes }
+{
+    let size = size as u64;
+    if bytes == 0 {
+        0
+    } else {
+        (bytes - 1) / size + 1
+    }
+}
+
+/// How many splits there are with those of the files that notes tell of; none where that doesn't fit in 64 bits.
+fn splits_behind(notes: &[FileNote], size: u32, before: u64) -> Option<u64>
+    requires { 0 < size }
+    ensures count { MatchOption result (2 ^ 64 ≤ before + splits_told size notes.now) (λ n. n ≡ before + splits_told size notes.now) }
+    ensures sizes { IfSome result (λ _. AllByRecursion (λ n. n.length < 2 ^ 64) notes.now) }
+{
+    let mut splits = before;
+    for note in notes {
+        splits = match splits.checked_add(splits_in(note.length, size)) {
+            Some(more) => more,
+            None => return None,
+        };
+    }
+    Some(splits)
+}
+
+/// The name that a record has behind so many splits; none where its split doesn't fit in 32 bits.
+fn moved(name: RecordName, splits: u64) -> Option<RecordName>
+    ensures { MatchOption result (2 ^ 32 ≤ splits + name.split) (λ n. n ≡ moved_name splits name) }
+{
+    let Some(split) = splits.checked_add(name.split as u64) else {
+        return None;
+    };
+    match u32::try_from(split) {
+        Ok(split) => Some(RecordName {
+            split,
+            rec: name.rec,
+        }),
+        Err(_) => None,
+    }
+}
+
+/// Why records are not added.
+#[derive(Clone, Copy, Drop)]
+enum Unmoved {
+    TooFar,
+    OutOfMemory,
+}
+
+/// Adds a record behind so many splits.
+fn add_name(names: &mut Vec<RecordName>, name: RecordName, splits: u64) -> Result<(), Unmoved>
+    ensures ok { OnOk result (names.new.items ≡ names.old.items ++ moved_name splits name ∷ []) }
+    ensures near { OnOk result ((moved_name splits name).split < 2 ^ 32) }
+    ensures far { result ≡ Err Unmoved.TooFar → 2 ^ 32 ≤ splits + name.split }
+{
+    let Some(name) = moved(name, splits) else {
+        return Err(Unmoved::TooFar);
+    };
+    match names.push(name) {
+        Ok(()) => Ok(()),
+        Err(_) => Err(Unmoved::OutOfMemory),
+    }
+}
+
+/// Adds records behind so many splits.
+fn add_names(names: &mut Vec<RecordName>, more: &[RecordName], splits: u64) -> Result<(), Unmoved>
+    ensures ok { OnOk result (names.new.items ≡ names.old.items ++ map (moved_name splits) more.now) }
+    ensures near { OnOk result (AllByRecursion (λ n. n.split < 2 ^ 32) (map (moved_name splits) more.now)) }
+    ensures far { result ≡ Err Unmoved.TooFar → IsTooFar splits more.now }
+{
+    for name in more {
+        add_name(names, *name, splits)?;
+    }
+    Ok(())
+}
+
+/// A copy of a note.
+fn copy_of(alloc: Global, note: &FileNote) -> Result<FileNote, AllocError>
+    ensures { IfOk result (λ n. n ≡ note.now) }
+{
+    Ok(FileNote {
+        name: Vec::from_slice(alloc, note.name.as_slice())?,
+        length: note.length,
+        digest: note.digest,
+    })
+}
+
+/// Adds copies of notes.
+fn add_notes(alloc: Global, notes: &mut Vec<FileNote>, more: &[FileNote]) -> Result<(), AllocError>
+    ensures { OnOk result (notes.new.items ≡ notes.old.items ++ more.now) }
+{
+    for note in more {
+        let copy = copy_of(alloc, note)?;
+        notes.push(copy).map_err(AllocError::from)?;
+    }
+    Ok(())
+}
+
+/// Adds a verdict to those before it, which have so many splits; gives the splits with its own.
+fn add_verdict(
+    alloc: Global,
+    request: &Request,
+    joined: &mut Verdict,
+    shard: usize,
+    verdict: &Verdict,
+    splits: u64,
+) -> Result<u64, JoinFault>
+    ensures ok { IfOk result (Follows request.now joined.old joined.new verdict.now splits) }
+    ensures err { IfErr result (IsShardFault request.now joined.old verdict.now shard splits) }
+{
+    if !asks(verdict, request) {
+        return Err(JoinFault::OtherRequest { shard });
+    }
+    let Some(behind) = splits_behind(verdict.inputs.as_slice(), request.split_size(), splits) else {
+        return Err(JoinFault::TooManySplits { shard });
+    };
+    let Some(pairs) = joined.pairs.checked_add(verdict.pairs) else {
+        return Err(JoinFault::TooManyPairs);
+    };
+    match add_names(&mut joined.left_out, verdict.left_out.as_slice(), splits) {
+        Ok(()) => {}
+        Err(Unmoved::TooFar) => return Err(JoinFault::TooManySplits { shard }),
+        Err(Unmoved::OutOfMemory) => return Err(JoinFault::OutOfMemory),
+    }
+    add_notes(alloc, &mut joined.inputs, verdict.inputs.as_slice())?;
+    joined.pairs = pairs;
+    Ok(behind)
+}
+
+/// What the verdicts of shards are together, in their order: inputs one behind another, split numbers of left-out
+/// records moved by the splits of the shards before, pairs added. Outputs are left to be told.
+pub fn join_verdicts(
+    alloc: Global,
+    request: &Request,
+    verdicts: &[Verdict],
+) -> Result<Verdict, JoinFault>
+    ensures ok { IfOk result (IsJoined request.now verdicts.now) }
+    ensures err { IfErr result (IsJoinFault request.now verdicts.now) }
+{
+    let (inputs, outputs) = (Vec::new(alloc), Vec::new(alloc));
+    let mut joined = verdict_for(alloc, request, inputs, outputs, &[], 0)?;
+    let mut splits = 0u64;
+    for (shard, verdict) in verdicts.iter().enumerate() {
+        splits = add_verdict(alloc, request, &mut joined, shard, verdict, splits)?;
+    }
+    Ok(joined)
+}
+
+/// Keeps a name among those seen; whether it is new.
+fn see<'a>(seen: &mut BTreeSet<&'a [u8]>, name: &'a [u8]) -> Result<bool, AllocError>
+    ensures fresh { IfOk result (λ added. added ≡ true → Has (map (λ k. k.now) seen.old.keys) name.entry.now → ⊥) }
+    ensures again { IfOk result (λ added. added ≡ false → Has (map (λ k. k.now) seen.old.keys) name.entry.now) }
+    ensures kept { OnOk result ((n : List ℕ) → Has (map (λ k. k.now) seen.new.keys) n ↔ (Has (map (λ k. k.now) seen.old.keys) n ⊎ (name.entry.now ≡ n))) }
+{
+    match seen.insert(name) {
+        Ok(added) => Ok(added),
+        Err(_) => Err(AllocError),
+    }
+}
+
+/// The number of the first input that has the name of one before it.
+pub fn first_repeat(alloc: Global, notes: &[FileNote]) -> Result<Option<usize>, AllocError>
+    ensures { IfOk result (λ r. MatchOption r (AreOnce notes.now) (IsRepeated notes.now)) }
+{
+    let mut seen = BTreeSet::new(alloc);
+    for (at, note) in notes.iter().enumerate() {
+        if !see(&mut seen, note.name.as_slice())? {
+            return Ok(Some(at));
+        }
+    }
+    Ok(None)
+}
+
+/// Where each verdict is true of its files and parts, the joined one is true of all.
+pub fn joined_law()
+    ensures { JoinedIsTrue }
+{}

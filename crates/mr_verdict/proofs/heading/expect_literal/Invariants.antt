@@ -1,0 +1,13 @@
+use Rattle.std.proofs.Common.{◌≡◌, drop, map, ◌≤◌}
+use Rattle.mr_certform.specs.declared.item.Item.TheVariants.{LiteralByte}
+use Rattle.mr_verdict.specs.declared.fault.No.TheVariants.{OtherJob}
+use Rattle.mr_verdict.specs.Items.{Leads}
+use Rattle.mr_verdict.proofs.heading.expect_literal.Given as goal
+
+abbrev pub invariant-loop-byte : goal.invariant-loop-byte
+invariant-loop-byte g l = record {
+  leads : Leads (g.I.Items.gives l.initial.items) (g.I.Items.gives l.items) (map LiteralByte (drop l.byte-index l.literal)) (map LiteralByte l.literal) OtherJob;
+  sound : g.I.Items.sound l.items;
+  count : g.I.Items.failed l.items ≡ g.I.Items.failed l.initial.items;
+  fewer : g.I.Items.most l.items ≤ g.I.Items.most l.initial.items;
+}

@@ -1,6 +1,0 @@
-use Rattle.std.proofs.Common.{take}
-use Rattle.mr_verdict.proofs.JoinLemmas.{IsJoinedTo}
-use Rattle.mr_verdict.proofs.joining.join_verdicts.Given as goal
-
-abbrev pub invariant-loop-shard : goal.invariant-loop-shard
-invariant-loop-shard l = IsJoinedTo l.request (take l.shard l.verdicts) l.joined l.splits

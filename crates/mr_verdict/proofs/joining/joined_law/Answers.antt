@@ -1,5 +1,0 @@
-use Rattle.mr_verdict.proofs.JoinedLaws.{joined_is_true}
-use Rattle.mr_verdict.proofs.joining.joined_law.Goals as goal
-
-pub returns : goal.returns
-returns c = joined_is_true

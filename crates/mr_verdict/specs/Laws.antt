@@ -1,7 +1,0 @@
--- A verdict that fits has a text of its own.
-use Rattle.std.specs.Prelude.{◌≡◌}
-use Rattle.mr_verdict.specs.Verdict.{Told, spelling}
-use Rattle.mr_verdict.specs.Reading.{Fits}
-
-abbrev pub OneText : Type 0
-OneText = (v w : Told) → Fits v → Fits w → spelling v ≡ spelling w → v ≡ w

@@ -1,0 +1,141 @@
+//! The items that the request and the input fix.
+ghost use Rattle.std.specs.Prelude.{◌≡◌, ◌<◌, ◌≤◌, ◌∷◌, [], OnOk, length, map};
+ghost use Rattle.mr_certform.specs.declared.item.Item.TheVariants.{LiteralByte, FileLength};
+ghost use Rattle.mr_verdict.specs.Verdict.{item_eq, job_wanted, input_wanted};
+ghost use Rattle.mr_verdict.specs.Steps.{header_met};
+ghost use Rattle.mr_verdict.specs.Items.{Met, CanCome, Behind, Stops};
+
+use crate::fault::No;
+use crate::items::{Items, Stop};
+use mr_certform::Item;
+use mr_input::Input;
+use mr_jobs::Request;
+
+/// Whether an item that stands is the wanted one.
+fn is_wanted(item: Item, wanted: Item) -> bool
+    ensures { result ≡ item_eq item wanted }
+{
+    match (item, wanted) {
+        (Item::Magic, Item::Magic) => true,
+        (Item::Job(m), Item::Job(n)) => m == n,
+        (Item::Flags(m), Item::Flags(n)) => m == n,
+        (Item::LiteralLength(m), Item::LiteralLength(n)) => m == n,
+        (Item::LiteralByte(m), Item::LiteralByte(n)) => m == n,
+        (Item::Parts(m), Item::Parts(n)) => m == n,
+        (Item::SplitSize(m), Item::SplitSize(n)) => m == n,
+        (Item::Files(m), Item::Files(n)) => m == n,
+        (Item::FileLength(m), Item::FileLength(n)) => m == n,
+        _ => false,
+    }
+}
+
+/// The next item is the wanted one, or else the certificate has this fault.
+fn expect<I: Items>(items: &mut I, wanted: Item, fault: No) -> Result<(), Stop>
+    requires sound { I.sound items.old }
+    ensures sound { OnOk result (I.sound items.new) }
+    ensures some { CanCome (I.gives items.new) }
+    ensures met { Met (I.gives items.old) (I.gives items.new) (wanted ∷ []) fault result }
+    ensures fewer { OnOk result (I.most items.new < I.most items.old) }
+    ensures stops { Stops I.steady (I.failed items.old) (I.failed items.new) result }
+{
+    let item = items.next_item()?;
+    if !is_wanted(item, wanted) {
+        return Err(Stop::Fault(fault));
+    }
+    Ok(())
+}
+
+/// The next items are the wanted ones, or else the certificate has this fault.
+fn expect_all<I: Items>(items: &mut I, wanted: &[Item], fault: No) -> Result<(), Stop>
+    requires sound { I.sound items.old }
+    ensures sound { OnOk result (I.sound items.new) }
+    ensures met { Met (I.gives items.old) (I.gives items.new) wanted.now fault result }
+    ensures fewer { OnOk result (I.most items.new ≤ I.most items.old) }
+    ensures stops { Stops I.steady (I.failed items.old) (I.failed items.new) result }
+{
+    for item in wanted {
+        expect(items, *item, fault)?;
+    }
+    Ok(())
+}
+
+/// The bytes of the job's literal come next.
+fn expect_literal<I: Items>(items: &mut I, literal: &[u8]) -> Result<(), Stop>
+    requires sound { I.sound items.old }
+    ensures sound { OnOk result (I.sound items.new) }
+    ensures met { Met (I.gives items.old) (I.gives items.new) (map LiteralByte literal.now) No.OtherJob result }
+    ensures fewer { OnOk result (I.most items.new ≤ I.most items.old) }
+    ensures stops { Stops I.steady (I.failed items.old) (I.failed items.new) result }
+{
+    for byte in literal {
+        expect(items, Item::LiteralByte(*byte), No::OtherJob)?;
+    }
+    Ok(())
+}
+
+/// The length of each file comes next.
+fn expect_lengths<I: Items>(items: &mut I, input: &Input) -> Result<(), Stop>
+    requires sound { I.sound items.old }
+    requires given { CanCome (I.gives items.old) }
+    ensures given { OnOk result (CanCome (I.gives items.new)) }
+    ensures sound { OnOk result (I.sound items.new) }
+    ensures met { Met (I.gives items.old) (I.gives items.new) (map (λ f. FileLength (length f)) input.now) No.OtherInput result }
+    ensures fewer { OnOk result (I.most items.new ≤ I.most items.old) }
+    ensures stops { Stops I.steady (I.failed items.old) (I.failed items.new) result }
+{
+    for i in 0..input.files() {
+        expect(items, Item::FileLength(input.len(i) as u64), No::OtherInput)?;
+    }
+    Ok(())
+}
+
+/// The items that the request fixes come next.
+fn expect_job<I: Items>(items: &mut I, request: &Request) -> Result<(), Stop>
+    requires sound { I.sound items.old }
+    ensures sound { OnOk result (I.sound items.new) }
+    ensures met { Met (I.gives items.old) (I.gives items.new) (job_wanted request.now) No.OtherJob result }
+    ensures fewer { OnOk result (I.most items.new ≤ I.most items.old) }
+    ensures stops { Stops I.steady (I.failed items.old) (I.failed items.new) result }
+{
+    let job = request.job();
+    let literal = job.literal();
+    let front = [
+        Item::Magic,
+        Item::Job(job.number()),
+        Item::Flags(request.flags()),
+        Item::LiteralLength(literal.len() as u32),
+    ];
+    let back = [
+        Item::Parts(request.parts()),
+        Item::SplitSize(request.split_size()),
+    ];
+    expect_all(items, &front, No::OtherJob)?;
+    expect_literal(items, literal)?;
+    expect_all(items, &back, No::OtherJob)
+}
+
+/// The items that the input fixes come next.
+fn expect_input<I: Items>(items: &mut I, input: &Input) -> Result<(), Stop>
+    requires sound { I.sound items.old }
+    ensures given { OnOk result (CanCome (I.gives items.new)) }
+    ensures sound { OnOk result (I.sound items.new) }
+    ensures met { Met (I.gives items.old) (I.gives items.new) (input_wanted input.now) No.OtherInput result }
+    ensures fewer { OnOk result (I.most items.new < I.most items.old) }
+    ensures stops { Stops I.steady (I.failed items.old) (I.failed items.new) result }
+{
+    expect(items, Item::Files(input.files() as u32), No::OtherInput)?;
+    expect_lengths(items, input)
+}
+
+/// The items that the request and the input fix come next.
+pub fn expect_header<I: Items>(items: &mut I, request: &Request, input: &Input) -> Result<(), Stop>
+    requires sound { I.sound items.old }
+    ensures given { OnOk result (CanCome (I.gives items.new)) }
+    ensures sound { OnOk result (I.sound items.new) }
+    ensures met { Behind (I.gives items.old) (I.gives items.new) (λ at. header_met at request.now input.now) result }
+    ensures fewer { OnOk result (I.most items.new < I.most items.old) }
+    ensures stops { Stops I.steady (I.failed items.old) (I.failed items.new) result }
+{
+    expect_job(items, request)?;
+    expect_input(items, input)
+}

@@ -1,0 +1,139 @@
+//! What walks the items of a certificate: over its bytes, or over a reader.
+ghost use Rattle.std.specs.Prelude.{◌≡◌, ◌⊎◌, ◌≤◌, ◌<◌, ◌+◌, ◌-◌, ⊤, ◌^◌, ℕ, List, None, IfOk, length};
+ghost use Rattle.mr_certform.specs.declared.item.Item.{Item as Read};
+ghost use Rattle.mr_certform.specs.declared.item.Item.TheVariants.{End};
+ghost use Rattle.mr_certform.specs.Walking.{items_left, halt};
+ghost use Rattle.mr_certform.specs.Streaming.{stream, Gives};
+ghost use Rattle.mr_verdict.specs.Items.{CanCome, Took, Halts};
+
+use crate::fault::No;
+use mr_certform::{Item, StreamFault, StreamWalker, Walker};
+use mr_store::CountedRead;
+use std::alloc::AllocError;
+
+/// Why no item is given.
+#[derive(Clone, Copy, Debug, PartialEq, Eq, Drop)]
+pub enum Halt {
+    Malformed { at: u64 },
+    Device,
+    /// The items have 2^63 bytes or more.
+    TooLong,
+}
+
+/// Why the judge goes no further: a fault, or that the items can't be had.
+#[derive(Clone, Copy, Debug, PartialEq, Eq, Drop)]
+pub enum Stop {
+    Fault(No),
+    Device,
+    TooLong,
+    /// A read of the output of this partition failed.
+    Output { partition: u64 },
+    /// An output has 2^63 bytes or more.
+    LongOutput,
+}
+
+impl From<Halt> for Stop {
+    ghost from_gives = { λ h s. s ≡ stop_of h };
+
+    ghost use Rattle.mr_verdict.specs.Items.{stop_of};
+
+    fn from(halt: Halt) -> Stop {
+        match halt {
+            Halt::Malformed { at } => Stop::Fault(No::Malformed { at }),
+            Halt::Device => Stop::Device,
+            Halt::TooLong => Stop::TooLong,
+        }
+    }
+}
+
+impl From<No> for Stop {
+    ghost use Rattle.mr_verdict.specs.declared.items.Stop.TheVariants.{Fault as at_fault};
+
+    ghost from_gives = { λ n s. s ≡ at_fault n };
+
+    fn from(fault: No) -> Stop {
+        Stop::Fault(fault)
+    }
+}
+
+impl From<AllocError> for Stop {
+    ghost use Rattle.mr_verdict.specs.declared.fault.No.TheVariants.{OutOfMemory as no_memory};
+    ghost use Rattle.mr_verdict.specs.declared.items.Stop.TheVariants.{Fault as at_fault};
+
+    ghost from_gives = { λ _ s. s ≡ at_fault no_memory };
+
+    fn from(_fault: AllocError) -> Stop {
+        Stop::Fault(No::OutOfMemory)
+    }
+}
+
+/// What walks items.
+pub trait Items {
+    // These items may be still to come, and then the place behind the last of them.
+    ghost gives: { Self → List Read → ℕ → Type 0 };
+
+    // How many items may still come.
+    ghost most: { Self → ℕ };
+
+    // No fault was told.
+    ghost sound: { Self → Type 0 };
+
+    // How many reads have failed.
+    ghost failed: { Self → ℕ };
+
+    // An item is refused for no other cause than that none stands.
+    ghost steady: { Type 0 };
+
+    /// The next of the items.
+    fn next_item(&mut self) -> Result<Item, Halt>
+        requires sound { sound self.old }
+        ensures sound { IfOk result (λ _. sound self.new) }
+        ensures fewer { IfOk result (λ i. (i ≡ End → ⊥) → most self.new < most self.old) }
+        ensures took { Took (gives self.old) (gives self.new) result }
+        ensures some { CanCome (gives self.new) }
+        ensures halts { Halts steady (failed self.old) (failed self.new) result };
+}
+
+impl<'a> Items for Walker<'a> {
+    ghost gives = { λ w is at. (is ≡ items_left w) × (at ≡ halt w) };
+
+    ghost most = { λ w. length (items_left w) };
+
+    ghost sound = { λ _. ⊤ };
+
+    ghost failed = { λ _. 0 };
+
+    ghost steady = { ⊤ };
+
+    #[inline]
+    fn next_item(&mut self) -> Result<Item, Halt> {
+        match self.next() {
+            Ok(item) => Ok(item),
+            Err(fault) => Err(Halt::Malformed { at: fault.at }),
+        }
+    }
+}
+
+impl<R: CountedRead + Drop> Items for StreamWalker<R> {
+    ghost gives = { λ w is at. Gives (stream R.remaining w) is at };
+
+    ghost most = { λ w. 2 ^ 63 - w.passed };
+
+    ghost sound = { λ w. w.fault ≡ None };
+
+    ghost failed = { λ w. R.failed w.reader };
+
+    ghost steady = { ⊥ };
+
+    #[inline]
+    fn next_item(&mut self) -> Result<Item, Halt> {
+        if self.place() >= 1 << 63 {
+            return Err(Halt::TooLong);
+        }
+        match self.next() {
+            Ok(item) => Ok(item),
+            Err(StreamFault::Malformed { at }) => Err(Halt::Malformed { at }),
+            Err(StreamFault::Device) => Err(Halt::Device),
+        }
+    }
+}

@@ -1,0 +1,97 @@
+//! The left-out records that a certificate lists.
+ghost use Rattle.std.specs.Prelude.{◌≡◌, ◌≤◌, ◌<◌, ◌++◌, ◌∷◌, [], OnOk};
+ghost use Rattle.mr_splits.specs.Cut.{records_of};
+ghost use Rattle.mr_verdict.specs.Steps.{awaits_skips, counted, skip_fault, skips_in_front, listed};
+ghost use Rattle.mr_verdict.specs.Items.{Answered, Each, NextSkip, CanCome, Stops, skip_next};
+
+use crate::fault::No;
+use crate::items::{Items, Stop};
+use mr_bytes::RecordName;
+use mr_certform::Item;
+use mr_splits::{Plan, SkipFault};
+use std::alloc::{AllocError, Global};
+
+/// How many records are left out comes next, which is at most so many.
+pub fn expect_count<I: Items>(items: &mut I, most: u32) -> Result<u32, Stop>
+    requires sound { I.sound items.old }
+    requires awaits { Each (I.gives items.old) awaits_skips }
+    ensures sound { OnOk result (I.sound items.new) }
+    ensures given { OnOk result (CanCome (I.gives items.new)) }
+    ensures counted { Answered (I.gives items.old) (I.gives items.new) (λ n is. record { many = n; behind = is }) (λ at. counted at most) result }
+    ensures fewer { OnOk result (I.most items.new ≤ I.most items.old) }
+    ensures stops { Stops I.steady (I.failed items.old) (I.failed items.new) result }
+{
+    let Item::Skips(listed) = items.next_item()? else {
+        unreachable!()
+    };
+    if most < listed {
+        return Err(Stop::Fault(No::TooManySkips {
+            listed: u64::from(listed),
+        }));
+    }
+    Ok(listed)
+}
+
+/// The left-out record that comes next.
+fn next_skip<I: Items>(items: &mut I) -> Result<RecordName, Stop>
+    requires sound { I.sound items.old }
+    requires skip { Each (I.gives items.old) skip_next }
+    ensures sound { OnOk result (I.sound items.new) }
+    ensures some { CanCome (I.gives items.new) }
+    ensures next { NextSkip (I.gives items.old) (I.gives items.new) result }
+    ensures fewer { OnOk result (I.most items.new ≤ I.most items.old) }
+    ensures stops { Stops I.steady (I.failed items.old) (I.failed items.new) result }
+{
+    let Item::Skip(name) = items.next_item()? else {
+        unreachable!()
+    };
+    Ok(name)
+}
+
+/// The fault of a left-out record, given the one before it and its number.
+fn fault_of(plan: &Plan<'_>, before: Option<RecordName>, name: RecordName, skip: u64) -> Option<No>
+    ensures { result ≡ skip_fault (records_of plan.now) before name skip }
+{
+    match plan.name_fault(before, name)? {
+        SkipFault::NoSuchRecord => Some(No::NoSuchRecord { skip }),
+        SkipFault::Order | SkipFault::TooMany => Some(No::SkipOrder { skip }),
+    }
+}
+
+/// Keeps one more left-out record.
+fn keep(skips: &mut Vec<RecordName>, name: RecordName) -> Result<(), AllocError>
+    ensures { OnOk result (skips.new.items ≡ skips.old.items ++ name ∷ []) }
+{
+    skips.push(name)?;
+    Ok(())
+}
+
+/// The left-out records, of which so many come next, each tested for its order before its existence.
+pub fn take_skips<I: Items>(
+    alloc: Global,
+    items: &mut I,
+    plan: &Plan<'_>,
+    many: u32,
+) -> Result<Vec<RecordName>, Stop>
+    requires sound { I.sound items.old }
+    requires given { CanCome (I.gives items.old) }
+    requires front { Each (I.gives items.old) (skips_in_front many) }
+    ensures sound { OnOk result (I.sound items.new) }
+    ensures given { OnOk result (CanCome (I.gives items.new)) }
+    ensures listed { Answered (I.gives items.old) (I.gives items.new) (λ v is. record { skips = v.items; behind = is })
+        (λ at. listed (records_of plan.now) at many []) result }
+    ensures fewer { OnOk result (I.most items.new ≤ I.most items.old) }
+    ensures stops { Stops I.steady (I.failed items.old) (I.failed items.new) result }
+{
+    let mut skips = Vec::new(alloc);
+    let mut before = None;
+    for number in 0..many {
+        let name = next_skip(items)?;
+        if let Some(fault) = fault_of(plan, before, name, u64::from(number)) {
+            return Err(Stop::Fault(fault));
+        }
+        keep(&mut skips, name)?;
+        before = Some(name);
+    }
+    Ok(skips)
+}
