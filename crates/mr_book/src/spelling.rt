@@ -10,7 +10,7 @@ ghost use Rattle.mr_book.specs.Faithful.{IsFaithful, IsOpenedFor};
 ghost use Rattle.mr_book.specs.Assembling.{SpellsWhereItCan, committed_groups, reduced_under};
 
 use crate::book::Book;
-use mr_certform::{Header, Version, size_of_partition, write_front, write_partition};
+use mr_certform::{Header, Version, partition_size_hint, write_header, write_partition};
 use mr_input::Input;
 use mr_jobs::Request;
 use mr_sequential::header_of;
@@ -72,7 +72,7 @@ impl<L: Ledger> Book<L> {
         let mut size = 0usize;
         for partition in 0..self.shape().parts {
             let (counts, names) = self.committed(partition).flat_groups();
-            size = size.saturating_add(size_of_partition(version, counts.len(), names.len()));
+            size = size.saturating_add(partition_size_hint(version, counts.len(), names.len()));
         }
         size
     }
@@ -104,7 +104,7 @@ impl<L: Ledger> Book<L> {
         let _limits = self.core().limits();
         let parts = self.shape().parts;
         let room = self.size_of_groups(version);
-        let mut out = write_front(alloc, version, header, parts, room)?;
+        let mut out = write_header(alloc, version, header, parts, room)?;
         for partition in 0..parts {
             let (counts, names) = self.committed(partition).flat_groups();
             write_partition(&mut out, version, counts, names)?;

@@ -13,31 +13,31 @@ pub enum Phase {
 
 /// Is told now and then how far long work has come, by several threads at once perhaps. It has no say in the work: no
 /// clause speaks of it.
-pub trait Watch: Sync {
+pub trait Progress: Sync {
     /// So much of the phase is done, of so much in all: records, pairs, or tasks.
-    fn tell(&self, phase: Phase, done: u64, all: u64);
+    fn report(&self, phase: Phase, done: u64, all: u64);
 
     /// A worker is lost.
-    fn lost(&self);
+    fn worker_lost(&self);
 }
 
 /// Nobody looks on.
 pub struct Unwatched;
 
-impl Watch for Unwatched {
-    fn tell(&self, _phase: Phase, _done: u64, _all: u64) {}
+impl Progress for Unwatched {
+    fn report(&self, _phase: Phase, _done: u64, _all: u64) {}
 
-    fn lost(&self) {}
+    fn worker_lost(&self) {}
 }
 
 /// Who is told through a reference is who it refers to.
-impl<'a> Watch for &'a dyn Watch {
-    fn tell(&self, phase: Phase, done: u64, all: u64) {
-        (**self).tell(phase, done, all);
+impl<'a> Progress for &'a dyn Progress {
+    fn report(&self, phase: Phase, done: u64, all: u64) {
+        (**self).report(phase, done, all);
     }
 
-    fn lost(&self) {
-        (**self).lost();
+    fn worker_lost(&self) {
+        (**self).worker_lost();
     }
 }
 
@@ -47,16 +47,16 @@ const STRIDE: u64 = 4096;
 
 /// Tells how far one phase has come, now and then.
 #[derive(Drop)]
-pub struct Pace {
+pub struct Throttle {
     phase: Phase,
     all: u64,
     next: u64,
 }
 
-impl Pace {
+impl Throttle {
     /// Of a phase that has so much to do in all. Nothing is told yet.
-    pub fn new(phase: Phase, all: u64) -> Pace {
-        Pace {
+    pub fn new(phase: Phase, all: u64) -> Throttle {
+        Throttle {
             phase,
             all,
             next: 0,
@@ -65,11 +65,11 @@ impl Pace {
 
     /// So much is done. The watch is told at once the first time, and then where it is a stride more than was told last.
     #[inline]
-    pub fn reach(&mut self, done: u64, watch: &dyn Watch) {
+    pub fn reach(&mut self, done: u64, watch: &dyn Progress) {
         if done < self.next {
             return;
         }
-        watch.tell(self.phase, done, self.all);
+        watch.report(self.phase, done, self.all);
         self.next = done.saturating_add(STRIDE);
     }
 }

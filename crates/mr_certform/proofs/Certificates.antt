@@ -3,7 +3,7 @@ use Rattle.std.proofs.Common.{◌≡◌, ℕ, List, [], ◌∷◌, ◌++◌, tru
 use Rattle.std.proofs.lemmas.Bool.{false≢true}
 use Rattle.mr_certform.specs.declared.item.Item.{Item}
 use Rattle.mr_certform.specs.declared.item.Item.TheVariants.{Magic, End}
-use Rattle.mr_certform.specs.declared.place.Place.TheVariants.{AtMagic, AtJob}
+use Rattle.mr_certform.specs.declared.grammar_state.GrammarState.TheVariants.{AtMagic, AtJob}
 use Rattle.mr_certform.specs.declared.version.Version.{Version}
 use Rattle.mr_certform.specs.Spelling.{items_of, items_from, is_ended, bytes_from, version_of}
 use Rattle.mr_certform.specs.Value.{Contents, job_items, input_items, skip_items, group_part_items, certificate_items, spelling, Spells}

@@ -9,8 +9,8 @@ use Rattle.mr_certform.specs.declared.item.Item.{Item}
 use Rattle.mr_certform.specs.declared.item.Item.TheVariants.{Magic, Job, Flags, LiteralLength, LiteralByte, Parts, SplitSize, Files, FileLength, Skips, Skip, Groups, Entries, Entry, End}
 use Rattle.std.specs.Prelude.{Result, Ok, Err, MatchResult}
 use Rattle.mr_certform.specs.declared.item.Malformed.{Malformed}
-use Rattle.mr_certform.specs.declared.place.Place.{Place}
-use Rattle.mr_certform.specs.declared.place.Place.TheVariants.{AtMagic, AtJob, AtFlags, AtLiteralLength, AtLiteralByte, AtParts, AtSplitSize, AtFiles, AtFileLength, AtSkips, AtSkip, AtGroups, AtEntries, AtEntry, AtEnd, Behind}
+use Rattle.mr_certform.specs.declared.grammar_state.GrammarState.{GrammarState}
+use Rattle.mr_certform.specs.declared.grammar_state.GrammarState.TheVariants.{AtMagic, AtJob, AtFlags, AtLiteralLength, AtLiteralByte, AtParts, AtSplitSize, AtFiles, AtFileLength, AtSkips, AtSkip, AtGroups, AtEntries, AtEntry, AtEnd, Behind}
 use Rattle.mr_certform.specs.Places.{behind, onward}
 use Rattle.mr_certform.specs.declared.version.Version.{Version}
 use Rattle.mr_certform.specs.declared.version.Version.TheVariants.{V1, V2}
@@ -69,7 +69,7 @@ sized_entry V2 r g n before bytes f e = by (short_name_at before bytes) refl e
         subst (λ (h : Front). length (bytes_at V2 (AtEntry r g n before) h.item) + length h.rest ≡ length bytes) same (name_sized before bytes m is)
 
 -- the end, or an item behind which a walker goes on
-pub end_or_not : (i : Item) → (i ≡ End) ⊎ (((js : List Item) → left_behind i js ≡ js) × ((p : Place) → onward p i ≡ behind p i))
+pub end_or_not : (i : Item) → (i ≡ End) ⊎ (((js : List Item) → left_behind i js ≡ js) × ((p : GrammarState) → onward p i ≡ behind p i))
 end_or_not End = inl refl
 end_or_not i = inr (λ js. refl, λ p. refl)
 
@@ -80,7 +80,7 @@ module _ (v : Version) where
       let eight : take 8 bytes ≡ (magic v) = (bytes_decides (take 8 bytes) (magic v)).0 (c.0) in
       subst (Goes bytes) (c.1) (omega (arith, length-drop 8 bytes, length-take 8 bytes, ap length eight), λ z. cc z)
 
-  pub shorter : (p : Place) (bytes : List ℕ) (f : Front) → standing v p bytes ≡ Some f → Goes bytes f ⊎ ((f.item ≡ End) × (p ≡ AtEnd))
+  pub shorter : (p : GrammarState) (bytes : List ℕ) (f : Front) → standing v p bytes ≡ Some f → Goes bytes f ⊎ ((f.item ≡ End) × (p ≡ AtEnd))
   shorter AtMagic bytes f e = inl (magic_shorter bytes f e)
   shorter AtJob bytes f e = inl (numbered 4 (from_be_bytes w32) any Job bytes f (omega arith) (λ n z. cc z) e)
   shorter AtFlags bytes f e = inl (numbered 4 (from_be_bytes w32) any Flags bytes f (omega arith) (λ n z. cc z) e)
@@ -102,11 +102,11 @@ module _ (v : Version) where
 
   -- ---- one by one
 
-  abbrev pub walk_from : ℕ → Place → Option Front → List Item
+  abbrev pub walk_from : ℕ → GrammarState → Option Front → List Item
   walk_from k p None = []
   walk_from k p (Some f) = f.item ∷ walk v k (behind p f.item) f.rest
 
-  pub walk-suc : (k : ℕ) (p : Place) (bytes : List ℕ) → walk v (suc k) p bytes ≡ walk_from k p (standing v p bytes)
+  pub walk-suc : (k : ℕ) (p : GrammarState) (bytes : List ℕ) → walk v (suc k) p bytes ≡ walk_from k p (standing v p bytes)
   walk-suc k p bytes = by (standing v p bytes)
     where
       by : (o : Option Front) → (elim o [ None ↦ [] | Some f ↦ f.item ∷ walk v k (behind p f.item) f.rest ]) ≡ walk_from k p o
@@ -117,16 +117,16 @@ module _ (v : Version) where
   walk-behind zero bytes = refl
   walk-behind (suc k) bytes = refl
 
-  behind_end : (p : Place) (i : Item) → i ≡ End → p ≡ AtEnd → behind p i ≡ Behind
+  behind_end : (p : GrammarState) (i : Item) → i ≡ End → p ≡ AtEnd → behind p i ≡ Behind
   behind_end p i e d = ap (λ q. behind q i) d
 
   -- how far the walk may go doesn't matter, if it may go far enough
-  enough : (k j : ℕ) (p : Place) (bytes : List ℕ) → length bytes < k → length bytes < j → walk v k p bytes ≡ walk v j p bytes
+  enough : (k j : ℕ) (p : GrammarState) (bytes : List ℕ) → length bytes < k → length bytes < j → walk v k p bytes ≡ walk v j p bytes
   enough zero j p bytes a b = absurd (omega arith)
   enough (suc k) zero p bytes a b = absurd (omega arith)
   enough (suc k) (suc j) p bytes a b = walk-suc k p bytes ∙ (by (standing v p bytes) refl (λ q rest. enough k j q rest) ∙ sym (walk-suc j p bytes))
     where
-      by : (o : Option Front) → standing v p bytes ≡ o → ((q : Place) (rest : List ℕ) → length rest < k → length rest < j → walk v k q rest ≡ walk v j q rest) → walk_from k p o ≡ walk_from j p o
+      by : (o : Option Front) → standing v p bytes ≡ o → ((q : GrammarState) (rest : List ℕ) → length rest < k → length rest < j → walk v k q rest ≡ walk v j q rest) → walk_from k p o ≡ walk_from j p o
       by None is more = refl
       by (Some f) is more =
           elim (shorter p bytes f is) [
@@ -134,7 +134,7 @@ module _ (v : Version) where
             | inr last ↦ (let e = behind_end p f.item last.0 last.1 in ap (λ js. f.item ∷ js) (ap (λ q. walk v k q f.rest) e ∙ (walk-behind k f.rest ∙ (sym (walk-behind j f.rest) ∙ ap (λ q. walk v j q f.rest) (sym e)))))
           ]
 
-  pub items_here : (p : Place) (bytes : List ℕ) (f : Front) → standing v p bytes ≡ Some f → items_from v p bytes ≡ f.item ∷ items_from v (behind p f.item) f.rest
+  pub items_here : (p : GrammarState) (bytes : List ℕ) (f : Front) → standing v p bytes ≡ Some f → items_from v p bytes ≡ f.item ∷ items_from v (behind p f.item) f.rest
   unfolding items_from
   items_here p bytes f is =
       let far : walk v (length bytes + 1) p bytes ≡ walk v (suc (length bytes)) p bytes = enough (length bytes + 1) (suc (length bytes)) p bytes (omega arith) (omega arith) in
@@ -144,14 +144,14 @@ module _ (v : Version) where
         | inr last ↦ (let e = behind_end p f.item last.0 last.1 in ap (λ js. f.item ∷ js) (ap (λ q. walk v (length bytes) q f.rest) e ∙ (walk-behind (length bytes) f.rest ∙ (sym (walk-behind (length f.rest + 1) f.rest) ∙ ap (λ q. walk v (length f.rest + 1) q f.rest) (sym e)))))
       ])))
 
-  pub items_none : (p : Place) (bytes : List ℕ) → standing v p bytes ≡ None → items_from v p bytes ≡ []
+  pub items_none : (p : GrammarState) (bytes : List ℕ) → standing v p bytes ≡ None → items_from v p bytes ≡ []
   unfolding items_from
   items_none p bytes is =
       let far : walk v (length bytes + 1) p bytes ≡ walk v (suc (length bytes)) p bytes = enough (length bytes + 1) (suc (length bytes)) p bytes (omega arith) (omega arith) in
       far ∙ (walk-suc (length bytes) p bytes ∙ ap (walk_from (length bytes) p) is)
 
   -- behind the end nothing stands
-  pub items_end : (p : Place) (bytes : List ℕ) (f : Front) → standing v p bytes ≡ Some f → f.item ≡ End → items_from v p bytes ≡ End ∷ []
+  pub items_end : (p : GrammarState) (bytes : List ℕ) (f : Front) → standing v p bytes ≡ Some f → f.item ≡ End → items_from v p bytes ≡ End ∷ []
   unfolding items_from
   items_end p bytes f is e =
       elim (shorter p bytes f is) [
@@ -162,17 +162,17 @@ module _ (v : Version) where
   -- ---- the bytes that items take
 
   -- the item and what is behind it are as long as the bytes
-  abbrev pub Sized : Place → List ℕ → Front → Type 0
+  abbrev pub Sized : GrammarState → List ℕ → Front → Type 0
   Sized p bytes f = length (bytes_at v p f.item) + length f.rest ≡ length bytes
 
-  sized_bytes : (p : Place) (size : ℕ) (item : Item) (bytes : List ℕ) (f : Front) → length (bytes_at v p item) ≡ size → of_bytes size item bytes ≡ Some f → Sized p bytes f
+  sized_bytes : (p : GrammarState) (size : ℕ) (item : Item) (bytes : List ℕ) (f : Front) → length (bytes_at v p item) ≡ size → of_bytes size item bytes ≡ Some f → Sized p bytes f
   sized_bytes p size item bytes f long e =
       let c = not_chosen (ltb (length bytes) size) (Some (record { item = item; rest = drop size bytes })) f e in
       let same : record { item = item; rest = drop size bytes } ≡ f = cc (c.1) in
       let enough : size ≤ length bytes = ltb-false (length bytes) size (c.0) in
       subst (Sized p bytes) same (omega (arith, long, length-drop size bytes))
 
-  sized_number : (p : Place) (size : ℕ) (value : List ℕ → ℕ) (ok : ℕ → Bool) (item : ℕ → Item) (bytes : List ℕ) (f : Front) → ((n : ℕ) → length (bytes_at v p (item n)) ≡ size) → number size value ok item bytes ≡ Some f → Sized p bytes f
+  sized_number : (p : GrammarState) (size : ℕ) (value : List ℕ → ℕ) (ok : ℕ → Bool) (item : ℕ → Item) (bytes : List ℕ) (f : Front) → ((n : ℕ) → length (bytes_at v p (item n)) ≡ size) → number size value ok item bytes ≡ Some f → Sized p bytes f
   sized_number p size value ok item bytes f long e =
       let n = value (take size bytes) in
       let c = not_chosen (ltb (length bytes) size) (cond (ok n) (Some (record { item = item n; rest = drop size bytes })) None) f e in
@@ -186,7 +186,7 @@ module _ (v : Version) where
       let eight : take 8 bytes ≡ (magic v) = (bytes_decides (take 8 bytes) (magic v)).0 (c.0) in
       subst (Sized AtMagic bytes) (c.1) (omega (arith, length-drop 8 bytes, length-take 8 bytes, ap length eight))
 
-  pub sized_here : (p : Place) (bytes : List ℕ) (f : Front) → standing v p bytes ≡ Some f → Sized p bytes f
+  pub sized_here : (p : GrammarState) (bytes : List ℕ) (f : Front) → standing v p bytes ≡ Some f → Sized p bytes f
   sized_here AtMagic bytes f e = sized_magic bytes f e
   sized_here AtJob bytes f e = sized_number AtJob 4 (from_be_bytes w32) any Job bytes f (λ n. refl) e
   sized_here AtFlags bytes f e = sized_number AtFlags 4 (from_be_bytes w32) any Flags bytes f (λ n. refl) e
@@ -207,13 +207,13 @@ module _ (v : Version) where
   sized_here Behind bytes f e = absurd (cc e)
 
   -- how many bytes the items from here on take
-  abbrev pub taken : Place → List ℕ → ℕ
+  abbrev pub taken : GrammarState → List ℕ → ℕ
   taken p bytes = length (bytes_from v p (items_from v p bytes))
 
-  pub taken_none : (p : Place) (bytes : List ℕ) → standing v p bytes ≡ None → taken p bytes ≡ 0
+  pub taken_none : (p : GrammarState) (bytes : List ℕ) → standing v p bytes ≡ None → taken p bytes ≡ 0
   taken_none p bytes is = ap (λ w. length (bytes_from v p w)) (items_none p bytes is)
 
-  pub taken_here : (p : Place) (bytes : List ℕ) (f : Front) → standing v p bytes ≡ Some f → taken p bytes + length f.rest ≡ length bytes + taken (behind p f.item) f.rest
+  pub taken_here : (p : GrammarState) (bytes : List ℕ) (f : Front) → standing v p bytes ≡ Some f → taken p bytes + length f.rest ≡ length bytes + taken (behind p f.item) f.rest
   taken_here p bytes f is =
       omega (
         arith,
@@ -224,7 +224,7 @@ module _ (v : Version) where
 
   -- ---- a walker's step
 
-  pub item_step : (p q : Place) (bytes rest : List ℕ) (i : Item) → standing v p bytes ≡ Some (record { item = i; rest = rest }) → q ≡ onward p i → items_from v p bytes ≡ i ∷ left_behind i (items_from v q rest)
+  pub item_step : (p q : GrammarState) (bytes rest : List ℕ) (i : Item) → standing v p bytes ≡ Some (record { item = i; rest = rest }) → q ≡ onward p i → items_from v p bytes ≡ i ∷ left_behind i (items_from v q rest)
   item_step p q bytes rest i is e =
       let f : Front = record { item = i; rest = rest } in
       elim (end_or_not i) [
@@ -237,7 +237,7 @@ module _ (v : Version) where
   at_end_rest (b ∷ bytes) f is = absurd (cc is)
 
   -- behind the end the same is left
-  pub end_step : (p q : Place) (bytes rest : List ℕ) (i : Item) → standing v p bytes ≡ Some (record { item = i; rest = rest }) → q ≡ onward p i → i ≡ End → items_from v q rest ≡ items_from v p bytes
+  pub end_step : (p q : GrammarState) (bytes rest : List ℕ) (i : Item) → standing v p bytes ≡ Some (record { item = i; rest = rest }) → q ≡ onward p i → i ≡ End → items_from v q rest ≡ items_from v p bytes
   end_step p q bytes rest i is e last =
       elim (shorter p bytes (record { item = i; rest = rest }) is) [
         | inl less ↦ absurd (less.1 last)
@@ -251,7 +251,7 @@ module _ (v : Version) where
       ]
 
   -- the place where the items end is the same from behind an item
-  pub taken_step : (p q : Place) (bytes rest : List ℕ) (i : Item) → standing v p bytes ≡ Some (record { item = i; rest = rest }) → q ≡ onward p i → taken p bytes + length rest ≡ length bytes + taken q rest
+  pub taken_step : (p q : GrammarState) (bytes rest : List ℕ) (i : Item) → standing v p bytes ≡ Some (record { item = i; rest = rest }) → q ≡ onward p i → taken p bytes + length rest ≡ length bytes + taken q rest
   taken_step p q bytes rest i is e =
       let f : Front = record { item = i; rest = rest } in
       elim (end_or_not i) [
@@ -267,32 +267,32 @@ module _ (v : Version) where
         | inr more ↦ omega (arith, taken_here p bytes f is, ap (λ w. taken w rest) (e ∙ more.1 p))
       ]
 
-  abbrev pub Stepped : Place → List ℕ → ℕ → Place → List ℕ → Result Item Malformed → Type 0
+  abbrev pub Stepped : GrammarState → List ℕ → ℕ → GrammarState → List ℕ → Result Item Malformed → Type 0
   Stepped p bytes whole q rest r = MatchResult r (λ i. (standing v p bytes ≡ Some (record { item = i; rest = rest })) × (q ≡ onward p i)) (λ e. (standing v p bytes ≡ None) × (q ≡ p) × (rest ≡ bytes) × (e.at ≡ whole - length bytes))
 
-  pub stepped_items : (p : Place) (bytes : List ℕ) (whole : ℕ) (q : Place) (rest : List ℕ) (r : Result Item Malformed) → Stepped p bytes whole q rest r → MatchResult r (λ i. items_from v p bytes ≡ i ∷ left_behind i (items_from v q rest)) (λ e. (items_from v p bytes ≡ []) × (items_from v q rest ≡ []) × (e.at ≡ whole - length bytes + taken p bytes))
+  pub stepped_items : (p : GrammarState) (bytes : List ℕ) (whole : ℕ) (q : GrammarState) (rest : List ℕ) (r : Result Item Malformed) → Stepped p bytes whole q rest r → MatchResult r (λ i. items_from v p bytes ≡ i ∷ left_behind i (items_from v q rest)) (λ e. (items_from v p bytes ≡ []) × (items_from v q rest ≡ []) × (e.at ≡ whole - length bytes + taken p bytes))
   stepped_items p bytes whole q rest (Ok i) h = item_step p q bytes rest i h.0 h.1
   stepped_items p bytes whole q rest (Err e) h =
       (items_none p bytes h.0, ap (λ w. items_from v w rest) h.1 ∙ (ap (items_from v p) h.2 ∙ items_none p bytes h.0), omega (arith, h.3, taken_none p bytes h.0))
 
-  pub stepped_halt : (p : Place) (bytes : List ℕ) (whole : ℕ) (q : Place) (rest : List ℕ) (r : Result Item Malformed) → length bytes ≤ whole → length rest ≤ whole → Stepped p bytes whole q rest r
+  pub stepped_halt : (p : GrammarState) (bytes : List ℕ) (whole : ℕ) (q : GrammarState) (rest : List ℕ) (r : Result Item Malformed) → length bytes ≤ whole → length rest ≤ whole → Stepped p bytes whole q rest r
       → whole - length rest + taken q rest ≡ whole - length bytes + taken p bytes
   stepped_halt p bytes whole q rest (Ok i) fits fit h = omega (arith, fits, fit, taken_step p q bytes rest i h.0 h.1)
   stepped_halt p bytes whole q rest (Err e) fits fit h = ap (λ w. whole - length rest + taken w rest) h.1 ∙ ap (λ b. whole - length b + taken p b) h.2
 
-  pub stepped_end : (p : Place) (bytes : List ℕ) (whole : ℕ) (q : Place) (rest : List ℕ) (r : Result Item Malformed) → Stepped p bytes whole q rest r → r ≡ Ok End → items_from v q rest ≡ items_from v p bytes
+  pub stepped_end : (p : GrammarState) (bytes : List ℕ) (whole : ℕ) (q : GrammarState) (rest : List ℕ) (r : Result Item Malformed) → Stepped p bytes whole q rest r → r ≡ Ok End → items_from v q rest ≡ items_from v p bytes
   stepped_end p bytes whole q rest (Ok i) h e = end_step p q bytes rest i h.0 h.1 (cc e)
   stepped_end p bytes whole q rest (Err f) h e = absurd (cc e)
 
-  walk_few : (k : ℕ) (p : Place) (bytes : List ℕ) → length (walk v k p bytes) ≤ k
+  walk_few : (k : ℕ) (p : GrammarState) (bytes : List ℕ) → length (walk v k p bytes) ≤ k
   walk_few zero p bytes = omega arith
   walk_few (suc k) p bytes = subst (λ is. length is ≤ suc k) (sym (walk-suc k p bytes)) (by (standing v p bytes) (λ q rest. walk_few k q rest))
     where
-      by : (o : Option Front) → ((q : Place) (rest : List ℕ) → length (walk v k q rest) ≤ k) → length (walk_from k p o) ≤ suc k
+      by : (o : Option Front) → ((q : GrammarState) (rest : List ℕ) → length (walk v k q rest) ≤ k) → length (walk_from k p o) ≤ suc k
       by None more = omega arith
       by (Some f) more = omega (arith, more (behind p f.item) f.rest)
 
   -- each item but the last has a byte
-  pub items_few : (p : Place) (bytes : List ℕ) → length (items_from v p bytes) ≤ length bytes + 1
+  pub items_few : (p : GrammarState) (bytes : List ℕ) → length (items_from v p bytes) ≤ length bytes + 1
   unfolding items_from
   items_few p bytes = walk_few (length bytes + 1) p bytes

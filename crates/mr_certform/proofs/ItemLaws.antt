@@ -9,8 +9,8 @@ use Rattle.mr_bytes.specs.declared.Name.{Name}
 use Rattle.mr_bytes.specs.declared.RecordName.{RecordName}
 use Rattle.mr_certform.specs.declared.item.Item.{Item}
 use Rattle.mr_certform.specs.declared.item.Item.TheVariants.{Magic, Job, Flags, LiteralLength, LiteralByte, Parts, SplitSize, Files, FileLength, Skips, Skip, Groups, Entries, Entry, End}
-use Rattle.mr_certform.specs.declared.place.Place.{Place}
-use Rattle.mr_certform.specs.declared.place.Place.TheVariants.{AtMagic, AtJob, AtFlags, AtLiteralLength, AtLiteralByte, AtParts, AtSplitSize, AtFiles, AtFileLength, AtSkips, AtSkip, AtGroups, AtEntries, AtEntry, AtEnd, Behind}
+use Rattle.mr_certform.specs.declared.grammar_state.GrammarState.{GrammarState}
+use Rattle.mr_certform.specs.declared.grammar_state.GrammarState.TheVariants.{AtMagic, AtJob, AtFlags, AtLiteralLength, AtLiteralByte, AtParts, AtSplitSize, AtFiles, AtFileLength, AtSkips, AtSkip, AtGroups, AtEntries, AtEntry, AtEnd, Behind}
 use Rattle.mr_certform.specs.declared.version.Version.{Version}
 use Rattle.mr_certform.specs.declared.version.Version.TheVariants.{V1, V2}
 use Rattle.mr_certform.specs.Spelling.{u32, u64, Front, magic, number, number32, any, of_bytes, at, skip_at, name_at, name_bytes, entry_at, entry_of, standing, bytes_at}
@@ -42,7 +42,7 @@ at_below bytes n fits = below32 (take 4 (drop n bytes)) (AreBytes-take 4 (drop n
 -- ---- what stands
 
 -- what is read is asked for there, its bytes are the front, and the end is behind all of them
-pub record IsFront (v : Version) (p : Place) (bytes : List ℕ) (f : Front) : Type 0 where
+pub record IsFront (v : Version) (p : GrammarState) (bytes : List ℕ) (f : Front) : Type 0 where
   pub may : MayStand p f.item
   pub can : CanStand v p f.item
   pub spelled : bytes ≡ bytes_at v p f.item ++ f.rest
@@ -130,7 +130,7 @@ entry_front V2 bytes fits r g m before f e = by (short_name_at before bytes) ref
 
 module _ (v : Version) (bytes : List ℕ) (fits : AreBytes bytes) where
   -- a front at a number
-  of_number : (p : Place) (size limit : ℕ) (spell : ℕ → List ℕ) (ok : ℕ → Bool) (item : ℕ → Item) (f : Front) → IsNumber size limit spell ok item bytes f → ((n : ℕ) → ok n ≡ true → n < limit → MayStand p (item n)) → ((n : ℕ) → CanStand v p (item n)) → ((n : ℕ) → bytes_at v p (item n) ≡ spell n) → ((n : ℕ) → item n ≡ End → ⊥) → IsFront v p bytes f
+  of_number : (p : GrammarState) (size limit : ℕ) (spell : ℕ → List ℕ) (ok : ℕ → Bool) (item : ℕ → Item) (f : Front) → IsNumber size limit spell ok item bytes f → ((n : ℕ) → ok n ≡ true → n < limit → MayStand p (item n)) → ((n : ℕ) → CanStand v p (item n)) → ((n : ℕ) → bytes_at v p (item n) ≡ spell n) → ((n : ℕ) → item n ≡ End → ⊥) → IsFront v p bytes f
   of_number p size limit spell ok item f n may can text other =
       subst (IsFront v p bytes) n.same (record {
         may = may n.is n.passes n.below;
@@ -140,7 +140,7 @@ module _ (v : Version) (bytes : List ℕ) (fits : AreBytes bytes) where
         rest = AreBytes-drop size bytes fits;
       })
 
-  pub is_front : (p : Place) (f : Front) → standing v p bytes ≡ Some f → IsFront v p bytes f
+  pub is_front : (p : GrammarState) (f : Front) → standing v p bytes ≡ Some f → IsFront v p bytes f
   is_front AtMagic f e =
       let c = chosen (pointwise eqb (take 8 bytes) (magic v)) (record { item = Magic; rest = drop 8 bytes }) f e in
       let eight : take 8 bytes ≡ (magic v) = (bytes_decides (take 8 bytes) (magic v)).0 (c.0) in
@@ -204,7 +204,7 @@ entry_again V1 rest n before fits can = whole_again rest n before fits
 entry_again V2 rest n before fits can = ap entry_of (name_again before n rest fits can)
 
 module _ (v : Version) (rest : List ℕ) where
-  abbrev Again : Place → Item → Type 0
+  abbrev Again : GrammarState → Item → Type 0
   Again p i = standing v p (bytes_at v p i ++ rest) ≡ Some (record { item = i; rest = rest })
 
   number32_again : (ok : ℕ → Bool) (item : ℕ → Item) (n : ℕ) → n < 2 ^ 32 → ok n ≡ true → number32 ok item (u32 n ++ rest) ≡ Some (record { item = item n; rest = rest })
@@ -233,7 +233,7 @@ module _ (v : Version) (rest : List ℕ) where
       ∙ (ap (λ m. Some (record { item = Skip (record { split = m; rec = from_be_bytes w32 (u32 s.rec) }); rest = rest })) a
       ∙ ap (λ m. Some (record { item = Skip (record { split = s.split; rec = m }); rest = rest })) b)
 
-  pub again : (p : Place) (i : Item) → MayStand p i → CanStand v p i → (i ≡ End → rest ≡ []) → Again p i
+  pub again : (p : GrammarState) (i : Item) → MayStand p i → CanStand v p i → (i ≡ End → rest ≡ []) → Again p i
   again AtMagic Magic h can e = magic_again v rest
   again AtJob (Job n) h can e = number32_again any Job n h refl
   again AtFlags (Flags n) h can e = number32_again any Flags n h refl
@@ -251,12 +251,12 @@ module _ (v : Version) (rest : List ℕ) where
   again AtEnd End h can e = rw (e refl) refl
   again p i h can e = absurd h
 
-pub end_at : (p : Place) → MayStand p End → p ≡ AtEnd
+pub end_at : (p : GrammarState) → MayStand p End → p ≡ AtEnd
 end_at AtEnd h = refl
 end_at p h = absurd h
 
 -- before the end no spelling of an item begins another
-pub apart : (v : Version) (p : Place) (i j : Item) (more : List ℕ) → MayStand p i → CanStand v p i → MayStand p j → CanStand v p j → (i ≡ End → ⊥) → bytes_at v p j ≡ bytes_at v p i ++ more → i ≡ j
+pub apart : (v : Version) (p : GrammarState) (i j : Item) (more : List ℕ) → MayStand p i → CanStand v p i → MayStand p j → CanStand v p j → (i ≡ End → ⊥) → bytes_at v p j ≡ bytes_at v p i ++ more → i ≡ j
 apart v p i j more hi ci hj cj other e =
     let first : standing v p (bytes_at v p i ++ more) ≡ Some (record { item = i; rest = more }) = again v more p i hi ci (λ d. absurd (other d)) in
     let second : standing v p (bytes_at v p j ++ []) ≡ Some (record { item = j; rest = [] }) = again v [] p j hj cj (λ d. refl) in

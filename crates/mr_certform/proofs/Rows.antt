@@ -7,8 +7,8 @@ use Rattle.std.specs.Int.{w32, w64, from_be_bytes}
 use Rattle.mr_bytes.specs.declared.Name.{Name}
 use Rattle.mr_certform.specs.declared.item.Item.{Item}
 use Rattle.mr_certform.specs.declared.item.Item.TheVariants.{Magic, Job, Flags, LiteralLength, LiteralByte, Parts, SplitSize, Files, FileLength, Skips, Skip, Groups, Entries, Entry, End}
-use Rattle.mr_certform.specs.declared.place.Place.{Place}
-use Rattle.mr_certform.specs.declared.place.Place.TheVariants.{AtMagic, AtJob, AtFlags, AtLiteralLength, AtLiteralByte, AtParts, AtSplitSize, AtFiles, AtFileLength, AtSkips, AtSkip, AtGroups, AtEntries, AtEntry, AtEnd, Behind}
+use Rattle.mr_certform.specs.declared.grammar_state.GrammarState.{GrammarState}
+use Rattle.mr_certform.specs.declared.grammar_state.GrammarState.TheVariants.{AtMagic, AtJob, AtFlags, AtLiteralLength, AtLiteralByte, AtParts, AtSplitSize, AtFiles, AtFileLength, AtSkips, AtSkip, AtGroups, AtEntries, AtEntry, AtEnd, Behind}
 use Rattle.mr_certform.specs.declared.version.Version.{Version}
 use Rattle.mr_certform.specs.declared.version.Version.TheVariants.{V1, V2}
 use Rattle.mr_certform.specs.Places.{behind, onward, groups, entries}
@@ -37,7 +37,7 @@ lacks r g n b bytes h = by (ltb (length bytes) 12) refl
 -- ---- a row of them
 
 -- what is told of walks from two places: these stand one after the other, k entries apart
-abbrev Apart : ℕ → Place → List ℕ → Place → List ℕ → Type 0
+abbrev Apart : ℕ → GrammarState → List ℕ → GrammarState → List ℕ → Type 0
 Apart k p bytes q rest =
     (entries_ahead (items_from V1 p bytes) ≡ k + entries_ahead (items_from V1 q rest))
     × (behind_entries (items_from V1 p bytes) ≡ behind_entries (items_from V1 q rest))
@@ -89,7 +89,7 @@ abbrev Other : List Item → Type 0
 Other is = (entries_ahead is ≡ 0) × (behind_entries is ≡ is)
 
 module _ (v : Version) where
-  other_from : (p : Place) (bytes : List ℕ) → ((f : Front) (js : List Item) → standing v p bytes ≡ Some f → Other (f.item ∷ js)) → Other (items_from v p bytes)
+  other_from : (p : GrammarState) (bytes : List ℕ) → ((f : Front) (js : List Item) → standing v p bytes ≡ Some f → Other (f.item ∷ js)) → Other (items_from v p bytes)
   other_from p bytes h = by (standing v p bytes) refl
     where
       by : (o : Option Front) → standing v p bytes ≡ o → Other (items_from v p bytes)
@@ -103,7 +103,7 @@ module _ (v : Version) where
       let d = chosen (ok n) (record { item = item n; rest = drop size bytes }) f (c.1) in
       subst (λ (g : Front). Other (g.item ∷ js)) (d.1) (other n)
 
-  other_four : (p : Place) (item : ℕ → Item) (ok : ℕ → Bool) (bytes : List ℕ) → ((n : ℕ) (js : List Item) → Other (item n ∷ js)) → standing v p bytes ≡ number 4 (from_be_bytes w32) ok item bytes → Other (items_from v p bytes)
+  other_four : (p : GrammarState) (item : ℕ → Item) (ok : ℕ → Bool) (bytes : List ℕ) → ((n : ℕ) (js : List Item) → Other (item n ∷ js)) → standing v p bytes ≡ number 4 (from_be_bytes w32) ok item bytes → Other (items_from v p bytes)
   other_four p item ok bytes other is = other_from p bytes (λ f js e. other_number 4 (from_be_bytes w32) item ok bytes f js (λ n. other n js) (sym is ∙ e))
 
   other_magic : (bytes : List ℕ) (f : Front) (js : List Item) → standing v AtMagic bytes ≡ Some f → Other (f.item ∷ js)
@@ -125,7 +125,7 @@ module _ (v : Version) where
   other_end [] f js e = let same : record { item = End; rest = [] } ≡ f = cc e in subst (λ (g : Front). Other (g.item ∷ js)) same (refl, refl)
   other_end (b ∷ bytes) f js e = absurd (cc e)
 
-  other_elsewhere : (p : Place) (bytes : List ℕ) → ((r g n : ℕ) (b : Name) → p ≡ AtEntry r g n b → ⊥) → Other (items_from v p bytes)
+  other_elsewhere : (p : GrammarState) (bytes : List ℕ) → ((r g n : ℕ) (b : Name) → p ≡ AtEntry r g n b → ⊥) → Other (items_from v p bytes)
   other_elsewhere AtMagic bytes h = other_from AtMagic bytes (other_magic bytes)
   other_elsewhere AtJob bytes h = other_four AtJob Job any bytes (λ n js. (refl, refl)) refl
   other_elsewhere AtFlags bytes h = other_four AtFlags Flags any bytes (λ n js. (refl, refl)) refl
@@ -150,18 +150,18 @@ groups_elsewhere r (suc m) r2 g2 n b e = cc e
 
 -- ---- the walker's step
 
-abbrev pub Passed : ℕ → Place → List ℕ → Place → List ℕ → Type 0
+abbrev pub Passed : ℕ → GrammarState → List ℕ → GrammarState → List ℕ → Type 0
 Passed k p bytes q rest =
     (k ≡ entries_ahead (items_from V1 p bytes))
     × (items_from V1 q rest ≡ behind_entries (items_from V1 p bytes))
     × (taken V1 p bytes ≡ k * 12 + taken V1 q rest)
 
 -- the place holds none
-pub none_passed : (p : Place) (bytes : List ℕ) → ((r g n : ℕ) (b : Name) → p ≡ AtEntry r g n b → ⊥) → Passed 0 p bytes p bytes
+pub none_passed : (p : GrammarState) (bytes : List ℕ) → ((r g n : ℕ) (b : Name) → p ≡ AtEntry r g n b → ⊥) → Passed 0 p bytes p bytes
 none_passed p bytes h = let none = other_elsewhere V1 p bytes h in (sym none.0, sym none.1, omega arith)
 
 -- all that the group has are held
-pub all_passed : (k r g : ℕ) (b : Name) (n : ℕ) (p : Place) (bytes : List ℕ) → p ≡ AtEntry r g n b → k ≡ n + 1 → k * 12 ≤ length bytes → Passed k p bytes (groups r g) (drop (k * 12) bytes)
+pub all_passed : (k r g : ℕ) (b : Name) (n : ℕ) (p : GrammarState) (bytes : List ℕ) → p ≡ AtEntry r g n b → k ≡ n + 1 → k * 12 ≤ length bytes → Passed k p bytes (groups r g) (drop (k * 12) bytes)
 all_passed k r g b n p bytes is e h =
     let same : 12 * k ≡ k * 12 = omega arith in
     let told = subst (λ w. Apart k (AtEntry r g n b) bytes (groups r g) (drop w bytes)) same (row k 0 (suc n) r g b b bytes (omega (arith, e)) (omega (arith, h))) in
@@ -169,7 +169,7 @@ all_passed k r g b n p bytes is e h =
     subst (λ w. Passed k w bytes (groups r g) (drop (k * 12) bytes)) (sym is) (omega (arith, told.0, none.0), sym (told.1 ∙ none.1), omega (arith, told.2))
 
 -- fewer are held
-pub some_passed : (k m r g : ℕ) (b : Name) (n : ℕ) (p : Place) (bytes : List ℕ) → p ≡ AtEntry r g n b → n ≡ k + m → k * 12 ≤ length bytes → length bytes < k * 12 + 12 → Passed k p bytes (AtEntry r g m b) (drop (k * 12) bytes)
+pub some_passed : (k m r g : ℕ) (b : Name) (n : ℕ) (p : GrammarState) (bytes : List ℕ) → p ≡ AtEntry r g n b → n ≡ k + m → k * 12 ≤ length bytes → length bytes < k * 12 + 12 → Passed k p bytes (AtEntry r g m b) (drop (k * 12) bytes)
 some_passed k m r g b n p bytes is e h short =
     let same : 12 * k ≡ k * 12 = omega arith in
     let told = subst (λ w. Apart k (AtEntry r g n b) bytes (AtEntry r g m b) (drop w bytes)) same (row k (suc m) (suc n) r g b b bytes (omega (arith, e)) (omega (arith, h))) in
@@ -178,7 +178,7 @@ some_passed k m r g b n p bytes is e h short =
     subst (λ w. Passed k w bytes (AtEntry r g m b) (drop (k * 12) bytes)) (sym is) (omega (arith, told.0, ap entries_ahead none), none ∙ sym (told.1 ∙ ap behind_entries none), omega (arith, told.2))
 
 -- and the place where the items stop is the same
-pub same_stop : (whole k : ℕ) (p q : Place) (bytes rest : List ℕ) → length bytes ≤ whole → k * 12 ≤ length bytes → rest ≡ drop (k * 12) bytes → Passed k p bytes q rest
+pub same_stop : (whole k : ℕ) (p q : GrammarState) (bytes rest : List ℕ) → length bytes ≤ whole → k * 12 ≤ length bytes → rest ≡ drop (k * 12) bytes → Passed k p bytes q rest
     → whole - length rest + taken V1 q rest ≡ whole - length bytes + taken V1 p bytes
 same_stop whole k p q bytes rest fits h e told = omega (arith, fits, h, ap length e, length-drop (k * 12) bytes, told.2)
 
@@ -198,12 +198,12 @@ is_entry V2 r g n b bytes i rest e = by (short_name_at b bytes) e
         (m.name, ap (λ (f : Front). f.item) (sym same))
 
 -- elsewhere than at an entry none is ahead
-pub none_ahead : (v : Version) (p : Place) (bytes : List ℕ) → ((r g n : ℕ) (b : Name) → p ≡ AtEntry r g n b → ⊥)
+pub none_ahead : (v : Version) (p : GrammarState) (bytes : List ℕ) → ((r g n : ℕ) (b : Name) → p ≡ AtEntry r g n b → ⊥)
     → (entries_ahead (items_from v p bytes) ≡ 0) × (behind_entries (items_from v p bytes) ≡ items_from v p bytes)
 none_ahead v p bytes h = other_elsewhere v p bytes h
 
 -- an item that stands where an entry is awaited is one
-pub entry_ahead : (v : Version) (p q : Place) (bytes rest : List ℕ) (i : Item) (r g n : ℕ) (b : Name) → p ≡ AtEntry r g n b
+pub entry_ahead : (v : Version) (p q : GrammarState) (bytes rest : List ℕ) (i : Item) (r g n : ℕ) (b : Name) → p ≡ AtEntry r g n b
     → standing v p bytes ≡ Some (record { item = i; rest = rest }) → q ≡ onward p i
     → (entries_ahead (items_from v p bytes) ≡ 1 + entries_ahead (items_from v q rest)) × (behind_entries (items_from v p bytes) ≡ behind_entries (items_from v q rest))
 entry_ahead v p q bytes rest i r g n b at is on =
@@ -217,7 +217,7 @@ entry_ahead v p q bytes rest i r g n b at is on =
         (ap entries_ahead all, ap behind_entries all)
 
 -- and has a byte
-pub entry_less : (v : Version) (p : Place) (bytes rest : List ℕ) (i : Item) (r g n : ℕ) (b : Name) → p ≡ AtEntry r g n b
+pub entry_less : (v : Version) (p : GrammarState) (bytes rest : List ℕ) (i : Item) (r g n : ℕ) (b : Name) → p ≡ AtEntry r g n b
     → standing v p bytes ≡ Some (record { item = i; rest = rest }) → length rest < length bytes
 entry_less v p bytes rest i r g n b at is =
     elim (shorter v p bytes (record { item = i; rest = rest }) is) [
@@ -228,17 +228,17 @@ entry_less v p bytes rest i r g n b at is =
 -- ---- names of version 2, one after another
 
 -- what is told of walks from two places: these stand one after the other, so many entries apart
-pub record NamesPassed (k : ℕ) (p : Place) (bytes : List ℕ) (q : Place) (rest : List ℕ) : Type 0 where
+pub record NamesPassed (k : ℕ) (p : GrammarState) (bytes : List ℕ) (q : GrammarState) (rest : List ℕ) : Type 0 where
   pub count : entries_ahead (items_from V2 p bytes) ≡ k + entries_ahead (items_from V2 q rest)
   pub items : behind_entries (items_from V2 p bytes) ≡ behind_entries (items_from V2 q rest)
   pub size : taken V2 p bytes ≡ length bytes - length rest + taken V2 q rest
   pub shorter : k + length rest ≤ length bytes
 
-pub nothing_passed : (p : Place) (bytes : List ℕ) → NamesPassed 0 p bytes p bytes
+pub nothing_passed : (p : GrammarState) (bytes : List ℕ) → NamesPassed 0 p bytes p bytes
 nothing_passed p bytes = record { count = omega arith; items = refl; size = omega arith; shorter = omega arith }
 
 -- one name more
-pub name_passed : (k : ℕ) (p : Place) (bytes : List ℕ) (r g n : ℕ) (b name : Name) (rest behind : List ℕ) → NamesPassed k p bytes (AtEntry r g n b) rest
+pub name_passed : (k : ℕ) (p : GrammarState) (bytes : List ℕ) (r g n : ℕ) (b name : Name) (rest behind : List ℕ) → NamesPassed k p bytes (AtEntry r g n b) rest
     → short_name_at b rest ≡ Some (record { name = name; rest = behind }) → NamesPassed (k + 1) p bytes (entries r g n name) behind
 name_passed k p bytes r g n b name rest behind was is =
     let here : standing V2 (AtEntry r g n b) rest ≡ Some (record { item = Entry name; rest = behind }) = ap entry_of is in
@@ -253,14 +253,14 @@ name_passed k p bytes r g n b name rest behind was is =
     }
 
 -- where no name stands, nothing comes
-pub no_name : (k : ℕ) (p : Place) (bytes : List ℕ) (r g n : ℕ) (b : Name) (rest : List ℕ) → NamesPassed k p bytes (AtEntry r g n b) rest → short_name_at b rest ≡ None
+pub no_name : (k : ℕ) (p : GrammarState) (bytes : List ℕ) (r g n : ℕ) (b : Name) (rest : List ℕ) → NamesPassed k p bytes (AtEntry r g n b) rest → short_name_at b rest ≡ None
     → (k ≡ entries_ahead (items_from V2 p bytes)) × (items_from V2 (AtEntry r g n b) rest ≡ behind_entries (items_from V2 p bytes))
 no_name k p bytes r g n b rest was is =
     let nothing = items_none V2 (AtEntry r g n b) rest (ap entry_of is) in
     (omega (arith, was.count, ap entries_ahead nothing), nothing ∙ (sym (ap behind_entries nothing) ∙ sym was.items))
 
 -- behind the last name of a group no entry stands
-pub last_name : (k : ℕ) (p : Place) (bytes : List ℕ) (q : Place) (rest : List ℕ) → NamesPassed k p bytes q rest → ((r g n : ℕ) (b : Name) → q ≡ AtEntry r g n b → ⊥)
+pub last_name : (k : ℕ) (p : GrammarState) (bytes : List ℕ) (q : GrammarState) (rest : List ℕ) → NamesPassed k p bytes q rest → ((r g n : ℕ) (b : Name) → q ≡ AtEntry r g n b → ⊥)
     → (k ≡ entries_ahead (items_from V2 p bytes)) × (items_from V2 q rest ≡ behind_entries (items_from V2 p bytes))
 last_name k p bytes q rest was other =
     let none = none_ahead V2 q rest other in
@@ -276,12 +276,12 @@ pub name_less : (r g n : ℕ) (b name : Name) (rest behind : List ℕ) → short
 name_less r g n b name rest behind is = entry_less V2 (AtEntry r g n b) rest behind (Entry name) r g n b refl (ap entry_of is)
 
 -- the last name of a group, and another one
-pub last_passed : (k : ℕ) (p : Place) (bytes : List ℕ) (r g n : ℕ) (b name : Name) (rest behind : List ℕ) (q : Place) → NamesPassed k p bytes (AtEntry r g n b) rest
+pub last_passed : (k : ℕ) (p : GrammarState) (bytes : List ℕ) (r g n : ℕ) (b name : Name) (rest behind : List ℕ) (q : GrammarState) → NamesPassed k p bytes (AtEntry r g n b) rest
     → short_name_at b rest ≡ Some (record { name = name; rest = behind }) → n ≡ 0 → q ≡ groups r g → NamesPassed (k + 1) p bytes q behind
 last_passed k p bytes r g n b name rest behind q was is none at =
     subst (λ w. NamesPassed (k + 1) p bytes w behind) (ap (λ m. entries r g m name) none ∙ sym at) (name_passed k p bytes r g n b name rest behind was is)
 
-pub next_passed : (k : ℕ) (p : Place) (bytes : List ℕ) (r g n : ℕ) (b name : Name) (rest behind : List ℕ) → NamesPassed k p bytes (AtEntry r g n b) rest
+pub next_passed : (k : ℕ) (p : GrammarState) (bytes : List ℕ) (r g n : ℕ) (b name : Name) (rest behind : List ℕ) → NamesPassed k p bytes (AtEntry r g n b) rest
     → short_name_at b rest ≡ Some (record { name = name; rest = behind }) → (n ≡ 0 → ⊥) → NamesPassed (k + 1) p bytes (AtEntry r g (n - 1) name) behind
 next_passed k p bytes r g zero b name rest behind was is some = absurd (some refl)
 next_passed k p bytes r g (suc n) b name rest behind was is some =

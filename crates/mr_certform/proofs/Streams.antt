@@ -8,8 +8,8 @@ use Rattle.std.specs.Cmp.Lexicographic.{pointwise, bytes_decides}
 use Rattle.std.specs.Int.{w32, w64, from_be_bytes}
 use Rattle.mr_certform.specs.declared.item.Item.{Item}
 use Rattle.mr_certform.specs.declared.item.Item.TheVariants.{Magic, Job, Flags, LiteralLength, LiteralByte, Parts, SplitSize, Files, FileLength, Skips, Skip, Groups, Entries, Entry, End}
-use Rattle.mr_certform.specs.declared.place.Place.{Place}
-use Rattle.mr_certform.specs.declared.place.Place.TheVariants.{AtMagic, AtJob, AtFlags, AtLiteralLength, AtLiteralByte, AtParts, AtSplitSize, AtFiles, AtFileLength, AtSkips, AtSkip, AtGroups, AtEntries, AtEntry, AtEnd, Behind}
+use Rattle.mr_certform.specs.declared.grammar_state.GrammarState.{GrammarState}
+use Rattle.mr_certform.specs.declared.grammar_state.GrammarState.TheVariants.{AtMagic, AtJob, AtFlags, AtLiteralLength, AtLiteralByte, AtParts, AtSplitSize, AtFiles, AtFileLength, AtSkips, AtSkip, AtGroups, AtEntries, AtEntry, AtEnd, Behind}
 use Rattle.std.specs.Prelude.{IfSome, Result, Ok, Err}
 use Rattle.std.specs.Io.KnownBytes.{Consumes, Keeps, IsAtEnd}
 use Rattle.mr_certform.specs.declared.stream.StreamFault.{StreamFault}
@@ -138,11 +138,11 @@ module _ (v : Version) where
       by true = refl
       by false = refl
 
-  four_long : (p : Place) (ok : ℕ → Bool) (item : ℕ → Item) (xs ys : List ℕ) → 15 ≤ length xs → number 4 (from_be_bytes w32) ok item (xs ++ ys) ≡ before ys (number 4 (from_be_bytes w32) ok item xs)
+  four_long : (p : GrammarState) (ok : ℕ → Bool) (item : ℕ → Item) (xs ys : List ℕ) → 15 ≤ length xs → number 4 (from_be_bytes w32) ok item (xs ++ ys) ≡ before ys (number 4 (from_be_bytes w32) ok item xs)
   four_long p ok item xs ys h = long_number 4 (from_be_bytes w32) ok item xs ys (omega (arith, h))
 
   -- an item is seen by its own bytes: the same stands in front of more, where these are as many as the longest has
-  long : (p : Place) (xs ys : List ℕ) → 15 ≤ length xs → standing v p (xs ++ ys) ≡ before ys (standing v p xs)
+  long : (p : GrammarState) (xs ys : List ℕ) → 15 ≤ length xs → standing v p (xs ++ ys) ≡ before ys (standing v p xs)
   long AtMagic xs ys h = long_magic xs ys h
   long AtJob xs ys h = four_long AtJob any Job xs ys h
   long AtFlags xs ys h = four_long AtFlags any Flags xs ys h
@@ -169,7 +169,7 @@ before_none None = refl
 before_none (Some f) = ap (stood f.item) (append-nil f.rest)
 
 -- or nothing is behind them
-pub seen : (v : Version) (p : Place) (xs ys : List ℕ) → (15 ≤ length xs) ⊎ (ys ≡ []) → standing v p (xs ++ ys) ≡ before ys (standing v p xs)
+pub seen : (v : Version) (p : GrammarState) (xs ys : List ℕ) → (15 ≤ length xs) ⊎ (ys ≡ []) → standing v p (xs ++ ys) ≡ before ys (standing v p xs)
 seen v p xs ys (inl h) = long v p xs ys h
 seen v p xs ys (inr e) = ap (λ w. standing v p (xs ++ w)) e ∙ (ap (standing v p) (append-nil xs) ∙ (sym (before_none (standing v p xs)) ∙ ap (λ w. before w (standing v p xs)) (sym e)))
 
@@ -208,7 +208,7 @@ cut_entry V2 b xs f e = by (short_name_at b xs) refl e
         let k = name_cut b xs n is in
         (k.0, k.1, ap (λ (g : Front). g.rest) (sym same) ∙ k.2)
 
-pub cut : (v : Version) (p : Place) (xs : List ℕ) (f : Front) → standing v p xs ≡ Some f → Cut xs f
+pub cut : (v : Version) (p : GrammarState) (xs : List ℕ) (f : Front) → standing v p xs ≡ Some f → Cut xs f
 cut v AtMagic xs f e = cut_magic v xs f e
 cut v AtJob xs f e = cut_number 4 (from_be_bytes w32) any Job xs f e
 cut v AtFlags xs f e = cut_number 4 (from_be_bytes w32) any Flags xs f e
@@ -328,7 +328,7 @@ version_more : (xs ys : List ℕ) → (15 ≤ length xs) ⊎ (ys ≡ []) → ver
 version_more xs ys (inl h) = ap (λ w. cond {A = Version} (pointwise eqb w (magic V2)) V2 V1) (take-append-le 8 xs ys (omega (arith, h)))
 version_more xs ys (inr e) = ap (λ w. version_of (xs ++ w)) e ∙ ap version_of (append-nil xs)
 
-version_ahead : (v : Version) (p : Place) (xs ys : List ℕ) → (15 ≤ length xs) ⊎ (ys ≡ []) → version_at v p (xs ++ ys) ≡ version_at v p xs
+version_ahead : (v : Version) (p : GrammarState) (xs ys : List ℕ) → (15 ≤ length xs) ⊎ (ys ≡ []) → version_at v p (xs ++ ys) ≡ version_at v p xs
 version_ahead v AtMagic xs ys h = version_more xs ys h
 version_ahead v p xs ys h = refl
 
@@ -357,7 +357,7 @@ entries_version : (v : Version) (r g n : ℕ) (b : Name) (xs : List ℕ) → ver
 entries_version v r g zero b xs = groups_version v r g xs
 entries_version v r g (suc n) b xs = refl
 
-behind_version : (v : Version) (p : Place) (i : Item) (xs : List ℕ) → version_at v (behind p i) xs ≡ v
+behind_version : (v : Version) (p : GrammarState) (i : Item) (xs : List ℕ) → version_at v (behind p i) xs ≡ v
 behind_version v AtLiteralLength (LiteralLength n) xs = literal_version v n xs
 behind_version v (AtLiteralByte n) i xs = literal_version v n xs
 behind_version v AtParts (Parts r) xs = refl
@@ -370,11 +370,11 @@ behind_version v (AtEntries r g) (Entries n) xs = entries_version v r g n first_
 behind_version v (AtEntry r g n b) (Entry name) xs = entries_version v r g n name xs
 behind_version v p i xs = refl
 
-elsewhere_version : (v : Version) (p : Place) (xs : List ℕ) → (p ≡ AtMagic → ⊥) → version_at v p xs ≡ v
+elsewhere_version : (v : Version) (p : GrammarState) (xs : List ℕ) → (p ≡ AtMagic → ⊥) → version_at v p xs ≡ v
 elsewhere_version v AtMagic xs h = absurd (h refl)
 elsewhere_version v p xs h = refl
 
-onward_version : (v : Version) (p : Place) (held xs : List ℕ) (f : Front) → standing v p held ≡ Some f → version_at v (onward p f.item) xs ≡ v
+onward_version : (v : Version) (p : GrammarState) (held xs : List ℕ) (f : Front) → standing v p held ≡ Some f → version_at v (onward p f.item) xs ≡ v
 onward_version v p held xs f is =
     elim (end_or_not f.item) [
       | inl last ↦ ap (λ (i : Item). version_at v (onward p i) xs) last ∙ elsewhere_version v p xs (λ e. elim (shorter v p held f is) [
@@ -396,7 +396,7 @@ record Stepped (v : Version) (old new : Stream) (i : Item) : Type 0 where
   coming : new.coming ≡ old.coming
   passed : new.passed ≡ old.passed + (length old.held - length rest)
 
-shorter_rest : (v : Version) (p : Place) (xs : List ℕ) (f : Front) → standing v p xs ≡ Some f → length f.rest ≤ length xs
+shorter_rest : (v : Version) (p : GrammarState) (xs : List ℕ) (f : Front) → standing v p xs ≡ Some f → length f.rest ≤ length xs
 shorter_rest v p xs f e = let c = cut v p xs f e in omega (arith, ap length c.2, length-drop c.0 xs)
 
 stands_more : (v : Version) (old new : Stream) (i : Item) (s : Stepped v old new i) (more : List ℕ) → MayCome old.coming more → standing v old.place (old.held ++ more) ≡ Some (record { item = i; rest = s.rest ++ more })
@@ -470,7 +470,7 @@ told_none v old told st filled = λ is stopped g. (
     (g, empty, omega (arith, g.3, ap (λ w. length (bytes_from (version_at old.version old.place g.0) old.place w)) empty))
     )
 
-pub rest_told : (v : Version) (p : Place) (xs rest : List ℕ) (i : Item) → standing v p xs ≡ Some (record { item = i; rest = rest }) → (length rest ≤ length xs) × (drop (length xs - length rest) xs ≡ rest) × (length (bytes_at v p i) ≡ length xs - length rest)
+pub rest_told : (v : Version) (p : GrammarState) (xs rest : List ℕ) (i : Item) → standing v p xs ≡ Some (record { item = i; rest = rest }) → (length rest ≤ length xs) × (drop (length xs - length rest) xs ≡ rest) × (length (bytes_at v p i) ≡ length xs - length rest)
 rest_told v p xs rest i st =
     let f : Front = record { item = i; rest = rest } in
     let c = cut v p xs (record { item = i; rest = rest }) st in

@@ -5,8 +5,8 @@ use Rattle.mr_bytes.specs.declared.Name.{Name}
 use Rattle.mr_bytes.specs.declared.RecordName.{RecordName}
 use Rattle.mr_certform.specs.declared.item.Item.{Item}
 use Rattle.mr_certform.specs.declared.item.Item.TheVariants.{Magic, Job, Flags, LiteralLength, LiteralByte, Parts, SplitSize, Files, FileLength, Skips, Skip, Groups, Entries, Entry, End}
-use Rattle.mr_certform.specs.declared.place.Place.{Place}
-use Rattle.mr_certform.specs.declared.place.Place.TheVariants.{AtMagic, AtJob, AtFlags, AtLiteralLength, AtLiteralByte, AtParts, AtSplitSize, AtFiles, AtFileLength, AtSkips, AtSkip, AtGroups, AtEntries, AtEntry, AtEnd, Behind}
+use Rattle.mr_certform.specs.declared.grammar_state.GrammarState.{GrammarState}
+use Rattle.mr_certform.specs.declared.grammar_state.GrammarState.TheVariants.{AtMagic, AtJob, AtFlags, AtLiteralLength, AtLiteralByte, AtParts, AtSplitSize, AtFiles, AtFileLength, AtSkips, AtSkip, AtGroups, AtEntries, AtEntry, AtEnd, Behind}
 use Rattle.mr_certform.specs.Places.{first_name, literal_bytes, file_lengths, partitions, skips, groups, entries}
 use Rattle.mr_certform.specs.declared.version.Version.{Version}
 use Rattle.mr_certform.specs.Value.{Contents, group_items, part_items, certificate_items, NameFits, SkipFits, GroupFits, PartFits, Fits, CanRow, CanSpell}
@@ -54,7 +54,7 @@ module _ (v : Version) where
   abbrev JobItem : List Item → Type 0
   JobItem is = (n : ℕ) × (n < 2 ^ 32) × (js : List Item) × FlagsItem js × (is ≡ Job n ∷ js)
 
-  abbrev pub Tail : Place → List Item → Type 0
+  abbrev pub Tail : GrammarState → List Item → Type 0
   Tail AtMagic is = (js : List Item) × JobItem js × (is ≡ Magic ∷ js)
   Tail AtJob is = JobItem is
   Tail AtFlags is = FlagsItem is
@@ -96,7 +96,7 @@ module _ (v : Version) where
   literal_tail zero is t = ([], refl, tt, is, t, refl)
   literal_tail (suc n) is t = t
 
-  pub tail_of : (p : Place) (is : List Item) → Follow v p is → Tail p is
+  pub tail_of : (p : GrammarState) (is : List Item) → Follow v p is → Tail p is
   tail_of Behind [] h = refl
   tail_of p [] h = absurd (cc h)
   tail_of AtMagic (Magic ∷ is) h = (is, tail_of AtJob is h.2, refl)

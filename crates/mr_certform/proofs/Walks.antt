@@ -4,8 +4,8 @@ use Rattle.std.proofs.lemmas.Bool.{false≢true}
 use Rattle.std.proofs.Math.Seq.{take-append_seam}
 use Rattle.mr_certform.specs.declared.item.Item.{Item}
 use Rattle.mr_certform.specs.declared.item.Item.TheVariants.{Magic, End}
-use Rattle.mr_certform.specs.declared.place.Place.{Place}
-use Rattle.mr_certform.specs.declared.place.Place.TheVariants.{AtMagic, AtJob, AtEnd, Behind}
+use Rattle.mr_certform.specs.declared.grammar_state.GrammarState.{GrammarState}
+use Rattle.mr_certform.specs.declared.grammar_state.GrammarState.TheVariants.{AtMagic, AtJob, AtEnd, Behind}
 use Rattle.mr_certform.specs.declared.version.Version.{Version}
 use Rattle.mr_certform.specs.declared.version.Version.TheVariants.{V1, V2}
 use Rattle.mr_certform.specs.Places.{behind}
@@ -31,7 +31,7 @@ ended_last i is e d = ap (λ (w : Item). is_ended (w ∷ is)) e ∙ ap (λ w. is
 
 module _ (v : Version) where
   -- behind the end nothing follows
-  behind_end : (p : Place) (i : Item) (is : List Item) → MayStand p i → Follow v (behind p i) is → i ≡ End → is ≡ []
+  behind_end : (p : GrammarState) (i : Item) (is : List Item) → MayStand p i → Follow v (behind p i) is → i ≡ End → is ≡ []
   behind_end p i [] may h e = refl
   behind_end p i (j ∷ js) may h e =
       let at : p ≡ AtEnd = end_at p (subst (MayStand p) e may) in
@@ -40,7 +40,7 @@ module _ (v : Version) where
       absurd (none.0)
 
   -- what is spelled stands
-  pub stands : (p : Place) (is : List Item) → Follow v p is → items_from v p (bytes_from v p is) ≡ is
+  pub stands : (p : GrammarState) (is : List Item) → Follow v p is → items_from v p (bytes_from v p is) ≡ is
   stands p [] h = items_none v p [] (ap (λ q. standing v q []) h)
   stands p (i ∷ is) h =
       let rest : List ℕ = bytes_from v (behind p i) is in
@@ -48,16 +48,16 @@ module _ (v : Version) where
       again v (bytes_from v (behind p i) is) p i h.0 h.1 (λ e. ap (bytes_from v (behind p i)) (behind_end p i is h.0 h.2 e)) in
       items_here v p (bytes_at v p i ++ bytes_from v (behind p i) is) (record { item = i; rest = bytes_from v (behind p i) is }) front ∙ ap (λ js. i ∷ js) (stands (behind p i) is h.2)
 
-  abbrev pub Whole : Place → List ℕ → List Item → Type 0
+  abbrev pub Whole : GrammarState → List ℕ → List Item → Type 0
   Whole p bytes is = Follow v p is × (bytes ≡ bytes_from v p is)
 
   -- what stands up to the end follows, and is spelled so
-  pub whole : (k : ℕ) (p : Place) (bytes : List ℕ) → AreBytes bytes → is_ended (walk v k p bytes) ≡ true → Whole p bytes (walk v k p bytes)
+  pub whole : (k : ℕ) (p : GrammarState) (bytes : List ℕ) → AreBytes bytes → is_ended (walk v k p bytes) ≡ true → Whole p bytes (walk v k p bytes)
   whole zero p bytes fits e = absurd (false≢true e)
   whole (suc k) p bytes fits e =
       subst (Whole p bytes) (sym (walk-suc v k p bytes)) (by (standing v p bytes) refl (subst (λ is. is_ended is ≡ true) (walk-suc v k p bytes) e) (λ q rest. whole k q rest))
     where
-      by : (o : Option Front) → standing v p bytes ≡ o → is_ended (walk_from v k p o) ≡ true → ((q : Place) (rest : List ℕ) → AreBytes rest → is_ended (walk v k q rest) ≡ true → Whole q rest (walk v k q rest)) → Whole p bytes (walk_from v k p o)
+      by : (o : Option Front) → standing v p bytes ≡ o → is_ended (walk_from v k p o) ≡ true → ((q : GrammarState) (rest : List ℕ) → AreBytes rest → is_ended (walk v k q rest) ≡ true → Whole q rest (walk v k q rest)) → Whole p bytes (walk_from v k p o)
       by None is e more = absurd (false≢true e)
       by (Some f) is e more =
           let h = is_front v bytes fits p f is in
@@ -72,7 +72,7 @@ module _ (v : Version) where
                 )
           ]
 
-  pub whole_from : (p : Place) (bytes : List ℕ) → AreBytes bytes → is_ended (items_from v p bytes) ≡ true → Whole p bytes (items_from v p bytes)
+  pub whole_from : (p : GrammarState) (bytes : List ℕ) → AreBytes bytes → is_ended (items_from v p bytes) ≡ true → Whole p bytes (items_from v p bytes)
   unfolding items_from
   whole_from p bytes fits e = whole (length bytes + 1) p bytes fits e
 
@@ -82,7 +82,7 @@ module _ (v : Version) where
   none_behind [] h = refl
   none_behind (i ∷ is) h = absurd (h.0)
 
-  pub longest : (p : Place) (is : List Item) (more : List ℕ) → InOrderIn v p is → (is_ended is ≡ true → more ≡ []) → (js : List Item) × (items_from v p (bytes_from v p is ++ more) ≡ is ++ js)
+  pub longest : (p : GrammarState) (is : List Item) (more : List ℕ) → InOrderIn v p is → (is_ended is ≡ true → more ≡ []) → (js : List Item) × (items_from v p (bytes_from v p is ++ more) ≡ is ++ js)
   longest p [] more h e = (items_from v p more, refl)
   longest p (i ∷ is) more h e =
       let rest : List ℕ = bytes_from v (behind p i) is ++ more in
@@ -101,15 +101,15 @@ module _ (v : Version) where
 
   -- ---- the bytes that are read, and those that are left
 
-  abbrev Read : Place → List ℕ → List Item → Type 0
+  abbrev Read : GrammarState → List ℕ → List Item → Type 0
   Read p bytes is = (rest : List ℕ) × InOrderIn v p is × (bytes ≡ bytes_from v p is ++ rest)
 
-  read_within : (k : ℕ) (p : Place) (bytes : List ℕ) → AreBytes bytes → Read p bytes (walk v k p bytes)
+  read_within : (k : ℕ) (p : GrammarState) (bytes : List ℕ) → AreBytes bytes → Read p bytes (walk v k p bytes)
   read_within zero p bytes fits = (bytes, tt, refl)
   read_within (suc k) p bytes fits =
       subst (Read p bytes) (sym (walk-suc v k p bytes)) (by (standing v p bytes) refl (λ q rest. read_within k q rest))
     where
-      by : (o : Option Front) → standing v p bytes ≡ o → ((q : Place) (rest : List ℕ) → AreBytes rest → Read q rest (walk v k q rest)) → Read p bytes (walk_from v k p o)
+      by : (o : Option Front) → standing v p bytes ≡ o → ((q : GrammarState) (rest : List ℕ) → AreBytes rest → Read q rest (walk v k q rest)) → Read p bytes (walk_from v k p o)
       by None is more = (bytes, tt, refl)
       by (Some f) is more =
           let h = is_front v bytes fits p f is in
@@ -121,7 +121,7 @@ pub version_front : (v : Version) (rest : List ℕ) → version_of (magic v ++ r
 version_front V1 rest = refl
 version_front V2 rest = refl
 
-pub in_order : (v : Version) (p : Place) (is : List Item) → InOrderIn v p is → InOrder p is
+pub in_order : (v : Version) (p : GrammarState) (is : List Item) → InOrderIn v p is → InOrder p is
 in_order v p [] h = tt
 in_order v p (i ∷ is) h = (h.0, in_order v (behind p i) is h.2)
 

@@ -3,8 +3,8 @@ use Rattle.std.specs.Prelude.{◌≡◌, ℕ, List, [], ◌++◌, Some, true, le
 use Rattle.std.specs.List.{flat_map}
 use Rattle.mr_certform.specs.declared.item.Item.{Item}
 use Rattle.mr_certform.specs.declared.item.Item.TheVariants.{End}
-use Rattle.mr_certform.specs.declared.place.Place.{Place}
-use Rattle.mr_certform.specs.declared.place.Place.TheVariants.{AtMagic}
+use Rattle.mr_certform.specs.declared.grammar_state.GrammarState.{GrammarState}
+use Rattle.mr_certform.specs.declared.grammar_state.GrammarState.TheVariants.{AtMagic}
 use Rattle.mr_certform.specs.Spelling.{Front, version_of, standing, bytes_at, bytes_from, items_of, is_ended, stop}
 use Rattle.mr_certform.specs.Flat.{total, chunks}
 use Rattle.mr_certform.specs.declared.version.Version.{Version}
@@ -14,17 +14,17 @@ use Rattle.mr_certform.specs.Grammar.{MayStand, CanStand, InOrderIn, AreBytes}
 
 -- the item that stands in front may stand there, and the bytes begin with its spelling
 abbrev pub StandingIsSpelled : Type 0
-StandingIsSpelled = (v : Version) (p : Place) (bytes : List ℕ) (f : Front) → AreBytes bytes → standing v p bytes ≡ Some f
+StandingIsSpelled = (v : Version) (p : GrammarState) (bytes : List ℕ) (f : Front) → AreBytes bytes → standing v p bytes ≡ Some f
     → MayStand p f.item × CanStand v p f.item × (bytes ≡ bytes_at v p f.item ++ f.rest)
 
 -- an item that may stand stands where it is spelled; the end, where no byte is left
 abbrev pub SpelledStands : Type 0
-SpelledStands = (v : Version) (p : Place) (i : Item) (rest : List ℕ) → MayStand p i → CanStand v p i → (i ≡ End → rest ≡ [])
+SpelledStands = (v : Version) (p : GrammarState) (i : Item) (rest : List ℕ) → MayStand p i → CanStand v p i → (i ≡ End → rest ≡ [])
     → standing v p (bytes_at v p i ++ rest) ≡ Some (record { item = i; rest = rest })
 
 -- before the end no item's spelling begins another's
 abbrev pub SpellingsAreApart : Type 0
-SpellingsAreApart = (v : Version) (p : Place) (i j : Item) (more : List ℕ) → MayStand p i → CanStand v p i → MayStand p j → CanStand v p j → (i ≡ End → ⊥)
+SpellingsAreApart = (v : Version) (p : GrammarState) (i j : Item) (more : List ℕ) → MayStand p i → CanStand v p i → MayStand p j → CanStand v p j → (i ≡ End → ⊥)
     → bytes_at v p j ≡ bytes_at v p i ++ more → i ≡ j
 
 -- the items of bytes that spell a certificate are the certificate's

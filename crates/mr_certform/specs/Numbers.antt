@@ -2,11 +2,11 @@
 use Rattle.std.specs.Prelude.{ℕ, Bool, true, false, ◌&&◌, Option, Some, None, nat_le, if◌then◌else◌}
 use Rattle.mr_certform.specs.declared.item.Item.{Item}
 use Rattle.mr_certform.specs.declared.item.Item.TheVariants.{Job, Flags, LiteralLength, Parts, SplitSize, Files, Skips, Groups, Entries}
-use Rattle.mr_certform.specs.declared.place.Place.{Place}
-use Rattle.mr_certform.specs.declared.place.Place.TheVariants.{AtMagic, AtJob, AtFlags, AtLiteralLength, AtLiteralByte, AtParts, AtSplitSize, AtFiles, AtFileLength, AtSkips, AtSkip, AtGroups, AtEntries, AtEntry, AtEnd, Behind}
+use Rattle.mr_certform.specs.declared.grammar_state.GrammarState.{GrammarState}
+use Rattle.mr_certform.specs.declared.grammar_state.GrammarState.TheVariants.{AtMagic, AtJob, AtFlags, AtLiteralLength, AtLiteralByte, AtParts, AtSplitSize, AtFiles, AtFileLength, AtSkips, AtSkip, AtGroups, AtEntries, AtEntry, AtEnd, Behind}
 
 -- whether such an item stands at the place
-abbrev pub has_number : Place → Bool
+abbrev pub has_number : GrammarState → Bool
 has_number AtMagic = false
 has_number (AtLiteralByte n) = false
 has_number (AtFileLength r n) = false
@@ -17,7 +17,7 @@ has_number Behind = false
 has_number _ = true
 
 -- the item of a number at such a place; none where the number may not stand there
-abbrev pub numbered : Place → ℕ → Option Item
+abbrev pub numbered : GrammarState → ℕ → Option Item
 numbered AtJob n = Some (Job n)
 numbered AtFlags n = Some (Flags n)
 numbered AtLiteralLength n = if nat_le n 4096 then Some (LiteralLength n) else None

@@ -3,40 +3,40 @@ use Rattle.std.specs.Prelude.{ℕ, zero, suc}
 use Rattle.mr_bytes.specs.declared.Name.{Name}
 use Rattle.mr_certform.specs.declared.item.Item.{Item}
 use Rattle.mr_certform.specs.declared.item.Item.TheVariants.{LiteralLength, Parts, Files, Skips, Groups, Entries, Entry, End}
-use Rattle.mr_certform.specs.declared.place.Place.{Place}
-use Rattle.mr_certform.specs.declared.place.Place.TheVariants.{AtMagic, AtJob, AtFlags, AtLiteralLength, AtLiteralByte, AtParts, AtSplitSize, AtFiles, AtFileLength, AtSkips, AtSkip, AtGroups, AtEntries, AtEntry, AtEnd, Behind}
+use Rattle.mr_certform.specs.declared.grammar_state.GrammarState.{GrammarState}
+use Rattle.mr_certform.specs.declared.grammar_state.GrammarState.TheVariants.{AtMagic, AtJob, AtFlags, AtLiteralLength, AtLiteralByte, AtParts, AtSplitSize, AtFiles, AtFileLength, AtSkips, AtSkip, AtGroups, AtEntries, AtEntry, AtEnd, Behind}
 
 -- what the first entry of a group is counted from
 abbrev pub first_name : Name
 first_name = record { split = 0; rec = 0; place = 0 }
 
 -- the place behind what comes before n literal bytes; so for the others: behind the partition, group or entry before
-abbrev pub literal_bytes : ℕ → Place
+abbrev pub literal_bytes : ℕ → GrammarState
 literal_bytes zero = AtParts
 literal_bytes (suc n) = AtLiteralByte n
 
-abbrev pub file_lengths : ℕ → ℕ → Place
+abbrev pub file_lengths : ℕ → ℕ → GrammarState
 file_lengths parts zero = AtSkips parts
 file_lengths parts (suc n) = AtFileLength parts n
 
-abbrev pub partitions : ℕ → Place
+abbrev pub partitions : ℕ → GrammarState
 partitions zero = AtEnd
 partitions (suc n) = AtGroups n
 
-abbrev pub skips : ℕ → ℕ → Place
+abbrev pub skips : ℕ → ℕ → GrammarState
 skips parts zero = partitions parts
 skips parts (suc n) = AtSkip parts n
 
-abbrev pub groups : ℕ → ℕ → Place
+abbrev pub groups : ℕ → ℕ → GrammarState
 groups parts zero = partitions parts
 groups parts (suc n) = AtEntries parts n
 
-abbrev pub entries : ℕ → ℕ → ℕ → Name → Place
+abbrev pub entries : ℕ → ℕ → ℕ → Name → GrammarState
 entries parts gs zero before = groups parts gs
 entries parts gs (suc n) before = AtEntry parts gs n before
 
 -- what is awaited behind an item; an item elsewhere than at its place doesn't come
-abbrev pub behind : Place → Item → Place
+abbrev pub behind : GrammarState → Item → GrammarState
 behind AtMagic i = AtJob
 behind AtJob i = AtFlags
 behind AtFlags i = AtLiteralLength
@@ -54,6 +54,6 @@ behind (AtEntry r g n before) (Entry name) = entries r g n name
 behind _ _ = Behind
 
 -- a walker stays at the end
-abbrev pub onward : Place → Item → Place
+abbrev pub onward : GrammarState → Item → GrammarState
 onward p End = p
 onward p i = behind p i

@@ -2,7 +2,7 @@
 use Rattle.std.specs.Prelude.{ℕ, ◌+◌, List, ◌∷◌, length}
 use Rattle.mr_certform.specs.declared.item.Item.{Item}
 use Rattle.mr_certform.specs.declared.item.Item.TheVariants.{Entry}
-use Rattle.mr_certform.specs.declared.place.Place.{Place}
+use Rattle.mr_certform.specs.declared.grammar_state.GrammarState.{GrammarState}
 use Rattle.mr_certform.specs.declared.version.Version.{Version}
 use Rattle.mr_certform.specs.Spelling.{bytes_from, items_from}
 
@@ -17,5 +17,5 @@ behind_entries (Entry name ∷ is) = behind_entries is
 behind_entries is = is
 
 -- how many bytes the items from a place on take
-abbrev pub items_size : Version → Place → List ℕ → ℕ
+abbrev pub items_size : Version → GrammarState → List ℕ → ℕ
 items_size v p bytes = length (bytes_from v p (items_from v p bytes))

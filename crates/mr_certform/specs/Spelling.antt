@@ -6,8 +6,8 @@ use Rattle.mr_bytes.specs.declared.Name.{Name}
 use Rattle.mr_bytes.specs.declared.RecordName.{RecordName}
 use Rattle.mr_certform.specs.declared.item.Item.{Item}
 use Rattle.mr_certform.specs.declared.item.Item.TheVariants.{Magic, Job, Flags, LiteralLength, LiteralByte, Parts, SplitSize, Files, FileLength, Skips, Skip, Groups, Entries, Entry, End}
-use Rattle.mr_certform.specs.declared.place.Place.{Place}
-use Rattle.mr_certform.specs.declared.place.Place.TheVariants.{AtMagic, AtJob, AtFlags, AtLiteralLength, AtLiteralByte, AtParts, AtSplitSize, AtFiles, AtFileLength, AtSkips, AtSkip, AtGroups, AtEntries, AtEntry, AtEnd, Behind}
+use Rattle.mr_certform.specs.declared.grammar_state.GrammarState.{GrammarState}
+use Rattle.mr_certform.specs.declared.grammar_state.GrammarState.TheVariants.{AtMagic, AtJob, AtFlags, AtLiteralLength, AtLiteralByte, AtParts, AtSplitSize, AtFiles, AtFileLength, AtSkips, AtSkip, AtGroups, AtEntries, AtEntry, AtEnd, Behind}
 use Rattle.mr_certform.specs.declared.version.Version.{Version}
 use Rattle.mr_certform.specs.declared.version.Version.TheVariants.{V1, V2}
 use Rattle.mr_certform.specs.Places.{behind, first_name}
@@ -40,11 +40,11 @@ abbrev pub skip_bytes : RecordName → List ℕ
 skip_bytes s = u32 s.split ++ u32 s.rec
 
 -- the name before, in the place of an entry
-abbrev pub before_of : Place → Name
+abbrev pub before_of : GrammarState → Name
 before_of (AtEntry r g n before) = before
 before_of _ = first_name
 
-abbrev pub bytes_at : Version → Place → Item → List ℕ
+abbrev pub bytes_at : Version → GrammarState → Item → List ℕ
 bytes_at v p Magic = magic v
 bytes_at v p (Job n) = u32 n
 bytes_at v p (Flags n) = u32 n
@@ -103,7 +103,7 @@ abbrev pub entry_at : Version → Name → List ℕ → Option Front
 entry_at V1 before bytes = of_bytes 12 (Entry (name_at bytes)) bytes
 entry_at V2 before bytes = entry_of (short_name_at before bytes)
 
-abbrev pub standing : Version → Place → List ℕ → Option Front
+abbrev pub standing : Version → GrammarState → List ℕ → Option Front
 standing v AtMagic bytes = if pointwise nat_eq (take 8 bytes) (magic v) then Some (record { item = Magic; rest = drop 8 bytes }) else None
 standing v AtJob bytes = number32 any Job bytes
 standing v AtFlags bytes = number32 any Flags bytes
@@ -126,12 +126,12 @@ standing v Behind bytes = None
 -- ---- the items of bytes
 
 -- the items that stand from this place on, at most so many
-abbrev pub walk : Version → ℕ → Place → List ℕ → List Item
+abbrev pub walk : Version → ℕ → GrammarState → List ℕ → List Item
 walk v zero p bytes = []
 walk v (suc k) p bytes = elim (standing v p bytes) [ None ↦ [] | Some f ↦ f.item ∷ walk v k (behind p f.item) f.rest ]
 
 -- all items that stand from this place on; each but the last has a byte
-unfoldable pub items_from : Version → Place → List ℕ → List Item
+unfoldable pub items_from : Version → GrammarState → List ℕ → List Item
 items_from v p bytes = walk v (length bytes + 1) p bytes
 
 -- the version of bytes, by their magic; which it is where they have none doesn't matter, since no item stands then
@@ -145,7 +145,7 @@ items_of bytes = items_from (version_of bytes) AtMagic bytes
 -- ---- a list of items as such
 
 -- the bytes of items in a row, the first of them at this place
-abbrev pub bytes_from : Version → Place → List Item → List ℕ
+abbrev pub bytes_from : Version → GrammarState → List Item → List ℕ
 bytes_from v p [] = []
 bytes_from v p (i ∷ is) = bytes_at v p i ++ bytes_from v (behind p i) is
 

@@ -4,8 +4,8 @@ use Rattle.mr_store.specs.Devices.{counted}
 use Rattle.mr_certform.specs.Grammar.{AreBytes}
 use Rattle.mr_certform.specs.declared.item.Item.{Item}
 use Rattle.mr_certform.specs.declared.item.Item.TheVariants.{End}
-use Rattle.mr_certform.specs.declared.place.Place.{Place}
-use Rattle.mr_certform.specs.declared.place.Place.TheVariants.{AtMagic}
+use Rattle.mr_certform.specs.declared.grammar_state.GrammarState.{GrammarState}
+use Rattle.mr_certform.specs.declared.grammar_state.GrammarState.TheVariants.{AtMagic}
 use Rattle.mr_certform.specs.declared.version.Version.{Version}
 use Rattle.mr_certform.specs.declared.stream.StreamFault.{StreamFault}
 use Rattle.mr_certform.specs.declared.stream.StreamWalker.{StreamWalker}
@@ -16,7 +16,7 @@ use Rattle.mr_certform.specs.Spelling.{items_from, bytes_from, version_of}
 -- those that the reader is still to give, where they are known
 pub record Stream : Type 0 where
   pub version : Version
-  pub place : Place
+  pub place : GrammarState
   pub passed : ℕ
   pub held : List ℕ
   pub coming : Option (List ℕ)
@@ -43,7 +43,7 @@ abbrev pub IsToCome : Stream → List ℕ → Type 0
 IsToCome s bytes = (more : List ℕ) × (bytes ≡ s.held ++ more) × MayCome s.coming more
 
 -- the version of the items from this place on; at the front the bytes tell it
-abbrev pub version_at : Version → Place → List ℕ → Version
+abbrev pub version_at : Version → GrammarState → List ℕ → Version
 version_at v AtMagic bytes = version_of bytes
 version_at v p bytes = v
 

@@ -3,7 +3,7 @@ ghost use Rattle.std.specs.Prelude.{◌≡◌, ◌≤◌, ◌<◌, ◌^◌, ◌+
 ghost use Rattle.mr_certform.specs.Building.{with_partition};
 ghost use Rattle.mr_certform.specs.Flat.{chunks, AreCounted};
 
-use crate::certificate::{Certificate, Flat};
+use crate::certificate::{Certificate, CertificateColumns};
 use mr_bytes::{Name, RecordName};
 use std::alloc::{AllocError, Global};
 use std::marker::Model;
@@ -23,7 +23,7 @@ pub struct Header {
 /// A certificate that grows, group by group and partition by partition.
 #[derive(Drop)]
 pub struct Builder {
-    flat: Flat,
+    flat: CertificateColumns,
     begun: u32,
 }
 
@@ -65,7 +65,7 @@ impl Builder {
             lengths,
             skips,
         } = header;
-        let flat = Flat {
+        let flat = CertificateColumns {
             job,
             flags,
             literal,
@@ -156,7 +156,7 @@ impl Certificate {
             entry_counts,
             names,
         } = groups;
-        let flat = Flat {
+        let flat = CertificateColumns {
             job,
             flags,
             literal,

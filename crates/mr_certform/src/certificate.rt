@@ -3,7 +3,7 @@ ghost use Rattle.std.specs.Prelude.{◌≡◌, ◌≤◌, ◌<◌, ◌^◌, ◌+
 ghost use Rattle.mr_certform.specs.Flat.{told, nothing_told};
 ghost use Rattle.mr_certform.specs.Value.{names_of};
 
-use crate::groups::Partitions;
+use crate::groups::PartitionIter;
 use crate::item::Item;
 use mr_bytes::{Name, RecordName};
 use std::alloc::{AllocError, Global};
@@ -12,7 +12,7 @@ use std::marker::Model;
 /// A certificate's values one behind another, as its items tell them: the groups lie flat, as all names, with the
 /// number of groups of each partition and the number of entries of each group.
 #[derive(Drop)]
-pub(crate) struct Flat {
+pub(crate) struct CertificateColumns {
     pub job: u32,
     pub flags: u32,
     pub literal: Vec<u8>,
@@ -25,7 +25,7 @@ pub(crate) struct Flat {
     pub names: Vec<Name>,
 }
 
-impl Model for Flat {
+impl Model for CertificateColumns {
     ghost use Rattle.mr_certform.specs.Flat.{Told};
 
     ghost Value = { Told };
@@ -44,12 +44,12 @@ impl Model for Flat {
     } };
 }
 
-impl Flat {
+impl CertificateColumns {
     /// Before any item.
-    pub fn new(alloc: Global) -> Flat
+    pub fn new(alloc: Global) -> CertificateColumns
         ensures { result ≡ nothing_told }
     {
-        Flat {
+        CertificateColumns {
             job: 0,
             flags: 0,
             literal: Vec::new(alloc),
@@ -84,7 +84,7 @@ impl Flat {
     }
 }
 
-impl Flat {
+impl CertificateColumns {
     /// One more group of these names.
     pub fn push_names(&mut self, names: &[Name]) -> Result<(), AllocError>
         requires { length names.now < 2 ^ 32 }
@@ -115,7 +115,7 @@ impl Flat {
 /// each file, the left-out records, and for each partition its groups, each as the names of its entries.
 #[derive(Drop)]
 pub struct Certificate {
-    pub(crate) flat: Flat,
+    pub(crate) flat: CertificateColumns,
 }
 
 impl Model for Certificate {
@@ -200,10 +200,10 @@ impl Certificate {
     }
 
     /// The groups of each partition, to be read in order.
-    pub fn partitions(&self) -> Partitions<'_>
+    pub fn partitions(&self) -> PartitionIter<'_>
         ensures { result ≡ self.now.groups }
     {
-        Partitions {
+        PartitionIter {
             group_counts: &self.flat.group_counts,
             entry_counts: &self.flat.entry_counts,
             names: &self.flat.names,

@@ -5,9 +5,9 @@ ghost use Rattle.mr_certform.specs.Numbers.{has_number, numbered};
 ghost use Rattle.mr_certform.specs.Places.{onward};
 ghost use Rattle.mr_certform.specs.Spelling.{standing, entry_at, name_at, of_bytes, skip_at, entry_of as entry_for};
 
+use crate::grammar_state::{GrammarState, entries_to_come};
 use crate::item::Item;
 use crate::number::{number_of_eight, number_of_four};
-use crate::place::{Place, entries_to_come};
 use crate::short::short_name_of;
 use crate::version::Version;
 use mr_bytes::{Name, RecordName};
@@ -43,7 +43,7 @@ fn eight(bytes: &[u8]) -> Option<(u64, &[u8])>
 
 /// The magic of the version, and the bytes behind it.
 fn magic_of(version: Version, bytes: &[u8]) -> Option<(Item, &[u8])>
-    ensures read { MatchOption result (standing version Place.AtMagic bytes.now ≡ None) (λ r. standing version Place.AtMagic bytes.now ≡ Some (record { item = r.0; rest = r.1.now })) }
+    ensures read { MatchOption result (standing version GrammarState.AtMagic bytes.now ≡ None) (λ r. standing version GrammarState.AtMagic bytes.now ≡ Some (record { item = r.0; rest = r.1.now })) }
     ensures shorter { IfSome result (λ r. length r.1.now ≤ length bytes.now) }
 {
     if bytes.len() < 8 {
@@ -109,25 +109,25 @@ fn entry_of(version: Version, before: Name, bytes: &[u8]) -> Option<(Item, &[u8]
 }
 
 /// The item that a number is at a place where one of four bytes stands, if it may stand there.
-fn number_item(place: Place, n: u32) -> Option<Item>
+fn number_item(place: GrammarState, n: u32) -> Option<Item>
     ensures { result ≡ numbered place n }
 {
     match place {
-        Place::AtJob => Some(Item::Job(n)),
-        Place::AtFlags => Some(Item::Flags(n)),
-        Place::AtLiteralLength => (n <= 4096).then_some(Item::LiteralLength(n)),
-        Place::AtParts => (1 <= n && n <= 1024).then_some(Item::Parts(n)),
-        Place::AtSplitSize { .. } => Some(Item::SplitSize(n)),
-        Place::AtFiles { .. } => (n <= 1024).then_some(Item::Files(n)),
-        Place::AtSkips { .. } => Some(Item::Skips(n)),
-        Place::AtGroups { .. } => Some(Item::Groups(n)),
-        Place::AtEntries { .. } => (1 <= n).then_some(Item::Entries(n)),
+        GrammarState::AtJob => Some(Item::Job(n)),
+        GrammarState::AtFlags => Some(Item::Flags(n)),
+        GrammarState::AtLiteralLength => (n <= 4096).then_some(Item::LiteralLength(n)),
+        GrammarState::AtParts => (1 <= n && n <= 1024).then_some(Item::Parts(n)),
+        GrammarState::AtSplitSize { .. } => Some(Item::SplitSize(n)),
+        GrammarState::AtFiles { .. } => (n <= 1024).then_some(Item::Files(n)),
+        GrammarState::AtSkips { .. } => Some(Item::Skips(n)),
+        GrammarState::AtGroups { .. } => Some(Item::Groups(n)),
+        GrammarState::AtEntries { .. } => (1 <= n).then_some(Item::Entries(n)),
         _ => None,
     }
 }
 
 /// The item of a number of four bytes, at a place where one stands, and the bytes behind it.
-fn number_of(version: Version, place: Place, bytes: &[u8]) -> Option<(Item, &[u8])>
+fn number_of(version: Version, place: GrammarState, bytes: &[u8]) -> Option<(Item, &[u8])>
     requires { has_number place ≡ true }
     ensures read { MatchOption result (standing version place bytes.now ≡ None) (λ r. standing version place bytes.now ≡ Some (record { item = r.0; rest = r.1.now })) }
     ensures shorter { IfSome result (λ r. length r.1.now ≤ length bytes.now) }
@@ -138,24 +138,24 @@ fn number_of(version: Version, place: Place, bytes: &[u8]) -> Option<(Item, &[u8
 }
 
 /// The item that stands at the front of the bytes, and the bytes behind it.
-pub fn front_of(version: Version, place: Place, bytes: &[u8]) -> Option<(Item, &[u8])>
+pub fn read_item(version: Version, place: GrammarState, bytes: &[u8]) -> Option<(Item, &[u8])>
     ensures read { MatchOption result (standing version place bytes.now ≡ None) (λ r. standing version place bytes.now ≡ Some (record { item = r.0; rest = r.1.now })) }
     ensures shorter { IfSome result (λ r. length r.1.now ≤ length bytes.now) }
 {
     match place {
-        Place::AtMagic => magic_of(version, bytes),
-        Place::AtLiteralByte { .. } => {
+        GrammarState::AtMagic => magic_of(version, bytes),
+        GrammarState::AtLiteralByte { .. } => {
             let (byte, rest) = bytes.split_first()?;
             Some((Item::LiteralByte(*byte), rest))
         }
-        Place::AtFileLength { .. } => {
+        GrammarState::AtFileLength { .. } => {
             let (n, rest) = eight(bytes)?;
             Some((Item::FileLength(n), rest))
         }
-        Place::AtSkip { .. } => skip_of(bytes),
-        Place::AtEntry { before, .. } => entry_of(version, before, bytes),
-        Place::AtEnd => bytes.is_empty().then_some((Item::End, bytes)),
-        Place::Behind => None,
+        GrammarState::AtSkip { .. } => skip_of(bytes),
+        GrammarState::AtEntry { before, .. } => entry_of(version, before, bytes),
+        GrammarState::AtEnd => bytes.is_empty().then_some((Item::End, bytes)),
+        GrammarState::Behind => None,
         _ => number_of(version, place, bytes),
     }
 }
@@ -163,12 +163,16 @@ pub fn front_of(version: Version, place: Place, bytes: &[u8]) -> Option<(Item, &
 /// The item that stands at the front of the bytes, the bytes behind it, and the place there; behind `End` the place is the
 /// same. Nearly all items are entries, so these come first and by themselves: a walk costs a few steps for each.
 #[inline(always)]
-pub(crate) fn step_of(version: Version, place: Place, bytes: &[u8]) -> Option<(Item, &[u8], Place)>
+pub(crate) fn step_of(
+    version: Version,
+    place: GrammarState,
+    bytes: &[u8],
+) -> Option<(Item, &[u8], GrammarState)>
     ensures read { MatchOption result (standing version place bytes.now ≡ None) (λ r. standing version place bytes.now ≡ Some (record { item = r.0; rest = r.1.now })) }
     ensures shorter { IfSome result (λ r. length r.1.now ≤ length bytes.now) }
     ensures place { IfSome result (λ r. r.2 ≡ onward place r.0) }
 {
-    if let Place::AtEntry {
+    if let GrammarState::AtEntry {
         parts,
         groups,
         more,
@@ -179,7 +183,7 @@ pub(crate) fn step_of(version: Version, place: Place, bytes: &[u8]) -> Option<(I
         let behind = entries_to_come(parts, groups, more, name);
         return Some((Item::Entry(name), rest, behind));
     }
-    let (item, rest) = front_of(version, place, bytes)?;
+    let (item, rest) = read_item(version, place, bytes)?;
     let behind = match item {
         Item::End => place,
         _ => place.behind(item),

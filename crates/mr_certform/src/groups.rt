@@ -7,13 +7,13 @@ use std::marker::Model;
 
 /// The groups of each partition that is still to be read, in order.
 #[derive(Drop)]
-pub struct Partitions<'a> {
+pub struct PartitionIter<'a> {
     pub(crate) group_counts: &'a [u32],
     pub(crate) entry_counts: &'a [u32],
     pub(crate) names: &'a [Name],
 }
 
-impl<'a> Model for Partitions<'a> {
+impl<'a> Model for PartitionIter<'a> {
     ghost use Rattle.std.specs.Prelude.{List, ◌≡◌, ◌≤◌, length};
     ghost use Rattle.mr_bytes.specs.declared.Name.{Name};
     ghost use Rattle.mr_certform.specs.Flat.{chunks, total};
@@ -30,12 +30,12 @@ impl<'a> Model for Partitions<'a> {
 
 /// The groups of one partition that are still to be read, in order.
 #[derive(Drop)]
-pub struct Groups<'a> {
+pub struct GroupIter<'a> {
     entry_counts: &'a [u32],
     names: &'a [Name],
 }
 
-impl<'a> Model for Groups<'a> {
+impl<'a> Model for GroupIter<'a> {
     ghost use Rattle.std.specs.Prelude.{List, ◌≡◌, ◌≤◌, length};
     ghost use Rattle.mr_bytes.specs.declared.Name.{Name};
     ghost use Rattle.mr_certform.specs.Flat.{chunks, total};
@@ -47,7 +47,7 @@ impl<'a> Model for Groups<'a> {
     ghost invariant = { λ a. total a.entry_counts.now ≤ length a.names.now };
 }
 
-impl<'a> Groups<'a> {
+impl<'a> GroupIter<'a> {
     /// The names of the next group.
     pub fn next_group(&mut self) -> Option<&'a [Name]>
         ensures { MatchOption result ((self.old ≡ []) × (self.new ≡ [])) (λ g. self.old ≡ g.now ∷ self.new) }
@@ -72,9 +72,9 @@ fn sum_of(counts: &[u32], most: usize) -> usize
     sum
 }
 
-impl<'a> Partitions<'a> {
+impl<'a> PartitionIter<'a> {
     /// The groups of the next partition.
-    pub fn next_partition(&mut self) -> Option<Groups<'a>>
+    pub fn next_partition(&mut self) -> Option<GroupIter<'a>>
         ensures { MatchOption result ((self.old ≡ []) × (self.new ≡ [])) (λ gs. self.old ≡ gs ∷ self.new) }
     {
         let (count, counts) = self.group_counts.split_first()?;
@@ -84,7 +84,7 @@ impl<'a> Partitions<'a> {
         self.group_counts = counts;
         self.entry_counts = more_counts;
         self.names = more_names;
-        Some(Groups {
+        Some(GroupIter {
             entry_counts,
             names,
         })

@@ -7,7 +7,7 @@ ghost use Rattle.mr_certform.specs.Pieces.{SpellsSoFar};
 ghost use Rattle.mr_certform.specs.Value.{Contents, CanSpell};
 
 use crate::building::Header;
-use crate::certificate::Flat;
+use crate::certificate::CertificateColumns;
 use crate::version::Version;
 use crate::writing::{
     counts_fit, numbers_fit, put_groups, put_input, put_job, put_left_out, put_number, size_of,
@@ -17,7 +17,7 @@ use std::alloc::{AllocError, Global};
 
 /// The bytes of what stands in front of the partitions of a certificate, of which there are so many, with room for so many
 /// bytes behind them.
-pub fn write_front(
+pub fn write_header(
     alloc: Global,
     version: Version,
     header: Header,
@@ -47,7 +47,7 @@ pub fn write_front(
         lengths,
         skips,
     } = header;
-    let flat = Flat {
+    let flat = CertificateColumns {
         job,
         flags,
         literal,
@@ -77,7 +77,7 @@ fn bytes_of_name(version: Version) -> usize {
 
 /// How many bytes a partition of so many groups and names is spelled in, in version 2 about so many; no more than can be
 /// counted.
-pub fn size_of_partition(version: Version, groups: usize, names: usize) -> usize {
+pub fn partition_size_hint(version: Version, groups: usize, names: usize) -> usize {
     (names.saturating_mul(bytes_of_name(version)))
         .saturating_add(groups.saturating_mul(4))
         .saturating_add(4)

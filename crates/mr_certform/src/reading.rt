@@ -6,7 +6,7 @@ ghost use Rattle.mr_certform.specs.Value.{Spells};
 ghost use Rattle.mr_certform.specs.Flat.{Told, told_by, nothing_told, contents_of, IsWhole};
 ghost use Rattle.mr_certform.specs.Reading.{IsReadFault, IsHalted};
 
-use crate::certificate::{Certificate, Flat};
+use crate::certificate::{Certificate, CertificateColumns};
 use crate::item::{Item, Malformed};
 use crate::walker::Walker;
 use std::alloc::{AllocError, Global};
@@ -43,13 +43,13 @@ impl From<AllocError> for ReadFault {
 }
 
 /// All that the items of the bytes tell.
-fn told_values(alloc: Global, bytes: &[u8]) -> Result<Flat, ReadFault>
+fn told_values(alloc: Global, bytes: &[u8]) -> Result<CertificateColumns, ReadFault>
     ensures { MatchResult result
         (λ t. (is_ended (items_of bytes.now) ≡ true) × (t ≡ told_by nothing_told (items_of bytes.now)))
         (λ e. IsHalted bytes.now e) }
 {
     let mut walker = Walker::new(bytes);
-    let mut flat = Flat::new(alloc);
+    let mut flat = CertificateColumns::new(alloc);
     loop {
         let item = walker.next()?;
         if let Item::End = item {
@@ -60,7 +60,7 @@ fn told_values(alloc: Global, bytes: &[u8]) -> Result<Flat, ReadFault>
 }
 
 /// The certificate whose values these are.
-fn of_values(flat: Flat) -> Certificate
+fn of_values(flat: CertificateColumns) -> Certificate
     requires { IsWhole flat }
     ensures { result ≡ contents_of flat }
 {

@@ -2,15 +2,15 @@
 ghost use Rattle.std.specs.Prelude.{◌≡◌, ◌⊎◌, ℕ, ◌≤◌, ◌<◌, ◌+◌, ◌-◌, ◌^◌, [], List, Some, None, IfOk, OnOk, IfErr, IfSome, OnErr, MatchResult, true, length};
 ghost use Rattle.mr_store.specs.Devices.{Counts, FailsOnly};
 ghost use Rattle.mr_certform.specs.declared.item.Item.{Item as Read};
-ghost use Rattle.mr_certform.specs.declared.place.Place.TheVariants.{AtMagic};
+ghost use Rattle.mr_certform.specs.declared.grammar_state.GrammarState.TheVariants.{AtMagic};
 ghost use Rattle.mr_certform.specs.Places.{onward};
 ghost use Rattle.mr_certform.specs.Spelling.{items_of, stop, bytes_at};
 ghost use Rattle.mr_certform.specs.Streaming.{stream, MayCome, IsToCome, version_at, Gives, Told, Counted};
 
 use crate::front::step_of;
+use crate::grammar_state::GrammarState;
 use crate::held::Held;
 use crate::item::Item;
-use crate::place::Place;
 use crate::version::{Version, version_of};
 use mr_store::{CountedRead, Device};
 use std::alloc::{AllocError, Global};
@@ -48,7 +48,7 @@ pub struct StreamWalker<R: CountedRead + Drop> {
     held: Held,
     /// That of the bytes, once their magic was told.
     version: Version,
-    place: Place,
+    place: GrammarState,
     passed: u64,
     exhausted: bool,
     fault: Option<StreamFault>,
@@ -68,7 +68,7 @@ impl<R: CountedRead + Drop> StreamWalker<R> {
             reader,
             held,
             version: Version::V1,
-            place: Place::AtMagic,
+            place: GrammarState::AtMagic,
             passed: 0,
             exhausted: false,
             fault: None,
@@ -118,7 +118,7 @@ impl<R: CountedRead + Drop> StreamWalker<R> {
         ensures { result ≡ version_at self.now.version self.now.place self.now.held }
     {
         match self.place {
-            Place::AtMagic => version_of(self.held.bytes()),
+            GrammarState::AtMagic => version_of(self.held.bytes()),
             _ => self.version,
         }
     }

@@ -6,7 +6,7 @@ ghost use Rattle.mr_certform.specs.Places.{first_name};
 ghost use Rattle.mr_certform.specs.Spelling.{version_of};
 ghost use Rattle.mr_certform.specs.Value.{CanRow, CanSpell};
 
-use crate::certificate::{Certificate, Flat};
+use crate::certificate::{Certificate, CertificateColumns};
 use crate::short::is_at_least;
 use mr_bytes::Name;
 use std::marker::Model;
@@ -54,12 +54,12 @@ pub(crate) fn version_of(bytes: &[u8]) -> Version
 
 /// A certificate in a version that can spell it.
 #[derive(Drop)]
-pub struct InVersion<'a> {
+pub struct VersionedCertificate<'a> {
     certificate: &'a Certificate,
     version: Version,
 }
 
-impl<'a> Model for InVersion<'a> {
+impl<'a> Model for VersionedCertificate<'a> {
     ghost use Rattle.std.specs.List.{AllByRecursion};
     ghost use Rattle.mr_certform.specs.Value.{Versioned, CanSpell};
 
@@ -70,7 +70,7 @@ impl<'a> Model for InVersion<'a> {
     ghost invariant = { λ s. AllByRecursion (CanSpell s.version) s.certificate.now.groups };
 }
 
-impl<'a> InVersion<'a> {
+impl<'a> VersionedCertificate<'a> {
     /// The version.
     pub fn version(&self) -> Version
         ensures { result ≡ self.now.version }
@@ -79,7 +79,7 @@ impl<'a> InVersion<'a> {
     }
 
     /// The certificate's values.
-    pub(crate) fn flat(&self) -> &'a Flat
+    pub(crate) fn flat(&self) -> &'a CertificateColumns
         ensures whole { IsWhole result.now }
         ensures is { contents_of result.now ≡ self.now.certificate }
         ensures can { CanSpell self.now.version (chunks result.now.entry_counts result.now.names) }
@@ -92,13 +92,13 @@ impl<'a> InVersion<'a> {
 impl Certificate {
     /// The certificate in this version, or none where the version can't spell it: version 2 spells none in which a name is
     /// less than the one before it in its group.
-    pub fn in_version(&self, version: Version) -> Option<InVersion<'_>>
+    pub fn in_version(&self, version: Version) -> Option<VersionedCertificate<'_>>
         ensures { MatchOption result (AllByRecursion (CanSpell version) self.now.groups → ⊥) (λ s. s ≡ record { version = version; certificate = self.now }) }
     {
         if !can_spell(version, &self.flat) {
             return None;
         }
-        Some(InVersion {
+        Some(VersionedCertificate {
             certificate: self,
             version,
         })
@@ -106,7 +106,7 @@ impl Certificate {
 }
 
 /// Whether the version can spell the groups of these values.
-fn can_spell(version: Version, flat: &Flat) -> bool
+fn can_spell(version: Version, flat: &CertificateColumns) -> bool
     requires { IsWhole flat.now }
     ensures { IsTrue result ↔ CanSpell version (chunks flat.now.entry_counts flat.now.names) }
 {

@@ -2,13 +2,13 @@
 ghost use Rattle.std.specs.Prelude.{◌≡◌, ◌≤◌, ◌-◌, ◌+◌, ◌∷◌, [], Some, None, MatchResult, length, ◌*◌, drop};
 ghost use Rattle.mr_certform.specs.Places.{onward};
 ghost use Rattle.mr_certform.specs.Spelling.{standing, items_from, items_of, stop, left_behind};
-ghost use Rattle.mr_certform.specs.declared.place.Place.TheVariants.{AtEntry};
+ghost use Rattle.mr_certform.specs.declared.grammar_state.GrammarState.TheVariants.{AtEntry};
 ghost use Rattle.mr_certform.specs.declared.version.Version.TheVariants.{V2};
 ghost use Rattle.mr_certform.specs.Rows.{entries_ahead, behind_entries, items_size};
 
 use crate::front::step_of;
+use crate::grammar_state::{GrammarState, groups_to_come};
 use crate::item::{Item, Malformed};
-use crate::place::{Place, groups_to_come};
 use crate::short::short_name_of;
 use crate::version::{Version, version_of};
 use mr_bytes::Name;
@@ -30,7 +30,7 @@ fn behind_names(
     groups: u32,
     more: u32,
     before: Name,
-) -> (u64, &[u8], Place)
+) -> (u64, &[u8], GrammarState)
     ensures count { result.0 ≡ entries_ahead (items_from V2 (AtEntry parts groups more before) bytes.entry.now) }
     ensures items { items_from V2 (result.2) (result.1.now) ≡ behind_entries (items_from V2 (AtEntry parts groups more before) bytes.entry.now) }
     ensures shorter { length result.1.now ≤ length bytes.entry.now }
@@ -50,7 +50,7 @@ fn behind_names(
         left -= 1;
         last = name;
     }
-    let place = Place::AtEntry {
+    let place = GrammarState::AtEntry {
         parts,
         groups,
         more: left,
@@ -63,7 +63,7 @@ fn behind_names(
 #[derive(Clone, Copy)]
 pub struct Walker<'a> {
     version: Version,
-    place: Place,
+    place: GrammarState,
     whole: u64,
     rest: &'a [u8],
     ghost in_range: { length rest.now ≤ whole },
@@ -79,7 +79,7 @@ impl<'a> Walker<'a> {
     {
         Walker {
             version: version_of(bytes),
-            place: Place::AtMagic,
+            place: GrammarState::AtMagic,
             whole: bytes.len() as u64,
             rest: bytes,
         }
@@ -123,7 +123,7 @@ impl<'a> Walker<'a> {
 
     /// Passes over the entries that stand next in their group: how many these are. It stands then where so many calls of
     /// `next` would have left it. In version 1 no entry is looked at.
-    pub fn pass_entries(&mut self) -> u64
+    pub fn skip_entries(&mut self) -> u64
         ensures count { result ≡ entries_ahead (items_left self.old) }
         ensures items { items_left self.new ≡ behind_entries (items_left self.old) }
         ensures stop { halt self.new ≡ halt self.old }
@@ -141,7 +141,7 @@ impl<'a> Walker<'a> {
         ensures items { items_left self.new ≡ behind_entries (items_left self.old) }
         ensures stop { halt self.new ≡ halt self.old }
     {
-        let Place::AtEntry {
+        let GrammarState::AtEntry {
             parts,
             groups,
             more,
@@ -163,7 +163,7 @@ impl<'a> Walker<'a> {
         ensures items { items_left self.new ≡ behind_entries (items_left self.old) }
         ensures stop { halt self.new ≡ halt self.old }
     {
-        let Place::AtEntry {
+        let GrammarState::AtEntry {
             parts,
             groups,
             more,
@@ -180,7 +180,7 @@ impl<'a> Walker<'a> {
             return awaited;
         }
         self.rest = behind_row(self.rest, held);
-        self.place = Place::AtEntry {
+        self.place = GrammarState::AtEntry {
             parts,
             groups,
             more: more - held as u32,

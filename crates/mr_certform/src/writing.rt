@@ -7,7 +7,7 @@ ghost use Rattle.mr_certform.specs.Value.{NameFits, SkipFits, CanFollow, CanRow,
 ghost use Rattle.mr_certform.specs.Flat.{total, chunks, contents_of, IsWhole, HasNumbers, HasNames};
 ghost use Rattle.mr_certform.specs.Pieces.{names_bytes, group_bytes, part_bytes, job_bytes, all_bytes};
 
-use crate::certificate::{Certificate, Flat};
+use crate::certificate::{Certificate, CertificateColumns};
 use crate::short::short_name;
 use crate::sink::Sink;
 use crate::version::Version;
@@ -166,7 +166,11 @@ fn put_magic<O: Sink>(out: &mut O, version: Version) -> Result<(), O::Fault>
 }
 
 /// The magic and the job, up to the bytes of a split.
-pub(crate) fn put_job<O: Sink>(out: &mut O, version: Version, flat: &Flat) -> Result<(), O::Fault>
+pub(crate) fn put_job<O: Sink>(
+    out: &mut O,
+    version: Version,
+    flat: &CertificateColumns,
+) -> Result<(), O::Fault>
     requires { length flat.now.literal < 2 ^ 32 }
     ensures { OnOk result (O.takes out.old out.new (job_bytes version (contents_of flat.now))) }
 {
@@ -198,7 +202,7 @@ pub(crate) fn put_left_out<O: Sink>(out: &mut O, skips: &[RecordName]) -> Result
 }
 
 /// How many bytes the spelling has; no more than can be counted.
-pub(crate) fn size_of(flat: &Flat) -> usize {
+pub(crate) fn size_of(flat: &CertificateColumns) -> usize {
     let names = flat.names.len().saturating_mul(12);
     let counts = (flat
         .entry_counts
@@ -217,7 +221,7 @@ pub(crate) fn size_of(flat: &Flat) -> usize {
 pub(crate) fn put_values<O: Sink>(
     out: &mut O,
     version: Version,
-    flat: &Flat,
+    flat: &CertificateColumns,
 ) -> Result<(), O::Fault>
     requires whole { IsWhole flat.now }
     requires can { CanSpell version (chunks flat.now.entry_counts flat.now.names) }
@@ -236,7 +240,11 @@ pub(crate) fn put_values<O: Sink>(
 }
 
 /// The spelling of these values in one list. In version 1 it is made at its whole size at once; in version 2 it grows.
-fn spelled_values(alloc: Global, version: Version, flat: &Flat) -> Result<Vec<u8>, AllocError>
+fn spelled_values(
+    alloc: Global,
+    version: Version,
+    flat: &CertificateColumns,
+) -> Result<Vec<u8>, AllocError>
     requires whole { IsWhole flat.now }
     requires can { CanSpell version (chunks flat.now.entry_counts flat.now.names) }
     ensures { IfOk result (λ v. (v.items ≡ all_bytes version (contents_of flat.now)) × HasNames flat.now) }
@@ -269,7 +277,7 @@ fn lengths_fit(lengths: &[u64])
 }
 
 /// Each number fits the bytes of its type. This does nothing when it runs.
-pub(crate) fn numbers_fit(flat: &Flat)
+pub(crate) fn numbers_fit(flat: &CertificateColumns)
     ensures { HasNumbers flat.now }
 {
     let _job = flat.job;

@@ -7,17 +7,17 @@ ghost use Rattle.mr_certform.specs.Value.{NameFits, SkipFits, CanSpell, SpellsIn
 ghost use Rattle.std.specs.List.{AllByRecursion};
 
 use crate::buffered::Buffered;
-use crate::certificate::Flat;
-use crate::version::{InVersion, Version};
+use crate::certificate::CertificateColumns;
+use crate::version::{Version, VersionedCertificate};
 use crate::writing::{numbers_fit, put_values};
 use mr_bytes::{Name, RecordName};
-use mr_store::{CountedWrite, Device, Spelled};
+use mr_store::{CountedWrite, Device, Encode};
 
 /// Writes all the bytes that spell these values, by a buffer that holds none.
 fn write_values<W: CountedWrite>(
     buffered: &mut Buffered<'_, W>,
     version: Version,
-    flat: &Flat,
+    flat: &CertificateColumns,
 ) -> Result<(), Device>
     requires whole { IsWhole flat.now }
     requires can { CanSpell version (chunks flat.now.entry_counts flat.now.names) }
@@ -35,10 +35,10 @@ fn write_values<W: CountedWrite>(
     }
 }
 
-impl<'a> Spelled for InVersion<'a> {
+impl<'a> Encode for VersionedCertificate<'a> {
     ghost text = { versioned_bytes };
 
-    fn write_onto<W: CountedWrite>(&self, writer: &mut W) -> Result<(), Device> {
+    fn encode_to<W: CountedWrite>(&self, writer: &mut W) -> Result<(), Device> {
         let mut buffered = Buffered::new(writer);
         write_values(&mut buffered, self.version(), self.flat())
     }
@@ -76,7 +76,7 @@ fn skips_fit(skips: &[RecordName])
 }
 
 /// The bytes that a certificate is written as spell it. This does nothing when it runs: its loops have nothing to do.
-pub fn text_law(spelled: &InVersion<'_>)
+pub fn text_law(spelled: &VersionedCertificate<'_>)
     ensures { SpellsIn spelled.now.version (versioned_bytes spelled.now) spelled.now.certificate }
 {
     let flat = spelled.flat();

@@ -3,8 +3,8 @@ use Rattle.std.proofs.Common.{◌≡◌, ℕ, zero, suc, ◌+◌, ◌<◌, ◌�
 use Rattle.std.proofs.lemmas.Bool.{false≢true}
 use Rattle.mr_certform.specs.declared.item.Item.{Item}
 use Rattle.mr_certform.specs.declared.item.Item.TheVariants.{Groups, Entries, Entry, End}
-use Rattle.mr_certform.specs.declared.place.Place.{Place}
-use Rattle.mr_certform.specs.declared.place.Place.TheVariants.{AtGroups, AtEntries, AtEntry, AtEnd, Behind}
+use Rattle.mr_certform.specs.declared.grammar_state.GrammarState.{GrammarState}
+use Rattle.mr_certform.specs.declared.grammar_state.GrammarState.TheVariants.{AtGroups, AtEntries, AtEntry, AtEnd, Behind}
 use Rattle.mr_certform.specs.Places.{partitions, groups, entries, first_name}
 use Rattle.mr_bytes.specs.declared.Name.{Name}
 use Rattle.mr_certform.specs.Grammar.{InOrder}
@@ -92,14 +92,14 @@ last_parts fs is js parts e none h =
 -- ---- how many there are
 
 -- how many partitions may come at a place
-abbrev most : Place → ℕ
+abbrev most : GrammarState → ℕ
 most (AtGroups r) = r + 1
 most (AtEntries r g) = r
 most (AtEntry r g n before) = r
 most _ = 0
 
 -- no partition comes before it
-abbrev Late : Place → Type 0
+abbrev Late : GrammarState → Type 0
 Late (AtGroups r) = Unit {0}
 Late (AtEntries r g) = Unit {0}
 Late (AtEntry r g n before) = Unit {0}
@@ -119,7 +119,7 @@ late_entries : (r g n : ℕ) (before : Name) → Late (entries r g n before) × 
 late_entries r g zero before = late_groups r g
 late_entries r g (suc n) before = (tt, omega arith)
 
-few_from : (p : Place) (is : List Item) → Late p → InOrder p is → length (parts_in is) ≤ most p
+few_from : (p : GrammarState) (is : List Item) → Late p → InOrder p is → length (parts_in is) ≤ most p
 few_from p [] l h = omega arith
 few_from (AtGroups r) (Groups n ∷ is) l h = let d = late_groups r n in omega (arith, few_from (groups r n) is d.0 h.1, d.1)
 few_from (AtGroups r) (i ∷ is) l h = absurd (h.0)

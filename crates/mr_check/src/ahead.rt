@@ -4,7 +4,7 @@ ghost use Rattle.mr_index.specs.Index.{triples_of};
 ghost use Rattle.mr_check.specs.Ahead.{IsMappedFor};
 
 use crate::mapping::{Crew, Mapped, Source, index_of};
-use mr_bytes::{Gate, Watch};
+use mr_bytes::{Gate, Progress};
 use mr_jobs::Request;
 use mr_splits::Plan;
 use std::alloc::{AllocError, Global};
@@ -48,7 +48,7 @@ impl<'a> MappedInput<'a> {
 }
 
 /// What a request's job emits over a plan, with no record left out.
-fn mapped_whole<R: Threads + Sync, G: Gate, W: Watch>(
+fn mapped_whole<R: Threads + Sync, G: Gate, W: Progress>(
     rt: &R,
     alloc: Global,
     crew: &Crew<'_, G, W>,
@@ -73,7 +73,7 @@ fn mapped_whole<R: Threads + Sync, G: Gate, W: Watch>(
 
 /// Maps the input of this plan by so many threads, from 1 to 64, as `check_gated_watched` does: each thread passes the gate
 /// round each piece of work that it draws, and the watch is told of it.
-pub fn map_input<'a, R: Threads + Sync, G: Gate, W: Watch>(
+pub fn map_input<'a, R: Threads + Sync, G: Gate, W: Progress>(
     rt: &R,
     alloc: Global,
     request: &Request,

@@ -20,7 +20,7 @@ use crate::fronts::is_opening;
 use crate::section::{Judged, Outcome};
 use mr_certform::{Item, Walker};
 use mr_index::Meter;
-use mr_judge::{AtHand, Block, Border, FoundItem, Progress, read_block};
+use mr_judge::{AtHand, Block, Border, FoundItem, JudgeState, read_block};
 use mr_verdict::{No, Stop, is_same_fault};
 use std::alloc::{AllocError, Global};
 
@@ -34,7 +34,7 @@ fn is_own(item: Item) -> bool
 
 /// All tests of a row's item, over outputs at hand.
 fn step_at_hand<'a>(
-    judging: &mut Progress<'a>,
+    judging: &mut JudgeState<'a>,
     facts: &Facts<'a>,
     outputs: &mut AtHand<'_>,
     row: &FoundItem<'a>,
@@ -59,7 +59,7 @@ fn step_at_hand<'a>(
 
 /// Judges the item that opens a partition, where one opens here.
 fn open_part<'a>(
-    judging: &mut Progress<'a>,
+    judging: &mut JudgeState<'a>,
     facts: &Facts<'a>,
     outputs: &mut AtHand<'_>,
     walker: &mut Walker<'_>,
@@ -85,7 +85,7 @@ fn open_part<'a>(
 /// Judges rows in turn, up to the next partition: whether the open one ends among them, or its first fault.
 #[inline(never)]
 fn judge_own<'a>(
-    judging: &mut Progress<'a>,
+    judging: &mut JudgeState<'a>,
     facts: &Facts<'a>,
     outputs: &mut AtHand<'_>,
     rows: &[FoundItem<'a>],
@@ -148,7 +148,7 @@ fn read_more(walker: &mut Walker<'_>, items: &mut Vec<Item>) -> Result<bool, All
 /// fault. Their names are looked up a block of them ahead of the tests.
 fn judge_stretch<'a>(
     facts: &Facts<'a>,
-    judging: &mut Progress<'a>,
+    judging: &mut JudgeState<'a>,
     outputs: &mut AtHand<'_>,
     walker: &mut Walker<'_>,
     block: &mut Block<'a>,
@@ -185,7 +185,7 @@ fn judge_stretch<'a>(
 fn judge_on<'a>(
     alloc: Global,
     facts: &Facts<'a>,
-    judging: &mut Progress<'a>,
+    judging: &mut JudgeState<'a>,
     outputs: &mut AtHand<'_>,
     walker: &mut Walker<'_>,
     count: u64,
@@ -220,7 +220,7 @@ fn judge_section<'a>(
 {
     let mut walker = section.walker;
     let mut outputs = facts.outputs_at(began.next, began.from);
-    let mut judging = Progress::at(alloc, began);
+    let mut judging = JudgeState::at(alloc, began);
     if section.at != 0 {
         return judge_on(alloc, facts, &mut judging, &mut outputs, &mut walker, count);
     }

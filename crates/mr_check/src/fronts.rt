@@ -63,7 +63,7 @@ impl Reach {
     }
 
     /// So many entries were passed.
-    fn pass_entries(&mut self, passed: u64)
+    fn skip_entries(&mut self, passed: u64)
         requires { (self.old.items + passed < 2 ^ 64) × (self.old.entries ≤ self.old.items) × (self.old.fresh ≤ self.old.items) }
         ensures { self.new
             ≡ record self.old { items = self.old.items + passed; entries = self.old.entries + passed; fresh = self.old.fresh + passed } }
@@ -219,9 +219,9 @@ pub(crate) fn fronts_of<'a>(alloc: Global, walker: &Walker<'a>) -> Result<Fronts
     let mut reach = Reach::before(0);
     let mut entries = 0u64;
     loop {
-        let passed = here.pass_entries();
+        let passed = here.skip_entries();
         entries += passed;
-        reach.pass_entries(passed);
+        reach.skip_entries(passed);
         let before = here;
         let item = match here.next() {
             Ok(item) => item,

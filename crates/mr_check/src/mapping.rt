@@ -3,10 +3,10 @@ ghost use Rattle.std.specs.Prelude.{◌≡◌, ◌<◌, ◌≤◌, ◌+◌, ◌*
 ghost use Rattle.mr_input.specs.Files.{split_total};
 ghost use Rattle.mr_index.specs.Index.{triples_in, triples_of};
 
-use mr_bytes::{Gate, Phase, RecordName, Watch};
+use mr_bytes::{Gate, Phase, Progress, RecordName};
 use mr_index::{DividedSplit, EmissionIndex, Part, Piece};
 use mr_jobs::Job;
-use mr_splits::{Kept, Plan};
+use mr_splits::{KeptPlan, Plan};
 use mr_tickets::{Pieces, draw_all};
 use std::alloc::{AllocError, Global};
 use std::thread::Threads;
@@ -16,7 +16,7 @@ const PIECE_BYTES: u32 = 65_536;
 
 /// How many threads judge, the gate that they pass, and who looks on.
 #[derive(Drop)]
-pub(crate) struct Crew<'a, G: Gate, W: Watch> {
+pub(crate) struct Crew<'a, G: Gate, W: Progress> {
     pub threads: u32,
     pub gate: &'a G,
     pub watch: &'a W,
@@ -50,14 +50,14 @@ struct Shares {
 
 /// The first splits of a plan, to be mapped each by itself.
 #[derive(Drop)]
-struct Mapping<'a, W: Watch> {
-    kept: &'a Kept<'a>,
+struct Mapping<'a, W: Progress> {
+    kept: &'a KeptPlan<'a>,
     job: &'a Job,
     all: u64,
     watch: &'a W,
 }
 
-impl<'a, W: Watch> Pieces for Mapping<'a, W> {
+impl<'a, W: Progress> Pieces for Mapping<'a, W> {
     ghost use Rattle.std.specs.Prelude.{◌≡◌, ◌<◌};
     ghost use Rattle.mr_input.specs.Files.{split_total};
     ghost use Rattle.mr_index.specs.Index.{triples_in, triples_of};
@@ -69,21 +69,22 @@ impl<'a, W: Watch> Pieces for Mapping<'a, W> {
     ghost gives = { λ m s out. out ≡ triples_in s (triples_of m.job.now m.kept.now.cut m.kept.now.skips) };
 
     fn piece(&self, alloc: Global, number: u32) -> Result<Part, AllocError> {
-        self.watch.tell(Phase::Mapping, u64::from(number), self.all);
+        self.watch
+            .report(Phase::Mapping, u64::from(number), self.all);
         EmissionIndex::part_of(alloc, self.kept, self.job, number)
     }
 }
 
 /// The pieces of a split, to be mapped each by itself.
 #[derive(Drop)]
-struct Dividing<'a, W: Watch> {
+struct Dividing<'a, W: Progress> {
     divided: &'a DividedSplit<'a>,
     first_piece: u32,
     all: u64,
     watch: &'a W,
 }
 
-impl<'a, W: Watch> Pieces for Dividing<'a, W> {
+impl<'a, W: Progress> Pieces for Dividing<'a, W> {
     ghost use Rattle.std.specs.Prelude.{◌≡◌, ◌<◌, length};
     ghost use Rattle.mr_index.specs.Pieces.{piece_at};
 
@@ -95,7 +96,7 @@ impl<'a, W: Watch> Pieces for Dividing<'a, W> {
 
     fn piece(&self, alloc: Global, number: u32) -> Result<Piece, AllocError> {
         let before = u64::from(self.first_piece) + u64::from(number);
-        self.watch.tell(Phase::Mapping, before, self.all);
+        self.watch.report(Phase::Mapping, before, self.all);
         self.divided.piece(alloc, number)
     }
 }
@@ -145,7 +146,7 @@ fn shares_of(plan: &Plan<'_>, threads: u32) -> Shares
 }
 
 /// The parts of the first splits, so many, each of them mapped by a thread that draws it.
-fn map_whole<R: Threads + Sync, G: Gate, W: Watch>(
+fn map_whole<R: Threads + Sync, G: Gate, W: Progress>(
     rt: &R,
     alloc: Global,
     crew: &Crew<'_, G, W>,
@@ -160,7 +161,7 @@ fn map_whole<R: Threads + Sync, G: Gate, W: Watch>(
     if shares.whole == 0 {
         return Ok(Vec::new(alloc));
     }
-    let kept = source.plan.kept(alloc, source.skips)?;
+    let kept = source.plan.without(alloc, source.skips)?;
     let mapping = Mapping {
         kept: &kept,
         job: source.job,
@@ -179,7 +180,7 @@ fn map_whole<R: Threads + Sync, G: Gate, W: Watch>(
 }
 
 /// The part of a split whose pieces are mapped by threads that draw them, and are numbered from `first_piece`.
-fn map_divided<R: Threads + Sync, G: Gate, W: Watch>(
+fn map_divided<R: Threads + Sync, G: Gate, W: Progress>(
     rt: &R,
     alloc: Global,
     crew: &Crew<'_, G, W>,
@@ -215,7 +216,7 @@ fn map_divided<R: Threads + Sync, G: Gate, W: Watch>(
 }
 
 /// All that the job emits over a plan without its left-out records, the splits being mapped by threads.
-pub(crate) fn index_of<R: Threads + Sync, G: Gate, W: Watch>(
+pub(crate) fn index_of<R: Threads + Sync, G: Gate, W: Progress>(
     rt: &R,
     alloc: Global,
     crew: &Crew<'_, G, W>,

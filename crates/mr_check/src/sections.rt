@@ -13,7 +13,7 @@ use crate::front::{Front, Section};
 use crate::guesses::{Guess, guesses_of};
 use crate::mapping::Crew;
 use crate::section::{Judged, Outcome};
-use mr_bytes::{Gate, Phase, Watch};
+use mr_bytes::{Gate, Phase, Progress};
 use mr_judge::Border;
 use mr_tickets::{Pieces, draw_all};
 use mr_verdict::No;
@@ -61,7 +61,7 @@ fn judge_at<'a>(
 
 /// All sections, to be judged each by itself.
 #[derive(Drop)]
-struct Judging<'a, 'f, 'g, 'w, W: Watch> {
+struct Judging<'a, 'f, 'g, 'w, W: Progress> {
     facts: &'a Facts<'a>,
     fronts: &'f [Front<'f>],
     sections: &'f [Section<'f>],
@@ -69,7 +69,7 @@ struct Judging<'a, 'f, 'g, 'w, W: Watch> {
     watch: &'w W,
 }
 
-impl<'a, 'f, 'g, 'w, W: Watch> Pieces for Judging<'a, 'f, 'g, 'w, W> {
+impl<'a, 'f, 'g, 'w, W: Progress> Pieces for Judging<'a, 'f, 'g, 'w, W> {
     ghost use Rattle.std.specs.Prelude.{◌≡◌, ◌<◌, ◌≤◌, ◌^◌, All, length};
     ghost use Rattle.mr_verdict.specs.Steps.{subject};
     ghost use Rattle.mr_check.specs.Sections.{IsSection, IsJudgedAt};
@@ -82,7 +82,7 @@ impl<'a, 'f, 'g, 'w, W: Watch> Pieces for Judging<'a, 'f, 'g, 'w, W> {
 
     fn piece(&self, alloc: Global, number: u32) -> Result<Judged<'a>, AllocError> {
         let all = self.sections.len() as u64;
-        self.watch.tell(Phase::Judging, u64::from(number), all);
+        self.watch.report(Phase::Judging, u64::from(number), all);
         let guess = match self.guesses.get(number as usize) {
             Some(guess) => *guess,
             None => Guess::at_front(),
@@ -100,7 +100,7 @@ impl<'a, 'f, 'g, 'w, W: Watch> Pieces for Judging<'a, 'f, 'g, 'w, W> {
 
 /// The fault of partition `p`, if it has one, by what its sections came to, one behind another, as long as each begins at
 /// the border that was reached before it. Where one doesn't, the partition is judged as a whole, and the watch is told.
-fn fault_of<W: Watch>(
+fn fault_of<W: Progress>(
     alloc: Global,
     facts: &Facts<'_>,
     fronts: &[Front<'_>],
@@ -137,12 +137,12 @@ fn fault_of<W: Watch>(
         }
     }
     let all = sections.len() as u64;
-    watch.tell(Phase::Judging, all, all);
+    watch.report(Phase::Judging, all, all);
     fault_in(alloc, facts, p as u64, &fronts[p])
 }
 
 /// The fault of the least partition that has one, by what all sections came to.
-fn first_fault<W: Watch>(
+fn first_fault<W: Progress>(
     alloc: Global,
     facts: &Facts<'_>,
     fronts: &[Front<'_>],
@@ -163,7 +163,7 @@ fn first_fault<W: Watch>(
 }
 
 /// The fault of the least partition that has one, the sections being judged by threads.
-pub(crate) fn least_of<'x, 'f, R: Threads + Sync, G: Gate, W: Watch>(
+pub(crate) fn least_of<'x, 'f, R: Threads + Sync, G: Gate, W: Progress>(
     rt: &R,
     alloc: Global,
     crew: &Crew<'_, G, W>,

@@ -1,7 +1,7 @@
 //! The judge on many threads.
 ghost use Rattle.std.specs.Prelude.{◌≡◌, ◌⊎◌, ◌<◌, ◌≤◌, ◌+◌, ◌^◌, [], IfOk, IfErr, IfSome, MatchResult, None, Some, length};
 ghost use Rattle.mr_input.specs.Files.{contents, split_total};
-ghost use Rattle.mr_certform.specs.declared.place.Place.TheVariants.{AtSkips};
+ghost use Rattle.mr_certform.specs.declared.grammar_state.GrammarState.TheVariants.{AtSkips};
 ghost use Rattle.mr_certform.specs.Grammar.{InOrder};
 ghost use Rattle.mr_certform.specs.Places.{partitions};
 ghost use Rattle.mr_certform.specs.Walking.{items_left, halt};
@@ -21,7 +21,7 @@ use crate::front_bytes::{expect_count_of, expect_header_of, take_skips_of};
 use crate::fronts::fronts_of;
 use crate::mapping::{Crew, Mapped, Source, index_of};
 use crate::sections::least_of;
-use mr_bytes::{Gate, OpenGate, RecordName, Unwatched, Watch};
+use mr_bytes::{Gate, OpenGate, Progress, RecordName, Unwatched};
 use mr_certform::Walker;
 use mr_input::Input;
 use mr_jobs::Request;
@@ -47,7 +47,7 @@ fn test_back(facts: &Facts<'_>, entries: u64, stop: Option<u64>) -> Result<u64, 
 
 /// Judges all partitions, each section of one by a thread that draws it, and the certificate's end: how many entries there
 /// are, or the first fault. The items are walked once ahead of that, for where the partitions and their sections begin.
-fn check_parts<R: Threads + Sync, G: Gate, W: Watch>(
+fn check_parts<R: Threads + Sync, G: Gate, W: Progress>(
     rt: &R,
     alloc: Global,
     crew: &Crew<'_, G, W>,
@@ -75,7 +75,7 @@ fn check_parts<R: Threads + Sync, G: Gate, W: Watch>(
 
 /// Judges the partitions against what was mapped: how many pairs there are, or the first fault. The sections of the
 /// partitions are numbered on from the pieces of the mapping.
-fn check_mapped<R: Threads + Sync, G: Gate, W: Watch>(
+fn check_mapped<R: Threads + Sync, G: Gate, W: Progress>(
     rt: &R,
     alloc: Global,
     crew: &Crew<'_, G, W>,
@@ -107,7 +107,7 @@ fn check_mapped<R: Threads + Sync, G: Gate, W: Watch>(
 
 /// Maps the splits, where they weren't mapped ahead with no record left out and none is, and judges the partitions, given
 /// the left-out records: how many pairs there are, or the first fault.
-fn check_with<R: Threads + Sync, G: Gate, W: Watch>(
+fn check_with<R: Threads + Sync, G: Gate, W: Progress>(
     rt: &R,
     alloc: Global,
     crew: &Crew<'_, G, W>,
@@ -139,7 +139,7 @@ fn check_with<R: Threads + Sync, G: Gate, W: Watch>(
 }
 
 /// Judges what stands behind the items of the request and of the input, whose plan is there.
-fn check_planned<R: Threads + Sync, G: Gate, W: Watch>(
+fn check_planned<R: Threads + Sync, G: Gate, W: Progress>(
     rt: &R,
     alloc: Global,
     crew: &Crew<'_, G, W>,
@@ -168,7 +168,7 @@ fn check_planned<R: Threads + Sync, G: Gate, W: Watch>(
 
 /// Judges what stands behind the items of the request and of the input. The plan is made here where the input wasn't
 /// mapped ahead.
-fn check_rest<R: Threads + Sync, G: Gate, W: Watch>(
+fn check_rest<R: Threads + Sync, G: Gate, W: Progress>(
     rt: &R,
     alloc: Global,
     crew: &Crew<'_, G, W>,
@@ -196,7 +196,7 @@ fn check_rest<R: Threads + Sync, G: Gate, W: Watch>(
 }
 
 /// Judges a result: the verdict, or want of memory.
-fn judge_all<R: Threads + Sync, G: Gate, W: Watch>(
+fn judge_all<R: Threads + Sync, G: Gate, W: Progress>(
     rt: &R,
     alloc: Global,
     crew: &Crew<'_, G, W>,
@@ -287,7 +287,7 @@ pub fn check_gated<R: Threads + Sync, G: Gate>(
 
 /// The same as `check_gated`, where somebody looks on: the watch is told of each piece that is drawn how many were drawn
 /// before it, of all of its phase; and of all, where a partition whose sections don't fit together is judged anew.
-pub fn check_gated_watched<R: Threads + Sync, G: Gate, W: Watch>(
+pub fn check_gated_watched<R: Threads + Sync, G: Gate, W: Progress>(
     rt: &R,
     alloc: Global,
     request: &Request,
@@ -317,7 +317,7 @@ pub fn check_gated_watched<R: Threads + Sync, G: Gate, W: Watch>(
 
 /// The same as `check_gated_watched`, where the input was mapped ahead: it is mapped anew only where the certificate
 /// leaves records out.
-pub fn check_mapped_watched<R: Threads + Sync, G: Gate, W: Watch>(
+pub fn check_mapped_watched<R: Threads + Sync, G: Gate, W: Progress>(
     rt: &R,
     alloc: Global,
     request: &Request,

@@ -9,7 +9,7 @@ use crate::program::{answer, finish};
 use crate::progress::ProgressLine;
 use crate::showing::shown;
 use mr_args::{Fault, Subcommand};
-use mr_bytes::Watch;
+use mr_bytes::Progress;
 use mr_commands::Said;
 use mr_files::{Look, Store};
 use mr_spill::Scratch;
@@ -122,7 +122,7 @@ pub fn tell_person<
     words: Result<Vec<String>, Failure>,
     out: &mut O,
     err: &mut E,
-    watch: &dyn Watch,
+    watch: &dyn Progress,
     progress: &ProgressLine<C>,
 ) -> u8 {
     let words = match words {

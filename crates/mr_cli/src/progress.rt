@@ -1,7 +1,7 @@
 //! One line at a terminal that tells how far long work has come: the phase, its share done, workers lost. It is drawn
 //! again a few times a second at most, by whichever thread tells first then, and wiped before anything else is said. No
 //! clause speaks of it, and it has no say in the work.
-use mr_bytes::{Phase, Watch};
+use mr_bytes::{Phase, Progress};
 use std::alloc::{AllocError, Global};
 use std::io::{Stderr, Write};
 use std::sync::atomic::{AtomicBool, AtomicU64, Ordering};
@@ -109,8 +109,8 @@ impl<C: Clock> ProgressLine<C> {
     }
 }
 
-impl<C: Clock + Sync> Watch for ProgressLine<C> {
-    fn tell(&self, phase: Phase, done: u64, all: u64) {
+impl<C: Clock + Sync> Progress for ProgressLine<C> {
+    fn report(&self, phase: Phase, done: u64, all: u64) {
         if !self.begins_to_judge(phase) && !self.is_due() {
             return;
         }
@@ -122,7 +122,7 @@ impl<C: Clock + Sync> Watch for ProgressLine<C> {
         }
     }
 
-    fn lost(&self) {
+    fn worker_lost(&self) {
         let _ = self.lost.fetch_add(1, Ordering::SeqCst);
     }
 }

@@ -22,8 +22,8 @@ use crate::merging::merge;
 use crate::running::run as run_by_workers;
 use crate::said::Said;
 use mr_args::{Fault, Options, SeqOptions, Subcommand, request_of, skips_of};
-use mr_bytes::{RecordName, Watch};
-use mr_certform::{Certificate, InVersion, Version, text_law};
+use mr_bytes::{Progress, RecordName};
+use mr_certform::{Certificate, Version, VersionedCertificate, text_law};
 use mr_files::{Store, names_of_result, write_files};
 use mr_input::Input;
 use mr_jobs::Request;
@@ -49,7 +49,7 @@ fn worked(
     request: &Request,
     input: Input,
     skips: &[RecordName],
-    watch: &dyn Watch,
+    watch: &dyn Progress,
 ) -> Result<Work, Fault>
     requires { split_total request.now.split input ≤ 2 ^ 20 }
     ensures result { IfOk result (λ w. (version : Version) (bytes : List ℕ) → SpellsIn version bytes w.certificate
@@ -93,7 +93,7 @@ fn worked_out<S: Store>(
     store: &S,
     alloc: Global,
     asked: &SeqOptions<'_>,
-    watch: &dyn Watch,
+    watch: &dyn Progress,
 ) -> Result<Work, Fault>
     ensures work { IfOk result (λ w. (bytes : List ℕ) → SpellsIn asked.now.version bytes w.certificate
         → WorksOut (S.holds store.now) (S.known_as store.now) asked.now (contents w.outputs.items) bytes (string_bytes w.line)) }
@@ -107,7 +107,7 @@ fn worked_out<S: Store>(
 }
 
 /// The certificate in a version that can spell it.
-fn spelled_in(certificate: &Certificate, version: Version) -> InVersion<'_>
+fn spelled_in(certificate: &Certificate, version: Version) -> VersionedCertificate<'_>
     requires { AllByRecursion (CanSpell version) certificate.now.groups }
     ensures { result ≡ record { version = version; certificate = certificate.entry.now } }
 {
@@ -122,7 +122,7 @@ pub fn seq<S: Store>(
     store: &mut S,
     alloc: Global,
     asked: &SeqOptions<'_>,
-    watch: &dyn Watch,
+    watch: &dyn Progress,
 ) -> Result<Said, Fault>
     ensures status { IfOk result (λ said. said.status ≡ 0) }
     ensures done { IfOk result (λ said. AnswersSeq (S.holds store.old) (S.holds store.new) (S.known_as store.old) asked.now (string_bytes said.text)) }
@@ -153,7 +153,7 @@ pub fn done<S: Store, C: Scratch, R: Threads + Wait + Sync>(
     store: &mut S,
     alloc: Global,
     asked: &Subcommand<'_>,
-    watch: &dyn Watch,
+    watch: &dyn Progress,
 ) -> Result<Said, Fault>
     ensures answers { IfOk result (λ said. Answers (S.holds store.old) (S.holds store.new) (S.known_as store.old) asked.now (string_bytes said.text) said.status) }
     ensures others { ChangesOwn (S.holds store.old) (S.holds store.new) asked.now }

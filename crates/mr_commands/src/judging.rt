@@ -24,7 +24,7 @@ use crate::no_lines::no_line;
 use crate::said::{Said, yes_text};
 use crate::streaming::{judged_as_read, refused_as_read};
 use mr_args::{CheckOptions, Fault, Options, request_of};
-use mr_bytes::{OpenGate, Watch};
+use mr_bytes::{OpenGate, Progress};
 use mr_check::{No, Yes, check_gated_watched, check_watched};
 use mr_files::{FileFault, Store, WithinFault, names_of_result, read_result_within, write_named};
 use mr_input::Input;
@@ -95,7 +95,7 @@ fn verdict<R: Threads + Sync>(
     outputs: &[Vec<u8>],
     certificate: &[u8],
     threads: u32,
-    watch: &dyn Watch,
+    watch: &dyn Progress,
 ) -> Result<Yes, No>
     requires fits { split_total request.now.split input.now ≤ 2 ^ 20 }
     requires threads { (1 ≤ threads) × (threads ≤ 64) }
@@ -221,7 +221,7 @@ fn judgement<R: Threads + Sync>(
     input: &Input,
     outputs: &[Vec<u8>],
     certificate: &[u8],
-    watch: &dyn Watch,
+    watch: &dyn Progress,
 ) -> Result<Judged, Fault>
     requires fits { split_total request.now.split input.now ≤ 2 ^ 20 }
     requires threads { (1 ≤ asked.now.threads) × (asked.now.threads ≤ 64) }
@@ -286,7 +286,7 @@ fn judged_held<S: Store, R: Threads + Sync>(
     asked: &CheckOptions<'_>,
     input: &Input,
     most: u64,
-    watch: &dyn Watch,
+    watch: &dyn Progress,
 ) -> Result<Option<Judged>, Fault>
     requires fits { split_total request.now.split input.now ≤ 2 ^ 20 }
     requires threads { (1 ≤ asked.now.threads) × (asked.now.threads ≤ 64) }
@@ -324,7 +324,7 @@ fn judged_longer<S: Store, R: Threads + Sync>(
     request: &Request,
     asked: &CheckOptions<'_>,
     input: &Input,
-    watch: &dyn Watch,
+    watch: &dyn Progress,
 ) -> Result<Judged, Fault>
     requires fits { split_total request.now.split input.now ≤ 2 ^ 20 }
     requires threads { (1 ≤ asked.now.threads) × (asked.now.threads ≤ 64) }
@@ -351,7 +351,7 @@ fn result_judged<S: Store, R: Threads + Sync>(
     request: &Request,
     asked: &CheckOptions<'_>,
     input: &Input,
-    watch: &dyn Watch,
+    watch: &dyn Progress,
 ) -> Result<Judged, Fault>
     requires fits { split_total request.now.split input.now ≤ 2 ^ 20 }
     requires threads { (1 ≤ asked.now.threads) × (asked.now.threads ≤ 64) }
@@ -406,7 +406,7 @@ fn checked_for<S: Store, R: Threads + Sync>(
     alloc: Global,
     request: &Request,
     asked: &CheckOptions<'_>,
-    watch: &dyn Watch,
+    watch: &dyn Progress,
 ) -> Result<Judged, Fault>
     requires request { request.now ≡ request_asked asked.now.options }
     requires asked { IsAsked asked.now.options }
@@ -425,7 +425,7 @@ fn checked<S: Store, R: Threads + Sync>(
     store: &S,
     alloc: Global,
     asked: &CheckOptions<'_>,
-    watch: &dyn Watch,
+    watch: &dyn Progress,
 ) -> Result<Judged, Fault>
     ensures judges { IfOk result (λ j. Judges (S.holds store.now) (S.known_as store.now) asked.now (string_bytes j.said.text) j.said.status (option_map (λ v. v.items) j.verdict)) }
     ensures refused { IfErr result (λ e. IsCheckRefusal (S.holds store.now) (S.unreadable store.now) (S.known_as store.now) asked.now e) }
@@ -463,7 +463,7 @@ pub fn check<S: Store, R: Threads + Sync>(
     store: &mut S,
     alloc: Global,
     asked: &CheckOptions<'_>,
-    watch: &dyn Watch,
+    watch: &dyn Progress,
 ) -> Result<Said, Fault>
     ensures answer { IfOk result (λ said. KeepsVerdict (S.holds store.old) (S.holds store.new) (S.known_as store.old) asked.now (string_bytes said.text) said.status) }
     ensures others { ChangesAmong (S.holds store.old) (S.holds store.new) (written_by_check asked.now) }

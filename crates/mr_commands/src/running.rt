@@ -20,7 +20,7 @@ use crate::no_lines::fault_text;
 use crate::said::Said;
 use mr_args::{Fault, RunOptions, request_of};
 use mr_book::History;
-use mr_bytes::{OpenGate, Watch};
+use mr_bytes::{OpenGate, Progress};
 use mr_certform::Version;
 use mr_check::No;
 use mr_core::JobFault;
@@ -104,7 +104,7 @@ fn ended_over<S: RegionStore + Drop, R: Threads + Wait + Sync>(
     attempts: u32,
     store: S,
     version: Version,
-    watch: &dyn Watch,
+    watch: &dyn Progress,
 ) -> Result<Ran, Fault>
     requires fits { split_total request.now.split input.now ≤ 2 ^ 20 }
     requires workers { (1 ≤ workers) × (workers ≤ 64) }
@@ -222,7 +222,7 @@ fn ended<C: Scratch, R: Threads + Wait + Sync>(
     workers: u32,
     attempts: u32,
     version: Version,
-    watch: &dyn Watch,
+    watch: &dyn Progress,
 ) -> Result<Ran, Fault>
     requires fits { split_total request.now.split input.now ≤ 2 ^ 20 }
     requires workers { (1 ≤ workers) × (workers ≤ 64) }
@@ -258,7 +258,7 @@ fn executed<S: Store, C: Scratch, R: Threads + Wait + Sync>(
     store: &S,
     alloc: Global,
     asked: &RunOptions<'_>,
-    watch: &dyn Watch,
+    watch: &dyn Progress,
 ) -> Result<Ran, Fault>
     ensures runs { IfOk result (λ ran. Runs (S.holds store.now) (S.known_as store.now) asked.now ran) }
     ensures refused { IfErr result (λ e. IsStartRefusal (S.holds store.now) (S.unreadable store.now) (S.alike store.now) (S.known_as store.now) asked.now e) }
@@ -385,7 +385,7 @@ pub fn run<S: Store, C: Scratch, R: Threads + Wait + Sync>(
     store: &mut S,
     alloc: Global,
     asked: &RunOptions<'_>,
-    watch: &dyn Watch,
+    watch: &dyn Progress,
 ) -> Result<Said, Fault>
     ensures done { IfOk result (λ said. AnswersRun (S.holds store.old) (S.holds store.new) (S.known_as store.old) asked.now (string_bytes said.text) said.status) }
     ensures others { ChangesAmong (S.holds store.old) (S.holds store.new) (written_by_run asked.now) }

@@ -10,7 +10,7 @@ ghost use Rattle.mr_commands.specs.Verdicts.{JudgesResult};
 use crate::judging::{Judged, no_judged};
 use crate::said::{Said, yes_text};
 use mr_args::{CheckOptions, Fault};
-use mr_bytes::Watch;
+use mr_bytes::Progress;
 use mr_check::{No, Source, Yes, check_from_watched};
 use mr_files::{Cause, FileFault, NamedReader, ResultReaders, Store, result_readers};
 use mr_input::Input;
@@ -42,7 +42,7 @@ fn answer_from<R: CountedRead + Drop, C: Cause>(
     input: &Input,
     parts: &mut [NamedReader<R, C>],
     certificate: &mut NamedReader<R, C>,
-    watch: &dyn Watch,
+    watch: &dyn Progress,
 ) -> Result<Result<Yes, No>, FileFault>
     requires fits { split_total request.now.split input.now ≤ 2 ^ 20 }
     requires parts { (p : ℕ) → get_or (map (λ r. r.failed) parts.old) p 0 ≡ 0 }
@@ -65,7 +65,7 @@ fn answer_of<S: Store, C: Cause>(
     input: &Input,
     dir: &str,
     parts: usize,
-    watch: &dyn Watch,
+    watch: &dyn Progress,
 ) -> Result<Result<Yes, No>, FileFault>
     requires fits { split_total request.now.split input.now ≤ 2 ^ 20 }
     requires cause { (n : List ℕ) → IsUnreadAmong (S.unreadable store.now) (result_names dir.now parts) n → C.cause n }
@@ -104,7 +104,7 @@ pub(crate) fn judged_as_read<S: Store, C: Cause>(
     request: &Request,
     asked: &CheckOptions<'_>,
     input: &Input,
-    watch: &dyn Watch,
+    watch: &dyn Progress,
 ) -> Result<Judged, Fault>
     requires fits { split_total request.now.split input.now ≤ 2 ^ 20 }
     requires alone { verdict_file asked.now ≡ None }
@@ -126,7 +126,7 @@ pub(crate) fn refused_as_read<S: Store, C: Cause>(
     request: &Request,
     asked: &CheckOptions<'_>,
     input: &Input,
-    watch: &dyn Watch,
+    watch: &dyn Progress,
 ) -> Result<Option<Judged>, Fault>
     requires fits { split_total request.now.split input.now ≤ 2 ^ 20 }
     requires cause { (n : List ℕ) → IsUnreadAmong (S.unreadable store.now) (result_names asked.now.options.out.now asked.now.options.parts) n → C.cause n }

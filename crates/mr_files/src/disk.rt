@@ -100,7 +100,7 @@ impl<'a, R: Files> CountedRead for FileReader<'a, R> {
         self.failures.count
     }
 
-    fn lacked_memory(&self) -> bool {
+    fn is_out_of_memory(&self) -> bool {
         self.failures.lacked_memory
     }
 }
@@ -165,7 +165,7 @@ impl<'a, R: Files> CountedWrite for FileWriter<'a, R> {
         self.failures.count
     }
 
-    fn lacked_memory(&self) -> bool {
+    fn is_out_of_memory(&self) -> bool {
         self.failures.lacked_memory
     }
 }

@@ -85,7 +85,7 @@ impl<R: CountedRead + Drop, C: Cause> CountedRead for NamedReader<R, C> {
             Ok(count) => Ok(count),
             Err(fault) => {
                 self.failures = self.failures.wrapping_add(1);
-                self.lacked_memory = self.lacked_memory || self.reader.lacked_memory();
+                self.lacked_memory = self.lacked_memory || self.reader.is_out_of_memory();
                 Err(fault)
             }
         }
@@ -96,7 +96,7 @@ impl<R: CountedRead + Drop, C: Cause> CountedRead for NamedReader<R, C> {
         self.failures
     }
 
-    fn lacked_memory(&self) -> bool {
+    fn is_out_of_memory(&self) -> bool {
         self.lacked_memory
     }
 }

@@ -35,7 +35,7 @@ pub fn read_file<S: Store>(store: &S, alloc: Global, name: &str) -> Result<Vec<u
     let mut bytes = Vec::new(alloc);
     match read_all(&mut reader, &mut bytes) {
         Ok(()) => Ok(bytes),
-        Err(_) if reader.lacked_memory() => Err(FileFault::OutOfMemory),
+        Err(_) if reader.is_out_of_memory() => Err(FileFault::OutOfMemory),
         Err(fault) => Err(fault_of(alloc, name, fault)),
     }
 }

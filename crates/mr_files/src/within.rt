@@ -60,7 +60,7 @@ pub fn read_file_within<S: Store>(
     match read_limited(&mut reader, &mut bytes, limit) {
         Ok(()) => Ok(bytes),
         Err(LimitedFault::TooLong) => Err(WithinFault::TooLong),
-        Err(LimitedFault::Device) if !reader.lacked_memory() => Err(WithinFault::File(fault_of(
+        Err(LimitedFault::Device) if !reader.is_out_of_memory() => Err(WithinFault::File(fault_of(
             alloc,
             name,
             ReadFault::Device,

@@ -7,11 +7,11 @@ ghost use Rattle.mr_files.specs.Names.{part_names, name_of_part, name_of_certifi
 
 use crate::names::{certificate_name, part_name};
 use crate::store::{FileFault, Store, WriteFault};
-use mr_store::{Bytes, CountedWrite, Device, Spelled, write_spelled};
+use mr_store::{Bytes, CountedWrite, Device, Encode, write_encoded};
 use std::alloc::Global;
 
 /// Writes a file, and tells its name where that fails.
-fn write_file<S: Store, C: Spelled>(
+fn write_file<S: Store, C: Encode>(
     store: &mut S,
     alloc: Global,
     name: String,
@@ -28,8 +28,8 @@ fn write_file<S: Store, C: Spelled>(
         Err(WriteFault::OutOfMemory) => return Err(FileFault::OutOfMemory),
         Err(WriteFault::Device) => return Err(FileFault::CannotWrite(name)),
     };
-    let answer = write_spelled(&mut writer, content);
-    let lacked_memory = writer.lacked_memory();
+    let answer = write_encoded(&mut writer, content);
+    let lacked_memory = writer.is_out_of_memory();
     store.close(name.as_str(), writer)?;
     match answer {
         Ok(()) => Ok(()),
@@ -72,7 +72,7 @@ fn write_part<S: Store>(
     write_file(store, alloc, name, &Bytes(bytes))
 }
 
-fn write_certificate<S: Store, C: Spelled>(
+fn write_certificate<S: Store, C: Encode>(
     store: &mut S,
     alloc: Global,
     dir: &str,
@@ -108,7 +108,7 @@ fn write_parts<S: Store>(
 
 /// Writes the outputs to `part-00000` and so on, in order, and then `certificate`, which may be spelled while it is
 /// written. Behind it they all stand whole, and all else as before.
-pub fn write_files<S: Store, C: Spelled>(
+pub fn write_files<S: Store, C: Encode>(
     store: &mut S,
     alloc: Global,
     dir: &str,

@@ -13,7 +13,7 @@ use crate::part::{Part, Room, Tables};
 use crate::piece::{Piece, Sizes};
 use mr_bytes::RecordName;
 use mr_jobs::{Job, Mapper};
-use mr_splits::{LeftOut, Located, Plan};
+use mr_splits::{LeftOutSet, Plan, RecordAt};
 use std::alloc::{AllocError, Global};
 use std::marker::Model;
 
@@ -24,7 +24,7 @@ pub struct DividedSplit<'a> {
     plan: &'a Plan<'a>,
     job: &'a Job,
     skips: &'a [RecordName],
-    left_out: LeftOut,
+    left_out: LeftOutSet,
     split: u32,
     /// Before the record of which number each piece ends.
     ends: Vec<u32>,
@@ -61,7 +61,7 @@ fn first_from(plan: &Plan<'_>, split: u32, first: u32, end: u32, place: u64) -> 
     let mut high = end;
     while low < high {
         let middle = low + (high - low) / 2;
-        if u64::from(plan.located(split, middle).start) < place {
+        if u64::from(plan.locate(split, middle).start) < place {
             low = middle + 1;
         } else {
             high = middle;
@@ -168,17 +168,18 @@ impl<'a> DividedSplit<'a> {
         requires { number < length (records_divided self.now) }
         ensures { result ≡ is_left_out self.now.skips (nth_named (records_divided self.now) number).name }
     {
-        self.left_out.has(self.plan.number_of(self.split, number))
+        self.left_out
+            .has(self.plan.record_index(self.split, number))
     }
 
-    fn located(&self, number: u32) -> Located<'a>
+    fn locate(&self, number: u32) -> RecordAt<'a>
         requires { number < length (records_divided self.now) }
         ensures record { nth_named (records_divided self.now) number
             ≡ record { name = record { split = self.now.split; rec = number }; file = result.file; start = result.start; bytes = result.bytes.now } }
         ensures line { IsLine self.now.cut.files result.file result.start result.bytes.now }
         ensures small { length result.bytes.now ≤ 2 ^ 30 }
     {
-        self.plan.located(self.split, number)
+        self.plan.locate(self.split, number)
     }
 
     /// The room for the records from one number and before another.
@@ -191,10 +192,10 @@ impl<'a> DividedSplit<'a> {
                 bytes: 0,
             };
         }
-        let last = self.located(end - 1);
+        let last = self.locate(end - 1);
         let bytes = (last.start as usize)
             .saturating_add(last.bytes.len())
-            .saturating_sub(self.located(from).start as usize);
+            .saturating_sub(self.locate(from).start as usize);
         Room {
             records: (end - from) as usize,
             bytes,
@@ -227,7 +228,7 @@ impl<'a> DividedSplit<'a> {
         }
         // Files within the limits of an input emit few enough pairs, with few enough bytes of keys, for the tables.
         let _files = self.plan.input().files();
-        let line = self.located(number);
+        let line = self.locate(number);
         let place = (number - from) as usize;
         tables.map_record(mapper, place, line, room, buffer, mapped)?;
         Ok(())
@@ -239,7 +240,7 @@ impl<'a> DividedSplit<'a> {
         ensures { IfOk result (λ p. p ≡ piece_between self.now from end) }
     {
         let room = self.room(from, end);
-        let mut mapper = self.job.over(self.plan.input());
+        let mut mapper = self.job.mapper(self.plan.input());
         let mut buffer = Vec::new(alloc);
         let mut mapped = 0;
         let mut tables = Tables::new(alloc);

@@ -9,9 +9,9 @@ ghost use Rattle.mr_index.specs.Index.{triples_of, triples_in, mapped_among, Are
 ghost use Rattle.mr_index.specs.Building.{joined};
 
 use crate::part::{Found, Part, map_split};
-use mr_bytes::{Name, Pace, Phase, RecordName, Unwatched, Value, Watch};
+use mr_bytes::{Name, Phase, Progress, RecordName, Throttle, Unwatched, Value};
 use mr_jobs::Job;
-use mr_splits::{Kept, Plan};
+use mr_splits::{KeptPlan, Plan};
 use std::alloc::{AllocError, Global};
 use std::marker::Model;
 
@@ -59,10 +59,10 @@ fn count_pairs(parts: &[Part]) -> u64
 /// The parts of all splits. Each kept record is counted as mapped; the watch is told the numbers of records.
 fn map_splits(
     alloc: Global,
-    kept: &Kept<'_>,
+    kept: &KeptPlan<'_>,
     job: &Job,
     mapped: &mut u64,
-    watch: &dyn Watch,
+    watch: &dyn Progress,
 ) -> Result<Vec<Part>, AllocError>
     requires room { mapped.old + mapped_among kept.now.skips (records_of kept.now.cut) < 2 ^ 64 }
     ensures parts { IfOk result (λ r. AreParts job.now kept.now.cut kept.now.skips r.items) }
@@ -75,7 +75,7 @@ fn map_splits(
     let splits = plan.splits();
     let mut parts = Vec::with_capacity(alloc, splits as usize)?;
     let mut buffer = Vec::new(alloc);
-    let mut pace = Pace::new(Phase::Mapping, plan.count() as u64);
+    let mut pace = Throttle::new(Phase::Mapping, plan.count() as u64);
     for split in 0..splits {
         let part = map_split(
             alloc,
@@ -119,7 +119,7 @@ impl EmissionIndex {
         job: &Job,
         skips: &[RecordName],
         meter: &mut Meter,
-        watch: &dyn Watch,
+        watch: &dyn Progress,
     ) -> Result<EmissionIndex, AllocError>
         requires { meter.old.mapped + mapped_among skips.now (records_of plan.now) < 2 ^ 64 }
         ensures ok { IfOk result (λ i. i ≡ triples_of job.now plan.entry.now skips.now) }
@@ -128,7 +128,7 @@ impl EmissionIndex {
             × (meter.new.mapped ≤ meter.old.mapped + mapped_among skips.now (records_of plan.entry.now))) }
         ensures lookups { meter.new.lookups ≡ meter.old.lookups }
     {
-        let kept = plan.kept(alloc, skips)?;
+        let kept = plan.without(alloc, skips)?;
         let parts = map_splits(alloc, &kept, job, &mut meter.mapped, watch)?;
         Ok(EmissionIndex::join(parts))
     }
@@ -145,14 +145,14 @@ impl EmissionIndex {
         requires { split < split_total plan.now.size plan.now.files }
         ensures { IfOk result (λ r. r ≡ triples_in split (triples_of job.now plan.now skips.now)) }
     {
-        let kept = plan.kept(alloc, skips)?;
+        let kept = plan.without(alloc, skips)?;
         EmissionIndex::part_of(alloc, &kept, job, split)
     }
 
     /// The same over one split of a plan whose left-out records are known already. Several threads may share the plan.
     pub fn part_of(
         alloc: Global,
-        kept: &Kept<'_>,
+        kept: &KeptPlan<'_>,
         job: &Job,
         split: u32,
     ) -> Result<Part, AllocError>
@@ -163,7 +163,7 @@ impl EmissionIndex {
         // A split has far fewer records than a u64 counts.
         let _few = plan.records_in(split);
         let mut buffer = Vec::new(alloc);
-        let mut pace = Pace::new(Phase::Mapping, plan.count() as u64);
+        let mut pace = Throttle::new(Phase::Mapping, plan.count() as u64);
         let mut mapped = 0u64;
         map_split(
             alloc,

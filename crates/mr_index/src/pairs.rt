@@ -5,9 +5,9 @@ ghost use Rattle.mr_jobs.specs.Emissions.{emissions};
 ghost use Rattle.mr_jobs.specs.Hits.{IsLine};
 ghost use Rattle.mr_index.specs.Pairs.{pairs_seen, filled, shifted, Sound, Fits};
 
-use mr_bytes::{Value, Values};
+use mr_bytes::{Value, ValueColumn};
 use mr_jobs::{Emitter, Mapper};
-use mr_splits::Located;
+use mr_splits::RecordAt;
 use std::alloc::{AllocError, Global};
 
 /// Keys with their values, in the order in which they came: no key takes an allocation of its own.
@@ -18,7 +18,7 @@ pub(crate) struct Pairs {
     /// Where each key ends. Four bytes serve: an input has at most 1 GiB, and a record's keys are parts of it that
     /// don't overlap.
     pub ends: Vec<u32>,
-    pub values: Values,
+    pub values: ValueColumn,
 }
 
 /// Adds an end. It fails only for want of memory.
@@ -53,7 +53,7 @@ pub(crate) fn push_shifted(ends: &mut Vec<u32>, more: &[u32], by: usize) -> Resu
 }
 
 /// Adds values, in their order. It fails only for want of memory.
-fn push_values(values: &mut Values, more: &Values) -> Result<(), AllocError>
+fn push_values(values: &mut ValueColumn, more: &ValueColumn) -> Result<(), AllocError>
     requires { length values.old + length more.now < 2 ^ 64 }
     ensures { OnOk result (values.new ≡ values.old ++ more.now) }
 {
@@ -80,7 +80,7 @@ impl Pairs {
         Pairs {
             keys: Vec::new(alloc),
             ends: Vec::new(alloc),
-            values: Values::new(alloc),
+            values: ValueColumn::new(alloc),
         }
     }
 
@@ -167,7 +167,7 @@ impl Pairs {
     pub(crate) fn map(
         &mut self,
         mapper: &mut Mapper<'_, '_>,
-        line: Located<'_>,
+        line: RecordAt<'_>,
         buffer: &mut Vec<u8>,
     ) -> Result<(), AllocError>
         requires sound { Sound self.old }
@@ -178,7 +178,7 @@ impl Pairs {
         ensures sound { OnOk result (Sound self.new) }
         ensures pairs { OnOk result (pairs_seen self.new ≡ pairs_seen self.old ++ emissions mapper.old.job line.entry.file line.entry.start line.entry.bytes.now) }
     {
-        mapper.job().prepare(line.bytes, buffer)?;
+        mapper.job().fold_line(line.bytes, buffer)?;
         self.push_all(mapper.emit(line.file, line.start, line.bytes, buffer.as_slice()))
     }
 }

@@ -14,9 +14,9 @@ ghost use Rattle.mr_index.specs.Pairs.{pairs_seen, EndsRise, Sound, Fits};
 ghost use Rattle.mr_index.specs.Building.{numbered, ended};
 
 use crate::pairs::{Pairs, fill, push_end, start_of};
-use mr_bytes::{Name, Pace, Value, Watch};
+use mr_bytes::{Name, Progress, Throttle, Value};
 use mr_jobs::{Job, Mapper};
-use mr_splits::{Kept, Located, Plan};
+use mr_splits::{KeptPlan, Plan, RecordAt};
 use std::alloc::{AllocError, Global};
 use std::marker::Model;
 
@@ -192,7 +192,7 @@ impl Tables {
         &mut self,
         mapper: &mut Mapper<'_, '_>,
         number: usize,
-        line: Located<'_>,
+        line: RecordAt<'_>,
         room: Room,
         buffer: &mut Vec<u8>,
         mapped: &mut u64,
@@ -222,13 +222,13 @@ impl Tables {
     /// Appends what all kept records of the split emit, and counts them. The watch is told the numbers of records.
     fn map_all(
         &mut self,
-        kept: &Kept<'_>,
+        kept: &KeptPlan<'_>,
         job: &Job,
         split: u32,
         buffer: &mut Vec<u8>,
-        pace: &mut Pace,
+        pace: &mut Throttle,
         mapped: &mut u64,
-        watch: &dyn Watch,
+        watch: &dyn Progress,
     ) -> Result<(), AllocError>
         requires split { split < split_total kept.now.cut.size kept.now.cut.files }
         requires sound { Sound self.old.pairs }
@@ -248,10 +248,10 @@ impl Tables {
         // A plan's size is at least 1: that its records have numbers of their own rests on that.
         let _size = plan.size();
         let room = Room::of_split(plan, split);
-        let mut mapper = job.over(plan.input());
+        let mut mapper = job.mapper(plan.input());
         let mut left = kept.of_split(split);
         while let Some((name, line)) = left.next() {
-            pace.reach(plan.number_of(split, name.rec) as u64, watch);
+            pace.reach(plan.record_index(split, name.rec) as u64, watch);
             self.map_record(&mut mapper, name.rec as usize, line, room, buffer, mapped)?;
         }
         Ok(())
@@ -262,13 +262,13 @@ impl Tables {
 /// is for folded records.
 pub(crate) fn map_split(
     alloc: Global,
-    kept: &Kept<'_>,
+    kept: &KeptPlan<'_>,
     job: &Job,
     split: u32,
     buffer: &mut Vec<u8>,
-    pace: &mut Pace,
+    pace: &mut Throttle,
     mapped: &mut u64,
-    watch: &dyn Watch,
+    watch: &dyn Progress,
 ) -> Result<Part, AllocError>
     requires split { split < split_total kept.now.cut.size kept.now.cut.files }
     requires room { mapped.old + mapped_among kept.now.skips (of_split split (records_of kept.now.cut)) < 2 ^ 64 }

@@ -5,7 +5,7 @@ use Rattle.std.proofs.lemmas.Bool.{false_from_ne_true, false≢true}
 use Rattle.std.proofs.lemmas.Bool.Decides.{leb_tells}
 use Rattle.memchr.specs.Find.{FindsNeedle}
 use Rattle.mr_lanes.specs.Find.{FindsFolded}
-use Rattle.mr_jobs.specs.declared.hits.Known.{Known}
+use Rattle.mr_jobs.specs.declared.literal_search.Known.{Known}
 use Rattle.mr_jobs.specs.Literal.{compared, StandsAt, holds}
 use Rattle.mr_jobs.specs.Hits.{Sought, StandsNowhere, IsFirstPlace, AreSo}
 use Rattle.mr_jobs.proofs.LiteralLemmas.{found_place, place_found}

@@ -1,7 +1,7 @@
 -- Where a literal stands among the lines of a text.
 use Rattle.std.specs.Prelude.{◌≡◌, ℕ, ◌+◌, ◌<◌, ◌≤◌, Bool, IsTrue, List, Option, MatchOption, length, slice_range}
 use Rattle.mr_input.specs.Files.{nth_file}
-use Rattle.mr_jobs.specs.declared.hits.Known.{Known}
+use Rattle.mr_jobs.specs.declared.literal_search.Known.{Known}
 use Rattle.mr_jobs.specs.JobSpec.{JobSpec}
 use Rattle.mr_jobs.specs.Literal.{StandsAt}
 

@@ -13,7 +13,7 @@ use std::marker::Model;
 /// Where a record begins: its file by number, from 0, and the place there of its first byte, or of its line feed where
 /// the record is empty.
 #[derive(Clone, Copy, PartialEq, Eq, Debug)]
-pub struct Origin {
+pub struct RecordStart {
     pub file: u32,
     pub start: u32,
 }
@@ -133,7 +133,7 @@ fn push_all(
 pub fn map(
     alloc: Global,
     job: &Job,
-    at: Origin,
+    at: RecordStart,
     line: &[u8],
     out: &mut Emissions,
 ) -> Result<(), AllocError>
@@ -142,7 +142,7 @@ pub fn map(
     ensures err { OnErr result (out.new ≡ out.old) }
 {
     let mut buffer = Vec::new(alloc);
-    job.prepare(line, &mut buffer)?;
+    job.fold_line(line, &mut buffer)?;
     let emitter = job.emit(at.file, at.start, line, buffer.as_slice());
     let bytes = out.keys.len();
     let count = out.entries.len();

@@ -114,7 +114,7 @@ impl Job {
     /// it alone. It fails only for want of memory, where the buffer has less room than the line has bytes, and then the
     /// buffer's bytes are as they were. One buffer serves any number of lines.
     #[inline]
-    pub fn prepare(&self, line: &[u8], buffer: &mut Vec<u8>) -> Result<(), AllocError>
+    pub fn fold_line(&self, line: &[u8], buffer: &mut Vec<u8>) -> Result<(), AllocError>
         ensures ready { OnOk result (IsReady self.now line.now buffer.new.items) }
         ensures same { IsTrue (folds_words self.now) ⊎ (buffer.new ≡ buffer.old) }
         ensures only { OnErr result (IsTrue (folds_words self.now)) }

@@ -3,14 +3,14 @@
 
 mod emissions;
 mod emitter;
-mod hits;
 mod job;
 mod literal;
+mod literal_search;
 mod mapper;
 mod request;
 mod url;
 
-pub use emissions::{Emissions, Origin, emission_law, map};
+pub use emissions::{Emissions, RecordStart, emission_law, map};
 pub use emitter::Emitter;
 pub use job::{Job, JobFault, MAX_LITERAL};
 pub use literal::literal_law;

@@ -4,8 +4,8 @@ ghost use Rattle.mr_jobs.specs.Emissions.{emissions, IsReady};
 ghost use Rattle.mr_jobs.specs.Hits.{IsLine};
 
 use crate::emitter::{Emitter, nothing, one_pair};
-use crate::hits::Hits;
 use crate::job::{Job, Kind};
+use crate::literal_search::LiteralSearch;
 use mr_bytes::Value;
 use mr_input::Input;
 use std::marker::Model;
@@ -18,7 +18,7 @@ pub struct Mapper<'j, 'i> {
     /// The file at hand, by its number, or the number of files: none is at hand.
     file: u32,
     /// The places of the job's literal in that file.
-    hits: Hits<'i, 'j>,
+    hits: LiteralSearch<'i, 'j>,
 }
 
 impl<'j, 'i> Model for Mapper<'j, 'i> {
@@ -37,14 +37,14 @@ impl<'j, 'i> Model for Mapper<'j, 'i> {
 
 impl Job {
     /// This job over the lines of an input. It takes no memory.
-    pub fn over<'j, 'i>(&'j self, input: &'i Input) -> Mapper<'j, 'i>
+    pub fn mapper<'j, 'i>(&'j self, input: &'i Input) -> Mapper<'j, 'i>
         ensures { result ≡ record { job = self.entry.now; files = input.entry.now } }
     {
         Mapper {
             job: self,
             input,
             file: input.files() as u32,
-            hits: Hits::new(b"", b"", false),
+            hits: LiteralSearch::new(b"", b"", false),
         }
     }
 }
@@ -79,7 +79,7 @@ impl<'j, 'i> Mapper<'j, 'i> {
         };
         if self.file != file {
             let text = self.input.file(file as usize);
-            self.hits = Hits::new(text, literal.as_slice(), *fold);
+            self.hits = LiteralSearch::new(text, literal.as_slice(), *fold);
             self.file = file;
         }
         let offset = start as usize;

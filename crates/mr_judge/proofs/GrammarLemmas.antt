@@ -6,8 +6,8 @@ use Rattle.mr_bytes.specs.declared.Name.{Name}
 use Rattle.mr_jobs.specs.JobSpec.{RequestSpec, job_literal}
 use Rattle.mr_certform.specs.declared.item.Item.{Item}
 use Rattle.mr_certform.specs.declared.item.Item.TheVariants.{Magic, Job, Flags, LiteralLength, LiteralByte, Parts, SplitSize, Files, FileLength, Skips, Skip, Groups, Entries, Entry, End}
-use Rattle.mr_certform.specs.declared.place.Place.{Place}
-use Rattle.mr_certform.specs.declared.place.Place.TheVariants.{AtMagic, AtParts, AtFiles, AtSkips, AtGroups, AtEntries, AtEntry, AtEnd, Behind}
+use Rattle.mr_certform.specs.declared.grammar_state.GrammarState.{GrammarState}
+use Rattle.mr_certform.specs.declared.grammar_state.GrammarState.TheVariants.{AtMagic, AtParts, AtFiles, AtSkips, AtGroups, AtEntries, AtEntry, AtEnd, Behind}
 use Rattle.mr_certform.specs.Places.{behind, literal_bytes, file_lengths, partitions, skips, groups, entries, first_name}
 use Rattle.mr_judge.specs.Kinds.{IsOfKind}
 use Rattle.mr_verdict.specs.declared.fault.No.{No}
@@ -31,18 +31,18 @@ same_item (FileLength m) (FileLength n) e = ap FileLength (eqb-true m n e)
 same_item i w e = absurd (false≢true e)
 
 -- the place behind items
-abbrev place_behind : Place → List Item → Place
+abbrev place_behind : GrammarState → List Item → GrammarState
 place_behind p [] = p
 place_behind p (w ∷ ws) = place_behind (behind p w) ws
 
 -- a list of items that goes along the places, each of the kind that is awaited where it stands
-module _ (Along : Place → List Item → Type 0) (goes : (p : Place) (i : Item) (is : List Item) → Along p (i ∷ is) → IsOfKind p i × Along (behind p i) is) where
-  met_order : (at : ℕ) (ws : List Item) (f : No) (p : Place) (is js : List Item) → Along p is → met at ws f is ≡ Ok js → Along (place_behind p ws) js
+module _ (Along : GrammarState → List Item → Type 0) (goes : (p : GrammarState) (i : Item) (is : List Item) → Along p (i ∷ is) → IsOfKind p i × Along (behind p i) is) where
+  met_order : (at : ℕ) (ws : List Item) (f : No) (p : GrammarState) (is js : List Item) → Along p is → met at ws f is ≡ Ok js → Along (place_behind p ws) js
   met_order at [] f p is js h e = let same : is ≡ js = cc e in subst (Along p) same h
   met_order at (w ∷ ws) f p [] js h e = absurd (cc e)
   met_order at (w ∷ ws) f p (i ∷ is) js h e = by (item_eq i w) refl e (λ q. met_order at ws f q is js)
     where
-      by : (b : Bool) → item_eq i w ≡ b → cond b (met at ws f is) (Err f) ≡ Ok js → ((q : Place) → Along q is → met at ws f is ≡ Ok js → Along (place_behind q ws) js) → Along (place_behind (behind p w) ws) js
+      by : (b : Bool) → item_eq i w ≡ b → cond b (met at ws f is) (Err f) ≡ Ok js → ((q : GrammarState) → Along q is → met at ws f is ≡ Ok js → Along (place_behind q ws) js) → Along (place_behind (behind p w) ws) js
       by true same d more = more (behind p w) (subst (λ k. Along (behind p k) is) (same_item i w same) (goes p i is h).1) d
       by false same d more = absurd (cc d)
 
@@ -62,7 +62,7 @@ module _ (Along : Place → List Item → Type 0) (goes : (p : Place) (i : Item)
 
   -- ---- no left-out record comes once the partitions have begun
 
-  abbrev Late : Place → Type 0
+  abbrev Late : GrammarState → Type 0
   Late (AtGroups r) = Unit {0}
   Late (AtEntries r g) = Unit {0}
   Late (AtEntry r g n before) = Unit {0}
@@ -82,7 +82,7 @@ module _ (Along : Place → List Item → Type 0) (goes : (p : Place) (i : Item)
   late_entries r g zero before = late_groups r g
   late_entries r g (suc n) before = tt
 
-  late : (p : Place) (is : List Item) → Late p → Along p is → no_skip is ≡ true
+  late : (p : GrammarState) (is : List Item) → Late p → Along p is → no_skip is ≡ true
   late p [] l h = refl
   late (AtGroups r) (Groups n ∷ is) l h = late (groups r n) is (late_groups r n) (goes (AtGroups r) (Groups n) is h).1
   late (AtGroups r) (i ∷ is) l h = absurd (goes (AtGroups r) i is h).0

@@ -4,8 +4,8 @@ use Rattle.std.specs.Cmp.Lexicographic.{pointwise}
 use Rattle.std.specs.Int.{w32, w64, from_be_bytes}
 use Rattle.mr_certform.specs.declared.item.Item.{Item}
 use Rattle.mr_certform.specs.declared.item.Item.TheVariants.{Magic, Job, Flags, LiteralLength, LiteralByte, Parts, SplitSize, Files, FileLength, Skips, Skip, Groups, Entries, Entry, End}
-use Rattle.mr_certform.specs.declared.place.Place.{Place}
-use Rattle.mr_certform.specs.declared.place.Place.TheVariants.{AtMagic, AtJob, AtFlags, AtLiteralLength, AtLiteralByte, AtParts, AtSplitSize, AtFiles, AtFileLength, AtSkips, AtSkip, AtGroups, AtEntries, AtEntry, AtEnd, Behind}
+use Rattle.mr_certform.specs.declared.grammar_state.GrammarState.{GrammarState}
+use Rattle.mr_certform.specs.declared.grammar_state.GrammarState.TheVariants.{AtMagic, AtJob, AtFlags, AtLiteralLength, AtLiteralByte, AtParts, AtSplitSize, AtFiles, AtFileLength, AtSkips, AtSkip, AtGroups, AtEntries, AtEntry, AtEnd, Behind}
 use Rattle.mr_certform.specs.Places.{behind}
 use Rattle.mr_certform.specs.Grammar.{MayStand, InOrder}
 use Rattle.mr_bytes.specs.declared.Name.{Name}
@@ -18,7 +18,7 @@ use Rattle.mr_judge.specs.Kinds.{IsOfKind, InKind}
 
 -- ---- what stands in order is of the awaited kinds
 
-kind_of : (p : Place) (i : Item) → MayStand p i → IsOfKind p i
+kind_of : (p : GrammarState) (i : Item) → MayStand p i → IsOfKind p i
 kind_of AtMagic Magic h = tt
 kind_of AtJob (Job n) h = tt
 kind_of AtFlags (Flags n) h = tt
@@ -36,21 +36,21 @@ kind_of (AtEntry r g m before) (Entry n) h = tt
 kind_of AtEnd End h = tt
 kind_of p i h = absurd h
 
-pub in_order : (p : Place) (i : Item) (is : List Item) → InOrder p (i ∷ is) → IsOfKind p i × InOrder (behind p i) is
+pub in_order : (p : GrammarState) (i : Item) (is : List Item) → InOrder p (i ∷ is) → IsOfKind p i × InOrder (behind p i) is
 in_order p i is h = (kind_of p i h.0, h.1)
 
-pub in_kind : (p : Place) (i : Item) (is : List Item) → InKind p (i ∷ is) → IsOfKind p i × InKind (behind p i) is
+pub in_kind : (p : GrammarState) (i : Item) (is : List Item) → InKind p (i ∷ is) → IsOfKind p i × InKind (behind p i) is
 in_kind p i is h = h
 
 -- ---- an item that stands is of the awaited kind
 
-sized : (p : Place) (size : ℕ) (item : Item) (bytes : List ℕ) (f : Front) → IsOfKind p item → of_bytes size item bytes ≡ Some f → IsOfKind p f.item
+sized : (p : GrammarState) (size : ℕ) (item : Item) (bytes : List ℕ) (f : Front) → IsOfKind p item → of_bytes size item bytes ≡ Some f → IsOfKind p f.item
 sized p size item bytes f kind e =
     let c = not_chosen (ltb (length bytes) size) (Some (record { item = item; rest = drop size bytes })) f e in
     let same : record { item = item; rest = drop size bytes } ≡ f = cc (c.1) in
     subst (λ (g : Front). IsOfKind p g.item) same kind
 
-numbered : (p : Place) (size : ℕ) (value : List ℕ → ℕ) (ok : ℕ → Bool) (item : ℕ → Item) (bytes : List ℕ) (f : Front) → ((n : ℕ) → IsOfKind p (item n)) → number size value ok item bytes ≡ Some f → IsOfKind p f.item
+numbered : (p : GrammarState) (size : ℕ) (value : List ℕ → ℕ) (ok : ℕ → Bool) (item : ℕ → Item) (bytes : List ℕ) (f : Front) → ((n : ℕ) → IsOfKind p (item n)) → number size value ok item bytes ≡ Some f → IsOfKind p f.item
 numbered p size value ok item bytes f kind e =
     let n = value (take size bytes) in
     let c = not_chosen (ltb (length bytes) size) (cond (ok n) (Some (record { item = item n; rest = drop size bytes })) None) f e in
@@ -66,7 +66,7 @@ entry_kind V2 r g m b bytes f e = by (short_name_at b bytes) e
     by (Some n) e = let same : record { item = Entry n.name; rest = n.rest } ≡ f = cc e in subst (λ (h : Front). IsOfKind (AtEntry r g m b) h.item) same tt
 
 module _ (v : Version) where
-  kind_stands : (p : Place) (bytes : List ℕ) (f : Front) → standing v p bytes ≡ Some f → IsOfKind p f.item
+  kind_stands : (p : GrammarState) (bytes : List ℕ) (f : Front) → standing v p bytes ≡ Some f → IsOfKind p f.item
   kind_stands AtMagic bytes f e =
       let c = chosen (pointwise eqb (take 8 bytes) (magic v)) (record { item = Magic; rest = drop 8 bytes }) f e in
       subst (λ (g : Front). IsOfKind AtMagic g.item) (c.1) tt
@@ -88,22 +88,22 @@ module _ (v : Version) where
   kind_stands AtEnd (x ∷ bytes) f e = absurd (cc e)
   kind_stands Behind bytes f e = absurd (cc e)
 
-  abbrev walk_from : ℕ → Place → Option Front → List Item
+  abbrev walk_from : ℕ → GrammarState → Option Front → List Item
   walk_from k p None = []
   walk_from k p (Some f) = f.item ∷ walk v k (behind p f.item) f.rest
 
-  walk_is : (k : ℕ) (p : Place) (bytes : List ℕ) → walk v (suc k) p bytes ≡ walk_from k p (standing v p bytes)
+  walk_is : (k : ℕ) (p : GrammarState) (bytes : List ℕ) → walk v (suc k) p bytes ≡ walk_from k p (standing v p bytes)
   walk_is k p bytes = by (standing v p bytes)
     where
       by : (o : Option Front) → elim o [ None ↦ [] | Some f ↦ f.item ∷ walk v k (behind p f.item) f.rest ] ≡ walk_from k p o
       by None = refl
       by (Some f) = refl
 
-  kinds_walked : (k : ℕ) (p : Place) (bytes : List ℕ) → InKind p (walk v k p bytes)
+  kinds_walked : (k : ℕ) (p : GrammarState) (bytes : List ℕ) → InKind p (walk v k p bytes)
   kinds_walked zero p bytes = tt
   kinds_walked (suc k) p bytes = subst (InKind p) (sym (walk_is k p bytes)) (by (standing v p bytes) refl (λ q rest. kinds_walked k q rest))
     where
-      by : (o : Option Front) → standing v p bytes ≡ o → ((q : Place) (rest : List ℕ) → InKind q (walk v k q rest)) → InKind p (walk_from k p o)
+      by : (o : Option Front) → standing v p bytes ≡ o → ((q : GrammarState) (rest : List ℕ) → InKind q (walk v k q rest)) → InKind p (walk_from k p o)
       by None is more = tt
       by (Some f) is more = (kind_stands p bytes f is, more (behind p f.item) f.rest)
 

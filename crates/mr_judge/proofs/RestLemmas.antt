@@ -6,7 +6,7 @@ use Rattle.mr_jobs.specs.JobSpec.{RequestSpec}
 use Rattle.mr_splits.specs.Cut.{Cut, records_of}
 use Rattle.mr_certform.specs.declared.item.Item.{Item}
 use Rattle.mr_certform.specs.declared.item.Item.TheVariants.{Groups, End}
-use Rattle.mr_certform.specs.declared.place.Place.TheVariants.{AtMagic, AtSkips}
+use Rattle.mr_certform.specs.declared.grammar_state.GrammarState.TheVariants.{AtMagic, AtSkips}
 use Rattle.mr_certform.specs.Places.{partitions}
 use Rattle.mr_judge.specs.Kinds.{InKind}
 use Rattle.mr_certform.specs.Spelling.{items_of, stop}

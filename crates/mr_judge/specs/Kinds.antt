@@ -2,12 +2,12 @@
 use Rattle.std.specs.Prelude.{List, [], ◌∷◌}
 use Rattle.mr_certform.specs.declared.item.Item.{Item}
 use Rattle.mr_certform.specs.declared.item.Item.TheVariants.{Magic, Job, Flags, LiteralLength, LiteralByte, Parts, SplitSize, Files, FileLength, Skips, Skip, Groups, Entries, Entry, End}
-use Rattle.mr_certform.specs.declared.place.Place.{Place}
-use Rattle.mr_certform.specs.declared.place.Place.TheVariants.{AtMagic, AtJob, AtFlags, AtLiteralLength, AtLiteralByte, AtParts, AtSplitSize, AtFiles, AtFileLength, AtSkips, AtSkip, AtGroups, AtEntries, AtEntry, AtEnd}
+use Rattle.mr_certform.specs.declared.grammar_state.GrammarState.{GrammarState}
+use Rattle.mr_certform.specs.declared.grammar_state.GrammarState.TheVariants.{AtMagic, AtJob, AtFlags, AtLiteralLength, AtLiteralByte, AtParts, AtSplitSize, AtFiles, AtFileLength, AtSkips, AtSkip, AtGroups, AtEntries, AtEntry, AtEnd}
 use Rattle.mr_certform.specs.Places.{behind}
 
 -- an item of the kind that is awaited at this place
-abbrev pub IsOfKind : Place → Item → Type 0
+abbrev pub IsOfKind : GrammarState → Item → Type 0
 IsOfKind AtMagic Magic = Unit {0}
 IsOfKind AtJob (Job n) = Unit {0}
 IsOfKind AtFlags (Flags n) = Unit {0}
@@ -26,6 +26,6 @@ IsOfKind AtEnd End = Unit {0}
 IsOfKind _ _ = ⊥
 
 -- each item is of the kind that is awaited where it stands, from this place on
-abbrev pub InKind : Place → List Item → Type 0
+abbrev pub InKind : GrammarState → List Item → Type 0
 InKind p [] = Unit {0}
 InKind p (i ∷ is) = IsOfKind p i × InKind (behind p i) is

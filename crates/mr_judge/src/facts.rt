@@ -4,11 +4,11 @@ ghost use Rattle.mr_reduce.specs.Text.{text_of};
 ghost use Rattle.mr_sequential.specs.Good.{named};
 ghost use Rattle.mr_sequential.specs.Rules.{part};
 
-use mr_bytes::{Name, Values};
+use mr_bytes::{Name, ValueColumn};
 use mr_index::{EmissionIndex, Found, Meter};
 use mr_jobs::{Job, Request};
 use mr_partition::partition_by;
-use mr_reduce::column_text;
+use mr_reduce::append_text;
 use std::alloc::AllocError;
 use std::marker::Model;
 
@@ -43,11 +43,16 @@ impl<'a> Basis<'a> {
     }
 
     /// The text of a group, in place of what the buffer held.
-    pub fn text(&self, key: &[u8], values: &Values, out: &mut Vec<u8>) -> Result<(), AllocError>
+    pub fn text(
+        &self,
+        key: &[u8],
+        values: &ValueColumn,
+        out: &mut Vec<u8>,
+    ) -> Result<(), AllocError>
         ensures { OnOk result (out.new.items ≡ text_of self.now.request.job key.now values.now) }
     {
         out.clear();
-        column_text(self.request.job(), key, values, out)
+        append_text(self.request.job(), key, values, out)
     }
 
     /// The pair of that name among all that is emitted, or none where there is no such pair.

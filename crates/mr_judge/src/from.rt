@@ -11,7 +11,7 @@ ghost use Rattle.mr_judge.specs.Readers.{StopOfSome, TellsNoRead};
 use crate::judge::judge_all;
 use crate::lent::Lent;
 use crate::readers::FromReaders;
-use mr_bytes::{Unwatched, Watch};
+use mr_bytes::{Progress, Unwatched};
 use mr_certform::StreamWalker;
 use mr_index::Meter;
 use mr_input::Input;
@@ -52,7 +52,7 @@ fn judge_lent<R: CountedRead, C: CountedRead>(
     input: &Input,
     outputs: &mut [R],
     certificate: &mut C,
-    watch: &dyn Watch,
+    watch: &dyn Progress,
 ) -> Result<Yes, Stop>
     requires fits { split_total request.now.split input.now ≤ 2 ^ 20 }
     requires parts { length outputs.old ≡ request.now.parts }
@@ -115,7 +115,7 @@ fn judge_from<R: CountedRead, C: CountedRead>(
     input: &Input,
     outputs: &mut [R],
     certificate: &mut C,
-    watch: &dyn Watch,
+    watch: &dyn Progress,
 ) -> Result<Yes, No>
     requires fits { split_total request.now.split input.now ≤ 2 ^ 20 }
     ensures judged { VerdictOfSome request.now input.now (map R.remaining outputs.old) (C.remaining certificate.old) result }
@@ -168,7 +168,7 @@ pub fn check_from_watched<R: CountedRead, C: CountedRead>(
     input: &Input,
     outputs: &mut [R],
     certificate: &mut C,
-    watch: &dyn Watch,
+    watch: &dyn Progress,
 ) -> Result<Yes, No>
     requires { split_total request.now.split input.now ≤ 2 ^ 20 }
     ensures judged { Judged request.now input.now (map R.remaining outputs.old) (C.remaining certificate.old) result }

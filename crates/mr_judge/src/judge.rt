@@ -3,7 +3,7 @@ ghost use Rattle.std.specs.Prelude.{◌≡◌, ◌⊎◌, ℕ, List, ◌<◌, �
 ghost use Rattle.mr_input.specs.Files.{contents, split_total};
 ghost use Rattle.mr_splits.specs.Cut.{records_of};
 ghost use Rattle.mr_certform.specs.declared.item.Item.{Item as Read};
-ghost use Rattle.mr_certform.specs.declared.place.Place.TheVariants.{AtMagic, AtSkips};
+ghost use Rattle.mr_certform.specs.declared.grammar_state.GrammarState.TheVariants.{AtMagic, AtSkips};
 ghost use Rattle.mr_certform.specs.Walking.{items_left, halt};
 ghost use Rattle.mr_certform.specs.Spelling.{items_of, stop};
 ghost use Rattle.mr_verdict.specs.declared.fault.No.TheVariants.{OutOfMemory};
@@ -19,7 +19,7 @@ ghost use Rattle.mr_judge.specs.Outputs.{CanCome as CanComeAhead, Fits, Through,
 use crate::facts::Basis;
 use crate::outputs::{AtHand, Outputs};
 use crate::parts::check_parts;
-use mr_bytes::{RecordName, Unwatched, Watch};
+use mr_bytes::{Progress, RecordName, Unwatched};
 use mr_certform::Walker;
 use mr_index::{EmissionIndex, Meter};
 use mr_input::Input;
@@ -37,7 +37,7 @@ pub fn plan_of<'a>(
     requires { split_total request.now.split input.now ≤ 2 ^ 20 }
     ensures plan { IfOk result (λ r. r ≡ record { size = request.now.split; files = input.entry.now }) }
 {
-    Plan::fitting(alloc, input, request.split_size())
+    Plan::new_fitting(alloc, input, request.split_size())
 }
 
 /// Judges the partitions, given the left-out records: how many pairs there are, or the first fault.
@@ -49,7 +49,7 @@ fn check_with<I: Items, O: Outputs>(
     skips: &[RecordName],
     walker: &mut I,
     meter: &mut Meter,
-    watch: &dyn Watch,
+    watch: &dyn Progress,
 ) -> Result<u64, Stop>
     requires same { plan.now.size ≡ request.now.split }
     requires sound { I.sound walker.old }
@@ -85,7 +85,7 @@ fn check_rest<I: Items, O: Outputs>(
     outputs: &mut O,
     walker: &mut I,
     meter: &mut Meter,
-    watch: &dyn Watch,
+    watch: &dyn Progress,
 ) -> Result<Yes, Stop>
     requires fits { split_total request.now.split input.now ≤ 2 ^ 20 }
     requires sound { I.sound walker.old }
@@ -128,7 +128,7 @@ pub(crate) fn judge_all<I: Items, O: Outputs>(
     outputs: &mut O,
     walker: &mut I,
     meter: &mut Meter,
-    watch: &dyn Watch,
+    watch: &dyn Progress,
 ) -> Result<Yes, Stop>
     requires fits { split_total request.now.split input.now ≤ 2 ^ 20 }
     requires sound { I.sound walker.old }
@@ -159,7 +159,7 @@ fn judge_at_hand(
     outputs: &[Vec<u8>],
     certificate: &[u8],
     meter: &mut Meter,
-    watch: &dyn Watch,
+    watch: &dyn Progress,
 ) -> Result<Yes, No>
     requires fits { split_total request.now.split input.now ≤ 2 ^ 20 }
     requires count { (meter.old.lookups ≤ 2 ^ 63) × (meter.old.mapped ≤ 2 ^ 63) }
@@ -197,7 +197,7 @@ fn judge_metered(
     outputs: &[Vec<u8>],
     certificate: &[u8],
     meter: &mut Meter,
-    watch: &dyn Watch,
+    watch: &dyn Progress,
 ) -> Result<Yes, No>
     requires fits { split_total request.now.split input.now ≤ 2 ^ 20 }
     requires count { (meter.old.lookups ≤ 2 ^ 63) × (meter.old.mapped ≤ 2 ^ 63) }
@@ -242,7 +242,7 @@ pub fn check_watched(
     input: &Input,
     outputs: &[Vec<u8>],
     certificate: &[u8],
-    watch: &dyn Watch,
+    watch: &dyn Progress,
 ) -> Result<Yes, No>
     requires { split_total request.now.split input.now ≤ 2 ^ 20 }
     ensures headline { IfOk result (λ y. IsCertified request.now input.now (contents outputs.now) certificate.now y.skips.items y.pairs) }

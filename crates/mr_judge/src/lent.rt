@@ -24,7 +24,7 @@ impl<'a, R: CountedRead> CountedRead for Lent<'a, R> {
         self.reader.failures()
     }
 
-    fn lacked_memory(&self) -> bool {
-        self.reader.lacked_memory()
+    fn is_out_of_memory(&self) -> bool {
+        self.reader.is_out_of_memory()
     }
 }

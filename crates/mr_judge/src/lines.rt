@@ -8,7 +8,7 @@ ghost use Rattle.mr_judge.specs.Outputs.{CanCome, TextTold, Halts};
 use crate::entry_tests::test_text;
 use crate::facts::Basis;
 use crate::outputs::Outputs;
-use mr_bytes::{Value, Values};
+use mr_bytes::{Value, ValueColumn};
 use mr_jobs::Job;
 use mr_reduce::group_text;
 use mr_verdict::Stop;
@@ -28,7 +28,7 @@ fn test_lines<O: Outputs>(
     p: u64,
     job: &Job,
     key: &[u8],
-    values: &Values,
+    values: &ValueColumn,
     line: &mut Vec<u8>,
 ) -> Result<(), Stop>
     requires lines { has_lines job.now ≡ true }
@@ -53,7 +53,7 @@ pub(crate) fn test_group<O: Outputs>(
     basis: &Basis<'_>,
     p: u64,
     key: &[u8],
-    values: &Values,
+    values: &ValueColumn,
     line: &mut Vec<u8>,
 ) -> Result<(), Stop>
     requires begun { O.begun outputs.old }

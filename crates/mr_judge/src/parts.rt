@@ -9,9 +9,9 @@ ghost use Rattle.mr_judge.specs.Outputs.{CanCome as CanComeAhead, Fits, Through,
 
 use crate::blocks::{BLOCK, FoundItem, Sought, fetch_all, read_block, seek_all, touch};
 use crate::facts::Basis;
+use crate::judge_state::JudgeState;
 use crate::outputs::Outputs;
-use crate::progress::Progress;
-use mr_bytes::{Pace, Phase, Watch};
+use mr_bytes::{Phase, Progress, Throttle};
 use mr_certform::Item;
 use mr_index::Meter;
 use mr_verdict::{Items, No, Stop};
@@ -20,7 +20,7 @@ use std::alloc::{AllocError, Global};
 /// Judges rows in turn: whether they end the certificate, or the first fault.
 #[inline(never)]
 fn judge_rows<'a, O: Outputs>(
-    judging: &mut Progress<'a>,
+    judging: &mut JudgeState<'a>,
     basis: &Basis<'a>,
     outputs: &mut O,
     rows: &[FoundItem<'a>],
@@ -94,8 +94,8 @@ fn judge_blocks<'a, I: Items, O: Outputs>(
     outputs: &mut O,
     walker: &mut I,
     meter: &mut Meter,
-    watch: &dyn Watch,
-    judging: &mut Progress<'a>,
+    watch: &dyn Progress,
+    judging: &mut JudgeState<'a>,
     block: &mut Block<'a>,
 ) -> Result<u64, Stop>
     requires fresh { judging.old ≡ start }
@@ -114,7 +114,7 @@ fn judge_blocks<'a, I: Items, O: Outputs>(
     ensures stops { HaltsItems I.steady (I.failed walker.old) (I.failed walker.new) result }
     ensures halts { HaltsOutputs O.steady (O.failed outputs.old) (O.failed outputs.new) result }
 {
-    let mut pace = Pace::new(Phase::Judging, basis.emitted());
+    let mut pace = Throttle::new(Phase::Judging, basis.emitted());
     loop {
         pace.reach(judging.named(), watch);
         let stopped = read_block(walker, &mut block.items)?;
@@ -136,7 +136,7 @@ pub(crate) fn check_parts<I: Items, O: Outputs>(
     outputs: &mut O,
     walker: &mut I,
     meter: &mut Meter,
-    watch: &dyn Watch,
+    watch: &dyn Progress,
 ) -> Result<u64, Stop>
     requires sound { I.sound walker.old }
     requires some { CanCome (I.gives walker.old) }
@@ -153,7 +153,7 @@ pub(crate) fn check_parts<I: Items, O: Outputs>(
     ensures stops { HaltsItems I.steady (I.failed walker.old) (I.failed walker.new) result }
     ensures halts { HaltsOutputs O.steady (O.failed outputs.old) (O.failed outputs.new) result }
 {
-    let mut judging = Progress::new(alloc);
+    let mut judging = JudgeState::new(alloc);
     let mut block = Block::new(alloc)?;
     judge_blocks(
         basis,

@@ -3,7 +3,7 @@ ghost use Rattle.std.specs.Prelude.{◌≤◌, ◌^◌, IfOk};
 ghost use Rattle.mr_input.specs.Files.{split_total};
 
 use crate::given::{Given, list_of, with_text};
-use mr_bytes::{Phase, Watch};
+use mr_bytes::{Phase, Progress};
 use mr_certform::{Version, write};
 use mr_check::{No, check_watched};
 use mr_example::{Handed, Trouble, agreed, judged, made};
@@ -30,15 +30,15 @@ impl Counting {
     }
 }
 
-impl Watch for Counting {
-    fn tell(&self, _phase: Phase, done: u64, all: u64) {
+impl Progress for Counting {
+    fn report(&self, _phase: Phase, done: u64, all: u64) {
         self.told.fetch_add(1, Ordering::SeqCst);
         if all < done {
             self.past.fetch_add(1, Ordering::SeqCst);
         }
     }
 
-    fn lost(&self) {}
+    fn worker_lost(&self) {}
 }
 
 /// The book, and what is agreed on it.

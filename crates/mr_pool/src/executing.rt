@@ -3,11 +3,11 @@ ghost use Rattle.std.specs.Prelude.{◌≡◌, ◌<◌, ◌^◌, IfOk, vec_len};
 
 use crate::completed::Completed;
 use crate::orders::Orders;
-use crate::run_progress::Progress;
+use crate::run_progress::RunProgress;
 use crate::shared::Shared;
 use crate::worker::{Left, Worker};
 use mr_book::{Book, Seat};
-use mr_bytes::{Gate, Watch};
+use mr_bytes::{Gate, Progress};
 use mr_core::Shape;
 use mr_input::Input;
 use mr_jobs::Request;
@@ -66,7 +66,7 @@ fn seats_of<L: Ledger>(alloc: Global, mut left: Vec<Left<L>>) -> Result<Vec<Seat
 }
 
 /// All workers' turns over what they share, each in a thread of its own where one can be made: the seats that come back.
-fn turns<L: Ledger + Send + Sync, G: Gate, W: Watch, S: RegionStore, R: Threads + Wait + Sync>(
+fn turns<L: Ledger + Send + Sync, G: Gate, W: Progress, S: RegionStore, R: Threads + Wait + Sync>(
     rt: &R,
     alloc: Global,
     shared: &Shared<'_, L, G, W, S>,
@@ -84,7 +84,7 @@ fn turns<L: Ledger + Send + Sync, G: Gate, W: Watch, S: RegionStore, R: Threads 
 pub fn executed<
     L: Ledger + Send + Sync,
     G: Gate,
-    W: Watch,
+    W: Progress,
     S: RegionStore + Drop,
     R: Threads + Wait + Sync,
 >(
@@ -112,7 +112,7 @@ pub fn executed<
         completed: Completed::new(alloc, terms.shape.maps, terms.shape.parts)?,
         gate,
         store,
-        progress: Progress::new(watch, terms.shape.maps, terms.shape.parts),
+        progress: RunProgress::new(watch, terms.shape.maps, terms.shape.parts),
     };
     let seats = turns(rt, alloc, &shared, seats)?;
     let Shared { book, .. } = shared;

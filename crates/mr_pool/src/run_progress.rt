@@ -1,11 +1,11 @@
 //! How far a run has come, for who looks on.
-use mr_bytes::{Phase, Watch};
+use mr_bytes::{Phase, Progress};
 use std::sync::atomic::{AtomicU64, Ordering};
 
 /// Counts the outputs that the book accepts, without its lock. A map task that is done again after a loss is counted
 /// again, so what is told stops at all that there are.
 #[derive(Drop)]
-pub(crate) struct Progress<'a, W: Watch> {
+pub(crate) struct RunProgress<'a, W: Progress> {
     watch: &'a W,
     maps: u64,
     parts: u64,
@@ -20,10 +20,10 @@ fn count(done: &AtomicU64, all: u64) -> u64 {
         .min(all)
 }
 
-impl<'a, W: Watch> Progress<'a, W> {
+impl<'a, W: Progress> RunProgress<'a, W> {
     /// Nothing is done yet.
-    pub(crate) fn new(watch: &'a W, maps: u32, parts: u32) -> Progress<'a, W> {
-        Progress {
+    pub(crate) fn new(watch: &'a W, maps: u32, parts: u32) -> RunProgress<'a, W> {
+        RunProgress {
             watch,
             maps: u64::from(maps),
             parts: u64::from(parts),
@@ -35,17 +35,17 @@ impl<'a, W: Watch> Progress<'a, W> {
     /// An output of a map task is accepted.
     pub(crate) fn mapped(&self) {
         let done = count(&self.mapped, self.maps);
-        self.watch.tell(Phase::Mapping, done, self.maps);
+        self.watch.report(Phase::Mapping, done, self.maps);
     }
 
     /// An output of a reduce task is accepted.
     pub(crate) fn reduced(&self) {
         let done = count(&self.reduced, self.parts);
-        self.watch.tell(Phase::Reducing, done, self.parts);
+        self.watch.report(Phase::Reducing, done, self.parts);
     }
 
     /// The loss of a worker is accepted.
-    pub(crate) fn lost(&self) {
-        self.watch.lost();
+    pub(crate) fn worker_lost(&self) {
+        self.watch.worker_lost();
     }
 }

@@ -19,7 +19,7 @@ use crate::executing::{Terms, executed};
 use crate::judge_progress::JudgesProgress;
 use crate::orders::accounts_for;
 use mr_book::{Book, History, Seat};
-use mr_bytes::{Gate, OpenGate, Phase, RecordName, Unwatched, Watch};
+use mr_bytes::{Gate, OpenGate, Phase, Progress, RecordName, Unwatched};
 use mr_certform::Version;
 use mr_check::{MappedInput, No, Yes, check_mapped_watched, is_same_fault, map_input};
 use mr_core::{End, JobFault, Limits, Shape};
@@ -84,7 +84,7 @@ impl From<AllocError> for RunFault {
 }
 
 /// The verdict on a result, by as many threads as there are workers, given the input as it was mapped ahead.
-fn judged_by_all<W: Watch, R: Threads + Sync>(
+fn judged_by_all<W: Progress, R: Threads + Sync>(
     rt: &R,
     alloc: Global,
     mapped: &MappedInput<'_>,
@@ -156,7 +156,7 @@ fn answered(
 }
 
 /// The files and the certificate of a done job, put together by one thread while the others map the input for the judge.
-fn made_and_mapped<'p, L: Ledger, W: Watch, R: Threads + Sync>(
+fn made_and_mapped<'p, L: Ledger, W: Progress, R: Threads + Sync>(
     rt: &R,
     alloc: Global,
     plan: &'p Plan<'p>,
@@ -205,7 +205,7 @@ fn made_and_mapped<'p, L: Ledger, W: Watch, R: Threads + Sync>(
 }
 
 /// The result of a done job is assembled and judged.
-fn assembled<L: Ledger, W: Watch, R: Threads + Sync>(
+fn assembled<L: Ledger, W: Progress, R: Threads + Sync>(
     rt: &R,
     alloc: Global,
     plan: &Plan<'_>,
@@ -225,7 +225,7 @@ fn assembled<L: Ledger, W: Watch, R: Threads + Sync>(
     ensures certified { IfOk result (IsCertifiedRun terms.entry.request.now terms.entry.input.now book.shape version) }
     ensures fault { IfErr result (IsRunFault terms.entry.request.now terms.entry.input.now terms.entry.script.now steady book.shape) }
 {
-    watch.tell(Phase::Judging, 0, 1);
+    watch.report(Phase::Judging, 0, 1);
     let (outputs, certificate, mapped) = made_and_mapped(
         rt, alloc, plan, terms, &book, version, watch,
     )?;
@@ -284,7 +284,7 @@ fn is_opened(shape: Shape, opened: Shape) -> bool
 }
 
 /// What a book that is closed amounts to.
-fn settled<L: Ledger, W: Watch, R: Threads + Sync>(
+fn settled<L: Ledger, W: Progress, R: Threads + Sync>(
     rt: &R,
     alloc: Global,
     plan: &Plan<'_>,
@@ -323,7 +323,7 @@ fn run_in<
     L: Ledger + Send + Sync,
     G: Gate,
     S: RegionStore + Drop,
-    W: Watch,
+    W: Progress,
     R: Threads + Wait + Sync,
 >(
     rt: &R,
@@ -405,7 +405,7 @@ pub fn run_watched<G: Gate, S: RegionStore + Drop, R: Threads + Wait + Sync>(
     gate: &G,
     store: S,
     version: Version,
-    watch: &dyn Watch,
+    watch: &dyn Progress,
 ) -> Result<Certified, RunFault>
     requires fits { split_total request.now.split input.now ≤ 2 ^ 20 }
     requires workers { (1 ≤ workers) × (workers ≤ 64) }
@@ -413,7 +413,7 @@ pub fn run_watched<G: Gate, S: RegionStore + Drop, R: Threads + Wait + Sync>(
     ensures certified { IfOk result (IsCertifiedRun request.now input.now (run_shape request.now input.now workers attempts) version) }
     ensures fault { IfErr result (IsRunFault request.now input.now script.now S.steady (run_shape request.now input.now workers attempts)) }
 {
-    let plan = Plan::fitting(alloc, input, request.split_size())?;
+    let plan = Plan::new_fitting(alloc, input, request.split_size())?;
     let shape = Shape {
         maps: plan.splits(),
         parts: request.parts(),
@@ -429,7 +429,7 @@ pub fn run_watched<G: Gate, S: RegionStore + Drop, R: Threads + Wait + Sync>(
         script,
         shape,
     };
-    run_in::<Brand, G, S, &dyn Watch, R>(
+    run_in::<Brand, G, S, &dyn Progress, R>(
         rt,
         alloc,
         Blank::new(workers as u64),

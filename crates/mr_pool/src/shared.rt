@@ -1,9 +1,9 @@
 //! What the workers of a run share: the book under its lock, the store of regions, and all that they only read.
 use crate::completed::Completed;
 use crate::orders::Orders;
-use crate::run_progress::Progress;
+use crate::run_progress::RunProgress;
 use mr_book::{Book, Seat};
-use mr_bytes::{Gate, Watch};
+use mr_bytes::{Gate, Progress};
 use mr_core::{Reply, Task};
 use mr_jobs::Request;
 use mr_spill::RegionStore;
@@ -21,7 +21,7 @@ const LOOKS: u32 = 1_000;
 /// The book under its lock, which is held for one call of it and for nothing else; `news` wakes those who wait for a
 /// task. `stopped` is set once a worker can't go on.
 #[derive(Drop)]
-pub(crate) struct Shared<'a, L: Ledger, G: Gate, W: Watch, S: RegionStore> {
+pub(crate) struct Shared<'a, L: Ledger, G: Gate, W: Progress, S: RegionStore> {
     pub alloc: Global,
     pub book: Mutex<Book<L>>,
     pub news: Condvar,
@@ -32,10 +32,10 @@ pub(crate) struct Shared<'a, L: Ledger, G: Gate, W: Watch, S: RegionStore> {
     pub completed: Completed,
     pub gate: &'a G,
     pub store: S,
-    pub progress: Progress<'a, W>,
+    pub progress: RunProgress<'a, W>,
 }
 
-impl<'a, L: Ledger, G: Gate, W: Watch, S: RegionStore> Shared<'a, L, G, W, S> {
+impl<'a, L: Ledger, G: Gate, W: Progress, S: RegionStore> Shared<'a, L, G, W, S> {
     /// Whether the workers end after their present turn.
     pub(crate) fn is_stopped(&self) -> bool {
         self.stopped.load(Ordering::SeqCst)
@@ -193,7 +193,7 @@ impl<'a, L: Ledger, G: Gate, W: Watch, S: RegionStore> Shared<'a, L, G, W, S> {
         let told = self.book.lock(rt).lose(seat, worker);
         self.news.notify_all();
         if matches!(told?, Reply::Accepted) {
-            self.progress.lost();
+            self.progress.worker_lost();
         }
         Ok(())
     }

@@ -4,7 +4,7 @@ ghost use Rattle.mr_input.specs.Files.{split_total};
 
 use crate::shared::Shared;
 use mr_book::Seat;
-use mr_bytes::{Gate, Watch};
+use mr_bytes::{Gate, Progress};
 use mr_core::{Reply, Task};
 use mr_input::Input;
 use mr_script::Directive;
@@ -149,7 +149,7 @@ fn guessed(first: usize, plan: &Plan<'_>) -> usize {
 
 impl<L: Ledger> Worker<L> {
     /// What is ordered just before the worker's next report, in the order of the lines.
-    fn before_report<R: Wait, G: Gate, W: Watch, S: RegionStore>(
+    fn before_report<R: Wait, G: Gate, W: Progress, S: RegionStore>(
         &mut self,
         rt: &R,
         shared: &Shared<'_, L, G, W, S>,
@@ -168,7 +168,7 @@ impl<L: Ledger> Worker<L> {
     }
 
     /// Puts a region, damaged where a line says so: its number, and `None` where the store's device failed.
-    fn put<G: Gate, W: Watch, S: RegionStore>(
+    fn put<G: Gate, W: Progress, S: RegionStore>(
         &self,
         shared: &Shared<'_, L, G, W, S>,
         split: u32,
@@ -186,7 +186,7 @@ impl<L: Ledger> Worker<L> {
     }
 
     /// Puts the regions of each run of a piece, which are let go then; false where the store's device failed.
-    fn put_piece<G: Gate, W: Watch, S: RegionStore>(
+    fn put_piece<G: Gate, W: Progress, S: RegionStore>(
         &self,
         shared: &Shared<'_, L, G, W, S>,
         split: u32,
@@ -207,7 +207,7 @@ impl<L: Ledger> Worker<L> {
     }
 
     /// Executes a map task, and reports. A worker whose store fails is lost.
-    fn map<R: Wait, G: Gate, W: Watch, S: RegionStore>(
+    fn map<R: Wait, G: Gate, W: Progress, S: RegionStore>(
         &mut self,
         rt: &R,
         shared: &Shared<'_, L, G, W, S>,
@@ -231,7 +231,7 @@ impl<L: Ledger> Worker<L> {
     /// Maps a split piece by piece, puts the regions of each before it maps the next, and reports; false where the store's
     /// device failed. Once another worker has completed the task it leaves off, and reports no output: the regions that it
     /// has put stay in the store. Where that worker's output is lost meanwhile, it goes on.
-    fn map_pieces<R: Wait, G: Gate, W: Watch, S: RegionStore>(
+    fn map_pieces<R: Wait, G: Gate, W: Progress, S: RegionStore>(
         &mut self,
         rt: &R,
         shared: &Shared<'_, L, G, W, S>,
@@ -279,7 +279,7 @@ impl<L: Ledger> Worker<L> {
     }
 
     /// The output of a partition over all regions at once.
-    fn reduce_whole<G: Gate, W: Watch, S: RegionStore>(
+    fn reduce_whole<G: Gate, W: Progress, S: RegionStore>(
         &self,
         shared: &Shared<'_, L, G, W, S>,
         partition: u32,
@@ -315,7 +315,7 @@ impl<L: Ledger> Worker<L> {
 
     /// Fetches the output of each split, and takes its regions of the partition, of which one is at hand at a time. Where their
     /// names are out of order, all are got again.
-    fn make_reduce<R: Wait, G: Gate, W: Watch, S: RegionStore>(
+    fn make_reduce<R: Wait, G: Gate, W: Progress, S: RegionStore>(
         &mut self,
         rt: &R,
         shared: &Shared<'_, L, G, W, S>,
@@ -355,7 +355,7 @@ impl<L: Ledger> Worker<L> {
     }
 
     /// Executes a reduce task, and reports; where an output that it needs is gone, or can't be read, it makes no report.
-    fn reduce<R: Wait, G: Gate, W: Watch, S: RegionStore>(
+    fn reduce<R: Wait, G: Gate, W: Progress, S: RegionStore>(
         &mut self,
         rt: &R,
         shared: &Shared<'_, L, G, W, S>,
@@ -378,7 +378,7 @@ impl<L: Ledger> Worker<L> {
 
     /// Reports what a reduce attempt gave. One that left off has nothing to report but that it ends: what is committed
     /// stays so.
-    fn report_reduce<R: Wait, G: Gate, W: Watch, S: RegionStore>(
+    fn report_reduce<R: Wait, G: Gate, W: Progress, S: RegionStore>(
         &mut self,
         rt: &R,
         shared: &Shared<'_, L, G, W, S>,
@@ -394,7 +394,7 @@ impl<L: Ledger> Worker<L> {
     }
 
     /// An attempt, between entering the gate and leaving it.
-    fn attempt<R: Wait, G: Gate, W: Watch, S: RegionStore>(
+    fn attempt<R: Wait, G: Gate, W: Progress, S: RegionStore>(
         &mut self,
         rt: &R,
         shared: &Shared<'_, L, G, W, S>,
@@ -423,7 +423,7 @@ impl<L: Ledger> Worker<L> {
     }
 
     /// One turn: the worker is lost where that is due; else it asks, and does what it is told.
-    fn turn<R: Wait, G: Gate, W: Watch, S: RegionStore>(
+    fn turn<R: Wait, G: Gate, W: Progress, S: RegionStore>(
         &mut self,
         rt: &R,
         shared: &Shared<'_, L, G, W, S>,
@@ -437,7 +437,7 @@ impl<L: Ledger> Worker<L> {
     }
 
     /// Turn after turn, until it is dismissed, or a worker can't go on.
-    pub(crate) fn work<R: Wait, G: Gate, W: Watch, S: RegionStore>(
+    pub(crate) fn work<R: Wait, G: Gate, W: Progress, S: RegionStore>(
         mut self,
         rt: &R,
         shared: &Shared<'_, L, G, W, S>,

@@ -1,6 +1,6 @@
 //! A gate that holds one attempt back, and a watch that counts what it is told.
 use crate::telling::Teller;
-use mr_bytes::{Gate, Phase, Watch};
+use mr_bytes::{Gate, Phase, Progress};
 use std::sync::atomic::{AtomicBool, AtomicU64, Ordering};
 use std::thread;
 
@@ -114,8 +114,8 @@ impl Tally {
     }
 }
 
-impl Watch for Tally {
-    fn tell(&self, phase: Phase, done: u64, all: u64) {
+impl Progress for Tally {
+    fn report(&self, phase: Phase, done: u64, all: u64) {
         match phase {
             Phase::Mapping => self.mapping.hear(done, all),
             Phase::Reducing => self.reducing.hear(done, all),
@@ -123,7 +123,7 @@ impl Watch for Tally {
         }
     }
 
-    fn lost(&self) {
+    fn worker_lost(&self) {
         self.lost.fetch_add(1, Ordering::SeqCst);
     }
 }

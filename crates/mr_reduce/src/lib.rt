@@ -12,7 +12,7 @@ mod files;
 
 use crate::files::{Listed, put_files};
 use itoa::Buffer;
-use mr_bytes::{Value, Values};
+use mr_bytes::{Value, ValueColumn};
 use mr_jobs::Job;
 use std::alloc::AllocError;
 
@@ -33,17 +33,17 @@ pub fn group_text(
     ensures full { OnErr result (vec_capacity out.old < vec_len out.old + length (text_of job.now key.now values.now)) }
 {
     if job.counts() {
-        return total_text(key, values.len() as u64, out);
+        return append_total(key, values.len() as u64, out);
     }
     listed_text(job, key, Listed::Slice(values), out)
 }
 
 /// Appends the text of a key with the values of a column: what `group_text` appends for them. It fails only for want of
 /// memory, and then leaves `out` as it was.
-pub fn column_text(
+pub fn append_text(
     job: &Job,
     key: &[u8],
-    values: &Values,
+    values: &ValueColumn,
     out: &mut Vec<u8>,
 ) -> Result<(), AllocError>
     ensures ok { OnOk result (out.new.items ≡ out.old.items ++ text_of job.now key.now values.now) }
@@ -52,7 +52,7 @@ pub fn column_text(
 {
     if job.counts() {
         let total = values.len();
-        return total_text(key, total as u64, out);
+        return append_total(key, total as u64, out);
     }
     listed_text(job, key, Listed::Column(values), out)
 }
@@ -84,7 +84,7 @@ fn listed_text(
 
 /// Appends the line of a key with a number: what `group_text` appends for a job that counts, where the number is that
 /// of the values. It fails only for want of memory, and then leaves `out` as it was.
-pub fn total_text(key: &[u8], total: u64, out: &mut Vec<u8>) -> Result<(), AllocError>
+pub fn append_total(key: &[u8], total: u64, out: &mut Vec<u8>) -> Result<(), AllocError>
     ensures ok { OnOk result (out.new.items ≡ out.old.items ++ total_line key.now total) }
     ensures err { OnErr result (out.new.items ≡ out.old.items) }
     ensures full { OnErr result (vec_capacity out.old < vec_len out.old + length (total_line key.now total)) }
@@ -146,7 +146,7 @@ fn put_places(key: &[u8], values: Listed<'_>, out: &mut Vec<u8>) -> Result<(), A
 }
 
 /// Where a job counts, the text of a group is that of the key with the number of its values, whatever they are: the
-/// number alone is enough for `total_text`. The files that an index tells rise, and are just those of the values.
+/// number alone is enough for `append_total`. The files that an index tells rise, and are just those of the values.
 pub fn text_law()
     ensures number { CountersTellTheNumber }
     ensures rise { FilesRise }

@@ -8,10 +8,10 @@ use crate::streaming;
 use crate::telling::Teller;
 use mr_bytes::Name;
 use mr_certform::{
-    Builder, Certificate, Groups, Header, InVersion, Item, ReadFault, Version, Walker, WriteFault,
-    read, write,
+    Builder, Certificate, GroupIter, Header, Item, ReadFault, Version, VersionedCertificate,
+    Walker, WriteFault, read, write,
 };
-use mr_store::{MemoryWriter, write_spelled};
+use mr_store::{MemoryWriter, write_encoded};
 use std::alloc::{AllocError, Global};
 use std::io;
 
@@ -103,7 +103,7 @@ fn show(teller: &Teller, certificate: &Certificate) {
 }
 
 /// Tells the names of each group of a partition.
-fn show_groups(teller: &Teller, mut groups: Groups<'_>) {
+fn show_groups(teller: &Teller, mut groups: GroupIter<'_>) {
     for _ in 0..SHORT {
         match groups.next_group() {
             Some(names) => teller.named("group ", &names),
@@ -127,10 +127,10 @@ fn show_partitions(teller: &Teller, certificate: &Certificate) {
 }
 
 /// Whether the certificate is written as these bytes onto a writer, which is given them piece by piece.
-fn is_spelled_again(alloc: Global, spelled: &InVersion<'_>, bytes: &[u8]) -> bool {
+fn is_spelled_again(alloc: Global, spelled: &VersionedCertificate<'_>, bytes: &[u8]) -> bool {
     let mut writer = MemoryWriter::new(alloc, 50_000, None);
-    let done = write_spelled(&mut writer, spelled).is_ok();
-    done && writer.handed_on() == bytes
+    let done = write_encoded(&mut writer, spelled).is_ok();
+    done && writer.flushed() == bytes
 }
 
 /// The version that the bytes begin with.

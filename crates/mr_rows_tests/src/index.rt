@@ -8,11 +8,11 @@ ghost use Rattle.mr_index.specs.Index.{AreParts, triples_in, triples_of};
 use crate::inputs::{numbers_of, skips_of};
 use crate::runs::asked;
 use crate::telling::Teller;
-use mr_bytes::{Name, Phase, RecordName, Watch};
+use mr_bytes::{Name, Phase, Progress, RecordName};
 use mr_index::{EmissionIndex, Meter, Part};
 use mr_input::Input;
 use mr_jobs::Job;
-use mr_splits::{Kept, Plan};
+use mr_splits::{KeptPlan, Plan};
 use std::alloc::{AllocError, Global};
 use std::io;
 use std::sync::atomic::{AtomicU64, Ordering};
@@ -44,15 +44,15 @@ struct Counting {
     past: AtomicU64,
 }
 
-impl Watch for Counting {
-    fn tell(&self, _phase: Phase, done: u64, all: u64) {
+impl Progress for Counting {
+    fn report(&self, _phase: Phase, done: u64, all: u64) {
         self.told.fetch_add(1, Ordering::SeqCst);
         if all < done {
             self.past.fetch_add(1, Ordering::SeqCst);
         }
     }
 
-    fn lost(&self) {}
+    fn worker_lost(&self) {}
 }
 
 /// The index over a plan, built while somebody looks on.
@@ -75,7 +75,7 @@ fn watched_index(
 fn part_of(
     alloc: Global,
     plan: &Plan<'_>,
-    kept: &Kept<'_>,
+    kept: &KeptPlan<'_>,
     job: &Job,
     skips: &[RecordName],
     split: u32,
@@ -95,7 +95,7 @@ fn part_of(
 fn parts_of(
     alloc: Global,
     plan: &Plan<'_>,
-    kept: &Kept<'_>,
+    kept: &KeptPlan<'_>,
     job: &Job,
     skips: &[RecordName],
 ) -> Result<Vec<Part>, AllocError>
@@ -119,7 +119,7 @@ fn joined(
     job: &Job,
     skips: &[RecordName],
 ) -> Result<EmissionIndex, AllocError> {
-    let kept = plan.kept(alloc, skips)?;
+    let kept = plan.without(alloc, skips)?;
     let parts = parts_of(alloc, plan, &kept, job, skips)?;
     Ok(EmissionIndex::join(parts))
 }

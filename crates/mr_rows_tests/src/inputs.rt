@@ -5,7 +5,7 @@ use crate::telling::Teller;
 use mr_bytes::{RecordName, cut};
 use mr_input::Input;
 use mr_jobs::{Job, Request};
-use mr_splits::{Kept, Plan, splits_law};
+use mr_splits::{KeptPlan, Plan, splits_law};
 use std::alloc::{AllocError, Global};
 use std::io;
 
@@ -103,8 +103,8 @@ fn show_record(teller: &Teller, plan: &Plan<'_>, split: u32, rec: u32) {
         teller.end_line();
         return;
     }
-    let line = plan.located(split, rec);
-    let number = plan.number_of(split, rec);
+    let line = plan.locate(split, rec);
+    let number = plan.record_index(split, rec);
     teller.four(&line.file, &line.start, &line.bytes, &number);
 }
 
@@ -131,7 +131,7 @@ fn show_left_out(teller: &Teller, plan: &Plan<'_>, skips: &[RecordName]) -> Resu
 }
 
 /// The first records that are kept.
-fn show_kept(teller: &Teller, kept: &Kept<'_>) {
+fn show_kept(teller: &Teller, kept: &KeptPlan<'_>) {
     let mut all = kept.records();
     for _ in 0..FEW {
         match all.next() {
@@ -154,7 +154,7 @@ fn show_list(
 ) -> Result<(), AllocError> {
     teller.one(&plan.list_fault(most, skips));
     show_left_out(teller, plan, skips)?;
-    let kept = plan.kept(teller.alloc(), skips)?;
+    let kept = plan.without(teller.alloc(), skips)?;
     show_kept(teller, &kept);
     Ok(())
 }

@@ -1,12 +1,12 @@
 //! More kernels, of a case's two texts: jobs, what `map` adds, texts of groups, and keys that wait for their numbers.
 use crate::telling::Teller;
-use mr_bytes::{Value, Values};
-use mr_jobs::{Emissions, Job, Origin, map};
+use mr_bytes::{Value, ValueColumn};
+use mr_jobs::{Emissions, Job, RecordStart, map};
 use mr_keys::{Keys, Waiting};
-use mr_reduce::{column_text, group_text, total_text};
+use mr_reduce::{append_text, append_total, group_text};
 use std::alloc::{AllocError, Global};
 
-const AT: Origin = Origin { file: 1, start: 4 };
+const AT: RecordStart = RecordStart { file: 1, start: 4 };
 
 /// The longest line that is mapped.
 const LONGEST: usize = 1 << 30;
@@ -83,14 +83,14 @@ fn totals(alloc: Global, key: &[u8]) -> Result<Vec<u8>, AllocError> {
     let mut out = Vec::new(alloc);
     group_text(&Job::words(false), key, &[Value::One, Value::One], &mut out)?;
     group_text(&Job::url(), key, &[Value::One], &mut out)?;
-    total_text(key, 2, &mut out)?;
-    total_text(key, u64::MAX, &mut out)?;
+    append_total(key, 2, &mut out)?;
+    append_total(key, u64::MAX, &mut out)?;
     Ok(out)
 }
 
 /// The places of two lines: the first of the first file, and one past 4 GiB of the thirteenth.
-fn two_places(alloc: Global) -> Result<Values, AllocError> {
-    let mut column = Values::new(alloc);
+fn two_places(alloc: Global) -> Result<ValueColumn, AllocError> {
+    let mut column = ValueColumn::new(alloc);
     column.push(Value::At { file: 0, offset: 0 })?;
     column.push(Value::At {
         file: 12,
@@ -100,15 +100,20 @@ fn two_places(alloc: Global) -> Result<Values, AllocError> {
 }
 
 /// The text of the places of a column, and of a value without a place, which has none.
-fn places(alloc: Global, lines: &Job, key: &[u8], column: &Values) -> Result<Vec<u8>, AllocError> {
+fn places(
+    alloc: Global,
+    lines: &Job,
+    key: &[u8],
+    column: &ValueColumn,
+) -> Result<Vec<u8>, AllocError> {
     let mut out = Vec::new(alloc);
     group_text(lines, key, &[Value::One], &mut out)?;
-    column_text(lines, key, column, &mut out)?;
+    append_text(lines, key, column, &mut out)?;
     Ok(out)
 }
 
 /// The lines of an index: of no value, of a value without a place, of files in no order, and of a column.
-fn files(alloc: Global, key: &[u8], column: &Values) -> Result<Vec<u8>, AllocError> {
+fn files(alloc: Global, key: &[u8], column: &ValueColumn) -> Result<Vec<u8>, AllocError> {
     let index = Job::index(false);
     let of = |file: u32| Value::At { file, offset: 0 };
     let mut out = Vec::new(alloc);
@@ -120,7 +125,7 @@ fn files(alloc: Global, key: &[u8], column: &Values) -> Result<Vec<u8>, AllocErr
         &[of(3), of(10), Value::One, of(3), of(2), of(10)],
         &mut out,
     )?;
-    column_text(&index, key, column, &mut out)?;
+    append_text(&index, key, column, &mut out)?;
     Ok(out)
 }
 

@@ -2,7 +2,7 @@
 //! ground.
 use crate::telling::Teller;
 use mr_bytes::{
-    By, Name, Pair, RecordName, Value, Values, compare_keys, compare_names, compare_pairs,
+    By, Name, Pair, RecordName, Value, ValueColumn, compare_keys, compare_names, compare_pairs,
     compare_records, cut, fold_in_place, folded, is_word_byte, next_word,
 };
 use mr_partition::{fnv, partition, partition_by};
@@ -114,8 +114,8 @@ fn show_pairs(teller: &Teller, a: &[u8], b: &[u8]) -> Result<(), AllocError> {
 }
 
 /// A column of values with and without a place, some in another file or past its first 4 GiB.
-fn column(alloc: Global) -> Result<Values, AllocError> {
-    let mut column = Values::new(alloc);
+fn column(alloc: Global) -> Result<ValueColumn, AllocError> {
+    let mut column = ValueColumn::new(alloc);
     let at = |file, offset| Value::At { file, offset };
     for value in [
         Value::One,
@@ -132,7 +132,7 @@ fn column(alloc: Global) -> Result<Values, AllocError> {
     Ok(column)
 }
 
-fn show_column(teller: &Teller, column: &Values) {
+fn show_column(teller: &Teller, column: &ValueColumn) {
     for i in 0..column.len() {
         teller.before(&column.get(i), "|");
     }

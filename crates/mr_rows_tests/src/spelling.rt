@@ -6,8 +6,8 @@ use crate::inputs::numbers_of;
 use crate::stores::writer;
 use crate::telling::Teller;
 use mr_bytes::Name;
-use mr_certform::{Certificate, InVersion, Version};
-use mr_store::{CountedWrite, MemoryWriter, write_spelled};
+use mr_certform::{Certificate, Version, VersionedCertificate};
+use mr_store::{CountedWrite, MemoryWriter, write_encoded};
 use std::alloc::{AllocError, Global};
 use std::io;
 
@@ -35,12 +35,17 @@ fn certificate(alloc: Global, names: &[Name]) -> Result<Option<Certificate>, All
 }
 
 /// How many bytes are written, whether they begin those that should be, how many are handed on, and how many calls failed.
-fn show(teller: &Teller, spelled: &InVersion<'_>, bytes: &[u8], mut writer: MemoryWriter) {
-    teller.part(&write_spelled(&mut writer, spelled));
+fn show(
+    teller: &Teller,
+    spelled: &VersionedCertificate<'_>,
+    bytes: &[u8],
+    mut writer: MemoryWriter,
+) {
+    teller.part(&write_encoded(&mut writer, spelled));
     teller.four(
         &writer.bytes().len(),
         &bytes.starts_with(writer.bytes()),
-        &writer.handed_on().len(),
+        &writer.flushed().len(),
         &writer.failures(),
     );
 }

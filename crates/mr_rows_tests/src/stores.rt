@@ -6,7 +6,7 @@ use crate::master::numbers_of;
 use crate::telling::Teller;
 use mr_store::{
     Bytes, CountedRead, CountedWrite, MemoryReader, MemoryWriter, read_all, read_limited,
-    write_all, write_result, write_spelled,
+    write_all, write_encoded, write_result,
 };
 use std::alloc::{AllocError, Global};
 use std::io;
@@ -41,7 +41,7 @@ fn show_reader(teller: &Teller, reader: &MemoryReader, out: &[u8]) {
         &out,
         &reader.rest(),
         &reader.failures(),
-        &reader.lacked_memory(),
+        &reader.is_out_of_memory(),
     );
 }
 
@@ -79,9 +79,9 @@ fn show_first_eight(teller: &Teller, mut reader: MemoryReader) {
 fn show_writer(teller: &Teller, writer: &MemoryWriter) {
     teller.four(
         &writer.bytes(),
-        &writer.handed_on(),
+        &writer.flushed(),
         &writer.failures(),
-        &writer.lacked_memory(),
+        &writer.is_out_of_memory(),
     );
 }
 
@@ -90,7 +90,7 @@ fn show_written(teller: &Teller, mut writer: MemoryWriter, alone: bool) {
     let answer = if alone {
         write_all(&mut writer, &TEXT)
     } else {
-        write_spelled(&mut writer, &Bytes(&TEXT))
+        write_encoded(&mut writer, &Bytes(&TEXT))
     };
     teller.part(&answer);
     show_writer(teller, &writer);

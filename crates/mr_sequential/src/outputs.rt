@@ -21,7 +21,7 @@ use mr_bytes::By;
 use mr_certform::FlatGroups;
 use mr_jobs::Job;
 use mr_ranks::{RankedPairs, Row, ranked};
-use mr_splits::Kept;
+use mr_splits::KeptPlan;
 use std::alloc::{AllocError, Global};
 
 /// The texts and the groups of all partitions, given the rank of each pair, the rows of the ranks in order, and how many pairs
@@ -29,7 +29,7 @@ use std::alloc::{AllocError, Global};
 fn outputs_by_rank(
     alloc: Global,
     job: &Job,
-    kept: &Kept<'_>,
+    kept: &KeptPlan<'_>,
     rows: &[Row<'_>],
     numbers: Vec<u32>,
     counts: Vec<u32>,
@@ -61,7 +61,7 @@ fn outputs_by_rank(
 pub(crate) fn outputs(
     alloc: Global,
     job: &Job,
-    kept: &Kept<'_>,
+    kept: &KeptPlan<'_>,
     gathered: Gathered,
     counts: Vec<u32>,
     by: By,

@@ -12,11 +12,11 @@ ghost use Rattle.mr_sequential.specs.Skips.{list_fault, skip_fault};
 use crate::fault::RunFault;
 use crate::outputs::outputs;
 use crate::source::{Emitted, gather};
-use mr_bytes::{Phase, RecordName, Unwatched, Watch};
+use mr_bytes::{Phase, Progress, RecordName, Unwatched};
 use mr_certform::{Certificate, FlatGroups, Header};
 use mr_input::Input;
 use mr_jobs::Request;
-use mr_splits::{Kept, Plan, SkipFault};
+use mr_splits::{KeptPlan, Plan, SkipFault};
 use std::alloc::{AllocError, Global};
 
 /// The first fault of a list of left-out records, each tested for its order before its existence.
@@ -38,7 +38,7 @@ fn plan_of<'a>(alloc: Global, request: &Request, input: &'a Input) -> Result<Pla
     ensures plan { IfOk result (λ r. r ≡ record { size = request.now.split; files = input.entry.now }) }
     ensures some { IfOk result (λ r. 0 < r.size) }
 {
-    Plan::fitting(alloc, input, request.split_size())
+    Plan::new_fitting(alloc, input, request.split_size())
 }
 
 /// Executes the request's job over the input, one record after another, without the records of `skips`: the output of
@@ -69,7 +69,7 @@ pub fn run_watched(
     request: &Request,
     input: &Input,
     skips: &[RecordName],
-    watch: &dyn Watch,
+    watch: &dyn Progress,
 ) -> Result<(Vec<Vec<u8>>, Certificate), RunFault>
     requires { split_total request.now.split input.now ≤ 2 ^ 20 }
     ensures count { IfOk result (λ r. length r.0.items ≡ request.now.parts) }
@@ -132,8 +132,8 @@ pub fn header_of(
 fn outputs_of(
     alloc: Global,
     request: &Request,
-    kept: &Kept<'_>,
-    watch: &dyn Watch,
+    kept: &KeptPlan<'_>,
+    watch: &dyn Progress,
 ) -> Result<(Vec<Vec<u8>>, FlatGroups), AllocError>
     requires some { 0 < kept.now.cut.size }
     requires size { kept.now.cut.size ≡ request.now.split }
@@ -149,7 +149,7 @@ fn outputs_of(
     let _files = kept.plan().input().files();
     let job = request.job();
     let Emitted { pairs, counts } = gather(alloc, job, kept, watch)?;
-    watch.tell(Phase::Reducing, 0, 1);
+    watch.report(Phase::Reducing, 0, 1);
     let made = outputs(
         alloc,
         job,
@@ -159,7 +159,7 @@ fn outputs_of(
         request.by(),
         request.parts(),
     )?;
-    watch.tell(Phase::Reducing, 1, 1);
+    watch.report(Phase::Reducing, 1, 1);
     Ok(made)
 }
 
@@ -169,7 +169,7 @@ fn execute(
     request: &Request,
     plan: &Plan<'_>,
     skips: &[RecordName],
-    watch: &dyn Watch,
+    watch: &dyn Progress,
 ) -> Result<(Vec<Vec<u8>>, Certificate), RunFault>
     requires some { 0 < plan.now.size }
     requires size { plan.now.size ≡ request.now.split }
@@ -184,7 +184,7 @@ fn execute(
     // An input has few files, and a request few partitions, for a certificate.
     let _files = plan.input().files();
     let _parts = request.parts();
-    let kept = plan.kept(alloc, skips)?;
+    let kept = plan.without(alloc, skips)?;
     let (texts, groups) = outputs_of(alloc, request, &kept, watch)?;
     let header = header_of(alloc, request, plan.input(), skips)?;
     Ok((texts, Certificate::of(header, groups)))

@@ -10,16 +10,16 @@ ghost use Rattle.mr_sequential.specs.Pairs.{kept_pairs};
 
 use crate::gathered::Gathered;
 use crate::gathering::Gathering;
-use mr_bytes::{Pace, Phase, Watch};
+use mr_bytes::{Phase, Progress, Throttle};
 use mr_jobs::{Job, Mapper};
-use mr_splits::{Kept, Located};
+use mr_splits::{KeptPlan, RecordAt};
 use std::alloc::{AllocError, Global};
 
 /// Adds the keys that a job emits for a record.
 fn gather_record(
     alloc: Global,
     mapper: &mut Mapper<'_, '_>,
-    line: Located<'_>,
+    line: RecordAt<'_>,
     buffer: &mut Vec<u8>,
     gathering: &mut Gathering,
 ) -> Result<(), AllocError>
@@ -30,7 +30,7 @@ fn gather_record(
     ensures keys { OnOk result (gathering.new
         ≡ gathering.old ++ map (λ e. e.0) (emissions mapper.old.job line.entry.file line.entry.start line.entry.bytes.now)) }
 {
-    mapper.job().prepare(line.bytes, buffer)?;
+    mapper.job().fold_line(line.bytes, buffer)?;
     let mut emitter = mapper.emit(line.file, line.start, line.bytes, buffer.as_slice());
     while let Some((key, _)) = emitter.next() {
         gathering.push(alloc, key)?;
@@ -57,7 +57,7 @@ struct Emitting {
 fn gather_one(
     alloc: Global,
     mapper: &mut Mapper<'_, '_>,
-    line: Located<'_>,
+    line: RecordAt<'_>,
     buffer: &mut Vec<u8>,
     emitting: &mut Emitting,
 ) -> Result<(), AllocError>
@@ -81,8 +81,8 @@ fn gather_one(
 fn gather_all(
     alloc: Global,
     job: &Job,
-    kept: &Kept<'_>,
-    watch: &dyn Watch,
+    kept: &KeptPlan<'_>,
+    watch: &dyn Progress,
     emitting: &mut Emitting,
 ) -> Result<(), AllocError>
     requires few { length (flat_map (kept_pairs job.now kept.now.skips) (records_of kept.now.cut)) < 2 ^ 32 }
@@ -94,9 +94,9 @@ fn gather_all(
     let plan = kept.plan();
     let mut left = kept.records();
     let mut buffer = Vec::new(alloc);
-    let mut pace = Pace::new(Phase::Mapping, plan.count() as u64);
+    let mut pace = Throttle::new(Phase::Mapping, plan.count() as u64);
     let mut done = 0u64;
-    let mut mapper = job.over(plan.input());
+    let mut mapper = job.mapper(plan.input());
     while let Some((_, line)) = left.next() {
         pace.reach(done, watch);
         done = done.saturating_add(1);
@@ -110,8 +110,8 @@ fn gather_all(
 pub(crate) fn gather(
     alloc: Global,
     job: &Job,
-    kept: &Kept<'_>,
-    watch: &dyn Watch,
+    kept: &KeptPlan<'_>,
+    watch: &dyn Progress,
 ) -> Result<Emitted, AllocError>
     requires few { length (flat_map (kept_pairs job.now kept.now.skips) (records_of kept.now.cut)) < 2 ^ 32 }
     ensures keys { IfOk result (λ e. e.pairs ≡ map (λ e. e.0) (flat_map (kept_pairs job.now kept.now.skips) (records_of kept.now.cut))) }

@@ -7,11 +7,11 @@ ghost use Rattle.mr_splits.specs.Cut.{records_of};
 ghost use Rattle.mr_sequential.specs.Names.{IsOfRecord, value_under};
 ghost use Rattle.mr_sequential.specs.Rows.{count_line, names_text, row_names, row_start, row_texts};
 
-use mr_bytes::{Name, Values};
+use mr_bytes::{Name, ValueColumn};
 use mr_certform::FlatGroups;
 use mr_jobs::Job;
 use mr_ranks::Row;
-use mr_reduce::{column_text, group_text, total_text};
+use mr_reduce::{append_text, append_total, group_text};
 use mr_splits::Plan;
 use std::alloc::{AllocError, Global};
 
@@ -35,7 +35,7 @@ fn add_total(texts: &mut Vec<Vec<u8>>, row: Row<'_>, total: u32) -> Result<(), A
         ≡ slice_set (contents texts.old.items) row.entry.part (nth_file (contents texts.old.items) row.entry.part ++ total_line row.entry.key.now total)) }
 {
     let text = &mut texts[row.part as usize];
-    total_text(row.key, total as u64, text)
+    append_total(row.key, total as u64, text)
 }
 
 /// Appends the line of each pair of a key, of a job whose texts have a line for each, one name after another: a group may
@@ -52,7 +52,7 @@ fn add_lines(
     ensures { OnOk result (text.new.items ≡ text.old.items ++ text_of job.now key.now (map (value_under job.now (records_of plan.now)) names.now)) }
 {
     for name in names {
-        let record = plan.located(name.split, name.rec);
+        let record = plan.locate(name.split, name.rec);
         let value = job.value_at(record.file, record.start);
         group_text(job, key, &[value], text)?;
     }
@@ -65,7 +65,7 @@ fn fill_files(
     job: &Job,
     plan: &Plan<'_>,
     names: &[Name],
-    told: &mut Values,
+    told: &mut ValueColumn,
 ) -> Result<(), AllocError>
     requires counts { is_counter job.now ≡ false }
     requires lines { has_lines job.now ≡ false }
@@ -75,7 +75,7 @@ fn fill_files(
     told.clear();
     let mut last = None;
     for name in names {
-        let record = plan.located(name.split, name.rec);
+        let record = plan.locate(name.split, name.rec);
         if last != Some(record.file) {
             told.push(job.value_at(record.file, record.start))?;
             last = Some(record.file);
@@ -91,7 +91,7 @@ fn add_text(
     plan: &Plan<'_>,
     key: &[u8],
     names: &[Name],
-    told: &mut Values,
+    told: &mut ValueColumn,
     text: &mut Vec<u8>,
 ) -> Result<(), AllocError>
     requires counts { is_counter job.now ≡ false }
@@ -102,7 +102,7 @@ fn add_text(
         return add_lines(job, plan, key, names, text);
     }
     fill_files(job, plan, names, told)?;
-    column_text(job, key, told, text)
+    append_text(job, key, told, text)
 }
 
 /// Appends the text of a row's pairs to the text of its partition.
@@ -112,7 +112,7 @@ fn add_names(
     texts: &mut Vec<Vec<u8>>,
     row: Row<'_>,
     names: &[Name],
-    told: &mut Values,
+    told: &mut ValueColumn,
 ) -> Result<(), AllocError>
     requires counts { is_counter job.now ≡ false }
     requires named { All (IsOfRecord plan.now) names.now }
@@ -148,7 +148,7 @@ fn name_texts(
     rows: &[Row<'_>],
     counts: &[u32],
     names: &[Name],
-    told: &mut Values,
+    told: &mut ValueColumn,
     texts: &mut Vec<Vec<u8>>,
 ) -> Result<(), AllocError>
     requires counting { is_counter job.now ≡ false }
@@ -176,7 +176,7 @@ fn fill_texts(
     plan: &Plan<'_>,
     rows: &[Row<'_>],
     groups: &FlatGroups,
-    told: &mut Values,
+    told: &mut ValueColumn,
     texts: &mut Vec<Vec<u8>>,
 ) -> Result<(), AllocError>
     requires parts { All (λ r. r.part < length texts.old.items) rows.now }
@@ -222,7 +222,7 @@ pub(crate) fn texts_of(
         ≡ row_texts (names_text job.now (records_of plan.now) groups.now.entry_counts.items groups.now.names.items) p 0 rows.now) }
 {
     let mut texts = empty_texts(alloc, parts)?;
-    let mut told = Values::new(alloc);
+    let mut told = ValueColumn::new(alloc);
     fill_texts(job, plan, rows, groups, &mut told, &mut texts)?;
     Ok(texts)
 }

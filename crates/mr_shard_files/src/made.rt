@@ -61,7 +61,7 @@ impl<W: CountedWrite + Drop> Made<W> {
             return Err(ShardFault::OutOfMemory);
         };
         if write_all(&mut self.writer, piece).is_err() {
-            let lacked = self.writer.lacked_memory();
+            let lacked = self.writer.is_out_of_memory();
             return Err(unwritten(alloc, self.name.as_str(), lacked));
         }
         self.hasher.update(piece);
@@ -77,7 +77,7 @@ impl<W: CountedWrite + Drop> Made<W> {
         ensures name { self.new.name ≡ self.old.name }
     {
         if self.writer.flush().is_err() {
-            let lacked = self.writer.lacked_memory();
+            let lacked = self.writer.is_out_of_memory();
             return Err(unwritten(alloc, self.name.as_str(), lacked));
         }
         Ok(())

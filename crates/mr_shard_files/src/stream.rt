@@ -132,7 +132,7 @@ impl<R: CountedRead + Drop> Part<R> {
     {
         let mut buffer = [0u8; PIECE];
         let Ok(count) = self.reader.read(&mut buffer) else {
-            return Err(fault_of(alloc, self.name.as_str(), self.reader.lacked_memory()));
+            return Err(fault_of(alloc, self.name.as_str(), self.reader.is_out_of_memory()));
         };
         if count == 0 {
             self.ended = true;

@@ -15,7 +15,7 @@ use memchr::{memchr, memrchr};
 use mr_bytes::Value;
 use mr_jobs::Job;
 use mr_ranks::front_of;
-use mr_reduce::{group_text, total_text};
+use mr_reduce::{append_total, group_text};
 use std::alloc::AllocError;
 
 /// What a line tells of its key: how many values it has, or one of its places.
@@ -236,7 +236,7 @@ pub(crate) fn put(job: &Job, line: Line<'_>, out: &mut Vec<u8>) -> Result<(), Al
         Tally::Total(total) => {
             // A job that doesn't count writes the same for values without a place as for none.
             if job.counts() {
-                total_text(line.key, total, out)?;
+                append_total(line.key, total, out)?;
             } else {
                 group_text(job, line.key, &[], out)?;
             }

@@ -2,7 +2,7 @@
 ghost use Rattle.std.specs.Prelude.{◌≡◌, ◌↔◌, ◌+◌, ◌-◌, ◌++◌, ◌∷◌, [], ◌<◌, IfOk, IsTrue, OnOk, OnErr, length};
 ghost use Rattle.mr_spill.specs.Column.{names_of, nth_pair};
 
-use mr_bytes::{Name, Span, Value, Values, is_same_span};
+use mr_bytes::{Name, Span, Value, ValueColumn, is_same_span};
 use std::alloc::{AllocError, Global};
 use std::marker::Model;
 
@@ -14,7 +14,7 @@ pub struct Pairs {
     keys: Vec<u8>,
     /// Where the key of each pair stands.
     spans: Vec<Span>,
-    values: Values,
+    values: ValueColumn,
     names: Vec<Name>,
 }
 
@@ -59,7 +59,7 @@ impl Pairs {
         Pairs {
             keys: Vec::new(alloc),
             spans: Vec::new(alloc),
-            values: Values::new(alloc),
+            values: ValueColumn::new(alloc),
             names: Vec::new(alloc),
         }
     }
@@ -72,7 +72,7 @@ impl Pairs {
         Ok(Pairs {
             keys: Vec::with_capacity(alloc, bytes)?,
             spans: Vec::with_capacity(alloc, count)?,
-            values: Values::new(alloc),
+            values: ValueColumn::new(alloc),
             names: Vec::with_capacity(alloc, count)?,
         })
     }

@@ -37,7 +37,7 @@ fn zeros(alloc: Global, workers: u32) -> Result<Vec<AtomicU64>, AllocError>
 }
 
 /// A call of a file that failed: whether it was refused memory.
-pub(crate) fn lacked_memory(error: &io::Error) -> bool {
+pub(crate) fn is_for_memory(error: &io::Error) -> bool {
     error.kind() == ErrorKind::OutOfMemory
 }
 
@@ -83,7 +83,7 @@ impl<'a, R: Files> DirStore<'a, R> {
     fn create(&self, name: &str) -> Result<Counted<R::File>, PutFault> {
         match File::create(self.rt, name) {
             Ok(file) => Ok(Counted::of(file)),
-            Err(error) if lacked_memory(&error) => Err(PutFault::OutOfMemory),
+            Err(error) if is_for_memory(&error) => Err(PutFault::OutOfMemory),
             Err(_) => Err(PutFault::Device),
         }
     }
@@ -91,7 +91,7 @@ impl<'a, R: Files> DirStore<'a, R> {
     fn open(&self, name: &str) -> Result<Counted<R::File>, GetFault> {
         match File::open(self.rt, name) {
             Ok(file) => Ok(Counted::of(file)),
-            Err(error) if lacked_memory(&error) => Err(GetFault::OutOfMemory),
+            Err(error) if is_for_memory(&error) => Err(GetFault::OutOfMemory),
             Err(_) => Err(GetFault::Device),
         }
     }
@@ -122,7 +122,7 @@ impl<'a, R: Files + Sync> RegionStore for DirStore<'a, R> {
         let mut file = self.create(name.as_str())?;
         match write_all(&mut file, bytes) {
             Ok(()) => Ok(number),
-            Err(_) if file.lacked_memory() => Err(PutFault::OutOfMemory),
+            Err(_) if file.is_out_of_memory() => Err(PutFault::OutOfMemory),
             Err(_) => Err(PutFault::Device),
         }
     }

@@ -2,14 +2,14 @@
 ghost use Rattle.std.specs.Prelude.{◌≡◌, ◌++◌, ◌∷◌, [], ◌<◌, IfOk, OnOk, OnErr, length};
 ghost use Rattle.mr_spill.specs.Entries.{nth_entry};
 
-use mr_bytes::{Name, Value, Values};
+use mr_bytes::{Name, Value, ValueColumn};
 use std::alloc::{AllocError, Global};
 use std::marker::Model;
 
 /// Values, each with its name, in the order in which they came.
 #[derive(Drop)]
 pub(crate) struct Entries {
-    pub(crate) values: Values,
+    pub(crate) values: ValueColumn,
     pub(crate) names: Vec<Name>,
 }
 
@@ -31,7 +31,7 @@ impl Entries {
         ensures { result ≡ [] }
     {
         Entries {
-            values: Values::new(alloc),
+            values: ValueColumn::new(alloc),
             names: Vec::new(alloc),
         }
     }
@@ -41,7 +41,7 @@ impl Entries {
         ensures { IfOk result (λ e. e ≡ []) }
     {
         Ok(Entries {
-            values: Values::new(alloc),
+            values: ValueColumn::new(alloc),
             names: Vec::with_capacity(alloc, count)?,
         })
     }

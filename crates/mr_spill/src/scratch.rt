@@ -1,7 +1,7 @@
 //! Who opens stores of regions in directories.
 ghost use Rattle.std.specs.Prelude.{◌≡◌, ◌<◌};
 
-use crate::dir_store::{DirStore, lacked_memory};
+use crate::dir_store::{DirStore, is_for_memory};
 use crate::memory_store::MemoryStore;
 use crate::store::RegionStore;
 use std::alloc::{AllocError, Global};
@@ -64,7 +64,7 @@ impl<'a, R: Files<File = File>> DiskScratch<'a, R> {
         let name = format!(in alloc; "{dir}/regions.lock")?;
         match File::create(self.rt, name.as_str()) {
             Ok(file) => locked(file),
-            Err(error) if lacked_memory(&error) => Err(ScratchFault::OutOfMemory),
+            Err(error) if is_for_memory(&error) => Err(ScratchFault::OutOfMemory),
             Err(_) => Ok(None),
         }
     }

@@ -6,7 +6,7 @@ use Rattle.mr_bytes.specs.declared.Span.{Span}
 use Rattle.mr_records.specs.Records.{Record, record_at, Within}
 use Rattle.mr_input.specs.Files.{split_total}
 use Rattle.mr_input.specs.Files as input
-use Rattle.mr_splits.specs.declared.table.Row.{Row}
+use Rattle.mr_splits.specs.declared.split_table.Row.{Row}
 use Rattle.mr_splits.specs.Named.{NamedRecord, named_records, of_split}
 use Rattle.mr_splits.specs.Laws.{joined_splits}
 use Rattle.mr_splits.specs.Cut.{Cut, records_of, nth_named}

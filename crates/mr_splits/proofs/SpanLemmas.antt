@@ -3,7 +3,7 @@ use Rattle.std.proofs.Common.{◌≡◌, ℕ, zero, suc, ◌+◌, ◌-◌, ◌<�
 use Rattle.std.proofs.lemmas.List.{get_or-take, get_or-drop, get_or_default}
 use Rattle.mr_bytes.specs.declared.Span.{Span}
 use Rattle.mr_records.proofs.EndLemmas.{start_of, start_of-behind}
-use Rattle.mr_splits.specs.declared.table.Row.{Row}
+use Rattle.mr_splits.specs.declared.split_table.Row.{Row}
 use Rattle.mr_splits.specs.Table.{spans_from, behind, ends_of, spans_of, nth_span}
 
 pub length-spans_from : (start : ℕ) (ends : List ℕ) → length (spans_from start ends) ≡ length ends

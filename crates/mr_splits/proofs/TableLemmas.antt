@@ -10,7 +10,7 @@ use Rattle.mr_records.specs.Records.{Record, record_at, records_from, records, W
 use Rattle.mr_records.proofs.RecordLemmas.{records_from-end}
 use Rattle.mr_input.specs.Files.{split_count, split_total, nth_file}
 use Rattle.mr_splits.specs.declared.plan.SplitPlace.{SplitPlace}
-use Rattle.mr_splits.specs.declared.table.Row.{Row}
+use Rattle.mr_splits.specs.declared.split_table.Row.{Row}
 use Rattle.mr_splits.specs.Named.{NamedRecord, named_from, named_files, named_records}
 use Rattle.mr_splits.specs.Places.{IsSplit}
 use Rattle.mr_splits.specs.Table.{numbered, spans_from, spans_of, row_records, listed, Tiles, RowStands, Stands, Takes}

@@ -3,8 +3,8 @@ use Rattle.std.specs.Prelude.{ℕ, ◌-◌, Bool, true, not, if◌then◌else◌
 use Rattle.std.specs.Ordering.{is_lt}
 use Rattle.mr_bytes.specs.declared.RecordName.{RecordName}
 use Rattle.mr_bytes.specs.Order.{record_order}
-use Rattle.mr_splits.specs.declared.kept.SkipFault.{SkipFault}
-use Rattle.mr_splits.specs.declared.kept.SkipFault.TheVariants.{NoSuchRecord, Order, TooMany}
+use Rattle.mr_splits.specs.declared.kept_records.SkipFault.{SkipFault}
+use Rattle.mr_splits.specs.declared.kept_records.SkipFault.TheVariants.{NoSuchRecord, Order, TooMany}
 use Rattle.mr_splits.specs.Named.{NamedRecord, is_left_out}
 use Rattle.mr_splits.specs.Cut.{Cut, records_of, is_record}
 use Rattle.mr_splits.specs.Laws.{joined_splits}

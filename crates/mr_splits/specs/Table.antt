@@ -3,7 +3,7 @@ use Rattle.std.specs.Prelude.{◌≡◌, ℕ, ◌+◌, ◌<◌, ◌≤◌, List,
 use Rattle.mr_bytes.specs.declared.Span.{Span}
 use Rattle.mr_records.specs.Records.{Record, record_at, records_from, Within}
 use Rattle.mr_input.specs.Files.{nth_file}
-use Rattle.mr_splits.specs.declared.table.Row.{Row}
+use Rattle.mr_splits.specs.declared.split_table.Row.{Row}
 use Rattle.mr_splits.specs.Named.{NamedRecord}
 use Rattle.mr_splits.specs.Places.{IsSplit}
 

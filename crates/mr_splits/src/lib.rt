@@ -1,18 +1,18 @@
 //! The splits of an input and their records (OSDI 2004, section 3.1).
 #![tactic(auto)]
 
-mod kept;
-mod left_out;
+mod kept_records;
+mod left_out_set;
 mod plan;
-mod scan;
-mod table;
+mod record_scan;
+mod split_table;
 
 ghost use Rattle.mr_splits.specs.Belongs.{RecordsAreByFile, RecordsBelong};
 ghost use Rattle.mr_splits.specs.Laws.{NamedAreRecords, NamesOfRecordsRise, NumbersCount, SplitsJoin};
 
-pub use kept::{Kept, KeptRecords, SkipFault};
-pub use left_out::LeftOut;
-pub use plan::{Located, Plan, PlanFault, SplitPlace};
+pub use kept_records::{KeptPlan, KeptRecords, SkipFault};
+pub use left_out_set::LeftOutSet;
+pub use plan::{Plan, PlanFault, RecordAt, SplitPlace};
 
 /// The records of the splits, joined, are the records of the files, each told with its own file and in the split that
 /// has its start; they are numbered from 0 in each split, and their names rise.

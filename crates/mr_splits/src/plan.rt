@@ -8,7 +8,7 @@ ghost use Rattle.mr_splits.specs.Laws.{joined_splits};
 ghost use Rattle.mr_splits.specs.Cut.{records_of, nth_named, record_named, is_record};
 ghost use Rattle.mr_splits.specs.Places.{IsSplit};
 
-use crate::table::{Table, cut_files};
+use crate::split_table::{Table, cut_files};
 use mr_bytes::RecordName;
 use mr_input::{Input, MAX_SPLIT_SIZE, MAX_SPLITS};
 use std::alloc::{AllocError, Global};
@@ -25,7 +25,7 @@ pub struct SplitPlace {
 
 /// A record: the number of its file, its start there in bytes, and its bytes without the line feed.
 #[derive(Clone, Copy)]
-pub struct Located<'a> {
+pub struct RecordAt<'a> {
     pub file: u32,
     pub start: u32,
     pub bytes: &'a [u8],
@@ -90,14 +90,14 @@ impl<'a> Plan<'a> {
         if MAX_SPLITS < input.splits(size) {
             return Err(PlanFault::TooManySplits);
         }
-        match Plan::fitting(alloc, input, size) {
+        match Plan::new_fitting(alloc, input, size) {
             Ok(plan) => Ok(plan),
             Err(_) => Err(PlanFault::OutOfMemory),
         }
     }
 
     /// Cuts an input that fits into splits of `size` bytes: what `of` gives. It fails only for want of memory.
-    pub fn fitting(alloc: Global, input: &'a Input, size: u32) -> Result<Plan<'a>, AllocError>
+    pub fn new_fitting(alloc: Global, input: &'a Input, size: u32) -> Result<Plan<'a>, AllocError>
         requires size { (0 < size) × (size ≤ 2 ^ 26) }
         requires few { split_total size input.now ≤ 2 ^ 20 }
         ensures { IfOk result (λ r. r ≡ record { size = size; files = input.entry.now }) }
@@ -156,7 +156,7 @@ impl<'a> Plan<'a> {
     }
 
     /// Record `r` of split `s`, both from 0.
-    pub fn located(&self, s: u32, r: u32) -> Located<'a>
+    pub fn locate(&self, s: u32, r: u32) -> RecordAt<'a>
         requires split { s < split_total self.now.size self.now.files }
         requires record { r < length (of_split s (records_of self.now)) }
         ensures record { nth_named (of_split s (records_of self.now)) r
@@ -168,7 +168,7 @@ impl<'a> Plan<'a> {
         let row = self.table.rows[s as usize];
         let bytes = self.input.file(row.place.file as usize);
         let span = self.table.span(row, r);
-        Located {
+        RecordAt {
             file: row.place.file,
             start: span.start,
             bytes: &bytes[span.start as usize..span.end as usize],
@@ -176,7 +176,7 @@ impl<'a> Plan<'a> {
     }
 
     /// The number in the whole input of record `r` of split `s`: all records are numbered from 0, in their order.
-    pub fn number_of(&self, s: u32, r: u32) -> usize
+    pub fn record_index(&self, s: u32, r: u32) -> usize
         requires split { s < split_total self.now.size self.now.files }
         requires record { r < length (of_split s (records_of self.now)) }
         ensures number { result ≡ length (joined_splits 0 s (records_of self.now)) + r }
@@ -205,6 +205,6 @@ impl<'a> Plan<'a> {
         if !self.has_record(RecordName { split: s, rec: r }) {
             return None;
         }
-        Some(self.located(s, r).bytes)
+        Some(self.locate(s, r).bytes)
     }
 }

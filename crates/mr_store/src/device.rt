@@ -40,7 +40,7 @@ pub trait CountedRead {
         ensures known { IfSome (remaining self.now) AreBytes };
 
     /// Whether a call was refused memory.
-    fn lacked_memory(&self) -> bool
+    fn is_out_of_memory(&self) -> bool
         ensures { result ≡ lacked self.now };
 }
 
@@ -76,6 +76,6 @@ pub trait CountedWrite {
         ensures { result ≡ (seen self.now).failed };
 
     /// Whether a call was refused memory.
-    fn lacked_memory(&self) -> bool
+    fn is_out_of_memory(&self) -> bool
         ensures { result ≡ lacked self.now };
 }

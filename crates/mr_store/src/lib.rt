@@ -2,18 +2,18 @@
 #![tactic(auto)]
 
 mod device;
+mod encode;
 mod failing;
 mod limited;
 mod memory_reader;
 mod memory_writer;
 mod reading;
-mod spelled;
 mod writing;
 
 pub use crate::device::{CountedRead, CountedWrite, Device};
+pub use crate::encode::{Bytes, Encode, write_encoded};
 pub use crate::limited::{LimitedFault, read_limited};
 pub use crate::memory_reader::MemoryReader;
 pub use crate::memory_writer::MemoryWriter;
 pub use crate::reading::{ReadFault, read_all};
-pub use crate::spelled::{Bytes, Spelled, write_spelled};
 pub use crate::writing::{write_all, write_result, write_whole};

@@ -114,7 +114,7 @@ impl CountedRead for MemoryReader {
         self.failed
     }
 
-    fn lacked_memory(&self) -> bool {
+    fn is_out_of_memory(&self) -> bool {
         false
     }
 }

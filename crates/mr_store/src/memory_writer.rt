@@ -69,7 +69,7 @@ impl MemoryWriter {
     }
 
     /// The bytes that it held at its last flush that didn't fail; none before.
-    pub fn handed_on(&self) -> &[u8]
+    pub fn flushed(&self) -> &[u8]
         ensures { result.now ≡ self.now.handed_on }
     {
         &self.bytes[..self.handed_on]
@@ -131,7 +131,7 @@ impl CountedWrite for MemoryWriter {
         self.failed
     }
 
-    fn lacked_memory(&self) -> bool {
+    fn is_out_of_memory(&self) -> bool {
         self.lacked
     }
 }

@@ -155,11 +155,11 @@ fn take_records<D: Demand>(
     // A plan's size is at least 1: that names rise rests on that.
     let _size = plan.size();
     let mut folded = Vec::new(alloc);
-    let mut mapper = job.over(plan.input());
+    let mut mapper = job.mapper(plan.input());
     let count = plan.records_in(split);
     let mut next = from;
     while next < count && (next - from < least || !runs.has_run() && demand.lasts()) {
-        let line = plan.located(split, next);
+        let line = plan.locate(split, next);
         if !has(left_out, next) {
             runs.take_record(
                 alloc,

@@ -8,10 +8,10 @@ ghost use Rattle.mr_task.specs.Mapped.{nth_run, region_of, regions_at};
 ghost use Rattle.mr_task.specs.Outputs.{flipped, with_other_bit};
 ghost use Rattle.mr_task.specs.Values.{group_text, reduced};
 
-use mr_bytes::{Name, Values};
+use mr_bytes::{Name, ValueColumn};
 use mr_jobs::Job;
 use mr_merge::Groups;
-use mr_reduce::{column_text, total_text};
+use mr_reduce::{append_text, append_total};
 use mr_spill::{Region, SealedRun};
 use std::alloc::{AllocError, Global};
 use std::marker::Model;
@@ -127,7 +127,7 @@ impl Model for ReduceOutput {
 }
 
 /// Puts the values of a group into the column, in place of what it had.
-fn put_values(groups: &Groups, g: usize, values: &mut Values) -> Result<(), AllocError>
+fn put_values(groups: &Groups, g: usize, values: &mut ValueColumn) -> Result<(), AllocError>
     requires { g < length groups.now }
     ensures { OnOk result (values.new ≡ map (λ t. t.value) (nth_group groups.now g).pairs) }
 {
@@ -143,7 +143,7 @@ fn put_text(
     job: &Job,
     groups: &Groups,
     g: usize,
-    values: &mut Values,
+    values: &mut ValueColumn,
     text: &mut Vec<u8>,
 ) -> Result<(), AllocError>
     requires { g < length groups.now }
@@ -151,10 +151,10 @@ fn put_text(
 {
     let key = groups.key(g);
     if job.counts() {
-        return total_text(key, groups.count(g) as u64, text);
+        return append_total(key, groups.count(g) as u64, text);
     }
     put_values(groups, g, values)?;
-    column_text(job, key, values, text)
+    append_text(job, key, values, text)
 }
 
 /// The texts of all groups, one behind another. The column of values is one for all.
@@ -162,7 +162,7 @@ fn texts(alloc: Global, job: &Job, groups: &Groups) -> Result<Vec<u8>, AllocErro
     ensures { IfOk result (λ v. v.items ≡ flat_map (group_text (text_of job.now)) groups.now) }
 {
     let mut text = Vec::new(alloc);
-    let mut values = Values::new(alloc);
+    let mut values = ValueColumn::new(alloc);
     for g in 0..groups.len() {
         put_text(job, groups, g, &mut values, &mut text)?;
     }

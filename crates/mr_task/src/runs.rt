@@ -14,7 +14,7 @@ use crate::output::MapOutput;
 use mr_bytes::{By, Name, RecordName, Value};
 use mr_jobs::Mapper;
 use mr_spill::{Buffer, PushRefusal};
-use mr_splits::Located;
+use mr_splits::RecordAt;
 use std::alloc::{AllocError, Global};
 
 /// What a map task of a split has so far: the sealed runs, and the pairs of the run that it fills.
@@ -104,7 +104,7 @@ impl Runs {
         alloc: Global,
         mapper: &mut Mapper<'_, '_>,
         number: RecordName,
-        line: Located<'_>,
+        line: RecordAt<'_>,
         folded: &mut Vec<u8>,
     ) -> Result<(), AllocError>
         requires some { 0 < self.old.sealed.parts }
@@ -122,7 +122,7 @@ impl Runs {
         ensures taken { OnOk result (Takes
             (placed_from number 0 (emissions mapper.old.job line.entry.file line.entry.start line.entry.bytes.now)) self.old self.new) }
     {
-        mapper.job().prepare(line.bytes, folded)?;
+        mapper.job().fold_line(line.bytes, folded)?;
         let mut emitter = mapper.emit(line.file, line.start, line.bytes, folded.as_slice());
         let mut place = 0;
         while let Some((key, value)) = emitter.next() {

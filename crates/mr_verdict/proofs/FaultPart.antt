@@ -14,8 +14,8 @@ use Rattle.mr_bytes.specs.Order.{key_order, name_order}
 use Rattle.mr_input.specs.Files.{nth_file}
 use Rattle.mr_certform.specs.declared.item.Item.{Item}
 use Rattle.mr_certform.specs.declared.item.Item.TheVariants.{Groups, Entries, Entry, End}
-use Rattle.mr_certform.specs.declared.place.Place.{Place}
-use Rattle.mr_certform.specs.declared.place.Place.TheVariants.{AtGroups, AtEntries, AtEntry, AtEnd}
+use Rattle.mr_certform.specs.declared.grammar_state.GrammarState.{GrammarState}
+use Rattle.mr_certform.specs.declared.grammar_state.GrammarState.TheVariants.{AtGroups, AtEntries, AtEntry, AtEnd}
 use Rattle.mr_certform.specs.Grammar.{MayStand, InOrder}
 use Rattle.mr_certform.specs.Places as Places
 use Rattle.mr_bytes.specs.Pairs.{Triple}
@@ -179,7 +179,7 @@ module _ (s : Subject) (p : ℕ) (part : PartRead) (f : No) where
     announced : k ≡ length ns + m
     taken : AreTaken st ns
 
-  abbrev Inv : Place → Reached → List (List Name) → ℕ → List Name → Type 0
+  abbrev Inv : GrammarState → Reached → List (List Name) → ℕ → List Name → Type 0
   Inv (AtEntries r g) st gs k ns = Done st gs (suc g)
   Inv (AtEntry r g m b) st gs k ns = Open st gs g k ns (suc m)
   Inv (AtGroups r) st gs k ns = Unit {0}
@@ -189,7 +189,7 @@ module _ (s : Subject) (p : ℕ) (part : PartRead) (f : No) where
   abbrev cut : ℕ → List Name → GroupRead
   cut k ns = record { announced = k; names = ns }
 
-  abbrev Reads : Place → List (List Name) → ℕ → List Name → List Item → Type 0
+  abbrev Reads : GrammarState → List (List Name) → ℕ → List Name → List Item → Type 0
   Reads (AtEntries r g) gs k ns js = part.groups ≡ map whole gs ++ groups_in js
   Reads (AtEntry r g m b) gs k ns js = part.groups ≡ map whole gs ++ cut k (ns ++ names_in js) ∷ groups_in js
   Reads _ gs k ns js = Unit {0}
@@ -199,7 +199,7 @@ module _ (s : Subject) (p : ℕ) (part : PartRead) (f : No) where
 
   -- what is to be shown of items
   abbrev Walk : List Item → Type 0
-  Walk is = (q : Place) (st : Reached) (gs : List (List Name)) (k : ℕ) (ns : List Name)
+  Walk is = (q : GrammarState) (st : Reached) (gs : List (List Name)) (k : ℕ) (ns : List Name)
       → InOrder q is → Inv q st gs k ns → Reads q gs k ns (piece is) → Tells f (told s st (piece is)) → Wrong
 
   -- the name that stands there
@@ -527,7 +527,7 @@ module _ (s : Subject) (p : ℕ) (part : PartRead) (f : No) where
       ended End h e = untold f e
       ended _ h e = h
 
-      at : (q : Place) → InOrder q (i ∷ is) → Inv q st gs k ns → Reads q gs k ns (piece (i ∷ is)) → Tells f (told s st (piece (i ∷ is))) → Walk is → Wrong
+      at : (q : GrammarState) → InOrder q (i ∷ is) → Inv q st gs k ns → Reads q gs k ns (piece (i ∷ is)) → Tells f (told s st (piece (i ∷ is))) → Walk is → Wrong
       at (AtEntries r g) order inv reads e w = entries_case r g i is st gs order.0 order.1 inv reads e w
       at (AtEntry r g m b) order inv reads e w = entry_case r g m b i is st gs k ns order.0 order.1 inv reads e w
       at (AtGroups r) order inv reads e w = absurd (none r i order.0 e)

@@ -10,8 +10,8 @@ use Rattle.mr_splits.specs.Named.{named_records}
 use Rattle.mr_splits.specs.Cut.{is_record}
 use Rattle.mr_certform.specs.declared.item.Item.{Item}
 use Rattle.mr_certform.specs.declared.item.Item.TheVariants.{LiteralByte, FileLength, Parts, SplitSize, Skips, Skip, Groups, End}
-use Rattle.mr_certform.specs.declared.place.Place.{Place}
-use Rattle.mr_certform.specs.declared.place.Place.TheVariants.{AtMagic, AtParts, AtSkips, AtGroups}
+use Rattle.mr_certform.specs.declared.grammar_state.GrammarState.{GrammarState}
+use Rattle.mr_certform.specs.declared.grammar_state.GrammarState.TheVariants.{AtMagic, AtParts, AtSkips, AtGroups}
 use Rattle.mr_certform.specs.Grammar.{MayStand, InOrder}
 use Rattle.mr_certform.specs.Places as Places
 use Rattle.mr_certform.specs.Spelling.{items_of, is_ended}
@@ -42,14 +42,14 @@ record Found (s : Subject) (parts : List (List Item)) (p : ℕ) (f : No) : Type 
   order : InOrder (AtGroups r) (Groups n ∷ behind)
   tells : Tells f (told s (record start { next = p + k }) (Groups n ∷ piece behind))
 
-groups_place : (q : Place) (n : ℕ) (is : List Item) → InOrder q (Groups n ∷ is) → (r : ℕ) × InOrder (AtGroups r) (Groups n ∷ is)
+groups_place : (q : GrammarState) (n : ℕ) (is : List Item) → InOrder q (Groups n ∷ is) → (r : ℕ) × InOrder (AtGroups r) (Groups n ∷ is)
 groups_place q n is h = at q h
   where
-    at : (q : Place) → InOrder q (Groups n ∷ is) → (r : ℕ) × InOrder (AtGroups r) (Groups n ∷ is)
+    at : (q : GrammarState) → InOrder q (Groups n ∷ is) → (r : ℕ) × InOrder (AtGroups r) (Groups n ∷ is)
     at (AtGroups r) h = (r, h)
     at _ h = absurd h.0
 
-found : (s : Subject) (is : List Item) (q : Place) (p : ℕ) (f : No) → InOrder q is → ◌≡◌ {A = Option No} (least_fault s p (parts_in is)) (Some f) → Found s (parts_in is) p f
+found : (s : Subject) (is : List Item) (q : GrammarState) (p : ℕ) (f : No) → InOrder q is → ◌≡◌ {A = Option No} (least_fault s p (parts_in is)) (Some f) → Found s (parts_in is) p f
 found s [] q p f order e = absurd (cc)
 found s (Groups n ∷ is) q p f order e = by (part_fault s p (Groups n ∷ piece is)) refl e (found s is (Places.behind q (Groups n)) (p + 1) f order.1)
   where
@@ -99,7 +99,7 @@ somewhere c is p (Fault.KeyOrder q g e) l h = record { p = p; within = l; wrong 
 somewhere c is p (Fault.OutputDiffers q at) l h = record { p = p; within = l; wrong = h }
 somewhere c is p f l h = absurd h
 
-parts_true : (c : Case) (is : List Item) (q : Place) (f : No) → InOrder q is → ◌≡◌ {A = Option No} (least_fault (subject_of c (skips_in is)) 0 (parts_in is)) (Some f) → IsTrueOf c is f
+parts_true : (c : Case) (is : List Item) (q : GrammarState) (f : No) → InOrder q is → ◌≡◌ {A = Option No} (least_fault (subject_of c (skips_in is)) 0 (parts_in is)) (Some f) → IsTrueOf c is f
 parts_true c is q f order e =
     let s : Subject = subject_of c (skips_in is) in
     let r = found s is q 0 f order e in

@@ -3,7 +3,7 @@ use Rattle.std.proofs.Common.{◌≡◌, ◌≤◌, length, refl, arith}
 use Rattle.mr_bytes.specs.declared.Name.{Name}
 use Rattle.mr_certform.specs.declared.item.Item.{Item}
 use Rattle.mr_certform.specs.declared.item.Item.TheVariants.{Magic, Job, Flags, LiteralLength, LiteralByte, Parts, SplitSize, Files, FileLength, Skips, Skip, Groups, Entries, Entry, End}
-use Rattle.mr_certform.specs.declared.place.Place.{Place}
+use Rattle.mr_certform.specs.declared.grammar_state.GrammarState.{GrammarState}
 use Rattle.mr_certform.specs.declared.version.Version.{Version}
 use Rattle.mr_certform.specs.declared.version.Version.TheVariants.{V1, V2}
 use Rattle.mr_certform.specs.Spelling.{before_of, bytes_at, name_bytes}
@@ -13,7 +13,7 @@ named_byte : (v : Version) (before name : Name) → 1 ≤ length (name_bytes v b
 named_byte V1 before name = omega arith
 named_byte V2 before name = name_some before name
 
-pub some_byte : (v : Version) (p : Place) (i : Item) → (i ≡ End → ⊥) → 1 ≤ length (bytes_at v p i)
+pub some_byte : (v : Version) (p : GrammarState) (i : Item) → (i ≡ End → ⊥) → 1 ≤ length (bytes_at v p i)
 some_byte V1 p Magic h = omega arith
 some_byte V2 p Magic h = omega arith
 some_byte v p (Job n) h = omega arith

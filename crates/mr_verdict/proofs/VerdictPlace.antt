@@ -9,8 +9,8 @@ use Rattle.mr_splits.specs.Named.{named_records}
 use Rattle.mr_splits.specs.Cut.{is_record}
 use Rattle.mr_certform.specs.declared.item.Item.{Item}
 use Rattle.mr_certform.specs.declared.item.Item.TheVariants.{Magic, Job, Flags, LiteralLength, LiteralByte, Parts, SplitSize, Files, FileLength, Skips, Skip, Groups, Entries, Entry, End}
-use Rattle.mr_certform.specs.declared.place.Place.{Place}
-use Rattle.mr_certform.specs.declared.place.Place.TheVariants.{AtMagic, AtSkips, AtGroups, AtEntries, AtEntry, AtEnd, Behind}
+use Rattle.mr_certform.specs.declared.grammar_state.GrammarState.{GrammarState}
+use Rattle.mr_certform.specs.declared.grammar_state.GrammarState.TheVariants.{AtMagic, AtSkips, AtGroups, AtEntries, AtEntry, AtEnd, Behind}
 use Rattle.mr_certform.specs.Grammar.{MayStand, InOrder}
 use Rattle.mr_certform.specs.Places as Places
 use Rattle.mr_certform.specs.Spelling.{items_of, is_ended}
@@ -156,10 +156,10 @@ module _ (s : Subject) where
       counts (Entries m) is h = more m is h.0.0 h.1
       counts _ is h = absurd h.0
 
-  by_itself : (p : Place) (n : ℕ) (is : List Item) (st : Reached) → InOrder p (Groups n ∷ is) → first (told s st (Groups n ∷ piece is)) ≡ part_fault s st.next (Groups n ∷ piece is)
+  by_itself : (p : GrammarState) (n : ℕ) (is : List Item) (st : Reached) → InOrder p (Groups n ∷ is) → first (told s st (Groups n ∷ piece is)) ≡ part_fault s st.next (Groups n ∷ piece is)
   by_itself p n is st h = at p h
     where
-      at : (p : Place) → InOrder p (Groups n ∷ is) → first (told s st (Groups n ∷ piece is)) ≡ part_fault s st.next (Groups n ∷ piece is)
+      at : (p : GrammarState) → InOrder p (Groups n ∷ is) → first (told s st (Groups n ∷ piece is)) ≡ part_fault s st.next (Groups n ∷ piece is)
       at (AtGroups r) h =
           first_append (tests s st (Groups n)) (told s (after s st (Groups n)) (piece is))
           ∙ (ap (or_else (first (tests s st (Groups n)))) (in_place n r (after s st (Groups n)) is h.1)
@@ -222,7 +222,7 @@ module _ (s : Subject) where
           (ap (λ k. or_else (least_fault s k (parts_in is)) (back_fault s at ((after s st (Entry n)).named + entries_in is) (is_ended is))) next
           ∙ ap (λ k. or_else (least_fault s st.next (parts_in is)) (back_fault s at k (is_ended is))) count)
 
-  a_part : (p : Place) (at n : ℕ) (st : Reached) (is : List Item) → InOrder p (Groups n ∷ is) → Splits at (after s st (Groups n)) is → Splits at st (Groups n ∷ is)
+  a_part : (p : GrammarState) (at n : ℕ) (st : Reached) (is : List Item) → InOrder p (Groups n ∷ is) → Splits at (after s st (Groups n)) is → Splits at st (Groups n ∷ is)
   a_part p at n st is h rest =
       let new : Reached = after s st (Groups n) in
       let tested : List No = tests s st (Groups n) in
@@ -233,21 +233,21 @@ module _ (s : Subject) where
       ∙ (ap (λ o. or_else o (later new at is)) (sym (first_append tested own) ∙ by_itself p n is st h)
       ∙ sym (or_assoc (part_fault s st.next (Groups n ∷ piece is)) (least_fault s (st.next + 1) (parts_in is)) (back_fault s at (st.named + entries_in is) (is_ended is))))))
 
-  nothing_behind : (p : Place) (is : List Item) → InOrder p (End ∷ is) → is ≡ []
+  nothing_behind : (p : GrammarState) (is : List Item) → InOrder p (End ∷ is) → is ≡ []
   nothing_behind p is h = at p is h
     where
       none : (is : List Item) → InOrder Behind is → is ≡ []
       none [] h = refl
       none (i ∷ is) h = absurd h.0
 
-      at : (p : Place) (is : List Item) → InOrder p (End ∷ is) → is ≡ []
+      at : (p : GrammarState) (is : List Item) → InOrder p (End ∷ is) → is ≡ []
       at AtEnd is h = none is h.1
       at _ is h = absurd h.0
 
   the_end : (at : ℕ) (st : Reached) → Splits at st (End ∷ [])
   the_end at st = let none : st.named ≡ st.named + 0 = omega arith in ap (λ k. back_fault s at k true) none
 
-  pub splits : (p : Place) (at : ℕ) (st : Reached) (is : List Item) → InOrder p is → Splits at st is
+  pub splits : (p : GrammarState) (at : ℕ) (st : Reached) (is : List Item) → InOrder p is → Splits at st is
   splits p at st [] h = refl
   splits p at st (End ∷ is) h = subst (λ w. Splits at st (End ∷ w)) (sym (nothing_behind p is h)) (the_end at st)
   splits p at st (Groups n ∷ is) h = a_part p at n st is h (splits (Places.behind p (Groups n)) at (after s st (Groups n)) is h.1)
@@ -264,7 +264,7 @@ rest_of c skips is = or_else (least_fault (subject_of c skips) 0 (parts_in is)) 
 abbrev SkipsSplit : Case → List RecordName → List Item → Type 0
 SkipsSplit c done is = first (skip_faults c done is) ≡ or_else (first (front_skips c done is)) (rest_of c (done ++ skips_in is) is)
 
-from_start : (c : Case) (p : Place) (done : List RecordName) (is : List Item) → InOrder p is → piece is ≡ [] → skips_in is ≡ []
+from_start : (c : Case) (p : GrammarState) (done : List RecordName) (is : List Item) → InOrder p is → piece is ≡ [] → skips_in is ≡ []
     → first (part_faults (subject_of c done) c.stop start is) ≡ rest_of c (done ++ skips_in is) is
 from_start c p done is h no_items no_skips =
     let count : 0 + entries_in is ≡ entries_in is = omega arith in
@@ -295,11 +295,11 @@ skips_split c r (suc n) done (i ∷ is) h = absurd h.0
 abbrev CountSplits : Case → List Item → Type 0
 CountSplits c is = first (count_faults c is) ≡ or_else (first (front_count c is)) (rest_of c (skips_in is) is)
 
-count_splits : (c : Case) (p : Place) (is : List Item) → InOrder p is → CountSplits c is
+count_splits : (c : Case) (p : GrammarState) (is : List Item) → InOrder p is → CountSplits c is
 count_splits c p [] h = refl
 count_splits c p (Skips n ∷ is) h = at p h
   where
-    at : (p : Place) → InOrder p (Skips n ∷ is) → CountSplits c (Skips n ∷ is)
+    at : (p : GrammarState) → InOrder p (Skips n ∷ is) → CountSplits c (Skips n ∷ is)
     at (AtSkips r) h =
         first_same (passes (nat_le n c.request.skips) (Fault.TooManySkips n)) (skip_faults c [] is) (front_skips c [] is) (rest_of c (skips_in is) is) (skips_split c r n [] is h.1)
     at _ h = absurd h.0
@@ -332,7 +332,7 @@ through c (Files m ∷ ws) is h = through c ws is h.1
 through c (FileLength m ∷ ws) is h = through c ws is h.1
 through c (w ∷ ws) is h = absurd (false≢true h.0)
 
-order_behind : (p : Place) (is js : List Item) → InOrder p (is ++ js) → (q : Place) × InOrder q js
+order_behind : (p : GrammarState) (is js : List Item) → InOrder p (is ++ js) → (q : GrammarState) × InOrder q js
 order_behind p [] js h = (p, h)
 order_behind p (i ∷ is) js h = order_behind (Places.behind p i) is js h.1
 

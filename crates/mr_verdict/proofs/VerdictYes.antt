@@ -10,8 +10,8 @@ use Rattle.mr_jobs.specs.JobSpec.{RequestSpec}
 use Rattle.mr_splits.specs.Named.{named_records}
 use Rattle.mr_certform.specs.declared.item.Item.{Item}
 use Rattle.mr_certform.specs.declared.item.Item.TheVariants.{Skips, Skip, End}
-use Rattle.mr_certform.specs.declared.place.Place.{Place}
-use Rattle.mr_certform.specs.declared.place.Place.TheVariants.{AtMagic, AtEnd, Behind}
+use Rattle.mr_certform.specs.declared.grammar_state.GrammarState.{GrammarState}
+use Rattle.mr_certform.specs.declared.grammar_state.GrammarState.TheVariants.{AtMagic, AtEnd, Behind}
 use Rattle.mr_certform.specs.Grammar.{MayStand, InOrder}
 use Rattle.mr_certform.specs.Places as Places
 use Rattle.mr_certform.specs.Spelling.{items_of, is_ended, stop}
@@ -38,20 +38,20 @@ use Rattle.mr_verdict.proofs.VerdictHeader.{told_none, wanted_none, job_pass, in
 -- ---- the items end
 
 -- nothing follows an end that stands where it may
-ends_at : (p : Place) (is : List Item) → InOrder p is → Has is End → is_ended is ≡ true
+ends_at : (p : GrammarState) (is : List Item) → InOrder p is → Has is End → is_ended is ≡ true
 ends_at p [] h has = absurd has
 ends_at p (i ∷ is) h (inr has) = ended_more i is (ends_at (Places.behind p i) is h.1 has)
 ends_at p (i ∷ is) h (inl e) = last p i is h e
   where
-    none : (p : Place) (is : List Item) → p ≡ Behind → InOrder p is → is ≡ []
+    none : (p : GrammarState) (is : List Item) → p ≡ Behind → InOrder p is → is ≡ []
     none p [] b h = refl
     none p (i ∷ is) b h = absurd (subst (λ w. MayStand w i) b h.0)
 
-    behind_end : (p : Place) → MayStand p End → Places.behind p End ≡ Behind
+    behind_end : (p : GrammarState) → MayStand p End → Places.behind p End ≡ Behind
     behind_end AtEnd h = refl
     behind_end _ h = absurd h
 
-    last : (p : Place) (i : Item) (is : List Item) → InOrder p (i ∷ is) → i ≡ End → is_ended (i ∷ is) ≡ true
+    last : (p : GrammarState) (i : Item) (is : List Item) → InOrder p (i ∷ is) → i ≡ End → is_ended (i ∷ is) ≡ true
     last p i is h e =
         let at_end : MayStand p End = subst (λ w. MayStand p w) e h.0 in
         let rest : InOrder (Places.behind p End) is = subst (λ w. InOrder (Places.behind p w) is) e h.1 in

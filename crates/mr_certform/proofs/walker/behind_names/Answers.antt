@@ -1,5 +1,5 @@
 use Rattle.std.proofs.Common.{◌+◌, ◌∙◌, sym, arith, rules}
-use Rattle.mr_certform.specs.declared.place.Place.TheVariants.{AtEntry}
+use Rattle.mr_certform.specs.declared.grammar_state.GrammarState.TheVariants.{AtEntry}
 use Rattle.mr_certform.proofs.Rows.{groups_no_entry, last_name, last_passed, name_less, next_passed, no_name, nothing_passed}
 use Rattle.mr_certform.proofs.walker.behind_names.Goals as goal
 

@@ -1,5 +1,5 @@
 use Rattle.std.proofs.Common.{length}
-use Rattle.mr_certform.specs.declared.place.Place.TheVariants.{AtEntry}
+use Rattle.mr_certform.specs.declared.grammar_state.GrammarState.TheVariants.{AtEntry}
 use Rattle.mr_certform.proofs.Rows.{NamesPassed}
 use Rattle.mr_certform.proofs.walker.behind_names.Given as goal
 

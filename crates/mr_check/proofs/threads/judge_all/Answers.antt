@@ -5,7 +5,7 @@ use Rattle.std.proofs.lemmas.List.{length-map}
 use Rattle.std.proofs.lemmas.Result.{err_from_is_err_and}
 use Rattle.mr_input.specs.Files.{contents}
 use Rattle.mr_certform.specs.declared.item.Item.{Item}
-use Rattle.mr_certform.specs.declared.place.Place.TheVariants.{AtMagic}
+use Rattle.mr_certform.specs.declared.grammar_state.GrammarState.TheVariants.{AtMagic}
 use Rattle.mr_certform.specs.Grammar.{InOrder}
 use Rattle.mr_certform.specs.Spelling.{items_of, stop}
 use Rattle.mr_certform.specs.Walking.{items_left, halt}

@@ -4,7 +4,7 @@ use Rattle.std.specs.Global.{Global}
 use Rattle.std.proofs.lemmas.List.{length-map}
 use Rattle.mr_input.specs.Files.{contents}
 use Rattle.mr_certform.specs.declared.item.Item.{Item}
-use Rattle.mr_certform.specs.declared.place.Place.TheVariants.{AtMagic}
+use Rattle.mr_certform.specs.declared.grammar_state.GrammarState.TheVariants.{AtMagic}
 use Rattle.mr_judge.specs.Kinds.{InKind}
 use Rattle.mr_judge.proofs.KindLemmas.{kinds_of}
 use Rattle.mr_judge.specs.Outputs.{OfBytes, IsVerdict}

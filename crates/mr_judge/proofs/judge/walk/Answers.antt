@@ -1,5 +1,5 @@
 use Rattle.std.proofs.Common.{◌+◌, ◌≤◌, length, arith, ap}
-use Rattle.mr_certform.specs.declared.place.Place.TheVariants.{AtMagic}
+use Rattle.mr_certform.specs.declared.grammar_state.GrammarState.TheVariants.{AtMagic}
 use Rattle.mr_certform.specs.Spelling.{version_of, items_of}
 use Rattle.mr_certform.proofs.Fuel.{items_few}
 use Rattle.mr_judge.proofs.judge.walk.Goals as goal

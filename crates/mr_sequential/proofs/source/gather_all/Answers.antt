@@ -25,7 +25,7 @@ loop-line-init g c =
       keys = ap (λ (l : List (List ℕ)). l ++ flat_map f c.records-left.result) c.requires.no_keys ∙ ap (flat_map f) start;
       lines = subst (All (Stands cut.files)) (sym start)
           (All-filter (λ r. not (is_left_out c.args.kept.now.skips r.name)) (Stands cut.files) (records_of cut) (records-stand cut.size cut.files));
-      mapper = c.over-mapper.ensures ∙ ap (λ (fs : List (List ℕ)). record { job = c.args.job.now; files = fs }) files;
+      mapper = c.mapper-mapper.ensures ∙ ap (λ (fs : List (List ℕ)). record { job = c.args.job.now; files = fs }) files;
       counts = ap (λ (l : List ℕ). l ++ map (pair_count c.args.job.now) c.records-left.result) c.requires.no_counts ∙ ap (map (pair_count c.args.job.now)) start;
     }
 

@@ -8,7 +8,7 @@ pub returns-clause-ok : goal.returns-clause-ok
 returns-clause-ok c =
     let ts : List (Vec ℕ Global) = c.args.texts.now.items in
     let was : Vec ℕ Global = c.index_mut-text.result.now in
-    let now : Vec ℕ Global = c.total_text.new.out in
-    on_ok_weaker c.total_text.result
+    let now : Vec ℕ Global = c.append_total.new.out in
+    on_ok_weaker c.append_total.result
     (λ grown. contents-set ts c.args.row.part was now (total_line c.args.row.key.now c.args.total) c.requires c.index_mut-text.ensures.value grown)
-    c.total_text.ensures.ok
+    c.append_total.ensures.ok

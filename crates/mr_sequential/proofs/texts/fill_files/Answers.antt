@@ -24,13 +24,13 @@ pub loop-name-preserved : goal.loop-name-preserved
 loop-name-preserved c =
     let job = c.args.job.now in
     let rs : List NamedRecord = records_of c.args.plan.now in
-    let file : ℕ = c.located-record.result.file in
-    let start : ℕ = c.located-record.result.start in
+    let file : ℕ = c.locate-record.result.file in
+    let start : ℕ = c.locate-record.result.start in
     let place = tells_place job file start c.requires.counts c.requires.lines in
     let no_name : Name = record { split = 0; rec = 0; place = 0 } in
     let i : ℕ = c.loop-name.name-index in
     let name : Name = get_or c.args.names.now i no_name in
-    let under : value_under job rs name ≡ value_at job file start = ap (λ (r : NamedRecord). value_at job r.file r.start) c.located-record.ensures.record in
+    let under : value_under job rs name ≡ value_at job file start = ap (λ (r : NamedRecord). value_at job r.file r.start) c.locate-record.ensures.record in
     elim c.if-ne.branch [
       | then-ne+in_ok-push w ↦
           told-more job rs c.args.names.now i no_name c.loop-name.told c.if-ne.told c.loop-name.last c.if-ne.last file w.value_at.result c.loop-name-test.true

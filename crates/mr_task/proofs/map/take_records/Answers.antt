@@ -33,7 +33,7 @@ loop-next-init g c =
       parts = refl;
       split = c.requires.here;
       own = subst (AreOf c.args.runs.now.split) (sym c.requires.empty) tt;
-      mapper = c.over-mapper.ensures ∙ ap (λ (fs : List (List ℕ)). (let s : Source = record { job = c.args.job.now; files = fs } in s)) c.input.ensures;
+      mapper = c.mapper-mapper.ensures ∙ ap (λ (fs : List (List ℕ)). (let s : Source = record { job = c.args.job.now; files = fs } in s)) c.input.ensures;
       taken = subst (λ (l : List Triple). HasTaken l c.args.runs.now) (sym (ap (flat_map (record_gives c.args.job.now c.args.left_out.now)) (nothing-between rs c.args.from))) c.requires.none;
     }
 
@@ -42,11 +42,11 @@ take_record-requires-clause-line g c =
     let files : List (List ℕ) = c.args.plan.now.files in
     let rs : List NamedRecord = of_split c.args.split (records_of c.args.plan.now) in
     let i : ℕ = c.loop-next.next in
-    let line = c.located-line.result in
+    let line = c.locate-line.result in
     let within : i < length rs = omega (arith, c.loop-next-test.true, c.records_in-count.ensures) in
     let stand : All (Stands files) rs =
     All-filter (λ (r : NamedRecord). eqb r.name.split c.args.split) (Stands files) (records_of c.args.plan.now) (records-stand c.args.plan.now.size files) in
-    let stands = subst (Stands files) c.located-line.ensures.record (stand i no_record within) in
+    let stands = subst (Stands files) c.locate-line.ensures.record (stand i no_record within) in
     subst (λ (m : Source). IsLine m.files line.file line.start line.bytes.now) (sym c.loop-next.invariant.mapper) stands
 
 pub take_record-requires-clause-rise : goal.take_record-requires-clause-rise
@@ -54,14 +54,14 @@ take_record-requires-clause-rise g c =
     let skips : List ℕ = c.args.left_out.now in
     let rs : List NamedRecord = of_split c.args.split (records_of c.args.plan.now) in
     let i : ℕ = c.loop-next.next in
-    let line = c.located-line.result in
+    let line = c.locate-line.result in
     let is : NamedRecord = record { name = record { split = c.args.split; rec = i }; file = line.file; start = line.start; bytes = line.bytes.now } in
     let kept : has_number skips i ≡ false =
     sym c.has.ensures ∙ c.if-not-has.true in
     let within : i < length rs = omega (arith, c.loop-next-test.true, c.records_in-count.ensures) in
     let taken = c.loop-next.invariant.taken in
     subst (λ (l : List Triple). Rises name_order (names_of (c.loop-next.runs.buffer.pairs ++ l)))
-    (gives-kept c.args.job.now skips (nth_named rs i) is c.located-line.ensures.record kept
+    (gives-kept c.args.job.now skips (nth_named rs i) is c.locate-line.ensures.record kept
     ∙ ap (λ (m : Source). placed_from is.name 0 (emissions m.job line.file line.start line.bytes.now)) (sym c.loop-next.invariant.mapper))
     (record-rises (record_gives c.args.job.now skips) rs c.args.from i no_record (joined taken.sealed) c.loop-next.runs.buffer.pairs c.loop-next.invariant.low within taken.all
     (task-rises c.args.job.now c.args.plan.now.size c.args.plan.now.files c.args.split skips (omega (arith, c.size-size.ensures.same, c.size-size.ensures.within.0))))
@@ -98,7 +98,7 @@ loop-next-preserved g c =
     let longer : List Triple = flat_map gives (drop c.args.from (take (i + 1) rs)) in
     let more : longer ≡ so_far ++ gives (nth_named rs i) = between-more gives rs c.args.from i no_record c.loop-next.invariant.low within in
     let has : c.has.result ≡ has_number skips i = c.has.ensures in
-    let line = c.located-line.result in
+    let line = c.locate-line.result in
     let is : NamedRecord = record { name = record { split = c.args.split; rec = i }; file = line.file; start = line.start; bytes = line.bytes.now } in
     let held = c.loop-next.invariant in
     let before : IsSoFar c.args.runs.now c.args.split source so_far c.loop-next.runs c.loop-next.mapper =
@@ -108,7 +108,7 @@ loop-next-preserved g c =
       | then-not-has+in_ok-take_record w ↦
           let kept : has_number skips i ≡ false = sym has ∙ w.if-not-has.true in
           let gave : gives (nth_named rs i) ≡ placed_from is.name 0 (emissions c.loop-next.mapper.job line.file line.start line.bytes.now) =
-          gives-kept c.args.job.now skips (nth_named rs i) is c.located-line.ensures.record kept
+          gives-kept c.args.job.now skips (nth_named rs i) is c.locate-line.ensures.record kept
           ∙ ap (λ (m : Source). placed_from is.name 0 (emissions m.job line.file line.start line.bytes.now)) (sym c.loop-next.invariant.mapper) in
           kept-step c.args.runs.now c.args.split source longer so_far (placed_from is.name 0 (emissions c.loop-next.mapper.job line.file line.start line.bytes.now))
           c.loop-next.runs w.take_record.new.self c.if-not-has.runs c.loop-next.mapper w.take_record.new.mapper c.if-not-has.mapper
@@ -117,7 +117,7 @@ loop-next-preserved g c =
       | else-not-has w ↦
           let out : has_number skips i ≡ true = sym has ∙ w.if-not-has.false in
           let nothing : longer ≡ so_far =
-          more ∙ ap (λ (l : List Triple). so_far ++ l) (gives-nothing c.args.job.now skips (nth_named rs i) is c.located-line.ensures.record out) ∙ append-nil so_far in
+          more ∙ ap (λ (l : List Triple). so_far ++ l) (gives-nothing c.args.job.now skips (nth_named rs i) is c.locate-line.ensures.record out) ∙ append-nil so_far in
           subst (λ (r : Runs). IsSoFar c.args.runs.now c.args.split source longer r c.if-not-has.mapper) (sym w.runs-is)
           (subst (λ (m : Source). IsSoFar c.args.runs.now c.args.split source longer c.loop-next.runs m) (sym w.mapper-is)
           (subst (λ (l : List Triple). IsSoFar c.args.runs.now c.args.split source l c.loop-next.runs c.loop-next.mapper) (sym nothing) before))

@@ -1,5 +1,5 @@
 use Rattle.std.proofs.Common.{refl}
-use Rattle.mr_certform.specs.declared.place.Place.TheVariants.{AtMagic}
+use Rattle.mr_certform.specs.declared.grammar_state.GrammarState.TheVariants.{AtMagic}
 use Rattle.mr_certform.specs.declared.version.Version.TheVariants.{V1}
 use Rattle.mr_certform.specs.Streaming.{Stream}
 use Rattle.mr_certform.proofs.Streams.{begun}

@@ -1,6 +1,6 @@
 use Rattle.std.proofs.Common.{refl, arith, length, ◌+◌, ◌*◌, ◌/◌, ◌-◌, ◌≤◌, drop}
 use Rattle.mr_certform.specs.Walking.{items_left, halt}
-use Rattle.mr_certform.specs.declared.place.Place.TheVariants.{AtEntry}
+use Rattle.mr_certform.specs.declared.grammar_state.GrammarState.TheVariants.{AtEntry}
 use Rattle.mr_certform.specs.Places.{groups}
 use Rattle.mr_certform.proofs.Rows.{none_passed, all_passed, some_passed, same_stop}
 use Rattle.mr_certform.proofs.walker.Walker.pass_whole_entries.Goals as goal

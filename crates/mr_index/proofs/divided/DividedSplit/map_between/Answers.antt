@@ -10,7 +10,7 @@ loop-number-init c =
     record {
       order = omega arith;
       within = c.requires.0;
-      mapper = c.over-mapper.ensures ∙ ap (λ (fs : List (List ℕ)). record { job = c.self.inside.job.now; files = fs }) c.input.ensures
+      mapper = c.mapper-mapper.ensures ∙ ap (λ (fs : List (List ℕ)). record { job = c.self.inside.job.now; files = fs }) c.input.ensures
           ∙ ap (λ (d : Division). record { job = d.job; files = d.cut.files }) c.self.view_is;
       sound = c.new-tables.ensures.sound;
       shows = shows-none c.args.self.now c.args.from tables.ends.items (pairs_seen tables.pairs) c.new-tables.ensures.none.1 c.new-tables.ensures.none.0;

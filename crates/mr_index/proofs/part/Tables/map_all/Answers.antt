@@ -27,14 +27,14 @@ loop-name-init g c =
       mapped = mapped-none c.args.job.now c.args.kept.now.skips c.args.split rs c.args.self.now.ends.items (pairs_seen c.args.self.now.pairs)
           c.of_split-left.result c.requires.none.1 c.requires.none.0 c.of_split-left.ensures;
       lines = kept-stand c.args.kept.now c.args.split c.of_split-left.result c.of_split-left.ensures;
-      mapper = c.over-mapper.ensures ∙ ap (λ (fs : List (List ℕ)). record { job = c.args.job.now; files = fs })
+      mapper = c.mapper-mapper.ensures ∙ ap (λ (fs : List (List ℕ)). record { job = c.args.job.now; files = fs })
           (c.input.ensures ∙ ap (λ (w : Cut). w.files) c.plan-plan.ensures);
       counted = ap (λ (l : List NamedRecord). c.args.mapped.now + length l) c.of_split-left.ensures;
       more = omega arith;
     }
 
-pub number_of-requires-clause-record : goal.number_of-requires-clause-record
-number_of-requires-clause-record g c =
+pub record_index-requires-clause-record : goal.record_index-requires-clause-record
+record_index-requires-clause-record g c =
     let line = c.in-Some.line in
     let v : Cut = c.args.kept.now.cut in
     let rs : List NamedRecord = of_split c.args.split (records_of v) in

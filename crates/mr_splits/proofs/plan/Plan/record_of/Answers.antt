@@ -12,4 +12,4 @@ returns-then-not-has_record c =
 
 pub returns : goal.returns
 returns c =
-    sym (ap (option_map (λ (x : NamedRecord). x.bytes)) (c.located.ensures.named ∙ ap (λ (x : NamedRecord). Some x) c.located.ensures.«record»))
+    sym (ap (option_map (λ (x : NamedRecord). x.bytes)) (c.locate.ensures.named ∙ ap (λ (x : NamedRecord). Some x) c.locate.ensures.«record»))

@@ -1,6 +1,6 @@
 use Rattle.std.proofs.Common.{arith, ap, ◌∙◌, ◌<◌, length}
 use Rattle.mr_input.specs.Files.{split_total}
-use Rattle.mr_splits.specs.declared.table.Row.{Row}
+use Rattle.mr_splits.specs.declared.split_table.Row.{Row}
 use Rattle.mr_splits.specs.Named.{of_split}
 use Rattle.mr_splits.specs.Cut.{Cut, records_of}
 use Rattle.mr_splits.proofs.ReadLemmas.{records-in}

@@ -1,0 +1,172 @@
+//! The places of the grammar: what may stand where, and which place comes behind an item. A place is a few numbers.
+ghost use Rattle.std.specs.Prelude.{◌≡◌};
+ghost use Rattle.mr_certform.specs.Places.{behind as place_behind, literal_bytes, file_lengths, partitions, skips, groups as groups_from, entries};
+
+use crate::item::Item;
+use mr_bytes::Name;
+
+/// Which item is awaited, and how many of its kind are still to come behind it; beside an entry also the partitions
+/// and groups behind its own, and the name before it in its group.
+#[derive(Clone, Copy, Debug)]
+pub enum GrammarState {
+    AtMagic,
+    AtJob,
+    AtFlags,
+    AtLiteralLength,
+    AtLiteralByte {
+        more: u32,
+    },
+    AtParts,
+    AtSplitSize {
+        parts: u32,
+    },
+    AtFiles {
+        parts: u32,
+    },
+    AtFileLength {
+        parts: u32,
+        more: u32,
+    },
+    AtSkips {
+        parts: u32,
+    },
+    AtSkip {
+        parts: u32,
+        more: u32,
+    },
+    AtGroups {
+        parts: u32,
+    },
+    AtEntries {
+        parts: u32,
+        groups: u32,
+    },
+    AtEntry {
+        parts: u32,
+        groups: u32,
+        more: u32,
+        before: Name,
+    },
+    AtEnd,
+    Behind,
+}
+
+/// The place behind the literal's length, or behind a byte of it, with `n` bytes to come.
+fn literals_to_come(n: u32) -> GrammarState
+    ensures { result ≡ literal_bytes n }
+{
+    if n == 0 {
+        GrammarState::AtParts
+    } else {
+        GrammarState::AtLiteralByte { more: n - 1 }
+    }
+}
+
+/// The place where `n` file lengths are to come.
+fn lengths_to_come(parts: u32, n: u32) -> GrammarState
+    ensures { result ≡ file_lengths parts n }
+{
+    if n == 0 {
+        GrammarState::AtSkips { parts }
+    } else {
+        GrammarState::AtFileLength { parts, more: n - 1 }
+    }
+}
+
+/// The place where `n` partitions are to come.
+fn parts_to_come(n: u32) -> GrammarState
+    ensures { result ≡ partitions n }
+{
+    if n == 0 {
+        GrammarState::AtEnd
+    } else {
+        GrammarState::AtGroups { parts: n - 1 }
+    }
+}
+
+/// The place where `n` left-out records are to come.
+fn skips_to_come(parts: u32, n: u32) -> GrammarState
+    ensures { result ≡ skips parts n }
+{
+    if n == 0 {
+        parts_to_come(parts)
+    } else {
+        GrammarState::AtSkip { parts, more: n - 1 }
+    }
+}
+
+/// The place where `n` groups of this partition are to come.
+#[inline]
+pub(crate) fn groups_to_come(parts: u32, n: u32) -> GrammarState
+    ensures { result ≡ groups_from parts n }
+{
+    if n == 0 {
+        parts_to_come(parts)
+    } else {
+        GrammarState::AtEntries {
+            parts,
+            groups: n - 1,
+        }
+    }
+}
+
+/// The place where `n` entries of this group are to come.
+#[inline]
+pub(crate) fn entries_to_come(parts: u32, groups: u32, n: u32, before: Name) -> GrammarState
+    ensures { result ≡ entries parts groups n before }
+{
+    if n == 0 {
+        groups_to_come(parts, groups)
+    } else {
+        GrammarState::AtEntry {
+            parts,
+            groups,
+            more: n - 1,
+            before,
+        }
+    }
+}
+
+impl GrammarState {
+    /// The place behind an item that stands here.
+    pub fn behind(self, item: Item) -> GrammarState
+        ensures { result ≡ place_behind self item }
+    {
+        match (self, item) {
+            (GrammarState::AtMagic, _) => GrammarState::AtJob,
+            (GrammarState::AtJob, _) => GrammarState::AtFlags,
+            (GrammarState::AtFlags, _) => GrammarState::AtLiteralLength,
+            (GrammarState::AtLiteralLength, Item::LiteralLength(n)) => literals_to_come(n),
+            (GrammarState::AtLiteralByte { more }, _) => literals_to_come(more),
+            (GrammarState::AtParts, Item::Parts(parts)) => GrammarState::AtSplitSize { parts },
+            (GrammarState::AtSplitSize { parts }, _) => GrammarState::AtFiles { parts },
+            (GrammarState::AtFiles { parts }, Item::Files(n)) => lengths_to_come(parts, n),
+            (GrammarState::AtFileLength { parts, more }, _) => lengths_to_come(parts, more),
+            (GrammarState::AtSkips { parts }, Item::Skips(n)) => skips_to_come(parts, n),
+            (GrammarState::AtSkip { parts, more }, _) => skips_to_come(parts, more),
+            (GrammarState::AtGroups { parts }, Item::Groups(n)) => groups_to_come(parts, n),
+            (GrammarState::AtEntries { parts, groups }, Item::Entries(n)) => {
+                entries_to_come(
+                    parts,
+                    groups,
+                    n,
+                    Name {
+                        split: 0,
+                        rec: 0,
+                        place: 0,
+                    },
+                )
+            }
+            (
+                GrammarState::AtEntry {
+                    parts,
+                    groups,
+                    more,
+                    ..
+                },
+                Item::Entry(name),
+            ) => { entries_to_come(parts, groups, more, name) }
+            _ => GrammarState::Behind,
+        }
+    }
+}

@@ -1,0 +1,195 @@
+//! Where a literal stands in a text, asked for one line after another.
+ghost use Rattle.std.specs.Prelude.{◌≡◌, ◌≤◌, ◌<◌, ◌+◌, ◌⊎◌, IfSome, IsTrue, false, length, slice_range};
+ghost use Rattle.mr_jobs.specs.Hits.{AreSo, IsFirstPlace, Sought};
+ghost use Rattle.mr_jobs.specs.Literal.{holds};
+
+use memchr::memmem::Finder;
+use mr_lanes::find_folded;
+use std::marker::Model;
+
+/// How many bytes a search goes over at least: where the one before found the literal, and at most. In between each
+/// search that finds nothing doubles it. So no search goes far past the lines that are asked for, and few are made.
+const SHORT_REACH: usize = 4096;
+
+const LONG_REACH: usize = 65_536;
+
+/// What is known of the places of a literal in a text.
+#[derive(Clone, Copy)]
+pub(crate) struct Known {
+    /// It stands nowhere from here on and before `clear`.
+    pub from: usize,
+    pub clear: usize,
+    /// It stands at `clear`; else nothing is known of that place.
+    pub found: bool,
+    /// How many bytes the next search goes over at least.
+    pub reach: usize,
+}
+
+/// A literal that is looked for in a text. What the search for one line tells of the bytes behind it serves the next
+/// lines, so that lines in their order take one pass over the text.
+#[derive(Drop)]
+pub(crate) struct LiteralSearch<'t, 'l> {
+    text: &'t [u8],
+    literal: &'l [u8],
+    fold: bool,
+    known: Known,
+    /// The search for exact bytes, from its first use on.
+    finder: Option<Finder<'l>>,
+}
+
+impl<'t, 'l> Model for LiteralSearch<'t, 'l> {
+    ghost use Rattle.std.specs.Prelude.{◌≡◌, IfSome};
+    ghost use Rattle.mr_jobs.specs.Hits.{Sought, AreSo};
+
+    ghost Value = { Sought };
+
+    ghost view = { λ h. record { text = h.text.now; literal = h.literal.now; fold = h.fold } };
+
+    ghost invariant = { λ h. record {
+      known : AreSo (record { text = h.text.now; literal = h.literal.now; fold = h.fold }) h.known;
+      finder : IfSome h.finder (λ f. f ≡ h.literal.now);
+    } };
+}
+
+/// The least place at which the exact bytes of the literal stand.
+fn find_exactly<'l>(
+    text: &[u8],
+    literal: &'l [u8],
+    finder: &mut Option<Finder<'l>>,
+) -> Option<usize>
+    requires { IfSome finder.old (λ f. f ≡ literal.now) }
+    ensures finder { IfSome finder.new (λ f. f ≡ literal.now) }
+    ensures place { IsFirstPlace (record { text = text.now; literal = literal.now; fold = false }) result }
+{
+    match finder {
+        Some(made) => made.find(text),
+        None => {
+            let made = Finder::new(literal);
+            let place = made.find(text);
+            *finder = Some(made);
+            place
+        }
+    }
+}
+
+/// The least place at which the literal stands.
+fn find<'l>(
+    text: &[u8],
+    literal: &'l [u8],
+    fold: bool,
+    finder: &mut Option<Finder<'l>>,
+) -> Option<usize>
+    requires { IfSome finder.old (λ f. f ≡ literal.now) }
+    ensures finder { IfSome finder.new (λ f. f ≡ literal.now) }
+    ensures place { IsFirstPlace (record { text = text.now; literal = literal.now; fold = fold }) result }
+{
+    if fold {
+        find_folded(text, literal)
+    } else {
+        find_exactly(text, literal, finder)
+    }
+}
+
+impl Known {
+    /// What is known of the places from `start` on: nothing, where what is known begins behind it or ends before it.
+    fn from_line(self, start: usize) -> Known
+        ensures so { (s : Sought) → AreSo s self → AreSo s result }
+        ensures here { (result.from ≤ start) × (start ≤ result.clear) }
+    {
+        if self.from <= start && start <= self.clear {
+            return self;
+        }
+        Known {
+            from: start,
+            clear: start,
+            found: false,
+            reach: self.reach,
+        }
+    }
+}
+
+/// Looks on for the literal until it is found, or known not to stand at `last` nor before.
+fn look_on<'l>(
+    text: &[u8],
+    literal: &'l [u8],
+    fold: bool,
+    known: Known,
+    last: usize,
+    finder: &mut Option<Finder<'l>>,
+) -> Known
+    requires last { last + length literal.now ≤ length text.now }
+    requires so { AreSo (record { text = text.now; literal = literal.now; fold = fold }) known }
+    requires finder { IfSome finder.old (λ f. f ≡ literal.now) }
+    ensures finder { IfSome finder.new (λ f. f ≡ literal.now) }
+    ensures so { AreSo (record { text = text.now; literal = literal.now; fold = fold }) result }
+    ensures rises { (result.from ≡ known.from) × (known.clear ≤ result.clear) }
+    ensures settled { IsTrue result.found ⊎ (last < result.clear) }
+{
+    if known.found || last < known.clear {
+        return known;
+    }
+    let goal = (last + literal.len())
+        .max(known.clear.saturating_add(known.reach))
+        .min(text.len());
+    match find(&text[known.clear..goal], literal, fold, finder) {
+        Some(skipped) => Known {
+            from: known.from,
+            clear: known.clear + skipped,
+            found: true,
+            reach: SHORT_REACH,
+        },
+        None => Known {
+            from: known.from,
+            clear: goal + 1 - literal.len(),
+            found: false,
+            reach: known.reach.saturating_mul(2).min(LONG_REACH),
+        },
+    }
+}
+
+impl<'t, 'l> LiteralSearch<'t, 'l> {
+    /// The places of `literal` in `text`, compared with the letters of ASCII made lower case where `fold`.
+    pub(crate) fn new(text: &'t [u8], literal: &'l [u8], fold: bool) -> LiteralSearch<'t, 'l>
+        ensures { result ≡ record { text = text.entry.now; literal = literal.entry.now; fold = fold } }
+    {
+        LiteralSearch {
+            text,
+            literal,
+            fold,
+            known: Known {
+                from: 0,
+                clear: 0,
+                found: false,
+                reach: SHORT_REACH,
+            },
+            finder: None,
+        }
+    }
+
+    /// Whether the literal stands in the line from `start` to before `end`. Lines may come in any order; all lines of a
+    /// text, in their order, take time linear in its length.
+    pub(crate) fn hold(&mut self, start: usize, end: usize) -> bool
+        requires order { start ≤ end }
+        requires within { end ≤ length self.old.text }
+        ensures same { self.new ≡ self.old }
+        ensures line { result ≡ holds self.old.fold (slice_range self.old.text start end) self.old.literal }
+    {
+        // The last place at which the literal would end with the line.
+        let Some(last) = end.checked_sub(self.literal.len()) else {
+            return false;
+        };
+        if last < start {
+            return false;
+        }
+        let known = self.known.from_line(start);
+        self.known = look_on(
+            self.text,
+            self.literal,
+            self.fold,
+            known,
+            last,
+            &mut self.finder,
+        );
+        self.known.clear <= last
+    }
+}

@@ -1,0 +1,428 @@
+//! How far the judge has come in the partitions, item by item.
+ghost use Rattle.std.specs.Prelude.{◌≡◌, ◌<◌, ◌≤◌, ◌+◌, ◌-◌, ◌^◌, ◌++◌, ◌∷◌, [], MatchOption, MatchResult, OnOk, None, Some, true, length};
+ghost use Rattle.mr_sequential.specs.Good.{named};
+ghost use Rattle.mr_input.specs.Files.{nth_file};
+ghost use Rattle.mr_sequential.specs.Rules.{rules_of};
+ghost use Rattle.mr_certform.specs.declared.item.Item.TheVariants.{Entry};
+ghost use Rattle.mr_verdict.specs.Verdict.{start, first_tests, later_tests, order_tests, with_entry, group_tests, behind_group, entry_tests, after_entry};
+ghost use Rattle.mr_verdict.specs.Verdict.{tests, after, end_tests};
+ghost use Rattle.mr_verdict.specs.Steps.{subject_with, Answers, HasRoom, opens};
+ghost use Rattle.mr_judge.specs.Blocks.{IsFound};
+ghost use Rattle.mr_judge.specs.Borders.{at_border, between};
+ghost use Rattle.mr_judge.specs.Outputs.{CanCome, Tested, Halts};
+
+use crate::blocks::FoundItem;
+use crate::border::Border;
+use crate::entry_tests::{test_end, test_first, test_later, test_named};
+use crate::facts::Basis;
+use crate::lines::test_group;
+use crate::outputs::Outputs;
+use mr_bytes::{Name, Value, ValueColumn};
+use mr_certform::Item;
+use mr_verdict::{No, Stop};
+use std::alloc::{AllocError, Global};
+use std::marker::Model;
+
+/// How far the judge has come in the partitions: the next partition; of this one how many groups are still to come,
+/// and the group; of this group how many entries are still to come, and the entry; the key of the group before, and of
+/// this one; the name before; the values so far; where in the output the next text is to stand; how many entries there
+/// were; and a buffer for a line.
+#[derive(Drop)]
+pub struct JudgeState<'a> {
+    next: u64,
+    groups: u64,
+    group: u64,
+    entries: u64,
+    entry: u64,
+    key_before: Option<&'a [u8]>,
+    key: &'a [u8],
+    before: Name,
+    values: ValueColumn,
+    from: u64,
+    named: u64,
+    text: Vec<u8>,
+}
+
+impl<'a> Model for JudgeState<'a> {
+    ghost use Rattle.std.specs.Option.{option_map};
+    ghost use Rattle.mr_verdict.specs.Verdict.{Reached};
+
+    ghost Value = { Reached };
+
+    ghost view = { λ j. record {
+      next = j.next;
+      groups = j.groups;
+      group = j.group;
+      entries = j.entries;
+      entry = j.entry;
+      key_before = option_map (λ r. r.now) j.key_before;
+      key = j.key.now;
+      before = j.before;
+      values = j.values;
+      from = j.from;
+      named = j.named;
+    } };
+}
+
+impl<'a> JudgeState<'a> {
+    /// Before the first partition.
+    pub fn new(alloc: Global) -> JudgeState<'a>
+        ensures { result ≡ start }
+    {
+        JudgeState::before(alloc, 0)
+    }
+
+    /// Before that partition, with nothing told of those ahead of it.
+    pub fn before(alloc: Global, next: u64) -> JudgeState<'a>
+        ensures { result ≡ record start { next = next } }
+    {
+        JudgeState::at(alloc, &Border::before(next))
+    }
+
+    /// At a border, with nothing told of what stands before it.
+    pub fn at(alloc: Global, border: &Border<'a>) -> JudgeState<'a>
+        ensures { result ≡ at_border border.now }
+    {
+        JudgeState {
+            next: border.next,
+            groups: border.groups,
+            group: border.group,
+            entries: 0,
+            entry: 0,
+            key_before: border.key_before,
+            key: b"",
+            before: Name {
+                split: 0,
+                rec: 0,
+                place: 0,
+            },
+            values: ValueColumn::new(alloc),
+            from: border.from,
+            named: 0,
+            text: Vec::new(alloc),
+        }
+    }
+
+    /// The border that was reached, behind a group.
+    pub fn border(&self) -> Border<'a>
+        ensures { at_border result ≡ between self.now }
+    {
+        Border {
+            next: self.next,
+            groups: self.groups,
+            group: self.group,
+            key_before: self.key_before,
+            from: self.from,
+        }
+    }
+
+    /// How many entries there were.
+    pub fn named(&self) -> u64
+        ensures { result ≡ self.now.named }
+    {
+        self.named
+    }
+
+    /// The next partition, of so many groups.
+    fn begin_partition(&mut self, groups: u64)
+        requires { HasRoom self.old }
+        ensures { self.new ≡ record self.old { next = self.old.next + 1; groups = groups; group = 0; key_before = None; from = 0 } }
+    {
+        self.next += 1;
+        self.groups = groups;
+        self.group = 0;
+        self.key_before = None;
+        self.from = 0;
+    }
+
+    /// The next group, of so many entries.
+    fn begin_group(&mut self, entries: u64)
+        ensures { self.new ≡ record self.old { entries = entries; entry = 0 } }
+    {
+        self.entries = entries;
+        self.entry = 0;
+    }
+
+    /// Behind a group, whose text ends at this place of the output.
+    fn close_group(&mut self, from: u64)
+        requires { self.old.group + 1 < 2 ^ 64 }
+        ensures { self.new
+            ≡ record self.old { groups = self.old.groups - 1; group = self.old.group + 1; key_before = Some self.old.key; from = from } }
+    {
+        self.groups = self.groups.saturating_sub(1);
+        self.group += 1;
+        self.key_before = Some(self.key);
+        self.from = from;
+    }
+
+    /// A group's first entry.
+    fn take_first(&mut self, name: Name, key: &'a [u8], value: Value) -> Result<(), AllocError>
+        requires { HasRoom self.old }
+        ensures { OnOk result (self.new
+            ≡ record self.old {
+              entry = 1;
+              entries = self.old.entries - 1;
+              key = key.entry.now;
+              before = name;
+              values = value ∷ [];
+              named = self.old.named + 1;
+            }) }
+    {
+        self.values.clear();
+        self.values.push(value)?;
+        self.entry = 1;
+        self.entries = self.entries.saturating_sub(1);
+        self.key = key;
+        self.before = name;
+        self.named += 1;
+        Ok(())
+    }
+
+    /// A later entry of a group.
+    fn take_later(&mut self, name: Name, value: Value) -> Result<(), AllocError>
+        requires { HasRoom self.old }
+        ensures { OnOk result (self.new
+            ≡ record self.old {
+              entry = self.old.entry + 1;
+              entries = self.old.entries - 1;
+              before = name;
+              values = self.old.values ++ value ∷ [];
+              named = self.old.named + 1;
+            }) }
+    {
+        self.values.push(value)?;
+        self.entry += 1;
+        self.entries = self.entries.saturating_sub(1);
+        self.before = name;
+        self.named += 1;
+        Ok(())
+    }
+}
+
+impl<'a> JudgeState<'a> {
+    /// The end of a group that stands whole: its text, and the partition's end where it was the last.
+    fn end_group<O: Outputs>(
+        &mut self,
+        basis: &Basis<'_>,
+        outputs: &mut O,
+        p: u64,
+    ) -> Result<(), Stop>
+        requires room { (self.old.group + 1 < 2 ^ 64) × (length self.old.values < 2 ^ 64) }
+        requires here { p ≡ self.old.next - 1 }
+        requires begun { O.begun outputs.old }
+        requires some { CanCome (O.gives outputs.old) }
+        requires place { O.place outputs.old ≡ self.old.from }
+        ensures tested { Tested (O.gives outputs.old) (O.gives outputs.new) self.old self.new (λ outs. group_tests (subject_with basis.now outs) p self.old 0)
+            (λ outs. behind_group (subject_with basis.now outs) self.old 0) result }
+        ensures some { CanCome (O.gives outputs.new) }
+        ensures place { OnOk result (O.place outputs.new ≡ self.new.from) }
+        ensures begun { O.begun outputs.new }
+        ensures halts { Halts O.steady (O.failed outputs.old) (O.failed outputs.new) result }
+    {
+        test_group(outputs, basis, p, self.key, &self.values, &mut self.text)?;
+        test_end(outputs, p, self.groups.saturating_sub(1))?;
+        self.close_group(outputs.place());
+        Ok(())
+    }
+
+    /// A group's first entry is tested and taken.
+    fn first_entry(
+        &mut self,
+        basis: &Basis<'_>,
+        p: u64,
+        name: Name,
+        key: &'a [u8],
+        value: Value,
+    ) -> Result<(), No>
+        requires { HasRoom self.old }
+        ensures { let fs = first_tests (rules_of basis.now.request).part p self.old.group self.old.key_before key.entry.now in
+            MatchResult result (λ _. (fs ≡ []) × (self.new ≡ with_entry self.old (record { key = key.entry.now; value = value; name = name }) 0))
+            (λ e. Answers fs e) }
+    {
+        test_first(basis, p, self.group, self.key_before, key)?;
+        self.take_first(name, key, value)?;
+        Ok(())
+    }
+
+    /// A later entry is tested and taken.
+    fn later_entry(&mut self, p: u64, name: Name, key: &[u8], value: Value) -> Result<(), No>
+        requires { HasRoom self.old }
+        ensures { let fs = later_tests p self.old.group self.old.entry self.old.before name self.old.key key.now in
+            MatchResult result (λ _. (fs ≡ []) × (self.new
+            ≡ record self.old {
+              entry = self.old.entry + 1;
+              entries = self.old.entries - 1;
+              before = name;
+              values = self.old.values ++ value ∷ [];
+              named = self.old.named + 1;
+            })) (λ e. Answers fs e) }
+    {
+        test_later(p, self.group, self.entry, self.before, name, self.key, key)?;
+        self.take_later(name, value)?;
+        Ok(())
+    }
+
+    /// The next entry is tested and taken.
+    #[tactic(auto, using(crate::proofs::Faults::order_zero, crate::proofs::Faults::with_zero, crate::proofs::Faults::order_suc, crate::proofs::Faults::with_suc))]
+    fn order_entry(
+        &mut self,
+        basis: &Basis<'_>,
+        p: u64,
+        name: Name,
+        key: &'a [u8],
+        value: Value,
+    ) -> Result<(), No>
+        requires { HasRoom self.old }
+        ensures { let fs = order_tests (rules_of basis.now.request).part p self.old name key.entry.now self.old.entry in
+            MatchResult result (λ _. (fs ≡ [])
+            × (self.new ≡ with_entry self.old (record { key = key.entry.now; value = value; name = name }) self.old.entry)) (λ e. Answers fs e) }
+    {
+        if self.entry == 0 {
+            self.first_entry(basis, p, name, key, value)
+        } else {
+            self.later_entry(p, name, key, value)
+        }
+    }
+
+    /// The group's end, where no entry is to come.
+    fn end_entry<O: Outputs>(
+        &mut self,
+        basis: &Basis<'_>,
+        outputs: &mut O,
+        p: u64,
+    ) -> Result<(), Stop>
+        requires room { (self.old.group + 1 < 2 ^ 64) × (length self.old.values < 2 ^ 64) }
+        requires here { p ≡ self.old.next - 1 }
+        requires begun { O.begun outputs.old }
+        requires some { CanCome (O.gives outputs.old) }
+        requires place { O.place outputs.old ≡ self.old.from }
+        ensures tested { Tested (O.gives outputs.old) (O.gives outputs.new) self.old self.new
+            (λ outs. group_tests (subject_with basis.now outs) p self.old self.old.entries)
+            (λ outs. behind_group (subject_with basis.now outs) self.old self.old.entries) result }
+        ensures some { CanCome (O.gives outputs.new) }
+        ensures place { OnOk result (O.place outputs.new ≡ self.new.from) }
+        ensures begun { O.begun outputs.new }
+        ensures halts { Halts O.steady (O.failed outputs.old) (O.failed outputs.new) result }
+    {
+        if self.entries == 0 {
+            self.end_group(basis, outputs, p)
+        } else {
+            Ok(())
+        }
+    }
+
+    /// An entry of a pair that is emitted, with all its tests.
+    fn found_entry<O: Outputs>(
+        &mut self,
+        basis: &Basis<'_>,
+        outputs: &mut O,
+        p: u64,
+        name: Name,
+        key: &'a [u8],
+        value: Value,
+    ) -> Result<(), Stop>
+        requires room { HasRoom self.old }
+        requires found { named basis.now.triples name ≡ Some (record { key = key.now; value = value; name = name }) }
+        requires here { p ≡ self.old.next - 1 }
+        requires begun { O.begun outputs.old }
+        requires some { CanCome (O.gives outputs.old) }
+        requires place { O.place outputs.old ≡ self.old.from }
+        ensures tested { let t = named basis.now.triples name in
+            Tested (O.gives outputs.old) (O.gives outputs.new) self.old self.new (λ outs. entry_tests (subject_with basis.now outs) p self.old name t)
+            (λ outs. after_entry (subject_with basis.now outs) self.old t) result }
+        ensures some { CanCome (O.gives outputs.new) }
+        ensures place { OnOk result (O.place outputs.new ≡ self.new.from) }
+        ensures begun { O.begun outputs.new }
+        ensures halts { Halts O.steady (O.failed outputs.old) (O.failed outputs.new) result }
+    {
+        self.order_entry(basis, p, name, key, value)?;
+        self.end_entry(basis, outputs, p)
+    }
+
+    /// An entry, with all its tests, given what is emitted under its name.
+    fn entry<O: Outputs>(
+        &mut self,
+        basis: &Basis<'_>,
+        outputs: &mut O,
+        p: u64,
+        name: Name,
+        found: Option<(&'a [u8], Value)>,
+    ) -> Result<(), Stop>
+        requires room { HasRoom self.old }
+        requires found { let t = named basis.now.triples name in MatchOption found (t ≡ None)
+            (λ p. t ≡ Some (record { key = p.0.now; value = p.1; name = name })) }
+        requires here { p ≡ self.old.next - 1 }
+        requires begun { O.begun outputs.old }
+        requires some { CanCome (O.gives outputs.old) }
+        requires place { O.place outputs.old ≡ self.old.from }
+        ensures tested { let t = named basis.now.triples name in
+            Tested (O.gives outputs.old) (O.gives outputs.new) self.old self.new (λ outs. entry_tests (subject_with basis.now outs) p self.old name t)
+            (λ outs. after_entry (subject_with basis.now outs) self.old t) result }
+        ensures some { CanCome (O.gives outputs.new) }
+        ensures place { OnOk result (O.place outputs.new ≡ self.new.from) }
+        ensures begun { O.begun outputs.new }
+        ensures halts { Halts O.steady (O.failed outputs.old) (O.failed outputs.new) result }
+    {
+        match found {
+            None => Err(Stop::Fault(No::NoSuchPair {
+                partition: p,
+                group: self.group,
+                entry: self.entry,
+            })),
+            Some((key, value)) => self.found_entry(basis, outputs, p, name, key, value),
+        }
+    }
+
+    /// The next partition begins, with so many groups, and its output is opened.
+    fn open_partition<O: Outputs>(&mut self, outputs: &mut O, groups: u64) -> Result<(), Stop>
+        requires room { HasRoom self.old }
+        requires some { CanCome (O.gives outputs.old) }
+        ensures tested { Tested (O.gives outputs.old) (O.gives outputs.new) self.old self.new
+            (λ outs. end_tests (nth_file outs self.old.next) self.old.next groups 0)
+            (λ _. record self.old { next = self.old.next + 1; groups = groups; group = 0; key_before = None; from = 0 }) result }
+        ensures some { CanCome (O.gives outputs.new) }
+        ensures place { OnOk result (O.place outputs.new ≡ self.new.from) }
+        ensures begun { O.begun outputs.new }
+        ensures halts { Halts O.steady (O.failed outputs.old) (O.failed outputs.new) result }
+    {
+        outputs.open_next();
+        test_end(outputs, self.next, groups)?;
+        self.begin_partition(groups);
+        Ok(())
+    }
+
+    /// All tests of a row's item, in their order.
+    pub fn step<O: Outputs>(
+        &mut self,
+        basis: &Basis<'_>,
+        outputs: &mut O,
+        row: &FoundItem<'a>,
+    ) -> Result<(), Stop>
+        requires room { HasRoom self.old }
+        requires found { IsFound basis.now.triples row.now }
+        requires begun { (name : _) → row.now.item ≡ Entry name → O.begun outputs.old }
+        requires some { CanCome (O.gives outputs.old) }
+        requires place { O.place outputs.old ≡ self.old.from }
+        ensures tested { Tested (O.gives outputs.old) (O.gives outputs.new) self.old self.new
+            (λ outs. tests (subject_with basis.now outs) self.old row.now.item) (λ outs. after (subject_with basis.now outs) self.old row.now.item) result }
+        ensures some { CanCome (O.gives outputs.new) }
+        ensures place { OnOk result (O.place outputs.new ≡ self.new.from) }
+        ensures begun { O.begun outputs.old → O.begun outputs.new }
+        ensures opens { opens row.now.item ≡ true → O.begun outputs.new }
+        ensures halts { Halts O.steady (O.failed outputs.old) (O.failed outputs.new) result }
+    {
+        match row.item {
+            Item::Groups(groups) => self.open_partition(outputs, u64::from(groups)),
+            Item::Entries(entries) => {
+                self.begin_group(u64::from(entries));
+                Ok(())
+            }
+            Item::Entry(name) => {
+                let p = self.next.saturating_sub(1);
+                self.entry(basis, outputs, p, name, row.found)
+            }
+            Item::End => Ok(test_named(basis.emitted(), self.named)?),
+            _ => Ok(()),
+        }
+    }
+}

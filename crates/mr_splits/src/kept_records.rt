@@ -1,0 +1,250 @@
+//! Which records of a plan are kept, and those one after another.
+ghost use Rattle.std.specs.Prelude.{◌≡◌, ◌≢◌, ℕ, ◌+◌, ◌-◌, ◌≤◌, ◌<◌, ◌^◌, [], ◌∷◌, None, IfOk, IfNone, IfSome, IsOk, MatchOption, length};
+ghost use Rattle.mr_input.specs.Files.{split_total};
+ghost use Rattle.mr_splits.specs.Named.{is_left_out, of_split};
+ghost use Rattle.mr_splits.specs.Cut.{records_of, nth_named};
+ghost use Rattle.mr_splits.specs.Kept.{first_fault, kept_between, kept_from, kept_records, list_fault, name_fault};
+
+use crate::left_out_set::LeftOutSet;
+use crate::plan::{Plan, RecordAt};
+use mr_bytes::{RecordName, compare_records};
+use std::alloc::{AllocError, Global};
+use std::cmp::Ordering;
+use std::marker::Model;
+
+/// Why a list of left-out records is no such list.
+#[derive(Clone, Copy, Debug, PartialEq, Eq, Drop)]
+pub enum SkipFault {
+    /// There are more than may be.
+    TooMany,
+    /// A name is not past the one before it.
+    Order,
+    /// There is no record of that name.
+    NoSuchRecord,
+}
+
+/// A plan with a list of names that are left out: all its other records are kept.
+#[derive(Drop)]
+pub struct KeptPlan<'a> {
+    plan: &'a Plan<'a>,
+    skips: &'a [RecordName],
+    left_out: LeftOutSet,
+}
+
+impl<'a> Model for KeptPlan<'a> {
+    ghost use Rattle.std.specs.Prelude.{◌≡◌};
+    ghost use Rattle.mr_splits.specs.Cut.{left_out_flags, records_of};
+    ghost use Rattle.mr_splits.specs.Kept.{Choice};
+
+    ghost Value = { Choice };
+
+    ghost view = { λ k. record { cut = k.plan.now; skips = k.skips.now } };
+
+    ghost invariant = { λ k. k.left_out ≡ left_out_flags k.skips.now (records_of k.plan.now) };
+}
+
+/// The records that are kept, of some splits in a row, one after another.
+#[derive(Drop)]
+pub struct KeptRecords<'a> {
+    kept: &'a KeptPlan<'a>,
+    next: RecordName,
+    end: u32,
+}
+
+impl<'a> Model for KeptRecords<'a> {
+    ghost use Rattle.std.specs.Prelude.{List, length, ◌≤◌};
+    ghost use Rattle.mr_input.specs.Files.{split_total};
+    ghost use Rattle.mr_splits.specs.Named.{NamedRecord, of_split};
+    ghost use Rattle.mr_splits.specs.Cut.{records_of};
+    ghost use Rattle.mr_splits.specs.Kept.{kept_from};
+
+    ghost Value = { List NamedRecord };
+
+    ghost view = { λ w. kept_from w.kept.now w.next.split w.next.rec w.end };
+
+    ghost invariant = { λ w. record {
+      order : w.next.split ≤ w.end;
+      within : w.end ≤ split_total w.kept.now.cut.size w.kept.now.cut.files;
+      here : w.next.rec ≤ length (of_split w.next.split (records_of w.kept.now.cut));
+    } };
+}
+
+impl<'a> Plan<'a> {
+    /// This plan without the records that a list names. Names may stand in any order, more than once, and need not be
+    /// those of records. It fails only for want of memory, and takes none for an empty list.
+    pub fn without<'k>(
+        &'k self,
+        alloc: Global,
+        skips: &'k [RecordName],
+    ) -> Result<KeptPlan<'k>, AllocError>
+        ensures ok { IfOk result (λ k. k ≡ record { cut = self.entry.now; skips = skips.entry.now }) }
+        ensures none { skips.entry.now ≡ [] → IsOk result }
+    {
+        let left_out = self.left_out(alloc, skips)?;
+        Ok(KeptPlan {
+            plan: self,
+            skips,
+            left_out,
+        })
+    }
+
+    /// The fault of a left-out record, given the one before it in the list: its order is tested before its existence.
+    /// It takes no memory.
+    pub fn name_fault(&self, before: Option<RecordName>, name: RecordName) -> Option<SkipFault>
+        ensures first { result ≡ name_fault (records_of self.now) before name }
+        ensures other { IfSome result (λ e. e ≢ SkipFault.TooMany) }
+    {
+        if let Some(before) = before {
+            if compare_records(before, name) != Ordering::Less {
+                return Some(SkipFault::Order);
+            }
+        }
+        if !self.has_record(name) {
+            return Some(SkipFault::NoSuchRecord);
+        }
+        None
+    }
+
+    /// The first fault of a list of left-out records of which there may be at most so many: how many there are is
+    /// tested first, then each of them in turn. It takes no memory.
+    pub fn list_fault(&self, most: u32, skips: &[RecordName]) -> Option<SkipFault>
+        ensures { result ≡ list_fault (records_of self.now) most skips.now }
+    {
+        if (most as usize) < skips.len() {
+            return Some(SkipFault::TooMany);
+        }
+        self.first_fault(skips)
+    }
+
+    /// The first fault of a list of left-out records, however many there are: never `TooMany`. It takes no memory.
+    pub fn first_fault(&self, skips: &[RecordName]) -> Option<SkipFault>
+        ensures first { result ≡ first_fault (records_of self.now) None skips.now }
+        ensures other { IfSome result (λ e. e ≢ SkipFault.TooMany) }
+    {
+        let mut before = None;
+        for name in skips {
+            if let Some(fault) = self.name_fault(before, *name) {
+                return Some(fault);
+            }
+            before = Some(*name);
+        }
+        None
+    }
+}
+
+impl<'a> KeptPlan<'a> {
+    /// The plan.
+    pub fn plan(&self) -> &'a Plan<'a>
+        ensures { result.now ≡ self.now.cut }
+    {
+        self.plan
+    }
+
+    /// Whether the record of that name is left out.
+    fn leaves_out(&self, name: RecordName) -> bool
+        requires split { name.split < split_total self.now.cut.size self.now.cut.files }
+        requires record { name.rec < length (of_split name.split (records_of self.now.cut)) }
+        ensures { result ≡ is_left_out self.now.skips (nth_named (of_split name.split (records_of self.now.cut)) name.rec).name }
+    {
+        self.left_out
+            .has(self.plan.record_index(name.split, name.rec))
+    }
+
+    fn records_in(&self, s: u32) -> u32
+        requires { s < split_total self.now.cut.size self.now.cut.files }
+        ensures { result ≡ length (of_split s (records_of self.now.cut)) }
+    {
+        self.plan.records_in(s)
+    }
+
+    fn locate(&self, name: RecordName) -> RecordAt<'a>
+        requires split { name.split < split_total self.now.cut.size self.now.cut.files }
+        requires record { name.rec < length (of_split name.split (records_of self.now.cut)) }
+        ensures record { nth_named (of_split name.split (records_of self.now.cut)) name.rec
+            ≡ record { name = name; file = result.file; start = result.start; bytes = result.bytes.now } }
+        ensures small { length result.bytes.now ≤ 2 ^ 30 }
+    {
+        self.plan.locate(name.split, name.rec)
+    }
+
+    /// The first kept record from that name on, of the splits before `end`.
+    fn first_from(&self, from: RecordName, end: u32) -> Option<RecordName>
+        requires order { from.split ≤ end }
+        requires within { end ≤ split_total self.now.cut.size self.now.cut.files }
+        requires here { from.rec ≤ length (of_split from.split (records_of self.now.cut)) }
+        ensures first { MatchOption result (kept_from self.now from.split from.rec end ≡ [])
+            (λ n. kept_from self.now from.split from.rec end
+            ≡ nth_named (of_split n.split (records_of self.now.cut)) n.rec ∷ kept_from self.now n.split (n.rec + 1) end) }
+        ensures place { IfSome result (λ n. (n.split < end) × (n.rec < length (of_split n.split (records_of self.now.cut)))) }
+        ensures small { IfSome result (λ n. n.rec + 1 < 2 ^ 32) }
+    {
+        let mut split = from.split;
+        let mut rec = from.rec;
+        while split < end {
+            if rec == self.records_in(split) {
+                split += 1;
+                rec = 0;
+            } else {
+                let name = RecordName { split, rec };
+                if !self.leaves_out(name) {
+                    return Some(name);
+                }
+                rec += 1;
+            }
+        }
+        None
+    }
+
+    /// The kept records of the splits from `first` on and before `end`.
+    pub fn between(&self, first: u32, end: u32) -> KeptRecords<'_>
+        requires order { first ≤ end }
+        requires within { end ≤ split_total self.now.cut.size self.now.cut.files }
+        ensures { result ≡ kept_between self.entry.now first end }
+    {
+        KeptRecords {
+            kept: self,
+            next: RecordName {
+                split: first,
+                rec: 0,
+            },
+            end,
+        }
+    }
+
+    /// The kept records of one split.
+    pub fn of_split(&self, s: u32) -> KeptRecords<'_>
+        requires { s < split_total self.now.cut.size self.now.cut.files }
+        ensures { result ≡ kept_records self.entry.now.skips (of_split s (records_of self.entry.now.cut)) }
+    {
+        // A plan has far fewer splits than a u32 numbers.
+        let _few = self.plan.splits();
+        self.between(s, s + 1)
+    }
+
+    /// All records that are kept.
+    pub fn records(&self) -> KeptRecords<'_>
+        ensures { result ≡ kept_records self.entry.now.skips (records_of self.entry.now.cut) }
+    {
+        // A plan's size is at least 1: that its splits have all records rests on that.
+        let _size = self.plan.size();
+        self.between(0, self.plan.splits())
+    }
+}
+
+impl<'a> KeptRecords<'a> {
+    /// The next record, with its name, or `None` where none is left, and from then on. It takes no memory.
+    pub fn next(&mut self) -> Option<(RecordName, RecordAt<'a>)>
+        ensures next { MatchOption result (self.old ≡ [])
+            (λ r. self.old ≡ record { name = r.0; file = r.1.file; start = r.1.start; bytes = r.1.bytes.now } ∷ self.new) }
+        ensures ended { IfNone result (self.new ≡ []) }
+        ensures small { IfSome result (λ r. length r.1.bytes.now ≤ 2 ^ 30) }
+    {
+        let kept = self.kept;
+        let name = kept.first_from(self.next, self.end)?;
+        self.next = RecordName {
+            split: name.split,
+            rec: name.rec + 1,
+        };
+        Some((name, kept.locate(name)))
+    }
+}

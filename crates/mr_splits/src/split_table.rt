@@ -1,0 +1,106 @@
+//! The table of an input's splits and records.
+ghost use Rattle.std.specs.Prelude.{◌≡◌, ℕ, ◌+◌, ◌++◌, ◌^◌, ◌≤◌, ◌<◌, length, List, All, IfOk, OnOk, take};
+ghost use Rattle.mr_bytes.specs.declared.Span.{Span};
+ghost use Rattle.mr_records.specs.Records.{records};
+ghost use Rattle.mr_input.specs.Files.{split_count, split_total, nth_file};
+ghost use Rattle.mr_splits.specs.Named.{named_from, named_records};
+ghost use Rattle.mr_splits.specs.Table.{Stands, listed, nth_span, spans_of};
+
+use crate::plan::SplitPlace;
+use crate::record_scan::take_records;
+use mr_bytes::Span;
+use mr_input::Input;
+use std::alloc::{AllocError, Global};
+
+/// A split: its place, how many records it has, where the first of them starts in the file, and its number in the whole
+/// input.
+#[derive(Clone, Copy)]
+pub(crate) struct Row {
+    pub place: SplitPlace,
+    pub count: u32,
+    pub begin: u32,
+    pub first: usize,
+}
+
+/// Where the records of all files end, each at its line feed or at the end of its file, and a row for each split.
+#[derive(Drop)]
+pub(crate) struct Table {
+    pub ends: Vec<u32>,
+    pub rows: Vec<Row>,
+}
+
+impl Table {
+    /// The span of record `r` of a row, from 0. The first starts where the row says, each other one behind the end
+    /// before it.
+    pub(crate) fn span(&self, row: Row, r: u32) -> Span
+        requires record { r < row.count }
+        requires range { row.first + row.count ≤ length self.now.ends.items }
+        requires small { All (λ (s : Span). s.end ≤ 2 ^ 30) (spans_of self.now.ends.items row) }
+        ensures { result ≡ nth_span (spans_of self.now.ends.items row) r }
+    {
+        let at = row.first + r as usize;
+        let end = self.ends[at];
+        if r == 0 {
+            return Span {
+                start: row.begin,
+                end,
+            };
+        }
+        Span {
+            start: self.ends[at - 1] + 1,
+            end,
+        }
+    }
+}
+
+/// Appends the records and the splits of file `i`.
+fn cut_file(input: &Input, i: usize, size: u32, table: &mut Table) -> Result<(), AllocError>
+    requires size { (0 < size) × (size ≤ 2 ^ 26) }
+    requires file { (i < length input.now) × (length input.now ≤ 1024) }
+    requires rows { length table.old.rows.items ≡ split_total size (take i input.now) }
+    requires stands { Stands size input.now table.old.ends.items table.old.rows.items }
+    ensures rows { OnOk result (length table.new.rows.items ≡ split_total size (take i input.now) + split_count size (nth_file input.now i)) }
+    ensures stands { OnOk result (Stands size input.now table.new.ends.items table.new.rows.items) }
+    ensures all { OnOk result (listed input.now table.new.ends.items 0 table.new.rows.items
+        ≡ listed input.now table.old.ends.items 0 table.old.rows.items
+        ++ named_from size i (split_total size (take i input.now)) (split_total size (take i input.now)) 0 (records (nth_file input.now i))) }
+{
+    let bytes = input.file(i);
+    let mut start = 0;
+    let mut next = 0;
+    while start < bytes.len() {
+        let end = bytes.len().min(start + size as usize);
+        let first = table.ends.len();
+        let begin = next;
+        next = take_records(bytes, begin, end, &mut table.ends)?;
+        table.rows.push(Row {
+            place: SplitPlace {
+                file: i as u32,
+                start: start as u32,
+                end: end as u32,
+            },
+            count: (table.ends.len() - first) as u32,
+            begin: begin as u32,
+            first,
+        })?;
+        start = end;
+    }
+    Ok(())
+}
+
+/// Cuts all files into splits of `size` bytes.
+pub(crate) fn cut_files(alloc: Global, input: &Input, size: u32) -> Result<Table, AllocError>
+    requires { (0 < size) × (size ≤ 2 ^ 26) }
+    ensures rows { IfOk result (λ t. length t.rows.items ≡ split_total size input.now) }
+    ensures stands { IfOk result (λ t. Stands size input.now t.ends.items t.rows.items) }
+    ensures all { IfOk result (λ t. listed input.now t.ends.items 0 t.rows.items ≡ named_records size input.now) }
+{
+    let mut table = Table {
+        ends: Vec::new(alloc),
+        rows: Vec::new(alloc),
+    };
+    for i in 0..input.files() {
+        cut_file(input, i, size, &mut table)?;
+    }
+    Ok(table)
+}
