@@ -20,8 +20,8 @@ use crate::fronts::is_opening;
 use crate::section::{Judged, Outcome};
 use mr_certform::{Item, Walker};
 use mr_index::Meter;
-use mr_judge::{AtHand, Block, Border, FoundItem, JudgeState, read_block};
-use mr_verdict::{No, Stop, is_same_fault};
+use mr_judge::{Block, Border, FoundItem, JudgeState, MemoryOutputs, read_block};
+use mr_verdict::{JudgeError, No, is_same_fault};
 use std::alloc::{AllocError, Global};
 
 /// Whether the item belongs to the partition that is open.
@@ -36,7 +36,7 @@ fn is_own(item: Item) -> bool
 fn step_at_hand<'a>(
     judging: &mut JudgeState<'a>,
     facts: &Facts<'a>,
-    outputs: &mut AtHand<'_>,
+    outputs: &mut MemoryOutputs<'_>,
     row: &FoundItem<'a>,
 ) -> Result<(), No>
     requires room { HasRoom judging.old }
@@ -51,9 +51,13 @@ fn step_at_hand<'a>(
 {
     match judging.step(&facts.basis(), outputs, row) {
         Ok(()) => Ok(()),
-        Err(Stop::Fault(fault)) => Err(fault),
-        Err(Stop::Device | Stop::TooLong | Stop::Output { .. } | Stop::LongOutput) =>
-            unreachable!(),
+        Err(JudgeError::Fault(fault)) => Err(fault),
+        Err(
+            JudgeError::Device
+            | JudgeError::TooLong
+            | JudgeError::Output { .. }
+            | JudgeError::LongOutput,
+        ) => unreachable!(),
     }
 }
 
@@ -61,7 +65,7 @@ fn step_at_hand<'a>(
 fn open_part<'a>(
     judging: &mut JudgeState<'a>,
     facts: &Facts<'a>,
-    outputs: &mut AtHand<'_>,
+    outputs: &mut MemoryOutputs<'_>,
     walker: &mut Walker<'_>,
 ) -> Result<bool, No>
     requires room { Room judging.old (length (items_left walker.old)) (2 ^ 64 - 2) }
@@ -87,7 +91,7 @@ fn open_part<'a>(
 fn judge_own<'a>(
     judging: &mut JudgeState<'a>,
     facts: &Facts<'a>,
-    outputs: &mut AtHand<'_>,
+    outputs: &mut MemoryOutputs<'_>,
     rows: &[FoundItem<'a>],
 ) -> Result<bool, No>
     requires room { Room judging.old (length rows.now) (2 ^ 64 - 2) }
@@ -125,9 +129,13 @@ fn read_block_of(walker: &mut Walker<'_>, items: &mut Vec<Item>) -> Result<(), N
                 Ok(())
             }
         }
-        Err(Stop::Fault(fault)) => Err(fault),
-        Err(Stop::Device | Stop::TooLong | Stop::Output { .. } | Stop::LongOutput) =>
-            unreachable!(),
+        Err(JudgeError::Fault(fault)) => Err(fault),
+        Err(
+            JudgeError::Device
+            | JudgeError::TooLong
+            | JudgeError::Output { .. }
+            | JudgeError::LongOutput,
+        ) => unreachable!(),
     }
 }
 
@@ -149,7 +157,7 @@ fn read_more(walker: &mut Walker<'_>, items: &mut Vec<Item>) -> Result<bool, All
 fn judge_stretch<'a>(
     facts: &Facts<'a>,
     judging: &mut JudgeState<'a>,
-    outputs: &mut AtHand<'_>,
+    outputs: &mut MemoryOutputs<'_>,
     walker: &mut Walker<'_>,
     block: &mut Block<'a>,
     count: u64,
@@ -186,7 +194,7 @@ fn judge_on<'a>(
     alloc: Global,
     facts: &Facts<'a>,
     judging: &mut JudgeState<'a>,
-    outputs: &mut AtHand<'_>,
+    outputs: &mut MemoryOutputs<'_>,
     walker: &mut Walker<'_>,
     count: u64,
 ) -> Result<Option<Border<'a>>, No>

@@ -4,7 +4,7 @@ ghost use Rattle.mr_input.specs.Files.{contents, nth_file};
 
 use mr_index::EmissionIndex;
 use mr_jobs::Request;
-use mr_judge::{AtHand, Basis};
+use mr_judge::{Basis, MemoryOutputs};
 use std::marker::Model;
 
 /// What the partitions are judged against: all that is emitted, the request, and the outputs.
@@ -36,12 +36,12 @@ impl<'a> Facts<'a> {
     }
 
     /// The output before that of partition `next`, of which so many bytes were passed, and those that are to come.
-    pub fn outputs_at(&self, next: u64, from: u64) -> AtHand<'a>
+    pub fn outputs_at(&self, next: u64, from: u64) -> MemoryOutputs<'a>
         ensures rest { result.rest.now ≡ drop from (nth_file self.now.outputs (next - 1)) }
         ensures later { contents result.later.now ≡ drop next self.now.outputs }
         ensures passed { result.passed ≡ from }
     {
-        AtHand::at(self.outputs, next, from)
+        MemoryOutputs::at(self.outputs, next, from)
     }
 
     /// How many pairs are emitted.

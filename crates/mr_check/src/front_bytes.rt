@@ -10,7 +10,7 @@ use mr_certform::Walker;
 use mr_input::Input;
 use mr_jobs::Request;
 use mr_splits::Plan;
-use mr_verdict::{No, Stop, expect_count, expect_header, take_skips};
+use mr_verdict::{JudgeError, No, expect_count, expect_header, read_skips};
 use std::alloc::Global;
 
 /// The items that the request and the input fix come next.
@@ -26,9 +26,13 @@ pub(crate) fn expect_header_of(
 {
     match expect_header(walker, request, input) {
         Ok(()) => Ok(()),
-        Err(Stop::Fault(fault)) => Err(fault),
-        Err(Stop::Device | Stop::TooLong | Stop::Output { .. } | Stop::LongOutput) =>
-            unreachable!(),
+        Err(JudgeError::Fault(fault)) => Err(fault),
+        Err(
+            JudgeError::Device
+            | JudgeError::TooLong
+            | JudgeError::Output { .. }
+            | JudgeError::LongOutput,
+        ) => unreachable!(),
     }
 }
 
@@ -42,9 +46,13 @@ pub(crate) fn expect_count_of(walker: &mut Walker<'_>, most: u32) -> Result<u32,
 {
     match expect_count(walker, most) {
         Ok(listed) => Ok(listed),
-        Err(Stop::Fault(fault)) => Err(fault),
-        Err(Stop::Device | Stop::TooLong | Stop::Output { .. } | Stop::LongOutput) =>
-            unreachable!(),
+        Err(JudgeError::Fault(fault)) => Err(fault),
+        Err(
+            JudgeError::Device
+            | JudgeError::TooLong
+            | JudgeError::Output { .. }
+            | JudgeError::LongOutput,
+        ) => unreachable!(),
     }
 }
 
@@ -61,10 +69,14 @@ pub(crate) fn take_skips_of(
         (λ e. (e ≡ OutOfMemory) ⊎ (told ≡ Err e)) }
     ensures stop { OnOk result (halt walker.new ≡ halt walker.old) }
 {
-    match take_skips(alloc, walker, plan, many) {
+    match read_skips(alloc, walker, plan, many) {
         Ok(skips) => Ok(skips),
-        Err(Stop::Fault(fault)) => Err(fault),
-        Err(Stop::Device | Stop::TooLong | Stop::Output { .. } | Stop::LongOutput) =>
-            unreachable!(),
+        Err(JudgeError::Fault(fault)) => Err(fault),
+        Err(
+            JudgeError::Device
+            | JudgeError::TooLong
+            | JudgeError::Output { .. }
+            | JudgeError::LongOutput,
+        ) => unreachable!(),
     }
 }

@@ -7,7 +7,7 @@ use mr_bytes::{Gate, Phase, Progress, RecordName};
 use mr_index::{DividedSplit, EmissionIndex, Part, Piece};
 use mr_jobs::Job;
 use mr_splits::{KeptPlan, Plan};
-use mr_tickets::{Pieces, draw_all};
+use mr_tickets::{WorkPieces, draw_all};
 use std::alloc::{AllocError, Global};
 use std::thread::Threads;
 
@@ -57,7 +57,7 @@ struct Mapping<'a, W: Progress> {
     watch: &'a W,
 }
 
-impl<'a, W: Progress> Pieces for Mapping<'a, W> {
+impl<'a, W: Progress> WorkPieces for Mapping<'a, W> {
     ghost use Rattle.std.specs.Prelude.{◌≡◌, ◌<◌};
     ghost use Rattle.mr_input.specs.Files.{split_total};
     ghost use Rattle.mr_index.specs.Index.{triples_in, triples_of};
@@ -68,7 +68,7 @@ impl<'a, W: Progress> Pieces for Mapping<'a, W> {
 
     ghost gives = { λ m s out. out ≡ triples_in s (triples_of m.job.now m.kept.now.cut m.kept.now.skips) };
 
-    fn piece(&self, alloc: Global, number: u32) -> Result<Part, AllocError> {
+    fn do_piece(&self, alloc: Global, number: u32) -> Result<Part, AllocError> {
         self.watch
             .report(Phase::Mapping, u64::from(number), self.all);
         EmissionIndex::part_of(alloc, self.kept, self.job, number)
@@ -84,7 +84,7 @@ struct Dividing<'a, W: Progress> {
     watch: &'a W,
 }
 
-impl<'a, W: Progress> Pieces for Dividing<'a, W> {
+impl<'a, W: Progress> WorkPieces for Dividing<'a, W> {
     ghost use Rattle.std.specs.Prelude.{◌≡◌, ◌<◌, length};
     ghost use Rattle.mr_index.specs.Pieces.{piece_at};
 
@@ -94,10 +94,10 @@ impl<'a, W: Progress> Pieces for Dividing<'a, W> {
 
     ghost gives = { λ d n out. out ≡ piece_at d.divided.now n };
 
-    fn piece(&self, alloc: Global, number: u32) -> Result<Piece, AllocError> {
+    fn do_piece(&self, alloc: Global, number: u32) -> Result<Piece, AllocError> {
         let before = u64::from(self.first_piece) + u64::from(number);
         self.watch.report(Phase::Mapping, before, self.all);
-        self.divided.piece(alloc, number)
+        self.divided.do_piece(alloc, number)
     }
 }
 

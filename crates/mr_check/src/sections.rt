@@ -15,7 +15,7 @@ use crate::mapping::Crew;
 use crate::section::{Judged, Outcome};
 use mr_bytes::{Gate, Phase, Progress};
 use mr_judge::Border;
-use mr_tickets::{Pieces, draw_all};
+use mr_tickets::{WorkPieces, draw_all};
 use mr_verdict::No;
 use std::alloc::{AllocError, Global};
 use std::thread::Threads;
@@ -69,7 +69,7 @@ struct Judging<'a, 'f, 'g, 'w, W: Progress> {
     watch: &'w W,
 }
 
-impl<'a, 'f, 'g, 'w, W: Progress> Pieces for Judging<'a, 'f, 'g, 'w, W> {
+impl<'a, 'f, 'g, 'w, W: Progress> WorkPieces for Judging<'a, 'f, 'g, 'w, W> {
     ghost use Rattle.std.specs.Prelude.{◌≡◌, ◌<◌, ◌≤◌, ◌^◌, All, length};
     ghost use Rattle.mr_verdict.specs.Steps.{subject};
     ghost use Rattle.mr_check.specs.Sections.{IsSection, IsJudgedAt};
@@ -80,7 +80,7 @@ impl<'a, 'f, 'g, 'w, W: Progress> Pieces for Judging<'a, 'f, 'g, 'w, W> {
 
     ghost gives = { λ j p out. IsJudgedAt (subject j.facts.now) j.fronts.now j.sections.now p out };
 
-    fn piece(&self, alloc: Global, number: u32) -> Result<Judged<'a>, AllocError> {
+    fn do_piece(&self, alloc: Global, number: u32) -> Result<Judged<'a>, AllocError> {
         let all = self.sections.len() as u64;
         self.watch.report(Phase::Judging, u64::from(number), all);
         let guess = match self.guesses.get(number as usize) {

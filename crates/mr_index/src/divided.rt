@@ -133,7 +133,7 @@ impl<'a> DividedSplit<'a> {
     }
 
     /// What the kept records of one piece emit, from 0. It fails only for want of memory.
-    pub fn piece(&self, alloc: Global, number: u32) -> Result<Piece, AllocError>
+    pub fn do_piece(&self, alloc: Global, number: u32) -> Result<Piece, AllocError>
         requires { number < length self.now.ends }
         ensures { IfOk result (λ p. p ≡ piece_at self.now number) }
     {

@@ -8,7 +8,7 @@ ghost use Rattle.mr_sequential.specs.Good.{named};
 ghost use Rattle.mr_index.specs.Index.{triples_of, triples_in, mapped_among, AreParts, AreAllParts};
 ghost use Rattle.mr_index.specs.Building.{joined};
 
-use crate::part::{Found, Part, map_split};
+use crate::part::{PairRef, Part, map_split};
 use mr_bytes::{Name, Phase, Progress, RecordName, Throttle, Unwatched, Value};
 use mr_jobs::Job;
 use mr_splits::{KeptPlan, Plan};
@@ -194,7 +194,7 @@ impl EmissionIndex {
     }
 
     /// The pair of that name, or none where there is no such pair. Nothing of the pair is read, and no memory is taken.
-    pub fn find(&self, name: Name, meter: &mut Meter) -> Option<Found<'_>>
+    pub fn find(&self, name: Name, meter: &mut Meter) -> Option<PairRef<'_>>
         requires { meter.old.lookups + 1 < 2 ^ 64 }
         ensures found { MatchOption result (named self.now name ≡ None)
             (λ f. named self.now name ≡ Some (record { key = f.0; value = f.1; name = name })) }
@@ -219,7 +219,7 @@ impl EmissionIndex {
         }
     }
 
-    fn look_up(&self, name: Name) -> Option<Found<'_>>
+    fn look_up(&self, name: Name) -> Option<PairRef<'_>>
         ensures { MatchOption result (named self.now name ≡ None)
             (λ f. named self.now name ≡ Some (record { key = f.0; value = f.1; name = name })) }
     {

@@ -9,5 +9,5 @@ mod piece;
 
 pub use divided::DividedSplit;
 pub use index::{EmissionIndex, Meter};
-pub use part::{Found, Part};
+pub use part::{PairRef, Part};
 pub use piece::Piece;

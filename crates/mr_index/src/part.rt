@@ -48,12 +48,12 @@ impl Model for Part {
 
 /// A pair that was found: the pairs of its part, and its place among them. Nothing of the pair is read yet.
 #[derive(Drop)]
-pub struct Found<'a> {
+pub struct PairRef<'a> {
     pairs: &'a Pairs,
     at: usize,
 }
 
-impl<'a> Model for Found<'a> {
+impl<'a> Model for PairRef<'a> {
     ghost use Rattle.std.specs.Prelude.{◌<◌, [], length, slice_index_or};
     ghost use Rattle.mr_bytes.specs.declared.Value.TheVariants.{One};
     ghost use Rattle.mr_jobs.specs.Emissions.{Emission};
@@ -69,7 +69,7 @@ impl<'a> Model for Found<'a> {
     } };
 }
 
-impl<'a> Found<'a> {
+impl<'a> PairRef<'a> {
     /// The key and the value of the pair. No byte of the key is read.
     pub fn get(&self) -> (&'a [u8], Value)
         ensures { (result.0.now, result.1) ≡ self.now }
@@ -100,7 +100,7 @@ impl Part {
     }
 
     /// The pair of that name, or none where there is no such pair.
-    pub(crate) fn find(&self, name: Name) -> Option<Found<'_>>
+    pub(crate) fn find(&self, name: Name) -> Option<PairRef<'_>>
         ensures { MatchOption result (named self.now name ≡ None)
             (λ f. named self.now name ≡ Some (record { key = f.0; value = f.1; name = name })) }
     {
@@ -113,7 +113,7 @@ impl Part {
         if self.ends[number] as usize <= at {
             return None;
         }
-        Some(Found {
+        Some(PairRef {
             pairs: &self.pairs,
             at,
         })

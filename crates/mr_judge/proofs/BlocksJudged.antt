@@ -3,8 +3,8 @@ use Rattle.std.proofs.Common.{◌≡◌, ℕ, ◌+◌, ◌≤◌, true, false, S
 use Rattle.std.specs.Prelude.{Ok, Err}
 use Rattle.mr_certform.specs.declared.item.Item.{Item}
 use Rattle.mr_verdict.specs.declared.fault.No.TheVariants.{Malformed}
-use Rattle.mr_verdict.specs.declared.items.Stop.{Stop}
-use Rattle.mr_verdict.specs.declared.items.Stop.TheVariants.{Fault, Device, TooLong, Output, LongOutput}
+use Rattle.mr_verdict.specs.declared.items.JudgeError.{JudgeError}
+use Rattle.mr_verdict.specs.declared.items.JudgeError.TheVariants.{Fault, Device, TooLong, Output, LongOutput}
 use Rattle.mr_verdict.specs.Verdict.{Reached, start, entries_in}
 use Rattle.mr_verdict.specs.Steps.{Ground, subject_with, Room}
 use Rattle.mr_verdict.specs.Items.{Coming, Each, CanCome}
@@ -25,16 +25,16 @@ Going ahead left old now b st before looked = Onward ahead left start st (Judged
 pub going_first : (ahead : Ahead) (old : Coming) (b : Ground) (st : Reached) (n : ℕ) → st ≡ start → Going ahead ahead old old b st n n
 going_first ahead old b st n e = onward_same ahead start st (JudgedTo old old b st n n) e (λ outs. judging_first old (subject_with b outs) st n e)
 
-pub all_halted : (ahead left : Ahead) (old now : Coming) (b : Ground) (st : Reached) (before looked : ℕ) (e : Stop) → Going ahead left old now b st before looked → CanComeAhead left → CanCome now → IsHalted e → before ≤ looked → Through ahead start (λ outs. Judges old (subject_with b outs) before looked (Err e))
+pub all_halted : (ahead left : Ahead) (old now : Coming) (b : Ground) (st : Reached) (before looked : ℕ) (e : JudgeError) → Going ahead left old now b st before looked → CanComeAhead left → CanCome now → IsHalted e → before ≤ looked → Through ahead start (λ outs. Judges old (subject_with b outs) before looked (Err e))
 all_halted ahead left old now b st before looked e going some given h low =
     onward_ends ahead left start st (JudgedTo old now b st before looked) (λ outs. Judges old (subject_with b outs) before looked (Err e)) going some (λ outs j. judges_halted old now (subject_with b outs) st before looked e j given h low)
 
-pub all_read : (ahead left : Ahead) (old now next : Coming) (b : Ground) (st : Reached) (before looked behind : ℕ) (items : List Item) (e : Stop) → Going ahead left old now b st before looked → CanComeAhead left → Reads now next items → CanCome next → IsHalted e
+pub all_read : (ahead left : Ahead) (old now next : Coming) (b : Ground) (st : Reached) (before looked behind : ℕ) (items : List Item) (e : JudgeError) → Going ahead left old now b st before looked → CanComeAhead left → Reads now next items → CanCome next → IsHalted e
     → before ≤ looked → looked ≤ behind → behind ≤ looked + entries_in items → Through ahead start (λ outs. Judges old (subject_with b outs) before behind (Err e))
 all_read ahead left old now next b st before looked behind items e going some reads given h low more most =
     onward_ends ahead left start st (JudgedTo old now b st before looked) (λ outs. Judges old (subject_with b outs) before behind (Err e)) going some (λ outs j. judges_read old now next (subject_with b outs) st before looked behind items e j reads given h low more most)
 
-pub all_fault : (ahead left new : Ahead) (old now next : Coming) (b : Ground) (st last : Reached) (before looked behind : ℕ) (items : List Item) (e : Stop) → Going ahead left old now b st before looked → CanComeAhead left → Reads now next items → CanCome next
+pub all_fault : (ahead left new : Ahead) (old now next : Coming) (b : Ground) (st last : Reached) (before looked behind : ℕ) (items : List Item) (e : JudgeError) → Going ahead left old now b st before looked → CanComeAhead left → Reads now next items → CanCome next
     → before ≤ looked → behind ≡ looked + entries_in items → RowsJudged left new b st last items (Err e) → Through ahead start (λ outs. Judges old (subject_with b outs) before behind (Err e))
 all_fault ahead left new old now next b st last before looked behind items (Fault f) going some reads given low all told =
     onward_through ahead left start st (JudgedTo old now b st before looked) _ (λ outs. Judges old (subject_with b outs) before behind (Err (Fault f))) going told

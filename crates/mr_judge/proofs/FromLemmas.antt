@@ -13,8 +13,8 @@ use Rattle.mr_certform.proofs.Streams.{none_are, come_bytes, come_agrees}
 use Rattle.mr_verdict.specs.declared.fault.No.{No}
 use Rattle.mr_verdict.specs.declared.fault.No.TheVariants.{OutputCount, OutOfMemory, Device as AtRead}
 use Rattle.mr_verdict.specs.declared.fault.Source.{Source}
-use Rattle.mr_verdict.specs.declared.items.Stop.{Stop}
-use Rattle.mr_verdict.specs.declared.items.Stop.TheVariants.{Fault, Device, TooLong, Output, LongOutput}
+use Rattle.mr_verdict.specs.declared.items.JudgeError.{JudgeError}
+use Rattle.mr_verdict.specs.declared.items.JudgeError.TheVariants.{Fault, Device, TooLong, Output, LongOutput}
 use Rattle.mr_verdict.specs.declared.yes.Yes.{Yes}
 use Rattle.mr_verdict.specs.Headline.{IsCertified}
 use Rattle.mr_verdict.specs.Items.{Coming}
@@ -77,10 +77,10 @@ some_may given known k =
     (o.0, (b.0, record { outputs_agree = o.1; certificate_agrees = b.1; are_bytes = b.2 }))
 
 -- it wants memory, whatever they give
-pub no_room : (request : RequestSpec) (files : List (List ℕ)) (given : List (Option (List ℕ))) (known : Option (List ℕ)) (r : Result Yes Stop) (e : Stop) → IfSome known AreBytes → r ≡ Err e → e ≡ Fault OutOfMemory → StopOfSome request files given known r
+pub no_room : (request : RequestSpec) (files : List (List ℕ)) (given : List (Option (List ℕ))) (known : Option (List ℕ)) (r : Result Yes JudgeError) (e : JudgeError) → IfSome known AreBytes → r ≡ Err e → e ≡ Fault OutOfMemory → StopOfSome request files given known r
 no_room request files given known r e k is f =
     let s = some_may given known k in
-    subst (StopOfSome request files given known) (sym (is ∙ ap (λ (x : Stop). Err x) f)) (s.0, (s.1.0, (s.1.1, inl refl)))
+    subst (StopOfSome request files given known) (sym (is ∙ ap (λ (x : JudgeError). Err x) f)) (s.0, (s.1.0, (s.1.1, inl refl)))
 
 pub no_memory : (request : RequestSpec) (files : List (List ℕ)) (given : List (Option (List ℕ))) (known : Option (List ℕ)) (r : Result Yes No) (e : No) → IfSome known AreBytes → r ≡ Err e → e ≡ OutOfMemory → VerdictOfSome request files given known r
 no_memory request files given known r e k is f =
@@ -99,7 +99,7 @@ other_count f xs request files known k other =
     (s.0, (s.1.0, (s.1.1, inr (verdict_count request files s.0 s.1.0 (λ e. other (omega (arith, e, long, length-map xs f)))))))
 
 -- what was judged is of something that they may give
-pub judged_some : {R : Type 0} (f : R → Option (List ℕ)) (xs : List R) (r : Reading) (known : Option (List ℕ)) (gives : Coming) (request : RequestSpec) (files : List (List ℕ)) (n m : ℕ) (answer : Result Yes Stop) → r.opened ≡ 0 → r.known ≡ map f xs → length xs ≡ request.parts
+pub judged_some : {R : Type 0} (f : R → Option (List ℕ)) (xs : List R) (r : Reading) (known : Option (List ℕ)) (gives : Coming) (request : RequestSpec) (files : List (List ℕ)) (n m : ℕ) (answer : Result Yes JudgeError) → r.opened ≡ 0 → r.known ≡ map f xs → length xs ≡ request.parts
     → IfSome known AreBytes → AtFront gives known → Through (IsToCome r) start (AllJudged gives request files n m answer) → StopOfSome request files (map f xs) known answer
 judged_some f xs r known gives request files n m answer z k parts are front (rest, (later, (t, h))) =
     let all : AgreeAll r.known later = subst (λ n. AgreeAll (drop n r.known) later) z t.1 in
@@ -111,7 +111,7 @@ judged_some f xs r known gives request files n m answer z k parts are front (res
     (later, (b.0, (record { outputs_agree = agree; certificate_agrees = come_agrees known b.0 b.1; are_bytes = bytes }, j.1.1.1.0 b.0 (record { bytes_are = bytes; items_are = b.2; stop_is = b.3 }) count)))
 
 -- no fault of bytes tells of a read
-no_read_in : (request : RequestSpec) (files outs : List (List ℕ)) (bytes : List ℕ) (stop : Stop) → AreBytes bytes → IsVerdict request files outs bytes (Err stop) → TellsNoRead stop
+no_read_in : (request : RequestSpec) (files outs : List (List ℕ)) (bytes : List ℕ) (stop : JudgeError) → AreBytes bytes → IsVerdict request files outs bytes (Err stop) → TellsNoRead stop
 no_read_in request files outs bytes (Fault (AtRead s)) are (inl e) = absurd (cc e)
 no_read_in request files outs bytes (Fault (AtRead s)) are (inr e) = absurd ((tells_of_bytes request files outs bytes are).1 s e)
 no_read_in request files outs bytes (Fault e) are h = tt
@@ -120,7 +120,7 @@ no_read_in request files outs bytes TooLong are h = tt
 no_read_in request files outs bytes (Output p) are h = tt
 no_read_in request files outs bytes LongOutput are h = tt
 
-pub no_read_told : (request : RequestSpec) (files : List (List ℕ)) (given : List (Option (List ℕ))) (known : Option (List ℕ)) (answer : Result Yes Stop) → StopOfSome request files given known answer → IfErr answer TellsNoRead
+pub no_read_told : (request : RequestSpec) (files : List (List ℕ)) (given : List (Option (List ℕ))) (known : Option (List ℕ)) (answer : Result Yes JudgeError) → StopOfSome request files given known answer → IfErr answer TellsNoRead
 no_read_told request files given known (Ok y) h = tt
 no_read_told request files given known (Err stop) (outs, (bytes, (m, v))) = no_read_in request files outs bytes stop m.are_bytes v
 
@@ -134,7 +134,7 @@ pub fault_device : (outs : List ℕ) (cert : ℕ) (e : No) → TellsNoRead (Faul
 fault_device outs cert (AtRead s) h = absurd h
 fault_device outs cert e h = (refl, refl)
 
-pub verdict_told : (request : RequestSpec) (files : List (List ℕ)) (given : List (Option (List ℕ))) (known : Option (List ℕ)) (answer : Result Yes Stop) (r : Result Yes No)
+pub verdict_told : (request : RequestSpec) (files : List (List ℕ)) (given : List (Option (List ℕ))) (known : Option (List ℕ)) (answer : Result Yes JudgeError) (r : Result Yes No)
     → ((o : RequestSpec) (fs outs : List (List ℕ)) (bytes : List ℕ) → IsVerdict o fs outs bytes answer → IsVerdictFrom o fs outs bytes r) → StopOfSome request files given known answer → VerdictOfSome request files given known r
 verdict_told request files given known answer r told (outs, (bytes, (m, h))) = (outs, (bytes, (m, told request files outs bytes h)))
 

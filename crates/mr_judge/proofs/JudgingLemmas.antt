@@ -4,8 +4,8 @@ use Rattle.mr_certform.specs.declared.item.Item.{Item}
 use Rattle.mr_certform.specs.declared.item.Item.TheVariants.{Magic, End}
 use Rattle.mr_verdict.specs.declared.fault.No.{No}
 use Rattle.mr_verdict.specs.declared.fault.No.TheVariants.{Malformed}
-use Rattle.mr_verdict.specs.declared.items.Stop.{Stop}
-use Rattle.mr_verdict.specs.declared.items.Stop.TheVariants.{Fault, Device, TooLong, Output, LongOutput}
+use Rattle.mr_verdict.specs.declared.items.JudgeError.{JudgeError}
+use Rattle.mr_verdict.specs.declared.items.JudgeError.TheVariants.{Fault, Device, TooLong, Output, LongOutput}
 use Rattle.mr_verdict.specs.Verdict.{Reached, Subject, start, part_faults, first, entries_in}
 use Rattle.mr_verdict.specs.Steps.{Answers, Room}
 use Rattle.mr_verdict.specs.Items.{Coming, CanCome}
@@ -28,7 +28,7 @@ pub read_reads : (now next : Coming) (items : List Item) (o : Option ℕ) → Re
 read_reads now next items None h = h
 read_reads now next items (Some place) h = λ is at there. (h is at there).0
 
-halted_told : (fs : List No) (n : ℕ) (e : Stop) → IsHalted e → IsTold fs n (Err e)
+halted_told : (fs : List No) (n : ℕ) (e : JudgeError) → IsHalted e → IsTold fs n (Err e)
 halted_told fs n (Fault f) h = inl h
 halted_told fs n Device h = tt
 halted_told fs n TooLong h = tt
@@ -36,13 +36,13 @@ halted_told fs n (Output p) h = tt
 halted_told fs n LongOutput h = tt
 
 -- a block can't be had
-pub judges_halted : (old now : Coming) (s : Subject) (st : Reached) (before looked : ℕ) (e : Stop) → Judging old now s st before looked → CanCome now → IsHalted e → before ≤ looked → Judges old s before looked (Err e)
+pub judges_halted : (old now : Coming) (s : Subject) (st : Reached) (before looked : ℕ) (e : JudgeError) → Judging old now s st before looked → CanCome now → IsHalted e → before ≤ looked → Judges old s before looked (Err e)
 judges_halted old now s st before looked e judging some h low =
     let t = judging some.0 some.1.0 some.1.1 in
     (t.0, (some.1.0, (t.1.0, (halted_told (part_faults s some.1.0 start t.0) (entries_in t.0) e h, (low, omega (arith, t.1.1.1.1))))))
 
 -- a block was read, and its names can't be looked up
-pub judges_read : (old now next : Coming) (s : Subject) (st : Reached) (before looked behind : ℕ) (items : List Item) (e : Stop) → Judging old now s st before looked → Reads now next items → CanCome next → IsHalted e
+pub judges_read : (old now next : Coming) (s : Subject) (st : Reached) (before looked behind : ℕ) (items : List Item) (e : JudgeError) → Judging old now s st before looked → Reads now next items → CanCome next → IsHalted e
     → before ≤ looked → looked ≤ behind → behind ≤ looked + entries_in items → Judges old s before behind (Err e)
 judges_read old now next s st before looked behind items e judging reads some h low more most =
     let r = reads some.0 some.1.0 some.1.1 in

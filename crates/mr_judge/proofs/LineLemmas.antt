@@ -11,8 +11,8 @@ use Rattle.mr_jobs.specs.JobSpec.{JobSpec, WordCount, LinesWith, Resources, Inve
 use Rattle.mr_reduce.specs.Text.{place_line, text_of}
 use Rattle.mr_verdict.specs.declared.fault.No.{No}
 use Rattle.mr_verdict.specs.declared.fault.No.TheVariants.{OutputDiffers}
-use Rattle.mr_verdict.specs.declared.items.Stop.{Stop}
-use Rattle.mr_verdict.specs.declared.items.Stop.TheVariants.{Fault, Device, TooLong, Output, LongOutput}
+use Rattle.mr_verdict.specs.declared.items.JudgeError.{JudgeError}
+use Rattle.mr_verdict.specs.declared.items.JudgeError.TheVariants.{Fault, Device, TooLong, Output, LongOutput}
 use Rattle.mr_verdict.specs.Verdict.{first, passes}
 use Rattle.mr_verdict.specs.Steps.{Answers}
 use Rattle.mr_judge.specs.Outputs.{Ahead, TextTold}
@@ -89,7 +89,7 @@ parts p from place pre line post text r e at is (inr told) = inr (by (nat_eq (co
 
 -- ---- what an answer on a line says of the text
 
-pub line_told : (old mid new : Ahead) (p from place : ℕ) (pre line post text : List ℕ) (e : Stop) → ((rest : List ℕ) (later : List (List ℕ)) → mid rest later → old (pre ++ rest) later)
+pub line_told : (old mid new : Ahead) (p from place : ℕ) (pre line post text : List ℕ) (e : JudgeError) → ((rest : List ℕ) (later : List (List ℕ)) → mid rest later → old (pre ++ rest) later)
     → place ≡ from + length pre → text ≡ pre ++ (line ++ post) → TextTold mid new p place line (Err e) → TextTold old new p from text (Err e)
 line_told old mid new p from place pre line post text (Fault f) stood at is (r, (l, (g, told))) =
     (pre ++ r, (l, (stood r l g, parts p from place pre line post text r f at is told)))

@@ -15,8 +15,8 @@ use Rattle.mr_bytes.specs.declared.Name.{Name}
 use Rattle.mr_bytes.specs.Pairs.{Triple}
 use Rattle.mr_verdict.specs.declared.fault.No.{No}
 use Rattle.mr_verdict.specs.declared.fault.No.TheVariants.{OutputDiffers}
-use Rattle.mr_verdict.specs.declared.items.Stop.{Stop}
-use Rattle.mr_verdict.specs.declared.items.Stop.TheVariants.{Fault, Device, TooLong, Output, LongOutput}
+use Rattle.mr_verdict.specs.declared.items.JudgeError.{JudgeError}
+use Rattle.mr_verdict.specs.declared.items.JudgeError.TheVariants.{Fault, Device, TooLong, Output, LongOutput}
 use Rattle.mr_verdict.specs.Verdict.{Reached, passes, end_tests, text_tests, order_tests, with_entry, group_tests, behind_group, entry_tests, after_entry}
 use Rattle.mr_verdict.specs.Steps.{Answers, Ground, subject_with}
 use Rattle.mr_judge.specs.Blocks.{onto}
@@ -103,7 +103,7 @@ end_fault output p (suc groups) from rest e d z h is = absurd (omega (arith, z))
 -- ---- the tests on outputs
 
 -- a partition opens, and its output ends too late
-pub open_fault : (old mid new : Ahead) (st next : Reached) (groups place : ℕ) (behind : List (List ℕ) → Reached) (e : Stop) → Opens old mid → place ≡ 0 → EndTold mid new st.next groups place (Err e)
+pub open_fault : (old mid new : Ahead) (st next : Reached) (groups place : ℕ) (behind : List (List ℕ) → Reached) (e : JudgeError) → Opens old mid → place ≡ 0 → EndTold mid new st.next groups place (Err e)
     → Tested old new st next (λ outs. end_tests (nth_file outs st.next) st.next groups 0) behind (Err e)
 open_fault old mid new st next groups place behind (Fault f) opened first (r, (l, (g, (z, (h, is))))) =
     let o = opened r l g in (
@@ -155,7 +155,7 @@ text_same p from text rest q n ts output a b c d =
     rw (sym d, a, b, c) refl
 
 -- the text of a group isn't there
-pub text_fault : (b : Ground) (old mid : Ahead) (st next : Reached) (p place : ℕ) (text : List ℕ) (behind : List (List ℕ) → Reached) (e : Stop) → p ≡ st.next - 1 → place ≡ st.from → text ≡ text_at b st → TextTold old mid p place text (Err e)
+pub text_fault : (b : Ground) (old mid : Ahead) (st next : Reached) (p place : ℕ) (text : List ℕ) (behind : List (List ℕ) → Reached) (e : JudgeError) → p ≡ st.next - 1 → place ≡ st.from → text ≡ text_at b st → TextTold old mid p place text (Err e)
     → Tested old mid st next (λ outs. group_tests (subject_with b outs) p st 0) behind (Err e)
 text_fault b old mid st next p place text behind (Fault f) here from is (r, (l, (g, told))) = (
   r,
@@ -176,7 +176,7 @@ text_fault b old mid st next p place text behind (Output q) here from is told = 
 text_fault b old mid st next p place text behind LongOutput here from is told = tt
 
 -- it is there, and the output goes on behind the last
-pub group_fault : (b : Ground) (old mid new : Ahead) (st next : Reached) (p place at groups : ℕ) (text : List ℕ) (behind : List (List ℕ) → Reached) (u : Unit {0}) (e : Stop) → p ≡ st.next - 1 → place ≡ st.from → text ≡ text_at b st → TextTold old mid p place text (Ok u)
+pub group_fault : (b : Ground) (old mid new : Ahead) (st next : Reached) (p place at groups : ℕ) (text : List ℕ) (behind : List (List ℕ) → Reached) (u : Unit {0}) (e : JudgeError) → p ≡ st.next - 1 → place ≡ st.from → text ≡ text_at b st → TextTold old mid p place text (Ok u)
     → at ≡ place + length text → groups ≡ st.groups - 1 → EndTold mid new p groups at (Err e) → Tested old new st next (λ outs. group_tests (subject_with b outs) p st 0) behind (Err e)
 group_fault b old mid new st next p place at groups text behind u (Fault f) here from is stood there less (r, (l, (g, (z, (h, e))))) = (
   text ++ r,
@@ -234,7 +234,7 @@ pub goes_on : (b : Ground) (old : Ahead) (st next : Reached) (p k : ℕ) → Onw
 goes_on b old st next p k go e h rest later g =
     (rest, (later, (g, λ outs w. (subst (λ (m : Reached). Leaves m outs rest later) (sym e) w, (group_goes_on (subject_with b outs) p st k h, e ∙ sym (behind_goes_on (subject_with b outs) st k h))))))
 
-pub tested_as : (old new : Ahead) (st next : Reached) (fs gs : List (List ℕ) → List No) (f g : List (List ℕ) → Reached) (r : Result (Unit {0}) Stop)
+pub tested_as : (old new : Ahead) (st next : Reached) (fs gs : List (List ℕ) → List No) (f g : List (List ℕ) → Reached) (r : Result (Unit {0}) JudgeError)
     → ((outs : List (List ℕ)) → fs outs ≡ gs outs) → ((outs : List (List ℕ)) → f outs ≡ g outs) → Tested old new st next fs f r → Tested old new st next gs g r
 tested_as old new st next fs gs f g (Ok u) a b t =
     λ rest later n. (let o = t rest later n in
@@ -246,7 +246,7 @@ tested_as old new st next fs gs f g (Err (Output q)) a b t = tt
 tested_as old new st next fs gs f g (Err LongOutput) a b t = tt
 
 -- tests that were passed with no output come before others
-pub tested_behind : (old new : Ahead) (st mid next : Reached) (fs gs hs : List (List ℕ) → List No) (f : List (List ℕ) → Reached) (r : Result (Unit {0}) Stop)
+pub tested_behind : (old new : Ahead) (st mid next : Reached) (fs gs hs : List (List ℕ) → List No) (f : List (List ℕ) → Reached) (r : Result (Unit {0}) JudgeError)
     → ((outs : List (List ℕ)) → fs outs ≡ []) → ((outs : List (List ℕ)) → hs outs ≡ fs outs ++ gs outs) → ((outs : List (List ℕ)) (rest : List ℕ) (later : List (List ℕ)) → Leaves st outs rest later → Leaves mid outs rest later)
     → Tested old new mid next gs f r → Tested old new st next hs f r
 tested_behind old new st mid next fs gs hs f (Ok u) none all leaves t =
@@ -269,7 +269,7 @@ entry_entries st t zero = refl
 entry_entries st t (suc e) = refl
 
 -- behind its order an entry's group may end
-pub entry_told : (b : Ground) (old new : Ahead) (st mid next : Reached) (p : ℕ) (name : Name) (t : Triple) (o : Option Triple) (r : Result (Unit {0}) Stop) → o ≡ Just t → order_tests (rules_of b.request).part p st name t.key st.entry ≡ [] → mid ≡ with_entry st t st.entry
+pub entry_told : (b : Ground) (old new : Ahead) (st mid next : Reached) (p : ℕ) (name : Name) (t : Triple) (o : Option Triple) (r : Result (Unit {0}) JudgeError) → o ≡ Just t → order_tests (rules_of b.request).part p st name t.key st.entry ≡ [] → mid ≡ with_entry st t st.entry
     → Tested old new mid next (λ outs. group_tests (subject_with b outs) p mid mid.entries) (λ outs. behind_group (subject_with b outs) mid mid.entries) r
     → Tested old new st next (λ outs. entry_tests (subject_with b outs) p st name o) (λ outs. after_entry (subject_with b outs) st o) r
 entry_told b old new st mid next p name t o r some none is told =
@@ -285,7 +285,7 @@ entry_told b old new st mid next p name t o r some none is told =
 
 -- ---- items
 
-pub items_of_halt : (A B : Type 0) (s t : Type 0) (os ps : List ℕ) (n m : ℕ) (e : Stop) → Halts {A = A} s os ps (Err e) → m ≡ n → HaltsItems {A = B} t n m (Err e)
+pub items_of_halt : (A B : Type 0) (s t : Type 0) (os ps : List ℕ) (n m : ℕ) (e : JudgeError) → Halts {A = A} s os ps (Err e) → m ≡ n → HaltsItems {A = B} t n m (Err e)
 items_of_halt A B s t os ps n m (Fault e) h d = d
 items_of_halt A B s t os ps n m Device h d = absurd h
 items_of_halt A B s t os ps n m TooLong h d = absurd h

@@ -12,8 +12,8 @@ use Rattle.mr_judge.specs.Kinds.{InKind}
 use Rattle.mr_certform.specs.Spelling.{items_of, stop}
 use Rattle.mr_verdict.specs.declared.yes.Yes.{Yes}
 use Rattle.mr_verdict.specs.declared.fault.No.TheVariants.{OtherJob, OtherInput, OutOfMemory}
-use Rattle.mr_verdict.specs.declared.items.Stop.{Stop}
-use Rattle.mr_verdict.specs.declared.items.Stop.TheVariants.{Fault, Device, TooLong, Output, LongOutput}
+use Rattle.mr_verdict.specs.declared.items.JudgeError.{JudgeError}
+use Rattle.mr_verdict.specs.declared.items.JudgeError.TheVariants.{Fault, Device, TooLong, Output, LongOutput}
 use Rattle.mr_verdict.specs.Verdict.{start, subject_of, part_faults, count_faults, accepted_by, entries_in, first}
 use Rattle.mr_verdict.specs.Steps.{Counted, Listed, counted, listed, header_met, case_at}
 use Rattle.mr_verdict.specs.Items.{Coming, CanCome, Answered, IsStopped, Each}
@@ -33,14 +33,14 @@ no_room old o files outs n (is, (at, there)) = (is, (at, (there, (inl refl, (ome
 
 -- ---- the number of left-out records, and these
 
-count_told : (o : RequestSpec) (files outs : List (List ℕ)) (most at : ℕ) (is : List Item) (e : Stop) → most ≡ o.skips → IsStopped (counted at most is) e → IsRestTold (count_faults (case_at o files outs at) is) (accepted_by (accepted [] 0) is) (Err e)
+count_told : (o : RequestSpec) (files outs : List (List ℕ)) (most at : ℕ) (is : List Item) (e : JudgeError) → most ≡ o.skips → IsStopped (counted at most is) e → IsRestTold (count_faults (case_at o files outs at) is) (accepted_by (accepted [] 0) is) (Err e)
 count_told o files outs most at is (Fault f) m h = inr (counted_fault (case_at o files outs at) is f (subst (λ n. counted at n is ≡ Err f) m h))
 count_told o files outs most at is Device m h = tt
 count_told o files outs most at is TooLong m h = tt
 count_told o files outs most at is (Output p) m h = tt
 count_told o files outs most at is LongOutput m h = tt
 
-pub count_judged : (old new : Coming) (o : RequestSpec) (files outs : List (List ℕ)) (most n : ℕ) (e : Stop) → most ≡ o.skips → CanCome old → Answered {A = ℕ} old new (λ k is. record { many = k; behind = is }) (λ at. counted at most) (Err e) → RestJudged old o files n n (Err e) outs
+pub count_judged : (old new : Coming) (o : RequestSpec) (files outs : List (List ℕ)) (most n : ℕ) (e : JudgeError) → most ≡ o.skips → CanCome old → Answered {A = ℕ} old new (λ k is. record { many = k; behind = is }) (λ at. counted at most) (Err e) → RestJudged old o files n n (Err e) outs
 count_judged old new o files outs most n e m some (inl d) = subst (λ w. RestJudged old o files n n (Err w) outs) (sym d) (no_room old o files outs n some)
 count_judged old new o files outs most n e m some (inr (js, (at, (there, h)))) = (js, (at, (there, (count_told o files outs most at js e m h, (omega arith, omega arith)))))
 
@@ -56,7 +56,7 @@ listing old mid next cut most many skips a b is at n =
     let k = a l.0 at l.1.0 in
     (k.0, (l.0, (k.1.0, (k.1.1, l.1.1))))
 
-skips_told : (o : RequestSpec) (files outs : List (List ℕ)) (most at many : ℕ) (cut : Cut) (ks js : List Item) (e : Stop) → most ≡ o.skips → cut ≡ record { size = o.split; files = files } → counted at most ks ≡ Ok (record { many = many; behind = js })
+skips_told : (o : RequestSpec) (files outs : List (List ℕ)) (most at many : ℕ) (cut : Cut) (ks js : List Item) (e : JudgeError) → most ≡ o.skips → cut ≡ record { size = o.split; files = files } → counted at most ks ≡ Ok (record { many = many; behind = js })
     → IsStopped (listed (records_of cut) at many [] js) e → IsRestTold (count_faults (case_at o files outs at) ks) (accepted_by (accepted [] 0) ks) (Err e)
 skips_told o files outs most at many cut ks js (Fault f) m c k h = inr (rest_fault (case_at o files outs at) most at cut ks (record { many = many; behind = js }) f m k refl c h)
 skips_told o files outs most at many cut ks js Device m c k h = tt
@@ -64,7 +64,7 @@ skips_told o files outs most at many cut ks js TooLong m c k h = tt
 skips_told o files outs most at many cut ks js (Output p) m c k h = tt
 skips_told o files outs most at many cut ks js LongOutput m c k h = tt
 
-pub skips_judged : (old mid new : Coming) (o : RequestSpec) (files outs : List (List ℕ)) (most many n : ℕ) (cut : Cut) (e : Stop) → most ≡ o.skips → cut ≡ record { size = o.split; files = files } → CanCome mid
+pub skips_judged : (old mid new : Coming) (o : RequestSpec) (files outs : List (List ℕ)) (most many n : ℕ) (cut : Cut) (e : JudgeError) → most ≡ o.skips → cut ≡ record { size = o.split; files = files } → CanCome mid
     → ((is : List Item) (at : ℕ) → mid is at → (js : List Item) × (old js at × (counted at most js ≡ Ok (record { many = many; behind = is }))))
     → (e ≡ Fault OutOfMemory) ⊎ ((js : List Item) × ((at : ℕ) × (mid js at × IsStopped (listed (records_of cut) at many [] js) e))) → RestJudged old o files n n (Err e) outs
 skips_judged old mid new o files outs most many n cut e m c some a (inl d) =
@@ -95,7 +95,7 @@ part_faults_same o files others outs most at many cut skips ks js is m c same or
     ap (λ fs. first (part_faults (subject_of (case_at o fs outs 0) skips) at start is)) same
     ∙ sym (ap first (rest_faults (case_at o files outs at) most at cut ks (record { many = many; behind = js }) (record { skips = skips; behind = is }) (awaits InKind in_kind o.parts ks order) m k refl c l))
 
-pub pairs_fault : (old next : Coming) (o : RequestSpec) (files others outs : List (List ℕ)) (most many n m : ℕ) (cut : Cut) (skips : List RecordName) (e : Stop) → most ≡ o.skips → cut ≡ record { size = o.split; files = files } → others ≡ files
+pub pairs_fault : (old next : Coming) (o : RequestSpec) (files others outs : List (List ℕ)) (most many n m : ℕ) (cut : Cut) (skips : List RecordName) (e : JudgeError) → most ≡ o.skips → cut ≡ record { size = o.split; files = files } → others ≡ files
     → ((is : List Item) (at : ℕ) → old is at → InKind (AtSkips o.parts) is) → Listing old next cut most many skips → Judges next (subject_of (case_at o others outs 0) skips) n m (Err e) → RestJudged old o files n m (Err e) outs
 pairs_fault old next o files others outs most many n m cut skips e most_is c same order l (is, (at, (there, (told, looked)))) =
     let t = l is at there in
@@ -103,7 +103,7 @@ pairs_fault old next o files others outs most many n m cut skips e most_is c sam
     let faults = part_faults_same o files others outs most at many cut skips t.0 t.1.0 is most_is c same (order t.0 at t.1.1.0) t.1.1.1.0 t.1.1.1.1 in
     (t.0, (at, (t.1.1.0, (by at is t.0 e told faults, (looked.0, omega (arith, looked.1, count))))))
   where
-    by : (at : ℕ) (is ks : List Item) (e : Stop) → IsTold (part_faults (subject_of (case_at o others outs 0) skips) at start is) (entries_in is) (Err e) → first (part_faults (subject_of (case_at o others outs 0) skips) at start is) ≡ first (count_faults (case_at o files outs at) ks) → IsRestTold (count_faults (case_at o files outs at) ks) (accepted_by (accepted [] 0) ks) (Err e)
+    by : (at : ℕ) (is ks : List Item) (e : JudgeError) → IsTold (part_faults (subject_of (case_at o others outs 0) skips) at start is) (entries_in is) (Err e) → first (part_faults (subject_of (case_at o others outs 0) skips) at start is) ≡ first (count_faults (case_at o files outs at) ks) → IsRestTold (count_faults (case_at o files outs at) ks) (accepted_by (accepted [] 0) ks) (Err e)
     by at is ks (Fault f) told same = told_is (part_faults (subject_of (case_at o others outs 0) skips) at start is) (count_faults (case_at o files outs at) ks) f (sym same) told
     by at is ks Device told same = tt
     by at is ks TooLong told same = tt
@@ -130,17 +130,17 @@ order_behind old mid o files front met is at n =
     let h = header_ok at o files t.0 is t.1.1 in
     skips_place InKind in_kind o files at at OtherJob OtherInput t.0 h.0 is (front t.0 at t.1.0) h.1 h.2
 
-header_told : (o : RequestSpec) (files outs : List (List ℕ)) (at : ℕ) (js : List Item) (e : Stop) → IsStopped (header_met at o files js) e → (bytes : List ℕ) → OfBytes js at bytes → length outs ≡ o.parts → IsVerdict o files outs bytes (Err e)
+header_told : (o : RequestSpec) (files outs : List (List ℕ)) (at : ℕ) (js : List Item) (e : JudgeError) → IsStopped (header_met at o files js) e → (bytes : List ℕ) → OfBytes js at bytes → length outs ≡ o.parts → IsVerdict o files outs bytes (Err e)
 header_told o files outs at js (Fault f) h bytes of count = inr (verdict_header o files outs bytes f count (header_is o files bytes at js (Err f) of.stop_is of.items_are h))
 header_told o files outs at js Device h bytes of count = tt
 header_told o files outs at js TooLong h bytes of count = tt
 header_told o files outs at js (Output p) h bytes of count = tt
 header_told o files outs at js LongOutput h bytes of count = tt
 
-pub header_judged : (old : Coming) (o : RequestSpec) (files outs : List (List ℕ)) (n : ℕ) (e : Stop) → (js : List Item) × ((at : ℕ) × (old js at × IsStopped (header_met at o files js) e)) → AllJudged old o files n n (Err e) outs
+pub header_judged : (old : Coming) (o : RequestSpec) (files outs : List (List ℕ)) (n : ℕ) (e : JudgeError) → (js : List Item) × ((at : ℕ) × (old js at × IsStopped (header_met at o files js) e)) → AllJudged old o files n n (Err e) outs
 header_judged old o files outs n e (js, (at, (there, h))) = (js, (at, (there, (header_told o files outs at js e h, (omega arith, omega arith)))))
 
-rest_told : (o : RequestSpec) (files outs : List (List ℕ)) (bytes : List ℕ) (ks : List Item) (at : ℕ) (r : Result Yes Stop) → length outs ≡ o.parts → header_met (stop bytes) o files (items_of bytes) ≡ Ok ks → at ≡ stop bytes
+rest_told : (o : RequestSpec) (files outs : List (List ℕ)) (bytes : List ℕ) (ks : List Item) (at : ℕ) (r : Result Yes JudgeError) → length outs ≡ o.parts → header_met (stop bytes) o files (items_of bytes) ≡ Ok ks → at ≡ stop bytes
     → IsRestTold (count_faults (case_at o files outs at) ks) (accepted_by (accepted [] 0) ks) r → IsVerdict o files outs bytes r
 rest_told o files outs bytes ks at (Ok y) n h a d = verdict_ok o files outs bytes ks (accepted y.skips.items y.pairs) n h (ap (λ k. first (count_faults (case_at o files outs k) ks)) (sym a) ∙ d.0) d.1
 rest_told o files outs bytes ks at (Err (Fault e)) n h a (inl d) = inl d
@@ -150,7 +150,7 @@ rest_told o files outs bytes ks at (Err TooLong) n h a d = tt
 rest_told o files outs bytes ks at (Err (Output p)) n h a d = tt
 rest_told o files outs bytes ks at (Err LongOutput) n h a d = tt
 
-pub all_judged : (old mid : Coming) (o : RequestSpec) (files outs : List (List ℕ)) (n m : ℕ) (r : Result Yes Stop) → ((is : List Item) (at : ℕ) → mid is at → (js : List Item) × (old js at × (header_met at o files js ≡ Ok is)))
+pub all_judged : (old mid : Coming) (o : RequestSpec) (files outs : List (List ℕ)) (n m : ℕ) (r : Result Yes JudgeError) → ((is : List Item) (at : ℕ) → mid is at → (js : List Item) × (old js at × (header_met at o files js ≡ Ok is)))
     → RestJudged mid o files n m r outs → AllJudged old o files n m r outs
 all_judged old mid o files outs n m r met (is, (at, (there, (told, looked)))) =
     let t = met is at there in
@@ -176,7 +176,7 @@ only_leaves outs rest later e = record {
 pub only_fits : (ahead : Ahead) (outs : List (List ℕ)) → Only ahead outs → Fits ahead start
 only_fits ahead outs only rest later g = (outs, only_leaves outs rest later (only rest later g))
 
-pub at_hand : (ahead : Ahead) (old : Coming) (o : RequestSpec) (files outs : List (List ℕ)) (bytes : List ℕ) (n m : ℕ) (r : Result Yes Stop) → Only ahead outs → ((is : List Item) (at : ℕ) → old is at → OfBytes is at bytes) → length outs ≡ o.parts
+pub at_hand : (ahead : Ahead) (old : Coming) (o : RequestSpec) (files outs : List (List ℕ)) (bytes : List ℕ) (n m : ℕ) (r : Result Yes JudgeError) → Only ahead outs → ((is : List Item) (at : ℕ) → old is at → OfBytes is at bytes) → length outs ≡ o.parts
     → Through ahead start (AllJudged old o files n m r) → IsVerdict o files outs bytes r × Looked (items_of bytes) n m
 at_hand ahead old o files outs bytes n m r only of count (rest, (later, (g, h))) =
     let j = h outs (only_leaves outs rest later (only rest later g)) in

@@ -5,8 +5,8 @@ use Rattle.std.proofs.lemmas.List.{drop_more}
 use Rattle.mr_certform.specs.declared.item.Item.{Item}
 use Rattle.mr_certform.specs.declared.item.Item.TheVariants.{End}
 use Rattle.mr_judge.specs.declared.blocks.FoundItem.{FoundItem}
-use Rattle.mr_verdict.specs.declared.items.Stop.{Stop}
-use Rattle.mr_verdict.specs.declared.items.Stop.TheVariants.{Fault, Device, TooLong, Output, LongOutput}
+use Rattle.mr_verdict.specs.declared.items.JudgeError.{JudgeError}
+use Rattle.mr_verdict.specs.declared.items.JudgeError.TheVariants.{Fault, Device, TooLong, Output, LongOutput}
 use Rattle.mr_verdict.specs.Verdict.{Reached, tests, after}
 use Rattle.mr_verdict.specs.Steps.{Ground, subject_with}
 use Rattle.mr_judge.specs.Blocks.{items_in, Judged}
@@ -21,7 +21,7 @@ StoodTo b old st i rows outs = Stands (subject_with b outs) old st i (items_in (
 abbrev pub item_at : List FoundItem → ℕ → Item
 item_at rows i = (get_or rows i blank).item
 
-pub rows_fault : (b : Ground) (old now new : Ahead) (st0 st next last : Reached) (i : ℕ) (rows : List FoundItem) (e : Stop) → i < length rows → Onward old now st0 st (StoodTo b st0 st i rows)
+pub rows_fault : (b : Ground) (old now new : Ahead) (st0 st next last : Reached) (i : ℕ) (rows : List FoundItem) (e : JudgeError) → i < length rows → Onward old now st0 st (StoodTo b st0 st i rows)
     → Tested now new st next (λ outs. tests (subject_with b outs) st (item_at rows i)) (λ outs. after (subject_with b outs) st (item_at rows i)) (Err e) → RowsJudged old new b st0 last (items_in rows) (Err e)
 rows_fault b old now new st0 st next last i rows (Fault f) h going told =
     onward_through old now st0 st (StoodTo b st0 st i rows) _ (λ outs. (at : ℕ) (js : List Item) → Judged (subject_with b outs) at st0 last (items_in rows) js (Err f)) going told

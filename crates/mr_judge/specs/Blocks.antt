@@ -10,8 +10,8 @@ use Rattle.mr_judge.specs.declared.blocks.Sought.{Sought}
 use Rattle.mr_judge.specs.declared.blocks.FoundItem.{FoundItem}
 use Rattle.mr_verdict.specs.Verdict.{Reached, Subject, start, part_faults, first, entries_in}
 use Rattle.mr_verdict.specs.declared.fault.No.TheVariants.{OutOfMemory}
-use Rattle.mr_verdict.specs.declared.items.Stop.{Stop}
-use Rattle.mr_verdict.specs.declared.items.Stop.TheVariants.{Fault}
+use Rattle.mr_verdict.specs.declared.items.JudgeError.{JudgeError}
+use Rattle.mr_verdict.specs.declared.items.JudgeError.TheVariants.{Fault}
 use Rattle.mr_verdict.specs.Items.{Coming, CanCome}
 use Rattle.mr_verdict.specs.Steps.{Answers, Room}
 
@@ -28,12 +28,12 @@ has_end (End ∷ is) = true
 has_end (i ∷ is) = has_end is
 
 -- no fault of the items, but that they can't be had, or want of memory
-abbrev pub IsHalted : Stop → Type 0
+abbrev pub IsHalted : JudgeError → Type 0
 IsHalted (Fault e) = e ≡ OutOfMemory
 IsHalted e = Unit {0}
 
 -- items were read, and others may still come behind them; or none stands there; or they can't be had
-abbrev pub Read : Coming → Coming → List Item → Result (Option ℕ) Stop → Type 0
+abbrev pub Read : Coming → Coming → List Item → Result (Option ℕ) JudgeError → Type 0
 Read old new items (Ok None) = (is : List Item) (at : ℕ) → new is at → old (onto items is) at × (entries_in (onto items is) ≡ entries_in items + entries_in is)
 Read old new items (Ok (Some place)) =
     (is : List Item) (at : ℕ) → new is at → (old (onto items is) at × (entries_in (onto items is) ≡ entries_in items + entries_in is)) × ((is ≡ []) × (at ≡ place))
@@ -72,13 +72,13 @@ Judged s at old new is js (Ok false) = GoesOn s at old new is js
 Judged s at old new is js (Err e) = Answers (part_faults s at old (onto is js)) e
 
 -- an answer on faults, and on how many entries there are: none and as many, or the first of them; or the items can't be had
-abbrev pub IsTold : List No → ℕ → Result ℕ Stop → Type 0
+abbrev pub IsTold : List No → ℕ → Result ℕ JudgeError → Type 0
 IsTold fs n (Ok m) = (first fs ≡ None) × (m ≡ n)
 IsTold fs n (Err (Fault e)) = Answers fs e
 IsTold fs n (Err e) = Unit {0}
 
 -- an answer on items that may come, judged from the first partition on, and how many names were looked up before and behind
-abbrev pub Judges : Coming → Subject → ℕ → ℕ → Result ℕ Stop → Type 0
+abbrev pub Judges : Coming → Subject → ℕ → ℕ → Result ℕ JudgeError → Type 0
 Judges old s before behind answer =
     (is : List Item)
     × ((at : ℕ) × (old is at × (IsTold (part_faults s at start is) (entries_in is) answer × ((before ≤ behind) × (behind ≤ before + entries_in is)))))

@@ -7,10 +7,10 @@ use Rattle.mr_certform.specs.declared.item.Item.{Item}
 use Rattle.mr_certform.specs.declared.item.Item.TheVariants.{Groups, End}
 use Rattle.mr_verdict.specs.declared.fault.No.{No}
 use Rattle.mr_verdict.specs.declared.fault.No.TheVariants.{OutputDiffers, OutOfMemory}
-use Rattle.mr_verdict.specs.declared.items.Stop.{Stop}
-use Rattle.mr_verdict.specs.declared.items.Stop.TheVariants.{Fault, Device as NoItem, TooLong as LongItems, Output, LongOutput}
-use Rattle.mr_judge.specs.declared.outputs.Lack.{Lack}
-use Rattle.mr_judge.specs.declared.outputs.Lack.TheVariants.{Device, TooLong}
+use Rattle.mr_verdict.specs.declared.items.JudgeError.{JudgeError}
+use Rattle.mr_verdict.specs.declared.items.JudgeError.TheVariants.{Fault, Device as NoItem, TooLong as LongItems, Output, LongOutput}
+use Rattle.mr_judge.specs.declared.outputs.OutputError.{OutputError}
+use Rattle.mr_judge.specs.declared.outputs.OutputError.TheVariants.{Device, TooLong}
 use Rattle.mr_jobs.specs.JobSpec.{RequestSpec}
 use Rattle.mr_certform.specs.Grammar.{AreBytes}
 use Rattle.mr_certform.specs.Spelling.{items_of, stop}
@@ -49,7 +49,7 @@ abbrev pub Through : Ahead → Reached → (List (List ℕ) → Type 0) → Type
 Through old st Holds = (r : List ℕ) × ((l : List (List ℕ)) × (old r l × ((outs : List (List ℕ)) → Leaves st outs r l → Holds outs)))
 
 -- what an answer on tests says: all were passed, and so much is remembered behind them; or the first fault
-abbrev pub Tested : Ahead → Ahead → Reached → Reached → (List (List ℕ) → List No) → (List (List ℕ) → Reached) → Result (Unit {0}) Stop → Type 0
+abbrev pub Tested : Ahead → Ahead → Reached → Reached → (List (List ℕ) → List No) → (List (List ℕ) → Reached) → Result (Unit {0}) JudgeError → Type 0
 Tested old new st next fs behind (Ok _) = Onward old new st next (λ outs. (fs outs ≡ []) × (next ≡ behind outs))
 Tested old new st next fs behind (Err (Fault e)) = Through old st (λ outs. Answers (fs outs) e)
 Tested old new st next fs behind (Err e) = Unit {0}
@@ -61,14 +61,14 @@ Opens old new =
     → (r : List ℕ) × ((l : List (List ℕ)) × (old r l × ((nth_file l 0 ≡ rest) × ((q : ℕ) → nth_file l (q + 1) ≡ nth_file later q))))
 
 -- a text stood next, and so many more bytes were passed; or it doesn't, behind so many
-abbrev pub Compares : Ahead → Ahead → ℕ → ℕ → List ℕ → Result Bool Lack → Type 0
+abbrev pub Compares : Ahead → Ahead → ℕ → ℕ → List ℕ → Result Bool OutputError → Type 0
 Compares old new was is text (Ok true) = ((rest : List ℕ) (later : List (List ℕ)) → new rest later → old (text ++ rest) later) × (is ≡ was + length text)
 Compares old new was is text (Ok false) =
     (r : List ℕ) × ((l : List (List ℕ)) × (old r l × ((is ≡ was + common_prefix_len nat_eq text r) × (common_prefix_len nat_eq text r ≡ length text → ⊥))))
 Compares old new was is text (Err e) = Unit {0}
 
 -- nothing is left of the open one, or something
-abbrev pub Ends : Ahead → Ahead → Result Bool Lack → Type 0
+abbrev pub Ends : Ahead → Ahead → Result Bool OutputError → Type 0
 Ends old new (Ok true) = (rest : List ℕ) (later : List (List ℕ)) → new rest later → old rest later × (rest ≡ [])
 Ends old new (Ok false) = (r : List ℕ) × ((l : List (List ℕ)) × (old r l × (1 ≤ length r)))
 Ends old new (Err e) = Unit {0}
@@ -80,13 +80,13 @@ counted_at zero (n ∷ ns) = counted n ∷ ns
 counted_at (suc p) (n ∷ ns) = n ∷ counted_at p ns
 
 -- a read failed just where this is told; where nothing but the outputs can be at fault, that is told of them
-abbrev pub Lacks : {A : Type 0} → Type 0 → List ℕ → List ℕ → Result A Lack → Type 0
+abbrev pub Lacks : {A : Type 0} → Type 0 → List ℕ → List ℕ → Result A OutputError → Type 0
 Lacks steady old new (Err (Device p)) = (new ≡ counted_at p old) × (steady → ⊥)
 Lacks steady old new (Err TooLong) = (new ≡ old) × (steady → ⊥)
 Lacks steady old new answer = new ≡ old
 
 -- and so where something is judged
-abbrev pub Halts : {A : Type 0} → Type 0 → List ℕ → List ℕ → Result A Stop → Type 0
+abbrev pub Halts : {A : Type 0} → Type 0 → List ℕ → List ℕ → Result A JudgeError → Type 0
 Halts steady old new (Err (Output p)) = (new ≡ counted_at p old) × (steady → ⊥)
 Halts steady old new (Err LongOutput) = (new ≡ old) × (steady → ⊥)
 Halts steady old new (Err NoItem) = ⊥
@@ -94,23 +94,23 @@ Halts steady old new (Err LongItems) = ⊥
 Halts steady old new answer = new ≡ old
 
 -- where items are read too, a read of the outputs failed just where this is told
-abbrev pub HaltsOutputs : {A : Type 0} → Type 0 → List ℕ → List ℕ → Result A Stop → Type 0
+abbrev pub HaltsOutputs : {A : Type 0} → Type 0 → List ℕ → List ℕ → Result A JudgeError → Type 0
 HaltsOutputs steady old new (Err (Output p)) = (new ≡ counted_at p old) × (steady → ⊥)
 HaltsOutputs steady old new (Err LongOutput) = (new ≡ old) × (steady → ⊥)
 HaltsOutputs steady old new answer = new ≡ old
 
 -- and a read of the items failed just where that is told
-abbrev pub HaltsItems : {A : Type 0} → Type 0 → ℕ → ℕ → Result A Stop → Type 0
+abbrev pub HaltsItems : {A : Type 0} → Type 0 → ℕ → ℕ → Result A JudgeError → Type 0
 HaltsItems steady old new (Err NoItem) = (new ≡ counted old) × (steady → ⊥)
 HaltsItems steady old new (Err LongItems) = (new ≡ old) × (steady → ⊥)
 HaltsItems steady old new answer = new ≡ old
 
-abbrev pub stop_of : Lack → Stop
+abbrev pub stop_of : OutputError → JudgeError
 stop_of (Device p) = Output p
 stop_of TooLong = LongOutput
 
 -- a text is tested against what is left of an output
-abbrev pub TextTold : Ahead → Ahead → ℕ → ℕ → List ℕ → Result (Unit {0}) Stop → Type 0
+abbrev pub TextTold : Ahead → Ahead → ℕ → ℕ → List ℕ → Result (Unit {0}) JudgeError → Type 0
 TextTold old new p from text (Ok _) = (rest : List ℕ) (later : List (List ℕ)) → new rest later → old (text ++ rest) later
 TextTold old new p from text (Err (Fault e)) =
     (r : List ℕ)
@@ -118,14 +118,14 @@ TextTold old new p from text (Err (Fault e)) =
 TextTold old new p from text (Err e) = Unit {0}
 
 -- an output is tested for its end, where no group is to come
-abbrev pub EndTold : Ahead → Ahead → ℕ → ℕ → ℕ → Result (Unit {0}) Stop → Type 0
+abbrev pub EndTold : Ahead → Ahead → ℕ → ℕ → ℕ → Result (Unit {0}) JudgeError → Type 0
 EndTold old new p groups from (Ok _) = (rest : List ℕ) (later : List (List ℕ)) → new rest later → old rest later × (groups ≡ 0 → rest ≡ [])
 EndTold old new p groups from (Err (Fault e)) =
     (r : List ℕ) × ((l : List (List ℕ)) × (old r l × ((groups ≡ 0) × ((1 ≤ length r) × (e ≡ OutputDiffers p from)))))
 EndTold old new p groups from (Err e) = Unit {0}
 
 -- what an answer on rows says, with others behind them
-abbrev pub RowsJudged : Ahead → Ahead → Ground → Reached → Reached → List Item → Result Bool Stop → Type 0
+abbrev pub RowsJudged : Ahead → Ahead → Ground → Reached → Reached → List Item → Result Bool JudgeError → Type 0
 RowsJudged old new b st next is (Ok v) = Onward old new st next (λ outs. (at : ℕ) (js : List Item) → Judged (subject_with b outs) at st next is js (Ok v))
 RowsJudged old new b st next is (Err (Fault e)) = Through old st (λ outs. (at : ℕ) (js : List Item) → Judged (subject_with b outs) at st next is js (Err e))
 RowsJudged old new b st next is (Err e) = Unit {0}
@@ -138,7 +138,7 @@ begins (End ∷ is) = true
 begins is = false
 
 -- what an answer on the certificate behind its front says: no fault, and what is accepted; or the first of the faults
-abbrev pub IsRestTold : List No → Accepted → Result Yes Stop → Type 0
+abbrev pub IsRestTold : List No → Accepted → Result Yes JudgeError → Type 0
 IsRestTold fs accepted (Ok y) = (first fs ≡ None) × (accepted ≡ accepted_of y)
 IsRestTold fs accepted (Err (Fault e)) = Answers fs e
 IsRestTold fs accepted (Err e) = Unit {0}
@@ -148,7 +148,7 @@ abbrev pub Looked : List Item → ℕ → ℕ → Type 0
 Looked is before behind = (before ≤ behind) × (behind ≤ before + entries_in is)
 
 -- of items that may come
-abbrev pub RestJudged : Coming → RequestSpec → List (List ℕ) → ℕ → ℕ → Result Yes Stop → List (List ℕ) → Type 0
+abbrev pub RestJudged : Coming → RequestSpec → List (List ℕ) → ℕ → ℕ → Result Yes JudgeError → List (List ℕ) → Type 0
 RestJudged old request files before behind answer outs =
     (is : List Item)
     × ((at : ℕ)
@@ -156,7 +156,7 @@ RestJudged old request files before behind answer outs =
     × (IsRestTold (count_faults (case_at request files outs at) is) (accepted_by (record { skips = []; pairs = 0 }) is) answer × Looked is before behind)))
 
 -- what an answer says of the verdict
-abbrev pub IsVerdict : RequestSpec → List (List ℕ) → List (List ℕ) → List ℕ → Result Yes Stop → Type 0
+abbrev pub IsVerdict : RequestSpec → List (List ℕ) → List (List ℕ) → List ℕ → Result Yes JudgeError → Type 0
 IsVerdict request files outs bytes (Ok y) = verdict_of request files outs bytes ≡ Ok (accepted_of y)
 IsVerdict request files outs bytes (Err (Fault e)) = (e ≡ OutOfMemory) ⊎ (verdict_of request files outs bytes ≡ Err e)
 IsVerdict request files outs bytes (Err e) = Unit {0}
@@ -168,7 +168,7 @@ pub record OfBytes (is : List Item) (at : ℕ) (bytes : List ℕ) : Type 0 where
   pub stop_is : at ≡ stop bytes
 
 -- of items that may come, of which each is of bytes
-abbrev pub AllJudged : Coming → RequestSpec → List (List ℕ) → ℕ → ℕ → Result Yes Stop → List (List ℕ) → Type 0
+abbrev pub AllJudged : Coming → RequestSpec → List (List ℕ) → ℕ → ℕ → Result Yes JudgeError → List (List ℕ) → Type 0
 AllJudged old request files before behind answer outs =
     (is : List Item)
     × ((at : ℕ)

@@ -2,23 +2,23 @@
 use Rattle.std.specs.Prelude.{ℕ, List, map, Option, Result}
 use Rattle.mr_jobs.specs.JobSpec.{RequestSpec}
 use Rattle.mr_verdict.specs.declared.fault.No.TheVariants.{Device as AtRead}
-use Rattle.mr_verdict.specs.declared.items.Stop.{Stop}
-use Rattle.mr_verdict.specs.declared.items.Stop.TheVariants.{Fault}
+use Rattle.mr_verdict.specs.declared.items.JudgeError.{JudgeError}
+use Rattle.mr_verdict.specs.declared.items.JudgeError.TheVariants.{Fault}
 use Rattle.mr_verdict.specs.declared.yes.Yes.{Yes}
-use Rattle.mr_judge.specs.declared.readers.FromReaders.{FromReaders}
+use Rattle.mr_judge.specs.declared.readers.ReaderOutputs.{ReaderOutputs}
 use Rattle.mr_judge.specs.From.{MayGive}
 use Rattle.mr_judge.specs.Outputs.{IsVerdict}
 use Rattle.mr_judge.specs.Reading.{Reading}
 
-abbrev pub reading : {R : Type 0} → (R → Option (List ℕ)) → FromReaders R → Reading
+abbrev pub reading : {R : Type 0} → (R → Option (List ℕ)) → ReaderOutputs R → Reading
 reading remaining o = record { opened = o.opened; held = o.piece; exhausted = o.exhausted; known = map remaining o.readers.now }
 
 -- what an answer says of the verdict over something that the readers may give
-abbrev pub StopOfSome : RequestSpec → List (List ℕ) → List (Option (List ℕ)) → Option (List ℕ) → Result Yes Stop → Type 0
+abbrev pub StopOfSome : RequestSpec → List (List ℕ) → List (Option (List ℕ)) → Option (List ℕ) → Result Yes JudgeError → Type 0
 StopOfSome request files outputs certificate answer =
     (outs : List (List ℕ)) × ((bytes : List ℕ) × (MayGive outputs certificate outs bytes × IsVerdict request files outs bytes answer))
 
 -- it is no fault that tells of a read
-abbrev pub TellsNoRead : Stop → Type 0
+abbrev pub TellsNoRead : JudgeError → Type 0
 TellsNoRead (Fault (AtRead s)) = ⊥
 TellsNoRead stop = Unit {0}

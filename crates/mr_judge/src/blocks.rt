@@ -10,8 +10,8 @@ ghost use Rattle.mr_judge.specs.Blocks.{has_end, Read, items_sought, items_in, I
 use crate::facts::Basis;
 use mr_bytes::Value;
 use mr_certform::Item;
-use mr_index::{Found, Meter};
-use mr_verdict::{Halt, Items, Stop};
+use mr_index::{Meter, PairRef};
+use mr_verdict::{ItemError, ItemSource, JudgeError};
 use std::alloc::AllocError;
 
 /// How many items are read and looked up ahead.
@@ -21,7 +21,7 @@ pub const BLOCK: usize = 64;
 #[derive(Drop)]
 pub struct Sought<'a> {
     pub item: Item,
-    pub place: Option<Found<'a>>,
+    pub place: Option<PairRef<'a>>,
 }
 
 /// An item, and what is emitted under its name where it is an entry.
@@ -71,7 +71,10 @@ fn keep<T: Drop>(list: &mut Vec<T>, one: T) -> Result<(), AllocError>
 /// Reads the items that come next, in place of what the list held: as many as a block has, but none behind the end.
 /// Where no item stands behind them, it tells the place.
 #[inline(never)]
-pub fn read_block<I: Items>(walker: &mut I, items: &mut Vec<Item>) -> Result<Option<u64>, Stop>
+pub fn read_block<I: ItemSource>(
+    walker: &mut I,
+    items: &mut Vec<Item>,
+) -> Result<Option<u64>, JudgeError>
     requires sound { I.sound walker.old }
     ensures sound { IfOk result (λ o. o ≡ None → I.sound walker.new) }
     ensures read { Read (I.gives walker.old) (I.gives walker.new) items.new.items result }
@@ -91,9 +94,9 @@ pub fn read_block<I: Items>(walker: &mut I, items: &mut Vec<Item>) -> Result<Opt
                     return Ok(None);
                 }
             }
-            Err(Halt::Malformed { at }) => return Ok(Some(at)),
-            Err(Halt::Device) => return Err(Stop::Device),
-            Err(Halt::TooLong) => return Err(Stop::TooLong),
+            Err(ItemError::Malformed { at }) => return Ok(Some(at)),
+            Err(ItemError::Device) => return Err(JudgeError::Device),
+            Err(ItemError::TooLong) => return Err(JudgeError::TooLong),
         }
     }
     Ok(None)

@@ -10,10 +10,10 @@ use crate::comparing::{is_key_less, is_name_less};
 use crate::facts::Basis;
 use crate::outputs::Outputs;
 use mr_bytes::Name;
-use mr_verdict::{No, Stop};
+use mr_verdict::{JudgeError, No};
 
 /// Whether a partition that has no more groups ends where its output does.
-pub(crate) fn test_end<O: Outputs>(outputs: &mut O, p: u64, groups: u64) -> Result<(), Stop>
+pub(crate) fn test_end<O: Outputs>(outputs: &mut O, p: u64, groups: u64) -> Result<(), JudgeError>
     requires begun { O.begun outputs.old }
     requires some { CanCome (O.gives outputs.old) }
     ensures told { EndTold (O.gives outputs.old) (O.gives outputs.new) p groups (O.place outputs.old) result }
@@ -23,7 +23,7 @@ pub(crate) fn test_end<O: Outputs>(outputs: &mut O, p: u64, groups: u64) -> Resu
     ensures halts { Halts O.steady (O.failed outputs.old) (O.failed outputs.new) result }
 {
     if groups == 0 && !outputs.is_passed()? {
-        return Err(Stop::Fault(No::OutputDiffers {
+        return Err(JudgeError::Fault(No::OutputDiffers {
             partition: p,
             at: outputs.place(),
         }));
@@ -32,7 +32,7 @@ pub(crate) fn test_end<O: Outputs>(outputs: &mut O, p: u64, groups: u64) -> Resu
 }
 
 /// Whether the text stands in the output that is open, behind what was passed of it.
-pub(crate) fn test_text<O: Outputs>(outputs: &mut O, p: u64, text: &[u8]) -> Result<(), Stop>
+pub(crate) fn test_text<O: Outputs>(outputs: &mut O, p: u64, text: &[u8]) -> Result<(), JudgeError>
     requires begun { O.begun outputs.old }
     requires some { CanCome (O.gives outputs.old) }
     ensures told { TextTold (O.gives outputs.old) (O.gives outputs.new) p (O.place outputs.old) text.now result }
@@ -44,7 +44,7 @@ pub(crate) fn test_text<O: Outputs>(outputs: &mut O, p: u64, text: &[u8]) -> Res
     if outputs.pass_text(text)? {
         return Ok(());
     }
-    Err(Stop::Fault(No::OutputDiffers {
+    Err(JudgeError::Fault(No::OutputDiffers {
         partition: p,
         at: outputs.place(),
     }))

@@ -5,7 +5,7 @@ ghost use Rattle.mr_sequential.specs.Good.{named};
 ghost use Rattle.mr_sequential.specs.Rules.{part};
 
 use mr_bytes::{Name, ValueColumn};
-use mr_index::{EmissionIndex, Found, Meter};
+use mr_index::{EmissionIndex, Meter, PairRef};
 use mr_jobs::{Job, Request};
 use mr_partition::partition_by;
 use mr_reduce::append_text;
@@ -56,7 +56,7 @@ impl<'a> Basis<'a> {
     }
 
     /// The pair of that name among all that is emitted, or none where there is no such pair.
-    pub fn find(&self, name: Name, meter: &mut Meter) -> Option<Found<'a>>
+    pub fn find(&self, name: Name, meter: &mut Meter) -> Option<PairRef<'a>>
         requires { meter.old.lookups + 1 < 2 ^ 64 }
         ensures found { MatchOption result (named self.now.triples name ≡ None)
             (λ f. named self.now.triples name ≡ Some (record { key = f.0; value = f.1; name = name })) }

@@ -9,15 +9,15 @@ ghost use Rattle.mr_judge.specs.From.{Give, Judged, VerdictOfSome, IsVerdictFrom
 ghost use Rattle.mr_judge.specs.Readers.{StopOfSome, TellsNoRead};
 
 use crate::judge::judge_all;
-use crate::lent::Lent;
-use crate::readers::FromReaders;
+use crate::lent::ByRef;
+use crate::readers::ReaderOutputs;
 use mr_bytes::{Progress, Unwatched};
 use mr_certform::StreamWalker;
 use mr_index::Meter;
 use mr_input::Input;
 use mr_jobs::Request;
 use mr_store::CountedRead;
-use mr_verdict::{No, Source, Stop, Yes};
+use mr_verdict::{JudgeError, No, Source, Yes};
 use std::alloc::{AllocError, Global};
 
 /// How many reads of each have failed.
@@ -53,16 +53,16 @@ fn judge_lent<R: CountedRead, C: CountedRead>(
     outputs: &mut [R],
     certificate: &mut C,
     watch: &dyn Progress,
-) -> Result<Yes, Stop>
+) -> Result<Yes, JudgeError>
     requires fits { split_total request.now.split input.now ≤ 2 ^ 20 }
     requires parts { length outputs.old ≡ request.now.parts }
     requires known { IfSome (C.remaining certificate.old) AreBytes }
     ensures { StopOfSome request.now input.now (map R.remaining outputs.old) (C.remaining certificate.old) result }
 {
-    let mut outputs = FromReaders::new(alloc, outputs)?;
+    let mut outputs = ReaderOutputs::new(alloc, outputs)?;
     let mut walker = StreamWalker::new(
         alloc,
-        Lent {
+        ByRef {
             reader: certificate,
         },
     )?;
@@ -83,20 +83,23 @@ fn judge_lent<R: CountedRead, C: CountedRead>(
 
 /// The fault, where no read has failed and no fault tells of one. Of an output or a certificate of 2^63 bytes or more
 /// nothing is said but that it is too long for the memory of a machine.
-fn fault_of(stop: Stop) -> No
+fn fault_of(stop: JudgeError) -> No
     requires { TellsNoRead stop }
     ensures verdict { (o : RequestSpec) (files outs : List (List ℕ)) (bytes : List ℕ)
         → IsVerdict o files outs bytes (Err stop) → IsVerdictFrom o files outs bytes (Err result) }
     ensures device { (outs : List ℕ) (cert : ℕ) → IsDevice outs outs cert cert (Err result) }
 {
     match stop {
-        Stop::Fault(fault) => fault,
-        Stop::Device | Stop::TooLong | Stop::Output { .. } | Stop::LongOutput => No::OutOfMemory,
+        JudgeError::Fault(fault) => fault,
+        JudgeError::Device
+        | JudgeError::TooLong
+        | JudgeError::Output { .. }
+        | JudgeError::LongOutput => No::OutOfMemory,
     }
 }
 
 /// The answer, where no read has failed and no fault tells of one.
-fn told(answer: Result<Yes, Stop>) -> Result<Yes, No>
+fn told(answer: Result<Yes, JudgeError>) -> Result<Yes, No>
     requires { IfErr answer TellsNoRead }
     ensures verdict { (o : RequestSpec) (files outs : List (List ℕ)) (bytes : List ℕ)
         → IsVerdict o files outs bytes answer → IsVerdictFrom o files outs bytes result }

@@ -17,7 +17,7 @@ ghost use Rattle.mr_verdict.specs.Items.{CanCome, Each};
 ghost use Rattle.mr_judge.specs.Outputs.{CanCome as CanComeAhead, Fits, Through, RestJudged, AllJudged, HaltsItems, HaltsOutputs, begins};
 
 use crate::facts::Basis;
-use crate::outputs::{AtHand, Outputs};
+use crate::outputs::{MemoryOutputs, Outputs};
 use crate::parts::check_parts;
 use mr_bytes::{Progress, RecordName, Unwatched};
 use mr_certform::Walker;
@@ -25,7 +25,7 @@ use mr_index::{EmissionIndex, Meter};
 use mr_input::Input;
 use mr_jobs::Request;
 use mr_splits::Plan;
-use mr_verdict::{Items, No, Stop, Yes, expect_count, expect_header, take_skips};
+use mr_verdict::{ItemSource, JudgeError, No, Yes, expect_count, expect_header, read_skips};
 use std::alloc::{AllocError, Global};
 
 /// The plan of an input under a request that fits it.
@@ -41,7 +41,7 @@ pub fn plan_of<'a>(
 }
 
 /// Judges the partitions, given the left-out records: how many pairs there are, or the first fault.
-fn check_with<I: Items, O: Outputs>(
+fn check_with<I: ItemSource, O: Outputs>(
     alloc: Global,
     request: &Request,
     plan: &Plan<'_>,
@@ -50,7 +50,7 @@ fn check_with<I: Items, O: Outputs>(
     walker: &mut I,
     meter: &mut Meter,
     watch: &dyn Progress,
-) -> Result<u64, Stop>
+) -> Result<u64, JudgeError>
     requires same { plan.now.size ≡ request.now.split }
     requires sound { I.sound walker.old }
     requires given { CanCome (I.gives walker.old) }
@@ -78,7 +78,7 @@ fn check_with<I: Items, O: Outputs>(
 }
 
 /// Judges what stands behind the items of the request and of the input.
-fn check_rest<I: Items, O: Outputs>(
+fn check_rest<I: ItemSource, O: Outputs>(
     alloc: Global,
     request: &Request,
     input: &Input,
@@ -86,7 +86,7 @@ fn check_rest<I: Items, O: Outputs>(
     walker: &mut I,
     meter: &mut Meter,
     watch: &dyn Progress,
-) -> Result<Yes, Stop>
+) -> Result<Yes, JudgeError>
     requires fits { split_total request.now.split input.now ≤ 2 ^ 20 }
     requires sound { I.sound walker.old }
     requires given { CanCome (I.gives walker.old) }
@@ -106,7 +106,7 @@ fn check_rest<I: Items, O: Outputs>(
 {
     let listed = expect_count(walker, request.max_skips())?;
     let plan = plan_of(alloc, request, input)?;
-    let skips = take_skips(alloc, walker, &plan, listed)?;
+    let skips = read_skips(alloc, walker, &plan, listed)?;
     let pairs = check_with(alloc, request, &plan, outputs, &skips, walker, meter, watch)?;
     Ok(Yes { skips, pairs })
 }
@@ -121,7 +121,7 @@ pub fn walk(certificate: &[u8]) -> Walker<'_>
 }
 
 /// Judges a result, whatever walks its items and holds its outputs, which are as many as the partitions.
-pub(crate) fn judge_all<I: Items, O: Outputs>(
+pub(crate) fn judge_all<I: ItemSource, O: Outputs>(
     alloc: Global,
     request: &Request,
     input: &Input,
@@ -129,7 +129,7 @@ pub(crate) fn judge_all<I: Items, O: Outputs>(
     walker: &mut I,
     meter: &mut Meter,
     watch: &dyn Progress,
-) -> Result<Yes, Stop>
+) -> Result<Yes, JudgeError>
     requires fits { split_total request.now.split input.now ≤ 2 ^ 20 }
     requires sound { I.sound walker.old }
     requires given { CanCome (I.gives walker.old) }
@@ -172,7 +172,7 @@ fn judge_at_hand(
         return Err(No::OutputCount);
     }
     let mut walker = walk(certificate);
-    let mut outputs = AtHand::new(outputs);
+    let mut outputs = MemoryOutputs::new(outputs);
     match judge_all(
         alloc,
         request,
@@ -183,9 +183,13 @@ fn judge_at_hand(
         watch,
     ) {
         Ok(yes) => Ok(yes),
-        Err(Stop::Fault(fault)) => Err(fault),
-        Err(Stop::Device | Stop::TooLong | Stop::Output { .. } | Stop::LongOutput) =>
-            unreachable!(),
+        Err(JudgeError::Fault(fault)) => Err(fault),
+        Err(
+            JudgeError::Device
+            | JudgeError::TooLong
+            | JudgeError::Output { .. }
+            | JudgeError::LongOutput,
+        ) => unreachable!(),
     }
 }
 

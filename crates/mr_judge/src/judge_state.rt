@@ -19,7 +19,7 @@ use crate::lines::test_group;
 use crate::outputs::Outputs;
 use mr_bytes::{Name, Value, ValueColumn};
 use mr_certform::Item;
-use mr_verdict::{No, Stop};
+use mr_verdict::{JudgeError, No};
 use std::alloc::{AllocError, Global};
 use std::marker::Model;
 
@@ -206,7 +206,7 @@ impl<'a> JudgeState<'a> {
         basis: &Basis<'_>,
         outputs: &mut O,
         p: u64,
-    ) -> Result<(), Stop>
+    ) -> Result<(), JudgeError>
         requires room { (self.old.group + 1 < 2 ^ 64) × (length self.old.values < 2 ^ 64) }
         requires here { p ≡ self.old.next - 1 }
         requires begun { O.begun outputs.old }
@@ -290,7 +290,7 @@ impl<'a> JudgeState<'a> {
         basis: &Basis<'_>,
         outputs: &mut O,
         p: u64,
-    ) -> Result<(), Stop>
+    ) -> Result<(), JudgeError>
         requires room { (self.old.group + 1 < 2 ^ 64) × (length self.old.values < 2 ^ 64) }
         requires here { p ≡ self.old.next - 1 }
         requires begun { O.begun outputs.old }
@@ -320,7 +320,7 @@ impl<'a> JudgeState<'a> {
         name: Name,
         key: &'a [u8],
         value: Value,
-    ) -> Result<(), Stop>
+    ) -> Result<(), JudgeError>
         requires room { HasRoom self.old }
         requires found { named basis.now.triples name ≡ Some (record { key = key.now; value = value; name = name }) }
         requires here { p ≡ self.old.next - 1 }
@@ -347,7 +347,7 @@ impl<'a> JudgeState<'a> {
         p: u64,
         name: Name,
         found: Option<(&'a [u8], Value)>,
-    ) -> Result<(), Stop>
+    ) -> Result<(), JudgeError>
         requires room { HasRoom self.old }
         requires found { let t = named basis.now.triples name in MatchOption found (t ≡ None)
             (λ p. t ≡ Some (record { key = p.0.now; value = p.1; name = name })) }
@@ -364,7 +364,7 @@ impl<'a> JudgeState<'a> {
         ensures halts { Halts O.steady (O.failed outputs.old) (O.failed outputs.new) result }
     {
         match found {
-            None => Err(Stop::Fault(No::NoSuchPair {
+            None => Err(JudgeError::Fault(No::NoSuchPair {
                 partition: p,
                 group: self.group,
                 entry: self.entry,
@@ -374,7 +374,7 @@ impl<'a> JudgeState<'a> {
     }
 
     /// The next partition begins, with so many groups, and its output is opened.
-    fn open_partition<O: Outputs>(&mut self, outputs: &mut O, groups: u64) -> Result<(), Stop>
+    fn open_partition<O: Outputs>(&mut self, outputs: &mut O, groups: u64) -> Result<(), JudgeError>
         requires room { HasRoom self.old }
         requires some { CanCome (O.gives outputs.old) }
         ensures tested { Tested (O.gives outputs.old) (O.gives outputs.new) self.old self.new
@@ -397,7 +397,7 @@ impl<'a> JudgeState<'a> {
         basis: &Basis<'_>,
         outputs: &mut O,
         row: &FoundItem<'a>,
-    ) -> Result<(), Stop>
+    ) -> Result<(), JudgeError>
         requires room { HasRoom self.old }
         requires found { IsFound basis.now.triples row.now }
         requires begun { (name : _) → row.now.item ≡ Entry name → O.begun outputs.old }

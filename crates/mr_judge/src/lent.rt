@@ -3,11 +3,11 @@ use mr_store::{CountedRead, Device};
 
 /// A reader that is lent: it is read as the one behind it, which is its owner's again afterwards.
 #[derive(Drop)]
-pub(crate) struct Lent<'a, R> {
+pub(crate) struct ByRef<'a, R> {
     pub reader: &'a mut R,
 }
 
-impl<'a, R: CountedRead> CountedRead for Lent<'a, R> {
+impl<'a, R: CountedRead> CountedRead for ByRef<'a, R> {
     ghost remaining = { λ l. R.remaining l.reader.now };
 
     ghost failed = { λ l. R.failed l.reader.now };

@@ -24,5 +24,5 @@ pub use facts::Basis;
 pub use from::{check_from, check_from_watched};
 pub use judge::{check, check_metered, check_watched, plan_of, walk};
 pub use judge_state::JudgeState;
-pub use outputs::{AtHand, Lack, Outputs};
+pub use outputs::{MemoryOutputs, OutputError, Outputs};
 pub use parts::Block;

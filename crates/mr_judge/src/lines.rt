@@ -11,7 +11,7 @@ use crate::outputs::Outputs;
 use mr_bytes::{Value, ValueColumn};
 use mr_jobs::Job;
 use mr_reduce::group_text;
-use mr_verdict::Stop;
+use mr_verdict::JudgeError;
 use std::alloc::AllocError;
 
 /// The text of a key with one value, in place of what the buffer held.
@@ -30,7 +30,7 @@ fn test_lines<O: Outputs>(
     key: &[u8],
     values: &ValueColumn,
     line: &mut Vec<u8>,
-) -> Result<(), Stop>
+) -> Result<(), JudgeError>
     requires lines { has_lines job.now ≡ true }
     requires begun { O.begun outputs.old }
     requires some { CanCome (O.gives outputs.old) }
@@ -55,7 +55,7 @@ pub(crate) fn test_group<O: Outputs>(
     key: &[u8],
     values: &ValueColumn,
     line: &mut Vec<u8>,
-) -> Result<(), Stop>
+) -> Result<(), JudgeError>
     requires begun { O.begun outputs.old }
     requires some { CanCome (O.gives outputs.old) }
     ensures told { TextTold (O.gives outputs.old) (O.gives outputs.new) p (O.place outputs.old) (text_of basis.now.request.job key.now values.now) result }

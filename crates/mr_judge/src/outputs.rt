@@ -4,26 +4,26 @@ ghost use Rattle.mr_input.specs.Files.{contents, nth_file};
 ghost use Rattle.mr_judge.specs.Outputs.{CanCome, Opens, Compares, Ends, Lacks};
 
 use crate::comparing::agreement;
-use mr_verdict::Stop;
+use mr_verdict::JudgeError;
 
 /// Why an output can't be compared.
 #[derive(Clone, Copy, Debug, PartialEq, Eq, Drop)]
-pub enum Lack {
+pub enum OutputError {
     /// A read of the output of this partition failed.
     Device { partition: u64 },
     /// It has 2^63 bytes or more.
     TooLong,
 }
 
-impl From<Lack> for Stop {
+impl From<OutputError> for JudgeError {
     ghost from_gives = { λ l s. s ≡ stop_of l };
 
     ghost use Rattle.mr_judge.specs.Outputs.{stop_of};
 
-    fn from(lack: Lack) -> Stop {
+    fn from(lack: OutputError) -> JudgeError {
         match lack {
-            Lack::Device { partition } => Stop::Output { partition },
-            Lack::TooLong => Stop::LongOutput,
+            OutputError::Device { partition } => JudgeError::Output { partition },
+            OutputError::TooLong => JudgeError::LongOutput,
         }
     }
 }
@@ -54,7 +54,7 @@ pub trait Outputs {
         ensures failed { failed self.new ≡ failed self.old };
 
     /// Whether the text stands next. What is the same in both is passed.
-    fn pass_text(&mut self, text: &[u8]) -> Result<bool, Lack>
+    fn pass_text(&mut self, text: &[u8]) -> Result<bool, OutputError>
         requires begun { begun self.old }
         ensures compares { Compares (gives self.old) (gives self.new) (place self.old) (place self.new) text.now result }
         ensures begun { begun self.new }
@@ -62,7 +62,7 @@ pub trait Outputs {
         ensures lacks { Lacks steady (failed self.old) (failed self.new) result };
 
     /// Whether nothing is left of the open one.
-    fn is_passed(&mut self) -> Result<bool, Lack>
+    fn is_passed(&mut self) -> Result<bool, OutputError>
         requires begun { begun self.old }
         ensures ends { Ends (gives self.old) (gives self.new) result }
         ensures place { place self.new ≡ place self.old }
@@ -77,40 +77,40 @@ pub trait Outputs {
 
 /// Outputs at hand: what is left of the open one, those behind it, and how many bytes were passed.
 #[derive(Drop)]
-pub struct AtHand<'a> {
+pub struct MemoryOutputs<'a> {
     pub rest: &'a [u8],
     pub later: &'a [Vec<u8>],
     pub passed: u64,
     ghost few: { passed + length rest.now < 2 ^ 64 },
 }
 
-impl<'a> AtHand<'a> {
+impl<'a> MemoryOutputs<'a> {
     /// All of them are to come.
-    pub fn new(outputs: &'a [Vec<u8>]) -> AtHand<'a>
+    pub fn new(outputs: &'a [Vec<u8>]) -> MemoryOutputs<'a>
         ensures rest { result.rest.now ≡ nth_file (contents outputs.entry.now) 0 }
         ensures later { result.later.now ≡ outputs.entry.now }
         ensures passed { result.passed ≡ 0 }
     {
-        AtHand::before(outputs, 0)
+        MemoryOutputs::before(outputs, 0)
     }
 
     /// Those from partition `p` on are to come.
-    pub fn before(outputs: &'a [Vec<u8>], p: u64) -> AtHand<'a>
+    pub fn before(outputs: &'a [Vec<u8>], p: u64) -> MemoryOutputs<'a>
         ensures rest { result.rest.now ≡ nth_file (contents outputs.entry.now) (p - 1) }
         ensures later { result.later.now ≡ drop p outputs.entry.now }
         ensures passed { result.passed ≡ 0 }
     {
-        AtHand::at(outputs, p, 0)
+        MemoryOutputs::at(outputs, p, 0)
     }
 
     /// The output before that of partition `next` is open, and so many of its bytes were passed; those from `next` on are
     /// to come.
-    pub fn at(outputs: &'a [Vec<u8>], next: u64, from: u64) -> AtHand<'a>
+    pub fn at(outputs: &'a [Vec<u8>], next: u64, from: u64) -> MemoryOutputs<'a>
         ensures rest { result.rest.now ≡ drop from (nth_file (contents outputs.entry.now) (next - 1)) }
         ensures later { result.later.now ≡ drop next outputs.entry.now }
         ensures passed { result.passed ≡ from }
     {
-        AtHand {
+        MemoryOutputs {
             rest: behind(output_of(outputs, next.saturating_sub(1)), from),
             later: outputs_from(outputs, next),
             passed: from,
@@ -148,7 +148,7 @@ pub(crate) fn behind<'a>(bytes: &'a [u8], count: u64) -> &'a [u8]
     }
 }
 
-impl<'a> Outputs for AtHand<'a> {
+impl<'a> Outputs for MemoryOutputs<'a> {
     ghost gives = { λ o rest later. (rest ≡ o.rest.now) × (later ≡ contents o.later.now) };
 
     ghost place = { λ o. o.passed };
@@ -170,7 +170,7 @@ impl<'a> Outputs for AtHand<'a> {
         }
     }
 
-    fn pass_text(&mut self, text: &[u8]) -> Result<bool, Lack> {
+    fn pass_text(&mut self, text: &[u8]) -> Result<bool, OutputError> {
         if self.rest.starts_with(text) {
             self.rest = behind(self.rest, text.len() as u64);
             self.passed += text.len() as u64;
@@ -182,7 +182,7 @@ impl<'a> Outputs for AtHand<'a> {
         Ok(false)
     }
 
-    fn is_passed(&mut self) -> Result<bool, Lack> {
+    fn is_passed(&mut self) -> Result<bool, OutputError> {
         Ok(self.rest.is_empty())
     }
 

@@ -14,7 +14,7 @@ use crate::outputs::Outputs;
 use mr_bytes::{Phase, Progress, Throttle};
 use mr_certform::Item;
 use mr_index::Meter;
-use mr_verdict::{Items, No, Stop};
+use mr_verdict::{ItemSource, JudgeError, No};
 use std::alloc::{AllocError, Global};
 
 /// Judges rows in turn: whether they end the certificate, or the first fault.
@@ -24,7 +24,7 @@ fn judge_rows<'a, O: Outputs>(
     basis: &Basis<'a>,
     outputs: &mut O,
     rows: &[FoundItem<'a>],
-) -> Result<bool, Stop>
+) -> Result<bool, JudgeError>
     requires room { Room judging.old (length rows.now) (2 ^ 64 - 2) }
     requires found { AllByRecursion (IsFound basis.now.triples) rows.now }
     requires fits { Fits (O.gives outputs.old) judging.old }
@@ -89,7 +89,7 @@ impl<'a> Block<'a> {
 
 /// Judges all partitions from the first on, a block of items at a time, and the items' end: how many entries there are, or
 /// the first fault. How far it has come and the block's buffers are lent.
-fn judge_blocks<'a, I: Items, O: Outputs>(
+fn judge_blocks<'a, I: ItemSource, O: Outputs>(
     basis: &Basis<'a>,
     outputs: &mut O,
     walker: &mut I,
@@ -97,7 +97,7 @@ fn judge_blocks<'a, I: Items, O: Outputs>(
     watch: &dyn Progress,
     judging: &mut JudgeState<'a>,
     block: &mut Block<'a>,
-) -> Result<u64, Stop>
+) -> Result<u64, JudgeError>
     requires fresh { judging.old ≡ start }
     requires sound { I.sound walker.old }
     requires some { CanCome (I.gives walker.old) }
@@ -123,21 +123,21 @@ fn judge_blocks<'a, I: Items, O: Outputs>(
             return Ok(judging.named());
         }
         if let Some(at) = stopped {
-            return Err(Stop::Fault(No::Malformed { at }));
+            return Err(JudgeError::Fault(No::Malformed { at }));
         }
     }
 }
 
 /// Judges all partitions, and the items' end: how many entries there are, or the first fault. Each entry is looked up once
 /// at most, a block of them ahead of the tests. The watch is told how many entries are judged, of all pairs.
-pub(crate) fn check_parts<I: Items, O: Outputs>(
+pub(crate) fn check_parts<I: ItemSource, O: Outputs>(
     alloc: Global,
     basis: &Basis<'_>,
     outputs: &mut O,
     walker: &mut I,
     meter: &mut Meter,
     watch: &dyn Progress,
-) -> Result<u64, Stop>
+) -> Result<u64, JudgeError>
     requires sound { I.sound walker.old }
     requires some { CanCome (I.gives walker.old) }
     requires few { I.most walker.old < 2 ^ 63 }

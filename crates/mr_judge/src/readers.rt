@@ -7,7 +7,7 @@ ghost use Rattle.mr_judge.specs.Outputs.{Lacks, counted_at};
 ghost use Rattle.mr_judge.specs.Reading.{known_at};
 
 use crate::comparing::agreement;
-use crate::outputs::{Lack, Outputs, behind};
+use crate::outputs::{OutputError, Outputs, behind};
 use crate::piece::Piece;
 use mr_store::{CountedRead, Device};
 use std::alloc::{AllocError, Global};
@@ -15,7 +15,7 @@ use std::alloc::{AllocError, Global};
 /// Outputs that readers give. A reader is asked for nothing before those ahead of it were opened, and for nothing once it
 /// told its end; the bytes of all go through one buffer.
 #[derive(Drop)]
-pub(crate) struct FromReaders<'a, R> {
+pub(crate) struct ReaderOutputs<'a, R> {
     readers: &'a mut [R],
     opened: u64,
     piece: Piece,
@@ -50,18 +50,18 @@ fn is_past(number: u64, count: u64) -> bool
     number >= count
 }
 
-impl<'a, R: CountedRead> FromReaders<'a, R> {
+impl<'a, R: CountedRead> ReaderOutputs<'a, R> {
     ghost use Rattle.mr_judge.specs.Readers.{reading};
     ghost use Rattle.mr_judge.specs.Reading.{IsToCome};
 
     /// All of them are to come. All the memory that it ever has is taken here.
-    pub fn new(alloc: Global, readers: &'a mut [R]) -> Result<FromReaders<'a, R>, AllocError>
+    pub fn new(alloc: Global, readers: &'a mut [R]) -> Result<ReaderOutputs<'a, R>, AllocError>
         ensures opened { IfOk result (λ o. o.opened ≡ 0) }
         ensures readers { IfOk result (λ o. o.readers.now ≡ readers.old) }
         ensures passed { IfOk result (λ o. o.passed ≡ 0) }
     {
         let piece = Piece::new(alloc)?;
-        Ok(FromReaders {
+        Ok(ReaderOutputs {
             readers,
             opened: 0,
             piece,
@@ -71,7 +71,7 @@ impl<'a, R: CountedRead> FromReaders<'a, R> {
     }
 
     /// Reads until some bytes of the open one are held, or its reader is at its end.
-    fn fill(&mut self) -> Result<(), Lack>
+    fn fill(&mut self) -> Result<(), OutputError>
         requires begun { 1 ≤ self.old.opened }
         ensures filled { OnOk result ((1 ≤ length self.new.piece) ⊎ (self.new.exhausted ≡ true)) }
         ensures come { (rest : List ℕ) (later : List (List ℕ))
@@ -88,12 +88,12 @@ impl<'a, R: CountedRead> FromReaders<'a, R> {
                 self.exhausted = count == 0;
                 Ok(())
             }
-            Err(_) => Err(Lack::Device { partition }),
+            Err(_) => Err(OutputError::Device { partition }),
         }
     }
 
     /// Passes what stands of the text in front of the bytes that are held: how many bytes.
-    fn pass_held(&mut self, text: &[u8]) -> Result<u64, Lack>
+    fn pass_held(&mut self, text: &[u8]) -> Result<u64, OutputError>
         requires begun { 1 ≤ self.old.opened }
         requires filled { (1 ≤ length self.old.piece) ⊎ (self.old.exhausted ≡ true) }
         requires some { 1 ≤ length text.now }
@@ -107,7 +107,7 @@ impl<'a, R: CountedRead> FromReaders<'a, R> {
         ensures lacks { Lacks ⊥ (map R.failed self.old.readers.now) (map R.failed self.new.readers.now) result }
     {
         if self.passed >= 1 << 63 {
-            return Err(Lack::TooLong);
+            return Err(OutputError::TooLong);
         }
         let same = agreement(text, self.piece.bytes());
         self.piece.pass(same as usize);
@@ -116,7 +116,7 @@ impl<'a, R: CountedRead> FromReaders<'a, R> {
     }
 }
 
-impl<'a, R: CountedRead> Outputs for FromReaders<'a, R> {
+impl<'a, R: CountedRead> Outputs for ReaderOutputs<'a, R> {
     ghost use Rattle.mr_judge.specs.Readers.{reading};
     ghost use Rattle.mr_judge.specs.Reading.{IsToCome};
 
@@ -137,7 +137,7 @@ impl<'a, R: CountedRead> Outputs for FromReaders<'a, R> {
         self.passed = 0;
     }
 
-    fn pass_text(&mut self, text: &[u8]) -> Result<bool, Lack> {
+    fn pass_text(&mut self, text: &[u8]) -> Result<bool, OutputError> {
         let mut wanted = text;
         while !wanted.is_empty() {
             self.fill()?;
@@ -150,7 +150,7 @@ impl<'a, R: CountedRead> Outputs for FromReaders<'a, R> {
         Ok(true)
     }
 
-    fn is_passed(&mut self) -> Result<bool, Lack> {
+    fn is_passed(&mut self) -> Result<bool, OutputError> {
         self.fill()?;
         Ok(self.piece.bytes().is_empty())
     }

@@ -5,7 +5,7 @@ ghost use Rattle.mr_tickets.specs.Views.{IsSeatOf};
 ghost use Rattle.mr_tickets.specs.Drawn.{weigh, below};
 ghost use Rattle.mr_tickets.specs.Pieces.{IsFresh, IsDone, AllGiven, AllSlots, numbers_of};
 
-use crate::pieces::{Done, Found, Job, Pieces};
+use crate::pieces::{Done, Found, Job, WorkPieces};
 use crate::tickets::{TicketSeat, Tickets};
 use mr_bytes::Gate;
 use std::alloc::{AllocError, Global};
@@ -13,7 +13,7 @@ use std::thread;
 use std::thread::Threads;
 
 /// Does one piece, between the gate's two calls.
-fn gated<W: Pieces, G: Gate>(
+fn gated<W: WorkPieces, G: Gate>(
     alloc: Global,
     all: &W,
     gate: &G,
@@ -25,13 +25,13 @@ fn gated<W: Pieces, G: Gate>(
     ensures { IfOk result (W.gives all.now piece) }
 {
     gate.enter(worker, told);
-    let out = all.piece(alloc, piece);
+    let out = all.do_piece(alloc, piece);
     gate.leave(worker, told);
     out
 }
 
 /// Draws pieces until none is left, and does them.
-fn work<W: Pieces, G: Gate>(
+fn work<W: WorkPieces, G: Gate>(
     alloc: Global,
     tickets: &Tickets,
     job: Job,
@@ -91,7 +91,7 @@ fn take_in<X: Drop>(
 }
 
 /// The results of all threads, in some order: each piece has one.
-fn gather<W: Pieces>(
+fn gather<W: WorkPieces>(
     alloc: Global,
     all: &W,
     tickets: Tickets,
@@ -132,7 +132,12 @@ fn put<X: Drop>(slots: &mut [Option<X>], at: usize, out: X)
 }
 
 /// Each result goes to its slot, which stands as far from the end as its piece from the start.
-fn fill<W: Pieces>(all: &W, count: u32, slots: &mut [Option<W::Out>], mut found: Vec<Found<W::Out>>)
+fn fill<W: WorkPieces>(
+    all: &W,
+    count: u32,
+    slots: &mut [Option<W::Out>],
+    mut found: Vec<Found<W::Out>>,
+)
     requires len { length slots.old ≡ count }
     requires within { All (λ f. f.piece < count) found.items }
     requires given { AllGiven (W.gives all.now) found.items }
@@ -146,7 +151,7 @@ fn fill<W: Pieces>(all: &W, count: u32, slots: &mut [Option<W::Out>], mut found:
 }
 
 /// What lies in the slots, the last slot first.
-fn take_all<W: Pieces>(
+fn take_all<W: WorkPieces>(
     alloc: Global,
     all: &W,
     count: u32,
@@ -166,7 +171,7 @@ fn take_all<W: Pieces>(
 }
 
 /// The results of all pieces, each of which has one, in the order of the pieces.
-fn in_order<W: Pieces>(
+fn in_order<W: WorkPieces>(
     alloc: Global,
     all: &W,
     count: u32,
@@ -191,7 +196,7 @@ fn in_order<W: Pieces>(
 ///
 /// # Errors
 /// `AllocError` where memory is refused, be it in one thread alone.
-pub fn draw_all<W: Pieces, G: Gate, R: Threads + Sync>(
+pub fn draw_all<W: WorkPieces, G: Gate, R: Threads + Sync>(
     rt: &R,
     alloc: Global,
     count: u32,

@@ -15,5 +15,5 @@ mod rule;
 mod tickets;
 
 pub use drawing::draw_all;
-pub use pieces::Pieces;
+pub use pieces::WorkPieces;
 pub use tickets::{TicketSeat, Tickets};

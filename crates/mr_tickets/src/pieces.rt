@@ -5,7 +5,7 @@ use crate::tickets::TicketSeat;
 use std::alloc::{AllocError, Global};
 
 /// Work that is cut in pieces, which have the numbers from 0 on. Several threads do them at once.
-pub trait Pieces: Sync {
+pub trait WorkPieces: Sync {
     type Out: Send + Drop;
 
     /// Which pieces there are.
@@ -18,7 +18,7 @@ pub trait Pieces: Sync {
     ///
     /// # Errors
     /// `AllocError` where memory is refused.
-    fn piece(&self, alloc: Global, number: u32) -> Result<Self::Out, AllocError>
+    fn do_piece(&self, alloc: Global, number: u32) -> Result<Self::Out, AllocError>
         requires { has self.now number }
         ensures { IfOk result (gives self.now number) };
 }

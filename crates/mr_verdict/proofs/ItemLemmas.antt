@@ -3,8 +3,8 @@ use Rattle.std.proofs.Common.{◌≡◌, ℕ, List, [], ◌∷◌, ◌++◌, sym
 use Rattle.std.specs.Prelude.{Result, Ok, Err}
 use Rattle.mr_certform.specs.declared.item.Item.{Item}
 use Rattle.mr_verdict.specs.declared.fault.No.{No}
-use Rattle.mr_verdict.specs.declared.items.Stop.{Stop}
-use Rattle.mr_verdict.specs.declared.items.Stop.TheVariants.{Fault, Device, TooLong, Output, LongOutput}
+use Rattle.mr_verdict.specs.declared.items.JudgeError.{JudgeError}
+use Rattle.mr_verdict.specs.declared.items.JudgeError.TheVariants.{Fault, Device, TooLong, Output, LongOutput}
 use Rattle.mr_certform.specs.declared.walker.Walker.{Walker}
 use Rattle.mr_certform.specs.Walking.{items_left, halt}
 use Rattle.mr_verdict.specs.Steps.{met}
@@ -19,7 +19,7 @@ leads_on old now next w left ws wanted f e leads came is at n =
     let there = leads here.0 at here.1.0 in
     (there.0, (there.1.0, met_more at at f w left ws here.0 is e refl here.1.1 ∙ there.1.1))
 
-unmet_on : (at : ℕ) (w : Item) (left ws wanted : List Item) (f : No) (js ks : List Item) (e : Stop) → left ≡ w ∷ ws → met at left f js ≡ met at wanted f ks → IsUnmet at (w ∷ []) f js e → IsUnmet at wanted f ks e
+unmet_on : (at : ℕ) (w : Item) (left ws wanted : List Item) (f : No) (js ks : List Item) (e : JudgeError) → left ≡ w ∷ ws → met at left f js ≡ met at wanted f ks → IsUnmet at (w ∷ []) f js e → IsUnmet at wanted f ks e
 unmet_on at w left ws wanted f js ks (Fault n) d same u = sym same ∙ met_not at at f w left ws js n d refl u
 unmet_on at w left ws wanted f js ks Device d same u = tt
 unmet_on at w left ws wanted f js ks TooLong d same u = tt
@@ -27,7 +27,7 @@ unmet_on at w left ws wanted f js ks (Output p) d same u = tt
 unmet_on at w left ws wanted f js ks LongOutput d same u = tt
 
 -- or it didn't
-pub leads_not : (old now : Coming) (w : Item) (left ws wanted : List Item) (f : No) (e : Stop) → left ≡ w ∷ ws → Leads old now left wanted f → (js : List Item) × ((at : ℕ) × (now js at × IsUnmet at (w ∷ []) f js e))
+pub leads_not : (old now : Coming) (w : Item) (left ws wanted : List Item) (f : No) (e : JudgeError) → left ≡ w ∷ ws → Leads old now left wanted f → (js : List Item) × ((at : ℕ) × (now js at × IsUnmet at (w ∷ []) f js e))
     → (js : List Item) × ((at : ℕ) × (old js at × IsUnmet at wanted f js e))
 leads_not old now w left ws wanted f e d leads (js, (at, (n, u))) =
     let there = leads js at n in
@@ -40,17 +40,17 @@ abbrev pub Came : Coming → Coming → List Item → No → Type 0
 Came old new wanted f = (is : List Item) (at : ℕ) → new is at → (js : List Item) × (old js at × (met at wanted f js ≡ Ok is))
 
 -- or didn't
-abbrev pub Failed : Coming → List Item → No → Stop → Type 0
+abbrev pub Failed : Coming → List Item → No → JudgeError → Type 0
 Failed old wanted f e = (js : List Item) × ((at : ℕ) × (old js at × IsUnmet at wanted f js e))
 
-unmet_then : (at : ℕ) (us vs : List Item) (f : No) (is js : List Item) (e : Stop) → met at us f is ≡ Ok js → IsUnmet at vs f js e → IsUnmet at (us ++ vs) f is e
+unmet_then : (at : ℕ) (us vs : List Item) (f : No) (is js : List Item) (e : JudgeError) → met at us f is ≡ Ok js → IsUnmet at vs f js e → IsUnmet at (us ++ vs) f is e
 unmet_then at us vs f is js (Fault n) d u = met_then at f us vs is js d ∙ u
 unmet_then at us vs f is js Device d u = tt
 unmet_then at us vs f is js TooLong d u = tt
 unmet_then at us vs f is js (Output p) d u = tt
 unmet_then at us vs f is js LongOutput d u = tt
 
-unmet_front : (at : ℕ) (us vs : List Item) (f : No) (is : List Item) (e : Stop) → IsUnmet at us f is e → IsUnmet at (us ++ vs) f is e
+unmet_front : (at : ℕ) (us vs : List Item) (f : No) (is : List Item) (e : JudgeError) → IsUnmet at us f is e → IsUnmet at (us ++ vs) f is e
 unmet_front at us vs f is (Fault n) u = met_fails at f us vs is n u
 unmet_front at us vs f is Device u = tt
 unmet_front at us vs f is TooLong u = tt
@@ -63,19 +63,19 @@ came_both old mid new us vs f a b is at n =
     let front = a later.0 at later.1.0 in
     (front.0, (front.1.0, met_then at f us vs front.0 later.0 front.1.1 ∙ later.1.1))
 
-pub failed_later : (old mid : Coming) (us vs : List Item) (f : No) (e : Stop) → Came old mid us f → Failed mid vs f e → Failed old (us ++ vs) f e
+pub failed_later : (old mid : Coming) (us vs : List Item) (f : No) (e : JudgeError) → Came old mid us f → Failed mid vs f e → Failed old (us ++ vs) f e
 failed_later old mid us vs f e a (js, (at, (n, u))) = let front = a js at n in (front.0, (at, (front.1.0, unmet_then at us vs f front.0 js e front.1.1 u)))
 
-pub failed_front : (old : Coming) (us vs : List Item) (f : No) (e : Stop) → Failed old us f e → Failed old (us ++ vs) f e
+pub failed_front : (old : Coming) (us vs : List Item) (f : No) (e : JudgeError) → Failed old us f e → Failed old (us ++ vs) f e
 failed_front old us vs f e (js, (at, (n, u))) = (js, (at, (n, unmet_front at us vs f js e u)))
 
-pub met_behind_came : (old mid new : Coming) (us vs : List Item) (f : No) (r : Result (Unit {0}) Stop) → Came old mid us f → Met mid new vs f r → Met old new (us ++ vs) f r
+pub met_behind_came : (old mid new : Coming) (us vs : List Item) (f : No) (r : Result (Unit {0}) JudgeError) → Came old mid us f → Met mid new vs f r → Met old new (us ++ vs) f r
 met_behind_came old mid new us vs f (Ok u) a b = came_both old mid new us vs f a b
 met_behind_came old mid new us vs f (Err e) a b = failed_later old mid us vs f e a b
 
 -- ---- counts of failed reads
 
-pub stops_on : (steady : Type 0) (a b c : ℕ) (r : Result (Unit {0}) Stop) → b ≡ a → Stops steady b c r → Stops steady a c r
+pub stops_on : (steady : Type 0) (a b c : ℕ) (r : Result (Unit {0}) JudgeError) → b ≡ a → Stops steady b c r → Stops steady a c r
 stops_on steady a b c r d h = subst (λ n. Stops steady n c r) d h
 
 -- ---- items over bytes

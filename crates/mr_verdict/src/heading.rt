@@ -6,7 +6,7 @@ ghost use Rattle.mr_verdict.specs.Steps.{header_met};
 ghost use Rattle.mr_verdict.specs.Items.{Met, CanCome, Behind, Stops};
 
 use crate::fault::No;
-use crate::items::{Items, Stop};
+use crate::items::{ItemSource, JudgeError};
 use mr_certform::Item;
 use mr_input::Input;
 use mr_jobs::Request;
@@ -30,7 +30,7 @@ fn is_wanted(item: Item, wanted: Item) -> bool
 }
 
 /// The next item is the wanted one, or else the certificate has this fault.
-fn expect<I: Items>(items: &mut I, wanted: Item, fault: No) -> Result<(), Stop>
+fn expect<I: ItemSource>(items: &mut I, wanted: Item, fault: No) -> Result<(), JudgeError>
     requires sound { I.sound items.old }
     ensures sound { OnOk result (I.sound items.new) }
     ensures some { CanCome (I.gives items.new) }
@@ -40,13 +40,13 @@ fn expect<I: Items>(items: &mut I, wanted: Item, fault: No) -> Result<(), Stop>
 {
     let item = items.next_item()?;
     if !is_wanted(item, wanted) {
-        return Err(Stop::Fault(fault));
+        return Err(JudgeError::Fault(fault));
     }
     Ok(())
 }
 
 /// The next items are the wanted ones, or else the certificate has this fault.
-fn expect_all<I: Items>(items: &mut I, wanted: &[Item], fault: No) -> Result<(), Stop>
+fn expect_all<I: ItemSource>(items: &mut I, wanted: &[Item], fault: No) -> Result<(), JudgeError>
     requires sound { I.sound items.old }
     ensures sound { OnOk result (I.sound items.new) }
     ensures met { Met (I.gives items.old) (I.gives items.new) wanted.now fault result }
@@ -60,7 +60,7 @@ fn expect_all<I: Items>(items: &mut I, wanted: &[Item], fault: No) -> Result<(),
 }
 
 /// The bytes of the job's literal come next.
-fn expect_literal<I: Items>(items: &mut I, literal: &[u8]) -> Result<(), Stop>
+fn expect_literal<I: ItemSource>(items: &mut I, literal: &[u8]) -> Result<(), JudgeError>
     requires sound { I.sound items.old }
     ensures sound { OnOk result (I.sound items.new) }
     ensures met { Met (I.gives items.old) (I.gives items.new) (map LiteralByte literal.now) No.OtherJob result }
@@ -74,7 +74,7 @@ fn expect_literal<I: Items>(items: &mut I, literal: &[u8]) -> Result<(), Stop>
 }
 
 /// The length of each file comes next.
-fn expect_lengths<I: Items>(items: &mut I, input: &Input) -> Result<(), Stop>
+fn expect_lengths<I: ItemSource>(items: &mut I, input: &Input) -> Result<(), JudgeError>
     requires sound { I.sound items.old }
     requires given { CanCome (I.gives items.old) }
     ensures given { OnOk result (CanCome (I.gives items.new)) }
@@ -90,7 +90,7 @@ fn expect_lengths<I: Items>(items: &mut I, input: &Input) -> Result<(), Stop>
 }
 
 /// The items that the request fixes come next.
-fn expect_job<I: Items>(items: &mut I, request: &Request) -> Result<(), Stop>
+fn expect_job<I: ItemSource>(items: &mut I, request: &Request) -> Result<(), JudgeError>
     requires sound { I.sound items.old }
     ensures sound { OnOk result (I.sound items.new) }
     ensures met { Met (I.gives items.old) (I.gives items.new) (job_wanted request.now) No.OtherJob result }
@@ -115,7 +115,7 @@ fn expect_job<I: Items>(items: &mut I, request: &Request) -> Result<(), Stop>
 }
 
 /// The items that the input fixes come next.
-fn expect_input<I: Items>(items: &mut I, input: &Input) -> Result<(), Stop>
+fn expect_input<I: ItemSource>(items: &mut I, input: &Input) -> Result<(), JudgeError>
     requires sound { I.sound items.old }
     ensures given { OnOk result (CanCome (I.gives items.new)) }
     ensures sound { OnOk result (I.sound items.new) }
@@ -128,7 +128,11 @@ fn expect_input<I: Items>(items: &mut I, input: &Input) -> Result<(), Stop>
 }
 
 /// The items that the request and the input fix come next.
-pub fn expect_header<I: Items>(items: &mut I, request: &Request, input: &Input) -> Result<(), Stop>
+pub fn expect_header<I: ItemSource>(
+    items: &mut I,
+    request: &Request,
+    input: &Input,
+) -> Result<(), JudgeError>
     requires sound { I.sound items.old }
     ensures given { OnOk result (CanCome (I.gives items.new)) }
     ensures sound { OnOk result (I.sound items.new) }

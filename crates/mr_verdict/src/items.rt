@@ -13,7 +13,7 @@ use std::alloc::AllocError;
 
 /// Why no item is given.
 #[derive(Clone, Copy, Debug, PartialEq, Eq, Drop)]
-pub enum Halt {
+pub enum ItemError {
     Malformed { at: u64 },
     Device,
     /// The items have 2^63 bytes or more.
@@ -22,7 +22,7 @@ pub enum Halt {
 
 /// Why the judge goes no further: a fault, or that the items can't be had.
 #[derive(Clone, Copy, Debug, PartialEq, Eq, Drop)]
-pub enum Stop {
+pub enum JudgeError {
     Fault(No),
     Device,
     TooLong,
@@ -32,43 +32,43 @@ pub enum Stop {
     LongOutput,
 }
 
-impl From<Halt> for Stop {
+impl From<ItemError> for JudgeError {
     ghost from_gives = { λ h s. s ≡ stop_of h };
 
     ghost use Rattle.mr_verdict.specs.Items.{stop_of};
 
-    fn from(halt: Halt) -> Stop {
+    fn from(halt: ItemError) -> JudgeError {
         match halt {
-            Halt::Malformed { at } => Stop::Fault(No::Malformed { at }),
-            Halt::Device => Stop::Device,
-            Halt::TooLong => Stop::TooLong,
+            ItemError::Malformed { at } => JudgeError::Fault(No::Malformed { at }),
+            ItemError::Device => JudgeError::Device,
+            ItemError::TooLong => JudgeError::TooLong,
         }
     }
 }
 
-impl From<No> for Stop {
-    ghost use Rattle.mr_verdict.specs.declared.items.Stop.TheVariants.{Fault as at_fault};
+impl From<No> for JudgeError {
+    ghost use Rattle.mr_verdict.specs.declared.items.JudgeError.TheVariants.{Fault as at_fault};
 
     ghost from_gives = { λ n s. s ≡ at_fault n };
 
-    fn from(fault: No) -> Stop {
-        Stop::Fault(fault)
+    fn from(fault: No) -> JudgeError {
+        JudgeError::Fault(fault)
     }
 }
 
-impl From<AllocError> for Stop {
+impl From<AllocError> for JudgeError {
     ghost use Rattle.mr_verdict.specs.declared.fault.No.TheVariants.{OutOfMemory as no_memory};
-    ghost use Rattle.mr_verdict.specs.declared.items.Stop.TheVariants.{Fault as at_fault};
+    ghost use Rattle.mr_verdict.specs.declared.items.JudgeError.TheVariants.{Fault as at_fault};
 
     ghost from_gives = { λ _ s. s ≡ at_fault no_memory };
 
-    fn from(_fault: AllocError) -> Stop {
-        Stop::Fault(No::OutOfMemory)
+    fn from(_fault: AllocError) -> JudgeError {
+        JudgeError::Fault(No::OutOfMemory)
     }
 }
 
 /// What walks items.
-pub trait Items {
+pub trait ItemSource {
     // These items may be still to come, and then the place behind the last of them.
     ghost gives: { Self → List Read → ℕ → Type 0 };
 
@@ -85,7 +85,7 @@ pub trait Items {
     ghost steady: { Type 0 };
 
     /// The next of the items.
-    fn next_item(&mut self) -> Result<Item, Halt>
+    fn next_item(&mut self) -> Result<Item, ItemError>
         requires sound { sound self.old }
         ensures sound { IfOk result (λ _. sound self.new) }
         ensures fewer { IfOk result (λ i. (i ≡ End → ⊥) → most self.new < most self.old) }
@@ -94,7 +94,7 @@ pub trait Items {
         ensures halts { Halts steady (failed self.old) (failed self.new) result };
 }
 
-impl<'a> Items for Walker<'a> {
+impl<'a> ItemSource for Walker<'a> {
     ghost gives = { λ w is at. (is ≡ items_left w) × (at ≡ halt w) };
 
     ghost most = { λ w. length (items_left w) };
@@ -106,15 +106,15 @@ impl<'a> Items for Walker<'a> {
     ghost steady = { ⊤ };
 
     #[inline]
-    fn next_item(&mut self) -> Result<Item, Halt> {
+    fn next_item(&mut self) -> Result<Item, ItemError> {
         match self.next() {
             Ok(item) => Ok(item),
-            Err(fault) => Err(Halt::Malformed { at: fault.at }),
+            Err(fault) => Err(ItemError::Malformed { at: fault.at }),
         }
     }
 }
 
-impl<R: CountedRead + Drop> Items for StreamWalker<R> {
+impl<R: CountedRead + Drop> ItemSource for StreamWalker<R> {
     ghost gives = { λ w is at. Gives (stream R.remaining w) is at };
 
     ghost most = { λ w. 2 ^ 63 - w.passed };
@@ -126,14 +126,14 @@ impl<R: CountedRead + Drop> Items for StreamWalker<R> {
     ghost steady = { ⊥ };
 
     #[inline]
-    fn next_item(&mut self) -> Result<Item, Halt> {
+    fn next_item(&mut self) -> Result<Item, ItemError> {
         if self.place() >= 1 << 63 {
-            return Err(Halt::TooLong);
+            return Err(ItemError::TooLong);
         }
         match self.next() {
             Ok(item) => Ok(item),
-            Err(StreamFault::Malformed { at }) => Err(Halt::Malformed { at }),
-            Err(StreamFault::Device) => Err(Halt::Device),
+            Err(StreamFault::Malformed { at }) => Err(ItemError::Malformed { at }),
+            Err(StreamFault::Device) => Err(ItemError::Device),
         }
     }
 }

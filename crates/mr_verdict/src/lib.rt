@@ -12,9 +12,9 @@ mod yes;
 
 pub use fault::{No, Source, is_same_fault};
 pub use heading::expect_header;
-pub use items::{Halt, Items, Stop};
+pub use items::{ItemError, ItemSource, JudgeError};
 pub use laws::{
     fault_law, locality_law, partition_law, place_law, worked_places, worked_rows, yes_law,
 };
-pub use skips::{expect_count, take_skips};
+pub use skips::{expect_count, read_skips};
 pub use yes::Yes;

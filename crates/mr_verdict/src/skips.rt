@@ -5,14 +5,14 @@ ghost use Rattle.mr_verdict.specs.Steps.{awaits_skips, counted, skip_fault, skip
 ghost use Rattle.mr_verdict.specs.Items.{Answered, Each, NextSkip, CanCome, Stops, skip_next};
 
 use crate::fault::No;
-use crate::items::{Items, Stop};
+use crate::items::{ItemSource, JudgeError};
 use mr_bytes::RecordName;
 use mr_certform::Item;
 use mr_splits::{Plan, SkipFault};
 use std::alloc::{AllocError, Global};
 
 /// How many records are left out comes next, which is at most so many.
-pub fn expect_count<I: Items>(items: &mut I, most: u32) -> Result<u32, Stop>
+pub fn expect_count<I: ItemSource>(items: &mut I, most: u32) -> Result<u32, JudgeError>
     requires sound { I.sound items.old }
     requires awaits { Each (I.gives items.old) awaits_skips }
     ensures sound { OnOk result (I.sound items.new) }
@@ -25,7 +25,7 @@ pub fn expect_count<I: Items>(items: &mut I, most: u32) -> Result<u32, Stop>
         unreachable!()
     };
     if most < listed {
-        return Err(Stop::Fault(No::TooManySkips {
+        return Err(JudgeError::Fault(No::TooManySkips {
             listed: u64::from(listed),
         }));
     }
@@ -33,7 +33,7 @@ pub fn expect_count<I: Items>(items: &mut I, most: u32) -> Result<u32, Stop>
 }
 
 /// The left-out record that comes next.
-fn next_skip<I: Items>(items: &mut I) -> Result<RecordName, Stop>
+fn next_skip<I: ItemSource>(items: &mut I) -> Result<RecordName, JudgeError>
     requires sound { I.sound items.old }
     requires skip { Each (I.gives items.old) skip_next }
     ensures sound { OnOk result (I.sound items.new) }
@@ -67,12 +67,12 @@ fn keep(skips: &mut Vec<RecordName>, name: RecordName) -> Result<(), AllocError>
 }
 
 /// The left-out records, of which so many come next, each tested for its order before its existence.
-pub fn take_skips<I: Items>(
+pub fn read_skips<I: ItemSource>(
     alloc: Global,
     items: &mut I,
     plan: &Plan<'_>,
     many: u32,
-) -> Result<Vec<RecordName>, Stop>
+) -> Result<Vec<RecordName>, JudgeError>
     requires sound { I.sound items.old }
     requires given { CanCome (I.gives items.old) }
     requires front { Each (I.gives items.old) (skips_in_front many) }
@@ -88,7 +88,7 @@ pub fn take_skips<I: Items>(
     for number in 0..many {
         let name = next_skip(items)?;
         if let Some(fault) = fault_of(plan, before, name, u64::from(number)) {
-            return Err(Stop::Fault(fault));
+            return Err(JudgeError::Fault(fault));
         }
         keep(&mut skips, name)?;
         before = Some(name);

@@ -7,7 +7,7 @@ use Rattle.mr_judge.proofs.blocks.read_block.Goals as goal
 
 pub returns-in-End-clause-read : goal.returns-in-End-clause-read
 returns-in-End-clause-read g c =
-    let gives = g.I.Items.gives in
+    let gives = g.I.ItemSource.gives in
     reads_next (gives c.args.walker.now) (gives c.loop-walker.walker) (gives c.next_item.new.self) c.loop-walker.items.items c.keep.new.list.items c.in-Ok.item c.loop-walker.invariant.reads c.in-Ok.ensures.took c.in_ok-keep-in-Ok.ensures
 
 pub returns-in-End-clause-entries : goal.returns-in-End-clause-entries
@@ -21,7 +21,7 @@ returns-in-End-clause-fewer g c h unended =
 
 pub loop-walker-preserved : goal.loop-walker-preserved
 loop-walker-preserved g c =
-    let gives = g.I.Items.gives in
+    let gives = g.I.ItemSource.gives in
     let is : List Item = c.loop-walker.items.items in
     let item = c.in-Ok.item in
     let told = c.in-Ok.ensures in

@@ -5,11 +5,11 @@ use Rattle.mr_judge.proofs.blocks.read_block.Given as goal
 
 abbrev pub invariant-loop-walker : goal.invariant-loop-walker
 invariant-loop-walker g l = record {
-  reads : Reads (g.I.Items.gives l.fn.walker) (g.I.Items.gives l.walker) l.items.items;
-  given : 1 ≤ length l.items.items → CanCome (g.I.Items.gives l.walker);
-  sound : g.I.Items.sound l.walker;
-  count : g.I.Items.failed l.walker ≡ g.I.Items.failed l.fn.walker;
-  long : length l.items.items + g.I.Items.most l.walker ≤ g.I.Items.most l.fn.walker;
+  reads : Reads (g.I.ItemSource.gives l.fn.walker) (g.I.ItemSource.gives l.walker) l.items.items;
+  given : 1 ≤ length l.items.items → CanCome (g.I.ItemSource.gives l.walker);
+  sound : g.I.ItemSource.sound l.walker;
+  count : g.I.ItemSource.failed l.walker ≡ g.I.ItemSource.failed l.fn.walker;
+  long : length l.items.items + g.I.ItemSource.most l.walker ≤ g.I.ItemSource.most l.fn.walker;
   block : length l.items.items ≤ 64;
 }
 

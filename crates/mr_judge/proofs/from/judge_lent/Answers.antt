@@ -6,18 +6,18 @@ use Rattle.mr_certform.proofs.Streams.{some_given}
 use Rattle.mr_verdict.specs.Items.{Coming}
 use Rattle.mr_judge.specs.Readers.{reading}
 use Rattle.mr_judge.specs.Reading.{Reading}
-use Rattle.mr_judge.specs.declared.lent.Lent.{Lent}
+use Rattle.mr_judge.specs.declared.lent.ByRef.{ByRef}
 use Rattle.mr_judge.proofs.FromLemmas.{no_room, judged_some, kinds_front}
 use Rattle.mr_judge.proofs.ReadingLemmas.{some_to_come}
 use Rattle.mr_judge.proofs.from.judge_lent.Goals as goal
 
 pub judge_all-requires-clause-given : goal.judge_all-requires-clause-given
 judge_all-requires-clause-given g c =
-    some_given (stream (λ (l : Lent g.row.C.Denot). g.C.CountedRead.remaining l.reader.now) c.in_ok-walker.walker)
+    some_given (stream (λ (l : ByRef g.row.C.Denot). g.C.CountedRead.remaining l.reader.now) c.in_ok-walker.walker)
 
 pub judge_all-requires-clause-front : goal.judge_all-requires-clause-front
 judge_all-requires-clause-front g c =
-    kinds_front (Gives (stream (λ (l : Lent g.row.C.Denot). g.C.CountedRead.remaining l.reader.now) c.in_ok-walker.walker)) _ c.in_ok-walker.ensures.items
+    kinds_front (Gives (stream (λ (l : ByRef g.row.C.Denot). g.C.CountedRead.remaining l.reader.now) c.in_ok-walker.walker)) _ c.in_ok-walker.ensures.items
 
 pub judge_all-requires-clause-outputs : goal.judge_all-requires-clause-outputs
 judge_all-requires-clause-outputs g c = some_to_come (reading g.R.CountedRead.remaining c.in_ok-outputs.outputs)
@@ -35,6 +35,6 @@ returns-in_err-walker g c =
 pub returns : goal.returns
 returns g c =
     let r : Reading = reading g.R.CountedRead.remaining c.in_ok-outputs.outputs in
-    let gives : Coming = Gives (stream (λ (l : Lent g.row.C.Denot). g.C.CountedRead.remaining l.reader.now) c.in_ok-walker.walker) in
+    let gives : Coming = Gives (stream (λ (l : ByRef g.row.C.Denot). g.C.CountedRead.remaining l.reader.now) c.in_ok-walker.walker) in
     judged_some g.R.CountedRead.remaining c.args.outputs.now r (g.C.CountedRead.remaining c.args.certificate.now) gives c.args.request.now c.args.input.now 0 c.judge_all.new.meter.lookups c.judge_all.result
     c.in_ok-outputs.ensures.opened (ap (λ xs. map g.R.CountedRead.remaining xs) c.in_ok-outputs.ensures.readers) c.requires.parts c.requires.known c.in_ok-walker.ensures.items c.judge_all.ensures.judged

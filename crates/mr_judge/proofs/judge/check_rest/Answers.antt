@@ -4,7 +4,7 @@ use Rattle.std.proofs.lemmas.Result.{err_from_is_err_and}
 use Rattle.mr_splits.specs.Cut.{Cut}
 use Rattle.mr_bytes.specs.declared.RecordName.{RecordName}
 use Rattle.mr_verdict.specs.declared.fault.No.TheVariants.{OutOfMemory}
-use Rattle.mr_verdict.specs.declared.items.Stop.TheVariants.{Fault}
+use Rattle.mr_verdict.specs.declared.items.JudgeError.TheVariants.{Fault}
 use Rattle.mr_verdict.specs.Verdict.{start, subject_of}
 use Rattle.mr_verdict.specs.Steps.{case_at}
 use Rattle.mr_judge.specs.Blocks.{Judges}
@@ -20,21 +20,21 @@ use Rattle.mr_judge.proofs.judge.check_rest.Goals as goal
 pub expect_count-requires-clause-awaits : goal.expect_count-requires-clause-awaits
 expect_count-requires-clause-awaits g c is at there = awaits InKind in_kind c.args.request.now.parts is (c.requires.order is at there)
 
-pub take_skips-requires-clause-front : goal.take_skips-requires-clause-front
-take_skips-requires-clause-front g c is at there =
+pub read_skips-requires-clause-front : goal.read_skips-requires-clause-front
+read_skips-requires-clause-front g c is at there =
     let t = c.in_ok-listed.ensures.counted is at there in
     front_listed at c.max_skips.result t.0 (record { many = c.in_ok-listed.listed; behind = is }) (awaits InKind in_kind c.args.request.now.parts t.0 (c.requires.order t.0 at t.1.0)) t.1.1
 
 pub check_with-requires-clause-begins : goal.check_with-requires-clause-begins
 check_with-requires-clause-begins g c =
-    let gives = g.I.Items.gives in
+    let gives = g.I.ItemSource.gives in
     let skips : List RecordName = c.in_ok-skips.skips.items in
-    parts_begin (gives c.args.walker.now) (gives c.take_skips.new.items) c.args.request.now c.in_ok-plan.plan c.max_skips.result c.in_ok-listed.listed skips c.requires.order
-    (listing (gives c.args.walker.now) (gives c.expect_count.new.items) (gives c.take_skips.new.items) c.in_ok-plan.plan c.max_skips.result c.in_ok-listed.listed skips c.in_ok-listed.ensures.counted c.in_ok-skips.ensures.listed)
+    parts_begin (gives c.args.walker.now) (gives c.read_skips.new.items) c.args.request.now c.in_ok-plan.plan c.max_skips.result c.in_ok-listed.listed skips c.requires.order
+    (listing (gives c.args.walker.now) (gives c.expect_count.new.items) (gives c.read_skips.new.items) c.in_ok-plan.plan c.max_skips.result c.in_ok-listed.listed skips c.in_ok-listed.ensures.counted c.in_ok-skips.ensures.listed)
 
 pub returns-in_err-listed-clause-judged : goal.returns-in_err-listed-clause-judged
 returns-in_err-listed-clause-judged g c =
-    let gives = g.I.Items.gives in
+    let gives = g.I.ItemSource.gives in
     let ahead = g.O.Outputs.gives c.args.outputs.now in
     let n = c.args.meter.now.lookups in
     let e = c.in_err-listed.field-0.0 in
@@ -44,7 +44,7 @@ returns-in_err-listed-clause-judged g c =
 
 pub returns-in_err-plan-clause-judged : goal.returns-in_err-plan-clause-judged
 returns-in_err-plan-clause-judged g c =
-    let gives = g.I.Items.gives in
+    let gives = g.I.ItemSource.gives in
     let ahead = g.O.Outputs.gives c.args.outputs.now in
     let n = c.args.meter.now.lookups in
     let p = err_from_is_err_and c.from_residual-in_err-plan.result c.from_residual-in_err-plan.ensures.1 in
@@ -53,19 +53,19 @@ returns-in_err-plan-clause-judged g c =
 
 pub returns-in_err-skips-clause-judged : goal.returns-in_err-skips-clause-judged
 returns-in_err-skips-clause-judged g c =
-    let gives = g.I.Items.gives in
+    let gives = g.I.ItemSource.gives in
     let ahead = g.O.Outputs.gives c.args.outputs.now in
     let n = c.args.meter.now.lookups in
     let e = c.in_err-skips.field-0.0 in
     let p = err_from_is_err_and c.from_residual-in_err-skips.result c.from_residual-in_err-skips.ensures.1 in
     rw (p.1, p.2) (through_all ahead start (RestJudged (gives c.args.walker.now) c.args.request.now c.args.input.now n n (Err e)) c.requires.outputs
-    (λ outs. skips_judged (gives c.args.walker.now) (gives c.expect_count.new.items) (gives c.take_skips.new.items) c.args.request.now c.args.input.now outs c.max_skips.result c.in_ok-listed.listed n c.in_ok-plan.plan e c.max_skips.ensures.same c.in_ok-plan.ensures.plan c.in_ok-listed.ensures.given c.in_ok-listed.ensures.counted c.in_err-skips.ensures.listed))
+    (λ outs. skips_judged (gives c.args.walker.now) (gives c.expect_count.new.items) (gives c.read_skips.new.items) c.args.request.now c.args.input.now outs c.max_skips.result c.in_ok-listed.listed n c.in_ok-plan.plan e c.max_skips.ensures.same c.in_ok-plan.ensures.plan c.in_ok-listed.ensures.given c.in_ok-listed.ensures.counted c.in_err-skips.ensures.listed))
 
 pub returns-in_err-pairs-clause-judged : goal.returns-in_err-pairs-clause-judged
 returns-in_err-pairs-clause-judged g c =
-    let gives = g.I.Items.gives in
+    let gives = g.I.ItemSource.gives in
     let old = gives c.args.walker.now in
-    let next = gives c.take_skips.new.items in
+    let next = gives c.read_skips.new.items in
     let ahead = g.O.Outputs.gives c.args.outputs.now in
     let n = c.args.meter.now.lookups in
     let m = c.check_with.new.meter.lookups in
@@ -82,9 +82,9 @@ returns-in_err-pairs-clause-judged g c =
 
 pub returns-clause-judged : goal.returns-clause-judged
 returns-clause-judged g c =
-    let gives = g.I.Items.gives in
+    let gives = g.I.ItemSource.gives in
     let old = gives c.args.walker.now in
-    let next = gives c.take_skips.new.items in
+    let next = gives c.read_skips.new.items in
     let ahead = g.O.Outputs.gives c.args.outputs.now in
     let n = c.args.meter.now.lookups in
     let m = c.check_with.new.meter.lookups in

@@ -4,7 +4,7 @@ use Rattle.std.proofs.lemmas.Result.{err_from_is_err_and}
 use Rattle.mr_splits.specs.Cut.{records_of}
 use Rattle.mr_index.proofs.WorkLemmas.{mapped-few}
 use Rattle.mr_verdict.specs.declared.fault.No.TheVariants.{OutOfMemory}
-use Rattle.mr_verdict.specs.declared.items.Stop.TheVariants.{Fault}
+use Rattle.mr_verdict.specs.declared.items.JudgeError.TheVariants.{Fault}
 use Rattle.mr_verdict.specs.Verdict.{Subject, start, subject_of}
 use Rattle.mr_verdict.specs.Steps.{subject_with, case_at}
 use Rattle.mr_judge.specs.Blocks.{Judges}
@@ -14,7 +14,7 @@ use Rattle.mr_judge.proofs.judge.check_with.Goals as goal
 
 pub returns-clause-judged : goal.returns-clause-judged
 returns-clause-judged g c =
-    let old = g.I.Items.gives c.args.walker.now in
+    let old = g.I.ItemSource.gives c.args.walker.now in
     let ahead = g.O.Outputs.gives c.args.outputs.now in
     let n = c.of_watched.new.meter.lookups in
     let m = c.check_parts.new.meter.lookups in
@@ -27,7 +27,7 @@ returns-clause-judged g c =
 
 pub returns-in_err-index-clause-judged : goal.returns-in_err-index-clause-judged
 returns-in_err-index-clause-judged g c =
-    let old = g.I.Items.gives c.args.walker.now in
+    let old = g.I.ItemSource.gives c.args.walker.now in
     let ahead = g.O.Outputs.gives c.args.outputs.now in
     let n = c.args.meter.now.lookups in
     let m = c.of_watched.new.meter.lookups in

@@ -8,7 +8,7 @@ use Rattle.mr_judge.proofs.judge.judge_all.Goals as goal
 
 pub returns-in_err-expect_header-clause-judged : goal.returns-in_err-expect_header-clause-judged
 returns-in_err-expect_header-clause-judged g c =
-    let old = g.I.Items.gives c.args.walker.now in
+    let old = g.I.ItemSource.gives c.args.walker.now in
     let n = c.args.meter.now.lookups in
     let e = c.in_err-expect_header.field-0.0 in
     let p = err_from_is_err_and c.from_residual.result c.from_residual.ensures.1 in
@@ -17,12 +17,12 @@ returns-in_err-expect_header-clause-judged g c =
 
 pub check_rest-requires-clause-order : goal.check_rest-requires-clause-order
 check_rest-requires-clause-order g c =
-    let gives = g.I.Items.gives in
+    let gives = g.I.ItemSource.gives in
     order_behind (gives c.args.walker.now) (gives c.expect_header.new.items) c.args.request.now c.args.input.now c.requires.front c.in_ok-expect_header.ensures.met
 
 pub returns-clause-judged : goal.returns-clause-judged
 returns-clause-judged g c =
-    let gives = g.I.Items.gives in
+    let gives = g.I.ItemSource.gives in
     let old = gives c.args.walker.now in
     let mid = gives c.expect_header.new.items in
     let n = c.args.meter.now.lookups in

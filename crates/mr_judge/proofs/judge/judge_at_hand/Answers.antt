@@ -12,7 +12,7 @@ use Rattle.mr_judge.proofs.VerdictLemmas.{verdict_count}
 use Rattle.mr_judge.proofs.JudgeLemmas.{as_many}
 use Rattle.mr_judge.proofs.RestLemmas.{Only, held, only_fits, at_hand}
 use Rattle.mr_verdict.proofs.ItemLemmas.{over}
-use Rattle.mr_verdict.specs.declared.items.Stop.{Stop}
+use Rattle.mr_verdict.specs.declared.items.JudgeError.{JudgeError}
 use Rattle.mr_judge.proofs.judge.judge_at_hand.Goals as goal
 
 pub returns-then-outputs-parts-clause-verdict : goal.returns-then-outputs-parts-clause-verdict
@@ -78,7 +78,7 @@ returns-in-Err-Fault-clause-verdict g c =
       stop_is = e.1 ∙ c.walk-walker.ensures.stop;
     } in
     let told = at_hand (held c.new-outputs.result.rest.now (contents c.new-outputs.result.later.now)) (over c.walk-walker.result) o files outs bytes n m (Err c.in-Err-Fault.field-0) only of count c.in-Err-Fault.ensures.judged in
-    subst (λ (e : Stop). IsVerdict o files outs bytes (Err e)) c.in-Err-Fault.field-0-is told.0
+    subst (λ (e : JudgeError). IsVerdict o files outs bytes (Err e)) c.in-Err-Fault.field-0-is told.0
 
 pub returns-in-Err-Fault-clause-bounded : goal.returns-in-Err-Fault-clause-bounded
 returns-in-Err-Fault-clause-bounded g c =

@@ -1,7 +1,7 @@
 use Rattle.std.proofs.Common.{◌≡◌, ◌≤◌, ◌+◌, ℕ, Bool, true, false, Option, Some, None, Ok, Err, List, length, refl, ap, sym, ◌∙◌, subst, inl, inr, arith}
 use Rattle.std.proofs.lemmas.Result.{err_from_is_err_and}
 use Rattle.mr_certform.specs.declared.item.Item.{Item}
-use Rattle.mr_verdict.specs.declared.items.Stop.TheVariants.{Fault}
+use Rattle.mr_verdict.specs.declared.items.JudgeError.TheVariants.{Fault}
 use Rattle.mr_verdict.specs.declared.fault.No.TheVariants.{OutOfMemory}
 use Rattle.mr_verdict.specs.Verdict.{Reached, start}
 use Rattle.mr_verdict.specs.Steps.{subject_with}
@@ -20,7 +20,7 @@ none_is (Some n) h = absurd (h n refl)
 pub returns-in_err-stopped-clause-judged : goal.returns-in_err-stopped-clause-judged
 returns-in_err-stopped-clause-judged g c =
     let b = c.args.basis.now in
-    let gives = g.I.Items.gives in
+    let gives = g.I.ItemSource.gives in
     let outs = g.O.Outputs.gives in
     let old = gives c.args.walker.now in
     let now = gives c.loop-stopped.walker in
@@ -39,7 +39,7 @@ returns-in_err-stopped-clause-judged g c =
 pub returns-in_err-look_up-clause-judged : goal.returns-in_err-look_up-clause-judged
 returns-in_err-look_up-clause-judged g c =
     let b = c.args.basis.now in
-    let gives = g.I.Items.gives in
+    let gives = g.I.ItemSource.gives in
     let outs = g.O.Outputs.gives in
     let old = gives c.args.walker.now in
     let now = gives c.loop-stopped.walker in
@@ -60,7 +60,7 @@ returns-in_err-look_up-clause-judged g c =
 pub returns-in_err-judge_rows-clause-judged : goal.returns-in_err-judge_rows-clause-judged
 returns-in_err-judge_rows-clause-judged g c =
     let b = c.args.basis.now in
-    let gives = g.I.Items.gives in
+    let gives = g.I.ItemSource.gives in
     let outs = g.O.Outputs.gives in
     let old = gives c.args.walker.now in
     let now = gives c.loop-stopped.walker in
@@ -87,7 +87,7 @@ returns-in_err-judge_rows-clause-judged g c =
 pub returns-then-branch-clause-judged : goal.returns-then-branch-clause-judged
 returns-then-branch-clause-judged g c =
     let b = c.args.basis.now in
-    let gives = g.I.Items.gives in
+    let gives = g.I.ItemSource.gives in
     let outs = g.O.Outputs.gives in
     let old = gives c.args.walker.now in
     let now = gives c.loop-stopped.walker in
@@ -115,7 +115,7 @@ returns-then-branch-clause-judged g c =
 pub returns-then-branch-clause-all : goal.returns-then-branch-clause-all
 returns-then-branch-clause-all g c =
     let b = c.args.basis.now in
-    let gives = g.I.Items.gives in
+    let gives = g.I.ItemSource.gives in
     let outs = g.O.Outputs.gives in
     let old = gives c.args.walker.now in
     let now = gives c.loop-stopped.walker in
@@ -143,7 +143,7 @@ returns-then-branch-clause-all g c =
 pub returns-in-Some-clause-judged : goal.returns-in-Some-clause-judged
 returns-in-Some-clause-judged g c =
     let b = c.args.basis.now in
-    let gives = g.I.Items.gives in
+    let gives = g.I.ItemSource.gives in
     let outs = g.O.Outputs.gives in
     let old = gives c.args.walker.now in
     let now = gives c.loop-stopped.walker in
@@ -172,7 +172,7 @@ returns-in-Some-clause-judged g c =
 pub judge_rows-requires-clause-fits : goal.judge_rows-requires-clause-fits
 judge_rows-requires-clause-fits g c =
     let b = c.args.basis.now in
-    let gives = g.I.Items.gives in
+    let gives = g.I.ItemSource.gives in
     let outs = g.O.Outputs.gives in
     let old = gives c.args.walker.now in
     let now = gives c.loop-stopped.walker in
@@ -189,7 +189,7 @@ judge_rows-requires-clause-fits g c =
 pub judge_rows-requires-clause-begun : goal.judge_rows-requires-clause-begun
 judge_rows-requires-clause-begun g c =
     let b = c.args.basis.now in
-    let gives = g.I.Items.gives in
+    let gives = g.I.ItemSource.gives in
     let outs = g.O.Outputs.gives in
     let old = gives c.args.walker.now in
     let now = gives c.loop-stopped.walker in
@@ -213,7 +213,7 @@ judge_rows-requires-clause-begun g c =
 pub loop-stopped-smaller : goal.loop-stopped-smaller
 loop-stopped-smaller g c =
     let b = c.args.basis.now in
-    let gives = g.I.Items.gives in
+    let gives = g.I.ItemSource.gives in
     let outs = g.O.Outputs.gives in
     let old = gives c.args.walker.now in
     let now = gives c.loop-stopped.walker in
@@ -242,7 +242,7 @@ loop-stopped-smaller g c =
 pub loop-stopped-preserved : goal.loop-stopped-preserved
 loop-stopped-preserved g c =
     let b = c.args.basis.now in
-    let gives = g.I.Items.gives in
+    let gives = g.I.ItemSource.gives in
     let outs = g.O.Outputs.gives in
     let old = gives c.args.walker.now in
     let now = gives c.loop-stopped.walker in
@@ -281,14 +281,14 @@ loop-stopped-preserved g c =
       sound = told.sound none;
       count = told.stops ∙ inv.count;
       failed = c.in_ok-judge_rows.ensures.halts ∙ inv.failed;
-      room = room_next s st last items (g.I.Items.most c.loop-stopped.walker) (g.I.Items.most c.read_block.new.walker) (g.I.Items.most c.args.walker.now) any.1 fewer inv.room;
+      room = room_next s st last items (g.I.ItemSource.most c.loop-stopped.walker) (g.I.ItemSource.most c.read_block.new.walker) (g.I.ItemSource.most c.args.walker.now) any.1 fewer inv.room;
       looked = omega (arith, t.1.1.1.0, t.1.1.1.1);
       mapped = c.in_ok-look_up.ensures.mapped ∙ inv.mapped;
     }
 
 pub loop-stopped-init : goal.loop-stopped-init
 loop-stopped-init g c =
-    let gives = g.I.Items.gives in
+    let gives = g.I.ItemSource.gives in
     let outs = g.O.Outputs.gives in
     let n = c.args.meter.now.lookups in
     let named : 0 ≡ c.args.judging.now.named = sym (ap (λ (w : Reached). w.named) c.requires.fresh) in
@@ -301,7 +301,7 @@ loop-stopped-init g c =
       sound = c.requires.sound;
       count = refl;
       failed = refl;
-      room = room_start c.args.judging.now (g.I.Items.most c.args.walker.now) c.requires.fresh;
+      room = room_start c.args.judging.now (g.I.ItemSource.most c.args.walker.now) c.requires.fresh;
       looked = omega (arith, named);
       mapped = refl;
     }
@@ -309,4 +309,4 @@ loop-stopped-init g c =
 pub returns-in_err-judge_rows-clause-stops : goal.returns-in_err-judge_rows-clause-stops
 returns-in_err-judge_rows-clause-stops g c =
     let p = err_from_is_err_and c.from_residual-in_err-judge_rows.result c.from_residual-in_err-judge_rows.ensures.1 in
-    rw (p.1, p.2) (items_of_halt Bool ℕ g.O.Outputs.steady g.I.Items.steady (g.O.Outputs.failed c.loop-stopped.outputs) (g.O.Outputs.failed c.judge_rows.new.outputs) (g.I.Items.failed c.args.walker.now) (g.I.Items.failed c.read_block.new.walker) c.in_err-judge_rows.field-0.0 c.in_err-judge_rows.ensures.halts (c.in_ok-stopped.ensures.stops ∙ c.loop-stopped.invariant.count))
+    rw (p.1, p.2) (items_of_halt Bool ℕ g.O.Outputs.steady g.I.ItemSource.steady (g.O.Outputs.failed c.loop-stopped.outputs) (g.O.Outputs.failed c.judge_rows.new.outputs) (g.I.ItemSource.failed c.args.walker.now) (g.I.ItemSource.failed c.read_block.new.walker) c.in_err-judge_rows.field-0.0 c.in_err-judge_rows.ensures.halts (c.in_ok-stopped.ensures.stops ∙ c.loop-stopped.invariant.count))

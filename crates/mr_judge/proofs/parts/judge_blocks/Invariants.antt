@@ -7,18 +7,18 @@ use Rattle.mr_judge.proofs.parts.judge_blocks.Given as goal
 
 abbrev pub invariant-loop-stopped : goal.invariant-loop-stopped
 invariant-loop-stopped g l = record {
-  going : Going (g.O.Outputs.gives l.initial.outputs) (g.O.Outputs.gives l.outputs) (g.I.Items.gives l.initial.walker) (g.I.Items.gives l.walker) l.basis l.judging l.initial.meter.lookups l.meter.lookups;
-  given : CanCome (g.I.Items.gives l.walker);
+  going : Going (g.O.Outputs.gives l.initial.outputs) (g.O.Outputs.gives l.outputs) (g.I.ItemSource.gives l.initial.walker) (g.I.ItemSource.gives l.walker) l.basis l.judging l.initial.meter.lookups l.meter.lookups;
+  given : CanCome (g.I.ItemSource.gives l.walker);
   some : CanComeAhead (g.O.Outputs.gives l.outputs);
   place : g.O.Outputs.place l.outputs ≡ l.judging.from;
-  begun : Each (g.I.Items.gives l.walker) begins ⊎ g.O.Outputs.begun l.outputs;
-  sound : g.I.Items.sound l.walker;
-  count : g.I.Items.failed l.walker ≡ g.I.Items.failed l.initial.walker;
+  begun : Each (g.I.ItemSource.gives l.walker) begins ⊎ g.O.Outputs.begun l.outputs;
+  sound : g.I.ItemSource.sound l.walker;
+  count : g.I.ItemSource.failed l.walker ≡ g.I.ItemSource.failed l.initial.walker;
   failed : g.O.Outputs.failed l.outputs ≡ g.O.Outputs.failed l.initial.outputs;
-  room : Room l.judging (g.I.Items.most l.walker) (g.I.Items.most l.initial.walker);
+  room : Room l.judging (g.I.ItemSource.most l.walker) (g.I.ItemSource.most l.initial.walker);
   looked : l.meter.lookups ≡ l.initial.meter.lookups + l.judging.named;
   mapped : l.meter.mapped ≡ l.initial.meter.mapped;
 }
 
 abbrev pub decreases-loop-stopped : goal.decreases-loop-stopped
-decreases-loop-stopped g l = g.I.Items.most l.walker
+decreases-loop-stopped g l = g.I.ItemSource.most l.walker

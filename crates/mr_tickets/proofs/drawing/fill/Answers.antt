@@ -20,7 +20,7 @@ put-requires g c = omega (arith, c.loop-next.invariant.len, last_within c.args.c
 
 pub loop-next-preserved : goal.loop-next-preserved
 loop-next-preserved g c =
-    let gives = g.W.Pieces.gives c.args.all.now in
+    let gives = g.W.WorkPieces.gives c.args.all.now in
     let i = c.loop-next.invariant in
     let e = c.in-Some.ensures.items in
     let rest = c.pop.new.self.items in

@@ -7,8 +7,8 @@ abbrev pub invariant-loop-next : goal.invariant-loop-next
 invariant-loop-next g l = record {
   len : length l.slots ≡ l.count;
   within : All (λ f. f.piece < l.count) l.found.items;
-  given : AllGiven (g.W.Pieces.gives l.all) l.found.items;
-  filled : AllSlots (g.W.Pieces.gives l.all) (numbers_of l.found.items) l.count l.slots;
+  given : AllGiven (g.W.WorkPieces.gives l.all) l.found.items;
+  filled : AllSlots (g.W.WorkPieces.gives l.all) (numbers_of l.found.items) l.count l.slots;
 }
 
 abbrev pub decreases-loop-next : goal.decreases-loop-next

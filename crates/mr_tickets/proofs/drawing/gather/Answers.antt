@@ -10,7 +10,7 @@ use Rattle.mr_tickets.proofs.drawing.gather.Goals as goal
 
 pub loop-done-preserved : goal.loop-done-preserved
 loop-done-preserved g c =
-    let gives = g.W.Pieces.gives c.args.all.now in
+    let gives = g.W.WorkPieces.gives c.args.all.now in
     let t = c.args.tickets in
     let i = c.loop-done.invariant in
     let e = c.in-Some.ensures.items in

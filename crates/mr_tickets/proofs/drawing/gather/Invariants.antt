@@ -8,11 +8,11 @@ use Rattle.mr_tickets.proofs.drawing.gather.Given as goal
 abbrev pub invariant-loop-done : goal.invariant-loop-done
 invariant-loop-done g l = record {
   count : vec_len l.seats + vec_len l.dones ≡ l.fn.tickets.seats;
-  done : All (λ r. IfOk r (IsDone (g.W.Pieces.gives l.all) l.fn.tickets)) l.dones.items;
+  done : All (λ r. IfOk r (IsDone (g.W.WorkPieces.gives l.all) l.fn.tickets)) l.dones.items;
   seats : All (IsSeatOf l.fn.tickets) l.seats.items;
   told : All (λ s. s.told ≡ true) l.seats.items;
   sums : (h : ℕ → ℕ) → weigh h (numbers_of l.found.items) ≡ total (λ s. weigh h s.drawn) l.seats.items;
-  given : AllGiven (g.W.Pieces.gives l.all) l.found.items;
+  given : AllGiven (g.W.WorkPieces.gives l.all) l.found.items;
 }
 
 abbrev pub decreases-loop-done : goal.decreases-loop-done

@@ -15,7 +15,7 @@ pub fill-requires-clause-within : goal.fill-requires-clause-within
 fill-requires-clause-within g c κs inside = all_in_range c.args.count _ c.requires.once
 
 pub fill-requires-clause-slots : goal.fill-requires-clause-slots
-fill-requires-clause-slots g c κs inside = starts (g.W.Pieces.gives c.args.all.now) c.args.count _ c.requires.once _ (c.as_mut_slice.ensures.value ∙ c.in_ok-slots.ensures)
+fill-requires-clause-slots g c κs inside = starts (g.W.WorkPieces.gives c.args.all.now) c.args.count _ c.requires.once _ (c.as_mut_slice.ensures.value ∙ c.in_ok-slots.ensures)
 
 pub take_all-requires-clause-len : goal.take_all-requires-clause-len
 take_all-requires-clause-len g c κs inside =
@@ -27,7 +27,7 @@ take_all-requires-clause-slots g c κs inside =
     let n = c.in_ok-slots.slots.len in
     let now = c.fill.new.slots in
     let same : length now ≡ n = omega (arith, c.fill.auto.slots, ap length c.as_mut_slice.ensures.value, c.in_ok-slots.slots.ok) in
-    subst (λ (l : List (Option g.row.W-Out.Denot)). AllSlots (g.W.Pieces.gives c.args.all.now) [] c.args.count l)
+    subst (λ (l : List (Option g.row.W-Out.Denot)). AllSlots (g.W.WorkPieces.gives c.args.all.now) [] c.args.count l)
     (sym (take-append-le n now (drop (length now) c.in_ok-slots.slots.items) (omega arith) ∙ take_all n now (omega arith))) c.fill.ensures
 
 pub returns-clause-len : goal.returns-clause-len

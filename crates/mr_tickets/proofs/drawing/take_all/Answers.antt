@@ -6,7 +6,7 @@ use Rattle.mr_tickets.proofs.drawing.take_all.Goals as goal
 
 pub loop-slot-preserved : goal.loop-slot-preserved
 loop-slot-preserved g c =
-    let gives = g.W.Pieces.gives c.args.all.now in
+    let gives = g.W.WorkPieces.gives c.args.all.now in
     let n = c.args.count in
     let i = c.loop-slot.invariant in
     let was = c.loop-slot.outs.items in

@@ -7,7 +7,7 @@ abbrev pub invariant-loop-piece : goal.invariant-loop-piece
 invariant-loop-piece g l = record {
   seat : IsSeatOf l.tickets l.seat;
   drawn : numbers_of l.found.items ≡ l.seat.drawn;
-  given : AllGiven (g.W.Pieces.gives l.all) l.found.items;
+  given : AllGiven (g.W.WorkPieces.gives l.all) l.found.items;
 }
 
 abbrev pub decreases-loop-piece : goal.decreases-loop-piece

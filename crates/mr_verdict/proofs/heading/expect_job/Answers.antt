@@ -12,7 +12,7 @@ pub returns-in_err-expect_all-clause-met : goal.returns-in_err-expect_all-clause
 returns-in_err-expect_all-clause-met g c =
     let o = c.args.request.now in
     let lits = c.literal-literal.result.now in
-    let gives = g.I.Items.gives in
+    let gives = g.I.ItemSource.gives in
     let p = err_from_is_err_and c.from_residual.result c.from_residual.ensures.1 in
     let is_job = job_is o c.job-job.result.now lits c.number.result c.flags.result c.parts.result c.split_size.result c.job-job.ensures.same c.literal-literal.ensures.bytes c.number.ensures c.flags.ensures c.parts.ensures.same c.split_size.ensures.same in
     let front : List Item = Magic ∷ Job c.number.result ∷ Flags c.flags.result ∷ LiteralLength (length lits) ∷ [] in
@@ -23,7 +23,7 @@ pub returns-in_err-expect_literal-clause-met : goal.returns-in_err-expect_litera
 returns-in_err-expect_literal-clause-met g c =
     let o = c.args.request.now in
     let lits = c.literal-literal.result.now in
-    let gives = g.I.Items.gives in
+    let gives = g.I.ItemSource.gives in
     let p = err_from_is_err_and c.from_residual-in_err-expect_literal.result c.from_residual-in_err-expect_literal.ensures.1 in
     let is_job = job_is o c.job-job.result.now lits c.number.result c.flags.result c.parts.result c.split_size.result c.job-job.ensures.same c.literal-literal.ensures.bytes c.number.ensures c.flags.ensures c.parts.ensures.same c.split_size.ensures.same in
     let front : List Item = Magic ∷ Job c.number.result ∷ Flags c.flags.result ∷ LiteralLength (length lits) ∷ [] in
@@ -36,7 +36,7 @@ pub returns-clause-met : goal.returns-clause-met
 returns-clause-met g c =
     let o = c.args.request.now in
     let lits = c.literal-literal.result.now in
-    let gives = g.I.Items.gives in
+    let gives = g.I.ItemSource.gives in
     let is_job = job_is o c.job-job.result.now lits c.number.result c.flags.result c.parts.result c.split_size.result c.job-job.ensures.same c.literal-literal.ensures.bytes c.number.ensures c.flags.ensures c.parts.ensures.same c.split_size.ensures.same in
     let front : List Item = Magic ∷ Job c.number.result ∷ Flags c.flags.result ∷ LiteralLength (length lits) ∷ [] in
     let back : List Item = Parts c.parts.result ∷ SplitSize c.split_size.result ∷ [] in

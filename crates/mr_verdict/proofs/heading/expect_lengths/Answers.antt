@@ -11,7 +11,7 @@ pub returns-in_err-expect-clause-met : goal.returns-in_err-expect-clause-met
 returns-in_err-expect-clause-met g c =
     let bs : List (List ℕ) = c.args.input.now in
     let i = c.loop-i.i in
-    let gives = g.I.Items.gives in
+    let gives = g.I.ItemSource.gives in
     let long : List ℕ → Item = λ f. FileLength (length f) in
     let within : i < length bs = omega (arith, c.loop-i-test.true, c.loop-i.auto.i-end, c.files-i-end.ensures.count) in
     let p = err_from_is_err_and c.from_residual.result c.from_residual.ensures.1 in

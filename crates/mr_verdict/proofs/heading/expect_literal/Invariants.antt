@@ -6,8 +6,8 @@ use Rattle.mr_verdict.proofs.heading.expect_literal.Given as goal
 
 abbrev pub invariant-loop-byte : goal.invariant-loop-byte
 invariant-loop-byte g l = record {
-  leads : Leads (g.I.Items.gives l.initial.items) (g.I.Items.gives l.items) (map LiteralByte (drop l.byte-index l.literal)) (map LiteralByte l.literal) OtherJob;
-  sound : g.I.Items.sound l.items;
-  count : g.I.Items.failed l.items ≡ g.I.Items.failed l.initial.items;
-  fewer : g.I.Items.most l.items ≤ g.I.Items.most l.initial.items;
+  leads : Leads (g.I.ItemSource.gives l.initial.items) (g.I.ItemSource.gives l.items) (map LiteralByte (drop l.byte-index l.literal)) (map LiteralByte l.literal) OtherJob;
+  sound : g.I.ItemSource.sound l.items;
+  count : g.I.ItemSource.failed l.items ≡ g.I.ItemSource.failed l.initial.items;
+  fewer : g.I.ItemSource.most l.items ≤ g.I.ItemSource.most l.initial.items;
 }

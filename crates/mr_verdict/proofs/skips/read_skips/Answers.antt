@@ -6,13 +6,13 @@ use Rattle.mr_splits.specs.Cut.{records_of}
 use Rattle.mr_certform.specs.declared.item.Item.{Item}
 use Rattle.mr_certform.specs.declared.item.Item.TheVariants.{Skip}
 use Rattle.mr_verdict.specs.declared.fault.No.{No}
-use Rattle.mr_verdict.specs.declared.items.Stop.{Stop}
-use Rattle.mr_verdict.specs.declared.items.Stop.TheVariants.{Fault, Device, TooLong, Output, LongOutput}
+use Rattle.mr_verdict.specs.declared.items.JudgeError.{JudgeError}
+use Rattle.mr_verdict.specs.declared.items.JudgeError.TheVariants.{Fault, Device, TooLong, Output, LongOutput}
 use Rattle.mr_verdict.specs.Verdict.{last_of}
 use Rattle.mr_verdict.specs.Steps.{listed}
 use Rattle.mr_verdict.specs.Items.{Coming, NextSkip, IsStopped}
 use Rattle.mr_verdict.proofs.SkipLemmas.{last_more, listed_more, listed_fault, listed_stops, front_more, front_next}
-use Rattle.mr_verdict.proofs.skips.take_skips.Goals as goal
+use Rattle.mr_verdict.proofs.skips.read_skips.Goals as goal
 
 one_less : (n i : ℕ) → i < n → n - i ≡ suc (n - (i + 1))
 one_less n i h = omega (arith, h)
@@ -22,7 +22,7 @@ none_is None h = refl
 none_is (Some e) h = absurd (h e refl)
 
 -- what an answer without a record says of all the items
-ended : (rs : List NamedRecord) (old now new : Coming) (k m n : ℕ) (ss : List RecordName) (e : Stop) → k ≡ suc m
+ended : (rs : List NamedRecord) (old now new : Coming) (k m n : ℕ) (ss : List RecordName) (e : JudgeError) → k ≡ suc m
     → ((is : List Item) (at : ℕ) → now is at → (js : List Item) × (old js at × (listed rs at k ss is ≡ listed rs at n [] js)))
     → NextSkip now new (Err e) → (js : List Item) × ((at : ℕ) × (old js at × IsStopped (listed rs at n [] js) e))
 ended rs old now new k m n ss (Fault e) d leads (at, (there, is)) =
@@ -41,7 +41,7 @@ next_skip-requires-clause-skip g c is at there =
 
 pub returns-in_err-name-clause-listed : goal.returns-in_err-name-clause-listed
 returns-in_err-name-clause-listed g c =
-    let gives = g.I.Items.gives in
+    let gives = g.I.ItemSource.gives in
     let n = c.args.many in
     let i = c.loop-number.number in
     let p = err_from_is_err_and c.from_residual.result c.from_residual.ensures.1 in

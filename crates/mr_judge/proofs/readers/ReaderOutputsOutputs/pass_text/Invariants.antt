@@ -1,7 +1,7 @@
 use Rattle.std.proofs.Common.{◌≡◌, ◌≤◌, map, length}
 use Rattle.mr_judge.specs.Readers.{reading}
 use Rattle.mr_judge.proofs.ReadingLemmas.{Fronts}
-use Rattle.mr_judge.proofs.readers.FromReadersOutputs.pass_text.Given as goal
+use Rattle.mr_judge.proofs.readers.ReaderOutputsOutputs.pass_text.Given as goal
 
 abbrev pub invariant-loop-wanted : goal.invariant-loop-wanted
 invariant-loop-wanted g l = record {

@@ -1,7 +1,7 @@
 use Rattle.std.proofs.Common.{arith}
 use Rattle.mr_judge.specs.Readers.{reading}
 use Rattle.mr_judge.proofs.ReadingLemmas.{ends, some_to_come}
-use Rattle.mr_judge.proofs.readers.FromReadersOutputs.is_passed.Goals as goal
+use Rattle.mr_judge.proofs.readers.ReaderOutputsOutputs.is_passed.Goals as goal
 
 pub returns-in_err-fill-clause-some : goal.returns-in_err-fill-clause-some
 returns-in_err-fill-clause-some g c some = some_to_come _

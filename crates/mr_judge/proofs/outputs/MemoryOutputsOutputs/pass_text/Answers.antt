@@ -5,7 +5,7 @@ use Rattle.std.proofs.lemmas.List.Sums.{common_prefix_len-le}
 use Rattle.mr_input.specs.Files.{contents}
 use Rattle.mr_judge.proofs.Faults.{starts_not}
 use Rattle.mr_judge.proofs.OutputLemmas.{starts_is}
-use Rattle.mr_judge.proofs.outputs.AtHandOutputs.pass_text.Goals as goal
+use Rattle.mr_judge.proofs.outputs.MemoryOutputsOutputs.pass_text.Goals as goal
 
 pub returns-then-starts_with-clause-compares : goal.returns-then-starts_with-clause-compares
 returns-then-starts_with-clause-compares c =

@@ -3,7 +3,7 @@ use Rattle.mr_certform.specs.declared.stream.StreamFault.{StreamFault}
 use Rattle.mr_certform.specs.Streaming.{Stream, Told, stream}
 use Rattle.mr_certform.proofs.Streams.{some_given}
 use Rattle.mr_verdict.proofs.ItemBytes.{some_byte}
-use Rattle.mr_verdict.proofs.items.StreamWalkerItems.next_item.Goals as goal
+use Rattle.mr_verdict.proofs.items.StreamWalkerItemSource.next_item.Goals as goal
 
 pub returns-then-place-clause-some : goal.returns-then-place-clause-some
 returns-then-place-clause-some g c = some_given (stream g.R.CountedRead.remaining c.args.self.now)

@@ -2,7 +2,7 @@ use Rattle.std.proofs.Common.{◌≡◌, ◌∷◌, ◌<◌, List, ℕ, arith, a
 use Rattle.std.proofs.lemmas.List.{get_or_default}
 use Rattle.mr_index.specs.Pieces.{Division, records_divided}
 use Rattle.mr_index.proofs.PairLemmas.{rise-at}
-use Rattle.mr_index.proofs.divided.DividedSplit.piece.Goals as goal
+use Rattle.mr_index.proofs.divided.DividedSplit.do_piece.Goals as goal
 
 pub map_between-requires : goal.map_between-requires
 map_between-requires c =

@@ -2,7 +2,7 @@ use Rattle.std.proofs.Common.{◌≤◌, length, arith, sym, ◌∙◌}
 use Rattle.std.proofs.lemmas.Bool.{eqb-false}
 use Rattle.mr_judge.specs.Readers.{reading}
 use Rattle.mr_judge.proofs.ReadingLemmas.{some_to_come, front_passed, front_ends}
-use Rattle.mr_judge.proofs.readers.FromReadersOutputs.pass_text.Goals as goal
+use Rattle.mr_judge.proofs.readers.ReaderOutputsOutputs.pass_text.Goals as goal
 
 pub returns-in_err-fill-clause-some : goal.returns-in_err-fill-clause-some
 returns-in_err-fill-clause-some g c some = some_to_come _

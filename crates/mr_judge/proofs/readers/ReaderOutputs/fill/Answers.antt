@@ -2,7 +2,7 @@ use Rattle.std.proofs.Common.{◌≡◌, ◌+◌, ◌-◌, refl, arith, ◌∙�
 use Rattle.std.proofs.lemmas.Bool.{eqb-true}
 use Rattle.mr_judge.specs.Readers.{reading}
 use Rattle.mr_judge.proofs.ReadingLemmas.{come_read, no_bytes}
-use Rattle.mr_judge.proofs.readers.FromReaders.fill.Goals as goal
+use Rattle.mr_judge.proofs.readers.ReaderOutputs.fill.Goals as goal
 
 pub returns-in-Ok-clause-come : goal.returns-in-Ok-clause-come
 returns-in-Ok-clause-come g c =

@@ -5,7 +5,7 @@ use Rattle.std.proofs.lemmas.List.Sums.{common_prefix_len-le}
 use Rattle.mr_judge.specs.Readers.{reading}
 use Rattle.mr_judge.specs.Reading.{Reading, IsToCome}
 use Rattle.mr_judge.proofs.ReadingLemmas.{come_passed, nothing_stands}
-use Rattle.mr_judge.proofs.readers.FromReaders.pass_held.Goals as goal
+use Rattle.mr_judge.proofs.readers.ReaderOutputs.pass_held.Goals as goal
 
 pub pass-requires : goal.pass-requires
 pass-requires g c =

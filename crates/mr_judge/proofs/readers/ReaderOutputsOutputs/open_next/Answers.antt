@@ -1,7 +1,7 @@
 use Rattle.std.proofs.Common.{refl}
 use Rattle.mr_judge.proofs.ReadingLemmas.{opens, some_to_come}
 use Rattle.mr_judge.specs.Readers.{reading}
-use Rattle.mr_judge.proofs.readers.FromReadersOutputs.open_next.Goals as goal
+use Rattle.mr_judge.proofs.readers.ReaderOutputsOutputs.open_next.Goals as goal
 
 pub returns-clause-opens : goal.returns-clause-opens
 returns-clause-opens g c =
