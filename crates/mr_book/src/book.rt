@@ -9,10 +9,10 @@ ghost use Rattle.mr_book.specs.View.{IsKept, output_with};
 ghost use Rattle.mr_book.specs.Calls.{Calls, StoresNothing, Hands, Shares, region_in, grown, has_damage};
 ghost use Rattle.mr_book.specs.Stored.{stored_at, stored_by};
 
-use crate::entry::Entry;
-use crate::log::Log;
+use crate::event_log::EventLog;
+use crate::history_entry::HistoryEntry;
+use crate::output_store::{Kept, OutputStore};
 use crate::seat::Seat;
-use crate::shelf::{Kept, Shelf};
 use mr_core::{Core, End, Event, Limits, Reply, Shape, Task};
 use mr_task::{ReduceOutput, Stored};
 use std::alloc::{AllocError, AllocFailed, Global};
@@ -24,7 +24,7 @@ use std::sync::ledger::{Blank, Ledger};
 #[derive(Drop)]
 pub struct History {
     pub shape: Shape,
-    pub entries: Vec<Entry>,
+    pub entries: Vec<HistoryEntry>,
     pub maps: Vec<Kept<Stored>>,
     pub reduces: Vec<Kept<ReduceOutput>>,
 }
@@ -34,9 +34,9 @@ pub struct History {
 /// so that its seats are no other's.
 #[derive(Drop)]
 pub struct Book<L: Ledger> {
-    log: Log<L>,
-    maps: Shelf<Stored>,
-    reduces: Shelf<ReduceOutput>,
+    log: EventLog<L>,
+    maps: OutputStore<Stored>,
+    reduces: OutputStore<ReduceOutput>,
     alloc: Global,
 }
 
@@ -74,11 +74,11 @@ impl<L: Ledger> Book<L> {
         ensures seats { IfOk result (λ r. r.1.items ≡ replicate seats 0) }
     {
         let core = Core::new(alloc, maps, parts, workers, limits)?;
-        let (log, made) = Log::open(alloc, blank, core, seats)?;
+        let (log, made) = EventLog::open(alloc, blank, core, seats)?;
         let book = Book {
             log,
-            maps: Shelf::new(alloc),
-            reduces: Shelf::new(alloc),
+            maps: OutputStore::new(alloc),
+            reduces: OutputStore::new(alloc),
             alloc,
         };
         Ok((book, made))

@@ -4,16 +4,16 @@
 
 mod assembling;
 mod book;
-mod entry;
+mod event_log;
 mod gathering;
+mod history_entry;
 mod laws;
-mod log;
+mod output_store;
 mod seat;
-mod shelf;
 mod spelling;
 
 pub use book::{Book, History};
-pub use entry::Entry;
+pub use history_entry::HistoryEntry;
 pub use laws::{attempts_law, done_law, values_law, what_is_complete_is_stored, worked_law};
+pub use output_store::Kept;
 pub use seat::Seat;
-pub use shelf::Kept;

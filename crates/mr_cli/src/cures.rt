@@ -1,6 +1,6 @@
 //! What can be done about a fault: the option and its limit, or the system's reason.
 use mr_args::Fault;
-use mr_files::Look;
+use mr_files::Inspect;
 use mr_input::InputFault;
 use mr_jobs::{JobFault, RequestFault};
 use mr_sequential::RunFault;
@@ -88,7 +88,7 @@ fn shards_cure(fault: &ShardFault) -> &'static str {
 }
 
 /// What can be done about a fault of a command; nothing about a file, of which the system has its reason.
-fn cure(fault: &Fault) -> &'static str {
+fn remedy(fault: &Fault) -> &'static str {
     match fault {
         Fault::OtherJobsOption =>
             "--keep-case belongs to words and index, --literal and --fold to grep, --by-host to url",
@@ -117,12 +117,16 @@ fn cure(fault: &Fault) -> &'static str {
 }
 
 /// The hint for a fault, without a line end; no text where there is none.
-pub fn fault_hint<L: Look>(look: &L, alloc: Global, fault: &Fault) -> Result<String, AllocError> {
-    match (fault, look.reason()) {
+pub fn fault_hint<L: Inspect>(
+    look: &L,
+    alloc: Global,
+    fault: &Fault,
+) -> Result<String, AllocError> {
+    match (fault, look.last_error()) {
         (Fault::CannotRead(_) | Fault::CannotWrite(_), Some(reason)) => format!(in alloc;
             "{reason}"
         ),
-        _ => String::from_str(alloc, cure(fault)),
+        _ => String::from_str(alloc, remedy(fault)),
     }
 }
 

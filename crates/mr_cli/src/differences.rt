@@ -2,7 +2,7 @@
 use crate::cures::run_cure;
 use mr_args::{Options, Subcommand, request_of};
 use mr_certform::{Item, Walker};
-use mr_files::{Look, Standing, Store, certificate_name, read_files};
+use mr_files::{Inspect, PathKind, Store, certificate_name, read_files};
 use mr_jobs::Request;
 use std::alloc::{AllocError, Global};
 
@@ -131,7 +131,7 @@ fn job_difference(alloc: Global, front: &Front, request: &Request) -> Result<Str
 }
 
 /// In which file a certificate is of another input: of what number, or the first of another length.
-fn input_difference<L: Look>(
+fn input_difference<L: Inspect>(
     look: &L,
     alloc: Global,
     front: &Front,
@@ -142,7 +142,7 @@ fn input_difference<L: Look>(
         return format!(in alloc; "the certificate is of {was} files, not {is}");
     }
     for (length, name) in front.lengths.iter().zip(names) {
-        if let Standing::File(now) = look.standing(name)
+        if let PathKind::File(now) = look.path_kind(name)
             && now != *length
         {
             return format!(in alloc; "{name} has {now} bytes, and had {length} by the certificate");
@@ -163,7 +163,7 @@ fn front_in<S: Store>(store: &S, alloc: Global, dir: &str) -> Result<Front, Allo
     }
 }
 
-fn check_hint<S: Store + Look>(
+fn check_hint<S: Store + Inspect>(
     store: &S,
     alloc: Global,
     options: &Options<'_>,
@@ -184,7 +184,7 @@ fn check_hint<S: Store + Look>(
 }
 
 /// The hint for what was said, without a line end; no text where there is none.
-pub fn verdict_hint<S: Store + Look>(
+pub fn verdict_hint<S: Store + Inspect>(
     store: &S,
     alloc: Global,
     asked: &Subcommand<'_>,

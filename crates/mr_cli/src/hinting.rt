@@ -7,11 +7,11 @@ use crate::noting::notes;
 use crate::options::{command, subcommand_of};
 use crate::program::{answer, finish};
 use crate::progress::ProgressLine;
-use crate::showing::shown;
+use crate::showing::escape;
 use mr_args::{Fault, Subcommand};
 use mr_bytes::Progress;
-use mr_commands::Said;
-use mr_files::{Look, Store};
+use mr_commands::CommandOutput;
+use mr_files::{Inspect, Store};
 use mr_spill::Scratch;
 use std::alloc::{AllocError, Global};
 use std::io::Write;
@@ -27,14 +27,14 @@ fn asked_by<'a>(alloc: Global, words: &'a [String]) -> Option<Subcommand<'a>> {
 
 /// Shows a text, in one line or in its own, and a line end; one that there is no memory for is left out.
 fn show<E: Write>(alloc: Global, err: &mut E, text: &[u8], lines: bool) {
-    if let Ok(bytes) = shown(alloc, text, lines) {
+    if let Ok(bytes) = escape(alloc, text, lines) {
         let _ = err.write_all(bytes.as_slice());
         let _ = err.write_all(b"\n");
     }
 }
 
 /// Shows what is to be told before the work.
-fn show_notes<F: Look, E: Write>(files: &F, alloc: Global, asked: &Subcommand<'_>, err: &mut E) {
+fn show_notes<F: Inspect, E: Write>(files: &F, alloc: Global, asked: &Subcommand<'_>, err: &mut E) {
     if let Ok(lines) = notes(files, alloc, asked) {
         for line in lines.as_slice() {
             show(alloc, err, line.as_bytes(), false);
@@ -43,11 +43,11 @@ fn show_notes<F: Look, E: Write>(files: &F, alloc: Global, asked: &Subcommand<'_
 }
 
 /// The hint for an answer, without a line end; no text where there is none.
-fn hint_of<F: Store + Look>(
+fn hint_of<F: Store + Inspect>(
     files: &F,
     alloc: Global,
     asked: &Option<Subcommand<'_>>,
-    answered: &Result<Said, Failure>,
+    answered: &Result<CommandOutput, Failure>,
 ) -> Result<String, AllocError> {
     match (answered, asked) {
         (Ok(said), Some(asked)) => verdict_hint(files, alloc, asked, said.text.as_str()),
@@ -58,7 +58,7 @@ fn hint_of<F: Store + Look>(
 }
 
 /// Whether the text of an answer may hold a word of the command line, and whether it has lines of its own then.
-fn tells_words(answered: &Result<Said, Failure>) -> Option<bool> {
+fn tells_words(answered: &Result<CommandOutput, Failure>) -> Option<bool> {
     match answered {
         Err(Failure::Line(_)) => Some(true),
         Err(Failure::Command(Fault::CannotRead(_) | Fault::CannotWrite(_) | Fault::SameFile(_))) =>
@@ -70,7 +70,7 @@ fn tells_words(answered: &Result<Said, Failure>) -> Option<bool> {
 /// Finishes as `finish` does, control bytes of words shown by their numbers.
 fn finish_shown<O: Write, E: Write>(
     alloc: Global,
-    answered: Result<Said, Failure>,
+    answered: Result<CommandOutput, Failure>,
     out: &mut O,
     err: &mut E,
 ) -> u8 {
@@ -86,11 +86,11 @@ fn finish_shown<O: Write, E: Write>(
 }
 
 /// Says an answer, and a hint behind it.
-fn tell<F: Store + Look, O: Write, E: Write>(
+fn tell<F: Store + Inspect, O: Write, E: Write>(
     files: &F,
     alloc: Global,
     asked: &Option<Subcommand<'_>>,
-    answered: Result<Said, Failure>,
+    answered: Result<CommandOutput, Failure>,
     out: &mut O,
     err: &mut E,
 ) -> u8 {
@@ -107,8 +107,8 @@ fn tell<F: Store + Look, O: Write, E: Write>(
 
 /// Answers the words, of which the first is the program's name, as for a program, with notes before the answer and a
 /// hint behind it, and a line of progress in between; gives the exit status.
-pub fn tell_person<
-    F: Store + Look,
+pub fn run_at_terminal<
+    F: Store + Inspect,
     D: Scratch,
     R: Threads + Wait + Sync,
     C: Clock,

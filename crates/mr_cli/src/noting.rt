@@ -1,36 +1,36 @@
 //! What is told of the directory of the result before the work: that it isn't there, that a result stands in it, that
 //! other parts lie beside those of this one; and of the directory of regions, that it isn't there.
 use mr_args::{Options, RunOptions, Subcommand};
-use mr_files::{Look, Standing, certificate_name, part_name, verdict_name};
+use mr_files::{Inspect, PathKind, certificate_name, part_name, verdict_name};
 use std::alloc::{AllocError, Global};
 
 /// A result has at most so many parts.
 const MOST_PARTS: usize = 1024;
 
-fn stands<L: Look>(look: &L, name: &str) -> bool {
-    match look.standing(name) {
-        Standing::Nothing => false,
+fn stands<L: Inspect>(look: &L, name: &str) -> bool {
+    match look.path_kind(name) {
+        PathKind::Nothing => false,
         _ => true,
     }
 }
 
 /// Where the directory isn't one.
-fn note_directory<L: Look>(
+fn note_directory<L: Inspect>(
     look: &L,
     alloc: Global,
     dir: &str,
     lines: &mut Vec<String>,
 ) -> Result<(), AllocError> {
-    let line = match look.standing(dir) {
-        Standing::Directory => return Ok(()),
-        Standing::Nothing => format!(in alloc; "note: there is no directory {dir}: make it first")?,
+    let line = match look.path_kind(dir) {
+        PathKind::Directory => return Ok(()),
+        PathKind::Nothing => format!(in alloc; "note: there is no directory {dir}: make it first")?,
         _ => format!(in alloc; "note: {dir} is no directory")?,
     };
     lines.push(line).map_err(AllocError::from)
 }
 
 /// Where a result stands there already, by its first part or by the file that is written last.
-fn note_result<L: Look>(
+fn note_result<L: Inspect>(
     look: &L,
     alloc: Global,
     dir: &str,
@@ -48,7 +48,7 @@ fn note_result<L: Look>(
 }
 
 /// The first part that lies there and isn't one of so many, if there is one.
-fn first_other<L: Look>(
+fn first_other<L: Inspect>(
     look: &L,
     alloc: Global,
     dir: &str,
@@ -64,7 +64,7 @@ fn first_other<L: Look>(
 }
 
 /// Where other parts lie there.
-fn note_others<L: Look>(
+fn note_others<L: Inspect>(
     look: &L,
     alloc: Global,
     dir: &str,
@@ -80,7 +80,7 @@ fn note_others<L: Look>(
     Ok(())
 }
 
-fn seq_notes<L: Look>(
+fn seq_notes<L: Inspect>(
     look: &L,
     alloc: Global,
     options: &Options<'_>,
@@ -92,7 +92,7 @@ fn seq_notes<L: Look>(
     note_others(look, alloc, options.out, options.parts as usize, lines)
 }
 
-fn run_notes<L: Look>(
+fn run_notes<L: Inspect>(
     look: &L,
     alloc: Global,
     asked: &RunOptions<'_>,
@@ -106,7 +106,7 @@ fn run_notes<L: Look>(
 }
 
 /// How many parts a merge writes its verdicts tell, so that other parts can't be told from these.
-fn merge_notes<L: Look>(
+fn merge_notes<L: Inspect>(
     look: &L,
     alloc: Global,
     dir: &str,
@@ -129,7 +129,7 @@ fn asks_for_parts(asked: &Subcommand<'_>) -> bool {
 }
 
 /// Lines on the directories of the result and of regions, without line ends; none where there is nothing to tell.
-pub fn notes<L: Look>(
+pub fn notes<L: Inspect>(
     look: &L,
     alloc: Global,
     asked: &Subcommand<'_>,

@@ -39,7 +39,7 @@ fn add_byte(out: &mut Vec<u8>, lines: bool, before: u8, byte: u8) -> Result<(), 
 }
 
 /// The text as a terminal is shown it, in one line or, where `lines`, in its own.
-pub fn shown(alloc: Global, text: &[u8], lines: bool) -> Result<Vec<u8>, AllocError>
+pub fn escape(alloc: Global, text: &[u8], lines: bool) -> Result<Vec<u8>, AllocError>
     ensures { IfOk result (λ v. v.items ≡ text_shown lines 0 text.now) }
 {
     let mut out = Vec::new(alloc);

@@ -16,7 +16,7 @@ use Rattle.mr_pool.specs.Outcomes.{run_shape}
 use Rattle.mr_pool.specs.declared.running.Certified.{Certified}
 use Rattle.mr_args.specs.declared.fault.Fault.{Fault}
 use Rattle.mr_args.specs.declared.asked.RunOptions.{RunOptions}
-use Rattle.mr_commands.specs.declared.running.Ran.{Ran}
+use Rattle.mr_commands.specs.declared.running.RunOutcome.{RunOutcome}
 use Rattle.mr_commands.specs.HistoryLines.{history_text}
 use Rattle.mr_args.specs.Asked.{request_asked}
 use Rattle.mr_commands.specs.Inputs.{IsInput, IsInputRefusal}
@@ -39,7 +39,7 @@ module _ (holds : Stored) (unreadable : Faulty) (alike : List ℕ → List ℕ �
   scratch_stage script files request e r a s i apart h =
       inr (inr (inr (inr (a, (script, s), (files, subst (λ (s : ℕ). IsInput holds (input_names o.options) s files) (ap (λ (v : RequestSpec). v.split) r) i), apart, h))))
 
-  pub runs : (script : List Directive) (files : List (List ℕ)) (request : RequestSpec) (ran : Ran)
+  pub runs : (script : List Directive) (files : List (List ℕ)) (request : RequestSpec) (ran : RunOutcome)
       → request ≡ request_asked o.options → IsScript holds (script_name o) script → IsInput holds (input_names o.options) request.split files → AreApart known (read_by_run o) (written_by_run o)
       → EndsOver (scratch_name o) request files script (run_shape request files o.workers o.attempts) o.version ran → Runs holds known o ran
   runs script files request ran r s i apart h = record {
@@ -76,30 +76,30 @@ alone : (old mid new : List ℕ → List ℕ → Type 0) (opt : Option (List ℕ
 alone old mid new opt p q n b d = both old mid new opt [] p q n b (first_alone opt n d)
 
 module _ (old mid new : Stored) (known : Known) (o : RunOptions) where
-  count_is : (c : Certified) → Runs old known o (Ran.Certified c) → length c.outputs.items ≡ o.options.parts
+  count_is : (c : Certified) → Runs old known o (RunOutcome.Certified c) → length c.outputs.items ≡ o.options.parts
   count_is c r = sym (length-map c.outputs.items (λ v. v.items)) ∙ r.ends.2.judged.count
 
-  pub written : (ran : Ran) → Runs old known o ran → ChangesAmong old mid (named (history_name o)) → ChangesAmong mid new (names_left o.options.out.now ran) → ChangesAmong old new (written_by_run o)
-  written (Ran.Certified c) r p q = both old mid new (history_name o) (result_names o.options.out.now o.options.parts) p (subst (λ (k : ℕ). ChangesAmong mid new (result_names o.options.out.now k)) (count_is c r) q)
-  written (Ran.Failed f h) r p q = both old mid new (history_name o) (result_names o.options.out.now o.options.parts) p (λ n b d. q n b tt)
-  written (Ran.Uncertified v h) r p q = both old mid new (history_name o) (result_names o.options.out.now o.options.parts) p (λ n b d. q n b tt)
+  pub written : (ran : RunOutcome) → Runs old known o ran → ChangesAmong old mid (named (history_name o)) → ChangesAmong mid new (names_left o.options.out.now ran) → ChangesAmong old new (written_by_run o)
+  written (RunOutcome.Certified c) r p q = both old mid new (history_name o) (result_names o.options.out.now o.options.parts) p (subst (λ (k : ℕ). ChangesAmong mid new (result_names o.options.out.now k)) (count_is c r) q)
+  written (RunOutcome.Failed f h) r p q = both old mid new (history_name o) (result_names o.options.out.now o.options.parts) p (λ n b d. q n b tt)
+  written (RunOutcome.Uncertified v h) r p q = both old mid new (history_name o) (result_names o.options.out.now o.options.parts) p (λ n b d. q n b tt)
 
-  pub result_kept : (ran : Ran) → Runs old known o ran → ChangesAmong old mid (named (history_name o)) → ChangesAmong mid new (names_left o.options.out.now ran) → IsResultKept new o.options.out.now ran → KeepsResult old new o ran
-  result_kept (Ran.Certified c) r p q k = (subst (λ (n : ℕ). Holding new (part_names o.options.out.now n) (contents c.outputs.items)) (count_is c r) k.0, k.1)
-  result_kept (Ran.Failed f h) r p q k = alone old mid new (history_name o) p q
-  result_kept (Ran.Uncertified v h) r p q k = alone old mid new (history_name o) p q
+  pub result_kept : (ran : RunOutcome) → Runs old known o ran → ChangesAmong old mid (named (history_name o)) → ChangesAmong mid new (names_left o.options.out.now ran) → IsResultKept new o.options.out.now ran → KeepsResult old new o ran
+  result_kept (RunOutcome.Certified c) r p q k = (subst (λ (n : ℕ). Holding new (part_names o.options.out.now n) (contents c.outputs.items)) (count_is c r) k.0, k.1)
+  result_kept (RunOutcome.Failed f h) r p q k = alone old mid new (history_name o) p q
+  result_kept (RunOutcome.Uncertified v h) r p q k = alone old mid new (history_name o) p q
 
-  left_alone : (ran : Ran) (n : List ℕ) → Runs old known o ran → Differs n (result_names o.options.out.now o.options.parts) → Differs n (names_left o.options.out.now ran)
-  left_alone (Ran.Certified c) n r d = subst (λ (k : ℕ). Differs n (result_names o.options.out.now k)) (sym (count_is c r)) d
-  left_alone (Ran.Failed f h) n r d = tt
-  left_alone (Ran.Uncertified v h) n r d = tt
+  left_alone : (ran : RunOutcome) (n : List ℕ) → Runs old known o ran → Differs n (result_names o.options.out.now o.options.parts) → Differs n (names_left o.options.out.now ran)
+  left_alone (RunOutcome.Certified c) n r d = subst (λ (k : ℕ). Differs n (result_names o.options.out.now k)) (sym (count_is c r)) d
+  left_alone (RunOutcome.Failed f h) n r d = tt
+  left_alone (RunOutcome.Uncertified v h) n r d = tt
 
-  stands : (opt : Option (List ℕ)) (ran : Ran) → Runs old known o ran → ChangesAmong mid new (names_left o.options.out.now ran) → IsHistoryKept mid opt (history_of ran)
+  stands : (opt : Option (List ℕ)) (ran : RunOutcome) → Runs old known o ran → ChangesAmong mid new (names_left o.options.out.now ran) → IsHistoryKept mid opt (history_of ran)
       → IfSome opt (λ name. Differs name (result_names o.options.out.now o.options.parts) → new name (history_text (history_of ran)))
   stands None ran r q k = tt
   stands (Some name) ran r q k = λ d. (q name (history_text (history_of ran)) (left_alone ran name r d)).0 k
 
-  pub history_kept : (ran : Ran) → Runs old known o ran → ChangesAmong mid new (names_left o.options.out.now ran) → IsHistoryKept mid (history_name o) (history_of ran) → KeepsHistory new o ran
+  pub history_kept : (ran : RunOutcome) → Runs old known o ran → ChangesAmong mid new (names_left o.options.out.now ran) → IsHistoryKept mid (history_name o) (history_of ran) → KeepsHistory new o ran
   history_kept ran r q k = stands (history_name o) ran r q k
 
   -- what stands under a name that isn't the history's came before it
@@ -114,7 +114,7 @@ module _ (old mid new : Stored) (known : Known) (o : RunOptions) where
   still_stands None h names k q = tt
   still_stands (Some own) h names k q = λ d. (q own (history_text h) d).0 k
 
-  stopped_at : (was is : List ℕ → Type 0) (c : Certified) (name : List ℕ) → ((n : List ℕ) → is n → was n) → Runs old known o (Ran.Certified c) → ChangesAmong old mid (named (history_name o)) → IsHistoryKept mid (history_name o) c.history
+  stopped_at : (was is : List ℕ → Type 0) (c : Certified) (name : List ℕ) → ((n : List ℕ) → is n → was n) → Runs old known o (RunOutcome.Certified c) → ChangesAmong old mid (named (history_name o)) → IsHistoryKept mid (history_name o) c.history
       → IsUnwrittenAt mid new is (result_names o.options.out.now o.options.parts) (contents c.outputs.items ++ c.certificate.items ∷ []) name → IsStoppedAt old new was o c name
   stopped_at was is c name still r p k u = record {
     before = u.before;
@@ -131,20 +131,20 @@ module _ (old mid new : Stored) (known : Known) (o : RunOptions) where
     others = both old mid new (history_name o) (u.before ++ name ∷ []) p u.others;
   }
 
-  stopped_as : (was is : List ℕ → Type 0) (c : Certified) (e : FileFault) (f : Fault) → ((n : List ℕ) → is n → was n) → Runs old known o (Ran.Certified c) → ChangesAmong old mid (named (history_name o)) → IsHistoryKept mid (history_name o) c.history
+  stopped_as : (was is : List ℕ → Type 0) (c : Certified) (e : FileFault) (f : Fault) → ((n : List ℕ) → is n → was n) → Runs old known o (RunOutcome.Certified c) → ChangesAmong old mid (named (history_name o)) → IsHistoryKept mid (history_name o) c.history
       → IsWriteRefusal mid new is (result_names o.options.out.now o.options.parts) (contents c.outputs.items ++ c.certificate.items ∷ []) e → TellsFile e f → IsResultStopped old new was o c f
   stopped_as was is c (file.CannotRead told) f still r p k h t = absurd h
   stopped_as was is c (file.CannotWrite told) f still r p k h t = rw t (stopped_at was is c (string_bytes told) still r p k h)
   stopped_as was is c file.OutOfMemory f still r p k h t = rw t tt
 
-  pub unkept_result : (was is : List ℕ → Type 0) (ran : Ran) (e : FileFault) (f : Fault) → ((n : List ℕ) → is n → was n) → Runs old known o ran
+  pub unkept_result : (was is : List ℕ → Type 0) (ran : RunOutcome) (e : FileFault) (f : Fault) → ((n : List ℕ) → is n → was n) → Runs old known o ran
       → ChangesAmong old mid (named (history_name o)) → IsHistoryKept mid (history_name o) (history_of ran)
       → IsResultRefused mid new is o.options.out.now ran e → TellsFile e f → IsUnkept old new was o ran f
-  unkept_result was is (Ran.Certified c) e f still r p k h t = inr (stopped_as was is c e f still r p k (subst (λ (n : ℕ). IsWriteRefusal mid new is (result_names o.options.out.now n) (contents c.outputs.items ++ c.certificate.items ∷ []) e) (count_is c r) h) t)
-  unkept_result was is (Ran.Failed x y) e f still r p k h t = absurd h
-  unkept_result was is (Ran.Uncertified v y) e f still r p k h t = absurd h
+  unkept_result was is (RunOutcome.Certified c) e f still r p k h t = inr (stopped_as was is c e f still r p k (subst (λ (n : ℕ). IsWriteRefusal mid new is (result_names o.options.out.now n) (contents c.outputs.items ++ c.certificate.items ∷ []) e) (count_is c r) h) t)
+  unkept_result was is (RunOutcome.Failed x y) e f still r p k h t = absurd h
+  unkept_result was is (RunOutcome.Uncertified v y) e f still r p k h t = absurd h
 
-  pub unkept_history : (was : List ℕ → Type 0) (ran : Ran) (e : FileFault) (f : Fault) → BeginsHistory old new o ran → IsOneUnwritten was (named (history_name o)) e → TellsFile e f → IsUnkept old new was o ran f
-  unkept_history was (Ran.Certified c) e f p h t = inl (p, (e, t, h))
-  unkept_history was (Ran.Failed x y) e f p h t = (p, (e, t, h))
-  unkept_history was (Ran.Uncertified v y) e f p h t = (p, (e, t, h))
+  pub unkept_history : (was : List ℕ → Type 0) (ran : RunOutcome) (e : FileFault) (f : Fault) → BeginsHistory old new o ran → IsOneUnwritten was (named (history_name o)) e → TellsFile e f → IsUnkept old new was o ran f
+  unkept_history was (RunOutcome.Certified c) e f p h t = inl (p, (e, t, h))
+  unkept_history was (RunOutcome.Failed x y) e f p h t = (p, (e, t, h))
+  unkept_history was (RunOutcome.Uncertified v y) e f p h t = (p, (e, t, h))

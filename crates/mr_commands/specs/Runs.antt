@@ -21,8 +21,8 @@ use Rattle.mr_files.specs.Names.{part_names, name_of_certificate, result_names}
 use Rattle.mr_args.specs.declared.fault.Fault.{Fault}
 use Rattle.mr_args.specs.declared.fault.Fault.TheVariants.{BadWorkers, BadAttempts, Script, ScratchInUse, SameFile, CannotRead, CannotWrite, OutOfMemory}
 use Rattle.mr_args.specs.declared.asked.RunOptions.{RunOptions}
-use Rattle.mr_commands.specs.declared.running.Ran.{Ran}
-use Rattle.mr_commands.specs.declared.running.Ran.TheVariants.{Certified, Failed, Uncertified}
+use Rattle.mr_commands.specs.declared.running.RunOutcome.{RunOutcome}
+use Rattle.mr_commands.specs.declared.running.RunOutcome.TheVariants.{Certified, Failed, Uncertified}
 use Rattle.mr_args.specs.Asked.{IsRequestRefusal, request_asked}
 use Rattle.mr_commands.specs.Inputs.{IsAsked, IsInput, IsInputRefusal}
 use Rattle.mr_commands.specs.Named.{input_names, named}
@@ -43,7 +43,7 @@ abbrev pub uncertified_line : No → List ℕ
 uncertified_line verdict = codes "uncertified: " ++ (fault_text verdict ++ codes "\n")
 
 -- 0 says that the result is certified, 1 that the job failed or that the result is refused
-abbrev pub TellsRan : Ran → List ℕ → ℕ → Type 0
+abbrev pub TellsRan : RunOutcome → List ℕ → ℕ → Type 0
 TellsRan (Certified c) text status = (status ≡ 0) × (text ≡ certified_line (vec_len c.outputs) c.pairs (vec_len c.skips))
 TellsRan (Failed f h) text status = (status ≡ 1) × (text ≡ failed_line f)
 TellsRan (Uncertified verdict h) text status = (status ≡ 1) × (text ≡ uncertified_line verdict)
@@ -73,19 +73,19 @@ abbrev pub written_by_run : RunOptions → List (List ℕ)
 written_by_run o = named (history_name o) ++ result_names o.options.out.now o.options.parts
 
 -- what the pool answers over a store that is steady or not, where it was asked for a certificate in this version
-abbrev pub IsEnding : RequestSpec → List (List ℕ) → List Directive → Bool → Shape → Version → Ran → Type 0
+abbrev pub IsEnding : RequestSpec → List (List ℕ) → List Directive → Bool → Shape → Version → RunOutcome → Type 0
 IsEnding request files script steady shape version (Certified c) = IsCertifiedRun request files shape version c
 IsEnding request files script steady shape version (Failed f h) = IsRunFault request files script steady shape (fault.Failed f h)
 IsEnding request files script steady shape version (Uncertified verdict h) = IsRunFault request files script steady shape (fault.Uncertified verdict h)
 
 -- the same over some store of regions: without a directory for them, over one in memory, which is steady
-abbrev pub EndsOver : Option (List ℕ) → RequestSpec → List (List ℕ) → List Directive → Shape → Version → Ran → Type 0
+abbrev pub EndsOver : Option (List ℕ) → RequestSpec → List (List ℕ) → List Directive → Shape → Version → RunOutcome → Type 0
 EndsOver dir request files script shape version ran = (steady : Bool) × (dir ≡ None → steady ≡ true) × IsEnding request files script steady shape version ran
 
 -- the request that is asked for, over what stands under the names of the input, ended so by the script that is named; where
 -- it is certified, by a certificate in the version that is asked for. No file that a run writes is one that it reads, and no
 -- two are one
-pub record Runs (holds : Stored) (known : Known) (o : RunOptions) (ran : Ran) : Type 0 where
+pub record Runs (holds : Stored) (known : Known) (o : RunOptions) (ran : RunOutcome) : Type 0 where
   pub files : List (List ℕ)
   pub script : List Directive
   pub input : IsInput holds (input_names o.options) o.options.split files
@@ -95,18 +95,18 @@ pub record Runs (holds : Stored) (known : Known) (o : RunOptions) (ran : Ran) : 
 
 -- ---- what stands behind a run
 
-abbrev pub history_of : Ran → History
+abbrev pub history_of : RunOutcome → History
 history_of (Certified c) = c.history
 history_of (Failed f h) = h
 history_of (Uncertified verdict h) = h
 
 -- the result stands, where it is certified; else nothing but the history has changed
-abbrev pub KeepsResult : Stored → Stored → RunOptions → Ran → Type 0
+abbrev pub KeepsResult : Stored → Stored → RunOptions → RunOutcome → Type 0
 KeepsResult old new o (Certified c) = Holding new (part_names o.options.out.now o.options.parts) (contents c.outputs.items) × new (name_of_certificate o.options.out.now) c.certificate.items
 KeepsResult old new o ran = ChangesAmong old new (named (history_name o))
 
 -- the history stands under its name, unless a file of the result has that name (a pipe, a socket or a device may)
-abbrev pub KeepsHistory : Stored → RunOptions → Ran → Type 0
+abbrev pub KeepsHistory : Stored → RunOptions → RunOutcome → Type 0
 KeepsHistory new o ran = IfSome (history_name o) (λ name. Differs name (result_names o.options.out.now o.options.parts) → new name (history_text (history_of ran)))
 
 -- ---- what each stage leaves
@@ -116,23 +116,23 @@ IsHistoryKept new None h = ⊤
 IsHistoryKept new (Some name) h = new name (history_text h)
 
 -- the names that the result is written under, where it is certified
-abbrev pub names_left : List ℕ → Ran → List (List ℕ)
+abbrev pub names_left : List ℕ → RunOutcome → List (List ℕ)
 names_left out (Certified c) = result_names out (length c.outputs.items)
 names_left out ran = []
 
-abbrev pub IsResultKept : Stored → List ℕ → Ran → Type 0
+abbrev pub IsResultKept : Stored → List ℕ → RunOutcome → Type 0
 IsResultKept new out (Certified c) = Holding new (part_names out (length c.outputs.items)) (contents c.outputs.items) × new (name_of_certificate out) c.certificate.items
 IsResultKept new out ran = ⊤
 
 -- why a result was not all written; without one nothing is refused
-abbrev pub IsResultRefused : Stored → Stored → Faulty → List ℕ → Ran → FileFault → Type 0
+abbrev pub IsResultRefused : Stored → Stored → Faulty → List ℕ → RunOutcome → FileFault → Type 0
 IsResultRefused old new unwritable out (Certified c) fault =
     IsWriteRefusal old new unwritable (result_names out (length c.outputs.items)) (contents c.outputs.items ++ c.certificate.items ∷ []) fault
 IsResultRefused old new unwritable out ran fault = ⊥
 
 -- what `run` did where it tells of a run
 pub record AnswersRun (old new : Stored) (known : Known) (o : RunOptions) (text : List ℕ) (status : ℕ) : Type 0 where
-  pub ran : Ran
+  pub ran : RunOutcome
   pub runs : Runs old known o ran
   pub told : TellsRan ran text status
   pub result : KeepsResult old new o ran
@@ -233,11 +233,11 @@ IsResultStopped old new unwritable o c OutOfMemory = ⊤
 IsResultStopped old new unwritable o c fault = ⊥
 
 -- under the name of the history stands what stood there or a beginning of it, and nothing else has changed
-abbrev pub BeginsHistory : Stored → Stored → RunOptions → Ran → Type 0
+abbrev pub BeginsHistory : Stored → Stored → RunOptions → RunOutcome → Type 0
 BeginsHistory old new o ran = ChangesAmong old new (named (history_name o)) × IfSome (history_name o) (λ name. Begins old new name (history_text (history_of ran)))
 
 -- the history could not be written, and nothing else was; or a file of a certified result could not
-abbrev pub IsUnkept : Stored → Stored → Faulty → RunOptions → Ran → Fault → Type 0
+abbrev pub IsUnkept : Stored → Stored → Faulty → RunOptions → RunOutcome → Fault → Type 0
 IsUnkept old new unwritable o (Certified c) fault = (BeginsHistory old new o (Certified c) × TellsUnwritten unwritable (named (history_name o)) fault)
     ⊎ IsResultStopped old new unwritable o c fault
 IsUnkept old new unwritable o ran fault = BeginsHistory old new o ran × TellsUnwritten unwritable (named (history_name o)) fault
@@ -245,4 +245,4 @@ IsUnkept old new unwritable o ran fault = BeginsHistory old new o ran × TellsUn
 -- why nothing is told: there is no run, and nothing was written; or not all that it leaves could be written
 abbrev pub IsRunUnanswered : Stored → Stored → Faulty → Faulty → (List ℕ → List ℕ → Type 0) → Known → RunOptions → Fault → Type 0
 IsRunUnanswered old new unreadable unwritable alike known o fault = (ChangesAmong old new [] × IsStartRefusal old unreadable alike known o fault)
-    ⊎ ((ran : Ran) × Runs old known o ran × IsUnkept old new unwritable o ran fault)
+    ⊎ ((ran : RunOutcome) × Runs old known o ran × IsUnkept old new unwritable o ran fault)

@@ -20,7 +20,7 @@ use crate::input::input_of;
 use crate::judging::check;
 use crate::merging::merge;
 use crate::running::run as run_by_workers;
-use crate::said::Said;
+use crate::said::CommandOutput;
 use mr_args::{Fault, Options, SeqOptions, Subcommand, request_of, skips_of};
 use mr_bytes::{Progress, RecordName};
 use mr_certform::{Certificate, Version, VersionedCertificate, text_law};
@@ -123,7 +123,7 @@ pub fn seq<S: Store>(
     alloc: Global,
     asked: &SeqOptions<'_>,
     watch: &dyn Progress,
-) -> Result<Said, Fault>
+) -> Result<CommandOutput, Fault>
     ensures status { IfOk result (λ said. said.status ≡ 0) }
     ensures done { IfOk result (λ said. AnswersSeq (S.holds store.old) (S.holds store.new) (S.known_as store.old) asked.now (string_bytes said.text)) }
     ensures others { ChangesAmong (S.holds store.old) (S.holds store.new) (result_names asked.now.options.out.now asked.now.options.parts) }
@@ -140,21 +140,21 @@ pub fn seq<S: Store>(
         work.outputs.as_slice(),
         &spelled,
     )?;
-    Ok(Said {
+    Ok(CommandOutput {
         text: work.line,
         status: 0,
     })
 }
 
 /// Does what is asked for, and nothing else. The watch is told how far long work has come.
-pub fn done<S: Store, C: Scratch, R: Threads + Wait + Sync>(
+pub fn execute<S: Store, C: Scratch, R: Threads + Wait + Sync>(
     rt: &R,
     scratch: &C,
     store: &mut S,
     alloc: Global,
     asked: &Subcommand<'_>,
     watch: &dyn Progress,
-) -> Result<Said, Fault>
+) -> Result<CommandOutput, Fault>
     ensures answers { IfOk result (λ said. Answers (S.holds store.old) (S.holds store.new) (S.known_as store.old) asked.now (string_bytes said.text) said.status) }
     ensures others { ChangesOwn (S.holds store.old) (S.holds store.new) asked.now }
     ensures refused { IfErr result (λ e. IsRefusal (S.holds store.old) (S.holds store.new) (S.unreadable store.old) (S.unwritable store.old)

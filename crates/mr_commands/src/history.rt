@@ -2,7 +2,7 @@
 ghost use Rattle.std.specs.Prelude.{◌≡◌, ◌++◌, IfOk, OnOk, string_bytes};
 ghost use Rattle.mr_commands.specs.HistoryLines.{end_text, entry_line, event_text, fault_name, history_text, map_text, reply_text, shape_line, without_text};
 
-use mr_book::{Entry, History};
+use mr_book::{History, HistoryEntry};
 use mr_core::{End, Event, JobFault, Reply, Shape, Skips};
 use std::alloc::{AllocError, Global};
 
@@ -101,7 +101,7 @@ fn add_reply(text: &mut String, reply: &Reply) -> Result<(), AllocError>
 }
 
 /// Adds the line of an event with its reply.
-fn add_entry(text: &mut String, entry: &Entry) -> Result<(), AllocError>
+fn add_entry(text: &mut String, entry: &HistoryEntry) -> Result<(), AllocError>
     ensures { OnOk result (string_bytes text.new ≡ string_bytes text.old ++ entry_line entry.now) }
 {
     add_event(text, entry.event())?;

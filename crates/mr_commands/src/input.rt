@@ -5,7 +5,7 @@ ghost use Rattle.mr_commands.specs.Inputs.{AreRead, IsClash, IsInput, IsInputRef
 ghost use Rattle.mr_commands.specs.Named.{named};
 
 use mr_args::Fault;
-use mr_files::{Store, WithinFault, add_names, first_shared, read_files_within};
+use mr_files::{LimitFault, Store, add_names, first_shared, read_files_within};
 use mr_input::{Input, InputFault, MAX_BYTES};
 use mr_jobs::Request;
 use std::alloc::{AllocError, Global};
@@ -18,8 +18,8 @@ fn input_read<S: Store>(store: &S, alloc: Global, names: &[&str]) -> Result<Inpu
 {
     let files = match read_files_within(store, alloc, names, MAX_BYTES as u64) {
         Ok(files) => files,
-        Err(WithinFault::TooLong) => return Err(Fault::Input(InputFault::TooLarge)),
-        Err(WithinFault::File(fault)) => return Err(Fault::from(fault)),
+        Err(LimitFault::TooLong) => return Err(Fault::Input(InputFault::TooLarge)),
+        Err(LimitFault::File(fault)) => return Err(Fault::from(fault)),
     };
     match Input::of(files) {
         Ok(input) => Ok(input),

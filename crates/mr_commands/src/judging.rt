@@ -21,12 +21,12 @@ ghost use Rattle.mr_commands.specs.Verdicts.{names_kept, verdict_about};
 
 use crate::input::{input_of, name_given};
 use crate::no_lines::no_line;
-use crate::said::{Said, yes_text};
+use crate::said::{CommandOutput, yes_text};
 use crate::streaming::{judged_as_read, refused_as_read};
 use mr_args::{CheckOptions, Fault, Options, request_of};
 use mr_bytes::{OpenGate, Progress};
 use mr_check::{No, Yes, check_gated_watched, check_watched};
-use mr_files::{FileFault, Store, WithinFault, names_of_result, read_result_within, write_named};
+use mr_files::{FileFault, LimitFault, Store, names_of_result, read_result_within, write_file};
 use mr_input::Input;
 use mr_jobs::Request;
 use mr_shard_files::part_notes;
@@ -44,7 +44,7 @@ const _: () = prove!(MAX_THREADS == 64);
 /// What is said of a result, and the text of the verdict where it is to be kept.
 #[derive(Drop)]
 pub(crate) struct Judged {
-    pub said: Said,
+    pub said: CommandOutput,
     pub verdict: Option<Vec<u8>>,
 }
 
@@ -177,7 +177,7 @@ fn yes_judged(
         (input_names asked.now.options) input.now (contents outputs.now) yes.now.skips.items yes.now.pairs)) (verdict_file asked.now)) }
 {
     let text = yes_text(alloc, yes)?;
-    let said = Said { text, status: 0 };
+    let said = CommandOutput { text, status: 0 };
     let Some(_) = asked.verdict else {
         return Ok(Judged {
             said,
@@ -205,7 +205,7 @@ pub(crate) fn no_judged(alloc: Global, no: &No) -> Result<Judged, Fault>
         _ => {
             let text = no_line(alloc, no)?;
             Ok(Judged {
-                said: Said { text, status: 1 },
+                said: CommandOutput { text, status: 1 },
                 verdict: None,
             })
         }
@@ -272,8 +272,8 @@ fn result_within<S: Store>(
     let parts = options.parts as usize;
     match read_result_within(store, alloc, options.out, parts, most) {
         Ok(held) => Ok(Some(held)),
-        Err(WithinFault::TooLong) => Ok(None),
-        Err(WithinFault::File(fault)) => Err(Fault::from(fault)),
+        Err(LimitFault::TooLong) => Ok(None),
+        Err(LimitFault::File(fault)) => Err(Fault::from(fault)),
     }
 }
 
@@ -452,7 +452,7 @@ fn keep<S: Store>(
     let Some(text) = text else {
         return Ok(());
     };
-    write_named(store, alloc, name, text.as_slice())
+    write_file(store, alloc, name, text.as_slice())
 }
 
 /// Judges a result, as `seq` tests its request and its input and with the number of threads tested between them, and then
@@ -464,7 +464,7 @@ pub fn check<S: Store, R: Threads + Sync>(
     alloc: Global,
     asked: &CheckOptions<'_>,
     watch: &dyn Progress,
-) -> Result<Said, Fault>
+) -> Result<CommandOutput, Fault>
     ensures answer { IfOk result (λ said. KeepsVerdict (S.holds store.old) (S.holds store.new) (S.known_as store.old) asked.now (string_bytes said.text) said.status) }
     ensures others { ChangesAmong (S.holds store.old) (S.holds store.new) (written_by_check asked.now) }
     ensures refused { IfErr result (λ e. IsCheckUnanswered (S.holds store.old) (S.holds store.new) (S.unreadable store.old) (S.unwritable store.old)

@@ -13,10 +13,10 @@ mod running;
 mod said;
 mod streaming;
 
-pub use crate::commands::{done, seq};
+pub use crate::commands::{execute, seq};
 pub use crate::history::history_text;
 pub use crate::judging::check;
 pub use crate::merging::merge;
 pub use crate::no_lines::no_line;
-pub use crate::running::{Ran, run};
-pub use crate::said::Said;
+pub use crate::running::{RunOutcome, run};
+pub use crate::said::CommandOutput;

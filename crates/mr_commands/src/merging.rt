@@ -3,7 +3,7 @@ ghost use Rattle.std.specs.Prelude.{◌≡◌, ◌+◌, ◌≤◌, ◌++◌, [],
 ghost use Rattle.mr_shard_files.specs.Merging.{ChangesResult};
 ghost use Rattle.mr_commands.specs.Merges.{AnswersMerge, IsMergeUnanswered, merged_line as line_of_merged};
 
-use crate::said::Said;
+use crate::said::CommandOutput;
 use itoa::Buffer;
 use mr_args::{Fault, MergeOptions};
 use mr_files::Store;
@@ -53,7 +53,7 @@ pub fn merge<S: Store, T: Threads>(
     store: &mut S,
     alloc: Global,
     asked: &MergeOptions<'_>,
-) -> Result<Said, Fault>
+) -> Result<CommandOutput, Fault>
     ensures status { IfOk result (λ said. said.status ≡ 0) }
     ensures done { IfOk result (λ said. AnswersMerge (S.holds store.old) (S.holds store.new) (S.known_as store.old) asked.now (string_bytes said.text)) }
     ensures others { ChangesResult (S.holds store.old) (S.holds store.new) asked.now.out.now }
@@ -75,5 +75,5 @@ pub fn merge<S: Store, T: Threads>(
         joined.pairs,
         joined.left_out.len(),
     );
-    Ok(Said { text, status: 0 })
+    Ok(CommandOutput { text, status: 0 })
 }

@@ -17,7 +17,7 @@ use crate::answer_lines::{certified_line, failed_line};
 use crate::history::history_text;
 use crate::input::{input_of, name_given};
 use crate::no_lines::fault_text;
-use crate::said::Said;
+use crate::said::CommandOutput;
 use mr_args::{Fault, RunOptions, request_of};
 use mr_book::History;
 use mr_bytes::{OpenGate, Progress};
@@ -25,7 +25,7 @@ use mr_certform::Version;
 use mr_check::No;
 use mr_core::JobFault;
 use mr_files::{
-    FileFault, Store, add_names, folder_of, names_of_result, read_file, write_files, write_named,
+    FileFault, Store, add_names, folder_of, names_of_result, read_file, write_file, write_files,
 };
 use mr_input::Input;
 use mr_jobs::Request;
@@ -48,7 +48,7 @@ const _: () = prove!(MAX_WORKERS == 64 && MAX_ATTEMPTS == 16);
 
 /// How a run ended.
 #[derive(Drop)]
-pub enum Ran {
+pub enum RunOutcome {
     Certified(Certified),
     /// The job failed, and the script accounts for that.
     Failed(JobFault, History),
@@ -105,7 +105,7 @@ fn ended_over<S: RegionStore + Drop, R: Threads + Wait + Sync>(
     store: S,
     version: Version,
     watch: &dyn Progress,
-) -> Result<Ran, Fault>
+) -> Result<RunOutcome, Fault>
     requires fits { split_total request.now.split input.now ≤ 2 ^ 20 }
     requires workers { (1 ≤ workers) × (workers ≤ 64) }
     requires attempts { (1 ≤ attempts) × (attempts ≤ 16) }
@@ -115,9 +115,9 @@ fn ended_over<S: RegionStore + Drop, R: Threads + Wait + Sync>(
     match pooled(
         rt, alloc, request, input, script, workers, attempts, &OpenGate, store, version, watch,
     ) {
-        Ok(certified) => Ok(Ran::Certified(certified)),
-        Err(RunFault::Failed(fault, history)) => Ok(Ran::Failed(fault, history)),
-        Err(RunFault::Uncertified(no, history)) => Ok(Ran::Uncertified(no, history)),
+        Ok(certified) => Ok(RunOutcome::Certified(certified)),
+        Err(RunFault::Failed(fault, history)) => Ok(RunOutcome::Failed(fault, history)),
+        Err(RunFault::Uncertified(no, history)) => Ok(RunOutcome::Uncertified(no, history)),
         Err(RunFault::OutOfMemory) => Err(Fault::OutOfMemory),
     }
 }
@@ -223,7 +223,7 @@ fn ended<C: Scratch, R: Threads + Wait + Sync>(
     attempts: u32,
     version: Version,
     watch: &dyn Progress,
-) -> Result<Ran, Fault>
+) -> Result<RunOutcome, Fault>
     requires fits { split_total request.now.split input.now ≤ 2 ^ 20 }
     requires workers { (1 ≤ workers) × (workers ≤ 64) }
     requires attempts { (1 ≤ attempts) × (attempts ≤ 16) }
@@ -259,7 +259,7 @@ fn executed<S: Store, C: Scratch, R: Threads + Wait + Sync>(
     alloc: Global,
     asked: &RunOptions<'_>,
     watch: &dyn Progress,
-) -> Result<Ran, Fault>
+) -> Result<RunOutcome, Fault>
     ensures runs { IfOk result (λ ran. Runs (S.holds store.now) (S.known_as store.now) asked.now ran) }
     ensures refused { IfErr result (λ e. IsStartRefusal (S.holds store.now) (S.unreadable store.now) (S.alike store.now) (S.known_as store.now) asked.now e) }
 {
@@ -284,34 +284,34 @@ fn executed<S: Store, C: Scratch, R: Threads + Wait + Sync>(
 }
 
 /// What is said of a run.
-fn said_of(alloc: Global, ran: &Ran) -> Result<Said, AllocError>
+fn said_of(alloc: Global, ran: &RunOutcome) -> Result<CommandOutput, AllocError>
     ensures { IfOk result (λ said. TellsRan ran.now (string_bytes said.text) said.status) }
 {
     match ran {
-        Ran::Certified(done) => {
+        RunOutcome::Certified(done) => {
             let text = certified_line(alloc, done.outputs.len(), done.pairs, done.skips.len())?;
-            Ok(Said { text, status: 0 })
+            Ok(CommandOutput { text, status: 0 })
         }
-        Ran::Failed(fault, _) => {
+        RunOutcome::Failed(fault, _) => {
             let text = failed_line(alloc, *fault)?;
-            Ok(Said { text, status: 1 })
+            Ok(CommandOutput { text, status: 1 })
         }
-        Ran::Uncertified(no, _) => {
+        RunOutcome::Uncertified(no, _) => {
             let fault = fault_text(alloc, no)?;
             let text = format!(in alloc; "uncertified: {fault}\n")?;
-            Ok(Said { text, status: 1 })
+            Ok(CommandOutput { text, status: 1 })
         }
     }
 }
 
 /// The history of a run.
-fn history_of(ran: &Ran) -> &History
+fn history_of(ran: &RunOutcome) -> &History
     ensures { result.now ≡ history_in ran.entry.now }
 {
     match ran {
-        Ran::Certified(done) => &done.history,
-        Ran::Failed(_, history) => history,
-        Ran::Uncertified(_, history) => history,
+        RunOutcome::Certified(done) => &done.history,
+        RunOutcome::Failed(_, history) => history,
+        RunOutcome::Uncertified(_, history) => history,
     }
 }
 
@@ -332,7 +332,7 @@ fn keep_history<S: Store>(
         return Ok(());
     };
     let text = history_text(alloc, history)?;
-    write_named(store, alloc, name, text.as_bytes())?;
+    write_file(store, alloc, name, text.as_bytes())?;
     Ok(())
 }
 
@@ -348,13 +348,13 @@ fn keep_result<S: Store, R: Threads>(
     store: &mut S,
     alloc: Global,
     out: &str,
-    ran: Ran,
+    ran: RunOutcome,
 ) -> Result<(), FileFault>
     ensures kept { OnOk result (IsResultKept (S.holds store.new) out.now ran) }
     ensures others { ChangesAmong (S.holds store.old) (S.holds store.new) (names_left out.now ran) }
     ensures refused { IfErr result (λ e. IsResultRefused (S.holds store.old) (S.holds store.new) (S.unwritable store.old) out.now ran e) }
 {
-    let Ran::Certified(done) = ran else {
+    let RunOutcome::Certified(done) = ran else {
         return Ok(());
     };
     let Certified {
@@ -386,7 +386,7 @@ pub fn run<S: Store, C: Scratch, R: Threads + Wait + Sync>(
     alloc: Global,
     asked: &RunOptions<'_>,
     watch: &dyn Progress,
-) -> Result<Said, Fault>
+) -> Result<CommandOutput, Fault>
     ensures done { IfOk result (λ said. AnswersRun (S.holds store.old) (S.holds store.new) (S.known_as store.old) asked.now (string_bytes said.text) said.status) }
     ensures others { ChangesAmong (S.holds store.old) (S.holds store.new) (written_by_run asked.now) }
     ensures refused { IfErr result (λ e. IsRunUnanswered (S.holds store.old) (S.holds store.new) (S.unreadable store.old)

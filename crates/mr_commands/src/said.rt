@@ -8,7 +8,7 @@ use std::alloc::{AllocError, Global};
 
 /// What the program says on standard output, and its exit status.
 #[derive(Drop)]
-pub struct Said {
+pub struct CommandOutput {
     pub text: String,
     pub status: u8,
 }

@@ -8,18 +8,18 @@ ghost use Rattle.mr_commands.specs.Named.{verdict_file};
 ghost use Rattle.mr_commands.specs.Verdicts.{JudgesResult};
 
 use crate::judging::{Judged, no_judged};
-use crate::said::{Said, yes_text};
+use crate::said::{CommandOutput, yes_text};
 use mr_args::{CheckOptions, Fault};
 use mr_bytes::Progress;
 use mr_check::{No, Source, Yes, check_from_watched};
-use mr_files::{Cause, FileFault, NamedReader, ResultReaders, Store, result_readers};
+use mr_files::{FileFault, NamedReader, ReadCause, ResultReaders, Store, result_readers};
 use mr_input::Input;
 use mr_jobs::Request;
 use mr_store::CountedRead;
 use std::alloc::Global;
 
 /// The fault of a result, or of the file of which a read failed.
-fn told<R: CountedRead + Drop, C: Cause>(
+fn told<R: CountedRead + Drop, C: ReadCause>(
     alloc: Global,
     parts: &[NamedReader<R, C>],
     certificate: &NamedReader<R, C>,
@@ -36,7 +36,7 @@ fn told<R: CountedRead + Drop, C: Cause>(
 }
 
 /// The answer on what the readers give, of which no read has failed yet; or the fault of a file of which one fails.
-fn answer_from<R: CountedRead + Drop, C: Cause>(
+fn answer_from<R: CountedRead + Drop, C: ReadCause>(
     alloc: Global,
     request: &Request,
     input: &Input,
@@ -58,7 +58,7 @@ fn answer_from<R: CountedRead + Drop, C: Cause>(
 }
 
 /// The answer on a result, whose files are read as they are judged: the certificate and one part at a time, in pieces.
-fn answer_of<S: Store, C: Cause>(
+fn answer_of<S: Store, C: ReadCause>(
     store: &S,
     alloc: Global,
     request: &Request,
@@ -87,7 +87,7 @@ fn judged_of(alloc: Global, answer: Result<Yes, No>) -> Result<Judged, Fault>
 {
     match answer {
         Ok(yes) => Ok(Judged {
-            said: Said {
+            said: CommandOutput {
                 text: yes_text(alloc, &yes)?,
                 status: 0,
             },
@@ -98,7 +98,7 @@ fn judged_of(alloc: Global, answer: Result<Yes, No>) -> Result<Judged, Fault>
 }
 
 /// Judges a result, of which no verdict is to be written, as it is read.
-pub(crate) fn judged_as_read<S: Store, C: Cause>(
+pub(crate) fn judged_as_read<S: Store, C: ReadCause>(
     store: &S,
     alloc: Global,
     request: &Request,
@@ -120,7 +120,7 @@ pub(crate) fn judged_as_read<S: Store, C: Cause>(
 }
 
 /// What is said of a no on a result that is judged as it is read; nothing on a yes.
-pub(crate) fn refused_as_read<S: Store, C: Cause>(
+pub(crate) fn refused_as_read<S: Store, C: ReadCause>(
     store: &S,
     alloc: Global,
     request: &Request,

@@ -6,7 +6,7 @@ ghost use Rattle.mr_core.specs.Master.{opening};
 ghost use Rattle.mr_core.specs.Index.{IsPlain};
 
 use crate::event::{Event, Limits, Reply, Shape};
-use crate::tables::Tables;
+use crate::tables::MasterState;
 use std::alloc::{AllocError, Global};
 use std::marker::Model;
 
@@ -16,7 +16,7 @@ mod looks;
 #[derive(Drop)]
 pub struct Core {
     shape: Shape,
-    tables: Tables,
+    tables: MasterState,
 }
 
 impl Model for Core {
@@ -128,7 +128,7 @@ impl Core {
         };
         Ok(Core {
             shape,
-            tables: Tables::new(alloc, shape)?,
+            tables: MasterState::new(alloc, shape)?,
         })
     }
 
@@ -195,7 +195,11 @@ impl Core {
     }
 
     /// One event, with the reply made twice: one to keep, and one to answer. Without memory the master stays as it was.
-    pub fn apply_twice(&mut self, alloc: Global, event: Event) -> Result<(Reply, Reply), AllocError>
+    pub fn apply_with_copy(
+        &mut self,
+        alloc: Global,
+        event: Event,
+    ) -> Result<(Reply, Reply), AllocError>
         ensures ok { IfOk result (λ r. IsStep self.old event r.0 self.new) }
         ensures run { IfOk result (λ r. GoesOn self.old event r.0 self.new) }
         ensures twice { IfOk result (λ r. r.0 ≡ r.1) }

@@ -29,7 +29,7 @@ mod reports;
 /// back to it. A job is stuck in no task before an event, so that the ends are tested for the one task that it touched.
 /// Only the loss of a worker goes over all tasks, once, and lets both cursors begin anew.
 #[derive(Drop)]
-pub(crate) struct Tables {
+pub(crate) struct MasterState {
     lost: Vec<bool>,
     splits: Splits,
     committed: Outputs,
@@ -40,7 +40,7 @@ pub(crate) struct Tables {
     next_part: u32,
 }
 
-impl Model for Tables {
+impl Model for MasterState {
     ghost use Rattle.mr_core.specs.Master.{State};
     ghost use Rattle.mr_core.specs.Index.{IsTabled};
 
@@ -51,7 +51,7 @@ impl Model for Tables {
     ghost invariant = { λ t. IsTabled (record { lost = t.lost.items; splits = t.splits; committed = t.committed; attempts = t.attempts.items; failures = t.failures.items; end = t.end }) t.attempts t.next_map t.next_part };
 }
 
-impl Tables {
+impl MasterState {
     pub(crate) fn end(&self) -> Option<End>
         ensures { result ≡ self.now.end }
     {
@@ -291,13 +291,13 @@ impl Tables {
     }
 
     /// The lists at the opening.
-    pub(crate) fn new(alloc: Global, shape: Shape) -> Result<Tables, AllocError>
+    pub(crate) fn new(alloc: Global, shape: Shape) -> Result<MasterState, AllocError>
         ensures { IfOk result (λ t. t ≡ opening shape) }
     {
         let lost = copies(alloc, false, shape.workers)?;
         let attempts = Attempts::new(alloc, shape.maps, shape.parts, shape.workers)?;
         let (splits, committed, failures) = open_tasks(alloc, shape)?;
-        Ok(Tables {
+        Ok(MasterState {
             lost,
             splits,
             committed,

@@ -9,8 +9,8 @@ use Rattle.mr_input.specs.Files.{contents, total_size}
 use Rattle.mr_files.specs.Holding.{Agrees, Faulty, Holding, Stored}
 use Rattle.mr_files.specs.Names.{name_of_certificate, name_of_part, part_names, result_names}
 use Rattle.mr_files.specs.Refusals.{AreBefore, IsOneUnreadWithin, IsReadRefusalWithin, IsUnreadWithin}
-use Rattle.mr_files.specs.declared.within.WithinFault.{WithinFault}
-use Rattle.mr_files.specs.declared.within.WithinFault.TheVariants.{File, TooLong}
+use Rattle.mr_files.specs.declared.within.LimitFault.{LimitFault}
+use Rattle.mr_files.specs.declared.within.LimitFault.TheVariants.{File, TooLong}
 use Rattle.mr_files.specs.declared.store.FileFault.TheVariants.{CannotRead, CannotWrite, OutOfMemory}
 use Rattle.mr_files.proofs.Lists.{contents_more, one_part, part_among}
 
@@ -31,7 +31,7 @@ pub sizes_pushed : (files after : List (Vec ℕ Global)) (v : Vec ℕ Global) �
 sizes_pushed files after v is = ap (λ fs. total_size (contents fs)) is ∙ (ap total_size (contents_more files v) ∙ sizes_more (contents files) v.items)
 
 -- a file that is refused behind those that were read, with what is left of the limit
-pub refused_within : (holds : Stored) (unreadable : Faulty) (names before after read : List (List ℕ)) (name : List ℕ) (limit left : ℕ) (e : WithinFault)
+pub refused_within : (holds : Stored) (unreadable : Faulty) (names before after read : List (List ℕ)) (name : List ℕ) (limit left : ℕ) (e : LimitFault)
     → names ≡ before ++ name ∷ after → Holding holds before read → total_size read + left ≡ limit
     → IsUnreadWithin holds unreadable name left e → IsReadRefusalWithin holds unreadable names limit e
 refused_within holds unreadable names before after read name limit left (File (CannotRead told)) is h room u =
@@ -56,7 +56,7 @@ pub all_pushed : (fits : List ℕ → Type 0) (files after : List (Vec ℕ Globa
     → after ≡ files ++ v ∷ [] → AllByRecursion fits (contents files) → fits v.items → AllByRecursion fits (contents after)
 all_pushed fits files after v is a p = subst (AllByRecursion fits) (sym (ap contents is ∙ contents_more files v)) (all_more fits (contents files) v.items a p)
 
-pub part_within : (holds : Stored) (unreadable : Faulty) (dir : List ℕ) (k n limit : ℕ) (e : WithinFault)
+pub part_within : (holds : Stored) (unreadable : Faulty) (dir : List ℕ) (k n limit : ℕ) (e : LimitFault)
     → k < n → IsUnreadWithin holds unreadable (name_of_part dir k) limit e → IsOneUnreadWithin holds unreadable (result_names dir n) limit e
 part_within holds unreadable dir k n limit (File fault) h u = one_part unreadable dir k n fault h u
 part_within holds unreadable dir k n limit TooLong h (bytes, here, long) =

@@ -4,8 +4,8 @@ use Rattle.mr_input.specs.Files.{total_size}
 use Rattle.mr_files.specs.Holding.{Begins, ChangesAmong, Faulty, Holding, Stored}
 use Rattle.mr_store.specs.declared.reading.ReadFault.{ReadFault}
 use Rattle.mr_store.specs.declared.reading.ReadFault.TheVariants.{Device}
-use Rattle.mr_files.specs.declared.within.WithinFault.{WithinFault}
-use Rattle.mr_files.specs.declared.within.WithinFault.TheVariants.{File, TooLong}
+use Rattle.mr_files.specs.declared.within.LimitFault.{LimitFault}
+use Rattle.mr_files.specs.declared.within.LimitFault.TheVariants.{File, TooLong}
 use Rattle.mr_files.specs.declared.store.FileFault.{FileFault}
 use Rattle.mr_files.specs.declared.store.FileFault.TheVariants.{CannotRead, CannotWrite, OutOfMemory}
 
@@ -39,7 +39,7 @@ TellsOf cause (CannotWrite told) = ⊥
 TellsOf cause OutOfMemory = ⊤
 
 -- the file can't be read, or has more bytes than that
-abbrev pub IsUnreadWithin : Stored → Faulty → List ℕ → ℕ → WithinFault → Type 0
+abbrev pub IsUnreadWithin : Stored → Faulty → List ℕ → ℕ → LimitFault → Type 0
 IsUnreadWithin holds unreadable name limit (File fault) = IsUnread unreadable name fault
 IsUnreadWithin holds unreadable name limit TooLong = (bytes : List ℕ) × holds name bytes × (limit < length bytes)
 
@@ -57,7 +57,7 @@ abbrev pub IsPassed : Stored → List (List ℕ) → ℕ → Type 0
 IsPassed holds names limit = (name bytes : List ℕ) × (here : AreBefore holds names limit name) × holds name bytes × (limit < total_size here.read + length bytes)
 
 -- the first of the names that can't be read, where those before it don't pass the limit; or the file that passes it
-abbrev pub IsReadRefusalWithin : Stored → Faulty → List (List ℕ) → ℕ → WithinFault → Type 0
+abbrev pub IsReadRefusalWithin : Stored → Faulty → List (List ℕ) → ℕ → LimitFault → Type 0
 IsReadRefusalWithin holds unreadable names limit (File (CannotRead name)) = unreadable (string_bytes name) × AreBefore holds names limit (string_bytes name)
 IsReadRefusalWithin holds unreadable names limit (File (CannotWrite name)) = ⊥
 IsReadRefusalWithin holds unreadable names limit (File OutOfMemory) = ⊤
@@ -79,7 +79,7 @@ IsOneLonger holds names limit =
     (before after : List (List ℕ)) × (name bytes : List ℕ) × (names ≡ before ++ name ∷ after) × holds name bytes × (limit < length bytes)
 
 -- one of these can't be read, or has more bytes than that
-abbrev pub IsOneUnreadWithin : Stored → Faulty → List (List ℕ) → ℕ → WithinFault → Type 0
+abbrev pub IsOneUnreadWithin : Stored → Faulty → List (List ℕ) → ℕ → LimitFault → Type 0
 IsOneUnreadWithin holds unreadable names limit (File fault) = IsOneUnread unreadable names fault
 IsOneUnreadWithin holds unreadable names limit TooLong = IsOneLonger holds names limit
 

@@ -5,7 +5,7 @@
 ghost use Rattle.std.specs.Prelude.{◌≡◌, ◌≤◌, ◌<◌, ⊤, None, IfOk, length};
 
 use crate::counted::{Failures, read_some, write_some};
-use crate::look::{Look, Standing};
+use crate::inspect::{Inspect, PathKind};
 use crate::store::{Store, WriteFault};
 use mr_store::{CountedRead, CountedWrite, Device, ReadFault};
 use std::alloc::{AllocError, Global};
@@ -318,19 +318,19 @@ impl<'a, R: Files> Store for DiskFiles<'a, R> {
     }
 }
 
-impl<'a, R: Files> Look for DiskFiles<'a, R> {
-    fn standing(&self, name: &str) -> Standing {
+impl<'a, R: Files> Inspect for DiskFiles<'a, R> {
+    fn path_kind(&self, name: &str) -> PathKind {
         match fs::metadata(self.rt, name) {
-            Ok(seen) if seen.is_dir() => Standing::Directory,
-            Ok(seen) if seen.is_file() => Standing::File(seen.len()),
-            Ok(_) => Standing::Other,
-            Err(error) if error.kind() == ErrorKind::NotFound => Standing::Nothing,
-            Err(error) if error.kind() == ErrorKind::NotADirectory => Standing::Nothing,
-            Err(_) => Standing::Other,
+            Ok(seen) if seen.is_dir() => PathKind::Directory,
+            Ok(seen) if seen.is_file() => PathKind::File(seen.len()),
+            Ok(_) => PathKind::Other,
+            Err(error) if error.kind() == ErrorKind::NotFound => PathKind::Nothing,
+            Err(error) if error.kind() == ErrorKind::NotADirectory => PathKind::Nothing,
+            Err(_) => PathKind::Other,
         }
     }
 
-    fn reason(&self) -> Option<io::Error> {
+    fn last_error(&self) -> Option<io::Error> {
         match self.last.get() {
             0 => None,
             number => Some(io::Error::from_raw_os_error(number)),

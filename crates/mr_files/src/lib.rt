@@ -4,7 +4,7 @@
 mod apart;
 mod counted;
 mod disk;
-mod look;
+mod inspect;
 mod memory;
 mod named;
 mod names;
@@ -16,14 +16,14 @@ mod writing;
 
 pub use crate::apart::first_shared;
 pub use crate::disk::DiskFiles;
-pub use crate::look::{Look, Standing};
+pub use crate::inspect::{Inspect, PathKind};
 pub use crate::memory::{MemoryFiles, one_content_law};
-pub use crate::named::{Cause, NamedReader};
+pub use crate::named::{NamedReader, ReadCause};
 pub use crate::names::{
     add_names, certificate_name, folder_of, names_of_result, part_file, part_name, verdict_name,
 };
 pub use crate::reading::{read_file, read_files};
 pub use crate::result::{ResultReaders, result_readers};
 pub use crate::store::{FileFault, Store, WriteFault};
-pub use crate::within::{WithinFault, read_file_within, read_files_within, read_result_within};
-pub use crate::writing::{write_files, write_named};
+pub use crate::within::{LimitFault, read_file_within, read_files_within, read_result_within};
+pub use crate::writing::{write_file, write_files};

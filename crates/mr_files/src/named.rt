@@ -10,17 +10,17 @@ use std::marker::{Brand, Model, PhantomData};
 
 /// What is known of a file of which a read fails, for another cause than want of memory. It stands in the type of a
 /// reader, so that no code over readers can lose it, and who makes readers picks it.
-pub trait Cause {
+pub trait ReadCause {
     ghost cause: { List ℕ → Type 0 };
 }
 
-impl Cause for Brand {
+impl ReadCause for Brand {
     ghost cause = { λ _. ⊤ };
 }
 
 /// A reader of the file of a name. It keeps the name, counts the failed reads, and keeps whether one was refused memory.
 #[derive(Drop)]
-pub struct NamedReader<R: CountedRead + Drop, C: Cause> {
+pub struct NamedReader<R: CountedRead + Drop, C: ReadCause> {
     name: String,
     reader: R,
     failures: u64,
@@ -28,7 +28,7 @@ pub struct NamedReader<R: CountedRead + Drop, C: Cause> {
     of: PhantomData<C>,
 }
 
-impl<R: CountedRead + Drop, C: Cause> Model for NamedReader<R, C> {
+impl<R: CountedRead + Drop, C: ReadCause> Model for NamedReader<R, C> {
     ghost use Rattle.std.specs.Prelude.{◌≡◌, ◌⊎◌, true, string_bytes};
     ghost use Rattle.mr_files.specs.Named.{Named};
 
@@ -42,7 +42,7 @@ impl<R: CountedRead + Drop, C: Cause> Model for NamedReader<R, C> {
     } };
 }
 
-impl<R: CountedRead + Drop, C: Cause> NamedReader<R, C> {
+impl<R: CountedRead + Drop, C: ReadCause> NamedReader<R, C> {
     /// Of the file of that name; no read has failed yet.
     pub fn new(name: String, reader: R) -> NamedReader<R, C>
         requires { R.can_fail reader → C.cause (string_bytes name) }
@@ -71,7 +71,7 @@ impl<R: CountedRead + Drop, C: Cause> NamedReader<R, C> {
     }
 }
 
-impl<R: CountedRead + Drop, C: Cause> CountedRead for NamedReader<R, C> {
+impl<R: CountedRead + Drop, C: ReadCause> CountedRead for NamedReader<R, C> {
     ghost remaining = { λ n. R.remaining n.reader };
 
     ghost failed = { λ n. n.failed };

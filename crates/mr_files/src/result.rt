@@ -4,7 +4,7 @@ ghost use Rattle.mr_files.specs.Holding.{Agrees, AllAgree, Holding};
 ghost use Rattle.mr_files.specs.Names.{part_names, name_of_part, name_of_certificate, result_names};
 ghost use Rattle.mr_files.specs.Refusals.{IsOneUnread, IsUnread, IsUnreadAmong};
 
-use crate::named::{Cause, NamedReader};
+use crate::named::{NamedReader, ReadCause};
 use crate::names::{certificate_name, part_name};
 use crate::reading::{fault_of, try_file, try_parts};
 use crate::store::{FileFault, Store};
@@ -13,13 +13,13 @@ use std::alloc::{AllocError, Global};
 
 /// Readers of a result's files: of the parts, in order, and of the certificate.
 #[derive(Drop)]
-pub struct ResultReaders<R: CountedRead + Drop, C: Cause> {
+pub struct ResultReaders<R: CountedRead + Drop, C: ReadCause> {
     pub parts: Vec<NamedReader<R, C>>,
     pub certificate: NamedReader<R, C>,
 }
 
 /// A reader of the file of that name.
-fn named_reader<S: Store, C: Cause>(
+fn named_reader<S: Store, C: ReadCause>(
     store: &S,
     alloc: Global,
     name: String,
@@ -35,7 +35,7 @@ fn named_reader<S: Store, C: Cause>(
     }
 }
 
-fn part_reader<S: Store, C: Cause>(
+fn part_reader<S: Store, C: ReadCause>(
     store: &S,
     alloc: Global,
     dir: &str,
@@ -51,7 +51,7 @@ fn part_reader<S: Store, C: Cause>(
 }
 
 /// Readers of the parts, in order.
-fn part_readers<S: Store, C: Cause>(
+fn part_readers<S: Store, C: ReadCause>(
     store: &S,
     alloc: Global,
     dir: &str,
@@ -74,7 +74,7 @@ fn part_readers<S: Store, C: Cause>(
 /// Readers of the parts, in order, and of the certificate. Each of the files is opened once before one is read, so that a
 /// missing file is told before one that can't be read. What they may give stands under their names; no read has failed
 /// yet, and of one that fails it is known that its file is one of the result's and can't be read, if the cause is picked so.
-pub fn result_readers<S: Store, C: Cause>(
+pub fn result_readers<S: Store, C: ReadCause>(
     store: &S,
     alloc: Global,
     dir: &str,

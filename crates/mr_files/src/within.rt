@@ -14,30 +14,30 @@ use std::alloc::{AllocError, Global};
 
 /// Why files were not read, where their bytes together have a limit.
 #[derive(Drop)]
-pub enum WithinFault {
+pub enum LimitFault {
     File(FileFault),
     /// Together they have more bytes than that.
     TooLong,
 }
 
-impl From<FileFault> for WithinFault {
-    ghost use Rattle.mr_files.specs.declared.within.WithinFault.TheVariants.{File};
+impl From<FileFault> for LimitFault {
+    ghost use Rattle.mr_files.specs.declared.within.LimitFault.TheVariants.{File};
 
     ghost from_gives = { λ e f. f ≡ File e };
 
-    fn from(fault: FileFault) -> WithinFault {
-        WithinFault::File(fault)
+    fn from(fault: FileFault) -> LimitFault {
+        LimitFault::File(fault)
     }
 }
 
-impl From<AllocError> for WithinFault {
-    ghost use Rattle.mr_files.specs.declared.within.WithinFault.TheVariants.{File};
+impl From<AllocError> for LimitFault {
+    ghost use Rattle.mr_files.specs.declared.within.LimitFault.TheVariants.{File};
     ghost use Rattle.mr_files.specs.declared.store.FileFault.TheVariants.{OutOfMemory};
 
     ghost from_gives = { λ _ f. f ≡ File OutOfMemory };
 
-    fn from(_fault: AllocError) -> WithinFault {
-        WithinFault::File(FileFault::OutOfMemory)
+    fn from(_fault: AllocError) -> LimitFault {
+        LimitFault::File(FileFault::OutOfMemory)
     }
 }
 
@@ -47,25 +47,25 @@ pub fn read_file_within<S: Store>(
     alloc: Global,
     name: &str,
     limit: u64,
-) -> Result<Vec<u8>, WithinFault>
+) -> Result<Vec<u8>, LimitFault>
     ensures bytes { IfOk result (λ v. S.holds store.now name.now v.items) }
     ensures within { IfOk result (λ v. length v.items ≤ limit) }
     ensures refused { IfErr result (λ e. IsUnreadWithin (S.holds store.now) (S.unreadable store.now) name.now limit e) }
 {
     let mut reader = match store.reader(alloc, name) {
         Ok(reader) => reader,
-        Err(fault) => return Err(WithinFault::File(fault_of(alloc, name, fault))),
+        Err(fault) => return Err(LimitFault::File(fault_of(alloc, name, fault))),
     };
     let mut bytes = Vec::new(alloc);
     match read_limited(&mut reader, &mut bytes, limit) {
         Ok(()) => Ok(bytes),
-        Err(LimitedFault::TooLong) => Err(WithinFault::TooLong),
-        Err(LimitedFault::Device) if !reader.is_out_of_memory() => Err(WithinFault::File(fault_of(
+        Err(LimitedFault::TooLong) => Err(LimitFault::TooLong),
+        Err(LimitedFault::Device) if !reader.is_out_of_memory() => Err(LimitFault::File(fault_of(
             alloc,
             name,
             ReadFault::Device,
         ))),
-        Err(_) => Err(WithinFault::File(FileFault::OutOfMemory)),
+        Err(_) => Err(LimitFault::File(FileFault::OutOfMemory)),
     }
 }
 
@@ -76,7 +76,7 @@ pub fn read_files_within<S: Store>(
     alloc: Global,
     names: &[&str],
     limit: u64,
-) -> Result<Vec<Vec<u8>>, WithinFault>
+) -> Result<Vec<Vec<u8>>, LimitFault>
     ensures bytes { IfOk result (λ v. Holding (S.holds store.now) (map (λ s. s.now) names.now) (contents v.items)) }
     ensures within { IfOk result (λ v. total_size (contents v.items) ≤ limit) }
     ensures refused { IfErr result (λ e. IsReadRefusalWithin (S.holds store.now) (S.unreadable store.now) (map (λ s. s.now) names.now) limit e) }
@@ -98,7 +98,7 @@ fn read_part_within<S: Store>(
     dir: &str,
     part: usize,
     limit: u64,
-) -> Result<Vec<u8>, WithinFault>
+) -> Result<Vec<u8>, LimitFault>
     ensures bytes { IfOk result (λ v. S.holds store.now (name_of_part dir.now part) v.items) }
     ensures within { IfOk result (λ v. length v.items ≤ limit) }
     ensures refused { IfErr result (λ e. IsUnreadWithin (S.holds store.now) (S.unreadable store.now) (name_of_part dir.now part) limit e) }
@@ -114,7 +114,7 @@ fn read_parts_within<S: Store>(
     dir: &str,
     parts: usize,
     limit: u64,
-) -> Result<Vec<Vec<u8>>, WithinFault>
+) -> Result<Vec<Vec<u8>>, LimitFault>
     ensures bytes { IfOk result (λ v. Holding (S.holds store.now) (part_names dir.now parts) (contents v.items)) }
     ensures within { IfOk result (λ v. AllByRecursion (λ b. length b ≤ limit) (contents v.items)) }
     ensures refused { IfErr result (λ e. IsOneUnreadWithin (S.holds store.now) (S.unreadable store.now) (result_names dir.now parts) limit e) }
@@ -136,7 +136,7 @@ pub fn read_result_within<S: Store>(
     dir: &str,
     parts: usize,
     limit: u64,
-) -> Result<(Vec<Vec<u8>>, Vec<u8>), WithinFault>
+) -> Result<(Vec<Vec<u8>>, Vec<u8>), LimitFault>
     ensures outputs { IfOk result (λ r. Holding (S.holds store.now) (part_names dir.now parts) (contents r.0.items)) }
     ensures certificate { IfOk result (λ r. S.holds store.now (name_of_certificate dir.now) r.1.items) }
     ensures within { IfOk result (λ r. AllByRecursion (λ b. length b ≤ limit) (contents r.0.items) × (length r.1.items ≤ limit)) }

@@ -11,7 +11,7 @@ use mr_store::{Bytes, CountedWrite, Device, Encode, write_encoded};
 use std::alloc::Global;
 
 /// Writes a file, and tells its name where that fails.
-fn write_file<S: Store, C: Encode>(
+fn write_encoded_file<S: Store, C: Encode>(
     store: &mut S,
     alloc: Global,
     name: String,
@@ -39,7 +39,7 @@ fn write_file<S: Store, C: Encode>(
 }
 
 /// Writes a file of that name, and tells the name where that fails.
-pub fn write_named<S: Store>(
+pub fn write_file<S: Store>(
     store: &mut S,
     alloc: Global,
     name: &str,
@@ -52,7 +52,7 @@ pub fn write_named<S: Store>(
     ensures still { (n : List ℕ) → S.unwritable store.new n → S.unwritable store.old n }
 {
     let name = String::from_str(alloc, name)?;
-    write_file(store, alloc, name, &Bytes(bytes))
+    write_encoded_file(store, alloc, name, &Bytes(bytes))
 }
 
 fn write_part<S: Store>(
@@ -69,7 +69,7 @@ fn write_part<S: Store>(
     ensures still { (n : List ℕ) → S.unwritable store.new n → S.unwritable store.old n }
 {
     let name = part_name(alloc, dir, part)?;
-    write_file(store, alloc, name, &Bytes(bytes))
+    write_encoded_file(store, alloc, name, &Bytes(bytes))
 }
 
 fn write_certificate<S: Store, C: Encode>(
@@ -84,7 +84,7 @@ fn write_certificate<S: Store, C: Encode>(
     ensures refused { IfErr result (λ e. IsUnwritten (S.unwritable store.old) (name_of_certificate dir.now) e) }
 {
     let name = certificate_name(alloc, dir)?;
-    write_file(store, alloc, name, certificate)
+    write_encoded_file(store, alloc, name, certificate)
 }
 
 /// Writes each output under the name of its part, in order.

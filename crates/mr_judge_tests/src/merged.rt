@@ -1,62 +1,62 @@
 //! Outputs of shards, merged: worked rows, and each refusal.
 use mr_jobs::Job;
-use mr_shards::{MergeFault, Output, merge_parts};
+use mr_shards::{MergeFault, ShardText, merge_parts};
 use std::alloc::Global;
 use std::test::Fail;
 
 // What a shard of so many files has.
-fn shard(files: u32, text: &[u8]) -> Output<'_> {
-    Output { files, text }
+fn shard(files: u32, text: &[u8]) -> ShardText<'_> {
+    ShardText { files, text }
 }
 
-const TOTALS: [Output<'static>; 3] = [
-    Output {
+const TOTALS: [ShardText<'static>; 3] = [
+    ShardText {
         files: 2,
         text: b"a\t2\nthe\t7\n",
     },
-    Output {
+    ShardText {
         files: 1,
         text: b"",
     },
-    Output {
+    ShardText {
         files: 3,
         text: b"b\t1\nthe\t40\nzoo\t1\n",
     },
 ];
 
-const KEYS_WITH_TABS: [Output<'static>; 2] = [
-    Output {
+const KEYS_WITH_TABS: [ShardText<'static>; 2] = [
+    ShardText {
         files: 1,
         text: b"/a\tb\t2\n/c\t1\n",
     },
-    Output {
+    ShardText {
         files: 1,
         text: b"/a\t9\n/a\tb\t3\n",
     },
 ];
 
-const PLACES: [Output<'static>; 3] = [
-    Output {
+const PLACES: [ShardText<'static>; 3] = [
+    ShardText {
         files: 2,
         text: b"ax\t0:0\nx\t1:7\nx\t1:9\n",
     },
-    Output {
+    ShardText {
         files: 1,
         text: b"x\t0:3\nzx\t0:5\n",
     },
-    Output {
+    ShardText {
         files: 1,
         text: b"x\t0:1\n",
     },
 ];
 
 // The first of the rows that are merged in windows.
-const PIECES: [Output<'static>; 2] = [
-    Output {
+const PIECES: [ShardText<'static>; 2] = [
+    ShardText {
         files: 2,
         text: b"ax\t0:0\nx\t1:7\nx\t1:9\nyx\t0:4\n",
     },
-    Output {
+    ShardText {
         files: 1,
         text: b"x\t0:3\nzx\t0:5\n",
     },
@@ -66,7 +66,7 @@ const PIECES: [Output<'static>; 2] = [
 fn merges_to(
     alloc: Global,
     job: &Job,
-    outputs: &[Output<'_>],
+    outputs: &[ShardText<'_>],
     want: &[u8],
 ) -> Result<bool, MergeFault> {
     Ok(merge_parts(alloc, job, outputs)?.as_slice() == want)
@@ -75,7 +75,7 @@ fn merges_to(
 // Outputs, and the text that they are merged to.
 #[derive(Clone, Copy)]
 struct Row<'a> {
-    outputs: &'a [Output<'a>],
+    outputs: &'a [ShardText<'a>],
     want: &'a [u8],
 }
 
@@ -127,7 +127,12 @@ fn outputs_are_merged(rt: HostRuntime) -> Result<(), Fail> {
 }
 
 // Why these two outputs are not merged, where they are not.
-fn fault_of(alloc: Global, job: &Job, first: Output<'_>, second: Output<'_>) -> Option<MergeFault> {
+fn fault_of(
+    alloc: Global,
+    job: &Job,
+    first: ShardText<'_>,
+    second: ShardText<'_>,
+) -> Option<MergeFault> {
     merge_parts(alloc, job, &[first, second]).err()
 }
 

@@ -7,11 +7,11 @@ ghost use Rattle.mr_merge.specs.Merged.{AreSound, values_of};
 ghost use Rattle.mr_merge.specs.declared.merged.MergeFault.TheVariants.{RegionDamaged};
 ghost use Rattle.mr_spill.specs.declared.reading.RegionFault.TheVariants.{RegionDamaged as CantRead};
 
-use crate::demand::{Demand, Unending};
+use crate::cancellation::{Cancellation, NeverCancelled};
 use crate::following::{Came, Follower};
 use crate::groups::Groups;
 use crate::merged::{MergeFault, merge};
-use mr_spill::{Pairs, Region, RegionFault, read_region};
+use mr_spill::{PairColumns, RegionFault, RegionView, read_region};
 use std::alloc::{AllocError, Global};
 
 impl From<RegionFault> for MergeFault {
@@ -30,7 +30,7 @@ impl From<RegionFault> for MergeFault {
 }
 
 /// Puts pairs behind those before.
-fn put(all: &mut Vec<Pairs>, pairs: Pairs) -> Result<(), AllocError>
+fn put(all: &mut Vec<PairColumns>, pairs: PairColumns) -> Result<(), AllocError>
     ensures { OnOk result (all.new.items ≡ all.old.items ++ pairs ∷ []) }
 {
     all.push(pairs)?;
@@ -40,9 +40,9 @@ fn put(all: &mut Vec<Pairs>, pairs: Pairs) -> Result<(), AllocError>
 /// The pairs of each region.
 fn read_all(
     alloc: Global,
-    regions: &[Region<'_>],
+    regions: &[RegionView<'_>],
     partition: u32,
-) -> Result<Vec<Pairs>, RegionFault>
+) -> Result<Vec<PairColumns>, RegionFault>
     ensures read { IfOk result (λ v. AreSpelled partition regions.now v.items) }
     ensures damaged { IfErr result (λ e. e ≡ CantRead → (values : List (List Triple)) → AreSpelled partition regions.now values → ⊥) }
 {
@@ -55,7 +55,7 @@ fn read_all(
 }
 
 /// Each of the columns, lent.
-fn lent<'a>(alloc: Global, columns: &'a [Pairs]) -> Result<Vec<&'a Pairs>, AllocError>
+fn lent<'a>(alloc: Global, columns: &'a [PairColumns]) -> Result<Vec<&'a PairColumns>, AllocError>
     ensures { IfOk result (λ v. values_of v.items ≡ columns.entry.now) }
 {
     let mut all = Vec::new(alloc);
@@ -66,7 +66,11 @@ fn lent<'a>(alloc: Global, columns: &'a [Pairs]) -> Result<Vec<&'a Pairs>, Alloc
 }
 
 /// The regions merged, each read whole first.
-fn merged_whole(alloc: Global, regions: &[Region<'_>], partition: u32) -> Result<Groups, MergeFault>
+fn merged_whole(
+    alloc: Global,
+    regions: &[RegionView<'_>],
+    partition: u32,
+) -> Result<Groups, MergeFault>
     ensures merged { IfOk result (AreMerged partition regions.now) }
     ensures damaged { IfErr result (λ e. e ≡ RegionDamaged → (values : List (List Triple)) → AreSpelled partition regions.now values → AreSound values → ⊥) }
 {
@@ -80,7 +84,7 @@ fn merged_whole(alloc: Global, regions: &[Region<'_>], partition: u32) -> Result
 const PAIR_BYTES: usize = 17;
 
 /// Room for as many pairs as the bytes of the regions can have.
-fn room_for(regions: &[Region<'_>]) -> usize {
+fn room_for(regions: &[RegionView<'_>]) -> usize {
     let mut bytes = 0usize;
     for region in regions {
         bytes = bytes.saturating_add(region.bytes().len());
@@ -90,9 +94,9 @@ fn room_for(regions: &[Region<'_>]) -> usize {
 
 /// The regions merged, taken one behind another: `None` where one isn't taken, or where they are no
 /// longer wanted.
-fn followed<D: Demand>(
+fn followed<D: Cancellation>(
     alloc: Global,
-    regions: &[Region<'_>],
+    regions: &[RegionView<'_>],
     partition: u32,
     demand: &D,
 ) -> Result<Option<Groups>, AllocError>
@@ -101,14 +105,14 @@ fn followed<D: Demand>(
     let mut all = Follower::new(alloc, partition);
     all.reserve(room_for(regions))?;
     for region in regions {
-        if !demand.lasts() {
+        if !demand.is_wanted() {
             return Ok(None);
         }
         let Came::Taken = all.take(region)? else {
             return Ok(None);
         };
     }
-    if !demand.lasts() {
+    if !demand.is_wanted() {
         return Ok(None);
     }
     all.groups(alloc)
@@ -116,9 +120,9 @@ fn followed<D: Demand>(
 
 /// What `merge_regions` gives, and `None` where it was no longer wanted before it was there: it is asked before each region,
 /// and before and behind the putting together by key.
-pub fn merge_regions_while<D: Demand>(
+pub fn merge_regions_while<D: Cancellation>(
     alloc: Global,
-    regions: &[Region<'_>],
+    regions: &[RegionView<'_>],
     partition: u32,
     demand: &D,
 ) -> Result<Option<Groups>, MergeFault>
@@ -126,7 +130,7 @@ pub fn merge_regions_while<D: Demand>(
     ensures damaged { IfErr result (λ e. e ≡ RegionDamaged → (values : List (List Triple)) → AreSpelled partition regions.now values → AreSound values → ⊥) }
 {
     let followed = followed(alloc, regions, partition, demand)?;
-    if !demand.lasts() {
+    if !demand.is_wanted() {
         return Ok(None);
     }
     match followed {
@@ -140,13 +144,13 @@ pub fn merge_regions_while<D: Demand>(
 /// or two, are `RegionDamaged`.
 pub fn merge_regions(
     alloc: Global,
-    regions: &[Region<'_>],
+    regions: &[RegionView<'_>],
     partition: u32,
 ) -> Result<Groups, MergeFault>
     ensures merged { IfOk result (AreMerged partition regions.now) }
     ensures damaged { IfErr result (λ e. e ≡ RegionDamaged → (values : List (List Triple)) → AreSpelled partition regions.now values → AreSound values → ⊥) }
 {
-    match merge_regions_while(alloc, regions, partition, &Unending)? {
+    match merge_regions_while(alloc, regions, partition, &NeverCancelled)? {
         Some(groups) => Ok(groups),
         None => unreachable!(),
     }

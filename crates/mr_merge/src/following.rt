@@ -15,7 +15,7 @@ ghost use Rattle.mr_merge.specs.declared.following.Came.TheVariants.{Damaged, Ta
 
 use crate::groups::{Groups, grouped};
 use mr_bytes::{Name, compare_names};
-use mr_spill::{Numbered, Region, RegionPair, open_region};
+use mr_spill::{Numbered, RegionPair, RegionView, open_region};
 use std::alloc::{AllocError, Global};
 use std::cmp::Ordering;
 use std::marker::Model;
@@ -130,7 +130,7 @@ fn differ(numbers: &mut Vec<u64>) -> bool
 fn take_whole(
     all: &mut Gathering,
     names: &mut Vec<u64>,
-    region: &Region<'_>,
+    region: &RegionView<'_>,
     partition: u32,
 ) -> Result<Came, AllocError>
     ensures taken { IfOk result (λ c. c ≡ Taken → IsTaken partition region.now all.old all.new) }
@@ -193,7 +193,7 @@ impl Follower {
     }
 
     /// One region more. Where it isn't taken, or for want of memory, what came counts for nothing from then on.
-    pub fn take(&mut self, region: &Region<'_>) -> Result<Came, AllocError>
+    pub fn take(&mut self, region: &RegionView<'_>) -> Result<Came, AllocError>
         ensures partition { self.new.partition ≡ self.old.partition }
         ensures damaged { IfOk result (λ c. c ≡ Damaged → (ts : List Triple) → SpellsRegion region.now.bytes region.now.split self.old.partition ts → ⊥) }
         ensures taken { IfOk result (λ c. c ≡ Taken → (regions : List RegionText) → HasTaken regions self.old → HasTaken (regions ++ region.now ∷ []) self.new) }

@@ -9,7 +9,7 @@ ghost use Rattle.mr_merge.specs.Groups.{nth_group};
 ghost use Rattle.mr_merge.specs.Merged.{merged};
 
 use mr_bytes::{Name, Value};
-use mr_spill::{KeyedPairs, Numbered, Pairs, keyed_column, keyed_pairs};
+use mr_spill::{KeyedPairs, Numbered, PairColumns, keyed_column, keyed_pairs};
 use std::alloc::{AllocError, Global};
 use std::marker::Model;
 
@@ -82,7 +82,7 @@ pub(crate) fn grouped(alloc: Global, pairs: Numbered) -> Result<Groups, AllocErr
 }
 
 /// The same of pairs in a column.
-pub(crate) fn grouped_column(alloc: Global, pairs: &Pairs) -> Result<Groups, AllocError>
+pub(crate) fn grouped_column(alloc: Global, pairs: &PairColumns) -> Result<Groups, AllocError>
     requires { RisesUnderKeys pairs.now }
     ensures { IfOk result (λ g. g ≡ merged (sorted pair_order pairs.now)) }
 {

@@ -15,7 +15,7 @@
 #![tactic(auto)]
 
 mod bytes;
-mod demand;
+mod cancellation;
 mod following;
 mod groups;
 mod merged;
@@ -23,7 +23,7 @@ mod merging;
 mod sound;
 
 pub use bytes::{merge_regions, merge_regions_while};
-pub use demand::{Demand, Unending};
+pub use cancellation::{Cancellation, NeverCancelled};
 pub use following::{Came, Follower};
 pub use groups::Groups;
 pub use merged::{MergeFault, merge, merge_law, worked_groups};

@@ -7,7 +7,7 @@ ghost use Rattle.mr_merge.specs.Worked.{WorkedFalling, WorkedGroups, WorkedTwice
 use crate::groups::{Groups, grouped_column};
 use crate::merging::merged_all;
 use crate::sound::are_sound;
-use mr_spill::Pairs;
+use mr_spill::PairColumns;
 use std::alloc::{AllocError, Global};
 use thiserror::Error;
 
@@ -37,7 +37,7 @@ impl From<AllocError> for MergeFault {
 
 /// The regions of one partition, merged: each key once, rising, with its pairs by name. Regions of which one is not in
 /// order, or in which a name stands twice, under one key or two, are `RegionDamaged`.
-pub fn merge(alloc: Global, regions: &[&Pairs]) -> Result<Groups, MergeFault>
+pub fn merge(alloc: Global, regions: &[&PairColumns]) -> Result<Groups, MergeFault>
     ensures sound { IfOk result (λ g. AreSound (values_of regions.now)) }
     ensures groups { IfOk result (λ g. g ≡ merged (joined (values_of regions.now))) }
     ensures damaged { IfErr result (λ e. e ≡ RegionDamaged → AreSound (values_of regions.now) → ⊥) }

@@ -9,12 +9,12 @@ ghost use Rattle.mr_merge.specs.Merged.{AreSound, joined, values_of};
 
 use crate::merging::is_before;
 use mr_bytes::{Name, compare_names};
-use mr_spill::Pairs;
+use mr_spill::PairColumns;
 use std::alloc::{AllocError, Global};
 use std::cmp::Ordering;
 
 /// Whether the pairs rise by key, and then by name.
-fn pairs_rise(pairs: &Pairs) -> bool
+fn pairs_rise(pairs: &PairColumns) -> bool
     ensures { IsTrue result ↔ Rises pair_order pairs.now }
 {
     for i in 1..pairs.len() {
@@ -26,7 +26,7 @@ fn pairs_rise(pairs: &Pairs) -> bool
 }
 
 /// Whether each region rises.
-fn all_rise(regions: &[&Pairs]) -> bool
+fn all_rise(regions: &[&PairColumns]) -> bool
     ensures { IsTrue result ↔ AllByRecursion (Rises pair_order) (values_of regions.now) }
 {
     for region in regions {
@@ -38,7 +38,7 @@ fn all_rise(regions: &[&Pairs]) -> bool
 }
 
 /// The names of all pairs, one region's behind another's.
-fn all_names(alloc: Global, regions: &[&Pairs]) -> Result<Vec<Name>, AllocError>
+fn all_names(alloc: Global, regions: &[&PairColumns]) -> Result<Vec<Name>, AllocError>
     ensures { IfOk result (λ v. v.items ≡ names_of (joined (values_of regions.now))) }
 {
     let mut names = Vec::new(alloc);
@@ -67,7 +67,7 @@ fn names_rise(names: &[Name]) -> bool
 }
 
 /// Whether no name stands twice in the regions.
-fn names_differ(alloc: Global, regions: &[&Pairs]) -> Result<bool, AllocError>
+fn names_differ(alloc: Global, regions: &[&PairColumns]) -> Result<bool, AllocError>
     ensures { IfOk result (λ b. IsTrue b ↔ Distinct (names_of (joined (values_of regions.now)))) }
 {
     let mut names = all_names(alloc, regions)?;
@@ -76,7 +76,7 @@ fn names_differ(alloc: Global, regions: &[&Pairs]) -> Result<bool, AllocError>
 }
 
 /// Whether each region is in order, and no name stands twice. It fails only for want of memory.
-pub(crate) fn are_sound(alloc: Global, regions: &[&Pairs]) -> Result<bool, AllocError>
+pub(crate) fn are_sound(alloc: Global, regions: &[&PairColumns]) -> Result<bool, AllocError>
     ensures { IfOk result (λ b. IsTrue b ↔ AreSound (values_of regions.now)) }
 {
     if !all_rise(regions) {

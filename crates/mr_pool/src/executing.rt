@@ -1,10 +1,10 @@
 //! All workers' turns, each worker in a thread of its own.
 ghost use Rattle.std.specs.Prelude.{◌≡◌, ◌<◌, ◌^◌, IfOk, vec_len};
 
-use crate::completed::Completed;
-use crate::orders::Orders;
+use crate::fault_plan::FaultPlan;
 use crate::run_progress::RunProgress;
 use crate::shared::Shared;
+use crate::task_flags::TaskFlags;
 use crate::worker::{Left, Worker};
 use mr_book::{Book, Seat};
 use mr_bytes::{Gate, Progress};
@@ -23,7 +23,7 @@ use std::thread::Threads;
 
 /// What a run is of, and how many workers and attempts it may have.
 #[derive(Clone, Copy)]
-pub struct Terms<'a> {
+pub struct RunSpec<'a> {
     pub request: &'a Request,
     pub input: &'a Input,
     pub script: &'a Script,
@@ -81,7 +81,7 @@ fn turns<L: Ledger + Send + Sync, G: Gate, W: Progress, S: RegionStore, R: Threa
 }
 
 /// All workers' turns, each in a thread of its own where one can be made. The book, and the seats; the store is let go.
-pub fn executed<
+pub fn run_workers<
     L: Ledger + Send + Sync,
     G: Gate,
     W: Progress,
@@ -91,7 +91,7 @@ pub fn executed<
     rt: &R,
     alloc: Global,
     plan: &Plan<'_>,
-    terms: Terms<'_>,
+    terms: RunSpec<'_>,
     book: Book<L>,
     seats: Vec<Seat<L>>,
     gate: &G,
@@ -108,8 +108,8 @@ pub fn executed<
         stopped: AtomicBool::new(false),
         plan,
         request: terms.request,
-        orders: Orders::of(alloc, terms.script)?,
-        completed: Completed::new(alloc, terms.shape.maps, terms.shape.parts)?,
+        orders: FaultPlan::of(alloc, terms.script)?,
+        completed: TaskFlags::new(alloc, terms.shape.maps, terms.shape.parts)?,
         gate,
         store,
         progress: RunProgress::new(watch, terms.shape.maps, terms.shape.parts),

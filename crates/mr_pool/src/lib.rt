@@ -2,13 +2,13 @@
 //! under its lock for tasks, do them and report; what a script orders to go wrong; then the judge.
 #![tactic(auto)]
 
-mod completed;
 mod executing;
+mod fault_plan;
 mod judge_progress;
-mod orders;
 mod run_progress;
 mod running;
 mod shared;
+mod task_flags;
 mod worker;
 
 pub use running::{Certified, RunFault, run, run_watched};

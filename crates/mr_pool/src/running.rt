@@ -15,9 +15,9 @@ ghost use Rattle.mr_verdict.specs.Headline.{IsCertified, accepted_of};
 ghost use Rattle.mr_verdict.specs.Verdict.{verdict_of};
 ghost use Rattle.mr_pool.specs.Outcomes.{IsCertifiedRun, IsDoneRun, IsInVersion, IsRunFault, run_shape};
 
-use crate::executing::{Terms, executed};
+use crate::executing::{RunSpec, run_workers};
+use crate::fault_plan::accounts_for;
 use crate::judge_progress::JudgesProgress;
-use crate::orders::accounts_for;
 use mr_book::{Book, History, Seat};
 use mr_bytes::{Gate, OpenGate, Phase, Progress, RecordName, Unwatched};
 use mr_certform::Version;
@@ -88,7 +88,7 @@ fn judged_by_all<W: Progress, R: Threads + Sync>(
     rt: &R,
     alloc: Global,
     mapped: &MappedInput<'_>,
-    terms: Terms<'_>,
+    terms: RunSpec<'_>,
     outputs: &[Vec<u8>],
     certificate: &[u8],
     watch: &W,
@@ -120,7 +120,7 @@ fn judged_by_all<W: Progress, R: Threads + Sync>(
 
 /// What a run that ended done answers, as its result is judged.
 fn answered(
-    terms: Terms<'_>,
+    terms: RunSpec<'_>,
     outputs: Vec<Vec<u8>>,
     certificate: Vec<u8>,
     judged: Result<Yes, No>,
@@ -160,7 +160,7 @@ fn made_and_mapped<'p, L: Ledger, W: Progress, R: Threads + Sync>(
     rt: &R,
     alloc: Global,
     plan: &'p Plan<'p>,
-    terms: Terms<'_>,
+    terms: RunSpec<'_>,
     book: &Book<L>,
     version: Version,
     watch: &W,
@@ -176,7 +176,7 @@ fn made_and_mapped<'p, L: Ledger, W: Progress, R: Threads + Sync>(
         (assembled_certificate terms.entry.request.now terms.entry.input.now (reduced_under book.now.reduces) book.now.state)) }
     ensures mapped { IfOk result (λ r. IsMappedFor terms.entry.request.now terms.entry.input.now (r.2)) }
 {
-    let Terms {
+    let RunSpec {
         request,
         input,
         shape: Shape { workers, .. },
@@ -205,11 +205,11 @@ fn made_and_mapped<'p, L: Ledger, W: Progress, R: Threads + Sync>(
 }
 
 /// The result of a done job is assembled and judged.
-fn assembled<L: Ledger, W: Progress, R: Threads + Sync>(
+fn assemble_and_judge<L: Ledger, W: Progress, R: Threads + Sync>(
     rt: &R,
     alloc: Global,
     plan: &Plan<'_>,
-    terms: Terms<'_>,
+    terms: RunSpec<'_>,
     book: Book<L>,
     seats: Vec<Seat<L>>,
     version: Version,
@@ -284,11 +284,11 @@ fn is_opened(shape: Shape, opened: Shape) -> bool
 }
 
 /// What a book that is closed amounts to.
-fn settled<L: Ledger, W: Progress, R: Threads + Sync>(
+fn conclude<L: Ledger, W: Progress, R: Threads + Sync>(
     rt: &R,
     alloc: Global,
     plan: &Plan<'_>,
-    terms: Terms<'_>,
+    terms: RunSpec<'_>,
     book: Book<L>,
     seats: Vec<Seat<L>>,
     version: Version,
@@ -313,7 +313,9 @@ fn settled<L: Ledger, W: Progress, R: Threads + Sync>(
         steady,
         terms.shape.workers,
     ) {
-        Ending::Done => assembled(rt, alloc, plan, terms, book, seats, version, steady, watch),
+        Ending::Done => assemble_and_judge(
+            rt, alloc, plan, terms, book, seats, version, steady, watch,
+        ),
         Ending::Failed(fault) => Err(RunFault::Failed(fault, book.close(seats))),
         Ending::Astray => Err(RunFault::Uncertified(No::OtherJob, book.close(seats))),
     }
@@ -330,7 +332,7 @@ fn run_in<
     alloc: Global,
     blank: Blank,
     plan: &Plan<'_>,
-    terms: Terms<'_>,
+    terms: RunSpec<'_>,
     gate: &G,
     store: S,
     version: Version,
@@ -361,8 +363,8 @@ fn run_in<
         workers as usize,
     )?;
     let steady = S::is_steady();
-    let (book, seats) = executed(rt, alloc, plan, terms, book, seats, gate, store, watch)?;
-    settled(rt, alloc, plan, terms, book, seats, version, steady, watch)
+    let (book, seats) = run_workers(rt, alloc, plan, terms, book, seats, gate, store, watch)?;
+    conclude(rt, alloc, plan, terms, book, seats, version, steady, watch)
 }
 
 /// Runs the request's job over the input by so many workers, 1 to 64, each in a thread of its own where one can be made;
@@ -423,7 +425,7 @@ pub fn run_watched<G: Gate, S: RegionStore + Drop, R: Threads + Wait + Sync>(
             skips: request.max_skips(),
         },
     };
-    let terms = Terms {
+    let terms = RunSpec {
         request,
         input,
         script,

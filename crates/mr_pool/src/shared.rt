@@ -1,7 +1,7 @@
 //! What the workers of a run share: the book under its lock, the store of regions, and all that they only read.
-use crate::completed::Completed;
-use crate::orders::Orders;
+use crate::fault_plan::FaultPlan;
 use crate::run_progress::RunProgress;
+use crate::task_flags::TaskFlags;
 use mr_book::{Book, Seat};
 use mr_bytes::{Gate, Progress};
 use mr_core::{Reply, Task};
@@ -28,8 +28,8 @@ pub(crate) struct Shared<'a, L: Ledger, G: Gate, W: Progress, S: RegionStore> {
     pub stopped: AtomicBool,
     pub plan: &'a Plan<'a>,
     pub request: &'a Request,
-    pub orders: Orders<'a>,
-    pub completed: Completed,
+    pub orders: FaultPlan<'a>,
+    pub completed: TaskFlags,
     pub gate: &'a G,
     pub store: S,
     pub progress: RunProgress<'a, W>,

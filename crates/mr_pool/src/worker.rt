@@ -8,11 +8,11 @@ use mr_bytes::{Gate, Progress};
 use mr_core::{Reply, Task};
 use mr_input::Input;
 use mr_script::Directive;
-use mr_spill::{GetFault, PutFault, Region, RegionStore, is_region};
+use mr_spill::{GetFault, PutFault, RegionStore, RegionView, is_region};
 use mr_splits::Plan;
 use mr_task::{
-    Came, Demand, Follower, MapOutput, ReduceOutput, Stored, TaskFault, map_piece, reduce_followed,
-    reduce_task,
+    Came, Cancellation, Follower, MapOutput, ReduceOutput, Stored, TaskFault, map_piece,
+    reduce_followed, reduce_task,
 };
 use std::alloc::{AllocError, Global};
 use std::sync::ledger::Ledger;
@@ -60,10 +60,10 @@ enum Made {
 }
 
 /// The regions, lent.
-fn lent<'g>(alloc: Global, got: &'g [Got]) -> Result<Vec<Region<'g>>, AllocError> {
+fn lent<'g>(alloc: Global, got: &'g [Got]) -> Result<Vec<RegionView<'g>>, AllocError> {
     let mut regions = Vec::with_capacity(alloc, got.len())?;
     for one in got {
-        regions.push(Region::of(one.bytes.as_slice(), one.split))?;
+        regions.push(RegionView::of(one.bytes.as_slice(), one.split))?;
     }
     Ok(regions)
 }
@@ -119,7 +119,7 @@ fn follow<S: RegionStore>(
             Err(GetFault::Device | GetFault::NoRegion) => return Ok(false),
         }
         if follower.is_whole() {
-            if let Came::Damaged = follower.take(&Region::of(buffer.as_slice(), split))? {
+            if let Came::Damaged = follower.take(&RegionView::of(buffer.as_slice(), split))? {
                 return Ok(false);
             }
         } else if !is_region(buffer.as_slice(), split, partition) {
@@ -247,7 +247,7 @@ impl<L: Ledger> Worker<L> {
         let mut is_ordered = false;
         let mut next = 0;
         while next < shared.plan.records_in(split) {
-            if !demand.lasts() {
+            if !demand.is_wanted() {
                 if !is_ordered {
                     self.before_report(rt, shared, task)?;
                     is_ordered = true;
@@ -327,7 +327,7 @@ impl<L: Ledger> Worker<L> {
         let mut buffer = Vec::new(shared.alloc);
         let mut outputs = Vec::new(shared.alloc);
         for split in 0..shared.plan.splits() {
-            if !demand.lasts() {
+            if !demand.is_wanted() {
                 return Ok(Made::Unwanted);
             }
             let Some(stored) = shared.fetch(rt, &mut self.seat, attempt, split)? else {

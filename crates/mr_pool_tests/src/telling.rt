@@ -1,5 +1,5 @@
 //! Where answers are told, and what a run answers, line by line.
-use mr_book::{Entry, History};
+use mr_book::{History, HistoryEntry};
 use mr_core::Reply;
 use mr_pool::{Certified, RunFault};
 use std::alloc::{AllocError, Global};
@@ -132,7 +132,7 @@ fn digits_of(alloc: Global, bytes: &[u8]) -> Result<String, AllocError> {
     Ok(digits)
 }
 
-fn show_entry(out: &Teller, entry: &Entry) {
+fn show_entry(out: &Teller, entry: &HistoryEntry) {
     out.tell(format_args!("{:?}: {:?}\n", entry.event(), entry.reply()));
 }
 

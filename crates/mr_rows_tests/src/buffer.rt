@@ -4,7 +4,7 @@ ghost use Rattle.std.specs.Prelude.{◌≡◌, ◌≤◌, [], IfOk, length};
 use crate::regions::show_pairs;
 use crate::telling::Teller;
 use mr_bytes::{By, Name, Pair, Value};
-use mr_spill::{Buffer, Pairs, PushFault, PushRefusal, SealedRun};
+use mr_spill::{Buffer, PairColumns, PushFault, PushKeyFault, SealedRun};
 use std::alloc::{AllocError, Global};
 
 fn name(place: u32) -> Name
@@ -18,7 +18,7 @@ fn name(place: u32) -> Name
 }
 
 /// Pushes a pair of each key.
-fn fill(buffer: &mut Buffer, keys: [&[u8]; 3]) -> Result<(), PushRefusal>
+fn fill(buffer: &mut Buffer, keys: [&[u8]; 3]) -> Result<(), PushKeyFault>
     requires { buffer.old.pairs ≡ [] }
 {
     buffer.push_key(keys[0], Value::One, name(0))?;
@@ -26,7 +26,7 @@ fn fill(buffer: &mut Buffer, keys: [&[u8]; 3]) -> Result<(), PushRefusal>
     buffer.push_key(keys[2], Value::One, name(2))
 }
 
-fn show_regions(teller: &Teller, regions: &[Pairs]) {
+fn show_regions(teller: &Teller, regions: &[PairColumns]) {
     for region in regions {
         show_pairs(teller, region);
     }

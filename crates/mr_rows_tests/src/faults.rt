@@ -3,7 +3,7 @@ use crate::telling::Teller;
 use mr_input::InputFault;
 use mr_jobs::JobFault;
 use mr_merge::MergeFault;
-use mr_spill::PushRefusal;
+use mr_spill::PushKeyFault;
 use mr_splits::{PlanFault, SkipFault};
 use mr_task::TaskFault;
 
@@ -21,7 +21,7 @@ fn show_asked(teller: &Teller) {
 /// Those, and want of memory of buffers, merging and tasks.
 pub fn answer(teller: &Teller) {
     show_asked(teller);
-    teller.fault_part(&PushRefusal::OutOfMemory);
+    teller.fault_part(&PushKeyFault::OutOfMemory);
     teller.fault_part(&MergeFault::OutOfMemory);
     teller.fault(&TaskFault::OutOfMemory);
 }

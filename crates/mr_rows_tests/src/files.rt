@@ -3,7 +3,7 @@
 //! which each use fails.
 use crate::inputs::numbers_of;
 use crate::telling::Teller;
-use mr_files::{FileFault, MemoryFiles, read_file, write_files, write_named};
+use mr_files::{FileFault, MemoryFiles, read_file, write_file, write_files};
 use mr_store::Bytes;
 use std::alloc::{AllocError, Global};
 
@@ -78,7 +78,7 @@ fn work(teller: &Teller, store: &mut MemoryFiles) -> Result<(), AllocError> {
     show_files(teller, store);
     show_written(
         teller,
-        write_named(store, teller.alloc(), "d/part-00001", b"dog"),
+        write_file(store, teller.alloc(), "d/part-00001", b"dog"),
     );
     show_file(teller, store, "d/part-00001");
     Ok(())

@@ -76,7 +76,7 @@ fn show(teller: &Teller, core: &Core) {
 
 /// Gives the event to the master, and tells what it replies, made twice.
 fn hear_twice(teller: &Teller, core: &mut Core, event: Event) -> Result<(), AllocError> {
-    let (reply, again) = core.apply_twice(teller.alloc(), event)?;
+    let (reply, again) = core.apply_with_copy(teller.alloc(), event)?;
     teller.part(&reply);
     teller.behind("|", &again);
     Ok(())

@@ -6,7 +6,7 @@ use crate::regions::{bytes_of, numbers_of};
 use crate::telling::Teller;
 use mr_bytes::{Name, Value};
 use mr_merge::{Groups, MergeFault, merge, merge_regions};
-use mr_spill::{Pairs, Region};
+use mr_spill::{PairColumns, RegionView};
 use std::alloc::{AllocError, Global};
 use std::io;
 
@@ -22,7 +22,7 @@ fn value(file: u32, offset: u32) -> Value {
 }
 
 /// Pushes the pairs that the numbers tell.
-fn push_pairs(numbers: &[u32], pairs: &mut Pairs) -> Result<(), AllocError> {
+fn push_pairs(numbers: &[u32], pairs: &mut PairColumns) -> Result<(), AllocError> {
     for pair in numbers.chunks(5) {
         if let [key, split, place, file, offset] = pair {
             let name = Name {
@@ -38,30 +38,30 @@ fn push_pairs(numbers: &[u32], pairs: &mut Pairs) -> Result<(), AllocError> {
 }
 
 /// The region of a line.
-fn region(alloc: Global, line: &str) -> Result<Pairs, AllocError> {
+fn region(alloc: Global, line: &str) -> Result<PairColumns, AllocError> {
     let numbers = numbers_of(alloc, line)?;
-    let mut pairs = Pairs::new(alloc);
+    let mut pairs = PairColumns::new(alloc);
     push_pairs(&numbers, &mut pairs)?;
     Ok(pairs)
 }
 
 /// Adds the region of each line.
-fn add_regions(teller: &Teller, regions: &mut Vec<Pairs>) -> io::Result<()> {
+fn add_regions(teller: &Teller, regions: &mut Vec<PairColumns>) -> io::Result<()> {
     for line in teller.lines() {
         regions.push(region(teller.alloc(), line?.as_str())?)?;
     }
     Ok(())
 }
 
-fn show_region(teller: &Teller, region: &Pairs) -> Result<(), AllocError> {
-    let roomy = Pairs::with_room_for(teller.alloc(), region, region)?;
+fn show_region(teller: &Teller, region: &PairColumns) -> Result<(), AllocError> {
+    let roomy = PairColumns::with_room_for(teller.alloc(), region, region)?;
     teller.before(&region.names(), " ");
     teller.two(&roomy.len(), &roomy.names());
     Ok(())
 }
 
 /// The regions, lent.
-fn lent(alloc: Global, regions: &[Pairs]) -> Result<Vec<&Pairs>, AllocError> {
+fn lent(alloc: Global, regions: &[PairColumns]) -> Result<Vec<&PairColumns>, AllocError> {
     let mut lent = Vec::new(alloc);
     for region in regions {
         lent.push(region)?;
@@ -100,7 +100,7 @@ fn show_merged(teller: &Teller, merged: Result<Groups, MergeFault>) {
     }
 }
 
-fn show(teller: &Teller, regions: &[Pairs]) -> Result<(), AllocError> {
+fn show(teller: &Teller, regions: &[PairColumns]) -> Result<(), AllocError> {
     for region in regions {
         show_region(teller, region)?;
     }
@@ -148,10 +148,10 @@ fn add_spelled(teller: &Teller, all: &mut Vec<Spelled>) -> io::Result<()> {
 }
 
 /// The regions, lent as bytes.
-fn regions_of(alloc: Global, all: &[Spelled]) -> Result<Vec<Region<'_>>, AllocError> {
+fn regions_of(alloc: Global, all: &[Spelled]) -> Result<Vec<RegionView<'_>>, AllocError> {
     let mut regions = Vec::new(alloc);
     for one in all {
-        regions.push(Region::of(one.bytes.as_slice(), one.split))?;
+        regions.push(RegionView::of(one.bytes.as_slice(), one.split))?;
     }
     Ok(regions)
 }

@@ -5,7 +5,7 @@ ghost use Rattle.std.specs.Prelude.{◌<◌, length};
 ghost use Rattle.mr_spill.specs.Spelling.{SpellsRegion};
 
 use crate::telling::Teller;
-use mr_spill::{Pairs, RegionFault, RegionPair, open_region, read_region, write_region};
+use mr_spill::{PairColumns, RegionFault, RegionPair, open_region, read_region, write_region};
 use std::alloc::{AllocError, Global};
 use std::io;
 
@@ -28,7 +28,7 @@ pub fn bytes_of(alloc: Global, numbers: &[u32]) -> Result<Vec<u8>, AllocError> {
 }
 
 /// Tells the pairs.
-pub fn show_pairs(teller: &Teller, pairs: &Pairs) {
+pub fn show_pairs(teller: &Teller, pairs: &PairColumns) {
     for i in 0..pairs.len() {
         teller.three_behind_bar(&pairs.key(i), &pairs.value(i), &pairs.name(i));
     }
@@ -36,14 +36,14 @@ pub fn show_pairs(teller: &Teller, pairs: &Pairs) {
 }
 
 /// Whether a pair of a walk is pair `i`.
-fn is_same(pair: &RegionPair<'_>, pairs: &Pairs, i: usize) -> bool
+fn is_same(pair: &RegionPair<'_>, pairs: &PairColumns, i: usize) -> bool
     requires { i < length pairs.now }
 {
     pair.key == pairs.key(i) && pair.value == pairs.value(i) && pair.name == pairs.name(i)
 }
 
 /// Whether a walk over the bytes gives these pairs, and then is at its end.
-fn walks_as(bytes: &[u8], split: u32, partition: u32, pairs: &Pairs) -> bool {
+fn walks_as(bytes: &[u8], split: u32, partition: u32, pairs: &PairColumns) -> bool {
     let Some(mut walk) = open_region(bytes, split, partition) else {
         return false;
     };
@@ -86,7 +86,7 @@ fn show_read(
     bytes: &[u8],
     split: u32,
     partition: u32,
-    pairs: &Pairs,
+    pairs: &PairColumns,
 ) -> Result<(), AllocError>
     requires read { SpellsRegion bytes.now split partition pairs.now }
 {

@@ -14,7 +14,7 @@ use crate::telling::Teller;
 use mr_bytes::By;
 use mr_input::Input;
 use mr_jobs::Job;
-use mr_spill::Region;
+use mr_spill::RegionView;
 use mr_splits::Plan;
 use mr_task::{MapOutput, ReduceOutput, map_task, map_task_with, reduce_task};
 use std::alloc::{AllocError, Global};
@@ -88,7 +88,7 @@ fn regions_of(
     alloc: Global,
     outputs: &[MapOutput],
     partition: u32,
-) -> Result<Vec<Region<'_>>, AllocError> {
+) -> Result<Vec<RegionView<'_>>, AllocError> {
     let mut regions = Vec::new(alloc);
     for output in outputs {
         if partition < output.parts() {
@@ -138,7 +138,7 @@ fn show_output(teller: &Teller, reduced: ReduceOutput) {
     show_parts(teller, reduced);
 }
 
-fn show_fault(teller: &Teller, job: &Job, regions: &[Region<'_>]) {
+fn show_fault(teller: &Teller, job: &Job, regions: &[RegionView<'_>]) {
     match reduce_task(teller.alloc(), job, 0, regions) {
         Ok(_) => teller.line(&"no fault"),
         Err(fault) => teller.fault(&fault),
@@ -153,7 +153,11 @@ fn show_damaged(teller: &Teller, job: &Job, output: &MapOutput) {
     let twice = [output.region(0, 0), output.region(0, 0)];
     show_fault(teller, job, &twice);
     let bytes = output.region(0, 0).bytes();
-    show_fault(teller, job, &[Region::of(bytes.get(1..).unwrap_or(&[]), 0)]);
+    show_fault(
+        teller,
+        job,
+        &[RegionView::of(bytes.get(1..).unwrap_or(&[]), 0)],
+    );
 }
 
 /// Tells what the reduce task of a partition gives.

@@ -8,7 +8,7 @@ use Rattle.std.proofs.Math.Seq.{get_or-append_seam}
 use Rattle.mr_input.specs.Files.{nth_file}
 use Rattle.mr_files.specs.Holding.{Holding, Stored}
 use Rattle.mr_jobs.specs.JobSpec.{JobSpec}
-use Rattle.mr_shards.specs.declared.merge.Output.{Output}
+use Rattle.mr_shards.specs.declared.merge.ShardText.{ShardText}
 use Rattle.mr_shards.specs.Refused.{IsRest}
 use Rattle.mr_shards.specs.Joined.{AreOutputsAt, IsMergedAt}
 use Rattle.mr_shards.specs.Verdict.{Told}
@@ -51,7 +51,7 @@ module _ (holds : Stored) (job : JobSpec) where
     parts_none ns vs (omega (arith, e)),
   )
 
-  parts_more : (n : ℕ) (ns : List (List ℕ)) (vs : List Told) (pss : List (List (List ℕ))) (ts : List (List ℕ)) (os : List Output) → ArePartsOf holds job n ns vs pss
+  parts_more : (n : ℕ) (ns : List (List ℕ)) (vs : List Told) (pss : List (List (List ℕ))) (ts : List (List ℕ)) (os : List ShardText) → ArePartsOf holds job n ns vs pss
       → Holding (StandsBeside holds n) ns ts → Tells n vs ts → AreOutputs vs ts os → AllByRecursion (λ o. IsRest job None o.text.now) os
       → ArePartsOf holds job (n + 1) ns vs (grown pss ts)
   parts_more n [] [] [] ts os a s k o l = tt
@@ -65,7 +65,7 @@ module _ (holds : Stored) (job : JobSpec) where
       (part_more n m v ps t a.0 s.0 k.0 (subst (IsRest job None) o.1 l.0), parts_more n ns vs pss ts os a.1 s.1 k.1 o.2 l.1)
 
   -- what the shards have for the new partition, and for those before it
-  outputs_new : (n : ℕ) (ns : List (List ℕ)) (vs : List Told) (pss : List (List (List ℕ))) (ts : List (List ℕ)) (os : List Output) → ArePartsOf holds job n ns vs pss
+  outputs_new : (n : ℕ) (ns : List (List ℕ)) (vs : List Told) (pss : List (List (List ℕ))) (ts : List (List ℕ)) (os : List ShardText) → ArePartsOf holds job n ns vs pss
       → AreOutputs vs ts os → AreOutputsAt n vs (grown pss ts) os
   outputs_new n [] [] [] [] [] a o = tt
   outputs_new n [] [] [] [] (q ∷ os) a o = absurd o
@@ -80,7 +80,7 @@ module _ (holds : Stored) (job : JobSpec) where
       let at : nth_file (ps ++ t ∷ []) n ≡ t = ap (λ k. nth_file (ps ++ t ∷ []) k) (sym a.0.count_is) ∙ get_or-append_seam ps t [] [] in
       (o.0, o.1 ∙ sym at, outputs_new n ns vs pss ts os a.1 o.2)
 
-  outputs_kept : (p n : ℕ) (ns : List (List ℕ)) (vs : List Told) (pss : List (List (List ℕ))) (ts : List (List ℕ)) (os : List Output) → p < n → ArePartsOf holds job n ns vs pss
+  outputs_kept : (p n : ℕ) (ns : List (List ℕ)) (vs : List Told) (pss : List (List (List ℕ))) (ts : List (List ℕ)) (os : List ShardText) → p < n → ArePartsOf holds job n ns vs pss
       → Tells n vs ts → AreOutputsAt p vs pss os → AreOutputsAt p vs (grown pss ts) os
   outputs_kept p n [] [] [] ts os less a k o = o
   outputs_kept p n [] [] (ps ∷ pss) ts os less a k o = absurd a

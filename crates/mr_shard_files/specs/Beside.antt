@@ -6,7 +6,7 @@ use Rattle.mr_files.specs.Folders.{IsFolderOf}
 use Rattle.mr_files.specs.Holding.{Holding, Stored}
 use Rattle.mr_files.specs.Names.{name_of_part}
 use Rattle.mr_jobs.specs.JobSpec.{JobSpec}
-use Rattle.mr_shards.specs.declared.merge.Output.{Output}
+use Rattle.mr_shards.specs.declared.merge.ShardText.{ShardText}
 use Rattle.mr_shards.specs.Merged.{merged_parts, texts}
 use Rattle.mr_shards.specs.Outputs.{IsOutputOfAll, parts_in}
 use Rattle.mr_shards.specs.Refused.{IsRest}
@@ -31,7 +31,7 @@ Tells p (v ∷ vs) (t ∷ ts) = TellsOf p v t × Tells p vs ts
 Tells p _ _ = ⊥
 
 -- the texts, each with the number of its shard's files
-abbrev pub AreOutputs : List Told → List (List ℕ) → List Output → Type 0
+abbrev pub AreOutputs : List Told → List (List ℕ) → List ShardText → Type 0
 AreOutputs [] [] [] = Unit {0}
 AreOutputs (v ∷ vs) (t ∷ ts) (o ∷ os) = (o.files ≡ length v.inputs) × (o.text.now ≡ t) × AreOutputs vs ts os
 AreOutputs _ _ _ = ⊥
@@ -40,7 +40,7 @@ AreOutputs _ _ _ = ⊥
 -- the job with keys in turn; and whatever judged shards those are of, it is the output of the sequential execution over all
 pub record IsPartition (holds : Stored) (job : JobSpec) (names : List (List ℕ)) (vs : List Told) (p : ℕ) (text : List ℕ) : Type 0 where
   pub parts : List (List ℕ)
-  pub outputs : List Output
+  pub outputs : List ShardText
   pub stand : Holding (StandsBeside holds p) names parts
   pub told : Tells p vs parts
   pub outputs_are : AreOutputs vs parts outputs

@@ -7,7 +7,7 @@ use Rattle.mr_files.specs.Identities.{Known}
 use Rattle.mr_files.specs.Names.{merged_names, name_of_part, name_of_verdict, part_names}
 use Rattle.mr_jobs.specs.JobSpec.{JobSpec, RequestSpec}
 use Rattle.mr_shards.specs.declared.merge_fault.MergeFault.TheVariants as merge
-use Rattle.mr_shards.specs.declared.merge.Output.{Output}
+use Rattle.mr_shards.specs.declared.merge.ShardText.{ShardText}
 use Rattle.mr_shards.specs.Refused.{Blames, HasFarLine}
 use Rattle.mr_shards.specs.declared.joining.JoinFault.TheVariants as join
 use Rattle.mr_shards.specs.Joined.{IsJoinFault, IsJoined, IsRepeated, inputs_of, verdict_at}
@@ -102,7 +102,7 @@ abbrev pub AreUnopened : Stored → Faulty → ℕ → List (List ℕ) → List 
 AreUnopened holds unreadable count names vs fault = (fault ≡ OutOfMemory) ⊎ ((p : ℕ) × (p < count) × IsTextsFault holds unreadable p names vs fault)
 
 -- what the parts of a partition hold can't be merged
-abbrev pub IsBlamed : JobSpec → List Output → ℕ → ShardFault → Type 0
+abbrev pub IsBlamed : JobSpec → List ShardText → ℕ → ShardFault → Type 0
 IsBlamed job os p (BadLine shard partition line) = (partition ≡ p) × Blames job os (merge.BadLine shard line)
 IsBlamed job os p (TotalTooLarge partition) = (partition ≡ p) × Blames job os merge.TotalTooLarge
 IsBlamed job os p (FileTooFar partition) = (partition ≡ p) × HasFarLine job os
@@ -112,7 +112,7 @@ IsBlamed job os p fault = ⊥
 -- each part is the one that its verdict tells of, and they can't be merged
 pub record IsUnmergedAt (holds : Stored) (job : JobSpec) (names : List (List ℕ)) (vs : List Told) (p : ℕ) (fault : ShardFault) : Type 0 where
   pub parts : List (List ℕ)
-  pub outputs : List Output
+  pub outputs : List ShardText
   pub stand : Holding (StandsBeside holds p) names parts
   pub told : Tells p vs parts
   pub outputs_are : AreOutputs vs parts outputs

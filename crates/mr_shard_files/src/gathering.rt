@@ -5,7 +5,7 @@ ghost use Rattle.mr_shards.specs.Verdict.{spelling};
 ghost use Rattle.mr_shard_files.specs.Faults.{IsUnheard, IsUngathered};
 
 use crate::fault::{ShardFault, of_verdict};
-use mr_files::{Store, WithinFault, read_file_within};
+use mr_files::{LimitFault, Store, read_file_within};
 use mr_shards::{Verdict, read_verdict};
 use std::alloc::{AllocError, Global};
 
@@ -27,8 +27,8 @@ fn verdict_under<S: Store>(
 {
     let text = match read_file_within(store, alloc, name, MAX_TEXT_BYTES) {
         Ok(text) => text,
-        Err(WithinFault::TooLong) => return Err(ShardFault::LongVerdict { shard }),
-        Err(WithinFault::File(fault)) => return Err(ShardFault::from(fault)),
+        Err(LimitFault::TooLong) => return Err(ShardFault::LongVerdict { shard }),
+        Err(LimitFault::File(fault)) => return Err(ShardFault::from(fault)),
     };
     match read_verdict(alloc, text.as_slice()) {
         Ok(verdict) => Ok(verdict),

@@ -7,7 +7,7 @@ ghost use Rattle.mr_shard_files.specs.Listing.{DifferIn, IsListed, escaped as es
 use crate::fault::ShardFault;
 use crate::gathering::MAX_TEXT_BYTES;
 use hex::encode_to_slice;
-use mr_files::{Store, WithinFault, read_file_within};
+use mr_files::{LimitFault, Store, read_file_within};
 use mr_lanes::first_difference;
 use mr_shards::FileNote;
 use std::alloc::{AllocError, Global};
@@ -105,8 +105,8 @@ fn list_text<S: Store>(store: &S, alloc: Global, name: &str) -> Result<Vec<u8>, 
 {
     match read_file_within(store, alloc, name, MAX_TEXT_BYTES) {
         Ok(text) => Ok(text),
-        Err(WithinFault::TooLong) => Err(ShardFault::LongList),
-        Err(WithinFault::File(fault)) => Err(ShardFault::from(fault)),
+        Err(LimitFault::TooLong) => Err(ShardFault::LongList),
+        Err(LimitFault::File(fault)) => Err(ShardFault::from(fault)),
     }
 }
 

@@ -6,7 +6,7 @@ ghost use Rattle.mr_shards.specs.Verdict.{spelling};
 ghost use Rattle.mr_shard_files.specs.Made.{TellsUnwritten};
 
 use crate::fault::ShardFault;
-use mr_files::{Store, verdict_name, write_named};
+use mr_files::{Store, verdict_name, write_file};
 use mr_shards::{Verdict, write_verdict};
 use std::alloc::Global;
 
@@ -24,7 +24,7 @@ pub(crate) fn put_verdict<S: Store>(
     ensures err { IfErr result (TellsUnwritten (S.unwritable store.old (name_of_verdict dir.now)) (name_of_verdict dir.now)) }
 {
     let name = verdict_name(alloc, dir)?;
-    write_named(store, alloc, name.as_str(), text)?;
+    write_file(store, alloc, name.as_str(), text)?;
     Ok(())
 }
 

@@ -10,7 +10,7 @@ use Rattle.mr_jobs.specs.Url.{before_byte}
 use Rattle.mr_sequential.proofs.SourceLemmas.{flat_map-append}
 use Rattle.mr_shards.specs.declared.merge_fault.MergeFault.{MergeFault}
 use Rattle.mr_shards.specs.declared.merge_fault.MergeFault.TheVariants.{BadLine, TotalTooLarge, TooManyFiles, OutOfMemory}
-use Rattle.mr_shards.specs.declared.merge.Output.{Output}
+use Rattle.mr_shards.specs.declared.merge.ShardText.{ShardText}
 use Rattle.mr_shards.specs.declared.window.Held.{Held}
 use Rattle.mr_shards.specs.declared.window.Window.{Window}
 use Rattle.mr_shards.specs.Merged.{Group, group_text, texts}
@@ -179,11 +179,11 @@ far-empty job files f =
     by (x ∷ xs) ys zs e = absurd (cc e)
 
 -- what is blamed in the pieces is to blame in the outputs
-pub record AreWorse (job : JobSpec) (hs : List Held) (rs : List Reading) (os : List Output) : Type 0 where
+pub record AreWorse (job : JobSpec) (hs : List Held) (rs : List Reading) (os : List ShardText) : Type 0 where
   pub bad : (i line : ℕ) → IsBadLine job (text_at os i) line → IsBadLine job (text_at (outputs_of rs) i) (((get_or hs i (fresh 0)).lines + line) % 2 ^ 64)
   pub far : (i files : ℕ) → IsFarLine job (text_at os i) files → IsFarLine job (text_at (outputs_of rs) i) files
   pub few : (key : List ℕ) → total_of job os key ≤ total_of job (outputs_of rs) key
-  pub files : map (λ (o : Output). o.files) os ≡ map (λ (o : Output). o.files) (outputs_of rs)
+  pub files : map (λ (o : ShardText). o.files) os ≡ map (λ (o : ShardText). o.files) (outputs_of rs)
 
 worse-none : (job : JobSpec) → AreWorse job [] [] []
 worse-none job = record {
@@ -193,7 +193,7 @@ worse-none job = record {
   files = refl;
 }
 
-worse-more : (job : JobSpec) (h : Held) (r : Reading) (o : Output) (hs : List Held) (rs : List Reading) (os : List Output)
+worse-more : (job : JobSpec) (h : Held) (r : Reading) (o : ShardText) (hs : List Held) (rs : List Reading) (os : List ShardText)
     → ((line : ℕ) → IsBadLine job o.text.now line → IsBadLine job r.output.text.now ((h.lines + line) % 2 ^ 64))
     → ((files : ℕ) → IsFarLine job o.text.now files → IsFarLine job r.output.text.now files)
     → ((key : List ℕ) → values_with key (groups_in job o.text.now) ≤ values_with key (groups_in job r.output.text.now))
@@ -206,8 +206,8 @@ worse-more job h r o hs rs os bad far few files w = record {
         arith,
         few key,
         w.few key,
-        among-cons key (groups_in job o.text.now) (map (λ (u : Output). groups_in job u.text.now) os),
-        among-cons key (groups_in job r.output.text.now) (map (λ (u : Output). groups_in job u.text.now) (outputs_of rs)),
+        among-cons key (groups_in job o.text.now) (map (λ (u : ShardText). groups_in job u.text.now) os),
+        among-cons key (groups_in job r.output.text.now) (map (λ (u : ShardText). groups_in job u.text.now) (outputs_of rs)),
       );
   files = λ i. files i ∷ w.files i;
 }
@@ -231,7 +231,7 @@ AreClosing (c ∷ cs) [] = Unit {0}
 AreClosing (c ∷ cs) (w ∷ ws) = Closes c w × AreClosing cs ws
 
 module _ (job : JobSpec) where
-  pub worse : (b : Option Bound) (hs : List Held) (rs : List Reading) (ws : List Window) (cs : List ℕ) (os : List Output) → AreTaken job b hs rs
+  pub worse : (b : Option Bound) (hs : List Held) (rs : List Reading) (ws : List Window) (cs : List ℕ) (os : List ShardText) → AreTaken job b hs rs
       → AreWindows rs ws → AreWithin cs ws
       → AreClosing cs ws → map told os ≡ pieces_of hs ws cs → AreWorse job hs rs os
   worse b [] [] [] [] [] t v fits all e = worse-none job
@@ -257,15 +257,15 @@ module _ (job : JobSpec) where
       (ap (λ (p : ℕ × List ℕ). p.0) piece ∙ t.0.files)
       (worse (next_bound b) hs rs ws cs os t.1 v.1 fits.1 all.1 more)
 
-files-same : (xs ys : List Output) → map (λ (o : Output). o.files) xs ≡ map (λ (o : Output). o.files) ys → files_in xs ≡ files_in ys
-files-same xs ys e = sym (sum-map (λ (o : Output). o.files) xs) ∙ ap sum e ∙ sum-map (λ (o : Output). o.files) ys
+files-same : (xs ys : List ShardText) → map (λ (o : ShardText). o.files) xs ≡ map (λ (o : ShardText). o.files) ys → files_in xs ≡ files_in ys
+files-same xs ys e = sym (sum-map (λ (o : ShardText). o.files) xs) ∙ ap sum e ∙ sum-map (λ (o : ShardText). o.files) ys
 
-files-front : (i : ℕ) (xs ys : List Output) → map (λ (o : Output). o.files) xs ≡ map (λ (o : Output). o.files) ys → files_in (take i xs) ≡ files_in (take i ys)
+files-front : (i : ℕ) (xs ys : List ShardText) → map (λ (o : ShardText). o.files) xs ≡ map (λ (o : ShardText). o.files) ys → files_in (take i xs) ≡ files_in (take i ys)
 files-front i xs ys e =
     files-same (take i xs) (take i ys)
-    (sym (take-map (λ (o : Output). o.files) i xs) ∙ ap (take i) e ∙ take-map (λ (o : Output). o.files) i ys)
+    (sym (take-map (λ (o : ShardText). o.files) i xs) ∙ ap (take i) e ∙ take-map (λ (o : ShardText). o.files) i ys)
 
-blames-fault : (job : JobSpec) (hs : List Held) (rs : List Reading) (os : List Output) (e : MergeFault) → AreWorse job hs rs os → Blames job os e
+blames-fault : (job : JobSpec) (hs : List Held) (rs : List Reading) (os : List ShardText) (e : MergeFault) → AreWorse job hs rs os → Blames job os e
     → Blames job (outputs_of rs) (numbered hs e)
 blames-fault job hs rs os (BadLine shard line) w b =
     let bad = w.bad shard line b.0 in

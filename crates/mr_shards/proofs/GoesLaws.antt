@@ -10,7 +10,7 @@ use Rattle.std.specs.declared.cmp.Ordering.TheVariants.{Less, Equal, Greater}
 use Rattle.mr_bytes.specs.Order.{key_order}
 use Rattle.mr_jobs.specs.JobSpec.{JobSpec, counts}
 use Rattle.mr_sequential.proofs.KeyLaws.{key_tie}
-use Rattle.mr_shards.specs.declared.merge.Output.{Output}
+use Rattle.mr_shards.specs.declared.merge.ShardText.{ShardText}
 use Rattle.mr_shards.specs.declared.window.Held.{Held}
 use Rattle.mr_shards.specs.declared.window.Place.{Place}
 use Rattle.mr_shards.specs.declared.window.Window.{Window}
@@ -249,7 +249,7 @@ next-left (suc m) n s e = omega (arith, e)
 module _ (job : JobSpec) where
   pub goes : (n m : ℕ) (q : Bound) (b : Option Bound) (hs : List Held) (rs : List Reading) (ws : List Window) → m ≡ q.shards - n → AreTaken job b hs rs
       → AreWindows rs ws
-      → AllByRecursion (λ (o : Output). IsRest job None o.text.now) (outputs_of rs) → FoundIn n q ws → Goes b (record { key = q.key; shards = m }) ws
+      → AllByRecursion (λ (o : ShardText). IsRest job None o.text.now) (outputs_of rs) → FoundIn n q ws → Goes b (record { key = q.key; shards = m }) ws
   goes n m q b hs rs [] place t v all f = absurd f
   goes n m q b hs [] (w ∷ ws) place t v all f = absurd v
   goes n m q b [] (r ∷ rs) (w ∷ ws) place t v all f = absurd t
@@ -268,7 +268,7 @@ module _ (job : JobSpec) where
 
   module _ (b : Option Bound) (hs : List Held) (rs : List Reading) (ws : List Window) (parted : counts job ≡ false)
       (more : are_last ws ≡ false) (have : HaveLines ws)
-      (t : AreTaken job b hs rs) (v : AreWindows rs ws) (all : AllByRecursion (λ (o : Output). IsRest job None o.text.now) (outputs_of rs)) where
+      (t : AreTaken job b hs rs) (v : AreWindows rs ws) (all : AllByRecursion (λ (o : ShardText). IsRest job None o.text.now) (outputs_of rs)) where
     pub goes-to : (p : Bound) → option_map (place_for job) (least_last None 0 ws) ≡ Some p → Goes b p ws
     goes-to p e =
         let s = some-least 0 ws more have in

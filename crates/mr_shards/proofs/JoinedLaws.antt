@@ -10,7 +10,7 @@ use Rattle.mr_input.specs.Files.{split_count, split_total}
 use Rattle.mr_jobs.specs.JobSpec.{RequestSpec}
 use Rattle.mr_sequential.specs.Emitted.{emitted}
 use Rattle.mr_sequential.specs.Sequential.{sequential}
-use Rattle.mr_shards.specs.declared.merge.Output.{Output}
+use Rattle.mr_shards.specs.declared.merge.ShardText.{ShardText}
 use Rattle.mr_shards.specs.Outputs.{AreOutputsOf, IsJudged}
 use Rattle.mr_shards.specs.Shards.{Shard, SkipsExist, files_of, moved_name, skips_of}
 use Rattle.mr_shards.proofs.EmittedLaws.{emitted-append, emitted-none, moved_triple}
@@ -136,7 +136,7 @@ module _ (request : RequestSpec) (some : 0 < request.split) where
   stand (v ∷ vs) (f ∷ fss) [] t = absurd t
   stand (v ∷ vs) (f ∷ fss) (p ∷ pss) t = ((t.0.rise, t.0.exist), stand vs fss pss t.1)
 
-  outputs-are : (p : ℕ) (vs : List Told) (fss pss : List (List (List ℕ))) (os : List Output) → p < request.parts → AreTrueOf request vs fss pss
+  outputs-are : (p : ℕ) (vs : List Told) (fss pss : List (List (List ℕ))) (os : List ShardText) → p < request.parts → AreTrueOf request vs fss pss
       → AreOutputsAt p vs pss os → AreOutputsOf request p (shards_for vs fss) os
   outputs-are p [] [] [] [] less t h = tt
   outputs-are p [] [] [] (o ∷ os) less t h = absurd h

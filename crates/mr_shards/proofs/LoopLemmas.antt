@@ -17,7 +17,7 @@ use Rattle.mr_shards.specs.declared.cursor.Cursor.{Cursor}
 use Rattle.mr_shards.specs.declared.line.Line.{Line}
 use Rattle.mr_shards.specs.declared.line.Tally.{Tally}
 use Rattle.mr_shards.specs.declared.line.Tally.TheVariants.{Total, Place}
-use Rattle.mr_shards.specs.declared.merge.Output.{Output}
+use Rattle.mr_shards.specs.declared.merge.ShardText.{ShardText}
 use Rattle.mr_shards.specs.Merged.{Group, group_text, texts, joined, with_group, merged, merged_parts, moved_group}
 use Rattle.mr_shards.specs.Lines.{groups_in, group_in, NoneFalls}
 use Rattle.mr_shards.specs.Refused.{AreRead, IsRest}
@@ -140,12 +140,12 @@ module _ (job : JobSpec) (line l : Line) (gs : List Group) (old new : List ℕ) 
 
 -- ---- what the loop keeps
 
-pub record Told (job : JobSpec) (outputs : List Output) (cursors : List Cursor) (waiting : Option Line) (out : List ℕ) : Type 0 where
-  pub stands : AllByRecursion (λ (o : Output). IsRest job None o.text.now) outputs
+pub record Told (job : JobSpec) (outputs : List ShardText) (cursors : List Cursor) (waiting : Option Line) (out : List ℕ) : Type 0 where
+  pub stands : AllByRecursion (λ (o : ShardText). IsRest job None o.text.now) outputs
   pub text : out ++ texts job (with_waiting waiting (merged_all (map (left job) cursors))) ≡ texts job (merged_parts (parts_in job outputs))
   pub below : IsBelow job waiting cursors
 
-pub record Kept (job : JobSpec) (outputs : List Output) (cursors : List Cursor) (waiting : Option Line) (out : List ℕ) : Type 0 where
+pub record Kept (job : JobSpec) (outputs : List ShardText) (cursors : List Cursor) (waiting : Option Line) (out : List ℕ) : Type 0 where
   pub kinds : AllByRecursion (IsHeadFor job) cursors
   pub waits : IsLineFor job waiting
   pub read : AreRead job cursors outputs
@@ -155,7 +155,7 @@ pub record Kept (job : JobSpec) (outputs : List Output) (cursors : List Cursor) 
 below-some : (job : JobSpec) (waiting : Option Line) (cs : List Cursor) (w : Line) → waiting ≡ Some w → IsBelow job waiting cs → AllByRecursion (NoneBefore w.key.now) (map (left job) cs)
 below-some job waiting cs w e b = subst (λ (o : Option Line). IsBelow job o cs) e b
 
-pub kept-step : (job : JobSpec) (outputs : List Output) (old new : List Cursor) (waiting : Option Line) (line l : Line) (out out' : List ℕ)
+pub kept-step : (job : JobSpec) (outputs : List ShardText) (old new : List Cursor) (waiting : Option Line) (line l : Line) (out out' : List ℕ)
     → Step job old new line → AreRead job new outputs → Goes job waiting line l out out' → Kept job outputs old waiting out → Kept job outputs new (Some l) out'
 kept-step job outputs old new waiting line l out out' s read g k =
     let lf = step-for job old new line s k.kinds in
@@ -178,13 +178,13 @@ kept-step job outputs old new waiting line l out out' s read g k =
 
 -- ---- the ends of the loop
 
-opened-all : (job : JobSpec) (cs : List Cursor) (os : List Output) → AreOpened job cs os → AllByRecursion (Stands job) cs → AllByRecursion (λ (o : Output). IsRest job None o.text.now) os
+opened-all : (job : JobSpec) (cs : List Cursor) (os : List ShardText) → AreOpened job cs os → AllByRecursion (Stands job) cs → AllByRecursion (λ (o : ShardText). IsRest job None o.text.now) os
 opened-all job [] [] o s = tt
 opened-all job [] (x ∷ os) o s = absurd o
 opened-all job (c ∷ cs) [] o s = absurd o
 opened-all job (c ∷ cs) (x ∷ os) o s = (o.0 s.0, opened-all job cs os o.1 s.1)
 
-pub kept-first : (job : JobSpec) (outputs : List Output) (cs : List Cursor) (out : List ℕ) → AllByRecursion (IsHeadFor job) cs → AreRead job cs outputs → AreOpened job cs outputs
+pub kept-first : (job : JobSpec) (outputs : List ShardText) (cs : List Cursor) (out : List ℕ) → AllByRecursion (IsHeadFor job) cs → AreRead job cs outputs → AreOpened job cs outputs
     → map (left job) cs ≡ moved_parts 0 (parts_in job outputs) → out ≡ [] → Kept job outputs cs None out
 kept-first job outputs cs out kinds read opened lefts none = record {
   kinds = kinds;
@@ -222,28 +222,28 @@ none-left job [] ends = refl
 none-left job (c ∷ cs) ends =
     ap (λ (o : Option Line). merged (headed o (map (moved_group c.before) (groups_in job c.rest.now))) (merged_all (map (left job) cs))) ends.0 ∙ none-left job cs ends.1
 
-pub record Ends (job : JobSpec) (outputs : List Output) (waiting : Option Line) (out : List ℕ) : Type 0 where
-  pub stands : AllByRecursion (λ (o : Output). IsRest job None o.text.now) outputs
+pub record Ends (job : JobSpec) (outputs : List ShardText) (waiting : Option Line) (out : List ℕ) : Type 0 where
+  pub stands : AllByRecursion (λ (o : ShardText). IsRest job None o.text.now) outputs
   pub text : out ++ texts job (with_waiting waiting []) ≡ texts job (merged_parts (parts_in job outputs))
 
-pub kept-end : (job : JobSpec) (outputs : List Output) (cs : List Cursor) (waiting : Option Line) (out : List ℕ) → IsBest cs None → Kept job outputs cs waiting out → Ends job outputs waiting out
+pub kept-end : (job : JobSpec) (outputs : List ShardText) (cs : List Cursor) (waiting : Option Line) (out : List ℕ) → IsBest cs None → Kept job outputs cs waiting out → Ends job outputs waiting out
 kept-end job outputs cs waiting out ends k =
     let t = k.told (all-stand job cs ends k.kinds) in
     record { stands = t.stands; text = ap (λ (gs : List Group). out ++ texts job (with_waiting waiting gs)) (sym (none-left job cs ends)) ∙ t.text }
 
 -- ---- opening
 
-opened-push : (job : JobSpec) (cs : List Cursor) (os : List Output) (c : Cursor) (o : Output) → AreOpened job cs os → (Stands job c → IsRest job None o.text.now) → AreOpened job (cs ++ c ∷ []) (os ++ o ∷ [])
+opened-push : (job : JobSpec) (cs : List Cursor) (os : List ShardText) (c : Cursor) (o : ShardText) → AreOpened job cs os → (Stands job c → IsRest job None o.text.now) → AreOpened job (cs ++ c ∷ []) (os ++ o ∷ [])
 opened-push job [] [] c o a f = (f, tt)
 opened-push job [] (x ∷ os) c o a f = absurd a
 opened-push job (d ∷ cs) [] c o a f = absurd a
 opened-push job (d ∷ cs) (x ∷ os) c o a f = (a.0, opened-push job cs os c o a.1 f)
 
-pub opened-more : (job : JobSpec) (cs : List Cursor) (os : List Output) (i : ℕ) (d : Output) (c : Cursor) → i < length os → AreOpened job cs (take i os)
+pub opened-more : (job : JobSpec) (cs : List Cursor) (os : List ShardText) (i : ℕ) (d : ShardText) (c : Cursor) → i < length os → AreOpened job cs (take i os)
     → (Stands job c → IsRest job None (get_or os i d).text.now) → AreOpened job (cs ++ c ∷ []) (take (i + 1) os)
 opened-more job cs os i d c h a f = subst (AreOpened job (cs ++ c ∷ [])) (sym (take_more os i d h)) (opened-push job cs (take i os) c (get_or os i d) a f)
 
-pub lefts-more : (job : JobSpec) (cs : List Cursor) (os : List Output) (i before next : ℕ) (d : Output) (c : Cursor) (all : List (List Group)) → i < length os
+pub lefts-more : (job : JobSpec) (cs : List Cursor) (os : List ShardText) (i before next : ℕ) (d : ShardText) (c : Cursor) (all : List (List Group)) → i < length os
     → map (left job) cs ++ moved_parts before (parts_in job (drop i os)) ≡ all → left job c ≡ map (moved_group before) (groups_in job (get_or os i d).text.now)
     → next ≡ before + (get_or os i d).files
     → map (left job) (cs ++ c ∷ []) ++ moved_parts next (parts_in job (drop (i + 1) os)) ≡ all
@@ -252,7 +252,7 @@ lefts-more job cs os i before next d c all h e here n =
     ∙ append_assoc (map (left job) cs) (left job c ∷ []) (moved_parts next (parts_in job (drop (i + 1) os)))
     ∙ ap (λ (gs : List Group). map (left job) cs ++ gs ∷ moved_parts next (parts_in job (drop (i + 1) os))) here
     ∙ ap (λ (k : ℕ). map (left job) cs ++ map (moved_group before) (groups_in job (get_or os i d).text.now) ∷ moved_parts k (parts_in job (drop (i + 1) os))) n
-    ∙ ap (λ (l : List Output). map (left job) cs ++ moved_parts before (parts_in job l)) (sym (drop_more os i d h)) ∙ e
+    ∙ ap (λ (l : List ShardText). map (left job) cs ++ moved_parts before (parts_in job l)) (sym (drop_more os i d h)) ∙ e
 
 pub least-within : (cs : List Cursor) (at : ℕ) (line : Line) → IsLeast cs at line → at < length cs
 least-within cs at line b = omega (arith, ap length b.is, length-append b.front (b.one ∷ b.back), b.place)

@@ -14,7 +14,7 @@ use Rattle.mr_shards.specs.declared.merge_fault.MergeFault.TheVariants.{BadLine,
 use Rattle.mr_shards.specs.declared.line.Line.{Line}
 use Rattle.mr_shards.specs.declared.line.Tally.{Tally}
 use Rattle.mr_shards.specs.declared.line.Tally.TheVariants.{Total, Place}
-use Rattle.mr_shards.specs.declared.merge.Output.{Output}
+use Rattle.mr_shards.specs.declared.merge.ShardText.{ShardText}
 use Rattle.mr_shards.specs.Merged.{Group, group_text, texts}
 use Rattle.std.proofs.Math.Nat.{mod-add-mod}
 use Rattle.mr_sequential.proofs.SourceLemmas.{flat_map-append}
@@ -158,10 +158,10 @@ bad-text job text line b r =
 
 -- ---- cursors and outputs
 
-pub text-at : (os : List Output) (i : ℕ) (d : Output) → i < length os → text_at os i ≡ (get_or os i d).text.now
-text-at os i d h = get_or-map (λ (o : Output). o.text.now) os i d [] h
+pub text-at : (os : List ShardText) (i : ℕ) (d : ShardText) → i < length os → text_at os i ≡ (get_or os i d).text.now
+text-at os i d h = get_or-map (λ (o : ShardText). o.text.now) os i d [] h
 
-pub read-push : (job : JobSpec) (cs : List Cursor) (os : List Output) (i : ℕ) (d : Output) (c : Cursor) → length cs ≡ i → i < length os → AreRead job cs os
+pub read-push : (job : JobSpec) (cs : List Cursor) (os : List ShardText) (i : ℕ) (d : ShardText) (c : Cursor) → length cs ≡ i → i < length os → AreRead job cs os
     → ((text : List ℕ) → IsReadTo job text None (get_or os i d).text.now 0 → IsReadOf job text c) → c.before ≡ files_in (take i os) → AreRead job (cs ++ c ∷ []) os
 read-push job cs os i d c same h read here behind j e l =
     elim (cases_eq j i) [
@@ -176,7 +176,7 @@ read-push job cs os i d c same h read here behind j e l =
           subst (IsReadAt job os j) (sym (get_or_append_left cs (c ∷ []) e j low)) (read j e low))
     ]
 
-read-set : (job : JobSpec) (cs : List Cursor) (os : List Output) (at : ℕ) (one next : Cursor) → at < length cs → get_or cs at one ≡ one → AreRead job cs os
+read-set : (job : JobSpec) (cs : List Cursor) (os : List ShardText) (at : ℕ) (one next : Cursor) → at < length cs → get_or cs at one ≡ one → AreRead job cs os
     → ((text : List ℕ) → IsReadOf job text one → IsReadOf job text next) → next.before ≡ one.before → AreRead job (set cs at next) os
 read-set job cs os at one next h is read here stays j d l =
     elim (cases_eq j at) [
@@ -189,7 +189,7 @@ read-set job cs os at one next h is read here stays j d l =
           subst (IsReadAt job os j) (sym (get_or-set_other cs at j next d other)) (read j d low))
     ]
 
-pub read-step : (job : JobSpec) (os : List Output) (at : ℕ) (old new : List Cursor) → at < length old → ReadsOn job at old new → AreRead job old os → AreRead job new os
+pub read-step : (job : JobSpec) (os : List ShardText) (at : ℕ) (old new : List Cursor) → at < length old → ReadsOn job at old new → AreRead job old os → AreRead job new os
 read-step job os at old new h r read = subst (λ (cs : List Cursor). AreRead job cs os) (sym r.set) (read-set job old os at r.one r.next h r.was read r.read r.before)
 
 -- ---- places that are too far
@@ -238,7 +238,7 @@ far-behind job text rest files gs e all f = record {
 -- ---- blame
 
 -- who blames a line of what is left blames the output
-blames-all : (job : JobSpec) (at files : ℕ) (os : List Output) (last : Option (List ℕ)) (text : List ℕ) (number : ℕ) (e : MergeFault) → IsReadTo job (text_at os at) last text number
+blames-all : (job : JobSpec) (at files : ℕ) (os : List ShardText) (last : Option (List ℕ)) (text : List ℕ) (number : ℕ) (e : MergeFault) → IsReadTo job (text_at os at) last text number
     → files ≡ files_in (take at os) → BlamesOnly job at files last text number e → Blames job os e
 blames-all job at files os last text number (BadLine shard line) read behind b =
     let bad : IsBadLine job (text_at os at) number = record { last = last; rest = text; before = read; some = b.2; bad = b.3 } in
@@ -249,13 +249,13 @@ blames-all job at files os last text number TooManyFiles read behind b =
     inr (at, subst (IsFarLine job (text_at os at)) behind (far-behind job (text_at os at) text files read.groups read.text_is read.lines b))
 blames-all job at files os last text number OutOfMemory read behind b = tt
 
-pub blames-opening : (job : JobSpec) (i files : ℕ) (os : List Output) (d : Output) (e : MergeFault) → i < length os → files ≡ files_in (take i os)
+pub blames-opening : (job : JobSpec) (i files : ℕ) (os : List ShardText) (d : ShardText) (e : MergeFault) → i < length os → files ≡ files_in (take i os)
     → BlamesOnly job i files None (get_or os i d).text.now 0 e → Blames job os e
 blames-opening job i files os d e h behind b =
     blames-all job i files os None (get_or os i d).text.now 0 e
     (subst (λ (t : List ℕ). IsReadTo job t None (get_or os i d).text.now 0) (sym (text-at os i d h)) (read-none job (get_or os i d).text.now)) behind b
 
-pub blames-left : (job : JobSpec) (at : ℕ) (cs : List Cursor) (os : List Output) (one : Cursor) (e : MergeFault) → at < length cs → get_or cs at one ≡ one → AreRead job cs os
+pub blames-left : (job : JobSpec) (at : ℕ) (cs : List Cursor) (os : List ShardText) (one : Cursor) (e : MergeFault) → at < length cs → get_or cs at one ≡ one → AreRead job cs os
     → BlamesOnly job at one.before (last_key one.head) one.rest.now one.lines e → Blames job os e
 blames-left job at cs os one e h is read b =
     let here : IsReadAt job os at one = subst (IsReadAt job os at) is (read at one h) in
@@ -263,14 +263,14 @@ blames-left job at cs os one e h is read b =
 
 -- ---- how many files
 
-pub files-next : (os : List Output) (i : ℕ) (d : Output) (before files : ℕ) → i < length os → before ≡ files_in (take i os) → files ≡ before + (get_or os i d).files
+pub files-next : (os : List ShardText) (i : ℕ) (d : ShardText) (before files : ℕ) → i < length os → before ≡ files_in (take i os) → files ≡ before + (get_or os i d).files
     → files ≡ files_in (take (i + 1) os)
-files-next os i d before files less behind sum = sum ∙ ap (λ k. k + (get_or os i d).files) behind ∙ sym (sum_by_more (λ (o : Output). o.files) os i d less)
+files-next os i d before files less behind sum = sum ∙ ap (λ k. k + (get_or os i d).files) behind ∙ sym (sum_by_more (λ (o : ShardText). o.files) os i d less)
 
-pub files-over : (os : List Output) (i : ℕ) (d : Output) (before : ℕ) → i < length os → before ≡ files_in (take i os) → (before + (get_or os i d).files < 2 ^ 32 → ⊥) → 2 ^ 32 ≤ files_in os
+pub files-over : (os : List ShardText) (i : ℕ) (d : ShardText) (before : ℕ) → i < length os → before ≡ files_in (take i os) → (before + (get_or os i d).files < 2 ^ 32 → ⊥) → 2 ^ 32 ≤ files_in os
 files-over os i d before less behind over =
     let next = files-next os i d before (before + (get_or os i d).files) less behind refl in
-    let all = sum_by-take-le (λ (o : Output). o.files) os (i + 1) in
+    let all = sum_by-take-le (λ (o : ShardText). o.files) os (i + 1) in
     by (cases_lt (before + (get_or os i d).files) (2 ^ 32)) next all
   where
     by : (before + (get_or os i d).files < 2 ^ 32) ⊎ (2 ^ 32 ≤ before + (get_or os i d).files) → before + (get_or os i d).files ≡ files_in (take (i + 1) os)
@@ -282,10 +282,10 @@ files-over os i d before less behind over =
 pub handed : {T : Type 0} (P : MergeFault → Type 0) (r : Result T MergeFault) (e : MergeFault) → (y : MergeFault) × (r ≡ Err y) × (y ≡ e) → P e → IfErr r P
 handed {T} P r e w b = subst (λ (q : Result T MergeFault). IfErr q P) (sym w.1) (subst P (sym w.2) b)
 
-pub blamed : {T : Type 0} (job : JobSpec) (os : List Output) (r : Result T MergeFault) (e : MergeFault) → (y : MergeFault) × (r ≡ Err y) × (y ≡ e) → Blames job os e → IfErr r (Blames job os)
+pub blamed : {T : Type 0} (job : JobSpec) (os : List ShardText) (r : Result T MergeFault) (e : MergeFault) → (y : MergeFault) × (r ≡ Err y) × (y ≡ e) → Blames job os e → IfErr r (Blames job os)
 blamed {T} job os r e w b = subst (λ (q : Result T MergeFault). IfErr q (Blames job os)) (sym w.1) (subst (Blames job os) (sym w.2) b)
 
-pub blames-taken : (job : JobSpec) (os : List Output) (waiting : Option Line) (line : Line) (e : MergeFault) → TakesNot waiting line e
+pub blames-taken : (job : JobSpec) (os : List ShardText) (waiting : Option Line) (line : Line) (e : MergeFault) → TakesNot waiting line e
     → (Overflows waiting line → (key : List ℕ) × (2 ^ 64 ≤ total_of job os key)) → Blames job os e
 blames-taken job os waiting line (BadLine shard at) b f = absurd b
 blames-taken job os waiting line TotalTooLarge b f = f b

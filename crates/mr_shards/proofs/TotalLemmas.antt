@@ -6,7 +6,7 @@ use Rattle.mr_jobs.specs.JobSpec.{JobSpec}
 use Rattle.mr_sequential.proofs.KeyLaws.{bytes_eq-same}
 use Rattle.mr_shards.specs.declared.cursor.Cursor.{Cursor}
 use Rattle.mr_shards.specs.declared.line.Line.{Line}
-use Rattle.mr_shards.specs.declared.merge.Output.{Output}
+use Rattle.mr_shards.specs.declared.merge.ShardText.{ShardText}
 use Rattle.mr_shards.specs.Merged.{Group, joined, moved_group, moved_value}
 use Rattle.mr_shards.specs.Lines.{groups_in}
 use Rattle.mr_shards.specs.Views.{group_of}
@@ -23,7 +23,7 @@ abbrev pub waits_with : List ℕ → Option Line → ℕ
 waits_with key None = 0
 waits_with key (Some w) = one_of key (group_of w)
 
-abbrev pub IsWithin : JobSpec → List Output → List Cursor → Option Line → Type 0
+abbrev pub IsWithin : JobSpec → List ShardText → List Cursor → Option Line → Type 0
 IsWithin job outputs cursors waiting = (key : List ℕ) → waits_with key waiting + values_among key (map (left job) cursors) ≤ total_of job outputs key
 
 -- ---- sums
@@ -49,14 +49,14 @@ with-moved key n (g ∷ gs) =
     ap (λ k. cond (bytes_eq g.key key) k 0 + values_with key (map (moved_group n) gs)) same
     ∙ ap (λ k. one_of key g + k) (with-moved key n gs)
 
-among-moved : (key : List ℕ) (job : JobSpec) (n : ℕ) (os : List Output) → values_among key (moved_parts n (parts_in job os)) ≡ total_of job os key
+among-moved : (key : List ℕ) (job : JobSpec) (n : ℕ) (os : List ShardText) → values_among key (moved_parts n (parts_in job os)) ≡ total_of job os key
 unfolding values_among
 among-moved key job n [] = refl
 among-moved key job n (o ∷ os) =
     ap (λ k. k + values_among key (moved_parts (n + o.files) (parts_in job os))) (with-moved key n (groups_in job o.text.now))
     ∙ ap (λ k. values_with key (groups_in job o.text.now) + k) (among-moved key job (n + o.files) os)
 
-pub within-first : (job : JobSpec) (outputs : List Output) (cs : List Cursor) → map (left job) cs ≡ moved_parts 0 (parts_in job outputs) → IsWithin job outputs cs None
+pub within-first : (job : JobSpec) (outputs : List ShardText) (cs : List Cursor) → map (left job) cs ≡ moved_parts 0 (parts_in job outputs) → IsWithin job outputs cs None
 within-first job outputs cs lefts key = omega (arith, ap (values_among key) lefts, among-moved key job 0 outputs)
 
 -- ---- a line that goes in
@@ -92,7 +92,7 @@ goes-within job (Some w) line l old new key (inl g) =
     omega (arith, ap (one_of key) g.1, joined-one key (group_of w) (group_of line) g.0)
 goes-within job (Some w) line l old new key (inr g) = omega (arith, ap (λ (q : Line). one_of key (group_of q)) g.0)
 
-pub within-step : (job : JobSpec) (outputs : List Output) (old new : List Cursor) (waiting : Option Line) (line l : Line) (out out' : List ℕ)
+pub within-step : (job : JobSpec) (outputs : List ShardText) (old new : List Cursor) (waiting : Option Line) (line l : Line) (out out' : List ℕ)
     → Step job old new line → Goes job waiting line l out out' → IsWithin job outputs old waiting → IsWithin job outputs new (Some l)
 within-step job outputs old new waiting line l out out' s g few key =
     omega (arith, few key, among-step job old new line key s, goes-within job waiting line l out out' key g)
@@ -102,7 +102,7 @@ within-step job outputs old new waiting line l out out' s g few key =
 one-own : (g : Group) (key : List ℕ) → g.key ≡ key → one_of key g ≡ length g.values
 one-own g key same = ap (λ b. cond b (length g.values) 0) (ap (λ (k : List ℕ). bytes_eq k key) same ∙ bytes_eq-same key)
 
-pub too-large : (job : JobSpec) (outputs : List Output) (old new : List Cursor) (waiting : Option Line) (line : Line) → Step job old new line → IsWithin job outputs old waiting
+pub too-large : (job : JobSpec) (outputs : List ShardText) (old new : List Cursor) (waiting : Option Line) (line : Line) → Step job old new line → IsWithin job outputs old waiting
     → Overflows waiting line → (key : List ℕ) × (2 ^ 64 ≤ total_of job outputs key)
 too-large job outputs old new None line s few o = absurd o
 too-large job outputs old new (Some w) line s few o =

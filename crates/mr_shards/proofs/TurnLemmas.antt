@@ -6,7 +6,7 @@ use Rattle.std.proofs.Math.Seq.{drop-append-add, take-add}
 use Rattle.std.specs.List.{AllByRecursion}
 use Rattle.mr_jobs.specs.JobSpec.{JobSpec, counts}
 use Rattle.mr_sequential.proofs.SourceLemmas.{flat_map-append}
-use Rattle.mr_shards.specs.declared.merge.Output.{Output}
+use Rattle.mr_shards.specs.declared.merge.ShardText.{ShardText}
 use Rattle.mr_shards.specs.declared.window.Held.{Held}
 use Rattle.mr_shards.specs.declared.window.Window.{Window}
 use Rattle.mr_shards.specs.Merged.{Group, group_text, merged_parts, moved_group, texts}
@@ -89,16 +89,16 @@ drop-on_from m n text h =
     let e : m + n ≡ length (take m text) + n = omega (arith, length-take-le m text h) in
     (λ i. drop (e i) (sym (take-append-drop m text) i)) ∙ drop-append-add (take m text) (drop m text) n
 
-abbrev pub IsPiece : Held → Window → ℕ → Output → Type 0
+abbrev pub IsPiece : Held → Window → ℕ → ShardText → Type 0
 IsPiece h w n o = told o ≡ (h.files, take n w.bytes.now)
 
-pub piece-text : (h : Held) (w : Window) (n : ℕ) (o : Output) → IsPiece h w n o → o.text.now ≡ take n w.bytes.now
+pub piece-text : (h : Held) (w : Window) (n : ℕ) (o : ShardText) → IsPiece h w n o → o.text.now ≡ take n w.bytes.now
 piece-text h w n o e = ap (λ (p : ℕ × List ℕ). p.1) e
 
 abbrev pub on : Reading → ℕ → Reading
 on r n = record { output = r.output; taken = r.taken + n }
 
-module _ (job : JobSpec) (b : Option Bound) (h : Held) (r : Reading) (w : Window) (n : ℕ) (o : Output)
+module _ (job : JobSpec) (b : Option Bound) (h : Held) (r : Reading) (w : Window) (n : ℕ) (o : ShardText)
     (t : IsTaken job b h r) (v : IsWindow r w) (fits : n ≤ length w.bytes.now) (piece : IsPiece h w n o) where
   front-on : front (on r n) ≡ front r ++ o.text.now
   front-on =
@@ -198,16 +198,16 @@ first-of x y xs ys e = ap (λ l. get_or l 0 x) e
 pub rest-of : {X : Type 0} (x y : X) (xs ys : List X) → x ∷ xs ≡ y ∷ ys → xs ≡ ys
 rest-of x y xs ys e = ap (λ l. drop 1 l) e
 
-abbrev pub AllStand : JobSpec → List Output → Type 0
-AllStand job os = AllByRecursion (λ (o : Output). IsRest job None o.text.now) os
+abbrev pub AllStand : JobSpec → List ShardText → Type 0
+AllStand job os = AllByRecursion (λ (o : ShardText). IsRest job None o.text.now) os
 
 abbrev pub woven_taken : JobSpec → List Reading → List Group
 woven_taken job rs = woven_parts (counts job) (map (part_taken job) rs)
 
-abbrev pub woven_in : JobSpec → List Output → List Group
+abbrev pub woven_in : JobSpec → List ShardText → List Group
 woven_in job os = woven_parts (counts job) (parts_in job os)
 
-pub record Sums (job : JobSpec) (b : Option Bound) (rs : List Reading) (cs : List ℕ) (os : List Output) : Type 0 where
+pub record Sums (job : JobSpec) (b : Option Bound) (rs : List Reading) (cs : List ℕ) (os : List ShardText) : Type 0 where
   pub woven_is : woven_taken job (taken_on cs rs) ≡ woven_taken job rs ++ woven_in job os
   pub parts_read : AllByRecursion (IsRead job) (map (part_taken job) (taken_on cs rs))
   pub low : Low b (woven_taken job rs)
@@ -231,12 +231,12 @@ read-taken job b [] (r ∷ rs) t = absurd t
 read-taken job b (h ∷ hs) [] t = absurd t
 read-taken job b (h ∷ hs) (r ∷ rs) t = ((front r, t.0.stands, refl), read-taken job (next_bound b) hs rs t.1)
 
-read-in : (job : JobSpec) (os : List Output) → AllStand job os → AllByRecursion (IsRead job) (parts_in job os)
+read-in : (job : JobSpec) (os : List ShardText) → AllStand job os → AllByRecursion (IsRead job) (parts_in job os)
 read-in job [] all = tt
 read-in job (o ∷ os) all = ((o.text.now, all.0, refl), read-in job os all.1)
 
 module _ (job : JobSpec) where
-  pub sums : (b : Option Bound) (hs : List Held) (rs : List Reading) (ws : List Window) (cs : List ℕ) (os : List Output) → AreTaken job b hs rs
+  pub sums : (b : Option Bound) (hs : List Held) (rs : List Reading) (ws : List Window) (cs : List ℕ) (os : List ShardText) → AreTaken job b hs rs
       → AreWindows rs ws → AreWithin cs ws
       → map told os ≡ pieces_of hs ws cs → AllStand job os → Sums job b rs cs os
   sums b [] [] [] [] [] t v fits e all = record { woven_is = refl; parts_read = tt; low = tt; high = tt }
@@ -265,7 +265,7 @@ module _ (job : JobSpec) where
             (all-moved (λ k. IsBefore (strict b) k → ⊥) o.files ys high);
       }
 
-  pub text-on : (b : Option Bound) (hs : List Held) (rs : List Reading) (ws : List Window) (cs : List ℕ) (os : List Output) → AreTaken job b hs rs
+  pub text-on : (b : Option Bound) (hs : List Held) (rs : List Reading) (ws : List Window) (cs : List ℕ) (os : List ShardText) → AreTaken job b hs rs
       → AreWindows rs ws → AreWithin cs ws
       → map told os ≡ pieces_of hs ws cs → AllStand job os
       → text_taken job (taken_on cs rs) ≡ text_taken job rs ++ texts job (merged_parts (parts_in job os))
@@ -277,7 +277,7 @@ module _ (job : JobSpec) where
       ∙ ap (λ (l : List ℕ). l ++ texts job (woven_in job os)) (sym (woven-text job (map (part_taken job) rs) (read-taken job b hs rs t)))
       ∙ ap (λ (l : List ℕ). text_taken job rs ++ l) (sym (woven-text job (parts_in job os) (read-in job os all)))
 
-  pub after-place : (b : Option Bound) (p : Bound) (hs : List Held) (rs : List Reading) (ws : List Window) (os : List Output) → is_past b p ≡ true
+  pub after-place : (b : Option Bound) (p : Bound) (hs : List Held) (rs : List Reading) (ws : List Window) (os : List ShardText) → is_past b p ≡ true
       → Suits job (Some p)
       → AreTaken job b hs rs → AreWindows rs ws → map told os ≡ pieces_of hs ws (cuts_before p ws) → AllStand job os → AreEnding p ws
       → AreTaken job (Some p) (all_read_on hs ws (cuts_before p ws)) (taken_on (cuts_before p ws) rs)
@@ -316,12 +316,12 @@ within-place p [] = tt
 within-place p (w ∷ ws) = ((cut-of p w).parts.within, within-place (next_place p) ws)
 
 pub record Wholes (job : JobSpec) (rs : List Reading) (ws : List Window) : Type 0 where
-  pub stands : AllByRecursion (λ (o : Output). IsRest job None o.text.now) (outputs_of rs)
+  pub stands : AllByRecursion (λ (o : ShardText). IsRest job None o.text.now) (outputs_of rs)
   pub parts_are : map (part_taken job) (taken_on (map whole_window ws) rs) ≡ parts_in job (outputs_of rs)
 
-pub wholes : (job : JobSpec) (b : Option Bound) (hs : List Held) (rs : List Reading) (ws : List Window) (os : List Output) → AreTaken job b hs rs
+pub wholes : (job : JobSpec) (b : Option Bound) (hs : List Held) (rs : List Reading) (ws : List Window) (os : List ShardText) → AreTaken job b hs rs
     → AreWindows rs ws
-    → map told os ≡ pieces_of hs ws (map whole_window ws) → AllByRecursion (λ (o : Output). IsRest job None o.text.now) os → are_last ws ≡ true
+    → map told os ≡ pieces_of hs ws (map whole_window ws) → AllByRecursion (λ (o : ShardText). IsRest job None o.text.now) os → are_last ws ≡ true
     → Wholes job rs ws
 wholes job b [] [] [] [] t v e all last = record { stands = tt; parts_are = refl }
 wholes job b [] [] [] (o ∷ os) t v e all last = absurd (cc e)

@@ -17,7 +17,7 @@ use Rattle.mr_sequential.specs.Sequential.{keys_of, triples_with, values_of}
 use Rattle.mr_sequential.proofs.KeyLaws.{bytes_eq-same, keys_rise}
 use Rattle.mr_bytes.proofs.ListLaws.{all_from_Has, Has-map_from}
 use Rattle.mr_sequential.proofs.SourceLemmas.{flat_map-append}
-use Rattle.mr_shards.specs.declared.merge.Output.{Output}
+use Rattle.mr_shards.specs.declared.merge.ShardText.{ShardText}
 use Rattle.mr_shards.specs.Merged.{Group, group_for, group_text, texts, with_group, merged, Part, merged_parts, moved_group}
 use Rattle.mr_shards.specs.Lines.{CanMerge, HasLine, groups_in}
 use Rattle.mr_shards.specs.Refused.{IsRest}
@@ -208,8 +208,8 @@ merged-lines (InvertedIndex keep_case) gs hs all rise = refl
 pub moved-rise : (n : ℕ) (parts : List Part) → Rises key_order (keys (map (moved_group n) (merged_parts parts)))
 moved-rise n parts = subst (λ (gs : List Group). Rises key_order (keys gs)) (sym (parts-moved n parts)) (merged_all-rise (moved_parts n parts))
 
-parts-whole : (request : RequestSpec) (shards : List Shard) (p : ℕ) (os : List Output) → 0 < request.split
-    → AllByRecursion (λ (o : Output). IsRest request.job None o.text.now) os → AllByRecursion (IsJudged request) shards → AreOutputsOf request p shards os
+parts-whole : (request : RequestSpec) (shards : List Shard) (p : ℕ) (os : List ShardText) → 0 < request.split
+    → AllByRecursion (λ (o : ShardText). IsRest request.job None o.text.now) os → AllByRecursion (IsJudged request) shards → AreOutputsOf request p shards os
     → merged_parts (parts_in request.job os) ≡ merged_parts (map (part_of request p) shards)
 parts-whole request [] p [] some stands judged outs = refl
 parts-whole request [] p (o ∷ os) some stands judged outs = absurd outs
@@ -230,10 +230,10 @@ skips-judged : (request : RequestSpec) (shards : List Shard) → AllByRecursion 
 skips-judged request [] all = tt
 skips-judged request (s ∷ ss) all = (all.0.skips_exist, skips-judged request ss all.1)
 
-pub output-of_all : (job : JobSpec) (outputs : List Output) (text : List ℕ) → AllByRecursion (λ (o : Output). IsRest job None o.text.now) outputs
+pub output-of_all : (job : JobSpec) (outputs : List ShardText) (text : List ℕ) → AllByRecursion (λ (o : ShardText). IsRest job None o.text.now) outputs
     → text ≡ texts job (merged_parts (parts_in job outputs)) → IsOutputOfAll job outputs text
 output-of_all job outputs text stands is request shards p same some judged outs =
-    let stand = subst (λ (t : JobSpec). AllByRecursion (λ (o : Output). IsRest t None o.text.now) outputs) same stands in
+    let stand = subst (λ (t : JobSpec). AllByRecursion (λ (o : ShardText). IsRest t None o.text.now) outputs) same stands in
     is ∙ ap (λ (t : JobSpec). texts t (merged_parts (parts_in t outputs))) same
     ∙ ap (texts request.job) (parts-whole request shards p outputs some stand judged outs)
     ∙ merged_are_sequential request shards p some (skips-judged request shards judged)

@@ -5,7 +5,7 @@ use Rattle.mr_bytes.specs.declared.RecordName.{RecordName}
 use Rattle.mr_bytes.specs.Lists.{Distinct, Has}
 use Rattle.mr_input.specs.Files.{nth_file}
 use Rattle.mr_jobs.specs.JobSpec.{JobSpec, RequestSpec}
-use Rattle.mr_shards.specs.declared.merge.Output.{Output}
+use Rattle.mr_shards.specs.declared.merge.ShardText.{ShardText}
 use Rattle.mr_shards.specs.Merged.{merged_parts, texts}
 use Rattle.mr_shards.specs.Outputs.{IsOutputOfAll, parts_in}
 use Rattle.mr_shards.specs.Shards.{moved_name}
@@ -109,7 +109,7 @@ AreTrueOf request (v ∷ vs) (fs ∷ fss) (ps ∷ pss) = IsTrueOf request v fs p
 AreTrueOf request _ _ _ = ⊥
 
 -- what the shards have for a partition, and how many files each has
-abbrev pub AreOutputsAt : ℕ → List Told → List (List (List ℕ)) → List Output → Type 0
+abbrev pub AreOutputsAt : ℕ → List Told → List (List (List ℕ)) → List ShardText → Type 0
 AreOutputsAt p [] [] [] = Unit {0}
 AreOutputsAt p (v ∷ vs) (ps ∷ pss) (o ∷ os) = (o.files ≡ length v.inputs) × (o.text.now ≡ nth_file ps p) × AreOutputsAt p vs pss os
 AreOutputsAt p _ _ _ = ⊥
@@ -117,7 +117,7 @@ AreOutputsAt p _ _ _ = ⊥
 -- the output of a partition is the text of the merged groups of the shards' outputs, and whatever judged shards those are
 -- of, that of the sequential execution over all
 abbrev pub IsMergedAt : JobSpec → List Told → List (List (List ℕ)) → ℕ → List ℕ → Type 0
-IsMergedAt job vs parts p output = (os : List Output) × AreOutputsAt p vs parts os × (output ≡ texts job (merged_parts (parts_in job os)))
+IsMergedAt job vs parts p output = (os : List ShardText) × AreOutputsAt p vs parts os × (output ≡ texts job (merged_parts (parts_in job os)))
     × IsOutputOfAll job os output
 
 abbrev pub AreMerged : RequestSpec → List Told → List (List (List ℕ)) → List (List ℕ) → Type 0

@@ -6,7 +6,7 @@ use Rattle.mr_bytes.specs.Order.{key_order}
 use Rattle.mr_jobs.specs.JobSpec.{JobSpec, counts}
 use Rattle.mr_shards.specs.declared.merge_fault.MergeFault.{MergeFault}
 use Rattle.mr_shards.specs.declared.merge_fault.MergeFault.TheVariants.{BadLine, TotalTooLarge, TooManyFiles, OutOfMemory}
-use Rattle.mr_shards.specs.declared.merge.Output.{Output}
+use Rattle.mr_shards.specs.declared.merge.ShardText.{ShardText}
 use Rattle.mr_shards.specs.declared.window.Held.{Held}
 use Rattle.mr_shards.specs.declared.window.Window.{Window}
 use Rattle.mr_shards.specs.Merged.{Group, Part, merged_parts, texts}
@@ -35,14 +35,14 @@ fresh_all files = record { held = map fresh files; bound = None }
 
 -- a shard's output, and how many of its bytes were taken
 pub record Reading : Type 0 where
-  pub output : Output
+  pub output : ShardText
   pub taken : ℕ
 
 -- an output with these bytes
-abbrev pub output_with : ℕ → List ℕ → Output
+abbrev pub output_with : ℕ → List ℕ → ShardText
 output_with files text = record { files = files; text = record { ref_ptr = (0, 0); now = text } }
 
-abbrev pub outputs_of : List Reading → List Output
+abbrev pub outputs_of : List Reading → List ShardText
 outputs_of rs = map (λ (r : Reading). r.output) rs
 
 -- the bytes that were taken, and those that were not
@@ -221,7 +221,7 @@ abbrev pub pieces_of : List Held → List Window → List ℕ → List (ℕ × L
 pieces_of (h ∷ hs) (w ∷ ws) (c ∷ cs) = (h.files, take c w.bytes.now) ∷ pieces_of hs ws cs
 pieces_of _ _ _ = []
 
-abbrev pub told : Output → ℕ × List ℕ
+abbrev pub told : ShardText → ℕ × List ℕ
 told o = (o.files, o.text.now)
 
 -- more lines were taken
@@ -241,13 +241,13 @@ numbered hs OutOfMemory = OutOfMemory
 
 -- the pieces are merged, or refused
 pub record ArePut (job : JobSpec) (pieces : List (ℕ × List ℕ)) (out out' : List ℕ) : Type 0 where
-  pub outputs : List Output
+  pub outputs : List ShardText
   pub are : map told outputs ≡ pieces
-  pub stands : AllByRecursion (λ (o : Output). IsRest job None o.text.now) outputs
+  pub stands : AllByRecursion (λ (o : ShardText). IsRest job None o.text.now) outputs
   pub out_is : out' ≡ out ++ texts job (merged_parts (parts_in job outputs))
 
 pub record AreBlamed (job : JobSpec) (hs : List Held) (pieces : List (ℕ × List ℕ)) (e : MergeFault) : Type 0 where
-  pub outputs : List Output
+  pub outputs : List ShardText
   pub are : map told outputs ≡ pieces
   pub fault : MergeFault
   pub is : e ≡ numbered hs fault
@@ -277,8 +277,8 @@ taken_on (c ∷ cs) [] = []
 taken_on (c ∷ cs) (r ∷ rs) = record { output = r.output; taken = r.taken + c } ∷ taken_on cs rs
 
 -- the text is that of all outputs, each of which stands
-pub record IsMerged (job : JobSpec) (os : List Output) (text : List ℕ) : Type 0 where
-  pub stands : AllByRecursion (λ (o : Output). IsRest job None o.text.now) os
+pub record IsMerged (job : JobSpec) (os : List ShardText) (text : List ℕ) : Type 0 where
+  pub stands : AllByRecursion (λ (o : ShardText). IsRest job None o.text.now) os
   pub text_is : text ≡ texts job (merged_parts (parts_in job os))
   pub whole : IsOutputOfAll job os text
 
@@ -303,7 +303,7 @@ OneGoes (w ∷ ws) (c ∷ cs) = ((w.is_last ≡ false) × (lines (take c w.bytes
 -- of a job that does not count, one window goes of outputs that stand, however many lines of one key there are
 abbrev pub GoesOn : JobSpec → List Window → List ℕ → Standing → Type 0
 GoesOn job ws cuts old = counts job ≡ false → are_last ws ≡ false → HaveLines ws → (rs : List Reading) → IsAfter job rs old → AreWindows rs ws
-    → AllByRecursion (λ (o : Output). IsRest job None o.text.now) (outputs_of rs) → OneGoes ws cuts
+    → AllByRecursion (λ (o : ShardText). IsRest job None o.text.now) (outputs_of rs) → OneGoes ws cuts
 
 -- what is added; it is that whatever the outputs are, of which these are windows
 pub record Adds (job : JobSpec) (ws : List Window) (cuts : List ℕ) (old new : Standing) (out out' : List ℕ) : Type 0 where

@@ -13,7 +13,7 @@ use Rattle.mr_shards.specs.declared.merge_fault.MergeFault.TheVariants.{BadLine,
 use Rattle.mr_shards.specs.declared.line.Line.{Line}
 use Rattle.mr_shards.specs.declared.line.Tally.{Tally}
 use Rattle.mr_shards.specs.declared.line.Tally.TheVariants.{Total, Place}
-use Rattle.mr_shards.specs.declared.merge.Output.{Output}
+use Rattle.mr_shards.specs.declared.merge.ShardText.{ShardText}
 use Rattle.mr_shards.specs.Merged.{Group, group_text, texts}
 use Rattle.mr_shards.specs.Lines.{groups_in}
 use Rattle.mr_shards.specs.Views.{IsTold, values_of}
@@ -90,12 +90,12 @@ values_among key [] = 0
 values_among key (gs ∷ gss) = values_with key gs + values_among key gss
 
 -- how many values the outputs tell of a key
-abbrev pub total_of : JobSpec → List Output → List ℕ → ℕ
-total_of job os key = values_among key (map (λ (o : Output). groups_in job o.text.now) os)
+abbrev pub total_of : JobSpec → List ShardText → List ℕ → ℕ
+total_of job os key = values_among key (map (λ (o : ShardText). groups_in job o.text.now) os)
 
 -- how many files the outputs are of
-abbrev pub files_in : List Output → ℕ
-files_in os = sum_by (λ (o : Output). o.files) os
+abbrev pub files_in : List ShardText → ℕ
+files_in os = sum_by (λ (o : ShardText). o.files) os
 
 -- behind so many files, the number of that file doesn't fit in 32 bits
 abbrev pub IsFarPlace : ℕ → Tally → Type 0
@@ -136,26 +136,26 @@ BlamesOnly job at files last text number TooManyFiles = IsFarLine job text files
 BlamesOnly job at files last text number OutOfMemory = Unit {0}
 
 -- the bytes of an output by its number
-abbrev pub text_at : List Output → ℕ → List ℕ
-text_at os i = slice_index_or (map (λ (o : Output). o.text.now) os) i []
+abbrev pub text_at : List ShardText → ℕ → List ℕ
+text_at os i = slice_index_or (map (λ (o : ShardText). o.text.now) os) i []
 
 -- a line of some output tells a place in a file whose number, behind the files of the outputs before, doesn't fit in 32 bits
-abbrev pub HasFarLine : JobSpec → List Output → Type 0
+abbrev pub HasFarLine : JobSpec → List ShardText → Type 0
 HasFarLine job os = (shard : ℕ) × IsFarLine job (text_at os shard) (files_in (take shard os))
 
 -- a line is blamed only where it is the first of that shard's output that doesn't stand, so that the output isn't lines of
 -- the job with keys in turn; a total only where the outputs tell 2^64 values or more of some key; and the number of files
 -- only where 32 bits don't hold that of all files, or that of a file which a line tells
-abbrev pub Blames : JobSpec → List Output → MergeFault → Type 0
+abbrev pub Blames : JobSpec → List ShardText → MergeFault → Type 0
 Blames job os (BadLine shard line) = IsBadLine job (text_at os shard) line × (IsRest job None (text_at os shard) → ⊥)
 Blames job os TotalTooLarge = (key : List ℕ) × (2 ^ 64 ≤ total_of job os key)
 Blames job os TooManyFiles = (2 ^ 32 ≤ files_in os) ⊎ HasFarLine job os
 Blames job os OutOfMemory = Unit {0}
 
 -- what was read of that output, behind the files of those before it
-abbrev pub IsReadAt : JobSpec → List Output → ℕ → Cursor → Type 0
+abbrev pub IsReadAt : JobSpec → List ShardText → ℕ → Cursor → Type 0
 IsReadAt job os i c = IsReadOf job (text_at os i) c × (c.before ≡ files_in (take i os))
 
 -- and of each
-abbrev pub AreRead : JobSpec → List Cursor → List Output → Type 0
+abbrev pub AreRead : JobSpec → List Cursor → List ShardText → Type 0
 AreRead job cs os = (i : ℕ) (d : Cursor) → i < length cs → IsReadAt job os i (slice_index_or cs i d)

@@ -26,7 +26,7 @@ ghost use Rattle.mr_shards.specs.Laws.{OneText};
 
 pub use joining::{JoinFault, first_repeat, join_verdicts, joined_law};
 pub use line::number_of;
-pub use merge::{Output, merge_parts};
+pub use merge::{ShardText, merge_parts};
 pub use merge_fault::MergeFault;
 pub use merger::Merger;
 pub use noting::{is_note_of, note_for, verdict_for};

@@ -15,7 +15,7 @@ use std::alloc::{AllocError, Global};
 
 /// What a shard has for a partition, and how many files it has.
 #[derive(Clone, Copy)]
-pub struct Output<'a> {
+pub struct ShardText<'a> {
     pub files: u32,
     pub text: &'a [u8],
 }
@@ -33,7 +33,7 @@ fn keep<'a>(cursors: &mut Vec<Cursor<'a>>, cursor: Cursor<'a>) -> Result<(), Mer
 fn open_all<'a>(
     alloc: Global,
     job: &Job,
-    outputs: &[Output<'a>],
+    outputs: &[ShardText<'a>],
 ) -> Result<Vec<Cursor<'a>>, MergeFault>
     ensures first { IfOk result (λ v. AreAtFirst job.now v.items outputs.entry.now) }
     ensures err { IfErr result (Blames job.now outputs.entry.now) }
@@ -106,8 +106,8 @@ fn merge_lines<'a>(
 ) -> Result<(), MergeFault>
     requires kinds { AllByRecursion (IsHeadFor job.now) cursors.old.items }
     requires empty { out.old.items ≡ [] }
-    ensures ok { OnOk result ((os : List Output) → AreAtFirst job.now cursors.old.items os → IsMerged job.now os out.new.items) }
-    ensures err { IfErr result (λ e. (os : List Output) → AreAtFirst job.now cursors.old.items os → Blames job.now os e) }
+    ensures ok { OnOk result ((os : List ShardText) → AreAtFirst job.now cursors.old.items os → IsMerged job.now os out.new.items) }
+    ensures err { IfErr result (λ e. (os : List ShardText) → AreAtFirst job.now cursors.old.items os → Blames job.now os e) }
 {
     let mut waiting = None;
     let mut last = None;
@@ -122,7 +122,11 @@ fn merge_lines<'a>(
 
 /// The outputs that shards have for one partition, in the order of the shards, merged to that of the whole. It is
 /// refused where an output isn't lines of the job with keys in their order; any line of an index is refused.
-pub fn merge_parts(alloc: Global, job: &Job, outputs: &[Output<'_>]) -> Result<Vec<u8>, MergeFault>
+pub fn merge_parts(
+    alloc: Global,
+    job: &Job,
+    outputs: &[ShardText<'_>],
+) -> Result<Vec<u8>, MergeFault>
     ensures stands { IfOk result (λ _. AllByRecursion (λ o. IsRest job.now None o.text.now) outputs.now) }
     ensures merged { IfOk result (λ out. out.items ≡ texts job.now (merged_parts (parts_in job.now outputs.now))) }
     ensures whole { IfOk result (λ out. IsOutputOfAll job.now outputs.now out.items) }

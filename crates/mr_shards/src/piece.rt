@@ -7,7 +7,7 @@ ghost use Rattle.mr_shards.specs.Places.{shown};
 ghost use Rattle.mr_shards.specs.Refused.{Blames};
 
 use crate::line::cut_last;
-use crate::merge::{Output, merge_parts};
+use crate::merge::{ShardText, merge_parts};
 use crate::merge_fault::MergeFault;
 use crate::window::{Held, Place, Window, bytes_to, in_next, line_count, place_of};
 use mr_jobs::Job;
@@ -31,7 +31,7 @@ fn keep_held(all: &mut Vec<Held>, held: Held) -> Result<(), AllocError>
 
 /// Keeps a piece behind the others.
 fn keep_piece<'a>(
-    pieces: &mut Vec<Output<'a>>,
+    pieces: &mut Vec<ShardText<'a>>,
     held: Held,
     window: Window<'a>,
     cut: usize,
@@ -39,7 +39,7 @@ fn keep_piece<'a>(
     requires { cut ≤ length window.bytes.now }
     ensures { OnOk result (map told pieces.new.items ≡ map told pieces.old.items ++ (held.files, take cut window.entry.bytes.now) ∷ []) }
 {
-    let piece = Output {
+    let piece = ShardText {
         files: held.files,
         text: &window.bytes[..cut],
     };
@@ -159,7 +159,7 @@ fn cut_off<'a>(
     held: &[Held],
     windows: &[Window<'a>],
     cuts: &[usize],
-) -> Result<Vec<Output<'a>>, AllocError>
+) -> Result<Vec<ShardText<'a>>, AllocError>
     requires shards { length held.now ≡ length windows.now }
     requires count { length cuts.now ≡ length windows.now }
     requires within { AreWithin cuts.now windows.now }

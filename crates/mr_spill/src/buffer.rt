@@ -7,8 +7,8 @@ ghost use Rattle.mr_spill.specs.Buffer.{Buffered};
 ghost use Rattle.mr_spill.specs.Column.{names_of};
 ghost use Rattle.mr_spill.specs.Regions.{regions};
 
-use crate::column::Pairs;
 use crate::numbered::Numbered;
+use crate::pair_columns::PairColumns;
 use crate::regions::cut;
 use mr_bytes::{By, Name, Pair, Value};
 use std::alloc::{AllocError, Global};
@@ -52,7 +52,7 @@ pub enum PushFault {
 
 /// Why a pair was not taken whose key was lent.
 #[derive(Clone, Copy, Debug, PartialEq, Eq, Error, Drop)]
-pub enum PushRefusal {
+pub enum PushKeyFault {
     /// The buffer holds as many pairs as it may.
     #[error("BufferFull")]
     BufferFull,
@@ -63,8 +63,8 @@ pub enum PushRefusal {
 
 ghost use Rattle.mr_spill.specs.declared.buffer.PushFault.{PushFault};
 ghost use Rattle.mr_spill.specs.declared.buffer.PushFault.TheVariants.{BufferFull as Full, OutOfMemory as NoRoom};
-ghost use Rattle.mr_spill.specs.declared.buffer.PushRefusal.{PushRefusal};
-ghost use Rattle.mr_spill.specs.declared.buffer.PushRefusal.TheVariants.{BufferFull, OutOfMemory};
+ghost use Rattle.mr_spill.specs.declared.buffer.PushKeyFault.{PushKeyFault};
+ghost use Rattle.mr_spill.specs.declared.buffer.PushKeyFault.TheVariants.{BufferFull, OutOfMemory};
 
 impl Buffer {
     /// No pairs, and room for so many. It takes no memory.
@@ -86,7 +86,7 @@ impl Buffer {
 
     /// Takes a pair whose key is lent, its name past those of all before it. A refusal leaves the buffer as it was.
     #[inline(always)]
-    pub fn push_key(&mut self, key: &[u8], value: Value, name: Name) -> Result<(), PushRefusal>
+    pub fn push_key(&mut self, key: &[u8], value: Value, name: Name) -> Result<(), PushKeyFault>
         requires { Rises name_order (names_of self.old.pairs ++ name ∷ []) }
         ensures ok { OnOk result (self.new
             ≡ record { limit = self.old.limit; pairs = self.old.pairs ++ record { key = key.now; value = value; name = name } ∷ [] }) }
@@ -95,11 +95,11 @@ impl Buffer {
         ensures room { OnOk result (length self.old.pairs < self.old.limit) }
     {
         if self.pairs.len() == self.limit {
-            return Err(PushRefusal::BufferFull);
+            return Err(PushKeyFault::BufferFull);
         }
         match self.pairs.push(key, value, name) {
             Ok(()) => Ok(()),
-            Err(_) => Err(PushRefusal::OutOfMemory),
+            Err(_) => Err(PushKeyFault::OutOfMemory),
         }
     }
 
@@ -113,14 +113,19 @@ impl Buffer {
     {
         match self.push_key(pair.key.as_slice(), pair.value, pair.name) {
             Ok(()) => Ok(()),
-            Err(PushRefusal::BufferFull) => Err(PushFault::BufferFull(pair)),
-            Err(PushRefusal::OutOfMemory) => Err(PushFault::OutOfMemory(pair)),
+            Err(PushKeyFault::BufferFull) => Err(PushFault::BufferFull(pair)),
+            Err(PushKeyFault::OutOfMemory) => Err(PushFault::OutOfMemory(pair)),
         }
     }
 
     /// A region for each partition, in order, of the pairs that it holds: by key, and then name. It holds none then.
     /// It fails only for want of memory, and then leaves the buffer as it was.
-    pub fn seal(&mut self, alloc: Global, parts: u32, by: By) -> Result<Vec<Pairs>, AllocError>
+    pub fn seal(
+        &mut self,
+        alloc: Global,
+        parts: u32,
+        by: By,
+    ) -> Result<Vec<PairColumns>, AllocError>
         requires { 0 < parts }
         ensures ok { IfOk result (λ v. v.items ≡ regions (λ k. partition_by by k parts) parts self.old.pairs) }
         ensures empty { OnOk result (self.new ≡ record { limit = self.old.limit; pairs = [] }) }

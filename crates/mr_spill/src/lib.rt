@@ -11,34 +11,34 @@
 #![tactic(auto)]
 
 mod buffer;
-mod column;
 mod cursor;
 mod dir_store;
 mod distribute;
 mod entries;
 mod keyed;
-mod lent;
 mod lists;
 mod memory_store;
 mod moving;
 mod numbered;
 mod open_file;
+mod pair_columns;
 mod reading;
+mod region_view;
 mod regions;
 mod scratch;
 mod sealed;
 mod spelling;
 mod store;
 
-pub use buffer::{Buffer, PushFault, PushRefusal};
-pub use column::Pairs;
+pub use buffer::{Buffer, PushFault, PushKeyFault};
 pub use cursor::{RegionCursor, RegionPair, is_region, open_region};
 pub use dir_store::DirStore;
 pub use keyed::{KeyedPairs, keyed_column, keyed_pairs};
-pub use lent::Region;
 pub use memory_store::MemoryStore;
 pub use numbered::Numbered;
+pub use pair_columns::PairColumns;
 pub use reading::{RegionFault, read_region};
+pub use region_view::RegionView;
 pub use regions::spill_law;
 pub use scratch::{DiskScratch, MemoryScratch, Scratch, ScratchFault};
 pub use sealed::SealedRun;

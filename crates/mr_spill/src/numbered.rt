@@ -4,9 +4,9 @@ ghost use Rattle.mr_keys.specs.Keys.{IsKeyAt, key_at};
 ghost use Rattle.mr_spill.specs.Column.{nth_pair};
 ghost use Rattle.mr_spill.specs.Cursor.{EndsWithKey, lent_pair};
 
-use crate::column::Pairs;
 use crate::cursor::RegionPair;
 use crate::entries::Entries;
+use crate::pair_columns::PairColumns;
 use mr_bytes::{Name, Value};
 use mr_keys::Keys;
 use std::alloc::{AllocError, Global};
@@ -129,7 +129,7 @@ impl Numbered {
 
     /// Takes pair `i` of a column, from 0, where the pair that was taken last has the key of the one before it: a key that
     /// follows itself takes no look-up.
-    fn take_next(&mut self, column: &Pairs, i: usize) -> Result<(), AllocError>
+    fn take_next(&mut self, column: &PairColumns, i: usize) -> Result<(), AllocError>
         requires within { i < length column.now }
         requires last { 0 < i → (0 < length self.old) × ((nth_pair self.old (length self.old - 1)).key ≡ (nth_pair column.now (i - 1)).key) }
         ensures { OnOk result (self.new ≡ self.old ++ nth_pair column.now i ∷ []) }
@@ -157,7 +157,7 @@ impl Numbered {
     }
 
     /// Takes the pairs of a column, at the end.
-    pub(crate) fn take_column(&mut self, column: &Pairs) -> Result<(), AllocError>
+    pub(crate) fn take_column(&mut self, column: &PairColumns) -> Result<(), AllocError>
         ensures { OnOk result (self.new ≡ self.old ++ column.now) }
     {
         for i in 0..column.len() {

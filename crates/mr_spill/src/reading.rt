@@ -8,7 +8,7 @@ ghost use Rattle.mr_spill.specs.Column.{nth_pair};
 ghost use Rattle.mr_spill.specs.Reading.{AreRead, IsNext, MayFollow, pair_of};
 ghost use Rattle.mr_spill.specs.Spelling.{PairFits, SpellsRegion, header, magic, name_bytes, pair_bytes, u32 as four, u64 as eight, value_bytes};
 
-use crate::column::Pairs;
+use crate::pair_columns::PairColumns;
 use byteorder::{BigEndian, ByteOrder};
 use mr_bytes::{Name, Value, compare_keys, compare_names};
 use std::alloc::{AllocError, Global};
@@ -167,7 +167,7 @@ pub(crate) fn take_header<'a>(
 }
 
 /// Whether pair `i` stands before the one in front: by key, and then by name.
-fn stands_before(pairs: &Pairs, i: usize, front: &Front<'_>) -> bool
+fn stands_before(pairs: &PairColumns, i: usize, front: &Front<'_>) -> bool
     requires { i < length pairs.now }
     ensures { IsTrue result ↔ (pair_order (nth_pair pairs.now i) (pair_of front.now) ≡ Less) }
 {
@@ -179,7 +179,7 @@ fn stands_before(pairs: &Pairs, i: usize, front: &Front<'_>) -> bool
 }
 
 /// Whether the pair in front may stand behind these in a region of the split.
-fn may_follow(pairs: &Pairs, split: u32, front: &Front<'_>) -> bool
+fn may_follow(pairs: &PairColumns, split: u32, front: &Front<'_>) -> bool
     requires { Rises pair_order pairs.now }
     ensures { IsTrue result ↔ MayFollow pairs.now split (pair_of front.now) }
 {
@@ -191,7 +191,11 @@ fn may_follow(pairs: &Pairs, split: u32, front: &Front<'_>) -> bool
 }
 
 /// Takes the pair in front behind those that were read, and gives the bytes behind it.
-fn read_next<'a>(pairs: &mut Pairs, bytes: &'a [u8], split: u32) -> Result<&'a [u8], RegionFault>
+fn read_next<'a>(
+    pairs: &mut PairColumns,
+    bytes: &'a [u8],
+    split: u32,
+) -> Result<&'a [u8], RegionFault>
     requires { Rises pair_order pairs.old }
     ensures ok { IfOk result (λ rest. IsNext pairs.old pairs.new split bytes.entry.now rest.now) }
     ensures damaged { IfErr result (λ e. e ≡ RegionDamaged → (t : Triple) (rest : List ℕ) → MayFollow pairs.old split t → PairFits t
@@ -208,11 +212,16 @@ fn read_next<'a>(pairs: &mut Pairs, bytes: &'a [u8], split: u32) -> Result<&'a [
 }
 
 /// So many pairs of a split, which rise, and nothing behind them. No room is made for pairs before their bytes are read.
-fn read_pairs(alloc: Global, bytes: &[u8], split: u32, count: u32) -> Result<Pairs, RegionFault>
+fn read_pairs(
+    alloc: Global,
+    bytes: &[u8],
+    split: u32,
+    count: u32,
+) -> Result<PairColumns, RegionFault>
     ensures ok { IfOk result (AreRead bytes.now split count) }
     ensures damaged { IfErr result (λ e. e ≡ RegionDamaged → (ts : List Triple) → AreRead bytes.now split count ts → ⊥) }
 {
-    let mut pairs = Pairs::new(alloc);
+    let mut pairs = PairColumns::new(alloc);
     let mut rest = bytes;
     for _ in 0..count {
         rest = read_next(&mut pairs, rest, split)?;
@@ -231,7 +240,7 @@ pub fn read_region(
     bytes: &[u8],
     split: u32,
     partition: u32,
-) -> Result<Pairs, RegionFault>
+) -> Result<PairColumns, RegionFault>
     ensures spelled { IfOk result (SpellsRegion bytes.now split partition) }
     ensures damaged { IfErr result (λ e. e ≡ RegionDamaged → (ts : List Triple) → SpellsRegion bytes.now split partition ts → ⊥) }
 {

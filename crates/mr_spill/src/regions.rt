@@ -8,9 +8,9 @@ ghost use Rattle.mr_ranks.specs.Rows.{row_cmp};
 ghost use Rattle.mr_spill.specs.Rows.{AreListed, behind, front, pairs_in, row_pairs};
 ghost use Rattle.mr_spill.specs.Table.{pairs_under};
 
-use crate::column::Pairs;
 use crate::lists::{Lists, lists_of};
 use crate::numbered::Numbered;
+use crate::pair_columns::PairColumns;
 use mr_bytes::By;
 use mr_ranks::{RankedPairs, Row, ranked};
 use std::alloc::{AllocError, Global};
@@ -29,7 +29,12 @@ pub(crate) fn row_in<'a>(rows: &[Row<'a>], at: usize, part: u32) -> Option<Row<'
 }
 
 /// Appends the pairs of a key, whose rank is told; they share its bytes. It fails only for want of memory.
-fn put_all(target: &mut Pairs, key: &[u8], lists: &Lists, number: usize) -> Result<(), AllocError>
+fn put_all(
+    target: &mut PairColumns,
+    key: &[u8],
+    lists: &Lists,
+    number: usize,
+) -> Result<(), AllocError>
     requires { number < length lists.now }
     ensures { OnOk result (target.new ≡ target.old ++ pairs_under lists.now key.now number) }
 {
@@ -69,14 +74,14 @@ fn region_at(
     rows: &[Row<'_>],
     from: usize,
     part: u32,
-) -> Result<(Pairs, usize), AllocError>
+) -> Result<(PairColumns, usize), AllocError>
     requires inside { All (λ r. r.number < length lists.now) rows.now }
     requires from { from ≤ length rows.now }
     ensures region { IfOk result (λ r. r.0 ≡ row_pairs lists.now (front part (drop from rows.now))) }
     ensures rest { IfOk result (λ r. (r.1 ≤ length rows.now) × (drop (r.1) rows.now ≡ behind part (drop from rows.now))) }
 {
     let (count, bytes) = room_at(lists, rows, from, part);
-    let mut region = Pairs::with_room(alloc, count, bytes)?;
+    let mut region = PairColumns::with_room(alloc, count, bytes)?;
     let mut at = from;
     while let Some(row) = row_in(rows, at, part) {
         put_all(&mut region, row.key, lists, row.number as usize)?;
@@ -91,7 +96,7 @@ fn regions_of(
     lists: &Lists,
     rows: &[Row<'_>],
     parts: u32,
-) -> Result<Vec<Pairs>, AllocError>
+) -> Result<Vec<PairColumns>, AllocError>
     requires inside { All (λ r. r.number < length lists.now) rows.now }
     requires rise { Rises row_cmp rows.now }
     ensures { IfOk result (λ v. v.items ≡ map (pairs_in lists.now rows.now) (range_with_len 0 parts)) }
@@ -130,7 +135,7 @@ pub(crate) fn cut(
     pairs: &Numbered,
     by: By,
     parts: u32,
-) -> Result<Vec<Pairs>, AllocError>
+) -> Result<Vec<PairColumns>, AllocError>
     requires some { 0 < parts }
     requires rise { RisesUnderKeys pairs.now }
     ensures { IfOk result (λ v. v.items ≡ regions (λ k. partition_by by k parts) parts pairs.now) }

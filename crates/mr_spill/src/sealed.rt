@@ -12,9 +12,9 @@ ghost use Rattle.mr_spill.specs.Spelling.{PairFits, pair_bytes, value_bytes};
 ghost use Rattle.mr_spill.specs.Table.{pairs_under};
 
 use crate::buffer::Buffer;
-use crate::lent::Region;
 use crate::lists::Lists;
 use crate::numbered::Numbered;
+use crate::region_view::RegionView;
 use crate::regions::{row_in, rows_with_lists};
 use crate::spelling::{put_header, put_pair};
 use mr_bytes::{By, Value};
@@ -54,11 +54,11 @@ impl SealedRun {
     }
 
     /// The region of partition `p`, from 0.
-    pub fn region(&self, p: u32) -> Region<'_>
+    pub fn region(&self, p: u32) -> RegionView<'_>
         requires { p < length self.now.regions }
         ensures { result ≡ record { split = self.now.split; bytes = slice_index_or self.now.regions p [] } }
     {
-        Region::of(self.regions[p as usize].as_slice(), self.split)
+        RegionView::of(self.regions[p as usize].as_slice(), self.split)
     }
 
     /// The bytes of each region, moved, not copied.

@@ -7,7 +7,7 @@ ghost use Rattle.mr_spill.specs.Column.{nth_pair};
 ghost use Rattle.mr_spill.specs.Spelling.{PairFits, SpellsRegion, ValueFits, header, name_bytes, pair_bytes, u32 as four, u64 as eight, value_bytes};
 ghost use Rattle.mr_spill.specs.WorkedBytes.{WorkedFalling, WorkedOther, WorkedRegion, WorkedSizes};
 
-use crate::column::Pairs;
+use crate::pair_columns::PairColumns;
 use mr_bytes::{Name, Value};
 use std::alloc::{AllocError, Global};
 
@@ -92,7 +92,7 @@ pub(crate) fn put_pair(
 }
 
 /// Pair `i` of a column, from 0.
-fn put_nth(out: &mut Vec<u8>, pairs: &Pairs, i: usize) -> Result<(), AllocError>
+fn put_nth(out: &mut Vec<u8>, pairs: &PairColumns, i: usize) -> Result<(), AllocError>
     requires { i < length pairs.now }
     ensures text { OnOk result (out.new.items ≡ out.old.items ++ pair_bytes (nth_pair pairs.now i)) }
     ensures fits { OnOk result (PairFits (nth_pair pairs.now i)) }
@@ -104,7 +104,7 @@ fn put_nth(out: &mut Vec<u8>, pairs: &Pairs, i: usize) -> Result<(), AllocError>
 /// for want of memory.
 pub fn write_region(
     alloc: Global,
-    pairs: &Pairs,
+    pairs: &PairColumns,
     split: u32,
     partition: u32,
 ) -> Result<Vec<u8>, AllocError>

@@ -15,7 +15,7 @@ use crate::output::MapOutput;
 use crate::runs::Runs;
 use mr_bytes::{By, RecordName};
 use mr_jobs::{Job, Request};
-use mr_merge::{Demand, Unending};
+use mr_merge::{Cancellation, NeverCancelled};
 use mr_splits::Plan;
 use std::alloc::{AllocError, Global};
 
@@ -81,7 +81,7 @@ pub fn map_task_with(
         left_out.as_slice(),
         0,
         plan.records_in(split),
-        &Unending,
+        &NeverCancelled,
         &mut runs,
     )?;
     runs.finish(alloc)
@@ -90,7 +90,7 @@ pub fn map_task_with(
 /// What a job emits for the records of a split from number `from` on, as `map_task` gives it, and the number of the record
 /// behind the last of them: a piece of the split. A piece ends with the split, where a run is nearly full, or where no more is
 /// wanted, but has a record where one is left. It mostly has one run: more where a record gives more than fits.
-pub fn map_piece<D: Demand>(
+pub fn map_piece<D: Cancellation>(
     alloc: Global,
     plan: &Plan<'_>,
     request: &Request,
@@ -126,7 +126,7 @@ pub fn map_piece<D: Demand>(
 /// Takes what a job emits for the records of a split from number `from` on, without those whose numbers are listed, in
 /// rising order: at least so many, if there are, and then until a run is nearly full, or no more is wanted. It returns the
 /// number of the record behind the last.
-fn take_records<D: Demand>(
+fn take_records<D: Cancellation>(
     alloc: Global,
     plan: &Plan<'_>,
     job: &Job,
@@ -158,7 +158,7 @@ fn take_records<D: Demand>(
     let mut mapper = job.mapper(plan.input());
     let count = plan.records_in(split);
     let mut next = from;
-    while next < count && (next - from < least || !runs.has_run() && demand.lasts()) {
+    while next < count && (next - from < least || !runs.has_run() && demand.is_wanted()) {
         let line = plan.locate(split, next);
         if !has(left_out, next) {
             runs.take_record(

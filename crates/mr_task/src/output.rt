@@ -12,7 +12,7 @@ use mr_bytes::{Name, ValueColumn};
 use mr_jobs::Job;
 use mr_merge::Groups;
 use mr_reduce::{append_text, append_total};
-use mr_spill::{Region, SealedRun};
+use mr_spill::{RegionView, SealedRun};
 use std::alloc::{AllocError, Global};
 use std::marker::Model;
 
@@ -70,7 +70,7 @@ impl MapOutput {
     }
 
     /// The region that run `i` has for partition `p`, both from 0.
-    pub fn region(&self, p: u32, i: usize) -> Region<'_>
+    pub fn region(&self, p: u32, i: usize) -> RegionView<'_>
         requires partition { p < self.now.parts }
         requires run { i < length self.now.runs }
         ensures { result ≡ region_of p (nth_run self.now.runs i) }
@@ -79,7 +79,7 @@ impl MapOutput {
     }
 
     /// The regions that all runs have for partition `p`, from 0, run by run.
-    pub fn regions(&self, alloc: Global, p: u32) -> Result<Vec<Region<'_>>, AllocError>
+    pub fn regions(&self, alloc: Global, p: u32) -> Result<Vec<RegionView<'_>>, AllocError>
         requires { p < self.now.parts }
         ensures { IfOk result (λ v. v.items ≡ regions_at p self.now.runs) }
     {

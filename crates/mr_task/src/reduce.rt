@@ -12,8 +12,8 @@ ghost use Rattle.mr_task.specs.Values.{CanMerge, IsReduced};
 use crate::fault::TaskFault;
 use crate::output::ReduceOutput;
 use mr_jobs::Job;
-use mr_merge::{Demand, Follower, Unending, merge_regions_while};
-use mr_spill::{Region, open_region};
+use mr_merge::{Cancellation, Follower, NeverCancelled, merge_regions_while};
+use mr_spill::{RegionView, open_region};
 use std::alloc::{AllocError, Global};
 
 /// The most pairs that a reduce task takes: an input within its limits emits no more.
@@ -25,7 +25,7 @@ const _: () = prove!(MAX_PAIRS == 1073741824);
 ghost use Rattle.mr_task.specs.declared.fault.TaskFault.TheVariants.{RegionDamaged};
 
 /// How many pairs a region of the partition has by its header; `None` where the bytes don't begin as one.
-fn count_in(region: &Region<'_>, partition: u32) -> Option<usize>
+fn count_in(region: &RegionView<'_>, partition: u32) -> Option<usize>
     ensures { MatchOption result ((ts : List Triple) → SpellsRegion region.now.bytes region.now.split partition ts → ⊥)
         (λ n. (ts : List Triple) → SpellsRegion region.now.bytes region.now.split partition ts → n ≡ length ts) }
 {
@@ -37,7 +37,7 @@ fn count_in(region: &Region<'_>, partition: u32) -> Option<usize>
 
 /// How many pairs the regions have together. More than a reduce task takes are refused, and so are bytes that don't begin
 /// as regions of the partition.
-fn count_all(regions: &[Region<'_>], partition: u32) -> Result<usize, TaskFault>
+fn count_all(regions: &[RegionView<'_>], partition: u32) -> Result<usize, TaskFault>
     ensures count { IfOk result (λ n. (values : List (List Triple)) → AreSpelled partition regions.now values → n ≡ length (joined values)) }
     ensures few { IfOk result (λ n. n ≤ 1073741824) }
     ensures many { IfErr result (λ e. (e ≡ RegionDamaged)
@@ -64,12 +64,12 @@ pub fn reduce_task(
     alloc: Global,
     job: &Job,
     partition: u32,
-    regions: &[Region<'_>],
+    regions: &[RegionView<'_>],
 ) -> Result<ReduceOutput, TaskFault>
     ensures reduced { IfOk result (IsReduced (text_of job.now) partition regions.now) }
     ensures damaged { IfErr result (λ e. e ≡ RegionDamaged → CanMerge partition regions.now → ⊥) }
 {
-    match reduce_task_while(alloc, job, partition, regions, &Unending)? {
+    match reduce_task_while(alloc, job, partition, regions, &NeverCancelled)? {
         Some(output) => Ok(output),
         None => unreachable!(),
     }
@@ -77,11 +77,11 @@ pub fn reduce_task(
 
 /// What `reduce_task` gives, and `None` where it was no longer wanted before it was there: `merge_regions_while` tells when
 /// it is asked.
-pub fn reduce_task_while<D: Demand>(
+pub fn reduce_task_while<D: Cancellation>(
     alloc: Global,
     job: &Job,
     partition: u32,
-    regions: &[Region<'_>],
+    regions: &[RegionView<'_>],
     demand: &D,
 ) -> Result<Option<ReduceOutput>, TaskFault>
     ensures reduced { IfOk result (λ o. MatchOption o (D.unending → ⊥) (IsReduced (text_of job.now) partition regions.now)) }

@@ -13,7 +13,7 @@ ghost use Rattle.mr_task.specs.Runs.{AreNext, AreOf, HasTaken, Takes, part_in};
 use crate::output::MapOutput;
 use mr_bytes::{By, Name, RecordName, Value};
 use mr_jobs::Mapper;
-use mr_spill::{Buffer, PushRefusal};
+use mr_spill::{Buffer, PushKeyFault};
 use mr_splits::RecordAt;
 use std::alloc::{AllocError, Global};
 
@@ -87,8 +87,8 @@ impl Runs {
     {
         match self.buffer.push_key(key, value, name) {
             Ok(()) => Ok(()),
-            Err(PushRefusal::OutOfMemory) => Err(AllocError),
-            Err(PushRefusal::BufferFull) => {
+            Err(PushKeyFault::OutOfMemory) => Err(AllocError),
+            Err(PushKeyFault::BufferFull) => {
                 self.seal(alloc)?;
                 match self.buffer.push_key(key, value, name) {
                     Ok(()) => Ok(()),

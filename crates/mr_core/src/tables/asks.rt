@@ -8,13 +8,13 @@ ghost use Rattle.mr_core.specs.Queries.{is_lone, is_ready};
 ghost use Rattle.mr_core.specs.Master.{Attempt, tasks, is_task, may_newly, may_give, given, asked, has_live};
 ghost use Rattle.mr_core.specs.Index.{is_idle, IsGoing, IsCurrent, IsBelow};
 
-use super::Tables;
+use super::MasterState;
 use crate::entries::{Attempt, Fetched};
 use crate::event::{End, Reply, Shape, Task};
 use crate::skips::Skips;
 use std::alloc::{AllocError, Global};
 
-impl Tables {
+impl MasterState {
     /// Whether the task isn't complete, and nobody works at it.
     fn is_idle(&self, task: Task) -> bool
         ensures { result ≡ is_idle self.now task }

@@ -8,13 +8,13 @@ ghost use Rattle.mr_core.specs.declared.entries.Split.{Split};
 ghost use Rattle.mr_core.specs.Queries.{IsLive};
 ghost use Rattle.mr_core.specs.Master.{Attempt, finish, fetch, commit, complete, damage, latest_in, lose, live_attempt, outcome, replies, takes, may_leave_out, failed_before, left_out, leave_out, note_failure};
 
-use super::Tables;
+use super::MasterState;
 use crate::entries::{all_some, put};
 use crate::event::{Reply, Shape, Task};
 use crate::failed::{longer_list, put_longer};
 use std::alloc::AllocError;
 
-impl Tables {
+impl MasterState {
     /// The output of a split, with the worker that has it; None where there is no such split.
     fn split_output(&self, map: u32) -> Option<Option<(u64, u32)>>
         ensures { MatchOption result (slice_get self.now.splits map ≡ None) (λ o. (sp : Split) × (slice_get self.now.splits map ≡ Some sp) × (sp.output ≡ o)) }

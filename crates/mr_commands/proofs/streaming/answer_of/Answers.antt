@@ -11,7 +11,7 @@ returns-in_err-parts-clause-answer g c = rw (err_from_is_err_and c.from_residual
 pub returns-in_err-parts-clause-refused : goal.returns-in_err-parts-clause-refused
 returns-in_err-parts-clause-refused g c =
     let p = err_from_is_err_and c.from_residual.result c.from_residual.ensures.1 in
-    rw p.1 (rw p.2 (unread_told (g.S.Store.unreadable c.args.store.now) (result_names c.args.dir.now c.args.parts) g.C.Cause.cause c.in_err-parts.field-0.0 c.requires.cause c.in_err-parts.ensures.refused))
+    rw p.1 (rw p.2 (unread_told (g.S.Store.unreadable c.args.store.now) (result_names c.args.dir.now c.args.parts) g.C.ReadCause.cause c.in_err-parts.field-0.0 c.requires.cause c.in_err-parts.ensures.refused))
 
 pub returns-clause-answer : goal.returns-clause-answer
 returns-clause-answer g c =

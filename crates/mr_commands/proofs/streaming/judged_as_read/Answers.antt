@@ -10,10 +10,10 @@ use Rattle.mr_commands.proofs.streaming.judged_as_read.Goals as goal
 pub returns-in_err-answer-clause-refused : goal.returns-in_err-answer-clause-refused
 returns-in_err-answer-clause-refused g c =
     let p = err_from_is_err_and c.from_residual.result c.from_residual.ensures.1 in
-    rw p.1 (read_told g.C.Cause.cause c.in_err-answer.field-0.0 p.0 c.in_err-answer.ensures.refused p.2)
+    rw p.1 (read_told g.C.ReadCause.cause c.in_err-answer.field-0.0 p.0 c.in_err-answer.ensures.refused p.2)
 
 pub returns-clause-refused : goal.returns-clause-refused
-returns-clause-refused g c = IfErr-weaker c.judged_of.result (λ e. e ≡ OutOfMemory) (λ e. TellsRead g.C.Cause.cause e) (λ e h. memory_told g.C.Cause.cause e h) c.judged_of.ensures.memory
+returns-clause-refused g c = IfErr-weaker c.judged_of.result (λ e. e ≡ OutOfMemory) (λ e. TellsRead g.C.ReadCause.cause e) (λ e h. memory_told g.C.ReadCause.cause e h) c.judged_of.ensures.memory
 
 pub returns-clause-judged : goal.returns-clause-judged
 returns-clause-judged g c =

@@ -4,7 +4,7 @@ use Rattle.std.proofs.lemmas.Result.{err_from_is_err_and}
 use Rattle.mr_shards.specs.declared.cursor.Cursor.{Cursor}
 use Rattle.mr_shards.specs.declared.line.Line.{Line}
 use Rattle.mr_shards.specs.declared.merge_fault.MergeFault.{MergeFault}
-use Rattle.mr_shards.specs.declared.merge.Output.{Output}
+use Rattle.mr_shards.specs.declared.merge.ShardText.{ShardText}
 use Rattle.mr_shards.specs.Cursors.{AreBehind, IsFronted, least_from}
 use Rattle.mr_shards.specs.Outputs.{AreAtFirst}
 use Rattle.mr_shards.specs.Refused.{Blames}
@@ -83,7 +83,7 @@ returns-in_err-go_on-clause-err c =
     let old = c.loop-at.cursors.items in
     let b = least old c.deref.result.now c.next_line.result c.in-Some.at c.in-Some.line c.deref.ensures.value c.next_line.ensures c.in-Some.is in
     let w = c.in_err-go_on.ensures.err in
-    handed (λ (e : MergeFault). (os : List Output) → AreAtFirst job c.args.cursors.now.items os → Blames job os e) c.from_residual.result c.in_err-go_on.field-0.0
+    handed (λ (e : MergeFault). (os : List ShardText) → AreAtFirst job c.args.cursors.now.items os → Blames job os e) c.from_residual.result c.in_err-go_on.field-0.0
     (err_from_is_err_and c.from_residual.result c.from_residual.ensures.1)
     (λ os f. blames-left job c.in-Some.at old os w.one c.in_err-go_on.field-0.0 (least-within old c.in-Some.at c.in-Some.line b) w.is (c.loop-at.invariant.kept os f).read w.blames)
 
@@ -94,7 +94,7 @@ returns-in_err-taken-clause-err c =
     let new = c.go_on.new.cursors.items in
     let b = least old c.deref.result.now c.next_line.result c.in-Some.at c.in-Some.line c.deref.ensures.value c.next_line.ensures c.in-Some.is in
     let step = step-of job c.in-Some.at old new c.in-Some.line b c.in_ok-go_on.ensures.ok in
-    handed (λ (e : MergeFault). (os : List Output) → AreAtFirst job c.args.cursors.now.items os → Blames job os e) c.from_residual-in_err-taken.result c.in_err-taken.field-0.0
+    handed (λ (e : MergeFault). (os : List ShardText) → AreAtFirst job c.args.cursors.now.items os → Blames job os e) c.from_residual-in_err-taken.result c.in_err-taken.field-0.0
     (err_from_is_err_and c.from_residual-in_err-taken.result c.from_residual-in_err-taken.ensures.1)
     (λ os f. blames-taken job os c.loop-at.waiting c.in-Some.line c.in_err-taken.field-0.0 c.in_err-taken.ensures.err
     (too-large job os old new c.loop-at.waiting c.in-Some.line step (c.loop-at.invariant.kept os f).few))

@@ -2,7 +2,7 @@ use Rattle.std.proofs.Common.{List, length}
 use Rattle.std.specs.List.{AllByRecursion}
 use Rattle.std.specs.Prelude.{sum_by}
 use Rattle.mr_shards.specs.declared.cursor.Cursor.{Cursor}
-use Rattle.mr_shards.specs.declared.merge.Output.{Output}
+use Rattle.mr_shards.specs.declared.merge.ShardText.{ShardText}
 use Rattle.mr_shards.specs.Cursors.{AreBehind, IsHeadFor, left}
 use Rattle.mr_shards.specs.Outputs.{AreAtFirst}
 use Rattle.mr_shards.proofs.LoopLemmas.{Kept}
@@ -11,7 +11,7 @@ use Rattle.mr_shards.proofs.merge.merge_lines.Given as goal
 abbrev pub invariant-loop-at : goal.invariant-loop-at
 invariant-loop-at l = record {
   kinds : AllByRecursion (IsHeadFor l.job) l.cursors.items;
-  kept : (os : List Output) → AreAtFirst l.job l.fn.cursors.items os → Kept l.job os l.cursors.items l.waiting l.out.items;
+  kept : (os : List ShardText) → AreAtFirst l.job l.fn.cursors.items os → Kept l.job os l.cursors.items l.waiting l.out.items;
   behind : AreBehind l.last l.cursors.items;
 }
 

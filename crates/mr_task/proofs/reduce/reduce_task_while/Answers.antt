@@ -18,19 +18,19 @@ returns-in_err-groups-clause-damaged g c =
 
 pub of-requires-clause-few : goal.of-requires-clause-few
 of-requires-clause-few g c =
-    let m = some-merged c.args.partition c.args.regions.now g.D.Demand.unending c.in_ok-groups.field-0 c.in-Some.groups c.in-Some.is c.in_ok-groups.ensures.merged in
+    let m = some-merged c.args.partition c.args.regions.now g.D.Cancellation.unending c.in_ok-groups.field-0 c.in-Some.groups c.in-Some.is c.in_ok-groups.ensures.merged in
     subst (λ (gs : List Group). All (λ (g : Group). length g.pairs < 4294967296) gs) (sym m.is)
     (groups-few (joined m.values) 4294967296 (omega (arith, c.in_ok-count_all.ensures.few, c.in_ok-count_all.ensures.count m.values m.spelled)))
 
 pub of-requires-clause-count : goal.of-requires-clause-count
 of-requires-clause-count g c =
-    let m = some-merged c.args.partition c.args.regions.now g.D.Demand.unending c.in_ok-groups.field-0 c.in-Some.groups c.in-Some.is c.in_ok-groups.ensures.merged in
+    let m = some-merged c.args.partition c.args.regions.now g.D.Cancellation.unending c.in_ok-groups.field-0 c.in-Some.groups c.in-Some.is c.in_ok-groups.ensures.merged in
     let few : length (joined m.values) ≤ 1073741824 = omega (arith, c.in_ok-count_all.ensures.few, c.in_ok-count_all.ensures.count m.values m.spelled) in
     subst (λ (gs : List Group). length gs < 4294967296) (sym m.is) (omega (arith, few, groups-count (joined m.values)))
 
 pub returns-clause-reduced : goal.returns-clause-reduced
 returns-clause-reduced g c =
-    let m = some-merged c.args.partition c.args.regions.now g.D.Demand.unending c.in_ok-groups.field-0 c.in-Some.groups c.in-Some.is c.in_ok-groups.ensures.merged in
+    let m = some-merged c.args.partition c.args.regions.now g.D.Cancellation.unending c.in_ok-groups.field-0 c.in-Some.groups c.in-Some.is c.in_ok-groups.ensures.merged in
     record {
       can = record {
         values = m.values;

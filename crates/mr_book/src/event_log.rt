@@ -1,0 +1,171 @@
+//! The master with its history.
+ghost use Rattle.std.specs.Prelude.{◌≡◌, ◌+◌, ◌≤◌, ◌∷◌, ◌++◌, [], length, replicate, sum, vec_len, IfOk, OnOk, OnErr};
+ghost use Rattle.mr_core.specs.declared.event.Reply.{Reply};
+ghost use Rattle.mr_core.specs.Core.{IsStep, IsRun, TakesMemory};
+ghost use Rattle.mr_book.specs.Calls.{grown, has_damage, is_damage, is_wait};
+
+use crate::history_entry::HistoryEntry;
+use crate::seat::{Seat, gather, seats_of};
+use mr_core::{Core, End, Event, Limits, Reply, Shape, Task};
+use std::alloc::{AllocError, Global};
+use std::marker::Model;
+use std::sync::ledger;
+use std::sync::ledger::{Blank, Ledger, Share};
+
+/// A master, and the events that it heard with its replies; `growth` is how many of these are no ask answered by Wait, and
+/// `damage` whether one tells that a region could not be read.
+/// `calls` is the ledger of all calls, of which each seat has a share; the share left beside the seats has no part.
+#[derive(Drop)]
+pub(crate) struct EventLog<L: Ledger> {
+    core: Core,
+    entries: Vec<HistoryEntry>,
+    growth: u64,
+    damage: bool,
+    calls: ledger::Book<L>,
+    rest: Share<L>,
+}
+
+impl<L: Ledger> Model for EventLog<L> {
+    ghost use Rattle.std.specs.Prelude.{◌≡◌, ◌-◌, vec_len, vec_capacity};
+    ghost use Rattle.mr_core.specs.Core.{IsRun};
+    ghost use Rattle.mr_book.specs.Log.{LogView};
+    ghost use Rattle.mr_book.specs.Calls.{grown, has_damage};
+
+    ghost Value = { LogView };
+
+    ghost view = { λ l. record { core = l.core; history = l.entries.items; room = vec_capacity l.entries - vec_len l.entries } };
+
+    ghost invariant = { λ l. record {
+      run : IsRun l.core l.entries.items;
+      growth : l.growth ≡ grown l.entries.items;
+      damage : l.damage ≡ has_damage l.entries.items;
+      calls : l.calls.total ≡ vec_len l.entries;
+      rest : (l.rest.parts ≡ 0) × (l.rest.amount ≡ 0);
+    } };
+}
+
+impl<L: Ledger> EventLog<L> {
+    /// A log with no events, and as many seats.
+    pub(crate) fn open(
+        alloc: Global,
+        blank: Blank,
+        core: Core,
+        seats: usize,
+    ) -> Result<(EventLog<L>, Vec<Seat<L>>), AllocError>
+        requires ledger { (blank.name ≡ L.name) × (blank.parts ≡ L.parts) }
+        requires seats { blank.parts ≡ seats }
+        requires opening { IsRun core [] }
+        ensures core { IfOk result (λ r. r.0.core ≡ core) }
+        ensures history { IfOk result (λ r. r.0.history ≡ []) }
+        ensures seats { IfOk result (λ r. r.1.items ≡ replicate seats 0) }
+    {
+        let (calls, mut rest) = blank.open::<L>();
+        let made = seats_of(alloc, &mut rest, seats)?;
+        let log = EventLog {
+            core,
+            entries: Vec::new(alloc),
+            growth: 0,
+            damage: false,
+            calls,
+            rest,
+        };
+        Ok((log, made))
+    }
+
+    /// How many events it has.
+    pub(crate) fn len(&self) -> u64
+        ensures { result ≡ length self.now.history }
+    {
+        self.entries.len() as u64
+    }
+
+    /// How many of its events are no ask answered by Wait.
+    pub(crate) fn grown(&self) -> u64
+        ensures { result ≡ grown self.now.history }
+    {
+        self.growth
+    }
+
+    /// Whether some attempt could not read what it had fetched.
+    pub(crate) fn has_damage(&self) -> bool
+        ensures { result ≡ has_damage self.now.history }
+    {
+        self.damage
+    }
+
+    /// The master.
+    pub(crate) fn core(&self) -> &Core
+        ensures core { result.now ≡ self.now.core }
+        ensures run { IsRun self.now.core self.now.history }
+    {
+        &self.core
+    }
+
+    /// Makes room for one event more.
+    pub(crate) fn reserve(&mut self) -> Result<(), AllocError>
+        ensures ok { OnOk result (1 ≤ self.new.room) }
+        ensures core { self.new.core ≡ self.old.core }
+        ensures history { self.new.history ≡ self.old.history }
+    {
+        self.entries.reserve(1)
+    }
+
+    /// The master hears an event, which is appended with its reply. Without memory nothing changes.
+    pub(crate) fn enter(
+        &mut self,
+        alloc: Global,
+        seat: &mut Seat<L>,
+        event: Event,
+    ) -> Result<Reply, AllocError>
+        requires { 1 ≤ self.old.room }
+        ensures step { IfOk result (λ r. IsStep self.old.core event r self.new.core) }
+        ensures history { IfOk result (λ r. self.new.history ≡ self.old.history ++ (event, r) ∷ []) }
+        ensures seat { OnOk result (seat.new ≡ seat.old + 1) }
+        ensures memory { OnErr result (TakesMemory event) }
+        ensures err { OnErr result ((self.new ≡ self.old) × (seat.new ≡ seat.old)) }
+    {
+        let (reply, again) = self.core.apply_with_copy(alloc, event)?;
+        if !is_wait(event, &reply) {
+            self.growth += 1;
+        }
+        self.damage = self.damage || is_damage(event);
+        self.entries.push_reserved(HistoryEntry::of(event, again));
+        seat.count(&mut self.calls);
+        Ok(reply)
+    }
+
+    /// The whole history, with all seats.
+    pub(crate) fn close(self, seats: Vec<Seat<L>>) -> (Shape, Vec<HistoryEntry>)
+        requires { vec_len seats ≡ L.parts }
+        ensures shape { result.0 ≡ self.core.shape }
+        ensures entries { result.1.items ≡ self.history }
+        ensures calls { length self.history ≡ sum seats.items }
+        ensures run { IsRun self.core self.history }
+    {
+        let EventLog {
+            core,
+            entries,
+            growth: _,
+            damage: _,
+            mut calls,
+            mut rest,
+        } = self;
+        gather(&mut rest, seats);
+        calls.audit(&mut rest);
+        (core.shape(), entries)
+    }
+}
+
+/// Whether a worker asks and has to wait.
+fn is_wait(event: Event, reply: &Reply) -> bool
+    ensures { result ≡ is_wait (event, reply.now) }
+{
+    matches!((event, reply), (Event::Ask(_), Reply::Wait))
+}
+
+/// Whether a reduce attempt could not read what it had fetched.
+fn is_damage(event: Event) -> bool
+    ensures { (reply : Reply) → result ≡ is_damage (event, reply) }
+{
+    matches!(event, Event::Damaged(..))
+}

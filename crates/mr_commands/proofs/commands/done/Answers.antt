@@ -1,4 +1,0 @@
-use Rattle.mr_commands.proofs.commands.done.Goals as goal
-
-pub returns-in-Seq-clause-refused : goal.returns-in-Seq-clause-refused
-returns-in-Seq-clause-refused g c = rw c.in-Seq.is c.seq.ensures.refused

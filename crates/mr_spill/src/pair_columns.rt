@@ -1,0 +1,197 @@
+//! Pairs with their names, in flat columns.
+ghost use Rattle.std.specs.Prelude.{◌≡◌, ◌↔◌, ◌+◌, ◌-◌, ◌++◌, ◌∷◌, [], ◌<◌, IfOk, IsTrue, OnOk, OnErr, length};
+ghost use Rattle.mr_spill.specs.Column.{names_of, nth_pair};
+
+use mr_bytes::{Name, Span, Value, ValueColumn, is_same_span};
+use std::alloc::{AllocError, Global};
+use std::marker::Model;
+
+/// Pairs with their names, one behind another: the bytes of keys in one buffer, so that no key takes an allocation of
+/// its own, and pairs that came together under one key share its bytes; values of which those `One` in front are only
+/// counted. The keys take less than 4 GiB.
+#[derive(Drop)]
+pub struct PairColumns {
+    keys: Vec<u8>,
+    /// Where the key of each pair stands.
+    spans: Vec<Span>,
+    values: ValueColumn,
+    names: Vec<Name>,
+}
+
+impl Model for PairColumns {
+    ghost use Rattle.std.specs.Prelude.{◌≡◌, List, length};
+    ghost use Rattle.std.specs.List.{AllByRecursion};
+    ghost use Rattle.mr_bytes.specs.Pairs.{Triple};
+    ghost use Rattle.mr_spill.specs.Column.{IsSpan, triples_of};
+
+    ghost Value = { List Triple };
+
+    ghost view = { λ p. triples_of p.keys.items p.spans.items p.values p.names.items };
+
+    ghost invariant = { λ p. record {
+      spans : AllByRecursion (IsSpan (length p.keys.items)) p.spans.items;
+      values : length p.values ≡ length p.spans.items;
+      names : length p.names.items ≡ length p.spans.items;
+    } };
+}
+
+/// Where a key stands that comes behind so many bytes. There is no memory for 4 GiB of keys.
+fn span_behind(bytes: usize, key: &[u8]) -> Result<Span, AllocError>
+    ensures start { IfOk result (λ s. s.start ≡ bytes) }
+    ensures end { IfOk result (λ s. s.end ≡ bytes + length key.now) }
+{
+    let most = u32::MAX as usize;
+    let count = key.len();
+    if most < bytes || most - bytes < count {
+        return Err(AllocError);
+    }
+    Ok(Span {
+        start: bytes as u32,
+        end: (bytes + count) as u32,
+    })
+}
+
+impl PairColumns {
+    /// No pairs. It takes no memory.
+    pub fn new(alloc: Global) -> PairColumns
+        ensures { result ≡ [] }
+    {
+        PairColumns {
+            keys: Vec::new(alloc),
+            spans: Vec::new(alloc),
+            values: ValueColumn::new(alloc),
+            names: Vec::new(alloc),
+        }
+    }
+
+    /// No pairs, and room for so many whose keys have so many bytes together, what they share counted once. It fails only
+    /// for want of memory.
+    pub(crate) fn with_room(
+        alloc: Global,
+        count: usize,
+        bytes: usize,
+    ) -> Result<PairColumns, AllocError>
+        ensures { IfOk result (λ p. p ≡ []) }
+    {
+        Ok(PairColumns {
+            keys: Vec::with_capacity(alloc, bytes)?,
+            spans: Vec::with_capacity(alloc, count)?,
+            values: ValueColumn::new(alloc),
+            names: Vec::with_capacity(alloc, count)?,
+        })
+    }
+
+    /// No pairs, and room for as many as two columns have. It fails only for want of memory.
+    pub fn with_room_for(
+        alloc: Global,
+        first: &PairColumns,
+        second: &PairColumns,
+    ) -> Result<PairColumns, AllocError>
+        ensures { IfOk result (λ p. p ≡ []) }
+    {
+        let count = first.spans.len().saturating_add(second.spans.len());
+        let bytes = first.keys.len().saturating_add(second.keys.len());
+        PairColumns::with_room(alloc, count, bytes)
+    }
+
+    /// How many pairs there are.
+    pub fn len(&self) -> usize
+        ensures { result ≡ length self.now }
+    {
+        self.spans.len()
+    }
+
+    /// The key of pair `i`, from 0.
+    pub fn key(&self, i: usize) -> &[u8]
+        requires { i < length self.now }
+        ensures { result.now ≡ (nth_pair self.now i).key }
+    {
+        let span = self.spans[i];
+        &self.keys[span.start as usize..span.end as usize]
+    }
+
+    /// Whether pairs `i` and `j`, from 0, have one key. It takes no look at a key that they share.
+    pub fn is_same_key(&self, i: usize, j: usize) -> bool
+        requires first { i < length self.now }
+        requires second { j < length self.now }
+        ensures { IsTrue result ↔ ((nth_pair self.now i).key ≡ (nth_pair self.now j).key) }
+    {
+        is_same_span(self.spans[i], self.spans[j]) || self.key(i) == self.key(j)
+    }
+
+    /// The value of pair `i`, from 0.
+    pub fn value(&self, i: usize) -> Value
+        requires { i < length self.now }
+        ensures { result ≡ (nth_pair self.now i).value }
+    {
+        self.values.get(i)
+    }
+
+    /// The name of pair `i`, from 0.
+    pub fn name(&self, i: usize) -> Name
+        requires { i < length self.now }
+        ensures { result ≡ (nth_pair self.now i).name }
+    {
+        self.names[i]
+    }
+
+    /// The names of all pairs, in their order.
+    pub fn names(&self) -> &[Name]
+        ensures { result.now ≡ names_of self.now }
+    {
+        &self.names
+    }
+
+    /// The names of all pairs, in their order; the rest is let go.
+    pub fn into_names(self) -> Vec<Name>
+        ensures { result.items ≡ names_of self }
+    {
+        let PairColumns { names, .. } = self;
+        names
+    }
+
+    /// One more pair, at the end. It fails only for want of memory, and then nothing has changed.
+    pub fn push(&mut self, key: &[u8], value: Value, name: Name) -> Result<(), AllocError>
+        ensures ok { OnOk result (self.new ≡ self.old ++ record { key = key.now; value = value; name = name } ∷ []) }
+        ensures err { OnErr result (self.new ≡ self.old) }
+    {
+        let span = span_behind(self.keys.len(), key)?;
+        self.keys.reserve(key.len())?;
+        self.spans.reserve(1)?;
+        self.names.reserve(1)?;
+        self.values.push(value)?;
+        // There is room for the rest, so nothing fails behind a change.
+        self.keys.extend_from_slice(key)?;
+        self.spans.push_reserved(span);
+        self.names.push_reserved(name);
+        Ok(())
+    }
+
+    /// One more pair, at the end, under the key of the pair that stands there: they share its bytes. It fails only for
+    /// want of memory, and then nothing has changed.
+    pub(crate) fn push_again(&mut self, value: Value, name: Name) -> Result<(), AllocError>
+        requires { 0 < length self.old }
+        ensures ok { OnOk result (self.new
+            ≡ self.old ++ record { key = (nth_pair self.old (length self.old - 1)).key; value = value; name = name } ∷ []) }
+        ensures err { OnErr result (self.new ≡ self.old) }
+    {
+        let span = self.spans[self.spans.len() - 1];
+        self.spans.reserve(1)?;
+        self.names.reserve(1)?;
+        self.values.push(value)?;
+        // There is room for the rest, so nothing fails behind a change.
+        self.spans.push_reserved(span);
+        self.names.push_reserved(name);
+        Ok(())
+    }
+
+    /// No pairs any more. What they took stays for later ones.
+    pub fn clear(&mut self)
+        ensures { self.new ≡ [] }
+    {
+        self.keys.clear();
+        self.spans.clear();
+        self.values.clear();
+        self.names.clear();
+    }
+}
