@@ -1,10 +1,9 @@
 //! A run by workers: what it is of, how it ended, and what it leaves.
-ghost use Rattle.std.specs.Prelude.{◌≡◌, ℕ, ◌≤◌, ◌^◌, ◌++◌, Some, List, IfOk, IfErr, IfSome, IsTrue, OnOk, map, option_map, string_bytes};
-ghost use Rattle.mr_input.specs.Files.{split_total};
+ghost use Rattle.std.specs.Prelude.{◌≡◌, ℕ, ◌++◌, Some, List, IfOk, IfErr, IfSome, IsTrue, OnOk, map, option_map, string_bytes};
 ghost use Rattle.mr_files.specs.Holding.{Begins, ChangesAmong};
 ghost use Rattle.mr_files.specs.Identities.{AreApart};
 ghost use Rattle.mr_files.specs.Refusals.{IsOneUnwritten};
-ghost use Rattle.mr_pool.specs.Outcomes.{run_shape};
+ghost use Rattle.mr_pool.specs.Outcomes.{IsRunnable};
 ghost use Rattle.mr_commands.specs.Runs.{AnswersRun, AreGoodAttempts, AreGoodWorkers, EndsOver, IsBadScript, IsCrewRefusal, IsEnding, IsHistoryKept, IsResultKept, IsResultRefused, IsScratchClash, IsScratchRefusal, StandsIn, scratch_name};
 ghost use Rattle.mr_commands.specs.Runs.{IsStartRefusal, IsRunUnanswered, IsScript, IsScriptRefusal, Runs, TellsRan, history_of as history_in};
 ghost use Rattle.mr_commands.specs.Inputs.{IsInput, IsInputRefusal};
@@ -21,7 +20,6 @@ use crate::said::CommandOutput;
 use mr_args::{Fault, RunOptions, request_of};
 use mr_book::History;
 use mr_bytes::{OpenGate, Progress};
-use mr_certform::Version;
 use mr_check::No;
 use mr_core::JobFault;
 use mr_files::{
@@ -29,7 +27,7 @@ use mr_files::{
 };
 use mr_input::Input;
 use mr_jobs::Request;
-use mr_pool::{Certified, RunFault, run_watched as pooled};
+use mr_pool::{Certified, RunFault, RunSpec, run_watched};
 use mr_script::Script;
 use mr_spill::{MemoryStore, RegionStore, Scratch, ScratchFault};
 use mr_store::Bytes;
@@ -93,28 +91,20 @@ fn script_of<S: Store>(store: &S, alloc: Global, name: Option<&str>) -> Result<S
     }
 }
 
-/// Runs the request over the input, with regions in this store.
+/// Runs a job, with regions in this store.
 fn ended_over<S: RegionStore + Drop, R: Threads + Wait + Sync>(
     rt: &R,
     alloc: Global,
-    request: &Request,
-    input: &Input,
-    script: &Script,
-    workers: u32,
-    attempts: u32,
+    spec: RunSpec<'_>,
     store: S,
-    version: Version,
     watch: &dyn Progress,
 ) -> Result<RunOutcome, Fault>
-    requires fits { split_total request.now.split input.now ≤ 2 ^ 20 }
-    requires workers { (1 ≤ workers) × (workers ≤ 64) }
-    requires attempts { (1 ≤ attempts) × (attempts ≤ 16) }
-    ensures ends { IfOk result (λ ran. IsEnding request.now input.now script.now S.steady (run_shape request.now input.now workers attempts) version ran) }
+    requires runnable { IsRunnable spec.request.now spec.input.now spec.shape }
+    ensures ends { IfOk result (λ ran. IsEnding spec.entry.request.now spec.entry.input.now spec.entry.script.now S.steady
+        spec.entry.shape spec.entry.version ran) }
     ensures memory { IfErr result (λ e. e ≡ Fault.OutOfMemory) }
 {
-    match pooled(
-        rt, alloc, request, input, script, workers, attempts, &OpenGate, store, version, watch,
-    ) {
+    match run_watched(rt, alloc, spec, &OpenGate, store, watch) {
         Ok(certified) => Ok(RunOutcome::Certified(certified)),
         Err(RunFault::Failed(fault, history)) => Ok(RunOutcome::Failed(fault, history)),
         Err(RunFault::Uncertified(no, history)) => Ok(RunOutcome::Uncertified(no, history)),
@@ -210,40 +200,30 @@ fn expect_scratch_apart<S: Store>(
     expect_no_region(store, alloc, dir, names.as_slice())
 }
 
-/// Runs the request over the input, with regions in files of the directory, or in memory where there is none.
+/// Runs a job, with regions in files of the directory, or in memory where there is none.
 fn ended<C: Scratch, R: Threads + Wait + Sync>(
     rt: &R,
     scratch: &C,
     dir: Option<&str>,
     alloc: Global,
-    request: &Request,
-    input: &Input,
-    script: &Script,
-    workers: u32,
-    attempts: u32,
-    version: Version,
+    spec: RunSpec<'_>,
     watch: &dyn Progress,
 ) -> Result<RunOutcome, Fault>
-    requires fits { split_total request.now.split input.now ≤ 2 ^ 20 }
-    requires workers { (1 ≤ workers) × (workers ≤ 64) }
-    requires attempts { (1 ≤ attempts) × (attempts ≤ 16) }
-    ensures ends { IfOk result (λ ran. EndsOver (option_map (λ d. d.now) dir.entry) request.now input.now script.now
-        (run_shape request.now input.now workers attempts) version ran) }
+    requires runnable { IsRunnable spec.request.now spec.input.now spec.shape }
+    ensures ends { IfOk result (λ ran. EndsOver (option_map (λ d. d.now) dir.entry) spec.entry.request.now spec.entry.input.now
+        spec.entry.script.now spec.entry.shape spec.entry.version ran) }
     ensures refused { IfErr result (λ e. IsScratchRefusal (option_map (λ d. d.now) dir.entry) e) }
 {
+    let workers = spec.shape.workers;
     match dir {
         None => {
             let Ok(store) = MemoryStore::new(rt, alloc, workers) else {
                 return Err(Fault::OutOfMemory);
             };
-            ended_over(
-                rt, alloc, request, input, script, workers, attempts, store, version, watch,
-            )
+            ended_over(rt, alloc, spec, store, watch)
         }
         Some(dir) => match scratch.open(alloc, dir, workers) {
-            Ok(store) => ended_over(
-                rt, alloc, request, input, script, workers, attempts, store, version, watch,
-            ),
+            Ok(store) => ended_over(rt, alloc, spec, store, watch),
             Err(ScratchFault::InUse) => Err(Fault::ScratchInUse),
             Err(ScratchFault::OutOfMemory) => Err(Fault::OutOfMemory),
         },
@@ -268,19 +248,9 @@ fn executed<S: Store, C: Scratch, R: Threads + Wait + Sync>(
     let script = script_of(store, alloc, asked.script)?;
     let input = input_apart(store, alloc, &request, asked)?;
     expect_scratch_apart(store, alloc, asked)?;
-    ended(
-        rt,
-        scratch,
-        asked.scratch,
-        alloc,
-        &request,
-        &input,
-        &script,
-        asked.workers,
-        asked.attempts,
-        asked.version,
-        watch,
-    )
+    let (workers, attempts) = (asked.workers, asked.attempts);
+    let spec = RunSpec::of(&request, &input, &script, workers, attempts, asked.version);
+    ended(rt, scratch, asked.scratch, alloc, spec, watch)
 }
 
 /// What is said of a run.

@@ -1,5 +1,5 @@
 -- What a run answers.
-use Rattle.std.specs.Prelude.{◌≡◌, ℕ, Bool, List, Some, Ok, Err, ◌⊎◌, IsTrue}
+use Rattle.std.specs.Prelude.{◌≡◌, ◌≤◌, ◌^◌, ℕ, Bool, List, Some, Ok, Err, ◌⊎◌, IsTrue}
 use Rattle.mr_input.specs.Files.{contents, split_total}
 use Rattle.mr_jobs.specs.JobSpec.{RequestSpec}
 use Rattle.mr_certform.specs.Value.{Contents, Spells, SpellsIn}
@@ -8,12 +8,14 @@ use Rattle.mr_script.specs.declared.directive.Directive.{Directive}
 use Rattle.mr_core.specs.declared.event.Shape.{Shape}
 use Rattle.mr_core.specs.declared.event.End.{End}
 use Rattle.mr_core.specs.declared.event.JobFault.{JobFault}
+use Rattle.mr_core.specs.Core.{InLimits}
 use Rattle.mr_core.specs.Master.{State, Run, opening}
 use Rattle.mr_core.specs.Promises.{Promises}
 use Rattle.mr_book.specs.Assembled.{assembled_certificate, assembled_outputs}
 use Rattle.mr_book.specs.View.{StoresAccepted}
 use Rattle.mr_book.specs.Assembling.{reduced_under}
 use Rattle.mr_book.specs.Calls.{has_damage}
+use Rattle.mr_book.specs.Faithful.{IsOpenedFor}
 use Rattle.mr_book.specs.declared.book.History.{History}
 use Rattle.mr_sequential.specs.Good.{IsGoodResult}
 use Rattle.mr_verdict.specs.declared.fault.No.{No}
@@ -33,6 +35,12 @@ run_shape request files workers attempts = record {
   workers = workers;
   limits = record { attempts = attempts; skips = request.skips };
 }
+
+-- the input fits, and the shape is within the limits, and is the request's over this input
+pub record IsRunnable (request : RequestSpec) (files : List (List ℕ)) (sh : Shape) : Type 0 where
+  pub fits : split_total request.split files ≤ 2 ^ 20
+  pub limits : InLimits sh
+  pub opened : IsOpenedFor request files sh
 
 -- a closed book of this shape: its history is a run of the master that leads to the state, so that the master's promises
 -- hold of it, and its stored outputs are just those that the history accepted

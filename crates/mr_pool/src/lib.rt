@@ -2,13 +2,16 @@
 //! under its lock for tasks, do them and report; what a script orders to go wrong; then the judge.
 #![tactic(auto)]
 
+mod book_calls;
 mod executing;
 mod fault_plan;
 mod judge_progress;
 mod run_progress;
+mod run_spec;
 mod running;
 mod shared;
 mod task_flags;
 mod worker;
 
+pub use run_spec::RunSpec;
 pub use running::{Certified, RunFault, run, run_watched};

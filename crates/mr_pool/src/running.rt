@@ -8,21 +8,24 @@ ghost use Rattle.mr_book.specs.Faithful.{IsOpenedFor};
 ghost use Rattle.mr_book.specs.Assembling.{SpellsWhereItCan, reduced_under};
 ghost use Rattle.mr_certform.specs.Value.{Spells};
 ghost use Rattle.mr_check.specs.Ahead.{IsMappedFor};
-ghost use Rattle.mr_core.specs.Core.{InLimits};
 ghost use Rattle.mr_verdict.specs.declared.fault.No.{No};
 ghost use Rattle.mr_sequential.specs.Good.{IsGoodResult};
 ghost use Rattle.mr_verdict.specs.Headline.{IsCertified, accepted_of};
 ghost use Rattle.mr_verdict.specs.Verdict.{verdict_of};
-ghost use Rattle.mr_pool.specs.Outcomes.{IsCertifiedRun, IsDoneRun, IsInVersion, IsRunFault, run_shape};
+ghost use Rattle.mr_pool.specs.Outcomes.{IsCertifiedRun, IsDoneRun, IsInVersion, IsRunFault, IsRunnable, run_shape};
 
-use crate::executing::{RunSpec, run_workers};
-use crate::fault_plan::accounts_for;
+use crate::executing::run_workers;
+use crate::fault_plan::{FaultPlan, accounts_for};
 use crate::judge_progress::JudgesProgress;
+use crate::run_progress::RunProgress;
+use crate::run_spec::RunSpec;
+use crate::shared::Shared;
+use crate::task_flags::TaskFlags;
 use mr_book::{Book, History, Seat};
 use mr_bytes::{Gate, OpenGate, Phase, Progress, RecordName, Unwatched};
 use mr_certform::Version;
 use mr_check::{MappedInput, No, Yes, check_mapped_watched, is_same_fault, map_input};
-use mr_core::{End, JobFault, Limits, Shape};
+use mr_core::{End, JobFault, Shape};
 use mr_input::Input;
 use mr_jobs::Request;
 use mr_script::Script;
@@ -31,8 +34,9 @@ use mr_splits::Plan;
 use std::alloc::{AllocError, Global};
 use std::fmt::{self, Debug, Formatter};
 use std::marker::Brand;
-use std::sync::Wait;
+use std::sync::atomic::AtomicBool;
 use std::sync::ledger::{Blank, Ledger};
+use std::sync::{Condvar, Mutex, Wait};
 use std::thread;
 use std::thread::Threads;
 use thiserror::Error;
@@ -83,173 +87,6 @@ impl From<AllocError> for RunFault {
     }
 }
 
-/// The verdict on a result, by as many threads as there are workers, given the input as it was mapped ahead.
-fn judged_by_all<W: Progress, R: Threads + Sync>(
-    rt: &R,
-    alloc: Global,
-    mapped: &MappedInput<'_>,
-    terms: RunSpec<'_>,
-    outputs: &[Vec<u8>],
-    certificate: &[u8],
-    watch: &W,
-) -> Result<Yes, No>
-    requires mapped { IsMappedFor terms.request.now terms.input.now mapped.now }
-    requires fits { split_total terms.request.now.split terms.input.now ≤ 2 ^ 20 }
-    requires limits { InLimits terms.shape }
-    ensures headline { IfOk result (λ y. IsCertified terms.entry.request.now terms.entry.input.now (contents outputs.now) certificate.now
-        y.skips.items y.pairs) }
-    ensures yes { IfOk result (λ y. verdict_of terms.entry.request.now terms.entry.input.now (contents outputs.now) certificate.now
-        ≡ Ok (accepted_of y)) }
-    ensures good { OnOk result (IsGoodResult terms.entry.request.now terms.entry.input.now (contents outputs.now) certificate.now) }
-    ensures no { IfErr result (λ e. (e ≡ No.OutOfMemory)
-        ⊎ (verdict_of terms.entry.request.now terms.entry.input.now (contents outputs.now) certificate.now ≡ Err e)) }
-{
-    check_mapped_watched(
-        rt,
-        alloc,
-        terms.request,
-        terms.input,
-        mapped,
-        outputs,
-        certificate,
-        terms.shape.workers,
-        &OpenGate,
-        &JudgesProgress { watch },
-    )
-}
-
-/// What a run that ended done answers, as its result is judged.
-fn answered(
-    terms: RunSpec<'_>,
-    outputs: Vec<Vec<u8>>,
-    certificate: Vec<u8>,
-    judged: Result<Yes, No>,
-    history: History,
-    version: Version,
-    steady: bool,
-) -> Result<Certified, RunFault>
-    requires done { IsDoneRun terms.request.now terms.input.now history.shape history (contents outputs.items) certificate.items }
-    requires headline { IfOk judged (λ y. IsCertified terms.request.now terms.input.now (contents outputs.items) certificate.items y.skips.items y.pairs) }
-    requires yes { IfOk judged (λ y. verdict_of terms.request.now terms.input.now (contents outputs.items) certificate.items ≡ Ok (accepted_of y)) }
-    requires good { OnOk judged (IsGoodResult terms.request.now terms.input.now (contents outputs.items) certificate.items) }
-    requires version { OnOk judged (IsInVersion version certificate.items) }
-    requires no { IfErr judged (λ e. (e ≡ No.OutOfMemory)
-        ⊎ (verdict_of terms.request.now terms.input.now (contents outputs.items) certificate.items ≡ Err e)) }
-    ensures certified { IfOk result (IsCertifiedRun terms.entry.request.now terms.entry.input.now history.shape version) }
-    ensures fault { IfErr result (IsRunFault terms.entry.request.now terms.entry.input.now terms.entry.script.now steady history.shape) }
-{
-    match judged {
-        Ok(yes) => Ok(Certified {
-            outputs,
-            certificate,
-            skips: yes.skips,
-            pairs: yes.pairs,
-            history,
-        }),
-        Err(no) => {
-            if is_same_fault(no, No::OutOfMemory) {
-                return Err(RunFault::OutOfMemory);
-            }
-            Err(RunFault::Uncertified(no, history))
-        }
-    }
-}
-
-/// The files and the certificate of a done job, put together by one thread while the others map the input for the judge.
-fn made_and_mapped<'p, L: Ledger, W: Progress, R: Threads + Sync>(
-    rt: &R,
-    alloc: Global,
-    plan: &'p Plan<'p>,
-    terms: RunSpec<'_>,
-    book: &Book<L>,
-    version: Version,
-    watch: &W,
-) -> Result<(Vec<Vec<u8>>, Vec<u8>, MappedInput<'p>), AllocError>
-    requires plan { plan.now ≡ record { size = terms.request.now.split; files = terms.input.now } }
-    requires limits { InLimits terms.shape }
-    requires ends { book.now.state.end ≡ Some Ended.Done }
-    requires opened { IsOpenedFor terms.request.now terms.input.now book.now.shape }
-    ensures outputs { IfOk result (λ r. contents r.0.items ≡ assembled_outputs (reduced_under book.now.reduces) book.now.state) }
-    ensures certificate { IfOk result (λ r. Spells r.1.items
-        (assembled_certificate terms.entry.request.now terms.entry.input.now (reduced_under book.now.reduces) book.now.state)) }
-    ensures version { IfOk result (λ r. SpellsWhereItCan version r.1.items
-        (assembled_certificate terms.entry.request.now terms.entry.input.now (reduced_under book.now.reduces) book.now.state)) }
-    ensures mapped { IfOk result (λ r. IsMappedFor terms.entry.request.now terms.entry.input.now (r.2)) }
-{
-    let RunSpec {
-        request,
-        input,
-        shape: Shape { workers, .. },
-        ..
-    } = terms;
-    let mapping = move || -> Result<MappedInput<'_>, AllocError>
-        requires same { plan.now.size ≡ request.now.split }
-        requires workers { (1 ≤ workers) × (workers ≤ 64) }
-        ensures { IfOk result (IsMappedFor request.entry.now plan.entry.now.files) }
-    {
-        let progress = JudgesProgress { watch };
-        map_input(rt, alloc, request, plan, workers, &OpenGate, &progress)
-    };
-    let making = move || -> Result<(Vec<Vec<u8>>, Vec<u8>), AllocError>
-        requires ends { book.now.state.end ≡ Some Ended.Done }
-        requires opened { IsOpenedFor request.now input.now book.now.shape }
-        ensures outputs { IfOk result (λ r. contents r.0.items ≡ assembled_outputs (reduced_under book.entry.now.reduces) book.entry.now.state) }
-        ensures certificate { IfOk result (λ r. Spells r.1.items
-            (assembled_certificate request.entry.now input.entry.now (reduced_under book.entry.now.reduces) book.entry.now.state)) }
-        ensures version { IfOk result (λ r. SpellsWhereItCan version r.1.items
-            (assembled_certificate request.entry.now input.entry.now (reduced_under book.entry.now.reduces) book.entry.now.state)) }
-    { book.assemble_bytes(alloc, request, input, version) };
-    let (mapped, made) = thread::join(rt, mapping, making);
-    let (outputs, certificate) = made?;
-    Ok((outputs, certificate, mapped?))
-}
-
-/// The result of a done job is assembled and judged.
-fn assemble_and_judge<L: Ledger, W: Progress, R: Threads + Sync>(
-    rt: &R,
-    alloc: Global,
-    plan: &Plan<'_>,
-    terms: RunSpec<'_>,
-    book: Book<L>,
-    seats: Vec<Seat<L>>,
-    version: Version,
-    steady: bool,
-    watch: &W,
-) -> Result<Certified, RunFault>
-    requires plan { plan.now ≡ record { size = terms.request.now.split; files = terms.input.now } }
-    requires fits { split_total terms.request.now.split terms.input.now ≤ 2 ^ 20 }
-    requires limits { InLimits terms.shape }
-    requires ends { book.state.end ≡ Some Ended.Done }
-    requires opened { IsOpenedFor terms.request.now terms.input.now book.shape }
-    requires seats { vec_len seats ≡ L.parts }
-    ensures certified { IfOk result (IsCertifiedRun terms.entry.request.now terms.entry.input.now book.shape version) }
-    ensures fault { IfErr result (IsRunFault terms.entry.request.now terms.entry.input.now terms.entry.script.now steady book.shape) }
-{
-    watch.report(Phase::Judging, 0, 1);
-    let (outputs, certificate, mapped) = made_and_mapped(
-        rt, alloc, plan, terms, &book, version, watch,
-    )?;
-    let judged = judged_by_all(
-        rt,
-        alloc,
-        &mapped,
-        terms,
-        outputs.as_slice(),
-        certificate.as_slice(),
-        watch,
-    );
-    let history = book.close(seats);
-    answered(
-        terms,
-        outputs,
-        certificate,
-        judged,
-        history,
-        version,
-        steady,
-    )
-}
-
 /// How a job ended, by what its script accounts for.
 #[derive(Clone, Copy, PartialEq, Eq)]
 enum Ending {
@@ -283,41 +120,175 @@ fn is_opened(shape: Shape, opened: Shape) -> bool
     shape == opened
 }
 
-/// What a book that is closed amounts to.
-fn conclude<L: Ledger, W: Progress, R: Threads + Sync>(
-    rt: &R,
+/// What makes the result of a run and judges it: by as many threads as there are workers, for who looks on.
+#[derive(Drop)]
+struct RunJudge<'a, W: Progress, R: Threads + Sync> {
+    rt: &'a R,
     alloc: Global,
-    plan: &Plan<'_>,
-    terms: RunSpec<'_>,
-    book: Book<L>,
-    seats: Vec<Seat<L>>,
-    version: Version,
+    plan: &'a Plan<'a>,
+    spec: RunSpec<'a>,
+    /// Whether the store of regions is steady.
     steady: bool,
-    watch: &W,
-) -> Result<Certified, RunFault>
-    requires plan { plan.now ≡ record { size = terms.request.now.split; files = terms.input.now } }
-    requires fits { split_total terms.request.now.split terms.input.now ≤ 2 ^ 20 }
-    requires limits { InLimits terms.shape }
-    requires opened { IsOpenedFor terms.request.now terms.input.now terms.shape }
-    requires seats { vec_len seats ≡ L.parts }
-    ensures certified { IfOk result (IsCertifiedRun terms.entry.request.now terms.entry.input.now terms.entry.shape version) }
-    ensures fault { IfErr result (IsRunFault terms.entry.request.now terms.entry.input.now terms.entry.script.now steady terms.entry.shape) }
-{
-    if !is_opened(book.shape(), terms.shape) {
-        return Err(RunFault::Uncertified(No::OtherJob, book.close(seats)));
+    watch: &'a W,
+}
+
+impl<'a, W: Progress, R: Threads + Sync> RunJudge<'a, W, R> {
+    /// The files and the certificate of a done job, assembled by one thread while the others map the input for the judge.
+    fn assemble_and_map<L: Ledger>(
+        &self,
+        book: &Book<L>,
+    ) -> Result<(Vec<Vec<u8>>, Vec<u8>, MappedInput<'a>), AllocError>
+        requires plan { self.now.plan.now ≡ record { size = self.now.spec.request.now.split; files = self.now.spec.input.now } }
+        requires runnable { IsRunnable self.now.spec.request.now self.now.spec.input.now self.now.spec.shape }
+        requires ends { book.now.state.end ≡ Some Ended.Done }
+        requires opened { IsOpenedFor self.now.spec.request.now self.now.spec.input.now book.now.shape }
+        ensures outputs { IfOk result (λ r. contents r.0.items ≡ assembled_outputs (reduced_under book.now.reduces) book.now.state) }
+        ensures certificate { IfOk result (λ r. Spells r.1.items
+            (assembled_certificate self.now.spec.request.now self.now.spec.input.now (reduced_under book.now.reduces) book.now.state)) }
+        ensures version { IfOk result (λ r. SpellsWhereItCan self.now.spec.version r.1.items
+            (assembled_certificate self.now.spec.request.now self.now.spec.input.now (reduced_under book.now.reduces) book.now.state)) }
+        ensures mapped { IfOk result (λ r. IsMappedFor self.now.spec.request.now self.now.spec.input.now (r.2)) }
+    {
+        let RunSpec {
+            request,
+            input,
+            shape: Shape { workers, .. },
+            version,
+            ..
+        } = self.spec;
+        let (rt, alloc, plan, watch) = (self.rt, self.alloc, self.plan, self.watch);
+        let mapping = move || -> Result<MappedInput<'_>, AllocError>
+            requires same { plan.now.size ≡ request.now.split }
+            requires workers { (1 ≤ workers) × (workers ≤ 64) }
+            ensures { IfOk result (IsMappedFor request.entry.now plan.entry.now.files) }
+        {
+            let progress = JudgesProgress { watch };
+            map_input(rt, alloc, request, plan, workers, &OpenGate, &progress)
+        };
+        let assembling = move || -> Result<(Vec<Vec<u8>>, Vec<u8>), AllocError>
+            requires ends { book.now.state.end ≡ Some Ended.Done }
+            requires opened { IsOpenedFor request.now input.now book.now.shape }
+            ensures outputs { IfOk result (λ r. contents r.0.items ≡ assembled_outputs (reduced_under book.entry.now.reduces) book.entry.now.state) }
+            ensures certificate { IfOk result (λ r. Spells r.1.items
+                (assembled_certificate request.entry.now input.entry.now (reduced_under book.entry.now.reduces) book.entry.now.state)) }
+            ensures version { IfOk result (λ r. SpellsWhereItCan version r.1.items
+                (assembled_certificate request.entry.now input.entry.now (reduced_under book.entry.now.reduces) book.entry.now.state)) }
+        { book.assemble_bytes(alloc, request, input, version) };
+        let (mapped, assembled) = thread::join(rt, mapping, assembling);
+        let (outputs, certificate) = assembled?;
+        Ok((outputs, certificate, mapped?))
     }
-    match ending_by(
-        book.end(),
-        terms.script,
-        book.has_damage(),
-        steady,
-        terms.shape.workers,
-    ) {
-        Ending::Done => assemble_and_judge(
-            rt, alloc, plan, terms, book, seats, version, steady, watch,
-        ),
-        Ending::Failed(fault) => Err(RunFault::Failed(fault, book.close(seats))),
-        Ending::Astray => Err(RunFault::Uncertified(No::OtherJob, book.close(seats))),
+
+    /// The verdict on a result, given the input as it was mapped ahead.
+    fn judge(
+        &self,
+        mapped: &MappedInput<'_>,
+        outputs: &[Vec<u8>],
+        certificate: &[u8],
+    ) -> Result<Yes, No>
+        requires mapped { IsMappedFor self.now.spec.request.now self.now.spec.input.now mapped.now }
+        requires runnable { IsRunnable self.now.spec.request.now self.now.spec.input.now self.now.spec.shape }
+        ensures headline { IfOk result (λ y. IsCertified self.now.spec.request.now self.now.spec.input.now (contents outputs.now) certificate.now
+            y.skips.items y.pairs) }
+        ensures yes { IfOk result (λ y. verdict_of self.now.spec.request.now self.now.spec.input.now (contents outputs.now) certificate.now
+            ≡ Ok (accepted_of y)) }
+        ensures good { OnOk result (IsGoodResult self.now.spec.request.now self.now.spec.input.now (contents outputs.now) certificate.now) }
+        ensures no { IfErr result (λ e. (e ≡ No.OutOfMemory)
+            ⊎ (verdict_of self.now.spec.request.now self.now.spec.input.now (contents outputs.now) certificate.now ≡ Err e)) }
+    {
+        check_mapped_watched(
+            self.rt,
+            self.alloc,
+            self.spec.request,
+            self.spec.input,
+            mapped,
+            outputs,
+            certificate,
+            self.spec.shape.workers,
+            &OpenGate,
+            &JudgesProgress { watch: self.watch },
+        )
+    }
+
+    /// What a run that ended done answers, as its result is judged.
+    fn answer(
+        &self,
+        outputs: Vec<Vec<u8>>,
+        certificate: Vec<u8>,
+        judged: Result<Yes, No>,
+        history: History,
+    ) -> Result<Certified, RunFault>
+        requires done { IsDoneRun self.now.spec.request.now self.now.spec.input.now history.shape history (contents outputs.items) certificate.items }
+        requires headline { IfOk judged (λ y. IsCertified self.now.spec.request.now self.now.spec.input.now (contents outputs.items) certificate.items y.skips.items y.pairs) }
+        requires yes { IfOk judged (λ y. verdict_of self.now.spec.request.now self.now.spec.input.now (contents outputs.items) certificate.items ≡ Ok (accepted_of y)) }
+        requires good { OnOk judged (IsGoodResult self.now.spec.request.now self.now.spec.input.now (contents outputs.items) certificate.items) }
+        requires version { OnOk judged (IsInVersion self.now.spec.version certificate.items) }
+        requires no { IfErr judged (λ e. (e ≡ No.OutOfMemory)
+            ⊎ (verdict_of self.now.spec.request.now self.now.spec.input.now (contents outputs.items) certificate.items ≡ Err e)) }
+        ensures certified { IfOk result (IsCertifiedRun self.now.spec.request.now self.now.spec.input.now history.shape self.now.spec.version) }
+        ensures fault { IfErr result (IsRunFault self.now.spec.request.now self.now.spec.input.now self.now.spec.script.now self.now.steady history.shape) }
+    {
+        match judged {
+            Ok(yes) => Ok(Certified {
+                outputs,
+                certificate,
+                skips: yes.skips,
+                pairs: yes.pairs,
+                history,
+            }),
+            Err(no) => {
+                if is_same_fault(no, No::OutOfMemory) {
+                    return Err(RunFault::OutOfMemory);
+                }
+                Err(RunFault::Uncertified(no, history))
+            }
+        }
+    }
+
+    /// The result of a done job is assembled and judged.
+    fn assemble_and_judge<L: Ledger>(
+        &self,
+        book: Book<L>,
+        seats: Vec<Seat<L>>,
+    ) -> Result<Certified, RunFault>
+        requires plan { self.now.plan.now ≡ record { size = self.now.spec.request.now.split; files = self.now.spec.input.now } }
+        requires runnable { IsRunnable self.now.spec.request.now self.now.spec.input.now self.now.spec.shape }
+        requires ends { book.state.end ≡ Some Ended.Done }
+        requires opened { IsOpenedFor self.now.spec.request.now self.now.spec.input.now book.shape }
+        requires seats { vec_len seats ≡ L.parts }
+        ensures certified { IfOk result (IsCertifiedRun self.now.spec.request.now self.now.spec.input.now book.shape self.now.spec.version) }
+        ensures fault { IfErr result (IsRunFault self.now.spec.request.now self.now.spec.input.now self.now.spec.script.now self.now.steady book.shape) }
+    {
+        self.watch.report(Phase::Judging, 0, 1);
+        let (outputs, certificate, mapped) = self.assemble_and_map(&book)?;
+        let judged = self.judge(&mapped, outputs.as_slice(), certificate.as_slice());
+        let history = book.close(seats);
+        self.answer(outputs, certificate, judged, history)
+    }
+
+    /// What a book that is closed amounts to.
+    fn conclude<L: Ledger>(&self, book: Book<L>, seats: Vec<Seat<L>>) -> Result<Certified, RunFault>
+        requires plan { self.now.plan.now ≡ record { size = self.now.spec.request.now.split; files = self.now.spec.input.now } }
+        requires runnable { IsRunnable self.now.spec.request.now self.now.spec.input.now self.now.spec.shape }
+        requires seats { vec_len seats ≡ L.parts }
+        ensures certified { IfOk result (IsCertifiedRun self.now.spec.request.now self.now.spec.input.now self.now.spec.shape self.now.spec.version) }
+        ensures fault { IfErr result (IsRunFault self.now.spec.request.now self.now.spec.input.now self.now.spec.script.now self.now.steady self.now.spec.shape) }
+    {
+        let RunSpec { script, shape, .. } = self.spec;
+        if !is_opened(book.shape(), shape) {
+            return Err(RunFault::Uncertified(No::OtherJob, book.close(seats)));
+        }
+        match ending_by(
+            book.end(),
+            script,
+            book.has_damage(),
+            self.steady,
+            shape.workers,
+        ) {
+            Ending::Done => self.assemble_and_judge(book, seats),
+            Ending::Failed(fault) => Err(RunFault::Failed(fault, book.close(seats))),
+            Ending::Astray => Err(RunFault::Uncertified(No::OtherJob, book.close(seats))),
+        }
     }
 }
 
@@ -331,28 +302,24 @@ fn run_in<
     rt: &R,
     alloc: Global,
     blank: Blank,
-    plan: &Plan<'_>,
-    terms: RunSpec<'_>,
+    spec: RunSpec<'_>,
     gate: &G,
     store: S,
-    version: Version,
     watch: &W,
 ) -> Result<Certified, RunFault>
     requires ledger { (blank.name ≡ L.name) × (blank.parts ≡ L.parts) }
-    requires parts { blank.parts ≡ terms.shape.workers }
-    requires plan { plan.now ≡ record { size = terms.request.now.split; files = terms.input.now } }
-    requires fits { split_total terms.request.now.split terms.input.now ≤ 2 ^ 20 }
-    requires opened { IsOpenedFor terms.request.now terms.input.now terms.shape }
-    requires limits { InLimits terms.shape }
-    ensures certified { IfOk result (IsCertifiedRun terms.entry.request.now terms.entry.input.now terms.entry.shape version) }
-    ensures fault { IfErr result (IsRunFault terms.entry.request.now terms.entry.input.now terms.entry.script.now S.steady terms.entry.shape) }
+    requires parts { blank.parts ≡ spec.shape.workers }
+    requires runnable { IsRunnable spec.request.now spec.input.now spec.shape }
+    ensures certified { IfOk result (IsCertifiedRun spec.entry.request.now spec.entry.input.now spec.entry.shape spec.entry.version) }
+    ensures fault { IfErr result (IsRunFault spec.entry.request.now spec.entry.input.now spec.entry.script.now S.steady spec.entry.shape) }
 {
     let Shape {
         maps,
         parts,
         workers,
         limits,
-    } = terms.shape;
+    } = spec.shape;
+    let plan = Plan::new_fitting(alloc, spec.input, spec.request.split_size())?;
     let (book, seats) = Book::<L>::open(
         alloc,
         blank,
@@ -362,9 +329,29 @@ fn run_in<
         limits,
         workers as usize,
     )?;
-    let steady = S::is_steady();
-    let (book, seats) = run_workers(rt, alloc, plan, terms, book, seats, gate, store, watch)?;
-    conclude(rt, alloc, plan, terms, book, seats, version, steady, watch)
+    let shared = Shared {
+        alloc,
+        book: Mutex::new(book),
+        news: Condvar::new(),
+        stopped: AtomicBool::new(false),
+        plan: &plan,
+        request: spec.request,
+        orders: FaultPlan::of(alloc, spec.script)?,
+        completed: TaskFlags::new(alloc, maps, parts)?,
+        gate,
+        store,
+        progress: RunProgress::new(watch, maps, parts),
+    };
+    let (book, seats) = run_workers(rt, shared, seats)?;
+    let judge = RunJudge {
+        rt,
+        alloc,
+        plan: &plan,
+        spec,
+        steady: S::is_steady(),
+        watch,
+    };
+    judge.conclude(book, seats)
 }
 
 /// Runs the request's job over the input by so many workers, 1 to 64, each in a thread of its own where one can be made;
@@ -389,9 +376,8 @@ pub fn run<G: Gate, S: RegionStore + Drop, R: Threads + Wait + Sync>(
     ensures certified { IfOk result (IsCertifiedRun request.now input.now (run_shape request.now input.now workers attempts) version) }
     ensures fault { IfErr result (IsRunFault request.now input.now script.now S.steady (run_shape request.now input.now workers attempts)) }
 {
-    run_watched(
-        rt, alloc, request, input, script, workers, attempts, gate, store, version, &Unwatched,
-    )
+    let spec = RunSpec::of(request, input, script, workers, attempts, version);
+    run_watched(rt, alloc, spec, gate, store, &Unwatched)
 }
 
 /// Runs a job as `run` does, and tells who looks on: how many outputs of map tasks the book has accepted, and of reduce
@@ -399,47 +385,15 @@ pub fn run<G: Gate, S: RegionStore + Drop, R: Threads + Wait + Sync>(
 pub fn run_watched<G: Gate, S: RegionStore + Drop, R: Threads + Wait + Sync>(
     rt: &R,
     alloc: Global,
-    request: &Request,
-    input: &Input,
-    script: &Script,
-    workers: u32,
-    attempts: u32,
+    spec: RunSpec<'_>,
     gate: &G,
     store: S,
-    version: Version,
     watch: &dyn Progress,
 ) -> Result<Certified, RunFault>
-    requires fits { split_total request.now.split input.now ≤ 2 ^ 20 }
-    requires workers { (1 ≤ workers) × (workers ≤ 64) }
-    requires attempts { (1 ≤ attempts) × (attempts ≤ 16) }
-    ensures certified { IfOk result (IsCertifiedRun request.now input.now (run_shape request.now input.now workers attempts) version) }
-    ensures fault { IfErr result (IsRunFault request.now input.now script.now S.steady (run_shape request.now input.now workers attempts)) }
+    requires runnable { IsRunnable spec.request.now spec.input.now spec.shape }
+    ensures certified { IfOk result (IsCertifiedRun spec.entry.request.now spec.entry.input.now spec.entry.shape spec.entry.version) }
+    ensures fault { IfErr result (IsRunFault spec.entry.request.now spec.entry.input.now spec.entry.script.now S.steady spec.entry.shape) }
 {
-    let plan = Plan::new_fitting(alloc, input, request.split_size())?;
-    let shape = Shape {
-        maps: plan.splits(),
-        parts: request.parts(),
-        workers,
-        limits: Limits {
-            attempts,
-            skips: request.max_skips(),
-        },
-    };
-    let terms = RunSpec {
-        request,
-        input,
-        script,
-        shape,
-    };
-    run_in::<Brand, G, S, &dyn Progress, R>(
-        rt,
-        alloc,
-        Blank::new(workers as u64),
-        &plan,
-        terms,
-        gate,
-        store,
-        version,
-        &watch,
-    )
+    let blank = Blank::new(spec.shape.workers as u64);
+    run_in::<Brand, G, S, &dyn Progress, R>(rt, alloc, blank, spec, gate, store, &watch)
 }

@@ -11,7 +11,7 @@ use mr_script::Directive;
 use mr_spill::{GetFault, PutFault, RegionStore, RegionView, is_region};
 use mr_splits::Plan;
 use mr_task::{
-    Came, Cancellation, Follower, MapOutput, ReduceOutput, Stored, TaskFault, map_piece,
+    Came, Cancellation, Follower, MapOutput, Place, ReduceOutput, Stored, TaskFault, map_piece,
     reduce_followed, reduce_task,
 };
 use std::alloc::{AllocError, Global};
@@ -25,9 +25,11 @@ enum Next {
     End,
 }
 
-/// A worker by its number, with its seat at the book, and how many reports it has made.
+/// A worker by its number, with its seat at the book, what it shares with the others, and how many reports it has made.
 #[derive(Drop)]
-pub(crate) struct Worker<L: Ledger> {
+pub(crate) struct Worker<'s, L: Ledger, G: Gate, W: Progress, S: RegionStore, R: Wait> {
+    pub rt: &'s R,
+    pub shared: &'s Shared<'s, L, G, W, S>,
     pub number: u32,
     pub seat: Seat<L>,
     pub reports: u32,
@@ -35,21 +37,21 @@ pub(crate) struct Worker<L: Ledger> {
 
 /// What a worker leaves: its seat, and whether it was refused memory.
 #[derive(Drop)]
-pub(crate) struct Left<L: Ledger> {
+pub(crate) struct WorkerEnd<L: Ledger> {
     pub seat: Seat<L>,
     pub refused: bool,
 }
 
-/// A region that was got: whose split it is, and its bytes.
+/// A region that was fetched: whose split it is, and its bytes.
 #[derive(Drop)]
-struct Got {
+struct FetchedRegion {
     split: u32,
     bytes: Vec<u8>,
 }
 
 /// What came of a reduce attempt.
 #[derive(Drop)]
-enum Made {
+enum ReduceResult {
     Output(ReduceOutput),
     /// It is no longer wanted.
     Unwanted,
@@ -60,73 +62,15 @@ enum Made {
 }
 
 /// The regions, lent.
-fn lent<'g>(alloc: Global, got: &'g [Got]) -> Result<Vec<RegionView<'g>>, AllocError> {
-    let mut regions = Vec::with_capacity(alloc, got.len())?;
-    for one in got {
+fn lent<'g>(
+    alloc: Global,
+    fetched: &'g [FetchedRegion],
+) -> Result<Vec<RegionView<'g>>, AllocError> {
+    let mut regions = Vec::with_capacity(alloc, fetched.len())?;
+    for one in fetched {
         regions.push(RegionView::of(one.bytes.as_slice(), one.split))?;
     }
     Ok(regions)
-}
-
-/// Gets the regions that are stored of a split for a partition, behind those before: whether each could be read, and is one of
-/// the split and the partition.
-fn get_regions<S: RegionStore>(
-    store: &S,
-    alloc: Global,
-    stored: &Stored,
-    split: u32,
-    partition: u32,
-    got: &mut Vec<Got>,
-) -> Result<bool, AllocError> {
-    if partition >= stored.parts() {
-        return Ok(false);
-    }
-    for run in 0..stored.runs() {
-        let place = stored.place(partition, run);
-        let mut bytes = Vec::new(alloc);
-        match store.get(place.worker, place.number, &mut bytes) {
-            Ok(()) => {}
-            Err(GetFault::OutOfMemory) => return Err(AllocError),
-            Err(GetFault::Device | GetFault::NoRegion) => return Ok(false),
-        }
-        if !is_region(bytes.as_slice(), split, partition) {
-            return Ok(false);
-        }
-        got.push(Got { split, bytes })?;
-    }
-    Ok(true)
-}
-
-/// Takes the regions that are stored of a split for a partition, one after another, into the same buffer: whether each could
-/// be read, and is one of the split and the partition.
-fn follow<S: RegionStore>(
-    store: &S,
-    stored: &Stored,
-    split: u32,
-    partition: u32,
-    buffer: &mut Vec<u8>,
-    follower: &mut Follower,
-) -> Result<bool, AllocError> {
-    if partition >= stored.parts() {
-        return Ok(false);
-    }
-    for run in 0..stored.runs() {
-        let place = stored.place(partition, run);
-        buffer.clear();
-        match store.get(place.worker, place.number, buffer) {
-            Ok(()) => {}
-            Err(GetFault::OutOfMemory) => return Err(AllocError),
-            Err(GetFault::Device | GetFault::NoRegion) => return Ok(false),
-        }
-        if follower.is_whole() {
-            if let Came::Damaged = follower.take(&RegionView::of(buffer.as_slice(), split))? {
-                return Ok(false);
-            }
-        } else if !is_region(buffer.as_slice(), split, partition) {
-            return Ok(false);
-        }
-    }
-    Ok(true)
 }
 
 /// The most pairs that an input can have: each takes two bytes of it, or ends a file.
@@ -147,20 +91,14 @@ fn guessed(first: usize, plan: &Plan<'_>) -> usize {
         .min(most_pairs(plan.input()))
 }
 
-impl<L: Ledger> Worker<L> {
+impl<'s, L: Ledger, G: Gate, W: Progress, S: RegionStore, R: Wait> Worker<'s, L, G, W, S, R> {
     /// What is ordered just before the worker's next report, in the order of the lines.
-    fn before_report<R: Wait, G: Gate, W: Progress, S: RegionStore>(
-        &mut self,
-        rt: &R,
-        shared: &Shared<'_, L, G, W, S>,
-        task: Task,
-    ) -> Result<(), AllocError> {
+    fn before_report(&mut self, task: Task) -> Result<(), AllocError> {
+        let shared = self.shared;
         for line in shared.orders.before_report(self.number, self.reports) {
             match shared.orders.directive(line) {
-                Some(Directive::Zombie { .. }) => {
-                    shared.lose(rt, &mut self.seat, self.number)?;
-                }
-                Some(Directive::Hold { .. }) => shared.hold(rt, task),
+                Some(Directive::Zombie { .. }) => self.lose()?,
+                Some(Directive::Hold { .. }) => self.hold(task),
                 _ => {}
             }
         }
@@ -168,13 +106,13 @@ impl<L: Ledger> Worker<L> {
     }
 
     /// Puts a region, damaged where a line says so: its number, and `None` where the store's device failed.
-    fn put<G: Gate, W: Progress, S: RegionStore>(
+    fn put(
         &self,
-        shared: &Shared<'_, L, G, W, S>,
         split: u32,
         partition: u32,
         mut region: Vec<u8>,
     ) -> Result<Option<u64>, AllocError> {
+        let shared = self.shared;
         shared
             .orders
             .damage(split, partition, region.as_mut_slice());
@@ -186,9 +124,8 @@ impl<L: Ledger> Worker<L> {
     }
 
     /// Puts the regions of each run of a piece, which are let go then; false where the store's device failed.
-    fn put_piece<G: Gate, W: Progress, S: RegionStore>(
+    fn put_piece(
         &self,
-        shared: &Shared<'_, L, G, W, S>,
         split: u32,
         piece: MapOutput,
         stored: &mut Stored,
@@ -196,7 +133,7 @@ impl<L: Ledger> Worker<L> {
         for run in piece.into_runs() {
             let mut partition = 0u32;
             for region in run.into_texts() {
-                match self.put(shared, split, partition, region)? {
+                match self.put(split, partition, region)? {
                     Some(number) => stored.push(number)?,
                     None => return Ok(false),
                 }
@@ -207,21 +144,15 @@ impl<L: Ledger> Worker<L> {
     }
 
     /// Executes a map task, and reports. A worker whose store fails is lost.
-    fn map<R: Wait, G: Gate, W: Progress, S: RegionStore>(
-        &mut self,
-        rt: &R,
-        shared: &Shared<'_, L, G, W, S>,
-        attempt: u32,
-        split: u32,
-        skips: &[u32],
-    ) -> Result<Next, AllocError>
-        requires { split < split_total shared.now.plan.now.size shared.now.plan.now.files }
+    fn map(&mut self, attempt: u32, split: u32, skips: &[u32]) -> Result<Next, AllocError>
+        requires { split < split_total self.old.shared.now.plan.now.size self.old.shared.now.plan.now.files }
     {
+        let shared = self.shared;
         if let Some(rec) = shared.orders.failing(shared.plan, split, skips) {
-            self.before_report(rt, shared, Task::Map(split))?;
-            shared.map_failed(rt, &mut self.seat, attempt, rec)?;
-        } else if !self.map_pieces(rt, shared, attempt, split, skips)? {
-            shared.lose(rt, &mut self.seat, self.number)?;
+            self.before_report(Task::Map(split))?;
+            self.report_failure(attempt, rec)?;
+        } else if !self.map_pieces(attempt, split, skips)? {
+            self.lose()?;
             return Ok(Next::End);
         }
         self.reports = self.reports.saturating_add(1);
@@ -231,16 +162,10 @@ impl<L: Ledger> Worker<L> {
     /// Maps a split piece by piece, puts the regions of each before it maps the next, and reports; false where the store's
     /// device failed. Once another worker has completed the task it leaves off, and reports no output: the regions that it
     /// has put stay in the store. Where that worker's output is lost meanwhile, it goes on.
-    fn map_pieces<R: Wait, G: Gate, W: Progress, S: RegionStore>(
-        &mut self,
-        rt: &R,
-        shared: &Shared<'_, L, G, W, S>,
-        attempt: u32,
-        split: u32,
-        skips: &[u32],
-    ) -> Result<bool, AllocError>
-        requires { split < split_total shared.now.plan.now.size shared.now.plan.now.files }
+    fn map_pieces(&mut self, attempt: u32, split: u32, skips: &[u32]) -> Result<bool, AllocError>
+        requires { split < split_total self.old.shared.now.plan.now.size self.old.shared.now.plan.now.files }
     {
+        let shared = self.shared;
         let task = Task::Map(split);
         let demand = shared.completed.demand(task);
         let mut stored = Stored::new(shared.alloc, shared.request.parts(), self.number);
@@ -249,10 +174,10 @@ impl<L: Ledger> Worker<L> {
         while next < shared.plan.records_in(split) {
             if !demand.is_wanted() {
                 if !is_ordered {
-                    self.before_report(rt, shared, task)?;
+                    self.before_report(task)?;
                     is_ordered = true;
                 }
-                if shared.leave_map(rt, &mut self.seat, attempt, split, self.number)? {
+                if self.leave_map(attempt, split)? {
                     return Ok(true);
                 }
                 shared.completed.reopen(task);
@@ -266,82 +191,130 @@ impl<L: Ledger> Worker<L> {
                 next,
                 &demand,
             )?;
-            if !self.put_piece(shared, split, piece, &mut stored)? {
+            if !self.put_piece(split, piece, &mut stored)? {
                 return Ok(false);
             }
             next = behind;
         }
         if !is_ordered {
-            self.before_report(rt, shared, task)?;
+            self.before_report(task)?;
         }
-        shared.map_done(rt, &mut self.seat, attempt, split, stored)?;
+        self.report_map(attempt, split, stored)?;
+        Ok(true)
+    }
+
+    /// Appends the bytes of a region; false where the store's device failed, or it isn't there.
+    fn read_region(&self, place: Place, into: &mut Vec<u8>) -> Result<bool, AllocError> {
+        match self.shared.store.get(place.worker, place.number, into) {
+            Ok(()) => Ok(true),
+            Err(GetFault::OutOfMemory) => Err(AllocError),
+            Err(GetFault::Device | GetFault::NoRegion) => Ok(false),
+        }
+    }
+
+    /// Fetches the regions that are stored of a split for a partition, behind those before: whether each could be read, and
+    /// is one of the split and the partition.
+    fn fetch_regions(
+        &self,
+        stored: &Stored,
+        split: u32,
+        partition: u32,
+        fetched: &mut Vec<FetchedRegion>,
+    ) -> Result<bool, AllocError> {
+        if partition >= stored.parts() {
+            return Ok(false);
+        }
+        for run in 0..stored.runs() {
+            let mut bytes = Vec::new(self.shared.alloc);
+            if !self.read_region(stored.place(partition, run), &mut bytes)? {
+                return Ok(false);
+            }
+            if !is_region(bytes.as_slice(), split, partition) {
+                return Ok(false);
+            }
+            fetched.push(FetchedRegion { split, bytes })?;
+        }
+        Ok(true)
+    }
+
+    /// Takes the regions that are stored of a split for a partition, one after another, into the same buffer: whether each
+    /// could be read, and is one of the split and the partition.
+    fn follow(
+        &self,
+        stored: &Stored,
+        split: u32,
+        partition: u32,
+        buffer: &mut Vec<u8>,
+        follower: &mut Follower,
+    ) -> Result<bool, AllocError> {
+        if partition >= stored.parts() {
+            return Ok(false);
+        }
+        for run in 0..stored.runs() {
+            buffer.clear();
+            if !self.read_region(stored.place(partition, run), buffer)? {
+                return Ok(false);
+            }
+            if follower.is_whole() {
+                if let Came::Damaged = follower.take(&RegionView::of(buffer.as_slice(), split))? {
+                    return Ok(false);
+                }
+            } else if !is_region(buffer.as_slice(), split, partition) {
+                return Ok(false);
+            }
+        }
         Ok(true)
     }
 
     /// The output of a partition over all regions at once.
-    fn reduce_whole<G: Gate, W: Progress, S: RegionStore>(
+    fn reduce_whole(
         &self,
-        shared: &Shared<'_, L, G, W, S>,
         partition: u32,
         outputs: &[Arc<Stored>],
-    ) -> Result<Made, AllocError> {
-        let mut got = Vec::new(shared.alloc);
+    ) -> Result<ReduceResult, AllocError> {
+        let shared = self.shared;
+        let mut fetched = Vec::new(shared.alloc);
         let mut split = 0u32;
         for stored in outputs {
-            if !get_regions(
-                &shared.store,
-                shared.alloc,
-                stored,
-                split,
-                partition,
-                &mut got,
-            )? {
-                return Ok(Made::Damaged(split));
+            if !self.fetch_regions(stored, split, partition, &mut fetched)? {
+                return Ok(ReduceResult::Damaged(split));
             }
             split = split.saturating_add(1);
         }
-        let regions = lent(shared.alloc, got.as_slice())?;
+        let regions = lent(shared.alloc, fetched.as_slice())?;
         match reduce_task(
             shared.alloc,
             shared.request.job(),
             partition,
             regions.as_slice(),
         ) {
-            Ok(output) => Ok(Made::Output(output)),
+            Ok(output) => Ok(ReduceResult::Output(output)),
             Err(TaskFault::OutOfMemory) => Err(AllocError),
-            Err(TaskFault::RegionDamaged) => Ok(Made::Damaged(0)),
+            Err(TaskFault::RegionDamaged) => Ok(ReduceResult::Damaged(0)),
         }
     }
 
-    /// Fetches the output of each split, and takes its regions of the partition, of which one is at hand at a time. Where their
-    /// names are out of order, all are got again.
-    fn make_reduce<R: Wait, G: Gate, W: Progress, S: RegionStore>(
+    /// Fetches the output of each split, and takes its regions of the partition, of which one is at hand at a time. Where
+    /// their names are out of order, all are fetched again.
+    fn fetch_and_reduce(
         &mut self,
-        rt: &R,
-        shared: &Shared<'_, L, G, W, S>,
         attempt: u32,
         partition: u32,
-    ) -> Result<Made, AllocError> {
+    ) -> Result<ReduceResult, AllocError> {
+        let shared = self.shared;
         let demand = shared.completed.demand(Task::Reduce(partition));
         let mut follower = Follower::new(shared.alloc, partition);
         let mut buffer = Vec::new(shared.alloc);
         let mut outputs = Vec::new(shared.alloc);
         for split in 0..shared.plan.splits() {
             if !demand.is_wanted() {
-                return Ok(Made::Unwanted);
+                return Ok(ReduceResult::Unwanted);
             }
-            let Some(stored) = shared.fetch(rt, &mut self.seat, attempt, split)? else {
-                return Ok(Made::Gone);
+            let Some(stored) = self.fetch(attempt, split)? else {
+                return Ok(ReduceResult::Gone);
             };
-            if !follow(
-                &shared.store,
-                &stored,
-                split,
-                partition,
-                &mut buffer,
-                &mut follower,
-            )? {
-                return Ok(Made::Damaged(split));
+            if !self.follow(&stored, split, partition, &mut buffer, &mut follower)? {
+                return Ok(ReduceResult::Damaged(split));
             }
             outputs.push(stored)?;
             if split == 0 {
@@ -349,57 +322,33 @@ impl<L: Ledger> Worker<L> {
             }
         }
         match reduce_followed(shared.alloc, shared.request.job(), follower)? {
-            Some(output) => Ok(Made::Output(output)),
-            None => self.reduce_whole(shared, partition, outputs.as_slice()),
+            Some(output) => Ok(ReduceResult::Output(output)),
+            None => self.reduce_whole(partition, outputs.as_slice()),
         }
     }
 
     /// Executes a reduce task, and reports; where an output that it needs is gone, or can't be read, it makes no report.
-    fn reduce<R: Wait, G: Gate, W: Progress, S: RegionStore>(
-        &mut self,
-        rt: &R,
-        shared: &Shared<'_, L, G, W, S>,
-        attempt: u32,
-        partition: u32,
-    ) -> Result<(), AllocError> {
-        let output = match self.make_reduce(rt, shared, attempt, partition)? {
-            Made::Output(output) => Some(output),
-            Made::Unwanted => None,
-            Made::Gone => return Ok(()),
-            Made::Damaged(split) => {
-                return shared.damaged(rt, &mut self.seat, attempt, split);
+    /// Where another worker has completed the task, it reports an output of nothing, which is ignored: what is committed
+    /// stays so.
+    fn reduce(&mut self, attempt: u32, partition: u32) -> Result<(), AllocError> {
+        let output = match self.fetch_and_reduce(attempt, partition)? {
+            ReduceResult::Output(mut output) => {
+                self.shared.orders.spoil(partition, &mut output);
+                output
             }
+            ReduceResult::Unwanted => ReduceOutput::new(self.shared.alloc),
+            ReduceResult::Gone => return Ok(()),
+            ReduceResult::Damaged(split) => return self.report_damage(attempt, split),
         };
-        self.before_report(rt, shared, Task::Reduce(partition))?;
-        self.report_reduce(rt, shared, attempt, partition, output)?;
+        self.before_report(Task::Reduce(partition))?;
+        self.report_reduce(attempt, partition, output)?;
         self.reports = self.reports.saturating_add(1);
         Ok(())
     }
 
-    /// Reports what a reduce attempt gave. One that left off has nothing to report but that it ends: what is committed
-    /// stays so.
-    fn report_reduce<R: Wait, G: Gate, W: Progress, S: RegionStore>(
-        &mut self,
-        rt: &R,
-        shared: &Shared<'_, L, G, W, S>,
-        attempt: u32,
-        partition: u32,
-        output: Option<ReduceOutput>,
-    ) -> Result<(), AllocError> {
-        let Some(mut output) = output else {
-            return shared.leave_reduce(rt, &mut self.seat, attempt, partition);
-        };
-        shared.orders.spoil(partition, &mut output);
-        shared.reduce_done(rt, &mut self.seat, attempt, partition, output)
-    }
-
     /// An attempt, between entering the gate and leaving it.
-    fn attempt<R: Wait, G: Gate, W: Progress, S: RegionStore>(
-        &mut self,
-        rt: &R,
-        shared: &Shared<'_, L, G, W, S>,
-        reply: &Reply,
-    ) -> Result<Next, AllocError> {
+    fn attempt(&mut self, reply: &Reply) -> Result<Next, AllocError> {
+        let shared = self.shared;
         let (attempt, done) = match reply {
             Reply::Map {
                 attempt,
@@ -407,12 +356,12 @@ impl<L: Ledger> Worker<L> {
                 skips,
             } if *split < shared.plan.splits() => {
                 shared.gate.enter(self.number, *attempt);
-                let done = self.map(rt, shared, *attempt, *split, skips.as_slice());
+                let done = self.map(*attempt, *split, skips.as_slice());
                 (*attempt, done)
             }
             Reply::Reduce { attempt, partition } if *partition < shared.request.parts() => {
                 shared.gate.enter(self.number, *attempt);
-                let done = self.reduce(rt, shared, *attempt, *partition);
+                let done = self.reduce(*attempt, *partition);
                 (*attempt, done.map(|()| Next::Ask))
             }
             Reply::Wait => return Ok(Next::Ask),
@@ -423,42 +372,30 @@ impl<L: Ledger> Worker<L> {
     }
 
     /// One turn: the worker is lost where that is due; else it asks, and does what it is told.
-    fn turn<R: Wait, G: Gate, W: Progress, S: RegionStore>(
-        &mut self,
-        rt: &R,
-        shared: &Shared<'_, L, G, W, S>,
-    ) -> Result<Next, AllocError> {
-        if shared.orders.loses(self.number, self.reports) {
-            shared.lose(rt, &mut self.seat, self.number)?;
+    fn turn(&mut self) -> Result<Next, AllocError> {
+        if self.shared.orders.loses(self.number, self.reports) {
+            self.lose()?;
             return Ok(Next::End);
         }
-        let reply = shared.ask(rt, &mut self.seat, self.number)?;
-        self.attempt(rt, shared, &reply)
+        let reply = self.ask()?;
+        self.attempt(&reply)
     }
 
     /// Turn after turn, until it is dismissed, or a worker can't go on.
-    pub(crate) fn work<R: Wait, G: Gate, W: Progress, S: RegionStore>(
-        mut self,
-        rt: &R,
-        shared: &Shared<'_, L, G, W, S>,
-    ) -> Left<L> {
+    pub(crate) fn work(mut self) -> WorkerEnd<L> {
         let mut refused = false;
-        for _ in rt.forever() {
-            match self.turn(rt, shared) {
-                Ok(Next::Ask) if !shared.is_stopped() => {}
+        for _ in self.rt.forever() {
+            match self.turn() {
+                Ok(Next::Ask) if !self.is_stopped() => {}
                 Ok(_) => break,
                 Err(_) => {
                     refused = true;
-                    shared.stop(rt);
+                    self.stop();
                     break;
                 }
             }
         }
-        let Worker {
-            number: _,
-            seat,
-            reports: _,
-        } = self;
-        Left { seat, refused }
+        let Worker { seat, .. } = self;
+        WorkerEnd { seat, refused }
     }
 }

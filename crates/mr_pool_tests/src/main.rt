@@ -18,7 +18,7 @@ mod telling;
 use asked::Order;
 use judging::PhasesHeld;
 use mr_bytes::{Gate, OpenGate};
-use mr_pool::{Certified, RunFault, run, run_watched};
+use mr_pool::{Certified, RunFault, RunSpec, run, run_watched};
 use mr_spill::{DiskScratch, MemoryStore, RegionStore, Scratch};
 use onlookers::{Holding, Tally};
 use std::alloc::Global;
@@ -47,9 +47,10 @@ fn done_over<G: Gate, S: RegionStore + Drop, R: Threads + Wait + Sync>(
         return None;
     }
     Some(match watch {
-        Some(watch) => run_watched(
-            rt, alloc, request, input, script, workers, attempts, gate, store, version, watch,
-        ),
+        Some(watch) => {
+            let spec = RunSpec::of(request, input, script, workers, attempts, version);
+            run_watched(rt, alloc, spec, gate, store, watch)
+        }
         None => run(
             rt, alloc, request, input, script, workers, attempts, gate, store, version,
         ),

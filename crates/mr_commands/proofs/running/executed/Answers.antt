@@ -1,9 +1,8 @@
 use Rattle.std.proofs.Common.{inl, inr, map, ap}
 use Rattle.std.proofs.lemmas.Result.{err_from_is_err_and, IfErr-weaker, IfOk-weaker}
-use Rattle.mr_pool.specs.Outcomes.{run_shape}
 use Rattle.mr_commands.specs.Runs.{AreGood, EndsOver, IsScratchRefusal, IsStartRefusal, Runs, scratch_name}
 use Rattle.mr_commands.proofs.JudgingRefused.{asked}
-use Rattle.mr_commands.proofs.Kept.{script_stage, input_stage, scratch_stage, runs}
+use Rattle.mr_commands.proofs.Kept.{ends_as, script_stage, input_stage, scratch_stage, runs}
 use Rattle.mr_commands.proofs.running.executed.Goals as goal
 
 pub returns-in_err-script-clause-refused : goal.returns-in_err-script-clause-refused
@@ -37,9 +36,14 @@ returns-clause-runs g c =
     let request = c.in_ok-request.request in
     let files = c.in_ok-input.input in
     let script = c.in_ok-script.script in
-    IfOk-weaker c.ended.result (λ ran. EndsOver (scratch_name o) request files script (run_shape request files o.workers o.attempts) o.version ran) (λ ran. Runs holds known o ran)
+    let spec = c.of-spec.result in
+    let is = c.of-spec.ensures in
+    IfOk-weaker c.ended.result
+    (λ ran. EndsOver (scratch_name o) spec.request.now spec.input.now spec.script.now spec.shape spec.version ran)
+    (λ ran. Runs holds known o ran)
     (λ ran h. runs holds (g.S.Store.unreadable c.args.store.now) (g.S.Store.alike c.args.store.now) known o script files request ran
-    c.in_ok-request.ensures.request c.in_ok-script.ensures.script c.in_ok-input.ensures.input c.in_ok-input.ensures.apart h)
+    c.in_ok-request.ensures.request c.in_ok-script.ensures.script c.in_ok-input.ensures.input c.in_ok-input.ensures.apart
+    (ends_as is.request is.input is.script is.shape is.version h))
     c.ended.ensures.ends
 
 pub returns-in_err-expect_scratch_apart-clause-refused : goal.returns-in_err-expect_scratch_apart-clause-refused

@@ -9,10 +9,10 @@ use Rattle.mr_book.specs.Assembling.{reduced_under}
 use Rattle.mr_pool.specs.Outcomes.{IsHistory}
 use Rattle.mr_pool.proofs.Closed.{is_history}
 use Rattle.mr_pool.proofs.Versions.{good_in_version}
-use Rattle.mr_pool.proofs.running.assemble_and_judge.Goals as goal
+use Rattle.mr_pool.proofs.running.RunJudge.assemble_and_judge.Goals as goal
 
-pub answered-requires-clause-done : goal.answered-requires-clause-done
-answered-requires-clause-done g c =
+pub answer-requires-clause-done : goal.answer-requires-clause-done
+answer-requires-clause-done g c =
     let b = c.args.book in
     let h = c.close-history.result in
     let e = c.close-history.ensures in
@@ -23,20 +23,20 @@ answered-requires-clause-done g c =
       ends = c.requires.ends;
       outputs_are = c.in_ok-outputs.ensures.outputs ∙ ap (λ rs. assembled_outputs (reduced_under rs) b.state) same;
       certificate_is = subst (λ rs. Spells c.in_ok-outputs.certificate.items
-          (assembled_certificate c.args.terms.request.now c.args.terms.input.now (reduced_under rs) b.state)) same
+          (assembled_certificate c.args.self.now.spec.request.now c.args.self.now.spec.input.now (reduced_under rs) b.state)) same
           c.in_ok-outputs.ensures.certificate;
     }
 
-pub answered-requires-clause-version : goal.answered-requires-clause-version
-answered-requires-clause-version g c =
+pub answer-requires-clause-version : goal.answer-requires-clause-version
+answer-requires-clause-version g c =
     let b = c.args.book in
     let made = c.in_ok-outputs.ensures in
-    let judged = c.judged_by_all-judged.result in
-    let request = c.args.terms.request.now in
-    let files = c.args.terms.input.now in
+    let judged = c.judge-judged.result in
+    let request = c.args.self.now.spec.request.now in
+    let files = c.args.self.now.spec.input.now in
     let good =
     subst (λ outs. OnOk judged (IsGoodResult request files (contents outs) c.in_ok-outputs.certificate.items)) c.as_slice.ensures.value
     (subst (λ bytes. OnOk judged (IsGoodResult request files (contents c.as_slice.result.now) bytes)) c.as_slice-2.ensures.value
-    c.judged_by_all-judged.ensures.good) in
-    good_in_version c.args.version request files (contents c.in_ok-outputs.outputs.items) c.in_ok-outputs.certificate.items
+    c.judge-judged.ensures.good) in
+    good_in_version c.args.self.now.spec.version request files (contents c.in_ok-outputs.outputs.items) c.in_ok-outputs.certificate.items
     (assembled_certificate request files (reduced_under b.reduces) b.state) judged made.certificate made.version good

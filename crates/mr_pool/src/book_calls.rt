@@ -1,0 +1,172 @@
+//! What a worker says to the book. Each is one call under the lock; who waits for a task is woken where there may be one.
+use crate::worker::Worker;
+use mr_bytes::{Gate, Progress};
+use mr_core::{Reply, Task};
+use mr_spill::RegionStore;
+use mr_task::{ReduceOutput, Stored};
+use std::alloc::AllocError;
+use std::sync::atomic::Ordering;
+use std::sync::ledger::Ledger;
+use std::sync::{Arc, Wait};
+use std::thread;
+
+/// How often a worker that holds its first report back looks at the book.
+const LOOKS: u32 = 1_000;
+
+impl<'s, L: Ledger, G: Gate, W: Progress, S: RegionStore, R: Wait> Worker<'s, L, G, W, S, R> {
+    /// Whether the workers end after their present turn.
+    pub(crate) fn is_stopped(&self) -> bool {
+        self.shared.stopped.load(Ordering::SeqCst)
+    }
+
+    /// All workers end after their present turn, those who wait too. The flag is set under the lock, so that none who is
+    /// about to wait misses it.
+    pub(crate) fn stop(&self) {
+        let shared = self.shared;
+        let book = shared.book.lock(self.rt);
+        shared.stopped.store(true, Ordering::SeqCst);
+        drop(book);
+        shared.news.notify_all();
+    }
+
+    /// Asks for a task. Where there is none, waits until something has happened that may have made one, or the workers
+    /// are stopped. What happened since the ask can't be missed: the lock is held until the worker waits.
+    pub(crate) fn ask(&mut self) -> Result<Reply, AllocError> {
+        let shared = self.shared;
+        let mut book = shared.book.lock(self.rt);
+        let reply = book.ask(&mut self.seat, self.number)?;
+        if matches!(reply, Reply::Wait) {
+            let seen = book.grown();
+            let stopped = &shared.stopped;
+            let _book = shared.news.wait_while(self.rt, book, |b| {
+                b.grown() == seen && !stopped.load(Ordering::SeqCst)
+            });
+        }
+        Ok(reply)
+    }
+
+    /// The output of a split, for a reduce attempt.
+    pub(crate) fn fetch(
+        &mut self,
+        attempt: u32,
+        split: u32,
+    ) -> Result<Option<Arc<Stored>>, AllocError> {
+        let shared = self.shared;
+        let (_reply, output) = shared
+            .book
+            .lock(self.rt)
+            .fetch(&mut self.seat, attempt, split)?;
+        if output.is_none() {
+            shared.news.notify_all();
+        }
+        Ok(output)
+    }
+
+    /// A map attempt is done.
+    pub(crate) fn report_map(
+        &mut self,
+        attempt: u32,
+        split: u32,
+        output: Stored,
+    ) -> Result<(), AllocError> {
+        let shared = self.shared;
+        let told = shared
+            .book
+            .lock(self.rt)
+            .map_done(&mut self.seat, attempt, output);
+        shared.news.notify_all();
+        if matches!(told?, Reply::Accepted) {
+            shared.completed.mark(Task::Map(split));
+            shared.progress.mapped();
+        }
+        Ok(())
+    }
+
+    /// Ends a map attempt that left off, where another worker has completed the task: it reports an output of nothing,
+    /// which is ignored. Whether it is complete is looked at under the same lock, so that no such output is accepted;
+    /// false where it isn't, and then nothing is reported.
+    pub(crate) fn leave_map(&mut self, attempt: u32, split: u32) -> Result<bool, AllocError> {
+        let shared = self.shared;
+        let nothing = Stored::new(shared.alloc, shared.request.parts(), self.number);
+        let mut book = shared.book.lock(self.rt);
+        if !book.complete(Task::Map(split)) {
+            return Ok(false);
+        }
+        let told = book.map_done(&mut self.seat, attempt, nothing);
+        drop(book);
+        shared.news.notify_all();
+        told?;
+        Ok(true)
+    }
+
+    /// A map attempt failed on a record.
+    pub(crate) fn report_failure(&mut self, attempt: u32, rec: u32) -> Result<(), AllocError> {
+        let shared = self.shared;
+        let told = shared
+            .book
+            .lock(self.rt)
+            .map_failed(&mut self.seat, attempt, rec);
+        shared.news.notify_all();
+        told?;
+        Ok(())
+    }
+
+    /// A reduce attempt can't read what it fetched of a split.
+    pub(crate) fn report_damage(&mut self, attempt: u32, split: u32) -> Result<(), AllocError> {
+        let shared = self.shared;
+        let told = shared
+            .book
+            .lock(self.rt)
+            .damaged(&mut self.seat, attempt, split);
+        shared.news.notify_all();
+        told?;
+        Ok(())
+    }
+
+    /// A reduce attempt is done.
+    pub(crate) fn report_reduce(
+        &mut self,
+        attempt: u32,
+        partition: u32,
+        output: ReduceOutput,
+    ) -> Result<(), AllocError> {
+        let shared = self.shared;
+        let told = shared
+            .book
+            .lock(self.rt)
+            .reduce_done(&mut self.seat, attempt, output);
+        shared.news.notify_all();
+        if matches!(told?, Reply::Accepted) {
+            shared.completed.mark(Task::Reduce(partition));
+            shared.progress.reduced();
+        }
+        Ok(())
+    }
+
+    /// The worker is lost.
+    pub(crate) fn lose(&mut self) -> Result<(), AllocError> {
+        let shared = self.shared;
+        let told = shared.book.lock(self.rt).lose(&mut self.seat, self.number);
+        shared.news.notify_all();
+        if matches!(told?, Reply::Accepted) {
+            shared.progress.worker_lost();
+        }
+        Ok(())
+    }
+
+    /// Whether a report on the task needn't be held back any longer: the task is complete, or the job has ended.
+    fn is_over(&self, task: Task) -> bool {
+        let book = self.shared.book.lock(self.rt);
+        book.complete(task) || book.end().is_some()
+    }
+
+    /// Holds a report on the task back, for so many looks at most, the lock being let go in between.
+    pub(crate) fn hold(&self, task: Task) {
+        for _ in 0..LOOKS {
+            if self.is_over(task) {
+                return;
+            }
+            thread::yield_now();
+        }
+    }
+}
