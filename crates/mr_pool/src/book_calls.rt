@@ -1,4 +1,5 @@
-//! What a worker says to the book. Each is one call under the lock; who waits for a task is woken where there may be one.
+//! What a worker says to the book. Each is one call under the lock; who waits for a task is woken
+//! where there may be one.
 use crate::worker::Worker;
 use mr_bytes::{Gate, Progress};
 use mr_core::{Reply, Task};
@@ -19,8 +20,8 @@ impl<'s, L: Ledger, G: Gate, W: Progress, S: RegionStore, R: Wait> Worker<'s, L,
         self.shared.stopped.load(Ordering::SeqCst)
     }
 
-    /// All workers end after their present turn, those who wait too. The flag is set under the lock, so that none who is
-    /// about to wait misses it.
+    /// All workers end after their present turn, those who wait too. The flag is set under the
+    /// lock, so that none who is about to wait misses it.
     pub(crate) fn stop(&self) {
         let shared = self.shared;
         let book = shared.book.lock(self.rt);
@@ -29,8 +30,9 @@ impl<'s, L: Ledger, G: Gate, W: Progress, S: RegionStore, R: Wait> Worker<'s, L,
         shared.news.notify_all();
     }
 
-    /// Asks for a task. Where there is none, waits until something has happened that may have made one, or the workers
-    /// are stopped. What happened since the ask can't be missed: the lock is held until the worker waits.
+    /// Asks for a task. Where there is none, waits until something has happened that may have made
+    /// one, or the workers are stopped. What happened since the ask can't be missed: the lock is
+    /// held until the worker waits.
     pub(crate) fn ask(&mut self) -> Result<Reply, AllocError> {
         let shared = self.shared;
         let mut book = shared.book.lock(self.rt);
@@ -82,9 +84,10 @@ impl<'s, L: Ledger, G: Gate, W: Progress, S: RegionStore, R: Wait> Worker<'s, L,
         Ok(())
     }
 
-    /// Ends a map attempt that left off, where another worker has completed the task: it reports an output of nothing,
-    /// which is ignored. Whether it is complete is looked at under the same lock, so that no such output is accepted;
-    /// false where it isn't, and then nothing is reported.
+    /// Ends a map attempt that left off, where another worker has completed the task: it reports an
+    /// output of nothing, which is ignored. Whether it is complete is looked at under the same
+    /// lock, so that no such output is accepted; false where it isn't, and then nothing is
+    /// reported.
     pub(crate) fn leave_map(&mut self, attempt: u32, split: u32) -> Result<bool, AllocError> {
         let shared = self.shared;
         let nothing = Stored::new(shared.alloc, shared.request.parts(), self.number);
@@ -154,13 +157,15 @@ impl<'s, L: Ledger, G: Gate, W: Progress, S: RegionStore, R: Wait> Worker<'s, L,
         Ok(())
     }
 
-    /// Whether a report on the task needn't be held back any longer: the task is complete, or the job has ended.
+    /// Whether a report on the task needn't be held back any longer: the task is complete, or the
+    /// job has ended.
     fn is_over(&self, task: Task) -> bool {
         let book = self.shared.book.lock(self.rt);
         book.complete(task) || book.end().is_some()
     }
 
-    /// Holds a report on the task back, for so many looks at most, the lock being let go in between.
+    /// Holds a report on the task back, for so many looks at most, the lock being let go in
+    /// between.
     pub(crate) fn hold(&self, task: Task) {
         for _ in 0..LOOKS {
             if self.is_over(task) {

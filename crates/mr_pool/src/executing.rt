@@ -53,8 +53,8 @@ fn seats_of<L: Ledger>(
     Ok(seats)
 }
 
-/// All workers' turns over what they share, each in a thread of its own where one can be made: the book, and the seats
-/// that come back; the rest is let go.
+/// All workers' turns over what they share, each in a thread of its own where one can be made: the
+/// book, and the seats that come back; the rest is let go.
 pub(crate) fn run_workers<
     L: Ledger + Send + Sync,
     G: Gate,

@@ -9,8 +9,8 @@ use mr_input::Input;
 use mr_jobs::Request;
 use mr_script::Script;
 
-/// What a run is of: a job over an input, what the script orders to go wrong, how many tasks, workers and attempts there
-/// are, and the version that the certificate is written in.
+/// What a run is of: a job over an input, what the script orders to go wrong, how many tasks,
+/// workers and attempts there are, and the version that the certificate is written in.
 #[derive(Clone, Copy)]
 pub struct RunSpec<'a> {
     pub request: &'a Request,
@@ -21,8 +21,8 @@ pub struct RunSpec<'a> {
 }
 
 impl<'a> RunSpec<'a> {
-    /// A run by so many workers, 1 to 64; each task may have so many attempts, 1 to 16. The splits of the input must fit
-    /// (`Request::fits`).
+    /// A run by so many workers, 1 to 64; each task may have so many attempts, 1 to 16. The splits
+    /// of the input must fit (`Request::fits`).
     pub fn of(
         request: &'a Request,
         input: &'a Input,

@@ -120,6 +120,42 @@ fn is_opened(shape: Shape, opened: Shape) -> bool
     shape == opened
 }
 
+/// What a run that ended done answers, as its result is judged.
+fn answer(
+    spec: RunSpec<'_>,
+    steady: bool,
+    outputs: Vec<Vec<u8>>,
+    certificate: Vec<u8>,
+    judged: Result<Yes, No>,
+    history: History,
+) -> Result<Certified, RunFault>
+    requires done { IsDoneRun spec.request.now spec.input.now history.shape history (contents outputs.items) certificate.items }
+    requires headline { IfOk judged (λ y. IsCertified spec.request.now spec.input.now (contents outputs.items) certificate.items y.skips.items y.pairs) }
+    requires yes { IfOk judged (λ y. verdict_of spec.request.now spec.input.now (contents outputs.items) certificate.items ≡ Ok (accepted_of y)) }
+    requires good { OnOk judged (IsGoodResult spec.request.now spec.input.now (contents outputs.items) certificate.items) }
+    requires version { OnOk judged (IsInVersion spec.version certificate.items) }
+    requires no { IfErr judged (λ e. (e ≡ No.OutOfMemory)
+        ⊎ (verdict_of spec.request.now spec.input.now (contents outputs.items) certificate.items ≡ Err e)) }
+    ensures certified { IfOk result (IsCertifiedRun spec.entry.request.now spec.entry.input.now history.shape spec.entry.version) }
+    ensures fault { IfErr result (IsRunFault spec.entry.request.now spec.entry.input.now spec.entry.script.now steady history.shape) }
+{
+    match judged {
+        Ok(yes) => Ok(Certified {
+            outputs,
+            certificate,
+            skips: yes.skips,
+            pairs: yes.pairs,
+            history,
+        }),
+        Err(no) => {
+            if is_same_fault(no, No::OutOfMemory) {
+                return Err(RunFault::OutOfMemory);
+            }
+            Err(RunFault::Uncertified(no, history))
+        }
+    }
+}
+
 /// What makes the result of a run and judges it: by as many threads as there are workers, for who looks on.
 #[derive(Drop)]
 struct RunJudge<'a, W: Progress, R: Threads + Sync> {
@@ -210,41 +246,6 @@ impl<'a, W: Progress, R: Threads + Sync> RunJudge<'a, W, R> {
         )
     }
 
-    /// What a run that ended done answers, as its result is judged.
-    fn answer(
-        &self,
-        outputs: Vec<Vec<u8>>,
-        certificate: Vec<u8>,
-        judged: Result<Yes, No>,
-        history: History,
-    ) -> Result<Certified, RunFault>
-        requires done { IsDoneRun self.now.spec.request.now self.now.spec.input.now history.shape history (contents outputs.items) certificate.items }
-        requires headline { IfOk judged (λ y. IsCertified self.now.spec.request.now self.now.spec.input.now (contents outputs.items) certificate.items y.skips.items y.pairs) }
-        requires yes { IfOk judged (λ y. verdict_of self.now.spec.request.now self.now.spec.input.now (contents outputs.items) certificate.items ≡ Ok (accepted_of y)) }
-        requires good { OnOk judged (IsGoodResult self.now.spec.request.now self.now.spec.input.now (contents outputs.items) certificate.items) }
-        requires version { OnOk judged (IsInVersion self.now.spec.version certificate.items) }
-        requires no { IfErr judged (λ e. (e ≡ No.OutOfMemory)
-            ⊎ (verdict_of self.now.spec.request.now self.now.spec.input.now (contents outputs.items) certificate.items ≡ Err e)) }
-        ensures certified { IfOk result (IsCertifiedRun self.now.spec.request.now self.now.spec.input.now history.shape self.now.spec.version) }
-        ensures fault { IfErr result (IsRunFault self.now.spec.request.now self.now.spec.input.now self.now.spec.script.now self.now.steady history.shape) }
-    {
-        match judged {
-            Ok(yes) => Ok(Certified {
-                outputs,
-                certificate,
-                skips: yes.skips,
-                pairs: yes.pairs,
-                history,
-            }),
-            Err(no) => {
-                if is_same_fault(no, No::OutOfMemory) {
-                    return Err(RunFault::OutOfMemory);
-                }
-                Err(RunFault::Uncertified(no, history))
-            }
-        }
-    }
-
     /// The result of a done job is assembled and judged.
     fn assemble_and_judge<L: Ledger>(
         &self,
@@ -263,7 +264,14 @@ impl<'a, W: Progress, R: Threads + Sync> RunJudge<'a, W, R> {
         let (outputs, certificate, mapped) = self.assemble_and_map(&book)?;
         let judged = self.judge(&mapped, outputs.as_slice(), certificate.as_slice());
         let history = book.close(seats);
-        self.answer(outputs, certificate, judged, history)
+        answer(
+            self.spec,
+            self.steady,
+            outputs,
+            certificate,
+            judged,
+            history,
+        )
     }
 
     /// What a book that is closed amounts to.

@@ -1,4 +1,5 @@
-//! What the workers of a run share: the book under its lock, the store of regions, and all that they only read.
+//! What the workers of a run share: the book under its lock, the store of regions, and all that
+//! they only read.
 use crate::fault_plan::FaultPlan;
 use crate::run_progress::RunProgress;
 use crate::task_flags::TaskFlags;
@@ -12,8 +13,8 @@ use std::sync::atomic::AtomicBool;
 use std::sync::ledger::Ledger;
 use std::sync::{Condvar, Mutex};
 
-/// The book under its lock, which is held for one call of it and for nothing else; `news` wakes those who wait for a
-/// task. `stopped` is set once a worker can't go on.
+/// The book under its lock, which is held for one call of it and for nothing else; `news` wakes
+/// those who wait for a task. `stopped` is set once a worker can't go on.
 #[derive(Drop)]
 pub(crate) struct Shared<'a, L: Ledger, G: Gate, W: Progress, S: RegionStore> {
     pub alloc: Global,

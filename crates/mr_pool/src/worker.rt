@@ -25,7 +25,8 @@ enum Next {
     End,
 }
 
-/// A worker by its number, with its seat at the book, what it shares with the others, and how many reports it has made.
+/// A worker by its number, with its seat at the book, what it shares with the others, and how many
+/// reports it has made.
 #[derive(Drop)]
 pub(crate) struct Worker<'s, L: Ledger, G: Gate, W: Progress, S: RegionStore, R: Wait> {
     pub rt: &'s R,
@@ -82,8 +83,8 @@ fn most_pairs(input: &Input) -> usize {
     bytes / 2
 }
 
-/// How many pairs more there may be, where the first split has so many: a sixteenth more than as many from each, and no more
-/// than the input can have. Files of all lengths may follow a long one.
+/// How many pairs more there may be, where the first split has so many: a sixteenth more than as
+/// many from each, and no more than the input can have. Files of all lengths may follow a long one.
 fn guessed(first: usize, plan: &Plan<'_>) -> usize {
     first
         .saturating_add(first / 16)
@@ -105,7 +106,8 @@ impl<'s, L: Ledger, G: Gate, W: Progress, S: RegionStore, R: Wait> Worker<'s, L,
         Ok(())
     }
 
-    /// Puts a region, damaged where a line says so: its number, and `None` where the store's device failed.
+    /// Puts a region, damaged where a line says so: its number, and `None` where the store's device
+    /// failed.
     fn put(
         &self,
         split: u32,
@@ -123,7 +125,8 @@ impl<'s, L: Ledger, G: Gate, W: Progress, S: RegionStore, R: Wait> Worker<'s, L,
         }
     }
 
-    /// Puts the regions of each run of a piece, which are let go then; false where the store's device failed.
+    /// Puts the regions of each run of a piece, which are let go then; false where the store's
+    /// device failed.
     fn put_piece(
         &self,
         split: u32,
@@ -159,9 +162,10 @@ impl<'s, L: Ledger, G: Gate, W: Progress, S: RegionStore, R: Wait> Worker<'s, L,
         Ok(Next::Ask)
     }
 
-    /// Maps a split piece by piece, puts the regions of each before it maps the next, and reports; false where the store's
-    /// device failed. Once another worker has completed the task it leaves off, and reports no output: the regions that it
-    /// has put stay in the store. Where that worker's output is lost meanwhile, it goes on.
+    /// Maps a split piece by piece, puts the regions of each before it maps the next, and reports;
+    /// false where the store's device failed. Once another worker has completed the task it leaves
+    /// off, and reports no output: the regions that it has put stay in the store. Where that
+    /// worker's output is lost meanwhile, it goes on.
     fn map_pieces(&mut self, attempt: u32, split: u32, skips: &[u32]) -> Result<bool, AllocError>
         requires { split < split_total self.old.shared.now.plan.now.size self.old.shared.now.plan.now.files }
     {
@@ -212,8 +216,8 @@ impl<'s, L: Ledger, G: Gate, W: Progress, S: RegionStore, R: Wait> Worker<'s, L,
         }
     }
 
-    /// Fetches the regions that are stored of a split for a partition, behind those before: whether each could be read, and
-    /// is one of the split and the partition.
+    /// Fetches the regions that are stored of a split for a partition, behind those before: whether
+    /// each could be read, and is one of the split and the partition.
     fn fetch_regions(
         &self,
         stored: &Stored,
@@ -237,8 +241,8 @@ impl<'s, L: Ledger, G: Gate, W: Progress, S: RegionStore, R: Wait> Worker<'s, L,
         Ok(true)
     }
 
-    /// Takes the regions that are stored of a split for a partition, one after another, into the same buffer: whether each
-    /// could be read, and is one of the split and the partition.
+    /// Takes the regions that are stored of a split for a partition, one after another, into the
+    /// same buffer: whether each could be read, and is one of the split and the partition.
     fn follow(
         &self,
         stored: &Stored,
@@ -294,8 +298,8 @@ impl<'s, L: Ledger, G: Gate, W: Progress, S: RegionStore, R: Wait> Worker<'s, L,
         }
     }
 
-    /// Fetches the output of each split, and takes its regions of the partition, of which one is at hand at a time. Where
-    /// their names are out of order, all are fetched again.
+    /// Fetches the output of each split, and takes its regions of the partition, of which one is at
+    /// hand at a time. Where their names are out of order, all are fetched again.
     fn fetch_and_reduce(
         &mut self,
         attempt: u32,
@@ -327,9 +331,9 @@ impl<'s, L: Ledger, G: Gate, W: Progress, S: RegionStore, R: Wait> Worker<'s, L,
         }
     }
 
-    /// Executes a reduce task, and reports; where an output that it needs is gone, or can't be read, it makes no report.
-    /// Where another worker has completed the task, it reports an output of nothing, which is ignored: what is committed
-    /// stays so.
+    /// Executes a reduce task, and reports; where an output that it needs is gone, or can't be
+    /// read, it makes no report. Where another worker has completed the task, it reports an output
+    /// of nothing, which is ignored: what is committed stays so.
     fn reduce(&mut self, attempt: u32, partition: u32) -> Result<(), AllocError> {
         let output = match self.fetch_and_reduce(attempt, partition)? {
             ReduceResult::Output(mut output) => {

@@ -7,15 +7,15 @@ use Rattle.mr_verdict.specs.declared.fault.No.TheVariants.{OutOfMemory}
 use Rattle.mr_verdict.specs.Headline.{IsCertified, accepted_of}
 use Rattle.mr_verdict.specs.Verdict.{verdict_of}
 use Rattle.mr_pool.specs.Outcomes.{IsInVersion}
-use Rattle.mr_pool.proofs.running.RunJudge.answer.Goals as goal
+use Rattle.mr_pool.proofs.running.answer.Goals as goal
 
 pub returns-in-Ok-clause-certified : goal.returns-in-Ok-clause-certified
 returns-in-Ok-clause-certified c =
-    let request = c.args.self.now.spec.request.now in
-    let files = c.args.self.now.spec.input.now in
+    let request = c.args.spec.request.now in
+    let files = c.args.spec.input.now in
     let outputs = contents c.args.outputs.items in
     let bytes = c.args.certificate.items in
-    let version = subst (λ j. OnOk j (IsInVersion c.args.self.now.spec.version bytes)) c.in-Ok.is c.requires.version in
+    let version = subst (λ j. OnOk j (IsInVersion c.args.spec.version bytes)) c.in-Ok.is c.requires.version in
     record {
       verdict = subst (λ j. IfOk j (λ y. verdict_of request files outputs bytes ≡ Ok (accepted_of y))) c.in-Ok.is c.requires.yes;
       good = subst (λ j. OnOk j (IsGoodResult request files outputs bytes)) c.in-Ok.is c.requires.good;
@@ -27,7 +27,7 @@ returns-in-Ok-clause-certified c =
 pub returns-else-is_same_fault-clause-fault : goal.returns-else-is_same_fault-clause-fault
 returns-else-is_same_fault-clause-fault c =
     let told = subst
-    (λ j. IfErr j (λ e. (e ≡ OutOfMemory) ⊎ (verdict_of c.args.self.now.spec.request.now c.args.self.now.spec.input.now (contents c.args.outputs.items) c.args.certificate.items ≡ Err e)))
+    (λ j. IfErr j (λ e. (e ≡ OutOfMemory) ⊎ (verdict_of c.args.spec.request.now c.args.spec.input.now (contents c.args.outputs.items) c.args.certificate.items ≡ Err e)))
     c.in-Err.is c.requires.no in
     inl (record {
       outputs = contents c.args.outputs.items;
