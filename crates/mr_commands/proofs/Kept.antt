@@ -54,9 +54,9 @@ module _ (holds : Stored) (unreadable : Faulty) (alike : List ℕ → List ℕ �
   }
 
 -- the same ending, where each part of what was run is given by an equation
-pub ends_as : {dir : Option (List ℕ)} {r1 r2 : RequestSpec} {f1 f2 : List (List ℕ)} {s1 s2 : List Directive} {h1 h2 : Shape} {v1 v2 : Version} {ran : RunOutcome}
+pub ends_as : (dir : Option (List ℕ)) {r1 r2 : RequestSpec} {f1 f2 : List (List ℕ)} {s1 s2 : List Directive} {h1 h2 : Shape} {v1 v2 : Version} (ran : RunOutcome)
     → r1 ≡ r2 → f1 ≡ f2 → s1 ≡ s2 → h1 ≡ h2 → v1 ≡ v2 → EndsOver dir r1 f1 s1 h1 v1 ran → EndsOver dir r2 f2 s2 h2 v2 ran
-ends_as {dir} {r1} {r2} {f1} {f2} {s1} {s2} {h1} {h2} {v1} {v2} {ran} r f s h v ends =
+ends_as dir {r1} {r2} {f1} {f2} {s1} {s2} {h1} {h2} {v1} {v2} ran r f s h v ends =
     subst (λ (x : RequestSpec). EndsOver dir x f2 s2 h2 v2 ran) r
     (subst (λ (x : List (List ℕ)). EndsOver dir r1 x s2 h2 v2 ran) f
     (subst (λ (x : List Directive). EndsOver dir r1 f1 x h2 v2 ran) s

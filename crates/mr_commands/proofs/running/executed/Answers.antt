@@ -43,7 +43,7 @@ returns-clause-runs g c =
     (λ ran. Runs holds known o ran)
     (λ ran h. runs holds (g.S.Store.unreadable c.args.store.now) (g.S.Store.alike c.args.store.now) known o script files request ran
     c.in_ok-request.ensures.request c.in_ok-script.ensures.script c.in_ok-input.ensures.input c.in_ok-input.ensures.apart
-    (ends_as is.request is.input is.script is.shape is.version h))
+    (ends_as (scratch_name o) ran is.request is.input is.script is.shape is.version h))
     c.ended.ensures.ends
 
 pub returns-in_err-expect_scratch_apart-clause-refused : goal.returns-in_err-expect_scratch_apart-clause-refused
