@@ -18,7 +18,7 @@ use Rattle.mr_merge.specs.Bytes.{AreSpelled}
 use Rattle.mr_merge.specs.Merged.{AreSound, joined}
 use Rattle.mr_merge.specs.Merging.{IsPast, IsUpTo, NamesDiffer}
 use Rattle.mr_bytes.proofs.ListLaws.{Has-map}
-use Rattle.mr_merge.specs.Following.{packed}
+use Rattle.mr_merge.specs.Distinct.{packed}
 use Rattle.mr_merge.specs.Taking.{AreTaken, IsBegun, IsTaken}
 use Rattle.mr_merge.proofs.GatherLemmas.{All-weaker, differs, follows, later-last}
 use Rattle.mr_ranks.proofs.ListLemmas.{All-more}

@@ -1,6 +1,5 @@
 -- Regions that come one behind another, and are let go.
-use Rattle.std.specs.Prelude.{◌≡◌, ℕ, ◌+◌, ◌*◌, Bool, true, List}
-use Rattle.mr_bytes.specs.declared.Name.{Name}
+use Rattle.std.specs.Prelude.{◌≡◌, ℕ, Bool, true, List}
 use Rattle.mr_spill.specs.Lent.{RegionText}
 use Rattle.mr_merge.specs.declared.following.Gathering.{Gathering}
 use Rattle.mr_merge.specs.Taking.{AreTaken}
@@ -15,7 +14,3 @@ pub record Followed : Type 0 where
 pub record HasTaken (regions : List RegionText) (f : Followed) : Type 0 where
   pub whole : f.whole ≡ true
   pub taken : AreTaken f.partition regions f.all
-
--- of no public promise: the record and the place of a name, in one number
-abbrev pub packed : Name → ℕ
-packed n = n.rec * 4294967296 + n.place

@@ -6,3 +6,4 @@ pub mod Merging
 pub mod Bytes
 pub mod Taking
 pub mod Following
+pub mod Distinct

@@ -4,15 +4,14 @@ ghost use Rattle.std.specs.Prelude.{IfOk, IfSome, IsTrue, length, true};
 ghost use Rattle.mr_bytes.specs.Pairs.{Triple};
 ghost use Rattle.mr_spill.specs.Cursor.{EndsWithKey};
 ghost use Rattle.mr_spill.specs.Spelling.{SpellsRegion};
-ghost use Rattle.std.specs.Ordering.{nat_cmp};
-ghost use Rattle.mr_bytes.specs.Lists.{Distinct, Rises};
 ghost use Rattle.mr_spill.specs.Lent.{RegionText};
 ghost use Rattle.mr_merge.specs.Bytes.{AreMerged};
-ghost use Rattle.mr_merge.specs.Following.{HasTaken, packed};
+ghost use Rattle.mr_merge.specs.Following.{HasTaken};
 ghost use Rattle.mr_merge.specs.Merging.{IsPast, IsUpTo};
 ghost use Rattle.mr_merge.specs.Taking.{IsPut, IsTaken};
 ghost use Rattle.mr_merge.specs.declared.following.Came.TheVariants.{Damaged, Taken};
 
+use crate::distinct::RegionNames;
 use crate::groups::{Groups, grouped};
 use mr_bytes::{Name, compare_names};
 use mr_spill::{Numbered, RegionPair, RegionView, open_region};
@@ -44,7 +43,7 @@ pub struct Follower {
     partition: u32,
     whole: bool,
     all: Gathering,
-    names: Vec<u64>,
+    names: RegionNames,
 }
 
 impl Model for Follower {
@@ -99,37 +98,10 @@ fn take_pair(
     Ok(true)
 }
 
-/// Number and place of a name, in one number.
-fn packed(name: Name) -> u64
-    ensures { result ≡ packed name }
-{
-    u64::from(name.rec) * 4_294_967_296 + u64::from(name.place)
-}
-
-/// Whether the numbers rise.
-fn numbers_rise(numbers: &[u64]) -> bool
-    ensures { IsTrue result → Rises nat_cmp numbers.now }
-{
-    for i in 1..numbers.len() {
-        if numbers[i - 1] >= numbers[i] {
-            return false;
-        }
-    }
-    true
-}
-
-/// Whether the numbers differ: they are put in order.
-fn differ(numbers: &mut Vec<u64>) -> bool
-    ensures { IsTrue result → Distinct numbers.old.items }
-{
-    numbers.sort_unstable();
-    numbers_rise(numbers.as_slice())
-}
-
 /// Takes the pairs of a region; `names` is room for its names. Where it isn't taken, what was taken counts for nothing.
 fn take_whole(
     all: &mut Gathering,
-    names: &mut Vec<u64>,
+    names: &mut RegionNames,
     region: &RegionView<'_>,
     partition: u32,
 ) -> Result<Came, AllocError>
@@ -146,7 +118,7 @@ fn take_whole(
         let Some(pair) = cursor.next() else {
             return Ok(Came::Damaged);
         };
-        names.push(packed(pair.name))?;
+        names.push(pair.name)?;
         if !take_pair(all, before, pair)? {
             return Ok(Came::Unordered);
         }
@@ -154,7 +126,7 @@ fn take_whole(
     if !cursor.is_at_end() {
         return Ok(Came::Damaged);
     }
-    if !differ(names) {
+    if !names.differ()? {
         return Ok(Came::Unordered);
     }
     Ok(Came::Taken)
@@ -173,7 +145,7 @@ impl Follower {
                 pairs: Numbered::new(alloc),
                 last: None,
             },
-            names: Vec::new(alloc),
+            names: RegionNames::new(alloc),
         }
     }
 

@@ -11,7 +11,7 @@ use mr_script::Directive;
 use mr_spill::{GetFault, PutFault, RegionStore, RegionView, is_region};
 use mr_splits::Plan;
 use mr_task::{
-    Came, Cancellation, Follower, MapOutput, Place, ReduceOutput, Stored, TaskFault, map_piece,
+    Came, Cancellation, Follower, MapOutput, MapTask, Place, ReduceOutput, Stored, TaskFault,
     reduce_followed, reduce_task,
 };
 use std::alloc::{AllocError, Global};
@@ -174,8 +174,8 @@ impl<'s, L: Ledger, G: Gate, W: Progress, S: RegionStore, R: Wait> Worker<'s, L,
         let demand = shared.completed.demand(task);
         let mut stored = Stored::new(shared.alloc, shared.request.parts(), self.number);
         let mut is_ordered = false;
-        let mut next = 0;
-        while next < shared.plan.records_in(split) {
+        let mut rest = MapTask::new(shared.alloc, shared.plan, shared.request, split, skips)?;
+        while !rest.is_done() {
             if !demand.is_wanted() {
                 if !is_ordered {
                     self.before_report(task)?;
@@ -186,19 +186,11 @@ impl<'s, L: Ledger, G: Gate, W: Progress, S: RegionStore, R: Wait> Worker<'s, L,
                 }
                 shared.completed.reopen(task);
             }
-            let (piece, behind) = map_piece(
-                shared.alloc,
-                shared.plan,
-                shared.request,
-                split,
-                skips,
-                next,
-                &demand,
-            )?;
+            let (piece, behind) = rest.next_piece(&demand)?;
             if !self.put_piece(split, piece, &mut stored)? {
                 return Ok(false);
             }
-            next = behind;
+            rest = behind;
         }
         if !is_ordered {
             self.before_report(task)?;

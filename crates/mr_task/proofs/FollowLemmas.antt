@@ -1,7 +1,6 @@
 -- The groups of regions that came one behind another.
 use Rattle.std.proofs.Common.{◌≡◌, ℕ, ◌≤◌, Option, Some, List, length, ap, sym, ◌∙◌, subst, arith}
 use Rattle.std.specs.Prelude.{IfSome}
-use Rattle.mr_bytes.specs.Pairs.{Triple}
 use Rattle.mr_spill.specs.Lent.{RegionText}
 use Rattle.mr_merge.specs.Bytes.{AreMerged}
 use Rattle.mr_merge.specs.Following.{Followed, HasTaken}

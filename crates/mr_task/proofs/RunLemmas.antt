@@ -20,7 +20,7 @@ use Rattle.mr_spill.specs.Spelling.{SpellsRegion}
 use Rattle.mr_merge.specs.Bytes.{AreSpelled}
 use Rattle.mr_merge.specs.Merged.{joined}
 use Rattle.mr_task.specs.Mapped.{IsMapped, regions_at}
-use Rattle.mr_task.specs.Runs.{AreNext, AreRuns, HasTaken, Takes, part_in}
+use Rattle.mr_task.specs.Runs.{AreAlike, AreNext, AreRuns, HasTaken, Takes, part_in}
 
 -- one run more
 pub runs-more : (split : ℕ) (part : List ℕ → ℕ) (parts : ℕ) (sealed : List (List Triple)) (ts : List Triple) (runs : List RunText) (run : RunText) → AreRuns split part parts sealed runs
@@ -70,6 +70,9 @@ pub all-mapped : (pairs : List Triple) (r : Runs) (by : By) (parts : ℕ) → Ha
 all-mapped pairs r by parts h none b e =
     let same : joined h.sealed ≡ pairs = sym (append-nil (joined h.sealed)) ∙ ap (λ (l : List Triple). joined h.sealed ++ l) (sym none) ∙ h.all in
     written (λ part n. IsMapped part n pairs r.sealed) r by parts b e (mapped-by pairs r.split (part_in r) r.sealed.parts h.sealed r.sealed.runs h.each same)
+
+pub alike-then : (old mid new : Runs) → AreAlike old mid → AreAlike mid new → AreAlike old new
+alike-then old mid new a b = record { split = b.split ∙ a.split; by = b.by ∙ a.by; parts = b.parts ∙ a.parts }
 
 pub takes-none : (r : Runs) → Takes [] r r
 takes-none r pairs h = subst (λ (l : List Triple). HasTaken l r) (sym (append-nil pairs)) h

@@ -5,3 +5,4 @@ pub mod Values
 pub mod Worked
 pub mod Mapped
 pub mod Laid
+pub mod Tasks

@@ -36,3 +36,9 @@ Takes more old new = (pairs : List Triple) → HasTaken pairs old → HasTaken (
 -- the pair came behind those that waited, or it is the first of a new run
 abbrev pub AreNext : Triple → List Triple → List Triple → Type 0
 AreNext t old new = (new ≡ old ++ t ∷ []) ⊎ (new ≡ t ∷ [])
+
+-- they are of the same split, and cut by the same partitions
+pub record AreAlike (old new : Runs) : Type 0 where
+  pub split : new.split ≡ old.split
+  pub by : new.by ≡ old.by
+  pub parts : new.sealed.parts ≡ old.sealed.parts

@@ -16,7 +16,7 @@ mod stored;
 
 pub use fault::TaskFault;
 pub use laws::{map_values_law, pieces_law, worked_tasks};
-pub use map::{map_piece, map_task, map_task_with};
+pub use map::{MapTask, map_task, map_task_with};
 pub use mr_merge::{Came, Cancellation, Follower, NeverCancelled};
 pub use output::{GroupNames, MapOutput, ReduceOutput};
 pub use reduce::{reduce_followed, reduce_task, reduce_task_while};

@@ -1,14 +1,13 @@
 //! Map tasks.
-ghost use Rattle.std.specs.Prelude.{◌≡◌, ◌+◌, ◌≤◌, ◌<◌, [], IfOk, OnOk, length};
+ghost use Rattle.std.specs.Prelude.{◌≡◌, ◌↔◌, ◌+◌, ◌≤◌, ◌<◌, [], IfOk, IsTrue, OnOk};
 ghost use Rattle.std.specs.List.Sorted.{IsNonDecreasing};
 ghost use Rattle.mr_input.specs.Files.{split_total};
 ghost use Rattle.mr_partition.specs.Hosts.{partition_by};
 ghost use Rattle.mr_sequential.specs.Emitted.{emitted};
 ghost use Rattle.mr_task.specs.Mapped.{IsMapped};
-ghost use Rattle.mr_splits.specs.Cut.{records_of};
-ghost use Rattle.mr_splits.specs.Named.{of_split};
-ghost use Rattle.mr_task.specs.Runs.{AreOf, HasTaken};
-ghost use Rattle.mr_task.specs.Values.{emitted_between, emitted_in};
+ghost use Rattle.mr_task.specs.Runs.{AreAlike, AreOf, HasTaken};
+ghost use Rattle.mr_task.specs.Tasks.{IsMapTask, IsPieceOf, between, record_count, records_in};
+ghost use Rattle.mr_task.specs.Values.{emitted_in};
 
 use crate::left_out::{has, in_order};
 use crate::output::MapOutput;
@@ -18,6 +17,7 @@ use mr_jobs::{Job, Request};
 use mr_merge::{Cancellation, NeverCancelled};
 use mr_splits::Plan;
 use std::alloc::{AllocError, Global};
+use std::marker::Model;
 
 /// How many pairs a run of a map task has at most: few enough that their keys stay near the processor, so many that a key
 /// stands in few runs.
@@ -71,103 +71,168 @@ pub fn map_task_with(
     requires limit { 1 ≤ limit }
     ensures { IfOk result (IsMapped (λ k. partition_by by k parts) parts (emitted_in (emitted job.now plan.now.size plan.now.files []) split skips.now)) }
 {
-    let left_out = in_order(alloc, skips)?;
     let mut runs = Runs::new(alloc, split, by, parts, limit);
-    take_records(
-        alloc,
+    let left_out = in_order(alloc, skips)?;
+    let records = SplitRecords {
         plan,
         job,
-        split,
-        left_out.as_slice(),
-        0,
-        plan.records_in(split),
-        &NeverCancelled,
-        &mut runs,
-    )?;
-    runs.finish(alloc)
+        left_out,
+    };
+    let count = plan.records_in(split);
+    take_records(&records, 0, count, &NeverCancelled, &mut runs)?;
+    let (output, _) = runs.finish()?;
+    Ok(output)
 }
 
-/// What a job emits for the records of a split from number `from` on, as `map_task` gives it, and the number of the record
-/// behind the last of them: a piece of the split. A piece ends with the split, where a run is nearly full, or where no more is
-/// wanted, but has a record where one is left. It mostly has one run: more where a record gives more than fits.
-pub fn map_piece<D: Cancellation>(
-    alloc: Global,
-    plan: &Plan<'_>,
-    request: &Request,
-    split: u32,
-    skips: &[u32],
-    from: u32,
-    demand: &D,
-) -> Result<(MapOutput, u32), AllocError>
-    requires split { split < split_total plan.now.size plan.now.files }
-    requires from { from ≤ length (of_split split (records_of plan.now)) }
-    ensures mapped { IfOk result (λ r. IsMapped (λ k. partition_by request.now.by k request.now.parts) request.now.parts
-        (emitted_between request.now.job plan.now.size plan.now.files split skips.now from r.1) r.0) }
-    ensures more { IfOk result (λ r. from < length (of_split split (records_of plan.now)) → from < r.1) }
-    ensures within { IfOk result (λ r. r.1 ≤ length (of_split split (records_of plan.now))) }
-{
-    let parts = request.parts();
-    let left_out = in_order(alloc, skips)?;
-    let mut runs = Runs::new(alloc, split, request.by(), parts, run_pairs(parts));
-    let next = take_records(
-        alloc,
-        plan,
-        request.job(),
-        split,
-        left_out.as_slice(),
-        from,
-        1,
-        demand,
-        &mut runs,
-    )?;
-    Ok((runs.finish(alloc)?, next))
+/// A map task of a split that is taken piece by piece: each piece is what the job emits for some records, as `map_task` gives
+/// it for all. The buffer of pairs is the same for all pieces.
+#[derive(Drop)]
+pub struct MapTask<'a> {
+    records: SplitRecords<'a>,
+    next: u32,
+    runs: Runs,
 }
 
-/// Takes what a job emits for the records of a split from number `from` on, without those whose numbers are listed, in
-/// rising order: at least so many, if there are, and then until a run is nearly full, or no more is wanted. It returns the
-/// number of the record behind the last.
+/// The records of a plan and what a job emits for them, without those whose numbers are listed, in rising order.
+#[derive(Drop)]
+struct SplitRecords<'a> {
+    plan: &'a Plan<'a>,
+    job: &'a Job,
+    left_out: Vec<u32>,
+}
+
+impl<'a> Model for MapTask<'a> {
+    ghost use Rattle.std.specs.Prelude.{◌≡◌, ◌<◌, ◌≤◌, [], length};
+    ghost use Rattle.std.specs.List.Sorted.{IsNonDecreasing};
+    ghost use Rattle.mr_input.specs.Files.{split_total};
+    ghost use Rattle.mr_splits.specs.Cut.{records_of};
+    ghost use Rattle.mr_splits.specs.Named.{of_split};
+    ghost use Rattle.mr_task.specs.Runs.{HasTaken};
+    ghost use Rattle.mr_task.specs.Tasks.{MapState};
+
+    ghost Value = { MapState };
+
+    ghost view = { λ t. record {
+      plan = t.records.plan.now;
+      job = t.records.job.now;
+      by = t.runs.by;
+      parts = t.runs.sealed.parts;
+      split = t.runs.split;
+      skips = t.records.left_out.items;
+      next = t.next;
+    } };
+
+    ghost invariant = { λ t. record {
+      split : t.runs.split < split_total t.records.plan.now.size t.records.plan.now.files;
+      rise : IsNonDecreasing t.records.left_out.items;
+      some : 1 ≤ t.runs.sealed.parts;
+      within : t.next ≤ length (of_split t.runs.split (records_of t.records.plan.now));
+      none : HasTaken [] t.runs;
+      waiting : t.runs.buffer.pairs ≡ [];
+    } };
+}
+
+impl<'a> MapTask<'a> {
+    /// The task of a split, without the records whose numbers are listed, in any order. No record is mapped yet.
+    pub fn new(
+        alloc: Global,
+        plan: &'a Plan<'a>,
+        request: &'a Request,
+        split: u32,
+        skips: &[u32],
+    ) -> Result<MapTask<'a>, AllocError>
+        requires split { split < split_total plan.now.size plan.now.files }
+        ensures { IfOk result (IsMapTask plan.entry.now request.entry.now split skips.now) }
+    {
+        let parts = request.parts();
+        let left_out = in_order(alloc, skips)?;
+        let job = request.job();
+        Ok(MapTask {
+            records: SplitRecords {
+                plan,
+                job,
+                left_out,
+            },
+            next: 0,
+            runs: Runs::new(alloc, split, request.by(), parts, run_pairs(parts)),
+        })
+    }
+
+    /// Whether all records are mapped.
+    pub fn is_done(&self) -> bool
+        ensures { IsTrue result ↔ records_in self.now ≤ self.now.next }
+    {
+        self.next >= self.records.plan.records_in(self.runs.split)
+    }
+
+    /// The next piece, and the task behind it. A piece ends with the split, where a run is nearly full, or where no more
+    /// is wanted, but has a record where one is left. It mostly has one run: more where a record gives more than fits.
+    pub fn next_piece<D: Cancellation>(
+        self,
+        demand: &D,
+    ) -> Result<(MapOutput, MapTask<'a>), AllocError>
+        ensures piece { IfOk result (λ r. IsPieceOf self.entry r.1.next r.0) }
+        ensures same { IfOk result (λ r. r.1 ≡ record self.entry { next = r.1.next }) }
+        ensures more { IfOk result (λ r. self.entry.next < records_in self.entry
+            → self.entry.next < r.1.next) }
+        ensures within { IfOk result (λ r. r.1.next ≤ records_in self.entry) }
+    {
+        let MapTask {
+            records,
+            next,
+            mut runs,
+        } = self;
+        let next = take_records(&records, next, 1, demand, &mut runs)?;
+        let (piece, runs) = runs.finish()?;
+        Ok((
+            piece,
+            MapTask {
+                records,
+                next,
+                runs,
+            },
+        ))
+    }
+}
+
+/// Takes what a job emits for the records of the runs' split from number `from` on: at least so many, if there are, and
+/// then until a run is nearly full, or no more is wanted. It returns the number of the record behind the last.
 fn take_records<D: Cancellation>(
-    alloc: Global,
-    plan: &Plan<'_>,
-    job: &Job,
-    split: u32,
-    left_out: &[u32],
+    records: &SplitRecords<'_>,
     from: u32,
     least: u32,
     demand: &D,
     runs: &mut Runs,
 ) -> Result<u32, AllocError>
-    requires split { split < split_total plan.now.size plan.now.files }
-    requires from { from ≤ length (of_split split (records_of plan.now)) }
-    requires rise { IsNonDecreasing left_out.now }
+    requires split { runs.old.split
+        < split_total records.now.plan.now.size records.now.plan.now.files }
+    requires from { from ≤ record_count records.now.plan.now runs.old.split }
+    requires rise { IsNonDecreasing records.now.left_out.items }
     requires some { 0 < runs.old.sealed.parts }
-    requires here { runs.old.split ≡ split }
     requires none { HasTaken [] runs.old }
     requires empty { runs.old.buffer.pairs ≡ [] }
-    ensures by { OnOk result (runs.new.by ≡ runs.old.by) }
-    ensures parts { OnOk result (runs.new.sealed.parts ≡ runs.old.sealed.parts) }
+    ensures alike { OnOk result (AreAlike runs.old runs.new) }
     ensures own { OnOk result (AreOf runs.new.split runs.new.buffer.pairs) }
     ensures taken { IfOk result (λ next. HasTaken
-        (emitted_between job.now plan.now.size plan.now.files split left_out.now from next) runs.new) }
-    ensures least { IfOk result (λ next. from + least ≤ length (of_split split (records_of plan.now)) → from + least ≤ next) }
-    ensures within { IfOk result (λ next. next ≤ length (of_split split (records_of plan.now))) }
+        (between records.now.plan.now records.now.job.now runs.old.split records.now.left_out.items from next) runs.new) }
+    ensures least { IfOk result (λ next. from + least ≤ record_count records.now.plan.now runs.old.split
+        → from + least ≤ next) }
+    ensures within { IfOk result (λ next. next ≤ record_count records.now.plan.now runs.old.split) }
 {
+    let plan = records.plan;
+    let left_out = records.left_out.as_slice();
+    let split = runs.split;
     // A plan's size is at least 1: that names rise rests on that.
     let _size = plan.size();
-    let mut folded = Vec::new(alloc);
-    let mut mapper = job.mapper(plan.input());
+    let mut folded = Vec::new(runs.alloc);
+    let mut mapper = records.job.mapper(plan.input());
     let count = plan.records_in(split);
     let mut next = from;
     while next < count && (next - from < least || !runs.has_run() && demand.is_wanted()) {
         let line = plan.locate(split, next);
         if !has(left_out, next) {
-            runs.take_record(
-                alloc,
-                &mut mapper,
-                RecordName { split, rec: next },
-                line,
-                &mut folded,
-            )?;
+            let name = RecordName { split, rec: next };
+            runs.take_record(&mut mapper, name, line, &mut folded)?;
         }
         next += 1;
     }

@@ -8,7 +8,7 @@ ghost use Rattle.mr_jobs.specs.Hits.{IsLine};
 ghost use Rattle.mr_sequential.specs.Emitted.{placed_from};
 ghost use Rattle.mr_spill.specs.Column.{names_of};
 ghost use Rattle.mr_task.specs.Mapped.{IsMapped};
-ghost use Rattle.mr_task.specs.Runs.{AreNext, AreOf, HasTaken, Takes, part_in};
+ghost use Rattle.mr_task.specs.Runs.{AreAlike, AreNext, AreOf, HasTaken, Takes, part_in};
 
 use crate::output::MapOutput;
 use mr_bytes::{By, Name, RecordName, Value};
@@ -20,7 +20,8 @@ use std::alloc::{AllocError, Global};
 /// What a map task of a split has so far: the sealed runs, and the pairs of the run that it fills.
 #[derive(Drop)]
 pub(crate) struct Runs {
-    split: u32,
+    pub alloc: Global,
+    pub split: u32,
     by: By,
     sealed: MapOutput,
     limit: usize,
@@ -37,6 +38,7 @@ impl Runs {
         ensures waiting { result.buffer.pairs ≡ [] }
     {
         Runs {
+            alloc,
             split,
             by,
             sealed: MapOutput::new(alloc, parts),
@@ -51,36 +53,41 @@ impl Runs {
     }
 
     /// Ends the run: the pairs in the buffer become a region for each partition.
-    fn seal(&mut self, alloc: Global) -> Result<(), AllocError>
+    fn seal(&mut self) -> Result<(), AllocError>
         requires some { 0 < self.old.sealed.parts }
         requires own { AreOf self.old.split self.old.buffer.pairs }
-        ensures split { OnOk result (self.new.split ≡ self.old.split) }
-        ensures by { OnOk result (self.new.by ≡ self.old.by) }
-        ensures parts { OnOk result (self.new.sealed.parts ≡ self.old.sealed.parts) }
+        ensures alike { OnOk result (AreAlike self.old self.new) }
         ensures taken { OnOk result (Takes [] self.old self.new) }
         ensures waiting { OnOk result (self.new.buffer.pairs ≡ []) }
     {
         let run = self
             .buffer
-            .seal_run(alloc, self.split, self.sealed.parts(), self.by)?;
+            .seal_run(self.alloc, self.split, self.sealed.parts(), self.by)?;
         self.sealed.push(run)
     }
 
+    /// Ends the run, where it has any pairs.
+    fn seal_rest(&mut self) -> Result<(), AllocError>
+        requires some { 0 < self.old.sealed.parts }
+        requires own { AreOf self.old.split self.old.buffer.pairs }
+        ensures alike { OnOk result (AreAlike self.old self.new) }
+        ensures taken { OnOk result (Takes [] self.old self.new) }
+        ensures waiting { OnOk result (self.new.buffer.pairs ≡ []) }
+    {
+        let waiting = self.buffer.len();
+        if waiting == 0 {
+            return Ok(());
+        }
+        self.seal()
+    }
+
     /// Takes a pair, its name past those of all before it. Where the buffer is full, a run ends first.
-    fn push(
-        &mut self,
-        alloc: Global,
-        key: &[u8],
-        value: Value,
-        name: Name,
-    ) -> Result<(), AllocError>
+    fn push(&mut self, key: &[u8], value: Value, name: Name) -> Result<(), AllocError>
         requires some { 0 < self.old.sealed.parts }
         requires own { AreOf self.old.split self.old.buffer.pairs }
         requires here { name.split ≡ self.old.split }
         requires rise { Rises name_order (names_of self.old.buffer.pairs ++ name ∷ []) }
-        ensures by { OnOk result (self.new.by ≡ self.old.by) }
-        ensures parts { OnOk result (self.new.sealed.parts ≡ self.old.sealed.parts) }
-        ensures split { OnOk result (self.new.split ≡ self.old.split) }
+        ensures alike { OnOk result (AreAlike self.old self.new) }
         ensures own { OnOk result (AreOf self.new.split self.new.buffer.pairs) }
         ensures taken { OnOk result (Takes (record { key = key.now; value = value; name = name } ∷ []) self.old self.new) }
         ensures waiting { OnOk result (AreNext (record { key = key.now; value = value; name = name }) self.old.buffer.pairs self.new.buffer.pairs) }
@@ -89,7 +96,7 @@ impl Runs {
             Ok(()) => Ok(()),
             Err(PushKeyFault::OutOfMemory) => Err(AllocError),
             Err(PushKeyFault::BufferFull) => {
-                self.seal(alloc)?;
+                self.seal()?;
                 match self.buffer.push_key(key, value, name) {
                     Ok(()) => Ok(()),
                     Err(_) => Err(AllocError),
@@ -101,7 +108,6 @@ impl Runs {
     /// Takes what a job emits for a record, each pair with its name: all past those before.
     pub fn take_record(
         &mut self,
-        alloc: Global,
         mapper: &mut Mapper<'_, '_>,
         number: RecordName,
         line: RecordAt<'_>,
@@ -115,9 +121,7 @@ impl Runs {
         requires rise { Rises name_order
             (names_of (self.old.buffer.pairs ++ placed_from number 0 (emissions mapper.old.job line.file line.start line.bytes.now))) }
         ensures same { mapper.new ≡ mapper.old }
-        ensures by { OnOk result (self.new.by ≡ self.old.by) }
-        ensures parts { OnOk result (self.new.sealed.parts ≡ self.old.sealed.parts) }
-        ensures split { OnOk result (self.new.split ≡ self.old.split) }
+        ensures alike { OnOk result (AreAlike self.old self.new) }
         ensures own { OnOk result (AreOf self.new.split self.new.buffer.pairs) }
         ensures taken { OnOk result (Takes
             (placed_from number 0 (emissions mapper.old.job line.entry.file line.entry.start line.entry.bytes.now)) self.old self.new) }
@@ -131,30 +135,40 @@ impl Runs {
                 rec: number.rec,
                 place,
             };
-            self.push(alloc, key, value, name)?;
+            self.push(key, value, name)?;
             place += 1;
         }
         Ok(())
     }
 
-    /// All runs, the last of which ends here where it has any pairs.
-    pub fn finish(mut self, alloc: Global) -> Result<MapOutput, AllocError>
+    /// All runs, the last of which ends here where it has any pairs; and none yet, to go on with.
+    pub fn finish(mut self) -> Result<(MapOutput, Runs), AllocError>
         requires some { 0 < self.sealed.parts }
         requires own { AreOf self.split self.buffer.pairs }
-        ensures { IfOk result (λ out. (pairs : List Triple) → HasTaken pairs self
-            → IsMapped (part_in self) self.sealed.parts pairs out) }
+        ensures all { IfOk result (λ r. (pairs : List Triple) → HasTaken pairs self
+            → IsMapped (part_in self) self.sealed.parts pairs r.0) }
+        ensures none { IfOk result (λ r. HasTaken [] r.1) }
+        ensures waiting { IfOk result (λ r. r.1.buffer.pairs ≡ []) }
+        ensures alike { IfOk result (λ r. AreAlike self r.1) }
     {
-        let waiting = self.buffer.len();
-        if waiting > 0 {
-            self.seal(alloc)?;
-        }
+        self.seal_rest()?;
+        let parts = self.sealed.parts();
         let Runs {
-            split: _,
-            by: _,
+            alloc,
+            split,
+            by,
             sealed,
-            limit: _,
-            buffer: _,
+            limit,
+            buffer,
         } = self;
-        Ok(sealed)
+        let rest = Runs {
+            alloc,
+            split,
+            by,
+            sealed: MapOutput::new(alloc, parts),
+            limit,
+            buffer,
+        };
+        Ok((sealed, rest))
     }
 }

@@ -1,23 +1,23 @@
-use Rattle.std.proofs.Common.{List, subst, sym, arith, refl}
+use Rattle.std.proofs.Common.{List, [], subst, sym}
 use Rattle.std.proofs.lemmas.List.{append-nil}
 use Rattle.mr_bytes.specs.Pairs.{Triple}
 use Rattle.mr_task.specs.declared.runs.Runs.{Runs}
-use Rattle.mr_task.specs.Mapped.{IsMapped}
-use Rattle.mr_task.specs.Runs.{HasTaken, part_in}
-use Rattle.mr_task.proofs.RunLemmas.{all-mapped, none-left}
-use Rattle.mr_task.proofs.runs.Runs.finish.Goals.{then-waiting-gt0+in_ok-seal, else-waiting-gt0}
+use Rattle.mr_partition.specs.Hosts.{partition_by}
+use Rattle.mr_task.specs.Mapped.{Mapped}
+use Rattle.mr_task.specs.Runs.{AreRuns, HasTaken}
+use Rattle.mr_task.proofs.RunLemmas.{all-mapped}
 use Rattle.mr_task.proofs.runs.Runs.finish.Goals as goal
 
-pub returns : goal.returns
-returns c pairs h =
+pub returns-clause-all : goal.returns-clause-all
+returns-clause-all c = λ pairs h.
     let old : Runs = c.args.self in
-    elim c.if-waiting-gt0.branch [
-      | then-waiting-gt0+in_ok-seal w ↦
-          let all : HasTaken pairs w.seal.new.self =
-          subst (λ (l : List Triple). HasTaken l w.seal.new.self) (append-nil pairs) (w.in_ok-seal.ensures.taken pairs h) in
-          subst (λ (r : Runs). IsMapped (part_in old) old.sealed.parts pairs r.sealed) (sym w.self-is)
-          (all-mapped pairs w.seal.new.self old.by old.sealed.parts all w.in_ok-seal.ensures.waiting w.in_ok-seal.ensures.by w.in_ok-seal.ensures.parts)
-      | else-waiting-gt0 w ↦
-          subst (λ (r : Runs). IsMapped (part_in old) old.sealed.parts pairs r.sealed) (sym w.self-is)
-          (all-mapped pairs old old.by old.sealed.parts h (none-left old.buffer.pairs (omega (arith, c.len-waiting.ensures, w.if-waiting-gt0.false))) refl refl)
-    ]
+    let done = c.in_ok-seal_rest.ensures in
+    let all : HasTaken pairs c.seal_rest.new.self = subst (λ (l : List Triple). HasTaken l c.seal_rest.new.self) (append-nil pairs) (done.taken pairs h) in
+    all-mapped pairs c.seal_rest.new.self old.by old.sealed.parts all done.waiting done.alike.by done.alike.parts
+
+pub returns-clause-none : goal.returns-clause-none
+returns-clause-none c = record {
+  sealed = [];
+  each = subst (λ (m : Mapped). AreRuns c.seal_rest.new.self.split (λ k. partition_by c.seal_rest.new.self.by k m.parts) m.parts [] m.runs) (sym c.new.ensures) tt;
+  all = c.in_ok-seal_rest.ensures.waiting;
+}

@@ -10,7 +10,7 @@ use Rattle.mr_jobs.proofs.CountLemmas.{few_emissions}
 use Rattle.mr_sequential.specs.Emitted.{placed_from}
 use Rattle.mr_spill.specs.Column.{names_of}
 use Rattle.mr_task.specs.Runs.{Takes}
-use Rattle.mr_task.proofs.RunLemmas.{later-rise, next-left, next-rises, next-taken, takes-more, takes-none}
+use Rattle.mr_task.proofs.RunLemmas.{alike-then, later-rise, next-left, next-rises, next-taken, takes-more, takes-none}
 use Rattle.mr_task.proofs.runs.Runs.take_record.Goals as goal
 
 abbrev placed : RecordName → ℕ → List ℕ → Value → Triple
@@ -33,9 +33,7 @@ left name place ts now later key value e is = e ∙ ap (placed_from name place) 
 
 pub loop-key-init : goal.loop-key-init
 loop-key-init c = record {
-  by = refl;
-  parts = refl;
-  split = refl;
+  alike = record { split = refl; by = refl; parts = refl };
   own = c.requires.own;
   count = omega (arith, ap length c.emit-emitter.ensures.emissions);
   left = ap (placed_from c.args.number 0) (sym c.emit-emitter.ensures.emissions);
@@ -69,9 +67,7 @@ loop-key-preserved c =
     let is = left c.args.number place ts c.loop-key.emitter c.next.new.self c.in-Some.key.now c.in-Some.value c.loop-key.invariant.left c.in-Some.ensures.next in
     let later : drop (place + 1) ts ≡ rest = next-left ts place t rest is in
     record {
-      by = c.in_ok-push.ensures.by ∙ c.loop-key.invariant.by;
-      parts = c.in_ok-push.ensures.parts ∙ c.loop-key.invariant.parts;
-      split = c.in_ok-push.ensures.split ∙ c.loop-key.invariant.split;
+      alike = alike-then c.args.self.now c.loop-key.self c.push.new.self c.loop-key.invariant.alike c.in_ok-push.ensures.alike;
       own = c.in_ok-push.ensures.own;
       count = omega (arith, c.loop-key.invariant.count, ap length c.in-Some.ensures.next);
       left = later;

@@ -4,7 +4,7 @@ use Rattle.mr_bytes.specs.Order.{name_order}
 use Rattle.mr_jobs.specs.Emissions.{emissions}
 use Rattle.mr_sequential.specs.Emitted.{placed_from}
 use Rattle.mr_spill.specs.Column.{names_of}
-use Rattle.mr_task.specs.Runs.{AreOf, Takes}
+use Rattle.mr_task.specs.Runs.{AreAlike, AreOf, Takes}
 use Rattle.mr_task.proofs.runs.Runs.take_record.Given as goal
 
 abbrev pub invariant-loop-key : goal.invariant-loop-key
@@ -12,9 +12,7 @@ invariant-loop-key l =
     let es = emissions l.fn.mapper.job l.line.file l.line.start l.line.bytes.now in
     let ts = placed_from l.number 0 es in
     record {
-      by : l.self.by ≡ l.fn.self.by;
-      parts : l.self.sealed.parts ≡ l.fn.self.sealed.parts;
-      split : l.self.split ≡ l.fn.self.split;
+      alike : AreAlike l.fn.self l.self;
       own : AreOf l.self.split l.self.buffer.pairs;
       count : l.place + length l.emitter ≡ length es;
       left : drop l.place ts ≡ placed_from l.number l.place l.emitter;

@@ -1,0 +1,146 @@
+//! The names of a region, each as one number, its record in the upper half and its place in the lower; and whether they
+//! differ.
+//!
+//! A bit stands for each place of each record, from the first record to the last:
+//!
+//!     record     3         4         5
+//!     place      0 1 2 3   0 1 2 3   0 1 2 3
+//!     bits       1 1 0 0   1 1 1 1   1 0 0 0     for 3:0 3:1 4:0 4:1 4:2 4:3 5:0
+//!
+//! Names differ where each finds its bit unset. Where there would be more than 2,048 bits a name, the names are sorted.
+//! Cost: two reads a name, and one of its bit; 8 bytes a name, and at most 256 for its bits.
+ghost use Rattle.std.specs.Prelude.{◌≡◌, ℕ, ◌++◌, ◌∷◌, [], IfOk, IsTrue, OnOk};
+ghost use Rattle.std.specs.Ordering.{nat_cmp};
+ghost use Rattle.mr_bytes.specs.Lists.{Distinct, Rises};
+ghost use Rattle.mr_merge.specs.Distinct.{IsSet, bit_of, packed};
+
+use mr_bytes::Name;
+use std::alloc::{AllocError, Global};
+
+/// How many bits there may be for each name.
+const BITS: u64 = 2_048;
+
+/// The names of a region, each as one number, and room for their bits.
+#[derive(Drop)]
+pub(crate) struct RegionNames {
+    numbers: Vec<u64>,
+    words: Vec<u64>,
+}
+
+/// Which bit is whose: there are `places` for each record from `first` on.
+#[derive(Clone, Copy)]
+struct Grid {
+    first: u64,
+    places: u64,
+}
+
+impl RegionNames {
+    /// None. It takes no memory.
+    pub fn new(alloc: Global) -> RegionNames {
+        RegionNames {
+            numbers: Vec::new(alloc),
+            words: Vec::new(alloc),
+        }
+    }
+
+    /// None any more. Their room stays for later ones.
+    pub fn clear(&mut self)
+        ensures { self.new.numbers.items ≡ [] }
+    {
+        self.numbers.clear();
+    }
+
+    /// One more name.
+    #[inline(always)]
+    pub fn push(&mut self, name: Name) -> Result<(), AllocError>
+        ensures { OnOk result (self.new.numbers.items ≡ self.old.numbers.items ++ packed name ∷ []) }
+    {
+        let number = u64::from(name.rec) * 4_294_967_296 + u64::from(name.place);
+        self.numbers.push(number).map_err(AllocError::from)
+    }
+
+    /// Whether the names differ.
+    pub fn differ(&mut self) -> Result<bool, AllocError>
+        ensures { IfOk result (λ b. IsTrue b → Distinct self.old.numbers.items) }
+    {
+        let (grid, bits) = grid_of(self.numbers.as_slice());
+        if bits / BITS < self.numbers.len() as u64 {
+            self.words.clear();
+            self.words.resize((bits / 64) as usize + 1, 0)?;
+            return Ok(set_all(self.numbers.as_slice(), grid, self.words.as_mut_slice()));
+        }
+        self.numbers.sort_unstable();
+        Ok(numbers_rise(self.numbers.as_slice()))
+    }
+}
+
+impl Grid {
+    /// The bit of a name.
+    #[inline(always)]
+    fn bit_of(&self, name: u64) -> u64
+        ensures { result ≡ bit_of self.now name }
+    {
+        let record = (name >> 32).saturating_sub(self.first);
+        record
+            .wrapping_mul(self.places)
+            .wrapping_add(name & 0xFFFF_FFFF)
+    }
+}
+
+/// The grid of these names, and how many bits it has.
+fn grid_of(names: &[u64]) -> (Grid, u64) {
+    let mut first = u64::MAX;
+    let mut last = 0;
+    let mut place = 0;
+    for name in names {
+        first = first.min(*name >> 32);
+        last = last.max(*name >> 32);
+        place = place.max(*name & 0xFFFF_FFFF);
+    }
+    let places = place.saturating_add(1);
+    let records = last.saturating_sub(first).saturating_add(1);
+    (Grid { first, places }, records.saturating_mul(places))
+}
+
+/// Sets a bit: false where it is set already, or isn't there.
+#[inline(always)]
+fn set_bit(words: &mut [u64], bit: u64) -> bool
+    ensures set { IsTrue result → IsSet words.new bit }
+    ensures fresh { IsTrue result → IsSet words.old bit → ⊥ }
+    ensures keeps { (b : ℕ) → IsSet words.old b → IsSet words.new b }
+{
+    let at = (bit / 64) as usize;
+    if at >= words.len() {
+        return false;
+    }
+    let mask = 1u64 << (bit % 64);
+    if words[at] & mask != 0 {
+        return false;
+    }
+    words[at] = words[at] | mask;
+    true
+}
+
+/// Whether each name finds its bit unset.
+fn set_all(names: &[u64], grid: Grid, words: &mut [u64]) -> bool
+    ensures { IsTrue result → Distinct names.now }
+{
+    for i in 0..names.len() {
+        if !set_bit(words, grid.bit_of(names[i])) {
+            return false;
+        }
+    }
+    true
+}
+
+/// Whether the numbers rise.
+fn numbers_rise(numbers: &[u64]) -> bool
+    ensures { IsTrue result → Rises nat_cmp numbers.now }
+{
+    for i in 1..numbers.len() {
+        if numbers[i - 1] >= numbers[i] {
+            return false;
+        }
+    }
+    true
+}
