@@ -10,7 +10,7 @@ from rows import plain
 
 TEXT = {"a": b"The cat saw the dog.\nThe dog saw nothing.\n"}
 WORDS = ["--job", "words", "--out", "."]
-MEMORY = b"of words seq and check take 4 to 5 times the input, run 10, and 8 with --scratch: close other programs, or cut the input into several runs"
+MEMORY = b"of words seq and check take 4 to 5 times the input, run 10 to 16, and 7 to 9 with --scratch: close other programs, or cut the input into several runs"
 
 
 def free_memory():

@@ -12,7 +12,7 @@ pub const NOT_UTF8: &str =
     "literals and names of files are UTF-8: give the file another name, or a link";
 
 const MEMORY: &str =
-    "of words seq and check take 4 to 5 times the input, run 10, and 8 with --scratch: close other programs, or cut the input into several runs";
+    "of words seq and check take 4 to 5 times the input, run 10 to 16, and 7 to 9 with --scratch: close other programs, or cut the input into several runs";
 
 fn job_cure(fault: &JobFault) -> &'static str {
     match fault {

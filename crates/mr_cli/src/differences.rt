@@ -2,7 +2,7 @@
 use crate::cures::run_cure;
 use mr_args::{Options, Subcommand, request_of};
 use mr_certform::{Item, Walker};
-use mr_files::{Inspect, PathKind, Store, certificate_name, read_files};
+use mr_files::{Inspect, PathKind, Store, certificate_name, read_file};
 use mr_jobs::Request;
 use std::alloc::{AllocError, Global};
 
@@ -154,11 +154,8 @@ fn input_difference<L: Inspect>(
 /// The front of the certificate in a directory, where it can be read.
 fn front_in<S: Store>(store: &S, alloc: Global, dir: &str) -> Result<Front, AllocError> {
     let name = certificate_name(alloc, dir)?;
-    match read_files(store, alloc, &[name.as_str()]) {
-        Ok(files) => match files.first() {
-            Some(bytes) => front_of(alloc, bytes),
-            None => Ok(Front::new(alloc)),
-        },
+    match read_file(store, alloc, name.as_str()) {
+        Ok(bytes) => front_of(alloc, bytes.as_slice()),
         Err(_) => Ok(Front::new(alloc)),
     }
 }

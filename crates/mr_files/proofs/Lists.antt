@@ -8,7 +8,7 @@ use Rattle.std.specs.Global.{Global}
 use Rattle.mr_input.specs.Files.{contents}
 use Rattle.mr_files.specs.Holding.{Holding, Differs, ChangesOnly, ChangesAmong}
 use Rattle.mr_files.specs.Names.{part_names, name_of_part, name_of_certificate, result_names}
-use Rattle.mr_files.specs.Refusals.{IsReadRefusal, IsUnread, IsOneUnread, IsUnreadAmong}
+use Rattle.mr_files.specs.Refusals.{IsUnread, IsOneUnread, IsUnreadAmong}
 use Rattle.mr_files.specs.declared.store.FileFault.{FileFault}
 use Rattle.mr_files.specs.declared.store.FileFault.TheVariants.{CannotRead, CannotWrite, OutOfMemory}
 
@@ -29,14 +29,6 @@ names_more f xs i d h =
 pub names_split : {A : Type 0} (f : A → List ℕ) (xs : List A) (i : ℕ) (d : A) → i < length xs → map f xs ≡ map f (take i xs) ++ f (get_or xs i d) ∷ map f (drop (suc i) xs)
 names_split f xs i d h =
     ap (map f) (sym (take-append-drop i xs)) ∙ (map-append f (take i xs) (drop i xs) ∙ ap (λ v. map f (take i xs) ++ map f v) (drop-cons xs i d h))
-
--- the first name that is refused is told
-pub refused_at : (holds : List ℕ → List ℕ → Type 0) (unreadable : List ℕ → Type 0) (names before after read : List (List ℕ)) (name : List ℕ) (e : FileFault)
-    → names ≡ before ++ name ∷ after → Holding holds before read → IsUnread unreadable name e → IsReadRefusal holds unreadable names e
-refused_at holds unreadable names before after read name (CannotRead told) is h u =
-    (before, after, is ∙ ap (λ (v : List ℕ). before ++ v ∷ after) (sym u.1), subst unreadable (sym u.1) u.0, (read, h))
-refused_at holds unreadable names before after read name (CannotWrite told) is h u = absurd u
-refused_at holds unreadable names before after read name OutOfMemory is h u = tt
 
 pub holding_contents : (holds : List ℕ → List ℕ → Type 0) (names : List (List ℕ)) (files after : List (Vec ℕ Global)) (all : List (List ℕ)) (n : List ℕ) (v : Vec ℕ Global)
     → all ≡ names ++ n ∷ [] → after ≡ files ++ v ∷ [] → Holding holds names (contents files) → holds n v.items → Holding holds all (contents after)

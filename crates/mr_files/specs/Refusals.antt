@@ -9,17 +9,6 @@ use Rattle.mr_files.specs.declared.within.LimitFault.TheVariants.{File, TooLong}
 use Rattle.mr_files.specs.declared.store.FileFault.{FileFault}
 use Rattle.mr_files.specs.declared.store.FileFault.TheVariants.{CannotRead, CannotWrite, OutOfMemory}
 
--- the name is one of these and can't be read, and those before it were read
-abbrev pub IsFirstUnread : Stored → Faulty → List (List ℕ) → List ℕ → Type 0
-IsFirstUnread holds unreadable names name =
-    (before after : List (List ℕ)) × (names ≡ before ++ name ∷ after) × unreadable name × ((read : List (List ℕ)) × Holding holds before read)
-
--- a name that can't be read is told
-abbrev pub IsReadRefusal : Stored → Faulty → List (List ℕ) → FileFault → Type 0
-IsReadRefusal holds unreadable names (CannotRead name) = IsFirstUnread holds unreadable names (string_bytes name)
-IsReadRefusal holds unreadable names (CannotWrite name) = ⊥
-IsReadRefusal holds unreadable names OutOfMemory = ⊤
-
 -- a file of that name was refused
 abbrev pub IsFault : List ℕ → ReadFault → FileFault → Type 0
 IsFault name fault OutOfMemory = ⊤

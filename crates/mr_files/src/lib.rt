@@ -22,7 +22,7 @@ pub use crate::named::{NamedReader, ReadCause};
 pub use crate::names::{
     add_names, certificate_name, folder_of, names_of_result, part_file, part_name, verdict_name,
 };
-pub use crate::reading::{read_file, read_files};
+pub use crate::reading::read_file;
 pub use crate::result::{ResultReaders, result_readers};
 pub use crate::store::{FileFault, Store, WriteFault};
 pub use crate::within::{LimitFault, read_file_within, read_files_within, read_result_within};

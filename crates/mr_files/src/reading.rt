@@ -1,9 +1,7 @@
-//! Files read in order.
-ghost use Rattle.std.specs.Prelude.{◌≡◌, ◌∷◌, [], ◌++◌, map, IfOk, IfErr, OnErr};
-ghost use Rattle.mr_input.specs.Files.{contents};
-ghost use Rattle.mr_files.specs.Holding.{Holding};
-ghost use Rattle.mr_files.specs.Names.{part_names, name_of_part, name_of_certificate, result_names};
-ghost use Rattle.mr_files.specs.Refusals.{IsReadRefusal, IsUnread, IsOneUnread, IsFault};
+//! A file read whole, and files that are tried.
+ghost use Rattle.std.specs.Prelude.{IfOk, IfErr};
+ghost use Rattle.mr_files.specs.Names.{name_of_part, result_names};
+ghost use Rattle.mr_files.specs.Refusals.{IsUnread, IsOneUnread, IsFault};
 
 use crate::names::{certificate_name, part_name};
 use crate::store::{FileFault, Store};
@@ -38,23 +36,6 @@ pub fn read_file<S: Store>(store: &S, alloc: Global, name: &str) -> Result<Vec<u
         Err(_) if reader.is_out_of_memory() => Err(FileFault::OutOfMemory),
         Err(fault) => Err(fault_of(alloc, name, fault)),
     }
-}
-
-/// The bytes of the named files, in order.
-pub fn read_files<S: Store>(
-    store: &S,
-    alloc: Global,
-    names: &[&str],
-) -> Result<Vec<Vec<u8>>, FileFault>
-    ensures bytes { IfOk result (λ v. Holding (S.holds store.now) (map (λ s. s.now) names.now) (contents v.items)) }
-    ensures refused { IfErr result (λ e. IsReadRefusal (S.holds store.now) (S.unreadable store.now) (map (λ s. s.now) names.now) e) }
-{
-    let mut files = Vec::new(alloc);
-    for name in names {
-        let bytes = read_file(store, alloc, name)?;
-        files.push(bytes).map_err(AllocError::from)?;
-    }
-    Ok(files)
 }
 
 /// Whether the file of that name can be opened.
