@@ -7,7 +7,6 @@ mod certificate;
 mod front;
 mod grammar_state;
 mod groups;
-mod held;
 mod item;
 mod laws;
 mod number;

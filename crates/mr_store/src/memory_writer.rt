@@ -5,7 +5,7 @@ ghost use Rattle.mr_store.specs.Devices.{FailsOnly, with_bytes, flushed, once_fa
 ghost use Rattle.mr_store.specs.Memory.{fails_now as does_fail, behind_call as what_is_behind, seen_of};
 
 use crate::device::{CountedWrite, Device};
-use crate::failing::{behind_call, fails_now};
+use crate::memory_reader::{behind_call, fails_now};
 use std::alloc::Global;
 use std::marker::Model;
 

@@ -1,35 +1,40 @@
-//! Bytes of a reader that were read and aren't told yet, in a buffer of one size.
-ghost use Rattle.std.specs.Prelude.{◌≡◌, ℕ, ◌≤◌, ◌<◌, ◌+◌, ◌-◌, ◌++◌, [], List, IfOk, IfSome, MatchResult, length, take, drop};
+//! Bytes that were read from a reader and not passed yet, in a buffer of one size.
+//!
+//!     buffer  [ passed | bytes | room ]        65,536 bytes, whose memory `new` takes
+//!                      from    to
+//!
+//! Cost: a read moves the bytes that are left to the front, and asks the reader for as many as there is room for.
+ghost use Rattle.std.specs.Prelude.{◌≡◌, ℕ, ◌≤◌, ◌<◌, ◌+◌, ◌-◌, ◌++◌, [], List, IfOk, IfSome};
+ghost use Rattle.std.specs.Prelude.{MatchResult, length, take, drop};
 ghost use Rattle.std.specs.Io.KnownBytes.{Consumes, Keeps, IsAtEnd, ReadConsumes};
-ghost use Rattle.mr_store.specs.Devices.{Counts, FailsOnly};
-ghost use Rattle.mr_certform.specs.Grammar.{AreBytes};
+ghost use Rattle.mr_store.specs.Devices.{AreBytes, Counts, FailsOnly};
 
-use mr_store::{CountedRead, Device};
+use crate::device::{CountedRead, Device};
 use std::alloc::{AllocError, Global};
 use std::marker::Model;
 
-/// The most bytes that are held.
-const PIECE: usize = 65_536;
+/// How many bytes the buffer has room for.
+const SIZE: usize = 65_536;
 
-/// Bytes that were read and aren't told yet.
+/// Bytes that were read and not passed yet, at most 65,536.
 #[derive(Drop)]
-pub(crate) struct Held {
+pub struct ReadBuffer {
     buffer: Vec<u8>,
     from: usize,
     to: usize,
 }
 
-impl Model for Held {
+impl Model for ReadBuffer {
     ghost use Rattle.std.specs.Prelude.{◌≡◌, ℕ, ◌≤◌, List, length, take, drop};
 
     ghost Value = { List ℕ };
 
-    ghost view = { λ h. drop h.from (take h.to h.buffer.items) };
+    ghost view = { λ b. drop b.from (take b.to b.buffer.items) };
 
-    ghost invariant = { λ h. record {
-      order : h.from ≤ h.to;
-      within : h.to ≤ length h.buffer.items;
-      size : length h.buffer.items ≡ 65536;
+    ghost invariant = { λ b. record {
+      order : b.from ≤ b.to;
+      within : b.to ≤ length b.buffer.items;
+      size : length b.buffer.items ≡ 65536;
     } };
 }
 
@@ -45,7 +50,8 @@ fn read_behind<R: CountedRead>(
     ensures size { length buffer.new ≡ length buffer.old }
     ensures front { take (to - from) buffer.new ≡ drop from (take to buffer.old) }
     ensures bound { IfOk result (λ n. to - from + n ≤ length buffer.new) }
-    ensures bytes { ReadConsumes (R.remaining reader.old) (R.remaining reader.new) result (drop (to - from) buffer.new) }
+    ensures bytes { ReadConsumes (R.remaining reader.old) (R.remaining reader.new) result
+        (drop (to - from) buffer.new) }
     ensures known { IfSome (R.remaining reader.new) AreBytes }
     ensures given { AreBytes buffer.new }
     ensures count { Counts (R.failed reader.old) (R.failed reader.new) result }
@@ -57,13 +63,13 @@ fn read_behind<R: CountedRead>(
     reader.read(space)
 }
 
-impl Held {
-    /// None yet. All the memory that it ever has is taken here.
-    pub fn new(alloc: Global) -> Result<Held, AllocError>
-        ensures { IfOk result (λ h. h ≡ []) }
+impl ReadBuffer {
+    /// With no bytes. It takes all the memory that it ever has.
+    pub fn new(alloc: Global) -> Result<ReadBuffer, AllocError>
+        ensures { IfOk result (λ b. b ≡ []) }
     {
-        let buffer = vec![in alloc; 0u8; PIECE]?;
-        Ok(Held {
+        let buffer = vec![in alloc; 0u8; SIZE]?;
+        Ok(ReadBuffer {
             buffer,
             from: 0,
             to: 0,
@@ -78,7 +84,7 @@ impl Held {
         &self.buffer[self.from..self.to]
     }
 
-    /// So many of them are told.
+    /// Drops so many of them from the front.
     #[inline]
     pub fn pass(&mut self, count: usize)
         requires { count ≤ length self.old }
@@ -87,13 +93,22 @@ impl Held {
         self.from += count;
     }
 
-    /// Reads some more behind them and answers how many: none only at the reader's end.
+    /// Drops all of them.
+    pub fn clear(&mut self)
+        ensures { self.new ≡ [] }
+    {
+        self.from = self.to;
+    }
+
+    /// Reads some more behind them and returns how many: 0 only at the reader's end. A failed call leaves the bytes as
+    /// they were.
     #[inline(never)]
     pub fn read_more<R: CountedRead>(&mut self, reader: &mut R) -> Result<usize, Device>
-        requires few { length self.old < 15 }
+        requires room { length self.old < 65536 }
         ensures more { MatchResult result
             (λ n. (got : List ℕ) × (length got ≡ n) × (self.new ≡ self.old ++ got) × AreBytes got
-            × Consumes (R.remaining reader.old) (R.remaining reader.new) got × (n ≡ 0 → IsAtEnd (R.remaining reader.new)))
+            × Consumes (R.remaining reader.old) (R.remaining reader.new) got
+            × (n ≡ 0 → IsAtEnd (R.remaining reader.new)))
             (λ _. (self.new ≡ self.old) × Keeps (R.remaining reader.old) (R.remaining reader.new)) }
         ensures known { IfSome (R.remaining reader.new) AreBytes }
         ensures count { Counts (R.failed reader.old) (R.failed reader.new) result }

@@ -1,5 +1,5 @@
-use Rattle.mr_certform.proofs.Streams.{moved}
-use Rattle.mr_certform.proofs.held.read_behind.Goals as goal
+use Rattle.mr_store.proofs.Buffers.{moved}
+use Rattle.mr_store.proofs.read_buffer.read_behind.Goals as goal
 
 pub returns-clause-front : goal.returns-clause-front
 returns-clause-front g c =
