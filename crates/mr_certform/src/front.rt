@@ -7,15 +7,18 @@ ghost use Rattle.mr_certform.specs.Spelling.{standing, entry_at, name_at, of_byt
 
 use crate::grammar_state::{GrammarState, entries_to_come};
 use crate::item::Item;
-use crate::number::{number_of_eight, number_of_four};
 use crate::short::short_name_of;
 use crate::version::Version;
+use byteorder::{BigEndian, ByteOrder};
 use mr_bytes::{Name, RecordName};
 
-/// What a certificate begins with, in each version.
-const MAGIC_1: [u8; 8] = *b"MRCERT1\n";
-
-const MAGIC_2: [u8; 8] = *b"MRCERT2\n";
+/// The number of the first four bytes.
+fn number_of_four(bytes: &[u8]) -> u32
+    requires { 4 ≤ length bytes.now }
+    ensures { result ≡ from_be_bytes w32 (take 4 bytes.now) }
+{
+    BigEndian::read_u32(bytes)
+}
 
 /// The number of the first four bytes, and the bytes behind it.
 fn four(bytes: &[u8]) -> Option<(u32, &[u8])>
@@ -37,7 +40,7 @@ fn eight(bytes: &[u8]) -> Option<(u64, &[u8])>
     if bytes.len() < 8 {
         None
     } else {
-        Some((number_of_eight(bytes), &bytes[8..]))
+        Some((BigEndian::read_u64(bytes), &bytes[8..]))
     }
 }
 
@@ -49,10 +52,7 @@ fn magic_of(version: Version, bytes: &[u8]) -> Option<(Item, &[u8])>
     if bytes.len() < 8 {
         return None;
     }
-    let magic = match version {
-        Version::V1 => MAGIC_1,
-        Version::V2 => MAGIC_2,
-    };
+    let magic = version.magic();
     if bytes[..8] == magic[..] {
         Some((Item::Magic, &bytes[8..]))
     } else {
@@ -97,15 +97,6 @@ fn name_of(version: Version, before: Name, bytes: &[u8]) -> Option<(Name, &[u8])
         Version::V1 => twelve(bytes),
         Version::V2 => short_name_of(before, bytes),
     }
-}
-
-/// One entry behind the name before it, and the bytes behind it.
-fn entry_of(version: Version, before: Name, bytes: &[u8]) -> Option<(Item, &[u8])>
-    ensures read { MatchOption result (entry_at version before bytes.now ≡ None) (λ r. entry_at version before bytes.now ≡ Some (record { item = r.0; rest = r.1.now })) }
-    ensures shorter { IfSome result (λ r. length r.1.now ≤ length bytes.now) }
-{
-    let (name, rest) = name_of(version, before, bytes)?;
-    Some((Item::Entry(name), rest))
 }
 
 /// The item that a number is at a place where one of four bytes stands, if it may stand there.
@@ -153,7 +144,10 @@ pub fn read_item(version: Version, place: GrammarState, bytes: &[u8]) -> Option<
             Some((Item::FileLength(n), rest))
         }
         GrammarState::AtSkip { .. } => skip_of(bytes),
-        GrammarState::AtEntry { before, .. } => entry_of(version, before, bytes),
+        GrammarState::AtEntry { before, .. } => {
+            let (name, rest) = name_of(version, before, bytes)?;
+            Some((Item::Entry(name), rest))
+        }
         GrammarState::AtEnd => bytes.is_empty().then_some((Item::End, bytes)),
         GrammarState::Behind => None,
         _ => number_of(version, place, bytes),

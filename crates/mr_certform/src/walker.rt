@@ -128,64 +128,39 @@ impl<'a> Walker<'a> {
         ensures items { items_left self.new ≡ behind_entries (items_left self.old) }
         ensures stop { halt self.new ≡ halt self.old }
     {
+        let GrammarState::AtEntry {
+            parts,
+            groups,
+            more,
+            before,
+        } = self.place
+        else {
+            return 0;
+        };
         match self.version {
-            Version::V1 => self.pass_whole_entries(),
-            Version::V2 => self.pass_short_entries(),
+            Version::V1 => {
+                let held = self.rest.len() as u64 / 12;
+                if held > u64::from(more) {
+                    let awaited = u64::from(more) + 1;
+                    self.rest = behind_row(self.rest, awaited);
+                    self.place = groups_to_come(parts, groups);
+                    return awaited;
+                }
+                self.rest = behind_row(self.rest, held);
+                self.place = GrammarState::AtEntry {
+                    parts,
+                    groups,
+                    more: more - held as u32,
+                    before,
+                };
+                held
+            }
+            Version::V2 => {
+                let (passed, rest, place) = behind_names(self.rest, parts, groups, more, before);
+                self.rest = rest;
+                self.place = place;
+                passed
+            }
         }
-    }
-
-    /// Passes over the entries that stand next, name by name.
-    fn pass_short_entries(&mut self) -> u64
-        requires { self.old.version ≡ Version.V2 }
-        ensures count { result ≡ entries_ahead (items_left self.old) }
-        ensures items { items_left self.new ≡ behind_entries (items_left self.old) }
-        ensures stop { halt self.new ≡ halt self.old }
-    {
-        let GrammarState::AtEntry {
-            parts,
-            groups,
-            more,
-            before,
-        } = self.place
-        else {
-            return 0;
-        };
-        let (passed, rest, place) = behind_names(self.rest, parts, groups, more, before);
-        self.rest = rest;
-        self.place = place;
-        passed
-    }
-
-    /// Passes over the entries that stand next, each of twelve bytes, without a look at any of them.
-    fn pass_whole_entries(&mut self) -> u64
-        requires { self.old.version ≡ Version.V1 }
-        ensures count { result ≡ entries_ahead (items_left self.old) }
-        ensures items { items_left self.new ≡ behind_entries (items_left self.old) }
-        ensures stop { halt self.new ≡ halt self.old }
-    {
-        let GrammarState::AtEntry {
-            parts,
-            groups,
-            more,
-            before,
-        } = self.place
-        else {
-            return 0;
-        };
-        let held = self.rest.len() as u64 / 12;
-        if held > u64::from(more) {
-            let awaited = u64::from(more) + 1;
-            self.rest = behind_row(self.rest, awaited);
-            self.place = groups_to_come(parts, groups);
-            return awaited;
-        }
-        self.rest = behind_row(self.rest, held);
-        self.place = GrammarState::AtEntry {
-            parts,
-            groups,
-            more: more - held as u32,
-            before,
-        };
-        held
     }
 }

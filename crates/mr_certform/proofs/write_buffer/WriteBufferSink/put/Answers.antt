@@ -1,7 +1,7 @@
 use Rattle.std.proofs.Common.{◌≡◌, ℕ, List, [], ◌++◌, Bool, sym, ◌∙◌, subst}
 use Rattle.mr_store.specs.Devices.{Seen}
 use Rattle.mr_certform.specs.Sinks.{Went, went_joined}
-use Rattle.mr_certform.proofs.buffered.BufferedSink.put.Goals as goal
+use Rattle.mr_certform.proofs.write_buffer.WriteBufferSink.put.Goals as goal
 
 -- what was held is handed over, and the bytes are sent behind it
 sent_behind : {W : Type 0} (seen : W → Seen) (can_fail : W → Type 0) (lacked : W → Bool) (u v w : W) (p q r : Bool) (piece held left last bytes : List ℕ)

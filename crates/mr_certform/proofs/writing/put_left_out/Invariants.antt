@@ -2,7 +2,7 @@ use Rattle.std.proofs.Common.{drop}
 use Rattle.std.specs.List.{flat_map, AllByRecursion}
 use Rattle.mr_certform.specs.Spelling.{skip_bytes}
 use Rattle.mr_certform.specs.Value.{SkipFits}
-use Rattle.mr_certform.proofs.writing.put_skips.Given as goal
+use Rattle.mr_certform.proofs.writing.put_left_out.Given as goal
 
 abbrev pub invariant-loop-skip : goal.invariant-loop-skip
 invariant-loop-skip g l = record {

@@ -6,7 +6,7 @@ use Rattle.mr_certform.specs.Flat.{contents_of}
 use Rattle.mr_certform.specs.Pieces.{all_bytes}
 use Rattle.mr_certform.specs.Sinks.{Went}
 use Rattle.mr_certform.specs.Buffers.{takes_joined}
-use Rattle.mr_certform.proofs.written.write_values.Goals as goal
+use Rattle.mr_certform.proofs.writing.write_values.Goals as goal
 
 -- how a buffer ends: with nothing held, or behind a failed call
 abbrev Ended : {T E : Type 0} → Result T E → Bool → List ℕ → Type 0

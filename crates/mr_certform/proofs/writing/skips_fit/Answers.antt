@@ -2,7 +2,7 @@ use Rattle.std.proofs.Common.{◌≡◌, ◌∷◌, ◌+◌, get_or, drop}
 use Rattle.std.proofs.lemmas.List.{drop_more}
 use Rattle.mr_certform.specs.Value.{SkipFits}
 use Rattle.mr_certform.proofs.Pieces.{one_more}
-use Rattle.mr_certform.proofs.written.skips_fit.Goals as goal
+use Rattle.mr_certform.proofs.writing.skips_fit.Goals as goal
 
 pub loop-skip-preserved : goal.loop-skip-preserved
 loop-skip-preserved c =

@@ -2,7 +2,7 @@ use Rattle.std.proofs.Common.{◌≡◌, ◌∷◌, ◌+◌, get_or, drop}
 use Rattle.std.proofs.lemmas.List.{drop_more}
 use Rattle.mr_certform.specs.Value.{NameFits}
 use Rattle.mr_certform.proofs.Pieces.{one_more}
-use Rattle.mr_certform.proofs.written.names_fit.Goals as goal
+use Rattle.mr_certform.proofs.writing.names_fit.Goals as goal
 
 pub loop-name-preserved : goal.loop-name-preserved
 loop-name-preserved c =

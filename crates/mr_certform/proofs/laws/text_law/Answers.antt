@@ -8,7 +8,7 @@ use Rattle.mr_certform.specs.Pieces.{all_bytes}
 use Rattle.mr_certform.proofs.Pieces.{All-take, All-drop}
 use Rattle.mr_certform.proofs.Spelled.{whole_spells}
 use Rattle.mr_certform.proofs.Versions.{parts_can}
-use Rattle.mr_certform.proofs.written.text_law.Goals as goal
+use Rattle.mr_certform.proofs.laws.text_law.Goals as goal
 
 chunks_fit : (cs : List ℕ) (ns : List Name) → AllByRecursion NameFits ns → AllByRecursion (AllByRecursion NameFits) (chunks cs ns)
 chunks_fit [] ns h = tt

@@ -3,7 +3,7 @@ use Rattle.std.proofs.lemmas.List.{length-drop}
 use Rattle.mr_certform.specs.Flat.{total}
 use Rattle.mr_certform.proofs.Pieces.{total_cut}
 use Rattle.mr_certform.proofs.Growth.{partition_read}
-use Rattle.mr_certform.proofs.groups.PartitionIter.next_partition.Goals as goal
+use Rattle.mr_certform.proofs.certificate.PartitionIter.next_partition.Goals as goal
 
 pub sum_of-entries-requires : goal.sum_of-entries-requires
 sum_of-entries-requires c = rw c.split_at.ensures.front (omega (arith, total_cut c.in_ok-count.count.now c.self.inside.entry_counts.now, c.self.invariant.entries))
