@@ -2,8 +2,6 @@
 use Rattle.std.proofs.Common.{◌≡◌, ℕ, zero, suc, ◌+◌, ◌-◌, ◌≤◌, Option, Some, None, List, [], ◌∷◌, ◌++◌, length, take, drop, refl, ap, sym, ◌∙◌, subst, inl, inr, ◌⊎◌, arith, Bool, true, false, cond, ltb, leb, eqb, ◌&&◌, append-nil, append_assoc, length-append}
 use Rattle.std.proofs.lemmas.Bool.{ltb-false, ltb-true}
 use Rattle.std.proofs.lemmas.List.{length-drop, length-take, take-append-le, drop-append-le}
-use Rattle.std.proofs.Math.Seq.{take-append_seam, take-add}
-use Rattle.std.specs.List.{copy_within}
 use Rattle.std.specs.Cmp.Lexicographic.{pointwise, bytes_decides}
 use Rattle.std.specs.Int.{w32, w64, from_be_bytes}
 use Rattle.mr_certform.specs.declared.item.Item.{Item}

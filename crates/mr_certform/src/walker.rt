@@ -85,16 +85,15 @@ impl<'a> Walker<'a> {
         }
     }
 
-    /// The item that stands here, seen by the rest of the bytes.
+    /// The next of the items, the last being `End`; asked again after `End` it gives `End`. Malformed where no item
+    /// of the grammar stands, and the same answer from then on.
     #[inline]
-    fn step(&mut self) -> Result<Item, Malformed>
+    pub fn next(&mut self) -> Result<Item, Malformed>
         ensures item { MatchResult result
-            (λ i. (standing self.old.version self.old.place self.old.rest.now ≡ Some (record { item = i; rest = self.new.rest.now }))
-            × (self.new.place ≡ onward self.old.place i))
-            (λ e. (standing self.old.version self.old.place self.old.rest.now ≡ None) × (self.new.place ≡ self.old.place)
-            × (self.new.rest.now ≡ self.old.rest.now) × (e.at ≡ self.old.whole - length self.old.rest.now)) }
-        ensures same { self.new.whole ≡ self.old.whole }
-        ensures version { self.new.version ≡ self.old.version }
+            (λ i. items_left self.old ≡ i ∷ left_behind i (items_left self.new))
+            (λ e. (items_left self.old ≡ []) × (items_left self.new ≡ []) × (e.at ≡ halt self.old)) }
+        ensures end { result ≡ Ok Item.End → items_left self.new ≡ items_left self.old }
+        ensures stop { halt self.new ≡ halt self.old }
     {
         match step_of(self.version, self.place, self.rest) {
             None => Err(Malformed {
@@ -106,19 +105,6 @@ impl<'a> Walker<'a> {
                 Ok(item)
             }
         }
-    }
-
-    /// The next of the items, the last being `End`; asked again after `End` it gives `End`. Malformed where no item
-    /// of the grammar stands, and the same answer from then on.
-    #[inline]
-    pub fn next(&mut self) -> Result<Item, Malformed>
-        ensures item { MatchResult result
-            (λ i. items_left self.old ≡ i ∷ left_behind i (items_left self.new))
-            (λ e. (items_left self.old ≡ []) × (items_left self.new ≡ []) × (e.at ≡ halt self.old)) }
-        ensures end { result ≡ Ok Item.End → items_left self.new ≡ items_left self.old }
-        ensures stop { halt self.new ≡ halt self.old }
-    {
-        self.step()
     }
 
     /// Passes over the entries that stand next in their group: how many these are. It stands then where so many calls of
