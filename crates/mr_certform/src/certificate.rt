@@ -1,5 +1,6 @@
 //! A certificate as flat lists: names, entries of each group, groups of each partition. Its looks take no memory.
-ghost use Rattle.std.specs.Prelude.{◌≡◌, ◌≤◌, ◌<◌, ◌^◌, ◌+◌, ◌++◌, ◌∷◌, [], OnOk, OnErr, MatchOption, length};
+ghost use Rattle.std.specs.Prelude.{◌≡◌, ◌≤◌, ◌<◌, ◌^◌, ◌+◌, ◌++◌, ◌∷◌, [], OnOk, OnErr};
+ghost use Rattle.std.specs.Prelude.{MatchOption, length};
 ghost use Rattle.mr_certform.specs.Flat.{told, told_first, nothing_told, total, chunks, AreCounted};
 ghost use Rattle.mr_certform.specs.Value.{names_of};
 

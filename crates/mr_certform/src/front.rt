@@ -1,9 +1,9 @@
 //! The item that stands at the front of bytes, at a place of the grammar. One look at a few bytes; no memory.
-ghost use Rattle.std.specs.Prelude.{◌≡◌, ◌≤◌, ◌-◌, ◌<◌, true, Some, None, MatchOption, IfSome, length, take, drop};
+ghost use Rattle.std.specs.Prelude.{◌≡◌, ◌≤◌, ◌-◌, ◌<◌, Some, None, MatchOption, IfSome, length, take, drop};
 ghost use Rattle.std.specs.Int.{w32, w64, from_be_bytes};
-ghost use Rattle.mr_certform.specs.Numbers.{has_number, numbered};
+ghost use Rattle.mr_certform.specs.Numbers.{numbered};
 ghost use Rattle.mr_certform.specs.Places.{onward};
-ghost use Rattle.mr_certform.specs.Spelling.{standing, entry_at, name_at, of_bytes, skip_at, entry_of as entry_for};
+ghost use Rattle.mr_certform.specs.Spelling.{standing, entry_at, name_at};
 
 use crate::grammar_state::{GrammarState, entries_to_come};
 use crate::item::Item;
@@ -42,35 +42,6 @@ fn eight(bytes: &[u8]) -> Option<(u64, &[u8])>
     } else {
         Some((BigEndian::read_u64(bytes), &bytes[8..]))
     }
-}
-
-/// The magic of the version, and the bytes behind it.
-fn magic_of(version: Version, bytes: &[u8]) -> Option<(Item, &[u8])>
-    ensures read { MatchOption result (standing version GrammarState.AtMagic bytes.now ≡ None) (λ r. standing version GrammarState.AtMagic bytes.now ≡ Some (record { item = r.0; rest = r.1.now })) }
-    ensures shorter { IfSome result (λ r. length r.1.now ≤ length bytes.now) }
-{
-    if bytes.len() < 8 {
-        return None;
-    }
-    let magic = version.magic();
-    if bytes[..8] == magic[..] {
-        Some((Item::Magic, &bytes[8..]))
-    } else {
-        None
-    }
-}
-
-/// One left-out record, and the bytes behind it.
-fn skip_of(bytes: &[u8]) -> Option<(Item, &[u8])>
-    ensures read { MatchOption result (of_bytes 8 (Item.Skip (skip_at bytes.now)) bytes.now ≡ None) (λ r. of_bytes 8 (Item.Skip (skip_at bytes.now)) bytes.now ≡ Some (record { item = r.0; rest = r.1.now })) }
-    ensures shorter { IfSome result (λ r. length r.1.now ≤ length bytes.now) }
-{
-    if bytes.len() < 8 {
-        return None;
-    }
-    let split = number_of_four(bytes);
-    let rec = number_of_four(&bytes[4..]);
-    Some((Item::Skip(RecordName { split, rec }), &bytes[8..]))
 }
 
 /// The name of the first twelve bytes, and the bytes behind it.
@@ -117,24 +88,19 @@ fn number_item(place: GrammarState, n: u32) -> Option<Item>
     }
 }
 
-/// The item of a number of four bytes, at a place where one stands, and the bytes behind it.
-fn number_of(version: Version, place: GrammarState, bytes: &[u8]) -> Option<(Item, &[u8])>
-    requires { has_number place ≡ true }
-    ensures read { MatchOption result (standing version place bytes.now ≡ None) (λ r. standing version place bytes.now ≡ Some (record { item = r.0; rest = r.1.now })) }
-    ensures shorter { IfSome result (λ r. length r.1.now ≤ length bytes.now) }
-{
-    let (n, rest) = four(bytes)?;
-    let item = number_item(place, n)?;
-    Some((item, rest))
-}
-
 /// The item that stands at the front of the bytes, and the bytes behind it.
 pub fn read_item(version: Version, place: GrammarState, bytes: &[u8]) -> Option<(Item, &[u8])>
     ensures read { MatchOption result (standing version place bytes.now ≡ None) (λ r. standing version place bytes.now ≡ Some (record { item = r.0; rest = r.1.now })) }
     ensures shorter { IfSome result (λ r. length r.1.now ≤ length bytes.now) }
 {
     match place {
-        GrammarState::AtMagic => magic_of(version, bytes),
+        GrammarState::AtMagic => {
+            if bytes.len() < 8 {
+                return None;
+            }
+            let magic = version.magic();
+            (bytes[..8] == magic[..]).then_some((Item::Magic, &bytes[8..]))
+        }
         GrammarState::AtLiteralByte { .. } => {
             let (byte, rest) = bytes.split_first()?;
             Some((Item::LiteralByte(*byte), rest))
@@ -143,14 +109,22 @@ pub fn read_item(version: Version, place: GrammarState, bytes: &[u8]) -> Option<
             let (n, rest) = eight(bytes)?;
             Some((Item::FileLength(n), rest))
         }
-        GrammarState::AtSkip { .. } => skip_of(bytes),
+        GrammarState::AtSkip { .. } => {
+            let (_, rest) = eight(bytes)?;
+            let split = number_of_four(bytes);
+            let rec = number_of_four(&bytes[4..]);
+            Some((Item::Skip(RecordName { split, rec }), rest))
+        }
         GrammarState::AtEntry { before, .. } => {
             let (name, rest) = name_of(version, before, bytes)?;
             Some((Item::Entry(name), rest))
         }
         GrammarState::AtEnd => bytes.is_empty().then_some((Item::End, bytes)),
         GrammarState::Behind => None,
-        _ => number_of(version, place, bytes),
+        _ => {
+            let (n, rest) = four(bytes)?;
+            Some((number_item(place, n)?, rest))
+        }
     }
 }
 

@@ -47,8 +47,8 @@ pub fn write_header(
     Ok(out)
 }
 
-/// How many bytes a partition of so many groups and names is spelled in; no more than can be counted. In version 2 about so
-/// many: most names have some 4 bytes.
+/// How many bytes a partition of so many groups and names is spelled in; no more than can be counted.
+/// In version 2 about so many: most names have some 4 bytes.
 pub fn partition_size_hint(version: Version, groups: usize, names: usize) -> usize {
     let bytes_of_name = match version {
         Version::V1 => 12,

@@ -1,9 +1,9 @@
 //! Bytes read as a certificate: enter bytes, leaves the certificate that they spell, or where they stop being one.
 //! One pass; memory grows with what was read, never with what a count claims.
-ghost use Rattle.std.specs.Prelude.{◌≡◌, MatchResult, IfOk, IfErr, true, length};
+ghost use Rattle.std.specs.Prelude.{◌≡◌, MatchResult, IfOk, IfErr, true};
 ghost use Rattle.mr_certform.specs.Spelling.{items_of, is_ended};
 ghost use Rattle.mr_certform.specs.Value.{Spells};
-ghost use Rattle.mr_certform.specs.Flat.{Told, told_by, nothing_told};
+ghost use Rattle.mr_certform.specs.Flat.{told_by, nothing_told};
 ghost use Rattle.mr_certform.specs.Reading.{IsReadFault, IsHalted};
 
 use crate::certificate::{Certificate, CertificateColumns};

@@ -1,5 +1,5 @@
 //! A walk over the items of a reader's bytes, front to back. Its buffer is all the memory that it takes.
-ghost use Rattle.std.specs.Prelude.{◌≡◌, ◌⊎◌, ℕ, ◌≤◌, ◌<◌, ◌+◌, ◌-◌, ◌^◌, [], List, Some, None, IfOk, OnOk, IfErr, IfSome, OnErr, MatchResult, true, length};
+ghost use Rattle.std.specs.Prelude.{◌≡◌, ◌⊎◌, ℕ, ◌≤◌, ◌<◌, ◌+◌, ◌-◌, ◌^◌, List, Some, None, IfOk, OnOk, IfSome, MatchResult, true, length};
 ghost use Rattle.mr_store.specs.Devices.{Counts, FailsOnly};
 ghost use Rattle.mr_certform.specs.declared.item.Item.{Item as Read};
 ghost use Rattle.mr_certform.specs.declared.grammar_state.GrammarState.TheVariants.{AtMagic};

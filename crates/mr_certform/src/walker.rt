@@ -1,7 +1,6 @@
 //! A walk over the items of bytes, front to back. It takes no memory, and each item costs a look at its own bytes.
 ghost use Rattle.std.specs.Prelude.{◌≡◌, ◌≤◌, ◌-◌, ◌+◌, ◌∷◌, [], Some, None, MatchResult, length, ◌*◌, drop};
-ghost use Rattle.mr_certform.specs.Places.{onward};
-ghost use Rattle.mr_certform.specs.Spelling.{standing, items_from, items_of, stop, left_behind};
+ghost use Rattle.mr_certform.specs.Spelling.{items_from, items_of, stop, left_behind};
 ghost use Rattle.mr_certform.specs.declared.grammar_state.GrammarState.TheVariants.{AtEntry};
 ghost use Rattle.mr_certform.specs.declared.version.Version.TheVariants.{V2};
 ghost use Rattle.mr_certform.specs.Rows.{entries_ahead, behind_entries, items_size};

@@ -1,7 +1,9 @@
 //! What takes bytes, one piece behind another: a list, or a writer behind a buffer.
 //!
-//! The buffer gathers small pieces, and writes some 64 KiB at a time. Its room is there from the start: no memory is asked for.
-ghost use Rattle.std.specs.Prelude.{◌≡◌, ◌≤◌, ◌+◌, List, ℕ, [], ◌++◌, true, false, OnOk, MatchResult, length, take, refl};
+//! The buffer gathers small pieces, and writes some 64 KiB at a time. It asks for no memory: its room
+//! is there from the start.
+ghost use Rattle.std.specs.Prelude.{◌≡◌, ◌≤◌, ◌+◌, List, ℕ, [], ◌++◌, true, false, OnOk};
+ghost use Rattle.std.specs.Prelude.{MatchResult, length, take};
 ghost use Rattle.mr_certform.specs.Sinks.{Passes, list_joined, list_same};
 
 use mr_store::{CountedWrite, Device, write_all};

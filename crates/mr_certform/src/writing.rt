@@ -1,12 +1,14 @@
 //! A certificate spelled, number by number, into whatever takes bytes: a list, or a writer behind a buffer.
-ghost use Rattle.std.specs.Prelude.{◌≡◌, ◌↔◌, ◌≤◌, ◌<◌, ◌^◌, ◌++◌, [], false, OnOk, OnErr, IfOk, length, drop};
+ghost use Rattle.std.specs.Prelude.{◌≡◌, ◌↔◌, ◌≤◌, ◌<◌, ◌^◌, ◌++◌, [], false, OnOk, OnErr};
+ghost use Rattle.std.specs.Prelude.{IfOk, length, drop};
 ghost use Rattle.std.specs.List.{flat_map, AllByRecursion};
 ghost use Rattle.mr_store.specs.Devices.{FailsOnly, TookSome, with_bytes};
 ghost use Rattle.mr_certform.specs.Places.{first_name};
 ghost use Rattle.mr_certform.specs.Spelling.{u32 as four, u64 as eight, magic, name_bytes, skip_bytes};
 ghost use Rattle.mr_certform.specs.Value.{NameFits, SkipFits, CanFollow, CanRow, CanSpell, SpellsIn};
 ghost use Rattle.mr_certform.specs.Flat.{total, chunks, contents_of, IsWhole, HasNumbers, HasNames};
-ghost use Rattle.mr_certform.specs.Pieces.{names_bytes, group_bytes, part_bytes, job_bytes, all_bytes, versioned_bytes};
+ghost use Rattle.mr_certform.specs.Pieces.{names_bytes, group_bytes, part_bytes, job_bytes};
+ghost use Rattle.mr_certform.specs.Pieces.{all_bytes, versioned_bytes};
 
 use crate::certificate::{Certificate, CertificateColumns};
 use crate::short::short_name;
@@ -297,8 +299,8 @@ impl From<AllocError> for WriteFault {
     }
 }
 
-/// The bytes that spell the certificate in this version. In version 1 their list is made at its whole size at once; in version
-/// 2 it grows.
+/// The bytes that spell the certificate in this version. In version 1 their list gets its whole room at
+/// once; in version 2 it grows.
 pub fn write(
     alloc: Global,
     certificate: &Certificate,

@@ -1,5 +1,5 @@
 //! A reader over bytes in memory, for tests of what reads.
-ghost use Rattle.std.specs.Prelude.{◌≡◌, ℕ, ◌≤◌, List, Option, Some, IsSome, IfSome, IfOk, IsErr, OnErr, length, take, drop, min, true, false};
+ghost use Rattle.std.specs.Prelude.{◌≡◌, ◌≤◌, Option, Some, IsSome, IfSome, IfOk, IsErr, OnErr, length, take, drop, min, true, false};
 ghost use Rattle.std.specs.Io.KnownBytes.{ReadConsumes};
 ghost use Rattle.mr_store.specs.Devices.{AreBytes, Counts, FailsOnly};
 ghost use Rattle.mr_store.specs.Memory.{fails_now as does_fail, behind_call as what_is_behind};

@@ -3,7 +3,8 @@
 //!     buffer  [ passed | bytes | room ]        65,536 bytes, whose memory `new` takes
 //!                      from    to
 //!
-//! Cost: a read moves the bytes that are left to the front, and asks the reader for as many as there is room for.
+//! Cost: a read moves the bytes that are left to the front, and asks the reader for as many more as
+//! there is room for.
 ghost use Rattle.std.specs.Prelude.{◌≡◌, ℕ, ◌≤◌, ◌<◌, ◌+◌, ◌-◌, ◌++◌, [], List, IfOk, IfSome};
 ghost use Rattle.std.specs.Prelude.{MatchResult, length, take, drop};
 ghost use Rattle.std.specs.Io.KnownBytes.{Consumes, Keeps, IsAtEnd, ReadConsumes};
@@ -100,8 +101,8 @@ impl ReadBuffer {
         self.from = self.to;
     }
 
-    /// Reads some more behind them and returns how many: 0 only at the reader's end. A failed call leaves the bytes as
-    /// they were.
+    /// Reads some more behind them and returns how many: 0 only at the reader's end. A failed call
+    /// leaves the bytes as they were.
     #[inline(never)]
     pub fn read_more<R: CountedRead>(&mut self, reader: &mut R) -> Result<usize, Device>
         requires room { length self.old < 65536 }
