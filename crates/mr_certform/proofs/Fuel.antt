@@ -1,5 +1,5 @@
 -- The items that stand come one by one.
-use Rattle.std.proofs.Common.{◌≡◌, ℕ, zero, suc, ◌+◌, ◌-◌, ◌<◌, ◌≤◌, Option, Some, None, List, [], ◌∷◌, length, take, drop, refl, ap, sym, ◌∙◌, subst, inl, inr, ◌⊎◌, arith, Bool, cond, leb, ltb, eqb, ◌&&◌, length-append}
+use Rattle.std.proofs.Common.{◌≡◌, ℕ, zero, suc, ◌+◌, ◌<◌, ◌≤◌, Option, Some, None, List, [], ◌∷◌, length, take, drop, refl, ap, sym, ◌∙◌, subst, inl, inr, ◌⊎◌, arith, Bool, cond, leb, ltb, eqb, ◌&&◌, length-append}
 use Rattle.std.proofs.lemmas.Bool.{ltb-false}
 use Rattle.std.proofs.lemmas.List.{length-drop, length-take}
 use Rattle.std.specs.Cmp.Lexicographic.{bytes_decides, pointwise}
@@ -7,8 +7,6 @@ use Rattle.std.specs.Int.{w32, w64, from_be_bytes}
 use Rattle.mr_bytes.specs.declared.Name.{Name}
 use Rattle.mr_certform.specs.declared.item.Item.{Item}
 use Rattle.mr_certform.specs.declared.item.Item.TheVariants.{Magic, Job, Flags, LiteralLength, LiteralByte, Parts, SplitSize, Files, FileLength, Skips, Skip, Groups, Entries, Entry, End}
-use Rattle.std.specs.Prelude.{Result, Ok, Err, MatchResult}
-use Rattle.mr_certform.specs.declared.item.Malformed.{Malformed}
 use Rattle.mr_certform.specs.declared.grammar_state.GrammarState.{GrammarState}
 use Rattle.mr_certform.specs.declared.grammar_state.GrammarState.TheVariants.{AtMagic, AtJob, AtFlags, AtLiteralLength, AtLiteralByte, AtParts, AtSplitSize, AtFiles, AtFileLength, AtSkips, AtSkip, AtGroups, AtEntries, AtEntry, AtEnd, Behind}
 use Rattle.mr_certform.specs.Places.{behind, onward}
@@ -266,23 +264,6 @@ module _ (v : Version) where
         ])
         | inr more ↦ omega (arith, taken_here p bytes f is, ap (λ w. taken w rest) (e ∙ more.1 p))
       ]
-
-  abbrev pub Stepped : GrammarState → List ℕ → ℕ → GrammarState → List ℕ → Result Item Malformed → Type 0
-  Stepped p bytes whole q rest r = MatchResult r (λ i. (standing v p bytes ≡ Some (record { item = i; rest = rest })) × (q ≡ onward p i)) (λ e. (standing v p bytes ≡ None) × (q ≡ p) × (rest ≡ bytes) × (e.at ≡ whole - length bytes))
-
-  pub stepped_items : (p : GrammarState) (bytes : List ℕ) (whole : ℕ) (q : GrammarState) (rest : List ℕ) (r : Result Item Malformed) → Stepped p bytes whole q rest r → MatchResult r (λ i. items_from v p bytes ≡ i ∷ left_behind i (items_from v q rest)) (λ e. (items_from v p bytes ≡ []) × (items_from v q rest ≡ []) × (e.at ≡ whole - length bytes + taken p bytes))
-  stepped_items p bytes whole q rest (Ok i) h = item_step p q bytes rest i h.0 h.1
-  stepped_items p bytes whole q rest (Err e) h =
-      (items_none p bytes h.0, ap (λ w. items_from v w rest) h.1 ∙ (ap (items_from v p) h.2 ∙ items_none p bytes h.0), omega (arith, h.3, taken_none p bytes h.0))
-
-  pub stepped_halt : (p : GrammarState) (bytes : List ℕ) (whole : ℕ) (q : GrammarState) (rest : List ℕ) (r : Result Item Malformed) → length bytes ≤ whole → length rest ≤ whole → Stepped p bytes whole q rest r
-      → whole - length rest + taken q rest ≡ whole - length bytes + taken p bytes
-  stepped_halt p bytes whole q rest (Ok i) fits fit h = omega (arith, fits, fit, taken_step p q bytes rest i h.0 h.1)
-  stepped_halt p bytes whole q rest (Err e) fits fit h = ap (λ w. whole - length rest + taken w rest) h.1 ∙ ap (λ b. whole - length b + taken p b) h.2
-
-  pub stepped_end : (p : GrammarState) (bytes : List ℕ) (whole : ℕ) (q : GrammarState) (rest : List ℕ) (r : Result Item Malformed) → Stepped p bytes whole q rest r → r ≡ Ok End → items_from v q rest ≡ items_from v p bytes
-  stepped_end p bytes whole q rest (Ok i) h e = end_step p q bytes rest i h.0 h.1 (cc e)
-  stepped_end p bytes whole q rest (Err f) h e = absurd (cc e)
 
   walk_few : (k : ℕ) (p : GrammarState) (bytes : List ℕ) → length (walk v k p bytes) ≤ k
   walk_few zero p bytes = omega arith

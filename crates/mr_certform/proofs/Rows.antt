@@ -156,10 +156,6 @@ Passed k p bytes q rest =
     × (items_from V1 q rest ≡ behind_entries (items_from V1 p bytes))
     × (taken V1 p bytes ≡ k * 12 + taken V1 q rest)
 
--- the place holds none
-pub none_passed : (p : GrammarState) (bytes : List ℕ) → ((r g n : ℕ) (b : Name) → p ≡ AtEntry r g n b → ⊥) → Passed 0 p bytes p bytes
-none_passed p bytes h = let none = other_elsewhere V1 p bytes h in (sym none.0, sym none.1, omega arith)
-
 -- all that the group has are held
 pub all_passed : (k r g : ℕ) (b : Name) (n : ℕ) (p : GrammarState) (bytes : List ℕ) → p ≡ AtEntry r g n b → k ≡ n + 1 → k * 12 ≤ length bytes → Passed k p bytes (groups r g) (drop (k * 12) bytes)
 all_passed k r g b n p bytes is e h =

@@ -374,17 +374,9 @@ name_again before name rest fits least =
 some_of : (xs ys zs : List ℕ) → 1 ≤ length xs → 1 ≤ length ((xs ++ ys) ++ zs)
 some_of xs ys zs x = omega (arith, length-append xs ys, length-append (xs ++ ys) zs)
 
-few_of : (xs ys zs : List ℕ) → length xs ≤ 5 → length ys ≤ 5 → length zs ≤ 5 → length ((xs ++ ys) ++ zs) ≤ 15
-few_of xs ys zs x y z = omega (arith, length-append xs ys, length-append (xs ++ ys) zs)
-
 pub name_some : (before name : Name) → 1 ≤ length (short_name_bytes before name)
 unfolding short_name_bytes
 name_some before name = some_of _ _ (short (name.place - place_base before name.split name.rec)) (short_some (name.split - before.split))
-
-pub name_few : (before name : Name) → length (short_name_bytes before name) ≤ 15
-unfolding short_name_bytes
-name_few before name =
-    few_of _ _ _ (short_few (name.split - before.split)) (short_few (name.rec - record_base before name.split)) (short_few (name.place - place_base before name.split name.rec))
 
 -- ---- a name that stands
 
@@ -459,10 +451,6 @@ name_passes before bytes f e =
     let p = short_passes (place_base before n.split.number n.rec.number) n.rec.rest n.place n.place_is in
     let same : n.place.rest ≡ f.rest = ap (λ (g : NameFront). g.rest) n.same in
     subst (λ w. (length w < length bytes) × (length bytes ≤ length w + 15)) same (omega (arith, s.0, r.0, p.0), omega (arith, s.1, r.1, p.1))
-
-pub name_nothing : (before : Name) → short_name_at before [] ≡ None
-unfolding short_name_at
-name_nothing before = ap (λ o. behind_number o (from_record before)) (short_nothing before.split)
 
 -- ---- what stands in front of more bytes
 
@@ -699,27 +687,7 @@ least_ranked before name Equal Equal Less split rec place up = inr (split, inr (
 least_ranked before name Equal Equal Equal split rec place up = inr (split, inr (rec, omega arith))
 least_ranked before name Equal Equal Greater split rec place up = absurd (up refl)
 
-not_greater : (before name : Name) (s r p : Ordering) → Ranked s before.split name.split → Ranked r before.rec name.rec → Ranked p before.place name.place
-    → IsAtLeast before name → ordering_then s (ordering_then r p) ≡ Greater → ⊥
-not_greater before name Less r p split rec place least e = cc e
-not_greater before name Greater r p split rec place (inl less) e = omega arith
-not_greater before name Greater r p split rec place (inr (same, more)) e = omega arith
-not_greater before name Equal Less p split rec place least e = cc e
-not_greater before name Equal Greater p split rec place (inl less) e = omega arith
-not_greater before name Equal Greater p split rec place (inr (same, inl less)) e = omega arith
-not_greater before name Equal Greater p split rec place (inr (same, inr (same_rec, last))) e = omega arith
-not_greater before name Equal Equal Less split rec place least e = cc e
-not_greater before name Equal Equal Equal split rec place least e = cc e
-not_greater before name Equal Equal Greater split rec place (inl less) e = omega arith
-not_greater before name Equal Equal Greater split rec place (inr (same, inl less)) e = omega arith
-not_greater before name Equal Equal Greater split rec place (inr (same, inr (same_rec, last))) e = omega arith
-
 pub least_in_order : (before name : Name) → (name_order before name ≡ Greater → ⊥) → IsAtLeast before name
 least_in_order before name up =
     least_ranked before name (nat_cmp before.split name.split) (nat_cmp before.rec name.rec) (nat_cmp before.place name.place)
     (ranked before.split name.split _ refl) (ranked before.rec name.rec _ refl) (ranked before.place name.place _ refl) up
-
-pub order_of_least : (before name : Name) → IsAtLeast before name → name_order before name ≡ Greater → ⊥
-order_of_least before name least e =
-    not_greater before name (nat_cmp before.split name.split) (nat_cmp before.rec name.rec) (nat_cmp before.place name.place)
-    (ranked before.split name.split _ refl) (ranked before.rec name.rec _ refl) (ranked before.place name.place _ refl) least e

@@ -3,6 +3,7 @@ use Rattle.std.specs.Prelude.{◌≡◌, ℕ, ◌+◌, ◌^◌, ◌<◌, ◌≤�
 use Rattle.std.specs.List.{AllByRecursion}
 use Rattle.mr_bytes.specs.declared.Name.{Name}
 use Rattle.mr_bytes.specs.declared.RecordName.{RecordName}
+use Rattle.mr_certform.specs.declared.certificate.Header.{Header}
 use Rattle.mr_certform.specs.declared.item.Item.{Item}
 use Rattle.mr_certform.specs.declared.item.Item.TheVariants.{Job, Flags, LiteralByte, Parts, SplitSize, FileLength, Skip, Groups, Entries, Entry}
 use Rattle.mr_certform.specs.Value.{Contents, NameFits, SkipFits}
@@ -19,6 +20,21 @@ pub record Told : Type 0 where
   pub group_counts : List ℕ
   pub entry_counts : List ℕ
   pub names : List Name
+
+-- behind a header, with so many partitions and none of their groups
+abbrev pub told_first : Header → ℕ → Told
+told_first h parts = record {
+  job = h.job;
+  flags = h.flags;
+  literal = h.literal.items;
+  parts = parts;
+  split_size = h.split_size;
+  lengths = h.lengths.items;
+  skips = h.skips.items;
+  group_counts = [];
+  entry_counts = [];
+  names = [];
+}
 
 -- before any item
 abbrev pub nothing_told : Told

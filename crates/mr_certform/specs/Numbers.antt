@@ -1,22 +1,11 @@
 -- Of no public promise: the items that are a number of four bytes.
-use Rattle.std.specs.Prelude.{ℕ, Bool, true, false, ◌&&◌, Option, Some, None, nat_le, if◌then◌else◌}
+use Rattle.std.specs.Prelude.{ℕ, ◌&&◌, Option, Some, None, nat_le, if◌then◌else◌}
 use Rattle.mr_certform.specs.declared.item.Item.{Item}
 use Rattle.mr_certform.specs.declared.item.Item.TheVariants.{Job, Flags, LiteralLength, Parts, SplitSize, Files, Skips, Groups, Entries}
 use Rattle.mr_certform.specs.declared.grammar_state.GrammarState.{GrammarState}
-use Rattle.mr_certform.specs.declared.grammar_state.GrammarState.TheVariants.{AtMagic, AtJob, AtFlags, AtLiteralLength, AtLiteralByte, AtParts, AtSplitSize, AtFiles, AtFileLength, AtSkips, AtSkip, AtGroups, AtEntries, AtEntry, AtEnd, Behind}
+use Rattle.mr_certform.specs.declared.grammar_state.GrammarState.TheVariants.{AtJob, AtFlags, AtLiteralLength, AtParts, AtSplitSize, AtFiles, AtSkips, AtGroups, AtEntries}
 
--- whether such an item stands at the place
-abbrev pub has_number : GrammarState → Bool
-has_number AtMagic = false
-has_number (AtLiteralByte n) = false
-has_number (AtFileLength r n) = false
-has_number (AtSkip r n) = false
-has_number (AtEntry r g n before) = false
-has_number AtEnd = false
-has_number Behind = false
-has_number _ = true
-
--- the item of a number at such a place; none where the number may not stand there
+-- the item of a number at a place where one stands; none where the number may not stand there
 abbrev pub numbered : GrammarState → ℕ → Option Item
 numbered AtJob n = Some (Job n)
 numbered AtFlags n = Some (Flags n)

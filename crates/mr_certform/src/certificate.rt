@@ -1,28 +1,42 @@
 //! A certificate as flat lists: names, entries of each group, groups of each partition. Its looks take no memory.
-ghost use Rattle.std.specs.Prelude.{◌≡◌, ◌≤◌, ◌<◌, ◌^◌, ◌+◌, ◌++◌, ◌∷◌, [], OnOk, OnErr, IfOk, length};
-ghost use Rattle.mr_certform.specs.Flat.{told, nothing_told};
+ghost use Rattle.std.specs.Prelude.{◌≡◌, ◌≤◌, ◌<◌, ◌^◌, ◌+◌, ◌++◌, ◌∷◌, [], OnOk, OnErr};
+ghost use Rattle.std.specs.Prelude.{MatchOption, length};
+ghost use Rattle.mr_certform.specs.Flat.{told, told_first, nothing_told, total, chunks, AreCounted};
 ghost use Rattle.mr_certform.specs.Value.{names_of};
 
-use crate::groups::PartitionIter;
 use crate::item::Item;
 use mr_bytes::{Name, RecordName};
 use std::alloc::{AllocError, Global};
 use std::marker::Model;
 
+/// What stands in a certificate before its groups: the job's number and flags, its literal, the bytes of a split, the
+/// length of each file, the left-out records.
+#[derive(Drop)]
+pub struct Header {
+    pub job: u32,
+    pub flags: u32,
+    pub literal: Vec<u8>,
+    pub split_size: u32,
+    pub lengths: Vec<u64>,
+    pub skips: Vec<RecordName>,
+}
+
+/// The groups of all partitions, flat: how many groups each partition has, how many entries each group has, and the
+/// names of all entries.
+#[derive(Drop)]
+pub struct FlatGroups {
+    pub group_counts: Vec<u32>,
+    pub entry_counts: Vec<u32>,
+    pub names: Vec<Name>,
+}
+
 /// A certificate's values one behind another, as its items tell them: the groups lie flat, as all names, with the
 /// number of groups of each partition and the number of entries of each group.
 #[derive(Drop)]
 pub(crate) struct CertificateColumns {
-    pub job: u32,
-    pub flags: u32,
-    pub literal: Vec<u8>,
+    pub header: Header,
     pub parts: u32,
-    pub split_size: u32,
-    pub lengths: Vec<u64>,
-    pub skips: Vec<RecordName>,
-    pub group_counts: Vec<u32>,
-    pub entry_counts: Vec<u32>,
-    pub names: Vec<Name>,
+    pub groups: FlatGroups,
 }
 
 impl Model for CertificateColumns {
@@ -31,36 +45,49 @@ impl Model for CertificateColumns {
     ghost Value = { Told };
 
     ghost view = { λ a. record {
-      job = a.job;
-      flags = a.flags;
-      literal = a.literal.items;
+      job = a.header.job;
+      flags = a.header.flags;
+      literal = a.header.literal.items;
       parts = a.parts;
-      split_size = a.split_size;
-      lengths = a.lengths.items;
-      skips = a.skips.items;
-      group_counts = a.group_counts.items;
-      entry_counts = a.entry_counts.items;
-      names = a.names.items;
+      split_size = a.header.split_size;
+      lengths = a.header.lengths.items;
+      skips = a.header.skips.items;
+      group_counts = a.groups.group_counts.items;
+      entry_counts = a.groups.entry_counts.items;
+      names = a.groups.names.items;
     } };
 }
 
 impl CertificateColumns {
+    /// Behind this header, with so many partitions and none of their groups.
+    pub fn begin(alloc: Global, header: Header, parts: u32) -> CertificateColumns
+        ensures { result ≡ told_first header parts }
+    {
+        let groups = FlatGroups {
+            group_counts: Vec::new(alloc),
+            entry_counts: Vec::new(alloc),
+            names: Vec::new(alloc),
+        };
+        CertificateColumns {
+            header,
+            parts,
+            groups,
+        }
+    }
+
     /// Before any item.
     pub fn new(alloc: Global) -> CertificateColumns
         ensures { result ≡ nothing_told }
     {
-        CertificateColumns {
+        let header = Header {
             job: 0,
             flags: 0,
             literal: Vec::new(alloc),
-            parts: 0,
             split_size: 0,
             lengths: Vec::new(alloc),
             skips: Vec::new(alloc),
-            group_counts: Vec::new(alloc),
-            entry_counts: Vec::new(alloc),
-            names: Vec::new(alloc),
-        }
+        };
+        CertificateColumns::begin(alloc, header, 0)
     }
 
     /// Takes what an item tells.
@@ -68,33 +95,31 @@ impl CertificateColumns {
         ensures { OnOk result (self.new ≡ told self.old item) }
     {
         match item {
-            Item::Job(n) => self.job = n,
-            Item::Flags(n) => self.flags = n,
-            Item::LiteralByte(byte) => self.literal.push(byte)?,
+            Item::Job(n) => self.header.job = n,
+            Item::Flags(n) => self.header.flags = n,
+            Item::LiteralByte(byte) => self.header.literal.push(byte)?,
             Item::Parts(n) => self.parts = n,
-            Item::SplitSize(n) => self.split_size = n,
-            Item::FileLength(n) => self.lengths.push(n)?,
-            Item::Skip(skip) => self.skips.push(skip)?,
-            Item::Groups(n) => self.group_counts.push(n)?,
-            Item::Entries(n) => self.entry_counts.push(n)?,
-            Item::Entry(name) => self.names.push(name)?,
+            Item::SplitSize(n) => self.header.split_size = n,
+            Item::FileLength(n) => self.header.lengths.push(n)?,
+            Item::Skip(skip) => self.header.skips.push(skip)?,
+            Item::Groups(n) => self.groups.group_counts.push(n)?,
+            Item::Entries(n) => self.groups.entry_counts.push(n)?,
+            Item::Entry(name) => self.groups.names.push(name)?,
             Item::Magic | Item::LiteralLength(_) | Item::Files(_) | Item::Skips(_) | Item::End => {}
         }
         Ok(())
     }
-}
 
-impl CertificateColumns {
     /// One more group of these names.
     pub fn push_names(&mut self, names: &[Name]) -> Result<(), AllocError>
         requires { length names.now < 2 ^ 32 }
         ensures ok { OnOk result (self.new ≡ record self.old { entry_counts = self.old.entry_counts ++ length names.now ∷ []; names = self.old.names ++ names.now }) }
         ensures err { OnErr result (self.new ≡ self.old) }
     {
-        self.entry_counts.push(names.len() as u32)?;
-        let added = self.names.extend_from_slice(names);
+        self.groups.entry_counts.push(names.len() as u32)?;
+        let added = self.groups.names.extend_from_slice(names);
         if added.is_err() {
-            self.entry_counts.pop();
+            self.groups.entry_counts.pop();
         }
         added
     }
@@ -105,7 +130,7 @@ impl CertificateColumns {
         ensures ok { OnOk result (self.new ≡ record self.old { group_counts = self.old.group_counts ++ groups ∷ []; parts = self.old.parts + 1 }) }
         ensures err { OnErr result (self.new ≡ self.old) }
     {
-        self.group_counts.push(groups)?;
+        self.groups.group_counts.push(groups)?;
         self.parts += 1;
         Ok(())
     }
@@ -130,18 +155,45 @@ impl Model for Certificate {
 }
 
 impl Certificate {
+    /// The certificate of these groups. It takes no memory.
+    pub fn of(header: Header, groups: FlatGroups) -> Certificate
+        requires literal { length header.literal.items ≤ 4096 }
+        requires files { length header.lengths.items ≤ 1024 }
+        requires skips { length header.skips.items < 2 ^ 32 }
+        requires parts { (1 ≤ length groups.group_counts.items) × (length groups.group_counts.items ≤ 1024) }
+        requires counted { AreCounted groups.group_counts.items groups.entry_counts.items groups.names.items }
+        ensures { result ≡ record {
+          job = header.job;
+          flags = header.flags;
+          literal = header.literal.items;
+          parts = length groups.group_counts.items;
+          split_size = header.split_size;
+          lengths = header.lengths.items;
+          skips = header.skips.items;
+          groups = chunks groups.group_counts.items (chunks groups.entry_counts.items groups.names.items);
+        } }
+    {
+        let parts = groups.group_counts.len() as u32;
+        let flat = CertificateColumns {
+            header,
+            parts,
+            groups,
+        };
+        Certificate { flat }
+    }
+
     /// The job's number.
     pub fn job(&self) -> u32
         ensures { result ≡ self.now.job }
     {
-        self.flat.job
+        self.flat.header.job
     }
 
     /// The job's flags.
     pub fn flags(&self) -> u32
         ensures { result ≡ self.now.flags }
     {
-        self.flat.flags
+        self.flat.header.flags
     }
 
     /// The bytes of the job's literal.
@@ -149,7 +201,7 @@ impl Certificate {
         ensures bytes { result.now ≡ self.now.literal }
         ensures short { length result.now ≤ 4096 }
     {
-        &self.flat.literal
+        &self.flat.header.literal
     }
 
     /// The number of partitions.
@@ -166,7 +218,7 @@ impl Certificate {
     pub fn split_size(&self) -> u32
         ensures { result ≡ self.now.split_size }
     {
-        self.flat.split_size
+        self.flat.header.split_size
     }
 
     /// The bytes of each file.
@@ -174,7 +226,7 @@ impl Certificate {
         ensures files { result.now ≡ self.now.lengths }
         ensures few { length result.now ≤ 1024 }
     {
-        &self.flat.lengths
+        &self.flat.header.lengths
     }
 
     /// The left-out records.
@@ -182,7 +234,7 @@ impl Certificate {
         ensures records { result.now ≡ self.now.skips }
         ensures few { length result.now < 2 ^ 32 }
     {
-        &self.flat.skips
+        &self.flat.header.skips
     }
 
     /// The number of all entries.
@@ -196,7 +248,7 @@ impl Certificate {
     pub fn names(&self) -> &[Name]
         ensures { result.now ≡ names_of self.now }
     {
-        self.flat.names.as_slice()
+        self.flat.groups.names.as_slice()
     }
 
     /// The groups of each partition, to be read in order.
@@ -204,9 +256,95 @@ impl Certificate {
         ensures { result ≡ self.now.groups }
     {
         PartitionIter {
-            group_counts: &self.flat.group_counts,
-            entry_counts: &self.flat.entry_counts,
-            names: &self.flat.names,
+            group_counts: &self.flat.groups.group_counts,
+            entry_counts: &self.flat.groups.entry_counts,
+            names: &self.flat.groups.names,
         }
+    }
+}
+
+/// The groups of each partition that is still to be read, in order.
+#[derive(Drop)]
+pub struct PartitionIter<'a> {
+    group_counts: &'a [u32],
+    entry_counts: &'a [u32],
+    names: &'a [Name],
+}
+
+impl<'a> Model for PartitionIter<'a> {
+    ghost use Rattle.std.specs.Prelude.{List, ◌≡◌, ◌≤◌, length};
+    ghost use Rattle.mr_bytes.specs.declared.Name.{Name};
+    ghost use Rattle.mr_certform.specs.Flat.{chunks, total};
+
+    ghost Value = { List (List (List Name)) };
+
+    ghost view = { λ a. chunks a.group_counts.now (chunks a.entry_counts.now a.names.now) };
+
+    ghost invariant = { λ a. record {
+      groups : total a.group_counts.now ≤ length a.entry_counts.now;
+      entries : total a.entry_counts.now ≤ length a.names.now;
+    } };
+}
+
+/// The groups of one partition that are still to be read, in order.
+#[derive(Drop)]
+pub struct GroupIter<'a> {
+    entry_counts: &'a [u32],
+    names: &'a [Name],
+}
+
+impl<'a> Model for GroupIter<'a> {
+    ghost use Rattle.std.specs.Prelude.{List, ◌≡◌, ◌≤◌, length};
+    ghost use Rattle.mr_bytes.specs.declared.Name.{Name};
+    ghost use Rattle.mr_certform.specs.Flat.{chunks, total};
+
+    ghost Value = { List (List Name) };
+
+    ghost view = { λ a. chunks a.entry_counts.now a.names.now };
+
+    ghost invariant = { λ a. total a.entry_counts.now ≤ length a.names.now };
+}
+
+impl<'a> GroupIter<'a> {
+    /// The names of the next group.
+    pub fn next_group(&mut self) -> Option<&'a [Name]>
+        ensures { MatchOption result ((self.old ≡ []) × (self.new ≡ [])) (λ g. self.old ≡ g.now ∷ self.new) }
+    {
+        let (count, counts) = self.entry_counts.split_first()?;
+        let (group, names) = self.names.split_at(*count as usize);
+        self.entry_counts = counts;
+        self.names = names;
+        Some(group)
+    }
+}
+
+/// How many entries groups of these counts have, all together.
+fn sum_of(counts: &[u32], most: usize) -> usize
+    requires { total counts.now ≤ most }
+    ensures { result ≡ total counts.now }
+{
+    let mut sum = 0;
+    for count in counts {
+        sum += *count as usize;
+    }
+    sum
+}
+
+impl<'a> PartitionIter<'a> {
+    /// The groups of the next partition.
+    pub fn next_partition(&mut self) -> Option<GroupIter<'a>>
+        ensures { MatchOption result ((self.old ≡ []) × (self.new ≡ [])) (λ gs. self.old ≡ gs ∷ self.new) }
+    {
+        let (count, counts) = self.group_counts.split_first()?;
+        let (entry_counts, more_counts) = self.entry_counts.split_at(*count as usize);
+        let entries = sum_of(entry_counts, self.names.len());
+        let (names, more_names) = self.names.split_at(entries);
+        self.group_counts = counts;
+        self.entry_counts = more_counts;
+        self.names = more_names;
+        Some(GroupIter {
+            entry_counts,
+            names,
+        })
     }
 }

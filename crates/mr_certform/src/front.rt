@@ -1,21 +1,24 @@
 //! The item that stands at the front of bytes, at a place of the grammar. One look at a few bytes; no memory.
-ghost use Rattle.std.specs.Prelude.{◌≡◌, ◌≤◌, ◌-◌, ◌<◌, true, Some, None, MatchOption, IfSome, length, take, drop};
+ghost use Rattle.std.specs.Prelude.{◌≡◌, ◌≤◌, ◌-◌, ◌<◌, Some, None, MatchOption, IfSome, length, take, drop};
 ghost use Rattle.std.specs.Int.{w32, w64, from_be_bytes};
-ghost use Rattle.mr_certform.specs.Numbers.{has_number, numbered};
+ghost use Rattle.mr_certform.specs.Numbers.{numbered};
 ghost use Rattle.mr_certform.specs.Places.{onward};
-ghost use Rattle.mr_certform.specs.Spelling.{standing, entry_at, name_at, of_bytes, skip_at, entry_of as entry_for};
+ghost use Rattle.mr_certform.specs.Spelling.{standing, entry_at, name_at};
 
 use crate::grammar_state::{GrammarState, entries_to_come};
 use crate::item::Item;
-use crate::number::{number_of_eight, number_of_four};
 use crate::short::short_name_of;
 use crate::version::Version;
+use byteorder::{BigEndian, ByteOrder};
 use mr_bytes::{Name, RecordName};
 
-/// What a certificate begins with, in each version.
-const MAGIC_1: [u8; 8] = *b"MRCERT1\n";
-
-const MAGIC_2: [u8; 8] = *b"MRCERT2\n";
+/// The number of the first four bytes.
+fn number_of_four(bytes: &[u8]) -> u32
+    requires { 4 ≤ length bytes.now }
+    ensures { result ≡ from_be_bytes w32 (take 4 bytes.now) }
+{
+    BigEndian::read_u32(bytes)
+}
 
 /// The number of the first four bytes, and the bytes behind it.
 fn four(bytes: &[u8]) -> Option<(u32, &[u8])>
@@ -37,40 +40,8 @@ fn eight(bytes: &[u8]) -> Option<(u64, &[u8])>
     if bytes.len() < 8 {
         None
     } else {
-        Some((number_of_eight(bytes), &bytes[8..]))
+        Some((BigEndian::read_u64(bytes), &bytes[8..]))
     }
-}
-
-/// The magic of the version, and the bytes behind it.
-fn magic_of(version: Version, bytes: &[u8]) -> Option<(Item, &[u8])>
-    ensures read { MatchOption result (standing version GrammarState.AtMagic bytes.now ≡ None) (λ r. standing version GrammarState.AtMagic bytes.now ≡ Some (record { item = r.0; rest = r.1.now })) }
-    ensures shorter { IfSome result (λ r. length r.1.now ≤ length bytes.now) }
-{
-    if bytes.len() < 8 {
-        return None;
-    }
-    let magic = match version {
-        Version::V1 => MAGIC_1,
-        Version::V2 => MAGIC_2,
-    };
-    if bytes[..8] == magic[..] {
-        Some((Item::Magic, &bytes[8..]))
-    } else {
-        None
-    }
-}
-
-/// One left-out record, and the bytes behind it.
-fn skip_of(bytes: &[u8]) -> Option<(Item, &[u8])>
-    ensures read { MatchOption result (of_bytes 8 (Item.Skip (skip_at bytes.now)) bytes.now ≡ None) (λ r. of_bytes 8 (Item.Skip (skip_at bytes.now)) bytes.now ≡ Some (record { item = r.0; rest = r.1.now })) }
-    ensures shorter { IfSome result (λ r. length r.1.now ≤ length bytes.now) }
-{
-    if bytes.len() < 8 {
-        return None;
-    }
-    let split = number_of_four(bytes);
-    let rec = number_of_four(&bytes[4..]);
-    Some((Item::Skip(RecordName { split, rec }), &bytes[8..]))
 }
 
 /// The name of the first twelve bytes, and the bytes behind it.
@@ -99,15 +70,6 @@ fn name_of(version: Version, before: Name, bytes: &[u8]) -> Option<(Name, &[u8])
     }
 }
 
-/// One entry behind the name before it, and the bytes behind it.
-fn entry_of(version: Version, before: Name, bytes: &[u8]) -> Option<(Item, &[u8])>
-    ensures read { MatchOption result (entry_at version before bytes.now ≡ None) (λ r. entry_at version before bytes.now ≡ Some (record { item = r.0; rest = r.1.now })) }
-    ensures shorter { IfSome result (λ r. length r.1.now ≤ length bytes.now) }
-{
-    let (name, rest) = name_of(version, before, bytes)?;
-    Some((Item::Entry(name), rest))
-}
-
 /// The item that a number is at a place where one of four bytes stands, if it may stand there.
 fn number_item(place: GrammarState, n: u32) -> Option<Item>
     ensures { result ≡ numbered place n }
@@ -126,24 +88,19 @@ fn number_item(place: GrammarState, n: u32) -> Option<Item>
     }
 }
 
-/// The item of a number of four bytes, at a place where one stands, and the bytes behind it.
-fn number_of(version: Version, place: GrammarState, bytes: &[u8]) -> Option<(Item, &[u8])>
-    requires { has_number place ≡ true }
-    ensures read { MatchOption result (standing version place bytes.now ≡ None) (λ r. standing version place bytes.now ≡ Some (record { item = r.0; rest = r.1.now })) }
-    ensures shorter { IfSome result (λ r. length r.1.now ≤ length bytes.now) }
-{
-    let (n, rest) = four(bytes)?;
-    let item = number_item(place, n)?;
-    Some((item, rest))
-}
-
 /// The item that stands at the front of the bytes, and the bytes behind it.
 pub fn read_item(version: Version, place: GrammarState, bytes: &[u8]) -> Option<(Item, &[u8])>
     ensures read { MatchOption result (standing version place bytes.now ≡ None) (λ r. standing version place bytes.now ≡ Some (record { item = r.0; rest = r.1.now })) }
     ensures shorter { IfSome result (λ r. length r.1.now ≤ length bytes.now) }
 {
     match place {
-        GrammarState::AtMagic => magic_of(version, bytes),
+        GrammarState::AtMagic => {
+            if bytes.len() < 8 {
+                return None;
+            }
+            let magic = version.magic();
+            (bytes[..8] == magic[..]).then_some((Item::Magic, &bytes[8..]))
+        }
         GrammarState::AtLiteralByte { .. } => {
             let (byte, rest) = bytes.split_first()?;
             Some((Item::LiteralByte(*byte), rest))
@@ -152,11 +109,22 @@ pub fn read_item(version: Version, place: GrammarState, bytes: &[u8]) -> Option<
             let (n, rest) = eight(bytes)?;
             Some((Item::FileLength(n), rest))
         }
-        GrammarState::AtSkip { .. } => skip_of(bytes),
-        GrammarState::AtEntry { before, .. } => entry_of(version, before, bytes),
+        GrammarState::AtSkip { .. } => {
+            let (_, rest) = eight(bytes)?;
+            let split = number_of_four(bytes);
+            let rec = number_of_four(&bytes[4..]);
+            Some((Item::Skip(RecordName { split, rec }), rest))
+        }
+        GrammarState::AtEntry { before, .. } => {
+            let (name, rest) = name_of(version, before, bytes)?;
+            Some((Item::Entry(name), rest))
+        }
         GrammarState::AtEnd => bytes.is_empty().then_some((Item::End, bytes)),
         GrammarState::Behind => None,
-        _ => number_of(version, place, bytes),
+        _ => {
+            let (n, rest) = four(bytes)?;
+            Some((number_item(place, n)?, rest))
+        }
     }
 }
 

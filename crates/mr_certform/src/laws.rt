@@ -1,8 +1,13 @@
-//! What the definitions of certificates mean: functions without a body, whose clauses are the laws.
+//! What the definitions of certificates mean: functions that do nothing when they run, whose clauses are the laws.
 ghost use Rattle.std.specs.Prelude.{List};
 ghost use Rattle.mr_bytes.specs.declared.Name.{Name};
 ghost use Rattle.mr_certform.specs.Laws.{StandingIsSpelled, SpelledStands, SpellingsAreApart, SpellingIsRead, EndedIsSpelled, OneCertificate};
 ghost use Rattle.mr_certform.specs.Laws.{SpelledByParts, VersionIsTold, ItemsStand, ItemsAreLongest, CutByCounts, SpelledSoFarIsSpelled};
+ghost use Rattle.mr_certform.specs.Pieces.{versioned_bytes};
+ghost use Rattle.mr_certform.specs.Value.{SpellsIn};
+
+use crate::version::VersionedCertificate;
+use crate::writing::{names_fit, numbers_fit, skips_fit};
 
 /// An item stands at the front of bytes exactly where they begin with its spelling, and the end where no byte is
 /// left. Before the end no item's spelling begins another's.
@@ -41,3 +46,13 @@ pub fn chunks_law()
 pub fn pieces_law()
     ensures { SpelledSoFarIsSpelled }
 {}
+
+/// The bytes that a certificate is written as spell it. This does nothing when it runs: its loops have nothing to do.
+pub fn text_law(spelled: &VersionedCertificate<'_>)
+    ensures { SpellsIn spelled.now.version (versioned_bytes spelled.now) spelled.now.certificate }
+{
+    let flat = spelled.flat();
+    numbers_fit(flat);
+    names_fit(&flat.groups.names);
+    skips_fit(&flat.header.skips);
+}

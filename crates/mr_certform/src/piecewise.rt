@@ -6,8 +6,7 @@ ghost use Rattle.mr_certform.specs.Flat.{total, chunks};
 ghost use Rattle.mr_certform.specs.Pieces.{SpellsSoFar};
 ghost use Rattle.mr_certform.specs.Value.{Contents, CanSpell};
 
-use crate::building::Header;
-use crate::certificate::CertificateColumns;
+use crate::certificate::{CertificateColumns, Header};
 use crate::version::Version;
 use crate::writing::{
     counts_fit, numbers_fit, put_groups, put_input, put_job, put_left_out, put_number, size_of,
@@ -39,46 +38,23 @@ pub fn write_header(
       groups = [];
     })) }
 {
-    let Header {
-        job,
-        flags,
-        literal,
-        split_size,
-        lengths,
-        skips,
-    } = header;
-    let flat = CertificateColumns {
-        job,
-        flags,
-        literal,
-        parts,
-        split_size,
-        lengths,
-        skips,
-        group_counts: Vec::new(alloc),
-        entry_counts: Vec::new(alloc),
-        names: Vec::new(alloc),
-    };
+    let flat = CertificateColumns::begin(alloc, header, parts);
     numbers_fit(&flat);
     let mut out = Vec::with_capacity(alloc, size_of(&flat).saturating_add(room))?;
     put_job(&mut out, version, &flat)?;
-    put_input(&mut out, &flat.lengths)?;
-    put_left_out(&mut out, &flat.skips)?;
+    put_input(&mut out, &flat.header.lengths)?;
+    put_left_out(&mut out, &flat.header.skips)?;
     Ok(out)
 }
 
-/// How many bytes a name has in each version: in version 2 about so many, mostly.
-fn bytes_of_name(version: Version) -> usize {
-    match version {
+/// How many bytes a partition of so many groups and names is spelled in; no more than can be counted.
+/// In version 2 about so many: most names have some 4 bytes.
+pub fn partition_size_hint(version: Version, groups: usize, names: usize) -> usize {
+    let bytes_of_name = match version {
         Version::V1 => 12,
         Version::V2 => 4,
-    }
-}
-
-/// How many bytes a partition of so many groups and names is spelled in, in version 2 about so many; no more than can be
-/// counted.
-pub fn partition_size_hint(version: Version, groups: usize, names: usize) -> usize {
-    (names.saturating_mul(bytes_of_name(version)))
+    };
+    (names.saturating_mul(bytes_of_name))
         .saturating_add(groups.saturating_mul(4))
         .saturating_add(4)
 }

@@ -1,9 +1,9 @@
 //! Bytes read as a certificate: enter bytes, leaves the certificate that they spell, or where they stop being one.
 //! One pass; memory grows with what was read, never with what a count claims.
-ghost use Rattle.std.specs.Prelude.{◌≡◌, MatchResult, IfOk, IfErr, true, length};
+ghost use Rattle.std.specs.Prelude.{◌≡◌, MatchResult, IfOk, IfErr, true};
 ghost use Rattle.mr_certform.specs.Spelling.{items_of, is_ended};
 ghost use Rattle.mr_certform.specs.Value.{Spells};
-ghost use Rattle.mr_certform.specs.Flat.{Told, told_by, nothing_told, contents_of, IsWhole};
+ghost use Rattle.mr_certform.specs.Flat.{told_by, nothing_told};
 ghost use Rattle.mr_certform.specs.Reading.{IsReadFault, IsHalted};
 
 use crate::certificate::{Certificate, CertificateColumns};
@@ -59,14 +59,6 @@ fn told_values(alloc: Global, bytes: &[u8]) -> Result<CertificateColumns, ReadFa
     }
 }
 
-/// The certificate whose values these are.
-fn of_values(flat: CertificateColumns) -> Certificate
-    requires { IsWhole flat }
-    ensures { result ≡ contents_of flat }
-{
-    Certificate { flat }
-}
-
 /// The certificate that the bytes spell; otherwise the place after the last item that stands. Memory is taken only
 /// for what was read.
 pub fn read(alloc: Global, bytes: &[u8]) -> Result<Certificate, ReadFault>
@@ -74,5 +66,5 @@ pub fn read(alloc: Global, bytes: &[u8]) -> Result<Certificate, ReadFault>
     ensures fault { IfErr result (λ e. IsReadFault bytes.now e) }
 {
     let flat = told_values(alloc, bytes)?;
-    Ok(of_values(flat))
+    Ok(Certificate { flat })
 }

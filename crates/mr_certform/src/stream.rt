@@ -1,5 +1,5 @@
 //! A walk over the items of a reader's bytes, front to back. Its buffer is all the memory that it takes.
-ghost use Rattle.std.specs.Prelude.{◌≡◌, ◌⊎◌, ℕ, ◌≤◌, ◌<◌, ◌+◌, ◌-◌, ◌^◌, [], List, Some, None, IfOk, OnOk, IfErr, IfSome, OnErr, MatchResult, true, length};
+ghost use Rattle.std.specs.Prelude.{◌≡◌, ◌⊎◌, ℕ, ◌≤◌, ◌<◌, ◌+◌, ◌-◌, ◌^◌, List, Some, None, IfOk, OnOk, IfSome, MatchResult, true, length};
 ghost use Rattle.mr_store.specs.Devices.{Counts, FailsOnly};
 ghost use Rattle.mr_certform.specs.declared.item.Item.{Item as Read};
 ghost use Rattle.mr_certform.specs.declared.grammar_state.GrammarState.TheVariants.{AtMagic};
@@ -9,10 +9,9 @@ ghost use Rattle.mr_certform.specs.Streaming.{stream, MayCome, IsToCome, version
 
 use crate::front::step_of;
 use crate::grammar_state::GrammarState;
-use crate::held::Held;
 use crate::item::Item;
 use crate::version::{Version, version_of};
-use mr_store::{CountedRead, Device};
+use mr_store::{CountedRead, Device, ReadBuffer};
 use std::alloc::{AllocError, Global};
 use thiserror::Error;
 
@@ -45,7 +44,7 @@ const LONGEST: usize = 15;
 #[derive(Drop)]
 pub struct StreamWalker<R: CountedRead + Drop> {
     reader: R,
-    held: Held,
+    held: ReadBuffer,
     /// That of the bytes, once their magic was told.
     version: Version,
     place: GrammarState,
@@ -63,7 +62,7 @@ impl<R: CountedRead + Drop> StreamWalker<R> {
         ensures fault { IfOk result (λ w. w.fault ≡ None) }
         ensures reader { IfOk result (λ w. w.reader ≡ reader) }
     {
-        let held = Held::new(alloc)?;
+        let held = ReadBuffer::new(alloc)?;
         Ok(StreamWalker {
             reader,
             held,

@@ -3,7 +3,7 @@ ghost use Rattle.std.specs.Prelude.{◌≡◌, ◌≤◌, ◌↔◌, IsTrue, Mat
 ghost use Rattle.std.specs.List.{AllByRecursion};
 ghost use Rattle.mr_certform.specs.Flat.{total, chunks, contents_of, IsWhole};
 ghost use Rattle.mr_certform.specs.Places.{first_name};
-ghost use Rattle.mr_certform.specs.Spelling.{version_of};
+ghost use Rattle.mr_certform.specs.Spelling.{magic, version_of};
 ghost use Rattle.mr_certform.specs.Value.{CanRow, CanSpell};
 
 use crate::certificate::{Certificate, CertificateColumns};
@@ -22,6 +22,16 @@ pub enum Version {
 }
 
 impl Version {
+    /// What a certificate in this version begins with.
+    pub(crate) fn magic(self) -> [u8; 8]
+        ensures { result ≡ magic self }
+    {
+        match self {
+            Version::V1 => *b"MRCERT1\n",
+            Version::V2 => *b"MRCERT2\n",
+        }
+    }
+
     /// Whether the version can spell the groups that these counts cut the names into, which are enough for them. Version 2
     /// spells no name that is less than the one before it in its group.
     pub fn can_spell(self, counts: &[u32], names: &[Name]) -> bool
@@ -35,9 +45,6 @@ impl Version {
     }
 }
 
-/// What bytes in version 2 begin with.
-const MAGIC_2: [u8; 8] = *b"MRCERT2\n";
-
 /// The version of bytes, by their magic; version 1 where they begin with none.
 pub(crate) fn version_of(bytes: &[u8]) -> Version
     ensures { result ≡ version_of bytes.now }
@@ -45,7 +52,8 @@ pub(crate) fn version_of(bytes: &[u8]) -> Version
     if bytes.len() < 8 {
         return Version::V1;
     }
-    if bytes[..8] == MAGIC_2[..] {
+    let magic = Version::V2.magic();
+    if bytes[..8] == magic[..] {
         Version::V2
     } else {
         Version::V1
@@ -95,7 +103,7 @@ impl Certificate {
     pub fn in_version(&self, version: Version) -> Option<VersionedCertificate<'_>>
         ensures { MatchOption result (AllByRecursion (CanSpell version) self.now.groups → ⊥) (λ s. s ≡ record { version = version; certificate = self.now }) }
     {
-        if !can_spell(version, &self.flat) {
+        if !version.can_spell(&self.flat.groups.entry_counts, &self.flat.groups.names) {
             return None;
         }
         Some(VersionedCertificate {
@@ -103,14 +111,6 @@ impl Certificate {
             version,
         })
     }
-}
-
-/// Whether the version can spell the groups of these values.
-fn can_spell(version: Version, flat: &CertificateColumns) -> bool
-    requires { IsWhole flat.now }
-    ensures { IsTrue result ↔ CanSpell version (chunks flat.now.entry_counts flat.now.names) }
-{
-    version.can_spell(&flat.entry_counts, &flat.names)
 }
 
 /// Whether in none of the groups of these counts a name is less than the one before it.

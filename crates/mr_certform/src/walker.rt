@@ -1,7 +1,6 @@
 //! A walk over the items of bytes, front to back. It takes no memory, and each item costs a look at its own bytes.
 ghost use Rattle.std.specs.Prelude.{◌≡◌, ◌≤◌, ◌-◌, ◌+◌, ◌∷◌, [], Some, None, MatchResult, length, ◌*◌, drop};
-ghost use Rattle.mr_certform.specs.Places.{onward};
-ghost use Rattle.mr_certform.specs.Spelling.{standing, items_from, items_of, stop, left_behind};
+ghost use Rattle.mr_certform.specs.Spelling.{items_from, items_of, stop, left_behind};
 ghost use Rattle.mr_certform.specs.declared.grammar_state.GrammarState.TheVariants.{AtEntry};
 ghost use Rattle.mr_certform.specs.declared.version.Version.TheVariants.{V2};
 ghost use Rattle.mr_certform.specs.Rows.{entries_ahead, behind_entries, items_size};
@@ -85,16 +84,15 @@ impl<'a> Walker<'a> {
         }
     }
 
-    /// The item that stands here, seen by the rest of the bytes.
+    /// The next of the items, the last being `End`; asked again after `End` it gives `End`. Malformed where no item
+    /// of the grammar stands, and the same answer from then on.
     #[inline]
-    fn step(&mut self) -> Result<Item, Malformed>
+    pub fn next(&mut self) -> Result<Item, Malformed>
         ensures item { MatchResult result
-            (λ i. (standing self.old.version self.old.place self.old.rest.now ≡ Some (record { item = i; rest = self.new.rest.now }))
-            × (self.new.place ≡ onward self.old.place i))
-            (λ e. (standing self.old.version self.old.place self.old.rest.now ≡ None) × (self.new.place ≡ self.old.place)
-            × (self.new.rest.now ≡ self.old.rest.now) × (e.at ≡ self.old.whole - length self.old.rest.now)) }
-        ensures same { self.new.whole ≡ self.old.whole }
-        ensures version { self.new.version ≡ self.old.version }
+            (λ i. items_left self.old ≡ i ∷ left_behind i (items_left self.new))
+            (λ e. (items_left self.old ≡ []) × (items_left self.new ≡ []) × (e.at ≡ halt self.old)) }
+        ensures end { result ≡ Ok Item.End → items_left self.new ≡ items_left self.old }
+        ensures stop { halt self.new ≡ halt self.old }
     {
         match step_of(self.version, self.place, self.rest) {
             None => Err(Malformed {
@@ -108,19 +106,6 @@ impl<'a> Walker<'a> {
         }
     }
 
-    /// The next of the items, the last being `End`; asked again after `End` it gives `End`. Malformed where no item
-    /// of the grammar stands, and the same answer from then on.
-    #[inline]
-    pub fn next(&mut self) -> Result<Item, Malformed>
-        ensures item { MatchResult result
-            (λ i. items_left self.old ≡ i ∷ left_behind i (items_left self.new))
-            (λ e. (items_left self.old ≡ []) × (items_left self.new ≡ []) × (e.at ≡ halt self.old)) }
-        ensures end { result ≡ Ok Item.End → items_left self.new ≡ items_left self.old }
-        ensures stop { halt self.new ≡ halt self.old }
-    {
-        self.step()
-    }
-
     /// Passes over the entries that stand next in their group: how many these are. It stands then where so many calls of
     /// `next` would have left it. In version 1 no entry is looked at.
     pub fn skip_entries(&mut self) -> u64
@@ -128,64 +113,39 @@ impl<'a> Walker<'a> {
         ensures items { items_left self.new ≡ behind_entries (items_left self.old) }
         ensures stop { halt self.new ≡ halt self.old }
     {
+        let GrammarState::AtEntry {
+            parts,
+            groups,
+            more,
+            before,
+        } = self.place
+        else {
+            return 0;
+        };
         match self.version {
-            Version::V1 => self.pass_whole_entries(),
-            Version::V2 => self.pass_short_entries(),
+            Version::V1 => {
+                let held = self.rest.len() as u64 / 12;
+                if held > u64::from(more) {
+                    let awaited = u64::from(more) + 1;
+                    self.rest = behind_row(self.rest, awaited);
+                    self.place = groups_to_come(parts, groups);
+                    return awaited;
+                }
+                self.rest = behind_row(self.rest, held);
+                self.place = GrammarState::AtEntry {
+                    parts,
+                    groups,
+                    more: more - held as u32,
+                    before,
+                };
+                held
+            }
+            Version::V2 => {
+                let (passed, rest, place) = behind_names(self.rest, parts, groups, more, before);
+                self.rest = rest;
+                self.place = place;
+                passed
+            }
         }
-    }
-
-    /// Passes over the entries that stand next, name by name.
-    fn pass_short_entries(&mut self) -> u64
-        requires { self.old.version ≡ Version.V2 }
-        ensures count { result ≡ entries_ahead (items_left self.old) }
-        ensures items { items_left self.new ≡ behind_entries (items_left self.old) }
-        ensures stop { halt self.new ≡ halt self.old }
-    {
-        let GrammarState::AtEntry {
-            parts,
-            groups,
-            more,
-            before,
-        } = self.place
-        else {
-            return 0;
-        };
-        let (passed, rest, place) = behind_names(self.rest, parts, groups, more, before);
-        self.rest = rest;
-        self.place = place;
-        passed
-    }
-
-    /// Passes over the entries that stand next, each of twelve bytes, without a look at any of them.
-    fn pass_whole_entries(&mut self) -> u64
-        requires { self.old.version ≡ Version.V1 }
-        ensures count { result ≡ entries_ahead (items_left self.old) }
-        ensures items { items_left self.new ≡ behind_entries (items_left self.old) }
-        ensures stop { halt self.new ≡ halt self.old }
-    {
-        let GrammarState::AtEntry {
-            parts,
-            groups,
-            more,
-            before,
-        } = self.place
-        else {
-            return 0;
-        };
-        let held = self.rest.len() as u64 / 12;
-        if held > u64::from(more) {
-            let awaited = u64::from(more) + 1;
-            self.rest = behind_row(self.rest, awaited);
-            self.place = groups_to_come(parts, groups);
-            return awaited;
-        }
-        self.rest = behind_row(self.rest, held);
-        self.place = GrammarState::AtEntry {
-            parts,
-            groups,
-            more: more - held as u32,
-            before,
-        };
-        held
     }
 }

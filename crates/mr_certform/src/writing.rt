@@ -1,18 +1,22 @@
 //! A certificate spelled, number by number, into whatever takes bytes: a list, or a writer behind a buffer.
-ghost use Rattle.std.specs.Prelude.{◌≡◌, ◌↔◌, ◌≤◌, ◌<◌, ◌^◌, ◌++◌, OnOk, IfOk, length, drop};
+ghost use Rattle.std.specs.Prelude.{◌≡◌, ◌↔◌, ◌≤◌, ◌<◌, ◌^◌, ◌++◌, [], false, OnOk, OnErr};
+ghost use Rattle.std.specs.Prelude.{IfOk, length, drop};
 ghost use Rattle.std.specs.List.{flat_map, AllByRecursion};
+ghost use Rattle.mr_store.specs.Devices.{FailsOnly, TookSome, with_bytes};
 ghost use Rattle.mr_certform.specs.Places.{first_name};
 ghost use Rattle.mr_certform.specs.Spelling.{u32 as four, u64 as eight, magic, name_bytes, skip_bytes};
 ghost use Rattle.mr_certform.specs.Value.{NameFits, SkipFits, CanFollow, CanRow, CanSpell, SpellsIn};
 ghost use Rattle.mr_certform.specs.Flat.{total, chunks, contents_of, IsWhole, HasNumbers, HasNames};
-ghost use Rattle.mr_certform.specs.Pieces.{names_bytes, group_bytes, part_bytes, job_bytes, all_bytes};
+ghost use Rattle.mr_certform.specs.Pieces.{names_bytes, group_bytes, part_bytes, job_bytes};
+ghost use Rattle.mr_certform.specs.Pieces.{all_bytes, versioned_bytes};
 
 use crate::certificate::{Certificate, CertificateColumns};
 use crate::short::short_name;
-use crate::sink::Sink;
-use crate::version::Version;
+use crate::version::{Version, VersionedCertificate};
+use crate::write_buffer::{Sink, WriteBuffer};
 use byteorder::{BigEndian, ByteOrder};
 use mr_bytes::{Name, RecordName};
+use mr_store::{CountedWrite, Device, Encode};
 use std::alloc::{AllocError, Global};
 use thiserror::Error;
 
@@ -137,34 +141,6 @@ fn put_parts<O: Sink>(
     Ok(())
 }
 
-fn put_lengths<O: Sink>(out: &mut O, lengths: &[u64]) -> Result<(), O::Fault>
-    ensures { OnOk result (O.takes out.old out.new (flat_map eight lengths.now)) }
-{
-    for length in lengths {
-        put_long(out, *length)?;
-    }
-    Ok(())
-}
-
-fn put_skips<O: Sink>(out: &mut O, skips: &[RecordName]) -> Result<(), O::Fault>
-    ensures { OnOk result (O.takes out.old out.new (flat_map skip_bytes skips.now) × AllByRecursion SkipFits skips.now) }
-{
-    for skip in skips {
-        out.put(&spelled_skip(*skip))?;
-    }
-    Ok(())
-}
-
-/// What a certificate of the version begins with.
-fn put_magic<O: Sink>(out: &mut O, version: Version) -> Result<(), O::Fault>
-    ensures { OnOk result (O.takes out.old out.new (magic version)) }
-{
-    match version {
-        Version::V1 => out.put(b"MRCERT1\n"),
-        Version::V2 => out.put(b"MRCERT2\n"),
-    }
-}
-
 /// The magic and the job, up to the bytes of a split.
 pub(crate) fn put_job<O: Sink>(
     out: &mut O,
@@ -174,13 +150,13 @@ pub(crate) fn put_job<O: Sink>(
     requires { length flat.now.literal < 2 ^ 32 }
     ensures { OnOk result (O.takes out.old out.new (job_bytes version (contents_of flat.now))) }
 {
-    put_magic(out, version)?;
-    put_number(out, flat.job)?;
-    put_number(out, flat.flags)?;
-    put_number(out, flat.literal.len() as u32)?;
-    out.put(&flat.literal)?;
+    out.put(&version.magic())?;
+    put_number(out, flat.header.job)?;
+    put_number(out, flat.header.flags)?;
+    put_number(out, flat.header.literal.len() as u32)?;
+    out.put(&flat.header.literal)?;
     put_number(out, flat.parts)?;
-    put_number(out, flat.split_size)
+    put_number(out, flat.header.split_size)
 }
 
 /// The number of files, then the length of each.
@@ -189,7 +165,10 @@ pub(crate) fn put_input<O: Sink>(out: &mut O, lengths: &[u64]) -> Result<(), O::
     ensures { OnOk result (O.takes out.old out.new (four (length lengths.now) ++ flat_map eight lengths.now)) }
 {
     put_number(out, lengths.len() as u32)?;
-    put_lengths(out, lengths)
+    for length in lengths {
+        put_long(out, *length)?;
+    }
+    Ok(())
 }
 
 /// The number of left-out records, then each of them.
@@ -198,22 +177,21 @@ pub(crate) fn put_left_out<O: Sink>(out: &mut O, skips: &[RecordName]) -> Result
     ensures { OnOk result (O.takes out.old out.new (four (length skips.now) ++ flat_map skip_bytes skips.now) × AllByRecursion SkipFits skips.now) }
 {
     put_number(out, skips.len() as u32)?;
-    put_skips(out, skips)
+    for skip in skips {
+        out.put(&spelled_skip(*skip))?;
+    }
+    Ok(())
 }
 
 /// How many bytes the spelling has; no more than can be counted.
 pub(crate) fn size_of(flat: &CertificateColumns) -> usize {
-    let names = flat.names.len().saturating_mul(12);
-    let counts = (flat
-        .entry_counts
-        .len()
-        .saturating_add(flat.group_counts.len()))
-    .saturating_mul(4);
-    let lists = (flat.lengths.len().saturating_add(flat.skips.len())).saturating_mul(8);
-    names
-        .saturating_add(counts)
-        .saturating_add(lists)
-        .saturating_add(flat.literal.len())
+    let groups = &flat.groups;
+    let counts = (groups.entry_counts.len()).saturating_add(groups.group_counts.len());
+    let lists = (flat.header.lengths.len()).saturating_add(flat.header.skips.len());
+    (groups.names.len().saturating_mul(12))
+        .saturating_add(counts.saturating_mul(4))
+        .saturating_add(lists.saturating_mul(8))
+        .saturating_add(flat.header.literal.len())
         .saturating_add(36)
 }
 
@@ -228,34 +206,15 @@ pub(crate) fn put_values<O: Sink>(
     ensures { OnOk result (O.takes out.old out.new (all_bytes version (contents_of flat.now)) × HasNames flat.now) }
 {
     put_job(out, version, flat)?;
-    put_input(out, &flat.lengths)?;
-    put_left_out(out, &flat.skips)?;
+    put_input(out, &flat.header.lengths)?;
+    put_left_out(out, &flat.header.skips)?;
     put_parts(
         out,
         version,
-        &flat.group_counts,
-        &flat.entry_counts,
-        &flat.names,
+        &flat.groups.group_counts,
+        &flat.groups.entry_counts,
+        &flat.groups.names,
     )
-}
-
-/// The spelling of these values in one list. In version 1 it is made at its whole size at once; in version 2 it grows.
-fn spelled_values(
-    alloc: Global,
-    version: Version,
-    flat: &CertificateColumns,
-) -> Result<Vec<u8>, AllocError>
-    requires whole { IsWhole flat.now }
-    requires can { CanSpell version (chunks flat.now.entry_counts flat.now.names) }
-    ensures { IfOk result (λ v. (v.items ≡ all_bytes version (contents_of flat.now)) × HasNames flat.now) }
-{
-    let room = match version {
-        Version::V1 => size_of(flat),
-        Version::V2 => 0,
-    };
-    let mut out = Vec::with_capacity(alloc, room)?;
-    put_values(&mut out, version, flat)?;
-    Ok(out)
 }
 
 fn bytes_fit(bytes: &[u8])
@@ -280,13 +239,44 @@ fn lengths_fit(lengths: &[u64])
 pub(crate) fn numbers_fit(flat: &CertificateColumns)
     ensures { HasNumbers flat.now }
 {
-    let _job = flat.job;
-    let _flags = flat.flags;
-    let _split_size = flat.split_size;
-    bytes_fit(&flat.literal);
-    lengths_fit(&flat.lengths);
-    counts_fit(&flat.group_counts);
-    counts_fit(&flat.entry_counts);
+    let _job = flat.header.job;
+    let _flags = flat.header.flags;
+    let _split_size = flat.header.split_size;
+    bytes_fit(&flat.header.literal);
+    lengths_fit(&flat.header.lengths);
+    counts_fit(&flat.groups.group_counts);
+    counts_fit(&flat.groups.entry_counts);
+}
+
+fn name_fits(name: Name)
+    ensures { NameFits name }
+{
+    let _split = name.split;
+    let _rec = name.rec;
+    let _place = name.place;
+}
+
+fn skip_fits(skip: RecordName)
+    ensures { SkipFits skip }
+{
+    let _split = skip.split;
+    let _rec = skip.rec;
+}
+
+pub(crate) fn names_fit(names: &[Name])
+    ensures { AllByRecursion NameFits names.now }
+{
+    for name in names {
+        name_fits(*name);
+    }
+}
+
+pub(crate) fn skips_fit(skips: &[RecordName])
+    ensures { AllByRecursion SkipFits skips.now }
+{
+    for skip in skips {
+        skip_fits(*skip);
+    }
 }
 
 /// Why a certificate isn't spelled.
@@ -309,7 +299,8 @@ impl From<AllocError> for WriteFault {
     }
 }
 
-/// The bytes that spell the certificate in this version.
+/// The bytes that spell the certificate in this version. In version 1 their list gets its whole room at
+/// once; in version 2 it grows.
 pub fn write(
     alloc: Global,
     certificate: &Certificate,
@@ -323,5 +314,42 @@ pub fn write(
     };
     let flat = spelled.flat();
     numbers_fit(flat);
-    Ok(spelled_values(alloc, version, flat)?)
+    let room = match version {
+        Version::V1 => size_of(flat),
+        Version::V2 => 0,
+    };
+    let mut out = Vec::with_capacity(alloc, room)?;
+    put_values(&mut out, version, flat)?;
+    Ok(out)
+}
+
+/// Writes all the bytes that spell these values, by a buffer that holds none.
+fn write_values<W: CountedWrite>(
+    buffered: &mut WriteBuffer<'_, W>,
+    version: Version,
+    flat: &CertificateColumns,
+) -> Result<(), Device>
+    requires whole { IsWhole flat.now }
+    requires can { CanSpell version (chunks flat.now.entry_counts flat.now.names) }
+    requires empty { buffered.old.piece ≡ [] }
+    requires begins { buffered.old.failed ≡ false }
+    ensures same_reference { buffered.new.writer.ghost_name ≡ buffered.old.writer.ghost_name }
+    ensures whole { OnOk result (W.seen buffered.new.writer.now ≡ with_bytes (W.seen buffered.old.writer.now) (all_bytes version (contents_of flat.now))) }
+    ensures beginning { OnErr result (TookSome (W.seen buffered.old.writer.now) (W.seen buffered.new.writer.now) (all_bytes version (contents_of flat.now))) }
+    ensures fails { FailsOnly (W.can_fail buffered.old.writer.now) (W.lacked buffered.new.writer.now) result }
+    ensures later { W.can_fail buffered.new.writer.now → W.can_fail buffered.old.writer.now }
+{
+    match put_values(buffered, version, flat) {
+        Ok(()) => buffered.finish(),
+        Err(never) => match never {},
+    }
+}
+
+impl<'a> Encode for VersionedCertificate<'a> {
+    ghost text = { versioned_bytes };
+
+    fn encode_to<W: CountedWrite>(&self, writer: &mut W) -> Result<(), Device> {
+        let mut buffered = WriteBuffer::new(writer);
+        write_values(&mut buffered, self.version(), self.flat())
+    }
 }

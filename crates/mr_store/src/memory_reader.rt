@@ -1,12 +1,30 @@
 //! A reader over bytes in memory, for tests of what reads.
-ghost use Rattle.std.specs.Prelude.{◌≡◌, ℕ, ◌≤◌, List, Option, Some, IsSome, IfSome, IfOk, IsErr, OnErr, length, take, drop, min, true, false};
+ghost use Rattle.std.specs.Prelude.{◌≡◌, ◌≤◌, Option, Some, IsSome, IfSome, IfOk, IsErr, OnErr, length, take, drop, min, true, false};
 ghost use Rattle.std.specs.Io.KnownBytes.{ReadConsumes};
 ghost use Rattle.mr_store.specs.Devices.{AreBytes, Counts, FailsOnly};
 ghost use Rattle.mr_store.specs.Memory.{fails_now as does_fail, behind_call as what_is_behind};
 
 use crate::device::{CountedRead, Device};
-use crate::failing::{behind_call, fails_now};
 use std::marker::Model;
+
+/// Whether the call made now fails, where `failing` says at which of the calls to come one fails, from 1.
+pub(crate) fn fails_now(failing: Option<u64>) -> bool
+    ensures { result ≡ does_fail failing }
+{
+    failing == Some(1)
+}
+
+/// The same, for the calls behind this one.
+pub(crate) fn behind_call(failing: Option<u64>) -> Option<u64>
+    requires { IfSome failing (λ n. 1 ≤ n) }
+    ensures behind { result ≡ what_is_behind failing }
+    ensures later { IfSome result (λ n. 1 ≤ n) }
+{
+    match failing {
+        Some(n) if n > 1 => Some(n - 1),
+        _ => None,
+    }
+}
 
 /// Puts as many of the bytes into the front of the buffer as it holds, and at most `most`.
 fn give(buffer: &mut [u8], bytes: &[u8], most: usize) -> usize

@@ -1,11 +1,11 @@
 //! A writer into memory, for tests of what writes.
-ghost use Rattle.std.specs.Prelude.{◌≡◌, ◌↔◌, ◌⊎◌, ℕ, ◌≤◌, ◌<◌, [], Option, Some, IsSome, IfSome, IfOk, OnOk, OnErr, IsErr, MatchResult, length};
+ghost use Rattle.std.specs.Prelude.{◌≡◌, ◌↔◌, ◌≤◌, ◌<◌, [], Option, IsSome, IfSome, IfOk, IsErr, MatchResult, length};
 ghost use Rattle.std.specs.Prelude.{take, min, true, false};
 ghost use Rattle.mr_store.specs.Devices.{FailsOnly, with_bytes, flushed, once_failed};
 ghost use Rattle.mr_store.specs.Memory.{fails_now as does_fail, behind_call as what_is_behind, seen_of};
 
 use crate::device::{CountedWrite, Device};
-use crate::failing::{behind_call, fails_now};
+use crate::memory_reader::{behind_call, fails_now};
 use std::alloc::Global;
 use std::marker::Model;
 

@@ -15,8 +15,8 @@ returns-in_err-flat-clause-fault c =
     let p = err_from_is_err_and c.from_residual.result c.from_residual.ensures.1 in
     rw (p.1, p.2) (fault_of c.args.bytes.now c.in_err-flat.field-0.0 c.in_err-flat.ensures)
 
-pub of_values-requires : goal.of_values-requires
-of_values-requires c = let h = c.in_ok-flat.ensures in (told_is_whole c.args.bytes.now c.in_ok-flat.flat (λ i. let b = c.type_inv.bytes i in omega arith) h.0 h.1).0
+pub invariant_of-result : goal.invariant_of-result
+invariant_of-result c = let h = c.in_ok-flat.ensures in (told_is_whole c.args.bytes.now c.in_ok-flat.flat (λ i. let b = c.type_inv.bytes i in omega arith) h.0 h.1).0
 
 pub returns-clause-spelled : goal.returns-clause-spelled
-returns-clause-spelled c = let h = c.in_ok-flat.ensures in rw c.of_values.ensures (told_is_whole c.args.bytes.now c.in_ok-flat.flat (λ i. let b = c.type_inv.bytes i in omega arith) h.0 h.1).1
+returns-clause-spelled c = let h = c.in_ok-flat.ensures in (told_is_whole c.args.bytes.now c.in_ok-flat.flat (λ i. let b = c.type_inv.bytes i in omega arith) h.0 h.1).1

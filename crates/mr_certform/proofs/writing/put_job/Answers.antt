@@ -15,7 +15,7 @@ all_joined takes joined o o1 o2 o3 o4 o5 o6 o7 a b d f f2 e h n m q q2 p1 p2 p3 
 
 pub returns : goal.returns
 returns g c =
-    let long : c.len.result ≡ length c.flat.inside.literal.items = omega (arith, c.flat.inside.literal.ok.0, c.len.ensures) in
-    rw (← c.flat.view_is) (on_ok_weaker c.put_number-5.result (all_joined g.O.Sink.takes g.met.O.Sink.joined c.args.out.now c.put_magic.new.out c.put_number.new.out c.put_number-2.new.out c.put_number-3.new.out c.put.new.self c.put_number-4.new.out c.put_number-5.new.out
-    (magic c.args.version) (u32 c.flat.inside.job) (u32 c.flat.inside.flags) c.deref.result.now c.flat.inside.literal.items (u32 c.flat.inside.parts) (u32 c.flat.inside.split_size) c.len.result (length c.flat.inside.literal.items)
-    long c.deref.ensures.value c.in_ok-put_magic.ensures c.in_ok-put_number.ensures c.in_ok-put_number-2.ensures c.in_ok-put_number-3.ensures c.in_ok-put.ensures c.in_ok-put_number-4.ensures) c.put_number-5.ensures)
+    let long : c.len.result ≡ length c.flat.inside.header.literal.items = omega (arith, c.flat.inside.header.literal.ok.0, c.len.ensures) in
+    rw (← c.flat.view_is) (on_ok_weaker c.put_number-5.result (all_joined g.O.Sink.takes g.met.O.Sink.joined c.args.out.now c.put.new.self c.put_number.new.out c.put_number-2.new.out c.put_number-3.new.out c.put-2.new.self c.put_number-4.new.out c.put_number-5.new.out
+    (magic c.args.version) (u32 c.flat.inside.header.job) (u32 c.flat.inside.header.flags) c.deref.result.now c.flat.inside.header.literal.items (u32 c.flat.inside.parts) (u32 c.flat.inside.header.split_size) c.len.result (length c.flat.inside.header.literal.items)
+    long c.deref.ensures.value (subst (g.O.Sink.takes c.args.out.now c.put.new.self) c.magic.ensures c.in_ok-put.ensures) c.in_ok-put_number.ensures c.in_ok-put_number-2.ensures c.in_ok-put_number-3.ensures c.in_ok-put-2.ensures c.in_ok-put_number-4.ensures) c.put_number-5.ensures)

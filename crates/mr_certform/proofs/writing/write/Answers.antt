@@ -1,6 +1,7 @@
-use Rattle.std.proofs.Common.{ap, ◌∙◌, subst}
+use Rattle.std.proofs.Common.{◌≡◌, ap, ◌∙◌, subst, rules}
 use Rattle.mr_certform.specs.Value.{Versioned, CanSpell, SpellsIn}
-use Rattle.mr_certform.specs.Flat.{Told, chunks}
+use Rattle.mr_certform.specs.Flat.{Told, chunks, contents_of}
+use Rattle.mr_certform.specs.Pieces.{all_bytes}
 use Rattle.mr_certform.proofs.Spelled.{whole_spells}
 use Rattle.mr_certform.proofs.Versions.{parts_can}
 use Rattle.mr_certform.proofs.writing.write.Goals as goal
@@ -12,5 +13,6 @@ returns-clause-spelled c =
     let e = c.flat-flat.ensures in
     let is = c.in-Some.ensures in
     let can = subst (λ (s : Versioned). CanSpell s.version (chunks c.flat-flat.result.now.entry_counts c.flat-flat.result.now.names)) is e.can in
-    subst (SpellsIn c.args.version c.in_ok-spelled_values.field-0.items) (e.is ∙ ap (λ (s : Versioned). s.certificate) is)
-    (whole_spells v c.in_ok-spelled_values.field-0.items t e.whole c.numbers_fit.ensures (parts_can v t can) c.in_ok-spelled_values.ensures)
+    let text : c.put_values.new.out.items ≡ all_bytes c.args.version (contents_of c.flat-flat.result.now) = search rules in
+    subst (SpellsIn c.args.version c.put_values.new.out.items) (e.is ∙ ap (λ (s : Versioned). s.certificate) is)
+    (whole_spells v c.put_values.new.out.items t e.whole c.numbers_fit.ensures (parts_can v t can) (text, c.in_ok-put_values.ensures.1))

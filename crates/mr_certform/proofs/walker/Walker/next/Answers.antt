@@ -1,21 +1,32 @@
-use Rattle.std.proofs.Common.{subst, length, ◌≤◌}
+use Rattle.std.proofs.Common.{arith}
 use Rattle.mr_certform.specs.Walking.{items_left, halt}
-use Rattle.mr_certform.proofs.Fuel.{stepped_items, stepped_end, stepped_halt}
+use Rattle.mr_certform.proofs.Fuel.{items_none, item_step, end_step, taken_none, taken_step}
 use Rattle.mr_certform.proofs.walker.Walker.next.Goals as goal
 
-pub returns-clause-item : goal.returns-clause-item
+pub returns-in-None-clause-item : goal.returns-in-None-clause-item
 unfolding items_left halt
-returns-clause-item c =
+returns-in-None-clause-item c =
     let v = c.args.self.now in
-    rw c.step.ensures.version (stepped_items v.version v.place v.rest.now v.whole c.step.new.self.place c.step.new.self.rest.now c.step.result c.step.ensures.item)
+    let none = items_none v.version v.place v.rest.now c.in-None.ensures.read in
+    (none, none, omega (arith, taken_none v.version v.place v.rest.now c.in-None.ensures.read))
 
-pub returns-clause-stop : goal.returns-clause-stop
-unfolding halt items_left
-returns-clause-stop c =
+pub returns-in-Some-clause-item : goal.returns-in-Some-clause-item
+unfolding items_left halt
+returns-in-Some-clause-item c =
     let v = c.args.self.now in
-    let w = c.step.new.self in
-    rw (c.step.ensures.same, c.step.ensures.version) (stepped_halt v.version v.place v.rest.now v.whole w.place w.rest.now c.step.result v.in_range (subst (λ n. length w.rest.now ≤ n) c.step.ensures.same w.in_range) c.step.ensures.item)
+    let n = c.in-Some in
+    item_step v.version v.place n.place v.rest.now n.rest.now n.item n.ensures.read n.ensures.place
 
-pub returns-clause-end : goal.returns-clause-end
-unfolding items_left
-returns-clause-end c = let v = c.args.self.now in rw c.step.ensures.version (stepped_end v.version v.place v.rest.now v.whole c.step.new.self.place c.step.new.self.rest.now c.step.result c.step.ensures.item)
+pub returns-in-Some-clause-end : goal.returns-in-Some-clause-end
+unfolding items_left halt
+returns-in-Some-clause-end c = λ e.
+    let v = c.args.self.now in
+    let n = c.in-Some in
+    end_step v.version v.place n.place v.rest.now n.rest.now n.item n.ensures.read n.ensures.place (cc e)
+
+pub returns-in-Some-clause-stop : goal.returns-in-Some-clause-stop
+unfolding items_left halt
+returns-in-Some-clause-stop c =
+    let v = c.args.self.now in
+    let n = c.in-Some in
+    omega (arith, v.in_range, n.ensures.shorter, taken_step v.version v.place n.place v.rest.now n.rest.now n.item n.ensures.read n.ensures.place)

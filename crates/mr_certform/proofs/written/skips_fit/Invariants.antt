@@ -1,7 +1,0 @@
-use Rattle.std.proofs.Common.{drop}
-use Rattle.std.specs.List.{AllByRecursion}
-use Rattle.mr_certform.specs.Value.{SkipFits}
-use Rattle.mr_certform.proofs.written.skips_fit.Given as goal
-
-abbrev pub invariant-loop-skip : goal.invariant-loop-skip
-invariant-loop-skip l = AllByRecursion SkipFits (drop l.skip-index l.skips) → AllByRecursion SkipFits l.skips
