@@ -24,7 +24,7 @@ use crate::task_flags::TaskFlags;
 use mr_book::{Book, History, Seat};
 use mr_bytes::{Gate, OpenGate, Phase, Progress, RecordName, Unwatched};
 use mr_certform::Version;
-use mr_check::{MappedInput, No, Yes, check_mapped_watched, is_same_fault, map_input};
+use mr_check::{Case, JudgeOptions, MappedInput, No, Yes, is_same_fault, judge, map_input};
 use mr_core::{End, JobFault, Shape};
 use mr_input::Input;
 use mr_jobs::Request;
@@ -198,8 +198,13 @@ impl<'a, W: Progress, R: Threads + Sync> RunJudge<'a, W, R> {
             requires workers { (1 ≤ workers) × (workers ≤ 64) }
             ensures { IfOk result (IsMappedFor request.entry.now plan.entry.now.files) }
         {
-            let progress = JudgesProgress { watch };
-            map_input(rt, alloc, request, plan, workers, &OpenGate, &progress)
+            let options = JudgeOptions {
+                threads: workers,
+                gate: &OpenGate,
+                progress: &JudgesProgress { watch },
+                mapped: None,
+            };
+            map_input(rt, alloc, request, plan, &options)
         };
         let assembling = move || -> Result<(Vec<Vec<u8>>, Vec<u8>), AllocError>
             requires ends { book.now.state.end ≡ Some Ended.Done }
@@ -232,18 +237,20 @@ impl<'a, W: Progress, R: Threads + Sync> RunJudge<'a, W, R> {
         ensures no { IfErr result (λ e. (e ≡ No.OutOfMemory)
             ⊎ (verdict_of self.now.spec.request.now self.now.spec.input.now (contents outputs.now) certificate.now ≡ Err e)) }
     {
-        check_mapped_watched(
-            self.rt,
-            self.alloc,
-            self.spec.request,
-            self.spec.input,
-            mapped,
+        let RunSpec { request, input, .. } = self.spec;
+        let case = Case {
+            request,
+            input,
             outputs,
             certificate,
-            self.spec.shape.workers,
-            &OpenGate,
-            &JudgesProgress { watch: self.watch },
-        )
+        };
+        let options = JudgeOptions {
+            threads: self.spec.shape.workers,
+            gate: &OpenGate,
+            progress: &JudgesProgress { watch: self.watch },
+            mapped: Some(mapped),
+        };
+        judge(self.rt, self.alloc, &case, &options)
     }
 
     /// The result of a done job is assembled and judged.
