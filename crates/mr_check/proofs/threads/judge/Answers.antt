@@ -25,9 +25,9 @@ parts_told : (r : Result Yes No) (P : Yes → Type 0) (Q : No → Type 0) → Ma
 parts_told (Ok y) P Q h = (h, tt)
 parts_told (Err e) P Q h = (tt, h)
 
-pub returns-then-case-outputs-parts-clause-no : goal.returns-then-case-outputs-parts-clause-no
-returns-then-case-outputs-parts-clause-no g c =
-    inr (verdict_count c.args.case.now.request.now c.args.case.now.input.now (contents c.args.case.now.outputs.now) c.args.case.now.certificate.now (λ h. c.if-case-outputs-parts.true (let l : length (contents c.args.case.now.outputs.now) ≡ length c.args.case.now.outputs.now = length-map c.args.case.now.outputs.now (λ (f : Vec ℕ Global). f.items) in omega (arith, h, l, c.parts.ensures.same))))
+pub returns-then-case-parts-clause-no : goal.returns-then-case-parts-clause-no
+returns-then-case-parts-clause-no g c =
+    inr (verdict_count c.args.case.now.request.now c.args.case.now.input.now (contents c.args.case.now.outputs.now) c.args.case.now.certificate.now (λ h. c.if-case-parts.true (let l : length (contents c.args.case.now.outputs.now) ≡ length c.args.case.now.outputs.now = length-map c.args.case.now.outputs.now (λ (f : Vec ℕ Global). f.items) in omega (arith, h, l, c.parts.ensures.same))))
 
 pub returns-in_err-expect_header_of-clause-no : goal.returns-in_err-expect_header_of-clause-no
 returns-in_err-expect_header_of-clause-no g c =
@@ -37,7 +37,7 @@ returns-in_err-expect_header_of-clause-no g c =
     let e : No = c.in_err-expect_header_of.field-0.0 in
     let p = err_from_is_err_and c.from_residual.result c.from_residual.ensures.1 in
     let met = header_is o files bytes (halt c.walk-walker.result) (items_left c.walk-walker.result) (Err e) c.walk-walker.ensures.stop c.walk-walker.ensures.items c.in_err-expect_header_of.ensures.met in
-    rw (p.1, p.2) (inr (verdict_header o files (contents c.args.case.now.outputs.now) bytes e (as_many c.args.case.now.outputs.now c.parts.result o.parts c.if-case-outputs-parts.false c.parts.ensures.same) met))
+    rw (p.1, p.2) (inr (verdict_header o files (contents c.args.case.now.outputs.now) bytes e (as_many c.args.case.now.outputs.now c.parts.result o.parts c.if-case-parts.false c.parts.ensures.same) met))
 
 pub check_rest-requires-clause-order : goal.check_rest-requires-clause-order
 check_rest-requires-clause-order g c κs within =
@@ -63,7 +63,7 @@ returns g c =
     let outputs : List (List ℕ) = contents c.args.case.now.outputs.now in
     let ks : List Item = items_left c.expect_header_of.new.walker in
     let met = header_is o files bytes (halt c.walk-walker.result) (items_left c.walk-walker.result) (Ok ks) c.walk-walker.ensures.stop c.walk-walker.ensures.items c.in_ok-expect_header_of.ensures.met in
-    let verdict = rest_verdict o files outputs bytes ks (halt c.expect_header_of.new.walker) c.check_rest.result (as_many c.args.case.now.outputs.now c.parts.result o.parts c.if-case-outputs-parts.false c.parts.ensures.same) met (c.in_ok-expect_header_of.ensures.stop ∙ c.walk-walker.ensures.stop) c.check_rest.ensures in
+    let verdict = rest_verdict o files outputs bytes ks (halt c.expect_header_of.new.walker) c.check_rest.result (as_many c.args.case.now.outputs.now c.parts.result o.parts c.if-case-parts.false c.parts.ensures.same) met (c.in_ok-expect_header_of.ensures.stop ∙ c.walk-walker.ensures.stop) c.check_rest.ensures in
     let told = parts_told c.check_rest.result _ _ verdict in
     record {
       headline = certified o files outputs bytes c.check_rest.result c.walk-walker.ensures.bytes (omega (arith, c.split_size-size.ensures.same, c.split_size-size.ensures.within.0)) verdict;

@@ -14,9 +14,9 @@ use Rattle.mr_verdict.specs.declared.items.JudgeError.{JudgeError}
 use Rattle.mr_verdict.proofs.HeadlineLemmas.{certified}
 use Rattle.mr_judge.proofs.judge.judge_at_hand.Goals as goal
 
-pub returns-then-case-outputs-parts-clause-verdict : goal.returns-then-case-outputs-parts-clause-verdict
-returns-then-case-outputs-parts-clause-verdict g c =
-    inr (verdict_count c.args.case.now.request.now c.args.case.now.input.now (contents c.args.case.now.outputs.now) c.args.case.now.certificate.now (λ h. c.if-case-outputs-parts.true (let l : length (contents c.args.case.now.outputs.now) ≡ length c.args.case.now.outputs.now = length-map c.args.case.now.outputs.now (λ (f : Vec ℕ Global). f.items) in omega (arith, h, l, c.parts.ensures.same))))
+pub returns-then-case-parts-clause-verdict : goal.returns-then-case-parts-clause-verdict
+returns-then-case-parts-clause-verdict g c =
+    inr (verdict_count c.args.case.now.request.now c.args.case.now.input.now (contents c.args.case.now.outputs.now) c.args.case.now.certificate.now (λ h. c.if-case-parts.true (let l : length (contents c.args.case.now.outputs.now) ≡ length c.args.case.now.outputs.now = length-map c.args.case.now.outputs.now (λ (f : Vec ℕ Global). f.items) in omega (arith, h, l, c.parts.ensures.same))))
 
 pub judge_all-requires-clause-front : goal.judge_all-requires-clause-front
 judge_all-requires-clause-front g c is at e = subst (InKind AtMagic) (sym (e.0 ∙ c.walk-walker.ensures.items)) (kinds_of c.args.case.now.certificate.now)
@@ -27,7 +27,7 @@ judge_all-requires-clause-ahead g c =
 
 pub returns-in-Ok-clause-verdict : goal.returns-in-Ok-clause-verdict
 returns-in-Ok-clause-verdict g c =
-    (judged_at_hand c.args.case.now.request.now c.args.case.now.input.now (contents c.args.case.now.outputs.now) (contents c.new-outputs.result.later.now) c.new-outputs.result.rest.now c.args.case.now.certificate.now c.walk-walker.result c.args.meter.now.lookups c.judge_all.new.meter.lookups (Ok c.in-Ok.yes) c.walk-walker.ensures.bytes c.walk-walker.ensures.items c.walk-walker.ensures.stop c.new-outputs.ensures.rest (ap contents c.new-outputs.ensures.later) (as_many c.args.case.now.outputs.now c.parts.result c.args.case.now.request.now.parts c.if-case-outputs-parts.false c.parts.ensures.same) c.in-Ok.ensures.judged).0
+    (judged_at_hand c.args.case.now.request.now c.args.case.now.input.now (contents c.args.case.now.outputs.now) (contents c.new-outputs.result.later.now) c.new-outputs.result.rest.now c.args.case.now.certificate.now c.walk-walker.result c.args.meter.now.lookups c.judge_all.new.meter.lookups (Ok c.in-Ok.yes) c.walk-walker.ensures.bytes c.walk-walker.ensures.items c.walk-walker.ensures.stop c.new-outputs.ensures.rest (ap contents c.new-outputs.ensures.later) (as_many c.args.case.now.outputs.now c.parts.result c.args.case.now.request.now.parts c.if-case-parts.false c.parts.ensures.same) c.in-Ok.ensures.judged).0
 
 pub returns-in-Ok-clause-headline : goal.returns-in-Ok-clause-headline
 returns-in-Ok-clause-headline g c =
@@ -38,15 +38,15 @@ returns-in-Ok-clause-headline g c =
 
 pub returns-in-Ok-clause-bounded : goal.returns-in-Ok-clause-bounded
 returns-in-Ok-clause-bounded g c =
-    let told = judged_at_hand c.args.case.now.request.now c.args.case.now.input.now (contents c.args.case.now.outputs.now) (contents c.new-outputs.result.later.now) c.new-outputs.result.rest.now c.args.case.now.certificate.now c.walk-walker.result c.args.meter.now.lookups c.judge_all.new.meter.lookups (Ok c.in-Ok.yes) c.walk-walker.ensures.bytes c.walk-walker.ensures.items c.walk-walker.ensures.stop c.new-outputs.ensures.rest (ap contents c.new-outputs.ensures.later) (as_many c.args.case.now.outputs.now c.parts.result c.args.case.now.request.now.parts c.if-case-outputs-parts.false c.parts.ensures.same) c.in-Ok.ensures.judged in
+    let told = judged_at_hand c.args.case.now.request.now c.args.case.now.input.now (contents c.args.case.now.outputs.now) (contents c.new-outputs.result.later.now) c.new-outputs.result.rest.now c.args.case.now.certificate.now c.walk-walker.result c.args.meter.now.lookups c.judge_all.new.meter.lookups (Ok c.in-Ok.yes) c.walk-walker.ensures.bytes c.walk-walker.ensures.items c.walk-walker.ensures.stop c.new-outputs.ensures.rest (ap contents c.new-outputs.ensures.later) (as_many c.args.case.now.outputs.now c.parts.result c.args.case.now.request.now.parts c.if-case-parts.false c.parts.ensures.same) c.in-Ok.ensures.judged in
     record { lookups = told.1; mapped = c.in-Ok.ensures.mapped }
 
 pub returns-in-Err-Fault-clause-verdict : goal.returns-in-Err-Fault-clause-verdict
 returns-in-Err-Fault-clause-verdict g c =
-    let told = judged_at_hand c.args.case.now.request.now c.args.case.now.input.now (contents c.args.case.now.outputs.now) (contents c.new-outputs.result.later.now) c.new-outputs.result.rest.now c.args.case.now.certificate.now c.walk-walker.result c.args.meter.now.lookups c.judge_all.new.meter.lookups (Err c.in-Err-Fault.field-0) c.walk-walker.ensures.bytes c.walk-walker.ensures.items c.walk-walker.ensures.stop c.new-outputs.ensures.rest (ap contents c.new-outputs.ensures.later) (as_many c.args.case.now.outputs.now c.parts.result c.args.case.now.request.now.parts c.if-case-outputs-parts.false c.parts.ensures.same) c.in-Err-Fault.ensures.judged in
+    let told = judged_at_hand c.args.case.now.request.now c.args.case.now.input.now (contents c.args.case.now.outputs.now) (contents c.new-outputs.result.later.now) c.new-outputs.result.rest.now c.args.case.now.certificate.now c.walk-walker.result c.args.meter.now.lookups c.judge_all.new.meter.lookups (Err c.in-Err-Fault.field-0) c.walk-walker.ensures.bytes c.walk-walker.ensures.items c.walk-walker.ensures.stop c.new-outputs.ensures.rest (ap contents c.new-outputs.ensures.later) (as_many c.args.case.now.outputs.now c.parts.result c.args.case.now.request.now.parts c.if-case-parts.false c.parts.ensures.same) c.in-Err-Fault.ensures.judged in
     subst (λ (e : JudgeError). IsVerdict c.args.case.now.request.now c.args.case.now.input.now (contents c.args.case.now.outputs.now) c.args.case.now.certificate.now (Err e)) c.in-Err-Fault.field-0-is told.0
 
 pub returns-in-Err-Fault-clause-bounded : goal.returns-in-Err-Fault-clause-bounded
 returns-in-Err-Fault-clause-bounded g c =
-    let told = judged_at_hand c.args.case.now.request.now c.args.case.now.input.now (contents c.args.case.now.outputs.now) (contents c.new-outputs.result.later.now) c.new-outputs.result.rest.now c.args.case.now.certificate.now c.walk-walker.result c.args.meter.now.lookups c.judge_all.new.meter.lookups (Err c.in-Err-Fault.field-0) c.walk-walker.ensures.bytes c.walk-walker.ensures.items c.walk-walker.ensures.stop c.new-outputs.ensures.rest (ap contents c.new-outputs.ensures.later) (as_many c.args.case.now.outputs.now c.parts.result c.args.case.now.request.now.parts c.if-case-outputs-parts.false c.parts.ensures.same) c.in-Err-Fault.ensures.judged in
+    let told = judged_at_hand c.args.case.now.request.now c.args.case.now.input.now (contents c.args.case.now.outputs.now) (contents c.new-outputs.result.later.now) c.new-outputs.result.rest.now c.args.case.now.certificate.now c.walk-walker.result c.args.meter.now.lookups c.judge_all.new.meter.lookups (Err c.in-Err-Fault.field-0) c.walk-walker.ensures.bytes c.walk-walker.ensures.items c.walk-walker.ensures.stop c.new-outputs.ensures.rest (ap contents c.new-outputs.ensures.later) (as_many c.args.case.now.outputs.now c.parts.result c.args.case.now.request.now.parts c.if-case-parts.false c.parts.ensures.same) c.in-Err-Fault.ensures.judged in
     record { lookups = told.1; mapped = c.in-Err-Fault.ensures.mapped }
