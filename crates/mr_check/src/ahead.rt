@@ -52,7 +52,7 @@ impl<'a> MappedInput<'a> {
 pub fn map_input<'a, R: Threads + Sync, G: Gate, W: Progress>(
     rt: &R,
     alloc: Global,
-    request: &'a Request,
+    request: &Request,
     plan: &'a Plan<'a>,
     options: &JudgeOptions<'_, G, W>,
 ) -> Result<MappedInput<'a>, AllocError>

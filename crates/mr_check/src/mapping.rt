@@ -17,10 +17,10 @@ const PIECE_BYTES: u32 = 65_536;
 
 /// A plan, a job, and the records that are left out.
 #[derive(Clone, Copy)]
-pub(crate) struct Source<'a> {
-    pub plan: &'a Plan<'a>,
-    pub job: &'a Job,
-    pub skips: &'a [RecordName],
+pub(crate) struct Source<'p, 'j> {
+    pub plan: &'p Plan<'p>,
+    pub job: &'j Job,
+    pub skips: &'j [RecordName],
 }
 
 /// All that the job emits, and in how many pieces of work it was mapped.
@@ -139,7 +139,7 @@ fn shares_of(plan: &Plan<'_>, threads: u32) -> Shares
 /// The parts of the first splits, so many, each of them mapped by a thread that draws it.
 fn map_whole<R: Threads + Sync, G: Gate, W: Progress>(
     crew: &Crew<'_, R, G, W>,
-    source: &Source<'_>,
+    source: &Source<'_, '_>,
     shares: Shares,
 ) -> Result<Vec<Part>, AllocError>
     requires { shares.whole ≤ split_total source.now.plan.now.size source.now.plan.now.files }
@@ -171,7 +171,7 @@ fn map_whole<R: Threads + Sync, G: Gate, W: Progress>(
 /// The part of a split whose pieces are mapped by threads that draw them, and are numbered from `first_piece`.
 fn map_divided<R: Threads + Sync, G: Gate, W: Progress>(
     crew: &Crew<'_, R, G, W>,
-    source: &Source<'_>,
+    source: &Source<'_, '_>,
     split: u32,
     shares: Shares,
     first_piece: u32,
@@ -205,7 +205,7 @@ fn map_divided<R: Threads + Sync, G: Gate, W: Progress>(
 /// All that the job emits over a plan without its left-out records, the splits being mapped by threads.
 pub(crate) fn index_of<R: Threads + Sync, G: Gate, W: Progress>(
     crew: &Crew<'_, R, G, W>,
-    source: &Source<'_>,
+    source: &Source<'_, '_>,
 ) -> Result<Mapped, AllocError>
     ensures all { IfOk result (λ m. m.index ≡ triples_of source.now.job.now source.now.plan.now source.now.skips.now) }
     ensures few { IfOk result (λ m. m.pieces < 2 ^ 21) }

@@ -54,7 +54,7 @@ fn test_back(facts: &Facts<'_>, entries: u64, stop: Option<u64>) -> Result<u64, 
 fn check_parts<R: Threads + Sync, G: Gate, W: Progress>(
     crew: &Crew<'_, R, G, W>,
     case: &Case<'_>,
-    source: &Source<'_>,
+    source: &Source<'_, '_>,
     mapped: &Mapped,
     walker: &Walker<'_>,
 ) -> Result<u64, No>
