@@ -198,11 +198,13 @@ impl<'a, W: Progress, R: Threads + Sync> RunJudge<'a, W, R> {
             requires workers { (1 ≤ workers) × (workers ≤ 64) }
             ensures { IfOk result (IsMappedFor request.entry.now plan.entry.now.files) }
         {
+            let progress = JudgesProgress { watch };
+            let mapped = None;
             let options = JudgeOptions {
                 threads: workers,
                 gate: &OpenGate,
-                progress: &JudgesProgress { watch },
-                mapped: None,
+                progress: &progress,
+                mapped,
             };
             map_input(rt, alloc, request, plan, &options)
         };
