@@ -1,3 +1,4 @@
 pub mod Ahead
 pub mod Fronts
 pub mod Sections
+pub mod Threads

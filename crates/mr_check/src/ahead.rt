@@ -3,7 +3,8 @@ ghost use Rattle.std.specs.Prelude.{◌≡◌, ◌≤◌, ◌<◌, ◌^◌, [], 
 ghost use Rattle.mr_index.specs.Index.{triples_of};
 ghost use Rattle.mr_check.specs.Ahead.{IsMappedFor};
 
-use crate::mapping::{Crew, Mapped, Source, index_of};
+use crate::mapping::{Mapped, Source, index_of};
+use crate::options::{Crew, JudgeOptions};
 use mr_bytes::{Gate, Progress};
 use mr_jobs::Request;
 use mr_splits::Plan;
@@ -47,50 +48,25 @@ impl<'a> MappedInput<'a> {
     }
 }
 
-/// What a request's job emits over a plan, with no record left out.
-fn mapped_whole<R: Threads + Sync, G: Gate, W: Progress>(
-    rt: &R,
-    alloc: Global,
-    crew: &Crew<'_, G, W>,
-    request: &Request,
-    plan: &Plan<'_>,
-) -> Result<Mapped, AllocError>
-    ensures all { IfOk result (λ m. m.index ≡ triples_of request.now.job plan.now []) }
-    ensures few { IfOk result (λ m. m.pieces < 2 ^ 21) }
-{
-    let job = request.job();
-    index_of(
-        rt,
-        alloc,
-        crew,
-        &Source {
-            plan,
-            job,
-            skips: &[],
-        },
-    )
-}
-
-/// Maps the input of this plan by so many threads, from 1 to 64, as `check_gated_watched` does: each thread passes the gate
-/// round each piece of work that it draws, and the watch is told of it.
+/// Maps the input of this plan, as `judge` does by these options.
 pub fn map_input<'a, R: Threads + Sync, G: Gate, W: Progress>(
     rt: &R,
     alloc: Global,
     request: &Request,
     plan: &'a Plan<'a>,
-    threads: u32,
-    gate: &G,
-    watch: &W,
+    options: &JudgeOptions<'_, G, W>,
 ) -> Result<MappedInput<'a>, AllocError>
     requires same { plan.now.size ≡ request.now.split }
-    requires threads { (1 ≤ threads) × (threads ≤ 64) }
     ensures { IfOk result (IsMappedFor request.now plan.entry.now.files) }
 {
-    let crew = Crew {
-        threads,
-        gate,
-        watch,
-    };
-    let mapped = mapped_whole(rt, alloc, &crew, request, plan)?;
+    let crew = Crew { rt, alloc, options };
+    let mapped = index_of(
+        &crew,
+        &Source {
+            plan,
+            job: request.job(),
+            skips: &[],
+        },
+    )?;
     Ok(MappedInput { plan, mapped })
 }

@@ -52,12 +52,7 @@ fn step_at_hand<'a>(
     match judging.step(&facts.basis(), outputs, row) {
         Ok(()) => Ok(()),
         Err(JudgeError::Fault(fault)) => Err(fault),
-        Err(
-            JudgeError::Device
-            | JudgeError::TooLong
-            | JudgeError::Output { .. }
-            | JudgeError::LongOutput,
-        ) => unreachable!(),
+        Err(_) => unreachable!(),
     }
 }
 
@@ -130,12 +125,7 @@ fn read_block_of(walker: &mut Walker<'_>, items: &mut Vec<Item>) -> Result<(), N
             }
         }
         Err(JudgeError::Fault(fault)) => Err(fault),
-        Err(
-            JudgeError::Device
-            | JudgeError::TooLong
-            | JudgeError::Output { .. }
-            | JudgeError::LongOutput,
-        ) => unreachable!(),
+        Err(_) => unreachable!(),
     }
 }
 

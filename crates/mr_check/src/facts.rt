@@ -3,16 +3,15 @@ ghost use Rattle.std.specs.Prelude.{◌≡◌, ◌-◌, length, drop};
 ghost use Rattle.mr_input.specs.Files.{contents, nth_file};
 
 use mr_index::EmissionIndex;
-use mr_jobs::Request;
 use mr_judge::{Basis, MemoryOutputs};
+use mr_verdict::Case;
 use std::marker::Model;
 
-/// What the partitions are judged against: all that is emitted, the request, and the outputs.
+/// What the partitions are judged against: the case, and all that is emitted.
 #[derive(Drop)]
 pub(crate) struct Facts<'a> {
-    pub request: &'a Request,
+    pub case: &'a Case<'a>,
     pub index: &'a EmissionIndex,
-    pub outputs: &'a [Vec<u8>],
 }
 
 impl<'a> Model for Facts<'a> {
@@ -21,7 +20,11 @@ impl<'a> Model for Facts<'a> {
 
     ghost Value = { Known };
 
-    ghost view = { λ f. record { request = f.request.now; triples = f.index.now; outputs = contents f.outputs.now } };
+    ghost view = { λ f. record {
+      request = f.case.now.request.now;
+      triples = f.index.now;
+      outputs = contents f.case.now.outputs.now;
+    } };
 }
 
 impl<'a> Facts<'a> {
@@ -30,7 +33,7 @@ impl<'a> Facts<'a> {
         ensures { result ≡ record { request = self.now.request; triples = self.now.triples } }
     {
         Basis {
-            request: self.request,
+            request: self.case.request,
             index: self.index,
         }
     }
@@ -41,7 +44,7 @@ impl<'a> Facts<'a> {
         ensures later { contents result.later.now ≡ drop next self.now.outputs }
         ensures passed { result.passed ≡ from }
     {
-        MemoryOutputs::at(self.outputs, next, from)
+        MemoryOutputs::at(self.case.outputs, next, from)
     }
 
     /// How many pairs are emitted.

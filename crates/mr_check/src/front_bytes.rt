@@ -27,12 +27,7 @@ pub(crate) fn expect_header_of(
     match expect_header(walker, request, input) {
         Ok(()) => Ok(()),
         Err(JudgeError::Fault(fault)) => Err(fault),
-        Err(
-            JudgeError::Device
-            | JudgeError::TooLong
-            | JudgeError::Output { .. }
-            | JudgeError::LongOutput,
-        ) => unreachable!(),
+        Err(_) => unreachable!(),
     }
 }
 
@@ -47,12 +42,7 @@ pub(crate) fn expect_count_of(walker: &mut Walker<'_>, most: u32) -> Result<u32,
     match expect_count(walker, most) {
         Ok(listed) => Ok(listed),
         Err(JudgeError::Fault(fault)) => Err(fault),
-        Err(
-            JudgeError::Device
-            | JudgeError::TooLong
-            | JudgeError::Output { .. }
-            | JudgeError::LongOutput,
-        ) => unreachable!(),
+        Err(_) => unreachable!(),
     }
 }
 
@@ -72,11 +62,6 @@ pub(crate) fn take_skips_of(
     match read_skips(alloc, walker, plan, many) {
         Ok(skips) => Ok(skips),
         Err(JudgeError::Fault(fault)) => Err(fault),
-        Err(
-            JudgeError::Device
-            | JudgeError::TooLong
-            | JudgeError::Output { .. }
-            | JudgeError::LongOutput,
-        ) => unreachable!(),
+        Err(_) => unreachable!(),
     }
 }

@@ -9,14 +9,16 @@ mod front_bytes;
 mod fronts;
 mod guesses;
 mod mapping;
+mod options;
 mod section;
 mod sections;
 mod threads;
 
 pub use ahead::{MappedInput, map_input};
-pub use mr_judge::{check, check_from, check_from_watched, check_metered, check_watched};
+pub use mr_judge::{check, check_from, check_metered, judge_on_one_thread, judge_readers};
 pub use mr_verdict::{
-    No, Source, Yes, fault_law, is_same_fault, locality_law, partition_law, place_law,
+    Case, No, Source, Yes, fault_law, is_same_fault, locality_law, partition_law, place_law,
     worked_places, worked_rows, yes_law,
 };
-pub use threads::{check_gated, check_gated_watched, check_mapped_watched, check_threads};
+pub use options::JudgeOptions;
+pub use threads::{check_gated, check_threads, judge};

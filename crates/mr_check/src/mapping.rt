@@ -3,6 +3,7 @@ ghost use Rattle.std.specs.Prelude.{◌≡◌, ◌<◌, ◌≤◌, ◌+◌, ◌*
 ghost use Rattle.mr_input.specs.Files.{split_total};
 ghost use Rattle.mr_index.specs.Index.{triples_in, triples_of};
 
+use crate::options::Crew;
 use mr_bytes::{Gate, Phase, Progress, RecordName};
 use mr_index::{DividedSplit, EmissionIndex, Part, Piece};
 use mr_jobs::Job;
@@ -14,22 +15,12 @@ use std::thread::Threads;
 /// The fewest bytes of a split for each of its pieces.
 const PIECE_BYTES: u32 = 65_536;
 
-/// How many threads judge, the gate that they pass, and who looks on.
-#[derive(Drop)]
-pub(crate) struct Crew<'a, G: Gate, W: Progress> {
-    pub threads: u32,
-    pub gate: &'a G,
-    pub watch: &'a W,
-    ghost some: { 0 < threads },
-    ghost few: { threads ≤ 64 },
-}
-
 /// A plan, a job, and the records that are left out.
 #[derive(Clone, Copy)]
-pub(crate) struct Source<'a> {
-    pub plan: &'a Plan<'a>,
-    pub job: &'a Job,
-    pub skips: &'a [RecordName],
+pub(crate) struct Source<'p, 'j> {
+    pub plan: &'p Plan<'p>,
+    pub job: &'j Job,
+    pub skips: &'j [RecordName],
 }
 
 /// All that the job emits, and in how many pieces of work it was mapped.
@@ -147,10 +138,8 @@ fn shares_of(plan: &Plan<'_>, threads: u32) -> Shares
 
 /// The parts of the first splits, so many, each of them mapped by a thread that draws it.
 fn map_whole<R: Threads + Sync, G: Gate, W: Progress>(
-    rt: &R,
-    alloc: Global,
-    crew: &Crew<'_, G, W>,
-    source: &Source<'_>,
+    crew: &Crew<'_, R, G, W>,
+    source: &Source<'_, '_>,
     shares: Shares,
 ) -> Result<Vec<Part>, AllocError>
     requires { shares.whole ≤ split_total source.now.plan.now.size source.now.plan.now.files }
@@ -159,32 +148,30 @@ fn map_whole<R: Threads + Sync, G: Gate, W: Progress>(
         → slice_index_or v.items s [] ≡ triples_in s (triples_of source.now.job.now source.now.plan.now source.now.skips.now)) }
 {
     if shares.whole == 0 {
-        return Ok(Vec::new(alloc));
+        return Ok(Vec::new(crew.alloc));
     }
-    let kept = source.plan.without(alloc, source.skips)?;
+    let kept = source.plan.without(crew.alloc, source.skips)?;
     let mapping = Mapping {
         kept: &kept,
         job: source.job,
         all: shares.all,
-        watch: crew.watch,
+        watch: crew.options.progress,
     };
     draw_all(
-        rt,
-        alloc,
+        crew.rt,
+        crew.alloc,
         shares.whole,
-        crew.threads,
+        crew.options.threads,
         &mapping,
-        crew.gate,
+        crew.options.gate,
         0,
     )
 }
 
 /// The part of a split whose pieces are mapped by threads that draw them, and are numbered from `first_piece`.
 fn map_divided<R: Threads + Sync, G: Gate, W: Progress>(
-    rt: &R,
-    alloc: Global,
-    crew: &Crew<'_, G, W>,
-    source: &Source<'_>,
+    crew: &Crew<'_, R, G, W>,
+    source: &Source<'_, '_>,
     split: u32,
     shares: Shares,
     first_piece: u32,
@@ -196,20 +183,20 @@ fn map_divided<R: Threads + Sync, G: Gate, W: Progress>(
 {
     let Shares { pieces, all, .. } = shares;
     let Source { plan, job, skips } = *source;
-    let divided = DividedSplit::of(alloc, plan, job, skips, split, pieces)?;
+    let divided = DividedSplit::of(crew.alloc, plan, job, skips, split, pieces)?;
     let dividing = Dividing {
         divided: &divided,
         first_piece,
         all,
-        watch: crew.watch,
+        watch: crew.options.progress,
     };
     let mapped = draw_all(
-        rt,
-        alloc,
+        crew.rt,
+        crew.alloc,
         pieces,
-        crew.threads,
+        crew.options.threads,
         &dividing,
-        crew.gate,
+        crew.options.gate,
         first_piece,
     )?;
     divided.join(mapped)
@@ -217,10 +204,8 @@ fn map_divided<R: Threads + Sync, G: Gate, W: Progress>(
 
 /// All that the job emits over a plan without its left-out records, the splits being mapped by threads.
 pub(crate) fn index_of<R: Threads + Sync, G: Gate, W: Progress>(
-    rt: &R,
-    alloc: Global,
-    crew: &Crew<'_, G, W>,
-    source: &Source<'_>,
+    crew: &Crew<'_, R, G, W>,
+    source: &Source<'_, '_>,
 ) -> Result<Mapped, AllocError>
     ensures all { IfOk result (λ m. m.index ≡ triples_of source.now.job.now source.now.plan.now source.now.skips.now) }
     ensures few { IfOk result (λ m. m.pieces < 2 ^ 21) }
@@ -228,11 +213,11 @@ pub(crate) fn index_of<R: Threads + Sync, G: Gate, W: Progress>(
     // A plan's splits have at least one byte.
     let _size = source.plan.size();
     let splits = source.plan.splits();
-    let shares = shares_of(source.plan, crew.threads);
-    let mut parts = map_whole(rt, alloc, crew, source, shares)?;
+    let shares = shares_of(source.plan, crew.options.threads);
+    let mut parts = map_whole(crew, source, shares)?;
     let mut pieces = shares.whole;
     for split in shares.whole..splits {
-        let part = map_divided(rt, alloc, crew, source, split, shares, pieces)?;
+        let part = map_divided(crew, source, split, shares, pieces)?;
         parts.push(part)?;
         pieces += shares.pieces;
     }

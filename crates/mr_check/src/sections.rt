@@ -11,7 +11,7 @@ use crate::alone::{fault_in, judged_from};
 use crate::facts::Facts;
 use crate::front::{Front, Section};
 use crate::guesses::{Guess, guesses_of};
-use crate::mapping::Crew;
+use crate::options::Crew;
 use crate::section::{Judged, Outcome};
 use mr_bytes::{Gate, Phase, Progress};
 use mr_judge::Border;
@@ -164,9 +164,7 @@ fn first_fault<W: Progress>(
 
 /// The fault of the least partition that has one, the sections being judged by threads.
 pub(crate) fn least_of<'x, 'f, R: Threads + Sync, G: Gate, W: Progress>(
-    rt: &R,
-    alloc: Global,
-    crew: &Crew<'_, G, W>,
+    crew: &Crew<'_, R, G, W>,
     facts: &'x Facts<'x>,
     fronts: &'f [Front<'f>],
     sections: &'f [Section<'f>],
@@ -177,10 +175,11 @@ pub(crate) fn least_of<'x, 'f, R: Threads + Sync, G: Gate, W: Progress>(
     requires sections { All (IsSection fronts.now) sections.now }
     ensures { IfOk result (λ o. o ≡ least_fault (subject facts.now) 0 (parts_at fronts.now)) }
 {
+    let case = facts.case;
     let guesses = guesses_of(
-        alloc,
-        facts.outputs,
-        facts.request.job().has_lines(),
+        crew.alloc,
+        case.outputs,
+        case.request.job().has_lines(),
         sections,
     )?;
     let judging = Judging {
@@ -188,16 +187,23 @@ pub(crate) fn least_of<'x, 'f, R: Threads + Sync, G: Gate, W: Progress>(
         fronts,
         sections,
         guesses: &guesses,
-        watch: crew.watch,
+        watch: crew.options.progress,
     };
     let judged = draw_all(
-        rt,
-        alloc,
+        crew.rt,
+        crew.alloc,
         sections.len() as u32,
-        crew.threads,
+        crew.options.threads,
         &judging,
-        crew.gate,
+        crew.options.gate,
         first_piece,
     )?;
-    first_fault(alloc, facts, fronts, sections, &judged, crew.watch)
+    first_fault(
+        crew.alloc,
+        facts,
+        fronts,
+        sections,
+        &judged,
+        crew.options.progress,
+    )
 }

@@ -25,7 +25,7 @@ use crate::said::{CommandOutput, yes_text};
 use crate::streaming::{judged_as_read, refused_as_read};
 use mr_args::{CheckOptions, Fault, Options, request_of};
 use mr_bytes::{OpenGate, Progress};
-use mr_check::{No, Yes, check_gated_watched, check_watched};
+use mr_check::{Case, JudgeOptions, No, Yes, judge, judge_on_one_thread};
 use mr_files::{FileFault, LimitFault, Store, names_of_result, read_result_within, write_file};
 use mr_input::Input;
 use mr_jobs::Request;
@@ -102,20 +102,22 @@ fn verdict<R: Threads + Sync>(
     ensures yes { IfOk result (λ y. IsYes request.now input.now (contents outputs.now) certificate.now y.skips.items y.pairs) }
     ensures no { IfErr result (λ e. (e ≡ No.OutOfMemory) ⊎ (verdict_of request.now input.now (contents outputs.now) certificate.now ≡ Err e)) }
 {
-    if threads == 1 {
-        return check_watched(alloc, request, input, outputs, certificate, watch);
-    }
-    check_gated_watched(
-        rt,
-        alloc,
+    let case = Case {
         request,
         input,
         outputs,
         certificate,
+    };
+    if threads == 1 {
+        return judge_on_one_thread(alloc, &case, watch);
+    }
+    let options = JudgeOptions {
         threads,
-        &OpenGate,
-        &watch,
-    )
+        gate: &OpenGate,
+        progress: &watch,
+        mapped: None,
+    };
+    judge(rt, alloc, &case, &options)
 }
 
 /// Adds the note of a file of that name and these bytes.

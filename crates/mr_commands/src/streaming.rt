@@ -11,7 +11,7 @@ use crate::judging::{Judged, no_judged};
 use crate::said::{CommandOutput, yes_text};
 use mr_args::{CheckOptions, Fault};
 use mr_bytes::Progress;
-use mr_check::{No, Source, Yes, check_from_watched};
+use mr_check::{No, Source, Yes, judge_readers};
 use mr_files::{FileFault, NamedReader, ReadCause, ResultReaders, Store, result_readers};
 use mr_input::Input;
 use mr_jobs::Request;
@@ -51,7 +51,7 @@ fn answer_from<R: CountedRead + Drop, C: ReadCause>(
         (R.remaining certificate.old.reader) answer) }
     ensures refused { IfErr result (λ f. TellsOf C.cause f) }
 {
-    match check_from_watched(alloc, request, input, parts, certificate, watch) {
+    match judge_readers(alloc, request, input, parts, certificate, watch) {
         Ok(yes) => Ok(Ok(yes)),
         Err(no) => Ok(Err(told(alloc, parts, certificate, no)?)),
     }

@@ -7,7 +7,10 @@ use Rattle.mr_splits.specs.Cut.{Cut, records_of}
 use Rattle.mr_certform.specs.declared.item.Item.{Item}
 use Rattle.mr_certform.specs.declared.item.Item.TheVariants.{Groups, End}
 use Rattle.mr_certform.specs.declared.grammar_state.GrammarState.TheVariants.{AtMagic, AtSkips}
+use Rattle.mr_certform.specs.declared.walker.Walker.{Walker}
+use Rattle.mr_certform.specs.Grammar.{AreBytes}
 use Rattle.mr_certform.specs.Places.{partitions}
+use Rattle.mr_certform.specs.Walking.{items_left, halt}
 use Rattle.mr_judge.specs.Kinds.{InKind}
 use Rattle.mr_certform.specs.Spelling.{items_of, stop}
 use Rattle.mr_verdict.specs.declared.yes.Yes.{Yes}
@@ -26,6 +29,7 @@ use Rattle.mr_judge.proofs.KindLemmas.{in_kind}
 use Rattle.mr_judge.proofs.MeterLemmas.{rest_entries, header_entries}
 use Rattle.mr_judge.proofs.VerdictLemmas.{accepted, counted_fault, rest_faults, rest_fault, rest_accepted, header_ok, verdict_ok, verdict_fault, verdict_header}
 use Rattle.mr_judge.proofs.JudgeLemmas.{header_is}
+use Rattle.mr_verdict.proofs.ItemLemmas.{over}
 
 -- no memory
 pub no_room : (old : Coming) (o : RequestSpec) (files outs : List (List ℕ)) (n : ℕ) → CanCome old → RestJudged old o files n n (Err (Fault OutOfMemory)) outs
@@ -182,3 +186,13 @@ at_hand ahead old o files outs bytes n m r only of count (rest, (later, (g, h)))
     let j = h outs (only_leaves outs rest later (only rest later g)) in
     let b = of j.0 j.1.0 j.1.1.0 in
     (j.1.1.1.0 bytes b count, subst (λ (w : List Item). Looked w n m) b.items_are j.1.1.1.1)
+
+-- what a judge answers on bytes and outputs at hand
+pub judged_at_hand : (o : RequestSpec) (files outs later : List (List ℕ)) (rest bytes : List ℕ) (w : Walker) (n m : ℕ) (r : Result Yes JudgeError) → AreBytes bytes → items_left w ≡ items_of bytes → halt w ≡ stop bytes
+    → rest ≡ nth_file outs 0 → later ≡ outs → length outs ≡ o.parts → Through (held rest later) start (AllJudged (over w) o files n m r) → IsVerdict o files outs bytes r × Looked (items_of bytes) n m
+judged_at_hand o files outs later rest bytes w n m r are items place opened behind count judged =
+    at_hand (held rest later) (over w) o files outs bytes n m r (λ k l e. (e.0 ∙ opened, e.1 ∙ behind)) (λ is at e. record {
+      bytes_are = are;
+      items_are = e.0 ∙ items;
+      stop_is = e.1 ∙ place;
+    }) count judged

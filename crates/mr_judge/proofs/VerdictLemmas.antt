@@ -16,12 +16,12 @@ use Rattle.mr_splits.specs.Kept.{is_past}
 use Rattle.mr_index.specs.Index.{triples_of}
 use Rattle.mr_verdict.specs.declared.fault.No.{No}
 use Rattle.mr_verdict.specs.declared.fault.No.TheVariants.{OtherJob, OtherInput, OutputCount, SkipOrder, NoSuchRecord, TooManySkips}
-use Rattle.mr_verdict.specs.Verdict.{Case, Accepted, item_eq, last_of, start, subject_of, part_faults, skip_faults, count_faults, wanted_faults, accepted_by, told_by, passes, job_wanted, input_wanted, verdict_of, first, entries_in}
+use Rattle.mr_verdict.specs.Verdict.{WalkCase, Accepted, item_eq, last_of, start, subject_of, part_faults, skip_faults, count_faults, wanted_faults, accepted_by, told_by, passes, job_wanted, input_wanted, verdict_of, first, entries_in}
 use Rattle.mr_verdict.specs.Steps.{Counted, subject, met, met_behind, header_met, counted, skip_fault, unless, Listed, listed, no_skip, skips_in_front, awaits_skips, case_at}
 
 -- ---- what is met
 
-pub met_faults : (c : Case) (ws : List Item) (f : No) (behind : List Item → List No) (is js : List Item) → met c.stop ws f is ≡ Ok js → wanted_faults c ws f behind is ≡ behind js
+pub met_faults : (c : WalkCase) (ws : List Item) (f : No) (behind : List Item → List No) (is js : List Item) → met c.stop ws f is ≡ Ok js → wanted_faults c ws f behind is ≡ behind js
 met_faults c [] f behind is js e = ap behind (cc e)
 met_faults c (w ∷ ws) f behind [] js e = absurd (cc e)
 met_faults c (w ∷ ws) f behind (i ∷ is) js e = by (item_eq i w) e (met_faults c ws f behind is js)
@@ -30,7 +30,7 @@ met_faults c (w ∷ ws) f behind (i ∷ is) js e = by (item_eq i w) e (met_fault
     by true h more = more h
     by false h more = absurd (cc h)
 
-pub met_fault : (c : Case) (ws : List Item) (f : No) (behind : List Item → List No) (is : List Item) (e : No) → met c.stop ws f is ≡ Err e → first (wanted_faults c ws f behind is) ≡ Some e
+pub met_fault : (c : WalkCase) (ws : List Item) (f : No) (behind : List Item → List No) (is : List Item) (e : No) → met c.stop ws f is ≡ Err e → first (wanted_faults c ws f behind is) ≡ Some e
 met_fault c [] f behind is e d = absurd (cc d)
 met_fault c (w ∷ ws) f behind [] e d = cc d
 met_fault c (w ∷ ws) f behind (i ∷ is) e d = by (item_eq i w) d (met_fault c ws f behind is e)
@@ -74,12 +74,12 @@ counted_is at most (Skips n ∷ is) k e = by (leb n most) refl e
     by false same h = absurd (cc h)
 counted_is at most (i ∷ is) k e = absurd (cc e)
 
-pub counted_faults : (c : Case) (most : ℕ) (is : List Item) (k : Counted) → most ≡ c.request.skips → counted c.stop most is ≡ Ok k → count_faults c is ≡ skip_faults c [] k.behind
+pub counted_faults : (c : WalkCase) (most : ℕ) (is : List Item) (k : Counted) → most ≡ c.request.skips → counted c.stop most is ≡ Ok k → count_faults c is ≡ skip_faults c [] k.behind
 counted_faults c most is k m e =
     let h = counted_is c.stop most is k e in
     ap (count_faults c) h.0 ∙ (ap (λ w. passes (leb k.many w) (TooManySkips k.many) ++ skip_faults c [] k.behind) (sym m) ∙ ap (λ b. passes b (TooManySkips k.many) ++ skip_faults c [] k.behind) h.1)
 
-pub counted_fault : (c : Case) (is : List Item) (e : No) → counted c.stop c.request.skips is ≡ Err e → first (count_faults c is) ≡ Some e
+pub counted_fault : (c : WalkCase) (is : List Item) (e : No) → counted c.stop c.request.skips is ≡ Err e → first (count_faults c is) ≡ Some e
 counted_fault c [] e d = cc d
 counted_fault c (Skips n ∷ is) e d = by (leb n c.request.skips) d
   where
@@ -90,12 +90,12 @@ counted_fault c (i ∷ is) e d = cc d
 
 -- ---- the left-out records
 
-none_listed : (c : Case) (ss : List RecordName) (is : List Item) → no_skip is ≡ true → skip_faults c ss is ≡ part_faults (subject_of c ss) c.stop start is
+none_listed : (c : WalkCase) (ss : List RecordName) (is : List Item) → no_skip is ≡ true → skip_faults c ss is ≡ part_faults (subject_of c ss) c.stop start is
 none_listed c ss [] h = refl
 none_listed c ss (Skip s ∷ is) h = absurd (false≢true h)
 none_listed c ss (i ∷ is) h = refl
 
-pub listed_faults : (c : Case) (n : ℕ) (ss : List RecordName) (is : List Item) (r : Listed) → skips_in_front n is ≡ true → listed (named_records c.request.split c.files) c.stop n ss is ≡ Ok r
+pub listed_faults : (c : WalkCase) (n : ℕ) (ss : List RecordName) (is : List Item) (r : Listed) → skips_in_front n is ≡ true → listed (named_records c.request.split c.files) c.stop n ss is ≡ Ok r
     → skip_faults c ss is ≡ part_faults (subject_of c r.skips) c.stop start r.behind
 listed_faults c zero ss is r front e = let same : record { skips = ss; behind = is } ≡ r = cc e in none_listed c ss is front ∙ ap (λ (w : Listed). part_faults (subject_of c w.skips) c.stop start w.behind) same
 listed_faults c (suc n) ss [] r front e = absurd (cc e)
@@ -109,7 +109,7 @@ listed_faults c (suc n) ss (Skip s ∷ is) r front e = by (is_past (last_of ss) 
     by false b h more = absurd (cc h)
 listed_faults c (suc n) ss (i ∷ is) r front e = absurd (false≢true front)
 
-pub listed_fault : (c : Case) (n : ℕ) (ss : List RecordName) (is : List Item) (e : No) → listed (named_records c.request.split c.files) c.stop n ss is ≡ Err e → first (skip_faults c ss is) ≡ Some e
+pub listed_fault : (c : WalkCase) (n : ℕ) (ss : List RecordName) (is : List Item) (e : No) → listed (named_records c.request.split c.files) c.stop n ss is ≡ Err e → first (skip_faults c ss is) ≡ Some e
 listed_fault c zero ss is e d = absurd (cc d)
 listed_fault c (suc n) ss [] e d = cc d
 listed_fault c (suc n) ss (Skip s ∷ is) e d = by (is_past (last_of ss) s) (is_record (named_records c.request.split c.files) s) d (listed_fault c n (ss ++ s ∷ []) is e)
@@ -168,7 +168,7 @@ parts_accepted a (Entry n ∷ is) e = parts_accepted (record a { pairs = a.pairs
 parts_accepted a (i ∷ is) e = parts_accepted a is e
 
 -- what is known of the partitions is what they are judged against
-pub known_subject : (c : Case) (skips : List RecordName) (job : JobSpec) (cut : Cut) (ts : List Triple) → job ≡ c.request.job → cut.size ≡ c.request.split → cut.files ≡ c.files → ts ≡ triples_of job cut skips
+pub known_subject : (c : WalkCase) (skips : List RecordName) (job : JobSpec) (cut : Cut) (ts : List Triple) → job ≡ c.request.job → cut.size ≡ c.request.split → cut.files ≡ c.files → ts ≡ triples_of job cut skips
     → subject (record { request = c.request; triples = ts; outputs = c.outputs }) ≡ subject_of c skips
 known_subject c skips job cut ts t size files e =
     ap (λ (ws : List Triple). subject (record { request = c.request; triples = ws; outputs = c.outputs }))
@@ -187,22 +187,22 @@ told_some (g ∷ fs) a f e = cc e
 
 -- ---- what stands behind the items of the request and of the input
 
-abbrev pub cut_of : Case → Cut
+abbrev pub cut_of : WalkCase → Cut
 cut_of c = record { size = c.request.split; files = c.files }
 
-listed_by : (c : Case) (at n : ℕ) (cut : Cut) (js : List Item) (r : Result Listed No) → at ≡ c.stop → cut ≡ cut_of c → listed (records_of cut) at n [] js ≡ r → listed (named_records c.request.split c.files) c.stop n [] js ≡ r
+listed_by : (c : WalkCase) (at n : ℕ) (cut : Cut) (js : List Item) (r : Result Listed No) → at ≡ c.stop → cut ≡ cut_of c → listed (records_of cut) at n [] js ≡ r → listed (named_records c.request.split c.files) c.stop n [] js ≡ r
 listed_by c at n cut js r a e h = ap (λ m. listed (named_records c.request.split c.files) m n [] js) (sym a) ∙ (ap (λ (w : Cut). listed (records_of w) at n [] js) (sym e) ∙ h)
 
 -- behind their number so many are listed
 pub front_listed : (stop most : ℕ) (is : List Item) (k : Counted) → awaits_skips is ≡ true → counted stop most is ≡ Ok k → skips_in_front k.many k.behind ≡ true
 front_listed stop most is k awaits e = ap awaits_skips (sym (counted_is stop most is k e).0) ∙ awaits
 
-pub rest_faults : (c : Case) (most at : ℕ) (cut : Cut) (is : List Item) (k : Counted) (r : Listed) → awaits_skips is ≡ true → most ≡ c.request.skips → counted c.stop most is ≡ Ok k → at ≡ c.stop → cut ≡ cut_of c → listed (records_of cut) at k.many [] k.behind ≡ Ok r
+pub rest_faults : (c : WalkCase) (most at : ℕ) (cut : Cut) (is : List Item) (k : Counted) (r : Listed) → awaits_skips is ≡ true → most ≡ c.request.skips → counted c.stop most is ≡ Ok k → at ≡ c.stop → cut ≡ cut_of c → listed (records_of cut) at k.many [] k.behind ≡ Ok r
     → count_faults c is ≡ part_faults (subject_of c r.skips) c.stop start r.behind
 rest_faults c most at cut is k r awaits m e a d h =
     counted_faults c most is k m e ∙ listed_faults c k.many [] k.behind r (front_listed c.stop most is k awaits e) (listed_by c at k.many cut k.behind (Ok r) a d h)
 
-pub rest_fault : (c : Case) (most at : ℕ) (cut : Cut) (is : List Item) (k : Counted) (f : No) → most ≡ c.request.skips → counted c.stop most is ≡ Ok k → at ≡ c.stop → cut ≡ cut_of c → listed (records_of cut) at k.many [] k.behind ≡ Err f
+pub rest_fault : (c : WalkCase) (most at : ℕ) (cut : Cut) (is : List Item) (k : Counted) (f : No) → most ≡ c.request.skips → counted c.stop most is ≡ Ok k → at ≡ c.stop → cut ≡ cut_of c → listed (records_of cut) at k.many [] k.behind ≡ Err f
     → first (count_faults c is) ≡ Some f
 rest_fault c most at cut is k f m e a d h = ap first (counted_faults c most is k m e) ∙ listed_fault c k.many [] k.behind f (listed_by c at k.many cut k.behind (Err f) a d h)
 
@@ -230,12 +230,12 @@ header_ok at o files is ks e = by (met at (job_wanted o) OtherJob is) refl e
     by (Ok js) same d = (js, same, d)
     by (Err f) same d = absurd (cc d)
 
-pub header_faults : (c : Case) (is ks : List Item) → header_met c.stop c.request c.files is ≡ Ok ks → wanted_faults c (job_wanted c.request) OtherJob (wanted_faults c (input_wanted c.files) OtherInput (count_faults c)) is ≡ count_faults c ks
+pub header_faults : (c : WalkCase) (is ks : List Item) → header_met c.stop c.request c.files is ≡ Ok ks → wanted_faults c (job_wanted c.request) OtherJob (wanted_faults c (input_wanted c.files) OtherInput (count_faults c)) is ≡ count_faults c ks
 header_faults c is ks e =
     let h = header_ok c.stop c.request c.files is ks e in
     met_faults c (job_wanted c.request) OtherJob (wanted_faults c (input_wanted c.files) OtherInput (count_faults c)) is h.0 h.1 ∙ met_faults c (input_wanted c.files) OtherInput (count_faults c) h.0 ks h.2
 
-pub header_fault : (c : Case) (is : List Item) (f : No) → header_met c.stop c.request c.files is ≡ Err f → first (wanted_faults c (job_wanted c.request) OtherJob (wanted_faults c (input_wanted c.files) OtherInput (count_faults c)) is) ≡ Some f
+pub header_fault : (c : WalkCase) (is : List Item) (f : No) → header_met c.stop c.request c.files is ≡ Err f → first (wanted_faults c (job_wanted c.request) OtherJob (wanted_faults c (input_wanted c.files) OtherInput (count_faults c)) is) ≡ Some f
 header_fault c is f e = by (met c.stop (job_wanted c.request) OtherJob is) refl e
   where
     by : (r : Result (List Item) No) → met c.stop (job_wanted c.request) OtherJob is ≡ r → met_behind c.stop c.files r ≡ Err f → first (wanted_faults c (job_wanted c.request) OtherJob (wanted_faults c (input_wanted c.files) OtherInput (count_faults c)) is) ≡ Some f
@@ -255,7 +255,7 @@ header_few at o files is ks e =
     let two = met_length at (input_wanted files) OtherInput h.0 ks h.2 in
     omega (arith, one, two)
 
-abbrev whole_case : RequestSpec → List (List ℕ) → List (List ℕ) → List ℕ → Case
+abbrev whole_case : RequestSpec → List (List ℕ) → List (List ℕ) → List ℕ → WalkCase
 whole_case request files outputs bytes = case_at request files outputs (stop bytes)
 
 -- there are not as many outputs as partitions

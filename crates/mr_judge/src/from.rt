@@ -91,10 +91,7 @@ fn fault_of(stop: JudgeError) -> No
 {
     match stop {
         JudgeError::Fault(fault) => fault,
-        JudgeError::Device
-        | JudgeError::TooLong
-        | JudgeError::Output { .. }
-        | JudgeError::LongOutput => No::OutOfMemory,
+        _ => No::OutOfMemory,
     }
 }
 
@@ -161,11 +158,11 @@ pub fn check_from<R: CountedRead, C: CountedRead>(
         → IsVerdictFrom request.now input.now outs bytes result }
     ensures device { IsDevice (map R.failed outputs.old) (map R.failed outputs.new) (C.failed certificate.old) (C.failed certificate.new) result }
 {
-    check_from_watched(alloc, request, input, outputs, certificate, &Unwatched)
+    judge_readers(alloc, request, input, outputs, certificate, &Unwatched)
 }
 
-/// The same as `check_from`, where somebody looks on, as in `check_watched`.
-pub fn check_from_watched<R: CountedRead, C: CountedRead>(
+/// Judges a result as `check_from` does, and reports the progress as `judge_on_one_thread` does.
+pub fn judge_readers<R: CountedRead, C: CountedRead>(
     alloc: Global,
     request: &Request,
     input: &Input,

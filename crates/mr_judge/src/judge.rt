@@ -1,13 +1,15 @@
 //! The judge, from the bytes of a certificate to the verdict.
-ghost use Rattle.std.specs.Prelude.{◌≡◌, ◌⊎◌, ℕ, List, ◌<◌, ◌≤◌, ◌+◌, ◌^◌, IfOk, IfErr, MatchResult, length};
+ghost use Rattle.std.specs.Prelude.{◌≡◌, ◌⊎◌, ℕ, List, ◌<◌, ◌≤◌, ◌+◌, ◌^◌, IfOk, IfErr, length};
 ghost use Rattle.mr_input.specs.Files.{contents, split_total};
 ghost use Rattle.mr_splits.specs.Cut.{records_of};
 ghost use Rattle.mr_certform.specs.declared.item.Item.{Item as Read};
 ghost use Rattle.mr_certform.specs.declared.grammar_state.GrammarState.TheVariants.{AtMagic, AtSkips};
+ghost use Rattle.mr_certform.specs.Grammar.{AreBytes};
 ghost use Rattle.mr_certform.specs.Walking.{items_left, halt};
 ghost use Rattle.mr_certform.specs.Spelling.{items_of, stop};
 ghost use Rattle.mr_verdict.specs.declared.fault.No.TheVariants.{OutOfMemory};
 ghost use Rattle.mr_verdict.specs.Verdict.{start, subject_of, verdict_of};
+ghost use Rattle.mr_verdict.specs.Cases.{IsVerdictOn, IsWorth, verdict_on};
 ghost use Rattle.mr_verdict.specs.Headline.{IsCertified, accepted_of};
 ghost use Rattle.mr_judge.specs.Metered.{IsBounded, IsExact, cut_by};
 ghost use Rattle.mr_verdict.specs.Steps.{case_at};
@@ -25,7 +27,7 @@ use mr_index::{EmissionIndex, Meter};
 use mr_input::Input;
 use mr_jobs::Request;
 use mr_splits::Plan;
-use mr_verdict::{ItemSource, JudgeError, No, Yes, expect_count, expect_header, read_skips};
+use mr_verdict::{Case, ItemSource, JudgeError, No, Yes, expect_count, expect_header, read_skips};
 use std::alloc::{AllocError, Global};
 
 /// The plan of an input under a request that fits it.
@@ -116,6 +118,7 @@ pub fn walk(certificate: &[u8]) -> Walker<'_>
     ensures items { items_left result ≡ items_of certificate.entry.now }
     ensures stop { halt result ≡ stop certificate.entry.now }
     ensures few { length (items_left result) ≤ 2 ^ 63 }
+    ensures bytes { AreBytes certificate.entry.now }
 {
     Walker::new(certificate)
 }
@@ -151,70 +154,60 @@ pub(crate) fn judge_all<I: ItemSource, O: Outputs>(
     check_rest(alloc, request, input, outputs, walker, meter, watch)
 }
 
-/// Judges a result at hand: the verdict, or want of memory.
+/// Judges a case by one thread: the verdict, or want of memory. Adds to the meter what is looked up
+/// and mapped, and reports the progress now and then.
 fn judge_at_hand(
     alloc: Global,
-    request: &Request,
-    input: &Input,
-    outputs: &[Vec<u8>],
-    certificate: &[u8],
+    case: &Case<'_>,
     meter: &mut Meter,
-    watch: &dyn Progress,
+    progress: &dyn Progress,
 ) -> Result<Yes, No>
-    requires fits { split_total request.now.split input.now ≤ 2 ^ 20 }
     requires count { (meter.old.lookups ≤ 2 ^ 63) × (meter.old.mapped ≤ 2 ^ 63) }
-    ensures verdict { let v = verdict_of request.now input.now (contents outputs.now) certificate.now in
-        MatchResult result (λ y. v ≡ Ok (accepted_of y)) (λ e. (e ≡ OutOfMemory) ⊎ (v ≡ Err e)) }
-    ensures bounded { IsBounded (cut_by request.now input.now) (items_of certificate.now) meter.old meter.new }
-    ensures exact { IfOk result (λ y. IsExact (cut_by request.now input.now) y.skips.items y.pairs meter.old meter.new) }
+    ensures headline { IfOk result (IsWorth case.now) }
+    ensures verdict { IsVerdictOn case.now result }
+    ensures bounded { IsBounded (cut_by case.now.request.now case.now.input.now)
+        (items_of case.now.certificate.now) meter.old meter.new }
+    ensures exact { IfOk result (λ y. IsExact (cut_by case.now.request.now case.now.input.now)
+        y.skips.items y.pairs meter.old meter.new) }
 {
-    if outputs.len() != request.parts() as usize {
+    // A request's splits have at least one byte.
+    let _size = case.request.split_size();
+    if case.outputs.len() != case.request.parts() as usize {
         return Err(No::OutputCount);
     }
-    let mut walker = walk(certificate);
-    let mut outputs = MemoryOutputs::new(outputs);
+    let mut walker = walk(case.certificate);
+    let mut outputs = MemoryOutputs::new(case.outputs);
     match judge_all(
         alloc,
-        request,
-        input,
+        case.request,
+        case.input,
         &mut outputs,
         &mut walker,
         meter,
-        watch,
+        progress,
     ) {
         Ok(yes) => Ok(yes),
         Err(JudgeError::Fault(fault)) => Err(fault),
-        Err(
-            JudgeError::Device
-            | JudgeError::TooLong
-            | JudgeError::Output { .. }
-            | JudgeError::LongOutput,
-        ) => unreachable!(),
+        Err(_) => unreachable!(),
     }
 }
 
-/// The verdict with its headline, and what the meter is added.
-fn judge_metered(
+/// Judges a case as `check` does, and reports the progress now and then: how many records are mapped,
+/// and behind them how many pairs are judged.
+pub fn judge_on_one_thread(
     alloc: Global,
-    request: &Request,
-    input: &Input,
-    outputs: &[Vec<u8>],
-    certificate: &[u8],
-    meter: &mut Meter,
-    watch: &dyn Progress,
+    case: &Case<'_>,
+    progress: &dyn Progress,
 ) -> Result<Yes, No>
-    requires fits { split_total request.now.split input.now ≤ 2 ^ 20 }
-    requires count { (meter.old.lookups ≤ 2 ^ 63) × (meter.old.mapped ≤ 2 ^ 63) }
-    ensures headline { IfOk result (λ y. IsCertified request.now input.now (contents outputs.now) certificate.now y.skips.items y.pairs) }
-    ensures yes { IfOk result
-        (λ y. verdict_of request.now input.now (contents outputs.now) certificate.now ≡ Ok (accepted_of y)) }
-    ensures no { IfErr result (λ e. (e ≡ OutOfMemory) ⊎ (verdict_of request.now input.now (contents outputs.now) certificate.now ≡ Err e)) }
-    ensures bounded { IsBounded (cut_by request.now input.now) (items_of certificate.now) meter.old meter.new }
-    ensures exact { IfOk result (λ y. IsExact (cut_by request.now input.now) y.skips.items y.pairs meter.old meter.new) }
+    ensures headline { IfOk result (IsWorth case.now) }
+    ensures yes { IfOk result (λ y. verdict_on case.now ≡ Ok (accepted_of y)) }
+    ensures no { IfErr result (λ e. (e ≡ OutOfMemory) ⊎ (verdict_on case.now ≡ Err e)) }
 {
-    // A request's splits have at least one byte.
-    let _size = request.split_size();
-    judge_at_hand(alloc, request, input, outputs, certificate, meter, watch)
+    let meter = &mut Meter {
+        lookups: 0,
+        mapped: 0,
+    };
+    judge_at_hand(alloc, case, meter, progress)
 }
 
 /// Judges a result of the request over the input: the outputs of the partitions with the bytes of the certificate. No
@@ -235,30 +228,13 @@ pub fn check(
         (λ y. verdict_of request.now input.now (contents outputs.now) certificate.now ≡ Ok (accepted_of y)) }
     ensures no { IfErr result (λ e. (e ≡ OutOfMemory) ⊎ (verdict_of request.now input.now (contents outputs.now) certificate.now ≡ Err e)) }
 {
-    check_watched(alloc, request, input, outputs, certificate, &Unwatched)
-}
-
-/// The same as `check`, where somebody looks on: the watch is told now and then how many records are mapped, and behind
-/// them how many pairs are judged.
-pub fn check_watched(
-    alloc: Global,
-    request: &Request,
-    input: &Input,
-    outputs: &[Vec<u8>],
-    certificate: &[u8],
-    watch: &dyn Progress,
-) -> Result<Yes, No>
-    requires { split_total request.now.split input.now ≤ 2 ^ 20 }
-    ensures headline { IfOk result (λ y. IsCertified request.now input.now (contents outputs.now) certificate.now y.skips.items y.pairs) }
-    ensures yes { IfOk result
-        (λ y. verdict_of request.now input.now (contents outputs.now) certificate.now ≡ Ok (accepted_of y)) }
-    ensures no { IfErr result (λ e. (e ≡ OutOfMemory) ⊎ (verdict_of request.now input.now (contents outputs.now) certificate.now ≡ Err e)) }
-{
-    let meter = &mut Meter {
-        lookups: 0,
-        mapped: 0,
+    let case = Case {
+        request,
+        input,
+        outputs,
+        certificate,
     };
-    judge_metered(alloc, request, input, outputs, certificate, meter, watch)
+    judge_on_one_thread(alloc, &case, &Unwatched)
 }
 
 /// The same as `check`, adding to the meter what is looked up and mapped; each of its counts is at most 2^63 before. Each
@@ -286,13 +262,11 @@ pub fn check_metered(
     ensures bounded { IsBounded (cut_by request.now input.now) (items_of certificate.now) meter.old meter.new }
     ensures exact { IfOk result (λ y. IsExact (cut_by request.now input.now) y.skips.items y.pairs meter.old meter.new) }
 {
-    judge_metered(
-        alloc,
+    let case = Case {
         request,
         input,
         outputs,
         certificate,
-        meter,
-        &Unwatched,
-    )
+    };
+    judge_at_hand(alloc, &case, meter, &Unwatched)
 }

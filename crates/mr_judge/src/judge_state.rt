@@ -69,14 +69,7 @@ impl<'a> JudgeState<'a> {
     pub fn new(alloc: Global) -> JudgeState<'a>
         ensures { result ≡ start }
     {
-        JudgeState::before(alloc, 0)
-    }
-
-    /// Before that partition, with nothing told of those ahead of it.
-    pub fn before(alloc: Global, next: u64) -> JudgeState<'a>
-        ensures { result ≡ record start { next = next } }
-    {
-        JudgeState::at(alloc, &Border::before(next))
+        JudgeState::at(alloc, &Border::before(0))
     }
 
     /// At a border, with nothing told of what stands before it.

@@ -91,16 +91,7 @@ impl<'a> MemoryOutputs<'a> {
         ensures later { result.later.now ≡ outputs.entry.now }
         ensures passed { result.passed ≡ 0 }
     {
-        MemoryOutputs::before(outputs, 0)
-    }
-
-    /// Those from partition `p` on are to come.
-    pub fn before(outputs: &'a [Vec<u8>], p: u64) -> MemoryOutputs<'a>
-        ensures rest { result.rest.now ≡ nth_file (contents outputs.entry.now) (p - 1) }
-        ensures later { result.later.now ≡ drop p outputs.entry.now }
-        ensures passed { result.passed ≡ 0 }
-    {
-        MemoryOutputs::at(outputs, p, 0)
+        MemoryOutputs::at(outputs, 0, 0)
     }
 
     /// The output before that of partition `next` is open, and so many of its bytes were passed; those from `next` on are

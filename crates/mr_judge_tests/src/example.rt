@@ -5,7 +5,7 @@ ghost use Rattle.mr_input.specs.Files.{split_total};
 use crate::given::{Given, list_of, with_text};
 use mr_bytes::{Phase, Progress};
 use mr_certform::{Version, write};
-use mr_check::{No, check_watched};
+use mr_check::{Case, No, judge_on_one_thread};
 use mr_example::{Handed, Trouble, agreed, judged, made};
 use mr_sequential::run_watched;
 use std::alloc::{AllocError, Global};
@@ -65,14 +65,13 @@ fn watched(alloc: Global, given: &Given, watch: &Counting) -> Result<u64, Troubl
     requires { split_total given.now.request.split given.now.input ≤ 2 ^ 20 }
 {
     let handed = counted(alloc, given, watch)?;
-    let yes = check_watched(
-        alloc,
-        &given.request,
-        &given.input,
-        &handed.outputs,
-        &handed.certificate,
-        watch,
-    )?;
+    let case = Case {
+        request: &given.request,
+        input: &given.input,
+        outputs: &handed.outputs,
+        certificate: &handed.certificate,
+    };
+    let yes = judge_on_one_thread(alloc, &case, watch)?;
     Ok(yes.pairs)
 }
 

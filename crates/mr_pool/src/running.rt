@@ -24,7 +24,7 @@ use crate::task_flags::TaskFlags;
 use mr_book::{Book, History, Seat};
 use mr_bytes::{Gate, OpenGate, Phase, Progress, RecordName, Unwatched};
 use mr_certform::Version;
-use mr_check::{MappedInput, No, Yes, check_mapped_watched, is_same_fault, map_input};
+use mr_check::{Case, JudgeOptions, MappedInput, No, Yes, is_same_fault, judge, map_input};
 use mr_core::{End, JobFault, Shape};
 use mr_input::Input;
 use mr_jobs::Request;
@@ -156,6 +156,28 @@ fn answer(
     }
 }
 
+/// Maps the input for the judge, by so many threads, before the result is there.
+fn map_ahead<'a, R: Threads + Sync, W: Progress>(
+    rt: &R,
+    alloc: Global,
+    request: &Request,
+    plan: &'a Plan<'a>,
+    workers: u32,
+    watch: &W,
+) -> Result<MappedInput<'a>, AllocError>
+    requires same { plan.now.size ≡ request.now.split }
+    requires workers { (1 ≤ workers) × (workers ≤ 64) }
+    ensures { IfOk result (IsMappedFor request.now plan.entry.now.files) }
+{
+    let options = JudgeOptions {
+        threads: workers,
+        gate: &OpenGate,
+        progress: &JudgesProgress { watch },
+        mapped: None,
+    };
+    map_input(rt, alloc, request, plan, &options)
+}
+
 /// What makes the result of a run and judges it: by as many threads as there are workers, for who looks on.
 #[derive(Drop)]
 struct RunJudge<'a, W: Progress, R: Threads + Sync> {
@@ -197,10 +219,7 @@ impl<'a, W: Progress, R: Threads + Sync> RunJudge<'a, W, R> {
             requires same { plan.now.size ≡ request.now.split }
             requires workers { (1 ≤ workers) × (workers ≤ 64) }
             ensures { IfOk result (IsMappedFor request.entry.now plan.entry.now.files) }
-        {
-            let progress = JudgesProgress { watch };
-            map_input(rt, alloc, request, plan, workers, &OpenGate, &progress)
-        };
+        { map_ahead(rt, alloc, request, plan, workers, watch) };
         let assembling = move || -> Result<(Vec<Vec<u8>>, Vec<u8>), AllocError>
             requires ends { book.now.state.end ≡ Some Ended.Done }
             requires opened { IsOpenedFor request.now input.now book.now.shape }
@@ -232,18 +251,20 @@ impl<'a, W: Progress, R: Threads + Sync> RunJudge<'a, W, R> {
         ensures no { IfErr result (λ e. (e ≡ No.OutOfMemory)
             ⊎ (verdict_of self.now.spec.request.now self.now.spec.input.now (contents outputs.now) certificate.now ≡ Err e)) }
     {
-        check_mapped_watched(
-            self.rt,
-            self.alloc,
-            self.spec.request,
-            self.spec.input,
-            mapped,
+        let RunSpec { request, input, .. } = self.spec;
+        let case = Case {
+            request,
+            input,
             outputs,
             certificate,
-            self.spec.shape.workers,
-            &OpenGate,
-            &JudgesProgress { watch: self.watch },
-        )
+        };
+        let options = JudgeOptions {
+            threads: self.spec.shape.workers,
+            gate: &OpenGate,
+            progress: &JudgesProgress { watch: self.watch },
+            mapped: Some(mapped),
+        };
+        judge(self.rt, self.alloc, &case, &options)
     }
 
     /// The result of a done job is assembled and judged.

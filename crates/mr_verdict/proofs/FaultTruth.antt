@@ -19,7 +19,7 @@ use Rattle.mr_certform.proofs.Walks.{read_front}
 use Rattle.mr_splits.specs.Kept.{is_past}
 use Rattle.mr_verdict.specs.declared.fault.No.{No}
 use Rattle.mr_verdict.specs.declared.fault.No.TheVariants as Fault
-use Rattle.mr_verdict.specs.Verdict.{Case, Subject, passes, start, first, subject_of, last_of, item_eq, job_wanted, input_wanted, wanted_faults, entries_in, case_of}
+use Rattle.mr_verdict.specs.Verdict.{WalkCase, Subject, passes, start, first, subject_of, last_of, item_eq, job_wanted, input_wanted, wanted_faults, entries_in, case_of}
 use Rattle.mr_verdict.specs.VerdictLaws.{told, or_else, fault_of, skips_in, piece, parts_in, front_skips, front_count, front_faults, part_fault, least_fault, back_fault}
 use Rattle.mr_verdict.specs.FaultLaws.{part_read, parts_read, IsWrongIn, Depart, SkipsFall, IsNoRecord, IsTrueOf, FaultsAreTrue, TellsOfBytes}
 use Rattle.mr_verdict.proofs.FaultPart.{Tells, either, failed, untold, get-seam, not_less, part_wrong}
@@ -89,7 +89,7 @@ get-map (x ∷ xs) zero = refl
 get-map (x ∷ xs) (suc k) = get-map xs k
 
 -- what is wrong in a partition is wrong somewhere
-somewhere : (c : Case) (is : List Item) (p : ℕ) (f : No) → p < length (parts_read is)
+somewhere : (c : WalkCase) (is : List Item) (p : ℕ) (f : No) → p < length (parts_read is)
     → IsWrongIn (subject_of c (skips_in is)) p (slice_index_or (parts_read is) p (record { announced = 0; groups = [] })) f → IsTrueOf c is f
 somewhere c is p (Fault.NoSuchPair q g e) l h = record { p = p; within = l; wrong = h }
 somewhere c is p (Fault.EntryOrder q g e) l h = record { p = p; within = l; wrong = h }
@@ -99,7 +99,7 @@ somewhere c is p (Fault.KeyOrder q g e) l h = record { p = p; within = l; wrong 
 somewhere c is p (Fault.OutputDiffers q at) l h = record { p = p; within = l; wrong = h }
 somewhere c is p f l h = absurd h
 
-parts_true : (c : Case) (is : List Item) (q : GrammarState) (f : No) → InOrder q is → ◌≡◌ {A = Option No} (least_fault (subject_of c (skips_in is)) 0 (parts_in is)) (Some f) → IsTrueOf c is f
+parts_true : (c : WalkCase) (is : List Item) (q : GrammarState) (f : No) → InOrder q is → ◌≡◌ {A = Option No} (least_fault (subject_of c (skips_in is)) 0 (parts_in is)) (Some f) → IsTrueOf c is f
 parts_true c is q f order e =
     let s : Subject = subject_of c (skips_in is) in
     let r = found s is q 0 f order e in
@@ -111,7 +111,7 @@ parts_true c is q f order e =
 
 -- ---- behind the partitions
 
-back_true : (c : Case) (is : List Item) (f : No) (b : Bool) → is_ended is ≡ b → ◌≡◌ {A = Option No} (back_fault (subject_of c (skips_in is)) c.stop (entries_in is) b) (Some f) → IsTrueOf c is f
+back_true : (c : WalkCase) (is : List Item) (f : No) (b : Bool) → is_ended is ≡ b → ◌≡◌ {A = Option No} (back_fault (subject_of c (skips_in is)) c.stop (entries_in is) b) (Some f) → IsTrueOf c is f
 back_true c is f false ended e =
     let same : Fault.Malformed c.stop ≡ f = cc in
     subst (IsTrueOf c is) same (refl, ended)
@@ -140,7 +140,7 @@ through_skips [] is h = refl
 through_skips (w ∷ ws) is h = skips_behind w (ws ++ is) h.0 ∙ through_skips ws is h.1
 
 -- items depart from the wanted ones, or end before them, or what is behind them tells
-wanted_told : (c : Case) (wanted : List Item) (x : No) (behind : List Item → List No) (is : List Item) (f : No) → AreEqual wanted → Tells f (wanted_faults c wanted x behind is)
+wanted_told : (c : WalkCase) (wanted : List Item) (x : No) (behind : List Item → List No) (is : List Item) (f : No) → AreEqual wanted → Tells f (wanted_faults c wanted x behind is)
     → ((x ≡ f) × Depart wanted is) ⊎ (((Fault.Malformed c.stop ≡ f) × (is_ended is ≡ false)) ⊎ ((rest : List Item) × (is ≡ wanted ++ rest) × Tells f (behind rest)))
 wanted_told c [] x behind is f equal e = inr (inr (is, refl, e))
 wanted_told c (w ∷ wanted) x behind [] f equal e = inr (inl (cc, refl))
@@ -193,7 +193,7 @@ last_split [] b e = absurd (cc)
 last_split (x ∷ []) b e = ([], cc)
 last_split (x ∷ y ∷ done) b e = let r = last_split (y ∷ done) b e in (x ∷ r.0, ap (λ l. x ∷ l) r.1)
 
-skips_true : (c : Case) (all done : List RecordName) (js : List Item) (f : No) → all ≡ done ++ skips_in js → Tells f (front_skips c done js)
+skips_true : (c : WalkCase) (all done : List RecordName) (js : List Item) (f : No) → all ≡ done ++ skips_in js → Tells f (front_skips c done js)
     → ((k : ℕ) × (Fault.SkipOrder k ≡ f) × SkipsFall all k) ⊎ ((k : ℕ) × (Fault.NoSuchRecord k ≡ f) × IsNoRecord (named_records c.request.split c.files) all k)
 skips_true c all done [] f same e = absurd (untold f e)
 skips_true c all done (Skip s ∷ js) f same e =
@@ -239,14 +239,14 @@ lengths_place : (files : List (List ℕ)) (r : ℕ) (is : List Item) → InOrder
 lengths_place [] r is h = h
 lengths_place (f ∷ files) r is h = lengths_place files r is h.1
 
-header_place : (c : Case) (is : List Item) → InOrder AtMagic (job_wanted c.request ++ (input_wanted c.files ++ is)) → InOrder (AtSkips c.request.parts) is
+header_place : (c : WalkCase) (is : List Item) → InOrder AtMagic (job_wanted c.request ++ (input_wanted c.files ++ is)) → InOrder (AtSkips c.request.parts) is
 header_place c is h =
     let literal : List ℕ = job_literal c.request.job in
     let front = subst (InOrder (Places.literal_bytes (length literal))) (append_assoc (map LiteralByte literal) (Parts c.request.parts ∷ SplitSize c.request.split ∷ []) (input_wanted c.files ++ is)) h.1.1.1.1 in
     let parts = literal_place literal (Parts c.request.parts ∷ SplitSize c.request.split ∷ (input_wanted c.files ++ is)) front in
     lengths_place c.files c.request.parts is parts.1.1.1
 
-count_true : (c : Case) (all is js : List Item) (r : ℕ) (f : No) → (before : List Item) → is ≡ before ++ js → is_ended is ≡ is_ended js → skips_in is ≡ skips_in js
+count_true : (c : WalkCase) (all is js : List Item) (r : ℕ) (f : No) → (before : List Item) → is ≡ before ++ js → is_ended is ≡ is_ended js → skips_in is ≡ skips_in js
     → InOrder (AtSkips r) js → Tells f (front_count c js) → IsTrueOf c is f
 count_true c all is [] r f before same ended skips order e =
     let malformed : Fault.Malformed c.stop ≡ f = cc in
@@ -266,7 +266,7 @@ count_true c all is (i ∷ js) r f before same ended skips order e = at i order.
         ]
     at _ h same skips e = absurd h
 
-front_true : (c : Case) (is : List Item) (f : No) → InOrder AtMagic is → Tells f (front_faults c is) → IsTrueOf c is f
+front_true : (c : WalkCase) (is : List Item) (f : No) → InOrder AtMagic is → Tells f (front_faults c is) → IsTrueOf c is f
 front_true c is f order e =
     elim (either (passes (length c.outputs == c.request.parts) Fault.OutputCount) (wanted_faults c (job_wanted c.request) Fault.OtherJob (wanted_faults c (input_wanted c.files) Fault.OtherInput (front_count c)) is) f e) [
       | inl a ↦
@@ -295,7 +295,7 @@ front_true c is f order e =
 
 pub faults_are_true : FaultsAreTrue
 faults_are_true request files outputs bytes fault are_bytes e =
-    let c : Case = case_of request files outputs bytes in
+    let c : WalkCase = case_of request files outputs bytes in
     let is : List Item = items_of bytes in
     let s : Subject = subject_of c (skips_in is) in
     let order : InOrder AtMagic is = (read_front bytes are_bytes).0 in

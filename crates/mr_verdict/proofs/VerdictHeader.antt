@@ -19,7 +19,7 @@ use Rattle.mr_splits.specs.Kept.{is_past}
 use Rattle.mr_sequential.specs.Skips.{list_fault}
 use Rattle.mr_verdict.specs.declared.fault.No.{No}
 use Rattle.mr_verdict.specs.declared.fault.No.TheVariants as Fault
-use Rattle.mr_verdict.specs.Verdict.{Case, Reached, Subject, tests, after, passes, start, part_faults, subject_of, last_of, skip_faults, count_faults, item_eq, job_wanted, input_wanted, wanted_faults, Accepted, accepted_by, told_by}
+use Rattle.mr_verdict.specs.Verdict.{WalkCase, Reached, Subject, tests, after, passes, start, part_faults, subject_of, last_of, skip_faults, count_faults, item_eq, job_wanted, input_wanted, wanted_faults, Accepted, accepted_by, told_by}
 use Rattle.mr_verdict.proofs.VerdictTests.{none_left, none_right, none_both, passed, passes-true}
 
 -- ---- the verdict is yes where there is no fault
@@ -42,7 +42,7 @@ eq_is (Files m) (Files n) h = ap Files (eqb-true m n h)
 eq_is (FileLength m) (FileLength n) h = ap FileLength (eqb-true m n h)
 eq_is i w h = absurd (false≢true h)
 
-pub wanted_none : (c : Case) (wanted : List Item) (fault : No) (behind : List Item → List No) (is : List Item) → wanted_faults c wanted fault behind is ≡ []
+pub wanted_none : (c : WalkCase) (wanted : List Item) (fault : No) (behind : List Item → List No) (is : List Item) → wanted_faults c wanted fault behind is ≡ []
     → (rest : List Item) × (is ≡ wanted ++ rest) × (behind rest ≡ [])
 wanted_none c [] fault behind is h = (is, refl, h)
 wanted_none c (w ∷ wanted) fault behind [] h = absurd (cc)
@@ -54,7 +54,7 @@ wanted_none c (w ∷ wanted) fault behind (i ∷ is) h =
 abbrev pub AreEqual : List Item → Type 0
 AreEqual ws = AllByRecursion (λ w. item_eq w w ≡ true) ws
 
-wanted_pass : (c : Case) (wanted : List Item) (fault : No) (behind : List Item → List No) (rest : List Item) → AreEqual wanted → wanted_faults c wanted fault behind (wanted ++ rest) ≡ behind rest
+wanted_pass : (c : WalkCase) (wanted : List Item) (fault : No) (behind : List Item → List No) (rest : List Item) → AreEqual wanted → wanted_faults c wanted fault behind (wanted ++ rest) ≡ behind rest
 wanted_pass c [] fault behind rest h = refl
 wanted_pass c (w ∷ wanted) fault behind rest h = ap (λ t. t ++ wanted_faults c wanted fault behind (wanted ++ rest)) (passes-true (item_eq w w) fault h.0) ∙ wanted_pass c wanted fault behind rest h.1
 
@@ -75,10 +75,10 @@ equal_lengths (f ∷ files) = (eq-eqb (length f) (length f) refl, equal_lengths 
 pub equal_input : (files : List (List ℕ)) → AreEqual (input_wanted files)
 equal_input files = (eq-eqb (length files) (length files) refl, equal_lengths files)
 
-pub job_pass : (c : Case) (behind : List Item → List No) (rest : List Item) → wanted_faults c (job_wanted c.request) Fault.OtherJob behind (job_wanted c.request ++ rest) ≡ behind rest
+pub job_pass : (c : WalkCase) (behind : List Item → List No) (rest : List Item) → wanted_faults c (job_wanted c.request) Fault.OtherJob behind (job_wanted c.request ++ rest) ≡ behind rest
 job_pass c behind rest = wanted_pass c (job_wanted c.request) Fault.OtherJob behind rest (equal_job c.request)
 
-pub input_pass : (c : Case) (behind : List Item → List No) (rest : List Item) → wanted_faults c (input_wanted c.files) Fault.OtherInput behind (input_wanted c.files ++ rest) ≡ behind rest
+pub input_pass : (c : WalkCase) (behind : List Item → List No) (rest : List Item) → wanted_faults c (input_wanted c.files) Fault.OtherInput behind (input_wanted c.files ++ rest) ≡ behind rest
 input_pass c behind rest = wanted_pass c (input_wanted c.files) Fault.OtherInput behind rest (equal_input c.files)
 
 -- ---- the values that the wanted items tell
@@ -157,11 +157,11 @@ last_is (d ∷ e ∷ done) s = last_is (e ∷ done) s
 abbrev pub to_end : List (List (List Name)) → List Item
 to_end parts = flat_map part_items parts ++ End ∷ []
 
-behind_skips : (c : Case) (done : List RecordName) (parts : List (List (List Name))) → skip_faults c done (to_end parts) ≡ part_faults (subject_of c done) c.stop start (to_end parts)
+behind_skips : (c : WalkCase) (done : List RecordName) (parts : List (List (List Name))) → skip_faults c done (to_end parts) ≡ part_faults (subject_of c done) c.stop start (to_end parts)
 behind_skips c done [] = refl
 behind_skips c done (gs ∷ parts) = refl
 
-abbrev records_in : Case → List NamedRecord
+abbrev records_in : WalkCase → List NamedRecord
 records_in c = named_records c.request.split c.files
 
 abbrev NoFault : Option RunFault → Type 0
@@ -186,7 +186,7 @@ list_join rs before s ss p r h =
 one_more : (done : List RecordName) (s : RecordName) (ss : List RecordName) → (done ++ s ∷ []) ++ ss ≡ done ++ s ∷ ss
 one_more done s ss = append_assoc done (s ∷ []) ss
 
-pub skips_none : (c : Case) (ss done : List RecordName) (parts : List (List (List Name))) → skip_faults c done (map Skip ss ++ to_end parts) ≡ []
+pub skips_none : (c : WalkCase) (ss done : List RecordName) (parts : List (List (List Name))) → skip_faults c done (map Skip ss ++ to_end parts) ≡ []
     → NoFault (list_fault (records_in c) (last_of done) ss) × (part_faults (subject_of c (done ++ ss)) c.stop start (to_end parts) ≡ [])
 skips_none c [] done parts h = (refl, ap (λ w. part_faults (subject_of c w) c.stop start (to_end parts)) (append-nil done) ∙ (sym (behind_skips c done parts) ∙ h))
 skips_none c (s ∷ ss) done parts h =
@@ -200,7 +200,7 @@ skips_none c (s ∷ ss) done parts h =
       ap (λ w. part_faults (subject_of c w) c.stop start (to_end parts)) (sym (one_more done s ss)) ∙ r.1,
     )
 
-pub skips_pass : (c : Case) (ss done : List RecordName) (parts : List (List (List Name))) → NoFault (list_fault (records_in c) (last_of done) ss)
+pub skips_pass : (c : WalkCase) (ss done : List RecordName) (parts : List (List (List Name))) → NoFault (list_fault (records_in c) (last_of done) ss)
     → skip_faults c done (map Skip ss ++ to_end parts) ≡ part_faults (subject_of c (done ++ ss)) c.stop start (to_end parts)
 skips_pass c [] done parts h = behind_skips c done parts ∙ ap (λ w. part_faults (subject_of c w) c.stop start (to_end parts)) (sym (append-nil done))
 skips_pass c (s ∷ ss) done parts h =
@@ -218,21 +218,21 @@ part_ends s at st [] h = absurd (cc)
 part_ends s at st (End ∷ is) h = inl refl
 part_ends s at st (i ∷ is) h = inr (part_ends s at (after s st i) is (none_right (tests s st i) _ h))
 
-skip_ends : (c : Case) (done : List RecordName) (is : List Item) → skip_faults c done is ≡ [] → Has is End
+skip_ends : (c : WalkCase) (done : List RecordName) (is : List Item) → skip_faults c done is ≡ [] → Has is End
 skip_ends c done [] h = part_ends (subject_of c done) c.stop start [] h
 skip_ends c done (Skip s ∷ is) h =
     inr (skip_ends c (done ++ s ∷ []) is (none_right (passes (is_past (last_of done) s) (Fault.SkipOrder (length done)) ++ passes (is_record (records_in c) s) (Fault.NoSuchRecord (length done))) _ h))
 skip_ends c done (i ∷ is) h = part_ends (subject_of c done) c.stop start (i ∷ is) h
 
 -- the number of left-out records, and what is behind it
-pub count_none : (c : Case) (is : List Item) → count_faults c is ≡ [] → (n : ℕ) × (rest : List Item) × (is ≡ Skips n ∷ rest) × (n ≤ c.request.skips) × (skip_faults c [] rest ≡ [])
+pub count_none : (c : WalkCase) (is : List Item) → count_faults c is ≡ [] → (n : ℕ) × (rest : List Item) × (is ≡ Skips n ∷ rest) × (n ≤ c.request.skips) × (skip_faults c [] rest ≡ [])
 count_none c (Skips n ∷ is) h =
     let test : List No = passes (nat_le n c.request.skips) (Fault.TooManySkips n) in
     (n, is, refl, leb-true _ _ (passed _ _ (none_left test _ h)), none_right test _ h)
 count_none c [] h = absurd (cc)
 count_none c (i ∷ is) h = absurd (cc)
 
-pub count_ends : (c : Case) (is : List Item) → count_faults c is ≡ [] → Has is End
+pub count_ends : (c : WalkCase) (is : List Item) → count_faults c is ≡ [] → Has is End
 count_ends c is h =
     let r = count_none c is h in
     subst (λ w. Has w End) (sym r.2) (inr (skip_ends c [] r.1 r.4))

@@ -11,7 +11,7 @@ use Rattle.mr_certform.proofs.Walks.{longest_items}
 use Rattle.mr_splits.specs.Kept.{is_past}
 use Rattle.mr_verdict.specs.declared.fault.No.{No}
 use Rattle.mr_verdict.specs.declared.fault.No.TheVariants as Fault
-use Rattle.mr_verdict.specs.Verdict.{Case, Reached, Subject, passes, start, tests, after, part_faults, subject_of, last_of, skip_faults, count_faults, item_eq, job_wanted, input_wanted, wanted_faults, faults, Accepted, told_by, case_of, verdict_of, first}
+use Rattle.mr_verdict.specs.Verdict.{WalkCase, Reached, Subject, passes, start, tests, after, part_faults, subject_of, last_of, skip_faults, count_faults, item_eq, job_wanted, input_wanted, wanted_faults, faults, Accepted, told_by, case_of, verdict_of, first}
 use Rattle.mr_verdict.specs.VerdictLaws.{IsTested, LaterItemsDontMatter}
 
 module _ (fault : No) (tested : IsTested fault) where
@@ -36,9 +36,9 @@ module _ (fault : No) (tested : IsTested fault) where
   parts_tell s m n st (End ∷ is) js h = h
   parts_tell s m n st (i ∷ is) js h = same_tests (tests s st i) (part_faults s m (after s st i) is) (part_faults s n (after s st i) (is ++ js)) (parts_tell s m n (after s st i) is js) h
 
-  module _ (c : Case) (n : ℕ) where
+  module _ (c : WalkCase) (n : ℕ) where
     -- the same, its items stopping elsewhere
-    abbrev other : Case
+    abbrev other : WalkCase
     other = record c { stop = n }
 
     skips_tell : (skips : List RecordName) (is js : List Item) → Tells (skip_faults c skips is) → Tells (skip_faults other skips (is ++ js))

@@ -14,7 +14,7 @@ use Rattle.mr_bytes.specs.Pairs.{Triple}
 use Rattle.mr_sequential.specs.Good.{named}
 use Rattle.mr_verdict.specs.declared.fault.No.{No}
 use Rattle.mr_verdict.specs.declared.fault.No.TheVariants as Fault
-use Rattle.mr_verdict.specs.Verdict.{Case, Reached, Subject, Accepted, passes, start, tests, after, last_of, item_eq, job_wanted, input_wanted, wanted_faults, faults, told_by, accepted_by, case_of, subject_of, verdict_of, text_tests, end_tests, order_tests, with_entry, entry_tests, group_tests, behind_group, after_entry, first, entries_in}
+use Rattle.mr_verdict.specs.Verdict.{WalkCase, Reached, Subject, Accepted, passes, start, tests, after, last_of, item_eq, job_wanted, input_wanted, wanted_faults, faults, told_by, accepted_by, case_of, subject_of, verdict_of, text_tests, end_tests, order_tests, with_entry, entry_tests, group_tests, behind_group, after_entry, first, entries_in}
 use Rattle.mr_verdict.specs.VerdictLaws.{told, piece, part_fault, before_fault, last_before, SameBy, SameFor, fault_of, or_else, skips_in, parts_in, front_skips, front_count, front_faults, least_fault, back_fault, SameInPart, SameFrom, SameUnless, OtherOutputsDontMatter, BytesBehindDontMatter, OnlyComparedMatters}
 use Rattle.mr_verdict.proofs.VerdictPlace.{fault_by_place}
 use Rattle.mr_verdict.proofs.VerdictTests.{none_left, none_right, none_both}
@@ -475,7 +475,7 @@ one_verdict [] (y ∷ ys) a e = absurd (cc)
 one_verdict (x ∷ xs) [] a e = absurd (cc)
 one_verdict (x ∷ xs) (y ∷ ys) a e = let same : x ≡ y = cc in ap (λ (w : No). let it : Result Accepted No = Err w in it) same
 
-front_same : (c : Case) (others : List (List ℕ)) (is : List Item) → length others ≡ length c.outputs → front_faults (record c { outputs = others }) is ≡ front_faults c is
+front_same : (c : WalkCase) (others : List (List ℕ)) (is : List Item) → length others ≡ length c.outputs → front_faults (record c { outputs = others }) is ≡ front_faults c is
 front_same c others is e =
     ap (λ (n : ℕ). passes (n == c.request.parts) Fault.OutputCount ++ wanted_faults (record c { outputs = others }) (job_wanted c.request) Fault.OtherJob (wanted_faults (record c { outputs = others }) (input_wanted c.files) Fault.OtherInput (front_count (record c { outputs = others }))) is) e
     ∙ ap (λ w. passes (length c.outputs == c.request.parts) Fault.OutputCount ++ w)

@@ -20,7 +20,7 @@ use Rattle.mr_sequential.specs.Good.{named}
 use Rattle.mr_splits.specs.Kept.{is_past}
 use Rattle.mr_verdict.specs.declared.fault.No.{No}
 use Rattle.mr_verdict.specs.declared.fault.No.TheVariants as Fault
-use Rattle.mr_verdict.specs.Verdict.{Case, Reached, Subject, passes, start, tests, after, part_faults, subject_of, last_of, skip_faults, count_faults, item_eq, job_wanted, input_wanted, wanted_faults, faults, Accepted, accepted_by, told_by, case_of, verdict_of, order_tests, with_entry, entry_tests, group_tests, behind_group, after_entry, first, entries_in}
+use Rattle.mr_verdict.specs.Verdict.{WalkCase, Reached, Subject, passes, start, tests, after, part_faults, subject_of, last_of, skip_faults, count_faults, item_eq, job_wanted, input_wanted, wanted_faults, faults, Accepted, accepted_by, told_by, case_of, verdict_of, order_tests, with_entry, entry_tests, group_tests, behind_group, after_entry, first, entries_in}
 use Rattle.mr_verdict.specs.VerdictLaws.{told, or_else, fault_of, skips_in, piece, parts_in, front_skips, front_count, front_faults, part_fault, least_fault, back_fault, FaultByPlace}
 use Rattle.mr_verdict.proofs.VerdictHeader.{AreEqual, eq_is, equal_job, equal_input}
 
@@ -258,13 +258,13 @@ module _ (s : Subject) where
 -- ---- what stands before the partitions
 
 -- the faults of the partitions, and behind them
-abbrev rest_of : Case → List RecordName → List Item → Option No
+abbrev rest_of : WalkCase → List RecordName → List Item → Option No
 rest_of c skips is = or_else (least_fault (subject_of c skips) 0 (parts_in is)) (back_fault (subject_of c skips) c.stop (entries_in is) (is_ended is))
 
-abbrev SkipsSplit : Case → List RecordName → List Item → Type 0
+abbrev SkipsSplit : WalkCase → List RecordName → List Item → Type 0
 SkipsSplit c done is = first (skip_faults c done is) ≡ or_else (first (front_skips c done is)) (rest_of c (done ++ skips_in is) is)
 
-from_start : (c : Case) (p : GrammarState) (done : List RecordName) (is : List Item) → InOrder p is → piece is ≡ [] → skips_in is ≡ []
+from_start : (c : WalkCase) (p : GrammarState) (done : List RecordName) (is : List Item) → InOrder p is → piece is ≡ [] → skips_in is ≡ []
     → first (part_faults (subject_of c done) c.stop start is) ≡ rest_of c (done ++ skips_in is) is
 from_start c p done is h no_items no_skips =
     let count : 0 + entries_in is ≡ entries_in is = omega arith in
@@ -274,7 +274,7 @@ from_start c p done is h no_items no_skips =
     ∙ (ap (λ k. or_else (least_fault (subject_of c done) 0 (parts_in is)) (back_fault (subject_of c done) c.stop k (is_ended is))) count
     ∙ ap (λ w. rest_of c w is) same))
 
-skips_split : (c : Case) (r n : ℕ) (done : List RecordName) (is : List Item) → InOrder (Places.skips r n) is → SkipsSplit c done is
+skips_split : (c : WalkCase) (r n : ℕ) (done : List RecordName) (is : List Item) → InOrder (Places.skips r n) is → SkipsSplit c done is
 skips_split c r n done [] h = refl
 skips_split c zero zero done (i ∷ is) h = ends i is h
   where
@@ -292,10 +292,10 @@ skips_split c r (suc n) done (Skip s ∷ is) h =
     (skips_split c r n (done ++ s ∷ []) is h.1 ∙ ap (λ w. or_else (first (front_skips c (done ++ s ∷ []) is)) (rest_of c w is)) (append_assoc done (s ∷ []) (skips_in is)))
 skips_split c r (suc n) done (i ∷ is) h = absurd h.0
 
-abbrev CountSplits : Case → List Item → Type 0
+abbrev CountSplits : WalkCase → List Item → Type 0
 CountSplits c is = first (count_faults c is) ≡ or_else (first (front_count c is)) (rest_of c (skips_in is) is)
 
-count_splits : (c : Case) (p : GrammarState) (is : List Item) → InOrder p is → CountSplits c is
+count_splits : (c : WalkCase) (p : GrammarState) (is : List Item) → InOrder p is → CountSplits c is
 count_splits c p [] h = refl
 count_splits c p (Skips n ∷ is) h = at p h
   where
@@ -305,7 +305,7 @@ count_splits c p (Skips n ∷ is) h = at p h
     at _ h = absurd h.0
 count_splits c p (i ∷ is) h = refl
 
-wanted_split : (c : Case) (wanted : List Item) (fault : No) (a b : List Item → List No) (is : List Item) (o : Option No)
+wanted_split : (c : WalkCase) (wanted : List Item) (fault : No) (a b : List Item → List No) (is : List Item) (o : Option No)
     → ((rest : List Item) → is ≡ wanted ++ rest → first (a rest) ≡ or_else (first (b rest)) o)
     → first (wanted_faults c wanted fault a is) ≡ or_else (first (wanted_faults c wanted fault b is)) o
 wanted_split c [] fault a b is o f = f is refl
@@ -319,7 +319,7 @@ wanted_split c (w ∷ wanted) fault a b (i ∷ is) o f = by (item_eq i w) refl (
     by false e rec_ = refl
 
 -- the wanted items tell of no left-out record, partition or entry
-through : (c : Case) (ws is : List Item) → AreEqual ws → rest_of c (skips_in (ws ++ is)) (ws ++ is) ≡ rest_of c (skips_in is) is
+through : (c : WalkCase) (ws is : List Item) → AreEqual ws → rest_of c (skips_in (ws ++ is)) (ws ++ is) ≡ rest_of c (skips_in is) is
 through c [] is h = refl
 through c (Magic ∷ ws) is h = through c ws is h.1
 through c (Job m ∷ ws) is h = through c ws is h.1
@@ -336,7 +336,7 @@ order_behind : (p : GrammarState) (is js : List Item) → InOrder p (is ++ js) �
 order_behind p [] js h = (p, h)
 order_behind p (i ∷ is) js h = order_behind (Places.behind p i) is js h.1
 
-all_split : (c : Case) (is : List Item) → InOrder AtMagic is → first (faults c is) ≡ or_else (first (front_faults c is)) (rest_of c (skips_in is) is)
+all_split : (c : WalkCase) (is : List Item) → InOrder AtMagic is → first (faults c is) ≡ or_else (first (front_faults c is)) (rest_of c (skips_in is) is)
 all_split c is h =
     first_same (passes (length c.outputs == c.request.parts) Fault.OutputCount)
     (wanted_faults c (job_wanted c.request) Fault.OtherJob (wanted_faults c (input_wanted c.files) Fault.OtherInput (count_faults c)) is)

@@ -28,7 +28,7 @@ use Rattle.mr_sequential.specs.Good.{IsGoodPart, entries_of, groups_at}
 use Rattle.mr_sequential.specs.Skips.{list_fault}
 use Rattle.mr_verdict.specs.declared.fault.No.{No}
 use Rattle.mr_verdict.specs.declared.fault.No.TheVariants as Fault
-use Rattle.mr_verdict.specs.Verdict.{Case, Subject, passes, start, part_faults, subject_of, skip_faults, count_faults, job_wanted, input_wanted, wanted_faults, faults, Accepted, accepted_by, told_by, case_of, verdict_of}
+use Rattle.mr_verdict.specs.Verdict.{WalkCase, Subject, passes, start, part_faults, subject_of, skip_faults, count_faults, job_wanted, input_wanted, wanted_faults, faults, Accepted, accepted_by, told_by, case_of, verdict_of}
 use Rattle.mr_verdict.specs.VerdictLaws.{told, behind, YesIsGood, GoodIsYes}
 use Rattle.mr_verdict.proofs.VerdictTests.{none_left, none_right, none_both, passed, passes-true}
 use Rattle.mr_sequential.proofs.EntryLaws.{EachFrom, each_from, from_each, no_more_entries}
@@ -69,7 +69,7 @@ parts_have (gs ∷ parts) h = (have_entries gs (h.0).groups, parts_have parts h.
 -- ---- yes means good
 
 -- a certificate whose items tell no fault
-record Untold (K : Case) (c : Contents) : Type 0 where
+record Untold (K : WalkCase) (c : Contents) : Type 0 where
   job : SameJob c K.request
   lengths : c.lengths ≡ map length K.files
   few : length c.skips ≤ K.request.skips
@@ -77,7 +77,7 @@ record Untold (K : Case) (c : Contents) : Type 0 where
   parts : part_faults (subject_of K c.skips) K.stop start (to_end c.groups) ≡ []
 
 -- what stands behind the wanted items
-record Front (K : Case) (is : List Item) : Type 0 where
+record Front (K : WalkCase) (is : List Item) : Type 0 where
   outputs : length K.outputs ≡ K.request.parts
   behind_job : List Item
   behind_input : List Item
@@ -85,7 +85,7 @@ record Front (K : Case) (is : List Item) : Type 0 where
   input : behind_job ≡ input_wanted K.files ++ behind_input
   count : count_faults K behind_input ≡ []
 
-front_of : (K : Case) (is : List Item) → faults K is ≡ [] → Front K is
+front_of : (K : WalkCase) (is : List Item) → faults K is ≡ [] → Front K is
 front_of K is h =
     let test : List No = passes (length K.outputs == K.request.parts) Fault.OutputCount in
     let outputs = passed _ _ (none_left test _ h) in
@@ -93,13 +93,13 @@ front_of K is h =
     let input = wanted_none K (input_wanted K.files) Fault.OtherInput (count_faults K) job.0 job.2 in
     record { outputs = eqb-true _ _ outputs; behind_job = job.0; behind_input = input.0; job = job.1; input = input.1; count = input.2 }
 
-front_ends : (K : Case) (is : List Item) → Front K is → Has is End
+front_ends : (K : WalkCase) (is : List Item) → Front K is → Has is End
 front_ends K is f =
     let ends = count_ends K f.behind_input f.count in
     let input : Has f.behind_job End = subst (λ w. Has w End) (sym f.input) (Has-append_right (input_wanted K.files) f.behind_input End ends) in
     subst (λ w. Has w End) (sym f.job) (Has-append_right (job_wanted K.request) f.behind_job End input)
 
-untold : (K : Case) (is : List Item) (c : Contents) → Front K is → is ≡ certificate_items c → Untold K c
+untold : (K : WalkCase) (is : List Item) (c : Contents) → Front K is → is ≡ certificate_items c → Untold K c
 unfolding certificate_items
 untold K is c f same =
     let job = job_same c K.request (input_items c ++ (skip_items c ++ to_end c.groups)) f.behind_job (sym same ∙ f.job) in

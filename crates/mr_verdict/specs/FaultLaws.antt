@@ -23,7 +23,7 @@ use Rattle.mr_verdict.specs.declared.fault.No.{No}
 use Rattle.mr_verdict.specs.declared.fault.Source.{Source}
 use Rattle.mr_verdict.specs.declared.fault.No.TheVariants.{OutputCount, Malformed, OtherJob, OtherInput, SkipOrder, NoSuchRecord, TooManySkips, NoSuchPair}
 use Rattle.mr_verdict.specs.declared.fault.No.TheVariants.{EntryOrder, KeyDiffers, WrongPartition, KeyOrder, OutputDiffers, Unnamed, OutOfMemory, Device}
-use Rattle.mr_verdict.specs.Verdict.{Case, Subject, subject_of, job_wanted, input_wanted, entries_in, case_of, verdict_of}
+use Rattle.mr_verdict.specs.Verdict.{WalkCase, Subject, subject_of, job_wanted, input_wanted, entries_in, case_of, verdict_of}
 use Rattle.mr_verdict.specs.VerdictLaws.{skips_in, parts_in}
 
 -- ---- what stands of a certificate
@@ -210,7 +210,7 @@ pub record AreUnnamed (items : List Item) (ts : List Triple) (emitted named : �
   pub fewer : named < emitted
 
 -- what a fault says of a case and the items of the certificate's bytes
-abbrev pub IsTrueOf : Case → List Item → No → Type 0
+abbrev pub IsTrueOf : WalkCase → List Item → No → Type 0
 IsTrueOf c is OutputCount = length c.outputs ≢ c.request.parts
 IsTrueOf c is OtherJob = Depart (job_wanted c.request) is
 IsTrueOf c is OtherInput = DepartBehind (job_wanted c.request) (input_wanted c.files) is

@@ -12,7 +12,7 @@ use Rattle.mr_sequential.specs.Rules.{rules_of}
 use Rattle.mr_splits.specs.Kept.{is_past}
 use Rattle.mr_verdict.specs.declared.fault.No.{No}
 use Rattle.mr_verdict.specs.declared.fault.No.TheVariants.{OtherJob, OtherInput, Malformed, SkipOrder, NoSuchRecord, TooManySkips, OutOfMemory}
-use Rattle.mr_verdict.specs.Verdict.{first, Case, Reached, Subject, item_eq, last_of, job_wanted, input_wanted}
+use Rattle.mr_verdict.specs.Verdict.{first, WalkCase, Reached, Subject, item_eq, last_of, job_wanted, input_wanted}
 
 -- an answer for these faults: the first of them, or want of memory
 abbrev pub Answers : List No → No → Type 0
@@ -130,5 +130,5 @@ awaits_skips (Skips n ∷ is) = skips_in_front n is
 awaits_skips is = false
 
 -- what is judged, by where the items stop
-abbrev pub case_at : RequestSpec → List (List ℕ) → List (List ℕ) → ℕ → Case
+abbrev pub case_at : RequestSpec → List (List ℕ) → List (List ℕ) → ℕ → WalkCase
 case_at request files outputs at = record { request = request; files = files; outputs = outputs; stop = at }

@@ -28,7 +28,7 @@ use Rattle.mr_verdict.specs.declared.fault.No.TheVariants.{OutputCount, Malforme
 use Rattle.mr_verdict.specs.declared.fault.No.TheVariants.{EntryOrder, KeyDiffers, WrongPartition, KeyOrder, OutputDiffers, Unnamed}
 
 -- what is judged: the order and the files, the outputs, and where the items of the certificate's bytes stop
-pub record Case : Type 0 where
+pub record WalkCase : Type 0 where
   pub request : RequestSpec
   pub files : List (List ℕ)
   pub outputs : List (List ℕ)
@@ -142,7 +142,7 @@ part_faults s at st (i ∷ is) = tests s st i ++ part_faults s at (after s st i)
 -- ---- the left-out records
 
 -- the subject, with what is emitted without these records
-abbrev pub subject_of : Case → List RecordName → Subject
+abbrev pub subject_of : WalkCase → List RecordName → Subject
 subject_of c skips = record {
   triples = emitted c.request.job c.request.split c.files skips;
   rules = rules_of c.request;
@@ -155,7 +155,7 @@ last_of (s ∷ []) = Some s
 last_of (s ∷ t ∷ ss) = last_of (t ∷ ss)
 
 -- each in turn, behind those before it: its order before its existence; behind the last the partitions
-abbrev pub skip_faults : Case → List RecordName → List Item → List No
+abbrev pub skip_faults : WalkCase → List RecordName → List Item → List No
 skip_faults c skips (Skip s ∷ is) =
     passes (is_past (last_of skips) s) (SkipOrder (length skips))
     ++ passes (is_record (named_records c.request.split c.files) s) (NoSuchRecord (length skips))
@@ -163,7 +163,7 @@ skip_faults c skips (Skip s ∷ is) =
 skip_faults c skips is = part_faults (subject_of c skips) c.stop start is
 
 -- how many there are is tested first
-abbrev pub count_faults : Case → List Item → List No
+abbrev pub count_faults : WalkCase → List Item → List No
 count_faults c (Skips n ∷ is) = passes (nat_le n c.request.skips) (TooManySkips n) ++ skip_faults c [] is
 count_faults c is = Malformed c.stop ∷ []
 
@@ -191,7 +191,7 @@ abbrev pub input_wanted : List (List ℕ) → List Item
 input_wanted files = Files (length files) ∷ map (λ f. FileLength (length f)) files
 
 -- each item in turn is the wanted one, and then what is behind them
-abbrev pub wanted_faults : Case → List Item → No → (List Item → List No) → List Item → List No
+abbrev pub wanted_faults : WalkCase → List Item → No → (List Item → List No) → List Item → List No
 wanted_faults c [] fault behind is = behind is
 wanted_faults c (w ∷ wanted) fault behind [] = Malformed c.stop ∷ []
 wanted_faults c (w ∷ wanted) fault behind (i ∷ is) = passes (item_eq i w) fault ++ wanted_faults c wanted fault behind is
@@ -199,7 +199,7 @@ wanted_faults c (w ∷ wanted) fault behind (i ∷ is) = passes (item_eq i w) fa
 -- ---- the verdict
 
 -- all faults in the order of the tests
-abbrev pub faults : Case → List Item → List No
+abbrev pub faults : WalkCase → List Item → List No
 faults c is =
     passes (length c.outputs == c.request.parts) OutputCount
     ++ wanted_faults c (job_wanted c.request) OtherJob (wanted_faults c (input_wanted c.files) OtherInput (count_faults c)) is
@@ -232,7 +232,7 @@ abbrev pub told_by : List No → Accepted → Result Accepted No
 told_by [] accepted = Ok accepted
 told_by (fault ∷ faults) accepted = Err fault
 
-abbrev pub case_of : RequestSpec → List (List ℕ) → List (List ℕ) → List ℕ → Case
+abbrev pub case_of : RequestSpec → List (List ℕ) → List (List ℕ) → List ℕ → WalkCase
 case_of request files outputs bytes = record { request = request; files = files; outputs = outputs; stop = stop bytes }
 
 -- the verdict on outputs and the bytes of a certificate

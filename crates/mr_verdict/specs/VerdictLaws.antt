@@ -18,7 +18,7 @@ use Rattle.mr_splits.specs.Kept.{is_past}
 use Rattle.mr_verdict.specs.declared.fault.No.{No}
 use Rattle.mr_verdict.specs.declared.fault.No.TheVariants.{OutputCount, Malformed, OtherJob, OtherInput, SkipOrder, NoSuchRecord, TooManySkips, NoSuchPair}
 use Rattle.mr_verdict.specs.declared.fault.No.TheVariants.{EntryOrder, KeyDiffers, WrongPartition, KeyOrder, OutputDiffers, Unnamed}
-use Rattle.mr_verdict.specs.Verdict.{first, entries_in, Case, Accepted, Reached, Subject, passes, start, tests, after, subject_of, last_of, job_wanted}
+use Rattle.mr_verdict.specs.Verdict.{first, entries_in, WalkCase, Accepted, Reached, Subject, passes, start, tests, after, subject_of, last_of, job_wanted}
 use Rattle.mr_verdict.specs.Verdict.{input_wanted, wanted_faults, faults, case_of, verdict_of}
 
 -- ---- yes
@@ -83,18 +83,18 @@ parts_in (Groups n ∷ is) = (Groups n ∷ piece is) ∷ parts_in is
 parts_in (i ∷ is) = parts_in is
 
 -- what is told before the partitions
-abbrev pub front_skips : Case → List RecordName → List Item → List No
+abbrev pub front_skips : WalkCase → List RecordName → List Item → List No
 front_skips c skips (Skip s ∷ is) =
     passes (is_past (last_of skips) s) (SkipOrder (length skips))
     ++ passes (is_record (named_records c.request.split c.files) s) (NoSuchRecord (length skips))
     ++ front_skips c (skips ++ s ∷ []) is
 front_skips c skips is = []
 
-abbrev pub front_count : Case → List Item → List No
+abbrev pub front_count : WalkCase → List Item → List No
 front_count c (Skips n ∷ is) = passes (nat_le n c.request.skips) (TooManySkips n) ++ front_skips c [] is
 front_count c is = Malformed c.stop ∷ []
 
-abbrev pub front_faults : Case → List Item → List No
+abbrev pub front_faults : WalkCase → List Item → List No
 front_faults c is =
     passes (length c.outputs == c.request.parts) OutputCount
     ++ wanted_faults c (job_wanted c.request) OtherJob (wanted_faults c (input_wanted c.files) OtherInput (front_count c)) is
@@ -132,7 +132,7 @@ IsTested fault = Unit {0}
 
 -- a fault that the tests of a beginning of the items tell is the verdict, whatever bytes follow
 abbrev pub LaterItemsDontMatter : Type 0
-LaterItemsDontMatter = (c : Case) (v : Version) (is : List Item) (more : List ℕ) (fault : No)
+LaterItemsDontMatter = (c : WalkCase) (v : Version) (is : List Item) (more : List ℕ) (fault : No)
     → InOrderIn v AtMagic is → (is_ended is ≡ true → more ≡ []) → first (faults c is) ≡ Some fault → IsTested fault
     → verdict_of c.request c.files c.outputs (bytes_from v AtMagic is ++ more) ≡ Err fault
 

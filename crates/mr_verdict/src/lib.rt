@@ -3,6 +3,7 @@
 //! whatever gives the items.
 #![tactic(auto)]
 
+mod case;
 mod fault;
 mod heading;
 mod items;
@@ -10,6 +11,7 @@ mod laws;
 mod skips;
 mod yes;
 
+pub use case::Case;
 pub use fault::{No, Source, is_same_fault};
 pub use heading::expect_header;
 pub use items::{ItemError, ItemSource, JudgeError};

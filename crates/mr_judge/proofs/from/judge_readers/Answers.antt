@@ -1,6 +1,6 @@
 use Rattle.std.proofs.Common.{map, arith}
 use Rattle.mr_judge.proofs.FromLemmas.{judged, verdict, headline}
-use Rattle.mr_judge.proofs.from.check_from_watched.Goals as goal
+use Rattle.mr_judge.proofs.from.judge_readers.Goals as goal
 
 pub returns-clause-judged : goal.returns-clause-judged
 returns-clause-judged g c =

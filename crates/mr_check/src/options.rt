@@ -1,0 +1,30 @@
+//! How a result is judged by threads.
+ghost use Rattle.std.specs.Prelude.{◌≤◌};
+
+use crate::ahead::MappedInput;
+use mr_bytes::{Gate, Progress};
+use std::alloc::Global;
+use std::thread::Threads;
+
+/// How a result is judged.
+#[derive(Drop)]
+pub struct JudgeOptions<'a, G: Gate, W: Progress> {
+    /// How many threads judge, 1 to 64.
+    pub threads: u32,
+    /// Each thread passes it round each piece of work.
+    pub gate: &'a G,
+    /// Each thread reports each piece of work to it.
+    pub progress: &'a W,
+    /// The input, where it was mapped before the result was there.
+    pub mapped: Option<&'a MappedInput<'a>>,
+    pub ghost some: { 1 ≤ threads },
+    pub ghost few: { threads ≤ 64 },
+}
+
+/// What runs the pieces of a judge's work.
+#[derive(Drop)]
+pub(crate) struct Crew<'a, R: Threads + Sync, G: Gate, W: Progress> {
+    pub rt: &'a R,
+    pub alloc: Global,
+    pub options: &'a JudgeOptions<'a, G, W>,
+}
