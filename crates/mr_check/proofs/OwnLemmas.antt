@@ -1,20 +1,18 @@
 -- The items of one partition, one by one.
-use Rattle.std.proofs.Common.{◌≡◌, ℕ, ◌+◌, ◌<◌, ◌≤◌, Bool, true, false, Ok, None, List, [], ◌∷◌, ◌++◌, length, drop, get_or, refl, ap, sym, subst, ◌∙◌, arith}
+use Rattle.std.proofs.Common.{◌≡◌, ℕ, ◌+◌, ◌<◌, Bool, true, Ok, List, [], ◌∷◌, length, drop, get_or, refl, ap, sym, subst, ◌∙◌, arith}
 use Rattle.std.proofs.lemmas.List.{drop_more, drop_all, drop-drop}
 use Rattle.std.proofs.lemmas.Bool.{false≢true}
-use Rattle.mr_bytes.specs.declared.Name.{Name}
 use Rattle.mr_certform.specs.declared.item.Item.{Item}
-use Rattle.mr_certform.specs.declared.item.Item.TheVariants.{Groups, Entry, End}
+use Rattle.mr_certform.specs.declared.item.Item.TheVariants.{Groups, End}
 use Rattle.mr_certform.specs.Spelling.{left_behind}
 use Rattle.mr_judge.specs.declared.blocks.FoundItem.{FoundItem}
-use Rattle.mr_verdict.specs.declared.fault.No.{No}
-use Rattle.mr_verdict.specs.Verdict.{Reached, Subject, start, tests, after, first}
+use Rattle.mr_verdict.specs.Verdict.{Reached, Subject, tests, after, first}
 use Rattle.mr_verdict.specs.VerdictLaws.{told, piece}
-use Rattle.mr_verdict.specs.Steps.{Answers, HasRoom, Room}
+use Rattle.mr_verdict.specs.Steps.{HasRoom, Room}
 use Rattle.mr_judge.specs.Blocks.{onto, items_in}
 use Rattle.mr_verdict.specs.Steps.{opens}
 use Rattle.mr_check.specs.Fronts.{is_own, part_here, OwnGoesOn, OwnJudged, Opened}
-use Rattle.mr_judge.proofs.Faults.{first_more, told_left, told_is}
+use Rattle.mr_judge.proofs.Faults.{first_more}
 use Rattle.mr_judge.proofs.PartLemmas.{room_after}
 use Rattle.mr_judge.proofs.BlockLemmas.{blank, items_long}
 

@@ -1,5 +1,5 @@
 //! How a result is judged by threads.
-ghost use Rattle.std.specs.Prelude.{◌≤◌};
+ghost use Rattle.std.specs.Prelude.{◌≡◌, ◌≤◌};
 
 use crate::ahead::MappedInput;
 use mr_bytes::{Gate, Progress};
@@ -19,6 +19,26 @@ pub struct JudgeOptions<'a, G: Gate, W: Progress> {
     pub mapped: Option<&'a MappedInput<'a>>,
     pub ghost some: { 1 ≤ threads },
     pub ghost few: { threads ≤ 64 },
+}
+
+impl<'a, G: Gate, W: Progress> JudgeOptions<'a, G, W> {
+    /// By so many threads, from 1 to 64.
+    pub fn of(
+        threads: u32,
+        gate: &'a G,
+        progress: &'a W,
+        mapped: Option<&'a MappedInput<'a>>,
+    ) -> JudgeOptions<'a, G, W>
+        requires { (1 ≤ threads) × (threads ≤ 64) }
+        ensures { result.mapped ≡ mapped.entry }
+    {
+        JudgeOptions {
+            threads,
+            gate,
+            progress,
+            mapped,
+        }
+    }
 }
 
 /// What runs the pieces of a judge's work.

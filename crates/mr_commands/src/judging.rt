@@ -111,12 +111,7 @@ fn verdict<R: Threads + Sync>(
     if threads == 1 {
         return judge_on_one_thread(alloc, &case, watch);
     }
-    let options = JudgeOptions {
-        threads,
-        gate: &OpenGate,
-        progress: &watch,
-        mapped: None,
-    };
+    let options = JudgeOptions::of(threads, &OpenGate, &watch, None);
     judge(rt, alloc, &case, &options)
 }
 

@@ -156,28 +156,6 @@ fn answer(
     }
 }
 
-/// Maps the input for the judge, by so many threads, before the result is there.
-fn map_ahead<'a, R: Threads + Sync, W: Progress>(
-    rt: &R,
-    alloc: Global,
-    request: &Request,
-    plan: &'a Plan<'a>,
-    workers: u32,
-    watch: &W,
-) -> Result<MappedInput<'a>, AllocError>
-    requires same { plan.now.size ≡ request.now.split }
-    requires workers { (1 ≤ workers) × (workers ≤ 64) }
-    ensures { IfOk result (IsMappedFor request.now plan.entry.now.files) }
-{
-    let options = JudgeOptions {
-        threads: workers,
-        gate: &OpenGate,
-        progress: &JudgesProgress { watch },
-        mapped: None,
-    };
-    map_input(rt, alloc, request, plan, &options)
-}
-
 /// What makes the result of a run and judges it: by as many threads as there are workers, for who looks on.
 #[derive(Drop)]
 struct RunJudge<'a, W: Progress, R: Threads + Sync> {
@@ -219,7 +197,11 @@ impl<'a, W: Progress, R: Threads + Sync> RunJudge<'a, W, R> {
             requires same { plan.now.size ≡ request.now.split }
             requires workers { (1 ≤ workers) × (workers ≤ 64) }
             ensures { IfOk result (IsMappedFor request.entry.now plan.entry.now.files) }
-        { map_ahead(rt, alloc, request, plan, workers, watch) };
+        {
+            let progress = JudgesProgress { watch };
+            let options = JudgeOptions::of(workers, &OpenGate, &progress, None);
+            map_input(rt, alloc, request, plan, &options)
+        };
         let assembling = move || -> Result<(Vec<Vec<u8>>, Vec<u8>), AllocError>
             requires ends { book.now.state.end ≡ Some Ended.Done }
             requires opened { IsOpenedFor request.now input.now book.now.shape }
@@ -258,12 +240,9 @@ impl<'a, W: Progress, R: Threads + Sync> RunJudge<'a, W, R> {
             outputs,
             certificate,
         };
-        let options = JudgeOptions {
-            threads: self.spec.shape.workers,
-            gate: &OpenGate,
-            progress: &JudgesProgress { watch: self.watch },
-            mapped: Some(mapped),
-        };
+        let workers = self.spec.shape.workers;
+        let progress = JudgesProgress { watch: self.watch };
+        let options = JudgeOptions::of(workers, &OpenGate, &progress, Some(mapped));
         judge(self.rt, self.alloc, &case, &options)
     }
 

@@ -1,5 +1,5 @@
-use Rattle.std.proofs.Common.{◌≡◌, None, Some, List, length, ap, sym, ◌∙◌, inr, arith, subst, refl}
-use Rattle.std.specs.Prelude.{All, Result, Err}
+use Rattle.std.proofs.Common.{◌≡◌, None, Some, List, length, ap, sym, ◌∙◌, inr, arith, subst}
+use Rattle.std.specs.Prelude.{All, Err}
 use Rattle.mr_input.specs.Files.{contents}
 use Rattle.mr_splits.specs.Cut.{Cut}
 use Rattle.mr_certform.specs.declared.item.Item.{Item}
