@@ -9,9 +9,9 @@ use Rattle.mr_jobs.specs.declared.request.RequestFault.{RequestFault}
 use Rattle.mr_jobs.specs.declared.request.RequestFault.TheVariants.{BadParts, BadSplitSize, BadSkips, HostNeedsUrl}
 use Rattle.mr_args.specs.declared.fault.Fault.{Fault}
 use Rattle.mr_args.specs.declared.fault.Fault.TheVariants.{OtherJobsOption, Job, Request, OutOfMemory}
-use Rattle.mr_args.specs.declared.asked.Options.{Options}
-use Rattle.mr_args.specs.declared.asked.JobKind.{JobKind}
-use Rattle.mr_args.specs.declared.asked.JobKind.TheVariants.{Words, Grep, Url, Index}
+use Rattle.mr_args.specs.declared.request.Options.{Options}
+use Rattle.mr_args.specs.declared.request.JobKind.{JobKind}
+use Rattle.mr_args.specs.declared.request.JobKind.TheVariants.{Words, Grep, Url, Index}
 
 -- the word that names a job
 abbrev pub Names : List ℕ → JobKind → Type 0

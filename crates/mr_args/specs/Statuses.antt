@@ -8,8 +8,8 @@ use Rattle.mr_jobs.specs.declared.job.JobFault.{JobFault}
 use Rattle.mr_jobs.specs.declared.job.JobFault.TheVariants as job
 use Rattle.mr_script.specs.declared.script.ScriptFault.{ScriptFault}
 use Rattle.mr_script.specs.declared.script.ScriptFault.TheVariants as script
-use Rattle.mr_sequential.specs.declared.fault.RunFault.{RunFault}
-use Rattle.mr_sequential.specs.declared.fault.RunFault.TheVariants as run
+use Rattle.mr_sequential.specs.declared.sequence.RunFault.{RunFault}
+use Rattle.mr_sequential.specs.declared.sequence.RunFault.TheVariants as run
 use Rattle.mr_shard_files.specs.declared.fault.ShardFault.{ShardFault}
 use Rattle.mr_shard_files.specs.declared.fault.ShardFault.TheVariants as shards
 

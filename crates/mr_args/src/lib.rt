@@ -2,14 +2,11 @@
 //! why a command does not do what it is asked for.
 #![tactic(auto)]
 
-mod asked;
 mod fault;
 mod request;
-mod skips;
 
-pub use crate::asked::{
-    CheckOptions, JobKind, MergeOptions, Options, RunOptions, SeqOptions, Subcommand,
-};
 pub use crate::fault::Fault;
-pub use crate::request::request_of;
-pub use crate::skips::{skip_list_law, skips_of};
+pub use crate::request::{
+    CheckOptions, JobKind, MergeOptions, Options, RunOptions, SeqOptions, Subcommand, request_of,
+    skip_list_law, skips_of,
+};

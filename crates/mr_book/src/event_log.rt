@@ -1,10 +1,9 @@
-//! The master with its history.
+//! The master with its history: each event that it took, and what it answered.
 ghost use Rattle.std.specs.Prelude.{◌≡◌, ◌+◌, ◌≤◌, ◌∷◌, ◌++◌, [], length, replicate, sum, vec_len, IfOk, OnOk, OnErr};
 ghost use Rattle.mr_core.specs.declared.event.Reply.{Reply};
 ghost use Rattle.mr_core.specs.Core.{IsStep, IsRun, TakesMemory};
 ghost use Rattle.mr_book.specs.Calls.{grown, has_damage, is_damage, is_wait};
 
-use crate::history_entry::HistoryEntry;
 use crate::seat::{Seat, gather, seats_of};
 use mr_core::{Core, End, Event, Limits, Reply, Shape, Task};
 use std::alloc::{AllocError, Global};
@@ -168,4 +167,42 @@ fn is_damage(event: Event) -> bool
     ensures { (reply : Reply) → result ≡ is_damage (event, reply) }
 {
     matches!(event, Event::Damaged(..))
+}
+
+/// An event with the reply that it was answered.
+#[derive(Debug, Drop)]
+pub struct HistoryEntry {
+    event: Event,
+    reply: Reply,
+}
+
+impl Model for HistoryEntry {
+    ghost use Rattle.mr_core.specs.declared.event.Event.{Event};
+    ghost use Rattle.mr_core.specs.declared.event.Reply.{Reply};
+
+    ghost Value = { Event × Reply };
+
+    ghost view = { λ e. (e.event, e.reply) };
+}
+
+impl HistoryEntry {
+    pub(crate) fn of(event: Event, reply: Reply) -> HistoryEntry
+        ensures { result ≡ (event, reply) }
+    {
+        HistoryEntry { event, reply }
+    }
+
+    /// What happened.
+    pub fn event(&self) -> Event
+        ensures { result ≡ self.now.0 }
+    {
+        self.event
+    }
+
+    /// What was answered.
+    pub fn reply(&self) -> &Reply
+        ensures { result.now ≡ self.now.1 }
+    {
+        &self.reply
+    }
 }

@@ -5,15 +5,13 @@
 mod assembling;
 mod book;
 mod event_log;
-mod gathering;
-mod history_entry;
-mod laws;
 mod output_store;
 mod seat;
 mod spelling;
 
-pub use book::{Book, History};
-pub use history_entry::HistoryEntry;
-pub use laws::{attempts_law, done_law, values_law, what_is_complete_is_stored, worked_law};
+pub use book::{
+    Book, History, attempts_law, done_law, values_law, what_is_complete_is_stored, worked_law,
+};
+pub use event_log::HistoryEntry;
 pub use output_store::Kept;
 pub use seat::Seat;

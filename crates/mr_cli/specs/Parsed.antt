@@ -7,13 +7,13 @@ use Rattle.clap.specs.declared.parser.matches.Found.{Found}
 use Rattle.clap.specs.Walk.{Row, rows_of}
 use Rattle.mr_certform.specs.declared.version.Version.{Version}
 use Rattle.mr_certform.specs.declared.version.Version.TheVariants.{V1, V2}
-use Rattle.mr_args.specs.declared.asked.Options.{Options}
-use Rattle.mr_args.specs.declared.asked.CheckOptions.{CheckOptions}
-use Rattle.mr_args.specs.declared.asked.MergeOptions.{MergeOptions}
-use Rattle.mr_args.specs.declared.asked.RunOptions.{RunOptions}
-use Rattle.mr_args.specs.declared.asked.SeqOptions.{SeqOptions}
-use Rattle.mr_args.specs.declared.asked.Subcommand.{Subcommand}
-use Rattle.mr_args.specs.declared.asked.Subcommand.TheVariants.{Seq, Run, Check, Merge}
+use Rattle.mr_args.specs.declared.request.Options.{Options}
+use Rattle.mr_args.specs.declared.request.CheckOptions.{CheckOptions}
+use Rattle.mr_args.specs.declared.request.MergeOptions.{MergeOptions}
+use Rattle.mr_args.specs.declared.request.RunOptions.{RunOptions}
+use Rattle.mr_args.specs.declared.request.SeqOptions.{SeqOptions}
+use Rattle.mr_args.specs.declared.request.Subcommand.{Subcommand}
+use Rattle.mr_args.specs.declared.request.Subcommand.TheVariants.{Seq, Run, Check, Merge}
 use Rattle.mr_args.specs.Asked.{Names}
 
 -- decimal digits, a plus allowed in front, whose number fits in 32 bits

@@ -5,7 +5,7 @@ use Rattle.clap.specs.Simple.{subcommand_rows_of}
 use Rattle.clap.specs.declared.parser.matches.ArgMatches.{ArgMatches}
 use Rattle.mr_files.specs.Holding.{ChangesAmong, Faulty, Stored}
 use Rattle.mr_files.specs.Identities.{Known}
-use Rattle.mr_args.specs.declared.asked.Subcommand.{Subcommand}
+use Rattle.mr_args.specs.declared.request.Subcommand.{Subcommand}
 use Rattle.mr_args.specs.declared.fault.Fault.{Fault}
 use Rattle.mr_commands.specs.Commands.{Answers, ChangesOwn, IsRefusal}
 use Rattle.mr_cli.specs.declared.failure.Failure.{Failure}

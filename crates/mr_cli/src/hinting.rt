@@ -2,12 +2,11 @@
 //! is answered, or in the exit status: those come from `answer` and `finish`, which are called as they are.
 use crate::cures::{NOT_UTF8, fault_hint};
 use crate::differences::verdict_hint;
-use crate::failure::Failure;
+use crate::failure::{Failure, escape};
 use crate::noting::notes;
 use crate::options::{command, subcommand_of};
 use crate::program::{answer, finish};
 use crate::progress::ProgressLine;
-use crate::showing::escape;
 use mr_args::{Fault, Subcommand};
 use mr_bytes::Progress;
 use mr_commands::CommandOutput;

@@ -11,7 +11,7 @@ use Rattle.mr_files.specs.Identities.{Known}
 use Rattle.mr_files.specs.Refusals.{IsReadRefusalWithin}
 use Rattle.mr_files.specs.declared.store.FileFault.{FileFault}
 use Rattle.mr_files.specs.declared.store.FileFault.TheVariants as file
-use Rattle.mr_files.specs.declared.within.LimitFault.TheVariants.{File}
+use Rattle.mr_files.specs.declared.reading.LimitFault.TheVariants.{File}
 use Rattle.mr_args.specs.declared.fault.Fault.{Fault}
 use Rattle.mr_args.specs.declared.fault.Fault.TheVariants.{SameFile, TooManySplits, OutOfMemory}
 use Rattle.mr_args.specs.Statuses.{TellsFile}

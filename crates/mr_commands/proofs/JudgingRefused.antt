@@ -5,8 +5,8 @@ use Rattle.mr_files.specs.declared.store.FileFault.{FileFault}
 use Rattle.mr_files.specs.declared.store.FileFault.TheVariants as file
 use Rattle.mr_args.specs.declared.fault.Fault.{Fault}
 use Rattle.mr_args.specs.declared.fault.Fault.TheVariants.{OtherJobsOption}
-use Rattle.mr_args.specs.declared.asked.CheckOptions.{CheckOptions}
-use Rattle.mr_args.specs.declared.asked.Options.{Options}
+use Rattle.mr_args.specs.declared.request.CheckOptions.{CheckOptions}
+use Rattle.mr_args.specs.declared.request.Options.{Options}
 use Rattle.mr_jobs.specs.JobSpec.{RequestSpec}
 use Rattle.mr_files.specs.Names.{result_names}
 use Rattle.mr_args.specs.Asked.{AsksForOtherJob, WithinLimits, request_asked}

@@ -5,7 +5,7 @@ use Rattle.std.specs.Prelude.{IfSome, length, string_bytes}
 use Rattle.mr_input.specs.Files.{contents}
 use Rattle.mr_jobs.specs.JobSpec.{RequestSpec}
 use Rattle.mr_certform.specs.declared.version.Version.{Version}
-use Rattle.mr_script.specs.declared.directive.Directive.{Directive}
+use Rattle.mr_script.specs.declared.script.Directive.{Directive}
 use Rattle.mr_core.specs.declared.event.Shape.{Shape}
 use Rattle.mr_files.specs.Refusals.{IsOneUnwritten, IsUnwritten, IsUnwrittenAt, IsWriteRefusal}
 use Rattle.mr_files.specs.Holding.{Begins, ChangesAmong, Differs, Faulty, Holding, Stored}
@@ -17,7 +17,7 @@ use Rattle.mr_book.specs.declared.book.History.{History}
 use Rattle.mr_pool.specs.Outcomes.{run_shape}
 use Rattle.mr_pool.specs.declared.running.Certified.{Certified}
 use Rattle.mr_args.specs.declared.fault.Fault.{Fault}
-use Rattle.mr_args.specs.declared.asked.RunOptions.{RunOptions}
+use Rattle.mr_args.specs.declared.request.RunOptions.{RunOptions}
 use Rattle.mr_commands.specs.declared.running.RunOutcome.{RunOutcome}
 use Rattle.mr_commands.specs.HistoryLines.{history_text}
 use Rattle.mr_args.specs.Asked.{request_asked}

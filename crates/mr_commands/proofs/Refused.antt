@@ -9,7 +9,7 @@ use Rattle.mr_sequential.specs.Emitted.{emitted}
 use Rattle.mr_files.specs.Refusals.{IsWriteRefusal}
 use Rattle.mr_files.specs.declared.store.FileFault.{FileFault}
 use Rattle.mr_args.specs.declared.fault.Fault.{Fault}
-use Rattle.mr_args.specs.declared.asked.SeqOptions.{SeqOptions}
+use Rattle.mr_args.specs.declared.request.SeqOptions.{SeqOptions}
 use Rattle.mr_jobs.specs.JobSpec.{RequestSpec}
 use Rattle.mr_files.specs.Holding.{ChangesAmong, Faulty, Holding, Stored}
 use Rattle.mr_files.specs.Identities.{AreApart, Known}

@@ -14,7 +14,7 @@ use Rattle.mr_files.specs.Names.{name_of_certificate, part_names}
 use Rattle.mr_files.specs.Refusals.{IsOneUnread, IsUnreadAmong, TellsOf}
 use Rattle.mr_files.specs.declared.store.FileFault.{FileFault}
 use Rattle.mr_files.specs.declared.store.FileFault.TheVariants as file
-use Rattle.mr_args.specs.declared.asked.CheckOptions.{CheckOptions}
+use Rattle.mr_args.specs.declared.request.CheckOptions.{CheckOptions}
 use Rattle.mr_args.specs.declared.fault.Fault.{Fault}
 use Rattle.mr_args.specs.declared.fault.Fault.TheVariants.{OutOfMemory as no_memory}
 use Rattle.mr_commands.specs.Named.{input_names, verdict_file}

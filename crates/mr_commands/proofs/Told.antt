@@ -11,7 +11,7 @@ use Rattle.mr_files.specs.Refusals.{IsUnwritten, IsWriteRefusal}
 use Rattle.mr_files.specs.declared.store.FileFault.{FileFault}
 use Rattle.mr_files.specs.declared.store.FileFault.TheVariants as file
 use Rattle.mr_args.specs.declared.fault.Fault.{Fault}
-use Rattle.mr_args.specs.declared.asked.CheckOptions.{CheckOptions}
+use Rattle.mr_args.specs.declared.request.CheckOptions.{CheckOptions}
 use Rattle.mr_args.specs.Asked.{request_asked}
 use Rattle.mr_commands.specs.Checks.{AnswersCheck, IsYes}
 use Rattle.mr_commands.specs.Inputs.{IsInput, IsStopped}

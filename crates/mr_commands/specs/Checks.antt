@@ -10,8 +10,8 @@ use Rattle.mr_files.specs.Identities.{AreApart, Known}
 use Rattle.mr_files.specs.Names.{part_names, name_of_certificate, result_names}
 use Rattle.mr_args.specs.declared.fault.Fault.{Fault}
 use Rattle.mr_args.specs.declared.fault.Fault.TheVariants.{BadThreads, LineEndInName, CannotRead, OutOfMemory}
-use Rattle.mr_args.specs.declared.asked.CheckOptions.{CheckOptions}
-use Rattle.mr_args.specs.declared.asked.Options.{Options}
+use Rattle.mr_args.specs.declared.request.CheckOptions.{CheckOptions}
+use Rattle.mr_args.specs.declared.request.Options.{Options}
 use Rattle.mr_args.specs.Asked.{IsRequestRefusal, request_asked}
 use Rattle.mr_commands.specs.Inputs.{IsAsked, IsInput, IsInputRefusal}
 use Rattle.mr_commands.specs.Named.{AreClear, input_names, read_by_check, verdict_file, written_by_check}

@@ -5,8 +5,8 @@ use Rattle.mr_files.specs.Identities.{Known}
 use Rattle.mr_files.specs.Names.{result_names}
 use Rattle.mr_shard_files.specs.Merging.{ChangesResult}
 use Rattle.mr_args.specs.declared.fault.Fault.{Fault}
-use Rattle.mr_args.specs.declared.asked.Subcommand.{Subcommand}
-use Rattle.mr_args.specs.declared.asked.Subcommand.TheVariants.{Seq, Run, Check, Merge}
+use Rattle.mr_args.specs.declared.request.Subcommand.{Subcommand}
+use Rattle.mr_args.specs.declared.request.Subcommand.TheVariants.{Seq, Run, Check, Merge}
 use Rattle.mr_commands.specs.Answers.{AnswersSeq, IsSeqRefusal}
 use Rattle.mr_commands.specs.Merges.{AnswersMerge, IsMergeUnanswered}
 use Rattle.mr_commands.specs.Runs.{AnswersRun, IsRunUnanswered, written_by_run}

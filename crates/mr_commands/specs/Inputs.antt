@@ -8,7 +8,7 @@ use Rattle.mr_files.specs.Identities.{AreApart, IsFirstShared, Known}
 use Rattle.mr_files.specs.Refusals.{AreBefore, IsPassed, IsUnwrittenAt}
 use Rattle.mr_args.specs.declared.fault.Fault.{Fault}
 use Rattle.mr_args.specs.declared.fault.Fault.TheVariants.{Input, SameFile, TooManySplits, CannotRead, CannotWrite, OutOfMemory}
-use Rattle.mr_args.specs.declared.asked.Options.{Options}
+use Rattle.mr_args.specs.declared.request.Options.{Options}
 use Rattle.mr_args.specs.Asked.{AsksForOtherJob, WithinLimits, request_asked}
 
 -- these bytes stand under these names, within the limits of an input

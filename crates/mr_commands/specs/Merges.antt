@@ -6,7 +6,7 @@ use Rattle.mr_shards.specs.Verdict.{Told}
 use Rattle.mr_shard_files.specs.Faults.{IsShardRefusal}
 use Rattle.mr_shard_files.specs.Merging.{IsMerged}
 use Rattle.mr_shard_files.specs.declared.fault.ShardFault.{ShardFault}
-use Rattle.mr_args.specs.declared.asked.MergeOptions.{MergeOptions}
+use Rattle.mr_args.specs.declared.request.MergeOptions.{MergeOptions}
 use Rattle.mr_args.specs.declared.fault.Fault.{Fault}
 use Rattle.mr_args.specs.Statuses.{TellsShards}
 

@@ -3,8 +3,8 @@ use Rattle.std.specs.Prelude.{ℕ, ◌∷◌, ◌++◌, Option, None, Some, List
 use Rattle.std.specs.List.{AllByRecursion}
 use Rattle.mr_bytes.specs.Cut.{Lacks}
 use Rattle.mr_files.specs.Names.{result_names}
-use Rattle.mr_args.specs.declared.asked.CheckOptions.{CheckOptions}
-use Rattle.mr_args.specs.declared.asked.Options.{Options}
+use Rattle.mr_args.specs.declared.request.CheckOptions.{CheckOptions}
+use Rattle.mr_args.specs.declared.request.Options.{Options}
 
 -- the names of the input files, in order
 abbrev pub input_names : Options → List (List ℕ)

@@ -3,7 +3,7 @@ use Rattle.std.specs.Prelude.{Bool, true, ◌≡◌, ◌⊎◌, ℕ, ◌∷◌, 
 use Rattle.mr_input.specs.Files.{contents}
 use Rattle.mr_jobs.specs.JobSpec.{RequestSpec}
 use Rattle.mr_certform.specs.declared.version.Version.{Version}
-use Rattle.mr_script.specs.declared.directive.Directive.{Directive}
+use Rattle.mr_script.specs.declared.script.Directive.{Directive}
 use Rattle.mr_script.specs.Scripts.{IsScriptFault, SpellsScript}
 use Rattle.mr_core.specs.declared.event.JobFault.{JobFault}
 use Rattle.mr_core.specs.declared.event.Shape.{Shape}
@@ -20,7 +20,7 @@ use Rattle.mr_files.specs.declared.store.FileFault.{FileFault}
 use Rattle.mr_files.specs.Names.{part_names, name_of_certificate, result_names}
 use Rattle.mr_args.specs.declared.fault.Fault.{Fault}
 use Rattle.mr_args.specs.declared.fault.Fault.TheVariants.{BadWorkers, BadAttempts, Script, ScratchInUse, SameFile, CannotRead, CannotWrite, OutOfMemory}
-use Rattle.mr_args.specs.declared.asked.RunOptions.{RunOptions}
+use Rattle.mr_args.specs.declared.request.RunOptions.{RunOptions}
 use Rattle.mr_commands.specs.declared.running.RunOutcome.{RunOutcome}
 use Rattle.mr_commands.specs.declared.running.RunOutcome.TheVariants.{Certified, Failed, Uncertified}
 use Rattle.mr_args.specs.Asked.{IsRequestRefusal, request_asked}

@@ -14,8 +14,8 @@ use Rattle.mr_files.specs.Names.{name_of_certificate, part_files, part_names}
 use Rattle.mr_files.specs.Refusals.{IsWriteRefusal}
 use Rattle.mr_files.specs.declared.store.FileFault.{FileFault}
 use Rattle.mr_args.specs.declared.fault.Fault.{Fault}
-use Rattle.mr_args.specs.declared.asked.CheckOptions.{CheckOptions}
-use Rattle.mr_args.specs.declared.asked.Options.{Options}
+use Rattle.mr_args.specs.declared.request.CheckOptions.{CheckOptions}
+use Rattle.mr_args.specs.declared.request.Options.{Options}
 use Rattle.mr_args.specs.Asked.{request_asked}
 use Rattle.mr_commands.specs.Checks.{AnswersCheck, IsCheckRefusal, IsYes}
 use Rattle.mr_commands.specs.Inputs.{IsInput, IsStopped}

@@ -5,7 +5,7 @@ use Rattle.std.proofs.lemmas.Bool.{or_parts, cases_eq, false≢true, eqb-true}
 use Rattle.std.proofs.lemmas.List.Sums.{sum_by-cons, sum_by_push}
 use Rattle.mr_core.specs.declared.event.Task.{Task}
 use Rattle.mr_core.specs.declared.event.Task.TheVariants.{Map as MapTask, Reduce as ReduceTask}
-use Rattle.mr_core.specs.declared.counts.Count.{Count}
+use Rattle.mr_core.specs.declared.attempts.Count.{Count}
 use Rattle.mr_core.specs.Master.{Attempt, update_at, task_eq, left_by}
 use Rattle.std.specs.Prelude.{MatchOption, slice_set}
 use Rattle.mr_core.proofs.Updates.{get_at, update_is_set}

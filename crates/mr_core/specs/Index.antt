@@ -7,7 +7,7 @@ use Rattle.mr_core.specs.declared.event.Task.{Task}
 use Rattle.mr_core.specs.declared.event.Task.TheVariants.{Map as MapTask, Reduce as ReduceTask}
 use Rattle.mr_core.specs.declared.event.Reply.{Reply}
 use Rattle.mr_core.specs.declared.event.Reply.TheVariants.{Map}
-use Rattle.mr_core.specs.declared.counts.Count.{Count}
+use Rattle.mr_core.specs.declared.attempts.Count.{Count}
 use Rattle.mr_core.specs.Master.{State, Attempt, update_at, task_eq, is_complete, is_stuck, is_task, live}
 
 -- ---- for each task, how many attempts it has had, and how many of them are live

@@ -1,13 +1,12 @@
-//! The attempts that a master has issued, with an index.
-ghost use Rattle.std.specs.Prelude.{◌≡◌, ℕ, ◌<◌, ◌^◌, true, false, Some, [], ◌∷◌, ◌++◌, ◌&&◌, ◌==◌, map, length, slice_get, MatchOption, OnOk, OnErr, IfOk};
+//! The attempts that a master has issued, with two indices: how many each task has had, and which one of each worker is
+//! live.
+ghost use Rattle.std.specs.Prelude.{◌≡◌, ℕ, ◌<◌, ◌^◌, true, false, Some, [], ◌∷◌, ◌++◌, ◌&&◌, ◌==◌, map, length, slice_get, MatchOption, OnOk, OnErr, IfOk, ◌+◌, ◌≤◌, replicate, Option, None};
 ghost use Rattle.std.specs.List.{list_any};
 ghost use Rattle.mr_core.specs.declared.event.Task.{Task};
 ghost use Rattle.mr_core.specs.Master.{Attempt, update_at, left_by};
-ghost use Rattle.mr_core.specs.Index.{counted, IsCurrent, IsBelow};
+ghost use Rattle.mr_core.specs.Index.{counted, IsCurrent, IsBelow, count_of, change_count, begun, ended, no_count, or_none, entry};
 
-use crate::counts::{Count, Counts};
-use crate::current::Current;
-use crate::entries::Attempt;
+use crate::entries::{Attempt, copies, put};
 use crate::event::Task;
 use crate::splits::Splits;
 use std::alloc::{AllocError, Global};
@@ -148,5 +147,152 @@ impl Attempts {
         self.counts.begin(task);
         self.current.set(worker, Some(number));
         Ok(())
+    }
+}
+
+/// How many attempts of a task were issued, and how many of them are live.
+#[derive(Clone, Copy, Debug, PartialEq, Eq)]
+pub(crate) struct Count {
+    pub issued: u32,
+    pub live: u32,
+}
+
+/// A count for each task: one look answers for a task, whatever the number of attempts.
+#[derive(Drop)]
+pub(crate) struct Counts {
+    maps: Vec<Count>,
+    parts: Vec<Count>,
+}
+
+impl Model for Counts {
+    ghost use Rattle.mr_core.specs.Index.{CountsView};
+
+    ghost Value = { CountsView };
+
+    ghost view = { λ c. record { maps = c.maps.items; parts = c.parts.items } };
+}
+
+impl Counts {
+    /// No attempts of as many tasks.
+    pub(crate) fn new(alloc: Global, maps: u32, parts: u32) -> Result<Counts, AllocError>
+        ensures { IfOk result (λ c. c ≡ record { maps = replicate maps no_count; parts = replicate parts no_count }) }
+    {
+        let none = Count { issued: 0, live: 0 };
+        Ok(Counts {
+            maps: copies(alloc, none, maps)?,
+            parts: copies(alloc, none, parts)?,
+        })
+    }
+
+    /// The task's count; none where there is no such task.
+    pub(crate) fn of(&self, task: Task) -> Count
+        ensures { result ≡ count_of self.now task }
+    {
+        match task {
+            Task::Map(split) => count_at(self.maps.as_slice(), split),
+            Task::Reduce(partition) => count_at(self.parts.as_slice(), partition),
+        }
+    }
+
+    /// An attempt of the task begins.
+    pub(crate) fn begin(&mut self, task: Task)
+        requires issued { (count_of self.old task).issued + 1 < 2 ^ 32 }
+        requires live { (count_of self.old task).live + 1 < 2 ^ 32 }
+        ensures { self.new ≡ change_count begun task self.old }
+    {
+        match task {
+            Task::Map(split) => raise(self.maps.as_mut_slice(), split),
+            Task::Reduce(partition) => raise(self.parts.as_mut_slice(), partition),
+        }
+    }
+
+    /// A live attempt of the task ends.
+    pub(crate) fn end(&mut self, task: Task)
+        requires { 1 ≤ (count_of self.old task).live }
+        ensures { self.new ≡ change_count ended task self.old }
+    {
+        match task {
+            Task::Map(split) => lower(self.maps.as_mut_slice(), split),
+            Task::Reduce(partition) => lower(self.parts.as_mut_slice(), partition),
+        }
+    }
+}
+
+fn count_at(counts: &[Count], at: u32) -> Count
+    ensures { result ≡ or_none (slice_get counts.now at) }
+{
+    match counts.get(at as usize) {
+        Some(count) => *count,
+        None => Count { issued: 0, live: 0 },
+    }
+}
+
+fn raise(counts: &mut [Count], at: u32)
+    requires issued { (or_none (slice_get counts.old at)).issued + 1 < 2 ^ 32 }
+    requires live { (or_none (slice_get counts.old at)).live + 1 < 2 ^ 32 }
+    ensures { counts.new ≡ update_at begun at counts.old }
+{
+    let count = count_at(counts, at);
+    let raised = Count {
+        issued: count.issued + 1,
+        live: count.live + 1,
+    };
+    put(counts, at, raised);
+}
+
+fn lower(counts: &mut [Count], at: u32)
+    requires { 1 ≤ (or_none (slice_get counts.old at)).live }
+    ensures { counts.new ≡ update_at ended at counts.old }
+{
+    let count = count_at(counts, at);
+    let lowered = Count {
+        issued: count.issued,
+        live: count.live - 1,
+    };
+    put(counts, at, lowered);
+}
+
+/// For each worker the number of its live attempt, where it has one.
+#[derive(Drop)]
+pub(crate) struct Current {
+    items: Vec<Option<u32>>,
+}
+
+impl Model for Current {
+    ghost use Rattle.std.specs.Prelude.{List, ℕ, Option};
+
+    ghost Value = { List (Option ℕ) };
+
+    ghost view = { λ c. c.items.items };
+}
+
+impl Current {
+    pub(crate) fn none(alloc: Global, workers: u32) -> Result<Current, AllocError>
+        ensures { IfOk result (λ c. c ≡ replicate workers None) }
+    {
+        Ok(Current {
+            items: copies(alloc, None, workers)?,
+        })
+    }
+
+    pub(crate) fn len(&self) -> usize
+        ensures { result ≡ length self.now }
+    {
+        self.items.len()
+    }
+
+    pub(crate) fn of(&self, worker: usize) -> Option<u32>
+        ensures { result ≡ entry (slice_get self.now worker) }
+    {
+        match self.items.as_slice().get(worker) {
+            Some(attempt) => *attempt,
+            None => None,
+        }
+    }
+
+    pub(crate) fn set(&mut self, worker: u32, attempt: Option<u32>)
+        ensures { self.new ≡ update_at (λ x. attempt) worker self.old }
+    {
+        put(self.items.as_mut_slice(), worker, attempt);
     }
 }

@@ -1,5 +1,5 @@
 //! What happens to a master, and what it answers.
-use crate::skips::Skips;
+use crate::splits::Skips;
 use thiserror::Error;
 
 /// The bounds of a job: `attempts` of one task (1 to 16), and records that may be left out in all (`skips`, at most

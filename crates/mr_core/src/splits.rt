@@ -1,11 +1,12 @@
-//! The splits of a job, with a count.
-ghost use Rattle.std.specs.Prelude.{◌≡◌, ◌+◌, if◌then◌else◌, is_none, List, [], None, false, Some, true, map, is_some, nat_lt, replicate, length};
-ghost use Rattle.std.specs.Prelude.{IfOk, OnOk, OnErr};
-ghost use Rattle.std.specs.List.{list_all, sum_by, count_by};
-ghost use Rattle.mr_core.specs.Master.{update_at, gone_with, is_numbered, with_number, without_output};
+//! The splits of a job. Of each: its output, the records that are left out of it, and those on which attempts have failed.
+//!
+//! A count of the splits without an output makes it one look whether all maps are complete.
+ghost use Rattle.std.specs.Prelude.{◌≡◌, ◌+◌, if◌then◌else◌, is_none, List, [], None, false, Some, true, map, is_some, nat_lt, replicate, length, IfOk, OnOk, OnErr, ℕ, ◌==◌, ◌<◌, ◌≤◌, ◌≢◌, slice_index, ◌∷◌, ◌++◌, slice_get};
+ghost use Rattle.std.specs.List.{list_all, sum_by, count_by, list_any, insert};
+ghost use Rattle.mr_core.specs.Master.{update_at, gone_with, is_numbered, with_number, without_output, same_list};
+ghost use Rattle.mr_core.specs.Index.{IsLonger};
 
 use crate::entries::{Split, count_missing, has_room, leave_out, leave_outputs, new_splits};
-use crate::skips::Skips;
 use std::alloc::{AllocError, Global};
 use std::marker::Model;
 
@@ -155,4 +156,167 @@ fn is_numbered(output: Option<(u64, u32)>, number: u64) -> bool
         Some((own, _)) => own == number,
         None => false,
     }
+}
+
+/// Numbers of records, rising. Contracts see the list.
+#[derive(Debug, Drop)]
+pub struct Skips {
+    items: Vec<u32>,
+}
+
+impl Model for Skips {
+    ghost use Rattle.std.specs.Prelude.{List, ℕ};
+
+    ghost Value = { List ℕ };
+
+    ghost view = { λ s. s.items.items };
+}
+
+impl Skips {
+    /// No numbers; takes no memory.
+    pub(crate) fn none(alloc: Global) -> Skips
+        ensures { result ≡ [] }
+    {
+        Skips {
+            items: Vec::new(alloc),
+        }
+    }
+
+    /// The same numbers once more.
+    pub(crate) fn copy_of(alloc: Global, items: &[u32]) -> Result<Skips, AllocError>
+        ensures { IfOk result (λ s. s ≡ items.now) }
+    {
+        Ok(Skips {
+            items: Vec::from_slice(alloc, items)?,
+        })
+    }
+
+    /// The numbers, rising.
+    pub fn as_slice(&self) -> &[u32]
+        ensures { result.now ≡ self.now }
+    {
+        self.items.as_slice()
+    }
+
+    /// Whether the number is one of them.
+    pub(crate) fn has(&self, number: u32) -> bool
+        ensures { result ≡ list_any (λ x. x == number) self.now }
+    {
+        self.items.as_slice().contains(&number)
+    }
+
+    /// Whether these are the same numbers.
+    pub(crate) fn is_same(&self, other: &Skips) -> bool
+        ensures { result ≡ same_list self.now other.now }
+    {
+        self.items.as_slice() == other.items.as_slice()
+    }
+
+    /// Adds the number at its place, where it isn't there yet; without memory nothing changes.
+    pub(crate) fn add(&mut self, number: u32) -> Result<(), AllocError>
+        ensures ok { OnOk result (self.new ≡ with_number number self.old) }
+        ensures err { OnErr result (self.new ≡ self.old) }
+    {
+        let at = place_of(self.items.as_slice(), number);
+        if at < self.items.len() && self.items[at] == number {
+            return Ok(());
+        }
+        self.items.insert(at, number)?;
+        Ok(())
+    }
+}
+
+/// The place of the first number that isn't below `number`.
+#[tactic(auto, using(crate::proofs::Inserts::place_there, crate::proofs::Inserts::place_new))]
+fn place_of(items: &[u32], number: u32) -> usize
+    ensures bound { result ≤ length items.now }
+    ensures there { result < length items.now → slice_index items.now result ≡ number → with_number number items.now ≡ items.now }
+    ensures new { (result < length items.now → slice_index items.now result ≢ number) → with_number number items.now ≡ insert items.now result number }
+{
+    for (at, item) in items.iter().enumerate() {
+        if *item >= number {
+            return at;
+        }
+    }
+    items.len()
+}
+
+/// Numbers of records, in the order of their failures: at most one for each attempt of the split.
+#[derive(Drop)]
+pub(crate) struct Failed {
+    records: Vec<u32>,
+}
+
+impl Model for Failed {
+    ghost use Rattle.std.specs.Prelude.{List, ℕ};
+
+    ghost Value = { List ℕ };
+
+    ghost view = { λ f. f.records.items };
+}
+
+impl Failed {
+    fn none(alloc: Global) -> Failed
+        ensures { result ≡ [] }
+    {
+        Failed {
+            records: Vec::new(alloc),
+        }
+    }
+
+    pub(crate) fn has(&self, number: u32) -> bool
+        ensures { result ≡ list_any (λ x. x == number) self.now }
+    {
+        self.records.as_slice().contains(&number)
+    }
+
+    /// These records, and one more.
+    pub(crate) fn with(&self, number: u32) -> Result<Failed, AllocError>
+        ensures { IfOk result (λ f. f ≡ self.now ++ number ∷ []) }
+    {
+        let mut records = self.records.clone()?;
+        records.push(number)?;
+        Ok(Failed { records })
+    }
+}
+
+/// As many lists with no records.
+pub(crate) fn none_failed(alloc: Global, count: u32) -> Result<Vec<Failed>, AllocError>
+    ensures { IfOk result (λ v. v.items ≡ replicate count []) }
+{
+    let mut lists = Vec::new(alloc);
+    for _i in 0..count {
+        lists.push(Failed::none(alloc))?;
+    }
+    Ok(lists)
+}
+
+/// The list at the place and one record more, where there is such a place.
+pub(crate) fn longer_list(
+    lists: &[Failed],
+    at: u32,
+    number: u32,
+) -> Result<Option<Failed>, AllocError>
+    ensures { IfOk result (λ longer. IsLonger longer (slice_get lists.now at) number) }
+{
+    match lists.get(at as usize) {
+        Some(list) => Ok(Some(list.with(number)?)),
+        None => Ok(None),
+    }
+}
+
+/// Puts the longer list in the place of the shorter one.
+#[tactic(auto, using(crate::proofs::Updates::longer_set, crate::proofs::Updates::longer_none, crate::proofs::Updates::longer_past))]
+pub(crate) fn put_longer(lists: &mut [Failed], at: u32, number: u32, longer: Option<Failed>)
+    requires { IsLonger longer (slice_get lists.old at) number }
+    ensures { lists.new ≡ update_at (λ f. f ++ number ∷ []) at lists.old }
+{
+    let Some(longer) = longer else {
+        return;
+    };
+    let at = at as usize;
+    if at >= lists.len() {
+        return;
+    }
+    lists[at] = longer;
 }

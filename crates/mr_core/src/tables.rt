@@ -10,13 +10,10 @@ ghost use Rattle.mr_core.specs.Looks.{output_of, committed_of, number_of, set_of
 ghost use Rattle.mr_core.specs.Master.{State, tasks, is_active, is_complete, maps_complete, issued, live, is_stuck, live_attempt, end_of, settled, opening};
 ghost use Rattle.mr_core.specs.Index.{counted, task_at, IsTouched, IsTouchedBoth};
 
-use crate::attempts::Attempts;
-use crate::counts::Count;
-use crate::entries::{all_true, copies};
+use crate::attempts::{Attempts, Count};
+use crate::entries::{Outputs, all_true, copies};
 use crate::event::{End, JobFault, Shape, Task};
-use crate::failed::{Failed, none_failed};
-use crate::outputs::Outputs;
-use crate::splits::Splits;
+use crate::splits::{Failed, Splits, none_failed};
 use std::alloc::{AllocError, Global};
 use std::marker::Model;
 

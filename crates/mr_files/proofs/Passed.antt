@@ -9,8 +9,8 @@ use Rattle.mr_input.specs.Files.{contents, total_size}
 use Rattle.mr_files.specs.Holding.{Agrees, Faulty, Holding, Stored}
 use Rattle.mr_files.specs.Names.{name_of_certificate, name_of_part, part_names, result_names}
 use Rattle.mr_files.specs.Refusals.{AreBefore, IsOneUnreadWithin, IsReadRefusalWithin, IsUnreadWithin}
-use Rattle.mr_files.specs.declared.within.LimitFault.{LimitFault}
-use Rattle.mr_files.specs.declared.within.LimitFault.TheVariants.{File, TooLong}
+use Rattle.mr_files.specs.declared.reading.LimitFault.{LimitFault}
+use Rattle.mr_files.specs.declared.reading.LimitFault.TheVariants.{File, TooLong}
 use Rattle.mr_files.specs.declared.store.FileFault.TheVariants.{CannotRead, CannotWrite, OutOfMemory}
 use Rattle.mr_files.proofs.Lists.{contents_more, one_part, part_among}
 

@@ -4,8 +4,8 @@ use Rattle.mr_input.specs.Files.{total_size}
 use Rattle.mr_files.specs.Holding.{Begins, ChangesAmong, Faulty, Holding, Stored}
 use Rattle.mr_store.specs.declared.reading.ReadFault.{ReadFault}
 use Rattle.mr_store.specs.declared.reading.ReadFault.TheVariants.{Device}
-use Rattle.mr_files.specs.declared.within.LimitFault.{LimitFault}
-use Rattle.mr_files.specs.declared.within.LimitFault.TheVariants.{File, TooLong}
+use Rattle.mr_files.specs.declared.reading.LimitFault.{LimitFault}
+use Rattle.mr_files.specs.declared.reading.LimitFault.TheVariants.{File, TooLong}
 use Rattle.mr_files.specs.declared.store.FileFault.{FileFault}
 use Rattle.mr_files.specs.declared.store.FileFault.TheVariants.{CannotRead, CannotWrite, OutOfMemory}
 

@@ -4,9 +4,9 @@
 //! hints. Nothing else belongs here.
 ghost use Rattle.std.specs.Prelude.{◌≡◌, ◌≤◌, ◌<◌, ⊤, None, IfOk, length};
 
-use crate::counted::{Failures, read_some, write_some};
-use crate::inspect::{Inspect, PathKind};
+use crate::names::{Inspect, PathKind};
 use crate::store::{Store, WriteFault};
+use crate::writing::{Failures, read_some, write_some};
 use mr_store::{CountedRead, CountedWrite, Device, ReadFault};
 use std::alloc::{AllocError, Global};
 use std::cell::Cell;

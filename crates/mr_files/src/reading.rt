@@ -1,11 +1,14 @@
-//! A file read whole, and files that are tried.
-ghost use Rattle.std.specs.Prelude.{IfOk, IfErr};
-ghost use Rattle.mr_files.specs.Names.{name_of_part, result_names};
-ghost use Rattle.mr_files.specs.Refusals.{IsUnread, IsOneUnread, IsFault};
+//! Files read in order, and files whose bytes together have a limit.
+ghost use Rattle.std.specs.Prelude.{IfOk, IfErr, ◌≡◌, ◌≤◌, ◌∷◌, [], ◌++◌, map, length};
+ghost use Rattle.mr_files.specs.Names.{name_of_part, result_names, name_of_certificate, part_names};
+ghost use Rattle.mr_files.specs.Refusals.{IsUnread, IsOneUnread, IsFault, IsOneUnreadWithin, IsReadRefusalWithin, IsUnreadWithin};
+ghost use Rattle.std.specs.List.{AllByRecursion};
+ghost use Rattle.mr_input.specs.Files.{contents, total_size};
+ghost use Rattle.mr_files.specs.Holding.{Holding};
 
 use crate::names::{certificate_name, part_name};
 use crate::store::{FileFault, Store};
-use mr_store::{CountedRead, ReadFault, read_all};
+use mr_store::{CountedRead, LimitedFault, ReadFault, read_all, read_limited};
 use std::alloc::{AllocError, Global};
 
 /// The fault of a file of that name.
@@ -68,4 +71,142 @@ pub(crate) fn try_parts<S: Store>(
         try_part(store, alloc, dir, part)?;
     }
     Ok(())
+}
+
+/// Why files were not read, where their bytes together have a limit.
+#[derive(Drop)]
+pub enum LimitFault {
+    File(FileFault),
+    /// Together they have more bytes than that.
+    TooLong,
+}
+
+impl From<FileFault> for LimitFault {
+    ghost use Rattle.mr_files.specs.declared.reading.LimitFault.TheVariants.{File};
+
+    ghost from_gives = { λ e f. f ≡ File e };
+
+    fn from(fault: FileFault) -> LimitFault {
+        LimitFault::File(fault)
+    }
+}
+
+impl From<AllocError> for LimitFault {
+    ghost use Rattle.mr_files.specs.declared.reading.LimitFault.TheVariants.{File};
+    ghost use Rattle.mr_files.specs.declared.store.FileFault.TheVariants.{OutOfMemory};
+
+    ghost from_gives = { λ _ f. f ≡ File OutOfMemory };
+
+    fn from(_fault: AllocError) -> LimitFault {
+        LimitFault::File(FileFault::OutOfMemory)
+    }
+}
+
+/// All bytes of the file of that name, where they are at most so many. No more than one byte past the limit is read.
+pub fn read_file_within<S: Store>(
+    store: &S,
+    alloc: Global,
+    name: &str,
+    limit: u64,
+) -> Result<Vec<u8>, LimitFault>
+    ensures bytes { IfOk result (λ v. S.holds store.now name.now v.items) }
+    ensures within { IfOk result (λ v. length v.items ≤ limit) }
+    ensures refused { IfErr result (λ e. IsUnreadWithin (S.holds store.now) (S.unreadable store.now) name.now limit e) }
+{
+    let mut reader = match store.reader(alloc, name) {
+        Ok(reader) => reader,
+        Err(fault) => return Err(LimitFault::File(fault_of(alloc, name, fault))),
+    };
+    let mut bytes = Vec::new(alloc);
+    match read_limited(&mut reader, &mut bytes, limit) {
+        Ok(()) => Ok(bytes),
+        Err(LimitedFault::TooLong) => Err(LimitFault::TooLong),
+        Err(LimitedFault::Device) if !reader.is_out_of_memory() => Err(LimitFault::File(fault_of(
+            alloc,
+            name,
+            ReadFault::Device,
+        ))),
+        Err(_) => Err(LimitFault::File(FileFault::OutOfMemory)),
+    }
+}
+
+/// The bytes of the named files, in order, where together they are at most so many. Of what is past the limit no more than
+/// one byte is read.
+pub fn read_files_within<S: Store>(
+    store: &S,
+    alloc: Global,
+    names: &[&str],
+    limit: u64,
+) -> Result<Vec<Vec<u8>>, LimitFault>
+    ensures bytes { IfOk result (λ v. Holding (S.holds store.now) (map (λ s. s.now) names.now) (contents v.items)) }
+    ensures within { IfOk result (λ v. total_size (contents v.items) ≤ limit) }
+    ensures refused { IfErr result (λ e. IsReadRefusalWithin (S.holds store.now) (S.unreadable store.now) (map (λ s. s.now) names.now) limit e) }
+{
+    let mut files = Vec::new(alloc);
+    let mut left = limit;
+    for name in names {
+        let bytes = read_file_within(store, alloc, name, left)?;
+        left -= bytes.len() as u64;
+        files.push(bytes).map_err(AllocError::from)?;
+    }
+    Ok(files)
+}
+
+/// The bytes of a part, where they are at most so many.
+fn read_part_within<S: Store>(
+    store: &S,
+    alloc: Global,
+    dir: &str,
+    part: usize,
+    limit: u64,
+) -> Result<Vec<u8>, LimitFault>
+    ensures bytes { IfOk result (λ v. S.holds store.now (name_of_part dir.now part) v.items) }
+    ensures within { IfOk result (λ v. length v.items ≤ limit) }
+    ensures refused { IfErr result (λ e. IsUnreadWithin (S.holds store.now) (S.unreadable store.now) (name_of_part dir.now part) limit e) }
+{
+    let name = part_name(alloc, dir, part)?;
+    read_file_within(store, alloc, name.as_str(), limit)
+}
+
+/// The bytes of the parts, in order, where none has more than so many.
+fn read_parts_within<S: Store>(
+    store: &S,
+    alloc: Global,
+    dir: &str,
+    parts: usize,
+    limit: u64,
+) -> Result<Vec<Vec<u8>>, LimitFault>
+    ensures bytes { IfOk result (λ v. Holding (S.holds store.now) (part_names dir.now parts) (contents v.items)) }
+    ensures within { IfOk result (λ v. AllByRecursion (λ b. length b ≤ limit) (contents v.items)) }
+    ensures refused { IfErr result (λ e. IsOneUnreadWithin (S.holds store.now) (S.unreadable store.now) (result_names dir.now parts) limit e) }
+{
+    let mut files = Vec::new(alloc);
+    for part in 0..parts {
+        let bytes = read_part_within(store, alloc, dir, part, limit)?;
+        files.push(bytes).map_err(AllocError::from)?;
+    }
+    Ok(files)
+}
+
+/// The bytes of the parts, in order, and those of the certificate, where no file has more than so many. Each of the files
+/// is opened once before one is read, so that a missing file is told before one that can't be read. Of a file past the
+/// limit no more than one byte past it is read.
+pub fn read_result_within<S: Store>(
+    store: &S,
+    alloc: Global,
+    dir: &str,
+    parts: usize,
+    limit: u64,
+) -> Result<(Vec<Vec<u8>>, Vec<u8>), LimitFault>
+    ensures outputs { IfOk result (λ r. Holding (S.holds store.now) (part_names dir.now parts) (contents r.0.items)) }
+    ensures certificate { IfOk result (λ r. S.holds store.now (name_of_certificate dir.now) r.1.items) }
+    ensures within { IfOk result (λ r. AllByRecursion (λ b. length b ≤ limit) (contents r.0.items) × (length r.1.items ≤ limit)) }
+    ensures refused { IfErr result (λ e. IsOneUnreadWithin (S.holds store.now) (S.unreadable store.now) (result_names dir.now parts) limit e) }
+{
+    try_parts(store, alloc, dir, parts)?;
+    let last = certificate_name(alloc, dir)?;
+    try_file(store, alloc, last.as_str())?;
+    let outputs = read_parts_within(store, alloc, dir, parts, limit)?;
+    let certificate = read_file_within(store, alloc, last.as_str(), limit)?;
+    Ok((outputs, certificate))
 }

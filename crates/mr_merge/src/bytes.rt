@@ -1,18 +1,37 @@
-//! All regions of a partition, merged over their bytes.
-ghost use Rattle.std.specs.Prelude.{◌≡◌, ◌++◌, ◌∷◌, [], List};
-ghost use Rattle.std.specs.Prelude.{IfErr, IfOk, IfSome, MatchOption, OnOk};
+//! All regions of a partition, merged over their bytes, as long as that is wanted.
+ghost use Rattle.std.specs.Prelude.{IsTrue, ◌≡◌, ◌++◌, ◌∷◌, [], List, IfErr, IfOk, IfSome, MatchOption, OnOk};
 ghost use Rattle.mr_bytes.specs.Pairs.{Triple};
 ghost use Rattle.mr_merge.specs.Bytes.{AreMerged, AreSpelled};
 ghost use Rattle.mr_merge.specs.Merged.{AreSound, values_of};
 ghost use Rattle.mr_merge.specs.declared.merged.MergeFault.TheVariants.{RegionDamaged};
 ghost use Rattle.mr_spill.specs.declared.reading.RegionFault.TheVariants.{RegionDamaged as CantRead};
 
-use crate::cancellation::{Cancellation, NeverCancelled};
 use crate::following::{Came, Follower};
-use crate::groups::Groups;
-use crate::merged::{MergeFault, merge};
+use crate::merged::{Groups, MergeFault, merge};
 use mr_spill::{PairColumns, RegionFault, RegionView, read_region};
 use std::alloc::{AllocError, Global};
+
+/// Who is asked now and then whether work is still wanted. Where two workers do one task, and one of them is done with it,
+/// the other one needn't end it (OSDI 2004, section 3.6). What work gives doesn't depend on the answers.
+pub trait Cancellation {
+    // It lasts to the end of the work.
+    ghost unending: { Type 0 };
+
+    /// Whether the work is still wanted. It is asked often, so the answer should take little.
+    fn is_wanted(&self) -> bool
+        ensures { unending → IsTrue result };
+}
+
+/// The work is wanted whatever happens meanwhile.
+pub struct NeverCancelled;
+
+impl Cancellation for NeverCancelled {
+    ghost unending = { Unit };
+
+    fn is_wanted(&self) -> bool {
+        true
+    }
+}
 
 impl From<RegionFault> for MergeFault {
     ghost use Rattle.std.specs.Prelude.{◌≡◌, ◌↔◌};

@@ -12,7 +12,7 @@ ghost use Rattle.mr_merge.specs.Taking.{IsPut, IsTaken};
 ghost use Rattle.mr_merge.specs.declared.following.Came.TheVariants.{Damaged, Taken};
 
 use crate::distinct::RegionNames;
-use crate::groups::{Groups, grouped};
+use crate::merged::{Groups, grouped};
 use mr_bytes::{Name, compare_names};
 use mr_spill::{Numbered, RegionPair, RegionView, open_region};
 use std::alloc::{AllocError, Global};

@@ -15,16 +15,11 @@
 #![tactic(auto)]
 
 mod bytes;
-mod cancellation;
 mod distinct;
 mod following;
-mod groups;
 mod merged;
 mod merging;
-mod sound;
 
-pub use bytes::{merge_regions, merge_regions_while};
-pub use cancellation::{Cancellation, NeverCancelled};
+pub use bytes::{Cancellation, NeverCancelled, merge_regions, merge_regions_while};
 pub use following::{Came, Follower};
-pub use groups::Groups;
-pub use merged::{MergeFault, merge, merge_law, worked_groups};
+pub use merged::{Groups, MergeFault, merge, merge_law, worked_groups};

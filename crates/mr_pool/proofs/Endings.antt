@@ -2,7 +2,7 @@
 use Rattle.std.proofs.Common.{◌≡◌, ℕ, Option, Some, None, List, Bool, true, false, cond, refl, sym, ◌∙◌}
 use Rattle.std.specs.Prelude.{IsTrue}
 use Rattle.std.proofs.lemmas.Bool.{false≢true}
-use Rattle.mr_script.specs.declared.directive.Directive.{Directive}
+use Rattle.mr_script.specs.declared.script.Directive.{Directive}
 use Rattle.mr_core.specs.declared.event.End.{End}
 use Rattle.mr_core.specs.declared.event.End.TheVariants.{Done as Finished, Dismissed, Failed as EndedBy}
 use Rattle.mr_core.specs.declared.event.JobFault.{JobFault}

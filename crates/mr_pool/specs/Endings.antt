@@ -1,6 +1,6 @@
 -- How a job ended, by what its script accounts for.
 use Rattle.std.specs.Prelude.{ℕ, Bool, Option, Some, List, if◌then◌else◌}
-use Rattle.mr_script.specs.declared.directive.Directive.{Directive}
+use Rattle.mr_script.specs.declared.script.Directive.{Directive}
 use Rattle.mr_core.specs.declared.event.End.{End}
 use Rattle.mr_core.specs.declared.event.End.TheVariants.{Done as Finished, Failed as EndedBy}
 use Rattle.mr_pool.specs.Accounts.{accounts}

@@ -4,7 +4,7 @@ use Rattle.mr_input.specs.Files.{contents, split_total}
 use Rattle.mr_jobs.specs.JobSpec.{RequestSpec}
 use Rattle.mr_certform.specs.Value.{Contents, Spells, SpellsIn}
 use Rattle.mr_certform.specs.declared.version.Version.{Version}
-use Rattle.mr_script.specs.declared.directive.Directive.{Directive}
+use Rattle.mr_script.specs.declared.script.Directive.{Directive}
 use Rattle.mr_core.specs.declared.event.Shape.{Shape}
 use Rattle.mr_core.specs.declared.event.End.{End}
 use Rattle.mr_core.specs.declared.event.JobFault.{JobFault}

@@ -3,15 +3,12 @@
 #![tactic(auto)]
 
 mod book_calls;
-mod executing;
 mod fault_plan;
-mod judge_progress;
-mod run_progress;
+mod progress;
 mod run_spec;
 mod running;
-mod shared;
-mod task_flags;
 mod worker;
+mod workers;
 
 pub use run_spec::RunSpec;
 pub use running::{Certified, RunFault, run, run_watched};

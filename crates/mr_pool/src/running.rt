@@ -14,13 +14,10 @@ ghost use Rattle.mr_verdict.specs.Headline.{IsCertified, accepted_of};
 ghost use Rattle.mr_verdict.specs.Verdict.{verdict_of};
 ghost use Rattle.mr_pool.specs.Outcomes.{IsCertifiedRun, IsDoneRun, IsInVersion, IsRunFault, IsRunnable, run_shape};
 
-use crate::executing::run_workers;
 use crate::fault_plan::{FaultPlan, accounts_for};
-use crate::judge_progress::JudgesProgress;
-use crate::run_progress::RunProgress;
+use crate::progress::{JudgesProgress, RunProgress};
 use crate::run_spec::RunSpec;
-use crate::shared::Shared;
-use crate::task_flags::TaskFlags;
+use crate::workers::{Shared, TaskFlags, run_workers};
 use mr_book::{Book, History, Seat};
 use mr_bytes::{Gate, OpenGate, Phase, Progress, RecordName, Unwatched};
 use mr_certform::Version;

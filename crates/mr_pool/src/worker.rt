@@ -2,7 +2,7 @@
 ghost use Rattle.std.specs.Prelude.{◌<◌};
 ghost use Rattle.mr_input.specs.Files.{split_total};
 
-use crate::shared::Shared;
+use crate::workers::Shared;
 use mr_book::Seat;
 use mr_bytes::{Gate, Progress};
 use mr_core::{Reply, Task};

@@ -3,8 +3,8 @@ use Rattle.std.proofs.Common.{◌≡◌, ℕ, Bool, true, false, cond, ◌⊎◌
 use Rattle.std.specs.Prelude.{codes}
 use Rattle.std.specs.Cmp.Lexicographic.{bytes_decides, pointwise}
 use Rattle.std.proofs.lemmas.Option.{some_pair_parts, same_Some}
-use Rattle.mr_script.specs.declared.directive.Directive.{Directive}
-use Rattle.mr_script.specs.declared.directive.Directive.TheVariants.{Lose, Zombie, Bad, Flaky, Hold, Spoil, Damage}
+use Rattle.mr_script.specs.declared.script.Directive.{Directive}
+use Rattle.mr_script.specs.declared.script.Directive.TheVariants.{Lose, Zombie, Bad, Flaky, Hold, Spoil, Damage}
 use Rattle.mr_script.specs.declared.line.Keyword.{Keyword}
 use Rattle.mr_script.specs.declared.line.Keyword.TheVariants as key
 use Rattle.mr_script.specs.Lines.{Word, Fixed, Number, SpellsWords, SpellsNumber, SpellsLine}

@@ -5,8 +5,8 @@ use Rattle.std.specs.List.{AllByRecursion}
 use Rattle.std.proofs.lemmas.Option.{none-some, same_Some}
 use Rattle.mr_records.specs.Records.{Record, records}
 use Rattle.std.specs.Cmp.Lexicographic.{pointwise}
-use Rattle.mr_script.specs.declared.directive.Directive.{Directive}
-use Rattle.mr_script.specs.declared.directive.Directive.TheVariants.{Lose, Zombie, Bad, Flaky, Hold, Spoil, Damage}
+use Rattle.mr_script.specs.declared.script.Directive.{Directive}
+use Rattle.mr_script.specs.declared.script.Directive.TheVariants.{Lose, Zombie, Bad, Flaky, Hold, Spoil, Damage}
 use Rattle.mr_script.specs.declared.line.Keyword.{Keyword}
 use Rattle.mr_script.specs.declared.line.Keyword.TheVariants as key
 use Rattle.mr_script.specs.Lines.{Fixed, Number, SpellsWords, SpellsNumber, SpellsLine, SaysNothing, Stands}

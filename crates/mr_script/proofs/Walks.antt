@@ -3,7 +3,7 @@ use Rattle.std.proofs.Common.{◌≡◌, ℕ, ◌+◌, List, [], ◌∷◌, ◌+
 use Rattle.std.proofs.lemmas.List.{append-nil}
 use Rattle.std.specs.List.{AllByRecursion}
 use Rattle.mr_records.specs.Records.{Record, records, records_from}
-use Rattle.mr_script.specs.declared.directive.Directive.{Directive}
+use Rattle.mr_script.specs.declared.script.Directive.{Directive}
 use Rattle.mr_script.specs.declared.script.ScriptFault.{ScriptFault}
 use Rattle.mr_script.specs.declared.script.ScriptFault.TheVariants.{BadLine, OutOfMemory}
 use Rattle.mr_script.specs.Lines.{SaysNothing, SpellsLine, Stands}

@@ -1,7 +1,7 @@
 -- What holds of all lines and scripts.
 use Rattle.std.specs.Prelude.{◌≡◌, ◌↔◌, ℕ, List, Some}
 use Rattle.mr_records.specs.Records.{records}
-use Rattle.mr_script.specs.declared.directive.Directive.{Directive}
+use Rattle.mr_script.specs.declared.script.Directive.{Directive}
 use Rattle.mr_script.specs.Lines.{SaysNothing, SpellsLine}
 use Rattle.mr_script.specs.Scripts.{SpellsScript, IsFirstBad}
 use Rattle.mr_script.specs.Meaning.{directive_of}

@@ -1,8 +1,8 @@
 -- What a line of a script spells.
 use Rattle.std.specs.Prelude.{◌≡◌, ◌⊎◌, ℕ, ◌^◌, ◌<◌, ◌≤◌, List, [], ◌∷◌, ◌++◌, length, slice_index, codes}
 use Rattle.std.specs.Str.Parse.{IsNumeral, digits_value}
-use Rattle.mr_script.specs.declared.directive.Directive.{Directive}
-use Rattle.mr_script.specs.declared.directive.Directive.TheVariants.{Lose, Zombie, Bad, Flaky, Hold, Spoil, Damage}
+use Rattle.mr_script.specs.declared.script.Directive.{Directive}
+use Rattle.mr_script.specs.declared.script.Directive.TheVariants.{Lose, Zombie, Bad, Flaky, Hold, Spoil, Damage}
 
 -- a word of a line: a fixed one, or one that spells a number
 pub data Word : Type 0 where

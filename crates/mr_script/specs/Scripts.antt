@@ -2,7 +2,7 @@
 use Rattle.std.specs.Prelude.{◌≡◌, ◌⊎◌, ℕ, ◌+◌, List, [], ◌∷◌, ◌++◌, length}
 use Rattle.std.specs.List.{AllByRecursion}
 use Rattle.mr_records.specs.Records.{Record, records}
-use Rattle.mr_script.specs.declared.directive.Directive.{Directive}
+use Rattle.mr_script.specs.declared.script.Directive.{Directive}
 use Rattle.mr_script.specs.declared.script.ScriptFault.{ScriptFault}
 use Rattle.mr_script.specs.declared.script.ScriptFault.TheVariants.{BadLine, OutOfMemory}
 use Rattle.mr_script.specs.Lines.{SaysNothing, SpellsLine, Stands}

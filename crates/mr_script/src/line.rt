@@ -4,7 +4,7 @@ ghost use Rattle.std.specs.Str.Parse.{AllDigits, digits_value};
 ghost use Rattle.mr_script.specs.Lines.{SaysNothing, SpellsNumber};
 ghost use Rattle.mr_script.specs.Meaning.{number_of, number_and_rest, number_and_number, number_after_number, three_numbers, keyword_of, directive_of};
 
-use crate::directive::Directive;
+use crate::script::Directive;
 use mr_bytes::cut;
 
 /// The first word of a line.

@@ -1,15 +1,56 @@
-//! A script read: enter bytes, leaves the list of directives that its lines spell, or the number of the first bad line.
+//! A script read: bytes enter; the list of directives that its lines spell leaves, or the number of the first bad line.
 //! One pass; memory grows with the directives.
 ghost use Rattle.std.specs.Prelude.{◌≡◌, ◌≢◌, ℕ, ◌+◌, ◌<◌, ◌≤◌, [], ◌∷◌, IfOk, IfErr, MatchOption, MatchResult, length, drop, slice_index};
 ghost use Rattle.mr_records.specs.Records.{Record, records_from};
 ghost use Rattle.mr_script.specs.Scripts.{SpellsScript, Adds, IsLineFault, IsScriptFault};
+ghost use Rattle.mr_script.specs.Laws.{LinesByMeaning, OneDirective, NothingIsNoDirective, OneScript, NoScriptHasABadLine};
 
-use crate::directive::Directive;
 use crate::line::{directive_of, says_nothing};
 use mr_records::record_end;
 use std::alloc::{AllocFailed, Global};
 use std::marker::Model;
 use thiserror::Error;
+
+/// One thing that shall go wrong in a run, with the numbers of its line in their order.
+#[derive(Clone, Copy, Debug, PartialEq, Eq)]
+pub enum Directive {
+    /// The worker is lost once it has made so many reports.
+    Lose {
+        worker: u32,
+        after: u32,
+    },
+    /// The worker is taken for lost just before the report behind so many, and goes on all the same.
+    Zombie {
+        worker: u32,
+        after: u32,
+    },
+    /// The record fails in each attempt that reaches it.
+    Bad {
+        split: u32,
+        rec: u32,
+    },
+    /// The record fails in the first so many attempts that reach it.
+    Flaky {
+        split: u32,
+        rec: u32,
+        attempts: u32,
+    },
+    /// The worker keeps its first report back.
+    Hold {
+        worker: u32,
+    },
+    /// The byte at the place in the partition's output has its lowest bit changed.
+    Spoil {
+        partition: u32,
+        place: u32,
+    },
+    /// In the first region of the partition that is put for the split, the byte at the place has its lowest bit changed.
+    Damage {
+        split: u32,
+        partition: u32,
+        place: u32,
+    },
+}
 
 /// What shall go wrong in a run: directives, in the order of their lines.
 #[derive(Drop)]
@@ -19,7 +60,7 @@ pub struct Script {
 
 impl Model for Script {
     ghost use Rattle.std.specs.Prelude.{List};
-    ghost use Rattle.mr_script.specs.declared.directive.Directive.{Directive};
+    ghost use Rattle.mr_script.specs.declared.script.Directive.{Directive};
 
     ghost Value = { List Directive };
 
@@ -105,3 +146,17 @@ impl Script {
         &self.directives
     }
 }
+
+/// A line spells a directive exactly where its meaning is that directive, so at most one; and a line that says nothing
+/// spells none.
+pub fn line_law()
+    ensures meaning { LinesByMeaning }
+    ensures one { OneDirective }
+    ensures apart { NothingIsNoDirective }
+{}
+
+/// Bytes spell at most one list of directives, and none where a line is bad.
+pub fn script_law()
+    ensures one { OneScript }
+    ensures bad { NoScriptHasABadLine }
+{}

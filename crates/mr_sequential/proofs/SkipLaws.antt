@@ -15,8 +15,8 @@ use Rattle.mr_splits.specs.Cut.{is_record}
 use Rattle.mr_splits.specs.Kept as kept
 use Rattle.mr_splits.specs.declared.kept_records.SkipFault.{SkipFault}
 use Rattle.mr_splits.specs.declared.kept_records.SkipFault.TheVariants as split
-use Rattle.mr_sequential.specs.declared.fault.RunFault.{RunFault}
-use Rattle.mr_sequential.specs.declared.fault.RunFault.TheVariants.{NoSuchRecord, SkipOrder, TooManySkips}
+use Rattle.mr_sequential.specs.declared.sequence.RunFault.{RunFault}
+use Rattle.mr_sequential.specs.declared.sequence.RunFault.TheVariants.{NoSuchRecord, SkipOrder, TooManySkips}
 use Rattle.mr_sequential.specs.Skips.{is_past, list_fault, GoodSkips}
 
 record_total : IsTotalOrder record_order

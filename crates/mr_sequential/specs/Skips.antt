@@ -8,8 +8,8 @@ use Rattle.mr_bytes.specs.Order.{record_order}
 use Rattle.mr_jobs.specs.JobSpec.{RequestSpec}
 use Rattle.mr_splits.specs.Named.{NamedRecord, named_records}
 use Rattle.mr_splits.specs.Cut.{is_record}
-use Rattle.mr_sequential.specs.declared.fault.RunFault.{RunFault}
-use Rattle.mr_sequential.specs.declared.fault.RunFault.TheVariants.{NoSuchRecord, SkipOrder, TooManySkips}
+use Rattle.mr_sequential.specs.declared.sequence.RunFault.{RunFault}
+use Rattle.mr_sequential.specs.declared.sequence.RunFault.TheVariants.{NoSuchRecord, SkipOrder, TooManySkips}
 
 -- the name is past the one before it
 abbrev pub is_past : Option RecordName → RecordName → Bool

@@ -5,10 +5,8 @@ ghost use Rattle.mr_sequential.specs.Laws.{KeysAreUnique, KeysRise, NamesRise, O
 ghost use Rattle.mr_sequential.specs.Skips.{GoodSkips};
 
 mod distribute;
-mod fault;
 mod gathered;
 mod gathering;
-mod good;
 mod groups;
 mod names;
 mod outputs;
@@ -16,9 +14,9 @@ mod sequence;
 mod source;
 mod texts;
 
-pub use fault::RunFault;
-pub use good::{certified_law, entries_law, good_law, unique_law};
-pub use sequence::{header_of, run, run_watched};
+pub use sequence::{
+    RunFault, certified_law, entries_law, good_law, header_of, run, run_watched, unique_law,
+};
 
 /// The keys of a partition are the one list that rises strictly and has just the keys that belong to it; and the
 /// outputs of the sequential execution are the texts of these keys, in this order.

@@ -1,4 +1,4 @@
-//! A sequential execution, from a request and an input to the outputs.
+//! A sequential execution, from a request and an input to the outputs; its refusals, and what a good result is worth.
 ghost use Rattle.std.specs.Prelude.{◌≡◌, ◌↔◌, ℕ, ◌≤◌, ◌<◌, ◌^◌, ◌⊎◌, IfOk, OnOk, IfErr, IfSome, ◌≢◌, None, Some, length, map};
 ghost use Rattle.mr_certform.specs.Flat.{AreCounted, chunks};
 ghost use Rattle.mr_input.specs.Files.{contents, nth_file, split_total};
@@ -8,8 +8,8 @@ ghost use Rattle.mr_sequential.specs.Certified.{certificate_of};
 ghost use Rattle.mr_sequential.specs.Good.{IsGood};
 ghost use Rattle.mr_sequential.specs.Sequential.{sequential};
 ghost use Rattle.mr_sequential.specs.Skips.{list_fault, skip_fault};
+ghost use Rattle.mr_sequential.specs.GoodLaws.{EntriesAreDistinct, NoMoreEntries, NoneIsLeftOut, GoodPartsAreSequential, GoodIsSequential, SequentialIsGood, CertificateIsSequential, CertificateIsUnique, WorkedGroups, WorkedOutput};
 
-use crate::fault::RunFault;
 use crate::outputs::outputs;
 use crate::source::{Emitted, gather};
 use mr_bytes::{Phase, Progress, RecordName, Unwatched};
@@ -18,6 +18,34 @@ use mr_input::Input;
 use mr_jobs::Request;
 use mr_splits::{KeptPlan, Plan, SkipFault};
 use std::alloc::{AllocError, Global};
+use thiserror::Error;
+
+/// Why there is no sequential execution.
+#[derive(Clone, Copy, Debug, PartialEq, Eq, Drop, Error)]
+pub enum RunFault {
+    /// A left-out record does not exist.
+    #[error("NoSuchRecord")]
+    NoSuchRecord,
+    /// A left-out record is not past the one before it.
+    #[error("SkipOrder")]
+    SkipOrder,
+    /// More records are left out than the request allows.
+    #[error("TooManySkips")]
+    TooManySkips,
+    /// The machine refused memory.
+    #[error("OutOfMemory")]
+    OutOfMemory,
+}
+
+impl From<AllocError> for RunFault {
+    ghost use Rattle.mr_sequential.specs.declared.sequence.RunFault.TheVariants.{OutOfMemory as told_memory};
+
+    ghost from_gives = { λ _ f. f ≡ told_memory };
+
+    fn from(_fault: AllocError) -> RunFault {
+        RunFault::OutOfMemory
+    }
+}
 
 /// The first fault of a list of left-out records, each tested for its order before its existence.
 fn fault_of(plan: &Plan<'_>, skips: &[RecordName]) -> Option<RunFault>
@@ -189,3 +217,30 @@ fn execute(
     let header = header_of(alloc, request, plan.input(), skips)?;
     Ok((texts, Certificate::of(header, groups)))
 }
+
+/// The entries of partitions whose groups are good are distinct, by names, keys and partitions alone, so there are no
+/// more of them than triples; and distinct entries that name triples, as many as there are triples, leave none out.
+pub fn entries_law()
+    ensures distinct { EntriesAreDistinct }
+    ensures no_more { NoMoreEntries }
+    ensures all { NoneIsLeftOut }
+{}
+
+/// A good result is the sequential execution's, without the records that its certificate leaves out.
+pub fn good_law()
+    ensures parts { GoodPartsAreSequential }
+    ensures whole { GoodIsSequential }
+{}
+
+/// The sequential execution's own result is good, with the groups of its keys as the certificate.
+pub fn certified_law()
+    ensures good { SequentialIsGood }
+    ensures worked_groups { WorkedGroups }
+    ensures worked_output { WorkedOutput }
+{}
+
+/// Good results that leave out the same records have one certificate: that of the sequential execution.
+pub fn unique_law()
+    ensures sequential { CertificateIsSequential }
+    ensures one { CertificateIsUnique }
+{}

@@ -2,10 +2,10 @@
 use Rattle.std.specs.Prelude.{ℕ}
 use Rattle.mr_files.specs.declared.store.FileFault.{FileFault}
 use Rattle.mr_files.specs.declared.store.FileFault.TheVariants as file
-use Rattle.mr_shards.specs.declared.merge_fault.MergeFault.{MergeFault}
-use Rattle.mr_shards.specs.declared.merge_fault.MergeFault.TheVariants as merge
-use Rattle.mr_shards.specs.declared.verdict_fault.VerdictFault.{VerdictFault}
-use Rattle.mr_shards.specs.declared.verdict_fault.VerdictFault.TheVariants as text
+use Rattle.mr_shards.specs.declared.merge.MergeFault.{MergeFault}
+use Rattle.mr_shards.specs.declared.merge.MergeFault.TheVariants as merge
+use Rattle.mr_shards.specs.declared.verdict.VerdictFault.{VerdictFault}
+use Rattle.mr_shards.specs.declared.verdict.VerdictFault.TheVariants as text
 use Rattle.mr_shards.specs.declared.joining.JoinFault.{JoinFault}
 use Rattle.mr_shards.specs.declared.joining.JoinFault.TheVariants as join
 use Rattle.mr_shard_files.specs.declared.fault.ShardFault.{ShardFault}

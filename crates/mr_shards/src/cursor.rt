@@ -9,7 +9,7 @@ ghost use Rattle.mr_shards.specs.Cursors.{AreBeyond, AreBehind, Differs, DoesNot
 ghost use Rattle.mr_shards.specs.Refused.{BlamesOnly, IsReadOf, IsRestOf, MayFollow, last_key};
 
 use crate::line::{Line, first_line, moved};
-use crate::merge_fault::MergeFault;
+use crate::merge::MergeFault;
 use mr_bytes::compare_keys;
 use mr_jobs::Job;
 use std::cmp::Ordering;

@@ -6,9 +6,7 @@ ghost use Rattle.mr_shards.specs.Shards.{moved_name};
 ghost use Rattle.mr_shards.specs.Joined.{AreOnce, IsJoinFault, IsJoined, IsRepeated, JoinedIsTrue, splits_in as split_number, splits_told};
 ghost use Rattle.mr_shards.specs.Joining.{Follows, IsShardFault, IsTooFar};
 
-use crate::noting::verdict_for;
-use crate::requests::asks;
-use crate::verdict::{FileNote, Verdict};
+use crate::verdict::{FileNote, Verdict, asks, verdict_for};
 use mr_bytes::RecordName;
 use mr_jobs::Request;
 use std::alloc::{AllocError, Global};

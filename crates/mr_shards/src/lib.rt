@@ -8,14 +8,10 @@ mod cursor;
 mod joining;
 mod line;
 mod merge;
-mod merge_fault;
 mod merger;
-mod noting;
 mod piece;
 mod reading;
-mod requests;
 mod verdict;
-mod verdict_fault;
 mod window;
 mod writing;
 
@@ -26,14 +22,12 @@ ghost use Rattle.mr_shards.specs.Laws.{OneText};
 
 pub use joining::{JoinFault, first_repeat, join_verdicts, joined_law};
 pub use line::number_of;
-pub use merge::{ShardText, merge_parts};
-pub use merge_fault::MergeFault;
+pub use merge::{MergeFault, ShardText, merge_parts};
 pub use merger::Merger;
-pub use noting::{is_note_of, note_for, verdict_for};
 pub use reading::read_verdict;
-pub use requests::{asks, request_of};
-pub use verdict::{FileNote, Verdict};
-pub use verdict_fault::VerdictFault;
+pub use verdict::{
+    FileNote, Verdict, VerdictFault, asks, is_note_of, note_for, request_of, verdict_for,
+};
 pub use window::Window;
 pub use writing::write_verdict;
 

@@ -9,7 +9,7 @@ ghost use Rattle.mr_shards.specs.Cursors.{HasFront};
 ghost use Rattle.mr_shards.specs.Refused.{IsFarPlace, IsLineOf, Overflows};
 ghost use Rattle.mr_shards.specs.Views.{BeginsWithLine, Combines, IsFor, IsSameKind, IsTold, group_of, values_of};
 
-use crate::merge_fault::MergeFault;
+use crate::merge::MergeFault;
 use itoa::Buffer;
 use memchr::{memchr, memrchr};
 use mr_bytes::Value;

@@ -3,7 +3,7 @@ ghost use Rattle.std.specs.Prelude.{◌≡◌, ℕ, ◌≤◌, ◌++◌, ◌∷�
 ghost use Rattle.mr_shards.specs.Pieces.{ArePut, BlamesAll, Standing, are_last, cuts_before, fresh_all, is_past, moved_to, nothing, pieces_of, whole_window};
 ghost use Rattle.mr_shards.specs.Places.{kept, shown};
 
-use crate::merge_fault::MergeFault;
+use crate::merge::MergeFault;
 use crate::piece::{
     all_read, cuts_before, expect_order, held_of, merge_pieces, no_bytes, whole_windows,
 };

@@ -9,8 +9,7 @@ ghost use Rattle.mr_shards.specs.Reading.{Fits, NameFits, NoteFits, told_of, tol
 ghost use Rattle.mr_shards.specs.Verdict.{Note, Told, name_told, note_told, spelling};
 
 use crate::line::number_of;
-use crate::verdict::{FileNote, Verdict};
-use crate::verdict_fault::VerdictFault;
+use crate::verdict::{FileNote, Verdict, VerdictFault};
 use crate::writing::write_verdict;
 use hex::decode_to_slice;
 use mr_bytes::{RecordName, cut};

@@ -1,6 +1,16 @@
-//! A verdict as a value.
+//! A verdict as a value: the request that it is about, the notes of its files, and why a text is no verdict.
+ghost use Rattle.std.specs.Prelude.{◌≡◌, ◌↔◌, IfOk, IfSome, IsTrue, MatchOption};
+ghost use Rattle.mr_bytes.specs.declared.By.{By};
+ghost use Rattle.mr_jobs.specs.JobSpec.{RequestSpec, Resources};
+ghost use Rattle.mr_shards.specs.Lines.{CanMerge};
+ghost use Rattle.mr_shards.specs.Truth.{Asks, AsksNone, CanBeMade, NamesJob, by_told, IsNoteOf, note_for, verdict_for};
+
 use mr_bytes::RecordName;
+use mr_jobs::{Job, JobFault, Request};
+use sha2::{Digest, Sha256};
+use std::alloc::{AllocError, Global};
 use std::marker::Model;
+use thiserror::Error;
 
 /// A file as it was judged: its name, how many bytes it has, and their SHA-256.
 #[derive(Debug, Drop)]
@@ -50,4 +60,139 @@ impl Model for Verdict {
       left_out = v.left_out.items;
       pairs = v.pairs;
     } };
+}
+
+/// Why a text is read as no verdict.
+#[derive(Clone, Copy, Debug, PartialEq, Eq, Drop, Error)]
+pub enum VerdictFault {
+    /// The text is that of no verdict. Its lines from this one on, numbered from 0, differ from those of the verdict that
+    /// its lines tell.
+    #[error("BadLine {line}")]
+    BadLine { line: u64 },
+    /// The machine refused memory.
+    #[error("OutOfMemory")]
+    OutOfMemory,
+}
+
+impl From<AllocError> for VerdictFault {
+    ghost use Rattle.mr_shards.specs.declared.verdict.VerdictFault.TheVariants.{OutOfMemory as told_memory};
+
+    ghost from_gives = { λ _ f. f ≡ told_memory };
+
+    fn from(_fault: AllocError) -> VerdictFault {
+        VerdictFault::OutOfMemory
+    }
+}
+
+/// Whether a verdict is about the request.
+pub fn asks(verdict: &Verdict, request: &Request) -> bool
+    ensures { IsTrue result ↔ Asks verdict.now request.now }
+{
+    let job = request.job();
+    verdict.job == job.number()
+        && verdict.flags == request.flags()
+        && verdict.literal.as_slice() == job.literal()
+        && verdict.parts == request.parts()
+        && verdict.split == request.split_size()
+}
+
+/// The one job that a verdict may name, where its outputs can be merged: not those of an index.
+fn job_named(alloc: Global, verdict: &Verdict) -> Result<Option<Job>, AllocError>
+    ensures named { IfOk result (λ r. MatchOption r
+        ((request : RequestSpec) → CanBeMade request → CanMerge request.job → NamesJob verdict.now request → ⊥)
+        (λ j. (request : RequestSpec) → CanBeMade request → NamesJob verdict.now request → j ≡ request.job)) }
+    ensures mergeable { IfOk result (λ r. IfSome r (λ j. CanMerge j)) }
+{
+    match verdict.job {
+        1 => Ok(Some(Job::words(verdict.flags == 1))),
+        2 => match Job::grep(alloc, verdict.literal.as_slice(), verdict.flags == 2) {
+            Ok(job) => Ok(Some(job)),
+            Err(JobFault::OutOfMemory) => Err(AllocError),
+            Err(_) => Ok(None),
+        },
+        4 => Ok(None),
+        _ => Ok(Some(Job::url())),
+    }
+}
+
+/// The request, by the host of a key where the verdict's flags say so; none where its keys have no host.
+fn by_named(request: Request, verdict: &Verdict) -> Option<Request>
+    requires { request.by ≡ By.Key }
+    ensures { MatchOption result ((verdict.now.flags ≡ 4) × (request.job ≡ Resources → ⊥))
+        (λ q. q ≡ record { job = request.job; by = by_told verdict.now.flags; parts = request.parts; split = request.split; skips = request.skips }) }
+{
+    if verdict.flags == 4 {
+        request.by_host().ok()
+    } else {
+        Some(request)
+    }
+}
+
+/// A request that a verdict is about, which lets no record be left out, of a job whose outputs can be merged; none where
+/// there is no such request. The outputs of an index can't be merged.
+pub fn request_of(alloc: Global, verdict: &Verdict) -> Result<Option<Request>, AllocError>
+    ensures asks { IfOk result (λ r. MatchOption r (AsksNone verdict.now) (λ q. Asks verdict.now q)) }
+    ensures mergeable { IfOk result (λ r. IfSome r (λ q. CanMerge q.job)) }
+{
+    let Some(job) = job_named(alloc, verdict)? else {
+        return Ok(None);
+    };
+    let Ok(request) = Request::new(job, verdict.parts, verdict.split, 0) else {
+        return Ok(None);
+    };
+    let Some(request) = by_named(request, verdict) else {
+        return Ok(None);
+    };
+    if asks(verdict, &request) {
+        Ok(Some(request))
+    } else {
+        Ok(None)
+    }
+}
+
+/// The note of a file of that name and these bytes.
+pub fn note_for(alloc: Global, name: &[u8], bytes: &[u8]) -> Result<FileNote, AllocError>
+    ensures { IfOk result (λ n. n ≡ note_for name.now bytes.now) }
+{
+    Ok(FileNote {
+        name: Vec::from_slice(alloc, name)?,
+        length: bytes.len() as u64,
+        digest: Sha256::digest(bytes),
+    })
+}
+
+/// Whether the note is one of these bytes, whatever the name.
+pub fn is_note_of(note: &FileNote, bytes: &[u8]) -> bool
+    ensures { IsTrue result ↔ IsNoteOf note.now bytes.now }
+{
+    if note.length != bytes.len() as u64 {
+        return false;
+    }
+    let digest = Sha256::digest(bytes);
+    digest.as_slice() == note.digest.as_slice()
+}
+
+/// The verdict about a request, with the notes of its input and of its outputs.
+pub fn verdict_for(
+    alloc: Global,
+    request: &Request,
+    inputs: Vec<FileNote>,
+    outputs: Vec<FileNote>,
+    left_out: &[RecordName],
+    pairs: u64,
+) -> Result<Verdict, AllocError>
+    ensures { IfOk result (λ v. v ≡ verdict_for request.now inputs.items outputs.items left_out.now pairs) }
+{
+    let job = request.job();
+    Ok(Verdict {
+        job: job.number(),
+        flags: request.flags(),
+        literal: Vec::from_slice(alloc, job.literal())?,
+        parts: request.parts(),
+        split: request.split_size(),
+        inputs,
+        outputs,
+        left_out: Vec::from_slice(alloc, left_out)?,
+        pairs,
+    })
 }

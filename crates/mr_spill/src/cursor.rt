@@ -1,6 +1,5 @@
-//! A region walked pair by pair over its bytes: nothing is copied, and nothing believed that the bytes don't spell.
-ghost use Rattle.std.specs.Prelude.{◌≡◌, ◌↔◌, ◌<◌, [], List, Some};
-ghost use Rattle.std.specs.Prelude.{IsTrue, MatchOption, false, length};
+//! A region walked pair by pair over its bytes. Nothing is copied, and nothing is believed that the bytes don't spell.
+ghost use Rattle.std.specs.Prelude.{◌≡◌, ◌↔◌, ◌<◌, [], List, Some, IsTrue, MatchOption, false, length};
 ghost use Rattle.mr_bytes.specs.Pairs.{Triple};
 ghost use Rattle.mr_spill.specs.Cursor.{AreAhead, IsBehind, IsKeyOf, IsNextOf, IsOpened, lent_pair};
 ghost use Rattle.mr_spill.specs.Spelling.{SpellsRegion};
@@ -8,6 +7,45 @@ ghost use Rattle.mr_spill.specs.Spelling.{SpellsRegion};
 use crate::reading::{Front, take_header, take_pair};
 use mr_bytes::{Name, Value, compare_keys, compare_names};
 use std::cmp::Ordering;
+use std::marker::Model;
+
+/// The bytes of a region, and the split that they are told to be of. They may be anything.
+#[derive(Drop)]
+pub struct RegionView<'a> {
+    split: u32,
+    bytes: &'a [u8],
+}
+
+impl<'a> Model for RegionView<'a> {
+    ghost use Rattle.mr_spill.specs.Lent.{RegionText};
+
+    ghost Value = { RegionText };
+
+    ghost view = { λ r. record { split = r.split; bytes = r.bytes.now } };
+}
+
+impl<'a> RegionView<'a> {
+    /// Bytes, and the split that they are told to be of.
+    pub fn of(bytes: &'a [u8], split: u32) -> RegionView<'a>
+        ensures { result ≡ record { split = split; bytes = bytes.entry.now } }
+    {
+        RegionView { split, bytes }
+    }
+
+    /// The split that the bytes are told to be of.
+    pub fn split(&self) -> u32
+        ensures { result ≡ self.now.split }
+    {
+        self.split
+    }
+
+    /// The bytes.
+    pub fn bytes(&self) -> &'a [u8]
+        ensures { result.now ≡ self.now.bytes }
+    {
+        self.bytes
+    }
+}
 
 /// A pair of a region; its key lies in the region's bytes.
 #[derive(Clone, Copy, Drop)]

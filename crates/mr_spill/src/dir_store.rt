@@ -1,16 +1,20 @@
-//! Regions in files: each in a file of its own, under its worker and number. No clause of std says what stands under a name,
-//! so what this file does is to be read: that a region is written under the name that is then read.
-ghost use Rattle.std.specs.Prelude.{◌≡◌, ◌<◌, false, vec_len, IfOk, OnErr, OnOk};
+//! Regions in files: each in a file of its own, under its worker and number; and who opens such a store in a directory.
+//!
+//! No clause of std says what stands under a name. So what this file does is to be read: a region is written under the
+//! name that is read later.
+ghost use Rattle.std.specs.Prelude.{◌≡◌, ◌<◌, false, vec_len, IfOk, OnErr, OnOk, ◌↔◌, ◌≤◌, None, IsErr, length};
 ghost use Rattle.mr_spill.specs.Stores.{Grows};
+ghost use Rattle.mr_store.specs.Devices.{Counts};
 
-use crate::open_file::Counted;
-use crate::store::{GetFault, PutFault, RegionStore};
-use mr_store::{CountedWrite, read_all, write_all};
+use crate::store::{GetFault, MemoryStore, PutFault, RegionStore};
+use mr_store::{CountedRead, CountedWrite, Device, read_all, write_all};
 use std::alloc::{AllocError, Global};
-use std::fs::File;
-use std::io::{self, ErrorKind};
+use std::fs::{File, TryLockError};
+use std::io::{self, ErrorKind, Read, Write};
 use std::rt::Files;
+use std::sync::Wait;
 use std::sync::atomic::{AtomicU64, Ordering};
+use thiserror::Error;
 
 /// Regions in the files of a directory that is there: `region-WW-NNNNNNNN`. A file that is there is written over, and none is
 /// removed. It takes no lock: a number is drawn from one word for each worker, and its file is nobody else's.
@@ -133,5 +137,198 @@ impl<'a, R: Files + Sync> RegionStore for DirStore<'a, R> {
         }
         let name = self.name(worker, number)?;
         self.read(name.as_str(), into)
+    }
+}
+
+/// A file that is open. Each call of it that fails is counted.
+#[derive(Drop)]
+pub(crate) struct Counted<F: Drop> {
+    file: F,
+    failures: u64,
+    lacked_memory: bool,
+}
+
+impl<F: Drop> Counted<F> {
+    pub(crate) fn of(file: F) -> Counted<F> {
+        Counted {
+            file,
+            failures: 0,
+            lacked_memory: false,
+        }
+    }
+
+    fn counted<T: Drop>(&mut self, answer: io::Result<T>) -> Result<T, Device>
+        ensures ok { IfOk result (λ v. answer ≡ Ok v) }
+        ensures err { IsErr result ↔ IsErr answer }
+        ensures count { Counts self.old.failures self.new.failures result }
+    {
+        match answer {
+            Ok(value) => Ok(value),
+            Err(error) => {
+                self.failures = self.failures.wrapping_add(1);
+                self.lacked_memory = self.lacked_memory || error.kind() == ErrorKind::OutOfMemory;
+                Err(Device)
+            }
+        }
+    }
+}
+
+fn read_some<F: Read>(file: &mut F, buffer: &mut [u8]) -> io::Result<usize>
+    ensures { IfOk result (λ n. n ≤ length buffer.new) }
+{
+    file.read(buffer)
+}
+
+fn write_some<F: Write>(file: &mut F, bytes: &[u8]) -> io::Result<usize>
+    ensures bound { IfOk result (λ n. n ≤ length bytes.now) }
+    ensures some { IfOk result (λ n. 0 < length bytes.now → 0 < n) }
+{
+    let count = file.write(bytes)?;
+    if count == 0 && !bytes.is_empty() {
+        return Err(io::Error::from(ErrorKind::WriteZero));
+    }
+    Ok(count)
+}
+
+impl<F: Read + Drop> CountedRead for Counted<F> {
+    ghost failed = { λ r. r.failures };
+
+    ghost lacked = { λ r. r.lacked_memory };
+
+    fn read(&mut self, buffer: &mut [u8]) -> Result<usize, Device> {
+        let answer = read_some(&mut self.file, buffer);
+        self.counted(answer)
+    }
+
+    fn failures(&self) -> u64 {
+        self.failures
+    }
+
+    fn is_out_of_memory(&self) -> bool {
+        self.lacked_memory
+    }
+}
+
+impl<F: Write + Drop> CountedWrite for Counted<F> {
+    ghost seen = { λ w. record { contents = None; handed_on = None; failed = w.failures } };
+
+    ghost lacked = { λ w. w.lacked_memory };
+
+    fn write(&mut self, bytes: &[u8]) -> Result<usize, Device> {
+        let answer = write_some(&mut self.file, bytes);
+        self.counted(answer)
+    }
+
+    fn flush(&mut self) -> Result<(), Device> {
+        let answer = self.file.flush();
+        self.counted(answer)
+    }
+
+    fn failures(&self) -> u64 {
+        self.failures
+    }
+
+    fn is_out_of_memory(&self) -> bool {
+        self.lacked_memory
+    }
+}
+
+/// Why no store is opened in a directory.
+#[derive(Clone, Copy, Debug, PartialEq, Eq, Drop, Error)]
+pub enum ScratchFault {
+    /// Another run keeps its regions there.
+    #[error("ScratchInUse")]
+    InUse,
+    #[error("OutOfMemory")]
+    OutOfMemory,
+}
+
+impl From<AllocError> for ScratchFault {
+    ghost use Rattle.mr_spill.specs.declared.dir_store.ScratchFault.TheVariants.{OutOfMemory as told_memory};
+
+    ghost from_gives = { λ _ f. f ≡ told_memory };
+
+    fn from(_fault: AllocError) -> ScratchFault {
+        ScratchFault::OutOfMemory
+    }
+}
+
+/// Who opens stores of regions in directories. What goes over it takes no files of the system, and so touches no other one.
+pub trait Scratch {
+    type Store: RegionStore + Drop;
+
+    /// A store in the directory, for so many workers.
+    fn open(&self, alloc: Global, dir: &str, workers: u32) -> Result<Self::Store, ScratchFault>
+        requires { 0 < workers };
+}
+
+/// The directories of the system. A file `regions.lock` in the directory is locked as long as a store is there. It stays
+/// behind, and its lock ends with the program, however that ends.
+#[derive(Drop)]
+pub struct DiskScratch<'a, R: Files> {
+    rt: &'a R,
+}
+
+/// The file, locked. One of a system that has no locks goes without.
+fn locked(file: File) -> Result<Option<File>, ScratchFault> {
+    match file.try_lock() {
+        Err(TryLockError::WouldBlock) => Err(ScratchFault::InUse),
+        _ => Ok(Some(file)),
+    }
+}
+
+impl<'a, R: Files<File = File>> DiskScratch<'a, R> {
+    pub fn new(rt: &'a R) -> DiskScratch<'a, R> {
+        DiskScratch { rt }
+    }
+
+    /// The directory's file, locked. Where it can't be made, no region can be put there either, and each put tells so.
+    fn lock(&self, alloc: Global, dir: &str) -> Result<Option<File>, ScratchFault> {
+        let name = format!(in alloc; "{dir}/regions.lock")?;
+        match File::create(self.rt, name.as_str()) {
+            Ok(file) => locked(file),
+            Err(error) if is_for_memory(&error) => Err(ScratchFault::OutOfMemory),
+            Err(_) => Ok(None),
+        }
+    }
+}
+
+impl<'a, R: Files<File = File> + Sync> Scratch for DiskScratch<'a, R> {
+    type Store = DirStore<'a, R>;
+
+    fn open(
+        &self,
+        alloc: Global,
+        dir: &str,
+        workers: u32,
+    ) -> Result<DirStore<'a, R>, ScratchFault> {
+        let lock = self.lock(alloc, dir)?;
+        let store = DirStore::new(self.rt, alloc, dir, workers)?;
+        Ok(store.keeping(lock))
+    }
+}
+
+/// Stores in memory in place of directories.
+#[derive(Drop)]
+pub struct MemoryScratch<'a, R: Wait> {
+    rt: &'a R,
+}
+
+impl<'a, R: Wait> MemoryScratch<'a, R> {
+    pub fn new(rt: &'a R) -> MemoryScratch<'a, R> {
+        MemoryScratch { rt }
+    }
+}
+
+impl<'a, R: Wait + Sync> Scratch for MemoryScratch<'a, R> {
+    type Store = MemoryStore<'a, R>;
+
+    fn open(
+        &self,
+        alloc: Global,
+        _dir: &str,
+        workers: u32,
+    ) -> Result<MemoryStore<'a, R>, ScratchFault> {
+        Ok(MemoryStore::new(self.rt, alloc, workers)?)
     }
 }

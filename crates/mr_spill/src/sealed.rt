@@ -12,9 +12,9 @@ ghost use Rattle.mr_spill.specs.Spelling.{PairFits, pair_bytes, value_bytes};
 ghost use Rattle.mr_spill.specs.Table.{pairs_under};
 
 use crate::buffer::Buffer;
+use crate::cursor::RegionView;
 use crate::lists::Lists;
 use crate::numbered::Numbered;
-use crate::region_view::RegionView;
 use crate::regions::{row_in, rows_with_lists};
 use crate::spelling::{put_header, put_pair};
 use mr_bytes::{By, Value};

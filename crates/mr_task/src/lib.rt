@@ -5,19 +5,17 @@
 //! handed, however they are cut into lists.
 #![tactic(auto)]
 
-mod fault;
-mod laws;
-mod left_out;
 mod map;
 mod output;
 mod reduce;
 mod runs;
 mod stored;
 
-pub use fault::TaskFault;
-pub use laws::{map_values_law, pieces_law, worked_tasks};
 pub use map::{MapTask, map_task, map_task_with};
 pub use mr_merge::{Came, Cancellation, Follower, NeverCancelled};
 pub use output::{GroupNames, MapOutput, ReduceOutput};
-pub use reduce::{reduce_followed, reduce_task, reduce_task_while};
+pub use reduce::{
+    TaskFault, map_values_law, pieces_law, reduce_followed, reduce_task, reduce_task_while,
+    worked_tasks,
+};
 pub use stored::{Place, Stored};

@@ -1,28 +1,30 @@
-//! Reduce tasks.
-ghost use Rattle.std.specs.Prelude.{◌≡◌, ◌≤◌, ◌<◌, List, IfErr, IfOk, IfSome, MatchOption, length};
+//! Reduce tasks with their refusals; what the values of tasks are, and worked rows of both kinds of task.
+ghost use Rattle.std.specs.Prelude.{◌≡◌, ◌≤◌, ◌<◌, List, IfErr, IfOk, IfSome, MatchOption, length, ◌↔◌, false, [], ◌∷◌};
 ghost use Rattle.mr_bytes.specs.Pairs.{Triple};
 ghost use Rattle.mr_merge.specs.Bytes.{AreSpelled};
 ghost use Rattle.mr_merge.specs.Following.{HasTaken};
-ghost use Rattle.mr_merge.specs.Merged.{joined};
+ghost use Rattle.mr_merge.specs.Merged.{joined, AreSound};
 ghost use Rattle.mr_reduce.specs.Text.{text_of};
 ghost use Rattle.mr_spill.specs.Lent.{RegionText};
 ghost use Rattle.mr_spill.specs.Spelling.{SpellsRegion};
-ghost use Rattle.mr_task.specs.Values.{CanMerge, IsReduced};
+ghost use Rattle.mr_task.specs.Values.{CanMerge, IsReduced, IsCutOf, map_value, reduce_value};
+ghost use Rattle.mr_task.specs.declared.reduce.TaskFault.TheVariants.{RegionDamaged};
+ghost use Rattle.mr_jobs.specs.JobSpec.{WordCount};
+ghost use Rattle.mr_task.specs.Laws.{MapValuesHave, MapValuesRise, PiecesAreAll, PiecesJoin};
+ghost use Rattle.mr_task.specs.Worked.{emitted_letters, first_run, letters, letters_reduced, only_partition, second_run};
 
-use crate::fault::TaskFault;
 use crate::output::ReduceOutput;
 use mr_jobs::Job;
-use mr_merge::{Cancellation, Follower, NeverCancelled, merge_regions_while};
+use mr_merge::{Cancellation, Follower, MergeFault, NeverCancelled, merge_regions_while};
 use mr_spill::{RegionView, open_region};
 use std::alloc::{AllocError, Global};
+use thiserror::Error;
 
 /// The most pairs that a reduce task takes: an input within its limits emits no more.
 const MAX_PAIRS: usize = 1_073_741_824;
 
 // The number that the definition gives.
 const _: () = prove!(MAX_PAIRS == 1073741824);
-
-ghost use Rattle.mr_task.specs.declared.fault.TaskFault.TheVariants.{RegionDamaged};
 
 /// How many pairs a region of the partition has by its header; `None` where the bytes don't begin as one.
 fn count_in(region: &RegionView<'_>, partition: u32) -> Option<usize>
@@ -115,3 +117,67 @@ pub fn reduce_followed(
     };
     Ok(Some(ReduceOutput::of(alloc, job, groups)?))
 }
+
+/// Why there is no reduce output.
+#[derive(Clone, Copy, Debug, PartialEq, Eq, Drop, Error)]
+pub enum TaskFault {
+    /// The machine refused memory.
+    #[error("OutOfMemory")]
+    OutOfMemory,
+    /// A region is not in order, a name stands twice, or there are more than 1,073,741,824 pairs.
+    #[error("RegionDamaged")]
+    RegionDamaged,
+}
+
+impl From<AllocError> for TaskFault {
+    ghost use Rattle.mr_task.specs.declared.reduce.TaskFault.TheVariants.{OutOfMemory as told_memory};
+
+    ghost from_gives = { λ _ f. f ≡ told_memory };
+
+    fn from(_error: AllocError) -> TaskFault {
+        TaskFault::OutOfMemory
+    }
+}
+
+impl From<MergeFault> for TaskFault {
+    ghost use Rattle.std.specs.Prelude.{◌≡◌, ◌↔◌};
+    ghost use Rattle.mr_merge.specs.declared.merged.MergeFault.TheVariants.{RegionDamaged as found_damage};
+    ghost use Rattle.mr_task.specs.declared.reduce.TaskFault.TheVariants.{RegionDamaged as told_damage};
+
+    ghost from_gives = { λ e f. (f ≡ told_damage) ↔ (e ≡ found_damage) };
+
+    fn from(fault: MergeFault) -> TaskFault {
+        match fault {
+            MergeFault::OutOfMemory => TaskFault::OutOfMemory,
+            MergeFault::RegionDamaged => TaskFault::RegionDamaged,
+        }
+    }
+}
+
+/// What a map task has for a partition rises strictly by key and name, and is just the pairs that its split emits there
+/// without those of the left-out records.
+pub fn map_values_law()
+    ensures rise { MapValuesRise }
+    ensures have { MapValuesHave }
+{}
+
+/// Pieces of a split, one behind another from its first record to its last, give what the split emits.
+pub fn pieces_law()
+    ensures join { PiecesJoin }
+    ensures all { PiecesAreAll }
+{}
+
+/// The values of both tasks on worked rows.
+pub fn worked_tasks()
+    ensures mapped { map_value only_partition emitted_letters 0 [] 0 ≡ letters }
+    ensures left_out { map_value only_partition emitted_letters 0 (0 ∷ []) 0 ≡ [] }
+    ensures other_left_out { map_value only_partition emitted_letters 0 (1 ∷ []) 0 ≡ letters }
+    ensures other_split { map_value only_partition emitted_letters 1 [] 0 ≡ [] }
+    ensures one_run { IsCutOf only_partition 1 emitted_letters ((letters ∷ []) ∷ []) }
+    ensures two_runs { IsCutOf only_partition 1 emitted_letters ((first_run ∷ second_run ∷ []) ∷ []) }
+    ensures not_cut { IsCutOf only_partition 1 emitted_letters ((first_run ∷ []) ∷ []) → ⊥ }
+    ensures reduced { reduce_value (text_of (WordCount false)) (letters ∷ []) ≡ letters_reduced }
+    ensures reduced_runs { reduce_value (text_of (WordCount false)) (first_run ∷ second_run ∷ []) ≡ letters_reduced }
+    ensures nothing { reduce_value (text_of (WordCount false)) [] ≡ record { output = []; groups = [] } }
+    ensures twice { AreSound (letters ∷ letters ∷ []) → ⊥ }
+{}

@@ -1,5 +1,8 @@
-//! The pairs of a map task, taken run by run: a buffer is sealed where it is full, and goes on empty.
-ghost use Rattle.std.specs.Prelude.{◌≡◌, ◌≤◌, ◌<◌, ◌^◌, ◌++◌, ◌∷◌, [], List, IfOk, OnOk, length};
+//! The pairs of a map task, taken run by run: a buffer is sealed where it is full, and goes on empty. Before that the
+//! records that the task leaves out are looked up.
+ghost use Rattle.std.specs.Prelude.{◌≡◌, ℕ, IfOk, ◌≤◌, ◌<◌, ◌^◌, ◌++◌, ◌∷◌, [], List, OnOk, length};
+ghost use Rattle.std.specs.List.Sorted.{IsNonDecreasing};
+ghost use Rattle.mr_task.specs.Values.{has_number};
 ghost use Rattle.mr_bytes.specs.Lists.{Rises};
 ghost use Rattle.mr_bytes.specs.Order.{name_order};
 ghost use Rattle.mr_bytes.specs.Pairs.{Triple};
@@ -16,6 +19,24 @@ use mr_jobs::Mapper;
 use mr_spill::{Buffer, PushKeyFault};
 use mr_splits::RecordAt;
 use std::alloc::{AllocError, Global};
+
+/// The numbers, in rising order.
+pub(crate) fn in_order(alloc: Global, numbers: &[u32]) -> Result<Vec<u32>, AllocError>
+    ensures rise { IfOk result (λ v. IsNonDecreasing v.items) }
+    ensures same { IfOk result (λ v. (n : ℕ) → has_number v.items n ≡ has_number numbers.now n) }
+{
+    let mut rising = Vec::from_slice(alloc, numbers)?;
+    rising.sort_unstable();
+    Ok(rising)
+}
+
+/// Whether rising numbers have this one.
+pub(crate) fn has(rising: &[u32], number: u32) -> bool
+    requires { IsNonDecreasing rising.now }
+    ensures { result ≡ has_number rising.now number }
+{
+    rising.binary_search(&number).is_ok()
+}
 
 /// What a map task of a split has so far: the sealed runs, and the pairs of the run that it fills.
 #[derive(Drop)]

@@ -4,8 +4,8 @@ use mathlib.Core.Option.{some, some-injective, some-ne-none}
 use lib.ListN.{get_elem?}
 use Rattle.atomic_table.specs.Table.{State, Me, step, keeps, Allows, Splits, Joins, opening}
 use Rattle.atomic_table.proofs.Lists.{at_set, at_snoc, set_else}
-use Rattle.mr_tickets.specs.declared.rule.Hand.{Hand}
-use Rattle.mr_tickets.specs.declared.rule.Limits.{Limits}
+use Rattle.mr_tickets.specs.declared.tickets.Hand.{Hand}
+use Rattle.mr_tickets.specs.declared.tickets.Limits.{Limits}
 use Rattle.mr_tickets.specs.Drawn.{weigh, below, total, past, kept}
 use Rattle.mr_tickets.specs.Rule.{IsKept, hand}
 use Rattle.mr_tickets.specs.Plays.{Draws, one_less, both}

@@ -4,8 +4,8 @@ use Rattle.std.specs.Prelude.{All}
 use mathlib.Core.Option.{some}
 use lib.ListN.{get_elem?}
 use Rattle.atomic_table.specs.Table.{State}
-use Rattle.mr_tickets.specs.declared.rule.Hand.{Hand}
-use Rattle.mr_tickets.specs.declared.rule.Limits.{Limits}
+use Rattle.mr_tickets.specs.declared.tickets.Hand.{Hand}
+use Rattle.mr_tickets.specs.declared.tickets.Limits.{Limits}
 use Rattle.mr_tickets.specs.Drawn.{weigh, below, total, past, kept}
 use Rattle.mr_tickets.specs.Rule.{IsKept}
 use Rattle.mr_tickets.proofs.Sums.{below_past, below_cut, cut, weigh_kept}

@@ -6,7 +6,7 @@ use Rattle.std.proofs.lemmas.Bool.Decides.{nat_tests}
 use native.Mathlib.Decide.{ℕ_discrete}
 use mathlib.Core.Logic.{dite}
 use Rattle.mr_tickets.specs.Drawn.{weigh, below, at, past, times, total}
-use Rattle.mr_tickets.specs.declared.pieces.Found.{Found}
+use Rattle.mr_tickets.specs.declared.drawing.Found.{Found}
 use Rattle.mr_tickets.specs.Pieces.{numbers_of, IsSlot, AllSlots}
 
 past_zero : (n x : ℕ) → past n x ≡ 0 → x < n

@@ -2,9 +2,9 @@
 use Rattle.std.specs.Prelude.{◌≡◌, ◌≤◌, ◌<◌, ◌-◌, length, slice_index_or, ℕ, List, [], map, true, All, Option, Some, None}
 use Rattle.mr_tickets.specs.Views.{TicketsView, IsSeatOf}
 use Rattle.mr_tickets.specs.Drawn.{times}
-use Rattle.mr_tickets.specs.declared.pieces.Found.{Found}
-use Rattle.mr_tickets.specs.declared.pieces.Job.{Job}
-use Rattle.mr_tickets.specs.declared.pieces.Done.{Done}
+use Rattle.mr_tickets.specs.declared.drawing.Found.{Found}
+use Rattle.mr_tickets.specs.declared.drawing.Job.{Job}
+use Rattle.mr_tickets.specs.declared.drawing.Done.{Done}
 
 -- the job's seat is one of these tickets', and has drawn nothing
 abbrev pub IsFresh : TicketsView → Job → Type 0

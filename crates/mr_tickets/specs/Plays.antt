@@ -1,7 +1,7 @@
 -- What a step tells, and how views are cut and joined.
 use Rattle.std.specs.Prelude.{◌≡◌, ℕ, ◌-◌, ◌+◌, ◌≤◌, [], ◌∷◌, ◌++◌, length}
 use Rattle.atomic_table.specs.Table.{Step, Me}
-use Rattle.mr_tickets.specs.declared.rule.Hand.{Hand}
+use Rattle.mr_tickets.specs.declared.tickets.Hand.{Hand}
 use Rattle.mr_tickets.specs.Drawn.{kept}
 use Rattle.mr_tickets.specs.Rule.{hand}
 

@@ -3,8 +3,8 @@ use Rattle.std.specs.Prelude.{◌≡◌, ℕ, ◌≤◌, List, [], length, slice
 use mathlib.Core.Option.{some}
 use lib.ListN.{get_elem?}
 use Rattle.atomic_table.specs.Table.{State}
-use Rattle.mr_tickets.specs.declared.rule.Hand.{Hand}
-use Rattle.mr_tickets.specs.declared.rule.Limits.{Limits}
+use Rattle.mr_tickets.specs.declared.tickets.Hand.{Hand}
+use Rattle.mr_tickets.specs.declared.tickets.Limits.{Limits}
 use Rattle.mr_tickets.specs.Drawn.{weigh, below, total, past}
 
 -- a seat's view, with so many parts and these numbers

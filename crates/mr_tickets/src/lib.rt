@@ -10,10 +10,7 @@
 #![tactic(auto)]
 
 mod drawing;
-mod pieces;
-mod rule;
 mod tickets;
 
-pub use drawing::draw_all;
-pub use pieces::WorkPieces;
+pub use drawing::{WorkPieces, draw_all};
 pub use tickets::{TicketSeat, Tickets};

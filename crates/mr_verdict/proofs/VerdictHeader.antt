@@ -12,8 +12,8 @@ use Rattle.mr_splits.specs.Cut.{is_record}
 use Rattle.mr_certform.specs.declared.item.Item.{Item}
 use Rattle.mr_certform.specs.declared.item.Item.TheVariants.{Magic, Job, Flags, LiteralLength, LiteralByte, Parts, SplitSize, Files, FileLength, Skips, Skip, Entry, End}
 use Rattle.mr_certform.specs.Value.{Contents, job_items, input_items, skip_items, group_items, part_items}
-use Rattle.mr_sequential.specs.declared.fault.RunFault.{RunFault}
-use Rattle.mr_sequential.specs.declared.fault.RunFault.TheVariants.{NoSuchRecord, SkipOrder}
+use Rattle.mr_sequential.specs.declared.sequence.RunFault.{RunFault}
+use Rattle.mr_sequential.specs.declared.sequence.RunFault.TheVariants.{NoSuchRecord, SkipOrder}
 use Rattle.mr_sequential.specs.Good.{entries_of}
 use Rattle.mr_splits.specs.Kept.{is_past}
 use Rattle.mr_sequential.specs.Skips.{list_fault}

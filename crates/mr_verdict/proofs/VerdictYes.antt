@@ -20,8 +20,8 @@ use Rattle.mr_certform.proofs.Certificates.{spelled_items, ended_items}
 use Rattle.mr_certform.proofs.Walks.{read_front, ended_more}
 use Rattle.mr_bytes.proofs.ListLaws.{Has-append_right}
 use Rattle.mr_sequential.proofs.SkipLaws.{good_skips}
-use Rattle.mr_sequential.specs.declared.fault.RunFault.{RunFault}
-use Rattle.mr_sequential.specs.declared.fault.RunFault.TheVariants.{TooManySkips}
+use Rattle.mr_sequential.specs.declared.sequence.RunFault.{RunFault}
+use Rattle.mr_sequential.specs.declared.sequence.RunFault.TheVariants.{TooManySkips}
 use Rattle.mr_bytes.specs.Pairs.{Triple}
 use Rattle.mr_sequential.specs.Emitted.{emitted}
 use Rattle.mr_sequential.specs.Good.{IsGoodPart, entries_of, groups_at}

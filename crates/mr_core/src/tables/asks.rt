@@ -11,7 +11,7 @@ ghost use Rattle.mr_core.specs.Index.{is_idle, IsGoing, IsCurrent, IsBelow};
 use super::MasterState;
 use crate::entries::{Attempt, Fetched};
 use crate::event::{End, Reply, Shape, Task};
-use crate::skips::Skips;
+use crate::splits::Skips;
 use std::alloc::{AllocError, Global};
 
 impl MasterState {

@@ -11,7 +11,7 @@ ghost use Rattle.mr_core.specs.Master.{Attempt, finish, fetch, commit, complete,
 use super::MasterState;
 use crate::entries::{all_some, put};
 use crate::event::{Reply, Shape, Task};
-use crate::failed::{longer_list, put_longer};
+use crate::splits::{longer_list, put_longer};
 use std::alloc::AllocError;
 
 impl MasterState {

@@ -1,7 +1,7 @@
 use Rattle.std.proofs.Common.{Option, subst, inr}
 use Rattle.std.specs.Prelude.{IfSome}
 use Rattle.std.proofs.lemmas.Result.{err_from_is_err_and}
-use Rattle.mr_args.specs.declared.asked.Subcommand.{Subcommand}
+use Rattle.mr_args.specs.declared.request.Subcommand.{Subcommand}
 use Rattle.mr_cli.specs.Program.{IsAskedIn}
 use Rattle.mr_cli.proofs.program.answer.Goals as goal
 

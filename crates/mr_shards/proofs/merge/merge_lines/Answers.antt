@@ -3,7 +3,7 @@ use Rattle.std.specs.List.{AllByRecursion}
 use Rattle.std.proofs.lemmas.Result.{err_from_is_err_and}
 use Rattle.mr_shards.specs.declared.cursor.Cursor.{Cursor}
 use Rattle.mr_shards.specs.declared.line.Line.{Line}
-use Rattle.mr_shards.specs.declared.merge_fault.MergeFault.{MergeFault}
+use Rattle.mr_shards.specs.declared.merge.MergeFault.{MergeFault}
 use Rattle.mr_shards.specs.declared.merge.ShardText.{ShardText}
 use Rattle.mr_shards.specs.Cursors.{AreBehind, IsFronted, least_from}
 use Rattle.mr_shards.specs.Outputs.{AreAtFirst}

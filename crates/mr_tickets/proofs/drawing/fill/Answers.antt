@@ -1,6 +1,6 @@
 use Rattle.std.proofs.Common.{◌≡◌, ◌∷◌, ◌++◌, ◌<◌, ℕ, [], ap, arith, sym, ◌∙◌, subst, List, length, length-set}
 use Rattle.std.specs.Prelude.{All, Option}
-use Rattle.mr_tickets.specs.declared.pieces.Found.{Found}
+use Rattle.mr_tickets.specs.declared.drawing.Found.{Found}
 use Rattle.mr_tickets.specs.Pieces.{numbers_of, AllSlots, AllGiven}
 use Rattle.mr_tickets.proofs.Slots.{fills, all_last, all_front}
 use Rattle.mr_tickets.proofs.drawing.fill.Goals as goal

@@ -3,7 +3,7 @@ use Rattle.std.specs.Prelude.{All, IfOk}
 use Rattle.std.proofs.lemmas.List.Elements.{All-append}
 use Rattle.mr_tickets.specs.Views.{SeatView, IsSeatOf}
 use Rattle.mr_tickets.specs.Drawn.{weigh, total}
-use Rattle.mr_tickets.specs.declared.pieces.Found.{Found}
+use Rattle.mr_tickets.specs.declared.drawing.Found.{Found}
 use Rattle.mr_tickets.specs.Pieces.{numbers_of, AllGiven, IsDone}
 use Rattle.mr_tickets.proofs.Slots.{all_last, all_front, all_more, weigh_pieces, total_more}
 use Rattle.mr_tickets.proofs.drawing.gather.Goals as goal

@@ -1,7 +1,7 @@
 use Rattle.std.proofs.Common.{◌≡◌, ◌∷◌, ◌++◌, [], ap, arith, length, length-append, rules, subst, sym}
 use Rattle.std.specs.Prelude.{All}
 use Rattle.mr_tickets.specs.Views.{IsSeatOf, SeatView}
-use Rattle.mr_tickets.specs.declared.pieces.Job.{Job}
+use Rattle.mr_tickets.specs.declared.drawing.Job.{Job}
 use Rattle.mr_tickets.specs.Pieces.{IsFresh}
 use Rattle.mr_tickets.proofs.Slots.{all_front, all_last, all_more}
 use Rattle.mr_tickets.proofs.drawing.jobs_of.Goals as goal

@@ -1,5 +1,0 @@
-use Rattle.mr_args.proofs.SkipLists.{one_list}
-use Rattle.mr_args.proofs.skips.skip_list_law.Goals as goal
-
-pub returns : goal.returns
-returns c = one_list

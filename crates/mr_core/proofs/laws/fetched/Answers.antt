@@ -1,5 +1,0 @@
-use Rattle.mr_core.proofs.FetchLaws as laws
-use Rattle.mr_core.proofs.laws.fetched.Goals as goal
-
-pub returns : goal.returns
-returns c = laws.committed_fetched

@@ -1,0 +1,174 @@
+//! All workers' turns, each worker in a thread of its own; what they share; and flags that say without the book's lock
+//! which tasks are done.
+ghost use Rattle.std.specs.Prelude.{◌≡◌, ◌<◌, ◌^◌, IfOk, vec_len};
+
+use crate::fault_plan::FaultPlan;
+use crate::progress::RunProgress;
+use crate::worker::{Worker, WorkerEnd};
+use mr_book::{Book, Seat};
+use mr_bytes::{Gate, Progress};
+use mr_core::Task;
+use mr_jobs::Request;
+use mr_spill::RegionStore;
+use mr_splits::Plan;
+use mr_task::Cancellation;
+use std::alloc::{AllocError, Global};
+use std::sync::atomic::{AtomicBool, Ordering};
+use std::sync::ledger::Ledger;
+use std::sync::{Condvar, Mutex, Wait};
+use std::thread;
+use std::thread::Threads;
+
+/// The workers, each with its seat; the last has the number 0.
+fn workers_of<'s, L: Ledger, G: Gate, W: Progress, S: RegionStore, R: Wait>(
+    rt: &'s R,
+    shared: &'s Shared<'s, L, G, W, S>,
+    mut seats: Vec<Seat<L>>,
+) -> Result<Vec<Worker<'s, L, G, W, S, R>>, AllocError>
+    requires { vec_len seats < 2 ^ 32 }
+    ensures { IfOk result (λ v. vec_len v ≡ vec_len seats) }
+{
+    let mut workers = Vec::with_capacity(shared.alloc, seats.len())?;
+    while let Some(seat) = seats.pop() {
+        let number = seats.len() as u32;
+        workers.push(Worker {
+            rt,
+            shared,
+            number,
+            seat,
+            reports: 0,
+        })?;
+    }
+    Ok(workers)
+}
+
+/// The seats that came back; refused where a worker was refused memory.
+fn seats_of<L: Ledger>(
+    alloc: Global,
+    mut ends: Vec<WorkerEnd<L>>,
+) -> Result<Vec<Seat<L>>, AllocError>
+    ensures { IfOk result (λ v. vec_len v ≡ vec_len ends) }
+{
+    let mut seats = Vec::with_capacity(alloc, ends.len())?;
+    while let Some(one) = ends.pop() {
+        let WorkerEnd { seat, refused } = one;
+        if refused {
+            return Err(AllocError);
+        }
+        seats.push(seat)?;
+    }
+    Ok(seats)
+}
+
+/// All workers' turns over what they share, each in a thread of its own where one can be made: the
+/// book, and the seats that come back; the rest is let go.
+pub(crate) fn run_workers<
+    L: Ledger + Send + Sync,
+    G: Gate,
+    W: Progress,
+    S: RegionStore + Drop,
+    R: Threads + Wait + Sync,
+>(
+    rt: &R,
+    shared: Shared<'_, L, G, W, S>,
+    seats: Vec<Seat<L>>,
+) -> Result<(Book<L>, Vec<Seat<L>>), AllocError>
+    requires { vec_len seats < 2 ^ 32 }
+    ensures { IfOk result (λ r. vec_len r.1 ≡ vec_len seats) }
+{
+    let workers = workers_of(rt, &shared, seats)?;
+    let ends = thread::map_vec(rt, workers, &|worker| worker.work())?;
+    let seats = seats_of(shared.alloc, ends)?;
+    let Shared { book, .. } = shared;
+    Ok((book.into_inner(), seats))
+}
+
+/// The book under its lock, which is held for one call of it and for nothing else; `news` wakes
+/// those who wait for a task. `stopped` is set once a worker can't go on.
+#[derive(Drop)]
+pub(crate) struct Shared<'a, L: Ledger, G: Gate, W: Progress, S: RegionStore> {
+    pub alloc: Global,
+    pub book: Mutex<Book<L>>,
+    pub news: Condvar,
+    pub stopped: AtomicBool,
+    pub plan: &'a Plan<'a>,
+    pub request: &'a Request,
+    pub orders: FaultPlan<'a>,
+    pub completed: TaskFlags,
+    pub gate: &'a G,
+    pub store: S,
+    pub progress: RunProgress<'a, W>,
+}
+
+/// The tasks that were complete at some time. It is a hint: a map task may have become incomplete since, where its worker
+/// was lost. The book knows.
+#[derive(Drop)]
+pub(crate) struct TaskFlags {
+    maps: Vec<AtomicBool>,
+    parts: Vec<AtomicBool>,
+}
+
+/// So many flags that are not set.
+fn flags(alloc: Global, count: u32) -> Result<Vec<AtomicBool>, AllocError> {
+    let mut flags = Vec::with_capacity(alloc, count as usize)?;
+    for _ in 0..count {
+        flags.push(AtomicBool::new(false))?;
+    }
+    Ok(flags)
+}
+
+impl TaskFlags {
+    /// No task of so many splits and partitions is complete.
+    pub(crate) fn new(alloc: Global, maps: u32, parts: u32) -> Result<TaskFlags, AllocError> {
+        Ok(TaskFlags {
+            maps: flags(alloc, maps)?,
+            parts: flags(alloc, parts)?,
+        })
+    }
+
+    /// The flag of a task.
+    fn flag(&self, task: Task) -> Option<&AtomicBool> {
+        match task {
+            Task::Map(split) => self.maps.get(split as usize),
+            Task::Reduce(partition) => self.parts.get(partition as usize),
+        }
+    }
+
+    /// The task is complete.
+    pub(crate) fn mark(&self, task: Task) {
+        if let Some(flag) = self.flag(task) {
+            flag.store(true, Ordering::SeqCst);
+        }
+    }
+
+    /// The task is wanted again, its output being lost.
+    pub(crate) fn reopen(&self, task: Task) {
+        if let Some(flag) = self.flag(task) {
+            flag.store(false, Ordering::SeqCst);
+        }
+    }
+
+    /// The demand for one more output of the task, which ends once it has been complete.
+    pub(crate) fn demand(&self, task: Task) -> UntilComplete<'_> {
+        UntilComplete {
+            flag: self.flag(task),
+        }
+    }
+}
+
+/// The demand for the output of a task, until another worker has brought one.
+#[derive(Drop)]
+pub(crate) struct UntilComplete<'a> {
+    flag: Option<&'a AtomicBool>,
+}
+
+impl<'a> Cancellation for UntilComplete<'a> {
+    ghost unending = { ⊥ };
+
+    fn is_wanted(&self) -> bool {
+        match self.flag {
+            Some(flag) => !flag.load(Ordering::SeqCst),
+            None => true,
+        }
+    }
+}
