@@ -126,7 +126,7 @@ impl<'a, R: Files + Sync> RegionStore for DirStore<'a, R> {
         let mut file = self.create(name.as_str())?;
         match write_all(&mut file, bytes) {
             Ok(()) => Ok(number),
-            Err(_) if file.is_out_of_memory() => Err(PutFault::OutOfMemory),
+            Err(_) if CountedWrite::is_out_of_memory(&file) => Err(PutFault::OutOfMemory),
             Err(_) => Err(PutFault::Device),
         }
     }
