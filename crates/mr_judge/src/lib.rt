@@ -14,7 +14,6 @@ mod lent;
 mod lines;
 mod outputs;
 mod parts;
-mod piece;
 mod readers;
 
 pub use blocks::{FoundItem, Sought, read_block};

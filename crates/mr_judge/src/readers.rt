@@ -4,12 +4,12 @@ ghost use Rattle.std.specs.Prelude.{drop, ◌++◌};
 ghost use Rattle.std.specs.List.{common_prefix_len};
 ghost use Rattle.std.specs.Io.KnownBytes.{Consumes, Keeps, IsAtEnd};
 ghost use Rattle.mr_judge.specs.Outputs.{Lacks, counted_at};
+ghost use Rattle.mr_store.specs.Devices.{Counts};
 ghost use Rattle.mr_judge.specs.Reading.{known_at};
 
 use crate::comparing::agreement;
 use crate::outputs::{OutputError, Outputs, behind};
-use crate::piece::Piece;
-use mr_store::{CountedRead, Device};
+use mr_store::{CountedRead, Device, ReadBuffer};
 use std::alloc::{AllocError, Global};
 
 /// Outputs that readers give. A reader is asked for nothing before those ahead of it were opened, and for nothing once it
@@ -18,15 +18,27 @@ use std::alloc::{AllocError, Global};
 pub(crate) struct ReaderOutputs<'a, R> {
     readers: &'a mut [R],
     opened: u64,
-    piece: Piece,
+    piece: ReadBuffer,
     exhausted: bool,
     passed: u64,
     ghost within: { exhausted ≡ false → opened ≤ length readers.now },
 }
 
+/// Reads some bytes in place of those that the buffer has, and returns how many: 0 only at the reader's end.
+fn read_anew<R: CountedRead>(buffer: &mut ReadBuffer, reader: &mut R) -> Result<usize, Device>
+    ensures read { MatchResult result
+        (λ n. (length buffer.new ≡ n) × Consumes (R.remaining reader.old) (R.remaining reader.new) buffer.new
+        × (n ≡ 0 → IsAtEnd (R.remaining reader.new)))
+        (λ _. (buffer.new ≡ []) × Keeps (R.remaining reader.old) (R.remaining reader.new)) }
+    ensures count { Counts (R.failed reader.old) (R.failed reader.new) result }
+{
+    buffer.clear();
+    buffer.read_more(reader)
+}
+
 /// Reads some bytes of the reader with this number, in place of those that were held.
 fn read_at<R: CountedRead>(
-    piece: &mut Piece,
+    piece: &mut ReadBuffer,
     readers: &mut [R],
     number: usize,
 ) -> Result<usize, Device>
@@ -39,7 +51,7 @@ fn read_at<R: CountedRead>(
     ensures count { MatchResult result (λ _. map R.failed readers.new ≡ map R.failed readers.old)
         (λ _. map R.failed readers.new ≡ counted_at number (map R.failed readers.old)) }
 {
-    piece.read(&mut readers[number])
+    read_anew(piece, &mut readers[number])
 }
 
 /// Whether none of so many has this number.
@@ -60,7 +72,7 @@ impl<'a, R: CountedRead> ReaderOutputs<'a, R> {
         ensures readers { IfOk result (λ o. o.readers.now ≡ readers.old) }
         ensures passed { IfOk result (λ o. o.passed ≡ 0) }
     {
-        let piece = Piece::new(alloc)?;
+        let piece = ReadBuffer::new(alloc)?;
         Ok(ReaderOutputs {
             readers,
             opened: 0,
