@@ -1,5 +1,5 @@
 -- What `check` leaves: the verdict of a yes, under the name that is given for it.
-use Rattle.std.specs.Prelude.{◌≡◌, ◌⊎◌, ℕ, ◌∷◌, Option, None, Some, IfSome, List, [], length, ⊤}
+use Rattle.std.specs.Prelude.{◌≡◌, ◌⊎◌, ℕ, ◌∷◌, Option, Some, IfSome, List, [], length, ⊤}
 use Rattle.std.specs.List.{AllByRecursion}
 use Rattle.mr_bytes.specs.Cut.{Lacks}
 use Rattle.mr_bytes.specs.declared.RecordName.{RecordName}

@@ -168,7 +168,10 @@ impl<'a> CheckJob<'a> {
         ensures { IsTrue result → (outputs : List (List ℕ)) → text_kept self.now.request.now
             self.now.asked.now self.now.input.now outputs answer.now ≡ None }
     {
-        answer.is_err() || self.asked.verdict.is_none()
+        match answer {
+            Ok(_) => self.asked.verdict.is_none(),
+            Err(_) => true,
+        }
     }
 
     /// Judges the result. It is read whole first, unless one thread judges with no verdict to be
