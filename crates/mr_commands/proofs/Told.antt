@@ -1,7 +1,6 @@
 -- What is said of a judgement, what is kept of it, and what stands then.
 use Rattle.std.proofs.Common.{◌≡◌, ℕ, List, [], ◌∷◌, Option, None, Some, Result, Ok, Err, refl, ap, sym, subst, inl, inr, arith}
-use Rattle.std.specs.Prelude.{IfOk, IfSome, option_map, string_bytes}
-use Rattle.mr_input.specs.Files.{contents}
+use Rattle.std.specs.Prelude.{IfSome, option_map, string_bytes}
 use Rattle.mr_jobs.specs.JobSpec.{RequestSpec}
 use Rattle.mr_verdict.specs.declared.fault.No.{No}
 use Rattle.mr_verdict.specs.declared.yes.Yes.{Yes}
@@ -20,35 +19,27 @@ use Rattle.mr_commands.specs.Named.{AreClear, input_names, named, read_by_check,
 use Rattle.mr_args.specs.Statuses.{TellsFile}
 use Rattle.mr_commands.specs.Checks.{IsJudged}
 use Rattle.mr_commands.specs.YesLines.{yes_text}
-use Rattle.mr_commands.specs.Judgements.{IsAnswer, IsHeld, IsJudgement, IsSaid, Judges, JudgesResult, text_kept}
+use Rattle.mr_commands.specs.Judgements.{IsAnswer, IsJudgement, IsResult, IsSaid, Judges, JudgesResult, text_kept}
 use Rattle.mr_commands.specs.Verdicts.{IsCheckUnanswered, IsKeptUnder, IsTextRefused, IsVerdictOf, KeepsVerdict, names_kept, verdict_about}
-use Rattle.mr_commands.specs.declared.check_job.CheckJob.{CheckJob}
 use Rattle.mr_commands.specs.declared.check_job.Judgement.{Judgement}
-use Rattle.mr_commands.specs.declared.check_job.ResultBytes.{ResultBytes}
 use Rattle.mr_commands.proofs.JudgingInputs.{holding_lengths}
 use Rattle.mr_commands.proofs.Noted.{true_of}
 use Rattle.mr_commands.proofs.JudgingRefused.{stopped_as}
 
 -- a judgement under the request that was asked for
-pub judges : (holds : Stored) (known : Known) (job : CheckJob) (j : Judgement) → job.request.now ≡ request_asked job.asked.now.options
-    → IsInput holds (input_names job.asked.now.options) job.request.now.split job.input.now → AreApart known (read_by_check job.asked.now) (written_by_check job.asked.now)
-    → IfSome (verdict_file job.asked.now) (λ name. AreClear job.asked.now.options) → JudgesResult holds job j → Judges holds known job.asked.now j
-judges holds known job j r i apart clear (outputs, bytes, result, judged) = record {
-  files = job.input.now;
+pub judges : (holds : Stored) (known : Known) (asked : CheckOptions) (request : RequestSpec) (files : List (List ℕ)) (j : Judgement) → request ≡ request_asked asked.options
+    → IsInput holds (input_names asked.options) request.split files → AreApart known (read_by_check asked) (written_by_check asked) → IfSome (verdict_file asked) (λ name. AreClear asked.options)
+    → (outputs : List (List ℕ)) × (bytes : List ℕ) × IsResult holds asked.options outputs bytes × IsJudgement request asked files outputs bytes j → Judges holds known asked j
+judges holds known asked request files j r i apart clear (outputs, bytes, result, judged) = record {
+  files = files;
   outputs = outputs;
   bytes = bytes;
-  input = subst (λ (v : RequestSpec). IsInput holds (input_names job.asked.now.options) v.split job.input.now) r i;
+  input = subst (λ (v : RequestSpec). IsInput holds (input_names asked.options) v.split files) r i;
   result = result;
   apart = apart;
   clear = clear;
-  judgement = subst (λ (v : RequestSpec). IsJudgement v job.asked.now job.input.now outputs bytes j) r judged;
+  judgement = subst (λ (v : RequestSpec). IsJudgement v asked files outputs bytes j) r judged;
 }
-
--- a judgement of what was read of the result
-pub judges_held : (holds : Stored) (job : CheckJob) (r : Option ResultBytes) (held : ResultBytes) (judged : Result Judgement Fault) → r ≡ Some held → IfSome r (IsHeld holds job)
-    → IfOk judged (IsJudgement job.request.now job.asked.now job.input.now (contents held.outputs.items) held.certificate.items) → IfOk judged (JudgesResult holds job)
-judges_held holds job r held (Ok j) is stands h = (contents held.outputs.items, held.certificate.items, subst (λ (v : Option ResultBytes). IfSome v (IsHeld holds job)) is stands, h)
-judges_held holds job r held (Err e) is stands h = tt
 
 if_some : {A B : Type 0} (o : Option (List ℕ)) → (A → B) → IfSome o (λ name. A) → IfSome o (λ name. B)
 if_some None f h = tt
@@ -164,7 +155,7 @@ module _ (old : Stored) (known : Known) (asked : CheckOptions) (j : Judgement) (
     unkept_as unreadable unwritable e f (Ok y) yes_is (zero_is, said) text_is h tells =
         let s = stopped old new unwritable (verdict_file asked) kept (about y) e f text_is h tells in
         inr (text, s.0, about y, says 0 (inl (refl, y.skips.items, y.pairs, said, yes_is)), judged.apart, s.1, yes_verdict y (subst (λ (o : Option (List ℕ)). IfSome o (λ name. AreClear asked.options)) s.1 judged.clear) said yes_is, s.2)
-    unkept_as unreadable unwritable e f (Err no) right said none h tells = absurd (none_refused old new unwritable (verdict_file asked) kept e none h)
+    unkept_as unreadable unwritable e f (Err fault) right said none h tells = absurd (none_refused old new unwritable (verdict_file asked) kept e none h)
 
     pub unkept : (unreadable unwritable : Faulty) (e : FileFault) (f : Fault) → IsTextRefused old new unwritable (verdict_file asked) kept e → TellsFile e f → IsCheckUnanswered old new unreadable unwritable known asked f
     unkept unreadable unwritable e f = unkept_as unreadable unwritable e f judged.judgement.answer judged.judgement.right judged.judgement.said judged.judgement.kept

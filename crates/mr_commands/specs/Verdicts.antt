@@ -1,7 +1,5 @@
 -- What `check` leaves: the verdict of a yes, under the name that is given for it.
 use Rattle.std.specs.Prelude.{◌≡◌, ◌⊎◌, ℕ, ◌∷◌, Option, Some, IfSome, List, [], length, ⊤}
-use Rattle.std.specs.List.{AllByRecursion}
-use Rattle.mr_bytes.specs.Cut.{Lacks}
 use Rattle.mr_bytes.specs.declared.RecordName.{RecordName}
 use Rattle.mr_jobs.specs.JobSpec.{RequestSpec}
 use Rattle.mr_shards.specs.Verdict.{Told, spelling}

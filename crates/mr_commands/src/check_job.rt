@@ -128,8 +128,9 @@ impl<'a> CheckJob<'a> {
         outputs: &[Vec<u8>],
         answer: &Result<Yes, No>,
     ) -> Result<Option<Vec<u8>>, AllocError>
-        ensures { IfOk result (λ text. option_map (λ v. v.items) text ≡ text_kept
-            self.now.request.now self.now.asked.now self.now.input.now (contents outputs.now) answer.now) }
+        ensures { IfOk result (λ text. option_map (λ v. v.items) text
+            ≡ text_kept self.now.request.now self.now.asked.now self.now.input.now
+            (contents outputs.now) answer.now) }
     {
         let Ok(yes) = answer else {
             return Ok(None);

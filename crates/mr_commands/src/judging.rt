@@ -1,14 +1,17 @@
-//! What `check` is asked for: the tests before a result is judged, and the verdict of a yes, kept under a name.
-ghost use Rattle.std.specs.Prelude.{◌≡◌, ℕ, [], ◌∷◌, ◌++◌, ◌<◌, IfErr, IfOk, IfSome, MatchOption, OnOk};
-ghost use Rattle.std.specs.Prelude.{Contains, map, option_map, slice_index_or, length, string_bytes};
+//! `check`: the tests before a result is judged, and the verdict of a yes, kept under a name.
+ghost use Rattle.std.specs.Prelude.{◌≡◌, ℕ, [], ◌∷◌, ◌++◌, ◌<◌, IfErr, IfOk, IfSome, MatchOption};
+ghost use Rattle.std.specs.Prelude.{OnOk, Contains, map, option_map, slice_index_or, length, string_bytes};
 ghost use Rattle.mr_shards.specs.Truth.{note_for as note_of, notes_for};
 ghost use Rattle.mr_files.specs.Holding.{ChangesAmong};
 ghost use Rattle.mr_files.specs.Identities.{AreApart};
-ghost use Rattle.mr_commands.specs.Checks.{AreGoodThreads, IsCheckRefusal, IsFirstLineEnd, IsNameRefusal, IsOptionRefusal};
+ghost use Rattle.mr_commands.specs.Checks.{AreGoodThreads, IsCheckRefusal, IsFirstLineEnd};
+ghost use Rattle.mr_commands.specs.Checks.{IsNameRefusal, IsOptionRefusal};
 ghost use Rattle.mr_commands.specs.Inputs.{IsInput, IsInputRefusal};
 ghost use Rattle.mr_commands.specs.Judgements.{Judges};
-ghost use Rattle.mr_commands.specs.Named.{AreClear, input_names, read_by_check, verdict_file, written_by_check};
-ghost use Rattle.mr_commands.specs.Verdicts.{KeepsVerdict, IsCheckUnanswered, IsKeptUnder, IsTextRefused, names_kept};
+ghost use Rattle.mr_commands.specs.Named.{AreClear, input_names, read_by_check, verdict_file};
+ghost use Rattle.mr_commands.specs.Named.{written_by_check};
+ghost use Rattle.mr_commands.specs.Verdicts.{IsCheckUnanswered, IsKeptUnder, IsTextRefused};
+ghost use Rattle.mr_commands.specs.Verdicts.{KeepsVerdict, names_kept};
 
 use crate::check_job::{CheckJob, Judgement};
 use crate::input::{input_of, name_given};

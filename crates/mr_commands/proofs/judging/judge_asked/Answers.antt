@@ -31,4 +31,4 @@ returns-clause-judges g c =
     let holds = g.S.Store.holds c.args.store.now in
     let known = g.S.Store.known_as c.args.store.now in
     IfOk-weaker c.judge_result.result _ (λ j. Judges holds known c.args.asked.now j)
-    (λ j h. judges holds known _ j c.in_ok-request.ensures.request c.in_ok-input.ensures.input c.in_ok-input.ensures.apart c.in_ok-expect_options.ensures.clear h) c.judge_result.ensures.judged
+    (λ j h. judges holds known c.args.asked.now c.in_ok-request.request c.in_ok-input.input j c.in_ok-request.ensures.request c.in_ok-input.ensures.input c.in_ok-input.ensures.apart c.in_ok-expect_options.ensures.clear h) c.judge_result.ensures.judged

@@ -1,4 +1,5 @@
-use Rattle.std.proofs.Common.{◌∙◌, ap}
+use Rattle.std.proofs.Common.{◌≡◌, subst}
+use Rattle.std.specs.Prelude.{option_map}
 use Rattle.mr_input.specs.Files.{contents}
 use Rattle.mr_commands.specs.Judgements.{text_kept}
 use Rattle.mr_commands.proofs.check_job.CheckJob.judge.Goals as goal
@@ -11,5 +12,5 @@ returns-clause-judged g c =
       answer = answer;
       right = c.verdict-answer.ensures;
       said = c.in_ok-said.ensures.said;
-      kept = c.in_ok-verdict.ensures ∙ ap (λ v. text_kept job.request.now job.asked.now job.input.now (contents v) answer) c.as_slice.ensures.value;
+      kept = subst (λ v. option_map (λ t. t.items) c.in_ok-verdict.verdict ≡ text_kept job.request.now job.asked.now job.input.now (contents v) answer) c.as_slice.ensures.value c.in_ok-verdict.ensures;
     }

@@ -16,7 +16,7 @@ returns c =
     let names = input_names job.asked.now.options in
     let files = job.input.now in
     let outputs = contents c.args.outputs.now in
-    let yes = c.in-Ok.yes.now in
+    let yes = c.in-Ok.yes in
     let parts = c.in_ok-parts.parts.items in
     let inputs : c.in_ok-inputs.inputs.items ≡ notes_for names files =
     c.in_ok-inputs.ensures ∙ ap (λ v. notes_for (map (λ s. s.now) v) files) c.as_slice.ensures.value in
