@@ -61,7 +61,8 @@ fn most_bytes(input: &Input) -> u64 {
 }
 
 impl<'a> CheckJob<'a> {
-    ghost use Rattle.std.specs.Prelude.{◌≡◌, ℕ, IfErr, IfOk, IfSome, IsTrue, List, None, option_map};
+    ghost use Rattle.std.specs.Prelude.{◌≡◌, ℕ, IfErr, IfOk, IfSome, IsTrue, List, None};
+    ghost use Rattle.std.specs.Prelude.{option_map};
     ghost use Rattle.mr_input.specs.Files.{contents};
     ghost use Rattle.mr_files.specs.Refusals.{IsOneLonger};
     ghost use Rattle.mr_commands.specs.Judgements.{IsAnswer, IsHeld, IsJudgement, IsUnreadResult};

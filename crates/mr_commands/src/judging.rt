@@ -1,6 +1,7 @@
 //! `check`: the tests before a result is judged, and the verdict of a yes, kept under a name.
 ghost use Rattle.std.specs.Prelude.{◌≡◌, ℕ, [], ◌∷◌, ◌++◌, ◌<◌, IfErr, IfOk, IfSome, MatchOption};
-ghost use Rattle.std.specs.Prelude.{OnOk, Contains, map, option_map, slice_index_or, length, string_bytes};
+ghost use Rattle.std.specs.Prelude.{OnOk, Contains, map, option_map, slice_index_or, length};
+ghost use Rattle.std.specs.Prelude.{string_bytes};
 ghost use Rattle.mr_shards.specs.Truth.{note_for as note_of, notes_for};
 ghost use Rattle.mr_files.specs.Holding.{ChangesAmong};
 ghost use Rattle.mr_files.specs.Identities.{AreApart};
@@ -127,8 +128,8 @@ fn judge_asked<S: Store, R: Threads + Sync>(
     watch: &dyn Progress,
 ) -> Result<Judgement, Fault>
     ensures judges { IfOk result (Judges (S.holds store.now) (S.known_as store.now) asked.now) }
-    ensures refused { IfErr result
-        (IsCheckRefusal (S.holds store.now) (S.unreadable store.now) (S.known_as store.now) asked.now) }
+    ensures refused { IfErr result (IsCheckRefusal (S.holds store.now) (S.unreadable store.now)
+        (S.known_as store.now) asked.now) }
 {
     let request = request_of(alloc, &asked.options)?;
     expect_options(asked)?;
