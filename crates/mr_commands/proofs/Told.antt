@@ -1,12 +1,12 @@
 -- What is said of a judgement, what is kept of it, and what stands then.
-use Rattle.std.proofs.Common.{◌≡◌, ℕ, List, [], ◌∷◌, Option, None, Some, refl, ap, sym, subst, inl, inr, arith}
-use Rattle.std.specs.Prelude.{IfSome, option_map}
-use Rattle.mr_bytes.specs.declared.RecordName.{RecordName}
+use Rattle.std.proofs.Common.{◌≡◌, ℕ, List, [], ◌∷◌, Option, None, Some, Result, Ok, Err, refl, ap, sym, subst, inl, inr, arith}
+use Rattle.std.specs.Prelude.{IfSome, option_map, string_bytes}
 use Rattle.mr_jobs.specs.JobSpec.{RequestSpec}
+use Rattle.mr_verdict.specs.declared.fault.No.{No}
+use Rattle.mr_verdict.specs.declared.yes.Yes.{Yes}
 use Rattle.mr_shards.specs.Verdict.{Told, spelling}
-use Rattle.mr_files.specs.Holding.{Begins, ChangesAmong, ChangesOnly, Holding, Stored}
+use Rattle.mr_files.specs.Holding.{Begins, ChangesAmong, ChangesOnly, Faulty, Stored}
 use Rattle.mr_files.specs.Identities.{AreApart, Known}
-use Rattle.mr_files.specs.Names.{name_of_certificate, part_names}
 use Rattle.mr_files.specs.Refusals.{IsUnwritten, IsWriteRefusal}
 use Rattle.mr_files.specs.declared.store.FileFault.{FileFault}
 use Rattle.mr_files.specs.declared.store.FileFault.TheVariants as file
@@ -19,41 +19,26 @@ use Rattle.mr_commands.specs.Named.{AreClear, input_names, named, read_by_check,
 use Rattle.mr_args.specs.Statuses.{TellsFile}
 use Rattle.mr_commands.specs.Checks.{IsJudged}
 use Rattle.mr_commands.specs.YesLines.{yes_text}
-use Rattle.mr_commands.specs.Verdicts.{IsCheckUnanswered, IsJudgement, IsKeptUnder, IsTextRefused, IsVerdictOf, Judges, JudgesResult, KeepsVerdict, names_kept, verdict_about}
+use Rattle.mr_commands.specs.Judgements.{IsAnswer, IsJudgement, IsResult, IsSaid, Judges, JudgesResult, text_kept}
+use Rattle.mr_commands.specs.Verdicts.{IsCheckUnanswered, IsKeptUnder, IsTextRefused, IsVerdictOf, KeepsVerdict, names_kept, verdict_about}
+use Rattle.mr_commands.specs.declared.check_job.Judgement.{Judgement}
 use Rattle.mr_commands.proofs.JudgingInputs.{holding_lengths}
 use Rattle.mr_commands.proofs.Noted.{true_of}
 use Rattle.mr_commands.proofs.JudgingRefused.{stopped_as}
 
 -- a judgement under the request that was asked for
-pub judges : (holds : Stored) (known : Known) (asked : CheckOptions) (files : List (List ℕ)) (request : RequestSpec) (text : List ℕ) (status : ℕ) (kept : Option (List ℕ))
-    → request ≡ request_asked asked.options → IsInput holds (input_names asked.options) request.split files → AreApart known (read_by_check asked) (written_by_check asked)
-    → IfSome (verdict_file asked) (λ name. AreClear asked.options) → JudgesResult holds request asked files text status kept → Judges holds known asked text status kept
-judges holds known asked files request text status kept r i apart clear judged =
-    let o = asked.options in
-    let given = verdict_file asked in
-    record {
-      files = files;
-      outputs = judged.outputs;
-      bytes = judged.bytes;
-      input = subst (λ (s : ℕ). IsInput holds (input_names o) s files) (ap (λ (v : RequestSpec). v.split) r) i;
-      parts = judged.parts;
-      certificate = judged.certificate;
-      apart = apart;
-      clear = clear;
-      judgement = subst (λ (v : RequestSpec). IsJudgement v given (input_names o) files judged.outputs judged.bytes text status kept) r judged.judgement;
-    }
-
--- a judgement of what was read whole
-pub judges_held : (holds : List ℕ → List ℕ → Type 0) (asked : CheckOptions) (files outputs was_outputs : List (List ℕ)) (bytes was_bytes : List ℕ) (request : RequestSpec) (text : List ℕ) (status : ℕ) (kept : Option (List ℕ))
-    → was_outputs ≡ outputs → was_bytes ≡ bytes → Holding holds (part_names asked.options.out.now asked.options.parts) outputs → holds (name_of_certificate asked.options.out.now) bytes
-    → IsJudgement request (verdict_file asked) (input_names asked.options) files was_outputs was_bytes text status kept → JudgesResult holds request asked files text status kept
-judges_held holds asked files outputs was_outputs bytes was_bytes request text status kept same_outputs same_bytes parts certificate judged = record {
+pub judges : (holds : Stored) (known : Known) (asked : CheckOptions) (request : RequestSpec) (files : List (List ℕ)) (j : Judgement) → request ≡ request_asked asked.options
+    → IsInput holds (input_names asked.options) request.split files → AreApart known (read_by_check asked) (written_by_check asked) → IfSome (verdict_file asked) (λ name. AreClear asked.options)
+    → (outputs : List (List ℕ)) × (bytes : List ℕ) × IsResult holds asked.options outputs bytes × IsJudgement request asked files outputs bytes j → Judges holds known asked j
+judges holds known asked request files j r i apart clear (outputs, bytes, result, judged) = record {
+  files = files;
   outputs = outputs;
   bytes = bytes;
-  parts = parts;
-  certificate = certificate;
-  judgement = subst (λ (v : List ℕ). IsJudgement request (verdict_file asked) (input_names asked.options) files outputs v text status kept) same_bytes
-      (subst (λ (v : List (List ℕ)). IsJudgement request (verdict_file asked) (input_names asked.options) files v was_bytes text status kept) same_outputs judged);
+  input = subst (λ (v : RequestSpec). IsInput holds (input_names asked.options) v.split files) r i;
+  result = result;
+  apart = apart;
+  clear = clear;
+  judgement = subst (λ (v : RequestSpec). IsJudgement v asked files outputs bytes j) r judged;
 }
 
 if_some : {A B : Type 0} (o : Option (List ℕ)) → (A → B) → IfSome o (λ name. A) → IfSome o (λ name. B)
@@ -107,67 +92,70 @@ stopped old new unwritable (Some name) None v e f t h tells = absurd h
 stopped old new unwritable (Some name) (Some text) v e f t h tells =
     (name, refl, stopped_as old new unwritable (name ∷ []) (spelling v ∷ []) e f (subst (λ (x : List ℕ). IsWriteRefusal old new unwritable (name ∷ []) (x ∷ []) e) (same text (spelling v) t) h) tells)
 
+not_both : (s : ℕ) → s ≡ 0 → s ≡ 1 → ⊥
+not_both s a b = omega (arith, a, b)
+
 none_refused : (old new : List ℕ → List ℕ → Type 0) (unwritable : List ℕ → Type 0) (given kept : Option (List ℕ)) (e : FileFault) → kept ≡ None → IsTextRefused old new unwritable given kept e → ⊥
 none_refused old new unwritable None kept e n h = h
 none_refused old new unwritable (Some name) None e n h = h
 none_refused old new unwritable (Some name) (Some text) e n h = absurd (cc n)
 
-module _ (old : Stored) (known : Known) (asked : CheckOptions) (text : List ℕ) where
+module _ (old : Stored) (known : Known) (asked : CheckOptions) (j : Judgement) (judged : Judges old known asked j) where
+  abbrev request : RequestSpec
+  request = request_asked asked.options
+
+  abbrev text : List ℕ
+  text = string_bytes j.said.text
+
+  abbrev kept : Option (List ℕ)
+  kept = option_map (λ v. v.items) j.verdict
+
+  abbrev about : Yes → Told
+  about y = verdict_about request (input_names asked.options) judged.files judged.outputs y.skips.items y.pairs
+
   -- the verdict of a yes
-  yes_verdict : (status : ℕ) (kept : Option (List ℕ)) (j : Judges old known asked text status kept) (skips : List RecordName) (pairs : ℕ) → AreClear asked.options → text ≡ yes_text pairs skips
-      → IsYes (request_asked asked.options) j.files j.outputs j.bytes skips pairs
-      → IsVerdictOf asked.options j.files j.outputs j.bytes text (verdict_about (request_asked asked.options) (input_names asked.options) j.files j.outputs skips pairs)
-  yes_verdict status kept j skips pairs clear said yes_is = record {
-    skips = skips;
-    pairs = pairs;
+  yes_verdict : (y : Yes) → AreClear asked.options → text ≡ yes_text y.pairs y.skips.items → IsYes request judged.files judged.outputs judged.bytes y.skips.items y.pairs
+      → IsVerdictOf asked.options judged.files judged.outputs judged.bytes text (about y)
+  yes_verdict y clear said yes_is = record {
+    skips = y.skips.items;
+    pairs = y.pairs;
     said = said;
     judged = yes_is;
     about = refl;
-    is_true = true_of (request_asked asked.options) (input_names asked.options) j.files j.outputs j.bytes skips pairs (holding_lengths old (input_names asked.options) j.files j.input.held) yes_is.certified;
+    is_true = true_of request (input_names asked.options) judged.files judged.outputs judged.bytes y.skips.items y.pairs (holding_lengths old (input_names asked.options) judged.files judged.input.held) yes_is.certified;
     clear = clear;
   }
 
-  abbrev says : (status told : ℕ) (kept : Option (List ℕ)) (j : Judges old known asked text status kept) → IsJudged (request_asked asked.options) j.files j.outputs j.bytes text told → AnswersCheck old asked.options text told
-  says status told kept j judged = record { files = j.files; outputs = j.outputs; bytes = j.bytes; input = j.input; parts = j.parts; certificate = j.certificate; judged = judged }
+  abbrev says : (status : ℕ) → IsJudged request judged.files judged.outputs judged.bytes text status → AnswersCheck old asked.options text status
+  says status h = record { files = judged.files; outputs = judged.outputs; bytes = judged.bytes; input = judged.input; parts = judged.result.0; certificate = judged.result.1; judged = h }
 
-  module _ (new : List ℕ → List ℕ → Type 0) where
-    keeps_as : (status : ℕ) (kept : Option (List ℕ)) (j : Judges old known asked text status kept)
-        → IsJudgement (request_asked asked.options) (verdict_file asked) (input_names asked.options) j.files j.outputs j.bytes text status kept
-        → IsKeptUnder new (verdict_file asked) kept → ChangesAmong old new (names_kept (verdict_file asked) kept) → KeepsVerdict old new known asked text status
-    keeps_as status kept j (inl (zero_is, skips, pairs, said, certified, text_is)) k among =
-        let v = verdict_about (request_asked asked.options) (input_names asked.options) j.files j.outputs skips pairs in (
-          says status status kept j (inl (zero_is, skips, pairs, said, certified)),
-          j.apart,
-          (
-            (λ _. stands new (verdict_file asked) kept (IsVerdictOf asked.options j.files j.outputs j.bytes text) v (if_some (verdict_file asked) (λ (clear : AreClear asked.options). yes_verdict status kept j skips pairs clear said certified) j.clear) text_is k),
-            λ one. absurd (apart status zero_is one),
-          ),
-        )
-      where
-        apart : (s : ℕ) → s ≡ 0 → s ≡ 1 → ⊥
-        apart s a b = omega (arith, a, b)
-    keeps_as status kept j (inr (one_is, fault, said, refused, none)) k among = (
-      says status status kept j (inr (one_is, fault, said, refused)),
-      j.apart,
-      ((λ zero_is. absurd (apart status zero_is one_is)), λ _. none_kept old new (verdict_file asked) kept none among),
+  module _ (new : Stored) where
+    keeps_as : (answer : Result Yes No) → IsAnswer request judged.files judged.outputs judged.bytes answer → IsSaid answer j.said → kept ≡ text_kept request asked judged.files judged.outputs answer
+        → IsKeptUnder new (verdict_file asked) kept → ChangesAmong old new (names_kept (verdict_file asked) kept) → KeepsVerdict old new known asked text j.said.status
+    keeps_as (Ok y) yes_is (zero_is, said) text_is k among = (
+      says j.said.status (inl (zero_is, y.skips.items, y.pairs, said, yes_is)),
+      judged.apart,
+      (
+        (λ _. stands new (verdict_file asked) kept (IsVerdictOf asked.options judged.files judged.outputs judged.bytes text) (about y) (if_some (verdict_file asked) (λ (clear : AreClear asked.options). yes_verdict y clear said yes_is) judged.clear) text_is k),
+        λ one. absurd (not_both j.said.status zero_is one),
+      ),
     )
-      where
-        apart : (s : ℕ) → s ≡ 0 → s ≡ 1 → ⊥
-        apart s a b = omega (arith, a, b)
+    keeps_as (Err e) (inl memory) (other, one_is, said) none k among = absurd (other memory)
+    keeps_as (Err e) (inr refused) (other, one_is, said) none k among = (
+      says j.said.status (inr (one_is, e, said, refused)),
+      judged.apart,
+      ((λ zero_is. absurd (not_both j.said.status zero_is one_is)), λ _. none_kept old new (verdict_file asked) kept none among),
+    )
 
-    pub keeps : (status : ℕ) (kept : Option (List ℕ)) (j : Judges old known asked text status kept)
-        → IsKeptUnder new (verdict_file asked) kept → ChangesAmong old new (names_kept (verdict_file asked) kept) → KeepsVerdict old new known asked text status
-    keeps status kept j = keeps_as status kept j j.judgement
+    pub keeps : IsKeptUnder new (verdict_file asked) kept → ChangesAmong old new (names_kept (verdict_file asked) kept) → KeepsVerdict old new known asked text j.said.status
+    keeps = keeps_as judged.judgement.answer judged.judgement.right judged.judgement.said judged.judgement.kept
 
-    unkept_as : (unreadable unwritable : List ℕ → Type 0) (status : ℕ) (kept : Option (List ℕ)) (e : FileFault) (f : Fault) (j : Judges old known asked text status kept)
-        → IsJudgement (request_asked asked.options) (verdict_file asked) (input_names asked.options) j.files j.outputs j.bytes text status kept
-        → IsTextRefused old new unwritable (verdict_file asked) kept e → TellsFile e f → IsCheckUnanswered old new unreadable unwritable known asked f
-    unkept_as unreadable unwritable status kept e f j (inl (zero_is, skips, pairs, said, certified, text_is)) h tells =
-        let v = verdict_about (request_asked asked.options) (input_names asked.options) j.files j.outputs skips pairs in
-        let s = stopped old new unwritable (verdict_file asked) kept v e f text_is h tells in
-        inr (text, s.0, v, says status 0 kept j (inl (refl, skips, pairs, said, certified)), j.apart, s.1, yes_verdict status kept j skips pairs (subst (λ (o : Option (List ℕ)). IfSome o (λ name. AreClear asked.options)) s.1 j.clear) said certified, s.2)
-    unkept_as unreadable unwritable status kept e f j (inr (one_is, fault, said, refused, none)) h tells = absurd (none_refused old new unwritable (verdict_file asked) kept e none h)
+    unkept_as : (unreadable unwritable : Faulty) (e : FileFault) (f : Fault) (answer : Result Yes No) → IsAnswer request judged.files judged.outputs judged.bytes answer → IsSaid answer j.said
+        → kept ≡ text_kept request asked judged.files judged.outputs answer → IsTextRefused old new unwritable (verdict_file asked) kept e → TellsFile e f → IsCheckUnanswered old new unreadable unwritable known asked f
+    unkept_as unreadable unwritable e f (Ok y) yes_is (zero_is, said) text_is h tells =
+        let s = stopped old new unwritable (verdict_file asked) kept (about y) e f text_is h tells in
+        inr (text, s.0, about y, says 0 (inl (refl, y.skips.items, y.pairs, said, yes_is)), judged.apart, s.1, yes_verdict y (subst (λ (o : Option (List ℕ)). IfSome o (λ name. AreClear asked.options)) s.1 judged.clear) said yes_is, s.2)
+    unkept_as unreadable unwritable e f (Err fault) right said none h tells = absurd (none_refused old new unwritable (verdict_file asked) kept e none h)
 
-    pub unkept : (unreadable unwritable : List ℕ → Type 0) (status : ℕ) (kept : Option (List ℕ)) (e : FileFault) (f : Fault) (j : Judges old known asked text status kept)
-        → IsTextRefused old new unwritable (verdict_file asked) kept e → TellsFile e f → IsCheckUnanswered old new unreadable unwritable known asked f
-    unkept unreadable unwritable status kept e f j = unkept_as unreadable unwritable status kept e f j j.judgement
+    pub unkept : (unreadable unwritable : Faulty) (e : FileFault) (f : Fault) → IsTextRefused old new unwritable (verdict_file asked) kept e → TellsFile e f → IsCheckUnanswered old new unreadable unwritable known asked f
+    unkept unreadable unwritable e f = unkept_as unreadable unwritable e f judged.judgement.answer judged.judgement.right judged.judgement.said judged.judgement.kept

@@ -10,4 +10,5 @@ pub mod Named
 pub mod Inputs
 pub mod Checks
 pub mod Verdicts
+pub mod Judgements
 pub mod Streamed

@@ -1,16 +1,12 @@
 -- What `check` leaves: the verdict of a yes, under the name that is given for it.
-use Rattle.std.specs.Prelude.{◌≡◌, ◌⊎◌, ℕ, ◌∷◌, Option, None, Some, IfSome, Err, List, [], length, option_map, ⊤}
-use Rattle.std.specs.List.{AllByRecursion}
-use Rattle.mr_bytes.specs.Cut.{Lacks}
+use Rattle.std.specs.Prelude.{◌≡◌, ◌⊎◌, ℕ, ◌∷◌, Option, Some, IfSome, List, [], length, ⊤}
 use Rattle.mr_bytes.specs.declared.RecordName.{RecordName}
 use Rattle.mr_jobs.specs.JobSpec.{RequestSpec}
-use Rattle.mr_verdict.specs.declared.fault.No.{No}
-use Rattle.mr_verdict.specs.Verdict.{verdict_of}
 use Rattle.mr_shards.specs.Verdict.{Told, spelling}
 use Rattle.mr_shards.specs.Truth.{IsTrueOf, notes_for, verdict_for}
-use Rattle.mr_files.specs.Holding.{ChangesAmong, Faulty, Holding, Stored}
+use Rattle.mr_files.specs.Holding.{ChangesAmong, Faulty, Stored}
 use Rattle.mr_files.specs.Identities.{AreApart, Known}
-use Rattle.mr_files.specs.Names.{name_of_certificate, part_files, part_names}
+use Rattle.mr_files.specs.Names.{part_files}
 use Rattle.mr_files.specs.Refusals.{IsWriteRefusal}
 use Rattle.mr_files.specs.declared.store.FileFault.{FileFault}
 use Rattle.mr_args.specs.declared.fault.Fault.{Fault}
@@ -18,9 +14,8 @@ use Rattle.mr_args.specs.declared.request.CheckOptions.{CheckOptions}
 use Rattle.mr_args.specs.declared.request.Options.{Options}
 use Rattle.mr_args.specs.Asked.{request_asked}
 use Rattle.mr_commands.specs.Checks.{AnswersCheck, IsCheckRefusal, IsYes}
-use Rattle.mr_commands.specs.Inputs.{IsInput, IsStopped}
+use Rattle.mr_commands.specs.Inputs.{IsStopped}
 use Rattle.mr_commands.specs.Named.{AreClear, input_names, read_by_check, verdict_file, written_by_check}
-use Rattle.mr_commands.specs.NoLines.{no_line}
 use Rattle.mr_commands.specs.YesLines.{yes_text}
 
 -- the verdict about files of these names, and about outputs by the names of their parts in a folder
@@ -61,34 +56,7 @@ abbrev pub IsCheckUnanswered : Stored → Stored → Faulty → Faulty → Known
 IsCheckUnanswered old new unreadable unwritable known asked fault =
     (ChangesAmong old new [] × IsCheckRefusal old unreadable known asked fault) ⊎ IsVerdictStopped old new unwritable known asked fault
 
--- ---- what each stage gives
-
--- what is said of a judgement, and the text that is to be kept: on a yes that of its verdict, where a name is given for it
-abbrev pub IsJudgement : RequestSpec → Option (List ℕ) → List (List ℕ) → List (List ℕ) → List (List ℕ) → List ℕ → List ℕ → ℕ → Option (List ℕ) → Type 0
-IsJudgement request given names files outputs bytes text status kept =
-    ((status ≡ 0) × (skips : List RecordName) × (pairs : ℕ) × (text ≡ yes_text pairs skips) × IsYes request files outputs bytes skips pairs
-    × (kept ≡ option_map (λ name. spelling (verdict_about request names files outputs skips pairs)) given))
-    ⊎ ((status ≡ 1) × (fault : No) × (text ≡ no_line fault) × (verdict_of request files outputs bytes ≡ Err fault) × (kept ≡ None))
-
--- the judgement of what stands under the names of the parts and of the certificate, against files
-pub record JudgesResult (holds : Stored) (request : RequestSpec) (asked : CheckOptions) (files : List (List ℕ)) (text : List ℕ) (status : ℕ) (kept : Option (List ℕ)) : Type 0 where
-  pub outputs : List (List ℕ)
-  pub bytes : List ℕ
-  pub parts : Holding holds (part_names asked.options.out.now asked.options.parts) outputs
-  pub certificate : holds (name_of_certificate asked.options.out.now) bytes
-  pub judgement : IsJudgement request (verdict_file asked) (input_names asked.options) files outputs bytes text status kept
-
--- the judgement of what stands under the names of the input, of the parts and of the certificate
-pub record Judges (holds : Stored) (known : Known) (asked : CheckOptions) (text : List ℕ) (status : ℕ) (kept : Option (List ℕ)) : Type 0 where
-  pub files : List (List ℕ)
-  pub outputs : List (List ℕ)
-  pub bytes : List ℕ
-  pub input : IsInput holds (input_names asked.options) asked.options.split files
-  pub parts : Holding holds (part_names asked.options.out.now asked.options.parts) outputs
-  pub certificate : holds (name_of_certificate asked.options.out.now) bytes
-  pub apart : AreApart known (read_by_check asked) (written_by_check asked)
-  pub clear : IfSome (verdict_file asked) (λ name. AreClear asked.options)
-  pub judgement : IsJudgement (request_asked asked.options) (verdict_file asked) (input_names asked.options) files outputs bytes text status kept
+-- ---- a text written where it is to be kept
 
 -- the text stands under the name, where there are both
 abbrev pub IsKeptUnder : Stored → Option (List ℕ) → Option (List ℕ) → Type 0

@@ -3,6 +3,7 @@
 #![tactic(auto)]
 
 mod answer_lines;
+mod check_job;
 mod commands;
 mod history;
 mod input;

@@ -1,9 +1,12 @@
 //! What is said, and the lines of a yes.
-ghost use Rattle.std.specs.Prelude.{◌≡◌, ◌++◌, IfOk, OnOk, string_bytes};
+ghost use Rattle.std.specs.Prelude.{◌≡◌, ◌++◌, IfErr, IfOk, OnOk, string_bytes};
+ghost use Rattle.mr_commands.specs.Judgements.{IsSaid};
 ghost use Rattle.mr_commands.specs.YesLines.{left_out_line, yes_line, yes_text};
 
+use crate::no_lines::no_line;
+use mr_args::Fault;
 use mr_bytes::RecordName;
-use mr_check::Yes;
+use mr_check::{No, Yes};
 use std::alloc::{AllocError, Global};
 
 /// What the program says on standard output, and its exit status.
@@ -37,4 +40,22 @@ pub(crate) fn yes_text(alloc: Global, yes: &Yes) -> Result<String, AllocError>
         add_left_out(&mut text, *name)?;
     }
     Ok(text)
+}
+
+/// What is said of an answer. Of want of memory nothing is.
+pub(crate) fn say(alloc: Global, answer: &Result<Yes, No>) -> Result<CommandOutput, Fault>
+    ensures memory { IfErr result (λ e. e ≡ Fault.OutOfMemory) }
+    ensures said { IfOk result (IsSaid answer.now) }
+{
+    match answer {
+        Ok(yes) => {
+            let text = yes_text(alloc, yes)?;
+            Ok(CommandOutput { text, status: 0 })
+        }
+        Err(No::OutOfMemory) => Err(Fault::OutOfMemory),
+        Err(no) => {
+            let text = no_line(alloc, no)?;
+            Ok(CommandOutput { text, status: 1 })
+        }
+    }
 }

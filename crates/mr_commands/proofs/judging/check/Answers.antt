@@ -1,5 +1,5 @@
 use Rattle.std.proofs.Common.{inl}
-use Rattle.std.specs.Prelude.{option_map, string_bytes}
+use Rattle.std.specs.Prelude.{option_map}
 use Rattle.std.proofs.lemmas.Result.{err_from_is_err_and}
 use Rattle.mr_commands.specs.Named.{verdict_file}
 use Rattle.mr_commands.proofs.Told.{kept_among, keeps, unkept}
@@ -26,15 +26,13 @@ returns-in_err-keep-clause-others g c =
 pub returns-in_err-keep-clause-refused : goal.returns-in_err-keep-clause-refused
 returns-in_err-keep-clause-refused g c =
     let p = err_from_is_err_and c.from_residual-in_err-keep.result c.from_residual-in_err-keep.ensures.1 in
-    let judged = c.in_ok-said.field-0 in
-    rw p.1 (unkept (g.S.Store.holds c.args.store.now) (g.S.Store.known_as c.args.store.now) c.args.asked.now (string_bytes judged.said.text) (g.S.Store.holds c.keep.new.store) (g.S.Store.unreadable c.args.store.now) (g.S.Store.unwritable c.args.store.now)
-    judged.said.status (option_map (λ v. v.items) judged.verdict) c.in_err-keep.field-0.0 p.0 c.in_ok-said.ensures.judges c.in_err-keep.ensures.refused p.2)
+    rw p.1 (unkept (g.S.Store.holds c.args.store.now) (g.S.Store.known_as c.args.store.now) c.args.asked.now c.in_ok-said.field-0 c.in_ok-said.ensures.judges (g.S.Store.holds c.keep.new.store)
+    (g.S.Store.unreadable c.args.store.now) (g.S.Store.unwritable c.args.store.now) c.in_err-keep.field-0.0 p.0 c.in_err-keep.ensures.refused p.2)
 
 pub returns-clause-answer : goal.returns-clause-answer
 returns-clause-answer g c =
-    let judged = c.in_ok-said.field-0 in
-    keeps (g.S.Store.holds c.args.store.now) (g.S.Store.known_as c.args.store.now) c.args.asked.now (string_bytes judged.said.text) (g.S.Store.holds c.keep.new.store)
-    judged.said.status (option_map (λ v. v.items) judged.verdict) c.in_ok-said.ensures.judges c.in_ok-keep.ensures.kept c.keep.ensures.others
+    keeps (g.S.Store.holds c.args.store.now) (g.S.Store.known_as c.args.store.now) c.args.asked.now c.in_ok-said.field-0 c.in_ok-said.ensures.judges (g.S.Store.holds c.keep.new.store)
+    c.in_ok-keep.ensures.kept c.keep.ensures.others
 
 pub returns-clause-others : goal.returns-clause-others
 returns-clause-others g c =

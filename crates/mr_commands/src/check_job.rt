@@ -1,0 +1,207 @@
+//! The judgement of a result against an input.
+//!
+//! A result is read whole and then judged, by one thread or by several. Two kinds of results are
+//! judged as they are read (`streaming`), so that no file of theirs is held: a result that one
+//! thread judges with no verdict to be written, and one with a file longer than a good one's.
+ghost use Rattle.std.specs.Prelude.{◌≤◌, ◌^◌};
+ghost use Rattle.mr_input.specs.Files.{split_total};
+
+use crate::judging::input_notes;
+use crate::said::{CommandOutput, say};
+use crate::streaming::judge_as_read;
+use mr_args::{CheckOptions, Fault};
+use mr_bytes::{OpenGate, Progress};
+use mr_check::{Case, JudgeOptions, No, Yes, judge, judge_on_one_thread};
+use mr_files::{LimitFault, Store, read_result_within};
+use mr_input::Input;
+use mr_jobs::Request;
+use mr_shard_files::part_notes;
+use mr_shards::{verdict_for, write_verdict};
+use std::alloc::{AllocError, Global};
+use std::marker::Brand;
+use std::thread::Threads;
+
+/// What is said of a result, and the text of its verdict where that is to be kept.
+#[derive(Drop)]
+pub(crate) struct Judgement {
+    pub said: CommandOutput,
+    pub verdict: Option<Vec<u8>>,
+}
+
+/// What was read of a result.
+#[derive(Drop)]
+pub(crate) struct ResultBytes {
+    pub outputs: Vec<Vec<u8>>,
+    pub certificate: Vec<u8>,
+}
+
+/// What a result is judged for: options that were tested, and an input that fits their request.
+#[derive(Clone, Copy)]
+pub(crate) struct CheckJob<'a> {
+    pub asked: &'a CheckOptions<'a>,
+    pub request: &'a Request,
+    pub input: &'a Input,
+    pub ghost fits: { split_total request.now.split input.now ≤ 2 ^ 20 },
+    pub ghost few: { (1 ≤ asked.now.threads) × (asked.now.threads ≤ 64) },
+}
+
+/// The most bytes that a file of a good result has, over this input. A pair takes two bytes of the
+/// input at least, one of its key and one that ends its word or its line. It takes at most 16 bytes
+/// of a part besides its key, where its value is the place of a line, and at most 17 of the
+/// certificate, where it is a group of its own: four for the number of entries, and three, five and
+/// five for its name in version 2, as an input has at most 2^20 splits. The rest is for what comes
+/// before the partitions. No clause states that a good result stays within it: a result past it is
+/// judged all the same.
+fn most_bytes(input: &Input) -> u64 {
+    let mut bytes = 0u64;
+    for file in 0..input.files() {
+        bytes = bytes.saturating_add(input.len(file) as u64);
+    }
+    bytes.saturating_mul(9).saturating_add(65_536)
+}
+
+impl<'a> CheckJob<'a> {
+    ghost use Rattle.std.specs.Prelude.{◌≡◌, ℕ, IfErr, IfOk, IfSome, IsTrue, List, None};
+    ghost use Rattle.std.specs.Prelude.{option_map};
+    ghost use Rattle.mr_input.specs.Files.{contents};
+    ghost use Rattle.mr_files.specs.Refusals.{IsOneLonger};
+    ghost use Rattle.mr_commands.specs.Judgements.{IsAnswer, IsHeld, IsJudgement, IsUnreadResult};
+    ghost use Rattle.mr_commands.specs.Judgements.{JudgesResult, files_judged, text_kept};
+
+    /// Reads the result, where none of its files has more bytes than that; nothing else.
+    fn read<S: Store>(
+        &self,
+        store: &S,
+        alloc: Global,
+        most: u64,
+    ) -> Result<Option<ResultBytes>, Fault>
+        ensures held { IfOk result (λ r. IfSome r (IsHeld (S.holds store.now) self.now)) }
+        ensures longer { IfOk result
+            (λ r. r ≡ None → IsOneLonger (S.holds store.now) (files_judged self.now) most) }
+        ensures refused { IfErr result (IsUnreadResult (S.unreadable store.now) self.now) }
+    {
+        let options = &self.asked.options;
+        match read_result_within(store, alloc, options.out, options.parts as usize, most) {
+            Ok((outputs, certificate)) => Ok(Some(ResultBytes {
+                outputs,
+                certificate,
+            })),
+            Err(LimitFault::TooLong) => Ok(None),
+            Err(LimitFault::File(fault)) => Err(Fault::from(fault)),
+        }
+    }
+
+    /// The verdict on a result, by one thread or by several.
+    fn verdict<R: Threads + Sync>(
+        &self,
+        rt: &R,
+        alloc: Global,
+        held: &ResultBytes,
+        watch: &dyn Progress,
+    ) -> Result<Yes, No>
+        ensures { IsAnswer self.now.request.now self.now.input.now (contents held.now.outputs.items)
+            held.now.certificate.items result }
+    {
+        let outputs = held.outputs.as_slice();
+        let certificate = held.certificate.as_slice();
+        let case = Case {
+            request: self.request,
+            input: self.input,
+            outputs,
+            certificate,
+        };
+        let threads = self.asked.threads;
+        if threads == 1 {
+            return judge_on_one_thread(alloc, &case, watch);
+        }
+        let options = JudgeOptions::of(threads, &OpenGate, &watch, None);
+        judge(rt, alloc, &case, &options)
+    }
+
+    /// The text of the verdict of a yes on outputs, where a name is given for it.
+    fn verdict_text(
+        &self,
+        alloc: Global,
+        outputs: &[Vec<u8>],
+        answer: &Result<Yes, No>,
+    ) -> Result<Option<Vec<u8>>, AllocError>
+        ensures { IfOk result (λ text. option_map (λ v. v.items) text
+            ≡ text_kept self.now.request.now self.now.asked.now self.now.input.now
+            (contents outputs.now) answer.now) }
+    {
+        let Ok(yes) = answer else {
+            return Ok(None);
+        };
+        let Some(_) = self.asked.verdict else {
+            return Ok(None);
+        };
+        let inputs = input_notes(alloc, self.asked.options.files.as_slice(), self.input)?;
+        let parts = part_notes(alloc, outputs)?;
+        let left_out = yes.skips.as_slice();
+        let verdict = verdict_for(alloc, self.request, inputs, parts, left_out, yes.pairs)?;
+        Ok(Some(write_verdict(alloc, &verdict)?))
+    }
+
+    /// Judges what was read of the result.
+    fn judge<R: Threads + Sync>(
+        &self,
+        rt: &R,
+        alloc: Global,
+        held: &ResultBytes,
+        watch: &dyn Progress,
+    ) -> Result<Judgement, Fault>
+        ensures judged { IfOk result (IsJudgement self.now.request.now self.now.asked.now
+            self.now.input.now (contents held.now.outputs.items)
+            held.now.certificate.items) }
+        ensures memory { IfErr result (λ e. e ≡ Fault.OutOfMemory) }
+    {
+        let answer = self.verdict(rt, alloc, held, watch);
+        let said = say(alloc, &answer)?;
+        let verdict = self.verdict_text(alloc, held.outputs.as_slice(), &answer)?;
+        Ok(Judgement { said, verdict })
+    }
+
+    /// Whether no verdict is to be kept of an answer.
+    fn keeps_nothing(&self, answer: &Result<Yes, No>) -> bool
+        ensures { IsTrue result → (outputs : List (List ℕ)) → text_kept self.now.request.now
+            self.now.asked.now self.now.input.now outputs answer.now ≡ None }
+    {
+        match answer {
+            Ok(_) => self.asked.verdict.is_none(),
+            Err(_) => true,
+        }
+    }
+
+    /// Judges the result. It is read whole first, unless one thread judges with no verdict to be
+    /// kept, or a file has more bytes than a good one's: then it is judged as it is read. Should
+    /// that give a yes whose verdict is to be kept, the result is read whole after all.
+    pub(crate) fn judge_result<S: Store, R: Threads + Sync>(
+        &self,
+        rt: &R,
+        store: &S,
+        alloc: Global,
+        watch: &dyn Progress,
+    ) -> Result<Judgement, Fault>
+        ensures judged { IfOk result (JudgesResult (S.holds store.now) self.now) }
+        ensures refused { IfErr result (IsUnreadResult (S.unreadable store.now) self.now) }
+    {
+        if self.asked.threads > 1 || self.asked.verdict.is_some() {
+            if let Some(held) = self.read(store, alloc, most_bytes(self.input))? {
+                return self.judge(rt, alloc, &held, watch);
+            }
+        }
+        let answer = judge_as_read::<S, Brand>(self, store, alloc, watch)?;
+        if self.keeps_nothing(&answer) {
+            let said = say(alloc, &answer)?;
+            return Ok(Judgement {
+                said,
+                verdict: None,
+            });
+        }
+        match self.read(store, alloc, u64::MAX)? {
+            Some(held) => self.judge(rt, alloc, &held, watch),
+            // More than a machine holds.
+            None => Err(Fault::OutOfMemory),
+        }
+    }
+}
