@@ -15,12 +15,11 @@ ghost use Rattle.mr_files.specs.Names.{result_names};
 ghost use Rattle.mr_commands.specs.Inputs.{IsInput, IsInputRefusal};
 ghost use Rattle.mr_commands.specs.Named.{input_names};
 
-use crate::answer_lines::done_line;
 use crate::input::input_of;
 use crate::judging::check;
 use crate::merging::merge;
 use crate::running::run as run_by_workers;
-use crate::said::CommandOutput;
+use crate::said::{CommandOutput, done_line};
 use mr_args::{Fault, Options, SeqOptions, Subcommand, request_of, skips_of};
 use mr_bytes::{Progress, RecordName};
 use mr_certform::{Certificate, Version, VersionedCertificate, text_law};

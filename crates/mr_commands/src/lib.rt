@@ -2,14 +2,12 @@
 //! workers, the judgement of a result, the merge of shards; and what is said of each.
 #![tactic(auto)]
 
-mod answer_lines;
 mod check_job;
 mod commands;
 mod history;
 mod input;
 mod judging;
 mod merging;
-mod no_lines;
 mod running;
 mod said;
 mod streaming;
@@ -18,6 +16,5 @@ pub use crate::commands::{execute, seq};
 pub use crate::history::history_text;
 pub use crate::judging::check;
 pub use crate::merging::merge;
-pub use crate::no_lines::no_line;
 pub use crate::running::{RunOutcome, run};
-pub use crate::said::CommandOutput;
+pub use crate::said::{CommandOutput, no_line};

@@ -12,11 +12,9 @@ ghost use Rattle.mr_commands.specs.HistoryLines.{history_text};
 ghost use Rattle.mr_commands.specs.Runs.{names_left, read_by_run, written_by_run};
 ghost use Rattle.mr_script.specs.Scripts.{SpellsScript};
 
-use crate::answer_lines::{certified_line, failed_line};
 use crate::history::history_text;
 use crate::input::{input_of, name_given};
-use crate::no_lines::fault_text;
-use crate::said::CommandOutput;
+use crate::said::{CommandOutput, certified_line, failed_line, fault_text};
 use mr_args::{Fault, RunOptions, request_of};
 use mr_book::History;
 use mr_bytes::{OpenGate, Progress};

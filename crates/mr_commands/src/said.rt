@@ -1,12 +1,16 @@
-//! What is said, and the lines of a yes.
-ghost use Rattle.std.specs.Prelude.{◌≡◌, ◌++◌, IfErr, IfOk, OnOk, string_bytes};
+//! What a command says: the text of a yes, the line of a no, the lines of an answer.
+ghost use Rattle.std.specs.Prelude.{◌≡◌, ◌++◌, IfErr, IfOk, OnOk, string_bytes, decimal};
 ghost use Rattle.mr_commands.specs.Judgements.{IsSaid};
 ghost use Rattle.mr_commands.specs.YesLines.{left_out_line, yes_line, yes_text};
+ghost use Rattle.mr_commands.specs.Outcomes.{done_line};
+ghost use Rattle.mr_commands.specs.Runs.{certified_line, failed_line};
+ghost use Rattle.mr_commands.specs.NoLines.{fault_text as text_of_fault, place_text, no_line as line_of_no};
 
-use crate::no_lines::no_line;
+use crate::history::fault_name;
 use mr_args::Fault;
 use mr_bytes::RecordName;
 use mr_check::{No, Yes};
+use mr_core::JobFault;
 use std::alloc::{AllocError, Global};
 
 /// What the program says on standard output, and its exit status.
@@ -58,4 +62,125 @@ pub(crate) fn say(alloc: Global, answer: &Result<Yes, No>) -> Result<CommandOutp
             Ok(CommandOutput { text, status: 1 })
         }
     }
+}
+
+/// The line of a run whose result is certified.
+pub(crate) fn certified_line(
+    alloc: Global,
+    files: usize,
+    pairs: u64,
+    left_out: usize,
+) -> Result<String, AllocError>
+    ensures { IfOk result (λ text. string_bytes text ≡ certified_line files pairs left_out) }
+{
+    format!(in alloc; "certified: {files} files, {pairs} pairs, {left_out} left out\n")
+}
+
+/// The line of a run whose job failed.
+pub(crate) fn failed_line(alloc: Global, fault: JobFault) -> Result<String, AllocError>
+    ensures { IfOk result (λ text. string_bytes text ≡ failed_line fault) }
+{
+    let name = fault_name(fault);
+    format!(in alloc; "failed: {name}\n")
+}
+
+/// The line of a sequential execution.
+pub(crate) fn done_line(
+    alloc: Global,
+    files: usize,
+    pairs: u64,
+    left_out: usize,
+) -> Result<String, AllocError>
+    ensures { IfOk result (λ text. string_bytes text ≡ done_line files pairs left_out) }
+{
+    format!(in alloc; "done: {files} files, {pairs} pairs, {left_out} left out\n")
+}
+
+/// A fault of an entry, and where it stands.
+fn entry_text(
+    alloc: Global,
+    fault: &str,
+    partition: u64,
+    group: u64,
+    entry: u64,
+) -> Result<String, AllocError>
+    ensures { IfOk result (λ text. string_bytes text ≡ fault.now ++ place_text partition group entry) }
+{
+    format!(in alloc; "{fault} partition {partition} group {group} entry {entry}")
+}
+
+/// What is told before a number, and the number.
+fn number_text(alloc: Global, told: &str, number: u64) -> Result<String, AllocError>
+    ensures { IfOk result (λ text. string_bytes text ≡ told.now ++ decimal number) }
+{
+    format!(in alloc; "{told}{number}")
+}
+
+/// What is told before each of two numbers, and these.
+fn numbers_text(
+    alloc: Global,
+    told: &str,
+    first: u64,
+    between: &str,
+    second: u64,
+) -> Result<String, AllocError>
+    ensures { IfOk result (λ text. string_bytes text ≡ told.now ++ (decimal first ++ (between.now ++ decimal second))) }
+{
+    format!(in alloc; "{told}{first}{between}{second}")
+}
+
+/// The line's text on a fault.
+pub fn fault_text(alloc: Global, no: &No) -> Result<String, AllocError>
+    ensures { IfOk result (λ text. string_bytes text ≡ text_of_fault no.now) }
+{
+    match *no {
+        No::OutputCount => String::from_str(alloc, "OutputCount"),
+        No::Malformed { at } => number_text(alloc, "Malformed at ", at),
+        No::OtherJob => String::from_str(alloc, "OtherJob"),
+        No::OtherInput => String::from_str(alloc, "OtherInput"),
+        No::SkipOrder { skip } => number_text(alloc, "SkipOrder skip ", skip),
+        No::NoSuchRecord { skip } => number_text(alloc, "NoSuchRecord skip ", skip),
+        No::TooManySkips { listed } => number_text(alloc, "TooManySkips listed ", listed),
+        No::NoSuchPair {
+            partition,
+            group,
+            entry,
+        } => entry_text(alloc, "NoSuchPair", partition, group, entry),
+        No::EntryOrder {
+            partition,
+            group,
+            entry,
+        } => entry_text(alloc, "EntryOrder", partition, group, entry),
+        No::KeyDiffers {
+            partition,
+            group,
+            entry,
+        } => entry_text(alloc, "KeyDiffers", partition, group, entry),
+        No::WrongPartition {
+            partition,
+            group,
+            entry,
+        } => entry_text(alloc, "WrongPartition", partition, group, entry),
+        No::KeyOrder {
+            partition,
+            group,
+            entry,
+        } => entry_text(alloc, "KeyOrder", partition, group, entry),
+        No::OutputDiffers { partition, at } => {
+            numbers_text(alloc, "OutputDiffers partition ", partition, " at ", at)
+        }
+        No::Unnamed { emitted, named } => {
+            numbers_text(alloc, "Unnamed emitted ", emitted, " named ", named)
+        }
+        No::OutOfMemory => String::from_str(alloc, "OutOfMemory"),
+        No::Device(_) => String::from_str(alloc, "Device"),
+    }
+}
+
+/// The line of a no.
+pub fn no_line(alloc: Global, no: &No) -> Result<String, AllocError>
+    ensures { IfOk result (λ text. string_bytes text ≡ line_of_no no.now) }
+{
+    let fault = fault_text(alloc, no)?;
+    format!(in alloc; "no: {fault}\n")
 }

@@ -2,15 +2,10 @@
 //! are merged to the result of the whole.
 #![tactic(auto)]
 
-mod apart;
 mod fault;
-mod gathering;
-mod held;
 mod listing;
 mod made;
 mod merging;
-mod naming;
-mod noting;
 mod opening;
 mod partition;
 mod sharing;
@@ -20,5 +15,5 @@ mod tails;
 mod turns;
 
 pub use crate::fault::ShardFault;
+pub use crate::made::part_notes;
 pub use crate::merging::merge_shards;
-pub use crate::noting::part_notes;

@@ -1,15 +1,16 @@
-//! The inputs of a merge, held against the list that a user means.
-ghost use Rattle.std.specs.Prelude.{◌≡◌, ◌==◌, [], ◌∷◌, ◌++◌, ◌⊎◌, IfErr, IfOk, MatchOption, OnOk, count_by, option_map};
+//! The list of the input's files and the verdicts of the shards, read.
+ghost use Rattle.std.specs.Prelude.{◌≡◌, ◌==◌, [], ◌∷◌, ◌++◌, ◌⊎◌, IfErr, IfOk, MatchOption, OnOk, count_by, option_map, map};
 ghost use Rattle.hex.specs.Hex.{encode_lower};
-ghost use Rattle.mr_shard_files.specs.Faults.{IsListFault, IsListUnread, IsOtherList};
+ghost use Rattle.mr_shard_files.specs.Faults.{IsListFault, IsListUnread, IsOtherList, IsUnheard, IsUngathered};
 ghost use Rattle.mr_shard_files.specs.Listing.{DifferIn, IsListed, escaped as escaped_name, escaped_byte, listed_line, listing, mark_of};
+ghost use Rattle.mr_files.specs.Holding.{Holding};
+ghost use Rattle.mr_shards.specs.Verdict.{spelling};
 
-use crate::fault::ShardFault;
-use crate::gathering::MAX_TEXT_BYTES;
+use crate::fault::{ShardFault, of_verdict};
 use hex::encode_to_slice;
 use mr_files::{LimitFault, Store, read_file_within};
 use mr_lanes::first_difference;
-use mr_shards::FileNote;
+use mr_shards::{FileNote, Verdict, read_verdict};
 use std::alloc::{AllocError, Global};
 
 /// Appends a byte of a name.
@@ -143,4 +144,48 @@ pub(crate) fn expect_listed<S: Store>(
         Some(name) => expect_list(store, alloc, name, inputs),
         None => Ok(()),
     }
+}
+
+/// The most bytes of a verdict's text, and of the list of inputs: 1 GiB.
+pub const MAX_TEXT_BYTES: u64 = 1_073_741_824;
+
+// The number that the clauses give.
+const _: () = prove!(MAX_TEXT_BYTES == 1_073_741_824);
+
+/// The verdict that stands under a name.
+fn verdict_under<S: Store>(
+    store: &S,
+    alloc: Global,
+    name: &str,
+    shard: usize,
+) -> Result<Verdict, ShardFault>
+    ensures ok { IfOk result (λ v. S.holds store.now name.now (spelling v)) }
+    ensures err { IfErr result (IsUnheard (S.holds store.now) (S.unreadable store.now) shard name.now) }
+{
+    let text = match read_file_within(store, alloc, name, MAX_TEXT_BYTES) {
+        Ok(text) => text,
+        Err(LimitFault::TooLong) => return Err(ShardFault::LongVerdict { shard }),
+        Err(LimitFault::File(fault)) => return Err(ShardFault::from(fault)),
+    };
+    match read_verdict(alloc, text.as_slice()) {
+        Ok(verdict) => Ok(verdict),
+        Err(fault) => Err(of_verdict(shard, fault)),
+    }
+}
+
+/// The verdicts that stand under these names, in order.
+pub(crate) fn read_verdicts<S: Store>(
+    store: &S,
+    alloc: Global,
+    names: &[&str],
+) -> Result<Vec<Verdict>, ShardFault>
+    ensures ok { IfOk result (λ vs. Holding (S.holds store.now) (map (λ s. s.now) names.now) (map spelling vs.items)) }
+    ensures err { IfErr result (IsUngathered (S.holds store.now) (S.unreadable store.now) (map (λ s. s.now) names.now)) }
+{
+    let mut verdicts = Vec::new(alloc);
+    for (shard, name) in names.iter().enumerate() {
+        let verdict = verdict_under(store, alloc, name, shard)?;
+        verdicts.push(verdict).map_err(AllocError::from)?;
+    }
+    Ok(verdicts)
 }

@@ -10,13 +10,10 @@ ghost use Rattle.mr_shard_files.specs.Listing.{IsListed};
 ghost use Rattle.mr_shard_files.specs.Sharing.{AreUnshared};
 ghost use Rattle.mr_shard_files.specs.Faults.{IsFirstFault, IsInputsFault, IsJoinedFault, IsMergingFault, IsMiscounted, IsShardRefusal, IsUnmeant};
 
-use crate::apart::expect_apart;
 use crate::fault::ShardFault;
-use crate::gathering::read_verdicts;
-use crate::listing::expect_listed;
-use crate::naming::put_told;
+use crate::listing::{expect_listed, read_verdicts};
 use crate::partition::partitions_written;
-use crate::sharing::expect_unshared;
+use crate::sharing::{expect_apart, expect_unshared, put_told};
 use mr_files::Store;
 use mr_jobs::Request;
 use mr_shards::{FileNote, Verdict, first_repeat, join_verdicts, request_of};

@@ -11,8 +11,8 @@ ghost use Rattle.mr_shard_files.specs.Streams.{AreJoined, IsRefused};
 
 use crate::fault::ShardFault;
 use crate::made::Made;
-use crate::naming::put_verdict;
 use crate::opening::{file_counts, open_all};
+use crate::sharing::put_verdict;
 use crate::stream::Part;
 use crate::turns::joined;
 use mr_files::{Store, WriteFault, part_name};

@@ -1,12 +1,31 @@
-//! The files of the result, apart from those that are read.
-ghost use Rattle.std.specs.Prelude.{◌≡◌, ◌++◌, ℕ, List, IfErr, IfOk, OnOk, map, option_map, string_bytes};
+//! The files of the result: they are apart from those that are read, and the verdict has its name.
+ghost use Rattle.std.specs.Prelude.{◌≡◌, IfErr, OnOk, map, ◌++◌, ℕ, List, IfOk, option_map, string_bytes};
+ghost use Rattle.mr_shard_files.specs.Apart.{AreApart, IsSameFolder};
 ghost use Rattle.mr_files.specs.Folders.{IsFolderOf};
-ghost use Rattle.mr_files.specs.Names.{merged_names, part_names};
+ghost use Rattle.mr_files.specs.Names.{merged_names, part_names, name_of_verdict};
 ghost use Rattle.mr_shard_files.specs.Sharing.{AreBeside, AreRead, AreUnshared, IsShared, names_with};
+ghost use Rattle.mr_files.specs.Holding.{Begins, ChangesOnly};
+ghost use Rattle.mr_shards.specs.Verdict.{spelling};
+ghost use Rattle.mr_shard_files.specs.Made.{TellsUnwritten};
 
 use crate::fault::ShardFault;
-use mr_files::{Store, add_names, first_shared, folder_of, part_name, verdict_name};
+use mr_files::{Store, add_names, first_shared, folder_of, part_name, verdict_name, write_file};
+use mr_shards::{Verdict, write_verdict};
 use std::alloc::{AllocError, Global};
+
+/// No verdict stands in the folder that is to hold the result: there its shard's parts would be written over while they are
+/// read.
+pub(crate) fn expect_apart<S: Store>(store: &S, names: &[&str], out: &str) -> Result<(), ShardFault>
+    ensures ok { OnOk result (AreApart (map (λ s. s.now) names.now) out.now) }
+    ensures err { IfErr result (IsSameFolder (S.alike store.now) (map (λ s. s.now) names.now) out.now) }
+{
+    for shard in 0..names.len() {
+        if store.is_same_folder(out, folder_of(names[shard])) {
+            return Err(ShardFault::SameFolder { shard });
+        }
+    }
+    Ok(())
+}
 
 /// Adds the names of the first so many parts in a folder.
 fn add_parts(
@@ -95,4 +114,39 @@ pub(crate) fn expect_unshared<S: Store>(
         Some(name) => Err(ShardFault::SameFile(name)),
         None => Ok(()),
     }
+}
+
+/// Writes the text of the verdict in that folder.
+pub(crate) fn put_verdict<S: Store>(
+    store: &mut S,
+    alloc: Global,
+    dir: &str,
+    text: &[u8],
+) -> Result<(), ShardFault>
+    ensures whole { OnOk result (S.holds store.new (name_of_verdict dir.now) text.now) }
+    ensures begins { Begins (S.holds store.old) (S.holds store.new) (name_of_verdict dir.now) text.now }
+    ensures others { ChangesOnly (S.holds store.old) (S.holds store.new) (name_of_verdict dir.now) }
+    ensures still { (n : List ℕ) → S.unwritable store.new n → S.unwritable store.old n }
+    ensures err { IfErr result (TellsUnwritten (S.unwritable store.old (name_of_verdict dir.now)) (name_of_verdict dir.now)) }
+{
+    let name = verdict_name(alloc, dir)?;
+    write_file(store, alloc, name.as_str(), text)?;
+    Ok(())
+}
+
+/// Writes the verdict in that folder.
+pub(crate) fn put_told<S: Store>(
+    store: &mut S,
+    alloc: Global,
+    dir: &str,
+    verdict: &Verdict,
+) -> Result<(), ShardFault>
+    ensures whole { OnOk result (S.holds store.new (name_of_verdict dir.now) (spelling verdict.now)) }
+    ensures begins { Begins (S.holds store.old) (S.holds store.new) (name_of_verdict dir.now) (spelling verdict.now) }
+    ensures others { ChangesOnly (S.holds store.old) (S.holds store.new) (name_of_verdict dir.now) }
+    ensures still { (n : List ℕ) → S.unwritable store.new n → S.unwritable store.old n }
+    ensures err { IfErr result (TellsUnwritten (S.unwritable store.old (name_of_verdict dir.now)) (name_of_verdict dir.now)) }
+{
+    let text = write_verdict(alloc, verdict)?;
+    put_verdict(store, alloc, dir, text.as_slice())
 }

@@ -2,7 +2,7 @@ use Rattle.std.proofs.Common.{◌≡◌, ◌+◌, ◌∷◌, ◌++◌, [], map, 
 use Rattle.std.proofs.lemmas.Result.{err_from_is_err_and}
 use Rattle.mr_files.proofs.Lists.{names_more}
 use Rattle.mr_shard_files.proofs.PartLemmas.{heard_next, unheard_at}
-use Rattle.mr_shard_files.proofs.gathering.read_verdicts.Goals as goal
+use Rattle.mr_shard_files.proofs.listing.read_verdicts.Goals as goal
 
 pub returns-in_err-verdict-clause-err : goal.returns-in_err-verdict-clause-err
 returns-in_err-verdict-clause-err g c =

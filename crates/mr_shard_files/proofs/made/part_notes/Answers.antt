@@ -1,6 +1,6 @@
 use Rattle.std.proofs.Common.{◌≡◌, ◌∷◌, ◌++◌, [], ◌∙◌, ap, get_or, rules, sym}
 use Rattle.mr_shard_files.proofs.NoteLemmas.{notes_none, notes_pushed}
-use Rattle.mr_shard_files.proofs.noting.part_notes.Goals as goal
+use Rattle.mr_shard_files.proofs.made.part_notes.Goals as goal
 
 pub loop-partition-init : goal.loop-partition-init
 loop-partition-init c = c.new-notes.ensures.items ∙ sym notes_none

@@ -2,7 +2,7 @@ use Rattle.std.proofs.Common.{ℕ, List, [], subst, sym, arith}
 use Rattle.std.proofs.lemmas.List.{get_or-map, length-map, take-map}
 use Rattle.mr_files.specs.Folders.{IsFolderOf}
 use Rattle.mr_shard_files.specs.Apart.{AreApart}
-use Rattle.mr_shard_files.proofs.apart.expect_apart.Goals as goal
+use Rattle.mr_shard_files.proofs.sharing.expect_apart.Goals as goal
 
 pub returns-then-is_same_folder-clause-err : goal.returns-then-is_same_folder-clause-err
 returns-then-is_same_folder-clause-err g c =

@@ -1,6 +1,6 @@
 use Rattle.std.proofs.Common.{◌∙◌, List, ℕ, subst}
 use Rattle.mr_files.specs.Holding.{Begins, ChangesOnly}
-use Rattle.mr_shard_files.proofs.naming.put_verdict.Goals as goal
+use Rattle.mr_shard_files.proofs.sharing.put_verdict.Goals as goal
 
 pub returns-clause-whole : goal.returns-clause-whole
 returns-clause-whole g c =
