@@ -203,12 +203,7 @@ pub fn check_threads<R: Threads + Sync>(
         outputs,
         certificate,
     };
-    let options = JudgeOptions {
-        threads,
-        gate: &OpenGate,
-        progress: &Unwatched,
-        mapped: None,
-    };
+    let options = JudgeOptions::of(threads, &OpenGate, &Unwatched, None);
     judge(rt, alloc, &case, &options)
 }
 
@@ -237,11 +232,6 @@ pub fn check_gated<R: Threads + Sync, G: Gate>(
         outputs,
         certificate,
     };
-    let options = JudgeOptions {
-        threads,
-        gate,
-        progress: &Unwatched,
-        mapped: None,
-    };
+    let options = JudgeOptions::of(threads, gate, &Unwatched, None);
     judge(rt, alloc, &case, &options)
 }
