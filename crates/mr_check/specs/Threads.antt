@@ -1,4 +1,4 @@
--- Of no public promise: what an answer of the judge by threads says of what stands behind a certificate's front.
+-- Of no public promise: what an answer of the judge by threads says of the items behind the header.
 use Rattle.std.specs.Prelude.{◌≡◌, ℕ, List, [], None, Result, MatchResult}
 use Rattle.mr_bytes.specs.declared.RecordName.{RecordName}
 use Rattle.mr_input.specs.Files.{contents}
@@ -28,12 +28,15 @@ subject_before case skips w = subject_of (case_before case w) skips
 abbrev pub PartsJudged : Subject → Walker → Result ℕ No → Type 0
 PartsJudged s w answer =
     let fs = part_faults s (halt w) start (items_left w) in
-    MatchResult answer (λ n. (first fs ≡ None) × (n ≡ entries_in (items_left w))) (λ e. Answers fs e)
+    MatchResult answer
+    (λ n. (first fs ≡ None) × (n ≡ entries_in (items_left w)))
+    (λ e. Answers fs e)
 
 -- the items left are those behind the request and the input: what is accepted, or the first fault
 abbrev pub RestJudged : Case → Walker → Result Yes No → Type 0
 RestJudged case w answer =
     let fs = count_faults (case_before case w) (items_left w) in
     MatchResult answer
-    (λ y. (first fs ≡ None) × (accepted_by (record { skips = []; pairs = 0 }) (items_left w) ≡ accepted_of y))
+    (λ y. (first fs ≡ None)
+    × (accepted_by (record { skips = []; pairs = 0 }) (items_left w) ≡ accepted_of y))
     (λ e. Answers fs e)

@@ -175,7 +175,7 @@ pub(crate) fn least_of<'x, 'f, R: Threads + Sync, G: Gate, W: Progress>(
     requires sections { All (IsSection fronts.now) sections.now }
     ensures { IfOk result (λ o. o ≡ least_fault (subject facts.now) 0 (parts_at fronts.now)) }
 {
-    let case = facts.case;
+    let (case, watch) = (facts.case, crew.options.progress);
     let guesses = guesses_of(
         crew.alloc,
         case.outputs,
@@ -187,7 +187,7 @@ pub(crate) fn least_of<'x, 'f, R: Threads + Sync, G: Gate, W: Progress>(
         fronts,
         sections,
         guesses: &guesses,
-        watch: crew.options.progress,
+        watch,
     };
     let judged = draw_all(
         crew.rt,
@@ -198,12 +198,5 @@ pub(crate) fn least_of<'x, 'f, R: Threads + Sync, G: Gate, W: Progress>(
         crew.options.gate,
         first_piece,
     )?;
-    first_fault(
-        crew.alloc,
-        facts,
-        fronts,
-        sections,
-        &judged,
-        crew.options.progress,
-    )
+    first_fault(crew.alloc, facts, fronts, sections, &judged, watch)
 }

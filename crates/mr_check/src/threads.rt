@@ -47,10 +47,10 @@ fn test_back(facts: &Facts<'_>, entries: u64, stop: Option<u64>) -> Result<u64, 
     Ok(entries)
 }
 
-/// Judges all partitions against what was mapped, each section of one by a thread that draws it, and
-/// the certificate's end: how many entries there are, or the first fault. The items are walked once
-/// ahead of that, for where the partitions and their sections begin. The sections are numbered on
-/// from the pieces of the mapping.
+/// Judges all partitions against what was mapped, each section of one by a thread that draws it,
+/// and the certificate's end: how many entries there are, or the first fault. The items are walked
+/// once ahead of that, for where the partitions and their sections begin. The sections are numbered
+/// on from the pieces of the mapping.
 fn check_parts<R: Threads + Sync, G: Gate, W: Progress>(
     crew: &Crew<'_, R, G, W>,
     case: &Case<'_>,
@@ -65,7 +65,8 @@ fn check_parts<R: Threads + Sync, G: Gate, W: Progress>(
     requires pieces { mapped.now.pieces < 2 ^ 21 }
     requires few { length (items_left walker.now) < 2 ^ 63 }
     requires order { InOrder (partitions case.now.request.now.parts) (items_left walker.now) }
-    ensures { PartsJudged (subject_before case.now source.now.skips.now walker.now) walker.now result }
+    ensures { PartsJudged (subject_before case.now source.now.skips.now walker.now)
+        walker.now result }
 {
     // A request has few parts.
     let _parts = case.request.parts();
@@ -153,10 +154,10 @@ fn check_rest<R: Threads + Sync, G: Gate, W: Progress>(
 /// ahead is mapped anew only where the certificate leaves records out.
 ///
 /// Each thread passes the gate round each piece of work that it draws. Its number is the place of
-/// its seat, from 0. The pieces are numbered from 0: first those of the splits, in order, and behind
-/// them the partitions. A thread that draws a piece reports how many of its phase were drawn before
-/// it. All of them are reported where the sections of a partition don't fit together, and it is
-/// judged anew.
+/// its seat, from 0. The pieces are numbered from 0: first those of the splits, in order, and
+/// behind them the partitions. A thread that draws a piece reports how many of its phase were drawn
+/// before it. All of them are reported where the sections of a partition don't fit together, and it
+/// is judged anew.
 pub fn judge<R: Threads + Sync, G: Gate, W: Progress>(
     rt: &R,
     alloc: Global,
@@ -180,7 +181,7 @@ pub fn judge<R: Threads + Sync, G: Gate, W: Progress>(
 }
 
 /// The same as `check`, by so many threads, from 1 to 64 (`judge`). What they answer is what one
-/// thread answers, memory aside. Where a thread can't be started, the calling thread does its share.
+/// thread answers, memory aside. Where a thread can't be started, the calling one does its share.
 pub fn check_threads<R: Threads + Sync>(
     rt: &R,
     alloc: Global,
@@ -203,12 +204,7 @@ pub fn check_threads<R: Threads + Sync>(
         outputs,
         certificate,
     };
-    let options = JudgeOptions {
-        threads,
-        gate: &OpenGate,
-        progress: &Unwatched,
-        mapped: None,
-    };
+    let options = JudgeOptions::of(threads, &OpenGate, &Unwatched, None);
     judge(rt, alloc, &case, &options)
 }
 
@@ -237,11 +233,6 @@ pub fn check_gated<R: Threads + Sync, G: Gate>(
         outputs,
         certificate,
     };
-    let options = JudgeOptions {
-        threads,
-        gate,
-        progress: &Unwatched,
-        mapped: None,
-    };
+    let options = JudgeOptions::of(threads, gate, &Unwatched, None);
     judge(rt, alloc, &case, &options)
 }
