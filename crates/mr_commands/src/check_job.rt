@@ -102,11 +102,12 @@ impl<'a> CheckJob<'a> {
         ensures { IsAnswer self.now.request.now self.now.input.now (contents held.now.outputs.items)
             held.now.certificate.items result }
     {
+        let CheckJob { request, input, .. } = *self;
         let outputs = held.outputs.as_slice();
         let certificate = held.certificate.as_slice();
         let case = Case {
-            request: self.request,
-            input: self.input,
+            request,
+            input,
             outputs,
             certificate,
         };
