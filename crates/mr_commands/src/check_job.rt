@@ -4,7 +4,11 @@
 //! judged as they are read (`streaming`), so that no file of theirs is held: a result that one
 //! thread judges with no verdict to be written, and one with a file longer than a good one's.
 ghost use Rattle.std.specs.Prelude.{◌≤◌, ◌^◌};
+ghost use Rattle.std.specs.Prelude.{◌≡◌, ◌⊎◌, Err, IfErr, IfOk, Ok};
 ghost use Rattle.mr_input.specs.Files.{split_total};
+ghost use Rattle.mr_verdict.specs.Cases.{IsWorth, verdict_on};
+ghost use Rattle.mr_verdict.specs.Headline.{accepted_of};
+ghost use Rattle.mr_verdict.specs.declared.fault.No.{No};
 
 use crate::judging::input_notes;
 use crate::said::{CommandOutput, say};
@@ -60,6 +64,26 @@ fn most_bytes(input: &Input) -> u64 {
     bytes.saturating_mul(9).saturating_add(65_536)
 }
 
+/// The verdict on a case, by one thread or by several.
+fn judge_by<R: Threads + Sync>(
+    rt: &R,
+    alloc: Global,
+    case: &Case<'_>,
+    threads: u32,
+    watch: &dyn Progress,
+) -> Result<Yes, No>
+    requires few { (1 ≤ threads) × (threads ≤ 64) }
+    ensures headline { IfOk result (IsWorth case.now) }
+    ensures yes { IfOk result (λ y. verdict_on case.now ≡ Ok (accepted_of y)) }
+    ensures no { IfErr result (λ e. (e ≡ No.OutOfMemory) ⊎ (verdict_on case.now ≡ Err e)) }
+{
+    if threads == 1 {
+        return judge_on_one_thread(alloc, case, watch);
+    }
+    let options = JudgeOptions::of(threads, &OpenGate, &watch, None);
+    judge(rt, alloc, case, &options)
+}
+
 impl<'a> CheckJob<'a> {
     ghost use Rattle.std.specs.Prelude.{◌≡◌, ℕ, IfErr, IfOk, IfSome, IsTrue, List, None};
     ghost use Rattle.std.specs.Prelude.{option_map};
@@ -102,21 +126,22 @@ impl<'a> CheckJob<'a> {
         ensures { IsAnswer self.now.request.now self.now.input.now (contents held.now.outputs.items)
             held.now.certificate.items result }
     {
-        let CheckJob { request, input, .. } = *self;
+        let (request, input) = (self.request, self.input);
         let outputs = held.outputs.as_slice();
         let certificate = held.certificate.as_slice();
-        let case = Case {
-            request,
-            input,
-            outputs,
-            certificate,
-        };
         let threads = self.asked.threads;
-        if threads == 1 {
-            return judge_on_one_thread(alloc, &case, watch);
-        }
-        let options = JudgeOptions::of(threads, &OpenGate, &watch, None);
-        judge(rt, alloc, &case, &options)
+        judge_by(
+            rt,
+            alloc,
+            &Case {
+                request,
+                input,
+                outputs,
+                certificate,
+            },
+            threads,
+            watch,
+        )
     }
 
     /// The text of the verdict of a yes on outputs, where a name is given for it.
