@@ -1,7 +1,9 @@
 //! What a line can ask for once its words are read: each command's options, the request that they make, and the list of
 //! left-out records that a text spells.
-ghost use Rattle.std.specs.Prelude.{◌≡◌, ◌↔◌, IfOk, IfErr, OnOk, IsTrue, ◌⊎◌, List, [], ◌∷◌, ◌++◌, MatchOption};
-ghost use Rattle.mr_args.specs.Asked.{AsksForOtherJob, IsJobRefusal, IsRequestRefusal, LiteralFits, WithinLimits, request_asked};
+ghost use Rattle.std.specs.Prelude.{◌≡◌, ◌↔◌, IfOk, IfErr, OnOk, IsTrue, ◌⊎◌, List, [], ◌∷◌, ◌++◌};
+ghost use Rattle.std.specs.Prelude.{MatchOption};
+ghost use Rattle.mr_args.specs.Asked.{AsksForOtherJob, IsJobRefusal, IsRequestRefusal, LiteralFits};
+ghost use Rattle.mr_args.specs.Asked.{WithinLimits, request_asked};
 ghost use Rattle.mr_bytes.specs.declared.RecordName.{RecordName};
 ghost use Rattle.mr_args.specs.SkipList.{Lacks, SpellsName, SpellsNames, OneSkipList};
 
@@ -148,7 +150,8 @@ pub fn request_of(alloc: Global, options: &Options<'_>) -> Result<Request, Fault
 
 /// The bytes before the first `mark`, and those behind it.
 fn cut(text: &[u8], mark: u8) -> Option<(&[u8], &[u8])>
-    ensures { MatchOption result (Lacks text.now mark) (λ r. (text.now ≡ r.0.now ++ mark ∷ r.1.now) × Lacks r.0.now mark) }
+    ensures { MatchOption result (Lacks text.now mark)
+        (λ r. (text.now ≡ r.0.now ++ mark ∷ r.1.now) × Lacks r.0.now mark) }
 {
     for (at, byte) in text.iter().enumerate() {
         if *byte == mark {
@@ -170,8 +173,10 @@ fn name_of(text: &[u8]) -> Option<RecordName>
 
 /// Adds the name that the text spells.
 fn add_name(names: &mut Vec<RecordName>, text: &[u8]) -> Result<(), Fault>
-    ensures ok { OnOk result ((n : RecordName) × SpellsName text.now n × (names.new.items ≡ names.old.items ++ n ∷ [])) }
-    ensures bad { IfErr result (λ e. (e ≡ Fault.OutOfMemory) ⊎ ((e ≡ Fault.BadSkipList) × ((n : RecordName) → ¬ SpellsName text.now n))) }
+    ensures ok { OnOk result ((n : RecordName) × SpellsName text.now n
+        × (names.new.items ≡ names.old.items ++ n ∷ [])) }
+    ensures bad { IfErr result (λ e. (e ≡ Fault.OutOfMemory)
+        ⊎ ((e ≡ Fault.BadSkipList) × ((n : RecordName) → ¬ SpellsName text.now n))) }
 {
     match name_of(text) {
         Some(name) => {
@@ -186,7 +191,8 @@ fn add_name(names: &mut Vec<RecordName>, text: &[u8]) -> Result<(), Fault>
 /// text is refused, unless memory is refused before that is seen.
 pub fn skips_of(alloc: Global, text: &str) -> Result<Vec<RecordName>, Fault>
     ensures ok { IfOk result (λ names. SpellsNames text.now names.items) }
-    ensures bad { IfErr result (λ e. (e ≡ Fault.OutOfMemory) ⊎ ((e ≡ Fault.BadSkipList) × ((names : List RecordName) → ¬ SpellsNames text.now names))) }
+    ensures bad { IfErr result (λ e. (e ≡ Fault.OutOfMemory)
+        ⊎ ((e ≡ Fault.BadSkipList) × ((names : List RecordName) → ¬ SpellsNames text.now names))) }
 {
     let mut names = Vec::new(alloc);
     let mut rest = text.as_bytes();

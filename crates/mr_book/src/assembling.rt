@@ -1,12 +1,16 @@
 //! The result of a book whose job is done: the reduce outputs one behind another, and the groups of the certificate.
-ghost use Rattle.std.specs.Prelude.{◌≡◌, ℕ, List, ◌<◌, ◌≤◌, ◌++◌, Some, IfOk, OnOk, length, map, slice_index_or, ◌∷◌, [], ◌^◌};
+ghost use Rattle.std.specs.Prelude.{◌≡◌, ℕ, List, ◌<◌, ◌≤◌, ◌++◌, Some, IfOk, OnOk, length, map};
+ghost use Rattle.std.specs.Prelude.{slice_index_or, ◌∷◌, [], ◌^◌};
 ghost use Rattle.mr_input.specs.Files.{contents};
 ghost use Rattle.mr_certform.specs.Value.{Spells};
 ghost use Rattle.mr_core.specs.declared.event.End.{End};
 ghost use Rattle.mr_sequential.specs.Good.{IsGood, IsGoodResult};
-ghost use Rattle.mr_book.specs.Assembled.{assembled_certificate, assembled_outputs, committed_values, in_split, left_out_records, nothing, records_from};
+ghost use Rattle.mr_book.specs.Assembled.{assembled_certificate, assembled_outputs};
+ghost use Rattle.mr_book.specs.Assembled.{committed_values, in_split, left_out_records, nothing};
+ghost use Rattle.mr_book.specs.Assembled.{records_from};
 ghost use Rattle.mr_book.specs.Faithful.{IsFaithful, IsOpenedFor};
-ghost use Rattle.mr_book.specs.Assembling.{gathering_of, reduced_under, sets_of, Gathering as Gathered};
+ghost use Rattle.mr_book.specs.Assembling.{gathering_of, reduced_under, sets_of};
+ghost use Rattle.mr_book.specs.Assembling.{Gathering as Gathered};
 
 use crate::book::Book;
 use mr_bytes::{Name, RecordName};
@@ -55,7 +59,8 @@ impl<L: Ledger> Book<L> {
     pub(crate) fn committed(&self, partition: u32) -> &ReduceOutput
         requires done { self.now.state.end ≡ Some End.Done }
         requires partition { partition < self.now.shape.parts }
-        ensures { result.now ≡ slice_index_or (committed_values (reduced_under self.now.reduces) self.now.state) partition nothing }
+        ensures { result.now ≡ slice_index_or
+            (committed_values (reduced_under self.now.reduces) self.now.state) partition nothing }
     {
         let core = self.core();
         // A job's tasks may have an attempt at least: that a done one has committed all rests on that; and that what is
@@ -71,7 +76,8 @@ impl<L: Ledger> Book<L> {
     /// The committed outputs of all partitions, put together.
     fn gathered(&self, alloc: Global) -> Result<Gathering, AllocError>
         requires { self.now.state.end ≡ Some End.Done }
-        ensures { IfOk result (λ g. g ≡ gathering_of (committed_values (reduced_under self.now.reduces) self.now.state)) }
+        ensures { IfOk result (λ g. g
+            ≡ gathering_of (committed_values (reduced_under self.now.reduces) self.now.state)) }
     {
         // As above: that there are as many commits as partitions rests on that.
         let _limits = self.core().limits();
@@ -95,11 +101,14 @@ impl<L: Ledger> Book<L> {
     ) -> Result<(Vec<Vec<u8>>, Certificate), AllocError>
         requires done { self.now.state.end ≡ Some End.Done }
         requires opened { IsOpenedFor request.now input.now self.now.shape }
-        ensures outputs { IfOk result (λ r. contents r.0.items ≡ assembled_outputs (reduced_under self.now.reduces) self.now.state) }
-        ensures certificate { IfOk result (λ r. r.1 ≡ assembled_certificate request.now input.now (reduced_under self.now.reduces) self.now.state) }
+        ensures outputs { IfOk result (λ r. contents r.0.items
+            ≡ assembled_outputs (reduced_under self.now.reduces) self.now.state) }
+        ensures certificate { IfOk result (λ r. r.1 ≡ assembled_certificate request.now input.now
+            (reduced_under self.now.reduces) self.now.state) }
         ensures good { IsFaithful request.now input.now self.now.history self.now.state (reduced_under self.now.reduces)
             → IfOk result (λ r. IsGood request.now input.now (contents r.0.items) r.1) }
-        ensures result { IsFaithful request.now input.now self.now.history self.now.state (reduced_under self.now.reduces)
+        ensures result { IsFaithful request.now input.now self.now.history self.now.state
+            (reduced_under self.now.reduces)
             → IfOk result (λ r. (bytes : List ℕ) → Spells bytes r.1 → IsGoodResult request.now input.now (contents r.0.items) bytes) }
     {
         // Book, input and request are within their limits, and the book keeps a run: that there is a certificate of them,
@@ -148,7 +157,8 @@ fn append_groups(
     members: &[Name],
 ) -> Result<(), AllocError>
     requires { length counts.now < 2 ^ 32 }
-    ensures groups { OnOk result (groups.new.group_counts.items ≡ groups.old.group_counts.items ++ length counts.now ∷ []) }
+    ensures groups { OnOk result (groups.new.group_counts.items
+        ≡ groups.old.group_counts.items ++ length counts.now ∷ []) }
     ensures entries { OnOk result (groups.new.entry_counts.items ≡ groups.old.entry_counts.items ++ counts.now) }
     ensures names { OnOk result (groups.new.names.items ≡ groups.old.names.items ++ members.now) }
 {

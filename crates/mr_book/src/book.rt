@@ -1,16 +1,22 @@
 //! The master's book, and what holds of every book and of the result that a state of the master names.
-ghost use Rattle.std.specs.Prelude.{◌≡◌, ◌+◌, [], Some, None, IfOk, IfErr, OnOk, OnErr, length, replicate, sum, vec_len, is_some, if◌then◌else◌, IsSome};
+ghost use Rattle.std.specs.Prelude.{◌≡◌, ◌+◌, [], Some, None, IfOk, IfErr, OnOk, OnErr, length};
+ghost use Rattle.std.specs.Prelude.{replicate, sum, vec_len, is_some, if◌then◌else◌, IsSome};
 ghost use Rattle.mr_core.specs.declared.event.Event.{Event};
 ghost use Rattle.mr_core.specs.Core.{InLimits, IsRun};
 ghost use Rattle.mr_core.specs.Master.{opening, is_complete, replay};
 ghost use Rattle.mr_core.specs.Looks.{output_of};
 ghost use Rattle.mr_core.specs.Promises.{Promises};
 ghost use Rattle.mr_book.specs.View.{IsKept, output_with};
-ghost use Rattle.mr_book.specs.Calls.{Calls, StoresNothing, Hands, Shares, region_in, grown, has_damage};
+ghost use Rattle.mr_book.specs.Calls.{Calls, StoresNothing, Hands, Shares, region_in, grown};
+ghost use Rattle.mr_book.specs.Calls.{has_damage};
 ghost use Rattle.mr_book.specs.Stored.{stored_at, stored_by};
 ghost use Rattle.mr_book.specs.Laws.{OutputsAreStored, CommitsAreStored};
-ghost use Rattle.mr_book.specs.Worked.{WorkedCertificate, WorkedCut, WorkedEnd, WorkedIsDone, WorkedOutput, WorkedRegion, WorkedValue, WorkedWithout};
-ghost use Rattle.mr_book.specs.AssembledLaws.{AttemptsHaveOneValue, CommittedHaveAValue, CutsDontMatter, DoneIsAGoodResult, DoneIsCertified, DoneIsGood, DoneIsSequential, DoneSetsAreFixed, ValuesAreSequential};
+ghost use Rattle.mr_book.specs.Worked.{WorkedCertificate, WorkedCut, WorkedEnd, WorkedIsDone};
+ghost use Rattle.mr_book.specs.Worked.{WorkedOutput, WorkedRegion, WorkedValue, WorkedWithout};
+ghost use Rattle.mr_book.specs.AssembledLaws.{AttemptsHaveOneValue, CommittedHaveAValue};
+ghost use Rattle.mr_book.specs.AssembledLaws.{CutsDontMatter, DoneIsAGoodResult, DoneIsCertified};
+ghost use Rattle.mr_book.specs.AssembledLaws.{DoneIsGood, DoneIsSequential, DoneSetsAreFixed};
+ghost use Rattle.mr_book.specs.AssembledLaws.{ValuesAreSequential};
 
 use crate::event_log::{EventLog, HistoryEntry};
 use crate::output_store::{Kept, OutputStore};
@@ -203,8 +209,10 @@ impl<L: Ledger> Book<L> {
         attempt: u32,
         output: ReduceOutput,
     ) -> Result<Reply, AllocFailed<ReduceOutput>>
-        ensures call { IfOk result (λ r. Calls self.old (Event.ReduceDone attempt (length self.old.history)) r self.new) }
-        ensures reduces { IfOk result (λ r. self.new.reduces ≡ stored_by self.old.reduces (length self.old.history) output r) }
+        ensures call { IfOk result
+            (λ r. Calls self.old (Event.ReduceDone attempt (length self.old.history)) r self.new) }
+        ensures reduces { IfOk result (λ r. self.new.reduces
+            ≡ stored_by self.old.reduces (length self.old.history) output r) }
         ensures maps { self.new.maps ≡ self.old.maps }
         ensures seat { OnOk result (seat.new ≡ seat.old + 1) }
         ensures err { IfErr result (λ e. (self.new ≡ self.old) × (seat.new ≡ seat.old) × (e.value ≡ output)) }

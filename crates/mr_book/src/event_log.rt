@@ -1,5 +1,6 @@
 //! The master with its history: each event that it took, and what it answered.
-ghost use Rattle.std.specs.Prelude.{◌≡◌, ◌+◌, ◌≤◌, ◌∷◌, ◌++◌, [], length, replicate, sum, vec_len, IfOk, OnOk, OnErr};
+ghost use Rattle.std.specs.Prelude.{◌≡◌, ◌+◌, ◌≤◌, ◌∷◌, ◌++◌, [], length, replicate, sum, vec_len};
+ghost use Rattle.std.specs.Prelude.{IfOk, OnOk, OnErr};
 ghost use Rattle.mr_core.specs.declared.event.Reply.{Reply};
 ghost use Rattle.mr_core.specs.Core.{IsStep, IsRun, TakesMemory};
 ghost use Rattle.mr_book.specs.Calls.{grown, has_damage, is_damage, is_wait};

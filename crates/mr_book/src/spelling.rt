@@ -21,7 +21,8 @@ impl<L: Ledger> Book<L> {
     /// The files of all partitions.
     fn committed_texts(&self, alloc: Global) -> Result<Vec<Vec<u8>>, AllocError>
         requires { self.now.state.end ≡ Some End.Done }
-        ensures { IfOk result (λ v. contents v.items ≡ assembled_outputs (reduced_under self.now.reduces) self.now.state) }
+        ensures { IfOk result (λ v. contents v.items
+            ≡ assembled_outputs (reduced_under self.now.reduces) self.now.state) }
     {
         // That there are as many commits as partitions rests on that.
         let _limits = self.core().limits();
@@ -56,7 +57,8 @@ impl<L: Ledger> Book<L> {
     fn version_for(&self, asked: Version) -> Version
         requires { self.now.state.end ≡ Some End.Done }
         ensures can { AllByRecursion (CanSpell result) (committed_groups self.now.reduces self.now.state) }
-        ensures asked { AllByRecursion (CanSpell asked) (committed_groups self.now.reduces self.now.state) → result ≡ asked }
+        ensures asked { AllByRecursion (CanSpell asked)
+            (committed_groups self.now.reduces self.now.state) → result ≡ asked }
     {
         if self.can_spell(asked) {
             asked
@@ -124,7 +126,8 @@ impl<L: Ledger> Book<L> {
     ) -> Result<(Vec<Vec<u8>>, Vec<u8>), AllocError>
         requires done { self.now.state.end ≡ Some End.Done }
         requires opened { IsOpenedFor request.now input.now self.now.shape }
-        ensures outputs { IfOk result (λ r. contents r.0.items ≡ assembled_outputs (reduced_under self.now.reduces) self.now.state) }
+        ensures outputs { IfOk result (λ r. contents r.0.items
+            ≡ assembled_outputs (reduced_under self.now.reduces) self.now.state) }
         ensures certificate { IfOk result
             (λ r. Spells r.1.items (assembled_certificate request.now input.now (reduced_under self.now.reduces) self.now.state)) }
         ensures version { IfOk result

@@ -1,5 +1,6 @@
 //! A list of places that takes little room: of those in one file the offsets are stored, and the rest with their files.
-ghost use Rattle.std.specs.Prelude.{◌≡◌, ◌+◌, ◌<◌, ◌^◌, ◌++◌, ◌∷◌, [], OnOk, OnErr, IsTrue, ◌↔◌, length, take, slice_index_or};
+ghost use Rattle.std.specs.Prelude.{◌≡◌, ◌+◌, ◌<◌, ◌^◌, ◌++◌, ◌∷◌, [], OnOk, OnErr, IsTrue, ◌↔◌};
+ghost use Rattle.std.specs.Prelude.{length, take, slice_index_or};
 ghost use Rattle.mr_bytes.specs.Places.{nowhere};
 
 use std::alloc::{AllocError, Global};

@@ -1,6 +1,7 @@
 //! A list of values that takes little room where they are `One`, or places: the former are counted, of the latter four or
 //! eight bytes are stored, and the rest as it is.
-ghost use Rattle.std.specs.Prelude.{◌≡◌, ◌+◌, ◌-◌, ◌<◌, ◌^◌, ◌++◌, ◌∷◌, [], OnOk, OnErr, IsOk, IfSome, length, take, slice_index_or};
+ghost use Rattle.std.specs.Prelude.{◌≡◌, ◌+◌, ◌-◌, ◌<◌, ◌^◌, ◌++◌, ◌∷◌, [], OnOk, OnErr, IsOk};
+ghost use Rattle.std.specs.Prelude.{IfSome, length, take, slice_index_or};
 ghost use Rattle.mr_bytes.specs.declared.Value.TheVariants.{One, At};
 ghost use Rattle.mr_bytes.specs.Values.{AreOnes, at};
 

@@ -1,5 +1,6 @@
 //! Words, found one after another.
-ghost use Rattle.std.specs.Prelude.{◌≡◌, ℕ, ◌+◌, ◌^◌, ◌≤◌, ◌<◌, length, drop, take, List, [], ◌∷◌, ◌++◌, MatchOption, IfSome, slice_index, IsTrue, false};
+ghost use Rattle.std.specs.Prelude.{◌≡◌, ℕ, ◌+◌, ◌^◌, ◌≤◌, ◌<◌, length, drop, take, List, [], ◌∷◌};
+ghost use Rattle.std.specs.Prelude.{◌++◌, MatchOption, IfSome, slice_index, IsTrue, false};
 ghost use Rattle.mr_bytes.specs.Bytes.{is_word_byte};
 ghost use Rattle.mr_bytes.specs.Words.{word_spans_from};
 ghost use Rattle.mr_bytes.specs.WordLaw.{WordsAreRuns, WordsRise};

@@ -113,7 +113,11 @@ impl CertificateColumns {
     /// One more group of these names.
     pub fn push_names(&mut self, names: &[Name]) -> Result<(), AllocError>
         requires { length names.now < 2 ^ 32 }
-        ensures ok { OnOk result (self.new ≡ record self.old { entry_counts = self.old.entry_counts ++ length names.now ∷ []; names = self.old.names ++ names.now }) }
+        ensures ok { OnOk result (self.new ≡ record self.old {
+          entry_counts = self.old.entry_counts
+              ++ length names.now ∷ [];
+          names = self.old.names ++ names.now;
+        }) }
         ensures err { OnErr result (self.new ≡ self.old) }
     {
         self.groups.entry_counts.push(names.len() as u32)?;
@@ -127,7 +131,11 @@ impl CertificateColumns {
     /// One more partition, of so many groups.
     pub fn close_part(&mut self, groups: u32) -> Result<(), AllocError>
         requires { self.old.parts < 1024 }
-        ensures ok { OnOk result (self.new ≡ record self.old { group_counts = self.old.group_counts ++ groups ∷ []; parts = self.old.parts + 1 }) }
+        ensures ok { OnOk result (self.new ≡ record self.old {
+          group_counts = self.old.group_counts
+              ++ groups ∷ [];
+          parts = self.old.parts + 1;
+        }) }
         ensures err { OnErr result (self.new ≡ self.old) }
     {
         self.groups.group_counts.push(groups)?;

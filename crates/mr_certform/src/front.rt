@@ -1,5 +1,6 @@
 //! The item that stands at the front of bytes, at a place of the grammar. One look at a few bytes; no memory.
-ghost use Rattle.std.specs.Prelude.{◌≡◌, ◌≤◌, ◌-◌, ◌<◌, Some, None, MatchOption, IfSome, length, take, drop};
+ghost use Rattle.std.specs.Prelude.{◌≡◌, ◌≤◌, ◌-◌, ◌<◌, Some, None, MatchOption, IfSome, length};
+ghost use Rattle.std.specs.Prelude.{take, drop};
 ghost use Rattle.std.specs.Int.{w32, w64, from_be_bytes};
 ghost use Rattle.mr_certform.specs.Numbers.{numbered};
 ghost use Rattle.mr_certform.specs.Places.{onward};
@@ -22,7 +23,8 @@ fn number_of_four(bytes: &[u8]) -> u32
 
 /// The number of the first four bytes, and the bytes behind it.
 fn four(bytes: &[u8]) -> Option<(u32, &[u8])>
-    ensures { MatchOption result (length bytes.now < 4) (λ r. (4 ≤ length bytes.now) × (r.0 ≡ from_be_bytes w32 (take 4 bytes.now))
+    ensures { MatchOption result (length bytes.now < 4)
+        (λ r. (4 ≤ length bytes.now) × (r.0 ≡ from_be_bytes w32 (take 4 bytes.now))
         × (r.1.now ≡ drop 4 bytes.now)) }
 {
     if bytes.len() < 4 {
@@ -34,7 +36,8 @@ fn four(bytes: &[u8]) -> Option<(u32, &[u8])>
 
 /// The number of the first eight bytes, and the bytes behind it.
 fn eight(bytes: &[u8]) -> Option<(u64, &[u8])>
-    ensures { MatchOption result (length bytes.now < 8) (λ r. (8 ≤ length bytes.now) × (r.0 ≡ from_be_bytes w64 (take 8 bytes.now))
+    ensures { MatchOption result (length bytes.now < 8)
+        (λ r. (8 ≤ length bytes.now) × (r.0 ≡ from_be_bytes w64 (take 8 bytes.now))
         × (r.1.now ≡ drop 8 bytes.now)) }
 {
     if bytes.len() < 8 {
@@ -47,7 +50,8 @@ fn eight(bytes: &[u8]) -> Option<(u64, &[u8])>
 /// The name of the first twelve bytes, and the bytes behind it.
 #[inline(always)]
 fn twelve(bytes: &[u8]) -> Option<(Name, &[u8])>
-    ensures { MatchOption result (length bytes.now < 12) (λ r. (12 ≤ length bytes.now) × (r.0 ≡ name_at bytes.now) × (r.1.now ≡ drop 12 bytes.now)) }
+    ensures { MatchOption result (length bytes.now < 12)
+        (λ r. (12 ≤ length bytes.now) × (r.0 ≡ name_at bytes.now) × (r.1.now ≡ drop 12 bytes.now)) }
 {
     if bytes.len() < 12 {
         return None;
@@ -61,7 +65,9 @@ fn twelve(bytes: &[u8]) -> Option<(Name, &[u8])>
 /// The name of an entry behind the name before it, and the bytes behind it.
 #[inline(always)]
 fn name_of(version: Version, before: Name, bytes: &[u8]) -> Option<(Name, &[u8])>
-    ensures read { MatchOption result (entry_at version before bytes.now ≡ None) (λ r. entry_at version before bytes.now ≡ Some (record { item = Item.Entry r.0; rest = r.1.now })) }
+    ensures read { MatchOption result (entry_at version before bytes.now ≡ None)
+        (λ r. entry_at version before bytes.now
+        ≡ Some (record { item = Item.Entry r.0; rest = r.1.now })) }
     ensures shorter { IfSome result (λ r. length r.1.now ≤ length bytes.now) }
 {
     match version {
@@ -90,7 +96,8 @@ fn number_item(place: GrammarState, n: u32) -> Option<Item>
 
 /// The item that stands at the front of the bytes, and the bytes behind it.
 pub fn read_item(version: Version, place: GrammarState, bytes: &[u8]) -> Option<(Item, &[u8])>
-    ensures read { MatchOption result (standing version place bytes.now ≡ None) (λ r. standing version place bytes.now ≡ Some (record { item = r.0; rest = r.1.now })) }
+    ensures read { MatchOption result (standing version place bytes.now ≡ None)
+        (λ r. standing version place bytes.now ≡ Some (record { item = r.0; rest = r.1.now })) }
     ensures shorter { IfSome result (λ r. length r.1.now ≤ length bytes.now) }
 {
     match place {
@@ -136,7 +143,8 @@ pub(crate) fn step_of(
     place: GrammarState,
     bytes: &[u8],
 ) -> Option<(Item, &[u8], GrammarState)>
-    ensures read { MatchOption result (standing version place bytes.now ≡ None) (λ r. standing version place bytes.now ≡ Some (record { item = r.0; rest = r.1.now })) }
+    ensures read { MatchOption result (standing version place bytes.now ≡ None)
+        (λ r. standing version place bytes.now ≡ Some (record { item = r.0; rest = r.1.now })) }
     ensures shorter { IfSome result (λ r. length r.1.now ≤ length bytes.now) }
     ensures place { IfSome result (λ r. r.2 ≡ onward place r.0) }
 {

@@ -1,6 +1,7 @@
 //! The places of the grammar: what may stand where, and which place comes behind an item. A place is a few numbers.
 ghost use Rattle.std.specs.Prelude.{◌≡◌};
-ghost use Rattle.mr_certform.specs.Places.{behind as place_behind, literal_bytes, file_lengths, partitions, skips, groups as groups_from, entries};
+ghost use Rattle.mr_certform.specs.Places.{behind as place_behind, literal_bytes, file_lengths};
+ghost use Rattle.mr_certform.specs.Places.{partitions, skips, groups as groups_from, entries};
 
 use crate::item::Item;
 use mr_bytes::Name;

@@ -1,8 +1,10 @@
 //! What the definitions of certificates mean: functions that do nothing when they run, whose clauses are the laws.
 ghost use Rattle.std.specs.Prelude.{List};
 ghost use Rattle.mr_bytes.specs.declared.Name.{Name};
-ghost use Rattle.mr_certform.specs.Laws.{StandingIsSpelled, SpelledStands, SpellingsAreApart, SpellingIsRead, EndedIsSpelled, OneCertificate};
-ghost use Rattle.mr_certform.specs.Laws.{SpelledByParts, VersionIsTold, ItemsStand, ItemsAreLongest, CutByCounts, SpelledSoFarIsSpelled};
+ghost use Rattle.mr_certform.specs.Laws.{StandingIsSpelled, SpelledStands, SpellingsAreApart};
+ghost use Rattle.mr_certform.specs.Laws.{SpellingIsRead, EndedIsSpelled, OneCertificate};
+ghost use Rattle.mr_certform.specs.Laws.{SpelledByParts, VersionIsTold, ItemsStand};
+ghost use Rattle.mr_certform.specs.Laws.{ItemsAreLongest, CutByCounts, SpelledSoFarIsSpelled};
 ghost use Rattle.mr_certform.specs.Pieces.{versioned_bytes};
 ghost use Rattle.mr_certform.specs.Value.{SpellsIn};
 

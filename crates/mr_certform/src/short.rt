@@ -1,6 +1,9 @@
 //! A name in few bytes: its three numbers, told from the name before it in its group.
-ghost use Rattle.std.specs.Prelude.{◌≡◌, ◌↔◌, ◌<◌, ◌≤◌, ◌+◌, ◌++◌, ◌∷◌, [], Some, None, IsTrue, MatchOption, IfSome, length};
-ghost use Rattle.mr_certform.specs.Short.{added, short, short_at, place_base, record_base, short_from, short_name_at, short_name_bytes, with_lowest, IsAtLeast};
+ghost use Rattle.std.specs.Prelude.{◌≡◌, ◌↔◌, ◌<◌, ◌≤◌, ◌+◌, ◌++◌, ◌∷◌, [], Some, None, IsTrue};
+ghost use Rattle.std.specs.Prelude.{MatchOption, IfSome, length};
+ghost use Rattle.mr_certform.specs.Short.{added, short, short_at, place_base, record_base};
+ghost use Rattle.mr_certform.specs.Short.{short_from, short_name_at, short_name_bytes, with_lowest};
+ghost use Rattle.mr_certform.specs.Short.{IsAtLeast};
 ghost use Rattle.mr_certform.specs.Value.{NameFits};
 
 use mr_bytes::Name;

@@ -1,11 +1,13 @@
 //! A walk over the items of a reader's bytes, front to back. Its buffer is all the memory that it takes.
-ghost use Rattle.std.specs.Prelude.{◌≡◌, ◌⊎◌, ℕ, ◌≤◌, ◌<◌, ◌+◌, ◌-◌, ◌^◌, List, Some, None, IfOk, OnOk, IfSome, MatchResult, true, length};
+ghost use Rattle.std.specs.Prelude.{◌≡◌, ◌⊎◌, ℕ, ◌≤◌, ◌<◌, ◌+◌, ◌-◌, ◌^◌, List, Some, None, IfOk};
+ghost use Rattle.std.specs.Prelude.{OnOk, IfSome, MatchResult, true, length};
 ghost use Rattle.mr_store.specs.Devices.{Counts, FailsOnly};
 ghost use Rattle.mr_certform.specs.declared.item.Item.{Item as Read};
 ghost use Rattle.mr_certform.specs.declared.grammar_state.GrammarState.TheVariants.{AtMagic};
 ghost use Rattle.mr_certform.specs.Places.{onward};
 ghost use Rattle.mr_certform.specs.Spelling.{items_of, stop, bytes_at};
-ghost use Rattle.mr_certform.specs.Streaming.{stream, MayCome, IsToCome, version_at, Gives, Told, Counted};
+ghost use Rattle.mr_certform.specs.Streaming.{stream, MayCome, IsToCome, version_at, Gives, Told};
+ghost use Rattle.mr_certform.specs.Streaming.{Counted};
 
 use crate::front::step_of;
 use crate::grammar_state::GrammarState;
@@ -92,8 +94,10 @@ impl<R: CountedRead + Drop> StreamWalker<R> {
     #[inline]
     fn fill(&mut self) -> Result<(), Device>
         ensures filled { OnOk result ((15 ≤ length self.new.held) ⊎ (self.new.exhausted ≡ true)) }
-        ensures bytes { (bytes : List ℕ) → IsToCome (stream R.remaining self.new) bytes → IsToCome (stream R.remaining self.old) bytes }
-        ensures same { (self.new.version ≡ self.old.version) × (self.new.place ≡ self.old.place) × (self.new.passed ≡ self.old.passed) × (self.new.fault ≡ self.old.fault) }
+        ensures bytes { (bytes : List ℕ) → IsToCome (stream R.remaining self.new) bytes
+            → IsToCome (stream R.remaining self.old) bytes }
+        ensures same { (self.new.version ≡ self.old.version) × (self.new.place ≡ self.old.place)
+            × (self.new.passed ≡ self.old.passed) × (self.new.fault ≡ self.old.fault) }
         ensures count { Counts (R.failed self.old.reader) (R.failed self.new.reader) result }
         ensures fails { FailsOnly (R.can_fail self.old.reader) (R.lacked self.new.reader) result }
         ensures later { R.can_fail self.new.reader → R.can_fail self.old.reader }
@@ -159,7 +163,8 @@ impl<R: CountedRead + Drop> StreamWalker<R> {
             (λ _. (self.new.place ≡ self.old.place) × (self.new.passed ≡ self.old.passed)) }
         ensures fault { self.new.fault ≡ self.old.fault }
         ensures count { Counted (R.failed self.old.reader) (R.failed self.new.reader) result }
-        ensures fails { result ≡ Err StreamFault.Device → R.can_fail self.old.reader ⊎ (R.lacked self.new.reader ≡ true) }
+        ensures fails { result ≡ Err StreamFault.Device
+            → R.can_fail self.old.reader ⊎ (R.lacked self.new.reader ≡ true) }
         ensures later { R.can_fail self.new.reader → R.can_fail self.old.reader }
     {
         self.fill()?;
@@ -179,7 +184,8 @@ impl<R: CountedRead + Drop> StreamWalker<R> {
         ensures fault { MatchResult result (λ _. self.new.fault ≡ None) (λ e. self.new.fault ≡ Some e) }
         ensures again { IfSome self.old.fault (λ e. (result ≡ Err e) × (self.new ≡ self.old)) }
         ensures count { self.old.fault ≡ None → Counted (R.failed self.old.reader) (R.failed self.new.reader) result }
-        ensures fails { self.old.fault ≡ None → result ≡ Err StreamFault.Device → R.can_fail self.old.reader ⊎ (R.lacked self.new.reader ≡ true) }
+        ensures fails { self.old.fault ≡ None → result ≡ Err StreamFault.Device
+            → R.can_fail self.old.reader ⊎ (R.lacked self.new.reader ≡ true) }
         ensures later { R.can_fail self.new.reader → R.can_fail self.old.reader }
     {
         if let Some(fault) = self.fault {

@@ -101,7 +101,8 @@ impl Certificate {
     /// The certificate in this version, or none where the version can't spell it: version 2 spells none in which a name is
     /// less than the one before it in its group.
     pub fn in_version(&self, version: Version) -> Option<VersionedCertificate<'_>>
-        ensures { MatchOption result (AllByRecursion (CanSpell version) self.now.groups → ⊥) (λ s. s ≡ record { version = version; certificate = self.now }) }
+        ensures { MatchOption result (AllByRecursion (CanSpell version) self.now.groups → ⊥)
+            (λ s. s ≡ record { version = version; certificate = self.now }) }
     {
         if !version.can_spell(&self.flat.groups.entry_counts, &self.flat.groups.names) {
             return None;

@@ -1,5 +1,6 @@
 //! A walk over the items of bytes, front to back. It takes no memory, and each item costs a look at its own bytes.
-ghost use Rattle.std.specs.Prelude.{◌≡◌, ◌≤◌, ◌-◌, ◌+◌, ◌∷◌, [], Some, None, MatchResult, length, ◌*◌, drop};
+ghost use Rattle.std.specs.Prelude.{◌≡◌, ◌≤◌, ◌-◌, ◌+◌, ◌∷◌, [], Some, None, MatchResult, length};
+ghost use Rattle.std.specs.Prelude.{◌*◌, drop};
 ghost use Rattle.mr_certform.specs.Spelling.{items_from, items_of, stop, left_behind};
 ghost use Rattle.mr_certform.specs.declared.grammar_state.GrammarState.TheVariants.{AtEntry};
 ghost use Rattle.mr_certform.specs.declared.version.Version.TheVariants.{V2};
@@ -31,7 +32,8 @@ fn behind_names(
     before: Name,
 ) -> (u64, &[u8], GrammarState)
     ensures count { result.0 ≡ entries_ahead (items_from V2 (AtEntry parts groups more before) bytes.entry.now) }
-    ensures items { items_from V2 (result.2) (result.1.now) ≡ behind_entries (items_from V2 (AtEntry parts groups more before) bytes.entry.now) }
+    ensures items { items_from V2 (result.2) (result.1.now)
+        ≡ behind_entries (items_from V2 (AtEntry parts groups more before) bytes.entry.now) }
     ensures shorter { length result.1.now ≤ length bytes.entry.now }
     ensures taken { items_size V2 (AtEntry parts groups more before) bytes.entry.now
         ≡ length bytes.entry.now - length result.1.now + items_size V2 (result.2) (result.1.now) }

@@ -159,7 +159,8 @@ impl<'a, W: CountedWrite> WriteBuffer<'a, W> {
     /// Writes what is held, and tells whether a call has failed.
     pub fn finish(&mut self) -> Result<(), Device>
         ensures takes { Takes W.seen W.can_fail W.lacked self.old self.new [] }
-        ensures ended { MatchResult result (λ _. (self.new.failed ≡ false) × (self.new.piece ≡ [])) (λ _. self.new.failed ≡ true) }
+        ensures ended { MatchResult result (λ _. (self.new.failed ≡ false) × (self.new.piece ≡ []))
+            (λ _. self.new.failed ≡ true) }
     {
         self.hand_over();
         if self.failed { Err(Device) } else { Ok(()) }

@@ -4,8 +4,10 @@ ghost use Rattle.std.specs.Prelude.{IfOk, length, drop};
 ghost use Rattle.std.specs.List.{flat_map, AllByRecursion};
 ghost use Rattle.mr_store.specs.Devices.{FailsOnly, TookSome, with_bytes};
 ghost use Rattle.mr_certform.specs.Places.{first_name};
-ghost use Rattle.mr_certform.specs.Spelling.{u32 as four, u64 as eight, magic, name_bytes, skip_bytes};
-ghost use Rattle.mr_certform.specs.Value.{NameFits, SkipFits, CanFollow, CanRow, CanSpell, SpellsIn};
+ghost use Rattle.mr_certform.specs.Spelling.{u32 as four, u64 as eight, magic, name_bytes};
+ghost use Rattle.mr_certform.specs.Spelling.{skip_bytes};
+ghost use Rattle.mr_certform.specs.Value.{NameFits, SkipFits, CanFollow, CanRow, CanSpell};
+ghost use Rattle.mr_certform.specs.Value.{SpellsIn};
 ghost use Rattle.mr_certform.specs.Flat.{total, chunks, contents_of, IsWhole, HasNumbers, HasNames};
 ghost use Rattle.mr_certform.specs.Pieces.{names_bytes, group_bytes, part_bytes, job_bytes};
 ghost use Rattle.mr_certform.specs.Pieces.{all_bytes, versioned_bytes};
@@ -80,7 +82,8 @@ fn put_name<O: Sink>(
 /// The names of a group.
 fn put_names<O: Sink>(out: &mut O, version: Version, names: &[Name]) -> Result<(), O::Fault>
     requires { CanRow version first_name names.now }
-    ensures { OnOk result (O.takes out.old out.new (names_bytes version first_name names.now) × AllByRecursion NameFits names.now) }
+    ensures { OnOk result (O.takes out.old out.new (names_bytes version first_name names.now)
+        × AllByRecursion NameFits names.now) }
 {
     let mut before = Name {
         split: 0,
@@ -103,7 +106,8 @@ pub(crate) fn put_groups<'a, O: Sink>(
 ) -> Result<&'a [Name], O::Fault>
     requires room { total counts.now ≤ length names.now }
     requires can { CanSpell version (chunks counts.now names.now) }
-    ensures { IfOk result (λ rest. O.takes out.old out.new (flat_map (group_bytes version) (chunks counts.now names.entry.now))
+    ensures { IfOk result (λ rest. O.takes out.old out.new
+        (flat_map (group_bytes version) (chunks counts.now names.entry.now))
         × (rest.now ≡ drop (total counts.now) names.entry.now)
         × AllByRecursion (AllByRecursion NameFits) (chunks counts.now names.entry.now)) }
 {
@@ -127,7 +131,8 @@ fn put_parts<O: Sink>(
     requires groups { total group_counts.now ≡ length entry_counts.now }
     requires room { total entry_counts.now ≤ length names.now }
     requires can { CanSpell version (chunks entry_counts.now names.now) }
-    ensures { OnOk result (O.takes out.old out.new (flat_map (part_bytes version) (chunks group_counts.now (chunks entry_counts.now names.now)))
+    ensures { OnOk result (O.takes out.old out.new (flat_map (part_bytes version)
+        (chunks group_counts.now (chunks entry_counts.now names.now)))
         × AllByRecursion (AllByRecursion NameFits) (chunks entry_counts.now names.now)) }
 {
     let mut counts = entry_counts;
@@ -174,7 +179,8 @@ pub(crate) fn put_input<O: Sink>(out: &mut O, lengths: &[u64]) -> Result<(), O::
 /// The number of left-out records, then each of them.
 pub(crate) fn put_left_out<O: Sink>(out: &mut O, skips: &[RecordName]) -> Result<(), O::Fault>
     requires { length skips.now < 2 ^ 32 }
-    ensures { OnOk result (O.takes out.old out.new (four (length skips.now) ++ flat_map skip_bytes skips.now) × AllByRecursion SkipFits skips.now) }
+    ensures { OnOk result (O.takes out.old out.new (four (length skips.now)
+        ++ flat_map skip_bytes skips.now) × AllByRecursion SkipFits skips.now) }
 {
     put_number(out, skips.len() as u32)?;
     for skip in skips {
@@ -307,7 +313,8 @@ pub fn write(
     version: Version,
 ) -> Result<Vec<u8>, WriteFault>
     ensures spelled { IfOk result (λ v. SpellsIn version v.items certificate.now) }
-    ensures fall { (result ≡ Err WriteFault.NamesFall) ↔ (AllByRecursion (CanSpell version) certificate.now.groups → ⊥) }
+    ensures fall { (result ≡ Err WriteFault.NamesFall)
+        ↔ (AllByRecursion (CanSpell version) certificate.now.groups → ⊥) }
 {
     let Some(spelled) = certificate.in_version(version) else {
         return Err(WriteFault::NamesFall);
@@ -334,8 +341,10 @@ fn write_values<W: CountedWrite>(
     requires empty { buffered.old.piece ≡ [] }
     requires begins { buffered.old.failed ≡ false }
     ensures same_reference { buffered.new.writer.ghost_name ≡ buffered.old.writer.ghost_name }
-    ensures whole { OnOk result (W.seen buffered.new.writer.now ≡ with_bytes (W.seen buffered.old.writer.now) (all_bytes version (contents_of flat.now))) }
-    ensures beginning { OnErr result (TookSome (W.seen buffered.old.writer.now) (W.seen buffered.new.writer.now) (all_bytes version (contents_of flat.now))) }
+    ensures whole { OnOk result (W.seen buffered.new.writer.now
+        ≡ with_bytes (W.seen buffered.old.writer.now) (all_bytes version (contents_of flat.now))) }
+    ensures beginning { OnErr result (TookSome (W.seen buffered.old.writer.now)
+        (W.seen buffered.new.writer.now) (all_bytes version (contents_of flat.now))) }
     ensures fails { FailsOnly (W.can_fail buffered.old.writer.now) (W.lacked buffered.new.writer.now) result }
     ensures later { W.can_fail buffered.new.writer.now → W.can_fail buffered.old.writer.now }
 {

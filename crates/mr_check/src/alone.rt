@@ -1,5 +1,6 @@
 //! A partition, or a section of one, that is judged by itself.
-ghost use Rattle.std.specs.Prelude.{◌≡◌, ◌⊎◌, ◌<◌, ◌≤◌, ◌+◌, ◌-◌, ◌^◌, [], List, MatchResult, IfOk, OnOk, None, Some, true, false, length, drop};
+ghost use Rattle.std.specs.Prelude.{◌≡◌, ◌⊎◌, ◌<◌, ◌≤◌, ◌+◌, ◌-◌, ◌^◌, [], List, MatchResult, IfOk};
+ghost use Rattle.std.specs.Prelude.{OnOk, None, Some, true, false, length, drop};
 ghost use Rattle.std.specs.List.{AllByRecursion};
 ghost use Rattle.mr_certform.specs.declared.item.Item.{Item as Read};
 ghost use Rattle.mr_certform.specs.Walking.{items_left, halt};
@@ -12,7 +13,8 @@ ghost use Rattle.mr_judge.specs.Blocks.{items_in, onto, IsFound};
 ghost use Rattle.mr_judge.specs.Outputs.{Leaves};
 ghost use Rattle.mr_judge.specs.Borders.{at_border};
 ghost use Rattle.mr_check.specs.Fronts.{is_own as own, part_here, OwnJudged, Opened};
-ghost use Rattle.mr_check.specs.Sections.{part_from, GroupBegins, StretchJudged, SectionJudged, IsJudged};
+ghost use Rattle.mr_check.specs.Sections.{part_from, GroupBegins, StretchJudged, SectionJudged};
+ghost use Rattle.mr_check.specs.Sections.{IsJudged};
 
 use crate::facts::Facts;
 use crate::front::{Front, Section};
@@ -46,7 +48,8 @@ fn step_at_hand<'a>(
     ensures tested { let s = subject facts.now in MatchResult result
         (λ _. (tests s judging.old row.now.item ≡ []) × (judging.new ≡ after s judging.old row.now.item))
         (λ e. Answers (tests s judging.old row.now.item) e) }
-    ensures left { OnOk result (Leaves judging.new facts.now.outputs outputs.new.rest.now (contents outputs.new.later.now)) }
+    ensures left { OnOk result (Leaves judging.new facts.now.outputs outputs.new.rest.now
+        (contents outputs.new.later.now)) }
     ensures place { OnOk result (outputs.new.passed ≡ judging.new.from) }
 {
     match judging.step(&facts.basis(), outputs, row) {
@@ -66,9 +69,13 @@ fn open_part<'a>(
     requires room { Room judging.old (length (items_left walker.old)) (2 ^ 64 - 2) }
     requires left { Leaves judging.old facts.now.outputs outputs.old.rest.now (contents outputs.old.later.now) }
     requires place { outputs.old.passed ≡ judging.old.from }
-    ensures opened { Opened (subject facts.now) judging.old judging.new (items_left walker.old) (items_left walker.new) result }
-    ensures here { IfOk result (λ b. b ≡ true → drop 1 (part_here (items_left walker.old)) ≡ piece (items_left walker.new)) }
-    ensures left { IfOk result (λ b. b ≡ true → Leaves judging.new facts.now.outputs outputs.new.rest.now (contents outputs.new.later.now)) }
+    ensures opened { Opened (subject facts.now) judging.old judging.new
+        (items_left walker.old) (items_left walker.new) result }
+    ensures here { IfOk result (λ b. b ≡ true
+        → drop 1 (part_here (items_left walker.old)) ≡ piece (items_left walker.new)) }
+    ensures left { IfOk result
+        (λ b. b ≡ true → Leaves judging.new facts.now.outputs outputs.new.rest.now
+        (contents outputs.new.later.now)) }
     ensures place { IfOk result (λ b. b ≡ true → outputs.new.passed ≡ judging.new.from) }
 {
     let Ok(item) = walker.next() else {
@@ -93,8 +100,11 @@ fn judge_own<'a>(
     requires found { AllByRecursion (IsFound facts.now.triples) rows.now }
     requires left { Leaves judging.old facts.now.outputs outputs.old.rest.now (contents outputs.old.later.now) }
     requires place { outputs.old.passed ≡ judging.old.from }
-    ensures judged { (js : List Read) → OwnJudged (subject facts.now) judging.old judging.new (items_in rows.now) js result }
-    ensures left { IfOk result (λ b. b ≡ false → Leaves judging.new facts.now.outputs outputs.new.rest.now (contents outputs.new.later.now)) }
+    ensures judged { (js : List Read)
+        → OwnJudged (subject facts.now) judging.old judging.new (items_in rows.now) js result }
+    ensures left { IfOk result
+        (λ b. b ≡ false → Leaves judging.new facts.now.outputs outputs.new.rest.now
+        (contents outputs.new.later.now)) }
     ensures place { IfOk result (λ b. b ≡ false → outputs.new.passed ≡ judging.new.from) }
 {
     for row in rows {
@@ -214,7 +224,8 @@ fn judge_section<'a>(
     requires next { began.now.next ≤ 2 ^ 32 }
     requires group { began.now.group ≤ section.now.group }
     requires begins { GroupBegins (drop count (part_from section.now.at (items_left section.now.walker))) }
-    ensures { SectionJudged (subject facts.now) (at_border began.now) (part_from section.now.at (items_left section.now.walker)) count result }
+    ensures { SectionJudged (subject facts.now) (at_border began.now)
+        (part_from section.now.at (items_left section.now.walker)) count result }
 {
     let mut walker = section.walker;
     let mut outputs = facts.outputs_at(began.next, began.from);
@@ -247,7 +258,8 @@ pub(crate) fn judged_from<'a>(
     requires next { began.next ≤ 2 ^ 32 }
     requires group { began.group ≤ section.now.group }
     requires begins { GroupBegins (drop count (part_from section.now.at (items_left section.now.walker))) }
-    ensures judged { IfOk result (IsJudged (subject facts.now) (part_from section.now.at (items_left section.now.walker))) }
+    ensures judged { IfOk result
+        (IsJudged (subject facts.now) (part_from section.now.at (items_left section.now.walker))) }
     ensures began { IfOk result (λ j. at_border j.began ≡ at_border began.entry) }
     ensures count { IfOk result (λ j. j.count ≡ count) }
 {

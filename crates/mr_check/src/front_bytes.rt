@@ -54,7 +54,8 @@ pub(crate) fn take_skips_of(
     many: u32,
 ) -> Result<Vec<RecordName>, No>
     requires { IsTrue (skips_in_front many (items_left walker.old)) }
-    ensures listed { let told = listed (records_of plan.now) (halt walker.old) many [] (items_left walker.old) in MatchResult result
+    ensures listed { let told = listed (records_of plan.now) (halt walker.old) many []
+        (items_left walker.old) in MatchResult result
         (λ v. told ≡ Ok (record { skips = v.items; behind = items_left walker.new }))
         (λ e. (e ≡ OutOfMemory) ⊎ (told ≡ Err e)) }
     ensures stop { OnOk result (halt walker.new ≡ halt walker.old) }

@@ -1,5 +1,6 @@
 //! Where the partitions of a certificate begin, and their sections.
-ghost use Rattle.std.specs.Prelude.{◌≡◌, ◌<◌, ◌≤◌, ◌+◌, ◌-◌, ◌^◌, ◌++◌, ◌∷◌, [], ℕ, List, All, IfOk, OnOk, true, false, length};
+ghost use Rattle.std.specs.Prelude.{◌≡◌, ◌<◌, ◌≤◌, ◌+◌, ◌-◌, ◌^◌, ◌++◌, ◌∷◌, [], ℕ, List, All};
+ghost use Rattle.std.specs.Prelude.{IfOk, OnOk, true, false, length};
 ghost use Rattle.mr_certform.specs.declared.item.Item.{Item as Read};
 ghost use Rattle.mr_certform.specs.declared.item.Item.TheVariants.{Groups, Entries};
 ghost use Rattle.mr_certform.specs.Spelling.{is_ended};
@@ -64,7 +65,8 @@ impl Reach {
 
     /// So many entries were passed.
     fn skip_entries(&mut self, passed: u64)
-        requires { (self.old.items + passed < 2 ^ 64) × (self.old.entries ≤ self.old.items) × (self.old.fresh ≤ self.old.items) }
+        requires { (self.old.items + passed < 2 ^ 64) × (self.old.entries ≤ self.old.items)
+            × (self.old.fresh ≤ self.old.items) }
         ensures { self.new
             ≡ record self.old { items = self.old.items + passed; entries = self.old.entries + passed; fresh = self.old.fresh + passed } }
     {
@@ -136,8 +138,10 @@ fn open_section<'a>(
 ) -> Result<(), AllocError>
     requires few { length (items_left walker) ≤ 2 ^ 63 }
     requires opened { (1 ≤ length list.now) × (part_at list.now (length list.now - 1) ≡ part_here (items_left walker)) }
-    ensures sections { OnOk result (All (IsSection list.now) sections.old.items → All (IsSection list.now) sections.new.items) }
-    ensures walked { OnOk result ((n : _) (js : List Read) → items_left walker.entry ≡ Groups n ∷ js → HasWalked list.now reach.new js) }
+    ensures sections { OnOk result (All (IsSection list.now) sections.old.items
+        → All (IsSection list.now) sections.new.items) }
+    ensures walked { OnOk result ((n : _) (js : List Read)
+        → items_left walker.entry ≡ Groups n ∷ js → HasWalked list.now reach.new js) }
     ensures count { OnOk result (length sections.new.items ≡ length sections.old.items + 1) }
 {
     *reach = Reach::before(groups);
@@ -159,7 +163,8 @@ fn next_section<'a>(
     requires more { 1 ≤ length (items_left walker) }
     ensures sections { OnOk result ((n : _) (js : List Read) → items_left walker.entry ≡ Entries n ∷ js
         → All (IsSection list.now) sections.old.items → All (IsSection list.now) sections.new.items) }
-    ensures walked { OnOk result ((n : _) (js : List Read) → items_left walker.entry ≡ Entries n ∷ js → HasWalked list.now reach.new js) }
+    ensures walked { OnOk result ((n : _) (js : List Read)
+        → items_left walker.entry ≡ Entries n ∷ js → HasWalked list.now reach.new js) }
     ensures count { OnOk result (length sections.new.items ≡ length sections.old.items + 1) }
 {
     sections.push(section_at(list.len(), walker, reach))?;
@@ -179,13 +184,16 @@ fn keep_section<'a>(
 ) -> Result<(), AllocError>
     requires few { length (items_left walker) ≤ 2 ^ 63 }
     requires more { 1 ≤ length (items_left walker) }
-    requires opened { opens item ≡ true → (1 ≤ length list.now) × (part_at list.now (length list.now - 1) ≡ part_here (items_left walker)) }
+    requires opened { opens item ≡ true → (1 ≤ length list.now)
+        × (part_at list.now (length list.now - 1) ≡ part_here (items_left walker)) }
     requires walked { opens item ≡ false → HasWalked list.now reach.old (items_left walker) }
     ensures sections { OnOk result ((js : List Read) → items_left walker.entry ≡ item ∷ js
         → All (IsSection list.now) sections.old.items → All (IsSection list.now) sections.new.items) }
-    ensures walked { OnOk result ((js : List Read) → closes item ≡ false → items_left walker.entry ≡ item ∷ js → HasWalked list.now reach.new js) }
+    ensures walked { OnOk result ((js : List Read) → closes item ≡ false
+        → items_left walker.entry ≡ item ∷ js → HasWalked list.now reach.new js) }
     ensures one { OnOk result (length sections.new.items ≤ length sections.old.items + 1) }
-    ensures count { OnOk result (opens item ≡ false → (k : ℕ) → length sections.old.items ≤ 2 ^ 20 + k → length sections.new.items ≤ 2 ^ 20 + k) }
+    ensures count { OnOk result (opens item ≡ false → (k : ℕ)
+        → length sections.old.items ≤ 2 ^ 20 + k → length sections.new.items ≤ 2 ^ 20 + k) }
 {
     match item {
         Item::Groups(groups) => open_section(list, sections, walker, groups, reach),

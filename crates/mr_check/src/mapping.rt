@@ -1,5 +1,6 @@
 //! What a job emits over the splits of a plan, mapped by threads.
-ghost use Rattle.std.specs.Prelude.{◌≡◌, ◌<◌, ◌≤◌, ◌+◌, ◌*◌, ◌^◌, ℕ, [], IfOk, length, slice_index_or};
+ghost use Rattle.std.specs.Prelude.{◌≡◌, ◌<◌, ◌≤◌, ◌+◌, ◌*◌, ◌^◌, ℕ, [], IfOk, length};
+ghost use Rattle.std.specs.Prelude.{slice_index_or};
 ghost use Rattle.mr_input.specs.Files.{split_total};
 ghost use Rattle.mr_index.specs.Index.{triples_in, triples_of};
 
@@ -179,7 +180,8 @@ fn map_divided<R: Threads + Sync, G: Gate, W: Progress>(
     requires split { split < split_total source.now.plan.now.size source.now.plan.now.files }
     requires some { 1 ≤ shares.pieces }
     requires room { first_piece + shares.pieces < 2 ^ 32 }
-    ensures { IfOk result (λ p. p ≡ triples_in split (triples_of source.now.job.now source.now.plan.now source.now.skips.now)) }
+    ensures { IfOk result (λ p. p ≡ triples_in split
+        (triples_of source.now.job.now source.now.plan.now source.now.skips.now)) }
 {
     let Shares { pieces, all, .. } = shares;
     let Source { plan, job, skips } = *source;

@@ -1,5 +1,6 @@
 //! The sections of all partitions, judged each by itself, and put together.
-ghost use Rattle.std.specs.Prelude.{◌≡◌, ◌<◌, ◌≤◌, ◌+◌, ◌^◌, ℕ, List, All, IfOk, length, drop, slice_index_or};
+ghost use Rattle.std.specs.Prelude.{◌≡◌, ◌<◌, ◌≤◌, ◌+◌, ◌^◌, ℕ, List, All, IfOk, length, drop};
+ghost use Rattle.std.specs.Prelude.{slice_index_or};
 ghost use Rattle.mr_verdict.specs.VerdictLaws.{part_fault, least_fault};
 ghost use Rattle.mr_verdict.specs.Steps.{subject};
 ghost use Rattle.mr_check.specs.declared.front.Front.{Front as Begun};

@@ -1,5 +1,6 @@
 //! The judge on many threads.
-ghost use Rattle.std.specs.Prelude.{◌≡◌, ◌⊎◌, ◌<◌, ◌≤◌, ◌+◌, ◌^◌, IfOk, IfErr, IfSome, MatchResult, None, Some, length};
+ghost use Rattle.std.specs.Prelude.{◌≡◌, ◌⊎◌, ◌<◌, ◌≤◌, ◌+◌, ◌^◌, IfOk, IfErr, IfSome, MatchResult};
+ghost use Rattle.std.specs.Prelude.{None, Some, length};
 ghost use Rattle.mr_input.specs.Files.{contents, split_total};
 ghost use Rattle.mr_certform.specs.declared.grammar_state.GrammarState.TheVariants.{AtSkips};
 ghost use Rattle.mr_certform.specs.Grammar.{InOrder};
@@ -193,10 +194,12 @@ pub fn check_threads<R: Threads + Sync>(
 ) -> Result<Yes, No>
     requires fits { split_total request.now.split input.now ≤ 2 ^ 20 }
     requires threads { (1 ≤ threads) × (threads ≤ 64) }
-    ensures headline { IfOk result (λ y. IsCertified request.now input.now (contents outputs.now) certificate.now y.skips.items y.pairs) }
+    ensures headline { IfOk result (λ y. IsCertified request.now input.now
+        (contents outputs.now) certificate.now y.skips.items y.pairs) }
     ensures yes { IfOk result
         (λ y. verdict_of request.now input.now (contents outputs.now) certificate.now ≡ Ok (accepted_of y)) }
-    ensures no { IfErr result (λ e. (e ≡ OutOfMemory) ⊎ (verdict_of request.now input.now (contents outputs.now) certificate.now ≡ Err e)) }
+    ensures no { IfErr result (λ e. (e ≡ OutOfMemory)
+        ⊎ (verdict_of request.now input.now (contents outputs.now) certificate.now ≡ Err e)) }
 {
     let case = Case {
         request,
@@ -222,10 +225,12 @@ pub fn check_gated<R: Threads + Sync, G: Gate>(
 ) -> Result<Yes, No>
     requires fits { split_total request.now.split input.now ≤ 2 ^ 20 }
     requires threads { (1 ≤ threads) × (threads ≤ 64) }
-    ensures headline { IfOk result (λ y. IsCertified request.now input.now (contents outputs.now) certificate.now y.skips.items y.pairs) }
+    ensures headline { IfOk result (λ y. IsCertified request.now input.now
+        (contents outputs.now) certificate.now y.skips.items y.pairs) }
     ensures yes { IfOk result
         (λ y. verdict_of request.now input.now (contents outputs.now) certificate.now ≡ Ok (accepted_of y)) }
-    ensures no { IfErr result (λ e. (e ≡ OutOfMemory) ⊎ (verdict_of request.now input.now (contents outputs.now) certificate.now ≡ Err e)) }
+    ensures no { IfErr result (λ e. (e ≡ OutOfMemory)
+        ⊎ (verdict_of request.now input.now (contents outputs.now) certificate.now ≡ Err e)) }
 {
     let case = Case {
         request,

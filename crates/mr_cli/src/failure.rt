@@ -3,7 +3,8 @@
 ghost use Rattle.std.specs.Prelude.{◌≡◌, ◌↔◌, IsTrue, ◌<◌, ◌++◌, IfOk, OnOk};
 ghost use Rattle.std.specs.IoError.{error_kind};
 ghost use Rattle.mr_cli.specs.Statuses.{IsHelp, IsStatus, TellsWords};
-ghost use Rattle.mr_cli.specs.Shown.{byte_shown, hex_digit as digit_of, is_obeyed as obeys, number_shown, text_shown};
+ghost use Rattle.mr_cli.specs.Shown.{byte_shown, hex_digit as digit_of, is_obeyed as obeys};
+ghost use Rattle.mr_cli.specs.Shown.{number_shown, text_shown};
 
 use mr_args::Fault;
 use std::alloc::{AllocError, Global};

@@ -1,5 +1,6 @@
 //! What each command does, over a store of files.
-ghost use Rattle.std.specs.Prelude.{◌≡◌, ℕ, ◌≤◌, ◌^◌, List, IfOk, IfErr, OnOk, length, string_bytes};
+ghost use Rattle.std.specs.Prelude.{◌≡◌, ℕ, ◌≤◌, ◌^◌, List, IfOk, IfErr, OnOk, length};
+ghost use Rattle.std.specs.Prelude.{string_bytes};
 ghost use Rattle.mr_bytes.specs.declared.RecordName.{RecordName};
 ghost use Rattle.mr_input.specs.Files.{contents, split_total};
 ghost use Rattle.mr_sequential.specs.Emitted.{emitted};
@@ -7,7 +8,8 @@ ghost use Rattle.mr_commands.specs.Outcomes.{IsSequentialResult, done_line};
 ghost use Rattle.mr_certform.specs.declared.version.Version.{Version};
 ghost use Rattle.mr_certform.specs.Value.{CanSpell, SpellsIn};
 ghost use Rattle.std.specs.List.{AllByRecursion};
-ghost use Rattle.mr_commands.specs.Answers.{AnswersSeq, IsRunRefusal, IsSeqRefusal, IsWorkRefusal, WorksOut};
+ghost use Rattle.mr_commands.specs.Answers.{AnswersSeq, IsRunRefusal, IsSeqRefusal, IsWorkRefusal};
+ghost use Rattle.mr_commands.specs.Answers.{WorksOut};
 ghost use Rattle.mr_commands.specs.Commands.{Answers, ChangesOwn, IsRefusal};
 ghost use Rattle.mr_files.specs.Holding.{ChangesAmong};
 ghost use Rattle.mr_files.specs.Identities.{AreApart};
@@ -76,9 +78,12 @@ fn input_apart<S: Store>(
     request: &Request,
     options: &Options<'_>,
 ) -> Result<Input, Fault>
-    ensures input { IfOk result (λ input. IsInput (S.holds store.now) (input_names options.now) request.now.split input) }
-    ensures apart { OnOk result (AreApart (S.known_as store.now) (input_names options.now) (result_names options.now.out.now options.now.parts)) }
-    ensures refused { IfErr result (λ e. IsInputRefusal (S.holds store.now) (S.unreadable store.now) (S.known_as store.now) (input_names options.now)
+    ensures input { IfOk result
+        (λ input. IsInput (S.holds store.now) (input_names options.now) request.now.split input) }
+    ensures apart { OnOk result (AreApart (S.known_as store.now) (input_names options.now)
+        (result_names options.now.out.now options.now.parts)) }
+    ensures refused { IfErr result (λ e. IsInputRefusal (S.holds store.now)
+        (S.unreadable store.now) (S.known_as store.now) (input_names options.now)
         (input_names options.now) (result_names options.now.out.now options.now.parts) request.now.split e) }
 {
     let besides = Vec::new(alloc);
@@ -97,7 +102,8 @@ fn worked_out<S: Store>(
     ensures work { IfOk result (λ w. (bytes : List ℕ) → SpellsIn asked.now.version bytes w.certificate
         → WorksOut (S.holds store.now) (S.known_as store.now) asked.now (contents w.outputs.items) bytes (string_bytes w.line)) }
     ensures can { IfOk result (λ w. AllByRecursion (CanSpell asked.now.version) w.certificate.groups) }
-    ensures refused { IfErr result (λ e. IsWorkRefusal (S.holds store.now) (S.unreadable store.now) (S.known_as store.now) asked.now e) }
+    ensures refused { IfErr result (λ e. IsWorkRefusal (S.holds store.now)
+        (S.unreadable store.now) (S.known_as store.now) asked.now e) }
 {
     let request = request_of(alloc, &asked.options)?;
     let skips = skips_of(alloc, asked.skips)?;
@@ -124,9 +130,12 @@ pub fn seq<S: Store>(
     watch: &dyn Progress,
 ) -> Result<CommandOutput, Fault>
     ensures status { IfOk result (λ said. said.status ≡ 0) }
-    ensures done { IfOk result (λ said. AnswersSeq (S.holds store.old) (S.holds store.new) (S.known_as store.old) asked.now (string_bytes said.text)) }
-    ensures others { ChangesAmong (S.holds store.old) (S.holds store.new) (result_names asked.now.options.out.now asked.now.options.parts) }
-    ensures refused { IfErr result (λ e. IsSeqRefusal (S.holds store.old) (S.holds store.new) (S.unreadable store.old) (S.unwritable store.old)
+    ensures done { IfOk result (λ said. AnswersSeq (S.holds store.old) (S.holds store.new)
+        (S.known_as store.old) asked.now (string_bytes said.text)) }
+    ensures others { ChangesAmong (S.holds store.old) (S.holds store.new)
+        (result_names asked.now.options.out.now asked.now.options.parts) }
+    ensures refused { IfErr result (λ e. IsSeqRefusal (S.holds store.old) (S.holds store.new)
+        (S.unreadable store.old) (S.unwritable store.old)
         (S.known_as store.old) asked.now e) }
 {
     let work = worked_out(store, alloc, asked, watch)?;
@@ -154,9 +163,11 @@ pub fn execute<S: Store, C: Scratch, R: Threads + Wait + Sync>(
     asked: &Subcommand<'_>,
     watch: &dyn Progress,
 ) -> Result<CommandOutput, Fault>
-    ensures answers { IfOk result (λ said. Answers (S.holds store.old) (S.holds store.new) (S.known_as store.old) asked.now (string_bytes said.text) said.status) }
+    ensures answers { IfOk result (λ said. Answers (S.holds store.old) (S.holds store.new)
+        (S.known_as store.old) asked.now (string_bytes said.text) said.status) }
     ensures others { ChangesOwn (S.holds store.old) (S.holds store.new) asked.now }
-    ensures refused { IfErr result (λ e. IsRefusal (S.holds store.old) (S.holds store.new) (S.unreadable store.old) (S.unwritable store.old)
+    ensures refused { IfErr result (λ e. IsRefusal (S.holds store.old) (S.holds store.new)
+        (S.unreadable store.old) (S.unwritable store.old)
         (S.alike store.old) (S.known_as store.old) asked.now e) }
 {
     match asked {

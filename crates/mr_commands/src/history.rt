@@ -1,6 +1,8 @@
 //! The history of a run, as text.
 ghost use Rattle.std.specs.Prelude.{◌≡◌, ◌++◌, IfOk, OnOk, string_bytes};
-ghost use Rattle.mr_commands.specs.HistoryLines.{end_text, entry_line, event_text, fault_name, history_text, map_text, reply_text, shape_line, without_text};
+ghost use Rattle.mr_commands.specs.HistoryLines.{end_text, entry_line, event_text, fault_name};
+ghost use Rattle.mr_commands.specs.HistoryLines.{history_text, map_text, reply_text, shape_line};
+ghost use Rattle.mr_commands.specs.HistoryLines.{without_text};
 
 use mr_book::{History, HistoryEntry};
 use mr_core::{End, Event, JobFault, Reply, Shape, Skips};

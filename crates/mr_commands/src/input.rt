@@ -1,7 +1,9 @@
 //! The input of a request, apart from what is written.
-ghost use Rattle.std.specs.Prelude.{◌≡◌, ◌++◌, ◌<◌, ◌≤◌, map, IfOk, IfErr, OnOk, option_map, string_bytes};
+ghost use Rattle.std.specs.Prelude.{◌≡◌, ◌++◌, ◌<◌, ◌≤◌, map, IfOk, IfErr, OnOk, option_map};
+ghost use Rattle.std.specs.Prelude.{string_bytes};
 ghost use Rattle.mr_files.specs.Identities.{AreApart};
-ghost use Rattle.mr_commands.specs.Inputs.{AreRead, IsClash, IsInput, IsInputRefusal, IsUnreadInput};
+ghost use Rattle.mr_commands.specs.Inputs.{AreRead, IsClash, IsInput, IsInputRefusal};
+ghost use Rattle.mr_commands.specs.Inputs.{IsUnreadInput};
 ghost use Rattle.mr_commands.specs.Named.{named};
 
 use mr_args::Fault;
@@ -14,7 +16,8 @@ use std::alloc::{AllocError, Global};
 /// of their bytes, which is told before a later file; then their number is tested.
 fn input_read<S: Store>(store: &S, alloc: Global, names: &[&str]) -> Result<Input, Fault>
     ensures read { IfOk result (λ input. AreRead (S.holds store.now) (map (λ s. s.now) names.now) input) }
-    ensures refused { IfErr result (λ e. IsUnreadInput (S.holds store.now) (S.unreadable store.now) (map (λ s. s.now) names.now) e) }
+    ensures refused { IfErr result (λ e. IsUnreadInput (S.holds store.now)
+        (S.unreadable store.now) (map (λ s. s.now) names.now) e) }
 {
     let files = match read_files_within(store, alloc, names, MAX_BYTES as u64) {
         Ok(files) => files,
@@ -46,8 +49,11 @@ fn expect_apart<S: Store>(
     besides: Vec<String>,
     written: &[String],
 ) -> Result<(), Fault>
-    ensures apart { OnOk result (AreApart (S.known_as store.now) (map string_bytes besides.items ++ map (λ s. s.now) names.now) (map string_bytes written.now)) }
-    ensures refused { IfErr result (λ e. IsClash (S.known_as store.now) (map string_bytes besides.items ++ map (λ s. s.now) names.now) (map string_bytes written.now) e) }
+    ensures apart { OnOk result (AreApart (S.known_as store.now) (map string_bytes besides.items
+        ++ map (λ s. s.now) names.now) (map string_bytes written.now)) }
+    ensures refused { IfErr result
+        (λ e. IsClash (S.known_as store.now) (map string_bytes besides.items ++ map
+        (λ s. s.now) names.now) (map string_bytes written.now) e) }
 {
     let mut read = besides;
     add_names(alloc, &mut read, names)?;
@@ -67,9 +73,12 @@ pub fn input_of<S: Store>(
     besides: Vec<String>,
     written: &[String],
 ) -> Result<Input, Fault>
-    ensures input { IfOk result (λ input. IsInput (S.holds store.now) (map (λ s. s.now) names.now) request.now.split input) }
-    ensures apart { OnOk result (AreApart (S.known_as store.now) (map string_bytes besides.items ++ map (λ s. s.now) names.now) (map string_bytes written.now)) }
-    ensures refused { IfErr result (λ e. IsInputRefusal (S.holds store.now) (S.unreadable store.now) (S.known_as store.now) (map (λ s. s.now) names.now)
+    ensures input { IfOk result (λ input. IsInput (S.holds store.now) (map
+        (λ s. s.now) names.now) request.now.split input) }
+    ensures apart { OnOk result (AreApart (S.known_as store.now) (map string_bytes besides.items
+        ++ map (λ s. s.now) names.now) (map string_bytes written.now)) }
+    ensures refused { IfErr result (λ e. IsInputRefusal (S.holds store.now)
+        (S.unreadable store.now) (S.known_as store.now) (map (λ s. s.now) names.now)
         (map string_bytes besides.items ++ map (λ s. s.now) names.now) (map string_bytes written.now) request.now.split e) }
 {
     let input = input_read(store, alloc, names)?;

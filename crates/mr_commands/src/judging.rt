@@ -34,7 +34,8 @@ const _: () = prove!(MAX_THREADS == 64);
 
 /// The number of the first name that holds a line feed.
 fn first_line_end(names: &[&str]) -> Option<usize>
-    ensures { MatchOption result ((k : ℕ) → k < length names.now → ¬ Contains (slice_index_or (map (λ s. s.now) names.now) k []) 10)
+    ensures { MatchOption result ((k : ℕ) → k < length names.now
+        → ¬ Contains (slice_index_or (map (λ s. s.now) names.now) k []) 10)
         (IsFirstLineEnd (map (λ s. s.now) names.now)) }
 {
     for (at, name) in names.iter().enumerate() {
@@ -106,9 +107,12 @@ fn input_apart<S: Store>(
     request: &Request,
     asked: &CheckOptions<'_>,
 ) -> Result<Input, Fault>
-    ensures input { IfOk result (λ input. IsInput (S.holds store.now) (input_names asked.now.options) request.now.split input) }
-    ensures apart { OnOk result (AreApart (S.known_as store.now) (read_by_check asked.now) (written_by_check asked.now)) }
-    ensures refused { IfErr result (λ e. IsInputRefusal (S.holds store.now) (S.unreadable store.now) (S.known_as store.now) (input_names asked.now.options)
+    ensures input { IfOk result (λ input. IsInput (S.holds store.now)
+        (input_names asked.now.options) request.now.split input) }
+    ensures apart { OnOk result
+        (AreApart (S.known_as store.now) (read_by_check asked.now) (written_by_check asked.now)) }
+    ensures refused { IfErr result (λ e. IsInputRefusal (S.holds store.now)
+        (S.unreadable store.now) (S.known_as store.now) (input_names asked.now.options)
         (read_by_check asked.now) (written_by_check asked.now) request.now.split e) }
 {
     let options = &asked.options;
@@ -149,8 +153,10 @@ fn keep<S: Store>(
     name: Option<&str>,
     text: Option<Vec<u8>>,
 ) -> Result<(), FileFault>
-    ensures kept { OnOk result (IsKeptUnder (S.holds store.new) (option_map (λ n. n.now) name.entry) (option_map (λ t. t.items) text)) }
-    ensures others { ChangesAmong (S.holds store.old) (S.holds store.new) (names_kept (option_map (λ n. n.now) name.entry) (option_map (λ t. t.items) text)) }
+    ensures kept { OnOk result (IsKeptUnder (S.holds store.new) (option_map
+        (λ n. n.now) name.entry) (option_map (λ t. t.items) text)) }
+    ensures others { ChangesAmong (S.holds store.old) (S.holds store.new)
+        (names_kept (option_map (λ n. n.now) name.entry) (option_map (λ t. t.items) text)) }
     ensures refused { IfErr result (λ e. IsTextRefused (S.holds store.old) (S.holds store.new) (S.unwritable store.old)
         (option_map (λ n. n.now) name.entry) (option_map (λ t. t.items) text) e) }
 {
@@ -173,9 +179,11 @@ pub fn check<S: Store, R: Threads + Sync>(
     asked: &CheckOptions<'_>,
     watch: &dyn Progress,
 ) -> Result<CommandOutput, Fault>
-    ensures answer { IfOk result (λ said. KeepsVerdict (S.holds store.old) (S.holds store.new) (S.known_as store.old) asked.now (string_bytes said.text) said.status) }
+    ensures answer { IfOk result (λ said. KeepsVerdict (S.holds store.old) (S.holds store.new)
+        (S.known_as store.old) asked.now (string_bytes said.text) said.status) }
     ensures others { ChangesAmong (S.holds store.old) (S.holds store.new) (written_by_check asked.now) }
-    ensures refused { IfErr result (λ e. IsCheckUnanswered (S.holds store.old) (S.holds store.new) (S.unreadable store.old) (S.unwritable store.old)
+    ensures refused { IfErr result (λ e. IsCheckUnanswered (S.holds store.old)
+        (S.holds store.new) (S.unreadable store.old) (S.unwritable store.old)
         (S.known_as store.old) asked.now e) }
 {
     let Judgement { said, verdict } = judge_asked(rt, store, alloc, asked, watch)?;

@@ -1,7 +1,9 @@
 //! The merge of shards.
-ghost use Rattle.std.specs.Prelude.{◌≡◌, ◌+◌, ◌≤◌, ◌++◌, [], IfErr, IfOk, length, string_bytes, string_capacity, string_len};
+ghost use Rattle.std.specs.Prelude.{◌≡◌, ◌+◌, ◌≤◌, ◌++◌, [], IfErr, IfOk, length, string_bytes};
+ghost use Rattle.std.specs.Prelude.{string_capacity, string_len};
 ghost use Rattle.mr_shard_files.specs.Merging.{ChangesResult};
-ghost use Rattle.mr_commands.specs.Merges.{AnswersMerge, IsMergeUnanswered, merged_line as line_of_merged};
+ghost use Rattle.mr_commands.specs.Merges.{AnswersMerge, IsMergeUnanswered};
+ghost use Rattle.mr_commands.specs.Merges.{merged_line as line_of_merged};
 
 use crate::said::CommandOutput;
 use itoa::Buffer;
@@ -55,9 +57,11 @@ pub fn merge<S: Store, T: Threads>(
     asked: &MergeOptions<'_>,
 ) -> Result<CommandOutput, Fault>
     ensures status { IfOk result (λ said. said.status ≡ 0) }
-    ensures done { IfOk result (λ said. AnswersMerge (S.holds store.old) (S.holds store.new) (S.known_as store.old) asked.now (string_bytes said.text)) }
+    ensures done { IfOk result (λ said. AnswersMerge (S.holds store.old) (S.holds store.new)
+        (S.known_as store.old) asked.now (string_bytes said.text)) }
     ensures others { ChangesResult (S.holds store.old) (S.holds store.new) asked.now.out.now }
-    ensures refused { IfErr result (λ e. IsMergeUnanswered (S.holds store.old) (S.holds store.new) (S.unreadable store.old) (S.unwritable store.old)
+    ensures refused { IfErr result (λ e. IsMergeUnanswered (S.holds store.old)
+        (S.holds store.new) (S.unreadable store.old) (S.unwritable store.old)
         (S.alike store.old) (S.known_as store.old) asked.now e) }
 {
     let room = String::with_capacity(alloc, LINE_ROOM)?;

@@ -1,11 +1,16 @@
 //! A run by workers: what it is of, how it ended, and what it leaves.
-ghost use Rattle.std.specs.Prelude.{◌≡◌, ℕ, ◌++◌, Some, List, IfOk, IfErr, IfSome, IsTrue, OnOk, map, option_map, string_bytes};
+ghost use Rattle.std.specs.Prelude.{◌≡◌, ℕ, ◌++◌, Some, List, IfOk, IfErr, IfSome, IsTrue, OnOk};
+ghost use Rattle.std.specs.Prelude.{map, option_map, string_bytes};
 ghost use Rattle.mr_files.specs.Holding.{Begins, ChangesAmong};
 ghost use Rattle.mr_files.specs.Identities.{AreApart};
 ghost use Rattle.mr_files.specs.Refusals.{IsOneUnwritten};
 ghost use Rattle.mr_pool.specs.Outcomes.{IsRunnable};
-ghost use Rattle.mr_commands.specs.Runs.{AnswersRun, AreGoodAttempts, AreGoodWorkers, EndsOver, IsBadScript, IsCrewRefusal, IsEnding, IsHistoryKept, IsResultKept, IsResultRefused, IsScratchClash, IsScratchRefusal, StandsIn, scratch_name};
-ghost use Rattle.mr_commands.specs.Runs.{IsStartRefusal, IsRunUnanswered, IsScript, IsScriptRefusal, Runs, TellsRan, history_of as history_in};
+ghost use Rattle.mr_commands.specs.Runs.{AnswersRun, AreGoodAttempts, AreGoodWorkers, EndsOver};
+ghost use Rattle.mr_commands.specs.Runs.{IsBadScript, IsCrewRefusal, IsEnding, IsHistoryKept};
+ghost use Rattle.mr_commands.specs.Runs.{IsResultKept, IsResultRefused, IsScratchClash};
+ghost use Rattle.mr_commands.specs.Runs.{IsScratchRefusal, StandsIn, scratch_name};
+ghost use Rattle.mr_commands.specs.Runs.{IsStartRefusal, IsRunUnanswered, IsScript};
+ghost use Rattle.mr_commands.specs.Runs.{IsScriptRefusal, Runs, TellsRan, history_of as history_in};
 ghost use Rattle.mr_commands.specs.Inputs.{IsInput, IsInputRefusal};
 ghost use Rattle.mr_commands.specs.Named.{input_names, named};
 ghost use Rattle.mr_commands.specs.HistoryLines.{history_text};
@@ -78,7 +83,8 @@ fn script_in(alloc: Global, bytes: &[u8]) -> Result<Script, Fault>
 /// The script of that name; without a name nothing shall go wrong.
 fn script_of<S: Store>(store: &S, alloc: Global, name: Option<&str>) -> Result<Script, Fault>
     ensures script { IfOk result (λ s. IsScript (S.holds store.now) (option_map (λ n. n.now) name.entry) s) }
-    ensures refused { IfErr result (λ e. IsScriptRefusal (S.holds store.now) (S.unreadable store.now) (option_map (λ n. n.now) name.entry) e) }
+    ensures refused { IfErr result (λ e. IsScriptRefusal (S.holds store.now)
+        (S.unreadable store.now) (option_map (λ n. n.now) name.entry) e) }
 {
     match name {
         Some(name) => {
@@ -98,7 +104,8 @@ fn ended_over<S: RegionStore + Drop, R: Threads + Wait + Sync>(
     watch: &dyn Progress,
 ) -> Result<RunOutcome, Fault>
     requires runnable { IsRunnable spec.request.now spec.input.now spec.shape }
-    ensures ends { IfOk result (λ ran. IsEnding spec.entry.request.now spec.entry.input.now spec.entry.script.now S.steady
+    ensures ends { IfOk result
+        (λ ran. IsEnding spec.entry.request.now spec.entry.input.now spec.entry.script.now S.steady
         spec.entry.shape spec.entry.version ran) }
     ensures memory { IfErr result (λ e. e ≡ Fault.OutOfMemory) }
 {
@@ -128,9 +135,11 @@ fn input_apart<S: Store>(
     request: &Request,
     asked: &RunOptions<'_>,
 ) -> Result<Input, Fault>
-    ensures input { IfOk result (λ input. IsInput (S.holds store.now) (input_names asked.now.options) request.now.split input) }
+    ensures input { IfOk result (λ input. IsInput (S.holds store.now)
+        (input_names asked.now.options) request.now.split input) }
     ensures apart { OnOk result (AreApart (S.known_as store.now) (read_by_run asked.now) (written_by_run asked.now)) }
-    ensures refused { IfErr result (λ e. IsInputRefusal (S.holds store.now) (S.unreadable store.now) (S.known_as store.now) (input_names asked.now.options)
+    ensures refused { IfErr result (λ e. IsInputRefusal (S.holds store.now)
+        (S.unreadable store.now) (S.known_as store.now) (input_names asked.now.options)
         (read_by_run asked.now) (written_by_run asked.now) request.now.split e) }
 {
     let besides = name_given(alloc, asked.script)?;
@@ -189,7 +198,8 @@ fn expect_scratch_apart<S: Store>(
     alloc: Global,
     asked: &RunOptions<'_>,
 ) -> Result<(), Fault>
-    ensures { IfErr result (λ e. IsScratchClash (S.alike store.now) (read_by_run asked.now ++ written_by_run asked.now) (scratch_name asked.now) e) }
+    ensures { IfErr result (λ e. IsScratchClash (S.alike store.now) (read_by_run asked.now
+        ++ written_by_run asked.now) (scratch_name asked.now) e) }
 {
     let Some(dir) = asked.scratch else {
         return Ok(());
@@ -208,7 +218,8 @@ fn ended<C: Scratch, R: Threads + Wait + Sync>(
     watch: &dyn Progress,
 ) -> Result<RunOutcome, Fault>
     requires runnable { IsRunnable spec.request.now spec.input.now spec.shape }
-    ensures ends { IfOk result (λ ran. EndsOver (option_map (λ d. d.now) dir.entry) spec.entry.request.now spec.entry.input.now
+    ensures ends { IfOk result (λ ran. EndsOver (option_map
+        (λ d. d.now) dir.entry) spec.entry.request.now spec.entry.input.now
         spec.entry.script.now spec.entry.shape spec.entry.version ran) }
     ensures refused { IfErr result (λ e. IsScratchRefusal (option_map (λ d. d.now) dir.entry) e) }
 {
@@ -239,7 +250,8 @@ fn executed<S: Store, C: Scratch, R: Threads + Wait + Sync>(
     watch: &dyn Progress,
 ) -> Result<RunOutcome, Fault>
     ensures runs { IfOk result (λ ran. Runs (S.holds store.now) (S.known_as store.now) asked.now ran) }
-    ensures refused { IfErr result (λ e. IsStartRefusal (S.holds store.now) (S.unreadable store.now) (S.alike store.now) (S.known_as store.now) asked.now e) }
+    ensures refused { IfErr result (λ e. IsStartRefusal (S.holds store.now)
+        (S.unreadable store.now) (S.alike store.now) (S.known_as store.now) asked.now e) }
 {
     let request = request_of(alloc, &asked.options)?;
     expect_crew(asked)?;
@@ -292,8 +304,10 @@ fn keep_history<S: Store>(
 ) -> Result<(), FileFault>
     ensures kept { OnOk result (IsHistoryKept (S.holds store.new) (option_map (λ n. n.now) name.entry) history.now) }
     ensures others { ChangesAmong (S.holds store.old) (S.holds store.new) (named (option_map (λ n. n.now) name.entry)) }
-    ensures begins { IfSome (option_map (λ n. n.now) name.entry) (λ own. Begins (S.holds store.old) (S.holds store.new) own (history_text history.now)) }
-    ensures refused { IfErr result (λ e. IsOneUnwritten (S.unwritable store.old) (named (option_map (λ n. n.now) name.entry)) e) }
+    ensures begins { IfSome (option_map (λ n. n.now) name.entry)
+        (λ own. Begins (S.holds store.old) (S.holds store.new) own (history_text history.now)) }
+    ensures refused { IfErr result (λ e. IsOneUnwritten (S.unwritable store.old)
+        (named (option_map (λ n. n.now) name.entry)) e) }
     ensures still { (n : List ℕ) → S.unwritable store.new n → S.unwritable store.old n }
 {
     let Some(name) = name else {
@@ -320,7 +334,8 @@ fn keep_result<S: Store, R: Threads>(
 ) -> Result<(), FileFault>
     ensures kept { OnOk result (IsResultKept (S.holds store.new) out.now ran) }
     ensures others { ChangesAmong (S.holds store.old) (S.holds store.new) (names_left out.now ran) }
-    ensures refused { IfErr result (λ e. IsResultRefused (S.holds store.old) (S.holds store.new) (S.unwritable store.old) out.now ran e) }
+    ensures refused { IfErr result (λ e. IsResultRefused (S.holds store.old)
+        (S.holds store.new) (S.unwritable store.old) out.now ran e) }
 {
     let RunOutcome::Certified(done) = ran else {
         return Ok(());
@@ -355,9 +370,11 @@ pub fn run<S: Store, C: Scratch, R: Threads + Wait + Sync>(
     asked: &RunOptions<'_>,
     watch: &dyn Progress,
 ) -> Result<CommandOutput, Fault>
-    ensures done { IfOk result (λ said. AnswersRun (S.holds store.old) (S.holds store.new) (S.known_as store.old) asked.now (string_bytes said.text) said.status) }
+    ensures done { IfOk result (λ said. AnswersRun (S.holds store.old) (S.holds store.new)
+        (S.known_as store.old) asked.now (string_bytes said.text) said.status) }
     ensures others { ChangesAmong (S.holds store.old) (S.holds store.new) (written_by_run asked.now) }
-    ensures refused { IfErr result (λ e. IsRunUnanswered (S.holds store.old) (S.holds store.new) (S.unreadable store.old)
+    ensures refused { IfErr result
+        (λ e. IsRunUnanswered (S.holds store.old) (S.holds store.new) (S.unreadable store.old)
         (S.unwritable store.old) (S.alike store.old) (S.known_as store.old) asked.now e) }
 {
     let ran = executed(rt, scratch, store, alloc, asked, watch)?;

@@ -4,7 +4,8 @@ ghost use Rattle.mr_commands.specs.Judgements.{IsSaid};
 ghost use Rattle.mr_commands.specs.YesLines.{left_out_line, yes_line, yes_text};
 ghost use Rattle.mr_commands.specs.Outcomes.{done_line};
 ghost use Rattle.mr_commands.specs.Runs.{certified_line, failed_line};
-ghost use Rattle.mr_commands.specs.NoLines.{fault_text as text_of_fault, place_text, no_line as line_of_no};
+ghost use Rattle.mr_commands.specs.NoLines.{fault_text as text_of_fault, place_text};
+ghost use Rattle.mr_commands.specs.NoLines.{no_line as line_of_no};
 
 use crate::history::fault_name;
 use mr_args::Fault;

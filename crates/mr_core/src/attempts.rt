@@ -1,10 +1,13 @@
 //! The attempts that a master has issued, with two indices: how many each task has had, and which one of each worker is
 //! live.
-ghost use Rattle.std.specs.Prelude.{◌≡◌, ℕ, ◌<◌, ◌^◌, true, false, Some, [], ◌∷◌, ◌++◌, ◌&&◌, ◌==◌, map, length, slice_get, MatchOption, OnOk, OnErr, IfOk, ◌+◌, ◌≤◌, replicate, Option, None};
+ghost use Rattle.std.specs.Prelude.{◌≡◌, ℕ, ◌<◌, ◌^◌, true, false, Some, [], ◌∷◌, ◌++◌, ◌&&◌, ◌==◌};
+ghost use Rattle.std.specs.Prelude.{map, length, slice_get, MatchOption, OnOk, OnErr, IfOk, ◌+◌};
+ghost use Rattle.std.specs.Prelude.{◌≤◌, replicate, Option, None};
 ghost use Rattle.std.specs.List.{list_any};
 ghost use Rattle.mr_core.specs.declared.event.Task.{Task};
 ghost use Rattle.mr_core.specs.Master.{Attempt, update_at, left_by};
-ghost use Rattle.mr_core.specs.Index.{counted, IsCurrent, IsBelow, count_of, change_count, begun, ended, no_count, or_none, entry};
+ghost use Rattle.mr_core.specs.Index.{counted, IsCurrent, IsBelow, count_of, change_count, begun};
+ghost use Rattle.mr_core.specs.Index.{ended, no_count, or_none, entry};
 
 use crate::entries::{Attempt, copies, put};
 use crate::event::Task;
@@ -65,9 +68,14 @@ impl Attempts {
 
     /// The worker's live attempt.
     pub(crate) fn current(&self, worker: usize) -> Option<u32>
-        ensures current { MatchOption result (list_any (λ a. (a.worker == worker) && a.live) self.now.items ≡ false) (λ a. IsCurrent self.now.items worker a) }
-        ensures only { (a : ℕ) (x : Attempt) → slice_get self.now.items a ≡ Some x → x.live ≡ true → x.worker ≡ worker → result ≡ Some a }
-        ensures left { MatchOption result (map (left_by worker) self.now.items ≡ self.now.items) (λ a. map (left_by worker) self.now.items ≡ update_at (λ t. record t { live = false }) a self.now.items) }
+        ensures current { MatchOption result
+            (list_any (λ a. (a.worker == worker) && a.live) self.now.items ≡ false)
+            (λ a. IsCurrent self.now.items worker a) }
+        ensures only { (a : ℕ) (x : Attempt) → slice_get self.now.items a ≡ Some x
+            → x.live ≡ true → x.worker ≡ worker → result ≡ Some a }
+        ensures left { MatchOption result (map (left_by worker) self.now.items ≡ self.now.items)
+            (λ a. map (left_by worker) self.now.items ≡ update_at
+            (λ t. record t { live = false }) a self.now.items) }
     {
         self.current.of(worker)
     }
@@ -75,7 +83,8 @@ impl Attempts {
     /// How many workers there are.
     pub(crate) fn workers(&self) -> usize
         ensures count { result ≡ self.now.workers }
-        ensures all { (a : ℕ) (x : Attempt) → slice_get self.now.items a ≡ Some x → x.live ≡ true → x.worker < self.now.workers }
+        ensures all { (a : ℕ) (x : Attempt) → slice_get self.now.items a ≡ Some x
+            → x.live ≡ true → x.worker < self.now.workers }
     {
         self.current.len()
     }
@@ -83,8 +92,12 @@ impl Attempts {
     /// The live attempt ends.
     pub(crate) fn end(&mut self, at: u32)
         requires { (x : Attempt) × (slice_get self.old.items at ≡ Some x) × (x.live ≡ true) }
-        ensures ended { self.new ≡ record self.old { items = update_at (λ t. record t { live = false }) at self.old.items } }
-        ensures below { (x : Attempt) → slice_get self.old.items at ≡ Some x → IsBelow self.old.maps self.old.parts x.task }
+        ensures ended { self.new ≡ record self.old {
+          items = update_at
+              (λ t. record t { live = false }) at self.old.items;
+        } }
+        ensures below { (x : Attempt) → slice_get self.old.items at ≡ Some x
+            → IsBelow self.old.maps self.old.parts x.task }
     {
         let attempt = &mut self.items[at as usize];
         let task = attempt.task();
@@ -96,7 +109,13 @@ impl Attempts {
 
     /// The latest fetch that the attempt made of the split gave this output, where there is such an attempt.
     pub(crate) fn note_fetch(&mut self, at: u32, map: u32, output: u64)
-        ensures { self.new ≡ record self.old { items = update_at (λ t. record t { fetched = update_at (λ x. Some output) map t.fetched }) at self.old.items } }
+        ensures { self.new
+            ≡ record self.old {
+              items = update_at (λ t. record t {
+                fetched = update_at
+                    (λ x. Some output) map t.fetched;
+              }) at self.old.items;
+            } }
     {
         let at = at as usize;
         if at >= self.items.len() {
@@ -108,8 +127,12 @@ impl Attempts {
     /// The live attempt ends, and its split is complete with its output, without the records that it left out.
     pub(crate) fn complete(&mut self, at: u32, splits: &mut Splits, split: u32, output: u64)
         requires { (x : Attempt) × (slice_get self.old.items at ≡ Some x) × (x.live ≡ true) }
-        ensures ended { self.new ≡ record self.old { items = update_at (λ t. record t { live = false }) at self.old.items } }
-        ensures below { (x : Attempt) → slice_get self.old.items at ≡ Some x → IsBelow self.old.maps self.old.parts x.task }
+        ensures ended { self.new ≡ record self.old {
+          items = update_at
+              (λ t. record t { live = false }) at self.old.items;
+        } }
+        ensures below { (x : Attempt) → slice_get self.old.items at ≡ Some x
+            → IsBelow self.old.maps self.old.parts x.task }
         ensures splits { (x : Attempt) → slice_get self.old.items at ≡ Some x
             → splits.new ≡ update_at (λ sp. record { skips = x.skips; fixed = true; output = Some (output, x.worker) }) split splits.old }
     {

@@ -1,7 +1,10 @@
 //! The entries of a master's lists: its splits, the attempts that it has issued, and the outputs that are committed.
-ghost use Rattle.std.specs.Prelude.{◌≡◌, ℕ, Bool, true, false, Option, Some, None, List, [], ◌∷◌, ◌==◌, ◌&&◌, map, is_some, is_none, nat_lt, length, slice_get, OnOk, OnErr, IfOk, replicate, ◌+◌};
+ghost use Rattle.std.specs.Prelude.{◌≡◌, ℕ, Bool, true, false, Option, Some, None, List, [], ◌∷◌};
+ghost use Rattle.std.specs.Prelude.{◌==◌, ◌&&◌, map, is_some, is_none, nat_lt, length, slice_get};
+ghost use Rattle.std.specs.Prelude.{OnOk, OnErr, IfOk, replicate, ◌+◌};
 ghost use Rattle.std.specs.List.{list_any, list_all, count_by, sum_by};
-ghost use Rattle.mr_core.specs.Master.{Attempt, update_at, left_by, gone_with, held_by, latest_in, task_eq, only_live, takes, with_number};
+ghost use Rattle.mr_core.specs.Master.{Attempt, update_at, left_by, gone_with, held_by, latest_in};
+ghost use Rattle.mr_core.specs.Master.{task_eq, only_live, takes, with_number};
 ghost use Rattle.mr_core.specs.Index.{vacancy};
 
 use crate::event::Task;
@@ -127,7 +130,13 @@ impl Attempt {
     pub(crate) fn give(&mut self, splits: &mut Splits, split: u32, output: u64)
         requires { self.old.live ≡ true }
         ensures ended { self.new ≡ record self.old { live = false } }
-        ensures splits { splits.new ≡ update_at (λ sp. record { skips = self.old.skips; fixed = true; output = Some (output, self.old.worker) }) split splits.old }
+        ensures splits { splits.new ≡ update_at
+            (λ sp. record {
+              skips = self.old.skips;
+              fixed = true;
+              output = Some
+                  (output, self.old.worker);
+            }) split splits.old }
     {
         splits.complete(split, &mut self.spare, output, self.worker);
         self.live = false;
@@ -229,7 +238,8 @@ fn add_to_split(split: &mut Split, number: u32) -> Result<(), AllocError>
 /// Adds a record to those left out of the split at `at`; without memory nothing changes.
 #[tactic(auto, using(crate::proofs::Updates::update_is_set, crate::proofs::Updates::update_past, crate::proofs::Updates::set_same, crate::proofs::Missing::count_set))]
 pub(crate) fn leave_out(splits: &mut [Split], at: u32, number: u32) -> Result<(), AllocError>
-    ensures ok { OnOk result (splits.new ≡ update_at (λ sp. record sp { skips = with_number number sp.skips }) at splits.old) }
+    ensures ok { OnOk result (splits.new ≡ update_at
+        (λ sp. record sp { skips = with_number number sp.skips }) at splits.old) }
     ensures missing { count_by (λ sp. is_none sp.output) splits.new ≡ count_by (λ sp. is_none sp.output) splits.old }
     ensures err { OnErr result (splits.new ≡ splits.old) }
 {

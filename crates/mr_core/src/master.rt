@@ -1,7 +1,8 @@
 //! The master: one call for each event, and what is read off it between them.
 //!
 //! The laws at the end say what holds of each of its runs. Some runs are worked out by hand.
-ghost use Rattle.std.specs.Prelude.{◌≡◌, OnOk, OnErr, IfOk, [], ◌<◌, ℕ, true, Some, None, List, ◌∷◌, ◌++◌, ◌↔◌, is_some, slice_get};
+ghost use Rattle.std.specs.Prelude.{◌≡◌, OnOk, OnErr, IfOk, [], ◌<◌, ℕ, true, Some, None, List};
+ghost use Rattle.std.specs.Prelude.{◌∷◌, ◌++◌, ◌↔◌, is_some, slice_get};
 ghost use Rattle.mr_core.specs.declared.event.Event.{Event};
 ghost use Rattle.mr_core.specs.Core.{IsStep, InLimits, IsRun, GoesOn, TakesMemory};
 ghost use Rattle.mr_core.specs.Master.{opening, is_complete, State, Step, Run, replay};
@@ -12,9 +13,13 @@ ghost use Rattle.mr_core.specs.Looks.{output_of, committed_of, set_of};
 ghost use Rattle.mr_core.specs.declared.event.Shape.{Shape};
 ghost use Rattle.mr_core.specs.declared.event.Reply.{Reply};
 ghost use Rattle.mr_core.specs.declared.entries.Split.{Split};
-ghost use Rattle.mr_core.specs.Promises.{OneSet, CommittedHaveFetched, CommitsStay, FixedSetsStay, FewAreLeftOut, FewAttempts, LiveAreActive, SomeTaskMayBeGiven, OfEveryRun, OfEveryJob, OfEveryLaterState};
+ghost use Rattle.mr_core.specs.Promises.{OneSet, CommittedHaveFetched, CommitsStay, FixedSetsStay};
+ghost use Rattle.mr_core.specs.Promises.{FewAreLeftOut, FewAttempts, LiveAreActive};
+ghost use Rattle.mr_core.specs.Promises.{SomeTaskMayBeGiven, OfEveryRun, OfEveryJob};
+ghost use Rattle.mr_core.specs.Promises.{OfEveryLaterState};
 ghost use Rattle.mr_core.specs.Laws.{IsMapOf, IsOutputOf, IsPartOf};
-ghost use Rattle.mr_core.specs.Worked.{shape, repeated, lost_output, left_out_late, damaged_region, too_many_attempts, no_maps, no_workers};
+ghost use Rattle.mr_core.specs.Worked.{shape, repeated, lost_output, left_out_late, damaged_region};
+ghost use Rattle.mr_core.specs.Worked.{too_many_attempts, no_maps, no_workers};
 
 use crate::event::{End, Event, Limits, Reply, Shape, Task};
 use crate::tables::MasterState;
@@ -126,7 +131,8 @@ impl Core {
         limits: Limits,
     ) -> Result<Core, AllocError>
         requires { InLimits (record { maps = maps; parts = parts; workers = workers; limits = limits }) }
-        ensures opening { IfOk result (λ c. c ≡ record { shape = record { maps = maps; parts = parts; workers = workers; limits = limits }; state = opening (record { maps = maps; parts = parts; workers = workers; limits = limits }) }) }
+        ensures opening { IfOk result
+            (λ c. c ≡ record { shape = record { maps = maps; parts = parts; workers = workers; limits = limits }; state = opening (record { maps = maps; parts = parts; workers = workers; limits = limits }) }) }
         ensures run { IfOk result (λ c. IsRun c []) }
     {
         let shape = Shape {
@@ -322,10 +328,13 @@ pub fn goes_on()
 
 /// The state after is one, a run goes on by a step, and runs are what the replay gives.
 pub fn runs()
-    ensures one { (sh : Shape) (st : State) (e : Event) (r : Reply) (a b : State) → Step sh st e r a → Step sh st e r b → a ≡ b }
-    ensures longer { (sh : Shape) (st : State) (h : List (Event × Reply)) (mid : State) (e : Event) (r : Reply) (new : State) → Run sh st h mid
+    ensures one { (sh : Shape) (st : State) (e : Event) (r : Reply) (a b : State)
+        → Step sh st e r a → Step sh st e r b → a ≡ b }
+    ensures longer { (sh : Shape) (st : State) (h : List (Event × Reply)) (mid : State)
+        (e : Event) (r : Reply) (new : State) → Run sh st h mid
         → Step sh mid e r new → Run sh st (h ++ (e, r) ∷ []) new }
-    ensures replayed { (sh : Shape) (h : List (Event × Reply)) (st : State) → (replay sh h ≡ Some st) ↔ Run sh (opening sh) h st }
+    ensures replayed { (sh : Shape) (h : List (Event × Reply)) (st : State)
+        → (replay sh h ≡ Some st) ↔ Run sh (opening sh) h st }
 {}
 
 /// Before its completion was accepted, each committed reduce attempt fetched from each split an output that had been
@@ -336,15 +345,18 @@ pub fn fetched()
 
 /// The records left out of a split rise, and each of them was reported by an accepted failure in it.
 pub fn left_out_sets()
-    ensures rise { (sh : Shape) (h : List (Event × Reply)) (st : State) → Run sh (opening sh) h st → (s : ℕ) (sp : Split)
+    ensures rise { (sh : Shape) (h : List (Event × Reply)) (st : State)
+        → Run sh (opening sh) h st → (s : ℕ) (sp : Split)
         → slice_get st.splits s ≡ Some sp → Rises nat_cmp sp.skips }
-    ensures failed { (sh : Shape) (h : List (Event × Reply)) (st : State) → Run sh (opening sh) h st → (s r : ℕ) (sp : Split)
+    ensures failed { (sh : Shape) (h : List (Event × Reply)) (st : State)
+        → Run sh (opening sh) h st → (s r : ℕ) (sp : Split)
         → slice_get st.splits s ≡ Some sp → Has sp.skips r → (a : ℕ) × Has h (Event.MapFailed a r, Reply.Accepted) × (k : List ℕ) × IsMapOf st a s k }
 {}
 
 /// Each output that a split has, and each that is committed, was accepted for it.
 pub fn accepted_outputs()
-    ensures splits { (sh : Shape) (h : List (Event × Reply)) (st : State) → Run sh (opening sh) h st → (s : ℕ) (sp : Split) (x w : ℕ)
+    ensures splits { (sh : Shape) (h : List (Event × Reply)) (st : State)
+        → Run sh (opening sh) h st → (s : ℕ) (sp : Split) (x w : ℕ)
         → slice_get st.splits s ≡ Some sp → sp.output ≡ Some (x, w) → IsOutputOf h st s x }
     ensures parts { (sh : Shape) (h : List (Event × Reply)) (st : State) → Run sh (opening sh) h st → (p o : ℕ)
         → slice_get st.committed p ≡ Some (Some o) → IsPartOf h st p o }

@@ -1,9 +1,13 @@
 //! The splits of a job. Of each: its output, the records that are left out of it, and those on which attempts have failed.
 //!
 //! A count of the splits without an output makes it one look whether all maps are complete.
-ghost use Rattle.std.specs.Prelude.{◌≡◌, ◌+◌, if◌then◌else◌, is_none, List, [], None, false, Some, true, map, is_some, nat_lt, replicate, length, IfOk, OnOk, OnErr, ℕ, ◌==◌, ◌<◌, ◌≤◌, ◌≢◌, slice_index, ◌∷◌, ◌++◌, slice_get};
+ghost use Rattle.std.specs.Prelude.{◌≡◌, ◌+◌, if◌then◌else◌, is_none, List, [], None, false, Some};
+ghost use Rattle.std.specs.Prelude.{true, map, is_some, nat_lt, replicate, length, IfOk, OnOk};
+ghost use Rattle.std.specs.Prelude.{OnErr, ℕ, ◌==◌, ◌<◌, ◌≤◌, ◌≢◌, slice_index, ◌∷◌, ◌++◌};
+ghost use Rattle.std.specs.Prelude.{slice_get};
 ghost use Rattle.std.specs.List.{list_all, sum_by, count_by, list_any, insert};
-ghost use Rattle.mr_core.specs.Master.{update_at, gone_with, is_numbered, with_number, without_output, same_list};
+ghost use Rattle.mr_core.specs.Master.{update_at, gone_with, is_numbered, with_number};
+ghost use Rattle.mr_core.specs.Master.{without_output, same_list};
 ghost use Rattle.mr_core.specs.Index.{IsLonger};
 
 use crate::entries::{Split, count_missing, has_room, leave_out, leave_outputs, new_splits};
@@ -55,7 +59,13 @@ impl Splits {
 
     /// The split takes these records, which are left out from now on, for its own, and has this output of the worker.
     pub(crate) fn complete(&mut self, at: u32, skips: &mut Skips, output: u64, worker: u32)
-        ensures { self.new ≡ update_at (λ sp. record { skips = skips.old; fixed = true; output = Some (output, worker) }) at self.old }
+        ensures { self.new ≡ update_at
+            (λ sp. record {
+              skips = skips.old;
+              fixed = true;
+              output = Some
+                  (output, worker);
+            }) at self.old }
     {
         let filled = complete_at(self.items.as_mut_slice(), at, skips, output, worker);
         self.missing -= filled;
@@ -64,7 +74,8 @@ impl Splits {
     /// Adds a record to those left out of the split, where `adds` says so; without memory nothing changes.
     pub(crate) fn leave_out(&mut self, at: u32, number: u32, adds: bool) -> Result<(), AllocError>
         ensures noted { OnOk result (adds ≡ false → self.new ≡ self.old) }
-        ensures added { OnOk result (adds ≡ true → self.new ≡ update_at (λ sp. record sp { skips = with_number number sp.skips }) at self.old) }
+        ensures added { OnOk result (adds ≡ true → self.new ≡ update_at
+            (λ sp. record sp { skips = with_number number sp.skips }) at self.old) }
         ensures err { OnErr result (self.new ≡ self.old) }
     {
         if !adds {
@@ -100,8 +111,15 @@ impl Splits {
 /// Completes the split at the place, where there is one. Answers how many splits more have an output.
 #[tactic(auto, using(crate::proofs::Missing::split_filled, crate::proofs::Updates::update_is_set, crate::proofs::Updates::update_past))]
 fn complete_at(splits: &mut [Split], at: u32, skips: &mut Skips, output: u64, worker: u32) -> usize
-    ensures splits { splits.new ≡ update_at (λ sp. record { skips = skips.old; fixed = true; output = Some (output, worker) }) at splits.old }
-    ensures count { count_by (λ sp. is_none sp.output) splits.new + result ≡ count_by (λ sp. is_none sp.output) splits.old }
+    ensures splits { splits.new ≡ update_at
+        (λ sp. record {
+          skips = skips.old;
+          fixed = true;
+          output = Some
+              (output, worker);
+        }) at splits.old }
+    ensures count { count_by (λ sp. is_none sp.output) splits.new + result ≡ count_by
+        (λ sp. is_none sp.output) splits.old }
 {
     let at = at as usize;
     if at >= splits.len() {
@@ -127,7 +145,8 @@ fn fix(split: &mut Split, skips: &mut Skips, output: u64, worker: u32) -> usize
 #[tactic(auto, using(crate::proofs::Missing::split_emptied, crate::proofs::Updates::update_is_set, crate::proofs::Updates::update_past))]
 fn empty_at(splits: &mut [Split], at: u32, output: u64) -> usize
     ensures splits { splits.new ≡ update_at (without_output output) at splits.old }
-    ensures count { count_by (λ sp. is_none sp.output) splits.new ≡ count_by (λ sp. is_none sp.output) splits.old + result }
+    ensures count { count_by (λ sp. is_none sp.output) splits.new ≡ count_by
+        (λ sp. is_none sp.output) splits.old + result }
 {
     let at = at as usize;
     if at >= splits.len() {
@@ -230,8 +249,10 @@ impl Skips {
 #[tactic(auto, using(crate::proofs::Inserts::place_there, crate::proofs::Inserts::place_new))]
 fn place_of(items: &[u32], number: u32) -> usize
     ensures bound { result ≤ length items.now }
-    ensures there { result < length items.now → slice_index items.now result ≡ number → with_number number items.now ≡ items.now }
-    ensures new { (result < length items.now → slice_index items.now result ≢ number) → with_number number items.now ≡ insert items.now result number }
+    ensures there { result < length items.now → slice_index items.now result ≡ number
+        → with_number number items.now ≡ items.now }
+    ensures new { (result < length items.now → slice_index items.now result ≢ number)
+        → with_number number items.now ≡ insert items.now result number }
 {
     for (at, item) in items.iter().enumerate() {
         if *item >= number {

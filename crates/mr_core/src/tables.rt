@@ -1,5 +1,6 @@
 //! The master's state: its lists, and the ends of the job.
-ghost use Rattle.std.specs.Prelude.{◌≡◌, ℕ, true, false, Option, Some, None, ◌==◌, ◌<◌, nat_lt, MatchOption, IfOk, slice_get};
+ghost use Rattle.std.specs.Prelude.{◌≡◌, ℕ, true, false, Option, Some, None, ◌==◌, ◌<◌, nat_lt};
+ghost use Rattle.std.specs.Prelude.{MatchOption, IfOk, slice_get};
 ghost use Rattle.std.specs.List.{list_any};
 ghost use Rattle.std.specs.Option.{option_map_or};
 ghost use Rattle.mr_core.specs.declared.event.Shape.{Shape};
@@ -7,7 +8,8 @@ ghost use Rattle.mr_core.specs.declared.event.Task.{Task};
 ghost use Rattle.mr_core.specs.declared.entries.Split.{Split};
 ghost use Rattle.mr_core.specs.Queries.{IsLive};
 ghost use Rattle.mr_core.specs.Looks.{output_of, committed_of, number_of, set_of};
-ghost use Rattle.mr_core.specs.Master.{State, tasks, is_active, is_complete, maps_complete, issued, live, is_stuck, live_attempt, end_of, settled, opening};
+ghost use Rattle.mr_core.specs.Master.{State, tasks, is_active, is_complete, maps_complete, issued};
+ghost use Rattle.mr_core.specs.Master.{live, is_stuck, live_attempt, end_of, settled, opening};
 ghost use Rattle.mr_core.specs.Index.{counted, task_at, IsTouched, IsTouchedBoth};
 
 use crate::attempts::{Attempts, Count};

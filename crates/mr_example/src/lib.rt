@@ -46,7 +46,8 @@ pub struct Handed {
 
 /// What both sides agree on: words are counted, in two partitions, and no record is left out.
 pub fn agreed() -> Result<Request, Trouble>
-    ensures request { IfOk result (λ r. r ≡ record { job = WordCount false; by = By.Key; parts = 2; split = 67108864; skips = 0 }) }
+    ensures request { IfOk result (λ r. r
+        ≡ record { job = WordCount false; by = By.Key; parts = 2; split = 67108864; skips = 0 }) }
     ensures some { IsOk result }
 {
     Ok(Request::new(Job::words(false), 2, 67_108_864, 0)?)
@@ -74,7 +75,8 @@ pub fn made(alloc: Global, request: &Request, input: &Input) -> Result<Handed, T
     requires { split_total request.now.split input.now ≤ 2 ^ 20 }
     ensures texts { IfOk result (λ h. (p : ℕ) → p < request.now.parts
         → nth_file (contents h.outputs.items) p ≡ sequential request.now input.now [] p) }
-    ensures good { IfOk result (λ h. IsGoodResult request.now input.now (contents h.outputs.items) h.certificate.items) }
+    ensures good { IfOk result
+        (λ h. IsGoodResult request.now input.now (contents h.outputs.items) h.certificate.items) }
 {
     let (outputs, certificate) = run(alloc, request, input, &[])?;
     let certificate = write(alloc, &certificate, Version::V2)?;
@@ -93,7 +95,8 @@ pub fn judged(
     handed: &Handed,
 ) -> Result<Yes, Trouble>
     requires { split_total request.now.split input.now ≤ 2 ^ 20 }
-    ensures { IfOk result (λ yes. IsCertified request.now input.now (contents handed.now.outputs.items) handed.now.certificate.items
+    ensures { IfOk result (λ yes. IsCertified request.now input.now
+        (contents handed.now.outputs.items) handed.now.certificate.items
         yes.skips.items yes.pairs) }
 {
     let Handed {

@@ -1,7 +1,8 @@
 //! Files in memory, for tests of what goes over a store; each may be made to fail. A look costs a pass over all.
 ghost use Rattle.std.specs.Prelude.{◌≡◌, ◌∷◌, [], Some, IfOk, OnOk, OnErr, MatchOption, true};
 ghost use Rattle.mr_files.specs.declared.memory.Entry.{Entry};
-ghost use Rattle.mr_files.specs.Memory.{Found, Stands, OneContent, IsPut, IsUnreadable, IsUnwritable};
+ghost use Rattle.mr_files.specs.Memory.{Found, Stands, OneContent, IsPut, IsUnreadable};
+ghost use Rattle.mr_files.specs.Memory.{IsUnwritable};
 
 use crate::store::{Store, WriteFault};
 use mr_store::{MemoryReader, MemoryWriter, ReadFault};
@@ -27,7 +28,8 @@ pub struct MemoryFiles {
 
 /// The newest entry of the name.
 fn find<'a>(entries: &'a [Entry], name: &str) -> Option<&'a Entry>
-    ensures { MatchOption result ((e : Entry) → ¬ Found entries.entry.now name.now e) (λ e. Found entries.entry.now name.now e.now) }
+    ensures { MatchOption result ((e : Entry) → ¬ Found entries.entry.now name.now e)
+        (λ e. Found entries.entry.now name.now e.now) }
 {
     for entry in entries {
         if entry.name.as_str() == name {
@@ -40,7 +42,8 @@ fn find<'a>(entries: &'a [Entry], name: &str) -> Option<&'a Entry>
 /// The bytes of the file of that name, where it doesn't fail.
 #[tactic(auto, using(crate::proofs::Entries::found_stands, crate::proofs::Entries::unreadable_none, crate::proofs::Entries::unreadable_failing))]
 fn bytes_of<'a>(entries: &'a [Entry], name: &str) -> Option<&'a [u8]>
-    ensures { MatchOption result (IsUnreadable entries.entry.now name.now) (λ b. Stands entries.entry.now name.now b.now) }
+    ensures { MatchOption result (IsUnreadable entries.entry.now name.now)
+        (λ b. Stands entries.entry.now name.now b.now) }
 {
     match find(entries, name) {
         Some(entry) => if entry.fails {

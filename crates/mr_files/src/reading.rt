@@ -1,7 +1,8 @@
 //! Files read in order, and files whose bytes together have a limit.
 ghost use Rattle.std.specs.Prelude.{IfOk, IfErr, ◌≡◌, ◌≤◌, ◌∷◌, [], ◌++◌, map, length};
 ghost use Rattle.mr_files.specs.Names.{name_of_part, result_names, name_of_certificate, part_names};
-ghost use Rattle.mr_files.specs.Refusals.{IsUnread, IsOneUnread, IsFault, IsOneUnreadWithin, IsReadRefusalWithin, IsUnreadWithin};
+ghost use Rattle.mr_files.specs.Refusals.{IsUnread, IsOneUnread, IsFault, IsOneUnreadWithin};
+ghost use Rattle.mr_files.specs.Refusals.{IsReadRefusalWithin, IsUnreadWithin};
 ghost use Rattle.std.specs.List.{AllByRecursion};
 ghost use Rattle.mr_input.specs.Files.{contents, total_size};
 ghost use Rattle.mr_files.specs.Holding.{Holding};
@@ -140,7 +141,8 @@ pub fn read_files_within<S: Store>(
 ) -> Result<Vec<Vec<u8>>, LimitFault>
     ensures bytes { IfOk result (λ v. Holding (S.holds store.now) (map (λ s. s.now) names.now) (contents v.items)) }
     ensures within { IfOk result (λ v. total_size (contents v.items) ≤ limit) }
-    ensures refused { IfErr result (λ e. IsReadRefusalWithin (S.holds store.now) (S.unreadable store.now) (map (λ s. s.now) names.now) limit e) }
+    ensures refused { IfErr result (λ e. IsReadRefusalWithin (S.holds store.now)
+        (S.unreadable store.now) (map (λ s. s.now) names.now) limit e) }
 {
     let mut files = Vec::new(alloc);
     let mut left = limit;
@@ -162,7 +164,8 @@ fn read_part_within<S: Store>(
 ) -> Result<Vec<u8>, LimitFault>
     ensures bytes { IfOk result (λ v. S.holds store.now (name_of_part dir.now part) v.items) }
     ensures within { IfOk result (λ v. length v.items ≤ limit) }
-    ensures refused { IfErr result (λ e. IsUnreadWithin (S.holds store.now) (S.unreadable store.now) (name_of_part dir.now part) limit e) }
+    ensures refused { IfErr result (λ e. IsUnreadWithin (S.holds store.now)
+        (S.unreadable store.now) (name_of_part dir.now part) limit e) }
 {
     let name = part_name(alloc, dir, part)?;
     read_file_within(store, alloc, name.as_str(), limit)
@@ -178,7 +181,8 @@ fn read_parts_within<S: Store>(
 ) -> Result<Vec<Vec<u8>>, LimitFault>
     ensures bytes { IfOk result (λ v. Holding (S.holds store.now) (part_names dir.now parts) (contents v.items)) }
     ensures within { IfOk result (λ v. AllByRecursion (λ b. length b ≤ limit) (contents v.items)) }
-    ensures refused { IfErr result (λ e. IsOneUnreadWithin (S.holds store.now) (S.unreadable store.now) (result_names dir.now parts) limit e) }
+    ensures refused { IfErr result (λ e. IsOneUnreadWithin (S.holds store.now)
+        (S.unreadable store.now) (result_names dir.now parts) limit e) }
 {
     let mut files = Vec::new(alloc);
     for part in 0..parts {
@@ -200,8 +204,10 @@ pub fn read_result_within<S: Store>(
 ) -> Result<(Vec<Vec<u8>>, Vec<u8>), LimitFault>
     ensures outputs { IfOk result (λ r. Holding (S.holds store.now) (part_names dir.now parts) (contents r.0.items)) }
     ensures certificate { IfOk result (λ r. S.holds store.now (name_of_certificate dir.now) r.1.items) }
-    ensures within { IfOk result (λ r. AllByRecursion (λ b. length b ≤ limit) (contents r.0.items) × (length r.1.items ≤ limit)) }
-    ensures refused { IfErr result (λ e. IsOneUnreadWithin (S.holds store.now) (S.unreadable store.now) (result_names dir.now parts) limit e) }
+    ensures within { IfOk result (λ r. AllByRecursion (λ b. length b ≤ limit) (contents r.0.items)
+        × (length r.1.items ≤ limit)) }
+    ensures refused { IfErr result (λ e. IsOneUnreadWithin (S.holds store.now)
+        (S.unreadable store.now) (result_names dir.now parts) limit e) }
 {
     try_parts(store, alloc, dir, parts)?;
     let last = certificate_name(alloc, dir)?;

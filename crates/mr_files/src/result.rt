@@ -118,7 +118,8 @@ fn named_reader<S: Store, C: ReadCause>(
     name: String,
 ) -> Result<NamedReader<S::Reader, C>, FileFault>
     requires cause { S.unreadable store.now (string_bytes name) → C.cause (string_bytes name) }
-    ensures bytes { IfOk result (λ r. (b : List ℕ) → Agrees (S.Reader.remaining r.reader) b → S.holds store.now (string_bytes name) b) }
+    ensures bytes { IfOk result (λ r. (b : List ℕ) → Agrees (S.Reader.remaining r.reader) b
+        → S.holds store.now (string_bytes name) b) }
     ensures failed { IfOk result (λ r. r.failed ≡ 0) }
     ensures refused { IfErr result (λ e. IsUnread (S.unreadable store.now) (string_bytes name) e) }
 {
@@ -135,7 +136,8 @@ fn part_reader<S: Store, C: ReadCause>(
     part: usize,
 ) -> Result<NamedReader<S::Reader, C>, FileFault>
     requires cause { S.unreadable store.now (name_of_part dir.now part) → C.cause (name_of_part dir.now part) }
-    ensures bytes { IfOk result (λ r. (b : List ℕ) → Agrees (S.Reader.remaining r.reader) b → S.holds store.now (name_of_part dir.now part) b) }
+    ensures bytes { IfOk result (λ r. (b : List ℕ) → Agrees (S.Reader.remaining r.reader) b
+        → S.holds store.now (name_of_part dir.now part) b) }
     ensures failed { IfOk result (λ r. r.failed ≡ 0) }
     ensures refused { IfErr result (λ e. IsUnread (S.unreadable store.now) (name_of_part dir.now part) e) }
 {
@@ -151,7 +153,8 @@ fn part_readers<S: Store, C: ReadCause>(
     parts: usize,
 ) -> Result<Vec<NamedReader<S::Reader, C>>, FileFault>
     requires cause { (n : List ℕ) → IsUnreadAmong (S.unreadable store.now) (result_names dir.now parts) n → C.cause n }
-    ensures bytes { IfOk result (λ v. (outs : List (List ℕ)) → AllAgree (map (λ r. S.Reader.remaining r.reader) v.items) outs
+    ensures bytes { IfOk result (λ v. (outs : List (List ℕ))
+        → AllAgree (map (λ r. S.Reader.remaining r.reader) v.items) outs
         → Holding (S.holds store.now) (part_names dir.now parts) outs) }
     ensures failed { IfOk result (λ v. (p : ℕ) → get_or (map (λ r. r.failed) v.items) p 0 ≡ 0) }
     ensures refused { IfErr result (λ e. IsOneUnread (S.unreadable store.now) (result_names dir.now parts) e) }
@@ -174,11 +177,13 @@ pub fn result_readers<S: Store, C: ReadCause>(
     parts: usize,
 ) -> Result<ResultReaders<S::Reader, C>, FileFault>
     requires cause { (n : List ℕ) → IsUnreadAmong (S.unreadable store.now) (result_names dir.now parts) n → C.cause n }
-    ensures outputs { IfOk result (λ r. (outs : List (List ℕ)) → AllAgree (map (λ x. S.Reader.remaining x.reader) r.parts.items) outs
+    ensures outputs { IfOk result (λ r. (outs : List (List ℕ))
+        → AllAgree (map (λ x. S.Reader.remaining x.reader) r.parts.items) outs
         → Holding (S.holds store.now) (part_names dir.now parts) outs) }
     ensures certificate { IfOk result (λ r. (b : List ℕ) → Agrees (S.Reader.remaining r.certificate.reader) b
         → S.holds store.now (name_of_certificate dir.now) b) }
-    ensures failed { IfOk result (λ r. ((p : ℕ) → get_or (map (λ x. x.failed) r.parts.items) p 0 ≡ 0) × (r.certificate.failed ≡ 0)) }
+    ensures failed { IfOk result (λ r. ((p : ℕ)
+        → get_or (map (λ x. x.failed) r.parts.items) p 0 ≡ 0) × (r.certificate.failed ≡ 0)) }
     ensures refused { IfErr result (λ e. IsOneUnread (S.unreadable store.now) (result_names dir.now parts) e) }
 {
     try_parts(store, alloc, dir, parts)?;

@@ -1,5 +1,6 @@
 //! What a store of files is: files by their names, each read and written by a counted reader and writer.
-ghost use Rattle.std.specs.Prelude.{◌≡◌, ◌≢◌, ◌⊎◌, ℕ, Option, Some, List, [], OnOk, IfOk, false, true, option_map, string_bytes};
+ghost use Rattle.std.specs.Prelude.{◌≡◌, ◌≢◌, ◌⊎◌, ℕ, Option, Some, List, [], OnOk, IfOk, false};
+ghost use Rattle.std.specs.Prelude.{true, option_map, string_bytes};
 ghost use Rattle.mr_files.specs.Holding.{Agrees, ChangesOnly, Shrinks};
 ghost use Rattle.mr_store.specs.Devices.{Seen};
 
@@ -61,7 +62,8 @@ pub trait Store {
 
     /// A reader of the file. It may be opened as late as at the first read.
     fn reader(&self, alloc: Global, name: &str) -> Result<Self::Reader, ReadFault>
-        ensures bytes { IfOk result (λ r. (b : List ℕ) → Agrees (Self.Reader.remaining r) b → holds self.now name.now b) }
+        ensures bytes { IfOk result
+            (λ r. (b : List ℕ) → Agrees (Self.Reader.remaining r) b → holds self.now name.now b) }
         ensures fails { IfOk result (λ r. Self.Reader.can_fail r → unreadable self.now name.now) }
         ensures refused { result ≡ Err ReadFault.Device → unreadable self.now name.now };
 
@@ -78,7 +80,8 @@ pub trait Store {
     fn close(&mut self, name: &str, writer: Self::Writer) -> Result<(), AllocError>
         ensures stands { OnOk result ((Self.Writer.seen writer).handed_on ≡ (Self.Writer.seen writer).contents
             → (b : List ℕ) → Agrees (Self.Writer.seen writer).contents b → holds self.new name.now b) }
-        ensures begins { (b : List ℕ) → holds self.new name.now b → holds self.old name.now b ⊎ ((Self.Writer.seen writer).contents ≡ Some b) }
+        ensures begins { (b : List ℕ) → holds self.new name.now b
+            → holds self.old name.now b ⊎ ((Self.Writer.seen writer).contents ≡ Some b) }
         ensures others { ChangesOnly (holds self.old) (holds self.new) name.now }
         ensures still { (n : List ℕ) → unwritable self.new n → unwritable self.old n };
 }

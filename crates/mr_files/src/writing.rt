@@ -1,5 +1,6 @@
 //! A result written; and the calls of open files, whatever files they are: each call's answer and what is counted of it.
-ghost use Rattle.std.specs.Prelude.{◌≡◌, ◌↔◌, ◌≤◌, ◌<◌, IfOk, IsErr, length, ◌∷◌, [], ◌++◌, ℕ, List, OnOk, IfErr, string_bytes};
+ghost use Rattle.std.specs.Prelude.{◌≡◌, ◌↔◌, ◌≤◌, ◌<◌, IfOk, IsErr, length, ◌∷◌, [], ◌++◌, ℕ};
+ghost use Rattle.std.specs.Prelude.{List, OnOk, IfErr, string_bytes};
 ghost use Rattle.std.specs.Io.KnownBytes.{ReadConsumes, WriteAppends};
 ghost use Rattle.mr_store.specs.Devices.{Counts};
 ghost use Rattle.mr_files.specs.Refusals.{IsUnwritten, IsWriteRefusal};
@@ -135,7 +136,8 @@ fn write_certificate<S: Store, C: Encode>(
     certificate: &C,
 ) -> Result<(), FileFault>
     ensures whole { OnOk result (S.holds store.new (name_of_certificate dir.now) (C.text certificate.now)) }
-    ensures begins { Begins (S.holds store.old) (S.holds store.new) (name_of_certificate dir.now) (C.text certificate.now) }
+    ensures begins { Begins (S.holds store.old) (S.holds store.new)
+        (name_of_certificate dir.now) (C.text certificate.now) }
     ensures others { ChangesOnly (S.holds store.old) (S.holds store.new) (name_of_certificate dir.now) }
     ensures refused { IfErr result (λ e. IsUnwritten (S.unwritable store.old) (name_of_certificate dir.now) e) }
 {
@@ -150,7 +152,8 @@ fn write_parts<S: Store>(
     dir: &str,
     outputs: &[Vec<u8>],
 ) -> Result<(), FileFault>
-    ensures whole { OnOk result (Holding (S.holds store.new) (part_names dir.now (length outputs.now)) (contents outputs.now)) }
+    ensures whole { OnOk result (Holding (S.holds store.new)
+        (part_names dir.now (length outputs.now)) (contents outputs.now)) }
     ensures others { ChangesAmong (S.holds store.old) (S.holds store.new) (part_names dir.now (length outputs.now)) }
     ensures refused { IfErr result (λ e. IsWriteRefusal (S.holds store.old) (S.holds store.new) (S.unwritable store.old)
         (part_names dir.now (length outputs.now)) (contents outputs.now) e) }
@@ -171,7 +174,8 @@ pub fn write_files<S: Store, C: Encode>(
     outputs: &[Vec<u8>],
     certificate: &C,
 ) -> Result<(), FileFault>
-    ensures outputs { OnOk result (Holding (S.holds store.new) (part_names dir.now (length outputs.now)) (contents outputs.now)) }
+    ensures outputs { OnOk result (Holding (S.holds store.new)
+        (part_names dir.now (length outputs.now)) (contents outputs.now)) }
     ensures certificate { OnOk result (S.holds store.new (name_of_certificate dir.now) (C.text certificate.now)) }
     ensures others { ChangesAmong (S.holds store.old) (S.holds store.new) (result_names dir.now (length outputs.now)) }
     ensures refused { IfErr result (λ e. IsWriteRefusal (S.holds store.old) (S.holds store.new) (S.unwritable store.old)

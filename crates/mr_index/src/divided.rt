@@ -1,5 +1,6 @@
 //! A split that is divided in pieces, for several threads to map.
-ghost use Rattle.std.specs.Prelude.{◌≡◌, ℕ, ◌+◌, ◌≤◌, ◌<◌, ◌^◌, [], ◌∷◌, IfOk, OnOk, length, slice_index_or};
+ghost use Rattle.std.specs.Prelude.{◌≡◌, ℕ, ◌+◌, ◌≤◌, ◌<◌, ◌^◌, [], ◌∷◌, IfOk, OnOk, length};
+ghost use Rattle.std.specs.Prelude.{slice_index_or};
 ghost use Rattle.mr_input.specs.Files.{split_total};
 ghost use Rattle.mr_jobs.specs.Hits.{IsLine};
 ghost use Rattle.mr_splits.specs.Named.{is_left_out, of_split};
@@ -7,7 +8,8 @@ ghost use Rattle.mr_splits.specs.Cut.{records_of, nth_named};
 ghost use Rattle.mr_index.specs.Index.{triples_in, triples_of};
 ghost use Rattle.mr_index.specs.Pairs.{pairs_seen, EndsRise, Sound};
 ghost use Rattle.mr_index.specs.Building.{Shows};
-ghost use Rattle.mr_index.specs.Pieces.{Divides, ArePieces, records_divided, piece_between, piece_at};
+ghost use Rattle.mr_index.specs.Pieces.{Divides, ArePieces, records_divided, piece_between};
+ghost use Rattle.mr_index.specs.Pieces.{piece_at};
 
 use crate::part::{Part, Room, Tables};
 use crate::piece::{Piece, Sizes};
@@ -146,7 +148,8 @@ impl<'a> DividedSplit<'a> {
     /// of memory.
     pub fn join(&self, pieces: Vec<Piece>) -> Result<Part, AllocError>
         requires { ArePieces self.now pieces.items }
-        ensures { IfOk result (λ r. r ≡ triples_in self.now.split (triples_of self.now.job self.now.cut self.now.skips)) }
+        ensures { IfOk result (λ r. r
+            ≡ triples_in self.now.split (triples_of self.now.job self.now.cut self.now.skips)) }
     {
         // Files within the limits of an input emit few enough pairs, with few enough bytes of keys, for the tables.
         let _files = self.plan.input().files();
@@ -216,11 +219,13 @@ impl<'a> DividedSplit<'a> {
         requires mapper { mapper.old ≡ record { job = self.now.job; files = self.now.cut.files } }
         requires within { (from ≤ number) × (number < length (records_divided self.now)) }
         requires sound { Sound tables.old.pairs }
-        requires shows { Shows (piece_between self.now from number) tables.old.ends.items (pairs_seen tables.old.pairs) }
+        requires shows { Shows (piece_between self.now from number) tables.old.ends.items
+            (pairs_seen tables.old.pairs) }
         requires few { mapped.old ≤ number }
         ensures same { mapper.new ≡ mapper.old }
         ensures sound { OnOk result (Sound tables.new.pairs) }
-        ensures shows { OnOk result (Shows (piece_between self.now from (number + 1)) tables.new.ends.items (pairs_seen tables.new.pairs)) }
+        ensures shows { OnOk result (Shows (piece_between self.now from (number
+            + 1)) tables.new.ends.items (pairs_seen tables.new.pairs)) }
         ensures few { OnOk result (mapped.new ≤ number + 1) }
     {
         if self.leaves_out(number) {

@@ -1,5 +1,6 @@
 //! The index of all emitted pairs.
-ghost use Rattle.std.specs.Prelude.{◌≡◌, ◌+◌, ◌≤◌, ◌<◌, ◌^◌, IfOk, OnOk, OnErr, MatchOption, None, Some, List, length};
+ghost use Rattle.std.specs.Prelude.{◌≡◌, ◌+◌, ◌≤◌, ◌<◌, ◌^◌, IfOk, OnOk, OnErr, MatchOption, None};
+ghost use Rattle.std.specs.Prelude.{Some, List, length};
 ghost use Rattle.mr_bytes.specs.declared.RecordName.{RecordName as NameOfRecord};
 ghost use Rattle.mr_input.specs.Files.{split_total};
 ghost use Rattle.mr_jobs.specs.JobSpec.{JobSpec};
@@ -67,7 +68,8 @@ fn map_splits(
     requires room { mapped.old + mapped_among kept.now.skips (records_of kept.now.cut) < 2 ^ 64 }
     ensures parts { IfOk result (λ r. AreParts job.now kept.now.cut kept.now.skips r.items) }
     ensures counted { OnOk result (mapped.new ≡ mapped.old + mapped_among kept.now.skips (records_of kept.now.cut)) }
-    ensures err { OnErr result ((mapped.old ≤ mapped.new) × (mapped.new ≤ mapped.old + mapped_among kept.now.skips (records_of kept.now.cut))) }
+    ensures err { OnErr result ((mapped.old ≤ mapped.new)
+        × (mapped.new ≤ mapped.old + mapped_among kept.now.skips (records_of kept.now.cut))) }
 {
     let plan = kept.plan();
     // A plan's size is at least 1: that its splits have all records rests on that.
@@ -104,7 +106,8 @@ impl EmissionIndex {
     ) -> Result<EmissionIndex, AllocError>
         requires { meter.old.mapped + mapped_among skips.now (records_of plan.now) < 2 ^ 64 }
         ensures ok { IfOk result (λ i. i ≡ triples_of job.now plan.entry.now skips.now) }
-        ensures counted { OnOk result (meter.new.mapped ≡ meter.old.mapped + mapped_among skips.now (records_of plan.entry.now)) }
+        ensures counted { OnOk result (meter.new.mapped
+            ≡ meter.old.mapped + mapped_among skips.now (records_of plan.entry.now)) }
         ensures err { OnErr result ((meter.old.mapped ≤ meter.new.mapped)
             × (meter.new.mapped ≤ meter.old.mapped + mapped_among skips.now (records_of plan.entry.now))) }
         ensures lookups { meter.new.lookups ≡ meter.old.lookups }
@@ -123,7 +126,8 @@ impl EmissionIndex {
     ) -> Result<EmissionIndex, AllocError>
         requires { meter.old.mapped + mapped_among skips.now (records_of plan.now) < 2 ^ 64 }
         ensures ok { IfOk result (λ i. i ≡ triples_of job.now plan.entry.now skips.now) }
-        ensures counted { OnOk result (meter.new.mapped ≡ meter.old.mapped + mapped_among skips.now (records_of plan.entry.now)) }
+        ensures counted { OnOk result (meter.new.mapped
+            ≡ meter.old.mapped + mapped_among skips.now (records_of plan.entry.now)) }
         ensures err { OnErr result ((meter.old.mapped ≤ meter.new.mapped)
             × (meter.new.mapped ≤ meter.old.mapped + mapped_among skips.now (records_of plan.entry.now))) }
         ensures lookups { meter.new.lookups ≡ meter.old.lookups }
@@ -180,7 +184,8 @@ impl EmissionIndex {
     /// The parts of all splits of a plan, in order, as one index. It takes no memory, and copies nothing.
     pub fn join(parts: Vec<Part>) -> EmissionIndex
         requires { AreAllParts parts.items }
-        ensures { (job : JobSpec) (cut : Cut) (skips : List NameOfRecord) → AreParts job cut skips parts.items → result ≡ triples_of job cut skips }
+        ensures { (job : JobSpec) (cut : Cut) (skips : List NameOfRecord)
+            → AreParts job cut skips parts.items → result ≡ triples_of job cut skips }
     {
         let total = count_pairs(parts.as_slice());
         EmissionIndex { parts, total }

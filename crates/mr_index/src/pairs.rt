@@ -1,5 +1,6 @@
 //! Keys with their values, in one buffer.
-ghost use Rattle.std.specs.Prelude.{◌≡◌, ℕ, ◌+◌, ◌≤◌, ◌<◌, ◌^◌, ◌++◌, [], ◌∷◌, All, IfOk, OnOk, MatchOption, length, slice_index, slice_index_or};
+ghost use Rattle.std.specs.Prelude.{◌≡◌, ℕ, ◌+◌, ◌≤◌, ◌<◌, ◌^◌, ◌++◌, [], ◌∷◌, All, IfOk, OnOk};
+ghost use Rattle.std.specs.Prelude.{MatchOption, length, slice_index, slice_index_or};
 ghost use Rattle.mr_bytes.specs.declared.Value.TheVariants.{One};
 ghost use Rattle.mr_jobs.specs.Emissions.{emissions};
 ghost use Rattle.mr_jobs.specs.Hits.{IsLine};
@@ -176,7 +177,8 @@ impl Pairs {
         requires fits { Fits (pairs_seen self.old ++ emissions mapper.old.job line.file line.start line.bytes.now) }
         ensures same { mapper.new ≡ mapper.old }
         ensures sound { OnOk result (Sound self.new) }
-        ensures pairs { OnOk result (pairs_seen self.new ≡ pairs_seen self.old ++ emissions mapper.old.job line.entry.file line.entry.start line.entry.bytes.now) }
+        ensures pairs { OnOk result (pairs_seen self.new ≡ pairs_seen self.old
+            ++ emissions mapper.old.job line.entry.file line.entry.start line.entry.bytes.now) }
     {
         mapper.job().fold_line(line.bytes, buffer)?;
         self.push_all(mapper.emit(line.file, line.start, line.bytes, buffer.as_slice()))

@@ -1,5 +1,6 @@
 //! What one split emits, looked up by the numbers of its records.
-ghost use Rattle.std.specs.Prelude.{◌≡◌, ℕ, ◌+◌, ◌≤◌, ◌<◌, ◌^◌, ◌++◌, [], ◌∷◌, IfOk, OnOk, OnErr, MatchOption, Some, None, length};
+ghost use Rattle.std.specs.Prelude.{◌≡◌, ℕ, ◌+◌, ◌≤◌, ◌<◌, ◌^◌, ◌++◌, [], ◌∷◌, IfOk, OnOk, OnErr};
+ghost use Rattle.std.specs.Prelude.{MatchOption, Some, None, length};
 ghost use Rattle.std.specs.List.{flat_map};
 ghost use Rattle.mr_input.specs.Files.{split_total};
 ghost use Rattle.mr_jobs.specs.Emissions.{emissions};
@@ -177,7 +178,8 @@ impl Tables {
         requires sound { Sound self.old.pairs }
         requires few { (before < 2 ^ 32) × (length (pairs_seen self.old.pairs) < 2 ^ 32) }
         ensures pairs { self.new.pairs ≡ self.old.pairs }
-        ensures ends { OnOk result (self.new.ends.items ≡ ended number before (length (pairs_seen self.old.pairs)) self.old.ends.items) }
+        ensures ends { OnOk result (self.new.ends.items
+            ≡ ended number before (length (pairs_seen self.old.pairs)) self.old.ends.items) }
     {
         let after = self.pairs.len();
         if before == after {
@@ -200,7 +202,8 @@ impl Tables {
         requires sound { Sound self.old.pairs }
         requires small { length line.bytes.now ≤ 2 ^ 30 }
         requires line { IsLine mapper.old.files line.file line.start line.bytes.now }
-        requires fits { Fits (pairs_seen self.old.pairs ++ emissions mapper.old.job line.file line.start line.bytes.now) }
+        requires fits { Fits (pairs_seen self.old.pairs
+            ++ emissions mapper.old.job line.file line.start line.bytes.now) }
         requires room { mapped.old + 1 < 2 ^ 64 }
         ensures same { mapper.new ≡ mapper.old }
         ensures sound { OnOk result (Sound self.new.pairs) }
@@ -240,7 +243,8 @@ impl Tables {
         ensures few { OnOk result (length (pairs_seen self.new.pairs) < 2 ^ 32) }
         ensures shows { OnOk result (numbered split 0 0 self.new.ends.items (pairs_seen self.new.pairs)
             ≡ flat_map (record_triples job.now kept.now.skips) (of_split split (records_of kept.now.cut))) }
-        ensures counted { OnOk result (mapped.new ≡ mapped.old + mapped_among kept.now.skips (of_split split (records_of kept.now.cut))) }
+        ensures counted { OnOk result (mapped.new
+            ≡ mapped.old + mapped_among kept.now.skips (of_split split (records_of kept.now.cut))) }
         ensures err { OnErr result ((mapped.old ≤ mapped.new)
             × (mapped.new ≤ mapped.old + mapped_among kept.now.skips (of_split split (records_of kept.now.cut)))) }
     {
@@ -273,7 +277,8 @@ pub(crate) fn map_split(
     requires split { split < split_total kept.now.cut.size kept.now.cut.files }
     requires room { mapped.old + mapped_among kept.now.skips (of_split split (records_of kept.now.cut)) < 2 ^ 64 }
     ensures part { IfOk result (λ r. r ≡ triples_in split (triples_of job.now kept.now.cut kept.now.skips)) }
-    ensures counted { OnOk result (mapped.new ≡ mapped.old + mapped_among kept.now.skips (of_split split (records_of kept.now.cut))) }
+    ensures counted { OnOk result (mapped.new
+        ≡ mapped.old + mapped_among kept.now.skips (of_split split (records_of kept.now.cut))) }
     ensures err { OnErr result ((mapped.old ≤ mapped.new)
         × (mapped.new ≤ mapped.old + mapped_among kept.now.skips (of_split split (records_of kept.now.cut)))) }
 {

@@ -132,7 +132,8 @@ impl Tables {
         requires rise { EndsRise 0 (length (pairs_seen more.now.pairs)) more.now.ends.items }
         requires fits { Fits (pairs_seen self.old.pairs ++ pairs_seen more.now.pairs) }
         ensures sound { OnOk result (Sound self.new.pairs) }
-        ensures pairs { OnOk result (pairs_seen self.new.pairs ≡ pairs_seen self.old.pairs ++ pairs_seen more.now.pairs) }
+        ensures pairs { OnOk result (pairs_seen self.new.pairs
+            ≡ pairs_seen self.old.pairs ++ pairs_seen more.now.pairs) }
         ensures ends { OnOk result (self.new.ends.items
             ≡ appended from (length (pairs_seen self.old.pairs)) more.now.ends.items self.old.ends.items) }
     {

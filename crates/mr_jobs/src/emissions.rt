@@ -1,7 +1,9 @@
 //! What a job emits for a record.
-ghost use Rattle.std.specs.Prelude.{◌≡◌, ◌↔◌, IsTrue, ℕ, ◌+◌, ◌≤◌, ◌<◌, ◌^◌, ◌++◌, [], ◌∷◌, All, OnOk, OnErr, if◌then◌else◌, is_ok, length, take, vec_len};
+ghost use Rattle.std.specs.Prelude.{◌≡◌, ◌↔◌, IsTrue, ℕ, ◌+◌, ◌≤◌, ◌<◌, ◌^◌, ◌++◌, [], ◌∷◌, All};
+ghost use Rattle.std.specs.Prelude.{OnOk, OnErr, if◌then◌else◌, is_ok, length, take, vec_len};
 ghost use Rattle.mr_jobs.specs.Emissions.{emissions, nth_emission};
-ghost use Rattle.mr_jobs.specs.Laws.{FewEmissions, ShortKeys, KeysFitTheRecord, CountersEmitOnes, OneValueEach};
+ghost use Rattle.mr_jobs.specs.Laws.{FewEmissions, ShortKeys, KeysFitTheRecord, CountersEmitOnes};
+ghost use Rattle.mr_jobs.specs.Laws.{OneValueEach};
 ghost use Rattle.mr_jobs.specs.Views.{IsIn, entries_seen, entry_for};
 
 use crate::emitter::Emitter;
@@ -98,7 +100,8 @@ fn push_one(
     value: Value,
 ) -> Result<(), AllocError>
     ensures keys { keys.new.items ≡ (if is_ok result then keys.old.items ++ key.now else keys.old.items) }
-    ensures entries { entries.new.items ≡ (if is_ok result then entries.old.items ++ entry_for keys.old.items key.now value ∷ [] else entries.old.items) }
+    ensures entries { entries.new.items ≡ (if is_ok result then entries.old.items
+        ++ entry_for keys.old.items key.now value ∷ [] else entries.old.items) }
 {
     let start = keys.len();
     keys.extend_from_slice(key)?;
@@ -120,7 +123,8 @@ fn push_all(
     ensures keys_kept { take (vec_len keys.old) keys.new.items ≡ keys.old.items }
     ensures entries_kept { take (vec_len entries.old) entries.new.items ≡ entries.old.items }
     ensures within { OnOk result (All (IsIn keys.new.items) entries.new.items) }
-    ensures ok { OnOk result (entries_seen keys.new.items entries.new.items ≡ entries_seen keys.old.items entries.old.items ++ emitter.entry) }
+    ensures ok { OnOk result (entries_seen keys.new.items entries.new.items
+        ≡ entries_seen keys.old.items entries.old.items ++ emitter.entry) }
 {
     while let Some((key, value)) = emitter.next() {
         push_one(keys, entries, key, value)?;

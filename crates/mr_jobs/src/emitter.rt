@@ -1,5 +1,7 @@
 //! The emissions of a record, one after another.
-ghost use Rattle.std.specs.Prelude.{◌≡◌, ℕ, ◌≤◌, ◌<◌, ◌^◌, ◌⊎◌, [], ◌∷◌, false, if◌then◌else◌, IsTrue, OnOk, OnErr, MatchOption, IfSome, IfNone, length, vec_capacity};
+ghost use Rattle.std.specs.Prelude.{◌≡◌, ℕ, ◌≤◌, ◌<◌, ◌^◌, ◌⊎◌, [], ◌∷◌, false, if◌then◌else◌};
+ghost use Rattle.std.specs.Prelude.{IsTrue, OnOk, OnErr, MatchOption, IfSome, IfNone, length};
+ghost use Rattle.std.specs.Prelude.{vec_capacity};
 ghost use Rattle.mr_jobs.specs.Emissions.{emissions, IsReady};
 ghost use Rattle.mr_jobs.specs.JobSpec.{folds_words};
 

@@ -1,6 +1,9 @@
 //! What is done with each record.
-ghost use Rattle.std.specs.Prelude.{◌≡◌, ◌↔◌, ℕ, ◌≤◌, ◌<◌, IfOk, IsTrue, OnOk, IsOkUnless, length, [], Contains};
-ghost use Rattle.mr_jobs.specs.JobSpec.{WordCount, LinesWith, Resources, InvertedIndex, JobFits, LiteralFits, counts, has_lines, job_number, job_flags, job_literal};
+ghost use Rattle.std.specs.Prelude.{◌≡◌, ◌↔◌, ℕ, ◌≤◌, ◌<◌, IfOk, IsTrue, OnOk, IsOkUnless, length};
+ghost use Rattle.std.specs.Prelude.{[], Contains};
+ghost use Rattle.mr_jobs.specs.JobSpec.{WordCount, LinesWith, Resources, InvertedIndex, JobFits};
+ghost use Rattle.mr_jobs.specs.JobSpec.{LiteralFits, counts, has_lines, job_number, job_flags};
+ghost use Rattle.mr_jobs.specs.JobSpec.{job_literal};
 ghost use Rattle.mr_jobs.specs.Emissions.{value_at};
 
 use mr_bytes::Value;
@@ -77,7 +80,8 @@ impl Job {
         ensures fits { OnOk result (LiteralFits literal.now) }
         ensures empty { (result ≡ Err JobFault.EmptyLiteral) ↔ (literal.now ≡ []) }
         ensures long { (result ≡ Err JobFault.LongLiteral) ↔ (4096 < length literal.now) }
-        ensures line_end { (result ≡ Err JobFault.LineEndInLiteral) ↔ ((0 < length literal.now) × (length literal.now ≤ 4096) × Contains literal.now 10) }
+        ensures line_end { (result ≡ Err JobFault.LineEndInLiteral)
+            ↔ ((0 < length literal.now) × (length literal.now ≤ 4096) × Contains literal.now 10) }
         ensures good { LiteralFits literal.now → IsOkUnless result JobFault.OutOfMemory }
     {
         if literal.is_empty() {

@@ -1,5 +1,6 @@
 //! Where a literal stands in a text, asked for one line after another.
-ghost use Rattle.std.specs.Prelude.{◌≡◌, ◌≤◌, ◌<◌, ◌+◌, ◌⊎◌, IfSome, IsTrue, false, length, slice_range};
+ghost use Rattle.std.specs.Prelude.{◌≡◌, ◌≤◌, ◌<◌, ◌+◌, ◌⊎◌, IfSome, IsTrue, false, length};
+ghost use Rattle.std.specs.Prelude.{slice_range};
 ghost use Rattle.mr_jobs.specs.Hits.{AreSo, IsFirstPlace, Sought};
 ghost use Rattle.mr_jobs.specs.Literal.{holds};
 

@@ -2,7 +2,8 @@
 ghost use Rattle.std.specs.Prelude.{◌≡◌, ◌↔◌, ℕ, ◌≤◌, ◌<◌, ◌^◌, ◌⊎◌, IfOk, IsOk, IsTrue};
 ghost use Rattle.mr_bytes.specs.declared.By.{By};
 ghost use Rattle.mr_input.specs.Files.{split_total};
-ghost use Rattle.mr_jobs.specs.JobSpec.{ByFits, JobFits, PartsFit, RequestSpec, Resources, SplitFits, flags_of};
+ghost use Rattle.mr_jobs.specs.JobSpec.{ByFits, JobFits, PartsFit, RequestSpec, Resources};
+ghost use Rattle.mr_jobs.specs.JobSpec.{SplitFits, flags_of};
 
 use crate::job::Job;
 use mr_bytes::By;
@@ -68,10 +69,12 @@ impl Request {
     /// A job with `parts` partitions, chosen by the whole key, splits of `split` bytes, and at most `skips` records left out. Of
     /// several faults the first of `RequestFault` is told.
     pub fn new(job: Job, parts: u32, split: u32, skips: u32) -> Result<Request, RequestFault>
-        ensures value { IfOk result (λ r. r ≡ record { job = job; by = By.Key; parts = parts; split = split; skips = skips }) }
+        ensures value { IfOk result (λ r. r
+            ≡ record { job = job; by = By.Key; parts = parts; split = split; skips = skips }) }
         ensures succeeds { PartsFit parts → SplitFits split → skips ≤ 1000 → IsOk result }
         ensures bad_parts { (result ≡ Err RequestFault.BadParts) ↔ ((parts ≡ 0) ⊎ (1024 < parts)) }
-        ensures bad_split { (result ≡ Err RequestFault.BadSplitSize) ↔ (PartsFit parts × ((split ≡ 0) ⊎ (2 ^ 26 < split))) }
+        ensures bad_split { (result ≡ Err RequestFault.BadSplitSize)
+            ↔ (PartsFit parts × ((split ≡ 0) ⊎ (2 ^ 26 < split))) }
         ensures bad_skips { (result ≡ Err RequestFault.BadSkips) ↔ (PartsFit parts × SplitFits split × (1000 < skips)) }
     {
         if parts == 0 || MAX_PARTS < parts {

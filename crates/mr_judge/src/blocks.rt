@@ -1,6 +1,7 @@
 //! Reading and looking up ahead of the tests, a block at a time. Each step is a loop of its own over the block, short and
 //! not inlined, in which no turn waits for the one before: so the waits for memory of many names overlap.
-ghost use Rattle.std.specs.Prelude.{◌≡◌, ◌⊎◌, None, false, IfOk, ◌<◌, ◌≤◌, ◌+◌, ◌^◌, [], ◌∷◌, ◌++◌, OnOk, List, length};
+ghost use Rattle.std.specs.Prelude.{◌≡◌, ◌⊎◌, None, false, IfOk, ◌<◌, ◌≤◌, ◌+◌, ◌^◌, [], ◌∷◌, ◌++◌};
+ghost use Rattle.std.specs.Prelude.{OnOk, List, length};
 ghost use Rattle.std.specs.List.{AllByRecursion};
 ghost use Rattle.mr_bytes.specs.Pairs.{Triple};
 ghost use Rattle.mr_verdict.specs.Items.{CanCome, Stops};
@@ -82,7 +83,8 @@ pub fn read_block<I: ItemSource>(
     ensures some { IfOk result (λ o. o ≡ None → 1 ≤ length items.new.items) }
     ensures block { IfOk result (λ _. length items.new.items ≤ 64) }
     ensures entries { IfOk result (λ _. entries_in items.new.items ≤ I.most walker.old) }
-    ensures fewer { IfOk result (λ o. o ≡ None → has_end items.new.items ≡ false → length items.new.items + I.most walker.new ≤ I.most walker.old) }
+    ensures fewer { IfOk result (λ o. o ≡ None → has_end items.new.items ≡ false
+        → length items.new.items + I.most walker.new ≤ I.most walker.old) }
     ensures stops { Stops I.steady (I.failed walker.old) (I.failed walker.new) result }
 {
     items.clear();
@@ -113,7 +115,8 @@ pub fn seek_all<'a>(
     requires { meter.old.lookups + entries_in items.now < 2 ^ 64 }
     ensures items { OnOk result (items_sought sought.new.items ≡ items.now) }
     ensures placed { OnOk result (AllByRecursion (IsPlaced basis.now.triples) sought.new.items) }
-    ensures lookups { (meter.old.lookups ≤ meter.new.lookups) × (meter.new.lookups ≤ meter.old.lookups + entries_in items.now) }
+    ensures lookups { (meter.old.lookups ≤ meter.new.lookups)
+        × (meter.new.lookups ≤ meter.old.lookups + entries_in items.now) }
     ensures all { OnOk result (meter.new.lookups ≡ meter.old.lookups + entries_in items.now) }
     ensures mapped { meter.new.mapped ≡ meter.old.mapped }
 {
@@ -129,7 +132,8 @@ pub fn seek_all<'a>(
 #[inline(never)]
 pub fn fetch_all<'a>(sought: &[Sought<'a>], rows: &mut Vec<FoundItem<'a>>) -> Result<(), AllocError>
     ensures items { OnOk result (items_in rows.new.items ≡ items_sought sought.now) }
-    ensures found { OnOk result ((ts : List Triple) → AllByRecursion (IsPlaced ts) sought.now → AllByRecursion (IsFound ts) rows.new.items) }
+    ensures found { OnOk result ((ts : List Triple) → AllByRecursion (IsPlaced ts) sought.now
+        → AllByRecursion (IsFound ts) rows.new.items) }
 {
     rows.clear();
     for one in sought {

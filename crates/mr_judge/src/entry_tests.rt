@@ -58,7 +58,8 @@ pub(crate) fn test_first(
     key_before: Option<&[u8]>,
     key: &[u8],
 ) -> Result<(), No>
-    ensures { let fs = first_tests (rules_of basis.now.request).part p group (option_map (λ r. r.now) key_before.entry) key.now in MatchResult result
+    ensures { let fs = first_tests (rules_of basis.now.request).part p group (option_map
+        (λ r. r.now) key_before.entry) key.now in MatchResult result
         (λ _. fs ≡ []) (λ e. Answers fs e) }
 {
     if basis.part(key) != p {
@@ -111,7 +112,8 @@ pub(crate) fn test_later(
 
 /// Whether no emitted pair is without a name.
 pub fn test_named(emitted: u64, named: u64) -> Result<(), No>
-    ensures { let fs = passes (nat_le emitted named) (No.Unnamed emitted named) in MatchResult result (λ _. fs ≡ []) (λ e. Answers fs e) }
+    ensures { let fs = passes (nat_le emitted named)
+        (No.Unnamed emitted named) in MatchResult result (λ _. fs ≡ []) (λ e. Answers fs e) }
 {
     if named < emitted {
         return Err(No::Unnamed { emitted, named });

@@ -1,5 +1,6 @@
 //! The judge of a result that readers give.
-ghost use Rattle.std.specs.Prelude.{◌≡◌, ◌⊎◌, ◌<◌, ◌≤◌, ◌^◌, ℕ, List, Err, IfOk, IfErr, IfSome, MatchOption, map, length, get_or};
+ghost use Rattle.std.specs.Prelude.{◌≡◌, ◌⊎◌, ◌<◌, ◌≤◌, ◌^◌, ℕ, List, Err, IfOk, IfErr, IfSome};
+ghost use Rattle.std.specs.Prelude.{MatchOption, map, length, get_or};
 ghost use Rattle.mr_input.specs.Files.{split_total};
 ghost use Rattle.mr_jobs.specs.JobSpec.{RequestSpec};
 ghost use Rattle.mr_certform.specs.Grammar.{AreBytes};
@@ -118,8 +119,10 @@ fn judge_from<R: CountedRead, C: CountedRead>(
     watch: &dyn Progress,
 ) -> Result<Yes, No>
     requires fits { split_total request.now.split input.now ≤ 2 ^ 20 }
-    ensures judged { VerdictOfSome request.now input.now (map R.remaining outputs.old) (C.remaining certificate.old) result }
-    ensures device { IsDevice (map R.failed outputs.old) (map R.failed outputs.new) (C.failed certificate.old) (C.failed certificate.new) result }
+    ensures judged { VerdictOfSome request.now input.now (map R.remaining outputs.old)
+        (C.remaining certificate.old) result }
+    ensures device { IsDevice (map R.failed outputs.old) (map R.failed outputs.new)
+        (C.failed certificate.old) (C.failed certificate.new) result }
 {
     let certificate_failures = certificate.failures();
     if outputs.len() != request.parts() as usize {
@@ -152,11 +155,14 @@ pub fn check_from<R: CountedRead, C: CountedRead>(
 ) -> Result<Yes, No>
     requires { split_total request.now.split input.now ≤ 2 ^ 20 }
     ensures judged { Judged request.now input.now (map R.remaining outputs.old) (C.remaining certificate.old) result }
-    ensures headline { IfOk result (λ y. (outs : List (List ℕ)) (bytes : List ℕ) → Give (map R.remaining outputs.old) (C.remaining certificate.old) outs bytes
+    ensures headline { IfOk result (λ y. (outs : List (List ℕ)) (bytes : List ℕ)
+        → Give (map R.remaining outputs.old) (C.remaining certificate.old) outs bytes
         → IsCertified request.now input.now outs bytes y.skips.items y.pairs) }
-    ensures verdict { (outs : List (List ℕ)) (bytes : List ℕ) → Give (map R.remaining outputs.old) (C.remaining certificate.old) outs bytes
+    ensures verdict { (outs : List (List ℕ)) (bytes : List ℕ)
+        → Give (map R.remaining outputs.old) (C.remaining certificate.old) outs bytes
         → IsVerdictFrom request.now input.now outs bytes result }
-    ensures device { IsDevice (map R.failed outputs.old) (map R.failed outputs.new) (C.failed certificate.old) (C.failed certificate.new) result }
+    ensures device { IsDevice (map R.failed outputs.old) (map R.failed outputs.new)
+        (C.failed certificate.old) (C.failed certificate.new) result }
 {
     judge_readers(alloc, request, input, outputs, certificate, &Unwatched)
 }
@@ -172,11 +178,14 @@ pub fn judge_readers<R: CountedRead, C: CountedRead>(
 ) -> Result<Yes, No>
     requires { split_total request.now.split input.now ≤ 2 ^ 20 }
     ensures judged { Judged request.now input.now (map R.remaining outputs.old) (C.remaining certificate.old) result }
-    ensures headline { IfOk result (λ y. (outs : List (List ℕ)) (bytes : List ℕ) → Give (map R.remaining outputs.old) (C.remaining certificate.old) outs bytes
+    ensures headline { IfOk result (λ y. (outs : List (List ℕ)) (bytes : List ℕ)
+        → Give (map R.remaining outputs.old) (C.remaining certificate.old) outs bytes
         → IsCertified request.now input.now outs bytes y.skips.items y.pairs) }
-    ensures verdict { (outs : List (List ℕ)) (bytes : List ℕ) → Give (map R.remaining outputs.old) (C.remaining certificate.old) outs bytes
+    ensures verdict { (outs : List (List ℕ)) (bytes : List ℕ)
+        → Give (map R.remaining outputs.old) (C.remaining certificate.old) outs bytes
         → IsVerdictFrom request.now input.now outs bytes result }
-    ensures device { IsDevice (map R.failed outputs.old) (map R.failed outputs.new) (C.failed certificate.old) (C.failed certificate.new) result }
+    ensures device { IsDevice (map R.failed outputs.old) (map R.failed outputs.new)
+        (C.failed certificate.old) (C.failed certificate.new) result }
 {
     // A request's splits have at least one byte.
     let _size = request.split_size();

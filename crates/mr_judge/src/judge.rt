@@ -3,7 +3,8 @@ ghost use Rattle.std.specs.Prelude.{◌≡◌, ◌⊎◌, ℕ, List, ◌<◌, �
 ghost use Rattle.mr_input.specs.Files.{contents, split_total};
 ghost use Rattle.mr_splits.specs.Cut.{records_of};
 ghost use Rattle.mr_certform.specs.declared.item.Item.{Item as Read};
-ghost use Rattle.mr_certform.specs.declared.grammar_state.GrammarState.TheVariants.{AtMagic, AtSkips};
+ghost use Rattle.mr_certform.specs.declared.grammar_state.GrammarState.TheVariants.{AtMagic};
+ghost use Rattle.mr_certform.specs.declared.grammar_state.GrammarState.TheVariants.{AtSkips};
 ghost use Rattle.mr_certform.specs.Grammar.{AreBytes};
 ghost use Rattle.mr_certform.specs.Walking.{items_left, halt};
 ghost use Rattle.mr_certform.specs.Spelling.{items_of, stop};
@@ -16,7 +17,8 @@ ghost use Rattle.mr_verdict.specs.Steps.{case_at};
 ghost use Rattle.mr_judge.specs.Blocks.{Judges};
 ghost use Rattle.mr_judge.specs.Kinds.{InKind};
 ghost use Rattle.mr_verdict.specs.Items.{CanCome, Each};
-ghost use Rattle.mr_judge.specs.Outputs.{CanCome as CanComeAhead, Fits, Through, RestJudged, AllJudged, HaltsItems, HaltsOutputs, begins};
+ghost use Rattle.mr_judge.specs.Outputs.{CanCome as CanComeAhead, Fits, Through, RestJudged};
+ghost use Rattle.mr_judge.specs.Outputs.{AllJudged, HaltsItems, HaltsOutputs, begins};
 
 use crate::facts::Basis;
 use crate::outputs::{MemoryOutputs, Outputs};
@@ -64,7 +66,8 @@ fn check_with<I: ItemSource, O: Outputs>(
     requires place { O.place outputs.old ≡ 0 }
     ensures judged { Through (O.gives outputs.old) start (λ outs. Judges (I.gives walker.old)
         (subject_of (case_at request.now plan.now.files outs 0) skips.now) meter.old.lookups meter.new.lookups result) }
-    ensures mapped { (meter.old.mapped ≤ meter.new.mapped) × (meter.new.mapped ≤ meter.old.mapped + length (records_of plan.now)) }
+    ensures mapped { (meter.old.mapped ≤ meter.new.mapped)
+        × (meter.new.mapped ≤ meter.old.mapped + length (records_of plan.now)) }
     ensures exact { IfOk result (λ n. IsExact plan.now skips.now n meter.old meter.new) }
     ensures stops { HaltsItems I.steady (I.failed walker.old) (I.failed walker.new) result }
     ensures halts { HaltsOutputs O.steady (O.failed outputs.old) (O.failed outputs.new) result }
@@ -102,7 +105,8 @@ fn check_rest<I: ItemSource, O: Outputs>(
         (RestJudged (I.gives walker.old) request.now input.now meter.old.lookups meter.new.lookups result) }
     ensures mapped { (meter.old.mapped ≤ meter.new.mapped)
         × (meter.new.mapped ≤ meter.old.mapped + length (records_of (cut_by request.now input.now))) }
-    ensures exact { IfOk result (λ y. IsExact (cut_by request.now input.now) y.skips.items y.pairs meter.old meter.new) }
+    ensures exact { IfOk result
+        (λ y. IsExact (cut_by request.now input.now) y.skips.items y.pairs meter.old meter.new) }
     ensures stops { HaltsItems I.steady (I.failed walker.old) (I.failed walker.new) result }
     ensures halts { HaltsOutputs O.steady (O.failed outputs.old) (O.failed outputs.new) result }
 {
@@ -146,7 +150,8 @@ pub(crate) fn judge_all<I: ItemSource, O: Outputs>(
         (AllJudged (I.gives walker.old) request.now input.now meter.old.lookups meter.new.lookups result) }
     ensures mapped { (meter.old.mapped ≤ meter.new.mapped)
         × (meter.new.mapped ≤ meter.old.mapped + length (records_of (cut_by request.now input.now))) }
-    ensures exact { IfOk result (λ y. IsExact (cut_by request.now input.now) y.skips.items y.pairs meter.old meter.new) }
+    ensures exact { IfOk result
+        (λ y. IsExact (cut_by request.now input.now) y.skips.items y.pairs meter.old meter.new) }
     ensures stops { HaltsItems I.steady (I.failed walker.old) (I.failed walker.new) result }
     ensures halts { HaltsOutputs O.steady (O.failed outputs.old) (O.failed outputs.new) result }
 {
@@ -223,10 +228,12 @@ pub fn check(
     certificate: &[u8],
 ) -> Result<Yes, No>
     requires { split_total request.now.split input.now ≤ 2 ^ 20 }
-    ensures headline { IfOk result (λ y. IsCertified request.now input.now (contents outputs.now) certificate.now y.skips.items y.pairs) }
+    ensures headline { IfOk result (λ y. IsCertified request.now input.now
+        (contents outputs.now) certificate.now y.skips.items y.pairs) }
     ensures yes { IfOk result
         (λ y. verdict_of request.now input.now (contents outputs.now) certificate.now ≡ Ok (accepted_of y)) }
-    ensures no { IfErr result (λ e. (e ≡ OutOfMemory) ⊎ (verdict_of request.now input.now (contents outputs.now) certificate.now ≡ Err e)) }
+    ensures no { IfErr result (λ e. (e ≡ OutOfMemory)
+        ⊎ (verdict_of request.now input.now (contents outputs.now) certificate.now ≡ Err e)) }
 {
     let case = Case {
         request,
@@ -255,12 +262,15 @@ pub fn check_metered(
 ) -> Result<Yes, No>
     requires fits { split_total request.now.split input.now ≤ 2 ^ 20 }
     requires count { (meter.old.lookups ≤ 2 ^ 63) × (meter.old.mapped ≤ 2 ^ 63) }
-    ensures headline { IfOk result (λ y. IsCertified request.now input.now (contents outputs.now) certificate.now y.skips.items y.pairs) }
+    ensures headline { IfOk result (λ y. IsCertified request.now input.now
+        (contents outputs.now) certificate.now y.skips.items y.pairs) }
     ensures yes { IfOk result
         (λ y. verdict_of request.now input.now (contents outputs.now) certificate.now ≡ Ok (accepted_of y)) }
-    ensures no { IfErr result (λ e. (e ≡ OutOfMemory) ⊎ (verdict_of request.now input.now (contents outputs.now) certificate.now ≡ Err e)) }
+    ensures no { IfErr result (λ e. (e ≡ OutOfMemory)
+        ⊎ (verdict_of request.now input.now (contents outputs.now) certificate.now ≡ Err e)) }
     ensures bounded { IsBounded (cut_by request.now input.now) (items_of certificate.now) meter.old meter.new }
-    ensures exact { IfOk result (λ y. IsExact (cut_by request.now input.now) y.skips.items y.pairs meter.old meter.new) }
+    ensures exact { IfOk result
+        (λ y. IsExact (cut_by request.now input.now) y.skips.items y.pairs meter.old meter.new) }
 {
     let case = Case {
         request,

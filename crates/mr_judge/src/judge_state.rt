@@ -1,10 +1,13 @@
 //! How far the judge has come in the partitions, item by item.
-ghost use Rattle.std.specs.Prelude.{◌≡◌, ◌<◌, ◌≤◌, ◌+◌, ◌-◌, ◌^◌, ◌++◌, ◌∷◌, [], MatchOption, MatchResult, OnOk, None, Some, true, length};
+ghost use Rattle.std.specs.Prelude.{◌≡◌, ◌<◌, ◌≤◌, ◌+◌, ◌-◌, ◌^◌, ◌++◌, ◌∷◌, [], MatchOption};
+ghost use Rattle.std.specs.Prelude.{MatchResult, OnOk, None, Some, true, length};
 ghost use Rattle.mr_sequential.specs.Good.{named};
 ghost use Rattle.mr_input.specs.Files.{nth_file};
 ghost use Rattle.mr_sequential.specs.Rules.{rules_of};
 ghost use Rattle.mr_certform.specs.declared.item.Item.TheVariants.{Entry};
-ghost use Rattle.mr_verdict.specs.Verdict.{start, first_tests, later_tests, order_tests, with_entry, group_tests, behind_group, entry_tests, after_entry};
+ghost use Rattle.mr_verdict.specs.Verdict.{start, first_tests, later_tests, order_tests};
+ghost use Rattle.mr_verdict.specs.Verdict.{with_entry, group_tests, behind_group, entry_tests};
+ghost use Rattle.mr_verdict.specs.Verdict.{after_entry};
 ghost use Rattle.mr_verdict.specs.Verdict.{tests, after, end_tests};
 ghost use Rattle.mr_verdict.specs.Steps.{subject_with, Answers, HasRoom, opens};
 ghost use Rattle.mr_judge.specs.Blocks.{IsFound};
@@ -119,7 +122,14 @@ impl<'a> JudgeState<'a> {
     /// The next partition, of so many groups.
     fn begin_partition(&mut self, groups: u64)
         requires { HasRoom self.old }
-        ensures { self.new ≡ record self.old { next = self.old.next + 1; groups = groups; group = 0; key_before = None; from = 0 } }
+        ensures { self.new ≡ record self.old {
+          next = self.old.next
+              + 1;
+          groups = groups;
+          group = 0;
+          key_before = None;
+          from = 0;
+        } }
     {
         self.next += 1;
         self.groups = groups;
@@ -205,7 +215,8 @@ impl<'a> JudgeState<'a> {
         requires begun { O.begun outputs.old }
         requires some { CanCome (O.gives outputs.old) }
         requires place { O.place outputs.old ≡ self.old.from }
-        ensures tested { Tested (O.gives outputs.old) (O.gives outputs.new) self.old self.new (λ outs. group_tests (subject_with basis.now outs) p self.old 0)
+        ensures tested { Tested (O.gives outputs.old) (O.gives outputs.new) self.old self.new
+            (λ outs. group_tests (subject_with basis.now outs) p self.old 0)
             (λ outs. behind_group (subject_with basis.now outs) self.old 0) result }
         ensures some { CanCome (O.gives outputs.new) }
         ensures place { OnOk result (O.place outputs.new ≡ self.new.from) }
@@ -228,7 +239,8 @@ impl<'a> JudgeState<'a> {
         value: Value,
     ) -> Result<(), No>
         requires { HasRoom self.old }
-        ensures { let fs = first_tests (rules_of basis.now.request).part p self.old.group self.old.key_before key.entry.now in
+        ensures { let fs = first_tests
+            (rules_of basis.now.request).part p self.old.group self.old.key_before key.entry.now in
             MatchResult result (λ _. (fs ≡ []) × (self.new ≡ with_entry self.old (record { key = key.entry.now; value = value; name = name }) 0))
             (λ e. Answers fs e) }
     {

@@ -34,9 +34,11 @@ fn test_lines<O: Outputs>(
     requires lines { has_lines job.now ≡ true }
     requires begun { O.begun outputs.old }
     requires some { CanCome (O.gives outputs.old) }
-    ensures told { TextTold (O.gives outputs.old) (O.gives outputs.new) p (O.place outputs.old) (text_of job.now key.now values.now) result }
+    ensures told { TextTold (O.gives outputs.old) (O.gives outputs.new) p
+        (O.place outputs.old) (text_of job.now key.now values.now) result }
     ensures some { CanCome (O.gives outputs.new) }
-    ensures place { OnOk result (O.place outputs.new ≡ O.place outputs.old + length (text_of job.now key.now values.now)) }
+    ensures place { OnOk result (O.place outputs.new
+        ≡ O.place outputs.old + length (text_of job.now key.now values.now)) }
     ensures begun { O.begun outputs.new }
     ensures halts { Halts O.steady (O.failed outputs.old) (O.failed outputs.new) result }
 {
@@ -58,9 +60,11 @@ pub(crate) fn test_group<O: Outputs>(
 ) -> Result<(), JudgeError>
     requires begun { O.begun outputs.old }
     requires some { CanCome (O.gives outputs.old) }
-    ensures told { TextTold (O.gives outputs.old) (O.gives outputs.new) p (O.place outputs.old) (text_of basis.now.request.job key.now values.now) result }
+    ensures told { TextTold (O.gives outputs.old) (O.gives outputs.new) p
+        (O.place outputs.old) (text_of basis.now.request.job key.now values.now) result }
     ensures some { CanCome (O.gives outputs.new) }
-    ensures place { OnOk result (O.place outputs.new ≡ O.place outputs.old + length (text_of basis.now.request.job key.now values.now)) }
+    ensures place { OnOk result (O.place outputs.new
+        ≡ O.place outputs.old + length (text_of basis.now.request.job key.now values.now)) }
     ensures begun { O.begun outputs.new }
     ensures halts { Halts O.steady (O.failed outputs.old) (O.failed outputs.new) result }
 {

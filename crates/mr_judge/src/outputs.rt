@@ -1,5 +1,6 @@
 //! The outputs that are judged, one after another: at hand, or from readers.
-ghost use Rattle.std.specs.Prelude.{◌≡◌, ◌⊎◌, ◌≤◌, ◌<◌, ◌+◌, ◌-◌, ⊤, ◌^◌, ℕ, List, [], length, drop};
+ghost use Rattle.std.specs.Prelude.{◌≡◌, ◌⊎◌, ◌≤◌, ◌<◌, ◌+◌, ◌-◌, ⊤, ◌^◌, ℕ, List, [], length};
+ghost use Rattle.std.specs.Prelude.{drop};
 ghost use Rattle.mr_input.specs.Files.{contents, nth_file};
 ghost use Rattle.mr_judge.specs.Outputs.{CanCome, Opens, Compares, Ends, Lacks};
 
@@ -56,7 +57,8 @@ pub trait Outputs {
     /// Whether the text stands next. What is the same in both is passed.
     fn pass_text(&mut self, text: &[u8]) -> Result<bool, OutputError>
         requires begun { begun self.old }
-        ensures compares { Compares (gives self.old) (gives self.new) (place self.old) (place self.new) text.now result }
+        ensures compares { Compares (gives self.old) (gives self.new) (place self.old)
+            (place self.new) text.now result }
         ensures begun { begun self.new }
         ensures some { CanCome (gives self.old) → CanCome (gives self.new) }
         ensures lacks { Lacks steady (failed self.old) (failed self.new) result };

@@ -1,11 +1,13 @@
 //! The partitions of a certificate, with the outputs.
-ghost use Rattle.std.specs.Prelude.{◌≡◌, ◌⊎◌, ◌<◌, ◌≤◌, ◌+◌, ◌-◌, ◌^◌, IfOk, OnOk, true, false, length};
+ghost use Rattle.std.specs.Prelude.{◌≡◌, ◌⊎◌, ◌<◌, ◌≤◌, ◌+◌, ◌-◌, ◌^◌, IfOk, OnOk, true, false};
+ghost use Rattle.std.specs.Prelude.{length};
 ghost use Rattle.std.specs.List.{AllByRecursion};
 ghost use Rattle.mr_verdict.specs.Verdict.{start, entries_in};
 ghost use Rattle.mr_verdict.specs.Steps.{subject_with, Room};
 ghost use Rattle.mr_judge.specs.Blocks.{items_in, IsFound, Judges};
 ghost use Rattle.mr_verdict.specs.Items.{CanCome, Each};
-ghost use Rattle.mr_judge.specs.Outputs.{CanCome as CanComeAhead, Fits, Through, RowsJudged, Halts, HaltsItems, HaltsOutputs, begins};
+ghost use Rattle.mr_judge.specs.Outputs.{CanCome as CanComeAhead, Fits, Through, RowsJudged, Halts};
+ghost use Rattle.mr_judge.specs.Outputs.{HaltsItems, HaltsOutputs, begins};
 
 use crate::blocks::{BLOCK, FoundItem, Sought, fetch_all, read_block, seek_all, touch};
 use crate::facts::Basis;
@@ -31,7 +33,8 @@ fn judge_rows<'a, O: Outputs>(
     requires some { CanComeAhead (O.gives outputs.old) }
     requires place { O.place outputs.old ≡ judging.old.from }
     requires begun { (begins (items_in rows.now) ≡ true) ⊎ O.begun outputs.old }
-    ensures judged { RowsJudged (O.gives outputs.old) (O.gives outputs.new) basis.now judging.old judging.new (items_in rows.now) result }
+    ensures judged { RowsJudged (O.gives outputs.old)
+        (O.gives outputs.new) basis.now judging.old judging.new (items_in rows.now) result }
     ensures some { CanComeAhead (O.gives outputs.new) }
     ensures place { OnOk result (O.place outputs.new ≡ judging.new.from) }
     ensures begun { IfOk result (λ b. b ≡ false → 1 ≤ length rows.now → O.begun outputs.new) }
@@ -76,7 +79,8 @@ impl<'a> Block<'a> {
         requires { meter.old.lookups + entries_in self.old.items.items < 2 ^ 64 }
         ensures items { OnOk result (items_in self.new.rows.items ≡ self.old.items.items) }
         ensures found { OnOk result (AllByRecursion (IsFound basis.now.triples) self.new.rows.items) }
-        ensures lookups { (meter.old.lookups ≤ meter.new.lookups) × (meter.new.lookups ≤ meter.old.lookups + entries_in self.old.items.items) }
+        ensures lookups { (meter.old.lookups ≤ meter.new.lookups)
+            × (meter.new.lookups ≤ meter.old.lookups + entries_in self.old.items.items) }
         ensures all { OnOk result (meter.new.lookups ≡ meter.old.lookups + entries_in self.old.items.items) }
         ensures mapped { meter.new.mapped ≡ meter.old.mapped }
     {

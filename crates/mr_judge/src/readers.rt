@@ -1,5 +1,6 @@
 //! Outputs that readers give, one behind another.
-ghost use Rattle.std.specs.Prelude.{◌≡◌, ◌⊎◌, ℕ, ◌≤◌, ◌<◌, ◌+◌, ◌-◌, ◌^◌, [], List, IfOk, OnOk, MatchResult, map, nat_eq, true, false, length, take};
+ghost use Rattle.std.specs.Prelude.{◌≡◌, ◌⊎◌, ℕ, ◌≤◌, ◌<◌, ◌+◌, ◌-◌, ◌^◌, [], List, IfOk, OnOk};
+ghost use Rattle.std.specs.Prelude.{MatchResult, map, nat_eq, true, false, length, take};
 ghost use Rattle.std.specs.Prelude.{drop, ◌++◌};
 ghost use Rattle.std.specs.List.{common_prefix_len};
 ghost use Rattle.std.specs.Io.KnownBytes.{Consumes, Keeps, IsAtEnd};

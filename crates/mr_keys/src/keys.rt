@@ -1,5 +1,6 @@
 //! Keys by number.
-ghost use Rattle.std.specs.Prelude.{◌≡◌, ℕ, ◌+◌, ◌<◌, ◌≤◌, ◌^◌, ◌++◌, ◌∷◌, ◌⊎◌, [], IfOk, IfSome, OnOk, OnErr, length};
+ghost use Rattle.std.specs.Prelude.{◌≡◌, ℕ, ◌+◌, ◌<◌, ◌≤◌, ◌^◌, ◌++◌, ◌∷◌, ◌⊎◌, [], IfOk, IfSome};
+ghost use Rattle.std.specs.Prelude.{OnOk, OnErr, length};
 ghost use Rattle.mr_keys.specs.Front.{IsFront};
 ghost use Rattle.mr_keys.specs.Keys.{IsKeyAt, key_at};
 ghost use Rattle.mr_keys.specs.Waiting.{AreFound, AreNumbered};
@@ -134,8 +135,10 @@ impl Keys {
         numbers: &mut Vec<u32>,
     ) -> Result<(), AllocError>
         requires few { length self.old + length waiting.old < 2 ^ 32 }
-        ensures ok { OnOk result (AreNumbered self.old self.new numbers.old.items numbers.new.items (waiting.old ++ key.now ∷ []) waiting.new) }
-        ensures err { OnErr result (AreNumbered self.old self.new numbers.old.items numbers.new.items waiting.old waiting.new) }
+        ensures ok { OnOk result (AreNumbered self.old self.new numbers.old.items numbers.new.items
+            (waiting.old ++ key.now ∷ []) waiting.new) }
+        ensures err { OnErr result
+            (AreNumbered self.old self.new numbers.old.items numbers.new.items waiting.old waiting.new) }
     {
         if self.is_small() && waiting.len() == 0 {
             return self.number_now(alloc, key, numbers);

@@ -1,5 +1,6 @@
 //! Texts in one buffer, with their fronts.
-ghost use Rattle.std.specs.Prelude.{◌≡◌, ◌+◌, ◌-◌, ◌<◌, ◌≤◌, ◌++◌, ◌∷◌, [], IfOk, IfSome, IsTrue, OnOk, OnErr, length};
+ghost use Rattle.std.specs.Prelude.{◌≡◌, ◌+◌, ◌-◌, ◌<◌, ◌≤◌, ◌++◌, ◌∷◌, [], IfOk, IfSome, IsTrue};
+ghost use Rattle.std.specs.Prelude.{OnOk, OnErr, length};
 ghost use Rattle.mr_keys.specs.Front.{IsFront};
 ghost use Rattle.mr_keys.specs.Keys.{IsKeyAt, key_at};
 

@@ -1,5 +1,6 @@
 //! Keys that wait for their numbers.
-ghost use Rattle.std.specs.Prelude.{◌≡◌, ◌<◌, ◌≤◌, ◌++◌, ◌∷◌, [], IsFalse, OnOk, OnErr, drop, length};
+ghost use Rattle.std.specs.Prelude.{◌≡◌, ◌<◌, ◌≤◌, ◌++◌, ◌∷◌, [], IsFalse, OnOk, OnErr, drop};
+ghost use Rattle.std.specs.Prelude.{length};
 ghost use Rattle.mr_keys.specs.Front.{IsFront};
 ghost use Rattle.mr_keys.specs.Keys.{key_at};
 

@@ -1,5 +1,6 @@
 //! Capitals of ASCII made small.
-ghost use Rattle.std.specs.Prelude.{◌≡◌, ◌++◌, ◌+◌, ◌<◌, map, OnOk, OnErr, length, vec_capacity, vec_len};
+ghost use Rattle.std.specs.Prelude.{◌≡◌, ◌++◌, ◌+◌, ◌<◌, map, OnOk, OnErr, length, vec_capacity};
+ghost use Rattle.std.specs.Prelude.{vec_len};
 ghost use Rattle.mr_bytes.specs.Bytes.{fold_byte, folded};
 
 use mr_bytes::fold_byte;

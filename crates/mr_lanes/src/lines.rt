@@ -1,5 +1,6 @@
 //! Where lines end.
-ghost use Rattle.std.specs.Prelude.{◌≡◌, ℕ, ◌+◌, ◌^◌, ◌<◌, ◌≤◌, ◌++◌, length, drop, slice_range, OnOk, OnErr};
+ghost use Rattle.std.specs.Prelude.{◌≡◌, ℕ, ◌+◌, ◌^◌, ◌<◌, ◌≤◌, ◌++◌, length, drop, slice_range};
+ghost use Rattle.std.specs.Prelude.{OnOk, OnErr};
 ghost use Rattle.mr_lanes.specs.Bits.{Extends};
 ghost use Rattle.mr_lanes.specs.Lines.{line_ends, line_ends_from};
 ghost use Rattle.mr_lanes.specs.Laws.{LineEndsAreLineFeeds, LineEndsRise};

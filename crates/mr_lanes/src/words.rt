@@ -1,5 +1,6 @@
 //! Where words stand.
-ghost use Rattle.std.specs.Prelude.{◌≡◌, ℕ, ◌+◌, ◌^◌, ◌<◌, ◌≤◌, ◌++◌, ◌∷◌, [], drop, get_or, length, IfOk, OnOk, OnErr, MatchOption};
+ghost use Rattle.std.specs.Prelude.{◌≡◌, ℕ, ◌+◌, ◌^◌, ◌<◌, ◌≤◌, ◌++◌, ◌∷◌, [], drop, get_or};
+ghost use Rattle.std.specs.Prelude.{length, IfOk, OnOk, OnErr, MatchOption};
 ghost use Rattle.mr_bytes.specs.Bytes.{is_word_byte};
 ghost use Rattle.mr_bytes.specs.Words.{word_spans, word_spans_from};
 ghost use Rattle.mr_lanes.specs.Bits.{is_set, Extends};

@@ -1,5 +1,6 @@
 //! All regions of a partition, merged over their bytes, as long as that is wanted.
-ghost use Rattle.std.specs.Prelude.{IsTrue, ◌≡◌, ◌++◌, ◌∷◌, [], List, IfErr, IfOk, IfSome, MatchOption, OnOk};
+ghost use Rattle.std.specs.Prelude.{IsTrue, ◌≡◌, ◌++◌, ◌∷◌, [], List, IfErr, IfOk, IfSome};
+ghost use Rattle.std.specs.Prelude.{MatchOption, OnOk};
 ghost use Rattle.mr_bytes.specs.Pairs.{Triple};
 ghost use Rattle.mr_merge.specs.Bytes.{AreMerged, AreSpelled};
 ghost use Rattle.mr_merge.specs.Merged.{AreSound, values_of};
@@ -63,7 +64,8 @@ fn read_all(
     partition: u32,
 ) -> Result<Vec<PairColumns>, RegionFault>
     ensures read { IfOk result (λ v. AreSpelled partition regions.now v.items) }
-    ensures damaged { IfErr result (λ e. e ≡ CantRead → (values : List (List Triple)) → AreSpelled partition regions.now values → ⊥) }
+    ensures damaged { IfErr result (λ e. e ≡ CantRead → (values : List (List Triple))
+        → AreSpelled partition regions.now values → ⊥) }
 {
     let mut all = Vec::new(alloc);
     for region in regions {
@@ -91,7 +93,8 @@ fn merged_whole(
     partition: u32,
 ) -> Result<Groups, MergeFault>
     ensures merged { IfOk result (AreMerged partition regions.now) }
-    ensures damaged { IfErr result (λ e. e ≡ RegionDamaged → (values : List (List Triple)) → AreSpelled partition regions.now values → AreSound values → ⊥) }
+    ensures damaged { IfErr result (λ e. e ≡ RegionDamaged → (values : List (List Triple))
+        → AreSpelled partition regions.now values → AreSound values → ⊥) }
 {
     let read = read_all(alloc, regions, partition)?;
     let columns = lent(alloc, read.as_slice())?;
@@ -146,7 +149,8 @@ pub fn merge_regions_while<D: Cancellation>(
     demand: &D,
 ) -> Result<Option<Groups>, MergeFault>
     ensures merged { IfOk result (λ o. MatchOption o (D.unending → ⊥) (AreMerged partition regions.now)) }
-    ensures damaged { IfErr result (λ e. e ≡ RegionDamaged → (values : List (List Triple)) → AreSpelled partition regions.now values → AreSound values → ⊥) }
+    ensures damaged { IfErr result (λ e. e ≡ RegionDamaged → (values : List (List Triple))
+        → AreSpelled partition regions.now values → AreSound values → ⊥) }
 {
     let followed = followed(alloc, regions, partition, demand)?;
     if !demand.is_wanted() {
@@ -167,7 +171,8 @@ pub fn merge_regions(
     partition: u32,
 ) -> Result<Groups, MergeFault>
     ensures merged { IfOk result (AreMerged partition regions.now) }
-    ensures damaged { IfErr result (λ e. e ≡ RegionDamaged → (values : List (List Triple)) → AreSpelled partition regions.now values → AreSound values → ⊥) }
+    ensures damaged { IfErr result (λ e. e ≡ RegionDamaged → (values : List (List Triple))
+        → AreSpelled partition regions.now values → AreSound values → ⊥) }
 {
     match merge_regions_while(alloc, regions, partition, &NeverCancelled)? {
         Some(groups) => Ok(groups),

@@ -106,7 +106,8 @@ fn take_whole(
     partition: u32,
 ) -> Result<Came, AllocError>
     ensures taken { IfOk result (λ c. c ≡ Taken → IsTaken partition region.now all.old all.new) }
-    ensures damaged { IfOk result (λ c. c ≡ Damaged → (ts : List Triple) → SpellsRegion region.now.bytes region.now.split partition ts → ⊥) }
+    ensures damaged { IfOk result (λ c. c ≡ Damaged → (ts : List Triple)
+        → SpellsRegion region.now.bytes region.now.split partition ts → ⊥) }
 {
     let Some(mut cursor) = open_region(region.bytes(), region.split(), partition) else {
         return Ok(Came::Damaged);
@@ -167,8 +168,10 @@ impl Follower {
     /// One region more. Where it isn't taken, or for want of memory, what came counts for nothing from then on.
     pub fn take(&mut self, region: &RegionView<'_>) -> Result<Came, AllocError>
         ensures partition { self.new.partition ≡ self.old.partition }
-        ensures damaged { IfOk result (λ c. c ≡ Damaged → (ts : List Triple) → SpellsRegion region.now.bytes region.now.split self.old.partition ts → ⊥) }
-        ensures taken { IfOk result (λ c. c ≡ Taken → (regions : List RegionText) → HasTaken regions self.old → HasTaken (regions ++ region.now ∷ []) self.new) }
+        ensures damaged { IfOk result (λ c. c ≡ Damaged → (ts : List Triple)
+            → SpellsRegion region.now.bytes region.now.split self.old.partition ts → ⊥) }
+        ensures taken { IfOk result (λ c. c ≡ Taken → (regions : List RegionText)
+            → HasTaken regions self.old → HasTaken (regions ++ region.now ∷ []) self.new) }
     {
         let was = self.whole;
         self.whole = false;
@@ -191,7 +194,8 @@ impl Follower {
 
     /// The groups of all regions that came, if each was taken.
     pub fn groups(self, alloc: Global) -> Result<Option<Groups>, AllocError>
-        ensures { (regions : List RegionText) → HasTaken regions self → IfOk result (λ o. IfSome o (AreMerged self.partition regions)) }
+        ensures { (regions : List RegionText) → HasTaken regions self
+            → IfOk result (λ o. IfSome o (AreMerged self.partition regions)) }
     {
         if !self.whole {
             return Ok(None);

@@ -4,10 +4,12 @@
 //!     scheme  host           end         ->  www.example.org
 //!
 //! The hash is stepped byte by byte, each folded as it is read, so that no host is copied and no memory is taken.
-ghost use Rattle.std.specs.Prelude.{◌≡◌, ℕ, ◌<◌, ◌++◌, ◌∷◌, [], None, Some, MatchOption, codes, length};
+ghost use Rattle.std.specs.Prelude.{◌≡◌, ℕ, ◌<◌, ◌++◌, ◌∷◌, [], None, Some, MatchOption, codes};
+ghost use Rattle.std.specs.Prelude.{length};
 ghost use Rattle.mr_bytes.specs.Bytes.{folded};
 ghost use Rattle.mr_bytes.specs.declared.By.{By};
-ghost use Rattle.mr_partition.specs.Hosts.{before_end, behind, ends_host, host, host_bytes, partition_by};
+ghost use Rattle.mr_partition.specs.Hosts.{before_end, behind, ends_host, host, host_bytes};
+ghost use Rattle.mr_partition.specs.Hosts.{partition_by};
 ghost use Rattle.mr_partition.specs.HostLaws.{HostByParts, HostPartitionsAreBelow, OneHost};
 ghost use Rattle.mr_partition.specs.Partition.{fnv};
 

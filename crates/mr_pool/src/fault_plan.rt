@@ -1,7 +1,8 @@
 //! What a script orders: which workers are lost, which records fail, which outputs are spoiled, and when.
 ghost use Rattle.std.specs.Prelude.{◌≡◌};
 ghost use Rattle.std.specs.List.{list_all, list_any, range_with_len};
-ghost use Rattle.mr_pool.specs.Accounts.{accounts, fails_record, is_worker_lost, loses_some, loses_worker};
+ghost use Rattle.mr_pool.specs.Accounts.{accounts, fails_record, is_worker_lost, loses_some};
+ghost use Rattle.mr_pool.specs.Accounts.{loses_worker};
 
 use mr_core::JobFault;
 use mr_script::{Directive, Script};

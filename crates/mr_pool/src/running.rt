@@ -1,5 +1,6 @@
 //! A run, from its opening to its answer.
-ghost use Rattle.std.specs.Prelude.{◌≡◌, ◌↔◌, ◌⊎◌, Err, ◌≤◌, ◌<◌, ◌^◌, Some, Ok, IfOk, OnOk, IfErr, IsTrue, vec_len};
+ghost use Rattle.std.specs.Prelude.{◌≡◌, ◌↔◌, ◌⊎◌, Err, ◌≤◌, ◌<◌, ◌^◌, Some, Ok, IfOk, OnOk, IfErr};
+ghost use Rattle.std.specs.Prelude.{IsTrue, vec_len};
 ghost use Rattle.mr_pool.specs.Endings.{ending_of};
 ghost use Rattle.mr_input.specs.Files.{contents, split_total};
 ghost use Rattle.mr_core.specs.declared.event.End.{End as Ended};
@@ -12,7 +13,8 @@ ghost use Rattle.mr_verdict.specs.declared.fault.No.{No};
 ghost use Rattle.mr_sequential.specs.Good.{IsGoodResult};
 ghost use Rattle.mr_verdict.specs.Headline.{IsCertified, accepted_of};
 ghost use Rattle.mr_verdict.specs.Verdict.{verdict_of};
-ghost use Rattle.mr_pool.specs.Outcomes.{IsCertifiedRun, IsDoneRun, IsInVersion, IsRunFault, IsRunnable, run_shape};
+ghost use Rattle.mr_pool.specs.Outcomes.{IsCertifiedRun, IsDoneRun, IsInVersion, IsRunFault};
+ghost use Rattle.mr_pool.specs.Outcomes.{IsRunnable, run_shape};
 
 use crate::fault_plan::{FaultPlan, accounts_for};
 use crate::progress::{JudgesProgress, RunProgress};
@@ -126,15 +128,21 @@ fn answer(
     judged: Result<Yes, No>,
     history: History,
 ) -> Result<Certified, RunFault>
-    requires done { IsDoneRun spec.request.now spec.input.now history.shape history (contents outputs.items) certificate.items }
-    requires headline { IfOk judged (λ y. IsCertified spec.request.now spec.input.now (contents outputs.items) certificate.items y.skips.items y.pairs) }
-    requires yes { IfOk judged (λ y. verdict_of spec.request.now spec.input.now (contents outputs.items) certificate.items ≡ Ok (accepted_of y)) }
-    requires good { OnOk judged (IsGoodResult spec.request.now spec.input.now (contents outputs.items) certificate.items) }
+    requires done { IsDoneRun spec.request.now spec.input.now history.shape history
+        (contents outputs.items) certificate.items }
+    requires headline { IfOk judged (λ y. IsCertified spec.request.now spec.input.now
+        (contents outputs.items) certificate.items y.skips.items y.pairs) }
+    requires yes { IfOk judged (λ y. verdict_of spec.request.now spec.input.now
+        (contents outputs.items) certificate.items ≡ Ok (accepted_of y)) }
+    requires good { OnOk judged
+        (IsGoodResult spec.request.now spec.input.now (contents outputs.items) certificate.items) }
     requires version { OnOk judged (IsInVersion spec.version certificate.items) }
     requires no { IfErr judged (λ e. (e ≡ No.OutOfMemory)
         ⊎ (verdict_of spec.request.now spec.input.now (contents outputs.items) certificate.items ≡ Err e)) }
-    ensures certified { IfOk result (IsCertifiedRun spec.entry.request.now spec.entry.input.now history.shape spec.entry.version) }
-    ensures fault { IfErr result (IsRunFault spec.entry.request.now spec.entry.input.now spec.entry.script.now steady history.shape) }
+    ensures certified { IfOk result
+        (IsCertifiedRun spec.entry.request.now spec.entry.input.now history.shape spec.entry.version) }
+    ensures fault { IfErr result
+        (IsRunFault spec.entry.request.now spec.entry.input.now spec.entry.script.now steady history.shape) }
 {
     match judged {
         Ok(yes) => Ok(Certified {
@@ -171,11 +179,13 @@ impl<'a, W: Progress, R: Threads + Sync> RunJudge<'a, W, R> {
         &self,
         book: &Book<L>,
     ) -> Result<(Vec<Vec<u8>>, Vec<u8>, MappedInput<'a>), AllocError>
-        requires plan { self.now.plan.now ≡ record { size = self.now.spec.request.now.split; files = self.now.spec.input.now } }
+        requires plan { self.now.plan.now
+            ≡ record { size = self.now.spec.request.now.split; files = self.now.spec.input.now } }
         requires runnable { IsRunnable self.now.spec.request.now self.now.spec.input.now self.now.spec.shape }
         requires ends { book.now.state.end ≡ Some Ended.Done }
         requires opened { IsOpenedFor self.now.spec.request.now self.now.spec.input.now book.now.shape }
-        ensures outputs { IfOk result (λ r. contents r.0.items ≡ assembled_outputs (reduced_under book.now.reduces) book.now.state) }
+        ensures outputs { IfOk result (λ r. contents r.0.items
+            ≡ assembled_outputs (reduced_under book.now.reduces) book.now.state) }
         ensures certificate { IfOk result (λ r. Spells r.1.items
             (assembled_certificate self.now.spec.request.now self.now.spec.input.now (reduced_under book.now.reduces) book.now.state)) }
         ensures version { IfOk result (λ r. SpellsWhereItCan self.now.spec.version r.1.items
@@ -202,7 +212,8 @@ impl<'a, W: Progress, R: Threads + Sync> RunJudge<'a, W, R> {
         let assembling = move || -> Result<(Vec<Vec<u8>>, Vec<u8>), AllocError>
             requires ends { book.now.state.end ≡ Some Ended.Done }
             requires opened { IsOpenedFor request.now input.now book.now.shape }
-            ensures outputs { IfOk result (λ r. contents r.0.items ≡ assembled_outputs (reduced_under book.entry.now.reduces) book.entry.now.state) }
+            ensures outputs { IfOk result (λ r. contents r.0.items
+                ≡ assembled_outputs (reduced_under book.entry.now.reduces) book.entry.now.state) }
             ensures certificate { IfOk result (λ r. Spells r.1.items
                 (assembled_certificate request.entry.now input.entry.now (reduced_under book.entry.now.reduces) book.entry.now.state)) }
             ensures version { IfOk result (λ r. SpellsWhereItCan version r.1.items
@@ -222,11 +233,15 @@ impl<'a, W: Progress, R: Threads + Sync> RunJudge<'a, W, R> {
     ) -> Result<Yes, No>
         requires mapped { IsMappedFor self.now.spec.request.now self.now.spec.input.now mapped.now }
         requires runnable { IsRunnable self.now.spec.request.now self.now.spec.input.now self.now.spec.shape }
-        ensures headline { IfOk result (λ y. IsCertified self.now.spec.request.now self.now.spec.input.now (contents outputs.now) certificate.now
+        ensures headline { IfOk result
+            (λ y. IsCertified self.now.spec.request.now self.now.spec.input.now
+            (contents outputs.now) certificate.now
             y.skips.items y.pairs) }
-        ensures yes { IfOk result (λ y. verdict_of self.now.spec.request.now self.now.spec.input.now (contents outputs.now) certificate.now
+        ensures yes { IfOk result (λ y. verdict_of self.now.spec.request.now self.now.spec.input.now
+            (contents outputs.now) certificate.now
             ≡ Ok (accepted_of y)) }
-        ensures good { OnOk result (IsGoodResult self.now.spec.request.now self.now.spec.input.now (contents outputs.now) certificate.now) }
+        ensures good { OnOk result (IsGoodResult self.now.spec.request.now self.now.spec.input.now
+            (contents outputs.now) certificate.now) }
         ensures no { IfErr result (λ e. (e ≡ No.OutOfMemory)
             ⊎ (verdict_of self.now.spec.request.now self.now.spec.input.now (contents outputs.now) certificate.now ≡ Err e)) }
     {
@@ -249,13 +264,16 @@ impl<'a, W: Progress, R: Threads + Sync> RunJudge<'a, W, R> {
         book: Book<L>,
         seats: Vec<Seat<L>>,
     ) -> Result<Certified, RunFault>
-        requires plan { self.now.plan.now ≡ record { size = self.now.spec.request.now.split; files = self.now.spec.input.now } }
+        requires plan { self.now.plan.now
+            ≡ record { size = self.now.spec.request.now.split; files = self.now.spec.input.now } }
         requires runnable { IsRunnable self.now.spec.request.now self.now.spec.input.now self.now.spec.shape }
         requires ends { book.state.end ≡ Some Ended.Done }
         requires opened { IsOpenedFor self.now.spec.request.now self.now.spec.input.now book.shape }
         requires seats { vec_len seats ≡ L.parts }
-        ensures certified { IfOk result (IsCertifiedRun self.now.spec.request.now self.now.spec.input.now book.shape self.now.spec.version) }
-        ensures fault { IfErr result (IsRunFault self.now.spec.request.now self.now.spec.input.now self.now.spec.script.now self.now.steady book.shape) }
+        ensures certified { IfOk result
+            (IsCertifiedRun self.now.spec.request.now self.now.spec.input.now book.shape self.now.spec.version) }
+        ensures fault { IfErr result
+            (IsRunFault self.now.spec.request.now self.now.spec.input.now self.now.spec.script.now self.now.steady book.shape) }
     {
         self.watch.report(Phase::Judging, 0, 1);
         let (outputs, certificate, mapped) = self.assemble_and_map(&book)?;
@@ -273,11 +291,14 @@ impl<'a, W: Progress, R: Threads + Sync> RunJudge<'a, W, R> {
 
     /// What a book that is closed amounts to.
     fn conclude<L: Ledger>(&self, book: Book<L>, seats: Vec<Seat<L>>) -> Result<Certified, RunFault>
-        requires plan { self.now.plan.now ≡ record { size = self.now.spec.request.now.split; files = self.now.spec.input.now } }
+        requires plan { self.now.plan.now
+            ≡ record { size = self.now.spec.request.now.split; files = self.now.spec.input.now } }
         requires runnable { IsRunnable self.now.spec.request.now self.now.spec.input.now self.now.spec.shape }
         requires seats { vec_len seats ≡ L.parts }
-        ensures certified { IfOk result (IsCertifiedRun self.now.spec.request.now self.now.spec.input.now self.now.spec.shape self.now.spec.version) }
-        ensures fault { IfErr result (IsRunFault self.now.spec.request.now self.now.spec.input.now self.now.spec.script.now self.now.steady self.now.spec.shape) }
+        ensures certified { IfOk result
+            (IsCertifiedRun self.now.spec.request.now self.now.spec.input.now self.now.spec.shape self.now.spec.version) }
+        ensures fault { IfErr result
+            (IsRunFault self.now.spec.request.now self.now.spec.input.now self.now.spec.script.now self.now.steady self.now.spec.shape) }
     {
         let RunSpec { script, shape, .. } = self.spec;
         if !is_opened(book.shape(), shape) {
@@ -315,8 +336,10 @@ fn run_in<
     requires ledger { (blank.name ≡ L.name) × (blank.parts ≡ L.parts) }
     requires parts { blank.parts ≡ spec.shape.workers }
     requires runnable { IsRunnable spec.request.now spec.input.now spec.shape }
-    ensures certified { IfOk result (IsCertifiedRun spec.entry.request.now spec.entry.input.now spec.entry.shape spec.entry.version) }
-    ensures fault { IfErr result (IsRunFault spec.entry.request.now spec.entry.input.now spec.entry.script.now S.steady spec.entry.shape) }
+    ensures certified { IfOk result
+        (IsCertifiedRun spec.entry.request.now spec.entry.input.now spec.entry.shape spec.entry.version) }
+    ensures fault { IfErr result
+        (IsRunFault spec.entry.request.now spec.entry.input.now spec.entry.script.now S.steady spec.entry.shape) }
 {
     let Shape {
         maps,
@@ -378,8 +401,10 @@ pub fn run<G: Gate, S: RegionStore + Drop, R: Threads + Wait + Sync>(
     requires fits { split_total request.now.split input.now ≤ 2 ^ 20 }
     requires workers { (1 ≤ workers) × (workers ≤ 64) }
     requires attempts { (1 ≤ attempts) × (attempts ≤ 16) }
-    ensures certified { IfOk result (IsCertifiedRun request.now input.now (run_shape request.now input.now workers attempts) version) }
-    ensures fault { IfErr result (IsRunFault request.now input.now script.now S.steady (run_shape request.now input.now workers attempts)) }
+    ensures certified { IfOk result (IsCertifiedRun request.now input.now
+        (run_shape request.now input.now workers attempts) version) }
+    ensures fault { IfErr result (IsRunFault request.now input.now script.now S.steady
+        (run_shape request.now input.now workers attempts)) }
 {
     let spec = RunSpec::of(request, input, script, workers, attempts, version);
     run_watched(rt, alloc, spec, gate, store, &Unwatched)
@@ -396,8 +421,10 @@ pub fn run_watched<G: Gate, S: RegionStore + Drop, R: Threads + Wait + Sync>(
     watch: &dyn Progress,
 ) -> Result<Certified, RunFault>
     requires runnable { IsRunnable spec.request.now spec.input.now spec.shape }
-    ensures certified { IfOk result (IsCertifiedRun spec.entry.request.now spec.entry.input.now spec.entry.shape spec.entry.version) }
-    ensures fault { IfErr result (IsRunFault spec.entry.request.now spec.entry.input.now spec.entry.script.now S.steady spec.entry.shape) }
+    ensures certified { IfOk result
+        (IsCertifiedRun spec.entry.request.now spec.entry.input.now spec.entry.shape spec.entry.version) }
+    ensures fault { IfErr result
+        (IsRunFault spec.entry.request.now spec.entry.input.now spec.entry.script.now S.steady spec.entry.shape) }
 {
     let blank = Blank::new(spec.shape.workers as u64);
     run_in::<Brand, G, S, &dyn Progress, R>(rt, alloc, blank, spec, gate, store, &watch)

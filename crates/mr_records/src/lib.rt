@@ -1,10 +1,12 @@
 //! The records of a file.
 #![tactic(auto)]
 
-ghost use Rattle.std.specs.Prelude.{◌≡◌, ℕ, ◌+◌, ◌^◌, ◌≤◌, ◌<◌, ◌≢◌, length, List, IfOk, MatchOption, slice_index};
+ghost use Rattle.std.specs.Prelude.{◌≡◌, ℕ, ◌+◌, ◌^◌, ◌≤◌, ◌<◌, ◌≢◌, length, List, IfOk};
+ghost use Rattle.std.specs.Prelude.{MatchOption, slice_index};
 ghost use Rattle.mr_records.specs.Records.{Record, records, nth_record, IsBehindAll, IsRecordOf};
 ghost use Rattle.mr_records.specs.Ends.{ended_at, EndsRise, is_open};
-ghost use Rattle.mr_records.specs.RecordLaw.{NoLineFeeds, GiveTheFileBack, StartInTurn, StartWhereLinesBegin, FewRecords};
+ghost use Rattle.mr_records.specs.RecordLaw.{NoLineFeeds, GiveTheFileBack, StartInTurn};
+ghost use Rattle.mr_records.specs.RecordLaw.{StartWhereLinesBegin, FewRecords};
 
 use memchr::memchr;
 use mr_lanes::line_ends;

@@ -1,7 +1,8 @@
 //! What reduce makes of a key with its values: the text that goes into the output file of the key's partition.
 #![tactic(auto)]
 
-ghost use Rattle.std.specs.Prelude.{◌≡◌, ◌+◌, ◌<◌, ◌≤◌, ◌++◌, OnOk, OnErr, false, length, take, vec_capacity, vec_len};
+ghost use Rattle.std.specs.Prelude.{◌≡◌, ◌+◌, ◌<◌, ◌≤◌, ◌++◌, OnOk, OnErr, false, length, take};
+ghost use Rattle.std.specs.Prelude.{vec_capacity, vec_len};
 ghost use Rattle.std.specs.List.{flat_map};
 ghost use Rattle.mr_reduce.specs.Files.{listed};
 ghost use Rattle.mr_reduce.specs.Text.{text_of, total_line, place_line};
@@ -68,7 +69,8 @@ fn listed_text(
     requires { counts job.now ≡ false }
     ensures ok { OnOk result (out.new.items ≡ out.old.items ++ text_of job.now key.now (listed values.entry)) }
     ensures err { OnErr result (out.new.items ≡ out.old.items) }
-    ensures full { OnErr result (vec_capacity out.old < vec_len out.old + length (text_of job.now key.now (listed values.entry))) }
+    ensures full { OnErr result (vec_capacity out.old
+        < vec_len out.old + length (text_of job.now key.now (listed values.entry))) }
 {
     let before = out.len();
     let done = if job.has_lines() {
@@ -137,7 +139,8 @@ fn put_place(key: &[u8], value: Value, out: &mut Vec<u8>) -> Result<(), AllocErr
 fn put_places(key: &[u8], values: Listed<'_>, out: &mut Vec<u8>) -> Result<(), AllocError>
     ensures kept { take (vec_len out.old) out.new.items ≡ out.old.items }
     ensures ok { OnOk result (out.new.items ≡ out.old.items ++ flat_map (place_line key.now) (listed values.entry)) }
-    ensures full { OnErr result (vec_capacity out.old < vec_len out.old + length (flat_map (place_line key.now) (listed values.entry))) }
+    ensures full { OnErr result (vec_capacity out.old
+        < vec_len out.old + length (flat_map (place_line key.now) (listed values.entry))) }
 {
     for i in 0..values.len() {
         put_place(key, values.get(i), out)?;

@@ -2,7 +2,9 @@
 ghost use Rattle.std.specs.Prelude.{◌≡◌, ◌≤◌, ◌↔◌, ℕ, IsTrue, Some, None, MatchOption, length};
 ghost use Rattle.std.specs.Str.Parse.{AllDigits, digits_value};
 ghost use Rattle.mr_script.specs.Lines.{SaysNothing, SpellsNumber};
-ghost use Rattle.mr_script.specs.Meaning.{number_of, number_and_rest, number_and_number, number_after_number, three_numbers, keyword_of, directive_of};
+ghost use Rattle.mr_script.specs.Meaning.{number_of, number_and_rest, number_and_number};
+ghost use Rattle.mr_script.specs.Meaning.{number_after_number, three_numbers, keyword_of};
+ghost use Rattle.mr_script.specs.Meaning.{directive_of};
 
 use crate::script::Directive;
 use mr_bytes::cut;
@@ -29,7 +31,8 @@ pub(crate) fn says_nothing(line: &[u8]) -> bool
 /// The number that at most ten decimal digits write.
 fn value_of(digits: &[u8]) -> Option<u64>
     requires { length digits.now ≤ 10 }
-    ensures { MatchOption result (AllDigits 10 digits.now → ⊥) (λ n. AllDigits 10 digits.now × (n ≡ digits_value 10 digits.now)) }
+    ensures { MatchOption result (AllDigits 10 digits.now → ⊥)
+        (λ n. AllDigits 10 digits.now × (n ≡ digits_value 10 digits.now)) }
 {
     let mut value = 0u64;
     for digit in digits {
@@ -57,7 +60,8 @@ pub fn number_of(word: &[u8]) -> Option<u32>
 /// The number before the first space, and the bytes behind it.
 #[tactic(auto, unfolding(crate::specs::Meaning::number_and_rest))]
 fn number_and_rest(text: &[u8]) -> Option<(u32, &[u8])>
-    ensures { MatchOption result (number_and_rest text.now ≡ None) (λ r. number_and_rest text.now ≡ Some (r.0, r.1.now)) }
+    ensures { MatchOption result (number_and_rest text.now ≡ None)
+        (λ r. number_and_rest text.now ≡ Some (r.0, r.1.now)) }
 {
     let (word, rest) = cut(text, b' ')?;
     let number = number_of(word)?;

@@ -1,9 +1,11 @@
 //! A script read: bytes enter; the list of directives that its lines spell leaves, or the number of the first bad line.
 //! One pass; memory grows with the directives.
-ghost use Rattle.std.specs.Prelude.{◌≡◌, ◌≢◌, ℕ, ◌+◌, ◌<◌, ◌≤◌, [], ◌∷◌, IfOk, IfErr, MatchOption, MatchResult, length, drop, slice_index};
+ghost use Rattle.std.specs.Prelude.{◌≡◌, ◌≢◌, ℕ, ◌+◌, ◌<◌, ◌≤◌, [], ◌∷◌, IfOk, IfErr, MatchOption};
+ghost use Rattle.std.specs.Prelude.{MatchResult, length, drop, slice_index};
 ghost use Rattle.mr_records.specs.Records.{Record, records_from};
 ghost use Rattle.mr_script.specs.Scripts.{SpellsScript, Adds, IsLineFault, IsScriptFault};
-ghost use Rattle.mr_script.specs.Laws.{LinesByMeaning, OneDirective, NothingIsNoDirective, OneScript, NoScriptHasABadLine};
+ghost use Rattle.mr_script.specs.Laws.{LinesByMeaning, OneDirective, NothingIsNoDirective};
+ghost use Rattle.mr_script.specs.Laws.{OneScript, NoScriptHasABadLine};
 
 use crate::line::{directive_of, says_nothing};
 use mr_records::record_end;
@@ -99,7 +101,8 @@ fn next_line(bytes: &[u8], from: usize) -> Option<&[u8]>
 
 /// Adds the directive of the line, if it isn't one that says nothing. The line has this number.
 fn add_line(directives: &mut Vec<Directive>, line: &[u8], number: u64) -> Result<(), ScriptFault>
-    ensures { MatchResult result (λ _. Adds line.now directives.old.items directives.new.items) (λ e. IsLineFault line.now number e) }
+    ensures { MatchResult result (λ _. Adds line.now directives.old.items directives.new.items)
+        (λ e. IsLineFault line.now number e) }
 {
     if says_nothing(line) {
         return Ok(());

@@ -1,7 +1,8 @@
 //! The sequential execution of a job.
 #![tactic(auto)]
 
-ghost use Rattle.mr_sequential.specs.Laws.{KeysAreUnique, KeysRise, NamesRise, OutputsAreInKeyOrder};
+ghost use Rattle.mr_sequential.specs.Laws.{KeysAreUnique, KeysRise, NamesRise};
+ghost use Rattle.mr_sequential.specs.Laws.{OutputsAreInKeyOrder};
 ghost use Rattle.mr_sequential.specs.Skips.{GoodSkips};
 
 mod distribute;

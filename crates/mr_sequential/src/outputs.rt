@@ -41,7 +41,8 @@ fn outputs_by_rank(
     requires parts { All (λ r. r.part < parts) rows.now }
     requires inside { All (λ i. i < length rows.now) numbers.items }
     requires used { (i : ℕ) → i < length rows.now → Has numbers.items i }
-    requires all { length (names_beside (kept_records kept.now.skips (records_of kept.now.cut)) counts.items) ≡ length numbers.items }
+    requires all { length (names_beside (kept_records kept.now.skips
+        (records_of kept.now.cut)) counts.items) ≡ length numbers.items }
     requires few { length numbers.items < 2 ^ 32 }
     ensures count { IfOk result (λ r. length r.0.items ≡ parts) }
     ensures texts { IfOk result (λ r. (p : ℕ) → p < parts → nth_file (contents r.0.items) p
@@ -70,7 +71,8 @@ pub(crate) fn outputs(
     requires some { 0 < parts }
     requires size { 0 < kept.now.cut.size }
     requires few { length gathered < 2 ^ 32 }
-    requires all { length (names_beside (kept_records kept.now.skips (records_of kept.now.cut)) counts.items) ≡ length gathered }
+    requires all { length (names_beside
+        (kept_records kept.now.skips (records_of kept.now.cut)) counts.items) ≡ length gathered }
     ensures count { IfOk result (λ r. length r.0.items ≡ parts) }
     ensures texts { IfOk result (λ r. (p : ℕ) → p < parts → nth_file (contents r.0.items) p
         ≡ texts_in (λ k. partition_by by k parts) (text_of job.now)

@@ -1,5 +1,6 @@
 //! A sequential execution, from a request and an input to the outputs; its refusals, and what a good result is worth.
-ghost use Rattle.std.specs.Prelude.{◌≡◌, ◌↔◌, ℕ, ◌≤◌, ◌<◌, ◌^◌, ◌⊎◌, IfOk, OnOk, IfErr, IfSome, ◌≢◌, None, Some, length, map};
+ghost use Rattle.std.specs.Prelude.{◌≡◌, ◌↔◌, ℕ, ◌≤◌, ◌<◌, ◌^◌, ◌⊎◌, IfOk, OnOk, IfErr, IfSome};
+ghost use Rattle.std.specs.Prelude.{◌≢◌, None, Some, length, map};
 ghost use Rattle.mr_certform.specs.Flat.{AreCounted, chunks};
 ghost use Rattle.mr_input.specs.Files.{contents, nth_file, split_total};
 ghost use Rattle.mr_jobs.specs.JobSpec.{flags_of, job_literal, job_number};
@@ -8,7 +9,10 @@ ghost use Rattle.mr_sequential.specs.Certified.{certificate_of};
 ghost use Rattle.mr_sequential.specs.Good.{IsGood};
 ghost use Rattle.mr_sequential.specs.Sequential.{sequential};
 ghost use Rattle.mr_sequential.specs.Skips.{list_fault, skip_fault};
-ghost use Rattle.mr_sequential.specs.GoodLaws.{EntriesAreDistinct, NoMoreEntries, NoneIsLeftOut, GoodPartsAreSequential, GoodIsSequential, SequentialIsGood, CertificateIsSequential, CertificateIsUnique, WorkedGroups, WorkedOutput};
+ghost use Rattle.mr_sequential.specs.GoodLaws.{EntriesAreDistinct, NoMoreEntries, NoneIsLeftOut};
+ghost use Rattle.mr_sequential.specs.GoodLaws.{GoodPartsAreSequential, GoodIsSequential};
+ghost use Rattle.mr_sequential.specs.GoodLaws.{SequentialIsGood, CertificateIsSequential};
+ghost use Rattle.mr_sequential.specs.GoodLaws.{CertificateIsUnique, WorkedGroups, WorkedOutput};
 
 use crate::outputs::outputs;
 use crate::source::{Emitted, gather};
@@ -80,11 +84,13 @@ pub fn run(
 ) -> Result<(Vec<Vec<u8>>, Certificate), RunFault>
     requires { split_total request.now.split input.now ≤ 2 ^ 20 }
     ensures count { IfOk result (λ r. length r.0.items ≡ request.now.parts) }
-    ensures texts { IfOk result (λ r. (p : ℕ) → p < request.now.parts → nth_file (contents r.0.items) p ≡ sequential request.now input.now skips.now p) }
+    ensures texts { IfOk result (λ r. (p : ℕ) → p < request.now.parts
+        → nth_file (contents r.0.items) p ≡ sequential request.now input.now skips.now p) }
     ensures certificate { IfOk result (λ r. r.1 ≡ certificate_of request.now input.now skips.now) }
     ensures is_good { IfOk result (λ r. IsGood request.now input.now (contents r.0.items) r.1) }
     ensures skips { OnOk result (skip_fault request.now input.now skips.now ≡ None) }
-    ensures fault { IfErr result (λ e. (e ≡ RunFault.OutOfMemory) ⊎ (skip_fault request.now input.now skips.now ≡ Some e)) }
+    ensures fault { IfErr result
+        (λ e. (e ≡ RunFault.OutOfMemory) ⊎ (skip_fault request.now input.now skips.now ≡ Some e)) }
     ensures too_many { (result ≡ Err RunFault.TooManySkips) ↔ (request.now.skips < length skips.now) }
 {
     run_watched(alloc, request, input, skips, &Unwatched)
@@ -101,11 +107,13 @@ pub fn run_watched(
 ) -> Result<(Vec<Vec<u8>>, Certificate), RunFault>
     requires { split_total request.now.split input.now ≤ 2 ^ 20 }
     ensures count { IfOk result (λ r. length r.0.items ≡ request.now.parts) }
-    ensures texts { IfOk result (λ r. (p : ℕ) → p < request.now.parts → nth_file (contents r.0.items) p ≡ sequential request.now input.now skips.now p) }
+    ensures texts { IfOk result (λ r. (p : ℕ) → p < request.now.parts
+        → nth_file (contents r.0.items) p ≡ sequential request.now input.now skips.now p) }
     ensures certificate { IfOk result (λ r. r.1 ≡ certificate_of request.now input.now skips.now) }
     ensures is_good { IfOk result (λ r. IsGood request.now input.now (contents r.0.items) r.1) }
     ensures skips { OnOk result (skip_fault request.now input.now skips.now ≡ None) }
-    ensures fault { IfErr result (λ e. (e ≡ RunFault.OutOfMemory) ⊎ (skip_fault request.now input.now skips.now ≡ Some e)) }
+    ensures fault { IfErr result
+        (λ e. (e ≡ RunFault.OutOfMemory) ⊎ (skip_fault request.now input.now skips.now ≡ Some e)) }
     ensures too_many { (result ≡ Err RunFault.TooManySkips) ↔ (request.now.skips < length skips.now) }
 {
     if (request.max_skips() as usize) < skips.len() {
@@ -204,7 +212,8 @@ fn execute(
     requires few { length skips.now < 2 ^ 32 }
     requires fault { skip_fault request.now plan.now.files skips.now ≡ None }
     ensures count { IfOk result (λ r. length r.0.items ≡ request.now.parts) }
-    ensures texts { IfOk result (λ r. (p : ℕ) → p < request.now.parts → nth_file (contents r.0.items) p ≡ sequential request.now plan.now.files skips.now p) }
+    ensures texts { IfOk result (λ r. (p : ℕ) → p < request.now.parts
+        → nth_file (contents r.0.items) p ≡ sequential request.now plan.now.files skips.now p) }
     ensures certificate { IfOk result (λ r. r.1 ≡ certificate_of request.now plan.now.files skips.now) }
     ensures is_good { IfOk result (λ r. IsGood request.now plan.now.files (contents r.0.items) r.1) }
     ensures only { IfErr result (λ e. e ≡ RunFault.OutOfMemory) }

@@ -1,5 +1,6 @@
 //! The records of a plan that are not left out, and what a job emits for them.
-ghost use Rattle.std.specs.Prelude.{◌≡◌, ◌+◌, ◌≤◌, ◌<◌, ◌^◌, ◌++◌, ◌∷◌, [], IfOk, OnOk, length, map};
+ghost use Rattle.std.specs.Prelude.{◌≡◌, ◌+◌, ◌≤◌, ◌<◌, ◌^◌, ◌++◌, ◌∷◌, [], IfOk, OnOk, length};
+ghost use Rattle.std.specs.Prelude.{map};
 ghost use Rattle.std.specs.List.{flat_map};
 ghost use Rattle.mr_jobs.specs.Emissions.{emissions};
 ghost use Rattle.mr_jobs.specs.Hits.{IsLine};
@@ -25,7 +26,8 @@ fn gather_record(
 ) -> Result<(), AllocError>
     requires small { length line.bytes.now ≤ 2 ^ 30 }
     requires line { IsLine mapper.old.files line.file line.start line.bytes.now }
-    requires few { length gathering.old + length (emissions mapper.old.job line.file line.start line.bytes.now) < 2 ^ 32 }
+    requires few { length gathering.old
+        + length (emissions mapper.old.job line.file line.start line.bytes.now) < 2 ^ 32 }
     ensures same { mapper.new ≡ mapper.old }
     ensures keys { OnOk result (gathering.new
         ≡ gathering.old ++ map (λ e. e.0) (emissions mapper.old.job line.entry.file line.entry.start line.entry.bytes.now)) }
@@ -63,7 +65,8 @@ fn gather_one(
 ) -> Result<(), AllocError>
     requires small { length line.bytes.now ≤ 2 ^ 30 }
     requires line { IsLine mapper.old.files line.file line.start line.bytes.now }
-    requires few { length emitting.old.pairs + length (emissions mapper.old.job line.file line.start line.bytes.now) < 2 ^ 32 }
+    requires few { length emitting.old.pairs
+        + length (emissions mapper.old.job line.file line.start line.bytes.now) < 2 ^ 32 }
     ensures same { mapper.new ≡ mapper.old }
     ensures keys { OnOk result (emitting.new.pairs
         ≡ emitting.old.pairs ++ map (λ e. e.0) (emissions mapper.old.job line.entry.file line.entry.start line.entry.bytes.now)) }
@@ -88,8 +91,10 @@ fn gather_all(
     requires few { length (flat_map (kept_pairs job.now kept.now.skips) (records_of kept.now.cut)) < 2 ^ 32 }
     requires no_keys { emitting.old.pairs ≡ [] }
     requires no_counts { emitting.old.counts.items ≡ [] }
-    ensures keys { OnOk result (emitting.new.pairs ≡ map (λ e. e.0) (flat_map (kept_pairs job.now kept.now.skips) (records_of kept.now.cut))) }
-    ensures counts { OnOk result (emitting.new.counts.items ≡ map (pair_count job.now) (kept_records kept.now.skips (records_of kept.now.cut))) }
+    ensures keys { OnOk result (emitting.new.pairs ≡ map
+        (λ e. e.0) (flat_map (kept_pairs job.now kept.now.skips) (records_of kept.now.cut))) }
+    ensures counts { OnOk result (emitting.new.counts.items
+        ≡ map (pair_count job.now) (kept_records kept.now.skips (records_of kept.now.cut))) }
 {
     let plan = kept.plan();
     let mut left = kept.records();
@@ -114,8 +119,10 @@ pub(crate) fn gather(
     watch: &dyn Progress,
 ) -> Result<Emitted, AllocError>
     requires few { length (flat_map (kept_pairs job.now kept.now.skips) (records_of kept.now.cut)) < 2 ^ 32 }
-    ensures keys { IfOk result (λ e. e.pairs ≡ map (λ e. e.0) (flat_map (kept_pairs job.now kept.now.skips) (records_of kept.now.cut))) }
-    ensures counts { IfOk result (λ e. e.counts.items ≡ map (pair_count job.now) (kept_records kept.now.skips (records_of kept.now.cut))) }
+    ensures keys { IfOk result (λ e. e.pairs ≡ map
+        (λ e. e.0) (flat_map (kept_pairs job.now kept.now.skips) (records_of kept.now.cut))) }
+    ensures counts { IfOk result (λ e. e.counts.items
+        ≡ map (pair_count job.now) (kept_records kept.now.skips (records_of kept.now.cut))) }
 {
     let mut emitting = Emitting {
         pairs: Gathering::new(alloc),

@@ -1,5 +1,6 @@
 //! The outputs: for each partition the texts of its groups, by rising key.
-ghost use Rattle.std.specs.Prelude.{◌≡◌, ℕ, ◌+◌, ◌≤◌, ◌<◌, [], ◌++◌, IfOk, OnOk, All, false, true, length, map, slice_set};
+ghost use Rattle.std.specs.Prelude.{◌≡◌, ℕ, ◌+◌, ◌≤◌, ◌<◌, [], ◌++◌, IfOk, OnOk, All, false, true};
+ghost use Rattle.std.specs.Prelude.{length, map, slice_set};
 ghost use Rattle.mr_input.specs.Files.{contents, nth_file};
 ghost use Rattle.mr_jobs.specs.JobSpec.{counts as is_counter, has_lines};
 ghost use Rattle.mr_reduce.specs.Text.{files_of, text_of, total_line};
@@ -49,7 +50,8 @@ fn add_lines(
 ) -> Result<(), AllocError>
     requires lines { has_lines job.now ≡ true }
     requires named { All (IsOfRecord plan.now) names.now }
-    ensures { OnOk result (text.new.items ≡ text.old.items ++ text_of job.now key.now (map (value_under job.now (records_of plan.now)) names.now)) }
+    ensures { OnOk result (text.new.items ≡ text.old.items
+        ++ text_of job.now key.now (map (value_under job.now (records_of plan.now)) names.now)) }
 {
     for name in names {
         let record = plan.locate(name.split, name.rec);
@@ -96,7 +98,8 @@ fn add_text(
 ) -> Result<(), AllocError>
     requires counts { is_counter job.now ≡ false }
     requires named { All (IsOfRecord plan.now) names.now }
-    ensures { OnOk result (text.new.items ≡ text.old.items ++ text_of job.now key.now (map (value_under job.now (records_of plan.now)) names.now)) }
+    ensures { OnOk result (text.new.items ≡ text.old.items
+        ++ text_of job.now key.now (map (value_under job.now (records_of plan.now)) names.now)) }
 {
     if job.has_lines() {
         return add_lines(job, plan, key, names, text);
@@ -182,7 +185,8 @@ fn fill_texts(
     requires parts { All (λ r. r.part < length texts.old.items) rows.now }
     requires counts { length groups.now.entry_counts.items ≡ length rows.now }
     requires within { row_start groups.now.entry_counts.items (length rows.now) ≤ length groups.now.names.items }
-    requires named { (r : ℕ) → r < length rows.now → All (IsOfRecord plan.now) (row_names groups.now.entry_counts.items groups.now.names.items r) }
+    requires named { (r : ℕ) → r < length rows.now → All (IsOfRecord plan.now)
+        (row_names groups.now.entry_counts.items groups.now.names.items r) }
     ensures count { length texts.new.items ≡ length texts.old.items }
     ensures ok { OnOk result ((p : ℕ) → p < length texts.old.items → nth_file (contents texts.new.items) p
         ≡ nth_file (contents texts.old.items) p
@@ -216,7 +220,8 @@ pub(crate) fn texts_of(
     requires parts { All (λ r. r.part < parts) rows.now }
     requires counts { length groups.now.entry_counts.items ≡ length rows.now }
     requires within { row_start groups.now.entry_counts.items (length rows.now) ≤ length groups.now.names.items }
-    requires named { (r : ℕ) → r < length rows.now → All (IsOfRecord plan.now) (row_names groups.now.entry_counts.items groups.now.names.items r) }
+    requires named { (r : ℕ) → r < length rows.now → All (IsOfRecord plan.now)
+        (row_names groups.now.entry_counts.items groups.now.names.items r) }
     ensures count { IfOk result (λ v. length v.items ≡ parts) }
     ensures texts { IfOk result (λ v. (p : ℕ) → p < parts → nth_file (contents v.items) p
         ≡ row_texts (names_text job.now (records_of plan.now) groups.now.entry_counts.items groups.now.names.items) p 0 rows.now) }

@@ -1,8 +1,11 @@
 //! The list of the input's files and the verdicts of the shards, read.
-ghost use Rattle.std.specs.Prelude.{◌≡◌, ◌==◌, [], ◌∷◌, ◌++◌, ◌⊎◌, IfErr, IfOk, MatchOption, OnOk, count_by, option_map, map};
+ghost use Rattle.std.specs.Prelude.{◌≡◌, ◌==◌, [], ◌∷◌, ◌++◌, ◌⊎◌, IfErr, IfOk, MatchOption, OnOk};
+ghost use Rattle.std.specs.Prelude.{count_by, option_map, map};
 ghost use Rattle.hex.specs.Hex.{encode_lower};
-ghost use Rattle.mr_shard_files.specs.Faults.{IsListFault, IsListUnread, IsOtherList, IsUnheard, IsUngathered};
-ghost use Rattle.mr_shard_files.specs.Listing.{DifferIn, IsListed, escaped as escaped_name, escaped_byte, listed_line, listing, mark_of};
+ghost use Rattle.mr_shard_files.specs.Faults.{IsListFault, IsListUnread, IsOtherList, IsUnheard};
+ghost use Rattle.mr_shard_files.specs.Faults.{IsUngathered};
+ghost use Rattle.mr_shard_files.specs.Listing.{DifferIn, IsListed, escaped as escaped_name};
+ghost use Rattle.mr_shard_files.specs.Listing.{escaped_byte, listed_line, listing, mark_of};
 ghost use Rattle.mr_files.specs.Holding.{Holding};
 ghost use Rattle.mr_shards.specs.Verdict.{spelling};
 
@@ -138,7 +141,8 @@ pub(crate) fn expect_listed<S: Store>(
     inputs: &[FileNote],
 ) -> Result<(), ShardFault>
     ensures ok { OnOk result (IsListed (S.holds store.now) (option_map (λ n. n.now) list.entry) inputs.now) }
-    ensures err { IfErr result (IsListFault (S.holds store.now) (S.unreadable store.now) (option_map (λ n. n.now) list.entry) inputs.now) }
+    ensures err { IfErr result (IsListFault (S.holds store.now) (S.unreadable store.now) (option_map
+        (λ n. n.now) list.entry) inputs.now) }
 {
     match list {
         Some(name) => expect_list(store, alloc, name, inputs),
@@ -180,7 +184,8 @@ pub(crate) fn read_verdicts<S: Store>(
     names: &[&str],
 ) -> Result<Vec<Verdict>, ShardFault>
     ensures ok { IfOk result (λ vs. Holding (S.holds store.now) (map (λ s. s.now) names.now) (map spelling vs.items)) }
-    ensures err { IfErr result (IsUngathered (S.holds store.now) (S.unreadable store.now) (map (λ s. s.now) names.now)) }
+    ensures err { IfErr result
+        (IsUngathered (S.holds store.now) (S.unreadable store.now) (map (λ s. s.now) names.now)) }
 {
     let mut verdicts = Vec::new(alloc);
     for (shard, name) in names.iter().enumerate() {

@@ -1,5 +1,6 @@
 //! A part of the result, written in pieces, and the notes of parts.
-ghost use Rattle.std.specs.Prelude.{◌≡◌, ℕ, [], ◌++◌, List, IfErr, IfOk, OnOk, false, string_bytes, ◌∷◌, length};
+ghost use Rattle.std.specs.Prelude.{◌≡◌, ℕ, [], ◌++◌, List, IfErr, IfOk, OnOk, false, string_bytes};
+ghost use Rattle.std.specs.Prelude.{◌∷◌, length};
 ghost use Rattle.mr_files.specs.Holding.{Agrees};
 ghost use Rattle.mr_files.specs.Names.{part_file as file_of_part, part_files};
 ghost use Rattle.mr_shards.specs.Truth.{note_for, note_for as note_telling, notes_for};
@@ -52,7 +53,8 @@ impl<W: CountedWrite + Drop> Made<W> {
 
     /// Writes a piece behind those before.
     pub fn put(&mut self, alloc: Global, piece: &[u8]) -> Result<(), ShardFault>
-        ensures ok { OnOk result ((bytes : List ℕ) → HasWritten W.seen bytes self.old → HasWritten W.seen (bytes ++ piece.now) self.new) }
+        ensures ok { OnOk result ((bytes : List ℕ) → HasWritten W.seen bytes self.old
+            → HasWritten W.seen (bytes ++ piece.now) self.new) }
         ensures err { IfErr result (TellsUnwritten (W.can_fail self.old.writer) (string_bytes self.old.name)) }
         ensures later { W.can_fail self.new.writer → W.can_fail self.old.writer }
         ensures name { self.new.name ≡ self.old.name }
@@ -73,7 +75,8 @@ impl<W: CountedWrite + Drop> Made<W> {
     /// Hands on what was written.
     pub fn flush(&mut self, alloc: Global) -> Result<(), ShardFault>
         ensures handed { OnOk result ((W.seen self.new.writer).handed_on ≡ (W.seen self.new.writer).contents) }
-        ensures ok { OnOk result ((bytes : List ℕ) → HasWritten W.seen bytes self.old → HasWritten W.seen bytes self.new) }
+        ensures ok { OnOk result ((bytes : List ℕ) → HasWritten W.seen bytes self.old
+            → HasWritten W.seen bytes self.new) }
         ensures err { IfErr result (TellsUnwritten (W.can_fail self.old.writer) (string_bytes self.old.name)) }
         ensures name { self.new.name ≡ self.old.name }
     {
@@ -86,7 +89,8 @@ impl<W: CountedWrite + Drop> Made<W> {
 
     /// The note of what was written, as the part of that partition.
     pub fn note(&self, alloc: Global, partition: usize) -> Result<FileNote, AllocError>
-        ensures { IfOk result (λ n. (bytes : List ℕ) → HasWritten W.seen bytes self.now → n ≡ note_for (file_of_part partition) bytes) }
+        ensures { IfOk result (λ n. (bytes : List ℕ) → HasWritten W.seen bytes self.now
+            → n ≡ note_for (file_of_part partition) bytes) }
     {
         let file = part_file(alloc, partition)?;
         Ok(FileNote {

@@ -4,11 +4,14 @@ ghost use Rattle.mr_files.specs.Holding.{Holding};
 ghost use Rattle.mr_shards.specs.Joined.{AreOnce, verdict_at};
 ghost use Rattle.mr_shards.specs.Truth.{Asks};
 ghost use Rattle.mr_shards.specs.Verdict.{spelling};
-ghost use Rattle.mr_shard_files.specs.Merging.{AreCounted, ChangesResult, IsJoinedOnce, IsMerged, IsReady, with_outputs as with_notes};
+ghost use Rattle.mr_shard_files.specs.Merging.{AreCounted, ChangesResult, IsJoinedOnce, IsMerged};
+ghost use Rattle.mr_shard_files.specs.Merging.{IsReady, with_outputs as with_notes};
 ghost use Rattle.mr_shard_files.specs.Apart.{AreApart};
 ghost use Rattle.mr_shard_files.specs.Listing.{IsListed};
 ghost use Rattle.mr_shard_files.specs.Sharing.{AreUnshared};
-ghost use Rattle.mr_shard_files.specs.Faults.{IsFirstFault, IsInputsFault, IsJoinedFault, IsMergingFault, IsMiscounted, IsShardRefusal, IsUnmeant};
+ghost use Rattle.mr_shard_files.specs.Faults.{IsFirstFault, IsInputsFault, IsJoinedFault};
+ghost use Rattle.mr_shard_files.specs.Faults.{IsMergingFault, IsMiscounted, IsShardRefusal};
+ghost use Rattle.mr_shard_files.specs.Faults.{IsUnmeant};
 
 use crate::fault::ShardFault;
 use crate::listing::{expect_listed, read_verdicts};
@@ -103,8 +106,10 @@ fn expect_meant<S: Store>(
 ) -> Result<(), ShardFault>
     ensures listed { OnOk result (IsListed (S.holds store.now) (option_map (λ n. n.now) list.entry) inputs.now) }
     ensures apart { OnOk result (AreApart (map (λ s. s.now) names.now) out.now) }
-    ensures unshared { OnOk result (AreUnshared (S.known_as store.now) (map (λ s. s.now) names.now) (option_map (λ n. n.now) list.entry) out.now parts) }
-    ensures err { IfErr result (IsUnmeant (S.holds store.now) (S.unreadable store.now) (S.alike store.now) (S.known_as store.now) (map (λ s. s.now) names.now)
+    ensures unshared { OnOk result (AreUnshared (S.known_as store.now) (map
+        (λ s. s.now) names.now) (option_map (λ n. n.now) list.entry) out.now parts) }
+    ensures err { IfErr result (IsUnmeant (S.holds store.now) (S.unreadable store.now)
+        (S.alike store.now) (S.known_as store.now) (map (λ s. s.now) names.now)
         (option_map (λ n. n.now) list.entry) out.now parts inputs.now) }
 {
     expect_listed(store, alloc, list, inputs)?;
@@ -121,9 +126,11 @@ fn prepared<S: Store>(
     verdicts: &[Verdict],
     out: &str,
 ) -> Result<(Request, Verdict), ShardFault>
-    ensures ok { IfOk result (λ r. IsReady (S.holds store.now) (S.known_as store.now) (map (λ s. s.now) names.now) (option_map (λ n. n.now) inputs.entry)
+    ensures ok { IfOk result (λ r. IsReady (S.holds store.now) (S.known_as store.now) (map
+        (λ s. s.now) names.now) (option_map (λ n. n.now) inputs.entry)
         out.now verdicts.now r.0 r.1) }
-    ensures err { IfErr result (IsMergingFault (S.holds store.now) (S.unreadable store.now) (S.alike store.now) (S.known_as store.now) (map (λ s. s.now) names.now)
+    ensures err { IfErr result (IsMergingFault (S.holds store.now) (S.unreadable store.now)
+        (S.alike store.now) (S.known_as store.now) (map (λ s. s.now) names.now)
         (option_map (λ n. n.now) inputs.entry) out.now verdicts.now) }
 {
     let request = first_request(alloc, verdicts)?;
@@ -152,10 +159,12 @@ fn merged_of<S: Store, T: Threads>(
     out: &str,
 ) -> Result<Verdict, ShardFault>
     requires { Holding (S.holds store.old) (map (λ s. s.now) names.now) (map spelling verdicts.now) }
-    ensures ok { IfOk result (IsMerged (S.holds store.old) (S.holds store.new) (S.known_as store.old) (map (λ s. s.now) names.now)
+    ensures ok { IfOk result (IsMerged (S.holds store.old) (S.holds store.new)
+        (S.known_as store.old) (map (λ s. s.now) names.now)
         (option_map (λ n. n.now) inputs.entry) out.now) }
     ensures others { ChangesResult (S.holds store.old) (S.holds store.new) out.now }
-    ensures refused { IfErr result (IsShardRefusal (S.holds store.old) (S.holds store.new) (S.unreadable store.old) (S.unwritable store.old)
+    ensures refused { IfErr result (IsShardRefusal (S.holds store.old) (S.holds store.new)
+        (S.unreadable store.old) (S.unwritable store.old)
         (S.alike store.old) (S.known_as store.old) (map (λ s. s.now) names.now) (option_map (λ n. n.now) inputs.entry) out.now) }
 {
     let (request, joined) = prepared(store, alloc, names, inputs, verdicts, out)?;
@@ -183,10 +192,12 @@ pub fn merge_shards<S: Store, T: Threads>(
     inputs: Option<&str>,
     out: &str,
 ) -> Result<Verdict, ShardFault>
-    ensures ok { IfOk result (IsMerged (S.holds store.old) (S.holds store.new) (S.known_as store.old) (map (λ s. s.now) names.now)
+    ensures ok { IfOk result (IsMerged (S.holds store.old) (S.holds store.new)
+        (S.known_as store.old) (map (λ s. s.now) names.now)
         (option_map (λ n. n.now) inputs.entry) out.now) }
     ensures others { ChangesResult (S.holds store.old) (S.holds store.new) out.now }
-    ensures refused { IfErr result (IsShardRefusal (S.holds store.old) (S.holds store.new) (S.unreadable store.old) (S.unwritable store.old)
+    ensures refused { IfErr result (IsShardRefusal (S.holds store.old) (S.holds store.new)
+        (S.unreadable store.old) (S.unwritable store.old)
         (S.alike store.old) (S.known_as store.old) (map (λ s. s.now) names.now) (option_map (λ n. n.now) inputs.entry) out.now) }
 {
     let verdicts = read_verdicts(store, alloc, names)?;

@@ -2,7 +2,8 @@
 ghost use Rattle.std.specs.Prelude.{◌≡◌, ◌<◌, ◌^◌, IfErr, IfOk, length, map};
 ghost use Rattle.mr_shards.specs.Joined.{inputs_of};
 ghost use Rattle.mr_shard_files.specs.Faults.{AreUnopened, IsTextsFault, IsUnopened};
-ghost use Rattle.mr_shard_files.specs.Streams.{AreOpened, AreRows, IsOpened, length_told as length_of};
+ghost use Rattle.mr_shard_files.specs.Streams.{AreOpened, AreRows, IsOpened};
+ghost use Rattle.mr_shard_files.specs.Streams.{length_told as length_of};
 
 use crate::fault::ShardFault;
 use crate::stream::{Part, fault_of};
@@ -29,7 +30,9 @@ fn open_part<S: Store>(
     verdict: &Verdict,
     partition: usize,
 ) -> Result<Part<S::Reader>, ShardFault>
-    ensures ok { IfOk result (IsOpened (S.holds store.now) (S.unreadable store.now) S.Reader.remaining S.Reader.can_fail partition name.now verdict.now) }
+    ensures ok { IfOk result
+        (IsOpened (S.holds store.now)
+        (S.unreadable store.now) S.Reader.remaining S.Reader.can_fail partition name.now verdict.now) }
     ensures err { IfErr result (IsUnopened (S.unreadable store.now) partition name.now) }
 {
     let file = part_name(alloc, folder_of(name), partition)?;
@@ -52,9 +55,11 @@ fn open_parts<S: Store>(
     partition: usize,
 ) -> Result<Vec<Part<S::Reader>>, ShardFault>
     requires { length names.now ≡ length verdicts.now }
-    ensures ok { IfOk result (λ qs. AreOpened (S.holds store.now) (S.unreadable store.now) S.Reader.remaining S.Reader.can_fail
+    ensures ok { IfOk result (λ qs. AreOpened (S.holds store.now)
+        (S.unreadable store.now) S.Reader.remaining S.Reader.can_fail
         partition (map (λ s. s.now) names.now) verdicts.now qs.items) }
-    ensures err { IfErr result (IsTextsFault (S.holds store.now) (S.unreadable store.now) partition (map (λ s. s.now) names.now) verdicts.now) }
+    ensures err { IfErr result (IsTextsFault (S.holds store.now)
+        (S.unreadable store.now) partition (map (λ s. s.now) names.now) verdicts.now) }
 {
     let mut parts = Vec::new(alloc);
     for shard in 0..names.len() {
@@ -74,9 +79,11 @@ pub(crate) fn open_all<S: Store>(
 ) -> Result<Vec<Vec<Part<S::Reader>>>, ShardFault>
     requires { length names.now ≡ length verdicts.now }
     ensures count { IfOk result (λ rows. length rows.items ≡ count) }
-    ensures ok { IfOk result (λ rows. AreRows (S.holds store.now) (S.unreadable store.now) S.Reader.remaining S.Reader.can_fail
+    ensures ok { IfOk result (λ rows. AreRows (S.holds store.now)
+        (S.unreadable store.now) S.Reader.remaining S.Reader.can_fail
         (map (λ s. s.now) names.now) verdicts.now 0 rows.items) }
-    ensures err { IfErr result (AreUnopened (S.holds store.now) (S.unreadable store.now) count (map (λ s. s.now) names.now) verdicts.now) }
+    ensures err { IfErr result (AreUnopened (S.holds store.now) (S.unreadable store.now) count (map
+        (λ s. s.now) names.now) verdicts.now) }
 {
     let mut rows = Vec::new(alloc);
     for partition in 0..count {

@@ -1,5 +1,6 @@
 //! The parts of shards, merged partition by partition.
-ghost use Rattle.std.specs.Prelude.{◌≡◌, ◌<◌, ◌^◌, ◌⊎◌, ℕ, [], List, IfErr, IfOk, OnOk, length, map, string_bytes};
+ghost use Rattle.std.specs.Prelude.{◌≡◌, ◌<◌, ◌^◌, ◌⊎◌, ℕ, [], List, IfErr, IfOk, OnOk, length};
+ghost use Rattle.std.specs.Prelude.{map, string_bytes};
 ghost use Rattle.mr_files.specs.Holding.{ChangesOnly};
 ghost use Rattle.mr_files.specs.Names.{name_of_part, part_file};
 ghost use Rattle.mr_shards.specs.Joined.{inputs_of};
@@ -31,10 +32,12 @@ fn begin_part<S: Store>(
 ) -> Result<Made<S::Writer>, ShardFault>
     ensures fresh { IfOk result (λ m. HasWritten S.Writer.seen [] m) }
     ensures name { IfOk result (λ m. string_bytes m.name ≡ name_of_part dir.now partition) }
-    ensures fails { IfOk result (λ m. S.Writer.can_fail m.writer → S.unwritable store.old (name_of_part dir.now partition)) }
+    ensures fails { IfOk result (λ m. S.Writer.can_fail m.writer
+        → S.unwritable store.old (name_of_part dir.now partition)) }
     ensures others { ChangesOnly (S.holds store.old) (S.holds store.new) (name_of_part dir.now partition) }
     ensures still { (n : List ℕ) → S.unwritable store.new n → S.unwritable store.old n }
-    ensures err { IfErr result (TellsUnwritten (S.unwritable store.old (name_of_part dir.now partition)) (name_of_part dir.now partition)) }
+    ensures err { IfErr result (TellsUnwritten (S.unwritable store.old
+        (name_of_part dir.now partition)) (name_of_part dir.now partition)) }
 {
     let name = part_name(alloc, dir, partition)?;
     match store.writer(alloc, name.as_str()) {
@@ -58,10 +61,12 @@ fn part_filled<R: CountedRead + Drop, W: CountedWrite + Drop, T: Threads>(
     requires files { length files.now ≡ length parts.old }
     requires count { length parts.old ≡ length verdicts.now }
     requires fresh { HasWritten W.seen [] made.old }
-    ensures ok { IfOk result (λ n. (text : List ℕ) × AreJoined R.remaining R.can_fail job.now files.now partition verdicts.now parts.old text
+    ensures ok { IfOk result (λ n. (text : List ℕ)
+        × AreJoined R.remaining R.can_fail job.now files.now partition verdicts.now parts.old text
         × HasWritten W.seen text made.new × (n ≡ note_for (part_file partition) text)) }
     ensures handed { OnOk result ((W.seen made.new.writer).handed_on ≡ (W.seen made.new.writer).contents) }
-    ensures err { IfErr result (λ e. IsRefused R.remaining R.can_fail job.now files.now partition verdicts.now parts.old e
+    ensures err { IfErr result
+        (λ e. IsRefused R.remaining R.can_fail job.now files.now partition verdicts.now parts.old e
         ⊎ TellsUnwritten (W.can_fail made.old.writer) (string_bytes made.old.name) e) }
     ensures name { made.new.name ≡ made.old.name }
 {
@@ -84,11 +89,14 @@ fn part_written<S: Store, T: Threads>(
 ) -> Result<FileNote, ShardFault>
     requires files { length files.now ≡ length parts.old }
     requires count { length parts.old ≡ length verdicts.now }
-    ensures ok { IfOk result (λ n. (text : List ℕ) × AreJoined S.Reader.remaining S.Reader.can_fail job.now files.now partition verdicts.now parts.old text
+    ensures ok { IfOk result
+        (λ n. (text : List ℕ)
+        × AreJoined S.Reader.remaining S.Reader.can_fail job.now files.now partition verdicts.now parts.old text
         × S.holds store.new (name_of_part dir.now partition) text × (n ≡ note_for (part_file partition) text)) }
     ensures others { ChangesOnly (S.holds store.old) (S.holds store.new) (name_of_part dir.now partition) }
     ensures still { (n : List ℕ) → S.unwritable store.new n → S.unwritable store.old n }
-    ensures err { IfErr result (λ e. IsRefused S.Reader.remaining S.Reader.can_fail job.now files.now partition verdicts.now parts.old e
+    ensures err { IfErr result
+        (λ e. IsRefused S.Reader.remaining S.Reader.can_fail job.now files.now partition verdicts.now parts.old e
         ⊎ TellsUnwritten (S.unwritable store.old (name_of_part dir.now partition)) (name_of_part dir.now partition) e) }
 {
     let mut made = begin_part(store, alloc, dir, partition)?;
@@ -115,7 +123,8 @@ pub(crate) fn partitions_written<S: Store, T: Threads>(
     ensures ok { IfOk result (λ ns. ArePartsWritten (S.holds store.old) (S.holds store.new) request.now
         (map (λ s. s.now) names.now) verdicts.now dir.now ns.items) }
     ensures still { (n : List ℕ) → S.unwritable store.new n → S.unwritable store.old n }
-    ensures err { IfErr result (IsPartsFault (S.holds store.old) (S.holds store.new) (S.unreadable store.old) (S.unwritable store.old)
+    ensures err { IfErr result (IsPartsFault (S.holds store.old) (S.holds store.new)
+        (S.unreadable store.old) (S.unwritable store.old)
         request.now (map (λ s. s.now) names.now) verdicts.now dir.now) }
 {
     let files = file_counts(alloc, verdicts)?;

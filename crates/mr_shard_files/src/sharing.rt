@@ -1,9 +1,11 @@
 //! The files of the result: they are apart from those that are read, and the verdict has its name.
-ghost use Rattle.std.specs.Prelude.{◌≡◌, IfErr, OnOk, map, ◌++◌, ℕ, List, IfOk, option_map, string_bytes};
+ghost use Rattle.std.specs.Prelude.{◌≡◌, IfErr, OnOk, map, ◌++◌, ℕ, List, IfOk, option_map};
+ghost use Rattle.std.specs.Prelude.{string_bytes};
 ghost use Rattle.mr_shard_files.specs.Apart.{AreApart, IsSameFolder};
 ghost use Rattle.mr_files.specs.Folders.{IsFolderOf};
 ghost use Rattle.mr_files.specs.Names.{merged_names, part_names, name_of_verdict};
-ghost use Rattle.mr_shard_files.specs.Sharing.{AreBeside, AreRead, AreUnshared, IsShared, names_with};
+ghost use Rattle.mr_shard_files.specs.Sharing.{AreBeside, AreRead, AreUnshared, IsShared};
+ghost use Rattle.mr_shard_files.specs.Sharing.{names_with};
 ghost use Rattle.mr_files.specs.Holding.{Begins, ChangesOnly};
 ghost use Rattle.mr_shards.specs.Verdict.{spelling};
 ghost use Rattle.mr_shard_files.specs.Made.{TellsUnwritten};
@@ -34,7 +36,8 @@ fn add_parts(
     folder: &str,
     parts: usize,
 ) -> Result<(), AllocError>
-    ensures { OnOk result (map string_bytes names.new.items ≡ map string_bytes names.old.items ++ part_names folder.now parts) }
+    ensures { OnOk result (map string_bytes names.new.items
+        ≡ map string_bytes names.old.items ++ part_names folder.now parts) }
 {
     for part in 0..parts {
         let name = part_name(alloc, folder, part)?;
@@ -78,7 +81,8 @@ fn names_read(
     list: Option<&str>,
     parts: usize,
 ) -> Result<Vec<String>, AllocError>
-    ensures { IfOk result (λ read. AreRead (map (λ s. s.now) names.now) (option_map (λ n. n.now) list.entry) parts (map string_bytes read.items)) }
+    ensures { IfOk result (λ read. AreRead (map (λ s. s.now) names.now) (option_map
+        (λ n. n.now) list.entry) parts (map string_bytes read.items)) }
 {
     let mut read = names_beside(alloc, names, parts)?;
     add_told(alloc, &mut read, names, list)?;
@@ -105,8 +109,10 @@ pub(crate) fn expect_unshared<S: Store>(
     out: &str,
     parts: u32,
 ) -> Result<(), ShardFault>
-    ensures ok { OnOk result (AreUnshared (S.known_as store.now) (map (λ s. s.now) names.now) (option_map (λ n. n.now) list.entry) out.now parts) }
-    ensures err { IfErr result (IsShared (S.known_as store.now) (map (λ s. s.now) names.now) (option_map (λ n. n.now) list.entry) out.now parts) }
+    ensures ok { OnOk result (AreUnshared (S.known_as store.now) (map
+        (λ s. s.now) names.now) (option_map (λ n. n.now) list.entry) out.now parts) }
+    ensures err { IfErr result (IsShared (S.known_as store.now) (map
+        (λ s. s.now) names.now) (option_map (λ n. n.now) list.entry) out.now parts) }
 {
     let read = names_read(alloc, names, list, parts as usize)?;
     let written = names_written(alloc, out, parts as usize)?;
@@ -127,7 +133,8 @@ pub(crate) fn put_verdict<S: Store>(
     ensures begins { Begins (S.holds store.old) (S.holds store.new) (name_of_verdict dir.now) text.now }
     ensures others { ChangesOnly (S.holds store.old) (S.holds store.new) (name_of_verdict dir.now) }
     ensures still { (n : List ℕ) → S.unwritable store.new n → S.unwritable store.old n }
-    ensures err { IfErr result (TellsUnwritten (S.unwritable store.old (name_of_verdict dir.now)) (name_of_verdict dir.now)) }
+    ensures err { IfErr result (TellsUnwritten (S.unwritable store.old (name_of_verdict dir.now))
+        (name_of_verdict dir.now)) }
 {
     let name = verdict_name(alloc, dir)?;
     write_file(store, alloc, name.as_str(), text)?;
@@ -145,7 +152,8 @@ pub(crate) fn put_told<S: Store>(
     ensures begins { Begins (S.holds store.old) (S.holds store.new) (name_of_verdict dir.now) (spelling verdict.now) }
     ensures others { ChangesOnly (S.holds store.old) (S.holds store.new) (name_of_verdict dir.now) }
     ensures still { (n : List ℕ) → S.unwritable store.new n → S.unwritable store.old n }
-    ensures err { IfErr result (TellsUnwritten (S.unwritable store.old (name_of_verdict dir.now)) (name_of_verdict dir.now)) }
+    ensures err { IfErr result (TellsUnwritten (S.unwritable store.old (name_of_verdict dir.now))
+        (name_of_verdict dir.now)) }
 {
     let text = write_verdict(alloc, verdict)?;
     put_verdict(store, alloc, dir, text.as_slice())

@@ -1,8 +1,10 @@
 //! A part of a shard, read as a stream. Bytes that were read and aren't merged yet are held.
-ghost use Rattle.std.specs.Prelude.{◌≡◌, ℕ, ◌≤◌, [], ◌++◌, List, OnOk, length, drop, ◌⊎◌, ◌↔◌, ◌+◌, ◌<◌, IfErr, IfOk, IsTrue, true, false, take, string_bytes};
+ghost use Rattle.std.specs.Prelude.{◌≡◌, ℕ, ◌≤◌, [], ◌++◌, List, OnOk, length, drop, ◌⊎◌, ◌↔◌, ◌+◌};
+ghost use Rattle.std.specs.Prelude.{◌<◌, IfErr, IfOk, IsTrue, true, false, take, string_bytes};
 ghost use Rattle.std.specs.Io.KnownBytes.{Consumes, IsAtEnd};
 ghost use Rattle.sha2.specs.Sha256.{sha256};
-ghost use Rattle.mr_shard_files.specs.Streams.{CountsDown, HasMore, HasRead, IsDigested, Moves, TellsUnread, is_done as no_more, unread};
+ghost use Rattle.mr_shard_files.specs.Streams.{CountsDown, HasMore, HasRead, IsDigested, Moves};
+ghost use Rattle.mr_shard_files.specs.Streams.{TellsUnread, is_done as no_more, unread};
 
 use crate::fault::ShardFault;
 use memchr::memchr;
@@ -170,10 +172,12 @@ impl<R: CountedRead + Drop> Part<R> {
 
     /// Counts bytes that were read.
     fn count(&mut self, piece: usize)
-        ensures counts { (told read : ℕ) → CountsDown told self.old.left self.old.longer read → CountsDown told self.new.left self.new.longer (read + piece) }
+        ensures counts { (told read : ℕ) → CountsDown told self.old.left self.old.longer read
+            → CountsDown told self.new.left self.new.longer (read + piece) }
         ensures falls { 0 < piece → no_more self.old ≡ false → unread self.new < unread self.old }
         ensures longer { self.old.longer ≡ true → self.new.longer ≡ true }
-        ensures same { (self.new.name ≡ self.old.name) × (self.new.reader ≡ self.old.reader) × (self.new.held ≡ self.old.held)
+        ensures same { (self.new.name ≡ self.old.name) × (self.new.reader ≡ self.old.reader)
+            × (self.new.held ≡ self.old.held)
             × (self.new.hasher ≡ self.old.hasher) × (self.new.digested ≡ self.old.digested) × (self.new.ended ≡ self.old.ended) }
     {
         match self.left.checked_sub(piece as u64) {
@@ -184,11 +188,14 @@ impl<R: CountedRead + Drop> Part<R> {
 
     /// Holds a piece that was read. The digest lacks it.
     fn note(&mut self, piece: &[u8]) -> Result<(), AllocError>
-        ensures read { OnOk result ((told : ℕ) (bytes : List ℕ) → HasRead told self.old bytes → HasRead told self.new (bytes ++ piece.now)) }
+        ensures read { OnOk result ((told : ℕ) (bytes : List ℕ) → HasRead told self.old bytes
+            → HasRead told self.new (bytes ++ piece.now)) }
         ensures held { OnOk result (self.new.held ≡ self.old.held ++ piece.now) }
-        ensures falls { OnOk result (0 < length piece.now → no_more self.old ≡ false → unread self.new < unread self.old) }
+        ensures falls { OnOk result (0 < length piece.now → no_more self.old ≡ false
+            → unread self.new < unread self.old) }
         ensures longer { OnOk result (self.old.longer ≡ true → self.new.longer ≡ true) }
-        ensures same { OnOk result ((self.new.name ≡ self.old.name) × (self.new.reader ≡ self.old.reader) × (self.new.ended ≡ self.old.ended)) }
+        ensures same { OnOk result ((self.new.name ≡ self.old.name)
+            × (self.new.reader ≡ self.old.reader) × (self.new.ended ≡ self.old.ended)) }
     {
         self.held.push(piece)?;
         self.count(piece.len());
@@ -263,7 +270,8 @@ impl<R: CountedRead + Drop> Part<R> {
         ensures digested { self.new.digested ≡ length self.new.held }
         ensures hasher { self.new.hasher ≡ self.old.hasher }
         ensures counts { (self.new.left ≡ self.old.left) × (self.new.longer ≡ self.old.longer) }
-        ensures same { (self.new.ended ≡ self.old.ended) × (self.new.name ≡ self.old.name) × (self.new.reader ≡ self.old.reader) }
+        ensures same { (self.new.ended ≡ self.old.ended) × (self.new.name ≡ self.old.name)
+            × (self.new.reader ≡ self.old.reader) }
     {
         self.held.pass(count);
         self.digested = self.held.bytes().len();

@@ -1,6 +1,8 @@
 //! The parts that shards have for one partition, read in pieces.
-ghost use Rattle.std.specs.Prelude.{◌≡◌, ◌↔◌, ℕ, [], ◌∷◌, ◌++◌, List, IfErr, IfOk, IsTrue, OnOk, length, string_bytes, take};
-ghost use Rattle.mr_shard_files.specs.Streams.{AllAre, AreHeld, AreUnsettled, AreWindowsOf, Ends, HasRead, IsSettled, Moves, OneIs, TellsUnread};
+ghost use Rattle.std.specs.Prelude.{◌≡◌, ◌↔◌, ℕ, [], ◌∷◌, ◌++◌, List, IfErr, IfOk, IsTrue, OnOk};
+ghost use Rattle.std.specs.Prelude.{length, string_bytes, take};
+ghost use Rattle.mr_shard_files.specs.Streams.{AllAre, AreHeld, AreUnsettled, AreWindowsOf, Ends};
+ghost use Rattle.mr_shard_files.specs.Streams.{HasRead, IsSettled, Moves, OneIs, TellsUnread};
 ghost use Rattle.mr_shard_files.specs.Streams.{all_done, length_told};
 ghost use Rattle.mr_shard_files.specs.Beside.{TellsOf};
 
@@ -17,7 +19,8 @@ pub(crate) fn fill_all<R: CountedRead + Drop>(
     size: usize,
 ) -> Result<(), ShardFault>
     ensures ok { OnOk result (AllAre (λ _ o n. Moves R.remaining R.can_fail [] o n) parts.old parts.old parts.new) }
-    ensures err { IfErr result (λ e. OneIs (λ _ q. TellsUnread (R.can_fail q.reader) (string_bytes q.name) e) parts.old) }
+    ensures err { IfErr result
+        (λ e. OneIs (λ _ q. TellsUnread (R.can_fail q.reader) (string_bytes q.name) e) parts.old) }
 {
     for shard in 0..parts.len() {
         let part = &mut parts[shard];
@@ -55,7 +58,8 @@ pub(crate) fn are_done<R: CountedRead + Drop>(parts: &[Part<R>]) -> bool
 
 /// Keeps a window behind the others.
 fn keep<'a>(windows: &mut Vec<Window<'a>>, bytes: &'a [u8], is_last: bool) -> Result<(), AllocError>
-    ensures { OnOk result (windows.new.items ≡ windows.old.items ++ record { bytes = bytes.entry; is_last = is_last } ∷ []) }
+    ensures { OnOk result (windows.new.items
+        ≡ windows.old.items ++ record { bytes = bytes.entry; is_last = is_last } ∷ []) }
 {
     windows
         .push(Window { bytes, is_last })

@@ -1,7 +1,8 @@
 //! What the digests of parts lack, taken by itself.
 ghost use Rattle.std.specs.Prelude.{◌≡◌, ◌≤◌, List, [], ◌∷◌, ◌++◌, drop, length, IfOk, OnOk};
 ghost use Rattle.sha2.specs.declared.Sha256.{Sha256 as Digested};
-ghost use Rattle.mr_shard_files.specs.Streams.{AllAre, AreNext, AreTailsOf, AreTaken, HasMore, IsDigested};
+ghost use Rattle.mr_shard_files.specs.Streams.{AllAre, AreNext, AreTailsOf, AreTaken, HasMore};
+ghost use Rattle.mr_shard_files.specs.Streams.{IsDigested};
 
 use crate::stream::Part;
 use mr_store::CountedRead;

@@ -1,7 +1,11 @@
 //! Parts of shards, merged as they are read.
-ghost use Rattle.std.specs.Prelude.{◌≡◌, ◌⊎◌, [], ◌++◌, ℕ, List, Err, Ok, IfErr, IfOk, OnOk, length, string_bytes};
-ghost use Rattle.mr_shard_files.specs.Streams.{AreBlamed, AreJoined, AreMergedTo, AreNext, AreTaken, IsBlamedOver, IsRefused, IsStopped, IsStoppedAt};
-ghost use Rattle.mr_shard_files.specs.Streams.{AllAre, AreAllBeside, IsNotBeside, IsTurnFault, Moves, StepsOver};
+ghost use Rattle.std.specs.Prelude.{◌≡◌, ◌⊎◌, [], ◌++◌, ℕ, List, Err, Ok, IfErr, IfOk, OnOk};
+ghost use Rattle.std.specs.Prelude.{length, string_bytes};
+ghost use Rattle.mr_shard_files.specs.Streams.{AreBlamed, AreJoined, AreMergedTo, AreNext};
+ghost use Rattle.mr_shard_files.specs.Streams.{AreTaken, IsBlamedOver, IsRefused, IsStopped};
+ghost use Rattle.mr_shard_files.specs.Streams.{IsStoppedAt};
+ghost use Rattle.mr_shard_files.specs.Streams.{AllAre, AreAllBeside, IsNotBeside, IsTurnFault};
+ghost use Rattle.mr_shard_files.specs.Streams.{Moves, StepsOver};
 ghost use Rattle.mr_shard_files.specs.declared.turns.Stop.TheVariants.{Part as told_part};
 ghost use Rattle.mr_shard_files.specs.declared.fault.ShardFault.TheVariants.{OutOfMemory as told_memory};
 ghost use Rattle.mr_shard_files.specs.Made.{HasWritten, TellsUnwritten};
@@ -144,7 +148,8 @@ fn stepped_beside_one<R: CountedRead + Drop, T: Threads>(
 ) -> Result<Beside, Stop>
     requires { length parts.now ≡ length merger.held }
     ensures shards { IfOk result (λ b. length b.turn.merger.held ≡ length merger.held) }
-    ensures ok { IfOk result (λ b. StepsOver job.now parts.now b.turn.cuts.items merger b.turn.merger text.items b.turn.text.items) }
+    ensures ok { IfOk result
+        (λ b. StepsOver job.now parts.now b.turn.cuts.items merger b.turn.merger text.items b.turn.text.items) }
     ensures digests { IfOk result (λ b. AreNext some.now b.digests.items) }
     ensures err { IfErr result (λ e. IsStoppedAt job.now parts.now merger e) }
 {
@@ -156,7 +161,8 @@ fn stepped_beside_one<R: CountedRead + Drop, T: Threads>(
     let merging = move || -> Result<Turn, MergeFault>
         requires { length parts.now ≡ length merger.held }
         ensures shards { IfOk result (λ s. length s.merger.held ≡ length merger.held) }
-        ensures ok { IfOk result (λ s. StepsOver job.entry.now parts.entry.now s.cuts.items merger s.merger text.items s.text.items) }
+        ensures ok { IfOk result
+            (λ s. StepsOver job.entry.now parts.entry.now s.cuts.items merger s.merger text.items s.text.items) }
         ensures err { IfErr result (IsBlamedOver job.entry.now parts.entry.now merger) }
     { stepped(alloc, job, parts, merger, text) };
     let (digests, merged) = thread::join(rt, digesting, merging);
@@ -175,7 +181,8 @@ fn stepped_beside<R: CountedRead + Drop, T: Threads>(
 ) -> Result<Beside, Stop>
     requires { length parts.now ≡ length merger.held }
     ensures shards { IfOk result (λ b. length b.turn.merger.held ≡ length merger.held) }
-    ensures ok { IfOk result (λ b. StepsOver job.now parts.now b.turn.cuts.items merger b.turn.merger text.items b.turn.text.items) }
+    ensures ok { IfOk result
+        (λ b. StepsOver job.now parts.now b.turn.cuts.items merger b.turn.merger text.items b.turn.text.items) }
     ensures digests { IfOk result (λ b. AreNext parts.now b.digests.items) }
     ensures err { IfErr result (λ e. IsStoppedAt job.now parts.now merger e) }
 {
@@ -188,7 +195,8 @@ fn stepped_beside<R: CountedRead + Drop, T: Threads>(
     let stepping = move || -> Result<Beside, Stop>
         requires { length parts.now ≡ length merger.held }
         ensures shards { IfOk result (λ b. length b.turn.merger.held ≡ length merger.held) }
-        ensures ok { IfOk result (λ b. StepsOver job.entry.now parts.entry.now b.turn.cuts.items merger b.turn.merger text.items b.turn.text.items) }
+        ensures ok { IfOk result
+            (λ b. StepsOver job.entry.now parts.entry.now b.turn.cuts.items merger b.turn.merger text.items b.turn.text.items) }
         ensures digests { IfOk result (λ b. AreNext back.entry.now b.digests.items) }
         ensures err { IfErr result (λ e. IsStoppedAt job.entry.now parts.entry.now merger e) }
     { stepped_beside_one(rt, alloc, job, parts, back, merger, text) };
@@ -221,8 +229,10 @@ fn turned<R: CountedRead + Drop, W: CountedWrite + Drop, T: Threads>(
     ensures shards { IfOk result (λ s. length s.merger.held ≡ length last.merger.held) }
     ensures read { OnOk result (AllAre (λ _ o n. Moves R.remaining R.can_fail [] o n) parts.old parts.old parts.new) }
     ensures ok { IfOk result (λ s. StepsOver job.now parts.new s.cuts.items last.merger s.merger [] s.text.items) }
-    ensures written { IfOk result (λ s. (bytes : List ℕ) → HasWritten W.seen bytes made.old → HasWritten W.seen (bytes ++ s.text.items) made.new) }
-    ensures err { IfErr result (IsTurnFault R.remaining R.can_fail (TellsUnwritten (W.can_fail made.old.writer) (string_bytes made.old.name))
+    ensures written { IfOk result (λ s. (bytes : List ℕ) → HasWritten W.seen bytes made.old
+        → HasWritten W.seen (bytes ++ s.text.items) made.new) }
+    ensures err { IfErr result (IsTurnFault R.remaining R.can_fail
+        (TellsUnwritten (W.can_fail made.old.writer) (string_bytes made.old.name))
         job.now parts.old parts.new last.merger) }
     ensures later { W.can_fail made.new.writer → W.can_fail made.old.writer }
     ensures name { made.new.name ≡ made.old.name }
@@ -252,9 +262,11 @@ pub(crate) fn merged_in_turns<R: CountedRead + Drop, W: CountedWrite + Drop, T: 
 ) -> Result<(), Stop>
     requires count { length files.now ≡ length parts.old }
     requires fresh { HasWritten W.seen [] made.old }
-    ensures ok { OnOk result ((text : List ℕ) × AreMergedTo R.remaining R.can_fail job.now files.now parts.old parts.new text
+    ensures ok { OnOk result ((text : List ℕ)
+        × AreMergedTo R.remaining R.can_fail job.now files.now parts.old parts.new text
         × HasWritten W.seen text made.new) }
-    ensures err { IfErr result (λ e. IsStopped R.remaining R.can_fail (TellsUnwritten (W.can_fail made.old.writer) (string_bytes made.old.name))
+    ensures err { IfErr result (λ e. IsStopped R.remaining R.can_fail
+        (TellsUnwritten (W.can_fail made.old.writer) (string_bytes made.old.name))
         job.now files.now parts.old parts.new e) }
     ensures later { W.can_fail made.new.writer → W.can_fail made.old.writer }
     ensures name { made.new.name ≡ made.old.name }
@@ -293,9 +305,11 @@ pub(crate) fn joined<R: CountedRead + Drop, W: CountedWrite + Drop, T: Threads>(
     requires files { length files.now ≡ length parts.old }
     requires count { length parts.old ≡ length verdicts.now }
     requires fresh { HasWritten W.seen [] made.old }
-    ensures ok { OnOk result ((text : List ℕ) × AreJoined R.remaining R.can_fail job.now files.now partition verdicts.now parts.old text
+    ensures ok { OnOk result ((text : List ℕ)
+        × AreJoined R.remaining R.can_fail job.now files.now partition verdicts.now parts.old text
         × HasWritten W.seen text made.new) }
-    ensures err { IfErr result (λ e. IsRefused R.remaining R.can_fail job.now files.now partition verdicts.now parts.old e
+    ensures err { IfErr result
+        (λ e. IsRefused R.remaining R.can_fail job.now files.now partition verdicts.now parts.old e
         ⊎ TellsUnwritten (W.can_fail made.old.writer) (string_bytes made.old.name) e) }
     ensures later { W.can_fail made.new.writer → W.can_fail made.old.writer }
     ensures name { made.new.name ≡ made.old.name }

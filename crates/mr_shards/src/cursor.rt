@@ -1,11 +1,13 @@
 //! Where a merge stands in the outputs of shards.
-ghost use Rattle.std.specs.Prelude.{◌≡◌, ℕ, List, IfOk, IfSome, IsTrue, MatchOption, Some, map, None, ◌↔◌, IfErr};
+ghost use Rattle.std.specs.Prelude.{◌≡◌, ℕ, List, IfOk, IfSome, IsTrue, MatchOption, Some, map};
+ghost use Rattle.std.specs.Prelude.{None, ◌↔◌, IfErr};
 ghost use Rattle.mr_shards.specs.Lines.{groups_in};
 ghost use Rattle.mr_shards.specs.Merged.{moved_group};
 ghost use Rattle.std.specs.List.{AllByRecursion};
 ghost use Rattle.std.specs.Ordering.{is_lt};
 ghost use Rattle.mr_bytes.specs.Order.{key_order};
-ghost use Rattle.mr_shards.specs.Cursors.{AreBeyond, AreBehind, Differs, DoesNotFall, HasFront, IsFound, IsFronted, IsHeadFor, left, least_from, lesser};
+ghost use Rattle.mr_shards.specs.Cursors.{AreBeyond, AreBehind, Differs, DoesNotFall, HasFront};
+ghost use Rattle.mr_shards.specs.Cursors.{IsFound, IsFronted, IsHeadFor, left, least_from, lesser};
 ghost use Rattle.mr_shards.specs.Refused.{BlamesOnly, IsReadOf, IsRestOf, MayFollow, last_key};
 
 use crate::line::{Line, first_line, moved};
@@ -53,13 +55,15 @@ pub(crate) fn advanced<'a>(
     cursor: Cursor<'a>,
 ) -> Result<Cursor<'a>, MergeFault>
     requires { IsFronted cursor.head }
-    ensures left { IfOk result (λ n. left job.now n ≡ map (moved_group cursor.entry.before) (groups_in job.now cursor.entry.rest.now)) }
+    ensures left { IfOk result (λ n. left job.now n
+        ≡ map (moved_group cursor.entry.before) (groups_in job.now cursor.entry.rest.now)) }
     ensures before { IfOk result (λ n. n.before ≡ cursor.entry.before) }
     ensures kind { IfOk result (IsHeadFor job.now) }
     ensures order { IfOk result (λ n. IfSome n.head (λ l. DoesNotFall cursor.entry.head l)) }
     ensures behind { IfOk result (λ n. IsRestOf job.now n → IsRestOf job.now cursor.entry) }
     ensures read { IfOk result (λ n. (text : List ℕ) → IsReadOf job.now text cursor.entry → IsReadOf job.now text n) }
-    ensures err { IfErr result (BlamesOnly job.now shard cursor.entry.before (last_key cursor.entry.head) cursor.entry.rest.now cursor.entry.lines) }
+    ensures err { IfErr result (BlamesOnly job.now shard cursor.entry.before
+        (last_key cursor.entry.head) cursor.entry.rest.now cursor.entry.lines) }
 {
     if cursor.rest.is_empty() {
         return Ok(Cursor {
@@ -141,7 +145,8 @@ fn first_least<'a>(cursors: &[Cursor<'a>]) -> Option<(usize, Line<'a>)>
 fn alike<'a>(head: Option<Line<'a>>, last: Line<'_>) -> Option<Line<'a>>
     requires head { IsFronted head }
     requires last { HasFront last }
-    ensures { MatchOption result (Differs last.entry head.entry) (λ l. (head.entry ≡ Some l) × (l.key.now ≡ last.entry.key.now)) }
+    ensures { MatchOption result (Differs last.entry head.entry)
+        (λ l. (head.entry ≡ Some l) × (l.key.now ≡ last.entry.key.now)) }
 {
     let Some(line) = head else {
         return None;

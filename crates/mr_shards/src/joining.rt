@@ -1,9 +1,11 @@
 //! The verdicts of shards, joined to one.
-ghost use Rattle.std.specs.Prelude.{◌≡◌, ◌↔◌, ◌⊎◌, ℕ, ◌+◌, ◌<◌, ◌≤◌, ◌^◌, ◌++◌, List, [], ◌∷◌, true, false, IfErr, IfOk, IfSome, MatchOption, OnOk, map};
+ghost use Rattle.std.specs.Prelude.{◌≡◌, ◌↔◌, ◌⊎◌, ℕ, ◌+◌, ◌<◌, ◌≤◌, ◌^◌, ◌++◌, List, [], ◌∷◌};
+ghost use Rattle.std.specs.Prelude.{true, false, IfErr, IfOk, IfSome, MatchOption, OnOk, map};
 ghost use Rattle.std.specs.List.{AllByRecursion};
 ghost use Rattle.mr_bytes.specs.Lists.{Has};
 ghost use Rattle.mr_shards.specs.Shards.{moved_name};
-ghost use Rattle.mr_shards.specs.Joined.{AreOnce, IsJoinFault, IsJoined, IsRepeated, JoinedIsTrue, splits_in as split_number, splits_told};
+ghost use Rattle.mr_shards.specs.Joined.{AreOnce, IsJoinFault, IsJoined, IsRepeated, JoinedIsTrue};
+ghost use Rattle.mr_shards.specs.Joined.{splits_in as split_number, splits_told};
 ghost use Rattle.mr_shards.specs.Joining.{Follows, IsShardFault, IsTooFar};
 
 use crate::verdict::{FileNote, Verdict, asks, verdict_for};
@@ -56,7 +58,8 @@ fn splits_in(bytes: u64, size: u32) -> u64
 /// How many splits there are with those of the files that notes tell of; none where that doesn't fit in 64 bits.
 fn splits_behind(notes: &[FileNote], size: u32, before: u64) -> Option<u64>
     requires { 0 < size }
-    ensures count { MatchOption result (2 ^ 64 ≤ before + splits_told size notes.now) (λ n. n ≡ before + splits_told size notes.now) }
+    ensures count { MatchOption result (2 ^ 64 ≤ before + splits_told size notes.now)
+        (λ n. n ≡ before + splits_told size notes.now) }
     ensures sizes { IfSome result (λ _. AllByRecursion (λ n. n.length < 2 ^ 64) notes.now) }
 {
     let mut splits = before;
@@ -195,7 +198,8 @@ pub fn join_verdicts(
 fn see<'a>(seen: &mut BTreeSet<&'a [u8]>, name: &'a [u8]) -> Result<bool, AllocError>
     ensures fresh { IfOk result (λ added. added ≡ true → Has (map (λ k. k.now) seen.old.keys) name.entry.now → ⊥) }
     ensures again { IfOk result (λ added. added ≡ false → Has (map (λ k. k.now) seen.old.keys) name.entry.now) }
-    ensures kept { OnOk result ((n : List ℕ) → Has (map (λ k. k.now) seen.new.keys) n ↔ (Has (map (λ k. k.now) seen.old.keys) n ⊎ (name.entry.now ≡ n))) }
+    ensures kept { OnOk result ((n : List ℕ) → Has (map (λ k. k.now) seen.new.keys) n
+        ↔ (Has (map (λ k. k.now) seen.old.keys) n ⊎ (name.entry.now ≡ n))) }
 {
     match seen.insert(name) {
         Ok(added) => Ok(added),

@@ -1,5 +1,6 @@
 //! One line of an output.
-ghost use Rattle.std.specs.Prelude.{◌≡◌, ◌<◌, ◌≤◌, ◌+◌, ◌*◌, ◌^◌, ◌++◌, ℕ, [], ◌∷◌, IfErr, IfOk, IfSome, MatchOption, None, Some, OnOk, decimal, map};
+ghost use Rattle.std.specs.Prelude.{◌≡◌, ◌<◌, ◌≤◌, ◌+◌, ◌*◌, ◌^◌, ◌++◌, ℕ, [], ◌∷◌, IfErr, IfOk};
+ghost use Rattle.std.specs.Prelude.{IfSome, MatchOption, None, Some, OnOk, decimal, map};
 ghost use Rattle.mr_jobs.specs.JobSpec.{counts};
 ghost use Rattle.mr_bytes.specs.Cut.{Lacks};
 ghost use Rattle.mr_shards.specs.Lines.{groups_in};
@@ -7,7 +8,8 @@ ghost use Rattle.mr_shards.specs.Merged.{group_text, moved_group, moved_value};
 ghost use Rattle.mr_shards.specs.declared.line.Tally.{Tally};
 ghost use Rattle.mr_shards.specs.Cursors.{HasFront};
 ghost use Rattle.mr_shards.specs.Refused.{IsFarPlace, IsLineOf, Overflows};
-ghost use Rattle.mr_shards.specs.Views.{BeginsWithLine, Combines, IsFor, IsSameKind, IsTold, group_of, values_of};
+ghost use Rattle.mr_shards.specs.Views.{BeginsWithLine, Combines, IsFor, IsSameKind, IsTold};
+ghost use Rattle.mr_shards.specs.Views.{group_of, values_of};
 
 use crate::merge::MergeFault;
 use itoa::Buffer;
@@ -36,7 +38,8 @@ pub(crate) struct Line<'a> {
 
 /// The bytes before the first `mark`, and those behind it.
 pub(crate) fn cut_first(text: &[u8], mark: u8) -> Option<(&[u8], &[u8])>
-    ensures { MatchOption result (Lacks mark text.now) (λ r. (text.now ≡ r.0.now ++ mark ∷ r.1.now) × Lacks mark r.0.now) }
+    ensures { MatchOption result (Lacks mark text.now)
+        (λ r. (text.now ≡ r.0.now ++ mark ∷ r.1.now) × Lacks mark r.0.now) }
 {
     match memchr(mark, text) {
         Some(at) => Some((&text[..at], &text[at + 1..])),
@@ -46,7 +49,8 @@ pub(crate) fn cut_first(text: &[u8], mark: u8) -> Option<(&[u8], &[u8])>
 
 /// The bytes before the last `mark`, and those behind it.
 pub(crate) fn cut_last(text: &[u8], mark: u8) -> Option<(&[u8], &[u8])>
-    ensures { MatchOption result (Lacks mark text.now) (λ r. (text.now ≡ r.0.now ++ mark ∷ r.1.now) × Lacks mark r.1.now) }
+    ensures { MatchOption result (Lacks mark text.now)
+        (λ r. (text.now ≡ r.0.now ++ mark ∷ r.1.now) × Lacks mark r.1.now) }
 {
     match memrchr(mark, text) {
         Some(at) => Some((&text[..at], &text[at + 1..])),

@@ -1,7 +1,8 @@
 //! The merge of the outputs that shards have for one partition.
 ghost use Rattle.std.specs.Prelude.{◌≡◌, ◌<◌, ◌++◌, [], ◌∷◌, List, None, IfErr, IfOk, OnOk, length};
 ghost use Rattle.std.specs.List.{AllByRecursion};
-ghost use Rattle.mr_shards.specs.Cursors.{BlamesAt, Goes, IsFronted, IsHeadFor, ReadsOn, with_waiting};
+ghost use Rattle.mr_shards.specs.Cursors.{BlamesAt, Goes, IsFronted, IsHeadFor, ReadsOn};
+ghost use Rattle.mr_shards.specs.Cursors.{with_waiting};
 ghost use Rattle.mr_shards.specs.Merged.{merged_parts, texts};
 ghost use Rattle.mr_shards.specs.Refused.{Blames, IsRest, TakesNot};
 ghost use Rattle.mr_shards.specs.Outputs.{AreAtFirst, IsOutputOfAll, parts_in};
@@ -134,8 +135,10 @@ fn merge_lines<'a>(
 ) -> Result<(), MergeFault>
     requires kinds { AllByRecursion (IsHeadFor job.now) cursors.old.items }
     requires empty { out.old.items ≡ [] }
-    ensures ok { OnOk result ((os : List ShardText) → AreAtFirst job.now cursors.old.items os → IsMerged job.now os out.new.items) }
-    ensures err { IfErr result (λ e. (os : List ShardText) → AreAtFirst job.now cursors.old.items os → Blames job.now os e) }
+    ensures ok { OnOk result ((os : List ShardText) → AreAtFirst job.now cursors.old.items os
+        → IsMerged job.now os out.new.items) }
+    ensures err { IfErr result (λ e. (os : List ShardText)
+        → AreAtFirst job.now cursors.old.items os → Blames job.now os e) }
 {
     let mut waiting = None;
     let mut last = None;

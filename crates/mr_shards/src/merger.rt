@@ -1,6 +1,9 @@
 //! The outputs that shards have for one partition, merged as they are read.
-ghost use Rattle.std.specs.Prelude.{◌≡◌, ℕ, ◌≤◌, ◌++◌, ◌∷◌, [], IfErr, IfOk, OnErr, OnOk, length, map, option_map, List, Some, MatchOption, true, false};
-ghost use Rattle.mr_shards.specs.Pieces.{ArePut, BlamesAll, Standing, are_last, cuts_before, fresh_all, is_past, moved_to, nothing, pieces_of, whole_window};
+ghost use Rattle.std.specs.Prelude.{◌≡◌, ℕ, ◌≤◌, ◌++◌, ◌∷◌, [], IfErr, IfOk, OnErr, OnOk, length};
+ghost use Rattle.std.specs.Prelude.{map, option_map, List, Some, MatchOption, true, false};
+ghost use Rattle.mr_shards.specs.Pieces.{ArePut, BlamesAll, Standing, are_last, cuts_before};
+ghost use Rattle.mr_shards.specs.Pieces.{fresh_all, is_past, moved_to, nothing, pieces_of};
+ghost use Rattle.mr_shards.specs.Pieces.{whole_window};
 ghost use Rattle.mr_shards.specs.Places.{kept, shown};
 
 use crate::merge::MergeFault;
@@ -63,7 +66,9 @@ fn take_all(
     requires count { length windows.now ≡ length held.now }
     requires last { are_last windows.now ≡ true }
     ensures cuts { IfOk result (λ cuts. cuts.items ≡ map whole_window windows.now) }
-    ensures put { IfOk result (λ _. ArePut job.now (pieces_of held.now windows.now (map whole_window windows.now)) out.old.items out.new.items) }
+    ensures put { IfOk result
+        (λ _. ArePut job.now (pieces_of held.now windows.now
+        (map whole_window windows.now)) out.old.items out.new.items) }
     ensures err { IfErr result (BlamesAll job.now held.now windows.now) }
     ensures kept { OnErr result (out.new.items ≡ out.old.items) }
 {
@@ -90,13 +95,15 @@ fn take_nothing(
 
 impl Merger {
     ghost use Rattle.mr_jobs.specs.JobSpec.{JobSpec};
-    ghost use Rattle.mr_shards.specs.Pieces.{Adds, AreFresh, AreWindows, AreWithin, GoesOn, IsAfter, Reading, cuts_of, outputs_of, text_taken};
+    ghost use Rattle.mr_shards.specs.Pieces.{Adds, AreFresh, AreWindows, AreWithin, GoesOn};
+    ghost use Rattle.mr_shards.specs.Pieces.{IsAfter, Reading, cuts_of, outputs_of, text_taken};
     ghost use Rattle.mr_shards.specs.Refused.{Blames};
 
     /// A merger of as many shards as numbers; each is how many files a shard has. Nothing is taken yet.
     pub fn new(alloc: Global, files: &[u32]) -> Result<Merger, AllocError>
         ensures fresh { IfOk result (λ m. m ≡ fresh_all files.now) }
-        ensures begins { IfOk result (λ m. (job : JobSpec) (rs : List Reading) → AreFresh files.now rs → IsAfter job rs m × (text_taken job rs ≡ [])) }
+        ensures begins { IfOk result (λ m. (job : JobSpec) (rs : List Reading)
+            → AreFresh files.now rs → IsAfter job rs m × (text_taken job rs ≡ [])) }
     {
         Ok(Merger {
             held: held_of(alloc, files)?,
@@ -125,8 +132,10 @@ impl Merger {
         ensures cuts { IfOk result (λ cuts. cuts.items ≡ cuts_of job.now self.old.bound windows.now) }
         ensures within { IfOk result (λ cuts. AreWithin cuts.items windows.now) }
         ensures goes { IfOk result (λ cuts. GoesOn job.now windows.now cuts.items self.old) }
-        ensures ok { IfOk result (λ cuts. Adds job.now windows.now cuts.items self.old self.new out.old.items out.new.items) }
-        ensures err { IfErr result (λ e. (rs : List Reading) → IsAfter job.now rs self.old → AreWindows rs windows.now → Blames job.now (outputs_of rs) e) }
+        ensures ok { IfOk result
+            (λ cuts. Adds job.now windows.now cuts.items self.old self.new out.old.items out.new.items) }
+        ensures err { IfErr result (λ e. (rs : List Reading) → IsAfter job.now rs self.old
+            → AreWindows rs windows.now → Blames job.now (outputs_of rs) e) }
         ensures kept { OnErr result ((self.new ≡ self.old) × (out.new.items ≡ out.old.items)) }
     {
         if all_last(windows) {
@@ -174,7 +183,8 @@ impl Merger {
         requires count { length windows.now ≡ length self.old.held }
         requires cuts { cuts.now ≡ cuts_before (shown place) windows.now }
         ensures moved { OnOk result (self.new ≡ moved_to self.old windows.now (shown place.entry)) }
-        ensures put { OnOk result (ArePut job.now (pieces_of self.old.held windows.now cuts.now) out.old.items out.new.items) }
+        ensures put { OnOk result (ArePut job.now
+            (pieces_of self.old.held windows.now cuts.now) out.old.items out.new.items) }
         ensures err { IfErr result (BlamesAll job.now self.old.held windows.now) }
         ensures kept { OnErr result ((self.new ≡ self.old) × (out.new.items ≡ out.old.items)) }
     {

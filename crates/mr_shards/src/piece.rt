@@ -1,8 +1,11 @@
 //! Pieces that are cut off windows, and their merge.
-ghost use Rattle.std.specs.Prelude.{◌≡◌, ℕ, ◌≤◌, ◌++◌, ◌∷◌, [], IfErr, IfOk, OnErr, OnOk, length, map, option_map, List, Option, Some, None};
+ghost use Rattle.std.specs.Prelude.{◌≡◌, ℕ, ◌≤◌, ◌++◌, ◌∷◌, [], IfErr, IfOk, OnErr, OnOk, length};
+ghost use Rattle.std.specs.Prelude.{map, option_map, List, Option, Some, None};
 ghost use Rattle.std.specs.Prelude.{replicate, MatchOption, false, true, take, slice_index_or};
-ghost use Rattle.mr_shards.specs.Pieces.{AreBlamed, AreLines, ArePut, AreWithin, BlamesAll, EndsLine, all_read_on};
-ghost use Rattle.mr_shards.specs.Pieces.{cuts_before, fresh, nothing, numbered, pieces_of, read_on, told, whole_window};
+ghost use Rattle.mr_shards.specs.Pieces.{AreBlamed, AreLines, ArePut, AreWithin, BlamesAll};
+ghost use Rattle.mr_shards.specs.Pieces.{EndsLine, all_read_on};
+ghost use Rattle.mr_shards.specs.Pieces.{cuts_before, fresh, nothing, numbered, pieces_of, read_on};
+ghost use Rattle.mr_shards.specs.Pieces.{told, whole_window};
 ghost use Rattle.mr_shards.specs.Places.{shown};
 ghost use Rattle.mr_shards.specs.Refused.{Blames};
 
@@ -36,7 +39,8 @@ fn keep_piece<'a>(
     cut: usize,
 ) -> Result<(), AllocError>
     requires { cut ≤ length window.bytes.now }
-    ensures { OnOk result (map told pieces.new.items ≡ map told pieces.old.items ++ (held.files, take cut window.entry.bytes.now) ∷ []) }
+    ensures { OnOk result (map told pieces.new.items
+        ≡ map told pieces.old.items ++ (held.files, take cut window.entry.bytes.now) ∷ []) }
 {
     let piece = ShardText {
         files: held.files,

@@ -1,11 +1,13 @@
 //! A verdict, read: each thing that its lines tell is looked up by its word, and the text is taken only where it is that
 //! of the verdict so found.
-ghost use Rattle.std.specs.Prelude.{◌≡◌, ◌⊎◌, ℕ, ◌<◌, ◌^◌, List, [], ◌∷◌, ◌++◌, IfErr, IfOk, IsTrue, MatchOption, None, Some, OnOk, codes, decimal, map};
+ghost use Rattle.std.specs.Prelude.{◌≡◌, ◌⊎◌, ℕ, ◌<◌, ◌^◌, List, [], ◌∷◌, ◌++◌, IfErr, IfOk};
+ghost use Rattle.std.specs.Prelude.{IsTrue, MatchOption, None, Some, OnOk, codes, decimal, map};
 ghost use Rattle.std.specs.List.{AllByRecursion};
 ghost use Rattle.mr_bytes.specs.Cut.{Lacks};
 ghost use Rattle.mr_bytes.specs.declared.RecordName.{RecordName as Named};
 ghost use Rattle.mr_shards.specs.Lines.{lines};
-ghost use Rattle.mr_shards.specs.Reading.{Fits, NameFits, NoteFits, told_of, told_under, Adds, Finds};
+ghost use Rattle.mr_shards.specs.Reading.{Fits, NameFits, NoteFits, told_of, told_under, Adds};
+ghost use Rattle.mr_shards.specs.Reading.{Finds};
 ghost use Rattle.mr_shards.specs.Verdict.{Note, Told, name_told, note_told, spelling};
 
 use crate::line::number_of;
@@ -18,7 +20,8 @@ use std::alloc::{AllocError, Global};
 
 /// What stands behind the word of a line, where it is this one.
 fn behind<'a>(line: &'a [u8], word: &[u8]) -> Option<&'a [u8]>
-    ensures { MatchOption result (told_of word.now line.entry.now ≡ None) (λ t. told_of word.now line.entry.now ≡ Some t.now) }
+    ensures { MatchOption result (told_of word.now line.entry.now ≡ None)
+        (λ t. told_of word.now line.entry.now ≡ Some t.now) }
 {
     let Some((front, told)) = cut(line, b' ') else {
         return None;
@@ -128,7 +131,8 @@ fn notes_under(alloc: Global, text: &[u8], word: &[u8]) -> Result<Vec<FileNote>,
 
 /// Adds the record that a line names, where it is one of those left out.
 fn add_name(names: &mut Vec<RecordName>, line: &[u8]) -> Result<(), AllocError>
-    ensures { OnOk result (Adds name_told NameFits (told_of (codes "without") line.now) names.old.items names.new.items) }
+    ensures { OnOk result (Adds name_told NameFits
+        (told_of (codes "without") line.now) names.old.items names.new.items) }
 {
     let Some(told) = behind(line, b"without") else {
         return Ok(());
@@ -196,7 +200,8 @@ fn parting_line(bytes: &[u8], spelled: &[u8]) -> u64 {
 /// The verdict that a text is of. It is refused exactly where it is the text of none.
 pub fn read_verdict(alloc: Global, bytes: &[u8]) -> Result<Verdict, VerdictFault>
     ensures ok { IfOk result (λ v. bytes.now ≡ spelling v) }
-    ensures err { IfErr result (λ e. (e ≡ VerdictFault.OutOfMemory) ⊎ ((v : Told) → Fits v → bytes.now ≡ spelling v → ⊥)) }
+    ensures err { IfErr result
+        (λ e. (e ≡ VerdictFault.OutOfMemory) ⊎ ((v : Told) → Fits v → bytes.now ≡ spelling v → ⊥)) }
 {
     let verdict = told_verdict(alloc, bytes)?;
     let spelled = write_verdict(alloc, &verdict)?;

@@ -3,7 +3,8 @@ ghost use Rattle.std.specs.Prelude.{◌≡◌, ◌↔◌, IfOk, IfSome, IsTrue, 
 ghost use Rattle.mr_bytes.specs.declared.By.{By};
 ghost use Rattle.mr_jobs.specs.JobSpec.{RequestSpec, Resources};
 ghost use Rattle.mr_shards.specs.Lines.{CanMerge};
-ghost use Rattle.mr_shards.specs.Truth.{Asks, AsksNone, CanBeMade, NamesJob, by_told, IsNoteOf, note_for, verdict_for};
+ghost use Rattle.mr_shards.specs.Truth.{Asks, AsksNone, CanBeMade, NamesJob, by_told, IsNoteOf};
+ghost use Rattle.mr_shards.specs.Truth.{note_for, verdict_for};
 
 use mr_bytes::RecordName;
 use mr_jobs::{Job, JobFault, Request};

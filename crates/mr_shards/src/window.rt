@@ -1,8 +1,10 @@
 //! What was read of the outputs of shards and isn't merged yet.
-ghost use Rattle.std.specs.Prelude.{◌≡◌, ℕ, ◌+◌, ◌^◌, ◌<◌, ◌≤◌, List, [], ◌∷◌, None, Some, MatchOption, drop, length, option_map};
+ghost use Rattle.std.specs.Prelude.{◌≡◌, ℕ, ◌+◌, ◌^◌, ◌<◌, ◌≤◌, List, [], ◌∷◌, None, Some};
+ghost use Rattle.std.specs.Prelude.{MatchOption, drop, length, option_map};
 ghost use Rattle.mr_shards.specs.declared.window.Window.{Window};
 ghost use Rattle.mr_shards.specs.Lines.{before_last, lines};
-ghost use Rattle.mr_shards.specs.Pieces.{are_last, but_last, bytes_before, cut_before, is_before, last_key_in, least_last, lesser_place};
+ghost use Rattle.mr_shards.specs.Pieces.{are_last, but_last, bytes_before, cut_before, is_before};
+ghost use Rattle.mr_shards.specs.Pieces.{last_key_in, least_last, lesser_place};
 ghost use Rattle.mr_shards.specs.Pieces.{lines_to_take, next_place, place_for};
 ghost use Rattle.mr_shards.specs.Places.{shown};
 
@@ -44,7 +46,8 @@ fn key_of(line: &[u8]) -> &[u8]
 
 /// The key of the last whole line.
 fn last_key(text: &[u8]) -> Option<&[u8]>
-    ensures { MatchOption result (last_key_in None (lines text.now) ≡ None) (λ k. last_key_in None (lines text.now) ≡ Some k.now) }
+    ensures { MatchOption result (last_key_in None (lines text.now) ≡ None)
+        (λ k. last_key_in None (lines text.now) ≡ Some k.now) }
 {
     let Some((front, _)) = cut_last(text, b'\n') else {
         return None;

@@ -1,5 +1,6 @@
 //! A buffer that a map task fills with pairs and seals into regions.
-ghost use Rattle.std.specs.Prelude.{◌≡◌, ◌↔◌, ◌++◌, ◌∷◌, [], ◌<◌, ◌==◌, if◌then◌else◌, IfOk, IfErr, OnOk, OnErr, length};
+ghost use Rattle.std.specs.Prelude.{◌≡◌, ◌↔◌, ◌++◌, ◌∷◌, [], ◌<◌, ◌==◌, if◌then◌else◌, IfOk, IfErr};
+ghost use Rattle.std.specs.Prelude.{OnOk, OnErr, length};
 ghost use Rattle.mr_bytes.specs.Lists.{Rises};
 ghost use Rattle.mr_bytes.specs.Order.{name_order};
 ghost use Rattle.mr_partition.specs.Hosts.{partition_by};
@@ -62,7 +63,8 @@ pub enum PushKeyFault {
 }
 
 ghost use Rattle.mr_spill.specs.declared.buffer.PushFault.{PushFault};
-ghost use Rattle.mr_spill.specs.declared.buffer.PushFault.TheVariants.{BufferFull as Full, OutOfMemory as NoRoom};
+ghost use Rattle.mr_spill.specs.declared.buffer.PushFault.TheVariants.{BufferFull as Full};
+ghost use Rattle.mr_spill.specs.declared.buffer.PushFault.TheVariants.{OutOfMemory as NoRoom};
 ghost use Rattle.mr_spill.specs.declared.buffer.PushKeyFault.{PushKeyFault};
 ghost use Rattle.mr_spill.specs.declared.buffer.PushKeyFault.TheVariants.{BufferFull, OutOfMemory};
 
@@ -108,7 +110,8 @@ impl Buffer {
         requires { Rises name_order (names_of self.old.pairs ++ pair.name ∷ []) }
         ensures ok { OnOk result (self.new ≡ record { limit = self.old.limit; pairs = self.old.pairs ++ pair ∷ [] }) }
         ensures err { OnErr result (self.new ≡ self.old) }
-        ensures back { IfErr result (λ e. e ≡ (if length self.old.pairs == self.old.limit then Full pair else NoRoom pair)) }
+        ensures back { IfErr result (λ e. e
+            ≡ (if length self.old.pairs == self.old.limit then Full pair else NoRoom pair)) }
         ensures room { OnOk result (length self.old.pairs < self.old.limit) }
     {
         match self.push_key(pair.key.as_slice(), pair.value, pair.name) {

@@ -1,5 +1,6 @@
 //! A region walked pair by pair over its bytes. Nothing is copied, and nothing is believed that the bytes don't spell.
-ghost use Rattle.std.specs.Prelude.{◌≡◌, ◌↔◌, ◌<◌, [], List, Some, IsTrue, MatchOption, false, length};
+ghost use Rattle.std.specs.Prelude.{◌≡◌, ◌↔◌, ◌<◌, [], List, Some, IsTrue, MatchOption, false};
+ghost use Rattle.std.specs.Prelude.{length};
 ghost use Rattle.mr_bytes.specs.Pairs.{Triple};
 ghost use Rattle.mr_spill.specs.Cursor.{AreAhead, IsBehind, IsKeyOf, IsNextOf, IsOpened, lent_pair};
 ghost use Rattle.mr_spill.specs.Spelling.{SpellsRegion};
@@ -117,7 +118,8 @@ impl<'a> RegionCursor<'a> {
 
     /// The next pair; `None` where none stands that may come next, and then the walk is where it was.
     pub fn next(&mut self) -> Option<RegionPair<'a>>
-        ensures none { MatchOption result ((self.new ≡ self.old) × ((ts : List Triple) → AreAhead self.old ts → ts ≡ []))
+        ensures none { MatchOption result ((self.new ≡ self.old)
+            × ((ts : List Triple) → AreAhead self.old ts → ts ≡ []))
             (λ p. IsNextOf (lent_pair p) self.old self.new) }
         ensures last { MatchOption result Unit (λ p. self.new.last ≡ Some p) }
         ensures again { MatchOption result Unit (λ p. IsTrue p.again → IsKeyOf self.old.last p.key.now) }

@@ -2,7 +2,8 @@
 //!
 //! No clause of std says what stands under a name. So what this file does is to be read: a region is written under the
 //! name that is read later.
-ghost use Rattle.std.specs.Prelude.{◌≡◌, ◌<◌, false, vec_len, IfOk, OnErr, OnOk, ◌↔◌, ◌≤◌, None, IsErr, length};
+ghost use Rattle.std.specs.Prelude.{◌≡◌, ◌<◌, false, vec_len, IfOk, OnErr, OnOk, ◌↔◌, ◌≤◌, None};
+ghost use Rattle.std.specs.Prelude.{IsErr, length};
 ghost use Rattle.mr_spill.specs.Stores.{Grows};
 ghost use Rattle.mr_store.specs.Devices.{Counts};
 

@@ -1,5 +1,6 @@
 //! Pairs whose keys are numbered.
-ghost use Rattle.std.specs.Prelude.{◌≡◌, ℕ, ◌-◌, ◌≤◌, ◌<◌, ◌^◌, ◌++◌, ◌∷◌, [], IfOk, IsTrue, OnOk, OnErr, length};
+ghost use Rattle.std.specs.Prelude.{◌≡◌, ℕ, ◌-◌, ◌≤◌, ◌<◌, ◌^◌, ◌++◌, ◌∷◌, [], IfOk, IsTrue, OnOk};
+ghost use Rattle.std.specs.Prelude.{OnErr, length};
 ghost use Rattle.mr_keys.specs.Keys.{IsKeyAt, key_at};
 ghost use Rattle.mr_spill.specs.Column.{nth_pair};
 ghost use Rattle.mr_spill.specs.Cursor.{EndsWithKey, lent_pair};
@@ -131,7 +132,8 @@ impl Numbered {
     /// follows itself takes no look-up.
     fn take_next(&mut self, column: &PairColumns, i: usize) -> Result<(), AllocError>
         requires within { i < length column.now }
-        requires last { 0 < i → (0 < length self.old) × ((nth_pair self.old (length self.old - 1)).key ≡ (nth_pair column.now (i - 1)).key) }
+        requires last { 0 < i → (0 < length self.old)
+            × ((nth_pair self.old (length self.old - 1)).key ≡ (nth_pair column.now (i - 1)).key) }
         ensures { OnOk result (self.new ≡ self.old ++ nth_pair column.now i ∷ []) }
     {
         let value = column.value(i);

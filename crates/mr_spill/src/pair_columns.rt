@@ -1,5 +1,6 @@
 //! Pairs with their names, in flat columns.
-ghost use Rattle.std.specs.Prelude.{◌≡◌, ◌↔◌, ◌+◌, ◌-◌, ◌++◌, ◌∷◌, [], ◌<◌, IfOk, IsTrue, OnOk, OnErr, length};
+ghost use Rattle.std.specs.Prelude.{◌≡◌, ◌↔◌, ◌+◌, ◌-◌, ◌++◌, ◌∷◌, [], ◌<◌, IfOk, IsTrue, OnOk};
+ghost use Rattle.std.specs.Prelude.{OnErr, length};
 ghost use Rattle.mr_spill.specs.Column.{names_of, nth_pair};
 
 use mr_bytes::{Name, Span, Value, ValueColumn, is_same_span};

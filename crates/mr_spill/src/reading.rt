@@ -1,12 +1,14 @@
 //! A region read from its bytes.
-ghost use Rattle.std.specs.Prelude.{◌≡◌, ◌↔◌, ℕ, ◌-◌, ◌<◌, ◌^◌, ◌++◌, List, IfErr, IfOk, IsTrue, MatchOption, length};
+ghost use Rattle.std.specs.Prelude.{◌≡◌, ◌↔◌, ℕ, ◌-◌, ◌<◌, ◌^◌, ◌++◌, List, IfErr, IfOk, IsTrue};
+ghost use Rattle.std.specs.Prelude.{MatchOption, length};
 ghost use Rattle.mr_bytes.specs.declared.Value.{Value as Carried};
 ghost use Rattle.std.specs.declared.cmp.Ordering.TheVariants.{Less};
 ghost use Rattle.mr_bytes.specs.Lists.{Rises};
 ghost use Rattle.mr_bytes.specs.Pairs.{Triple, pair_order};
 ghost use Rattle.mr_spill.specs.Column.{nth_pair};
 ghost use Rattle.mr_spill.specs.Reading.{AreRead, IsNext, MayFollow, pair_of};
-ghost use Rattle.mr_spill.specs.Spelling.{PairFits, SpellsRegion, header, magic, name_bytes, pair_bytes, u32 as four, u64 as eight, value_bytes};
+ghost use Rattle.mr_spill.specs.Spelling.{PairFits, SpellsRegion, header, magic, name_bytes};
+ghost use Rattle.mr_spill.specs.Spelling.{pair_bytes, u32 as four, u64 as eight, value_bytes};
 
 use crate::pair_columns::PairColumns;
 use byteorder::{BigEndian, ByteOrder};
@@ -49,7 +51,8 @@ pub(crate) struct Front<'a> {
 
 /// The number that the first four bytes spell, and the bytes behind them.
 fn take_number<'a>(bytes: &'a [u8]) -> Option<(u32, &'a [u8])>
-    ensures { MatchOption result (length bytes.entry.now < 4) (λ r. (bytes.entry.now ≡ four (r.0) ++ r.1.now) × (r.0 < 2 ^ 32)) }
+    ensures { MatchOption result (length bytes.entry.now < 4)
+        (λ r. (bytes.entry.now ≡ four (r.0) ++ r.1.now) × (r.0 < 2 ^ 32)) }
 {
     if bytes.len() < 4 {
         return None;
@@ -71,7 +74,8 @@ fn take_long<'a>(bytes: &'a [u8]) -> Option<(u64, &'a [u8])>
 
 /// The key of so many bytes, and the bytes behind it.
 fn take_key<'a>(bytes: &'a [u8], count: u32) -> Option<(&'a [u8], &'a [u8])>
-    ensures { MatchOption result (length bytes.entry.now < count) (λ r. (bytes.entry.now ≡ r.0.now ++ r.1.now) × (length (r.0.now) ≡ count)) }
+    ensures { MatchOption result (length bytes.entry.now < count)
+        (λ r. (bytes.entry.now ≡ r.0.now ++ r.1.now) × (length (r.0.now) ≡ count)) }
 {
     let count = count as usize;
     if bytes.len() < count {
@@ -109,7 +113,8 @@ fn take_value<'a>(bytes: &'a [u8]) -> Option<(Value, &'a [u8])>
 
 /// The pair in front, and the bytes behind it.
 pub(crate) fn take_pair<'a>(bytes: &'a [u8]) -> Option<Front<'a>>
-    ensures { MatchOption result ((t : Triple) (rest : List ℕ) → PairFits t → bytes.entry.now ≡ pair_bytes t ++ rest → ⊥)
+    ensures { MatchOption result ((t : Triple) (rest : List ℕ) → PairFits t
+        → bytes.entry.now ≡ pair_bytes t ++ rest → ⊥)
         (λ f. (bytes.entry.now ≡ pair_bytes (pair_of f) ++ f.rest.now) × PairFits (pair_of f)) }
 {
     let (count, behind_count) = take_number(bytes)?;
@@ -128,14 +133,16 @@ pub(crate) fn take_pair<'a>(bytes: &'a [u8]) -> Option<Front<'a>>
 
 /// The bytes behind the magic ones.
 fn take_magic<'a>(bytes: &'a [u8]) -> Option<&'a [u8]>
-    ensures { MatchOption result ((rest : List ℕ) → bytes.entry.now ≡ magic ++ rest → ⊥) (λ r. bytes.entry.now ≡ magic ++ r.now) }
+    ensures { MatchOption result ((rest : List ℕ) → bytes.entry.now ≡ magic ++ rest → ⊥)
+        (λ r. bytes.entry.now ≡ magic ++ r.now) }
 {
     bytes.strip_prefix(b"MRREGN1\n".as_slice())
 }
 
 /// The bytes behind this number.
 fn take_this<'a>(bytes: &'a [u8], number: u32) -> Option<&'a [u8]>
-    ensures { MatchOption result ((rest : List ℕ) → bytes.entry.now ≡ four number ++ rest → ⊥) (λ r. bytes.entry.now ≡ four number ++ r.now) }
+    ensures { MatchOption result ((rest : List ℕ) → bytes.entry.now ≡ four number ++ rest → ⊥)
+        (λ r. bytes.entry.now ≡ four number ++ r.now) }
 {
     let (n, rest) = take_number(bytes)?;
     if n != number {
@@ -198,7 +205,8 @@ fn read_next<'a>(
 ) -> Result<&'a [u8], RegionFault>
     requires { Rises pair_order pairs.old }
     ensures ok { IfOk result (λ rest. IsNext pairs.old pairs.new split bytes.entry.now rest.now) }
-    ensures damaged { IfErr result (λ e. e ≡ RegionDamaged → (t : Triple) (rest : List ℕ) → MayFollow pairs.old split t → PairFits t
+    ensures damaged { IfErr result (λ e. e ≡ RegionDamaged → (t : Triple) (rest : List ℕ)
+        → MayFollow pairs.old split t → PairFits t
         → bytes.entry.now ≡ pair_bytes t ++ rest → ⊥) }
 {
     let Some(front) = take_pair(bytes) else {
@@ -219,7 +227,8 @@ fn read_pairs(
     count: u32,
 ) -> Result<PairColumns, RegionFault>
     ensures ok { IfOk result (AreRead bytes.now split count) }
-    ensures damaged { IfErr result (λ e. e ≡ RegionDamaged → (ts : List Triple) → AreRead bytes.now split count ts → ⊥) }
+    ensures damaged { IfErr result
+        (λ e. e ≡ RegionDamaged → (ts : List Triple) → AreRead bytes.now split count ts → ⊥) }
 {
     let mut pairs = PairColumns::new(alloc);
     let mut rest = bytes;
@@ -242,7 +251,8 @@ pub fn read_region(
     partition: u32,
 ) -> Result<PairColumns, RegionFault>
     ensures spelled { IfOk result (SpellsRegion bytes.now split partition) }
-    ensures damaged { IfErr result (λ e. e ≡ RegionDamaged → (ts : List Triple) → SpellsRegion bytes.now split partition ts → ⊥) }
+    ensures damaged { IfErr result (λ e. e ≡ RegionDamaged → (ts : List Triple)
+        → SpellsRegion bytes.now split partition ts → ⊥) }
 {
     let Some((count, rest)) = take_header(bytes, split, partition) else {
         return Err(RegionFault::RegionDamaged);

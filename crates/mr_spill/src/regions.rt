@@ -1,5 +1,6 @@
 //! Pairs cut by partition into sorted regions.
-ghost use Rattle.std.specs.Prelude.{◌≡◌, ◌+◌, ◌<◌, ◌≤◌, ◌∷◌, ◌++◌, [], IfOk, OnOk, MatchOption, All, length, map, drop};
+ghost use Rattle.std.specs.Prelude.{◌≡◌, ◌+◌, ◌<◌, ◌≤◌, ◌∷◌, ◌++◌, [], IfOk, OnOk, MatchOption};
+ghost use Rattle.std.specs.Prelude.{All, length, map, drop};
 ghost use Rattle.std.specs.List.{range_with_len};
 ghost use Rattle.mr_bytes.specs.Lists.{Rises};
 ghost use Rattle.mr_partition.specs.Hosts.{partition_by};
@@ -18,7 +19,8 @@ use std::alloc::{AllocError, Global};
 /// The row at this place, if it has this partition.
 pub(crate) fn row_in<'a>(rows: &[Row<'a>], at: usize, part: u32) -> Option<Row<'a>>
     requires { at ≤ length rows.now }
-    ensures { MatchOption result ((front part (drop at rows.now) ≡ []) × (behind part (drop at rows.now) ≡ drop at rows.now))
+    ensures { MatchOption result ((front part (drop at rows.now) ≡ [])
+        × (behind part (drop at rows.now) ≡ drop at rows.now))
         (λ r. (at < length rows.now) × (drop at rows.now ≡ r ∷ drop (at + 1) rows.now) × (r.part ≡ part)) }
 {
     if at < rows.len() && rows[at].part == part {
@@ -78,7 +80,8 @@ fn region_at(
     requires inside { All (λ r. r.number < length lists.now) rows.now }
     requires from { from ≤ length rows.now }
     ensures region { IfOk result (λ r. r.0 ≡ row_pairs lists.now (front part (drop from rows.now))) }
-    ensures rest { IfOk result (λ r. (r.1 ≤ length rows.now) × (drop (r.1) rows.now ≡ behind part (drop from rows.now))) }
+    ensures rest { IfOk result
+        (λ r. (r.1 ≤ length rows.now) × (drop (r.1) rows.now ≡ behind part (drop from rows.now))) }
 {
     let (count, bytes) = room_at(lists, rows, from, part);
     let mut region = PairColumns::with_room(alloc, count, bytes)?;

@@ -78,7 +78,8 @@ fn spell_under(
     number: usize,
 ) -> Result<(), AllocError>
     requires { number < length lists.now }
-    ensures text { OnOk result (out.new.items ≡ out.old.items ++ flat_map pair_bytes (pairs_under lists.now key.now number)) }
+    ensures text { OnOk result (out.new.items
+        ≡ out.old.items ++ flat_map pair_bytes (pairs_under lists.now key.now number)) }
     ensures fit { OnOk result (AllByRecursion PairFits (pairs_under lists.now key.now number)) }
 {
     for i in 0..lists.count(number) {
@@ -99,7 +100,8 @@ fn spell_rows(
 ) -> Result<usize, AllocError>
     requires inside { All (λ r. r.number < length lists.now) rows.now }
     requires from { from ≤ length rows.now }
-    ensures text { OnOk result (out.new.items ≡ out.old.items ++ flat_map pair_bytes (row_pairs lists.now (front part (drop from rows.now)))) }
+    ensures text { OnOk result (out.new.items ≡ out.old.items
+        ++ flat_map pair_bytes (row_pairs lists.now (front part (drop from rows.now)))) }
     ensures fit { OnOk result (AllByRecursion PairFits (row_pairs lists.now (front part (drop from rows.now)))) }
     ensures rest { IfOk result (λ at. (at ≤ length rows.now) × (drop at rows.now ≡ behind part (drop from rows.now))) }
 {
@@ -180,7 +182,8 @@ fn text_at(
     requires from { from ≤ length rows.now }
     ensures region { IfOk result (λ r.
         IsText split part (row_pairs lists.now (front part (drop from rows.now))) r.0.items) }
-    ensures rest { IfOk result (λ r. (r.1 ≤ length rows.now) × (drop (r.1) rows.now ≡ behind part (drop from rows.now))) }
+    ensures rest { IfOk result
+        (λ r. (r.1 ≤ length rows.now) × (drop (r.1) rows.now ≡ behind part (drop from rows.now))) }
 {
     let (count, room) = size_at(lists, rows, from, part)?;
     let mut bytes = Vec::with_capacity(alloc, room)?;

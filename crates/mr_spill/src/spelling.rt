@@ -4,7 +4,8 @@ ghost use Rattle.std.specs.List.{AllByRecursion};
 ghost use Rattle.mr_bytes.specs.Lists.{Rises};
 ghost use Rattle.mr_bytes.specs.Pairs.{Triple, pair_order};
 ghost use Rattle.mr_spill.specs.Column.{nth_pair};
-ghost use Rattle.mr_spill.specs.Spelling.{PairFits, SpellsRegion, ValueFits, header, name_bytes, pair_bytes, u32 as four, u64 as eight, value_bytes};
+ghost use Rattle.mr_spill.specs.Spelling.{PairFits, SpellsRegion, ValueFits, header, name_bytes};
+ghost use Rattle.mr_spill.specs.Spelling.{pair_bytes, u32 as four, u64 as eight, value_bytes};
 ghost use Rattle.mr_spill.specs.WorkedBytes.{WorkedFalling, WorkedOther, WorkedRegion, WorkedSizes};
 
 use crate::pair_columns::PairColumns;
@@ -77,7 +78,8 @@ pub(crate) fn put_pair(
     value: Value,
     name: Name,
 ) -> Result<(), AllocError>
-    ensures text { OnOk result (out.new.items ≡ out.old.items ++ pair_bytes (record { key = key.now; value = value; name = name })) }
+    ensures text { OnOk result (out.new.items
+        ≡ out.old.items ++ pair_bytes (record { key = key.now; value = value; name = name })) }
     ensures fits { OnOk result (PairFits (record { key = key.now; value = value; name = name })) }
 {
     let count = key.len();
@@ -112,7 +114,8 @@ pub fn write_region(
     requires own { AllByRecursion (λ t. t.name.split ≡ split) pairs.now }
     requires few { length pairs.now < 2 ^ 32 }
     ensures spelled { IfOk result (λ v. SpellsRegion v.items split partition pairs.now) }
-    ensures nothing_else { IfOk result (λ v. (other : ℕ) (ts : List Triple) → SpellsRegion v.items split other ts → ts ≡ pairs.now) }
+    ensures nothing_else { IfOk result (λ v. (other : ℕ) (ts : List Triple)
+        → SpellsRegion v.items split other ts → ts ≡ pairs.now) }
 {
     let mut out = Vec::new(alloc);
     let count = pairs.len();

@@ -1,9 +1,11 @@
 //! Which records of a plan are kept, and those one after another.
-ghost use Rattle.std.specs.Prelude.{◌≡◌, ◌≢◌, ℕ, ◌+◌, ◌-◌, ◌≤◌, ◌<◌, ◌^◌, [], ◌∷◌, None, IfOk, IfNone, IfSome, IsOk, MatchOption, length};
+ghost use Rattle.std.specs.Prelude.{◌≡◌, ◌≢◌, ℕ, ◌+◌, ◌-◌, ◌≤◌, ◌<◌, ◌^◌, [], ◌∷◌, None, IfOk};
+ghost use Rattle.std.specs.Prelude.{IfNone, IfSome, IsOk, MatchOption, length};
 ghost use Rattle.mr_input.specs.Files.{split_total};
 ghost use Rattle.mr_splits.specs.Named.{is_left_out, of_split};
 ghost use Rattle.mr_splits.specs.Cut.{records_of, nth_named};
-ghost use Rattle.mr_splits.specs.Kept.{first_fault, kept_between, kept_from, kept_records, list_fault, name_fault};
+ghost use Rattle.mr_splits.specs.Kept.{first_fault, kept_between, kept_from, kept_records};
+ghost use Rattle.mr_splits.specs.Kept.{list_fault, name_fault};
 
 use crate::left_out_set::LeftOutSet;
 use crate::plan::{Plan, RecordAt};
@@ -144,7 +146,8 @@ impl<'a> KeptPlan<'a> {
     fn leaves_out(&self, name: RecordName) -> bool
         requires split { name.split < split_total self.now.cut.size self.now.cut.files }
         requires record { name.rec < length (of_split name.split (records_of self.now.cut)) }
-        ensures { result ≡ is_left_out self.now.skips (nth_named (of_split name.split (records_of self.now.cut)) name.rec).name }
+        ensures { result ≡ is_left_out self.now.skips
+            (nth_named (of_split name.split (records_of self.now.cut)) name.rec).name }
     {
         self.left_out
             .has(self.plan.record_index(name.split, name.rec))
@@ -175,7 +178,8 @@ impl<'a> KeptPlan<'a> {
         ensures first { MatchOption result (kept_from self.now from.split from.rec end ≡ [])
             (λ n. kept_from self.now from.split from.rec end
             ≡ nth_named (of_split n.split (records_of self.now.cut)) n.rec ∷ kept_from self.now n.split (n.rec + 1) end) }
-        ensures place { IfSome result (λ n. (n.split < end) × (n.rec < length (of_split n.split (records_of self.now.cut)))) }
+        ensures place { IfSome result
+            (λ n. (n.split < end) × (n.rec < length (of_split n.split (records_of self.now.cut)))) }
         ensures small { IfSome result (λ n. n.rec + 1 < 2 ^ 32) }
     {
         let mut split = from.split;

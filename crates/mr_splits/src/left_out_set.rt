@@ -1,5 +1,6 @@
 //! Records that are left out, as flags.
-ghost use Rattle.std.specs.Prelude.{◌≡◌, ℕ, ◌<◌, ◌||◌, Bool, false, length, [], IfOk, IsOk, slice_index_or};
+ghost use Rattle.std.specs.Prelude.{◌≡◌, ℕ, ◌<◌, ◌||◌, Bool, false, length, [], IfOk, IsOk};
+ghost use Rattle.std.specs.Prelude.{slice_index_or};
 ghost use Rattle.mr_splits.specs.Named.{is_left_out};
 ghost use Rattle.mr_splits.specs.Cut.{records_of, nth_named, has_record_name, left_out_flags};
 

@@ -8,7 +8,8 @@ mod record_scan;
 mod split_table;
 
 ghost use Rattle.mr_splits.specs.Belongs.{RecordsAreByFile, RecordsBelong};
-ghost use Rattle.mr_splits.specs.Laws.{NamedAreRecords, NamesOfRecordsRise, NumbersCount, SplitsJoin};
+ghost use Rattle.mr_splits.specs.Laws.{NamedAreRecords, NamesOfRecordsRise, NumbersCount};
+ghost use Rattle.mr_splits.specs.Laws.{SplitsJoin};
 
 pub use kept_records::{KeptPlan, KeptRecords, SkipFault};
 pub use left_out_set::LeftOutSet;

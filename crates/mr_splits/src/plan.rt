@@ -161,7 +161,8 @@ impl<'a> Plan<'a> {
         requires record { r < length (of_split s (records_of self.now)) }
         ensures record { nth_named (of_split s (records_of self.now)) r
             ≡ record { name = record { split = s; rec = r }; file = result.file; start = result.start; bytes = result.bytes.now } }
-        ensures named { record_named (records_of self.now) (record { split = s; rec = r }) ≡ Some (nth_named (of_split s (records_of self.now)) r) }
+        ensures named { record_named (records_of self.now) (record { split = s; rec = r })
+            ≡ Some (nth_named (of_split s (records_of self.now)) r) }
         ensures file { result.file < length self.now.files }
         ensures small { length result.bytes.now ≤ 2 ^ 30 }
     {
@@ -183,7 +184,8 @@ impl<'a> Plan<'a> {
         ensures at { nth_named (records_of self.now) result ≡ nth_named (of_split s (records_of self.now)) r }
         ensures within { result < length (records_of self.now) }
         ensures name { (nth_named (records_of self.now) result).name ≡ record { split = s; rec = r } }
-        ensures only { (i : ℕ) → i < length (records_of self.now) → (nth_named (records_of self.now) i).name ≡ record { split = s; rec = r } → i ≡ result }
+        ensures only { (i : ℕ) → i < length (records_of self.now) →
+            (nth_named (records_of self.now) i).name ≡ record { split = s; rec = r } → i ≡ result }
     {
         self.table.rows[s as usize].first + r as usize
     }

@@ -22,7 +22,8 @@ pub(crate) fn take_records(
     requires small { length bytes.now ≤ 2 ^ 30 }
     requires from { from ≤ length bytes.now + 1 }
     requires end { end ≤ length bytes.now }
-    ensures taken { IfOk result (λ next. (more : List ℕ) × (ends.new.items ≡ ends.old.items ++ more) × Takes bytes.now from end next more) }
+    ensures taken { IfOk result (λ next. (more : List ℕ)
+        × (ends.new.items ≡ ends.old.items ++ more) × Takes bytes.now from end next more) }
     ensures next { IfOk result (λ next. (from ≤ next) × (end ≤ next) × (next ≤ length bytes.now + 1)) }
 {
     if from >= end {

@@ -1,5 +1,6 @@
 //! The table of an input's splits and records.
-ghost use Rattle.std.specs.Prelude.{◌≡◌, ℕ, ◌+◌, ◌++◌, ◌^◌, ◌≤◌, ◌<◌, length, List, All, IfOk, OnOk, take};
+ghost use Rattle.std.specs.Prelude.{◌≡◌, ℕ, ◌+◌, ◌++◌, ◌^◌, ◌≤◌, ◌<◌, length, List, All, IfOk};
+ghost use Rattle.std.specs.Prelude.{OnOk, take};
 ghost use Rattle.mr_bytes.specs.declared.Span.{Span};
 ghost use Rattle.mr_records.specs.Records.{records};
 ghost use Rattle.mr_input.specs.Files.{split_count, split_total, nth_file};
@@ -59,7 +60,8 @@ fn cut_file(input: &Input, i: usize, size: u32, table: &mut Table) -> Result<(),
     requires file { (i < length input.now) × (length input.now ≤ 1024) }
     requires rows { length table.old.rows.items ≡ split_total size (take i input.now) }
     requires stands { Stands size input.now table.old.ends.items table.old.rows.items }
-    ensures rows { OnOk result (length table.new.rows.items ≡ split_total size (take i input.now) + split_count size (nth_file input.now i)) }
+    ensures rows { OnOk result (length table.new.rows.items
+        ≡ split_total size (take i input.now) + split_count size (nth_file input.now i)) }
     ensures stands { OnOk result (Stands size input.now table.new.ends.items table.new.rows.items) }
     ensures all { OnOk result (listed input.now table.new.ends.items 0 table.new.rows.items
         ≡ listed input.now table.old.ends.items 0 table.old.rows.items

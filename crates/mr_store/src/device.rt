@@ -1,7 +1,9 @@
 //! Readers and writers, each with a count of its failed calls.
-ghost use Rattle.std.specs.Prelude.{◌≡◌, ℕ, ◌≤◌, ◌<◌, ⊤, Bool, List, Option, None, IfOk, IfSome, MatchResult, length, take};
+ghost use Rattle.std.specs.Prelude.{◌≡◌, ℕ, ◌≤◌, ◌<◌, ⊤, Bool, List, Option, None, IfOk, IfSome};
+ghost use Rattle.std.specs.Prelude.{MatchResult, length, take};
 ghost use Rattle.std.specs.Io.KnownBytes.{ReadConsumes};
-ghost use Rattle.mr_store.specs.Devices.{AreBytes, Counts, FailsOnly, Seen, with_bytes, flushed, once_failed};
+ghost use Rattle.mr_store.specs.Devices.{AreBytes, Counts, FailsOnly, Seen, with_bytes, flushed};
+ghost use Rattle.mr_store.specs.Devices.{once_failed};
 
 use thiserror::Error;
 
@@ -67,7 +69,8 @@ pub trait CountedWrite {
 
     /// Hands on what was written. A failed call hands on nothing.
     fn flush(&mut self) -> Result<(), Device>
-        ensures hands { MatchResult result (λ _. seen self.new ≡ flushed (seen self.old)) (λ _. seen self.new ≡ once_failed (seen self.old)) }
+        ensures hands { MatchResult result (λ _. seen self.new ≡ flushed (seen self.old))
+            (λ _. seen self.new ≡ once_failed (seen self.old)) }
         ensures fails { FailsOnly (can_fail self.old) (lacked self.new) result }
         ensures later { can_fail self.new → can_fail self.old };
 

@@ -1,5 +1,6 @@
 //! A reader read to its end, onto a list, where its bytes have a limit.
-ghost use Rattle.std.specs.Prelude.{◌≡◌, ◌↔◌, ◌⊎◌, ◌≤◌, ◌<◌, ◌+◌, ℕ, List, ◌++◌, IfOk, OnOk, OnErr, IfSome, true, length};
+ghost use Rattle.std.specs.Prelude.{◌≡◌, ◌↔◌, ◌⊎◌, ◌≤◌, ◌<◌, ◌+◌, ℕ, List, ◌++◌, IfOk, OnOk, OnErr};
+ghost use Rattle.std.specs.Prelude.{IfSome, true, length};
 ghost use Rattle.std.specs.Io.KnownBytes.{Consumes, IsAtEnd, ReadConsumes};
 ghost use Rattle.mr_store.specs.Devices.{Counts, FailsOnly, counted};
 ghost use Rattle.mr_store.specs.Reads.{Grew, LimitedOnto};
@@ -84,7 +85,8 @@ fn read_limited_onto<R: CountedRead>(
     out: &mut Vec<u8>,
     limit: u64,
 ) -> Result<(), LimitedFault>
-    ensures onto { LimitedOnto (R.remaining reader.old) (R.remaining reader.new) (R.failed reader.old) (R.failed reader.new) limit out.old.items out.new.items result }
+    ensures onto { LimitedOnto (R.remaining reader.old) (R.remaining reader.new)
+        (R.failed reader.old) (R.failed reader.new) limit out.old.items out.new.items result }
     ensures fails { result ≡ Err LimitedFault.Device → R.can_fail reader.old ⊎ (R.lacked reader.new ≡ true) }
 {
     let mut buffer = [0u8; PIECE];
@@ -115,7 +117,8 @@ pub fn read_limited<R: CountedRead>(
     ensures end { OnOk result (IsAtEnd (R.remaining reader.new)) }
     ensures err { OnErr result (out.new.items ≡ out.old.items) }
     ensures within { OnOk result (length out.new.items ≤ length out.old.items + limit) }
-    ensures consumes { (got : List ℕ) × Consumes (R.remaining reader.old) (R.remaining reader.new) got × (length got ≤ limit + 1)
+    ensures consumes { (got : List ℕ)
+        × Consumes (R.remaining reader.old) (R.remaining reader.new) got × (length got ≤ limit + 1)
         × ((result ≡ Err LimitedFault.TooLong) ↔ (limit < length got)) }
     ensures device { (result ≡ Err LimitedFault.Device) ↔ (R.failed reader.new ≡ counted (R.failed reader.old)) }
     ensures count { (result ≡ Err LimitedFault.Device → ⊥) → R.failed reader.new ≡ R.failed reader.old }

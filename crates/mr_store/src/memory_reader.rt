@@ -1,5 +1,6 @@
 //! A reader over bytes in memory, for tests of what reads.
-ghost use Rattle.std.specs.Prelude.{◌≡◌, ◌≤◌, Option, Some, IsSome, IfSome, IfOk, IsErr, OnErr, length, take, drop, min, true, false};
+ghost use Rattle.std.specs.Prelude.{◌≡◌, ◌≤◌, Option, Some, IsSome, IfSome, IfOk, IsErr, OnErr};
+ghost use Rattle.std.specs.Prelude.{length, take, drop, min, true, false};
 ghost use Rattle.std.specs.Io.KnownBytes.{ReadConsumes};
 ghost use Rattle.mr_store.specs.Devices.{AreBytes, Counts, FailsOnly};
 ghost use Rattle.mr_store.specs.Memory.{fails_now as does_fail, behind_call as what_is_behind};
@@ -111,7 +112,8 @@ impl CountedRead for MemoryReader {
         ensures fails { FailsOnly (IsSome self.old.failing) false result }
         ensures later { IsSome self.new.failing → IsSome self.old.failing }
         ensures untouched { OnErr result (buffer.new ≡ buffer.old) }
-        ensures gives { does_fail self.old.failing ≡ false → result ≡ Ok (min self.old.most (min (length buffer.old) (length self.old.bytes))) }
+        ensures gives { does_fail self.old.failing ≡ false
+            → result ≡ Ok (min self.old.most (min (length buffer.old) (length self.old.bytes))) }
         ensures fails_now { does_fail self.old.failing ≡ true → IsErr result }
         ensures behind { (self.new.failing ≡ what_is_behind self.old.failing) × (self.new.most ≡ self.old.most) }
     {

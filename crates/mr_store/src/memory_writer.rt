@@ -1,8 +1,10 @@
 //! A writer into memory, for tests of what writes.
-ghost use Rattle.std.specs.Prelude.{◌≡◌, ◌↔◌, ◌≤◌, ◌<◌, [], Option, IsSome, IfSome, IfOk, IsErr, MatchResult, length};
+ghost use Rattle.std.specs.Prelude.{◌≡◌, ◌↔◌, ◌≤◌, ◌<◌, [], Option, IsSome, IfSome, IfOk, IsErr};
+ghost use Rattle.std.specs.Prelude.{MatchResult, length};
 ghost use Rattle.std.specs.Prelude.{take, min, true, false};
 ghost use Rattle.mr_store.specs.Devices.{FailsOnly, with_bytes, flushed, once_failed};
-ghost use Rattle.mr_store.specs.Memory.{fails_now as does_fail, behind_call as what_is_behind, seen_of};
+ghost use Rattle.mr_store.specs.Memory.{fails_now as does_fail, behind_call as what_is_behind};
+ghost use Rattle.mr_store.specs.Memory.{seen_of};
 
 use crate::device::{CountedWrite, Device};
 use crate::memory_reader::{behind_call, fails_now};
@@ -49,7 +51,8 @@ impl MemoryWriter {
     pub fn new(alloc: Global, most: usize, failing: Option<u64>) -> MemoryWriter
         requires some { 1 ≤ most }
         requires later { IfSome failing (λ n. 1 ≤ n) }
-        ensures { result ≡ record { bytes = []; handed_on = []; most = most; failing = failing; failed = 0; lacked = false } }
+        ensures { result
+            ≡ record { bytes = []; handed_on = []; most = most; failing = failing; failed = 0; lacked = false } }
     {
         MemoryWriter {
             bytes: Vec::new(alloc),
@@ -111,7 +114,8 @@ impl CountedWrite for MemoryWriter {
     }
 
     fn flush(&mut self) -> Result<(), Device>
-        ensures hands { MatchResult result (λ _. seen_of self.new ≡ flushed (seen_of self.old)) (λ _. seen_of self.new ≡ once_failed (seen_of self.old)) }
+        ensures hands { MatchResult result (λ _. seen_of self.new ≡ flushed (seen_of self.old))
+            (λ _. seen_of self.new ≡ once_failed (seen_of self.old)) }
         ensures fails { FailsOnly (IsSome self.old.failing) self.new.lacked result }
         ensures later { IsSome self.new.failing → IsSome self.old.failing }
         ensures fails_now { (does_fail self.old.failing ≡ true) ↔ IsErr result }

@@ -1,5 +1,6 @@
 //! A reader read to its end, onto a list.
-ghost use Rattle.std.specs.Prelude.{◌≡◌, ◌↔◌, ◌⊎◌, ℕ, List, ◌++◌, OnOk, OnErr, IfSome, MatchResult, true, length};
+ghost use Rattle.std.specs.Prelude.{◌≡◌, ◌↔◌, ◌⊎◌, ℕ, List, ◌++◌, OnOk, OnErr, IfSome, MatchResult};
+ghost use Rattle.std.specs.Prelude.{true, length};
 ghost use Rattle.std.specs.Io.KnownBytes.{Consumes, IsAtEnd};
 ghost use Rattle.mr_store.specs.Devices.{counted};
 ghost use Rattle.mr_store.specs.Reads.{Grew, ReadOnto};
@@ -43,7 +44,8 @@ const PIECE: usize = 65_536;
 
 /// Appends what the reader gives, up to its end or to a fault; behind a fault some of it is appended.
 fn read_onto<R: CountedRead>(reader: &mut R, out: &mut Vec<u8>) -> Result<(), ReadFault>
-    ensures onto { ReadOnto (R.remaining reader.old) (R.remaining reader.new) (R.failed reader.old) (R.failed reader.new) out.old.items out.new.items result }
+    ensures onto { ReadOnto (R.remaining reader.old) (R.remaining reader.new)
+        (R.failed reader.old) (R.failed reader.new) out.old.items out.new.items result }
     ensures fails { result ≡ Err ReadFault.Device → R.can_fail reader.old ⊎ (R.lacked reader.new ≡ true) }
 {
     let mut buffer = [0u8; PIECE];

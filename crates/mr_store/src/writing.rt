@@ -1,6 +1,7 @@
 //! Bytes written whole, and the files of a result, each with its own writer.
 ghost use Rattle.std.specs.Prelude.{◌≡◌, ◌⊎◌, [], OnOk, OnErr, MatchResult, length};
-ghost use Rattle.mr_store.specs.Devices.{FailsOnly, TookAll, TookSome, AllTook, StoppedAt, texts, with_bytes};
+ghost use Rattle.mr_store.specs.Devices.{FailsOnly, TookAll, TookSome, AllTook, StoppedAt, texts};
+ghost use Rattle.mr_store.specs.Devices.{with_bytes};
 
 use crate::device::{CountedWrite, Device};
 
@@ -57,7 +58,8 @@ pub fn write_result<W: CountedWrite>(
 ) -> Result<(), Device>
     requires { length writers.old ≡ length outputs.now }
     ensures parts { OnOk result (AllTook W.seen writers.old writers.new (texts outputs.now)) }
-    ensures last { OnOk result (TookAll (W.seen certificate_writer.old) (W.seen certificate_writer.new) certificate.now) }
+    ensures last { OnOk result
+        (TookAll (W.seen certificate_writer.old) (W.seen certificate_writer.new) certificate.now) }
     ensures stopped { OnErr result
         ((StoppedAt W.seen writers.old writers.new (texts outputs.now) × (certificate_writer.new ≡ certificate_writer.old))
         ⊎ (AllTook W.seen writers.old writers.new (texts outputs.now)

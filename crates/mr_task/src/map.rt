@@ -48,7 +48,8 @@ pub fn map_task(
 ) -> Result<MapOutput, AllocError>
     requires parts { 1 ≤ parts }
     requires split { split < split_total plan.now.size plan.now.files }
-    ensures { IfOk result (IsMapped (λ k. partition_by by k parts) parts (emitted_in (emitted job.now plan.now.size plan.now.files []) split skips.now)) }
+    ensures { IfOk result (IsMapped (λ k. partition_by by k parts) parts
+        (emitted_in (emitted job.now plan.now.size plan.now.files []) split skips.now)) }
 {
     map_task_with(alloc, plan, job, parts, split, skips, run_pairs(parts), by)
 }
@@ -68,7 +69,8 @@ pub fn map_task_with(
     requires parts { 1 ≤ parts }
     requires split { split < split_total plan.now.size plan.now.files }
     requires limit { 1 ≤ limit }
-    ensures { IfOk result (IsMapped (λ k. partition_by by k parts) parts (emitted_in (emitted job.now plan.now.size plan.now.files []) split skips.now)) }
+    ensures { IfOk result (IsMapped (λ k. partition_by by k parts) parts
+        (emitted_in (emitted job.now plan.now.size plan.now.files []) split skips.now)) }
 {
     let mut runs = Runs::new(alloc, split, by, parts, limit);
     let left_out = in_order(alloc, skips)?;

@@ -1,5 +1,6 @@
 //! Reduce tasks with their refusals; what the values of tasks are, and worked rows of both kinds of task.
-ghost use Rattle.std.specs.Prelude.{◌≡◌, ◌≤◌, ◌<◌, List, IfErr, IfOk, IfSome, MatchOption, length, ◌↔◌, false, [], ◌∷◌};
+ghost use Rattle.std.specs.Prelude.{◌≡◌, ◌≤◌, ◌<◌, List, IfErr, IfOk, IfSome, MatchOption, length};
+ghost use Rattle.std.specs.Prelude.{◌↔◌, false, [], ◌∷◌};
 ghost use Rattle.mr_bytes.specs.Pairs.{Triple};
 ghost use Rattle.mr_merge.specs.Bytes.{AreSpelled};
 ghost use Rattle.mr_merge.specs.Following.{HasTaken};
@@ -11,7 +12,8 @@ ghost use Rattle.mr_task.specs.Values.{CanMerge, IsReduced, IsCutOf, map_value, 
 ghost use Rattle.mr_task.specs.declared.reduce.TaskFault.TheVariants.{RegionDamaged};
 ghost use Rattle.mr_jobs.specs.JobSpec.{WordCount};
 ghost use Rattle.mr_task.specs.Laws.{MapValuesHave, MapValuesRise, PiecesAreAll, PiecesJoin};
-ghost use Rattle.mr_task.specs.Worked.{emitted_letters, first_run, letters, letters_reduced, only_partition, second_run};
+ghost use Rattle.mr_task.specs.Worked.{emitted_letters, first_run, letters, letters_reduced};
+ghost use Rattle.mr_task.specs.Worked.{only_partition, second_run};
 
 use crate::output::ReduceOutput;
 use mr_jobs::Job;
@@ -40,7 +42,8 @@ fn count_in(region: &RegionView<'_>, partition: u32) -> Option<usize>
 /// How many pairs the regions have together. More than a reduce task takes are refused, and so are bytes that don't begin
 /// as regions of the partition.
 fn count_all(regions: &[RegionView<'_>], partition: u32) -> Result<usize, TaskFault>
-    ensures count { IfOk result (λ n. (values : List (List Triple)) → AreSpelled partition regions.now values → n ≡ length (joined values)) }
+    ensures count { IfOk result (λ n. (values : List (List Triple))
+        → AreSpelled partition regions.now values → n ≡ length (joined values)) }
     ensures few { IfOk result (λ n. n ≤ 1073741824) }
     ensures many { IfErr result (λ e. (e ≡ RegionDamaged)
         × ((values : List (List Triple)) → AreSpelled partition regions.now values → 1073741824 < length (joined values))) }
@@ -86,7 +89,8 @@ pub fn reduce_task_while<D: Cancellation>(
     regions: &[RegionView<'_>],
     demand: &D,
 ) -> Result<Option<ReduceOutput>, TaskFault>
-    ensures reduced { IfOk result (λ o. MatchOption o (D.unending → ⊥) (IsReduced (text_of job.now) partition regions.now)) }
+    ensures reduced { IfOk result
+        (λ o. MatchOption o (D.unending → ⊥) (IsReduced (text_of job.now) partition regions.now)) }
     ensures damaged { IfErr result (λ e. e ≡ RegionDamaged → CanMerge partition regions.now → ⊥) }
 {
     // The pairs are so few that a u32 counts those of each group, and the groups.
@@ -104,7 +108,8 @@ pub fn reduce_followed(
     job: &Job,
     regions: Follower,
 ) -> Result<Option<ReduceOutput>, AllocError>
-    ensures { (texts : List RegionText) → HasTaken texts regions → IfOk result (λ o. IfSome o (IsReduced (text_of job.now) regions.partition texts)) }
+    ensures { (texts : List RegionText) → HasTaken texts regions
+        → IfOk result (λ o. IfSome o (IsReduced (text_of job.now) regions.partition texts)) }
 {
     if !regions.is_whole() {
         return Ok(None);

@@ -110,8 +110,10 @@ impl Runs {
         requires rise { Rises name_order (names_of self.old.buffer.pairs ++ name ∷ []) }
         ensures alike { OnOk result (AreAlike self.old self.new) }
         ensures own { OnOk result (AreOf self.new.split self.new.buffer.pairs) }
-        ensures taken { OnOk result (Takes (record { key = key.now; value = value; name = name } ∷ []) self.old self.new) }
-        ensures waiting { OnOk result (AreNext (record { key = key.now; value = value; name = name }) self.old.buffer.pairs self.new.buffer.pairs) }
+        ensures taken { OnOk result
+            (Takes (record { key = key.now; value = value; name = name } ∷ []) self.old self.new) }
+        ensures waiting { OnOk result
+            (AreNext (record { key = key.now; value = value; name = name }) self.old.buffer.pairs self.new.buffer.pairs) }
     {
         match self.buffer.push_key(key, value, name) {
             Ok(()) => Ok(()),

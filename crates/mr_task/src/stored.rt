@@ -46,7 +46,8 @@ impl Stored {
 
     /// Appends the number of the next region: those of a run follow one another by partition.
     pub fn push(&mut self, number: u64) -> Result<(), AllocError>
-        ensures ok { OnOk result (self.new ≡ record { parts = self.old.parts; worker = self.old.worker; numbers = self.old.numbers ++ number ∷ [] }) }
+        ensures ok { OnOk result
+            (self.new ≡ record { parts = self.old.parts; worker = self.old.worker; numbers = self.old.numbers ++ number ∷ [] }) }
         ensures err { OnErr result (self.new ≡ self.old) }
     {
         self.numbers.push(number)?;

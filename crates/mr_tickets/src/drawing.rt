@@ -1,5 +1,7 @@
 //! Work that is cut in pieces, all of which are drawn by threads.
-ghost use Rattle.std.specs.Prelude.{ℕ, IfOk, ◌≡◌, ◌^◌, ◌<◌, ◌≤◌, ◌+◌, [], ◌∷◌, ◌++◌, None, OnOk, All, length, replicate, slice_index_or, slice_set, Some, vec_len};
+ghost use Rattle.std.specs.Prelude.{ℕ, IfOk, ◌≡◌, ◌^◌, ◌<◌, ◌≤◌, ◌+◌, [], ◌∷◌, ◌++◌, None, OnOk};
+ghost use Rattle.std.specs.Prelude.{All, length, replicate, slice_index_or, slice_set, Some};
+ghost use Rattle.std.specs.Prelude.{vec_len};
 ghost use Rattle.mr_tickets.specs.Views.{IsSeatOf};
 ghost use Rattle.mr_tickets.specs.Drawn.{weigh, below};
 ghost use Rattle.mr_tickets.specs.Pieces.{IsFresh, IsDone, AllGiven, AllSlots, numbers_of};

@@ -2,7 +2,8 @@
 //!
 //! The rule of the word that numbers are drawn from comes first. No value of its types but `Limits` is made when a program
 //! runs: they say what each seat knows.
-ghost use Rattle.std.specs.Prelude.{◌≡◌, ◌<◌, ℕ, [], ◌∷◌, ◌++◌, true, false, IfOk, IfSome, IfNone, All, length, replicate, vec_len, if◌then◌else◌};
+ghost use Rattle.std.specs.Prelude.{◌≡◌, ◌<◌, ℕ, [], ◌∷◌, ◌++◌, true, false, IfOk, IfSome, IfNone};
+ghost use Rattle.std.specs.Prelude.{All, length, replicate, vec_len, if◌then◌else◌};
 ghost use Rattle.mr_tickets.specs.Drawn.{below, weigh, total, kept, past};
 ghost use Rattle.mr_tickets.specs.Views.{TicketsView, SeatView, IsSeatOf};
 
@@ -151,7 +152,8 @@ impl Tickets {
     ) -> Result<(Tickets, Vec<TicketSeat>), AllocError>
         requires { 0 < seats }
         ensures tickets { IfOk result (λ r. (r.0.limit ≡ limit) × (r.0.seats ≡ seats)) }
-        ensures seats { IfOk result (λ r. r.1.items ≡ replicate seats (record { table = r.0.table; limit = limit; drawn = []; told = false })) }
+        ensures seats { IfOk result (λ r. r.1.items ≡ replicate seats
+            (record { table = r.0.table; limit = limit; drawn = []; told = false })) }
     {
         let about = Limits { limit, seats };
         let (table, mut first) = Table::<(), Hand, Limits, Numbers, Global>::of_words(
@@ -171,7 +173,8 @@ impl Tickets {
     /// from then on, with no step. The seat must be one of these tickets'.
     pub fn draw(&self, seat: &mut TicketSeat) -> Option<u32>
         requires { IsSeatOf self.now seat.old }
-        ensures some { IfSome result (λ n. (n < self.now.limit) × (seat.old.told ≡ false) × (length seat.old.drawn < self.now.limit)
+        ensures some { IfSome result (λ n. (n < self.now.limit) × (seat.old.told ≡ false)
+            × (length seat.old.drawn < self.now.limit)
             × (seat.new ≡ record seat.old { drawn = seat.old.drawn ++ n ∷ [] })) }
         ensures none { IfNone result (seat.new ≡ record seat.old { told = true }) }
     {
@@ -193,7 +196,8 @@ impl Tickets {
     pub fn close(self, mut seats: Vec<TicketSeat>)
         requires mine { All (IsSeatOf self) seats.items }
         requires all { vec_len seats ≡ self.seats }
-        ensures { All (λ s. s.told ≡ true) seats.items → (h : ℕ → ℕ) → total (λ s. weigh h s.drawn) seats.items ≡ below h self.limit }
+        ensures { All (λ s. s.told ≡ true) seats.items → (h : ℕ → ℕ)
+            → total (λ s. weigh h s.drawn) seats.items ≡ below h self.limit }
     {
         let Tickets { limit: _, table } = self;
         let Some(seat) = seats.pop() else {

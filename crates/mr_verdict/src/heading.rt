@@ -79,7 +79,8 @@ fn expect_lengths<I: ItemSource>(items: &mut I, input: &Input) -> Result<(), Jud
     requires given { CanCome (I.gives items.old) }
     ensures given { OnOk result (CanCome (I.gives items.new)) }
     ensures sound { OnOk result (I.sound items.new) }
-    ensures met { Met (I.gives items.old) (I.gives items.new) (map (λ f. FileLength (length f)) input.now) No.OtherInput result }
+    ensures met { Met (I.gives items.old) (I.gives items.new) (map
+        (λ f. FileLength (length f)) input.now) No.OtherInput result }
     ensures fewer { OnOk result (I.most items.new ≤ I.most items.old) }
     ensures stops { Stops I.steady (I.failed items.old) (I.failed items.new) result }
 {

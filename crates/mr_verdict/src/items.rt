@@ -1,5 +1,6 @@
 //! What walks the items of a certificate: over its bytes, or over a reader.
-ghost use Rattle.std.specs.Prelude.{◌≡◌, ◌⊎◌, ◌≤◌, ◌<◌, ◌+◌, ◌-◌, ⊤, ◌^◌, ℕ, List, None, IfOk, length};
+ghost use Rattle.std.specs.Prelude.{◌≡◌, ◌⊎◌, ◌≤◌, ◌<◌, ◌+◌, ◌-◌, ⊤, ◌^◌, ℕ, List, None, IfOk};
+ghost use Rattle.std.specs.Prelude.{length};
 ghost use Rattle.mr_certform.specs.declared.item.Item.{Item as Read};
 ghost use Rattle.mr_certform.specs.declared.item.Item.TheVariants.{End};
 ghost use Rattle.mr_certform.specs.Walking.{items_left, halt};

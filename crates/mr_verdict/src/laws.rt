@@ -1,6 +1,9 @@
 //! Laws about the verdict, and worked verdicts: definitions alone, which cost nothing.
-ghost use Rattle.mr_verdict.specs.FaultLaws.{EndedIsSpelled, FaultsAreTrue, ReadIsSpelled, TellsOfBytes};
-ghost use Rattle.mr_verdict.specs.VerdictLaws.{YesIsGood, GoodIsYes, FaultByPlace, LaterItemsDontMatter, LaterOutputsDontMatter, OnlyComparedMatters};
+ghost use Rattle.mr_verdict.specs.FaultLaws.{EndedIsSpelled, FaultsAreTrue, ReadIsSpelled};
+ghost use Rattle.mr_verdict.specs.FaultLaws.{TellsOfBytes};
+ghost use Rattle.mr_verdict.specs.VerdictLaws.{YesIsGood, GoodIsYes, FaultByPlace};
+ghost use Rattle.mr_verdict.specs.VerdictLaws.{LaterItemsDontMatter, LaterOutputsDontMatter};
+ghost use Rattle.mr_verdict.specs.VerdictLaws.{OnlyComparedMatters};
 ghost use Rattle.mr_verdict.specs.VerdictRows.{WorkedPlaces, WorkedVerdicts};
 ghost use Rattle.mr_verdict.specs.VerdictLaws.{OtherOutputsDontMatter, BytesBehindDontMatter};
 

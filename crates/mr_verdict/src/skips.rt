@@ -17,7 +17,8 @@ pub fn expect_count<I: ItemSource>(items: &mut I, most: u32) -> Result<u32, Judg
     requires awaits { Each (I.gives items.old) awaits_skips }
     ensures sound { OnOk result (I.sound items.new) }
     ensures given { OnOk result (CanCome (I.gives items.new)) }
-    ensures counted { Answered (I.gives items.old) (I.gives items.new) (λ n is. record { many = n; behind = is }) (λ at. counted at most) result }
+    ensures counted { Answered (I.gives items.old) (I.gives items.new)
+        (λ n is. record { many = n; behind = is }) (λ at. counted at most) result }
     ensures fewer { OnOk result (I.most items.new ≤ I.most items.old) }
     ensures stops { Stops I.steady (I.failed items.old) (I.failed items.new) result }
 {
