@@ -13,4 +13,4 @@ pub mod Pieces
 pub mod Chunks
 pub mod Versions
 pub mod Spelled
-pub mod Growth
+pub mod Groups

@@ -11,6 +11,5 @@ pub mod Flat
 pub mod Pieces
 pub mod Sinks
 pub mod Buffers
-pub mod Building
 pub mod Reading
 pub mod Laws

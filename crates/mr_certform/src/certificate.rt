@@ -1,5 +1,5 @@
 //! A certificate as flat lists: names, entries of each group, groups of each partition. Its looks take no memory.
-ghost use Rattle.std.specs.Prelude.{◌≡◌, ◌≤◌, ◌<◌, ◌^◌, ◌+◌, ◌++◌, ◌∷◌, [], OnOk, OnErr};
+ghost use Rattle.std.specs.Prelude.{◌≡◌, ◌≤◌, ◌<◌, ◌^◌, ◌+◌, ◌++◌, ◌∷◌, [], OnOk};
 ghost use Rattle.std.specs.Prelude.{MatchOption, length};
 ghost use Rattle.mr_certform.specs.Flat.{told, told_first, nothing_told, total, chunks, AreCounted};
 ghost use Rattle.mr_certform.specs.Value.{names_of};
@@ -107,39 +107,6 @@ impl CertificateColumns {
             Item::Entry(name) => self.groups.names.push(name)?,
             Item::Magic | Item::LiteralLength(_) | Item::Files(_) | Item::Skips(_) | Item::End => {}
         }
-        Ok(())
-    }
-
-    /// One more group of these names.
-    pub fn push_names(&mut self, names: &[Name]) -> Result<(), AllocError>
-        requires { length names.now < 2 ^ 32 }
-        ensures ok { OnOk result (self.new ≡ record self.old {
-          entry_counts = self.old.entry_counts
-              ++ length names.now ∷ [];
-          names = self.old.names ++ names.now;
-        }) }
-        ensures err { OnErr result (self.new ≡ self.old) }
-    {
-        self.groups.entry_counts.push(names.len() as u32)?;
-        let added = self.groups.names.extend_from_slice(names);
-        if added.is_err() {
-            self.groups.entry_counts.pop();
-        }
-        added
-    }
-
-    /// One more partition, of so many groups.
-    pub fn close_part(&mut self, groups: u32) -> Result<(), AllocError>
-        requires { self.old.parts < 1024 }
-        ensures ok { OnOk result (self.new ≡ record self.old {
-          group_counts = self.old.group_counts
-              ++ groups ∷ [];
-          parts = self.old.parts + 1;
-        }) }
-        ensures err { OnErr result (self.new ≡ self.old) }
-    {
-        self.groups.group_counts.push(groups)?;
-        self.parts += 1;
         Ok(())
     }
 }

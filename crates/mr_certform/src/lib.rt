@@ -1,7 +1,6 @@
 //! The certificate of a result: its items, its walker, its value, its spelling.
 #![tactic(auto)]
 
-mod building;
 mod certificate;
 mod front;
 mod grammar_state;
@@ -16,7 +15,6 @@ mod walker;
 mod write_buffer;
 mod writing;
 
-pub use crate::building::Builder;
 pub use crate::certificate::{Certificate, FlatGroups, GroupIter, Header, PartitionIter};
 pub use crate::grammar_state::GrammarState;
 pub use crate::item::{Item, Malformed};

@@ -1,7 +1,7 @@
 use Rattle.std.proofs.Common.{ap, sym, ◌∙◌}
 use Rattle.mr_certform.specs.Value.{names_of}
 use Rattle.mr_certform.specs.declared.certificate.Certificate.TheInside.{Inside}
-use Rattle.mr_certform.proofs.Growth.{all_names}
+use Rattle.mr_certform.proofs.Groups.{all_names}
 use Rattle.mr_certform.proofs.certificate.Certificate.names.Goals as goal
 
 pub returns : goal.returns

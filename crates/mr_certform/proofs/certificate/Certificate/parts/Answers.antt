@@ -1,7 +1,7 @@
 use Rattle.std.proofs.Common.{length, ap, ◌∙◌}
 use Rattle.mr_certform.specs.Value.{Contents}
 use Rattle.mr_certform.specs.declared.certificate.Certificate.TheInside.{Inside}
-use Rattle.mr_certform.proofs.Growth.{all_parts}
+use Rattle.mr_certform.proofs.Groups.{all_parts}
 use Rattle.mr_certform.proofs.certificate.Certificate.parts.Goals as goal
 
 pub returns-clause-each : goal.returns-clause-each

@@ -2,7 +2,7 @@ use Rattle.std.proofs.Common.{◌≡◌, length, take, drop, ap, sym, ◌∙◌,
 use Rattle.std.proofs.lemmas.List.{length-drop}
 use Rattle.mr_certform.specs.Flat.{total}
 use Rattle.mr_certform.proofs.Pieces.{total_cut}
-use Rattle.mr_certform.proofs.Growth.{partition_read}
+use Rattle.mr_certform.proofs.Groups.{partition_read}
 use Rattle.mr_certform.proofs.certificate.PartitionIter.next_partition.Goals as goal
 
 pub sum_of-entries-requires : goal.sum_of-entries-requires
