@@ -1,4 +1,4 @@
-//! All regions of a partition, merged over their bytes, as long as that is wanted.
+//! Merges all regions of a partition over their bytes, for as long as the result is wanted.
 ghost use Rattle.std.specs.Prelude.{IsTrue, ◌≡◌, ◌++◌, ◌∷◌, [], List, IfErr, IfOk, IfSome};
 ghost use Rattle.std.specs.Prelude.{MatchOption, OnOk};
 ghost use Rattle.mr_bytes.specs.Pairs.{Triple};
@@ -12,18 +12,19 @@ use crate::merged::{Groups, MergeFault, merge};
 use mr_spill::{PairColumns, RegionFault, RegionView, read_region};
 use std::alloc::{AllocError, Global};
 
-/// Who is asked now and then whether work is still wanted. Where two workers do one task, and one of them is done with it,
-/// the other one needn't end it (OSDI 2004, section 3.6). What work gives doesn't depend on the answers.
+/// Says whether work is still wanted. Where two workers do one task and one has finished it, the
+/// other need not (OSDI 2004, section 3.6). The answers decide whether there is a result, never
+/// what it is.
 pub trait Cancellation {
-    // It lasts to the end of the work.
+    // Holds where the answer is always yes.
     ghost unending: { Type 0 };
 
-    /// Whether the work is still wanted. It is asked often, so the answer should take little.
+    /// Whether the work is still wanted. Callers ask often, so the answer should cost little.
     fn is_wanted(&self) -> bool
         ensures { unending → IsTrue result };
 }
 
-/// The work is wanted whatever happens meanwhile.
+/// Never cancels.
 pub struct NeverCancelled;
 
 impl Cancellation for NeverCancelled {
@@ -49,7 +50,6 @@ impl From<RegionFault> for MergeFault {
     }
 }
 
-/// Puts pairs behind those before.
 fn put(all: &mut Vec<PairColumns>, pairs: PairColumns) -> Result<(), AllocError>
     ensures { OnOk result (all.new.items ≡ all.old.items ++ pairs ∷ []) }
 {
@@ -57,7 +57,6 @@ fn put(all: &mut Vec<PairColumns>, pairs: PairColumns) -> Result<(), AllocError>
     Ok(())
 }
 
-/// The pairs of each region.
 fn read_all(
     alloc: Global,
     regions: &[RegionView<'_>],
@@ -75,7 +74,6 @@ fn read_all(
     Ok(all)
 }
 
-/// Each of the columns, lent.
 fn lent<'a>(alloc: Global, columns: &'a [PairColumns]) -> Result<Vec<&'a PairColumns>, AllocError>
     ensures { IfOk result (λ v. values_of v.items ≡ columns.entry.now) }
 {
@@ -86,7 +84,6 @@ fn lent<'a>(alloc: Global, columns: &'a [PairColumns]) -> Result<Vec<&'a PairCol
     Ok(all)
 }
 
-/// The regions merged, each read whole first.
 fn merged_whole(
     alloc: Global,
     regions: &[RegionView<'_>],
@@ -102,10 +99,10 @@ fn merged_whole(
     Ok(groups)
 }
 
-/// The fewest bytes that a pair of a region has.
+/// The fewest bytes that a region spends on a pair.
 const PAIR_BYTES: usize = 17;
 
-/// Room for as many pairs as the bytes of the regions can have.
+/// The most pairs that the bytes of these regions can hold.
 fn room_for(regions: &[RegionView<'_>]) -> usize {
     let mut bytes = 0usize;
     for region in regions {
@@ -114,8 +111,7 @@ fn room_for(regions: &[RegionView<'_>]) -> usize {
     bytes / PAIR_BYTES
 }
 
-/// The regions merged, taken one behind another: `None` where one isn't taken, or where they are no
-/// longer wanted.
+/// `None` where a region isn't taken, or the result is no longer wanted.
 fn followed<D: Cancellation>(
     alloc: Global,
     regions: &[RegionView<'_>],
@@ -140,8 +136,9 @@ fn followed<D: Cancellation>(
     all.groups(alloc)
 }
 
-/// What `merge_regions` gives, and `None` where it was no longer wanted before it was there: it is asked before each region,
-/// and before and behind the putting together by key.
+/// What `merge_regions` returns, or `None` once it is no longer wanted. It asks before each region,
+/// and before and after it groups pairs by key, but not while it merges regions that it reads
+/// whole.
 pub fn merge_regions_while<D: Cancellation>(
     alloc: Global,
     regions: &[RegionView<'_>],
@@ -162,9 +159,9 @@ pub fn merge_regions_while<D: Cancellation>(
     }
 }
 
-/// The regions of one partition, merged over their bytes: each key once, rising, with its pairs by name. Bytes that spell no
-/// region of the partition and of the split that they are told to be of, and regions in which a name stands twice, under one key
-/// or two, are `RegionDamaged`.
+/// Merges the regions of one partition over their bytes: each key once, rising, with its pairs by
+/// name. Returns `RegionDamaged` where bytes are no region of this partition and of the split that
+/// comes with them, or where a name occurs twice in the regions, under one key or two.
 pub fn merge_regions(
     alloc: Global,
     regions: &[RegionView<'_>],

@@ -1,14 +1,14 @@
-//! The names of a region, each as one number, its record in the upper half and its place in the lower; and whether they
-//! differ.
-//!
-//! A bit stands for each place of each record, from the first record to the last:
+//! Tests whether the names of a region differ. A name is one number here: its record in the upper
+//! half, its place in the lower. Each place of each record, from the first record to the last, has
+//! a bit:
 //!
 //!     record     3         4         5
 //!     place      0 1 2 3   0 1 2 3   0 1 2 3
 //!     bits       1 1 0 0   1 1 1 1   1 0 0 0     for 3:0 3:1 4:0 4:1 4:2 4:3 5:0
 //!
-//! Names differ where each finds its bit unset. Where there would be more than 2,048 bits a name, the names are sorted.
-//! Cost: two reads a name, and one of its bit; 8 bytes a name, and at most 256 for its bits.
+//! Names differ where each finds its bit unset. Where that takes 2,048 bits a name or more, it
+//! sorts the names instead. Cost: two reads a name, and one of its bit; 8 bytes a name, and at most
+//! 256 for bits.
 ghost use Rattle.std.specs.Prelude.{◌≡◌, ℕ, ◌++◌, ◌∷◌, [], IfOk, IsTrue, OnOk};
 ghost use Rattle.std.specs.Ordering.{nat_cmp};
 ghost use Rattle.mr_bytes.specs.Lists.{Distinct, Rises};
@@ -17,7 +17,6 @@ ghost use Rattle.mr_merge.specs.Distinct.{IsSet, bit_of, packed};
 use mr_bytes::Name;
 use std::alloc::{AllocError, Global};
 
-/// How many bits there may be for each name.
 const BITS: u64 = 2_048;
 
 /// The names of a region, each as one number, and room for their bits.
@@ -27,7 +26,7 @@ pub(crate) struct RegionNames {
     words: Vec<u64>,
 }
 
-/// Which bit is whose: there are `places` for each record from `first` on.
+/// Numbers the bits: `places` for each record from `first` on.
 #[derive(Clone, Copy)]
 struct Grid {
     first: u64,
@@ -35,7 +34,6 @@ struct Grid {
 }
 
 impl RegionNames {
-    /// None. It takes no memory.
     pub fn new(alloc: Global) -> RegionNames {
         RegionNames {
             numbers: Vec::new(alloc),
@@ -43,14 +41,12 @@ impl RegionNames {
         }
     }
 
-    /// None any more. Their room stays for later ones.
     pub fn clear(&mut self)
         ensures { self.new.numbers.items ≡ [] }
     {
         self.numbers.clear();
     }
 
-    /// One more name.
     #[inline(always)]
     pub fn push(&mut self, name: Name) -> Result<(), AllocError>
         ensures { OnOk result (self.new.numbers.items ≡ self.old.numbers.items ++ packed name ∷ []) }
@@ -59,7 +55,7 @@ impl RegionNames {
         self.numbers.push(number).map_err(AllocError::from)
     }
 
-    /// Whether the names differ.
+    /// Whether the names differ. It may sort them.
     pub fn differ(&mut self) -> Result<bool, AllocError>
         ensures { IfOk result (λ b. IsTrue b → Distinct self.old.numbers.items) }
     {
@@ -75,7 +71,6 @@ impl RegionNames {
 }
 
 impl Grid {
-    /// The bit of a name.
     #[inline(always)]
     fn bit_of(&self, name: u64) -> u64
         ensures { result ≡ bit_of self.now name }
@@ -87,7 +82,6 @@ impl Grid {
     }
 }
 
-/// The grid of these names, and how many bits it has.
 fn grid_of(names: &[u64]) -> (Grid, u64) {
     let mut first = u64::MAX;
     let mut last = 0;
@@ -102,7 +96,7 @@ fn grid_of(names: &[u64]) -> (Grid, u64) {
     (Grid { first, places }, records.saturating_mul(places))
 }
 
-/// Sets a bit: false where it is set already, or isn't there.
+/// Sets a bit: false where it is set already, or past the end.
 #[inline(always)]
 fn set_bit(words: &mut [u64], bit: u64) -> bool
     ensures set { IsTrue result → IsSet words.new bit }
@@ -121,7 +115,6 @@ fn set_bit(words: &mut [u64], bit: u64) -> bool
     true
 }
 
-/// Whether each name finds its bit unset.
 fn set_all(names: &[u64], grid: Grid, words: &mut [u64]) -> bool
     ensures { IsTrue result → Distinct names.now }
 {
@@ -133,7 +126,6 @@ fn set_all(names: &[u64], grid: Grid, words: &mut [u64]) -> bool
     true
 }
 
-/// Whether the numbers rise.
 fn numbers_rise(numbers: &[u64]) -> bool
     ensures { IsTrue result → Rises nat_cmp numbers.now }
 {

@@ -1,4 +1,5 @@
-//! Regions of one partition that come one behind another: of each the pairs are taken, and its bytes may be let go.
+//! Takes the regions of one partition one after another. The bytes of a region can go once it is
+//! taken.
 ghost use Rattle.std.specs.Prelude.{◌≡◌, ◌↔◌, ◌∷◌, ◌++◌, [], List};
 ghost use Rattle.std.specs.Prelude.{IfOk, IfSome, IsTrue, length, true};
 ghost use Rattle.mr_bytes.specs.Pairs.{Triple};
@@ -19,25 +20,24 @@ use std::alloc::{AllocError, Global};
 use std::cmp::Ordering;
 use std::marker::Model;
 
-/// What came of a region.
+/// What became of a region.
 #[derive(Clone, Copy, Debug, PartialEq, Eq)]
 pub enum Came {
     /// All its pairs were taken.
     Taken,
-    /// Its bytes are no region of the partition and of the split that they are told to be of.
+    /// Its bytes are no region of this partition and of the split that comes with them.
     Damaged,
-    /// Its names don't all differ, or not all are past those of the regions before: what was taken counts for nothing now.
+    /// A name occurs twice in it, or isn't past all names of the regions before.
     Unordered,
 }
 
-/// What was taken of regions, and the last of its names.
 #[derive(Drop)]
 pub(crate) struct Gathering {
     pub pairs: Numbered,
     pub last: Option<Name>,
 }
 
-/// What the regions of a partition gave that came so far.
+/// Collects the pairs of a partition's regions as these arrive.
 #[derive(Drop)]
 pub struct Follower {
     partition: u32,
@@ -58,7 +58,6 @@ impl Model for Follower {
     ghost invariant = { λ f. f.whole ≡ true → (regions : List RegionText) × HasTaken regions (record { partition = f.partition; whole = f.whole; all = f.all }) };
 }
 
-/// Whether the name is past this one, if there is one.
 fn is_past(last: Option<Name>, name: Name) -> bool
     ensures { IsTrue result ↔ IsPast last name }
 {
@@ -68,7 +67,6 @@ fn is_past(last: Option<Name>, name: Name) -> bool
     }
 }
 
-/// The later one of two names.
 fn later(last: Option<Name>, name: Name) -> Option<Name>
     ensures up_to { (n : Name) → IsUpTo last n → IsUpTo result n }
     ensures it { IsUpTo result name }
@@ -80,7 +78,7 @@ fn later(last: Option<Name>, name: Name) -> Option<Name>
     }
 }
 
-/// Takes a pair of a region, if its name is past those of all regions before.
+/// Takes a pair whose name is past `before`, the last name of the regions before.
 #[inline(always)]
 fn take_pair(
     all: &mut Gathering,
@@ -98,7 +96,7 @@ fn take_pair(
     Ok(true)
 }
 
-/// Takes the pairs of a region; `names` is room for its names. Where it isn't taken, what was taken counts for nothing.
+/// Takes the pairs of a region. Where it isn't taken, `all` may have some of them and is of no use.
 fn take_whole(
     all: &mut Gathering,
     names: &mut RegionNames,
@@ -134,7 +132,7 @@ fn take_whole(
 }
 
 impl Follower {
-    /// No regions of the partition came yet. It takes no memory.
+    /// No regions yet. It allocates nothing.
     pub fn new(alloc: Global, partition: u32) -> Follower
         ensures partition { result.partition ≡ partition }
         ensures none { HasTaken [] result }
@@ -150,14 +148,14 @@ impl Follower {
         }
     }
 
-    /// Makes room for so many pairs more. Whether there is any or not, nothing else changes.
+    /// Makes room for `more` pairs. Fails only for want of memory, and then leaves all as it was.
     pub fn reserve(&mut self, more: usize) -> Result<(), AllocError>
         ensures { self.new ≡ self.old }
     {
         self.all.pairs.reserve(more)
     }
 
-    /// Whether each region that came was taken.
+    /// Whether each region so far was taken.
     pub fn is_whole(&self) -> bool
         ensures whole { result ≡ self.now.whole }
         ensures known { result ≡ true → (regions : List RegionText) × HasTaken regions self.now }
@@ -165,7 +163,8 @@ impl Follower {
         self.whole
     }
 
-    /// One region more. Where it isn't taken, or for want of memory, what came counts for nothing from then on.
+    /// Takes the pairs of the next region. Where it isn't taken, or memory is refused, `is_whole`
+    /// is false from then on, and `groups` returns `None`.
     pub fn take(&mut self, region: &RegionView<'_>) -> Result<Came, AllocError>
         ensures partition { self.new.partition ≡ self.old.partition }
         ensures damaged { IfOk result (λ c. c ≡ Damaged → (ts : List Triple)
@@ -185,14 +184,13 @@ impl Follower {
         }
     }
 
-    /// How many pairs were taken.
     pub fn len(&self) -> usize
         ensures { result ≡ length self.now.all.pairs }
     {
         self.all.pairs.len()
     }
 
-    /// The groups of all regions that came, if each was taken.
+    /// The groups of all regions, or `None` where one wasn't taken.
     pub fn groups(self, alloc: Global) -> Result<Option<Groups>, AllocError>
         ensures { (regions : List RegionText) → HasTaken regions self
             → IfOk result (λ o. IfSome o (AreMerged self.partition regions)) }

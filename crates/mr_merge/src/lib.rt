@@ -1,17 +1,14 @@
-//! Sorted regions of one partition, merged into groups: each key once, with all its pairs (OSDI 2004, section 4.2).
+//! Merges the sorted regions of a partition into groups: each key once, with all its pairs (OSDI
+//! 2004, section 4.2).
 //!
-//! Regions are bytes, taken one behind another (`Follower`). Each pair is compared with the one
-//! before it in its region, and its name with the last one of the regions before. A key is looked up
-//! once for each run of it. A bit for each name shows whether the names of a region differ. Distinct
-//! keys are sorted at the end, and each name is moved once behind that.
-//!
-//! Where the names of regions don't follow one another, or a name stands twice, each region is read
-//! whole. Then all names are sorted, and each pair takes one comparison of keys and one copy for
-//! each doubling of the number of regions.
-//!
-//! Memory beside the regions: 28 bytes for each pair, of which 12 stay, 8 for each name of the
-//! largest region with its bits, and a copy of each distinct key. Regions read whole take 12 for each name while
-//! names are compared.
+//! `Follower` takes regions as bytes, one after another. It compares each pair with the one before
+//! it, and its name with the last one of the regions before. A row of pairs of one key takes one
+//! look-up. At the end it sorts the distinct keys and moves each name once. Where names of regions
+//! overlap or repeat, each region is read whole: all names are sorted, and each pair takes one
+//! comparison of keys and one copy per doubling of the number of regions. Memory besides the
+//! regions: 28 bytes a pair, of which 12 stay; each distinct key; up to 264 for each name of the
+//! largest region, which is one run's (`distinct.rt`); where regions are read whole, 12 for each
+//! name while names are compared.
 #![tactic(auto)]
 
 mod bytes;

@@ -1,4 +1,4 @@
-//! The groups of merged pairs, and all regions of a partition merged into them.
+//! Merges all regions of a partition into groups, one for each key.
 ghost use Rattle.std.specs.Prelude.{◌≡◌, ◌<◌, IfOk, length, IfErr};
 ghost use Rattle.std.specs.List.{flat_map};
 ghost use Rattle.mr_spill.specs.Column.{names_of, nth_pair};
@@ -36,7 +36,6 @@ impl Model for Groups {
 }
 
 impl Groups {
-    /// How many groups there are.
     pub fn len(&self) -> usize
         ensures { result ≡ length self.now }
     {
@@ -51,7 +50,7 @@ impl Groups {
         self.keyed.key(g)
     }
 
-    /// How many pairs group `g` has: at least one.
+    /// The number of pairs in group `g`: at least one.
     pub fn count(&self, g: usize) -> usize
         requires { g < length self.now }
         ensures count { result ≡ length (nth_group self.now g).pairs }
@@ -60,7 +59,7 @@ impl Groups {
         self.keyed.count(g)
     }
 
-    /// The names of all groups, one group behind another; the rest is let go.
+    /// The names of all groups, one group after another. It drops the rest.
     pub fn into_names(self) -> Vec<Name>
         ensures { result.items ≡ flat_map (λ g. names_of g.pairs) self }
     {
@@ -78,7 +77,7 @@ impl Groups {
     }
 }
 
-/// The groups of pairs whose names rise under each key already: their keys are sorted, and each name is moved once.
+/// Groups pairs whose names already rise under each key: sorts the keys, and moves each name once.
 pub(crate) fn grouped(alloc: Global, pairs: Numbered) -> Result<Groups, AllocError>
     requires { RisesUnderKeys pairs }
     ensures { IfOk result (λ g. g ≡ merged (sorted pair_order pairs)) }
@@ -87,7 +86,6 @@ pub(crate) fn grouped(alloc: Global, pairs: Numbered) -> Result<Groups, AllocErr
     Ok(Groups { keyed })
 }
 
-/// The same of pairs in a column.
 pub(crate) fn grouped_column(alloc: Global, pairs: &PairColumns) -> Result<Groups, AllocError>
     requires { RisesUnderKeys pairs.now }
     ensures { IfOk result (λ g. g ≡ merged (sorted pair_order pairs.now)) }
@@ -96,13 +94,13 @@ pub(crate) fn grouped_column(alloc: Global, pairs: &PairColumns) -> Result<Group
     Ok(Groups { keyed })
 }
 
-/// Why regions were not merged.
+/// Why regions are not merged.
 #[derive(Clone, Copy, Debug, PartialEq, Eq, Drop, Error)]
 pub enum MergeFault {
-    /// There is no memory for it.
+    /// The machine refused memory.
     #[error("OutOfMemory")]
     OutOfMemory,
-    /// A region is not in order, or a name stands twice.
+    /// A region is malformed or out of order, or a name occurs twice.
     #[error("RegionDamaged")]
     RegionDamaged,
 }
@@ -117,8 +115,8 @@ impl From<AllocError> for MergeFault {
     }
 }
 
-/// The regions of one partition, merged: each key once, rising, with its pairs by name. Regions of which one is not in
-/// order, or in which a name stands twice, under one key or two, are `RegionDamaged`.
+/// Merges the regions of one partition: each key once, rising, with its pairs by name. Returns
+/// `RegionDamaged` where a region is out of order, or a name occurs twice, under one key or two.
 pub fn merge(alloc: Global, regions: &[&PairColumns]) -> Result<Groups, MergeFault>
     ensures sound { IfOk result (λ g. AreSound (values_of regions.now)) }
     ensures groups { IfOk result (λ g. g ≡ merged (joined (values_of regions.now))) }
@@ -131,8 +129,9 @@ pub fn merge(alloc: Global, regions: &[&PairColumns]) -> Result<Groups, MergeFau
     Ok(grouped_column(alloc, &pairs)?)
 }
 
-/// What merged groups are: their keys rise strictly; of pairs whose names differ each group has just those of its key,
-/// by rising name, and each pair is in a group; and pairs that differ only in their order give the same groups.
+/// The keys of merged groups rise strictly. Where names differ, each group has exactly the pairs of
+/// its key, by rising name, and every pair is in a group. Pairs that differ only in order give the
+/// same groups.
 pub fn merge_law()
     ensures rise { GroupsRise }
     ensures have { GroupsHave }
@@ -140,7 +139,7 @@ pub fn merge_law()
     ensures one { MergedIsOne }
 {}
 
-/// Regions merged by hand, and regions that are not sound.
+/// Regions merged by hand, and unsound ones.
 pub fn worked_groups()
     ensures groups { WorkedGroups }
     ensures twice { WorkedTwice }
