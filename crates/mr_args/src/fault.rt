@@ -1,4 +1,4 @@
-//! Why a command does not do what it is asked for, with the exit status and what is said of it.
+//! Why a command fails: its fault, exit status and message.
 ghost use Rattle.std.specs.Prelude.{◌≡◌};
 ghost use Rattle.mr_args.specs.Statuses.{status_of, status_of_shards};
 
@@ -11,10 +11,9 @@ use mr_shard_files::ShardFault;
 use std::alloc::AllocError;
 use std::fmt;
 
-/// Why a command does not do what it is asked for.
+/// Why a command fails.
 #[derive(Drop)]
 pub enum Fault {
-    /// An option of another job.
     OtherJobsOption,
     Job(JobFault),
     Request(RequestFault),
@@ -22,20 +21,21 @@ pub enum Fault {
     Input(InputFault),
     TooManySplits,
     Run(RunFault),
-    /// There are no workers, or more than 64.
+    /// No worker, or more than 64.
     BadWorkers,
-    /// A task may have no attempt, or more than 16.
+    /// No attempt for a task, or more than 16.
     BadAttempts,
-    /// No thread judges, or more than 64.
+    /// No thread, or more than 64.
     BadThreads,
-    /// The name of this file of the input, numbered from 0, holds a line feed, and so no verdict can tell it.
+    /// The name of this input file, numbered from 0, contains a line feed, so no verdict can list
+    /// it.
     LineEndInName { file: usize },
     Script(ScriptFault),
     /// Another run keeps its regions in the directory.
     ScratchInUse,
-    /// Why shards are not merged; faults of files and want of memory are told as themselves.
+    /// Why shards are not merged. Faults of files and want of memory have their own variants.
     Shards(ShardFault),
-    /// The file of this name would be written, and is read too, or written under another name before.
+    /// The command would write this file, and also reads it or writes it under another name before.
     SameFile(String),
     CannotRead(String),
     CannotWrite(String),
@@ -121,8 +121,7 @@ impl From<ShardFault> for Fault {
     }
 }
 
-/// The exit status of shards that are not merged: 1 where they aren't what their verdicts say, or not shards of the whole
-/// that is meant.
+/// 1 where shards differ from their verdicts or don't make up the whole that is meant, else 2.
 fn shards_status(fault: &ShardFault) -> u8
     ensures { result ≡ status_of_shards fault.now }
 {
@@ -140,7 +139,7 @@ fn shards_status(fault: &ShardFault) -> u8
 }
 
 impl Fault {
-    /// The exit status: 1 for shards that aren't those of one whole, 2 for usage or a limit, 3 for a file, 4 for want of
+    /// The exit status: 1 for unfit shards, 2 for usage or a limit, 3 for a file, 4 for want of
     /// memory.
     pub fn status(&self) -> u8
         ensures { result ≡ status_of self.now }
@@ -154,7 +153,6 @@ impl Fault {
     }
 }
 
-/// A line of what is told.
 fn write_told<D: fmt::Display, W: fmt::Write>(f: &mut fmt::Formatter<W>, told: &D) -> fmt::Result {
     write!(f, "mapred: {told}\n")
 }

@@ -1,5 +1,4 @@
-//! What the words of a command line can ask for: each command's options, the request that they ask for, skip lists; and
-//! why a command does not do what it is asked for.
+//! Each command's options, the request that they make, skip lists, and why a command fails.
 #![tactic(auto)]
 
 mod fault;

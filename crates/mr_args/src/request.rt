@@ -1,5 +1,4 @@
-//! What a line can ask for once its words are read: each command's options, the request that they make, and the list of
-//! left-out records that a text spells.
+//! The options of each command, the request that they make, and the parser of skip lists.
 ghost use Rattle.std.specs.Prelude.{◌≡◌, ◌↔◌, IfOk, IfErr, OnOk, IsTrue, ◌⊎◌, List, [], ◌∷◌, ◌++◌};
 ghost use Rattle.std.specs.Prelude.{MatchOption};
 ghost use Rattle.mr_args.specs.Asked.{AsksForOtherJob, IsJobRefusal, IsRequestRefusal, LiteralFits};
@@ -14,7 +13,6 @@ use mr_jobs::{Job, Request};
 use mr_script::number_of;
 use std::alloc::Global;
 
-/// The jobs that can be asked for.
 #[derive(Clone, Copy)]
 pub enum JobKind {
     Words,
@@ -23,7 +21,7 @@ pub enum JobKind {
     Index,
 }
 
-/// What each command is asked for: a job over files, and where its result stands.
+/// What `seq`, `run` and `check` share: a job over `files`, with its result in the directory `out`.
 #[derive(Drop)]
 pub struct Options<'a> {
     pub job: JobKind,
@@ -38,56 +36,47 @@ pub struct Options<'a> {
     pub files: Vec<&'a str>,
 }
 
-/// What a sequential execution is asked for.
+/// Options of `seq`. `skips` is the text of a skip list; `version` is the certificate's.
 #[derive(Drop)]
 pub struct SeqOptions<'a> {
     pub options: Options<'a>,
-    /// The text of its skip list.
     pub skips: &'a str,
-    /// The version of the certificate that is written.
     pub version: Version,
 }
 
-/// What a run by workers is asked for.
+/// Options of `run`. `version` is the certificate's; `script` and `history` name files.
 #[derive(Drop)]
 pub struct RunOptions<'a> {
     pub options: Options<'a>,
-    /// How many workers there are, 1 to 64.
+    /// 1 to 64.
     pub workers: u32,
-    /// How many attempts a task may have, 1 to 16.
+    /// Attempts that a task may have, 1 to 16.
     pub attempts: u32,
-    /// The version of the certificate that is written.
     pub version: Version,
-    /// The name of the file that says what shall go wrong.
     pub script: Option<&'a str>,
-    /// The name under which the history is written.
     pub history: Option<&'a str>,
-    /// The directory of the files in which regions lie; without one they lie in memory.
+    /// The directory of the regions' files; without one, regions stay in memory.
     pub scratch: Option<&'a str>,
 }
 
-/// What a judgement is asked for.
+/// Options of `check`. 1 to 64 threads judge; a yes writes its verdict to the file `verdict`.
 #[derive(Drop)]
 pub struct CheckOptions<'a> {
     pub options: Options<'a>,
-    /// How many threads judge, 1 to 64.
     pub threads: u32,
-    /// The name under which the verdict of a yes is written.
     pub verdict: Option<&'a str>,
 }
 
-/// What a merge of shards is asked for.
+/// Options of `merge`: the result's directory, the name of the list of meant inputs, and the names
+/// of the shards' verdicts, in the order of the shards.
 #[derive(Drop)]
 pub struct MergeOptions<'a> {
-    /// The directory of the merged result.
     pub out: &'a str,
-    /// The name of the list of the inputs that are meant.
     pub inputs: Option<&'a str>,
-    /// The names of the shards' verdicts, in the order of the shards.
     pub verdicts: Vec<&'a str>,
 }
 
-/// The command that is asked for.
+/// A command with its options.
 #[derive(Drop)]
 pub enum Subcommand<'a> {
     Seq(SeqOptions<'a>),
@@ -96,7 +85,6 @@ pub enum Subcommand<'a> {
     Merge(MergeOptions<'a>),
 }
 
-/// Whether an option belongs to another job.
 fn asks_for_other_job(options: &Options<'_>) -> bool
     ensures { IsTrue result ↔ AsksForOtherJob options.now }
 {
@@ -110,7 +98,7 @@ fn asks_for_other_job(options: &Options<'_>) -> bool
     }
 }
 
-/// The job that was asked for. An option of another job is told before a fault of the job itself.
+/// The requested job. It reports an option of another job before a fault of the job itself.
 fn job_of(alloc: Global, options: &Options<'_>) -> Result<Job, Fault>
     ensures job { IfOk result (λ j. j ≡ (request_asked options.now).job) }
     ensures literal { IfOk result (λ j. LiteralFits j) }
@@ -131,7 +119,7 @@ fn job_of(alloc: Global, options: &Options<'_>) -> Result<Job, Fault>
     }
 }
 
-/// The request that was asked for. A fault of the job is told before one of the numbers.
+/// The request that the options make. It reports a fault of the job before one of the numbers.
 pub fn request_of(alloc: Global, options: &Options<'_>) -> Result<Request, Fault>
     ensures request { IfOk result (λ r. r ≡ request_asked options.now) }
     ensures within { OnOk result (WithinLimits (request_asked options.now)) }
@@ -148,7 +136,7 @@ pub fn request_of(alloc: Global, options: &Options<'_>) -> Result<Request, Fault
     Ok(request)
 }
 
-/// The bytes before the first `mark`, and those behind it.
+/// Splits the text at the first `mark`.
 fn cut(text: &[u8], mark: u8) -> Option<(&[u8], &[u8])>
     ensures { MatchOption result (Lacks text.now mark)
         (λ r. (text.now ≡ r.0.now ++ mark ∷ r.1.now) × Lacks r.0.now mark) }
@@ -161,7 +149,7 @@ fn cut(text: &[u8], mark: u8) -> Option<(&[u8], &[u8])>
     None
 }
 
-/// A name spelled `SPLIT:RECORD`.
+/// Parses `SPLIT:RECORD`.
 fn name_of(text: &[u8]) -> Option<RecordName>
     ensures { MatchOption result ((n : RecordName) → ¬ SpellsName text.now n) (λ n. SpellsName text.now n) }
 {
@@ -171,7 +159,6 @@ fn name_of(text: &[u8]) -> Option<RecordName>
     Some(RecordName { split, rec })
 }
 
-/// Adds the name that the text spells.
 fn add_name(names: &mut Vec<RecordName>, text: &[u8]) -> Result<(), Fault>
     ensures ok { OnOk result ((n : RecordName) × SpellsName text.now n
         × (names.new.items ≡ names.old.items ++ n ∷ [])) }
@@ -187,8 +174,8 @@ fn add_name(names: &mut Vec<RecordName>, text: &[u8]) -> Result<(), Fault>
     }
 }
 
-/// The names of a skip list: pairs `SPLIT:RECORD` joined by single commas. The empty text is the empty list. Any other
-/// text is refused, unless memory is refused before that is seen.
+/// Parses a skip list: pairs `SPLIT:RECORD` joined by single commas. The empty text is the empty
+/// list. It refuses any other text, unless memory runs out before it sees the fault.
 pub fn skips_of(alloc: Global, text: &str) -> Result<Vec<RecordName>, Fault>
     ensures ok { IfOk result (λ names. SpellsNames text.now names.items) }
     ensures bad { IfErr result (λ e. (e ≡ Fault.OutOfMemory)
@@ -207,7 +194,7 @@ pub fn skips_of(alloc: Global, text: &str) -> Result<Vec<RecordName>, Fault>
     Ok(names)
 }
 
-/// A text spells at most one list.
+/// A text writes at most one list.
 pub fn skip_list_law()
     ensures { OneSkipList }
 {}

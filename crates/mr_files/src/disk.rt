@@ -1,7 +1,6 @@
-//! The files of the system. No clause of std says what stands under a name, so nothing is known of them here, and what
-//! this file does is to be read: that the file of the name that was given is the one that is opened, that it is opened
-//! once, and that what is opened is what is read or written. The number of the system's last error is kept beside, for
-//! hints. Nothing else belongs here.
+//! The system's files. std's contracts don't say what bytes a name holds, so check by reading: the
+//! code opens the file of the given name, once, and reads or writes that file. It also keeps the
+//! number of the system's last error, for hints. Add nothing else.
 ghost use Rattle.std.specs.Prelude.{◌≡◌, ◌≤◌, ◌<◌, ⊤, None, IfOk, length};
 
 use crate::names::{Inspect, PathKind};
@@ -16,20 +15,18 @@ use std::mem;
 use std::os::unix::fs::MetadataExt;
 use std::rt::Files;
 
-/// The most links, one behind another, that the system follows.
+/// The system follows at most so many links in a row.
 const MOST_LINKS: u32 = 40;
 
-/// A file from before its first use to behind its last. Taken out, it is closed where it isn't put back.
+/// The state of a file. Taking the handle out closes the file, unless it is put back.
 #[derive(Drop)]
 enum Handle<F> {
     Unopened,
     Open(F),
-    /// It was read to its end.
     Ended,
     Closed,
 }
 
-/// An answer as it is. Where the system failed, the number of its error is kept.
 fn noted<T>(last: &Cell<i32>, answer: io::Result<T>) -> io::Result<T>
     ensures { result ≡ answer }
 {
@@ -41,13 +38,11 @@ fn noted<T>(last: &Cell<i32>, answer: io::Result<T>) -> io::Result<T>
     answer
 }
 
-/// A use of a file that is closed.
 fn closed<F>() -> io::Result<F> {
     Err(io::Error::from(ErrorKind::Other))
 }
 
-/// A file that is opened at its first read and closed at its end. Where a call fails it is closed, and each call from then
-/// on fails.
+/// Opens at the first read; closes at the end or at a failed call, after which each call fails.
 #[derive(Drop)]
 pub struct FileReader<'a, R: Files> {
     rt: &'a R,
@@ -105,8 +100,7 @@ impl<'a, R: Files> CountedRead for FileReader<'a, R> {
     }
 }
 
-/// A file that is made, or emptied, at its first write or flush. Its flush closes it, and so does a call that fails;
-/// each call from then on fails.
+/// Created or emptied at the first write or flush. A flush or a failed call closes it for good.
 #[derive(Drop)]
 pub struct FileWriter<'a, R: Files> {
     rt: &'a R,
@@ -170,7 +164,7 @@ impl<'a, R: Files> CountedWrite for FileWriter<'a, R> {
     }
 }
 
-/// The files of the system.
+/// The system's files.
 #[derive(Drop)]
 pub struct DiskFiles<'a, R: Files> {
     rt: &'a R,
@@ -178,13 +172,13 @@ pub struct DiskFiles<'a, R: Files> {
 }
 
 impl<'a, R: Files> DiskFiles<'a, R> {
-    /// The number of the last error is kept in the cell, which holds 0 before.
+    /// `last` receives the number of the last error; it holds 0 before.
     pub fn new(rt: &'a R, last: &'a Cell<i32>) -> DiskFiles<'a, R> {
         DiskFiles { rt, last }
     }
 }
 
-/// Whether it is a pipe, a socket or a device, whose bytes who opens it takes from whoever opens it next.
+/// A pipe, a socket or a device: whoever opens it takes bytes from the one who opens it next.
 fn is_stream<R: Files>(rt: &R, name: &str) -> bool {
     match fs::metadata(rt, name) {
         Ok(seen) => !seen.is_file() && !seen.is_dir(),
@@ -192,7 +186,6 @@ fn is_stream<R: Files>(rt: &R, name: &str) -> bool {
     }
 }
 
-/// Whether the system has one file, or one folder, under both names.
 fn are_one_file<R: Files>(rt: &R, name: &str, other: &str) -> bool {
     match (fs::metadata(rt, name), fs::metadata(rt, other)) {
         (Ok(one), Ok(two)) => one.dev() == two.dev() && one.ino() == two.ino(),
@@ -200,7 +193,7 @@ fn are_one_file<R: Files>(rt: &R, name: &str, other: &str) -> bool {
     }
 }
 
-/// The identity of a file or a folder that is there: its device and its number there.
+/// `DEVICE:INODE` of an existing file or folder.
 fn identity_of(alloc: Global, seen: &Metadata) -> Result<Option<String>, AllocError> {
     if !seen.is_file() && !seen.is_dir() {
         return Ok(None);
@@ -209,7 +202,7 @@ fn identity_of(alloc: Global, seen: &Metadata) -> Result<Option<String>, AllocEr
     Ok(Some(format!(in alloc; "{device}:{number}")?))
 }
 
-/// The folder of a name that is not there, and the last of its name.
+/// The folder and the last part of a name.
 fn parted(name: &str) -> (&str, &str) {
     match name.rsplit_once('/') {
         Some(("", last)) => ("/", last),
@@ -218,7 +211,7 @@ fn parted(name: &str) -> (&str, &str) {
     }
 }
 
-/// The identity of a file that would be made under a name: that of its folder, and the last of the name.
+/// The identity of a file that doesn't exist: that of its folder, and the last part of its name.
 fn identity_to_be<R: Files>(
     rt: &R,
     alloc: Global,
@@ -234,7 +227,7 @@ fn identity_to_be<R: Files>(
     }
 }
 
-/// Where a symbolic link leads; none, where the name is no link.
+/// The target of a symbolic link; none if the name is no link.
 fn link_target<R: Files>(rt: &R, alloc: Global, name: &str) -> Result<Option<String>, AllocError> {
     let target = match rt.read_link(alloc, name) {
         Ok(target) => target.into_string(),
@@ -267,7 +260,7 @@ impl<'a, R: Files> Store for DiskFiles<'a, R> {
         name == other || are_one_file(self.rt, name, other)
     }
 
-    // A link to a file that isn't there is followed: who writes under its name makes that file.
+    // Follows a link to a missing file: a write to the link's name creates that file.
     fn identity(&self, alloc: Global, name: &str) -> Result<Option<String>, AllocError> {
         let mut name = String::from_str(alloc, name)?;
         for _ in 0..MOST_LINKS {

@@ -1,4 +1,4 @@
-//! Files by their names, behind a trait whose contract says what stands under a name.
+//! Files by name, behind a trait whose contract says what bytes a name holds.
 #![tactic(auto)]
 
 mod disk;

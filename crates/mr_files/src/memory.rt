@@ -1,4 +1,4 @@
-//! Files in memory, for tests of what goes over a store; each may be made to fail. A look costs a pass over all.
+//! Files in memory, for tests of code over a store. Each may fail on demand. A look-up scans all.
 ghost use Rattle.std.specs.Prelude.{◌≡◌, ◌∷◌, [], Some, IfOk, OnOk, OnErr, MatchOption, true};
 ghost use Rattle.mr_files.specs.declared.memory.Entry.{Entry};
 ghost use Rattle.mr_files.specs.Memory.{Found, Stands, OneContent, IsPut, IsUnreadable};
@@ -8,10 +8,9 @@ use crate::store::{Store, WriteFault};
 use mr_store::{MemoryReader, MemoryWriter, ReadFault};
 use std::alloc::{AllocError, Global};
 
-/// The most bytes that one call gives or takes, so that files of some size are read and written in several.
+/// The most bytes that one call reads or writes, so that larger files take several calls.
 const MOST: usize = 1_000;
 
-/// A file: its name, its bytes, and whether each use of it fails.
 #[derive(Drop)]
 pub(crate) struct Entry {
     name: String,
@@ -19,14 +18,13 @@ pub(crate) struct Entry {
     fails: bool,
 }
 
-/// Files in memory. The newest of a name is the one that counts.
+/// Files in memory. The newest file of a name counts.
 #[derive(Drop)]
 pub struct MemoryFiles {
     alloc: Global,
     entries: Vec<Entry>,
 }
 
-/// The newest entry of the name.
 fn find<'a>(entries: &'a [Entry], name: &str) -> Option<&'a Entry>
     ensures { MatchOption result ((e : Entry) → ¬ Found entries.entry.now name.now e)
         (λ e. Found entries.entry.now name.now e.now) }
@@ -39,7 +37,7 @@ fn find<'a>(entries: &'a [Entry], name: &str) -> Option<&'a Entry>
     None
 }
 
-/// The bytes of the file of that name, where it doesn't fail.
+/// The bytes of the file of that name, unless it fails.
 #[tactic(auto, using(crate::proofs::Entries::found_stands, crate::proofs::Entries::unreadable_none, crate::proofs::Entries::unreadable_failing))]
 fn bytes_of<'a>(entries: &'a [Entry], name: &str) -> Option<&'a [u8]>
     ensures { MatchOption result (IsUnreadable entries.entry.now name.now)
@@ -55,7 +53,6 @@ fn bytes_of<'a>(entries: &'a [Entry], name: &str) -> Option<&'a [u8]>
     }
 }
 
-/// Whether the file of that name fails.
 #[tactic(auto, using(crate::proofs::Entries::unwritable_failing))]
 fn does_fail(entries: &[Entry], name: &str) -> bool
     ensures { result ≡ true → IsUnwritable entries.now name.now }
@@ -67,7 +64,6 @@ fn does_fail(entries: &[Entry], name: &str) -> bool
 }
 
 impl MemoryFiles {
-    /// No files.
     pub fn new(alloc: Global) -> MemoryFiles
         ensures { result.entries.items ≡ [] }
     {
@@ -78,9 +74,10 @@ impl MemoryFiles {
     }
 
     #[tactic(auto, using(crate::proofs::Entries::is_put))]
-    /// Puts a file, in place of one of that name; each use of it fails where that is said.
+    /// Puts a file in place of one of that name. If `fails`, each use of it fails.
     pub fn put(&mut self, name: &str, bytes: &[u8], fails: bool) -> Result<(), AllocError>
-        ensures ok { OnOk result (IsPut self.old.entries.items self.new.entries.items name.now bytes.now fails) }
+        ensures ok { OnOk result
+            (IsPut self.old.entries.items self.new.entries.items name.now bytes.now fails) }
         ensures err { OnErr result (self.new.entries.items ≡ self.old.entries.items) }
     {
         let entry = Entry {
@@ -143,7 +140,7 @@ impl Store for MemoryFiles {
     }
 }
 
-/// At most one list of bytes stands under a name, so what a clause says of the store in memory names the bytes.
+/// A name holds at most one list of bytes, so the clauses of a store in memory name the bytes.
 pub fn one_content_law()
     ensures { OneContent }
 {}

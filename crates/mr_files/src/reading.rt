@@ -1,4 +1,4 @@
-//! Files read in order, and files whose bytes together have a limit.
+//! Reads files in order, also with a limit on their bytes.
 ghost use Rattle.std.specs.Prelude.{IfOk, IfErr, ◌≡◌, ◌≤◌, ◌∷◌, [], ◌++◌, map, length};
 ghost use Rattle.mr_files.specs.Names.{name_of_part, result_names, name_of_certificate, part_names};
 ghost use Rattle.mr_files.specs.Refusals.{IsUnread, IsOneUnread, IsFault, IsOneUnreadWithin};
@@ -12,7 +12,6 @@ use crate::store::{FileFault, Store};
 use mr_store::{CountedRead, LimitedFault, ReadFault, read_all, read_limited};
 use std::alloc::{AllocError, Global};
 
-/// The fault of a file of that name.
 pub(crate) fn fault_of(alloc: Global, name: &str, fault: ReadFault) -> FileFault
     ensures { IsFault name.now fault result }
 {
@@ -42,7 +41,6 @@ pub fn read_file<S: Store>(store: &S, alloc: Global, name: &str) -> Result<Vec<u
     }
 }
 
-/// Whether the file of that name can be opened.
 pub(crate) fn try_file<S: Store>(store: &S, alloc: Global, name: &str) -> Result<(), FileFault>
     ensures { IfErr result (λ e. IsUnread (S.unreadable store.now) name.now e) }
 {
@@ -59,7 +57,7 @@ fn try_part<S: Store>(store: &S, alloc: Global, dir: &str, part: usize) -> Resul
     try_file(store, alloc, name.as_str())
 }
 
-/// Each part can be opened, tried in order.
+/// Tries to open each part, in order.
 pub(crate) fn try_parts<S: Store>(
     store: &S,
     alloc: Global,
@@ -74,11 +72,11 @@ pub(crate) fn try_parts<S: Store>(
     Ok(())
 }
 
-/// Why files were not read, where their bytes together have a limit.
+/// Why files with a limit were not read.
 #[derive(Drop)]
 pub enum LimitFault {
     File(FileFault),
-    /// Together they have more bytes than that.
+    /// There are more bytes than the limit.
     TooLong,
 }
 
@@ -103,7 +101,7 @@ impl From<AllocError> for LimitFault {
     }
 }
 
-/// All bytes of the file of that name, where they are at most so many. No more than one byte past the limit is read.
+/// The bytes of the file of that name, at most `limit`. It reads at most one byte past the limit.
 pub fn read_file_within<S: Store>(
     store: &S,
     alloc: Global,
@@ -112,7 +110,8 @@ pub fn read_file_within<S: Store>(
 ) -> Result<Vec<u8>, LimitFault>
     ensures bytes { IfOk result (λ v. S.holds store.now name.now v.items) }
     ensures within { IfOk result (λ v. length v.items ≤ limit) }
-    ensures refused { IfErr result (λ e. IsUnreadWithin (S.holds store.now) (S.unreadable store.now) name.now limit e) }
+    ensures refused { IfErr result
+        (λ e. IsUnreadWithin (S.holds store.now) (S.unreadable store.now) name.now limit e) }
 {
     let mut reader = match store.reader(alloc, name) {
         Ok(reader) => reader,
@@ -131,15 +130,15 @@ pub fn read_file_within<S: Store>(
     }
 }
 
-/// The bytes of the named files, in order, where together they are at most so many. Of what is past the limit no more than
-/// one byte is read.
+/// The files' bytes, in order, together at most `limit`. It reads at most one byte past the limit.
 pub fn read_files_within<S: Store>(
     store: &S,
     alloc: Global,
     names: &[&str],
     limit: u64,
 ) -> Result<Vec<Vec<u8>>, LimitFault>
-    ensures bytes { IfOk result (λ v. Holding (S.holds store.now) (map (λ s. s.now) names.now) (contents v.items)) }
+    ensures bytes { IfOk result
+        (λ v. Holding (S.holds store.now) (map (λ s. s.now) names.now) (contents v.items)) }
     ensures within { IfOk result (λ v. total_size (contents v.items) ≤ limit) }
     ensures refused { IfErr result (λ e. IsReadRefusalWithin (S.holds store.now)
         (S.unreadable store.now) (map (λ s. s.now) names.now) limit e) }
@@ -154,7 +153,6 @@ pub fn read_files_within<S: Store>(
     Ok(files)
 }
 
-/// The bytes of a part, where they are at most so many.
 fn read_part_within<S: Store>(
     store: &S,
     alloc: Global,
@@ -171,7 +169,6 @@ fn read_part_within<S: Store>(
     read_file_within(store, alloc, name.as_str(), limit)
 }
 
-/// The bytes of the parts, in order, where none has more than so many.
 fn read_parts_within<S: Store>(
     store: &S,
     alloc: Global,
@@ -179,7 +176,8 @@ fn read_parts_within<S: Store>(
     parts: usize,
     limit: u64,
 ) -> Result<Vec<Vec<u8>>, LimitFault>
-    ensures bytes { IfOk result (λ v. Holding (S.holds store.now) (part_names dir.now parts) (contents v.items)) }
+    ensures bytes { IfOk result
+        (λ v. Holding (S.holds store.now) (part_names dir.now parts) (contents v.items)) }
     ensures within { IfOk result (λ v. AllByRecursion (λ b. length b ≤ limit) (contents v.items)) }
     ensures refused { IfErr result (λ e. IsOneUnreadWithin (S.holds store.now)
         (S.unreadable store.now) (result_names dir.now parts) limit e) }
@@ -192,9 +190,9 @@ fn read_parts_within<S: Store>(
     Ok(files)
 }
 
-/// The bytes of the parts, in order, and those of the certificate, where no file has more than so many. Each of the files
-/// is opened once before one is read, so that a missing file is told before one that can't be read. Of a file past the
-/// limit no more than one byte past it is read.
+/// The bytes of the parts, in order, and of the certificate, each at most `limit`. It opens each
+/// file before it reads any: it reports a missing file before an unreadable one. It reads at most
+/// one byte past the limit of a file.
 pub fn read_result_within<S: Store>(
     store: &S,
     alloc: Global,
@@ -202,7 +200,8 @@ pub fn read_result_within<S: Store>(
     parts: usize,
     limit: u64,
 ) -> Result<(Vec<Vec<u8>>, Vec<u8>), LimitFault>
-    ensures outputs { IfOk result (λ r. Holding (S.holds store.now) (part_names dir.now parts) (contents r.0.items)) }
+    ensures outputs { IfOk result
+        (λ r. Holding (S.holds store.now) (part_names dir.now parts) (contents r.0.items)) }
     ensures certificate { IfOk result (λ r. S.holds store.now (name_of_certificate dir.now) r.1.items) }
     ensures within { IfOk result (λ r. AllByRecursion (λ b. length b ≤ limit) (contents r.0.items)
         × (length r.1.items ≤ limit)) }

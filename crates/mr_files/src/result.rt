@@ -1,4 +1,4 @@
-//! The readers of a result's files, which keep the names of their files.
+//! Readers of a result's files that keep the files' names.
 ghost use Rattle.std.specs.Prelude.{◌≡◌, ⊤, ℕ, List, string_bytes, IfOk, IfErr, map, get_or};
 ghost use Rattle.mr_files.specs.Refusals.{TellsOf, IsOneUnread, IsUnread, IsUnreadAmong};
 ghost use Rattle.mr_files.specs.Holding.{Agrees, AllAgree, Holding};
@@ -11,8 +11,8 @@ use mr_store::{CountedRead, Device, ReadFault};
 use std::alloc::{AllocError, Global};
 use std::marker::{Brand, Model, PhantomData};
 
-/// What is known of a file of which a read fails, for another cause than want of memory. It stands in the type of a
-/// reader, so that no code over readers can lose it, and who makes readers picks it.
+/// What follows when a read fails for another cause than want of memory. It is part of a reader's
+/// type, so code over readers can't lose it. Whoever makes the readers chooses it.
 pub trait ReadCause {
     ghost cause: { List ℕ → Type 0 };
 }
@@ -21,7 +21,7 @@ impl ReadCause for Brand {
     ghost cause = { λ _. ⊤ };
 }
 
-/// A reader of the file of a name. It keeps the name, counts the failed reads, and keeps whether one was refused memory.
+/// A reader of a named file. It counts failed reads and keeps whether one ran out of memory.
 #[derive(Drop)]
 pub struct NamedReader<R: CountedRead + Drop, C: ReadCause> {
     name: String,
@@ -46,7 +46,6 @@ impl<R: CountedRead + Drop, C: ReadCause> Model for NamedReader<R, C> {
 }
 
 impl<R: CountedRead + Drop, C: ReadCause> NamedReader<R, C> {
-    /// Of the file of that name; no read has failed yet.
     pub fn new(name: String, reader: R) -> NamedReader<R, C>
         requires { R.can_fail reader → C.cause (string_bytes name) }
         ensures name { result.name ≡ string_bytes name }
@@ -62,7 +61,7 @@ impl<R: CountedRead + Drop, C: ReadCause> NamedReader<R, C> {
         }
     }
 
-    /// Why a read of it failed.
+    /// Why a read failed.
     pub fn fault(&self, alloc: Global) -> FileFault
         requires { self.now.failed ≡ 0 → ⊥ }
         ensures { TellsOf C.cause result }
@@ -104,14 +103,13 @@ impl<R: CountedRead + Drop, C: ReadCause> CountedRead for NamedReader<R, C> {
     }
 }
 
-/// Readers of a result's files: of the parts, in order, and of the certificate.
+/// Readers of a result's files, the parts in order.
 #[derive(Drop)]
 pub struct ResultReaders<R: CountedRead + Drop, C: ReadCause> {
     pub parts: Vec<NamedReader<R, C>>,
     pub certificate: NamedReader<R, C>,
 }
 
-/// A reader of the file of that name.
 fn named_reader<S: Store, C: ReadCause>(
     store: &S,
     alloc: Global,
@@ -135,7 +133,8 @@ fn part_reader<S: Store, C: ReadCause>(
     dir: &str,
     part: usize,
 ) -> Result<NamedReader<S::Reader, C>, FileFault>
-    requires cause { S.unreadable store.now (name_of_part dir.now part) → C.cause (name_of_part dir.now part) }
+    requires cause { S.unreadable store.now (name_of_part dir.now part)
+        → C.cause (name_of_part dir.now part) }
     ensures bytes { IfOk result (λ r. (b : List ℕ) → Agrees (S.Reader.remaining r.reader) b
         → S.holds store.now (name_of_part dir.now part) b) }
     ensures failed { IfOk result (λ r. r.failed ≡ 0) }
@@ -145,19 +144,20 @@ fn part_reader<S: Store, C: ReadCause>(
     named_reader(store, alloc, name)
 }
 
-/// Readers of the parts, in order.
 fn part_readers<S: Store, C: ReadCause>(
     store: &S,
     alloc: Global,
     dir: &str,
     parts: usize,
 ) -> Result<Vec<NamedReader<S::Reader, C>>, FileFault>
-    requires cause { (n : List ℕ) → IsUnreadAmong (S.unreadable store.now) (result_names dir.now parts) n → C.cause n }
+    requires cause { (n : List ℕ)
+        → IsUnreadAmong (S.unreadable store.now) (result_names dir.now parts) n → C.cause n }
     ensures bytes { IfOk result (λ v. (outs : List (List ℕ))
         → AllAgree (map (λ r. S.Reader.remaining r.reader) v.items) outs
         → Holding (S.holds store.now) (part_names dir.now parts) outs) }
     ensures failed { IfOk result (λ v. (p : ℕ) → get_or (map (λ r. r.failed) v.items) p 0 ≡ 0) }
-    ensures refused { IfErr result (λ e. IsOneUnread (S.unreadable store.now) (result_names dir.now parts) e) }
+    ensures refused { IfErr result
+        (λ e. IsOneUnread (S.unreadable store.now) (result_names dir.now parts) e) }
 {
     let mut readers = Vec::new(alloc);
     for part in 0..parts {
@@ -167,16 +167,17 @@ fn part_readers<S: Store, C: ReadCause>(
     Ok(readers)
 }
 
-/// Readers of the parts, in order, and of the certificate. Each of the files is opened once before one is read, so that a
-/// missing file is told before one that can't be read. What they may give stands under their names; no read has failed
-/// yet, and of one that fails it is known that its file is one of the result's and can't be read, if the cause is picked so.
+/// Readers of the parts, in order, and of the certificate. It opens each file before any is read:
+/// it reports a missing file before an unreadable one. `C.cause` may say that a file whose read
+/// fails is one of the result's and can't be read.
 pub fn result_readers<S: Store, C: ReadCause>(
     store: &S,
     alloc: Global,
     dir: &str,
     parts: usize,
 ) -> Result<ResultReaders<S::Reader, C>, FileFault>
-    requires cause { (n : List ℕ) → IsUnreadAmong (S.unreadable store.now) (result_names dir.now parts) n → C.cause n }
+    requires cause { (n : List ℕ)
+        → IsUnreadAmong (S.unreadable store.now) (result_names dir.now parts) n → C.cause n }
     ensures outputs { IfOk result (λ r. (outs : List (List ℕ))
         → AllAgree (map (λ x. S.Reader.remaining x.reader) r.parts.items) outs
         → Holding (S.holds store.now) (part_names dir.now parts) outs) }
@@ -184,7 +185,8 @@ pub fn result_readers<S: Store, C: ReadCause>(
         → S.holds store.now (name_of_certificate dir.now) b) }
     ensures failed { IfOk result (λ r. ((p : ℕ)
         → get_or (map (λ x. x.failed) r.parts.items) p 0 ≡ 0) × (r.certificate.failed ≡ 0)) }
-    ensures refused { IfErr result (λ e. IsOneUnread (S.unreadable store.now) (result_names dir.now parts) e) }
+    ensures refused { IfErr result
+        (λ e. IsOneUnread (S.unreadable store.now) (result_names dir.now parts) e) }
 {
     try_parts(store, alloc, dir, parts)?;
     let last = certificate_name(alloc, dir)?;

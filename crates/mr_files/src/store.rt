@@ -1,4 +1,4 @@
-//! What a store of files is: files by their names, each read and written by a counted reader and writer.
+//! A store of files: by name, each with a counted reader or writer.
 ghost use Rattle.std.specs.Prelude.{◌≡◌, ◌≢◌, ◌⊎◌, ℕ, Option, Some, List, [], OnOk, IfOk, false};
 ghost use Rattle.std.specs.Prelude.{true, option_map, string_bytes};
 ghost use Rattle.mr_files.specs.Holding.{Agrees, ChangesOnly, Shrinks};
@@ -24,18 +24,17 @@ impl From<AllocError> for WriteFault {
     }
 }
 
-/// Files by their names. What it is to read or write one is said of the bytes under its name, whatever kind of store
-/// it is: code over a store is proved for them all. Who has a store by `&` changes no file.
+/// Files by name. The clauses speak of the bytes under a name, so code over a store is proved once
+/// for every kind of store. A holder of `&` changes no file.
 pub trait Store {
-    /// A file that is read, and one that is written.
     type Reader: CountedRead + Drop;
 
     type Writer: CountedWrite + Drop;
 
-    // These bytes stand under this name.
+    // The name holds these bytes.
     ghost holds: { Self → List ℕ → List ℕ → Type 0 };
 
-    // What is under this name can't be read, or can't be written.
+    // The name's file can't be read, or can't be written.
     ghost unreadable: { Self → List ℕ → Type 0 };
 
     ghost unwritable: { Self → List ℕ → Type 0 };
@@ -43,31 +42,32 @@ pub trait Store {
     // Two names may lead to one folder.
     ghost alike: { Self → List ℕ → List ℕ → Type 0 };
 
-    // A name may have this identity; none, where a pipe, a socket or a device stands under it.
+    // A name may have this identity; pipes, sockets and devices have none.
     ghost known_as: { Self → List ℕ → Option (List ℕ) → Type 0 };
 
-    /// Whether two names lead to one folder, as far as it can be told; a name leads where it leads itself.
+    /// Whether two names lead to one folder, as far as the store can see; equal names do.
     fn is_same_folder(&self, name: &str, other: &str) -> bool
         ensures same { result ≡ true → alike self.now name.now other.now }
         ensures apart { result ≡ false → name.now ≢ other.now };
 
-    /// What tells the file of that name from others: names that lead to one file have one identity, whether it is there
-    /// already or not. A pipe, a socket or a device has none, and may be read and written under any number of names.
+    /// The identity of the file of that name, existing or not: names of one file have the same one.
+    /// Pipes, sockets and devices have none, and may be read and written under any number of names.
     fn identity(&self, alloc: Global, name: &str) -> Result<Option<String>, AllocError>
-        ensures known { IfOk result (λ i. known_as self.now name.now (option_map (λ text. string_bytes text) i)) };
+        ensures known { IfOk result
+            (λ i. known_as self.now name.now (option_map (λ text. string_bytes text) i)) };
 
-    /// Whether the file can be opened; it is closed again.
+    /// Whether the file can be opened; it closes the file again.
     fn try_open(&self, name: &str) -> Result<(), ReadFault>
         ensures refused { result ≡ Err ReadFault.Device → unreadable self.now name.now };
 
-    /// A reader of the file. It may be opened as late as at the first read.
+    /// A reader of the file. It may open the file as late as its first read.
     fn reader(&self, alloc: Global, name: &str) -> Result<Self::Reader, ReadFault>
         ensures bytes { IfOk result
             (λ r. (b : List ℕ) → Agrees (Self.Reader.remaining r) b → holds self.now name.now b) }
         ensures fails { IfOk result (λ r. Self.Reader.can_fail r → unreadable self.now name.now) }
         ensures refused { result ≡ Err ReadFault.Device → unreadable self.now name.now };
 
-    /// A writer of the file, which is made, or emptied, as late as at the writer's first call. It is to be closed.
+    /// A writer, to pass to `close`. It may create or empty the file as late as its first call.
     fn writer(&mut self, alloc: Global, name: &str) -> Result<Self::Writer, WriteFault>
         ensures empty { IfOk result (λ w. Agrees (Self.Writer.seen w).contents []) }
         ensures begins { Shrinks (holds self.old) (holds self.new) name.now }
@@ -76,7 +76,7 @@ pub trait Store {
         ensures refused { result ≡ Err WriteFault.Device → unwritable self.old name.now }
         ensures still { (n : List ℕ) → unwritable self.new n → unwritable self.old n };
 
-    /// Ends the writing. What the writer holds stands there, where it handed all of it on.
+    /// Ends the writing. The file holds the writer's contents if the writer delivered all of them.
     fn close(&mut self, name: &str, writer: Self::Writer) -> Result<(), AllocError>
         ensures stands { OnOk result ((Self.Writer.seen writer).handed_on ≡ (Self.Writer.seen writer).contents
             → (b : List ℕ) → Agrees (Self.Writer.seen writer).contents b → holds self.new name.now b) }
@@ -86,7 +86,7 @@ pub trait Store {
         ensures still { (n : List ℕ) → unwritable self.new n → unwritable self.old n };
 }
 
-/// Why files were not read or written: the name of the first, or want of memory.
+/// Why files were not read or written: the first one's name, or want of memory.
 #[derive(Drop)]
 pub enum FileFault {
     CannotRead(String),

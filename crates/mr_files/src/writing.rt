@@ -1,4 +1,4 @@
-//! A result written; and the calls of open files, whatever files they are: each call's answer and what is counted of it.
+//! Writes a result. Also makes and counts the calls of open files, of any kind.
 ghost use Rattle.std.specs.Prelude.{◌≡◌, ◌↔◌, ◌≤◌, ◌<◌, IfOk, IsErr, length, ◌∷◌, [], ◌++◌, ℕ};
 ghost use Rattle.std.specs.Prelude.{List, OnOk, IfErr, string_bytes};
 ghost use Rattle.std.specs.Io.KnownBytes.{ReadConsumes, WriteAppends};
@@ -14,7 +14,6 @@ use mr_store::{Bytes, CountedWrite, Device, Encode, write_encoded};
 use std::alloc::Global;
 use std::io::{self, ErrorKind, Read, Write};
 
-/// How many calls of a file failed, and whether one of them was refused memory.
 #[derive(Drop)]
 pub(crate) struct Failures {
     pub(crate) count: u64,
@@ -29,7 +28,7 @@ impl Failures {
         }
     }
 
-    /// The answer of a call, which is counted where it failed, for whatever cause: an interrupted call is a failed one.
+    /// The answer of a call. It counts each failure, an interrupted call too.
     pub(crate) fn counted<T: Drop>(&mut self, answer: io::Result<T>) -> Result<T, Device>
         ensures ok { IfOk result (λ v. answer ≡ Ok v) }
         ensures err { IsErr result ↔ IsErr answer }
@@ -46,7 +45,6 @@ impl Failures {
     }
 }
 
-/// One read.
 pub(crate) fn read_some<F: Read>(file: &mut F, buffer: &mut [u8]) -> io::Result<usize>
     ensures bound { IfOk result (λ n. n ≤ length buffer.new) }
     ensures bytes { ReadConsumes (F.remaining file.old) (F.remaining file.new) result buffer.new }
@@ -54,11 +52,12 @@ pub(crate) fn read_some<F: Read>(file: &mut F, buffer: &mut [u8]) -> io::Result<
     file.read(buffer)
 }
 
-/// One write; one of some bytes that takes none fails.
+/// One write. It fails if the file takes none of some bytes.
 pub(crate) fn write_some<F: Write>(file: &mut F, bytes: &[u8]) -> io::Result<usize>
     ensures bound { IfOk result (λ n. n ≤ length bytes.now) }
     ensures some { IfOk result (λ n. 0 < length bytes.now → 0 < n) }
-    ensures bytes { IfOk result (λ n. WriteAppends (F.contents file.old) (F.contents file.new) result bytes.now) }
+    ensures bytes { IfOk result
+        (λ n. WriteAppends (F.contents file.old) (F.contents file.new) result bytes.now) }
 {
     let count = file.write(bytes)?;
     if count == 0 && !bytes.is_empty() {
@@ -67,7 +66,6 @@ pub(crate) fn write_some<F: Write>(file: &mut F, bytes: &[u8]) -> io::Result<usi
     Ok(count)
 }
 
-/// Writes a file, and tells its name where that fails.
 fn write_encoded_file<S: Store, C: Encode>(
     store: &mut S,
     alloc: Global,
@@ -95,7 +93,7 @@ fn write_encoded_file<S: Store, C: Encode>(
     }
 }
 
-/// Writes a file of that name, and tells the name where that fails.
+/// Writes the file of that name. A fault carries the name.
 pub fn write_file<S: Store>(
     store: &mut S,
     alloc: Global,
@@ -139,13 +137,13 @@ fn write_certificate<S: Store, C: Encode>(
     ensures begins { Begins (S.holds store.old) (S.holds store.new)
         (name_of_certificate dir.now) (C.text certificate.now) }
     ensures others { ChangesOnly (S.holds store.old) (S.holds store.new) (name_of_certificate dir.now) }
-    ensures refused { IfErr result (λ e. IsUnwritten (S.unwritable store.old) (name_of_certificate dir.now) e) }
+    ensures refused { IfErr result
+        (λ e. IsUnwritten (S.unwritable store.old) (name_of_certificate dir.now) e) }
 {
     let name = certificate_name(alloc, dir)?;
     write_encoded_file(store, alloc, name, certificate)
 }
 
-/// Writes each output under the name of its part, in order.
 fn write_parts<S: Store>(
     store: &mut S,
     alloc: Global,
@@ -154,8 +152,10 @@ fn write_parts<S: Store>(
 ) -> Result<(), FileFault>
     ensures whole { OnOk result (Holding (S.holds store.new)
         (part_names dir.now (length outputs.now)) (contents outputs.now)) }
-    ensures others { ChangesAmong (S.holds store.old) (S.holds store.new) (part_names dir.now (length outputs.now)) }
-    ensures refused { IfErr result (λ e. IsWriteRefusal (S.holds store.old) (S.holds store.new) (S.unwritable store.old)
+    ensures others { ChangesAmong (S.holds store.old) (S.holds store.new)
+        (part_names dir.now (length outputs.now)) }
+    ensures refused { IfErr result
+        (λ e. IsWriteRefusal (S.holds store.old) (S.holds store.new) (S.unwritable store.old)
         (part_names dir.now (length outputs.now)) (contents outputs.now) e) }
     ensures still { (n : List ℕ) → S.unwritable store.new n → S.unwritable store.old n }
 {
@@ -165,8 +165,8 @@ fn write_parts<S: Store>(
     Ok(())
 }
 
-/// Writes the outputs to `part-00000` and so on, in order, and then `certificate`, which may be spelled while it is
-/// written. Behind it they all stand whole, and all else as before.
+/// Writes the outputs to `part-00000` and so on, in order, then `certificate`, which may be encoded
+/// while it is written. After success all are whole; no other file changes.
 pub fn write_files<S: Store, C: Encode>(
     store: &mut S,
     alloc: Global,
@@ -176,10 +176,14 @@ pub fn write_files<S: Store, C: Encode>(
 ) -> Result<(), FileFault>
     ensures outputs { OnOk result (Holding (S.holds store.new)
         (part_names dir.now (length outputs.now)) (contents outputs.now)) }
-    ensures certificate { OnOk result (S.holds store.new (name_of_certificate dir.now) (C.text certificate.now)) }
-    ensures others { ChangesAmong (S.holds store.old) (S.holds store.new) (result_names dir.now (length outputs.now)) }
-    ensures refused { IfErr result (λ e. IsWriteRefusal (S.holds store.old) (S.holds store.new) (S.unwritable store.old)
-        (result_names dir.now (length outputs.now)) (contents outputs.now ++ C.text certificate.now ∷ []) e) }
+    ensures certificate { OnOk result
+        (S.holds store.new (name_of_certificate dir.now) (C.text certificate.now)) }
+    ensures others { ChangesAmong (S.holds store.old) (S.holds store.new)
+        (result_names dir.now (length outputs.now)) }
+    ensures refused { IfErr result
+        (λ e. IsWriteRefusal (S.holds store.old) (S.holds store.new) (S.unwritable store.old)
+        (result_names dir.now (length outputs.now))
+        (contents outputs.now ++ C.text certificate.now ∷ []) e) }
 {
     write_parts(store, alloc, dir, outputs)?;
     write_certificate(store, alloc, dir, certificate)
