@@ -9,7 +9,7 @@
 //! Names differ where each finds its bit unset. Where that takes 2,048 bits a name or more, it
 //! sorts the names instead. Cost: two reads a name, and one of its bit; 8 bytes a name, and at most
 //! 256 for bits.
-ghost use Rattle.std.specs.Prelude.{◌≡◌, ℕ, ◌++◌, ◌∷◌, [], IfOk, IsTrue, OnOk};
+ghost use Rattle.std.specs.Prelude.{◌≡◌, ℕ, ◌++◌, ◌∷◌, [], IsTrue, OnOk};
 ghost use Rattle.std.specs.Ordering.{nat_cmp};
 ghost use Rattle.mr_bytes.specs.Lists.{Distinct, Rises};
 ghost use Rattle.mr_merge.specs.Distinct.{IsSet, bit_of, packed};
@@ -55,18 +55,19 @@ impl RegionNames {
         self.numbers.push(number).map_err(AllocError::from)
     }
 
-    /// Whether the names differ. It may sort them.
-    pub fn differ(&mut self) -> Result<bool, AllocError>
-        ensures { IfOk result (λ b. IsTrue b → Distinct self.old.numbers.items) }
+    /// Whether the names differ. It may sort them: where bits are too many, or have no memory.
+    pub fn differ(&mut self) -> bool
+        ensures { IsTrue result → Distinct self.old.numbers.items }
     {
         let (grid, bits) = grid_of(self.numbers.as_slice());
         if bits / BITS < self.numbers.len() as u64 {
             self.words.clear();
-            self.words.resize((bits / 64) as usize + 1, 0)?;
-            return Ok(set_all(self.numbers.as_slice(), grid, self.words.as_mut_slice()));
+            if self.words.resize((bits / 64) as usize + 1, 0).is_ok() {
+                return set_all(self.numbers.as_slice(), grid, self.words.as_mut_slice());
+            }
         }
         self.numbers.sort_unstable();
-        Ok(numbers_rise(self.numbers.as_slice()))
+        numbers_rise(self.numbers.as_slice())
     }
 }
 

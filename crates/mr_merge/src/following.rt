@@ -125,7 +125,7 @@ fn take_whole(
     if !cursor.is_at_end() {
         return Ok(Came::Damaged);
     }
-    if !names.differ()? {
+    if !names.differ() {
         return Ok(Came::Unordered);
     }
     Ok(Came::Taken)
