@@ -72,8 +72,8 @@ pub fn input_of<S: Store>(
     besides: Vec<String>,
     written: &[String],
 ) -> Result<Input, Fault>
-    ensures input { IfOk result (λ input. IsInput (S.holds store.now) (map
-        (λ s. s.now) names.now) request.now.split input) }
+    ensures input { IfOk result (λ input. IsInput (S.holds store.now)
+        (map (λ s. s.now) names.now) request.now.split input) }
     ensures apart { OnOk result (AreApart (S.known_as store.now) (map string_bytes besides.items
         ++ map (λ s. s.now) names.now) (map string_bytes written.now)) }
     ensures refused { IfErr result (λ e. IsInputRefusal (S.holds store.now)

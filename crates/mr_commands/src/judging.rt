@@ -149,8 +149,8 @@ fn keep<S: Store>(
     name: Option<&str>,
     text: Option<Vec<u8>>,
 ) -> Result<(), FileFault>
-    ensures kept { OnOk result (IsKeptUnder (S.holds store.new) (option_map
-        (λ n. n.now) name.entry) (option_map (λ t. t.items) text)) }
+    ensures kept { OnOk result (IsKeptUnder (S.holds store.new)
+        (option_map (λ n. n.now) name.entry) (option_map (λ t. t.items) text)) }
     ensures others { ChangesAmong (S.holds store.old) (S.holds store.new)
         (names_kept (option_map (λ n. n.now) name.entry) (option_map (λ t. t.items) text)) }
     ensures refused { IfErr result

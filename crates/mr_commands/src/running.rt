@@ -215,8 +215,8 @@ fn ended<C: Scratch, R: Threads + Wait + Sync>(
     watch: &dyn Progress,
 ) -> Result<RunOutcome, Fault>
     requires runnable { IsRunnable spec.request.now spec.input.now spec.shape }
-    ensures ends { IfOk result (λ ran. EndsOver (option_map
-        (λ d. d.now) dir.entry) spec.entry.request.now spec.entry.input.now
+    ensures ends { IfOk result (λ ran. EndsOver
+        (option_map (λ d. d.now) dir.entry) spec.entry.request.now spec.entry.input.now
         spec.entry.script.now spec.entry.shape spec.entry.version ran) }
     ensures refused { IfErr result (λ e. IsScratchRefusal (option_map (λ d. d.now) dir.entry) e) }
 {
@@ -297,10 +297,10 @@ fn keep_history<S: Store>(
     name: Option<&str>,
     history: &History,
 ) -> Result<(), FileFault>
-    ensures kept { OnOk result (IsHistoryKept (S.holds store.new) (option_map
-        (λ n. n.now) name.entry) history.now) }
-    ensures others { ChangesAmong (S.holds store.old) (S.holds store.new) (named (option_map
-        (λ n. n.now) name.entry)) }
+    ensures kept { OnOk result (IsHistoryKept (S.holds store.new)
+        (option_map (λ n. n.now) name.entry) history.now) }
+    ensures others { ChangesAmong (S.holds store.old) (S.holds store.new)
+        (named (option_map (λ n. n.now) name.entry)) }
     ensures begins { IfSome (option_map (λ n. n.now) name.entry)
         (λ own. Begins (S.holds store.old) (S.holds store.new) own (history_text history.now)) }
     ensures refused { IfErr result (λ e. IsOneUnwritten (S.unwritable store.old)

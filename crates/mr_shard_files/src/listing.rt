@@ -135,8 +135,8 @@ pub(crate) fn expect_listed<S: Store>(
     inputs: &[FileNote],
 ) -> Result<(), ShardFault>
     ensures ok { OnOk result (IsListed (S.holds store.now) (option_map (λ n. n.now) list.entry) inputs.now) }
-    ensures err { IfErr result (IsListFault (S.holds store.now) (S.unreadable store.now) (option_map
-        (λ n. n.now) list.entry) inputs.now) }
+    ensures err { IfErr result (IsListFault (S.holds store.now) (S.unreadable store.now)
+        (option_map (λ n. n.now) list.entry) inputs.now) }
 {
     match list {
         Some(name) => expect_list(store, alloc, name, inputs),

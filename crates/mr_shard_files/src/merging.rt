@@ -102,11 +102,11 @@ fn expect_meant<S: Store>(
     out: &str,
     parts: u32,
 ) -> Result<(), ShardFault>
-    ensures listed { OnOk result (IsListed (S.holds store.now) (option_map
-        (λ n. n.now) list.entry) inputs.now) }
+    ensures listed { OnOk result (IsListed (S.holds store.now)
+        (option_map (λ n. n.now) list.entry) inputs.now) }
     ensures apart { OnOk result (AreApart (map (λ s. s.now) names.now) out.now) }
-    ensures unshared { OnOk result (AreUnshared (S.known_as store.now) (map
-        (λ s. s.now) names.now) (option_map (λ n. n.now) list.entry) out.now parts) }
+    ensures unshared { OnOk result (AreUnshared (S.known_as store.now)
+        (map (λ s. s.now) names.now) (option_map (λ n. n.now) list.entry) out.now parts) }
     ensures err { IfErr result (IsUnmeant (S.holds store.now) (S.unreadable store.now)
         (S.alike store.now) (S.known_as store.now) (map (λ s. s.now) names.now)
         (option_map (λ n. n.now) list.entry) out.now parts inputs.now) }
@@ -124,8 +124,8 @@ fn prepared<S: Store>(
     verdicts: &[Verdict],
     out: &str,
 ) -> Result<(Request, Verdict), ShardFault>
-    ensures ok { IfOk result (λ r. IsReady (S.holds store.now) (S.known_as store.now) (map
-        (λ s. s.now) names.now) (option_map (λ n. n.now) inputs.entry)
+    ensures ok { IfOk result (λ r. IsReady (S.holds store.now) (S.known_as store.now)
+        (map (λ s. s.now) names.now) (option_map (λ n. n.now) inputs.entry)
         out.now verdicts.now r.0 r.1) }
     ensures err { IfErr result (IsMergingFault (S.holds store.now) (S.unreadable store.now)
         (S.alike store.now) (S.known_as store.now) (map (λ s. s.now) names.now)
@@ -162,8 +162,8 @@ fn merged_of<S: Store, T: Threads>(
     ensures others { ChangesResult (S.holds store.old) (S.holds store.new) out.now }
     ensures refused { IfErr result (IsShardRefusal (S.holds store.old) (S.holds store.new)
         (S.unreadable store.old) (S.unwritable store.old)
-        (S.alike store.old) (S.known_as store.old) (map (λ s. s.now) names.now) (option_map
-        (λ n. n.now) inputs.entry) out.now) }
+        (S.alike store.old) (S.known_as store.old) (map (λ s. s.now) names.now)
+        (option_map (λ n. n.now) inputs.entry) out.now) }
 {
     let (request, joined) = prepared(store, alloc, names, inputs, verdicts, out)?;
     let notes = partitions_written(rt, store, alloc, &request, names, verdicts, out)?;
@@ -195,8 +195,8 @@ pub fn merge_shards<S: Store, T: Threads>(
     ensures others { ChangesResult (S.holds store.old) (S.holds store.new) out.now }
     ensures refused { IfErr result (IsShardRefusal (S.holds store.old) (S.holds store.new)
         (S.unreadable store.old) (S.unwritable store.old)
-        (S.alike store.old) (S.known_as store.old) (map (λ s. s.now) names.now) (option_map
-        (λ n. n.now) inputs.entry) out.now) }
+        (S.alike store.old) (S.known_as store.old) (map (λ s. s.now) names.now)
+        (option_map (λ n. n.now) inputs.entry) out.now) }
 {
     let verdicts = read_verdicts(store, alloc, names)?;
     merged_of(rt, store, alloc, names, inputs, verdicts.as_slice(), out)

@@ -80,8 +80,8 @@ pub(crate) fn open_all<S: Store>(
     ensures ok { IfOk result (λ rows. AreRows (S.holds store.now)
         (S.unreadable store.now) S.Reader.remaining S.Reader.can_fail
         (map (λ s. s.now) names.now) verdicts.now 0 rows.items) }
-    ensures err { IfErr result (AreUnopened (S.holds store.now) (S.unreadable store.now) count (map
-        (λ s. s.now) names.now) verdicts.now) }
+    ensures err { IfErr result (AreUnopened (S.holds store.now) (S.unreadable store.now) count
+        (map (λ s. s.now) names.now) verdicts.now) }
 {
     let mut rows = Vec::new(alloc);
     for partition in 0..count {

@@ -78,8 +78,8 @@ fn names_read(
     list: Option<&str>,
     parts: usize,
 ) -> Result<Vec<String>, AllocError>
-    ensures { IfOk result (λ read. AreRead (map (λ s. s.now) names.now) (option_map
-        (λ n. n.now) list.entry) parts (map string_bytes read.items)) }
+    ensures { IfOk result (λ read. AreRead (map (λ s. s.now) names.now)
+        (option_map (λ n. n.now) list.entry) parts (map string_bytes read.items)) }
 {
     let mut read = names_beside(alloc, names, parts)?;
     add_told(alloc, &mut read, names, list)?;
@@ -106,10 +106,10 @@ pub(crate) fn expect_unshared<S: Store>(
     out: &str,
     parts: u32,
 ) -> Result<(), ShardFault>
-    ensures ok { OnOk result (AreUnshared (S.known_as store.now) (map
-        (λ s. s.now) names.now) (option_map (λ n. n.now) list.entry) out.now parts) }
-    ensures err { IfErr result (IsShared (S.known_as store.now) (map
-        (λ s. s.now) names.now) (option_map (λ n. n.now) list.entry) out.now parts) }
+    ensures ok { OnOk result (AreUnshared (S.known_as store.now)
+        (map (λ s. s.now) names.now) (option_map (λ n. n.now) list.entry) out.now parts) }
+    ensures err { IfErr result (IsShared (S.known_as store.now)
+        (map (λ s. s.now) names.now) (option_map (λ n. n.now) list.entry) out.now parts) }
 {
     let read = names_read(alloc, names, list, parts as usize)?;
     let written = names_written(alloc, out, parts as usize)?;
