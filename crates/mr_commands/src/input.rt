@@ -40,7 +40,7 @@ pub fn name_given(alloc: Global, name: Option<&str>) -> Result<Vec<String>, Allo
     Ok(names)
 }
 
-/// No written file is read, as input or besides, or written before.
+/// Refuses a written file that the command also reads, or writes before.
 fn expect_apart<S: Store>(
     store: &S,
     alloc: Global,

@@ -44,7 +44,7 @@ fn first_line_end(names: &[&str]) -> Option<usize>
     None
 }
 
-/// If a verdict is to be written, it can list the names of the input.
+/// Refuses names of the input that a verdict, if there is one, can't list.
 fn expect_names(asked: &CheckOptions<'_>) -> Result<(), Fault>
     ensures clear { OnOk result (IfSome (verdict_file asked.now) (λ _. AreClear asked.now.options)) }
     ensures refused { IfErr result (λ e. IsNameRefusal asked.now e) }

@@ -15,7 +15,7 @@ use mr_files::{Store, add_names, first_shared, folder_of, part_name, verdict_nam
 use mr_shards::{Verdict, write_verdict};
 use std::alloc::{AllocError, Global};
 
-/// No verdict is in the result's folder: the merge would overwrite its parts while it reads them.
+/// Refuses a verdict in the result's folder: the merge would overwrite parts while it reads them.
 pub(crate) fn expect_apart<S: Store>(store: &S, names: &[&str], out: &str) -> Result<(), ShardFault>
     ensures ok { OnOk result (AreApart (map (λ s. s.now) names.now) out.now) }
     ensures err { IfErr result (IsSameFolder (S.alike store.now) (map (λ s. s.now) names.now) out.now) }
@@ -97,7 +97,7 @@ fn names_written(alloc: Global, out: &str, parts: usize) -> Result<Vec<String>, 
     Ok(written)
 }
 
-/// No written file is also read, or written before.
+/// Refuses a written file that the merge also reads, or writes before.
 pub(crate) fn expect_unshared<S: Store>(
     store: &S,
     alloc: Global,

@@ -70,7 +70,7 @@ fn splits_behind(notes: &[FileNote], size: u32, before: u64) -> Option<u64>
     Some(splits)
 }
 
-/// The record's name behind so many splits; none if its split doesn't fit in 32 bits.
+/// The record's name, moved by so many splits; none if its split doesn't fit in 32 bits.
 fn moved(name: RecordName, splits: u64) -> Option<RecordName>
     ensures { MatchOption result (2 ^ 32 ≤ splits + name.split) (λ n. n ≡ moved_name splits name) }
 {
