@@ -1,4 +1,4 @@
-//! What can be done about a fault: the option and its limit, or the system's reason.
+//! What helps against a fault: the option and its limit, or the system's reason.
 use mr_args::Fault;
 use mr_files::Inspect;
 use mr_input::InputFault;
@@ -7,7 +7,6 @@ use mr_sequential::RunFault;
 use mr_shard_files::ShardFault;
 use std::alloc::{AllocError, Global};
 
-/// About a word of the command line that is not UTF-8.
 pub const NOT_UTF8: &str =
     "literals and names of files are UTF-8: give the file another name, or a link";
 
@@ -53,7 +52,7 @@ fn list_cure(fault: &RunFault) -> &'static str {
     }
 }
 
-/// About shards that are not merged; nothing where only smaller inputs would help.
+/// Empty if only smaller inputs would help.
 fn shards_cure(fault: &ShardFault) -> &'static str {
     match fault {
         ShardFault::NoShards => "name the verdict of each shard",
@@ -87,7 +86,7 @@ fn shards_cure(fault: &ShardFault) -> &'static str {
     }
 }
 
-/// What can be done about a fault of a command; nothing about a file, of which the system has its reason.
+/// What helps against a command's fault; empty for a file, for which the system has its reason.
 fn remedy(fault: &Fault) -> &'static str {
     match fault {
         Fault::OtherJobsOption =>
@@ -116,7 +115,7 @@ fn remedy(fault: &Fault) -> &'static str {
     }
 }
 
-/// The hint for a fault, without a line end; no text where there is none.
+/// The hint for a fault, without a line end; empty if there is none.
 pub fn fault_hint<L: Inspect>(
     look: &L,
     alloc: Global,
@@ -130,8 +129,7 @@ pub fn fault_hint<L: Inspect>(
     }
 }
 
-/// What can be done where a run by workers is not certified, given whether its regions lie in files; no text where there is
-/// nothing.
+/// What helps if a run is not certified, with its regions in files or not; empty if nothing does.
 pub(crate) fn run_cure(said: &str, in_files: bool) -> &'static str {
     match said {
         "failed: NoWorkers\n" if in_files =>

@@ -1,4 +1,4 @@
-//! How a certificate differs from what was asked for, where the judge says that it is of another job or input.
+//! How a certificate differs from the request, if the judge reports another job or input.
 use crate::cures::run_cure;
 use mr_args::{Options, Subcommand, request_of};
 use mr_certform::{Item, Walker};
@@ -6,10 +6,10 @@ use mr_files::{Inspect, PathKind, Store, certificate_name, read_file};
 use mr_jobs::Request;
 use std::alloc::{AllocError, Global};
 
-/// The items of a certificate's front are at most those of a literal and of file lengths, and nine more.
+/// The front of a certificate has at most a literal, file lengths and nine more items.
 const MOST_ITEMS: usize = 4096 + 1024 + 9;
 
-/// What a certificate says of the job and of the files.
+/// The job and the files of a certificate.
 #[derive(Drop)]
 struct Front {
     job: u32,
@@ -49,7 +49,7 @@ impl Front {
     }
 }
 
-/// The front of a certificate, as far as it stands.
+/// The front of a certificate, as far as it can be read.
 fn front_of(alloc: Global, bytes: &[u8]) -> Result<Front, AllocError> {
     let mut walker = Walker::new(bytes);
     let mut front = Front::new(alloc);
@@ -82,14 +82,12 @@ fn add_where(text: &mut String, holds: bool, word: &str) -> Result<(), AllocErro
     Ok(())
 }
 
-/// Adds the options that flags tell of.
 fn add_flags(text: &mut String, flags: u32) -> Result<(), AllocError> {
     add_where(text, flags % 2 == 1, "--keep-case")?;
     add_where(text, flags / 2 % 2 == 1, "--fold")?;
     add_where(text, flags / 4 % 2 == 1, "--by-host")
 }
 
-/// Adds the options that a certificate is of.
 fn add_options(text: &mut String, front: &Front) -> Result<(), AllocError> {
     let job = job_name(front.job);
     write!(text, " --job {job}")?;
@@ -104,7 +102,7 @@ fn add_options(text: &mut String, front: &Front) -> Result<(), AllocError> {
     write!(text, " --parts {parts} --split {split}")
 }
 
-/// Adds the names of the options in which a certificate is of another job.
+/// Adds the options in which the certificate differs from the request.
 fn add_others(text: &mut String, front: &Front, request: &Request) -> Result<(), AllocError> {
     let job = request.job();
     let is_same = front.job == job.number();
@@ -121,7 +119,7 @@ fn add_others(text: &mut String, front: &Front, request: &Request) -> Result<(),
     add_where(text, front.split != request.split_size(), "--split")
 }
 
-/// In which options a certificate is of another job, and what they are in it.
+/// Those options, and all options of the certificate.
 fn job_difference(alloc: Global, front: &Front, request: &Request) -> Result<String, AllocError> {
     let mut text = String::from_str(alloc, "the certificate has other")?;
     add_others(&mut text, front, request)?;
@@ -130,7 +128,7 @@ fn job_difference(alloc: Global, front: &Front, request: &Request) -> Result<Str
     Ok(text)
 }
 
-/// In which file a certificate is of another input: of what number, or the first of another length.
+/// Another number of files, or the first file with another length.
 fn input_difference<L: Inspect>(
     look: &L,
     alloc: Global,
@@ -151,7 +149,7 @@ fn input_difference<L: Inspect>(
     Ok(String::new(alloc))
 }
 
-/// The front of the certificate in a directory, where it can be read.
+/// The front of the directory's certificate, as far as it can be read.
 fn front_in<S: Store>(store: &S, alloc: Global, dir: &str) -> Result<Front, AllocError> {
     let name = certificate_name(alloc, dir)?;
     match read_file(store, alloc, name.as_str()) {
@@ -180,7 +178,7 @@ fn check_hint<S: Store + Inspect>(
     }
 }
 
-/// The hint for what was said, without a line end; no text where there is none.
+/// The hint for an answer, without a line end; empty if there is none.
 pub fn verdict_hint<S: Store + Inspect>(
     store: &S,
     alloc: Global,

@@ -1,5 +1,5 @@
-//! Why the program ends with nothing to answer, with its exit status and what it says then. Bytes are shown so that the
-//! name of a file can't steer a terminal.
+//! Why the program ends without an answer, with its status and message. Control bytes are escaped,
+//! so that the name of a file can't steer a terminal.
 ghost use Rattle.std.specs.Prelude.{◌≡◌, ◌↔◌, IsTrue, ◌<◌, ◌++◌, IfOk, OnOk};
 ghost use Rattle.std.specs.IoError.{error_kind};
 ghost use Rattle.mr_cli.specs.Statuses.{IsHelp, IsStatus, TellsWords};
@@ -11,16 +11,14 @@ use std::alloc::{AllocError, Global};
 use std::fmt;
 use std::io::{self, ErrorKind};
 
-/// Why the program ends with nothing to answer.
+/// Why the program ends without an answer.
 #[derive(Drop)]
 pub enum Failure {
-    /// The words of the command line, also where they ask for help.
+    /// The parser's error, or its help.
     Line(clap::Error),
-    /// A word of the command line that is not UTF-8.
     NotUtf8,
-    /// They ask for nothing. The parser tells that by itself before.
+    /// No subcommand. The parser reports that before.
     NoCommand,
-    /// What they ask for.
     Command(Fault),
 }
 
@@ -58,7 +56,7 @@ impl From<Fault> for Failure {
 }
 
 impl Failure {
-    /// Why the words of the command line can't be had.
+    /// Why the command line's words can't be read.
     pub fn of_words(error: io::Error) -> Failure
         ensures { TellsWords (error_kind error) result }
     {
@@ -68,7 +66,7 @@ impl Failure {
         }
     }
 
-    /// The exit status: 0 where help was asked for, 2 for other words, or that of the command's fault.
+    /// The exit status: 0 for help, 2 for other words, else that of the command's fault.
     pub fn status(&self) -> u8
         ensures { IsStatus self.now result }
     {
@@ -79,7 +77,7 @@ impl Failure {
         }
     }
 
-    /// Whether the text is help that was asked for, and belongs on standard output.
+    /// Whether the text is requested help, which belongs on standard output.
     pub fn is_help(&self) -> bool
         ensures { IsTrue result ↔ IsHelp self.now }
     {
@@ -101,7 +99,7 @@ impl fmt::Display for Failure {
     }
 }
 
-/// Whether a terminal obeys the byte, which stands behind `before`; a line feed only where lines aren't kept.
+/// Whether a terminal obeys the byte after `before`; not a line feed if `lines`.
 fn is_obeyed(lines: bool, before: u8, byte: u8) -> bool
     ensures { result ≡ obeys lines before byte }
 {
@@ -115,7 +113,7 @@ fn hex_digit(n: u8) -> u8
     if n < 10 { b'0' + n } else { 0x57 + n }
 }
 
-/// Adds the byte's number, as `\x1b`.
+/// Adds the byte as `\x1b`.
 fn add_number(out: &mut Vec<u8>, byte: u8) -> Result<(), AllocError>
     ensures { OnOk result (out.new.items ≡ out.old.items ++ number_shown byte) }
 {
@@ -124,7 +122,6 @@ fn add_number(out: &mut Vec<u8>, byte: u8) -> Result<(), AllocError>
     Ok(())
 }
 
-/// Adds the byte as it is shown.
 fn add_byte(out: &mut Vec<u8>, lines: bool, before: u8, byte: u8) -> Result<(), AllocError>
     ensures { OnOk result (out.new.items ≡ out.old.items ++ byte_shown lines before byte) }
 {
@@ -135,7 +132,7 @@ fn add_byte(out: &mut Vec<u8>, lines: bool, before: u8, byte: u8) -> Result<(), 
     Ok(())
 }
 
-/// The text as a terminal is shown it, in one line or, where `lines`, in its own.
+/// The text with control bytes escaped; if `lines`, line feeds stay.
 pub fn escape(alloc: Global, text: &[u8], lines: bool) -> Result<Vec<u8>, AllocError>
     ensures { IfOk result (λ v. v.items ≡ text_shown lines 0 text.now) }
 {

@@ -1,5 +1,5 @@
-//! What a person at a terminal is told beside the program's own lines. Nothing here has a say in what is done, in what
-//! is answered, or in the exit status: those come from `answer` and `finish`, which are called as they are.
+//! What a person at a terminal sees beside the program's own lines. It changes neither the work,
+//! nor the answer, nor the exit status: those come from `answer` and `finish`.
 use crate::cures::{NOT_UTF8, fault_hint};
 use crate::differences::verdict_hint;
 use crate::failure::{Failure, escape};
@@ -18,13 +18,13 @@ use std::sync::Wait;
 use std::thread::Threads;
 use std::time::Clock;
 
-/// What the words ask for, parsed once more; none where they can't be parsed.
+/// Parses the words once more; none if they can't be parsed.
 fn asked_by<'a>(alloc: Global, words: &'a [String]) -> Option<Subcommand<'a>> {
     let matches = command(alloc).ok()?.try_get_matches_from(words).ok()?;
     subcommand_of(alloc, &matches).ok()?
 }
 
-/// Shows a text, in one line or in its own, and a line end; one that there is no memory for is left out.
+/// Shows a text and a line end. It omits a text for which there is no memory.
 fn show<E: Write>(alloc: Global, err: &mut E, text: &[u8], lines: bool) {
     if let Ok(bytes) = escape(alloc, text, lines) {
         let _ = err.write_all(bytes.as_slice());
@@ -32,7 +32,6 @@ fn show<E: Write>(alloc: Global, err: &mut E, text: &[u8], lines: bool) {
     }
 }
 
-/// Shows what is to be told before the work.
 fn show_notes<F: Inspect, E: Write>(files: &F, alloc: Global, asked: &Subcommand<'_>, err: &mut E) {
     if let Ok(lines) = notes(files, alloc, asked) {
         for line in lines.as_slice() {
@@ -41,7 +40,7 @@ fn show_notes<F: Inspect, E: Write>(files: &F, alloc: Global, asked: &Subcommand
     }
 }
 
-/// The hint for an answer, without a line end; no text where there is none.
+/// The hint for an answer, without a line end; empty if there is none.
 fn hint_of<F: Store + Inspect>(
     files: &F,
     alloc: Global,
@@ -56,7 +55,7 @@ fn hint_of<F: Store + Inspect>(
     }
 }
 
-/// Whether the text of an answer may hold a word of the command line, and whether it has lines of its own then.
+/// If the answer may contain a word of the command line: whether it has several lines.
 fn tells_words(answered: &Result<CommandOutput, Failure>) -> Option<bool> {
     match answered {
         Err(Failure::Line(_)) => Some(true),
@@ -66,7 +65,7 @@ fn tells_words(answered: &Result<CommandOutput, Failure>) -> Option<bool> {
     }
 }
 
-/// Finishes as `finish` does, control bytes of words shown by their numbers.
+/// Like `finish`, with the control bytes of words escaped.
 fn finish_shown<O: Write, E: Write>(
     alloc: Global,
     answered: Result<CommandOutput, Failure>,
@@ -84,7 +83,7 @@ fn finish_shown<O: Write, E: Write>(
     status
 }
 
-/// Says an answer, and a hint behind it.
+/// Prints an answer and its hint.
 fn tell<F: Store + Inspect, O: Write, E: Write>(
     files: &F,
     alloc: Global,
@@ -104,8 +103,8 @@ fn tell<F: Store + Inspect, O: Write, E: Write>(
     status
 }
 
-/// Answers the words, of which the first is the program's name, as for a program, with notes before the answer and a
-/// hint behind it, and a line of progress in between; gives the exit status.
+/// Answers the words, of which the first is the program's name, with notes before, a line of
+/// progress meanwhile and a hint after. Returns the exit status.
 pub fn run_at_terminal<
     F: Store + Inspect,
     D: Scratch,

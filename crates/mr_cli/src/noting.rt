@@ -1,10 +1,8 @@
-//! What is told of the directory of the result before the work: that it isn't there, that a result stands in it, that
-//! other parts lie beside those of this one; and of the directory of regions, that it isn't there.
+//! Notes before the work: a missing directory, an earlier result there, parts of another result.
 use mr_args::{Options, RunOptions, Subcommand};
 use mr_files::{Inspect, PathKind, certificate_name, part_name, verdict_name};
 use std::alloc::{AllocError, Global};
 
-/// A result has at most so many parts.
 const MOST_PARTS: usize = 1024;
 
 fn stands<L: Inspect>(look: &L, name: &str) -> bool {
@@ -14,7 +12,6 @@ fn stands<L: Inspect>(look: &L, name: &str) -> bool {
     }
 }
 
-/// Where the directory isn't one.
 fn note_directory<L: Inspect>(
     look: &L,
     alloc: Global,
@@ -29,7 +26,7 @@ fn note_directory<L: Inspect>(
     lines.push(line).map_err(AllocError::from)
 }
 
-/// Where a result stands there already, by its first part or by the file that is written last.
+/// If the directory has a result, by its first part or by the file that is written last.
 fn note_result<L: Inspect>(
     look: &L,
     alloc: Global,
@@ -47,7 +44,7 @@ fn note_result<L: Inspect>(
     Ok(())
 }
 
-/// The first part that lies there and isn't one of so many, if there is one.
+/// The first part in the directory from number `parts` on.
 fn first_other<L: Inspect>(
     look: &L,
     alloc: Global,
@@ -63,7 +60,6 @@ fn first_other<L: Inspect>(
     Ok(None)
 }
 
-/// Where other parts lie there.
 fn note_others<L: Inspect>(
     look: &L,
     alloc: Global,
@@ -105,7 +101,7 @@ fn run_notes<L: Inspect>(
     }
 }
 
-/// How many parts a merge writes its verdicts tell, so that other parts can't be told from these.
+/// Only the verdicts say how many parts a merge writes, so it can't note other parts.
 fn merge_notes<L: Inspect>(
     look: &L,
     alloc: Global,
@@ -117,7 +113,7 @@ fn merge_notes<L: Inspect>(
     note_result(look, alloc, dir, verdict.as_str(), lines)
 }
 
-/// Whether so many parts can be had. If not, nothing will be done.
+/// Whether there can be so many parts. If not, the command will fail.
 fn asks_for_parts(asked: &Subcommand<'_>) -> bool {
     let options = match asked {
         Subcommand::Seq(asked) => &asked.options,
@@ -128,7 +124,7 @@ fn asks_for_parts(asked: &Subcommand<'_>) -> bool {
     0 < options.parts && options.parts as usize <= MOST_PARTS
 }
 
-/// Lines on the directories of the result and of regions, without line ends; none where there is nothing to tell.
+/// Lines on the directories of the result and of regions, without line ends.
 pub fn notes<L: Inspect>(
     look: &L,
     alloc: Global,

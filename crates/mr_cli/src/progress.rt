@@ -1,20 +1,20 @@
-//! One line at a terminal that tells how far long work has come: the phase, its share done, workers lost. It is drawn
-//! again a few times a second at most, by whichever thread tells first then, and wiped before anything else is said. No
-//! clause speaks of it, and it has no say in the work.
+//! A line of progress at a terminal: the phase, the share done, lost workers. At most a few times a
+//! second, the first thread that reports draws it again; it is wiped before any other output. No
+//! clause speaks of it, and it doesn't influence the work.
 use mr_bytes::{Phase, Progress};
 use std::alloc::{AllocError, Global};
 use std::io::{Stderr, Write};
 use std::sync::atomic::{AtomicBool, AtomicU64, Ordering};
 use std::time::Clock;
 
-/// Milliseconds between two drawings at least, and before the first, so that short work shows nothing.
+/// The least milliseconds between two drawings and before the first: short work shows nothing.
 const PAUSE: u64 = 300;
 
-/// What a terminal is told to go back to the line's first place and to wipe it.
+/// Goes back to the line's start and wipes it.
 const WIPE: &str = "\r\x1b[K";
 
-/// A line of progress. It holds the time from which it may be drawn again, in milliseconds of the clock, how many workers
-/// were lost, whether the judge has begun, and whether the line stands at the terminal.
+/// A line of progress. `next` is the time of the clock, in milliseconds, from which it may be drawn
+/// again; `stands` says whether the terminal shows it.
 #[derive(Drop)]
 pub struct ProgressLine<C: Clock> {
     clock: C,
@@ -26,7 +26,7 @@ pub struct ProgressLine<C: Clock> {
     stands: AtomicBool,
 }
 
-/// Milliseconds of a clock; none where it can't be read.
+/// Milliseconds of the clock; none if it can't be read.
 fn now<C: Clock>(clock: &C) -> Option<u64> {
     let time = clock.monotonic().ok()?;
     Some(
@@ -36,7 +36,6 @@ fn now<C: Clock>(clock: &C) -> Option<u64> {
     )
 }
 
-/// The word for a phase.
 fn word(phase: Phase) -> &'static str {
     match phase {
         Phase::Mapping => "mapping",
@@ -54,7 +53,6 @@ fn share(done: u64, all: u64) -> u64 {
     }
 }
 
-/// The text of the line.
 fn line(alloc: Global, phase: Phase, share: u64, lost: u64) -> Result<String, AllocError> {
     let word = word(phase);
     match lost {
@@ -79,7 +77,7 @@ impl<C: Clock> ProgressLine<C> {
         }
     }
 
-    /// Whether this call may draw: no other may until the pause is over.
+    /// Whether this call may draw; no other may until the pause is over.
     fn is_due(&self) -> bool {
         let Some(now) = now(&self.clock) else {
             return false;
@@ -93,14 +91,14 @@ impl<C: Clock> ProgressLine<C> {
                 .is_ok()
     }
 
-    /// Whether the judge begins with this call, and a line stands that says otherwise. It is long at work behind.
+    /// Whether the judge begins now while the line shows another phase: it will work for long.
     fn begins_to_judge(&self, phase: Phase) -> bool {
         phase == Phase::Judging
             && !self.judging.swap(true, Ordering::SeqCst)
             && self.stands.load(Ordering::SeqCst)
     }
 
-    /// Wipes the line, where it stands.
+    /// Wipes the line, if the terminal shows it.
     pub fn wipe(&self) {
         if self.stands.swap(false, Ordering::SeqCst) {
             let mut err = self.err;

@@ -1,8 +1,7 @@
-//! The judgement of a result against an input.
-//!
-//! A result is read whole and then judged, by one thread or by several. Two kinds of results are
-//! judged as they are read (`streaming`), so that no file of theirs is held: a result that one
-//! thread judges with no verdict to be written, and one with a file longer than a good one's.
+//! Judges a result against an input. It reads the result whole, then one thread or several judge
+//! it. It judges two kinds of results while it reads them (`streaming`), so that none of their
+//! files is in memory: those that one thread judges with no verdict to write, and those with a file
+//! longer than a good result's.
 ghost use Rattle.std.specs.Prelude.{◌≤◌, ◌^◌};
 ghost use Rattle.std.specs.Prelude.{◌≡◌, ◌⊎◌, Err, IfErr, IfOk, Ok};
 ghost use Rattle.mr_input.specs.Files.{split_total};
@@ -25,21 +24,20 @@ use std::alloc::{AllocError, Global};
 use std::marker::Brand;
 use std::thread::Threads;
 
-/// What is said of a result, and the text of its verdict where that is to be kept.
+/// The answer on a result, and the verdict's text if it is kept.
 #[derive(Drop)]
 pub(crate) struct Judgement {
     pub said: CommandOutput,
     pub verdict: Option<Vec<u8>>,
 }
 
-/// What was read of a result.
 #[derive(Drop)]
 pub(crate) struct ResultBytes {
     pub outputs: Vec<Vec<u8>>,
     pub certificate: Vec<u8>,
 }
 
-/// What a result is judged for: options that were tested, and an input that fits their request.
+/// A judgement with tested options and an input that fits the request.
 #[derive(Clone, Copy)]
 pub(crate) struct CheckJob<'a> {
     pub asked: &'a CheckOptions<'a>,
@@ -49,13 +47,12 @@ pub(crate) struct CheckJob<'a> {
     pub ghost few: { (1 ≤ asked.now.threads) × (asked.now.threads ≤ 64) },
 }
 
-/// The most bytes that a file of a good result has, over this input. A pair takes two bytes of the
-/// input at least, one of its key and one that ends its word or its line. It takes at most 16 bytes
-/// of a part besides its key, where its value is the place of a line, and at most 17 of the
-/// certificate, where it is a group of its own: four for the number of entries, and three, five and
-/// five for its name in version 2, as an input has at most 2^20 splits. The rest is for what comes
-/// before the partitions. No clause states that a good result stays within it: a result past it is
-/// judged all the same.
+/// The most bytes of a file of a good result over this input. A pair takes at least two bytes of
+/// input: one of its key, and the end of its word or line. It takes at most 16 bytes of a part
+/// besides its key, if its value is a line's place, and at most 17 of the certificate, as a group
+/// of its own: four for the count of entries, and three, five and five for its name in version 2,
+/// since an input has at most 2^20 splits. The rest is for what precedes the partitions. No clause
+/// states this bound: a longer result is judged all the same.
 fn most_bytes(input: &Input) -> u64 {
     let mut bytes = 0u64;
     for file in 0..input.files() {
@@ -92,7 +89,7 @@ impl<'a> CheckJob<'a> {
     ghost use Rattle.mr_commands.specs.Judgements.{IsAnswer, IsHeld, IsJudgement, IsUnreadResult};
     ghost use Rattle.mr_commands.specs.Judgements.{JudgesResult, files_judged, text_kept};
 
-    /// Reads the result, where none of its files has more bytes than that; nothing else.
+    /// Reads the result, if no file has more than `most` bytes.
     fn read<S: Store>(
         &self,
         store: &S,
@@ -115,7 +112,6 @@ impl<'a> CheckJob<'a> {
         }
     }
 
-    /// The verdict on a result, by one thread or by several.
     fn verdict<R: Threads + Sync>(
         &self,
         rt: &R,
@@ -144,7 +140,7 @@ impl<'a> CheckJob<'a> {
         )
     }
 
-    /// The text of the verdict of a yes on outputs, where a name is given for it.
+    /// The text of a yes's verdict, if it has a name.
     fn verdict_text(
         &self,
         alloc: Global,
@@ -168,7 +164,6 @@ impl<'a> CheckJob<'a> {
         Ok(Some(write_verdict(alloc, &verdict)?))
     }
 
-    /// Judges what was read of the result.
     fn judge<R: Threads + Sync>(
         &self,
         rt: &R,
@@ -187,7 +182,7 @@ impl<'a> CheckJob<'a> {
         Ok(Judgement { said, verdict })
     }
 
-    /// Whether no verdict is to be kept of an answer.
+    /// Whether no verdict of this answer is kept.
     fn keeps_nothing(&self, answer: &Result<Yes, No>) -> bool
         ensures { IsTrue result → (outputs : List (List ℕ)) → text_kept self.now.request.now
             self.now.asked.now self.now.input.now outputs answer.now ≡ None }
@@ -198,9 +193,9 @@ impl<'a> CheckJob<'a> {
         }
     }
 
-    /// Judges the result. It is read whole first, unless one thread judges with no verdict to be
-    /// kept, or a file has more bytes than a good one's: then it is judged as it is read. Should
-    /// that give a yes whose verdict is to be kept, the result is read whole after all.
+    /// Judges the result. It reads the result whole first, unless one thread judges without a
+    /// verdict to keep, or a file is longer than a good result's; then it judges while it reads. If
+    /// that gives a yes whose verdict is kept, it reads the result whole after all.
     pub(crate) fn judge_result<S: Store, R: Threads + Sync>(
         &self,
         rt: &R,

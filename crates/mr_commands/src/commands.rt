@@ -1,4 +1,4 @@
-//! What each command does, over a store of files.
+//! The sequential command, and the choice among all commands.
 ghost use Rattle.std.specs.Prelude.{◌≡◌, ℕ, ◌≤◌, ◌^◌, List, IfOk, IfErr, OnOk, length};
 ghost use Rattle.std.specs.Prelude.{string_bytes};
 ghost use Rattle.mr_bytes.specs.declared.RecordName.{RecordName};
@@ -34,8 +34,8 @@ use std::alloc::Global;
 use std::sync::Wait;
 use std::thread::Threads;
 
-/// What a sequential execution leaves to be written, and the line that is said of it. The certificate is spelled only
-/// while it is written: its bytes would take as much memory once more.
+/// An executed job to write, and its line. The certificate is encoded only while it is written: its
+/// bytes would take as much memory again.
 #[derive(Drop)]
 struct Work {
     outputs: Vec<Vec<u8>>,
@@ -43,8 +43,7 @@ struct Work {
     line: String,
 }
 
-/// Runs the request over the input. The line is made before a file is written, so that nothing fails behind the last
-/// one. What spells the certificate in a version is bytes of the result in it, and each version can spell it.
+/// Runs the request. It makes the line before a file is written, so nothing fails after the last.
 fn worked(
     alloc: Global,
     request: &Request,
@@ -53,15 +52,17 @@ fn worked(
     watch: &dyn Progress,
 ) -> Result<Work, Fault>
     requires { split_total request.now.split input ≤ 2 ^ 20 }
-    ensures result { IfOk result (λ w. (version : Version) (bytes : List ℕ) → SpellsIn version bytes w.certificate
+    ensures result { IfOk result
+        (λ w. (version : Version) (bytes : List ℕ) → SpellsIn version bytes w.certificate
         → IsSequentialResult version request.now input skips.now (contents w.outputs.items) bytes) }
-    ensures can { IfOk result (λ w. (version : Version) → AllByRecursion (CanSpell version) w.certificate.groups) }
+    ensures can { IfOk result
+        (λ w. (version : Version) → AllByRecursion (CanSpell version) w.certificate.groups) }
     ensures line { IfOk result (λ w. string_bytes w.line ≡ done_line request.now.parts
         (length (emitted request.now.job request.now.split input skips.now)) (length skips.now)) }
     ensures refused { IfErr result (λ e. IsRunRefusal request.now input skips.now e) }
 {
     let (outputs, certificate) = run_watched(alloc, request, &input, skips, watch)?;
-    // What is done with is given back before memory is asked for again.
+    // Free what is done before asking for more memory.
     drop(input);
     let line = done_line(alloc, outputs.len(), certificate.total(), skips.len())?;
     Ok(Work {
@@ -71,7 +72,7 @@ fn worked(
     })
 }
 
-/// The input of a sequential execution, apart from the files of its result.
+/// The input, with its files distinct from those of the result.
 fn input_apart<S: Store>(
     store: &S,
     alloc: Global,
@@ -92,7 +93,8 @@ fn input_apart<S: Store>(
     input_of(store, alloc, request, names, besides, written.as_slice())
 }
 
-/// Tests the request, then the files, that none of them is written, then their fit, and only then works; nothing is written.
+/// Tests the request, the skip list, the files, that none is written, their fit; then works. It
+/// writes nothing.
 fn worked_out<S: Store>(
     store: &S,
     alloc: Global,
@@ -100,7 +102,8 @@ fn worked_out<S: Store>(
     watch: &dyn Progress,
 ) -> Result<Work, Fault>
     ensures work { IfOk result (λ w. (bytes : List ℕ) → SpellsIn asked.now.version bytes w.certificate
-        → WorksOut (S.holds store.now) (S.known_as store.now) asked.now (contents w.outputs.items) bytes (string_bytes w.line)) }
+        → WorksOut (S.holds store.now) (S.known_as store.now) asked.now
+        (contents w.outputs.items) bytes (string_bytes w.line)) }
     ensures can { IfOk result (λ w. AllByRecursion (CanSpell asked.now.version) w.certificate.groups) }
     ensures refused { IfErr result (λ e. IsWorkRefusal (S.holds store.now)
         (S.unreadable store.now) (S.known_as store.now) asked.now e) }
@@ -111,7 +114,6 @@ fn worked_out<S: Store>(
     worked(alloc, &request, input, skips.as_slice(), watch)
 }
 
-/// The certificate in a version that can spell it.
 fn spelled_in(certificate: &Certificate, version: Version) -> VersionedCertificate<'_>
     requires { AllByRecursion (CanSpell version) certificate.now.groups }
     ensures { result ≡ record { version = version; certificate = certificate.entry.now } }
@@ -122,7 +124,7 @@ fn spelled_in(certificate: &Certificate, version: Version) -> VersionedCertifica
     }
 }
 
-/// Works, and then writes the result. The line is said once all files stand.
+/// Runs a job sequentially and writes its result. It reports the line once all files are written.
 pub fn seq<S: Store>(
     store: &mut S,
     alloc: Global,
@@ -154,7 +156,7 @@ pub fn seq<S: Store>(
     })
 }
 
-/// Does what is asked for, and nothing else. The watch is told how far long work has come.
+/// Executes one command. `watch` gets the progress of long work.
 pub fn execute<S: Store, C: Scratch, R: Threads + Wait + Sync>(
     rt: &R,
     scratch: &C,

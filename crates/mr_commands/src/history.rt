@@ -1,4 +1,4 @@
-//! The history of a run, as text.
+//! The history of a run as text: a line for the shape of its book, and a line for each event.
 ghost use Rattle.std.specs.Prelude.{◌≡◌, ◌++◌, IfOk, OnOk, string_bytes};
 ghost use Rattle.mr_commands.specs.HistoryLines.{end_text, entry_line, event_text, fault_name};
 ghost use Rattle.mr_commands.specs.HistoryLines.{history_text, map_text, reply_text, shape_line};
@@ -8,7 +8,6 @@ use mr_book::{History, HistoryEntry};
 use mr_core::{End, Event, JobFault, Reply, Shape, Skips};
 use std::alloc::{AllocError, Global};
 
-/// Adds the records that an attempt leaves out, if there are any.
 fn add_without(text: &mut String, skips: &[u32]) -> Result<(), AllocError>
     ensures { OnOk result (string_bytes text.new ≡ string_bytes text.old ++ without_text skips.now) }
 {
@@ -22,7 +21,6 @@ fn add_without(text: &mut String, skips: &[u32]) -> Result<(), AllocError>
     Ok(())
 }
 
-/// Adds what happened.
 fn add_event(text: &mut String, event: Event) -> Result<(), AllocError>
     ensures { OnOk result (string_bytes text.new ≡ string_bytes text.old ++ event_text event) }
 {
@@ -43,7 +41,6 @@ fn add_event(text: &mut String, event: Event) -> Result<(), AllocError>
     }
 }
 
-/// The name of a job's fault.
 pub(crate) fn fault_name(fault: JobFault) -> &'static str
     ensures { result.now ≡ fault_name fault }
 {
@@ -54,7 +51,6 @@ pub(crate) fn fault_name(fault: JobFault) -> &'static str
     }
 }
 
-/// Adds why there is nothing more to do.
 fn add_end(text: &mut String, end: End) -> Result<(), AllocError>
     ensures { OnOk result (string_bytes text.new ≡ string_bytes text.old ++ end_text end) }
 {
@@ -68,15 +64,14 @@ fn add_end(text: &mut String, end: End) -> Result<(), AllocError>
     }
 }
 
-/// Adds a map task that is given.
 fn add_map(text: &mut String, attempt: u32, split: u32, skips: &Skips) -> Result<(), AllocError>
-    ensures { OnOk result (string_bytes text.new ≡ string_bytes text.old ++ map_text attempt split skips.now) }
+    ensures { OnOk result (string_bytes text.new
+        ≡ string_bytes text.old ++ map_text attempt split skips.now) }
 {
     write!(text, "map attempt {attempt} split {split}")?;
     add_without(text, skips.as_slice())
 }
 
-/// Adds what was answered.
 fn add_reply(text: &mut String, reply: &Reply) -> Result<(), AllocError>
     ensures { OnOk result (string_bytes text.new ≡ string_bytes text.old ++ reply_text reply.now) }
 {
@@ -102,7 +97,6 @@ fn add_reply(text: &mut String, reply: &Reply) -> Result<(), AllocError>
     }
 }
 
-/// Adds the line of an event with its reply.
 fn add_entry(text: &mut String, entry: &HistoryEntry) -> Result<(), AllocError>
     ensures { OnOk result (string_bytes text.new ≡ string_bytes text.old ++ entry_line entry.now) }
 {
@@ -112,7 +106,6 @@ fn add_entry(text: &mut String, entry: &HistoryEntry) -> Result<(), AllocError>
     write!(text, "\n")
 }
 
-/// The line of what the run's book was opened with.
 fn shape_line(alloc: Global, shape: Shape) -> Result<String, AllocError>
     ensures { IfOk result (λ text. string_bytes text ≡ shape_line shape) }
 {
@@ -129,7 +122,7 @@ fn shape_line(alloc: Global, shape: Shape) -> Result<String, AllocError>
     )
 }
 
-/// The history of a run: a line for what its book was opened with, and one for each event with its reply, in order.
+/// The history: a line for the book's shape, then each event with its reply, in order.
 pub fn history_text(alloc: Global, history: &History) -> Result<String, AllocError>
     ensures { IfOk result (λ text. string_bytes text ≡ history_text history.now) }
 {

@@ -1,4 +1,4 @@
-//! The input of a request, apart from what is written.
+//! The input of a request, distinct from what is written.
 ghost use Rattle.std.specs.Prelude.{◌≡◌, ◌++◌, ◌<◌, ◌≤◌, map, IfOk, IfErr, OnOk, option_map};
 ghost use Rattle.std.specs.Prelude.{string_bytes};
 ghost use Rattle.mr_files.specs.Identities.{AreApart};
@@ -12,8 +12,8 @@ use mr_input::{Input, InputFault, MAX_BYTES};
 use mr_jobs::Request;
 use std::alloc::{AllocError, Global};
 
-/// The files of these names, within the limits of an input: they are read in order, and no more than one byte past the limit
-/// of their bytes, which is told before a later file; then their number is tested.
+/// Reads the files in order, within the limits of an input. It reads at most one byte past the
+/// limit of bytes, which it reports before a later file; then it tests the number of files.
 fn input_read<S: Store>(store: &S, alloc: Global, names: &[&str]) -> Result<Input, Fault>
     ensures read { IfOk result (λ input. AreRead (S.holds store.now) (map (λ s. s.now) names.now) input) }
     ensures refused { IfErr result (λ e. IsUnreadInput (S.holds store.now)
@@ -30,7 +30,6 @@ fn input_read<S: Store>(store: &S, alloc: Global, names: &[&str]) -> Result<Inpu
     }
 }
 
-/// The name that is given, where one is.
 pub fn name_given(alloc: Global, name: Option<&str>) -> Result<Vec<String>, AllocError>
     ensures { IfOk result (λ v. map string_bytes v.items ≡ named (option_map (λ n. n.now) name.entry)) }
 {
@@ -41,7 +40,7 @@ pub fn name_given(alloc: Global, name: Option<&str>) -> Result<Vec<String>, Allo
     Ok(names)
 }
 
-/// No file that is written is one that is read, be it of the input or besides, or one that is written before.
+/// Refuses a written file that the command also reads, or writes before.
 fn expect_apart<S: Store>(
     store: &S,
     alloc: Global,
@@ -63,8 +62,8 @@ fn expect_apart<S: Store>(
     }
 }
 
-/// The input of a request, which fits it. The files are read, and the limits tested; then that no file that is written is one
-/// of them, one that is read besides, or written twice; then the fit.
+/// Reads the files of a request and tests their limits; then that no written file is one of them,
+/// is read besides, or is written twice; then that they fit the request.
 pub fn input_of<S: Store>(
     store: &S,
     alloc: Global,
@@ -73,13 +72,14 @@ pub fn input_of<S: Store>(
     besides: Vec<String>,
     written: &[String],
 ) -> Result<Input, Fault>
-    ensures input { IfOk result (λ input. IsInput (S.holds store.now) (map
-        (λ s. s.now) names.now) request.now.split input) }
+    ensures input { IfOk result (λ input. IsInput (S.holds store.now)
+        (map (λ s. s.now) names.now) request.now.split input) }
     ensures apart { OnOk result (AreApart (S.known_as store.now) (map string_bytes besides.items
         ++ map (λ s. s.now) names.now) (map string_bytes written.now)) }
     ensures refused { IfErr result (λ e. IsInputRefusal (S.holds store.now)
         (S.unreadable store.now) (S.known_as store.now) (map (λ s. s.now) names.now)
-        (map string_bytes besides.items ++ map (λ s. s.now) names.now) (map string_bytes written.now) request.now.split e) }
+        (map string_bytes besides.items ++ map
+        (λ s. s.now) names.now) (map string_bytes written.now) request.now.split e) }
 {
     let input = input_read(store, alloc, names)?;
     expect_apart(store, alloc, names, besides, written)?;

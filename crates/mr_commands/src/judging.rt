@@ -1,4 +1,4 @@
-//! `check`: the tests before a result is judged, and the verdict of a yes, kept under a name.
+//! `check`: tests the options, has the result judged, and keeps the verdict of a yes.
 ghost use Rattle.std.specs.Prelude.{◌≡◌, ℕ, [], ◌∷◌, ◌++◌, ◌<◌, IfErr, IfOk, IfSome, MatchOption};
 ghost use Rattle.std.specs.Prelude.{OnOk, Contains, map, option_map, slice_index_or, length};
 ghost use Rattle.std.specs.Prelude.{string_bytes};
@@ -26,13 +26,11 @@ use mr_shards::{FileNote, note_for};
 use std::alloc::{AllocError, Global};
 use std::thread::Threads;
 
-/// The most threads that judge.
 const MAX_THREADS: u32 = 64;
 
-// The number that the clauses give.
+// The clauses have this number.
 const _: () = prove!(MAX_THREADS == 64);
 
-/// The number of the first name that holds a line feed.
 fn first_line_end(names: &[&str]) -> Option<usize>
     ensures { MatchOption result ((k : ℕ) → k < length names.now
         → ¬ Contains (slice_index_or (map (λ s. s.now) names.now) k []) 10)
@@ -46,7 +44,7 @@ fn first_line_end(names: &[&str]) -> Option<usize>
     None
 }
 
-/// Where a verdict is to be written, it can tell the names of the input.
+/// Refuses names of the input that a verdict, if there is one, can't list.
 fn expect_names(asked: &CheckOptions<'_>) -> Result<(), Fault>
     ensures clear { OnOk result (IfSome (verdict_file asked.now) (λ _. AreClear asked.now.options)) }
     ensures refused { IfErr result (λ e. IsNameRefusal asked.now e) }
@@ -60,7 +58,6 @@ fn expect_names(asked: &CheckOptions<'_>) -> Result<(), Fault>
     }
 }
 
-/// Adds the note of a file of that name and these bytes.
 fn add_note(
     alloc: Global,
     notes: &mut Vec<FileNote>,
@@ -73,7 +70,7 @@ fn add_note(
     notes.push(note).map_err(AllocError::from)
 }
 
-/// The notes of the files of the input by their names, of which there are as many.
+/// The notes of the input's files, under their names.
 pub(crate) fn input_notes(
     alloc: Global,
     names: &[&str],
@@ -88,7 +85,6 @@ pub(crate) fn input_notes(
     Ok(notes)
 }
 
-/// The number of threads is within its limits, and the verdict can tell the names of the input.
 fn expect_options(asked: &CheckOptions<'_>) -> Result<(), Fault>
     ensures threads { OnOk result (AreGoodThreads asked.now.threads) }
     ensures clear { OnOk result (IfSome (verdict_file asked.now) (λ _. AreClear asked.now.options)) }
@@ -100,7 +96,7 @@ fn expect_options(asked: &CheckOptions<'_>) -> Result<(), Fault>
     expect_names(asked)
 }
 
-/// The input of a judgement, apart from the verdict that is to be written, as is the result.
+/// The input, with its files and the result's distinct from the verdict.
 fn input_apart<S: Store>(
     store: &S,
     alloc: Global,
@@ -122,8 +118,8 @@ fn input_apart<S: Store>(
     input_of(store, alloc, request, names, besides, written.as_slice())
 }
 
-/// Tests the request, the number of threads and the names that a verdict is to tell, then reads the
-/// input, then the result, and judges it; nothing is written.
+/// Tests the request, the number of threads and the names for a verdict, then reads the input, then
+/// judges the result. It writes nothing.
 fn judge_asked<S: Store, R: Threads + Sync>(
     rt: &R,
     store: &S,
@@ -146,18 +142,19 @@ fn judge_asked<S: Store, R: Threads + Sync>(
     job.judge_result(rt, store, alloc, watch)
 }
 
-/// Writes the text under the name, where there are both.
+/// Writes the text under the name, if there are both.
 fn keep<S: Store>(
     store: &mut S,
     alloc: Global,
     name: Option<&str>,
     text: Option<Vec<u8>>,
 ) -> Result<(), FileFault>
-    ensures kept { OnOk result (IsKeptUnder (S.holds store.new) (option_map
-        (λ n. n.now) name.entry) (option_map (λ t. t.items) text)) }
+    ensures kept { OnOk result (IsKeptUnder (S.holds store.new)
+        (option_map (λ n. n.now) name.entry) (option_map (λ t. t.items) text)) }
     ensures others { ChangesAmong (S.holds store.old) (S.holds store.new)
         (names_kept (option_map (λ n. n.now) name.entry) (option_map (λ t. t.items) text)) }
-    ensures refused { IfErr result (λ e. IsTextRefused (S.holds store.old) (S.holds store.new) (S.unwritable store.old)
+    ensures refused { IfErr result
+        (λ e. IsTextRefused (S.holds store.old) (S.holds store.new) (S.unwritable store.old)
         (option_map (λ n. n.now) name.entry) (option_map (λ t. t.items) text) e) }
 {
     let Some(name) = name else {
@@ -169,9 +166,9 @@ fn keep<S: Store>(
     write_file(store, alloc, name, text.as_slice())
 }
 
-/// Judges a result, as `seq` tests its request and its input and with the number of threads tested between them, and then
-/// writes the verdict of a yes, where a name is given for it. A name of the input that no verdict can tell is refused before
-/// anything is read, and a verdict that would take the place of a file of the input or of the result before that is judged.
+/// Judges a result and writes the verdict of a yes, if it has a name. Before it reads anything, it
+/// tests the request, the number of threads, and that a verdict can list the input's names. Before
+/// it judges, it tests the input, and that the verdict replaces no file of the input or the result.
 pub fn check<S: Store, R: Threads + Sync>(
     rt: &R,
     store: &mut S,

@@ -1,5 +1,4 @@
-//! What the commands of the program do, over a store of files: the sequential execution, the run by
-//! workers, the judgement of a result, the merge of shards; and what is said of each.
+//! The program's commands over a store of files, and the lines that they print.
 #![tactic(auto)]
 
 mod check_job;

@@ -1,4 +1,4 @@
-//! The merge of shards.
+//! `merge`: merges shards, and writes the line about the result.
 ghost use Rattle.std.specs.Prelude.{◌≡◌, ◌+◌, ◌≤◌, ◌++◌, [], IfErr, IfOk, length, string_bytes};
 ghost use Rattle.std.specs.Prelude.{string_capacity, string_len};
 ghost use Rattle.mr_shard_files.specs.Merging.{ChangesResult};
@@ -13,13 +13,13 @@ use mr_shard_files::merge_shards;
 use std::alloc::Global;
 use std::thread::Threads;
 
-/// The bytes of the line, where each of its numbers has 20 digits.
+/// The bytes of the line if each of its numbers has 20 digits.
 const LINE_ROOM: usize = 94;
 
-// The number that the clauses give.
+// The clauses have this number.
 const _: () = prove!(LINE_ROOM == 94);
 
-/// Adds a text that there is room for, so that no memory is asked for.
+/// Appends a text for which there is room, so that it needs no memory.
 fn add_within(line: &mut String, text: &str)
     requires { string_len line.old + length text.now ≤ string_capacity line.old }
     ensures bytes { string_bytes line.new ≡ string_bytes line.old ++ text.now }
@@ -29,7 +29,6 @@ fn add_within(line: &mut String, text: &str)
     let _ = line.push_str(text);
 }
 
-/// The line of merged shards, written where there is room for it.
 fn merged_line(room: String, files: usize, pairs: u64, left_out: usize) -> String
     requires empty { string_len room ≡ 0 }
     requires nothing { string_bytes room ≡ [] }
@@ -48,8 +47,8 @@ fn merged_line(room: String, files: usize, pairs: u64, left_out: usize) -> Strin
     line
 }
 
-/// Merges shards, whose verdicts are named, and writes the result. The room for the line is had before a file is written, so
-/// that nothing fails behind the last one.
+/// Merges the shards of the named verdicts and writes the result. It makes room for its line before
+/// it writes a file, so that nothing can fail after the last one.
 pub fn merge<S: Store, T: Threads>(
     rt: &T,
     store: &mut S,

@@ -1,4 +1,4 @@
-//! A run by workers: what it is of, how it ended, and what it leaves.
+//! `run`: tests what is asked for, runs the job, and writes its history and its result.
 ghost use Rattle.std.specs.Prelude.{◌≡◌, ℕ, ◌++◌, Some, List, IfOk, IfErr, IfSome, IsTrue, OnOk};
 ghost use Rattle.std.specs.Prelude.{map, option_map, string_bytes};
 ghost use Rattle.mr_files.specs.Holding.{Begins, ChangesAmong};
@@ -39,12 +39,11 @@ use std::sync::Wait;
 use std::thread;
 use std::thread::{JoinHandle, Threads};
 
-/// The most workers.
 const MAX_WORKERS: u32 = 64;
-/// The most attempts of a task.
+
 const MAX_ATTEMPTS: u32 = 16;
 
-// The numbers that the clauses give.
+// The clauses have these numbers.
 const _: () = prove!(MAX_WORKERS == 64 && MAX_ATTEMPTS == 16);
 
 /// How a run ended.
@@ -53,11 +52,10 @@ pub enum RunOutcome {
     Certified(Certified),
     /// The job failed, and the script accounts for that.
     Failed(JobFault, History),
-    /// The judge refused what was made.
+    /// The judge refused the result.
     Uncertified(No, History),
 }
 
-/// The numbers of workers and of attempts are within their limits.
 fn expect_crew(asked: &RunOptions<'_>) -> Result<(), Fault>
     ensures workers { OnOk result (AreGoodWorkers asked.now.workers) }
     ensures attempts { OnOk result (AreGoodAttempts asked.now.attempts) }
@@ -72,7 +70,6 @@ fn expect_crew(asked: &RunOptions<'_>) -> Result<(), Fault>
     Ok(())
 }
 
-/// The script that bytes spell.
 fn script_in(alloc: Global, bytes: &[u8]) -> Result<Script, Fault>
     ensures script { IfOk result (λ s. SpellsScript bytes.now s) }
     ensures refused { IfErr result (λ e. IsBadScript bytes.now e) }
@@ -80,7 +77,7 @@ fn script_in(alloc: Global, bytes: &[u8]) -> Result<Script, Fault>
     Ok(Script::read(alloc, bytes)?)
 }
 
-/// The script of that name; without a name nothing shall go wrong.
+/// The script of that name; without a name nothing goes wrong.
 fn script_of<S: Store>(store: &S, alloc: Global, name: Option<&str>) -> Result<Script, Fault>
     ensures script { IfOk result (λ s. IsScript (S.holds store.now) (option_map (λ n. n.now) name.entry) s) }
     ensures refused { IfErr result (λ e. IsScriptRefusal (S.holds store.now)
@@ -95,7 +92,6 @@ fn script_of<S: Store>(store: &S, alloc: Global, name: Option<&str>) -> Result<S
     }
 }
 
-/// Runs a job, with regions in this store.
 fn ended_over<S: RegionStore + Drop, R: Threads + Wait + Sync>(
     rt: &R,
     alloc: Global,
@@ -117,7 +113,7 @@ fn ended_over<S: RegionStore + Drop, R: Threads + Wait + Sync>(
     }
 }
 
-/// The names that a run writes: those of its history, where one is asked for, and of its result.
+/// The names that a run writes: its history, if it has a name, then its result.
 fn names_written(alloc: Global, asked: &RunOptions<'_>) -> Result<Vec<String>, AllocError>
     ensures { IfOk result (λ v. map string_bytes v.items ≡ written_by_run asked.now) }
 {
@@ -128,7 +124,7 @@ fn names_written(alloc: Global, asked: &RunOptions<'_>) -> Result<Vec<String>, A
     Ok(names)
 }
 
-/// The input of a run, apart from its history and its result, as is its script.
+/// The input, with its files and the script distinct from the history and the result.
 fn input_apart<S: Store>(
     store: &S,
     alloc: Global,
@@ -137,7 +133,8 @@ fn input_apart<S: Store>(
 ) -> Result<Input, Fault>
     ensures input { IfOk result (λ input. IsInput (S.holds store.now)
         (input_names asked.now.options) request.now.split input) }
-    ensures apart { OnOk result (AreApart (S.known_as store.now) (read_by_run asked.now) (written_by_run asked.now)) }
+    ensures apart { OnOk result
+        (AreApart (S.known_as store.now) (read_by_run asked.now) (written_by_run asked.now)) }
     ensures refused { IfErr result (λ e. IsInputRefusal (S.holds store.now)
         (S.unreadable store.now) (S.known_as store.now) (input_names asked.now.options)
         (read_by_run asked.now) (written_by_run asked.now) request.now.split e) }
@@ -148,7 +145,7 @@ fn input_apart<S: Store>(
     input_of(store, alloc, request, names, besides, written.as_slice())
 }
 
-/// Whether the last of a name may be one of a region or of their lock.
+/// Whether the last part of a name may be one of a region or of their lock.
 fn is_region_name(name: &str) -> bool {
     let last = match name.rsplit_once('/') {
         Some((_, last)) => last,
@@ -157,21 +154,20 @@ fn is_region_name(name: &str) -> bool {
     last.starts_with("region-") || last == "regions.lock"
 }
 
-/// Whether the file of a name stands in the directory, and has a name as a region's there.
 fn is_region_file<S: Store>(store: &S, dir: &str, name: &str) -> bool
     ensures { IsTrue result → StandsIn (S.alike store.now) dir.now name.now }
 {
     is_region_name(name) && store.is_same_folder(dir, folder_of(name))
 }
 
-/// None of these files may be one of a region in the directory.
 fn expect_no_region<S: Store>(
     store: &S,
     alloc: Global,
     dir: &str,
     names: &[String],
 ) -> Result<(), Fault>
-    ensures { IfErr result (λ e. IsScratchClash (S.alike store.now) (map string_bytes names.now) (Some dir.now) e) }
+    ensures { IfErr result
+        (λ e. IsScratchClash (S.alike store.now) (map string_bytes names.now) (Some dir.now) e) }
 {
     for name in names {
         if is_region_file(store, dir, name.as_str()) {
@@ -181,9 +177,10 @@ fn expect_no_region<S: Store>(
     Ok(())
 }
 
-/// The names of all that a run reads, and then of what it may write besides regions.
+/// The names of all files that a run reads, then of those that it may write besides regions.
 fn names_of_run(alloc: Global, asked: &RunOptions<'_>) -> Result<Vec<String>, AllocError>
-    ensures { IfOk result (λ v. map string_bytes v.items ≡ read_by_run asked.now ++ written_by_run asked.now) }
+    ensures { IfOk result
+        (λ v. map string_bytes v.items ≡ read_by_run asked.now ++ written_by_run asked.now) }
 {
     let mut names = name_given(alloc, asked.script)?;
     add_names(alloc, &mut names, asked.options.files.as_slice())?;
@@ -192,7 +189,7 @@ fn names_of_run(alloc: Global, asked: &RunOptions<'_>) -> Result<Vec<String>, Al
     Ok(names)
 }
 
-/// No file that a run reads, or writes besides, may be one of a region in the directory, where one is asked for.
+/// No file that a run reads or writes may be a region in the directory, if there is one.
 fn expect_scratch_apart<S: Store>(
     store: &S,
     alloc: Global,
@@ -208,7 +205,7 @@ fn expect_scratch_apart<S: Store>(
     expect_no_region(store, alloc, dir, names.as_slice())
 }
 
-/// Runs a job, with regions in files of the directory, or in memory where there is none.
+/// Runs a job, with regions in the directory's files, or in memory without one.
 fn ended<C: Scratch, R: Threads + Wait + Sync>(
     rt: &R,
     scratch: &C,
@@ -218,8 +215,8 @@ fn ended<C: Scratch, R: Threads + Wait + Sync>(
     watch: &dyn Progress,
 ) -> Result<RunOutcome, Fault>
     requires runnable { IsRunnable spec.request.now spec.input.now spec.shape }
-    ensures ends { IfOk result (λ ran. EndsOver (option_map
-        (λ d. d.now) dir.entry) spec.entry.request.now spec.entry.input.now
+    ensures ends { IfOk result (λ ran. EndsOver
+        (option_map (λ d. d.now) dir.entry) spec.entry.request.now spec.entry.input.now
         spec.entry.script.now spec.entry.shape spec.entry.version ran) }
     ensures refused { IfErr result (λ e. IsScratchRefusal (option_map (λ d. d.now) dir.entry) e) }
 {
@@ -239,8 +236,9 @@ fn ended<C: Scratch, R: Threads + Wait + Sync>(
     }
 }
 
-/// Tests the request, the numbers, the script, the files, that none of these is written, their fit, that none is a
-/// region's, and that no other run has its regions in the directory, in this order, and only then runs; nothing is written.
+/// Tests, in this order: the request, the numbers, the script, the files, that none of these is
+/// written, their fit, that none is a region's, that no other run uses the directory. Then runs;
+/// writes nothing.
 fn executed<S: Store, C: Scratch, R: Threads + Wait + Sync>(
     rt: &R,
     scratch: &C,
@@ -263,7 +261,6 @@ fn executed<S: Store, C: Scratch, R: Threads + Wait + Sync>(
     ended(rt, scratch, asked.scratch, alloc, spec, watch)
 }
 
-/// What is said of a run.
 fn said_of(alloc: Global, ran: &RunOutcome) -> Result<CommandOutput, AllocError>
     ensures { IfOk result (λ said. TellsRan ran.now (string_bytes said.text) said.status) }
 {
@@ -284,7 +281,6 @@ fn said_of(alloc: Global, ran: &RunOutcome) -> Result<CommandOutput, AllocError>
     }
 }
 
-/// The history of a run.
 fn history_of(ran: &RunOutcome) -> &History
     ensures { result.now ≡ history_in ran.entry.now }
 {
@@ -295,15 +291,16 @@ fn history_of(ran: &RunOutcome) -> &History
     }
 }
 
-/// Writes the history, where a name is given for it.
 fn keep_history<S: Store>(
     store: &mut S,
     alloc: Global,
     name: Option<&str>,
     history: &History,
 ) -> Result<(), FileFault>
-    ensures kept { OnOk result (IsHistoryKept (S.holds store.new) (option_map (λ n. n.now) name.entry) history.now) }
-    ensures others { ChangesAmong (S.holds store.old) (S.holds store.new) (named (option_map (λ n. n.now) name.entry)) }
+    ensures kept { OnOk result (IsHistoryKept (S.holds store.new)
+        (option_map (λ n. n.now) name.entry) history.now) }
+    ensures others { ChangesAmong (S.holds store.old) (S.holds store.new)
+        (named (option_map (λ n. n.now) name.entry)) }
     ensures begins { IfSome (option_map (λ n. n.now) name.entry)
         (λ own. Begins (S.holds store.old) (S.holds store.new) own (history_text history.now)) }
     ensures refused { IfErr result (λ e. IsOneUnwritten (S.unwritable store.old)
@@ -318,13 +315,12 @@ fn keep_history<S: Store>(
     Ok(())
 }
 
-/// Gives back what a history holds, in a thread of its own where one can be made.
+/// Frees a history, in a thread of its own if one can be made.
 fn let_go<R: Threads>(rt: &R, history: History) -> Option<JoinHandle<()>> {
     thread::spawn(rt, move || drop(history)).ok()
 }
 
-/// Writes the result, where it is certified. The memory of the run's history, with all reduce outputs, is given back
-/// meanwhile.
+/// Writes a certified result. Meanwhile the history, with all reduce outputs, is freed.
 fn keep_result<S: Store, R: Threads>(
     rt: &R,
     store: &mut S,
@@ -360,8 +356,8 @@ fn keep_result<S: Store, R: Threads>(
     Ok(())
 }
 
-/// Runs a job by workers, and then writes the history, where one is asked for, and the result, where it is certified.
-/// The history comes first: a result that stands is whole, whatever the history's name.
+/// Runs a job by workers, then writes the history, if it has a name, and the result, if it is
+/// certified. The history comes first, so that a result is whole whatever the history's name.
 pub fn run<S: Store, C: Scratch, R: Threads + Wait + Sync>(
     rt: &R,
     scratch: &C,

@@ -1,4 +1,4 @@
-//! What a command says: the text of a yes, the line of a no, the lines of an answer.
+//! The lines that commands print.
 ghost use Rattle.std.specs.Prelude.{◌≡◌, ◌++◌, IfErr, IfOk, OnOk, string_bytes, decimal};
 ghost use Rattle.mr_commands.specs.Judgements.{IsSaid};
 ghost use Rattle.mr_commands.specs.YesLines.{left_out_line, yes_line, yes_text};
@@ -14,21 +14,19 @@ use mr_check::{No, Yes};
 use mr_core::JobFault;
 use std::alloc::{AllocError, Global};
 
-/// What the program says on standard output, and its exit status.
+/// What the program prints on standard output, and its exit status.
 #[derive(Drop)]
 pub struct CommandOutput {
     pub text: String,
     pub status: u8,
 }
 
-/// The line of the numbers of a yes.
 pub(crate) fn yes_line(alloc: Global, pairs: u64, left_out: usize) -> Result<String, AllocError>
     ensures { IfOk result (λ text. string_bytes text ≡ yes_line pairs left_out) }
 {
     format!(in alloc; "yes: {pairs} pairs, {left_out} left out\n")
 }
 
-/// Adds the line of a record that was left out.
 pub(crate) fn add_left_out(text: &mut String, name: RecordName) -> Result<(), AllocError>
     ensures { OnOk result (string_bytes text.new ≡ string_bytes text.old ++ left_out_line name) }
 {
@@ -36,7 +34,7 @@ pub(crate) fn add_left_out(text: &mut String, name: RecordName) -> Result<(), Al
     write!(text, "left out {split} {rec}\n")
 }
 
-/// The lines of a yes: the numbers, and each record that was left out.
+/// The lines of a yes: its numbers, and each record left out.
 pub(crate) fn yes_text(alloc: Global, yes: &Yes) -> Result<String, AllocError>
     ensures { IfOk result (λ text. string_bytes text ≡ yes_text yes.now.pairs yes.now.skips.items) }
 {
@@ -47,7 +45,7 @@ pub(crate) fn yes_text(alloc: Global, yes: &Yes) -> Result<String, AllocError>
     Ok(text)
 }
 
-/// What is said of an answer. Of want of memory nothing is.
+/// The output for an answer; want of memory is a fault.
 pub(crate) fn say(alloc: Global, answer: &Result<Yes, No>) -> Result<CommandOutput, Fault>
     ensures memory { IfErr result (λ e. e ≡ Fault.OutOfMemory) }
     ensures said { IfOk result (IsSaid answer.now) }
@@ -65,7 +63,6 @@ pub(crate) fn say(alloc: Global, answer: &Result<Yes, No>) -> Result<CommandOutp
     }
 }
 
-/// The line of a run whose result is certified.
 pub(crate) fn certified_line(
     alloc: Global,
     files: usize,
@@ -77,7 +74,6 @@ pub(crate) fn certified_line(
     format!(in alloc; "certified: {files} files, {pairs} pairs, {left_out} left out\n")
 }
 
-/// The line of a run whose job failed.
 pub(crate) fn failed_line(alloc: Global, fault: JobFault) -> Result<String, AllocError>
     ensures { IfOk result (λ text. string_bytes text ≡ failed_line fault) }
 {
@@ -85,7 +81,6 @@ pub(crate) fn failed_line(alloc: Global, fault: JobFault) -> Result<String, Allo
     format!(in alloc; "failed: {name}\n")
 }
 
-/// The line of a sequential execution.
 pub(crate) fn done_line(
     alloc: Global,
     files: usize,
@@ -97,7 +92,6 @@ pub(crate) fn done_line(
     format!(in alloc; "done: {files} files, {pairs} pairs, {left_out} left out\n")
 }
 
-/// A fault of an entry, and where it stands.
 fn entry_text(
     alloc: Global,
     fault: &str,
@@ -110,14 +104,12 @@ fn entry_text(
     format!(in alloc; "{fault} partition {partition} group {group} entry {entry}")
 }
 
-/// What is told before a number, and the number.
 fn number_text(alloc: Global, told: &str, number: u64) -> Result<String, AllocError>
     ensures { IfOk result (λ text. string_bytes text ≡ told.now ++ decimal number) }
 {
     format!(in alloc; "{told}{number}")
 }
 
-/// What is told before each of two numbers, and these.
 fn numbers_text(
     alloc: Global,
     told: &str,
@@ -125,12 +117,13 @@ fn numbers_text(
     between: &str,
     second: u64,
 ) -> Result<String, AllocError>
-    ensures { IfOk result (λ text. string_bytes text ≡ told.now ++ (decimal first ++ (between.now ++ decimal second))) }
+    ensures { IfOk result (λ text. string_bytes text
+        ≡ told.now ++ (decimal first ++ (between.now ++ decimal second))) }
 {
     format!(in alloc; "{told}{first}{between}{second}")
 }
 
-/// The line's text on a fault.
+/// A judge's fault as a line has it.
 pub fn fault_text(alloc: Global, no: &No) -> Result<String, AllocError>
     ensures { IfOk result (λ text. string_bytes text ≡ text_of_fault no.now) }
 {

@@ -1,4 +1,4 @@
-//! The judgement of a result whose files are read as they are judged, so that none of them is held.
+//! Judges a result while it reads its files, so that none of them is in memory.
 ghost use Rattle.std.specs.Prelude.{◌≡◌, ℕ, List, IfOk, IfErr, MatchResult, get_or, map};
 ghost use Rattle.mr_files.specs.Refusals.{IsUnreadAmong, TellsOf};
 ghost use Rattle.mr_commands.specs.Judgements.{AnswersResult, files_judged};
@@ -12,7 +12,7 @@ use mr_files::{FileFault, NamedReader, ReadCause, ResultReaders, Store, result_r
 use mr_store::CountedRead;
 use std::alloc::Global;
 
-/// The fault of a result, or of the file of which a read failed.
+/// The judge's fault, or that of the file whose read failed.
 fn trace_fault<R: CountedRead + Drop, C: ReadCause>(
     alloc: Global,
     parts: &[NamedReader<R, C>],
@@ -29,8 +29,7 @@ fn trace_fault<R: CountedRead + Drop, C: ReadCause>(
     }
 }
 
-/// Judges what the readers give, of which no read has failed yet; where a read fails, the fault is
-/// that of its file.
+/// Judges what the readers give; none has failed yet. If a read fails, the fault is its file's.
 fn judge_files<R: CountedRead + Drop, C: ReadCause>(
     job: &CheckJob<'_>,
     alloc: Global,
@@ -50,7 +49,7 @@ fn judge_files<R: CountedRead + Drop, C: ReadCause>(
     }
 }
 
-/// Judges the result of a job as it is read: the certificate and one part at a time, in pieces.
+/// Judges a result while it reads it: the certificate and one part at a time, in pieces.
 pub(crate) fn judge_as_read<S: Store, C: ReadCause>(
     job: &CheckJob<'_>,
     store: &S,

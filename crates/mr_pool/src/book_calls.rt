@@ -1,5 +1,5 @@
-//! What a worker says to the book. Each is one call under the lock; who waits for a task is woken
-//! where there may be one.
+//! A worker's calls of the book, each under one hold of the lock. It wakes the waiting workers
+//! where a call may have made a task.
 use crate::worker::Worker;
 use mr_bytes::{Gate, Progress};
 use mr_core::{Reply, Task};
@@ -15,13 +15,12 @@ use std::thread;
 const LOOKS: u32 = 1_000;
 
 impl<'s, L: Ledger, G: Gate, W: Progress, S: RegionStore, R: Wait> Worker<'s, L, G, W, S, R> {
-    /// Whether the workers end after their present turn.
     pub(crate) fn is_stopped(&self) -> bool {
         self.shared.stopped.load(Ordering::SeqCst)
     }
 
-    /// All workers end after their present turn, those who wait too. The flag is set under the
-    /// lock, so that none who is about to wait misses it.
+    /// Ends all workers after their present turn, waiting ones too. It sets the flag under the
+    /// lock, so that no worker which is about to wait misses it.
     pub(crate) fn stop(&self) {
         let shared = self.shared;
         let book = shared.book.lock(self.rt);
@@ -30,9 +29,8 @@ impl<'s, L: Ledger, G: Gate, W: Progress, S: RegionStore, R: Wait> Worker<'s, L,
         shared.news.notify_all();
     }
 
-    /// Asks for a task. Where there is none, waits until something has happened that may have made
-    /// one, or the workers are stopped. What happened since the ask can't be missed: the lock is
-    /// held until the worker waits.
+    /// Asks for a task. If there is none, waits until an event may have made one or the workers
+    /// stop. It holds the lock until it waits, so it misses no event.
     pub(crate) fn ask(&mut self) -> Result<Reply, AllocError> {
         let shared = self.shared;
         let mut book = shared.book.lock(self.rt);
@@ -47,7 +45,7 @@ impl<'s, L: Ledger, G: Gate, W: Progress, S: RegionStore, R: Wait> Worker<'s, L,
         Ok(reply)
     }
 
-    /// The output of a split, for a reduce attempt.
+    /// Fetches the output of a split for a reduce attempt.
     pub(crate) fn fetch(
         &mut self,
         attempt: u32,
@@ -64,7 +62,6 @@ impl<'s, L: Ledger, G: Gate, W: Progress, S: RegionStore, R: Wait> Worker<'s, L,
         Ok(output)
     }
 
-    /// A map attempt is done.
     pub(crate) fn report_map(
         &mut self,
         attempt: u32,
@@ -84,10 +81,9 @@ impl<'s, L: Ledger, G: Gate, W: Progress, S: RegionStore, R: Wait> Worker<'s, L,
         Ok(())
     }
 
-    /// Ends a map attempt that left off, where another worker has completed the task: it reports an
-    /// output of nothing, which is ignored. Whether it is complete is looked at under the same
-    /// lock, so that no such output is accepted; false where it isn't, and then nothing is
-    /// reported.
+    /// Ends a map attempt whose task another worker has completed: reports an empty output, which
+    /// the book ignores. It checks under the same lock that the task is complete, so the book
+    /// accepts no empty output. If it isn't, it reports nothing and returns false.
     pub(crate) fn leave_map(&mut self, attempt: u32, split: u32) -> Result<bool, AllocError> {
         let shared = self.shared;
         let nothing = Stored::new(shared.alloc, shared.request.parts(), self.number);
@@ -102,7 +98,6 @@ impl<'s, L: Ledger, G: Gate, W: Progress, S: RegionStore, R: Wait> Worker<'s, L,
         Ok(true)
     }
 
-    /// A map attempt failed on a record.
     pub(crate) fn report_failure(&mut self, attempt: u32, rec: u32) -> Result<(), AllocError> {
         let shared = self.shared;
         let told = shared
@@ -126,7 +121,6 @@ impl<'s, L: Ledger, G: Gate, W: Progress, S: RegionStore, R: Wait> Worker<'s, L,
         Ok(())
     }
 
-    /// A reduce attempt is done.
     pub(crate) fn report_reduce(
         &mut self,
         attempt: u32,
@@ -146,7 +140,6 @@ impl<'s, L: Ledger, G: Gate, W: Progress, S: RegionStore, R: Wait> Worker<'s, L,
         Ok(())
     }
 
-    /// The worker is lost.
     pub(crate) fn lose(&mut self) -> Result<(), AllocError> {
         let shared = self.shared;
         let told = shared.book.lock(self.rt).lose(&mut self.seat, self.number);
@@ -157,15 +150,13 @@ impl<'s, L: Ledger, G: Gate, W: Progress, S: RegionStore, R: Wait> Worker<'s, L,
         Ok(())
     }
 
-    /// Whether a report on the task needn't be held back any longer: the task is complete, or the
-    /// job has ended.
+    /// Whether a report may go: the task is complete, or the job has ended.
     fn is_over(&self, task: Task) -> bool {
         let book = self.shared.book.lock(self.rt);
         book.complete(task) || book.end().is_some()
     }
 
-    /// Holds a report on the task back, for so many looks at most, the lock being let go in
-    /// between.
+    /// Holds a report back for at most `LOOKS` looks, and releases the lock between them.
     pub(crate) fn hold(&self, task: Task) {
         for _ in 0..LOOKS {
             if self.is_over(task) {

@@ -1,4 +1,4 @@
-//! What a script orders: which workers are lost, which records fail, which outputs are spoiled, and when.
+//! What a script orders: lost workers, failing records, spoiled outputs, and when.
 ghost use Rattle.std.specs.Prelude.{◌≡◌};
 ghost use Rattle.std.specs.List.{list_all, list_any, range_with_len};
 ghost use Rattle.mr_pool.specs.Accounts.{accounts, fails_record, is_worker_lost, loses_some};
@@ -11,23 +11,19 @@ use mr_task::ReduceOutput;
 use std::alloc::{AllocError, Global};
 use std::sync::atomic::{AtomicU64, Ordering};
 
-/// What a line of a script bears on.
+/// What a line acts on: the loss of a worker after so many reports, its next report, a record of a
+/// split, a byte of a partition's output, or a byte of its first region put for a split.
 #[derive(Clone, Copy, PartialEq, Eq, PartialOrd, Ord)]
 pub(crate) enum Trigger {
-    /// The loss of a worker, behind so many reports.
     Loss,
-    /// What comes just before a worker's next report, behind so many.
     Report,
-    /// A record of a split.
     Record,
-    /// A byte of a partition's output.
     Output,
-    /// A byte of the first region of a partition that is put for a split.
     Region,
 }
 
-/// A line of a script, in the order in which lines are looked up: by what it bears on, by the worker, the split or the
-/// partition, by the number of reports, the record, the byte or the partition, and then by its number.
+/// A line, in look-up order: by trigger; by worker, split or partition; by number of reports,
+/// record, byte or partition; by line number.
 #[derive(Clone, Copy, PartialEq, Eq, PartialOrd, Ord)]
 pub(crate) struct Line {
     about: Trigger,
@@ -36,8 +32,8 @@ pub(crate) struct Line {
     number: usize,
 }
 
-/// The directives of a script, and how often each flaky record was reached: one count for all workers. The lines are
-/// sorted once, so that none is looked at for what it doesn't bear on: a script may be long.
+/// A script's directives with its lines, sorted once: a look-up in a long script is a binary
+/// search. `reached` counts how often any worker came to a line's flaky record or region.
 #[derive(Drop)]
 pub(crate) struct FaultPlan<'a> {
     directives: &'a [Directive],
@@ -45,7 +41,7 @@ pub(crate) struct FaultPlan<'a> {
     reached: Vec<AtomicU64>,
 }
 
-/// The line of a directive. A worker keeps back its first report, behind none.
+/// A worker holds back its first report, the one after none.
 fn line_of(directive: &Directive, number: usize) -> Line {
     let (about, of, at) = match *directive {
         Directive::Lose { worker, after } => (Trigger::Loss, worker, after),
@@ -69,7 +65,6 @@ fn line_of(directive: &Directive, number: usize) -> Line {
 }
 
 impl<'a> FaultPlan<'a> {
-    /// The orders of a script, before any record was reached.
     pub(crate) fn of(alloc: Global, script: &'a Script) -> Result<FaultPlan<'a>, AllocError> {
         let directives = script.directives();
         let mut lines = Vec::with_capacity(alloc, directives.len())?;
@@ -86,7 +81,7 @@ impl<'a> FaultPlan<'a> {
         })
     }
 
-    /// The lines about this, from one place to another.
+    /// The lines about this, with `at` from `first` to `last`.
     fn lines_between(&self, about: Trigger, of: u32, first: u32, last: u32) -> &[Line] {
         let least = Line {
             about,
@@ -105,7 +100,6 @@ impl<'a> FaultPlan<'a> {
         self.lines.get(from..to).unwrap_or(&[])
     }
 
-    /// The lines about all of a split, or of a partition.
     fn lines_of(&self, about: Trigger, of: u32) -> &[Line] {
         self.lines_between(about, of, 0, u32::MAX)
     }
@@ -117,17 +111,16 @@ impl<'a> FaultPlan<'a> {
             .is_empty()
     }
 
-    /// What is ordered just before the report that the worker makes behind so many, in the order of the lines.
+    /// What happens just before the worker's report after so many, in the order of the lines.
     pub(crate) fn before_report(&self, worker: u32, reports: u32) -> &[Line] {
         self.lines_between(Trigger::Report, worker, reports, reports)
     }
 
-    /// The directive of a line.
     pub(crate) fn directive(&self, line: &Line) -> Option<&Directive> {
         self.directives.get(line.number)
     }
 
-    /// Whether the record of the line fails in an attempt that reaches it now, by this line.
+    /// Whether this line fails its record in an attempt that reaches it now.
     fn fails_by(&self, line: &Line) -> bool {
         match self.directive(line) {
             Some(Directive::Bad { .. }) => true,
@@ -139,9 +132,9 @@ impl<'a> FaultPlan<'a> {
         }
     }
 
-    /// The record at which a map attempt fails: it reaches the records that a line names in their order, up to the
-    /// first that fails. A record that is flaky by several lines fails in as many attempts as the greatest of them says;
-    /// records that aren't there have no effect.
+    /// The record at which a map attempt fails. The attempt reaches the named records in order, up
+    /// to the first that fails. Of several lines on a flaky record the greatest count of attempts
+    /// holds. Missing records have no effect.
     pub(crate) fn failing(&self, plan: &Plan<'_>, split: u32, skips: &[u32]) -> Option<u32> {
         let mut failing = None;
         for line in self.lines_of(Trigger::Record, split) {
@@ -158,7 +151,7 @@ impl<'a> FaultPlan<'a> {
         failing
     }
 
-    /// The lines that damage the region of a partition that is put for a split now, where it is the first.
+    /// The lines that damage the region put now, if it is the partition's first for the split.
     fn damaging(&self, split: u32, partition: u32) -> &[Line] {
         let lines = self.lines_between(Trigger::Region, split, partition, partition);
         match lines.first() {
@@ -170,8 +163,8 @@ impl<'a> FaultPlan<'a> {
         }
     }
 
-    /// Changes the bytes of a region that is put now, where it is the first of a partition for a split: of each byte that a line
-    /// names the lowest bit, once for each line.
+    /// Flips a region's named bytes, if it is the partition's first for the split. A byte's lowest
+    /// bit flips once for each line that names it.
     pub(crate) fn damage(&self, split: u32, partition: u32, region: &mut [u8]) {
         for line in self.damaging(split, partition) {
             if let Some(Directive::Damage { place, .. }) = self.directive(line) {
@@ -180,7 +173,7 @@ impl<'a> FaultPlan<'a> {
         }
     }
 
-    /// Changes the bytes of a reduce output that are to be spoiled: of each the lowest bit, once for each line.
+    /// Flips the lowest bit of a named byte of a reduce output, once for each line that names it.
     pub(crate) fn spoil(&self, partition: u32, output: &mut ReduceOutput) {
         for line in self.lines_of(Trigger::Output, partition) {
             output.flip(line.at);
@@ -188,14 +181,13 @@ impl<'a> FaultPlan<'a> {
     }
 }
 
-/// Changes the lowest bit of the byte at the place; nothing where no byte stands there.
+/// Flips the lowest bit of the byte, if there is one.
 fn flip(bytes: &mut [u8], place: u32) {
     if let Some(byte) = bytes.get_mut(place as usize) {
         *byte ^= 1;
     }
 }
 
-/// Whether the directive loses the worker.
 fn loses(directive: &Directive, worker: u32) -> bool
     ensures { result ≡ loses_worker worker directive.now }
 {
@@ -206,7 +198,6 @@ fn loses(directive: &Directive, worker: u32) -> bool
     }
 }
 
-/// Whether a directive of the list loses the worker.
 fn is_lost(directives: &[Directive], worker: u32) -> bool
     ensures { result ≡ list_any (loses_worker worker) directives.now }
 {
@@ -218,7 +209,6 @@ fn is_lost(directives: &[Directive], worker: u32) -> bool
     false
 }
 
-/// Whether the list loses each of so many workers.
 fn all_are_lost(directives: &[Directive], workers: u32) -> bool
     ensures { result ≡ list_all (is_worker_lost directives.now) (range_with_len 0 workers) }
 {
@@ -230,7 +220,6 @@ fn all_are_lost(directives: &[Directive], workers: u32) -> bool
     true
 }
 
-/// Whether a directive of the list lets a record fail.
 fn records_fail(directives: &[Directive]) -> bool
     ensures { result ≡ list_any fails_record directives.now }
 {
@@ -242,7 +231,6 @@ fn records_fail(directives: &[Directive]) -> bool
     false
 }
 
-/// Whether a directive of the list loses a worker.
 fn workers_are_lost(directives: &[Directive]) -> bool
     ensures { result ≡ list_any loses_some directives.now }
 {
@@ -254,8 +242,7 @@ fn workers_are_lost(directives: &[Directive]) -> bool
     false
 }
 
-/// Whether a job of so many workers may fail by this fault, by what its script orders, by whether a region could not be read,
-/// and by whether the store is steady.
+/// Whether the script, an unreadable region or an unsteady store accounts for the job's fault.
 pub fn accounts_for(
     script: &Script,
     damage: bool,

@@ -1,5 +1,5 @@
-//! A run of a job (OSDI 2004, section 3.1): workers in threads of their own, which ask one book
-//! under its lock for tasks, do them and report; what a script orders to go wrong; then the judge.
+//! Runs a job (OSDI 2004, section 3.1): workers in threads of their own ask one book, under its
+//! lock, for tasks, do them and report; a script orders what goes wrong; then the judge.
 #![tactic(auto)]
 
 mod book_calls;

@@ -1,10 +1,10 @@
-//! How far a run and its judge have come, for who looks on.
+//! The progress of a run and of its judge, for an observer.
 
 use mr_bytes::{Phase, Progress};
 use std::sync::atomic::{AtomicU64, Ordering};
 
-/// Counts the outputs that the book accepts, without its lock. A map task that is done again after a loss is counted
-/// again, so what is told stops at all that there are.
+/// Counts accepted outputs without the book's lock. A map task that is done again after a loss
+/// counts again, so the count stops at the total.
 #[derive(Drop)]
 pub(crate) struct RunProgress<'a, W: Progress> {
     watch: &'a W,
@@ -14,7 +14,6 @@ pub(crate) struct RunProgress<'a, W: Progress> {
     reduced: AtomicU64,
 }
 
-/// One more is done, but never more than all.
 fn count(done: &AtomicU64, all: u64) -> u64 {
     done.fetch_add(1, Ordering::SeqCst)
         .saturating_add(1)
@@ -22,7 +21,6 @@ fn count(done: &AtomicU64, all: u64) -> u64 {
 }
 
 impl<'a, W: Progress> RunProgress<'a, W> {
-    /// Nothing is done yet.
     pub(crate) fn new(watch: &'a W, maps: u32, parts: u32) -> RunProgress<'a, W> {
         RunProgress {
             watch,
@@ -33,25 +31,22 @@ impl<'a, W: Progress> RunProgress<'a, W> {
         }
     }
 
-    /// An output of a map task is accepted.
     pub(crate) fn mapped(&self) {
         let done = count(&self.mapped, self.maps);
         self.watch.report(Phase::Mapping, done, self.maps);
     }
 
-    /// An output of a reduce task is accepted.
     pub(crate) fn reduced(&self) {
         let done = count(&self.reduced, self.parts);
         self.watch.report(Phase::Reducing, done, self.parts);
     }
 
-    /// The loss of a worker is accepted.
     pub(crate) fn worker_lost(&self) {
         self.watch.worker_lost();
     }
 }
 
-/// Tells the judge's work as one phase of the run: mapping is the first half of it, and judging the second.
+/// Reports the judge's work as one phase: mapping is its first half, judging the second.
 #[derive(Drop)]
 pub(crate) struct JudgesProgress<'a, W: Progress> {
     pub watch: &'a W,

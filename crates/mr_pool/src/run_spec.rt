@@ -1,4 +1,4 @@
-//! What a run is of.
+//! The specification of a run.
 ghost use Rattle.std.specs.Prelude.{◌≡◌, ◌≤◌, ◌^◌};
 ghost use Rattle.mr_input.specs.Files.{split_total};
 ghost use Rattle.mr_pool.specs.Outcomes.{IsRunnable, run_shape};
@@ -9,8 +9,8 @@ use mr_input::Input;
 use mr_jobs::Request;
 use mr_script::Script;
 
-/// What a run is of: a job over an input, what the script orders to go wrong, how many tasks,
-/// workers and attempts there are, and the version that the certificate is written in.
+/// A job over an input, the script of what goes wrong, the counts of tasks, workers and attempts,
+/// and the certificate's version.
 #[derive(Clone, Copy)]
 pub struct RunSpec<'a> {
     pub request: &'a Request,
@@ -21,8 +21,8 @@ pub struct RunSpec<'a> {
 }
 
 impl<'a> RunSpec<'a> {
-    /// A run by so many workers, 1 to 64; each task may have so many attempts, 1 to 16. The splits
-    /// of the input must fit (`Request::fits`).
+    /// A run with 1 to 64 workers and 1 to 16 attempts for each task. The input's splits must fit
+    /// (`Request::fits`).
     pub fn of(
         request: &'a Request,
         input: &'a Input,

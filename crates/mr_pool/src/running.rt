@@ -1,4 +1,5 @@
-//! A run, from its opening to its answer.
+//! A run: workers do the job, one thread assembles the result while others map the input for the
+//! judge, then the judge checks the result.
 ghost use Rattle.std.specs.Prelude.{◌≡◌, ◌↔◌, ◌⊎◌, Err, ◌≤◌, ◌<◌, ◌^◌, Some, Ok, IfOk, OnOk, IfErr};
 ghost use Rattle.std.specs.Prelude.{IsTrue, vec_len};
 ghost use Rattle.mr_pool.specs.Endings.{ending_of};
@@ -40,16 +41,15 @@ use std::thread;
 use std::thread::Threads;
 use thiserror::Error;
 
-/// A result that the judge said yes to, with the history of the run that made it.
+/// A result that the judge accepted, with the history of its run.
 #[derive(Drop)]
 pub struct Certified {
-    /// The bytes of each partition's file.
+    /// Each partition's file.
     pub outputs: Vec<Vec<u8>>,
-    /// The certificate's bytes.
     pub certificate: Vec<u8>,
     /// The records that the result leaves out, rising.
     pub skips: Vec<RecordName>,
-    /// How many pairs are emitted without them.
+    /// How many pairs the other records emit.
     pub pairs: u64,
     pub history: History,
 }
@@ -60,16 +60,14 @@ pub enum RunFault {
     /// The job failed, and the script accounts for that.
     #[error("failed: {0}")]
     Failed(JobFault, History),
-    /// The judge said no to the assembled result; or the book has not ended, or otherwise than it may, and then the no
-    /// is `OtherJob`.
+    /// The judge said no; `OtherJob` also if the book has not ended, or ended as it may not.
     #[error("uncertified: {0}")]
     Uncertified(No, History),
-    /// The machine refused memory.
     #[error("OutOfMemory")]
     OutOfMemory,
 }
 
-// The fault alone: a history may have a million events.
+// Prints the fault alone: a history may have a million events.
 impl Debug for RunFault {
     fn fmt<W: fmt::Write>(&self, f: &mut Formatter<W>) -> fmt::Result {
         write!(f, "{self}")
@@ -86,13 +84,13 @@ impl From<AllocError> for RunFault {
     }
 }
 
-/// How a job ended, by what its script accounts for.
+/// How a job ended, according to its script.
 #[derive(Clone, Copy, PartialEq, Eq)]
 enum Ending {
     Done,
     /// By a fault that the script accounts for.
     Failed(JobFault),
-    /// Not at all, or by a fault that it doesn't account for.
+    /// Not at all, or by another fault.
     Astray,
 }
 
@@ -112,14 +110,14 @@ fn ending_by(end: Option<End>, script: &Script, damage: bool, steady: bool, work
     }
 }
 
-/// Whether the book has the shape that it was opened with: a lock's type doesn't tell that it is the same book.
+/// A lock's type doesn't say that it holds the same book, so compare the shapes.
 fn is_opened(shape: Shape, opened: Shape) -> bool
     ensures { IsTrue result ↔ (shape ≡ opened) }
 {
     shape == opened
 }
 
-/// What a run that ended done answers, as its result is judged.
+/// Turns the judge's verdict on a finished job into the run's result.
 fn answer(
     spec: RunSpec<'_>,
     steady: bool,
@@ -161,7 +159,7 @@ fn answer(
     }
 }
 
-/// What makes the result of a run and judges it: by as many threads as there are workers, for who looks on.
+/// Assembles and judges the result of a run, with as many threads as workers.
 #[derive(Drop)]
 struct RunJudge<'a, W: Progress, R: Threads + Sync> {
     rt: &'a R,
@@ -174,7 +172,7 @@ struct RunJudge<'a, W: Progress, R: Threads + Sync> {
 }
 
 impl<'a, W: Progress, R: Threads + Sync> RunJudge<'a, W, R> {
-    /// The files and the certificate of a done job, assembled by one thread while the others map the input for the judge.
+    /// One thread assembles files and certificate; the others map the input for the judge.
     fn assemble_and_map<L: Ledger>(
         &self,
         book: &Book<L>,
@@ -187,10 +185,13 @@ impl<'a, W: Progress, R: Threads + Sync> RunJudge<'a, W, R> {
         ensures outputs { IfOk result (λ r. contents r.0.items
             ≡ assembled_outputs (reduced_under book.now.reduces) book.now.state) }
         ensures certificate { IfOk result (λ r. Spells r.1.items
-            (assembled_certificate self.now.spec.request.now self.now.spec.input.now (reduced_under book.now.reduces) book.now.state)) }
+            (assembled_certificate self.now.spec.request.now self.now.spec.input.now
+            (reduced_under book.now.reduces) book.now.state)) }
         ensures version { IfOk result (λ r. SpellsWhereItCan self.now.spec.version r.1.items
-            (assembled_certificate self.now.spec.request.now self.now.spec.input.now (reduced_under book.now.reduces) book.now.state)) }
-        ensures mapped { IfOk result (λ r. IsMappedFor self.now.spec.request.now self.now.spec.input.now (r.2)) }
+            (assembled_certificate self.now.spec.request.now self.now.spec.input.now
+            (reduced_under book.now.reduces) book.now.state)) }
+        ensures mapped { IfOk result
+            (λ r. IsMappedFor self.now.spec.request.now self.now.spec.input.now (r.2)) }
     {
         let RunSpec {
             request,
@@ -215,9 +216,11 @@ impl<'a, W: Progress, R: Threads + Sync> RunJudge<'a, W, R> {
             ensures outputs { IfOk result (λ r. contents r.0.items
                 ≡ assembled_outputs (reduced_under book.entry.now.reduces) book.entry.now.state) }
             ensures certificate { IfOk result (λ r. Spells r.1.items
-                (assembled_certificate request.entry.now input.entry.now (reduced_under book.entry.now.reduces) book.entry.now.state)) }
+                (assembled_certificate request.entry.now input.entry.now
+                (reduced_under book.entry.now.reduces) book.entry.now.state)) }
             ensures version { IfOk result (λ r. SpellsWhereItCan version r.1.items
-                (assembled_certificate request.entry.now input.entry.now (reduced_under book.entry.now.reduces) book.entry.now.state)) }
+                (assembled_certificate request.entry.now input.entry.now
+                (reduced_under book.entry.now.reduces) book.entry.now.state)) }
         { book.assemble_bytes(alloc, request, input, version) };
         let (mapped, assembled) = thread::join(rt, mapping, assembling);
         let (outputs, certificate) = assembled?;
@@ -243,7 +246,8 @@ impl<'a, W: Progress, R: Threads + Sync> RunJudge<'a, W, R> {
         ensures good { OnOk result (IsGoodResult self.now.spec.request.now self.now.spec.input.now
             (contents outputs.now) certificate.now) }
         ensures no { IfErr result (λ e. (e ≡ No.OutOfMemory)
-            ⊎ (verdict_of self.now.spec.request.now self.now.spec.input.now (contents outputs.now) certificate.now ≡ Err e)) }
+            ⊎ (verdict_of self.now.spec.request.now self.now.spec.input.now
+            (contents outputs.now) certificate.now ≡ Err e)) }
     {
         let RunSpec { request, input, .. } = self.spec;
         let case = Case {
@@ -258,7 +262,6 @@ impl<'a, W: Progress, R: Threads + Sync> RunJudge<'a, W, R> {
         judge(self.rt, self.alloc, &case, &options)
     }
 
-    /// The result of a done job is assembled and judged.
     fn assemble_and_judge<L: Ledger>(
         &self,
         book: Book<L>,
@@ -271,9 +274,11 @@ impl<'a, W: Progress, R: Threads + Sync> RunJudge<'a, W, R> {
         requires opened { IsOpenedFor self.now.spec.request.now self.now.spec.input.now book.shape }
         requires seats { vec_len seats ≡ L.parts }
         ensures certified { IfOk result
-            (IsCertifiedRun self.now.spec.request.now self.now.spec.input.now book.shape self.now.spec.version) }
+            (IsCertifiedRun self.now.spec.request.now self.now.spec.input.now book.shape
+            self.now.spec.version) }
         ensures fault { IfErr result
-            (IsRunFault self.now.spec.request.now self.now.spec.input.now self.now.spec.script.now self.now.steady book.shape) }
+            (IsRunFault self.now.spec.request.now self.now.spec.input.now self.now.spec.script.now
+            self.now.steady book.shape) }
     {
         self.watch.report(Phase::Judging, 0, 1);
         let (outputs, certificate, mapped) = self.assemble_and_map(&book)?;
@@ -289,16 +294,18 @@ impl<'a, W: Progress, R: Threads + Sync> RunJudge<'a, W, R> {
         )
     }
 
-    /// What a book that is closed amounts to.
+    /// The result of a run whose book has closed.
     fn conclude<L: Ledger>(&self, book: Book<L>, seats: Vec<Seat<L>>) -> Result<Certified, RunFault>
         requires plan { self.now.plan.now
             ≡ record { size = self.now.spec.request.now.split; files = self.now.spec.input.now } }
         requires runnable { IsRunnable self.now.spec.request.now self.now.spec.input.now self.now.spec.shape }
         requires seats { vec_len seats ≡ L.parts }
         ensures certified { IfOk result
-            (IsCertifiedRun self.now.spec.request.now self.now.spec.input.now self.now.spec.shape self.now.spec.version) }
+            (IsCertifiedRun self.now.spec.request.now self.now.spec.input.now self.now.spec.shape
+            self.now.spec.version) }
         ensures fault { IfErr result
-            (IsRunFault self.now.spec.request.now self.now.spec.input.now self.now.spec.script.now self.now.steady self.now.spec.shape) }
+            (IsRunFault self.now.spec.request.now self.now.spec.input.now self.now.spec.script.now
+            self.now.steady self.now.spec.shape) }
     {
         let RunSpec { script, shape, .. } = self.spec;
         if !is_opened(book.shape(), shape) {
@@ -339,7 +346,8 @@ fn run_in<
     ensures certified { IfOk result
         (IsCertifiedRun spec.entry.request.now spec.entry.input.now spec.entry.shape spec.entry.version) }
     ensures fault { IfErr result
-        (IsRunFault spec.entry.request.now spec.entry.input.now spec.entry.script.now S.steady spec.entry.shape) }
+        (IsRunFault spec.entry.request.now spec.entry.input.now spec.entry.script.now S.steady
+        spec.entry.shape) }
 {
     let Shape {
         maps,
@@ -382,10 +390,11 @@ fn run_in<
     judge.conclude(book, seats)
 }
 
-/// Runs the request's job over the input by so many workers, 1 to 64, each in a thread of its own where one can be made;
-/// each task may have so many attempts, 1 to 16. What the script orders goes wrong. The result of a job that is done is
-/// judged, and only a yes is `Certified`; its certificate is in the version asked for, which can spell whatever the judge
-/// says yes to. The splits of the input must fit (`Request::fits`). It may wait for threads.
+/// Runs the request's job over the input with 1 to 64 workers, each in a thread of its own if one
+/// can be made. A task may have 1 to 16 attempts. What the script orders goes wrong. The judge
+/// checks the result of a finished job, and only a yes is `Certified`. The certificate has this
+/// version, which can encode whatever the judge accepts. The input's splits must fit
+/// (`Request::fits`). It may wait for threads.
 pub fn run<G: Gate, S: RegionStore + Drop, R: Threads + Wait + Sync>(
     rt: &R,
     alloc: Global,
@@ -410,8 +419,8 @@ pub fn run<G: Gate, S: RegionStore + Drop, R: Threads + Wait + Sync>(
     run_watched(rt, alloc, spec, gate, store, &Unwatched)
 }
 
-/// Runs a job as `run` does, and tells who looks on: how many outputs of map tasks the book has accepted, and of reduce
-/// tasks, each worker that is lost, and that the result is judged. It is told by several threads at once, and waited for.
+/// Runs a job like `run` and reports to `watch`: the accepted outputs of map and of reduce tasks,
+/// each lost worker, and the judge's work. Several threads report at once, and wait for each call.
 pub fn run_watched<G: Gate, S: RegionStore + Drop, R: Threads + Wait + Sync>(
     rt: &R,
     alloc: Global,
@@ -424,7 +433,8 @@ pub fn run_watched<G: Gate, S: RegionStore + Drop, R: Threads + Wait + Sync>(
     ensures certified { IfOk result
         (IsCertifiedRun spec.entry.request.now spec.entry.input.now spec.entry.shape spec.entry.version) }
     ensures fault { IfErr result
-        (IsRunFault spec.entry.request.now spec.entry.input.now spec.entry.script.now S.steady spec.entry.shape) }
+        (IsRunFault spec.entry.request.now spec.entry.input.now spec.entry.script.now S.steady
+        spec.entry.shape) }
 {
     let blank = Blank::new(spec.shape.workers as u64);
     run_in::<Brand, G, S, &dyn Progress, R>(rt, alloc, blank, spec, gate, store, &watch)

@@ -18,15 +18,13 @@ use std::alloc::{AllocError, Global};
 use std::sync::ledger::Ledger;
 use std::sync::{Arc, Wait};
 
-/// What comes after a turn.
 #[derive(Clone, Copy, PartialEq, Eq)]
 enum Next {
     Ask,
     End,
 }
 
-/// A worker by its number, with its seat at the book, what it shares with the others, and how many
-/// reports it has made.
+/// A worker by number, with its seat at the book and the count of its reports.
 #[derive(Drop)]
 pub(crate) struct Worker<'s, L: Ledger, G: Gate, W: Progress, S: RegionStore, R: Wait> {
     pub rt: &'s R,
@@ -36,33 +34,31 @@ pub(crate) struct Worker<'s, L: Ledger, G: Gate, W: Progress, S: RegionStore, R:
     pub reports: u32,
 }
 
-/// What a worker leaves: its seat, and whether it was refused memory.
+/// A worker's seat, and whether memory ran out.
 #[derive(Drop)]
 pub(crate) struct WorkerEnd<L: Ledger> {
     pub seat: Seat<L>,
     pub refused: bool,
 }
 
-/// A region that was fetched: whose split it is, and its bytes.
 #[derive(Drop)]
 struct FetchedRegion {
     split: u32,
     bytes: Vec<u8>,
 }
 
-/// What came of a reduce attempt.
+/// The end of a reduce attempt.
 #[derive(Drop)]
 enum ReduceResult {
     Output(ReduceOutput),
-    /// It is no longer wanted.
+    /// No longer wanted.
     Unwanted,
-    /// A split has no output any more, and the attempt has ended.
+    /// A split has no output any more; the attempt has ended.
     Gone,
-    /// What is stored for this split can't be read.
+    /// This split's stored regions can't be read.
     Damaged(u32),
 }
 
-/// The regions, lent.
 fn lent<'g>(
     alloc: Global,
     fetched: &'g [FetchedRegion],
@@ -74,7 +70,7 @@ fn lent<'g>(
     Ok(regions)
 }
 
-/// The most pairs that an input can have: each takes two bytes of it, or ends a file.
+/// The most pairs of an input: each takes two of its bytes, or ends a file.
 fn most_pairs(input: &Input) -> usize {
     let mut bytes = input.files();
     for i in 0..input.files() {
@@ -83,8 +79,8 @@ fn most_pairs(input: &Input) -> usize {
     bytes / 2
 }
 
-/// How many pairs more there may be, where the first split has so many: a sixteenth more than as
-/// many from each, and no more than the input can have. Files of all lengths may follow a long one.
+/// A guess of all pairs from those of the first split: 1/16 more than as many from each split, and
+/// at most what the input can have, since shorter files may follow a long one.
 fn guessed(first: usize, plan: &Plan<'_>) -> usize {
     first
         .saturating_add(first / 16)
@@ -93,7 +89,7 @@ fn guessed(first: usize, plan: &Plan<'_>) -> usize {
 }
 
 impl<'s, L: Ledger, G: Gate, W: Progress, S: RegionStore, R: Wait> Worker<'s, L, G, W, S, R> {
-    /// What is ordered just before the worker's next report, in the order of the lines.
+    /// Does what the script orders just before the worker's next report, in the order of the lines.
     fn before_report(&mut self, task: Task) -> Result<(), AllocError> {
         let shared = self.shared;
         for line in shared.orders.before_report(self.number, self.reports) {
@@ -106,8 +102,7 @@ impl<'s, L: Ledger, G: Gate, W: Progress, S: RegionStore, R: Wait> Worker<'s, L,
         Ok(())
     }
 
-    /// Puts a region, damaged where a line says so: its number, and `None` where the store's device
-    /// failed.
+    /// Puts a region, damaged if the script says so. `None` if the store's device failed.
     fn put(
         &self,
         split: u32,
@@ -125,8 +120,7 @@ impl<'s, L: Ledger, G: Gate, W: Progress, S: RegionStore, R: Wait> Worker<'s, L,
         }
     }
 
-    /// Puts the regions of each run of a piece, which are let go then; false where the store's
-    /// device failed.
+    /// Puts the regions of each run of a piece and frees them; false if the store's device failed.
     fn put_piece(
         &self,
         split: u32,
@@ -146,7 +140,7 @@ impl<'s, L: Ledger, G: Gate, W: Progress, S: RegionStore, R: Wait> Worker<'s, L,
         Ok(true)
     }
 
-    /// Executes a map task, and reports. A worker whose store fails is lost.
+    /// Executes a map task and reports. A worker whose store fails is lost.
     fn map(&mut self, attempt: u32, split: u32, skips: &[u32]) -> Result<Next, AllocError>
         requires { split < split_total self.old.shared.now.plan.now.size self.old.shared.now.plan.now.files }
     {
@@ -162,10 +156,10 @@ impl<'s, L: Ledger, G: Gate, W: Progress, S: RegionStore, R: Wait> Worker<'s, L,
         Ok(Next::Ask)
     }
 
-    /// Maps a split piece by piece, puts the regions of each before it maps the next, and reports;
-    /// false where the store's device failed. Once another worker has completed the task it leaves
-    /// off, and reports no output: the regions that it has put stay in the store. Where that
-    /// worker's output is lost meanwhile, it goes on.
+    /// Maps a split piece by piece: puts the regions of a piece, maps the next, and reports at the
+    /// end; false if the store's device failed. Once another worker has completed the task, it
+    /// stops without output, and its regions stay in the store. If that worker's output is lost
+    /// meanwhile, it goes on.
     fn map_pieces(&mut self, attempt: u32, split: u32, skips: &[u32]) -> Result<bool, AllocError>
         requires { split < split_total self.old.shared.now.plan.now.size self.old.shared.now.plan.now.files }
     {
@@ -199,7 +193,7 @@ impl<'s, L: Ledger, G: Gate, W: Progress, S: RegionStore, R: Wait> Worker<'s, L,
         Ok(true)
     }
 
-    /// Appends the bytes of a region; false where the store's device failed, or it isn't there.
+    /// Appends a region's bytes; false if the device failed or there is no such region.
     fn read_region(&self, place: Place, into: &mut Vec<u8>) -> Result<bool, AllocError> {
         match self.shared.store.get(place.worker, place.number, into) {
             Ok(()) => Ok(true),
@@ -208,8 +202,7 @@ impl<'s, L: Ledger, G: Gate, W: Progress, S: RegionStore, R: Wait> Worker<'s, L,
         }
     }
 
-    /// Fetches the regions that are stored of a split for a partition, behind those before: whether
-    /// each could be read, and is one of the split and the partition.
+    /// Fetches a split's regions of a partition; false if one can't be read or isn't theirs.
     fn fetch_regions(
         &self,
         stored: &Stored,
@@ -233,8 +226,8 @@ impl<'s, L: Ledger, G: Gate, W: Progress, S: RegionStore, R: Wait> Worker<'s, L,
         Ok(true)
     }
 
-    /// Takes the regions that are stored of a split for a partition, one after another, into the
-    /// same buffer: whether each could be read, and is one of the split and the partition.
+    /// Passes a split's regions of a partition to the follower, one after another in one buffer;
+    /// false if one can't be read or isn't theirs.
     fn follow(
         &self,
         stored: &Stored,
@@ -262,7 +255,7 @@ impl<'s, L: Ledger, G: Gate, W: Progress, S: RegionStore, R: Wait> Worker<'s, L,
         Ok(true)
     }
 
-    /// The output of a partition over all regions at once.
+    /// Reduces a partition with all regions in memory.
     fn reduce_whole(
         &self,
         partition: u32,
@@ -290,8 +283,8 @@ impl<'s, L: Ledger, G: Gate, W: Progress, S: RegionStore, R: Wait> Worker<'s, L,
         }
     }
 
-    /// Fetches the output of each split, and takes its regions of the partition, of which one is at
-    /// hand at a time. Where their names are out of order, all are fetched again.
+    /// Fetches each split's output and takes its regions one at a time. If their names are out of
+    /// order, it fetches all again.
     fn fetch_and_reduce(
         &mut self,
         attempt: u32,
@@ -323,9 +316,9 @@ impl<'s, L: Ledger, G: Gate, W: Progress, S: RegionStore, R: Wait> Worker<'s, L,
         }
     }
 
-    /// Executes a reduce task, and reports; where an output that it needs is gone, or can't be
-    /// read, it makes no report. Where another worker has completed the task, it reports an output
-    /// of nothing, which is ignored: what is committed stays so.
+    /// Executes a reduce task and reports. It reports nothing if an output is gone, and damage if
+    /// one can't be read. If another worker has completed the task, it reports an empty output,
+    /// which the book ignores: what is committed stays.
     fn reduce(&mut self, attempt: u32, partition: u32) -> Result<(), AllocError> {
         let output = match self.fetch_and_reduce(attempt, partition)? {
             ReduceResult::Output(mut output) => {
@@ -342,7 +335,7 @@ impl<'s, L: Ledger, G: Gate, W: Progress, S: RegionStore, R: Wait> Worker<'s, L,
         Ok(())
     }
 
-    /// An attempt, between entering the gate and leaving it.
+    /// Makes an attempt, between entering the gate and leaving it.
     fn attempt(&mut self, reply: &Reply) -> Result<Next, AllocError> {
         let shared = self.shared;
         let (attempt, done) = match reply {
@@ -367,7 +360,7 @@ impl<'s, L: Ledger, G: Gate, W: Progress, S: RegionStore, R: Wait> Worker<'s, L,
         done
     }
 
-    /// One turn: the worker is lost where that is due; else it asks, and does what it is told.
+    /// Loses the worker if that is due; else asks for a task and does it.
     fn turn(&mut self) -> Result<Next, AllocError> {
         if self.shared.orders.loses(self.number, self.reports) {
             self.lose()?;
@@ -377,7 +370,7 @@ impl<'s, L: Ledger, G: Gate, W: Progress, S: RegionStore, R: Wait> Worker<'s, L,
         self.attempt(&reply)
     }
 
-    /// Turn after turn, until it is dismissed, or a worker can't go on.
+    /// Turn after turn, until the book dismisses the worker or a worker can't go on.
     pub(crate) fn work(mut self) -> WorkerEnd<L> {
         let mut refused = false;
         for _ in self.rt.forever() {

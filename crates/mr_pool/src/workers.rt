@@ -1,5 +1,4 @@
-//! All workers' turns, each worker in a thread of its own; what they share; and flags that say without the book's lock
-//! which tasks are done.
+//! Runs the workers, each in a thread of its own, over what they share.
 ghost use Rattle.std.specs.Prelude.{◌≡◌, ◌<◌, ◌^◌, IfOk, vec_len};
 
 use crate::fault_plan::FaultPlan;
@@ -19,7 +18,7 @@ use std::sync::{Condvar, Mutex, Wait};
 use std::thread;
 use std::thread::Threads;
 
-/// The workers, each with its seat; the last has the number 0.
+/// The last seat comes first; the last worker has the number 0.
 fn workers_of<'s, L: Ledger, G: Gate, W: Progress, S: RegionStore, R: Wait>(
     rt: &'s R,
     shared: &'s Shared<'s, L, G, W, S>,
@@ -42,7 +41,7 @@ fn workers_of<'s, L: Ledger, G: Gate, W: Progress, S: RegionStore, R: Wait>(
     Ok(workers)
 }
 
-/// The seats that came back; refused where a worker was refused memory.
+/// The seats; an error if a worker ran out of memory.
 fn seats_of<L: Ledger>(
     alloc: Global,
     mut ends: Vec<WorkerEnd<L>>,
@@ -60,8 +59,7 @@ fn seats_of<L: Ledger>(
     Ok(seats)
 }
 
-/// All workers' turns over what they share, each in a thread of its own where one can be made: the
-/// book, and the seats that come back; the rest is let go.
+/// Runs the workers, each in a thread if one can be made. Returns the book and the seats.
 pub(crate) fn run_workers<
     L: Ledger + Send + Sync,
     G: Gate,
@@ -83,8 +81,8 @@ pub(crate) fn run_workers<
     Ok((book.into_inner(), seats))
 }
 
-/// The book under its lock, which is held for one call of it and for nothing else; `news` wakes
-/// those who wait for a task. `stopped` is set once a worker can't go on.
+/// The lock holds the book for one call and nothing else. `news` wakes workers that wait for a
+/// task; `stopped` is set once a worker can't go on.
 #[derive(Drop)]
 pub(crate) struct Shared<'a, L: Ledger, G: Gate, W: Progress, S: RegionStore> {
     pub alloc: Global,
@@ -100,15 +98,14 @@ pub(crate) struct Shared<'a, L: Ledger, G: Gate, W: Progress, S: RegionStore> {
     pub progress: RunProgress<'a, W>,
 }
 
-/// The tasks that were complete at some time. It is a hint: a map task may have become incomplete since, where its worker
-/// was lost. The book knows.
+/// The tasks that were complete at some time, without the book's lock. A hint: a map task is
+/// incomplete again if its worker was lost.
 #[derive(Drop)]
 pub(crate) struct TaskFlags {
     maps: Vec<AtomicBool>,
     parts: Vec<AtomicBool>,
 }
 
-/// So many flags that are not set.
 fn flags(alloc: Global, count: u32) -> Result<Vec<AtomicBool>, AllocError> {
     let mut flags = Vec::with_capacity(alloc, count as usize)?;
     for _ in 0..count {
@@ -118,7 +115,6 @@ fn flags(alloc: Global, count: u32) -> Result<Vec<AtomicBool>, AllocError> {
 }
 
 impl TaskFlags {
-    /// No task of so many splits and partitions is complete.
     pub(crate) fn new(alloc: Global, maps: u32, parts: u32) -> Result<TaskFlags, AllocError> {
         Ok(TaskFlags {
             maps: flags(alloc, maps)?,
@@ -126,7 +122,6 @@ impl TaskFlags {
         })
     }
 
-    /// The flag of a task.
     fn flag(&self, task: Task) -> Option<&AtomicBool> {
         match task {
             Task::Map(split) => self.maps.get(split as usize),
@@ -134,21 +129,19 @@ impl TaskFlags {
         }
     }
 
-    /// The task is complete.
     pub(crate) fn mark(&self, task: Task) {
         if let Some(flag) = self.flag(task) {
             flag.store(true, Ordering::SeqCst);
         }
     }
 
-    /// The task is wanted again, its output being lost.
+    /// Another output is wanted: the task's is lost.
     pub(crate) fn reopen(&self, task: Task) {
         if let Some(flag) = self.flag(task) {
             flag.store(false, Ordering::SeqCst);
         }
     }
 
-    /// The demand for one more output of the task, which ends once it has been complete.
     pub(crate) fn demand(&self, task: Task) -> UntilComplete<'_> {
         UntilComplete {
             flag: self.flag(task),
@@ -156,7 +149,7 @@ impl TaskFlags {
     }
 }
 
-/// The demand for the output of a task, until another worker has brought one.
+/// The demand for a task's output, until another worker has completed the task.
 #[derive(Drop)]
 pub(crate) struct UntilComplete<'a> {
     flag: Option<&'a AtomicBool>,

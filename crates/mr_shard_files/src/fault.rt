@@ -7,59 +7,59 @@ use mr_shards::{JoinFault, MergeFault, VerdictFault};
 use std::alloc::AllocError;
 use thiserror::Error;
 
-/// Why shards are not merged. Shards, their partitions, lines and inputs are numbered from 0.
+/// Shards, their partitions, lines and inputs are numbered from 0.
 #[derive(Debug, Drop, Error)]
 pub enum ShardFault {
-    /// No verdict is named.
+    /// There is no verdict.
     #[error("NoShards")]
     NoShards,
-    /// A text is that of no verdict: its lines from this one on differ from those of the verdict that its lines tell.
+    /// The text is no verdict's: this is the first line unlike the verdict that its lines give.
     #[error("BadVerdict shard {shard} line {line}")]
     BadVerdict {
         shard: usize,
         line: u64,
     },
-    /// A text that is to be a verdict has more than 1 GiB.
+    /// The text is longer than 1 GiB.
     #[error("LongVerdict shard {shard}")]
     LongVerdict {
         shard: usize,
     },
-    /// The first verdict is about no request, or about one of an index, whose outputs can't be merged.
+    /// The first verdict is about no request, or about one of an index, which can't be merged.
     #[error("NoRequest")]
     NoRequest,
-    /// A verdict is about another request than the first.
+    /// The verdict is about another request than the first.
     #[error("OtherRequest shard {shard}")]
     OtherRequest {
         shard: usize,
     },
-    /// The number of a left-out record's split would not fit in 32 bits, or that of the splits not in 64.
+    /// The split of a left-out record would not fit in 32 bits, or the count of splits in 64.
     #[error("TooManySplits shard {shard}")]
     TooManySplits {
         shard: usize,
     },
-    /// The pairs of all don't fit in 64 bits.
+    /// The sum of the pairs doesn't fit in 64 bits.
     #[error("TooManyPairs")]
     TooManyPairs,
-    /// An input has the name of one before it. Inputs are numbered through all shards.
+    /// An earlier input has the same name. Inputs are numbered through all shards.
     #[error("RepeatedInput input {input}")]
     RepeatedInput {
         input: usize,
     },
-    /// The list of inputs has more than 1 GiB.
+    /// The list of inputs is longer than 1 GiB.
     #[error("LongList")]
     LongList,
-    /// The list of inputs isn't that of the inputs that the verdicts tell of: in this line it differs first.
+    /// The list is not that of the verdicts' inputs; this is the first line that differs.
     #[error("OtherInputs line {line}")]
     OtherInputs {
         line: u64,
     },
-    /// A part is not the one that its verdict tells of, by its length or its digest.
+    /// The part's length or digest is not that in the verdict.
     #[error("OtherPart shard {shard} partition {partition}")]
     OtherPart {
         shard: usize,
         partition: usize,
     },
-    /// A line isn't of the form that the job's outputs have, or its key isn't past that of the line before.
+    /// The line isn't of the job's form, or its key is out of order.
     #[error("BadLine shard {shard} partition {partition} line {line}")]
     BadLine {
         shard: usize,
@@ -71,23 +71,23 @@ pub enum ShardFault {
     TotalTooLarge {
         partition: usize,
     },
-    /// There are 4,294,967,296 files or more.
+    /// There are 2^32 files or more.
     #[error("TooManyFiles")]
     TooManyFiles,
-    /// The folder that is to hold the result is that of a shard, whose parts would be written over while they are read.
+    /// The result's folder is this shard's: the merge would overwrite parts while it reads them.
     #[error("SameFolder shard {shard}")]
     SameFolder {
         shard: usize,
     },
-    /// A file that the merge would write is one that it reads, or one that it writes before.
+    /// The merge would write this file, and also reads it or writes it before.
     #[error("SameFile {0}")]
     SameFile(String),
-    /// A verdict does not tell of one output for each partition.
+    /// The verdict doesn't list one output for each partition.
     #[error("OtherOutputs shard {shard}")]
     OtherOutputs {
         shard: usize,
     },
-    /// A place in a part of the partition has the number of a file that would not fit in 32 bits.
+    /// A place in the partition would have a file number that doesn't fit in 32 bits.
     #[error("FileTooFar partition {partition}")]
     FileTooFar {
         partition: usize,
@@ -96,7 +96,6 @@ pub enum ShardFault {
     CannotRead(String),
     #[error("cannot write {0}")]
     CannotWrite(String),
-    /// The machine refused memory.
     #[error("OutOfMemory")]
     OutOfMemory,
 }
@@ -140,7 +139,6 @@ impl From<JoinFault> for ShardFault {
     }
 }
 
-/// The fault of a verdict's text.
 pub(crate) fn of_verdict(shard: usize, fault: VerdictFault) -> ShardFault
     ensures { result ≡ told_of_verdict shard fault }
 {
@@ -150,7 +148,6 @@ pub(crate) fn of_verdict(shard: usize, fault: VerdictFault) -> ShardFault
     }
 }
 
-/// The fault of the outputs that shards have for a partition.
 pub(crate) fn of_merge(partition: usize, fault: MergeFault) -> ShardFault
     ensures { result ≡ told_of_merge partition fault }
 {

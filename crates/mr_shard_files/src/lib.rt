@@ -1,5 +1,4 @@
-//! The results of shards, over a store of files: each shard has a folder with its parts and the verdict on them, and they
-//! are merged to the result of the whole.
+//! Merges shards over a store of files. A shard is a folder with its parts and their verdict.
 #![tactic(auto)]
 
 mod fault;

@@ -1,4 +1,4 @@
-//! The list of the input's files and the verdicts of the shards, read.
+//! Reads the shards' verdicts, and compares their inputs with a list as `sha256sum` writes it.
 ghost use Rattle.std.specs.Prelude.{◌≡◌, ◌==◌, [], ◌∷◌, ◌++◌, ◌⊎◌, IfErr, IfOk, MatchOption, OnOk};
 ghost use Rattle.std.specs.Prelude.{count_by, option_map, map};
 ghost use Rattle.hex.specs.Hex.{encode_lower};
@@ -16,7 +16,6 @@ use mr_lanes::first_difference;
 use mr_shards::{FileNote, Verdict, read_verdict};
 use std::alloc::{AllocError, Global};
 
-/// Appends a byte of a name.
 fn put_byte(byte: u8, out: &mut Vec<u8>) -> Result<(), AllocError>
     ensures { OnOk result (out.new.items ≡ out.old.items ++ escaped_byte byte) }
 {
@@ -28,7 +27,7 @@ fn put_byte(byte: u8, out: &mut Vec<u8>) -> Result<(), AllocError>
     }
 }
 
-/// A name as a line of the list has it.
+/// The name with `\`, line feed and carriage return as `\\`, `\n` and `\r`.
 fn escaped(alloc: Global, name: &[u8]) -> Result<Vec<u8>, AllocError>
     ensures { IfOk result (λ text. text.items ≡ escaped_name name.now) }
 {
@@ -39,7 +38,7 @@ fn escaped(alloc: Global, name: &[u8]) -> Result<Vec<u8>, AllocError>
     Ok(text)
 }
 
-/// Appends the mark of a line whose name is written otherwise than it is.
+/// Appends `\` if the name has an escape.
 fn put_mark(name: &[u8], written: &[u8], out: &mut Vec<u8>) -> Result<(), AllocError>
     requires { written.now ≡ escaped_name name.now }
     ensures { OnOk result (out.new.items ≡ out.old.items ++ mark_of name.now) }
@@ -51,7 +50,7 @@ fn put_mark(name: &[u8], written: &[u8], out: &mut Vec<u8>) -> Result<(), AllocE
     }
 }
 
-/// Appends a digest as hexadecimal digits, and two spaces.
+/// Appends hexadecimal digits and two spaces.
 fn put_digest(digest: &[u8; 32], out: &mut Vec<u8>) -> Result<(), AllocError>
     ensures { OnOk result (out.new.items ≡ out.old.items ++ encode_lower digest.now ++ 32 ∷ 32 ∷ []) }
 {
@@ -62,7 +61,6 @@ fn put_digest(digest: &[u8; 32], out: &mut Vec<u8>) -> Result<(), AllocError>
     Ok(())
 }
 
-/// Appends the line of an input.
 fn put_line(alloc: Global, note: &FileNote, out: &mut Vec<u8>) -> Result<(), AllocError>
     ensures { OnOk result (out.new.items ≡ out.old.items ++ listed_line note.now) }
 {
@@ -74,7 +72,6 @@ fn put_line(alloc: Global, note: &FileNote, out: &mut Vec<u8>) -> Result<(), All
     Ok(())
 }
 
-/// The text of the list of these inputs.
 fn list_of(alloc: Global, inputs: &[FileNote]) -> Result<Vec<u8>, AllocError>
     ensures { IfOk result (λ text. text.items ≡ listing inputs.now) }
 {
@@ -85,14 +82,13 @@ fn list_of(alloc: Global, inputs: &[FileNote]) -> Result<Vec<u8>, AllocError>
     Ok(text)
 }
 
-/// How many line feeds the bytes hold.
 fn line_feeds(bytes: &[u8]) -> u64
     ensures { result ≡ count_by (λ b. b == 10) bytes.now }
 {
     bytes.iter().filter(|byte| **byte == b'\n').count() as u64
 }
 
-/// The line, from 0, in which two texts differ first; none where they are one.
+/// The first line, from 0, in which two texts differ; none if they are equal.
 fn first_other_line(given: &[u8], told: &[u8]) -> Option<u64>
     ensures { MatchOption result (given.now ≡ told.now) (DifferIn given.now told.now) }
 {
@@ -102,7 +98,6 @@ fn first_other_line(given: &[u8], told: &[u8]) -> Option<u64>
     }
 }
 
-/// The text that stands under the name of the list.
 fn list_text<S: Store>(store: &S, alloc: Global, name: &str) -> Result<Vec<u8>, ShardFault>
     ensures ok { IfOk result (λ text. S.holds store.now name.now text.items) }
     ensures err { IfErr result (IsListUnread (S.holds store.now) (S.unreadable store.now) name.now) }
@@ -114,7 +109,6 @@ fn list_text<S: Store>(store: &S, alloc: Global, name: &str) -> Result<Vec<u8>, 
     }
 }
 
-/// The list that stands under the name is that of these inputs.
 fn expect_list<S: Store>(
     store: &S,
     alloc: Global,
@@ -133,7 +127,7 @@ fn expect_list<S: Store>(
     }
 }
 
-/// Where a list is named, it is that of these inputs.
+/// Compares the list, if there is one, with the one of these inputs.
 pub(crate) fn expect_listed<S: Store>(
     store: &S,
     alloc: Global,
@@ -141,8 +135,8 @@ pub(crate) fn expect_listed<S: Store>(
     inputs: &[FileNote],
 ) -> Result<(), ShardFault>
     ensures ok { OnOk result (IsListed (S.holds store.now) (option_map (λ n. n.now) list.entry) inputs.now) }
-    ensures err { IfErr result (IsListFault (S.holds store.now) (S.unreadable store.now) (option_map
-        (λ n. n.now) list.entry) inputs.now) }
+    ensures err { IfErr result (IsListFault (S.holds store.now) (S.unreadable store.now)
+        (option_map (λ n. n.now) list.entry) inputs.now) }
 {
     match list {
         Some(name) => expect_list(store, alloc, name, inputs),
@@ -150,13 +144,12 @@ pub(crate) fn expect_listed<S: Store>(
     }
 }
 
-/// The most bytes of a verdict's text, and of the list of inputs: 1 GiB.
+/// The most bytes of a verdict or of a list of inputs: 1 GiB.
 pub const MAX_TEXT_BYTES: u64 = 1_073_741_824;
 
-// The number that the clauses give.
+// The clauses have this number.
 const _: () = prove!(MAX_TEXT_BYTES == 1_073_741_824);
 
-/// The verdict that stands under a name.
 fn verdict_under<S: Store>(
     store: &S,
     alloc: Global,
@@ -177,13 +170,14 @@ fn verdict_under<S: Store>(
     }
 }
 
-/// The verdicts that stand under these names, in order.
+/// The verdicts of these names, in order.
 pub(crate) fn read_verdicts<S: Store>(
     store: &S,
     alloc: Global,
     names: &[&str],
 ) -> Result<Vec<Verdict>, ShardFault>
-    ensures ok { IfOk result (λ vs. Holding (S.holds store.now) (map (λ s. s.now) names.now) (map spelling vs.items)) }
+    ensures ok { IfOk result
+        (λ vs. Holding (S.holds store.now) (map (λ s. s.now) names.now) (map spelling vs.items)) }
     ensures err { IfErr result
         (IsUngathered (S.holds store.now) (S.unreadable store.now) (map (λ s. s.now) names.now)) }
 {

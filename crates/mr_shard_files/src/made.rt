@@ -1,4 +1,4 @@
-//! A part of the result, written in pieces, and the notes of parts.
+//! Writes a part of the result in pieces, and makes the notes of parts.
 ghost use Rattle.std.specs.Prelude.{◌≡◌, ℕ, [], ◌++◌, List, IfErr, IfOk, OnOk, false, string_bytes};
 ghost use Rattle.std.specs.Prelude.{◌∷◌, length};
 ghost use Rattle.mr_files.specs.Holding.{Agrees};
@@ -14,7 +14,7 @@ use mr_store::{CountedWrite, write_all};
 use sha2::{Digest, Sha256};
 use std::alloc::{AllocError, Global};
 
-/// A part of the result that is written in pieces. Of what was written it keeps the digest and the length.
+/// A part of the result, with the length and digest of what was written.
 #[derive(Drop)]
 pub(crate) struct Made<W: CountedWrite + Drop> {
     pub name: String,
@@ -23,7 +23,7 @@ pub(crate) struct Made<W: CountedWrite + Drop> {
     length: u64,
 }
 
-/// The fault of a file of that name, of which a write failed.
+/// The fault of a failed write.
 pub(crate) fn unwritten(alloc: Global, name: &str, lacked_memory: bool) -> ShardFault
     ensures { TellsUnwritten (lacked_memory ≡ false) name.now result }
 {
@@ -37,7 +37,6 @@ pub(crate) fn unwritten(alloc: Global, name: &str, lacked_memory: bool) -> Shard
 }
 
 impl<W: CountedWrite + Drop> Made<W> {
-    /// The part of that name; nothing is written yet.
     pub fn new(name: String, writer: W) -> Made<W>
         ensures name { result.name ≡ name }
         ensures writer { result.writer ≡ writer }
@@ -51,16 +50,17 @@ impl<W: CountedWrite + Drop> Made<W> {
         }
     }
 
-    /// Writes a piece behind those before.
+    /// Appends a piece.
     pub fn put(&mut self, alloc: Global, piece: &[u8]) -> Result<(), ShardFault>
         ensures ok { OnOk result ((bytes : List ℕ) → HasWritten W.seen bytes self.old
             → HasWritten W.seen (bytes ++ piece.now) self.new) }
-        ensures err { IfErr result (TellsUnwritten (W.can_fail self.old.writer) (string_bytes self.old.name)) }
+        ensures err { IfErr result
+            (TellsUnwritten (W.can_fail self.old.writer) (string_bytes self.old.name)) }
         ensures later { W.can_fail self.new.writer → W.can_fail self.old.writer }
         ensures name { self.new.name ≡ self.old.name }
     {
         let Some(length) = self.length.checked_add(piece.len() as u64) else {
-            // More bytes than 64 bits count: no machine has the room for them.
+            // No machine has room for more bytes than 64 bits count.
             return Err(ShardFault::OutOfMemory);
         };
         if write_all(&mut self.writer, piece).is_err() {
@@ -72,12 +72,13 @@ impl<W: CountedWrite + Drop> Made<W> {
         Ok(())
     }
 
-    /// Hands on what was written.
     pub fn flush(&mut self, alloc: Global) -> Result<(), ShardFault>
-        ensures handed { OnOk result ((W.seen self.new.writer).handed_on ≡ (W.seen self.new.writer).contents) }
+        ensures handed { OnOk result ((W.seen self.new.writer).handed_on
+            ≡ (W.seen self.new.writer).contents) }
         ensures ok { OnOk result ((bytes : List ℕ) → HasWritten W.seen bytes self.old
             → HasWritten W.seen bytes self.new) }
-        ensures err { IfErr result (TellsUnwritten (W.can_fail self.old.writer) (string_bytes self.old.name)) }
+        ensures err { IfErr result
+            (TellsUnwritten (W.can_fail self.old.writer) (string_bytes self.old.name)) }
         ensures name { self.new.name ≡ self.old.name }
     {
         if self.writer.flush().is_err() {
@@ -87,7 +88,7 @@ impl<W: CountedWrite + Drop> Made<W> {
         Ok(())
     }
 
-    /// The note of what was written, as the part of that partition.
+    /// The note of what was written, under the name of that partition's part.
     pub fn note(&self, alloc: Global, partition: usize) -> Result<FileNote, AllocError>
         ensures { IfOk result (λ n. (bytes : List ℕ) → HasWritten W.seen bytes self.now
             → n ≡ note_for (file_of_part partition) bytes) }
@@ -101,7 +102,6 @@ impl<W: CountedWrite + Drop> Made<W> {
     }
 }
 
-/// The note of the output of a partition.
 fn part_note(alloc: Global, partition: usize, output: &[u8]) -> Result<FileNote, AllocError>
     ensures { IfOk result (λ n. n ≡ note_telling (file_of_part partition) output.now) }
 {
@@ -111,7 +111,8 @@ fn part_note(alloc: Global, partition: usize, output: &[u8]) -> Result<FileNote,
 
 /// The notes of outputs, under the names of parts.
 pub fn part_notes(alloc: Global, outputs: &[Vec<u8>]) -> Result<Vec<FileNote>, AllocError>
-    ensures { IfOk result (λ ns. ns.items ≡ notes_for (part_files (length outputs.now)) (contents outputs.now)) }
+    ensures { IfOk result
+        (λ ns. ns.items ≡ notes_for (part_files (length outputs.now)) (contents outputs.now)) }
 {
     let mut notes = Vec::new(alloc);
     for partition in 0..outputs.len() {

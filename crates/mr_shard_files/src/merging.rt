@@ -1,4 +1,5 @@
-//! Shards, merged.
+//! Merges shards: reads and joins the verdicts, checks the list of inputs and the files' names,
+//! merges each partition, and writes the verdict of the whole.
 ghost use Rattle.std.specs.Prelude.{◌≡◌, ◌<◌, ◌^◌, IfErr, IfOk, OnOk, length, map, option_map};
 ghost use Rattle.mr_files.specs.Holding.{Holding};
 ghost use Rattle.mr_shards.specs.Joined.{AreOnce, verdict_at};
@@ -23,7 +24,7 @@ use mr_shards::{FileNote, Verdict, first_repeat, join_verdicts, request_of};
 use std::alloc::Global;
 use std::thread::Threads;
 
-/// The request that the first verdict is about, of a job whose outputs can be merged.
+/// The first verdict's request, of a job whose outputs can be merged.
 fn first_request(alloc: Global, verdicts: &[Verdict]) -> Result<Request, ShardFault>
     ensures ok { IfOk result (λ r. Asks (verdict_at verdicts.now 0) r) }
     ensures some { IfOk result (λ _. 0 < length verdicts.now) }
@@ -35,7 +36,7 @@ fn first_request(alloc: Global, verdicts: &[Verdict]) -> Result<Request, ShardFa
     };
     match request_of(alloc, first)? {
         Some(request) => {
-            // A split has some bytes.
+            // The call brings the fact that a split is not empty.
             let _size = request.split_size();
             Ok(request)
         }
@@ -43,7 +44,7 @@ fn first_request(alloc: Global, verdicts: &[Verdict]) -> Result<Request, ShardFa
     }
 }
 
-/// Each verdict tells of one output for each partition.
+/// Each verdict lists one output for each partition.
 fn expect_outputs(verdicts: &[Verdict], parts: u32) -> Result<(), ShardFault>
     ensures ok { OnOk result (AreCounted verdicts.now parts) }
     ensures err { IfErr result (IsMiscounted verdicts.now parts) }
@@ -56,7 +57,7 @@ fn expect_outputs(verdicts: &[Verdict], parts: u32) -> Result<(), ShardFault>
     Ok(())
 }
 
-/// The inputs can be numbered in 32 bits, and none has the name of one before it.
+/// There are fewer than 2^32 inputs, each with its own name.
 fn expect_once(alloc: Global, inputs: &[FileNote]) -> Result<(), ShardFault>
     ensures few { OnOk result (length inputs.now < 2 ^ 32) }
     ensures once { OnOk result (AreOnce inputs.now) }
@@ -71,7 +72,6 @@ fn expect_once(alloc: Global, inputs: &[FileNote]) -> Result<(), ShardFault>
     }
 }
 
-/// What the verdicts are together, where each tells of one output for each partition, and no input is named twice.
 fn joined_once(
     alloc: Global,
     request: &Request,
@@ -86,15 +86,13 @@ fn joined_once(
     Ok(joined)
 }
 
-/// The verdict with these notes of its outputs.
 fn noted(verdict: Verdict, outputs: Vec<FileNote>) -> Verdict
     ensures { result ≡ with_notes verdict outputs.items }
 {
     Verdict { outputs, ..verdict }
 }
 
-/// The inputs are those of the list, where one is named, no shard stands in the folder that is to hold the result, and no file
-/// that is written there is one that is read.
+/// Checks the list of inputs if there is one, then the folders, then the names of files.
 fn expect_meant<S: Store>(
     store: &S,
     alloc: Global,
@@ -104,10 +102,11 @@ fn expect_meant<S: Store>(
     out: &str,
     parts: u32,
 ) -> Result<(), ShardFault>
-    ensures listed { OnOk result (IsListed (S.holds store.now) (option_map (λ n. n.now) list.entry) inputs.now) }
+    ensures listed { OnOk result (IsListed (S.holds store.now)
+        (option_map (λ n. n.now) list.entry) inputs.now) }
     ensures apart { OnOk result (AreApart (map (λ s. s.now) names.now) out.now) }
-    ensures unshared { OnOk result (AreUnshared (S.known_as store.now) (map
-        (λ s. s.now) names.now) (option_map (λ n. n.now) list.entry) out.now parts) }
+    ensures unshared { OnOk result (AreUnshared (S.known_as store.now)
+        (map (λ s. s.now) names.now) (option_map (λ n. n.now) list.entry) out.now parts) }
     ensures err { IfErr result (IsUnmeant (S.holds store.now) (S.unreadable store.now)
         (S.alike store.now) (S.known_as store.now) (map (λ s. s.now) names.now)
         (option_map (λ n. n.now) list.entry) out.now parts inputs.now) }
@@ -117,7 +116,6 @@ fn expect_meant<S: Store>(
     expect_unshared(store, alloc, names, list, out, parts)
 }
 
-/// The request of verdicts that can be merged to that folder, and what they are together.
 fn prepared<S: Store>(
     store: &S,
     alloc: Global,
@@ -126,8 +124,8 @@ fn prepared<S: Store>(
     verdicts: &[Verdict],
     out: &str,
 ) -> Result<(Request, Verdict), ShardFault>
-    ensures ok { IfOk result (λ r. IsReady (S.holds store.now) (S.known_as store.now) (map
-        (λ s. s.now) names.now) (option_map (λ n. n.now) inputs.entry)
+    ensures ok { IfOk result (λ r. IsReady (S.holds store.now) (S.known_as store.now)
+        (map (λ s. s.now) names.now) (option_map (λ n. n.now) inputs.entry)
         out.now verdicts.now r.0 r.1) }
     ensures err { IfErr result (IsMergingFault (S.holds store.now) (S.unreadable store.now)
         (S.alike store.now) (S.known_as store.now) (map (λ s. s.now) names.now)
@@ -148,7 +146,6 @@ fn prepared<S: Store>(
     Ok((request, joined))
 }
 
-/// Merges the shards that these verdicts, which stand under the names, tell of.
 fn merged_of<S: Store, T: Threads>(
     rt: &T,
     store: &mut S,
@@ -165,7 +162,8 @@ fn merged_of<S: Store, T: Threads>(
     ensures others { ChangesResult (S.holds store.old) (S.holds store.new) out.now }
     ensures refused { IfErr result (IsShardRefusal (S.holds store.old) (S.holds store.new)
         (S.unreadable store.old) (S.unwritable store.old)
-        (S.alike store.old) (S.known_as store.old) (map (λ s. s.now) names.now) (option_map (λ n. n.now) inputs.entry) out.now) }
+        (S.alike store.old) (S.known_as store.old) (map (λ s. s.now) names.now)
+        (option_map (λ n. n.now) inputs.entry) out.now) }
 {
     let (request, joined) = prepared(store, alloc, names, inputs, verdicts, out)?;
     let notes = partitions_written(rt, store, alloc, &request, names, verdicts, out)?;
@@ -174,16 +172,15 @@ fn merged_of<S: Store, T: Threads>(
     Ok(merged)
 }
 
-/// Merges shards: under each name stands a verdict, beside it the parts that it tells of. The merged parts are written to
-/// the folder as they are merged, and last their verdict, which is given back; what stood there for a verdict is emptied
-/// before the first, so where a part turns out to be another than its verdict tells, none stands there. Where a name is
-/// given for it, a file lists the inputs that are meant, in the form of `sha256sum`: just those of the verdicts, in their
-/// order.
+/// Merges shards. Each name is that of a verdict, with the parts that it lists in the same folder.
+/// The merge writes the parts of the result to `out`, and last their verdict, which it returns.
+/// Before the first part it empties the verdict in `out`: if a part turns out not to be its
+/// verdict's, `out` has no verdict. If `inputs` names a file, this must list exactly the verdicts'
+/// inputs, in their order, in the form of `sha256sum`.
 ///
-/// The parts of a partition are open at once, and are read as they are merged: of each some 256 KiB are in memory, and what
-/// these are merged to; another thread, where one can be made, takes their digests meanwhile. A line without an end is held
-/// as far as its part goes on, but no further than the length that the verdict tells, which ends in want of memory where
-/// that is too much.
+/// The parts of a partition are open together. Memory holds some 256 KiB of each and the text that
+/// they merge to. Up to two more threads take digests meanwhile. A line without an end is kept as
+/// far as its part goes, up to the verdict's length, and may end in want of memory.
 pub fn merge_shards<S: Store, T: Threads>(
     rt: &T,
     store: &mut S,
@@ -198,7 +195,8 @@ pub fn merge_shards<S: Store, T: Threads>(
     ensures others { ChangesResult (S.holds store.old) (S.holds store.new) out.now }
     ensures refused { IfErr result (IsShardRefusal (S.holds store.old) (S.holds store.new)
         (S.unreadable store.old) (S.unwritable store.old)
-        (S.alike store.old) (S.known_as store.old) (map (λ s. s.now) names.now) (option_map (λ n. n.now) inputs.entry) out.now) }
+        (S.alike store.old) (S.known_as store.old) (map (λ s. s.now) names.now)
+        (option_map (λ n. n.now) inputs.entry) out.now) }
 {
     let verdicts = read_verdicts(store, alloc, names)?;
     merged_of(rt, store, alloc, names, inputs, verdicts.as_slice(), out)

@@ -1,4 +1,4 @@
-//! The parts that stand beside the verdicts of shards, opened.
+//! Opens the parts in the folders of the verdicts.
 ghost use Rattle.std.specs.Prelude.{◌≡◌, ◌<◌, ◌^◌, IfErr, IfOk, length, map};
 ghost use Rattle.mr_shards.specs.Joined.{inputs_of};
 ghost use Rattle.mr_shard_files.specs.Faults.{AreUnopened, IsTextsFault, IsUnopened};
@@ -12,7 +12,7 @@ use mr_shards::Verdict;
 use mr_store::ReadFault;
 use std::alloc::{AllocError, Global};
 
-/// How many bytes the verdict tells of that output; none where it tells of no such output.
+/// The output's length in the verdict; 0 if it lists no such output.
 fn length_told(verdict: &Verdict, partition: usize) -> u64
     ensures { result ≡ length_of partition verdict.now }
 {
@@ -22,7 +22,6 @@ fn length_told(verdict: &Verdict, partition: usize) -> u64
     }
 }
 
-/// The part that stands beside the verdict of that name. It is read later.
 fn open_part<S: Store>(
     store: &S,
     alloc: Global,
@@ -46,7 +45,6 @@ fn open_part<S: Store>(
     }
 }
 
-/// The parts that stand beside the verdicts of these names for one partition.
 fn open_parts<S: Store>(
     store: &S,
     alloc: Global,
@@ -69,7 +67,7 @@ fn open_parts<S: Store>(
     Ok(parts)
 }
 
-/// The parts for each of so many partitions. None is read yet, so it is in the nature of the store which are open.
+/// The shards' parts for each partition. It reads none yet; the store decides which are open.
 pub(crate) fn open_all<S: Store>(
     store: &S,
     alloc: Global,
@@ -82,8 +80,8 @@ pub(crate) fn open_all<S: Store>(
     ensures ok { IfOk result (λ rows. AreRows (S.holds store.now)
         (S.unreadable store.now) S.Reader.remaining S.Reader.can_fail
         (map (λ s. s.now) names.now) verdicts.now 0 rows.items) }
-    ensures err { IfErr result (AreUnopened (S.holds store.now) (S.unreadable store.now) count (map
-        (λ s. s.now) names.now) verdicts.now) }
+    ensures err { IfErr result (AreUnopened (S.holds store.now) (S.unreadable store.now) count
+        (map (λ s. s.now) names.now) verdicts.now) }
 {
     let mut rows = Vec::new(alloc);
     for partition in 0..count {
@@ -93,7 +91,7 @@ pub(crate) fn open_all<S: Store>(
     Ok(rows)
 }
 
-/// How many files each shard has; 32 bits hold how many all have.
+/// How many files each shard has. All together fit in 32 bits.
 pub(crate) fn file_counts(alloc: Global, verdicts: &[Verdict]) -> Result<Vec<u32>, AllocError>
     requires { length (inputs_of verdicts.now) < 2 ^ 32 }
     ensures { IfOk result (λ fs. fs.items ≡ map (λ v. length v.inputs) verdicts.now) }

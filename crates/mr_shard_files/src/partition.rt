@@ -1,4 +1,4 @@
-//! The parts of shards, merged partition by partition.
+//! Merges the shards' parts, partition by partition.
 ghost use Rattle.std.specs.Prelude.{◌≡◌, ◌<◌, ◌^◌, ◌⊎◌, ℕ, [], List, IfErr, IfOk, OnOk, length};
 ghost use Rattle.std.specs.Prelude.{map, string_bytes};
 ghost use Rattle.mr_files.specs.Holding.{ChangesOnly};
@@ -47,7 +47,7 @@ fn begin_part<S: Store>(
     }
 }
 
-/// Merges the parts of a partition as they are read, writes what they are merged to and hands it on, and gives its note.
+/// Merges a partition's parts while it reads them, writes and flushes the text, returns its note.
 fn part_filled<R: CountedRead + Drop, W: CountedWrite + Drop, T: Threads>(
     rt: &T,
     alloc: Global,
@@ -75,7 +75,7 @@ fn part_filled<R: CountedRead + Drop, W: CountedWrite + Drop, T: Threads>(
     Ok(made.note(alloc, partition)?)
 }
 
-/// Merges the parts of a partition as they are read to the part of the result, and gives its note.
+/// As `part_filled`, to the part of the result, which it opens and closes.
 fn part_written<S: Store, T: Threads>(
     rt: &T,
     store: &mut S,
@@ -91,13 +91,17 @@ fn part_written<S: Store, T: Threads>(
     requires count { length parts.old ≡ length verdicts.now }
     ensures ok { IfOk result
         (λ n. (text : List ℕ)
-        × AreJoined S.Reader.remaining S.Reader.can_fail job.now files.now partition verdicts.now parts.old text
-        × S.holds store.new (name_of_part dir.now partition) text × (n ≡ note_for (part_file partition) text)) }
+        × AreJoined S.Reader.remaining S.Reader.can_fail
+        job.now files.now partition verdicts.now parts.old text
+        × S.holds store.new (name_of_part dir.now partition) text
+        × (n ≡ note_for (part_file partition) text)) }
     ensures others { ChangesOnly (S.holds store.old) (S.holds store.new) (name_of_part dir.now partition) }
     ensures still { (n : List ℕ) → S.unwritable store.new n → S.unwritable store.old n }
     ensures err { IfErr result
-        (λ e. IsRefused S.Reader.remaining S.Reader.can_fail job.now files.now partition verdicts.now parts.old e
-        ⊎ TellsUnwritten (S.unwritable store.old (name_of_part dir.now partition)) (name_of_part dir.now partition) e) }
+        (λ e. IsRefused S.Reader.remaining S.Reader.can_fail
+        job.now files.now partition verdicts.now parts.old e
+        ⊎ TellsUnwritten (S.unwritable store.old (name_of_part dir.now partition))
+        (name_of_part dir.now partition) e) }
 {
     let mut made = begin_part(store, alloc, dir, partition)?;
     let answer = part_filled(rt, alloc, job, files, parts, verdicts, partition, &mut made);
@@ -106,9 +110,9 @@ fn part_written<S: Store, T: Threads>(
     answer
 }
 
-/// The partitions, merged in order, each to its part of the result, whose notes are given. What stood there for a verdict is
-/// emptied before the first, so that none stands on parts that it isn't about. The parts of one partition are read to their
-/// ends, where they are closed, before those of the next.
+/// Merges the partitions in order, each to its part of the result, and returns their notes. It
+/// empties the old verdict first, so none describes parts that are not its own. It reads the parts
+/// of a partition to their ends, where they close, before those of the next.
 pub(crate) fn partitions_written<S: Store, T: Threads>(
     rt: &T,
     store: &mut S,

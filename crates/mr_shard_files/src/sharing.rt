@@ -1,4 +1,4 @@
-//! The files of the result: they are apart from those that are read, and the verdict has its name.
+//! Checks that the result's files are not among those read, and writes the verdict.
 ghost use Rattle.std.specs.Prelude.{◌≡◌, IfErr, OnOk, map, ◌++◌, ℕ, List, IfOk, option_map};
 ghost use Rattle.std.specs.Prelude.{string_bytes};
 ghost use Rattle.mr_shard_files.specs.Apart.{AreApart, IsSameFolder};
@@ -15,8 +15,7 @@ use mr_files::{Store, add_names, first_shared, folder_of, part_name, verdict_nam
 use mr_shards::{Verdict, write_verdict};
 use std::alloc::{AllocError, Global};
 
-/// No verdict stands in the folder that is to hold the result: there its shard's parts would be written over while they are
-/// read.
+/// Refuses a verdict in the result's folder: the merge would overwrite parts while it reads them.
 pub(crate) fn expect_apart<S: Store>(store: &S, names: &[&str], out: &str) -> Result<(), ShardFault>
     ensures ok { OnOk result (AreApart (map (λ s. s.now) names.now) out.now) }
     ensures err { IfErr result (IsSameFolder (S.alike store.now) (map (λ s. s.now) names.now) out.now) }
@@ -29,7 +28,6 @@ pub(crate) fn expect_apart<S: Store>(store: &S, names: &[&str], out: &str) -> Re
     Ok(())
 }
 
-/// Adds the names of the first so many parts in a folder.
 fn add_parts(
     alloc: Global,
     names: &mut Vec<String>,
@@ -46,7 +44,7 @@ fn add_parts(
     Ok(())
 }
 
-/// The names of the parts that stand beside the verdicts.
+/// The names of the parts in the folders of the verdicts.
 fn names_beside(alloc: Global, names: &[&str], parts: usize) -> Result<Vec<String>, AllocError>
     ensures { IfOk result (λ all. AreBeside parts (map (λ s. s.now) names.now) (map string_bytes all.items)) }
 {
@@ -57,7 +55,7 @@ fn names_beside(alloc: Global, names: &[&str], parts: usize) -> Result<Vec<Strin
     Ok(all)
 }
 
-/// Adds the names of verdicts, and that of the list, where one is named.
+/// Adds the names of the verdicts and of the list, if there is one.
 fn add_told(
     alloc: Global,
     all: &mut Vec<String>,
@@ -74,22 +72,21 @@ fn add_told(
     }
 }
 
-/// The names of all files that a merge reads.
 fn names_read(
     alloc: Global,
     names: &[&str],
     list: Option<&str>,
     parts: usize,
 ) -> Result<Vec<String>, AllocError>
-    ensures { IfOk result (λ read. AreRead (map (λ s. s.now) names.now) (option_map
-        (λ n. n.now) list.entry) parts (map string_bytes read.items)) }
+    ensures { IfOk result (λ read. AreRead (map (λ s. s.now) names.now)
+        (option_map (λ n. n.now) list.entry) parts (map string_bytes read.items)) }
 {
     let mut read = names_beside(alloc, names, parts)?;
     add_told(alloc, &mut read, names, list)?;
     Ok(read)
 }
 
-/// The names of all files that a merge writes: the parts, and then the verdict.
+/// The names of all written files: the parts, then the verdict.
 fn names_written(alloc: Global, out: &str, parts: usize) -> Result<Vec<String>, AllocError>
     ensures { IfOk result (λ written. map string_bytes written.items ≡ merged_names out.now parts) }
 {
@@ -100,7 +97,7 @@ fn names_written(alloc: Global, out: &str, parts: usize) -> Result<Vec<String>, 
     Ok(written)
 }
 
-/// No file that a merge writes is one that it reads, or one that it writes before.
+/// Refuses a written file that the merge also reads, or writes before.
 pub(crate) fn expect_unshared<S: Store>(
     store: &S,
     alloc: Global,
@@ -109,10 +106,10 @@ pub(crate) fn expect_unshared<S: Store>(
     out: &str,
     parts: u32,
 ) -> Result<(), ShardFault>
-    ensures ok { OnOk result (AreUnshared (S.known_as store.now) (map
-        (λ s. s.now) names.now) (option_map (λ n. n.now) list.entry) out.now parts) }
-    ensures err { IfErr result (IsShared (S.known_as store.now) (map
-        (λ s. s.now) names.now) (option_map (λ n. n.now) list.entry) out.now parts) }
+    ensures ok { OnOk result (AreUnshared (S.known_as store.now)
+        (map (λ s. s.now) names.now) (option_map (λ n. n.now) list.entry) out.now parts) }
+    ensures err { IfErr result (IsShared (S.known_as store.now)
+        (map (λ s. s.now) names.now) (option_map (λ n. n.now) list.entry) out.now parts) }
 {
     let read = names_read(alloc, names, list, parts as usize)?;
     let written = names_written(alloc, out, parts as usize)?;
@@ -122,7 +119,7 @@ pub(crate) fn expect_unshared<S: Store>(
     }
 }
 
-/// Writes the text of the verdict in that folder.
+/// Writes a text as the folder's verdict.
 pub(crate) fn put_verdict<S: Store>(
     store: &mut S,
     alloc: Global,
@@ -141,7 +138,6 @@ pub(crate) fn put_verdict<S: Store>(
     Ok(())
 }
 
-/// Writes the verdict in that folder.
 pub(crate) fn put_told<S: Store>(
     store: &mut S,
     alloc: Global,
@@ -149,7 +145,8 @@ pub(crate) fn put_told<S: Store>(
     verdict: &Verdict,
 ) -> Result<(), ShardFault>
     ensures whole { OnOk result (S.holds store.new (name_of_verdict dir.now) (spelling verdict.now)) }
-    ensures begins { Begins (S.holds store.old) (S.holds store.new) (name_of_verdict dir.now) (spelling verdict.now) }
+    ensures begins { Begins (S.holds store.old) (S.holds store.new) (name_of_verdict dir.now)
+        (spelling verdict.now) }
     ensures others { ChangesOnly (S.holds store.old) (S.holds store.new) (name_of_verdict dir.now) }
     ensures still { (n : List ℕ) → S.unwritable store.new n → S.unwritable store.old n }
     ensures err { IfErr result (TellsUnwritten (S.unwritable store.old (name_of_verdict dir.now))

@@ -1,4 +1,9 @@
-//! A part of a shard, read as a stream. Bytes that were read and aren't merged yet are held.
+//! Reads a shard's part as a stream, and takes its SHA-256.
+//!
+//!     [ passed | held, in the digest | held only | not read ]
+//!
+//! Bytes are passed once they are merged. The digest may lack held bytes, so that another thread
+//! can add them. Reading stops once the part is longer than its verdict says.
 ghost use Rattle.std.specs.Prelude.{◌≡◌, ℕ, ◌≤◌, [], ◌++◌, List, OnOk, length, drop, ◌⊎◌, ◌↔◌, ◌+◌};
 ghost use Rattle.std.specs.Prelude.{◌<◌, IfErr, IfOk, IsTrue, true, false, take, string_bytes};
 ghost use Rattle.std.specs.Io.KnownBytes.{Consumes, IsAtEnd};
@@ -30,7 +35,7 @@ impl Model for Held {
     ghost invariant = { λ h. h.from ≤ length h.bytes.items };
 }
 
-/// Lets the first bytes go. Those behind them move to the front.
+/// Removes the first bytes; the others move to the front.
 fn cut_front(bytes: &mut Vec<u8>, count: usize)
     requires { count ≤ length bytes.old.items }
     ensures { bytes.new.items ≡ drop count bytes.old.items }
@@ -41,7 +46,6 @@ fn cut_front(bytes: &mut Vec<u8>, count: usize)
 }
 
 impl Held {
-    /// None yet.
     pub fn new(alloc: Global) -> Held
         ensures { result ≡ [] }
     {
@@ -51,14 +55,12 @@ impl Held {
         }
     }
 
-    /// The bytes.
     pub fn bytes(&self) -> &[u8]
         ensures { result.now ≡ self.now }
     {
         &self.bytes[self.from..]
     }
 
-    /// So many of them are passed.
     pub fn pass(&mut self, count: usize)
         requires { count ≤ length self.old }
         ensures { self.new ≡ drop count self.old }
@@ -66,7 +68,7 @@ impl Held {
         self.from += count;
     }
 
-    /// Lets go what was passed, once that is as much as is held: so no byte moves more often than one is passed.
+    /// Removes passed bytes once they are at least as many as the rest, which is what moves.
     fn make_room(&mut self)
         ensures { self.new ≡ self.old }
     {
@@ -76,7 +78,6 @@ impl Held {
         }
     }
 
-    /// Holds a piece more.
     pub fn push(&mut self, piece: &[u8]) -> Result<(), AllocError>
         ensures { OnOk result (self.new ≡ self.old ++ piece.now) }
     {
@@ -88,23 +89,21 @@ impl Held {
 /// The most bytes that one read asks for.
 const PIECE: usize = 65_536;
 
-/// A part that is read in pieces. Of what was read it keeps the bytes that aren't passed yet, the digest, and how many are
-/// left of those that its verdict tells; no more is read once there are more than these. The digest may lack bytes that
-/// are held, so that another thread can take it.
+/// A part. `left` counts down the bytes in the verdict; `longer` if the part has more.
 #[derive(Drop)]
 pub(crate) struct Part<R: CountedRead + Drop> {
     name: String,
     reader: R,
     held: Held,
     pub hasher: Sha256,
-    /// How many of the bytes that are held the digest has.
+    /// How many of the held bytes the digest contains.
     digested: usize,
     left: u64,
     longer: bool,
     ended: bool,
 }
 
-/// How many lines end behind that place; no more than two are counted.
+/// How many lines end from that place on, counted up to two.
 fn ends_in(bytes: &[u8], from: usize) -> u8 {
     let behind = &bytes[from.min(bytes.len())..];
     match memchr(b'\n', behind) {
@@ -114,7 +113,7 @@ fn ends_in(bytes: &[u8], from: usize) -> u8 {
     }
 }
 
-/// The fault of a file of that name, of which a read failed.
+/// The fault of a failed read.
 pub(crate) fn fault_of(alloc: Global, name: &str, lacked_memory: bool) -> ShardFault
     ensures { TellsUnread (lacked_memory ≡ false) name.now result }
 {
@@ -128,7 +127,7 @@ pub(crate) fn fault_of(alloc: Global, name: &str, lacked_memory: bool) -> ShardF
 }
 
 impl<R: CountedRead + Drop> Part<R> {
-    /// Of the file of that name, of which a verdict tells so many bytes; none is read yet.
+    /// A part with `told` bytes in its verdict, none read yet.
     pub fn new(alloc: Global, name: String, reader: R, told: u64) -> Part<R>
         ensures name { result.name ≡ name }
         ensures reader { result.reader ≡ reader }
@@ -148,21 +147,20 @@ impl<R: CountedRead + Drop> Part<R> {
         }
     }
 
-    /// The bytes that were read and aren't passed yet.
     pub fn bytes(&self) -> &[u8]
         ensures { result.now ≡ self.now.held }
     {
         self.held.bytes()
     }
 
-    /// Whether nothing more is read of it.
+    /// Whether it reads no more.
     pub fn is_done(&self) -> bool
         ensures { result ≡ no_more self.now }
     {
         self.ended || self.longer
     }
 
-    /// The bytes that are held and that the digest lacks.
+    /// The held bytes that the digest lacks.
     pub fn undigested(&self) -> &[u8]
         ensures { result.now ≡ drop self.now.digested self.now.held }
     {
@@ -170,7 +168,6 @@ impl<R: CountedRead + Drop> Part<R> {
         &bytes[self.digested.min(bytes.len())..]
     }
 
-    /// Counts bytes that were read.
     fn count(&mut self, piece: usize)
         ensures counts { (told read : ℕ) → CountsDown told self.old.left self.old.longer read
             → CountsDown told self.new.left self.new.longer (read + piece) }
@@ -178,7 +175,8 @@ impl<R: CountedRead + Drop> Part<R> {
         ensures longer { self.old.longer ≡ true → self.new.longer ≡ true }
         ensures same { (self.new.name ≡ self.old.name) × (self.new.reader ≡ self.old.reader)
             × (self.new.held ≡ self.old.held)
-            × (self.new.hasher ≡ self.old.hasher) × (self.new.digested ≡ self.old.digested) × (self.new.ended ≡ self.old.ended) }
+            × (self.new.hasher ≡ self.old.hasher) × (self.new.digested ≡ self.old.digested)
+            × (self.new.ended ≡ self.old.ended) }
     {
         match self.left.checked_sub(piece as u64) {
             Some(left) => self.left = left,
@@ -186,7 +184,7 @@ impl<R: CountedRead + Drop> Part<R> {
         }
     }
 
-    /// Holds a piece that was read. The digest lacks it.
+    /// Holds a piece; the digest lacks it.
     fn note(&mut self, piece: &[u8]) -> Result<(), AllocError>
         ensures read { OnOk result ((told : ℕ) (bytes : List ℕ) → HasRead told self.old bytes
             → HasRead told self.new (bytes ++ piece.now)) }
@@ -202,7 +200,6 @@ impl<R: CountedRead + Drop> Part<R> {
         Ok(())
     }
 
-    /// Reads a piece behind those that are held, or finds that there is none.
     fn read_piece(&mut self, alloc: Global) -> Result<(), ShardFault>
         requires { no_more self.old ≡ false }
         ensures moves { OnOk result (Moves R.remaining R.can_fail [] self.old self.new) }
@@ -221,8 +218,9 @@ impl<R: CountedRead + Drop> Part<R> {
         Ok(())
     }
 
-    /// Reads until so many bytes and the ends of two lines are held, or nothing more is read. Of two lines the merge takes one
-    /// where the part stands, so no window grows but by a long line of its own. Each byte is looked at once for a line's end.
+    /// Reads until it holds `size` bytes and the ends of two lines, or can't read more. Of two
+    /// lines in each window a merge takes one, so only a long line grows a window. A call
+    /// looks at each byte once.
     pub fn fill(&mut self, alloc: Global, size: usize) -> Result<(), ShardFault>
         ensures moves { OnOk result (Moves R.remaining R.can_fail [] self.old self.new) }
         ensures err { IfErr result (TellsUnread (R.can_fail self.old.reader) (string_bytes self.old.name)) }
@@ -236,7 +234,6 @@ impl<R: CountedRead + Drop> Part<R> {
         Ok(())
     }
 
-    /// Takes what the digest lacks.
     fn digest_held(&mut self)
         ensures { IsDigested self.old self.new }
     {
@@ -245,7 +242,7 @@ impl<R: CountedRead + Drop> Part<R> {
         self.digested = bytes.len();
     }
 
-    /// Keeps a digest that was taken of what this one lacks.
+    /// Keeps a digest that another thread took.
     pub fn keep_digest(&mut self, hasher: Sha256)
         requires { HasMore self.old.hasher (drop self.old.digested self.old.held) hasher }
         ensures { IsDigested self.old self.new }
@@ -254,7 +251,6 @@ impl<R: CountedRead + Drop> Part<R> {
         self.digested = self.held.bytes().len();
     }
 
-    /// So many of the bytes that are held are passed.
     pub fn pass(&mut self, count: usize)
         requires { count ≤ length self.old.held }
         ensures { Moves R.remaining R.can_fail (take count self.old.held) self.old self.new }
@@ -263,7 +259,7 @@ impl<R: CountedRead + Drop> Part<R> {
         self.drop_front(count);
     }
 
-    /// So many of the bytes that are held, all of which the digest has, are let go.
+    /// Passes bytes that are all in the digest.
     fn drop_front(&mut self, count: usize)
         requires within { count ≤ length self.old.held }
         ensures held { self.new.held ≡ drop count self.old.held }
@@ -277,7 +273,7 @@ impl<R: CountedRead + Drop> Part<R> {
         self.digested = self.held.bytes().len();
     }
 
-    /// All that is held is passed, and the memory for it is given back.
+    /// Passes all held bytes and frees their memory.
     fn let_go(&mut self, alloc: Global)
         ensures moves { Moves R.remaining R.can_fail self.old.held self.old self.new }
         ensures still { no_more self.new ≡ no_more self.old }
@@ -288,9 +284,10 @@ impl<R: CountedRead + Drop> Part<R> {
         self.digested = 0;
     }
 
-    /// Reads on until nothing more is read, holding no more than a piece of it, and nothing at the end.
+    /// Reads to the end, with at most one piece in memory, and none afterwards.
     pub fn finish(&mut self, alloc: Global) -> Result<(), ShardFault>
-        ensures moves { OnOk result ((passed : List ℕ) × Moves R.remaining R.can_fail passed self.old self.new) }
+        ensures moves { OnOk result ((passed : List ℕ)
+            × Moves R.remaining R.can_fail passed self.old self.new) }
         ensures done { OnOk result (no_more self.new ≡ true) }
         ensures err { IfErr result (TellsUnread (R.can_fail self.old.reader) (string_bytes self.old.name)) }
     {
@@ -302,7 +299,7 @@ impl<R: CountedRead + Drop> Part<R> {
         Ok(())
     }
 
-    /// Whether what was read has the length that its verdict tells, and this digest.
+    /// Whether the bytes read have the verdict's length and this digest.
     pub fn has_digest(&self, digest: &[u8; 32]) -> Result<bool, AllocError>
         ensures { IfOk result (λ b. (told : ℕ) (bytes : List ℕ) → HasRead told self.now bytes
             → IsTrue b ↔ ((told ≡ length bytes) × (digest.now ≡ sha256 bytes))) }

@@ -1,4 +1,4 @@
-//! The parts that shards have for one partition, read in pieces.
+//! The shards' parts of one partition, read in pieces.
 ghost use Rattle.std.specs.Prelude.{◌≡◌, ◌↔◌, ℕ, [], ◌∷◌, ◌++◌, List, IfErr, IfOk, IsTrue, OnOk};
 ghost use Rattle.std.specs.Prelude.{length, string_bytes, take};
 ghost use Rattle.mr_shard_files.specs.Streams.{AllAre, AreHeld, AreUnsettled, AreWindowsOf, Ends};
@@ -12,13 +12,13 @@ use mr_shards::{Verdict, Window};
 use mr_store::CountedRead;
 use std::alloc::{AllocError, Global};
 
-/// Reads of each part until so many bytes are held, or nothing more is read.
 pub(crate) fn fill_all<R: CountedRead + Drop>(
     alloc: Global,
     parts: &mut [Part<R>],
     size: usize,
 ) -> Result<(), ShardFault>
-    ensures ok { OnOk result (AllAre (λ _ o n. Moves R.remaining R.can_fail [] o n) parts.old parts.old parts.new) }
+    ensures ok { OnOk result (AllAre
+        (λ _ o n. Moves R.remaining R.can_fail [] o n) parts.old parts.old parts.new) }
     ensures err { IfErr result
         (λ e. OneIs (λ _ q. TellsUnread (R.can_fail q.reader) (string_bytes q.name) e) parts.old) }
 {
@@ -29,7 +29,6 @@ pub(crate) fn fill_all<R: CountedRead + Drop>(
     Ok(())
 }
 
-/// The most bytes that are held of any part.
 fn longest_held<R: CountedRead + Drop>(parts: &[Part<R>]) -> usize {
     let mut longest = 0;
     for part in parts {
@@ -38,13 +37,12 @@ fn longest_held<R: CountedRead + Drop>(parts: &[Part<R>]) -> usize {
     longest
 }
 
-/// How many bytes of each part a turn is to have: no less than this share of the most that are held. A long line is looked
-/// through in each turn that it waits, so its turns are to be few; and the shares together have no more bytes than it has.
+/// A turn reads at least this share of the longest window. A long line is scanned in each turn that
+/// it waits, so its turns must be few; all shares together are no longer than that window.
 pub(crate) fn share_of<R: CountedRead + Drop>(parts: &[Part<R>]) -> usize {
     longest_held(parts) / parts.len().max(1)
 }
 
-/// Whether nothing more is read of any part.
 pub(crate) fn are_done<R: CountedRead + Drop>(parts: &[Part<R>]) -> bool
     ensures { result ≡ all_done parts.now }
 {
@@ -56,7 +54,6 @@ pub(crate) fn are_done<R: CountedRead + Drop>(parts: &[Part<R>]) -> bool
     true
 }
 
-/// Keeps a window behind the others.
 fn keep<'a>(windows: &mut Vec<Window<'a>>, bytes: &'a [u8], is_last: bool) -> Result<(), AllocError>
     ensures { OnOk result (windows.new.items
         ≡ windows.old.items ++ record { bytes = bytes.entry; is_last = is_last } ∷ []) }
@@ -67,7 +64,6 @@ fn keep<'a>(windows: &mut Vec<Window<'a>>, bytes: &'a [u8], is_last: bool) -> Re
     Ok(())
 }
 
-/// What is held of the parts.
 pub(crate) fn windows_of<'a, R: CountedRead + Drop>(
     alloc: Global,
     parts: &'a [Part<R>],
@@ -82,10 +78,10 @@ pub(crate) fn windows_of<'a, R: CountedRead + Drop>(
     Ok(windows)
 }
 
-/// So many of the bytes that are held of each part are passed.
 pub(crate) fn pass_all<R: CountedRead + Drop>(parts: &mut [Part<R>], cuts: &[usize])
     requires { AreHeld cuts.now parts.old }
-    ensures { AllAre (λ c o n. Moves R.remaining R.can_fail (take c o.held) o n) cuts.now parts.old parts.new }
+    ensures { AllAre
+        (λ c o n. Moves R.remaining R.can_fail (take c o.held) o n) cuts.now parts.old parts.new }
 {
     for shard in 0..parts.len() {
         let part = &mut parts[shard];
@@ -93,7 +89,7 @@ pub(crate) fn pass_all<R: CountedRead + Drop>(parts: &mut [Part<R>], cuts: &[usi
     }
 }
 
-/// Whether what was read of a part, which is all that may be read, is what the verdict tells of.
+/// Whether the part, read as far as allowed, is the one in the verdict.
 fn has_note<R: CountedRead + Drop>(
     part: &Part<R>,
     verdict: &Verdict,
@@ -108,7 +104,6 @@ fn has_note<R: CountedRead + Drop>(
     }
 }
 
-/// Reads a part as far as it goes, and tells whether it is the one that the verdict tells of.
 fn settle<R: CountedRead + Drop>(
     alloc: Global,
     part: &mut Part<R>,
@@ -122,8 +117,7 @@ fn settle<R: CountedRead + Drop>(
     Ok(has_note(part, verdict, partition)?)
 }
 
-/// Reads the parts as far as they go, one after another, and compares each with what its verdict tells: the first is told
-/// that is another.
+/// Reads all parts to their ends, in order, and reports the first that is not its verdict's.
 pub(crate) fn settle_all<R: CountedRead + Drop>(
     alloc: Global,
     parts: &mut [Part<R>],
@@ -131,7 +125,8 @@ pub(crate) fn settle_all<R: CountedRead + Drop>(
     partition: usize,
 ) -> Result<(), ShardFault>
     requires { length parts.old ≡ length verdicts.now }
-    ensures ok { OnOk result (AllAre (IsSettled R.remaining R.can_fail partition) verdicts.now parts.old parts.new) }
+    ensures ok { OnOk result
+        (AllAre (IsSettled R.remaining R.can_fail partition) verdicts.now parts.old parts.new) }
     ensures err { IfErr result (AreUnsettled R.remaining R.can_fail partition verdicts.now parts.old) }
 {
     for shard in 0..parts.len() {

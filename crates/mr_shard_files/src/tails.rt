@@ -1,4 +1,4 @@
-//! What the digests of parts lack, taken by itself.
+//! Takes digests apart from their parts.
 ghost use Rattle.std.specs.Prelude.{◌≡◌, ◌≤◌, List, [], ◌∷◌, ◌++◌, drop, length, IfOk, OnOk};
 ghost use Rattle.sha2.specs.declared.Sha256.{Sha256 as Digested};
 ghost use Rattle.mr_shard_files.specs.Streams.{AllAre, AreNext, AreTailsOf, AreTaken, HasMore};
@@ -16,7 +16,6 @@ pub(crate) struct Tail<'a> {
     pub bytes: &'a [u8],
 }
 
-/// What the digest of a part lacks.
 fn tail_of<'a, R: CountedRead + Drop>(part: &'a Part<R>) -> Tail<'a>
     ensures hasher { result.hasher.now ≡ part.entry.now.hasher }
     ensures bytes { result.bytes.now ≡ drop part.entry.now.digested part.entry.now.held }
@@ -27,7 +26,6 @@ fn tail_of<'a, R: CountedRead + Drop>(part: &'a Part<R>) -> Tail<'a>
     }
 }
 
-/// Keeps a tail behind the others.
 fn keep_tail<'a>(tails: &mut Vec<Tail<'a>>, tail: Tail<'a>) -> Result<(), AllocError>
     ensures { OnOk result (tails.new.items ≡ tails.old.items ++ tail.entry ∷ []) }
 {
@@ -35,13 +33,13 @@ fn keep_tail<'a>(tails: &mut Vec<Tail<'a>>, tail: Tail<'a>) -> Result<(), AllocE
     Ok(())
 }
 
-/// What the digests of the parts lack.
 pub(crate) fn tails_of<'a, R: CountedRead + Drop>(
     alloc: Global,
     parts: &'a [Part<R>],
 ) -> Result<Vec<Tail<'a>>, AllocError>
     ensures tails { IfOk result (λ ts. AreTailsOf parts.entry.now ts.items) }
-    ensures next { IfOk result (λ ts. (hs : List Digested) → AreTaken ts.items hs → AreNext parts.entry.now hs) }
+    ensures next { IfOk result
+        (λ ts. (hs : List Digested) → AreTaken ts.items hs → AreNext parts.entry.now hs) }
 {
     let mut tails = Vec::new(alloc);
     for shard in 0..parts.len() {
@@ -51,7 +49,6 @@ pub(crate) fn tails_of<'a, R: CountedRead + Drop>(
     Ok(tails)
 }
 
-/// The digest with the bytes that it lacks.
 fn taken(tail: Tail<'_>) -> Result<Sha256, AllocError>
     ensures { IfOk result (HasMore tail.entry.hasher.now tail.entry.bytes.now) }
 {
@@ -60,7 +57,6 @@ fn taken(tail: Tail<'_>) -> Result<Sha256, AllocError>
     Ok(hasher)
 }
 
-/// Keeps a digest behind the others.
 fn keep_hasher(hashers: &mut Vec<Sha256>, hasher: Sha256) -> Result<(), AllocError>
     ensures { OnOk result (hashers.new.items ≡ hashers.old.items ++ hasher ∷ []) }
 {
@@ -68,7 +64,7 @@ fn keep_hasher(hashers: &mut Vec<Sha256>, hasher: Sha256) -> Result<(), AllocErr
     Ok(())
 }
 
-/// The digests with the bytes that they lack.
+/// The digests with the bytes that they lacked.
 pub(crate) fn all_taken(alloc: Global, tails: &[Tail<'_>]) -> Result<Vec<Sha256>, AllocError>
     ensures { IfOk result (λ hs. AreTaken tails.now hs.items) }
 {
@@ -80,7 +76,7 @@ pub(crate) fn all_taken(alloc: Global, tails: &[Tail<'_>]) -> Result<Vec<Sha256>
     Ok(hashers)
 }
 
-/// Where the parts are divided, so that the digests on both sides lack about as many bytes.
+/// Divides the parts so that the digests on both sides lack about as many bytes.
 pub(crate) fn middle_of<R: CountedRead + Drop>(parts: &[Part<R>]) -> usize
     ensures { result ≤ length parts.now }
 {
@@ -98,7 +94,6 @@ pub(crate) fn middle_of<R: CountedRead + Drop>(parts: &[Part<R>]) -> usize
     low
 }
 
-/// Digests, and more behind them.
 pub(crate) fn taken_of_both(
     front: Vec<Sha256>,
     back: Vec<Sha256>,
@@ -110,7 +105,6 @@ pub(crate) fn taken_of_both(
     Ok(all)
 }
 
-/// A part keeps a copy of its digest.
 fn keep_one<R: CountedRead + Drop>(part: &mut Part<R>, hasher: &Sha256) -> Result<(), AllocError>
     requires { HasMore part.old.hasher (drop part.old.digested part.old.held) hasher.now }
     ensures { OnOk result (IsDigested part.old part.new) }
@@ -119,7 +113,6 @@ fn keep_one<R: CountedRead + Drop>(part: &mut Part<R>, hasher: &Sha256) -> Resul
     Ok(())
 }
 
-/// Each part keeps its digest.
 pub(crate) fn keep_all<R: CountedRead + Drop>(
     parts: &mut [Part<R>],
     hashers: &[Sha256],

@@ -1,4 +1,4 @@
-//! Parts of shards, merged as they are read.
+//! Merges parts while it reads them.
 ghost use Rattle.std.specs.Prelude.{◌≡◌, ◌⊎◌, [], ◌++◌, ℕ, List, Err, Ok, IfErr, IfOk, OnOk};
 ghost use Rattle.std.specs.Prelude.{length, string_bytes};
 ghost use Rattle.mr_shard_files.specs.Streams.{AreBlamed, AreJoined, AreMergedTo, AreNext};
@@ -23,13 +23,12 @@ use std::alloc::{AllocError, Global};
 use std::thread;
 use std::thread::Threads;
 
-/// How many bytes of each part are held for a turn: 256 KiB.
+/// How many bytes of each part a turn holds: 256 KiB.
 const WINDOW: usize = 262_144;
 
-/// Why parts are not merged as they are read.
 #[derive(Drop)]
 pub(crate) enum Stop {
-    /// A part can't be read or written, or memory is wanting.
+    /// A part can't be read or written, or memory is lacking.
     Part(ShardFault),
     /// What was read can't be merged.
     Merge(MergeFault),
@@ -66,18 +65,16 @@ impl From<MergeFault> for Stop {
     }
 }
 
-/// What a turn gives.
 #[derive(Drop)]
 struct Turn {
-    /// The merger behind the step.
     merger: Merger,
-    /// The text before it, with what was merged.
+    /// The earlier text and what was merged.
     text: Vec<u8>,
     /// How many bytes of each part were taken.
     cuts: Vec<usize>,
 }
 
-/// Merges what is held of the parts, as far as it goes.
+/// Merges what is held, as far as possible.
 fn stepped<R: CountedRead + Drop>(
     alloc: Global,
     job: &Job,
@@ -87,7 +84,8 @@ fn stepped<R: CountedRead + Drop>(
 ) -> Result<Turn, MergeFault>
     requires { length parts.now ≡ length merger.held }
     ensures shards { IfOk result (λ s. length s.merger.held ≡ length merger.held) }
-    ensures ok { IfOk result (λ s. StepsOver job.now parts.now s.cuts.items merger s.merger text.items s.text.items) }
+    ensures ok { IfOk result
+        (λ s. StepsOver job.now parts.now s.cuts.items merger s.merger text.items s.text.items) }
     ensures err { IfErr result (IsBlamedOver job.now parts.now merger) }
 {
     let (mut merger, mut text) = (merger, text);
@@ -96,14 +94,13 @@ fn stepped<R: CountedRead + Drop>(
     Ok(Turn { merger, text, cuts })
 }
 
-/// A turn, and digests that were taken beside it.
+/// A turn, and digests taken meanwhile.
 #[derive(Drop)]
 struct Beside {
     turn: Turn,
     digests: Vec<Sha256>,
 }
 
-/// What two threads gave: digests, and a turn.
 fn with_digests(
     digests: Result<Vec<Sha256>, AllocError>,
     merged: Result<Turn, MergeFault>,
@@ -119,7 +116,6 @@ fn with_digests(
     })
 }
 
-/// What two threads gave: the first digests, and a turn with those behind them.
 fn all_beside(
     first: Result<Vec<Sha256>, AllocError>,
     beside: Result<Beside, Stop>,
@@ -135,8 +131,7 @@ fn all_beside(
     })
 }
 
-/// Merges what is held of the parts, as far as it goes, while another thread, where one can be made, takes what the
-/// digests of some of them lack.
+/// Like `stepped`, while another thread, if there can be one, digests for some of the parts.
 fn stepped_beside_one<R: CountedRead + Drop, T: Threads>(
     rt: &T,
     alloc: Global,
@@ -149,7 +144,8 @@ fn stepped_beside_one<R: CountedRead + Drop, T: Threads>(
     requires { length parts.now ≡ length merger.held }
     ensures shards { IfOk result (λ b. length b.turn.merger.held ≡ length merger.held) }
     ensures ok { IfOk result
-        (λ b. StepsOver job.now parts.now b.turn.cuts.items merger b.turn.merger text.items b.turn.text.items) }
+        (λ b. StepsOver job.now parts.now b.turn.cuts.items merger b.turn.merger
+        text.items b.turn.text.items) }
     ensures digests { IfOk result (λ b. AreNext some.now b.digests.items) }
     ensures err { IfErr result (λ e. IsStoppedAt job.now parts.now merger e) }
 {
@@ -162,15 +158,16 @@ fn stepped_beside_one<R: CountedRead + Drop, T: Threads>(
         requires { length parts.now ≡ length merger.held }
         ensures shards { IfOk result (λ s. length s.merger.held ≡ length merger.held) }
         ensures ok { IfOk result
-            (λ s. StepsOver job.entry.now parts.entry.now s.cuts.items merger s.merger text.items s.text.items) }
+            (λ s. StepsOver job.entry.now parts.entry.now s.cuts.items merger s.merger
+            text.items s.text.items) }
         ensures err { IfErr result (IsBlamedOver job.entry.now parts.entry.now merger) }
     { stepped(alloc, job, parts, merger, text) };
     let (digests, merged) = thread::join(rt, digesting, merging);
     with_digests(digests, merged)
 }
 
-/// Merges what is held of the parts, as far as it goes, while two other threads, where they can be made, take what their
-/// digests lack, about half of the bytes each: SHA-256 of all is more work than their merge.
+/// Like `stepped`, while up to two threads digest, about half of the bytes each: SHA-256 takes
+/// longer than the merge.
 fn stepped_beside<R: CountedRead + Drop, T: Threads>(
     rt: &T,
     alloc: Global,
@@ -182,7 +179,8 @@ fn stepped_beside<R: CountedRead + Drop, T: Threads>(
     requires { length parts.now ≡ length merger.held }
     ensures shards { IfOk result (λ b. length b.turn.merger.held ≡ length merger.held) }
     ensures ok { IfOk result
-        (λ b. StepsOver job.now parts.now b.turn.cuts.items merger b.turn.merger text.items b.turn.text.items) }
+        (λ b. StepsOver job.now parts.now b.turn.cuts.items merger b.turn.merger
+        text.items b.turn.text.items) }
     ensures digests { IfOk result (λ b. AreNext parts.now b.digests.items) }
     ensures err { IfErr result (λ e. IsStoppedAt job.now parts.now merger e) }
 {
@@ -196,7 +194,8 @@ fn stepped_beside<R: CountedRead + Drop, T: Threads>(
         requires { length parts.now ≡ length merger.held }
         ensures shards { IfOk result (λ b. length b.turn.merger.held ≡ length merger.held) }
         ensures ok { IfOk result
-            (λ b. StepsOver job.entry.now parts.entry.now b.turn.cuts.items merger b.turn.merger text.items b.turn.text.items) }
+            (λ b. StepsOver job.entry.now parts.entry.now b.turn.cuts.items merger b.turn.merger
+            text.items b.turn.text.items) }
         ensures digests { IfOk result (λ b. AreNext back.entry.now b.digests.items) }
         ensures err { IfErr result (λ e. IsStoppedAt job.entry.now parts.entry.now merger e) }
     { stepped_beside_one(rt, alloc, job, parts, back, merger, text) };
@@ -204,8 +203,8 @@ fn stepped_beside<R: CountedRead + Drop, T: Threads>(
     all_beside(first, beside)
 }
 
-/// How many bytes are to be held in the next turn: twice as many where these were not enough to take one, which no two lines
-/// of each part are.
+/// How many bytes the next turn holds: twice as many if nothing was taken, which two lines of each
+/// part prevent.
 fn next_size(size: usize, cuts: &[usize]) -> usize {
     if cuts.iter().all(|cut| *cut == 0) {
         size.saturating_mul(2)
@@ -214,8 +213,7 @@ fn next_size(size: usize, cuts: &[usize]) -> usize {
     }
 }
 
-/// The next turn: some bytes of each part are read, the lines taken that no line to come belongs before, and what these are
-/// merged to is written.
+/// Reads some of each part, takes the lines that no later line precedes, and writes their merge.
 fn turned<R: CountedRead + Drop, W: CountedWrite + Drop, T: Threads>(
     rt: &T,
     alloc: Global,
@@ -227,8 +225,10 @@ fn turned<R: CountedRead + Drop, W: CountedWrite + Drop, T: Threads>(
 ) -> Result<Turn, Stop>
     requires { length parts.old ≡ length last.merger.held }
     ensures shards { IfOk result (λ s. length s.merger.held ≡ length last.merger.held) }
-    ensures read { OnOk result (AllAre (λ _ o n. Moves R.remaining R.can_fail [] o n) parts.old parts.old parts.new) }
-    ensures ok { IfOk result (λ s. StepsOver job.now parts.new s.cuts.items last.merger s.merger [] s.text.items) }
+    ensures read { OnOk result (AllAre
+        (λ _ o n. Moves R.remaining R.can_fail [] o n) parts.old parts.old parts.new) }
+    ensures ok { IfOk result
+        (λ s. StepsOver job.now parts.new s.cuts.items last.merger s.merger [] s.text.items) }
     ensures written { IfOk result (λ s. (bytes : List ℕ) → HasWritten W.seen bytes made.old
         → HasWritten W.seen (bytes ++ s.text.items) made.new) }
     ensures err { IfErr result (IsTurnFault R.remaining R.can_fail
@@ -250,8 +250,7 @@ fn turned<R: CountedRead + Drop, W: CountedWrite + Drop, T: Threads>(
     Ok(turn)
 }
 
-/// Merges the parts in turns: in each, some bytes of each are read, the lines taken that no line to come belongs before, and
-/// what these are merged to is written.
+/// Merges the parts in turns.
 pub(crate) fn merged_in_turns<R: CountedRead + Drop, W: CountedWrite + Drop, T: Threads>(
     rt: &T,
     alloc: Global,
@@ -285,13 +284,13 @@ pub(crate) fn merged_in_turns<R: CountedRead + Drop, W: CountedWrite + Drop, T: 
         pass_all(parts, turn.cuts.as_slice());
         size = next_size(size, turn.cuts.as_slice());
     }
-    // More turns than 64 bits count: no machine has the memory for what they would merge.
+    // No machine has the memory for what more turns than 64 bits count would merge.
     Err(Stop::Part(ShardFault::OutOfMemory))
 }
 
-/// Merges parts as they are read, writes what they are merged to, and compares each, once it is read as far as it goes, with
-/// what its verdict tells. Where they can't be merged they are read as far as they go too: that one is another is told
-/// rather than a line of it.
+/// Merges parts while it reads them, writes the text, and compares each part, read to its end, with
+/// its verdict. If they can't be merged, it still reads them to their ends: it reports a wrong part
+/// rather than a bad line.
 pub(crate) fn joined<R: CountedRead + Drop, W: CountedWrite + Drop, T: Threads>(
     rt: &T,
     alloc: Global,

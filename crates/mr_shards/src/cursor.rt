@@ -1,4 +1,4 @@
-//! Where a merge stands in the outputs of shards.
+//! Where a merge is in the shards' outputs, and which line comes next: a scan over the shards.
 ghost use Rattle.std.specs.Prelude.{◌≡◌, ℕ, List, IfOk, IfSome, IsTrue, MatchOption, Some, map};
 ghost use Rattle.std.specs.Prelude.{None, ◌↔◌, IfErr};
 ghost use Rattle.mr_shards.specs.Lines.{groups_in};
@@ -16,19 +16,18 @@ use mr_bytes::compare_keys;
 use mr_jobs::Job;
 use std::cmp::Ordering;
 
-/// Where a merge stands in the output of a shard: its next line, with the files moved, and the bytes behind it.
+/// A shard's output, partly merged: its next line, with its file number moved, and the rest.
 #[derive(Clone, Copy)]
 pub(crate) struct Cursor<'a> {
     pub head: Option<Line<'a>>,
     pub rest: &'a [u8],
     /// How many files the shards before have.
     pub before: u32,
-    /// How many lines were read; the count has 64 bits.
+    /// How many lines were read, modulo 2^64.
     pub lines: u64,
 }
 
-/// Whether a line may come behind the one before it: with totals, keys rise strictly. Where their first bytes differ, those
-/// tell it.
+/// Keys of totals rise strictly; keys of places don't fall. `front` decides where it differs.
 fn may_follow(job: &Job, last: Option<Line<'_>>, line: Line<'_>) -> bool
     requires last { IsFronted last }
     requires line { HasFront line }
@@ -48,7 +47,7 @@ fn may_follow(job: &Job, last: Option<Line<'_>>, line: Line<'_>) -> bool
     }
 }
 
-/// The cursor behind its next line.
+/// Reads the next line.
 pub(crate) fn advanced<'a>(
     job: &Job,
     shard: usize,
@@ -61,7 +60,8 @@ pub(crate) fn advanced<'a>(
     ensures kind { IfOk result (IsHeadFor job.now) }
     ensures order { IfOk result (λ n. IfSome n.head (λ l. DoesNotFall cursor.entry.head l)) }
     ensures behind { IfOk result (λ n. IsRestOf job.now n → IsRestOf job.now cursor.entry) }
-    ensures read { IfOk result (λ n. (text : List ℕ) → IsReadOf job.now text cursor.entry → IsReadOf job.now text n) }
+    ensures read { IfOk result
+        (λ n. (text : List ℕ) → IsReadOf job.now text cursor.entry → IsReadOf job.now text n) }
     ensures err { IfErr result (BlamesOnly job.now shard cursor.entry.before
         (last_key cursor.entry.head) cursor.entry.rest.now cursor.entry.lines) }
 {
@@ -92,8 +92,7 @@ pub(crate) fn advanced<'a>(
     })
 }
 
-/// Whether the key of a line is before that of another. Where their first bytes differ, those tell it; where they are alike,
-/// so are most of the keys.
+/// Whether a line's key is less. `front` decides where it differs; else most keys are equal.
 fn is_before(line: Line<'_>, other: Line<'_>) -> bool
     requires line { HasFront line }
     requires other { HasFront other }
@@ -106,7 +105,7 @@ fn is_before(line: Line<'_>, other: Line<'_>) -> bool
     }
 }
 
-/// The line of the lesser key, with its place; the one found before, where they are alike.
+/// The line of the lesser key, with its shard; `least` wins a tie.
 fn lesser<'a>(
     least: Option<(usize, Line<'a>)>,
     at: usize,
@@ -129,7 +128,6 @@ fn lesser<'a>(
     }
 }
 
-/// The first of the cursors whose next line has the least key, and that line.
 fn first_least<'a>(cursors: &[Cursor<'a>]) -> Option<(usize, Line<'a>)>
     requires { AllByRecursion (λ c. IsFronted c.head) cursors.now }
     ensures { result ≡ least_from None 0 cursors.entry.now }
@@ -141,7 +139,7 @@ fn first_least<'a>(cursors: &[Cursor<'a>]) -> Option<(usize, Line<'a>)>
     least
 }
 
-/// A cursor's next line, where it has the key of that line.
+/// The next line, if it has the key of `last`.
 fn alike<'a>(head: Option<Line<'a>>, last: Line<'_>) -> Option<Line<'a>>
     requires head { IsFronted head }
     requires last { HasFront last }
@@ -158,7 +156,6 @@ fn alike<'a>(head: Option<Line<'a>>, last: Line<'_>) -> Option<Line<'a>>
     }
 }
 
-/// The first of the cursors from that place on whose next line has the key of the last one, and that line.
 fn first_alike<'a>(cursors: &[Cursor<'a>], from: usize, last: Line<'_>) -> Option<(usize, Line<'a>)>
     requires heads { AllByRecursion (λ c. IsFronted c.head) cursors.now }
     requires last { HasFront last }
@@ -173,8 +170,8 @@ fn first_alike<'a>(cursors: &[Cursor<'a>], from: usize, last: Line<'_>) -> Optio
     None
 }
 
-/// The first of the cursors whose next line has the least key, and that line. Those with the key of the last line that was
-/// taken come first, and stand no further in front than that one did.
+/// The first shard whose next line has the least key, and that line. After `last` no shard before
+/// its own has its key, so the search for that key starts there.
 pub(crate) fn next_line<'a>(
     cursors: &[Cursor<'a>],
     last: Option<(usize, Line<'_>)>,

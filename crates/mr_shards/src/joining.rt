@@ -1,4 +1,4 @@
-//! The verdicts of shards, joined to one.
+//! Joins the verdicts of shards to that of the whole.
 ghost use Rattle.std.specs.Prelude.{◌≡◌, ◌↔◌, ◌⊎◌, ℕ, ◌+◌, ◌<◌, ◌≤◌, ◌^◌, ◌++◌, List, [], ◌∷◌};
 ghost use Rattle.std.specs.Prelude.{true, false, IfErr, IfOk, IfSome, MatchOption, OnOk, map};
 ghost use Rattle.std.specs.List.{AllByRecursion};
@@ -18,16 +18,15 @@ use thiserror::Error;
 /// Why verdicts are not joined. Verdicts are numbered from 0.
 #[derive(Clone, Copy, Debug, PartialEq, Eq, Drop, Error)]
 pub enum JoinFault {
-    /// A verdict is about another request.
+    /// The verdict is about another request.
     #[error("OtherRequest shard {shard}")]
     OtherRequest { shard: usize },
-    /// The number of a left-out record's split would not fit in 32 bits, or that of the splits not in 64.
+    /// The split of a left-out record would not fit in 32 bits, or the count of splits in 64.
     #[error("TooManySplits shard {shard}")]
     TooManySplits { shard: usize },
-    /// The pairs of all don't fit in 64 bits.
+    /// The sum of the pairs doesn't fit in 64 bits.
     #[error("TooManyPairs")]
     TooManyPairs,
-    /// The machine refused memory.
     #[error("OutOfMemory")]
     OutOfMemory,
 }
@@ -42,7 +41,6 @@ impl From<AllocError> for JoinFault {
     }
 }
 
-/// The splits of a file of so many bytes.
 fn splits_in(bytes: u64, size: u32) -> u64
     requires { 0 < size }
     ensures { result ≡ split_number size bytes }
@@ -55,7 +53,7 @@ fn splits_in(bytes: u64, size: u32) -> u64
     }
 }
 
-/// How many splits there are with those of the files that notes tell of; none where that doesn't fit in 64 bits.
+/// `before` and the splits of the noted files; none if that doesn't fit in 64 bits.
 fn splits_behind(notes: &[FileNote], size: u32, before: u64) -> Option<u64>
     requires { 0 < size }
     ensures count { MatchOption result (2 ^ 64 ≤ before + splits_told size notes.now)
@@ -72,7 +70,7 @@ fn splits_behind(notes: &[FileNote], size: u32, before: u64) -> Option<u64>
     Some(splits)
 }
 
-/// The name that a record has behind so many splits; none where its split doesn't fit in 32 bits.
+/// The record's name, moved by so many splits; none if its split doesn't fit in 32 bits.
 fn moved(name: RecordName, splits: u64) -> Option<RecordName>
     ensures { MatchOption result (2 ^ 32 ≤ splits + name.split) (λ n. n ≡ moved_name splits name) }
 {
@@ -88,14 +86,12 @@ fn moved(name: RecordName, splits: u64) -> Option<RecordName>
     }
 }
 
-/// Why records are not added.
 #[derive(Clone, Copy, Drop)]
 enum Unmoved {
     TooFar,
     OutOfMemory,
 }
 
-/// Adds a record behind so many splits.
 fn add_name(names: &mut Vec<RecordName>, name: RecordName, splits: u64) -> Result<(), Unmoved>
     ensures ok { OnOk result (names.new.items ≡ names.old.items ++ moved_name splits name ∷ []) }
     ensures near { OnOk result ((moved_name splits name).split < 2 ^ 32) }
@@ -110,7 +106,6 @@ fn add_name(names: &mut Vec<RecordName>, name: RecordName, splits: u64) -> Resul
     }
 }
 
-/// Adds records behind so many splits.
 fn add_names(names: &mut Vec<RecordName>, more: &[RecordName], splits: u64) -> Result<(), Unmoved>
     ensures ok { OnOk result (names.new.items ≡ names.old.items ++ map (moved_name splits) more.now) }
     ensures near { OnOk result (AllByRecursion (λ n. n.split < 2 ^ 32) (map (moved_name splits) more.now)) }
@@ -122,7 +117,6 @@ fn add_names(names: &mut Vec<RecordName>, more: &[RecordName], splits: u64) -> R
     Ok(())
 }
 
-/// A copy of a note.
 fn copy_of(alloc: Global, note: &FileNote) -> Result<FileNote, AllocError>
     ensures { IfOk result (λ n. n ≡ note.now) }
 {
@@ -133,7 +127,6 @@ fn copy_of(alloc: Global, note: &FileNote) -> Result<FileNote, AllocError>
     })
 }
 
-/// Adds copies of notes.
 fn add_notes(alloc: Global, notes: &mut Vec<FileNote>, more: &[FileNote]) -> Result<(), AllocError>
     ensures { OnOk result (notes.new.items ≡ notes.old.items ++ more.now) }
 {
@@ -144,7 +137,7 @@ fn add_notes(alloc: Global, notes: &mut Vec<FileNote>, more: &[FileNote]) -> Res
     Ok(())
 }
 
-/// Adds a verdict to those before it, which have so many splits; gives the splits with its own.
+/// Joins the verdict to those before it, which have `splits` splits; returns the splits of all.
 fn add_verdict(
     alloc: Global,
     request: &Request,
@@ -175,8 +168,8 @@ fn add_verdict(
     Ok(behind)
 }
 
-/// What the verdicts of shards are together, in their order: inputs one behind another, split numbers of left-out
-/// records moved by the splits of the shards before, pairs added. Outputs are left to be told.
+/// Joins the shards' verdicts in order: appends inputs, moves split numbers of left-out records by
+/// the splits of the shards before, adds pairs. It leaves the outputs empty.
 pub fn join_verdicts(
     alloc: Global,
     request: &Request,
@@ -194,10 +187,12 @@ pub fn join_verdicts(
     Ok(joined)
 }
 
-/// Keeps a name among those seen; whether it is new.
+/// Adds a name to those seen; returns whether it is new.
 fn see<'a>(seen: &mut BTreeSet<&'a [u8]>, name: &'a [u8]) -> Result<bool, AllocError>
-    ensures fresh { IfOk result (λ added. added ≡ true → Has (map (λ k. k.now) seen.old.keys) name.entry.now → ⊥) }
-    ensures again { IfOk result (λ added. added ≡ false → Has (map (λ k. k.now) seen.old.keys) name.entry.now) }
+    ensures fresh { IfOk result
+        (λ added. added ≡ true → Has (map (λ k. k.now) seen.old.keys) name.entry.now → ⊥) }
+    ensures again { IfOk result
+        (λ added. added ≡ false → Has (map (λ k. k.now) seen.old.keys) name.entry.now) }
     ensures kept { OnOk result ((n : List ℕ) → Has (map (λ k. k.now) seen.new.keys) n
         ↔ (Has (map (λ k. k.now) seen.old.keys) n ⊎ (name.entry.now ≡ n))) }
 {
@@ -207,7 +202,7 @@ fn see<'a>(seen: &mut BTreeSet<&'a [u8]>, name: &'a [u8]) -> Result<bool, AllocE
     }
 }
 
-/// The number of the first input that has the name of one before it.
+/// The number of the first input whose name an earlier input has.
 pub fn first_repeat(alloc: Global, notes: &[FileNote]) -> Result<Option<usize>, AllocError>
     ensures { IfOk result (λ r. MatchOption r (AreOnce notes.now) (IsRepeated notes.now)) }
 {
@@ -220,7 +215,7 @@ pub fn first_repeat(alloc: Global, notes: &[FileNote]) -> Result<Option<usize>, 
     Ok(None)
 }
 
-/// Where each verdict is true of its files and parts, the joined one is true of all.
+/// If each verdict is true of its files and parts, the joined one is true of all.
 pub fn joined_law()
     ensures { JoinedIsTrue }
 {}

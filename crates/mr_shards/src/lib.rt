@@ -1,7 +1,6 @@
-//! Shards: an input whose files are judged a list at a time, and whose outputs are merged to those of the whole. Those of
-//! an index are not: each of its lines tells several files at once, and the merge takes a line as one total or one place.
-//! And verdicts: what a judge said yes to, as a text that others can read. Those of shards are
-//! joined to that of the whole.
+//! Shards: lists of an input's files are judged apart; their outputs merge to those of the whole.
+//! An index can't be merged: its lines name several files; a merged line has one total or place.
+//! Verdicts: what a judge accepted, as text for others; the verdicts of shards join to one.
 #![tactic(auto)]
 
 mod cursor;
@@ -31,8 +30,8 @@ pub use verdict::{
 pub use window::Window;
 pub use writing::write_verdict;
 
-/// The text of the merged groups of shards is the output of the sequential execution over all their files, without the
-/// records that the shards left out; where those rise and exist in each shard, so they do in the whole.
+/// The merged text is the output of the sequential execution over all files, without the records
+/// that the shards leave out; if these rise and exist in each shard, they do in the whole.
 pub fn shard_law()
     ensures texts { OutputsAreTexts }
     ensures merged { MergedAreSequential }
@@ -44,12 +43,12 @@ pub fn reading_law()
     ensures { OneReading }
 {}
 
-/// A good result, over files within the limits of an input, is that of a shard whose outputs can be merged.
+/// A good result over files within an input's limits is one of a shard whose outputs can be merged.
 pub fn judged_law()
     ensures { GoodIsJudged }
 {}
 
-/// Verdicts that fit and have one text are one.
+/// Verdicts within their fields' ranges that have the same text are equal.
 pub fn verdict_law()
     ensures { OneText }
 {}

@@ -1,4 +1,4 @@
-//! One line of an output.
+//! A line of an output: `KEY\tTOTAL\n` or `KEY\tFILE:OFFSET\n`.
 ghost use Rattle.std.specs.Prelude.{◌≡◌, ◌<◌, ◌≤◌, ◌+◌, ◌*◌, ◌^◌, ◌++◌, ℕ, [], ◌∷◌, IfErr, IfOk};
 ghost use Rattle.std.specs.Prelude.{IfSome, MatchOption, None, Some, OnOk, decimal, map};
 ghost use Rattle.mr_jobs.specs.JobSpec.{counts};
@@ -20,23 +20,22 @@ use mr_ranks::front_of;
 use mr_reduce::{append_total, group_text};
 use std::alloc::AllocError;
 
-/// What a line tells of its key: how many values it has, or one of its places.
+/// The number of a key's values, or one of its places.
 #[derive(Clone, Copy)]
 pub(crate) enum Tally {
     Total(u64),
     Place { file: u32, offset: u64 },
 }
 
-/// A line of an output.
 #[derive(Clone, Copy)]
 pub(crate) struct Line<'a> {
     pub key: &'a [u8],
-    /// The first eight bytes of the key as a number, which settles most comparisons with no look at the key.
+    /// The key's first eight bytes as a number, which decides most comparisons.
     pub front: u64,
     pub tally: Tally,
 }
 
-/// The bytes before the first `mark`, and those behind it.
+/// Splits the text at the first `mark`.
 pub(crate) fn cut_first(text: &[u8], mark: u8) -> Option<(&[u8], &[u8])>
     ensures { MatchOption result (Lacks mark text.now)
         (λ r. (text.now ≡ r.0.now ++ mark ∷ r.1.now) × Lacks mark r.0.now) }
@@ -47,7 +46,7 @@ pub(crate) fn cut_first(text: &[u8], mark: u8) -> Option<(&[u8], &[u8])>
     }
 }
 
-/// The bytes before the last `mark`, and those behind it.
+/// Splits the text at the last `mark`.
 pub(crate) fn cut_last(text: &[u8], mark: u8) -> Option<(&[u8], &[u8])>
     ensures { MatchOption result (Lacks mark text.now)
         (λ r. (text.now ≡ r.0.now ++ mark ∷ r.1.now) × Lacks mark r.1.now) }
@@ -58,10 +57,11 @@ pub(crate) fn cut_last(text: &[u8], mark: u8) -> Option<(&[u8], &[u8])>
     }
 }
 
-/// The number with a digit behind it; none where the byte is no digit, or where the number may be too large.
+/// None if the byte is no digit, or if the number may be too large.
 #[inline(always)]
 fn with_digit(value: u64, digit: u8) -> Option<u64>
-    ensures { IfSome result (λ n. (48 ≤ digit) × (digit ≤ 57) × (n + 48 ≡ value * 10 + digit) × (n < 2 ^ 64)) }
+    ensures { IfSome result
+        (λ n. (48 ≤ digit) × (digit ≤ 57) × (n + 48 ≡ value * 10 + digit) × (n < 2 ^ 64)) }
 {
     if value > 1_000_000_000_000_000_000 || digit < b'0' || digit > b'9' {
         None
@@ -70,8 +70,7 @@ fn with_digit(value: u64, digit: u8) -> Option<u64>
     }
 }
 
-/// The number that these digits write, read in one pass. There is none for some of the texts that write one: zero, and the
-/// largest numbers.
+/// Reads the digits in one pass. It returns none for 0 and the largest numbers too.
 fn read_number(digits: &[u8]) -> Option<u64>
     ensures { IfSome result (λ n. digits.now ≡ decimal n) }
 {
@@ -91,9 +90,10 @@ fn read_number(digits: &[u8]) -> Option<u64>
     Some(value)
 }
 
-/// The number that these digits write, by way of its own text.
+/// Parses the digits and compares them with the number's own text.
 fn checked_number(digits: &[u8]) -> Option<u64>
-    ensures { MatchOption result ((n : ℕ) → n < 2 ^ 64 → digits.now ≡ decimal n → ⊥) (λ n. digits.now ≡ decimal n) }
+    ensures { MatchOption result ((n : ℕ) → n < 2 ^ 64 → digits.now ≡ decimal n → ⊥)
+        (λ n. digits.now ≡ decimal n) }
 {
     let Ok(text) = str::from_utf8(digits) else {
         return None;
@@ -109,9 +109,10 @@ fn checked_number(digits: &[u8]) -> Option<u64>
     }
 }
 
-/// The number that these digits write, as an output writes it: without leading zeros, and below 2^64.
+/// Parses a number as outputs write it: without leading zeros, below 2^64.
 pub fn number_of(digits: &[u8]) -> Option<u64>
-    ensures { MatchOption result ((n : ℕ) → n < 2 ^ 64 → digits.now ≡ decimal n → ⊥) (λ n. digits.now ≡ decimal n) }
+    ensures { MatchOption result ((n : ℕ) → n < 2 ^ 64 → digits.now ≡ decimal n → ⊥)
+        (λ n. digits.now ≡ decimal n) }
 {
     match read_number(digits) {
         Some(value) => Some(value),
@@ -119,10 +120,11 @@ pub fn number_of(digits: &[u8]) -> Option<u64>
     }
 }
 
-/// The place that a line tells: the number of a file, a colon, and the place there.
+/// Parses `FILE:OFFSET`.
 fn place_of(told: &[u8]) -> Option<(u32, u64)>
     ensures { MatchOption result
-        ((file offset : ℕ) → file < 2 ^ 32 → offset < 2 ^ 64 → told.now ≡ decimal file ++ 58 ∷ decimal offset → ⊥)
+        ((file offset : ℕ) → file < 2 ^ 32 → offset < 2 ^ 64
+        → told.now ≡ decimal file ++ 58 ∷ decimal offset → ⊥)
         (λ r. told.now ≡ decimal r.0 ++ 58 ∷ decimal r.1) }
 {
     let Some((front, back)) = cut_first(told, b':') else {
@@ -140,9 +142,10 @@ fn place_of(told: &[u8]) -> Option<(u32, u64)>
     Some((file, offset))
 }
 
-/// What a line tells behind its key. A line of an index, which tells several files at once, is not read.
+/// What follows the key. It refuses a line of an index, which names several files.
 fn tally_of(job: &Job, told: &[u8]) -> Option<Tally>
-    ensures { MatchOption result ((t : Tally) → IsTold job.now t told.now → ⊥) (λ t. IsTold job.now t told.now) }
+    ensures { MatchOption result ((t : Tally) → IsTold job.now t told.now → ⊥)
+        (λ t. IsTold job.now t told.now) }
 {
     if job.counts() {
         match number_of(told) {
@@ -159,9 +162,10 @@ fn tally_of(job: &Job, told: &[u8]) -> Option<Tally>
     }
 }
 
-/// The first line of a text, and what stands behind it.
+/// The first line of a text, and the rest.
 pub(crate) fn first_line<'a>(job: &Job, text: &'a [u8]) -> Option<(Line<'a>, &'a [u8])>
-    ensures read { IfSome result (λ r. groups_in job.now text.entry.now ≡ group_of r.0 ∷ groups_in job.now r.1.now) }
+    ensures read { IfSome result
+        (λ r. groups_in job.now text.entry.now ≡ group_of r.0 ∷ groups_in job.now r.1.now) }
     ensures kind { IfSome result (λ r. IsFor job.now r.0.tally) }
     ensures front { IfSome result (λ r. HasFront r.0) }
     ensures line { IfSome result (λ r. IsLineOf job.now (group_of r.0)) }
@@ -181,7 +185,6 @@ pub(crate) fn first_line<'a>(job: &Job, text: &'a [u8]) -> Option<(Line<'a>, &'a
     Some((Line { key, front, tally }, rest))
 }
 
-/// What a line tells where so many files come before its own.
 fn moved_tally(tally: Tally, files: u32) -> Result<Tally, MergeFault>
     ensures values { IfOk result (λ t. values_of t ≡ map (moved_value files) (values_of tally)) }
     ensures kind { IfOk result (λ t. IsSameKind tally t) }
@@ -196,7 +199,7 @@ fn moved_tally(tally: Tally, files: u32) -> Result<Tally, MergeFault>
     }
 }
 
-/// The line where so many files come before its own.
+/// The line, if `files` files come before those of its shard.
 pub(crate) fn moved<'a>(line: Line<'a>, files: u32) -> Result<Line<'a>, MergeFault>
     ensures group { IfOk result (λ l. group_of l ≡ moved_group files (group_of line.entry)) }
     ensures kind { IfOk result (λ l. IsSameKind line.entry.tally l.tally) }
@@ -209,13 +212,14 @@ pub(crate) fn moved<'a>(line: Line<'a>, files: u32) -> Result<Line<'a>, MergeFau
     })
 }
 
-/// The two lines as one, where they are totals of one key.
+/// The sum of two totals of one key; none for other lines.
 pub(crate) fn combined<'a>(
     first: Line<'a>,
     second: Line<'a>,
 ) -> Result<Option<Line<'a>>, MergeFault>
     ensures ok { IfOk result (Combines first.entry second.entry) }
-    ensures err { IfErr result (λ e. (e ≡ MergeFault.TotalTooLarge) × Overflows (Some first.entry) second.entry) }
+    ensures err { IfErr result
+        (λ e. (e ≡ MergeFault.TotalTooLarge) × Overflows (Some first.entry) second.entry) }
 {
     let (Tally::Total(a), Tally::Total(b)) = (first.tally, second.tally) else {
         return Ok(None);
@@ -238,7 +242,7 @@ pub(crate) fn put(job: &Job, line: Line<'_>, out: &mut Vec<u8>) -> Result<(), Al
 {
     match line.tally {
         Tally::Total(total) => {
-            // A job that doesn't count writes the same for values without a place as for none.
+            // A job that doesn't count writes values without places like no values.
             if job.counts() {
                 append_total(line.key, total, out)?;
             } else {

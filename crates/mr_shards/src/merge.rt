@@ -1,4 +1,11 @@
-//! The merge of the outputs that shards have for one partition.
+//! Merges the outputs that the shards have for one partition.
+//!
+//!     shard 0  a 2 | c 1 |
+//!     shard 1  a 3 | b 1 |    ->    a 5 | b 1 | c 1 |
+//!
+//! Equal keys come in the order of the shards. Totals of a key add up; a place's file number moves
+//! by the files of the shards before. Invariant: `out` and the line that waits are the merge of the
+//! lines taken. Cost: each line takes one look at the next line of every shard.
 ghost use Rattle.std.specs.Prelude.{◌≡◌, ◌<◌, ◌++◌, [], ◌∷◌, List, None, IfErr, IfOk, OnOk, length};
 ghost use Rattle.std.specs.List.{AllByRecursion};
 ghost use Rattle.mr_shards.specs.Cursors.{BlamesAt, Goes, IsFronted, IsHeadFor, ReadsOn};
@@ -17,17 +24,15 @@ use thiserror::Error;
 /// Why outputs are not merged. Shards and lines are numbered from 0.
 #[derive(Clone, Copy, Debug, PartialEq, Eq, Drop, Error)]
 pub enum MergeFault {
-    /// A line isn't of the form that the job's outputs have, or its key isn't past that of the line before; or it is one
-    /// of an index, which are not merged.
+    /// The line isn't of the job's form, its key is out of order, or it is of an index.
     #[error("BadLine shard {shard} line {line}")]
     BadLine { shard: usize, line: u64 },
     /// The total of a key doesn't fit in 64 bits.
     #[error("TotalTooLarge")]
     TotalTooLarge,
-    /// There are 4,294,967,296 files or more, or a place has a file's number as large.
+    /// There are 2^32 files or more, or a place's moved file number reaches 2^32.
     #[error("TooManyFiles")]
     TooManyFiles,
-    /// The machine refused memory.
     #[error("OutOfMemory")]
     OutOfMemory,
 }
@@ -42,14 +47,13 @@ impl From<AllocError> for MergeFault {
     }
 }
 
-/// What a shard has for a partition, and how many files it has.
+/// A shard's output for a partition, and how many files the shard has.
 #[derive(Clone, Copy)]
 pub struct ShardText<'a> {
     pub files: u32,
     pub text: &'a [u8],
 }
 
-/// Keeps a cursor behind the others.
 fn keep<'a>(cursors: &mut Vec<Cursor<'a>>, cursor: Cursor<'a>) -> Result<(), MergeFault>
     ensures ok { OnOk result (cursors.new.items ≡ cursors.old.items ++ cursor.entry ∷ []) }
     ensures err { IfErr result (λ e. e ≡ MergeFault.OutOfMemory) }
@@ -58,7 +62,6 @@ fn keep<'a>(cursors: &mut Vec<Cursor<'a>>, cursor: Cursor<'a>) -> Result<(), Mer
     Ok(())
 }
 
-/// A cursor at the first line of each output.
 fn open_all<'a>(
     alloc: Global,
     job: &Job,
@@ -85,7 +88,7 @@ fn open_all<'a>(
     Ok(cursors)
 }
 
-/// Takes a line behind the one that waits to be written: either it goes in with that one, or that one is written.
+/// Adds the line to the waiting one if they combine; else writes that one. Returns what waits now.
 fn taken<'a>(
     job: &Job,
     waiting: Option<Line<'a>>,
@@ -105,7 +108,6 @@ fn taken<'a>(
     Ok(line)
 }
 
-/// Writes the line that still waits.
 fn put_last(job: &Job, waiting: Option<Line<'_>>, out: &mut Vec<u8>) -> Result<(), AllocError>
     ensures { OnOk result (out.new.items ≡ out.old.items ++ texts job.now (with_waiting waiting.entry [])) }
 {
@@ -115,7 +117,6 @@ fn put_last(job: &Job, waiting: Option<Line<'_>>, out: &mut Vec<u8>) -> Result<(
     }
 }
 
-/// Reads on in the output of one cursor.
 fn go_on<'a>(job: &Job, cursors: &mut Vec<Cursor<'a>>, at: usize) -> Result<(), MergeFault>
     requires within { at < length cursors.old.items }
     requires heads { AllByRecursion (λ c. IsFronted c.head) cursors.old.items }
@@ -127,7 +128,6 @@ fn go_on<'a>(job: &Job, cursors: &mut Vec<Cursor<'a>>, at: usize) -> Result<(), 
     Ok(())
 }
 
-/// Writes the lines of all cursors, merged, until none is left.
 fn merge_lines<'a>(
     job: &Job,
     cursors: &mut Vec<Cursor<'a>>,
@@ -151,15 +151,16 @@ fn merge_lines<'a>(
     Ok(())
 }
 
-/// The outputs that shards have for one partition, in the order of the shards, merged to that of the whole. It is
-/// refused where an output isn't lines of the job with keys in their order; any line of an index is refused.
+/// Merges the outputs that shards have for one partition, in the order of the shards. It refuses
+/// lines that aren't the job's or are out of order, and any line of an index.
 pub fn merge_parts(
     alloc: Global,
     job: &Job,
     outputs: &[ShardText<'_>],
 ) -> Result<Vec<u8>, MergeFault>
     ensures stands { IfOk result (λ _. AllByRecursion (λ o. IsRest job.now None o.text.now) outputs.now) }
-    ensures merged { IfOk result (λ out. out.items ≡ texts job.now (merged_parts (parts_in job.now outputs.now))) }
+    ensures merged { IfOk result
+        (λ out. out.items ≡ texts job.now (merged_parts (parts_in job.now outputs.now))) }
     ensures whole { IfOk result (λ out. IsOutputOfAll job.now outputs.now out.items) }
     ensures err { IfErr result (Blames job.now outputs.now) }
 {

@@ -1,4 +1,4 @@
-//! The outputs that shards have for one partition, merged as they are read.
+//! Merges the outputs that shards have for one partition while they are read.
 ghost use Rattle.std.specs.Prelude.{◌≡◌, ℕ, ◌≤◌, ◌++◌, ◌∷◌, [], IfErr, IfOk, OnErr, OnOk, length};
 ghost use Rattle.std.specs.Prelude.{map, option_map, List, Some, MatchOption, true, false};
 ghost use Rattle.mr_shards.specs.Pieces.{ArePut, BlamesAll, Standing, are_last, cuts_before};
@@ -24,11 +24,11 @@ pub(crate) struct Bound {
     pub shards: usize,
 }
 
-/// The outputs that shards have for one partition, merged as they are read.
+/// The state of a merge between windows.
 #[derive(Drop)]
 pub struct Merger {
     held: Vec<Held>,
-    /// The place that all lines taken are before.
+    /// All lines taken are before this place.
     bound: Option<Bound>,
 }
 
@@ -38,7 +38,7 @@ impl Model for Merger {
     ghost view = { λ m. record { held = m.held.items; bound = option_map kept m.bound } };
 }
 
-/// The place, where there is one and it is not before the bound.
+/// The place, unless it is before the bound.
 fn place_past<'a>(bound: &Option<Bound>, place: Option<Place<'a>>) -> Option<Place<'a>>
     ensures { MatchOption result
         (MatchOption place.entry (Unit {0}) (λ p. is_past (option_map kept bound.now) (shown p) ≡ false))
@@ -55,7 +55,7 @@ fn place_past<'a>(bound: &Option<Bound>, place: Option<Place<'a>>) -> Option<Pla
     }
 }
 
-/// Takes all of each window, where all are the last ones.
+/// Takes all of each window; all are the last.
 fn take_all(
     alloc: Global,
     job: &Job,
@@ -77,7 +77,7 @@ fn take_all(
     Ok(cuts)
 }
 
-/// Takes nothing of the windows, and looks through their lines for one to refuse.
+/// Takes nothing, and searches the lines for one to refuse.
 fn take_nothing(
     alloc: Global,
     job: &Job,
@@ -99,7 +99,7 @@ impl Merger {
     ghost use Rattle.mr_shards.specs.Pieces.{IsAfter, Reading, cuts_of, outputs_of, text_taken};
     ghost use Rattle.mr_shards.specs.Refused.{Blames};
 
-    /// A merger of as many shards as numbers; each is how many files a shard has. Nothing is taken yet.
+    /// A merger of shards with so many files each. Nothing is taken yet.
     pub fn new(alloc: Global, files: &[u32]) -> Result<Merger, AllocError>
         ensures fresh { IfOk result (λ m. m ≡ fresh_all files.now) }
         ensures begins { IfOk result (λ m. (job : JobSpec) (rs : List Reading)
@@ -111,15 +111,15 @@ impl Merger {
         })
     }
 
-    /// Merges what the windows hold and appends the text, and tells how many bytes were taken of each window. Where all are
-    /// the last ones, all is taken. Else only the lines are taken that are before the least of the keys of the last whole lines,
-    /// so that no line to come belongs before them. Of a job that counts, lines with that key are left, so that lines of one key
-    /// stay together. Of another job, they are taken up to the first shard that has it as its last key: all of the shards before
-    /// that one, and of that one all but the last line. So whole windows go, however many lines of one key there are. Where a
-    /// window that more comes behind has no whole line, nothing is taken. It is refused where an output isn't lines of the job
-    /// with keys in their order; lines are numbered in the whole output. Of outputs that stand something is taken wherever each
-    /// window that more comes behind has two whole lines; so where nothing is, the lines of the windows are looked through at
-    /// once for the one to refuse, and no window need grow for it.
+    /// Merges what it can of the windows, appends the text, and returns how many bytes it took of
+    /// each. If all windows are the last, it takes all. Else it takes the lines before the least of
+    /// the last whole lines' keys, over windows with more to come. A job that counts leaves that
+    /// key's lines together. Another job takes them from the shards before the first that has it as
+    /// its last key, and all but the last line from that shard: windows go even if they have only
+    /// one key. If a window with more to come has no whole line, it takes nothing. Lines that are
+    /// not the job's or are out of order are refused, by their number in the whole output. Of good
+    /// outputs it takes something wherever each window with more to come has two whole lines. So if
+    /// it takes nothing it searches the lines for one to refuse, and no window need grow for that.
     pub fn step(
         &mut self,
         alloc: Global,
@@ -147,7 +147,7 @@ impl Merger {
         }
     }
 
-    /// Takes the lines of each window that are before the place, which is not before the bound.
+    /// Takes the lines before the place, which is not before the bound.
     fn take_to(
         &mut self,
         alloc: Global,
@@ -160,7 +160,8 @@ impl Merger {
         ensures cuts { IfOk result (λ cuts. cuts.items ≡ cuts_before (shown place.entry) windows.now) }
         ensures moved { IfOk result (λ _. self.new ≡ moved_to self.old windows.now (shown place.entry)) }
         ensures put { IfOk result (λ _.
-            ArePut job.now (pieces_of self.old.held windows.now (cuts_before (shown place.entry) windows.now)) out.old.items out.new.items) }
+            ArePut job.now (pieces_of self.old.held windows.now
+            (cuts_before (shown place.entry) windows.now)) out.old.items out.new.items) }
         ensures err { IfErr result (BlamesAll job.now self.old.held windows.now) }
         ensures kept { OnErr result ((self.new ≡ self.old) × (out.new.items ≡ out.old.items)) }
     {
@@ -170,7 +171,7 @@ impl Merger {
         Ok(cuts)
     }
 
-    /// Merges what the cuts take, which are the lines before the place, and stands there.
+    /// Merges what the cuts take and moves the bound to the place.
     fn merge_to(
         &mut self,
         alloc: Global,
@@ -194,7 +195,7 @@ impl Merger {
         Ok(())
     }
 
-    /// What is kept, once the lines before the place are taken.
+    /// The state once the lines before the place are taken.
     fn moved(
         &self,
         alloc: Global,

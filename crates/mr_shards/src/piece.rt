@@ -1,4 +1,4 @@
-//! Pieces that are cut off windows, and their merge.
+//! Cuts pieces off windows and merges them.
 ghost use Rattle.std.specs.Prelude.{◌≡◌, ℕ, ◌≤◌, ◌++◌, ◌∷◌, [], IfErr, IfOk, OnErr, OnOk, length};
 ghost use Rattle.std.specs.Prelude.{map, option_map, List, Option, Some, None};
 ghost use Rattle.std.specs.Prelude.{replicate, MatchOption, false, true, take, slice_index_or};
@@ -15,7 +15,6 @@ use crate::window::{Held, Place, Window, bytes_to, in_next, line_count, place_of
 use mr_jobs::Job;
 use std::alloc::{AllocError, Global};
 
-/// Keeps a number behind the others.
 fn keep_cut(cuts: &mut Vec<usize>, cut: usize) -> Result<(), AllocError>
     ensures { OnOk result (cuts.new.items ≡ cuts.old.items ++ cut ∷ []) }
 {
@@ -23,7 +22,6 @@ fn keep_cut(cuts: &mut Vec<usize>, cut: usize) -> Result<(), AllocError>
     Ok(())
 }
 
-/// Keeps a shard behind the others.
 fn keep_held(all: &mut Vec<Held>, held: Held) -> Result<(), AllocError>
     ensures { OnOk result (all.new.items ≡ all.old.items ++ held ∷ []) }
 {
@@ -31,7 +29,6 @@ fn keep_held(all: &mut Vec<Held>, held: Held) -> Result<(), AllocError>
     Ok(())
 }
 
-/// Keeps a piece behind the others.
 fn keep_piece<'a>(
     pieces: &mut Vec<ShardText<'a>>,
     held: Held,
@@ -50,7 +47,6 @@ fn keep_piece<'a>(
     Ok(())
 }
 
-/// Shards of which nothing was taken.
 pub(crate) fn held_of(alloc: Global, files: &[u32]) -> Result<Vec<Held>, AllocError>
     ensures { IfOk result (λ held. held.items ≡ map fresh files.now) }
 {
@@ -76,7 +72,7 @@ pub(crate) fn whole_windows(alloc: Global, windows: &[Window<'_>]) -> Result<Vec
     Ok(cuts)
 }
 
-/// Cuts that take the lines of each window that are before the place.
+/// Cuts that take each window's lines before the place.
 pub(crate) fn cuts_before(
     alloc: Global,
     windows: &[Window<'_>],
@@ -93,7 +89,6 @@ pub(crate) fn cuts_before(
     Ok(cuts)
 }
 
-/// Cuts that take nothing of each window.
 pub(crate) fn no_bytes(alloc: Global, windows: &[Window<'_>]) -> Result<Vec<usize>, AllocError>
     ensures is { IfOk result (λ cuts. cuts.items ≡ map nothing windows.now) }
 {
@@ -115,7 +110,6 @@ fn line_bytes(text: &[u8]) -> usize
     }
 }
 
-/// Cuts that take the whole lines of each window.
 fn whole_lines(alloc: Global, windows: &[Window<'_>]) -> Result<Vec<usize>, AllocError>
     ensures { IfOk result (λ cuts. AreLines cuts.items windows.now) }
 {
@@ -126,7 +120,6 @@ fn whole_lines(alloc: Global, windows: &[Window<'_>]) -> Result<Vec<usize>, Allo
     Ok(cuts)
 }
 
-/// A shard, where more lines were taken.
 fn read_more(held: Held, text: &[u8]) -> Held
     ensures { result ≡ read_on held text.now }
 {
@@ -136,7 +129,7 @@ fn read_more(held: Held, text: &[u8]) -> Held
     }
 }
 
-/// The shards, where so much was taken of each window.
+/// The shards after these cuts.
 pub(crate) fn all_read(
     alloc: Global,
     held: &[Held],
@@ -156,7 +149,6 @@ pub(crate) fn all_read(
     Ok(all)
 }
 
-/// The pieces that are cut off the windows.
 fn cut_off<'a>(
     alloc: Global,
     held: &[Held],
@@ -199,7 +191,6 @@ fn in_whole(fault: MergeFault, held: &[Held]) -> MergeFault
     }
 }
 
-/// Appends a text.
 fn append(out: &mut Vec<u8>, text: &[u8]) -> Result<(), MergeFault>
     ensures ok { OnOk result (out.new.items ≡ out.old.items ++ text.now) }
     ensures err { IfErr result (λ e. e ≡ MergeFault.OutOfMemory) }
@@ -209,7 +200,7 @@ fn append(out: &mut Vec<u8>, text: &[u8]) -> Result<(), MergeFault>
     Ok(())
 }
 
-/// Merges the pieces that are cut off the windows, and appends the text.
+/// Merges the pieces that the cuts take, and appends the text.
 pub(crate) fn merge_pieces(
     alloc: Global,
     job: &Job,
@@ -221,7 +212,8 @@ pub(crate) fn merge_pieces(
     requires shards { length held.now ≡ length windows.now }
     requires count { length cuts.now ≡ length windows.now }
     requires within { AreWithin cuts.now windows.now }
-    ensures ok { OnOk result (ArePut job.now (pieces_of held.now windows.now cuts.now) out.old.items out.new.items) }
+    ensures ok { OnOk result
+        (ArePut job.now (pieces_of held.now windows.now cuts.now) out.old.items out.new.items) }
     ensures err { IfErr result (AreBlamed job.now held.now (pieces_of held.now windows.now cuts.now)) }
     ensures kept { OnErr result (out.new.items ≡ out.old.items) }
 {
@@ -232,8 +224,8 @@ pub(crate) fn merge_pieces(
     }
 }
 
-/// Where the cuts take nothing of windows with whole lines, looks for one that doesn't stand where it does: of outputs that
-/// stand, the first lines of two in each window are not all behind the last of some window.
+/// If the cuts take nothing of windows with whole lines, searches for a line out of order: in good
+/// outputs with two lines in each window, not all first lines are past some window's last line.
 pub(crate) fn expect_order(
     alloc: Global,
     job: &Job,

@@ -1,5 +1,5 @@
-//! A verdict, read: each thing that its lines tell is looked up by its word, and the text is taken only where it is that
-//! of the verdict so found.
+//! Reads a verdict: finds each value by the word of its line, and accepts the text only if it is
+//! the text of the verdict so found. Cost: a fixed number of passes over the text.
 ghost use Rattle.std.specs.Prelude.{◌≡◌, ◌⊎◌, ℕ, ◌<◌, ◌^◌, List, [], ◌∷◌, ◌++◌, IfErr, IfOk};
 ghost use Rattle.std.specs.Prelude.{IsTrue, MatchOption, None, Some, OnOk, codes, decimal, map};
 ghost use Rattle.std.specs.List.{AllByRecursion};
@@ -18,7 +18,7 @@ use mr_bytes::{RecordName, cut};
 use mr_lanes::first_difference;
 use std::alloc::{AllocError, Global};
 
-/// What stands behind the word of a line, where it is this one.
+/// What follows the word of a line, if it is this word.
 fn behind<'a>(line: &'a [u8], word: &[u8]) -> Option<&'a [u8]>
     ensures { MatchOption result (told_of word.now line.entry.now ≡ None)
         (λ t. told_of word.now line.entry.now ≡ Some t.now) }
@@ -29,9 +29,10 @@ fn behind<'a>(line: &'a [u8], word: &[u8]) -> Option<&'a [u8]>
     if front == word { Some(told) } else { None }
 }
 
-/// What the first line of this word tells; nothing where there is none.
+/// What follows the word in its first line; empty if no line has the word.
 fn first_told<'a>(text: &'a [u8], word: &[u8]) -> &'a [u8]
-    ensures { (t : List ℕ) (ts : List (List ℕ)) → told_under word.now (lines text.entry.now) ≡ t ∷ ts → result.now ≡ t }
+    ensures { (t : List ℕ) (ts : List (List ℕ))
+        → told_under word.now (lines text.entry.now) ≡ t ∷ ts → result.now ≡ t }
 {
     let mut rest = text;
     while let Some((line, more)) = cut(rest, b'\n') {
@@ -43,7 +44,7 @@ fn first_told<'a>(text: &'a [u8], word: &[u8]) -> &'a [u8]
     b""
 }
 
-/// The two parts at the first space.
+/// Splits at the first space.
 fn parted(told: &[u8]) -> (&[u8], &[u8])
     ensures { (a b : List ℕ) → Lacks 32 a → told.now ≡ a ++ 32 ∷ b → (result.0.now ≡ a) × (result.1.now ≡ b) }
 {
@@ -53,7 +54,6 @@ fn parted(told: &[u8]) -> (&[u8], &[u8])
     }
 }
 
-/// The number that these digits write, and 0 where they write none.
 fn number_or_zero(digits: &[u8]) -> u64
     ensures { (n : ℕ) → n < 2 ^ 64 → digits.now ≡ decimal n → result ≡ n }
 {
@@ -63,7 +63,6 @@ fn number_or_zero(digits: &[u8]) -> u64
     }
 }
 
-/// The same, of 32 bits.
 fn small_or_zero(digits: &[u8]) -> u32
     ensures { (n : ℕ) → n < 2 ^ 32 → digits.now ≡ decimal n → result ≡ n }
 {
@@ -73,7 +72,6 @@ fn small_or_zero(digits: &[u8]) -> u32
     }
 }
 
-/// The file that a line tells of.
 fn note_of(alloc: Global, told: &[u8]) -> Result<FileNote, AllocError>
     ensures { IfOk result (λ r. (n : Note) → NoteFits n → told.now ≡ note_told n → r ≡ n) }
 {
@@ -88,7 +86,6 @@ fn note_of(alloc: Global, told: &[u8]) -> Result<FileNote, AllocError>
     })
 }
 
-/// The record that a line names.
 fn name_of(told: &[u8]) -> RecordName
     ensures { (n : Named) → NameFits n → told.now ≡ name_told n → result ≡ n }
 {
@@ -99,14 +96,15 @@ fn name_of(told: &[u8]) -> RecordName
     }
 }
 
-/// Adds the file that a line tells of, where it is one of this word.
+/// Adds the file of a line, if the line has this word.
 fn add_note(
     alloc: Global,
     notes: &mut Vec<FileNote>,
     line: &[u8],
     word: &[u8],
 ) -> Result<(), AllocError>
-    ensures { OnOk result (Adds note_told NoteFits (told_of word.now line.now) notes.old.items notes.new.items) }
+    ensures { OnOk result
+        (Adds note_told NoteFits (told_of word.now line.now) notes.old.items notes.new.items) }
 {
     let Some(told) = behind(line, word) else {
         return Ok(());
@@ -116,7 +114,6 @@ fn add_note(
     Ok(())
 }
 
-/// The files that the lines of this word tell of.
 fn notes_under(alloc: Global, text: &[u8], word: &[u8]) -> Result<Vec<FileNote>, AllocError>
     ensures { IfOk result (λ v. Finds note_told NoteFits (told_under word.now (lines text.now)) v.items) }
 {
@@ -129,7 +126,7 @@ fn notes_under(alloc: Global, text: &[u8], word: &[u8]) -> Result<Vec<FileNote>,
     Ok(notes)
 }
 
-/// Adds the record that a line names, where it is one of those left out.
+/// Adds the record of a line, if the line names one left out.
 fn add_name(names: &mut Vec<RecordName>, line: &[u8]) -> Result<(), AllocError>
     ensures { OnOk result (Adds name_told NameFits
         (told_of (codes "without") line.now) names.old.items names.new.items) }
@@ -141,9 +138,9 @@ fn add_name(names: &mut Vec<RecordName>, line: &[u8]) -> Result<(), AllocError>
     Ok(())
 }
 
-/// The records that lines name as left out.
 fn names_under(alloc: Global, text: &[u8]) -> Result<Vec<RecordName>, AllocError>
-    ensures { IfOk result (λ v. Finds name_told NameFits (told_under (codes "without") (lines text.now)) v.items) }
+    ensures { IfOk result
+        (λ v. Finds name_told NameFits (told_under (codes "without") (lines text.now)) v.items) }
 {
     let mut names = Vec::new(alloc);
     let mut rest = text;
@@ -154,7 +151,7 @@ fn names_under(alloc: Global, text: &[u8]) -> Result<Vec<RecordName>, AllocError
     Ok(names)
 }
 
-/// The verdict that the lines tell, each thing by its word.
+/// Finds each value by its word; it checks nothing.
 fn told_verdict(alloc: Global, text: &[u8]) -> Result<Verdict, AllocError>
     ensures { IfOk result (λ r. (v : Told) → Fits v → text.now ≡ spelling v → r ≡ v) }
 {
@@ -175,7 +172,6 @@ fn told_verdict(alloc: Global, text: &[u8]) -> Result<Verdict, AllocError>
     })
 }
 
-/// How many line feeds the bytes hold.
 fn line_feeds(bytes: &[u8]) -> u64 {
     let mut count = 0u64;
     for byte in bytes {
@@ -186,7 +182,7 @@ fn line_feeds(bytes: &[u8]) -> u64 {
     count
 }
 
-/// The line, from 0, in which two texts that differ part.
+/// The first line, from 0, in which two different texts differ.
 fn parting_line(bytes: &[u8], spelled: &[u8]) -> u64 {
     let Some(at) = first_difference(bytes, spelled) else {
         return 0;
@@ -197,7 +193,7 @@ fn parting_line(bytes: &[u8], spelled: &[u8]) -> u64 {
     }
 }
 
-/// The verdict that a text is of. It is refused exactly where it is the text of none.
+/// Parses the text of a verdict. It refuses exactly the texts of no verdict.
 pub fn read_verdict(alloc: Global, bytes: &[u8]) -> Result<Verdict, VerdictFault>
     ensures ok { IfOk result (λ v. bytes.now ≡ spelling v) }
     ensures err { IfErr result

@@ -1,4 +1,4 @@
-//! A verdict as a value: the request that it is about, the notes of its files, and why a text is no verdict.
+//! A verdict as a value: its request and the notes of its files.
 ghost use Rattle.std.specs.Prelude.{◌≡◌, ◌↔◌, IfOk, IfSome, IsTrue, MatchOption};
 ghost use Rattle.mr_bytes.specs.declared.By.{By};
 ghost use Rattle.mr_jobs.specs.JobSpec.{RequestSpec, Resources};
@@ -13,7 +13,7 @@ use std::alloc::{AllocError, Global};
 use std::marker::Model;
 use thiserror::Error;
 
-/// A file as it was judged: its name, how many bytes it has, and their SHA-256.
+/// A file as it was judged: name, length in bytes, SHA-256.
 #[derive(Debug, Drop)]
 pub struct FileNote {
     pub name: Vec<u8>,
@@ -29,9 +29,8 @@ impl Model for FileNote {
     ghost view = { λ n. record { name = n.name.items; length = n.length; digest = n.digest } };
 }
 
-/// What a judge said yes to: the job by its number, flags and literal as in a certificate, the partitions, the bytes of
-/// a split, the files of the input and of the result, the records that are left out, and how many pairs are emitted
-/// without them.
+/// What a judge accepted. `job` is the job's number; `flags` and `literal` are as in a certificate;
+/// `split` is in bytes; `pairs` counts the pairs of all records but those left out.
 #[derive(Debug, Drop)]
 pub struct Verdict {
     pub job: u32,
@@ -63,14 +62,12 @@ impl Model for Verdict {
     } };
 }
 
-/// Why a text is read as no verdict.
 #[derive(Clone, Copy, Debug, PartialEq, Eq, Drop, Error)]
 pub enum VerdictFault {
-    /// The text is that of no verdict. Its lines from this one on, numbered from 0, differ from those of the verdict that
-    /// its lines tell.
+    /// The text is no verdict's. It first differs in this line, numbered from 0, from the text of
+    /// the verdict that its lines give.
     #[error("BadLine {line}")]
     BadLine { line: u64 },
-    /// The machine refused memory.
     #[error("OutOfMemory")]
     OutOfMemory,
 }
@@ -97,10 +94,11 @@ pub fn asks(verdict: &Verdict, request: &Request) -> bool
         && verdict.split == request.split_size()
 }
 
-/// The one job that a verdict may name, where its outputs can be merged: not those of an index.
+/// The only job that the verdict may name, if outputs of that job can be merged.
 fn job_named(alloc: Global, verdict: &Verdict) -> Result<Option<Job>, AllocError>
     ensures named { IfOk result (λ r. MatchOption r
-        ((request : RequestSpec) → CanBeMade request → CanMerge request.job → NamesJob verdict.now request → ⊥)
+        ((request : RequestSpec) → CanBeMade request → CanMerge request.job
+        → NamesJob verdict.now request → ⊥)
         (λ j. (request : RequestSpec) → CanBeMade request → NamesJob verdict.now request → j ≡ request.job)) }
     ensures mergeable { IfOk result (λ r. IfSome r (λ j. CanMerge j)) }
 {
@@ -116,7 +114,7 @@ fn job_named(alloc: Global, verdict: &Verdict) -> Result<Option<Job>, AllocError
     }
 }
 
-/// The request, by the host of a key where the verdict's flags say so; none where its keys have no host.
+/// The request, by host if the flags say so; none if its keys have no host.
 fn by_named(request: Request, verdict: &Verdict) -> Option<Request>
     requires { request.by ≡ By.Key }
     ensures { MatchOption result ((verdict.now.flags ≡ 4) × (request.job ≡ Resources → ⊥))
@@ -129,8 +127,8 @@ fn by_named(request: Request, verdict: &Verdict) -> Option<Request>
     }
 }
 
-/// A request that a verdict is about, which lets no record be left out, of a job whose outputs can be merged; none where
-/// there is no such request. The outputs of an index can't be merged.
+/// A request that the verdict is about, with no record left out; none if there is no such request
+/// or its outputs can't be merged, as those of an index.
 pub fn request_of(alloc: Global, verdict: &Verdict) -> Result<Option<Request>, AllocError>
     ensures asks { IfOk result (λ r. MatchOption r (AsksNone verdict.now) (λ q. Asks verdict.now q)) }
     ensures mergeable { IfOk result (λ r. IfSome r (λ q. CanMerge q.job)) }
@@ -151,7 +149,6 @@ pub fn request_of(alloc: Global, verdict: &Verdict) -> Result<Option<Request>, A
     }
 }
 
-/// The note of a file of that name and these bytes.
 pub fn note_for(alloc: Global, name: &[u8], bytes: &[u8]) -> Result<FileNote, AllocError>
     ensures { IfOk result (λ n. n ≡ note_for name.now bytes.now) }
 {
@@ -162,7 +159,7 @@ pub fn note_for(alloc: Global, name: &[u8], bytes: &[u8]) -> Result<FileNote, Al
     })
 }
 
-/// Whether the note is one of these bytes, whatever the name.
+/// Whether length and digest fit the bytes, whatever the name.
 pub fn is_note_of(note: &FileNote, bytes: &[u8]) -> bool
     ensures { IsTrue result ↔ IsNoteOf note.now bytes.now }
 {
@@ -173,7 +170,6 @@ pub fn is_note_of(note: &FileNote, bytes: &[u8]) -> bool
     digest.as_slice() == note.digest.as_slice()
 }
 
-/// The verdict about a request, with the notes of its input and of its outputs.
 pub fn verdict_for(
     alloc: Global,
     request: &Request,

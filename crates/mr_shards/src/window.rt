@@ -1,4 +1,4 @@
-//! What was read of the outputs of shards and isn't merged yet.
+//! What was read of the shards' outputs and isn't merged yet.
 ghost use Rattle.std.specs.Prelude.{◌≡◌, ℕ, ◌+◌, ◌^◌, ◌<◌, ◌≤◌, List, [], ◌∷◌, None, Some};
 ghost use Rattle.std.specs.Prelude.{MatchOption, drop, length, option_map};
 ghost use Rattle.mr_shards.specs.declared.window.Window.{Window};
@@ -12,29 +12,29 @@ use crate::line::{cut_first, cut_last};
 use mr_bytes::compare_keys;
 use mr_jobs::Job;
 
-/// What was read of a shard's output and isn't merged yet, and whether the output ends with it.
+/// What was read of an output and isn't merged yet. `is_last` if the output ends with it.
 #[derive(Clone, Copy)]
 pub struct Window<'a> {
     pub bytes: &'a [u8],
     pub is_last: bool,
 }
 
-/// A place among the merged lines: behind those with lesser keys, and, of those with its own key, behind all of the first
-/// shards but the last of these, in which it stands. Where it is of no shards, it is before all lines with its key.
+/// A place among the merged lines: past all lesser keys and, of its own key, past all lines of the
+/// first `shards` shards but the last line of the last of them; if `shards` is 0, before that key.
 #[derive(Clone, Copy)]
 pub(crate) struct Place<'a> {
     pub key: &'a [u8],
     pub shards: usize,
 }
 
-/// How many files a shard has, and how many lines of its output were taken; the count has 64 bits.
+/// A shard's files, and how many lines of its output were taken, modulo 2^64.
 #[derive(Clone, Copy)]
 pub(crate) struct Held {
     pub files: u32,
     pub lines: u64,
 }
 
-/// The bytes before the line's last tab; none where it has no tab.
+/// The bytes before the line's last tab; none if it has no tab.
 fn key_of(line: &[u8]) -> &[u8]
     ensures { result.now ≡ before_last 9 line.now }
 {
@@ -44,7 +44,6 @@ fn key_of(line: &[u8]) -> &[u8]
     }
 }
 
-/// The key of the last whole line.
 fn last_key(text: &[u8]) -> Option<&[u8]>
     ensures { MatchOption result (last_key_in None (lines text.now) ≡ None)
         (λ k. last_key_in None (lines text.now) ≡ Some k.now) }
@@ -58,7 +57,7 @@ fn last_key(text: &[u8]) -> Option<&[u8]>
     }
 }
 
-/// The lesser of two places; of two with one key the first.
+/// The lesser of two places; the first if they have one key.
 fn lesser<'a>(least: Option<Place<'a>>, place: Place<'a>) -> Place<'a>
     ensures { shown result ≡ lesser_place (option_map shown least.entry) (shown place.entry) }
 {
@@ -72,8 +71,7 @@ fn lesser<'a>(least: Option<Place<'a>>, place: Place<'a>) -> Place<'a>
     }
 }
 
-/// The least place with that of one more window, behind so many others; none where more comes behind the window, and it has
-/// no whole line.
+/// The lesser of `least` and this window's place; none if more comes and it has no whole line.
 fn with_window<'a>(
     least: Option<Place<'a>>,
     at: usize,
@@ -82,7 +80,8 @@ fn with_window<'a>(
     requires { at + 1 < 2 ^ 64 }
     ensures { MatchOption result
         ((ws : List Window) → least_last (option_map shown least.entry) at (window.entry ∷ ws) ≡ None)
-        (λ n. (ws : List Window) → least_last (option_map shown least.entry) at (window.entry ∷ ws) ≡ least_last (option_map shown n) (at + 1) ws) }
+        (λ n. (ws : List Window) → least_last (option_map shown least.entry) at (window.entry ∷ ws)
+        ≡ least_last (option_map shown n) (at + 1) ws) }
 {
     if window.is_last {
         return Some(least);
@@ -99,8 +98,7 @@ fn with_window<'a>(
     }
 }
 
-/// The place of the least of the keys of the last whole lines, of the windows that more comes behind: in the first shard that
-/// has it.
+/// The least of the keys of the last whole lines, of windows that aren't last, in its first shard.
 fn least_place<'a>(windows: &[Window<'a>]) -> Option<Place<'a>>
     ensures { least_last None 0 windows.entry.now ≡ option_map shown result }
 {
@@ -114,7 +112,7 @@ fn least_place<'a>(windows: &[Window<'a>]) -> Option<Place<'a>>
     least
 }
 
-/// The place that the job's lines may be taken to. Where it counts, a key's lines stay together.
+/// The place up to which lines may be taken. A job that counts keeps the lines of a key together.
 pub(crate) fn place_of<'a>(job: &Job, windows: &[Window<'a>]) -> Option<Place<'a>>
     ensures { option_map shown result ≡ option_map (place_for job.now) (least_last None 0 windows.entry.now) }
 {
@@ -125,7 +123,7 @@ pub(crate) fn place_of<'a>(job: &Job, windows: &[Window<'a>]) -> Option<Place<'a
     })
 }
 
-/// The place, as the shards behind the first have it.
+/// The place as the next shard sees it.
 pub(crate) fn in_next(place: Place<'_>) -> Place<'_>
     ensures { shown result ≡ next_place (shown place.entry) }
 {
@@ -135,7 +133,6 @@ pub(crate) fn in_next(place: Place<'_>) -> Place<'_>
     }
 }
 
-/// Whether each output ends with its window.
 pub(crate) fn all_last(windows: &[Window<'_>]) -> bool
     ensures { result ≡ are_last windows.now }
 {
@@ -147,7 +144,7 @@ pub(crate) fn all_last(windows: &[Window<'_>]) -> bool
     true
 }
 
-/// Whether a line of the first shard with that key is before the place.
+/// Whether a line with that key, in the place's first shard, is before the place.
 fn is_before(place: Place<'_>, key: &[u8]) -> bool
     ensures { result ≡ is_before (shown place.entry) key.now }
 {
@@ -158,11 +155,12 @@ fn is_before(place: Place<'_>, key: &[u8]) -> bool
     }
 }
 
-/// The length of the first line with its line feed, where it is before the place.
+/// The length of the first line with its line feed, if it is before the place.
 fn line_before(text: &[u8], place: Place<'_>) -> Option<usize>
     ensures { MatchOption result (bytes_before (shown place.entry) (lines text.now) ≡ 0)
         (λ n. (0 < n) × (n ≤ length text.now)
-        × (bytes_before (shown place.entry) (lines text.now) ≡ n + bytes_before (shown place.entry) (lines (drop n text.now)))) }
+        × (bytes_before (shown place.entry) (lines text.now)
+        ≡ n + bytes_before (shown place.entry) (lines (drop n text.now)))) }
 {
     let Some((line, _)) = cut_first(text, b'\n') else {
         return None;
@@ -174,7 +172,7 @@ fn line_before(text: &[u8], place: Place<'_>) -> Option<usize>
     }
 }
 
-/// The bytes in front of the last whole line.
+/// The bytes before the last whole line.
 fn before_last_line(text: &[u8]) -> &[u8]
     ensures lines { lines result.now ≡ but_last (lines text.now) }
     ensures within { length result.now ≤ length text.now }
@@ -188,8 +186,7 @@ fn before_last_line(text: &[u8]) -> &[u8]
     }
 }
 
-/// The bytes whose lines may be taken: those in front of the last whole line, where more comes behind the window, so that the
-/// next line is always seen.
+/// The bytes that may be taken: all but the last whole line, unless the window is last.
 fn bytes_to_take(window: Window<'_>) -> &[u8]
     ensures lines { lines result.now ≡ lines_to_take window.entry }
     ensures within { length result.now ≤ length window.entry.bytes.now }
@@ -201,7 +198,7 @@ fn bytes_to_take(window: Window<'_>) -> &[u8]
     }
 }
 
-/// How many bytes the first lines have that may be taken and are before the place.
+/// How many bytes may be taken before the place.
 pub(crate) fn bytes_to(window: Window<'_>, place: Place<'_>) -> usize
     ensures { result ≡ cut_before (shown place.entry) window.entry }
 {
@@ -213,7 +210,6 @@ pub(crate) fn bytes_to(window: Window<'_>, place: Place<'_>) -> usize
     at
 }
 
-/// How many lines end in the text.
 pub(crate) fn line_count(text: &[u8]) -> u64
     ensures { result ≡ length (lines text.now) }
 {

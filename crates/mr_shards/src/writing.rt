@@ -1,4 +1,4 @@
-//! A verdict, written.
+//! Writes a verdict.
 ghost use Rattle.std.specs.Prelude.{◌≡◌, ℕ, [], ◌∷◌, ◌++◌, IfOk, OnOk, decimal};
 ghost use Rattle.std.specs.List.{flat_map};
 ghost use Rattle.hex.specs.Hex.{encode_lower};
@@ -10,7 +10,7 @@ use itoa::Buffer;
 use mr_bytes::RecordName;
 use std::alloc::{AllocError, Global};
 
-/// Appends a line: a word, a space, and what it tells.
+/// `WORD TEXT` and a line feed.
 fn put_line(word: &[u8], told: &[u8], out: &mut Vec<u8>) -> Result<(), AllocError>
     ensures { OnOk result (out.new.items ≡ out.old.items ++ line_of word.now told.now) }
 {
@@ -21,7 +21,6 @@ fn put_line(word: &[u8], told: &[u8], out: &mut Vec<u8>) -> Result<(), AllocErro
     Ok(())
 }
 
-/// Appends a line that tells a number.
 fn put_number(word: &[u8], number: u64, out: &mut Vec<u8>) -> Result<(), AllocError>
     ensures { OnOk result (out.new.items ≡ out.old.items ++ line_of word.now (decimal number)) }
 {
@@ -29,7 +28,7 @@ fn put_number(word: &[u8], number: u64, out: &mut Vec<u8>) -> Result<(), AllocEr
     put_line(word, digits.format(number).as_bytes(), out)
 }
 
-/// Appends a digest as hexadecimal digits, and a space.
+/// Appends hexadecimal digits and a space.
 fn put_digest(digest: &[u8; 32], out: &mut Vec<u8>) -> Result<(), AllocError>
     ensures { OnOk result (out.new.items ≡ out.old.items ++ encode_lower digest.now ++ 32 ∷ []) }
 {
@@ -40,7 +39,7 @@ fn put_digest(digest: &[u8; 32], out: &mut Vec<u8>) -> Result<(), AllocError>
     Ok(())
 }
 
-/// Appends the line of a file.
+/// `WORD DIGEST LENGTH NAME`.
 fn put_note(word: &[u8], note: &FileNote, out: &mut Vec<u8>) -> Result<(), AllocError>
     ensures { OnOk result (out.new.items ≡ out.old.items ++ note_line word.now note.now) }
 {
@@ -55,7 +54,6 @@ fn put_note(word: &[u8], note: &FileNote, out: &mut Vec<u8>) -> Result<(), Alloc
     )
 }
 
-/// Appends the lines of files.
 fn put_notes(word: &[u8], notes: &[FileNote], out: &mut Vec<u8>) -> Result<(), AllocError>
     ensures { OnOk result (out.new.items ≡ out.old.items ++ flat_map (note_line word.now) notes.now) }
 {
@@ -65,7 +63,7 @@ fn put_notes(word: &[u8], notes: &[FileNote], out: &mut Vec<u8>) -> Result<(), A
     Ok(())
 }
 
-/// Appends the line of a record that is left out.
+/// `without SPLIT RECORD`.
 fn put_name(name: RecordName, out: &mut Vec<u8>) -> Result<(), AllocError>
     ensures { OnOk result (out.new.items ≡ out.old.items ++ name_line name) }
 {
@@ -79,7 +77,6 @@ fn put_name(name: RecordName, out: &mut Vec<u8>) -> Result<(), AllocError>
     )
 }
 
-/// Appends the lines of the records that are left out.
 fn put_names(names: &[RecordName], out: &mut Vec<u8>) -> Result<(), AllocError>
     ensures { OnOk result (out.new.items ≡ out.old.items ++ flat_map name_line names.now) }
 {
@@ -89,7 +86,6 @@ fn put_names(names: &[RecordName], out: &mut Vec<u8>) -> Result<(), AllocError>
     Ok(())
 }
 
-/// Appends the lines of the request.
 fn put_request(verdict: &Verdict, out: &mut Vec<u8>) -> Result<(), AllocError>
     ensures { OnOk result (out.new.items ≡ out.old.items ++ request_lines verdict.now) }
 {
@@ -102,7 +98,6 @@ fn put_request(verdict: &Verdict, out: &mut Vec<u8>) -> Result<(), AllocError>
     Ok(())
 }
 
-/// The text of a verdict.
 pub fn write_verdict(alloc: Global, verdict: &Verdict) -> Result<Vec<u8>, AllocError>
     ensures { IfOk result (λ out. out.items ≡ spelling verdict.now) }
 {
