@@ -60,14 +60,20 @@ impl RegionNames {
         ensures { IsTrue result → Distinct self.old.numbers.items }
     {
         let (grid, bits) = grid_of(self.numbers.as_slice());
-        if bits / BITS < self.numbers.len() as u64 {
-            self.words.clear();
-            if self.words.resize((bits / 64) as usize + 1, 0).is_ok() {
-                return set_all(self.numbers.as_slice(), grid, self.words.as_mut_slice());
-            }
+        if self.make_room(bits) {
+            return set_all(self.numbers.as_slice(), grid, self.words.as_mut_slice());
         }
         self.numbers.sort_unstable();
         numbers_rise(self.numbers.as_slice())
+    }
+
+    /// Takes unset bits, unless they are too many or there is no memory for them.
+    fn make_room(&mut self, bits: u64) -> bool
+        ensures { self.new.numbers.items ≡ self.old.numbers.items }
+    {
+        self.words.clear();
+        bits / BITS < self.numbers.len() as u64
+            && self.words.resize((bits / 64) as usize + 1, 0).is_ok()
     }
 }
 

@@ -25,4 +25,4 @@ loop-preserved c =
 pub returns-clause-taken : goal.returns-clause-taken
 returns-clause-taken c = λ same.
     named-end c.args.partition c.args.region.now c.args.all.now c.loop.all c.loop.cursor c.loop.names.numbers.items c.loop.invariant.0
-    (c.is_at_end.ensures.0 c.if-not-is_at_end.false) (c.in_ok-differ.ensures c.if-not-branch-2.false)
+    (c.is_at_end.ensures.0 c.if-not-is_at_end.false) (c.differ.ensures c.if-not-differ.false)
