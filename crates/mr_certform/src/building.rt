@@ -1,4 +1,4 @@
-//! A certificate made group by group. Each name is copied once; memory is taken for the lists alone.
+//! Builds a certificate group by group. It copies each name once; only its lists take memory.
 ghost use Rattle.std.specs.Prelude.{◌≡◌, ◌≤◌, ◌<◌, ◌^◌, ◌+◌, ◌-◌, ◌++◌, ◌∷◌, [], OnOk, OnErr};
 ghost use Rattle.std.specs.Prelude.{length};
 ghost use Rattle.mr_certform.specs.Building.{with_partition};
@@ -26,7 +26,7 @@ impl Model for Builder {
 }
 
 impl Builder {
-    /// Before the first partition. It takes no memory.
+    /// A certificate without partitions. Takes no memory.
     pub fn begin(alloc: Global, header: Header) -> Builder
         requires literal { length header.literal.items ≤ 4096 }
         requires files { length header.lengths.items ≤ 1024 }
@@ -49,7 +49,7 @@ impl Builder {
         Builder { flat, begun: 0 }
     }
 
-    /// One more group of the partition that has not ended, by the names of its entries.
+    /// Appends a group, given by the names of its entries, to the current partition.
     pub fn push_group(&mut self, names: &[Name]) -> Result<(), AllocError>
         requires some { 1 ≤ length names.now }
         requires entries { length names.now < 2 ^ 32 }
@@ -62,7 +62,7 @@ impl Builder {
         Ok(())
     }
 
-    /// The partition ends with the groups pushed since the one before ended.
+    /// Ends the current partition: its groups are those pushed since the one before ended.
     pub fn end_partition(&mut self) -> Result<(), AllocError>
         requires { length self.old.ended.groups < 1024 }
         ensures ok { OnOk result (self.new ≡ with_partition self.old) }
@@ -73,7 +73,7 @@ impl Builder {
         Ok(())
     }
 
-    /// The certificate, each of its partitions having ended.
+    /// The certificate, once the last partition has ended.
     pub fn finish(self) -> Certificate
         requires some { 1 ≤ length self.ended.groups }
         requires ended { self.begun ≡ [] }
