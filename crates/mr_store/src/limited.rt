@@ -100,7 +100,7 @@ fn read_limited_onto<R: CountedRead>(
 }
 
 /// Appends all bytes of the reader, at most `limit`, up to its end. Returns `TooLong` exactly if
-/// there is a byte past the limit, and reads none after it; `Device` exactly if a read failed in
+/// it gave a byte past the limit, and reads none after it; `Device` exactly if a read failed in
 /// this call. A failure leaves the list as before; the reader has passed what was read.
 pub fn read_limited<R: CountedRead>(
     reader: &mut R,
