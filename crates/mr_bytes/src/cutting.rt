@@ -4,7 +4,7 @@ ghost use Rattle.mr_bytes.specs.Cut.{Lacks, cut};
 
 use memchr::memchr;
 
-/// The bytes before the first `mark`, and those behind it; `None` without one. Takes no memory.
+/// The bytes before the first `mark`, and those after it; `None` without one. Takes no memory.
 pub fn cut(bytes: &[u8], mark: u8) -> Option<(&[u8], &[u8])>
     ensures parts { MatchOption result (Lacks mark bytes.now)
         (λ r. (bytes.now ≡ r.0.now ++ mark ∷ r.1.now) × Lacks mark r.0.now) }

@@ -58,7 +58,7 @@ fn twelve(bytes: &[u8]) -> Option<(Name, &[u8])>
     Some((Name { split, rec, place }, &bytes[12..]))
 }
 
-/// The name of an entry after the name `before`, and the bytes behind it.
+/// The name of an entry after the name `before`, and the bytes after it.
 #[inline(always)]
 fn name_of(version: Version, before: Name, bytes: &[u8]) -> Option<(Name, &[u8])>
     ensures read { MatchOption result (entry_at version before bytes.now ≡ None)
@@ -90,7 +90,7 @@ fn number_item(place: GrammarState, n: u32) -> Option<Item>
     }
 }
 
-/// The item at the front of the bytes, and the bytes behind it.
+/// The item at the front of the bytes, and the bytes after it.
 pub fn read_item(version: Version, place: GrammarState, bytes: &[u8]) -> Option<(Item, &[u8])>
     ensures read { MatchOption result (standing version place bytes.now ≡ None)
         (λ r. standing version place bytes.now ≡ Some (record { item = r.0; rest = r.1.now })) }
@@ -131,7 +131,7 @@ pub fn read_item(version: Version, place: GrammarState, bytes: &[u8]) -> Option<
     }
 }
 
-/// The item at the front of the bytes, the bytes behind it, and the state after it; `End` keeps the
+/// The item at the front of the bytes, the bytes after it, and the state after it; `End` keeps the
 /// state. Nearly all items are entries, so they come first: a walk takes a few steps for each.
 #[inline(always)]
 pub(crate) fn step_of(

@@ -17,7 +17,7 @@ ghost use Rattle.mr_certform.specs.Value.{NameFits};
 use mr_bytes::Name;
 use std::marker::Model;
 
-/// The number whose lowest digit is `first`, not its last, and the bytes behind it.
+/// The number whose lowest digit is `first`, not its last, and the bytes after it.
 fn behind_first(first: u8, bytes: &[u8]) -> Option<(u64, &[u8])>
     requires { 128 ≤ first }
     ensures read { MatchOption result (with_lowest first (short_from 4 bytes.now) ≡ None)
@@ -59,7 +59,7 @@ fn long_of(base: u32, first: u8, bytes: &[u8]) -> Option<(u32, &[u8])>
     }
 }
 
-/// `base` plus the number at the front, and the bytes behind it. Nearly all have one byte.
+/// `base` plus the number at the front, and the bytes after it. Nearly all have one byte.
 #[inline]
 fn short_of(base: u32, bytes: &[u8]) -> Option<(u32, &[u8])>
     ensures read { MatchOption result (short_at base bytes.now ≡ None)
@@ -92,7 +92,7 @@ fn base_of_place(before: Name, split: u32, rec: u32) -> u32
     }
 }
 
-/// The name at the front of the bytes, after the name `before`, and the bytes behind it.
+/// The name at the front of the bytes, after the name `before`, and the bytes after it.
 #[inline]
 pub(crate) fn short_name_of(before: Name, bytes: &[u8]) -> Option<(Name, &[u8])>
     ensures read { MatchOption result (short_name_at before bytes.now ≡ None)

@@ -20,7 +20,7 @@ fn behind_row(bytes: &[u8], entries: u64) -> &[u8]
     &bytes[entries as usize * 12..]
 }
 
-/// How many entries of version 2 come next, the bytes behind them and the state there; `more` are
+/// How many entries of version 2 come next, the bytes after them and the state there; `more` are
 /// expected after the first. Each depends on the one before, so each is decoded.
 fn behind_names(
     bytes: &[u8],

@@ -93,7 +93,7 @@ fn put_names<O: Sink>(out: &mut O, version: Version, names: &[Name]) -> Result<(
     Ok(())
 }
 
-/// Writes the groups of these counts, from the front of the names; returns the names behind them.
+/// Writes the groups of these counts, from the front of the names; returns the names after them.
 pub(crate) fn put_groups<'a, O: Sink>(
     out: &mut O,
     version: Version,

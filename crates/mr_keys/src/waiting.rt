@@ -10,7 +10,7 @@ use crate::texts::Texts;
 use std::alloc::{AllocError, Global};
 use std::marker::Model;
 
-/// No key waits behind this many bytes, so the second copies take little memory.
+/// No key waits after this many bytes, so the second copies take little memory.
 const MANY_BYTES: usize = 1 << 16;
 
 /// Keys that wait for their numbers, at most 64, to be looked up together. In contracts: their

@@ -1,7 +1,7 @@
 //! Kernels over bytes: line ends, words, folding, caseless search, comparison and hashes.
 //!
 //! They read blocks of 64 bytes. A word of 64 bits describes a block, bit i for byte i (`planes`),
-//! and loops visit only set bits, the lowest first. The bytes behind the last whole block are
+//! and loops visit only set bits, the lowest first. The bytes after the last whole block are
 //! copied, padded with zeros, and read as a block too: no class contains 0. Comparing, folding and
 //! hashing finish one byte at a time. `next_word`, which serves short records, reads 16 bytes. No
 //! kernel reads outside of its arguments. Each returns what its plain definition says.

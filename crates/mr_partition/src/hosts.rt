@@ -40,7 +40,7 @@ fn ends_host(byte: u8) -> bool
     byte == b'/' || byte == b':' || byte == b'?' || byte == b'#'
 }
 
-/// What follows `http://` or `https://`: the host and all behind it. Nothing without such a scheme.
+/// What follows `http://` or `https://`: the host and all after it. Nothing without such a scheme.
 fn host_bytes(key: &[u8]) -> &[u8]
     ensures { before_end result.now ≡ host_bytes key.entry.now }
 {
@@ -109,7 +109,7 @@ pub fn worked_hosts()
     ensures second { partition_by By.Host (codes "/z") 2 ≡ 1 }
 {}
 
-/// What the host of a key is: the folded bytes behind its scheme up to the first that ends a host,
+/// What the host of a key is: the folded bytes after its scheme up to the one that ends a host,
 /// and none without a scheme. The partition by host, too, is below `parts`.
 pub fn host_law()
     ensures parts { HostByParts }

@@ -55,7 +55,7 @@ pub fn number_of(word: &[u8]) -> Option<u32>
     u32::try_from(value).ok()
 }
 
-/// The number before the first space, and the bytes behind that space.
+/// The number before the first space, and the bytes after that space.
 #[tactic(auto, unfolding(crate::specs::Meaning::number_and_rest))]
 fn number_and_rest(text: &[u8]) -> Option<(u32, &[u8])>
     ensures { MatchOption result (number_and_rest text.now ≡ None)

@@ -2,7 +2,7 @@
 //! 2004, sections 3.1 and 4.2). A reduce task groups pairs of many regions by key (`KeyedPairs`).
 //!
 //! Pairs enter by rising name: the order of the input. A region per partition leaves, sorted by key
-//! and then name, each key stored once. A region can be written as bytes and read back.
+//! and then name, each key stored once. As bytes it has the key of each pair, and is read back so.
 //! - Time: a look-up per pair, mostly one memory access and at most a few dozen; a sort of the
 //!   distinct keys, n log n comparisons, mostly of two numbers; then a counting sort of the pairs.
 //! - Memory: 16 bytes per waiting pair, its value unless that is `One`, and the keys, most of them

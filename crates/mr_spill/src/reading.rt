@@ -1,4 +1,4 @@
-//! Decodes a region. Each `take_` function returns what it decodes, and the bytes behind it.
+//! Decodes a region. Each `take_` function returns what it decodes, and the bytes after it.
 ghost use Rattle.std.specs.Prelude.{◌≡◌, ◌↔◌, ℕ, ◌-◌, ◌<◌, ◌^◌, ◌++◌, List, IfErr, IfOk, IsTrue};
 ghost use Rattle.std.specs.Prelude.{MatchOption, length};
 ghost use Rattle.mr_bytes.specs.declared.Value.{Value as Carried};
@@ -39,7 +39,7 @@ impl From<AllocError> for RegionFault {
     }
 }
 
-/// A pair at the front of bytes, and the bytes behind it.
+/// A pair at the front of bytes, and the bytes after it.
 #[derive(Drop)]
 pub(crate) struct Front<'a> {
     pub key: &'a [u8],
@@ -144,7 +144,7 @@ fn take_this<'a>(bytes: &'a [u8], number: u32) -> Option<&'a [u8]>
     Some(rest)
 }
 
-/// The pair count in a header of this split and partition, and the bytes behind it.
+/// The pair count in a header of this split and partition, and the bytes after it.
 pub(crate) fn take_header<'a>(
     bytes: &'a [u8],
     split: u32,
@@ -191,7 +191,7 @@ fn may_follow(pairs: &PairColumns, split: u32, front: &Front<'_>) -> bool
     count == 0 || stands_before(pairs, count - 1, front)
 }
 
-/// Appends the pair in front, and returns the bytes behind it.
+/// Appends the pair in front, and returns the bytes after it.
 fn read_next<'a>(
     pairs: &mut PairColumns,
     bytes: &'a [u8],

@@ -71,7 +71,7 @@ fn room_at(lists: &Lists, rows: &[Row<'_>], from: usize, part: u32) -> (usize, u
     (count, bytes)
 }
 
-/// The region of the partition whose rows begin at `from`, and the place behind them.
+/// The region of the partition whose rows begin at `from`, and the place after them.
 fn region_at(
     alloc: Global,
     lists: &Lists,

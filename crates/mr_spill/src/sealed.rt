@@ -88,7 +88,7 @@ fn spell_under(
     Ok(())
 }
 
-/// Writes the partition's rows from `from` on, and returns the place behind them.
+/// Writes the partition's rows from `from` on, and returns the place after them.
 fn spell_rows(
     out: &mut Vec<u8>,
     lists: &Lists,
@@ -166,7 +166,7 @@ fn counted(count: u32, more: usize) -> Result<u32, AllocError>
     Ok(count + more as u32)
 }
 
-/// The bytes of the partition's region, whose rows begin at `from`, and the place behind them.
+/// The bytes of the partition's region, whose rows begin at `from`, and the place after them.
 fn text_at(
     alloc: Global,
     lists: &Lists,
