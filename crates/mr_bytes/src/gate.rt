@@ -1,14 +1,13 @@
-//! What a worker passes round each piece of work.
+//! A gate around each piece of work.
 
-/// A gate that each worker passes round each piece of work: `enter` before it, `leave` behind it. It may hold a worker up,
-/// which a test uses. Workers and pieces are told by their numbers.
+/// Workers call `enter` before each piece of work and `leave` after it. A test may block them here.
 pub trait Gate: Sync {
     fn enter(&self, worker: u32, piece: u32);
 
     fn leave(&self, worker: u32, piece: u32);
 }
 
-/// A gate that holds nobody up.
+/// A gate that blocks nobody.
 pub struct OpenGate;
 
 impl Gate for OpenGate {

@@ -1,5 +1,4 @@
-//! Names, values and bytes that every other crate speaks of; and who is told how far long work has
-//! come.
+//! Names, values and bytes, which all other crates use; and who watches the progress of long work.
 #![tactic(auto)]
 
 ghost use Rattle.std.specs.Prelude.{◌≡◌, IfOk, OnOk, OnErr, ◌++◌};
@@ -36,8 +35,8 @@ pub struct Span {
     pub end: u32,
 }
 
-/// The place of an emitted pair in the input's order: its split, the number of its record there, and its place among
-/// the record's emissions, each from 0.
+/// The name of an emitted pair: its split, its record's number there, and its place among the
+/// record's pairs, each from 0. Names in order are pairs in the order of the input.
 #[derive(Clone, Copy, PartialEq, Eq, PartialOrd, Ord, Debug)]
 pub struct Name {
     pub split: u32,
@@ -45,7 +44,7 @@ pub struct Name {
     pub place: u32,
 }
 
-/// A record, by its split and its number there, both from 0.
+/// The name of a record: its split and its number there, both from 0.
 #[derive(Clone, Copy, PartialEq, Eq, PartialOrd, Ord, Debug)]
 pub struct RecordName {
     pub split: u32,
@@ -57,16 +56,16 @@ pub struct RecordName {
 pub enum Value {
     /// One occurrence.
     One,
-    /// The place of a record: the number of its file, and the record's start there in bytes.
+    /// The place of a record: the number of its file, and the byte there at which it starts.
     At { file: u32, offset: u64 },
 }
 
-/// What of a key chooses its partition.
+/// The part of a key that chooses its partition.
 #[derive(Clone, Copy, PartialEq, Eq, Debug)]
 pub enum By {
     /// The whole key.
     Key,
-    /// The host of the resource that the key is.
+    /// The host of the resource that the key names.
     Host,
 }
 
@@ -77,8 +76,7 @@ pub fn is_upper(b: u8) -> bool
     b.is_ascii_uppercase()
 }
 
-/// Whether the byte stands in words: a letter or a digit of ASCII, or a byte from 0x80 on. Small letters, the most
-/// frequent, take two comparisons.
+/// Whether a word may contain the byte: a letter or digit of ASCII, or a byte from 0x80 on.
 pub fn is_word_byte(b: u8) -> bool
     ensures { result ≡ is_word_byte b }
 {
@@ -91,21 +89,21 @@ pub fn is_word_byte(b: u8) -> bool
     }
 }
 
-/// The byte with an upper-case letter of ASCII made its lower-case letter.
+/// The byte, an upper-case letter of ASCII made lower case.
 pub fn fold_byte(b: u8) -> u8
     ensures { result ≡ fold_byte b }
 {
     if is_upper(b) { b + 32 } else { b }
 }
 
-/// A folded copy of the bytes. It fails only for want of memory.
+/// A folded copy of the bytes. Fails only for want of memory.
 pub fn folded(alloc: Global, bytes: &[u8]) -> Result<Vec<u8>, AllocError>
     ensures { IfOk result (λ v. v.items ≡ folded bytes.now) }
 {
     bytes.iter().map(|b| fold_byte(*b)).collect(alloc)
 }
 
-/// Folds each byte where it stands. It takes no memory.
+/// Folds each byte in place. Takes no memory.
 pub fn fold_in_place(bytes: &mut [u8])
     ensures { bytes.new ≡ folded bytes.old }
 {

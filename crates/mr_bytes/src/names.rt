@@ -6,21 +6,21 @@ ghost use Rattle.mr_bytes.specs.Order.{key_order, name_order, record_order};
 use crate::{Name, RecordName};
 use std::cmp::Ordering;
 
-/// Keys compare as lists of unsigned bytes, a proper beginning being less.
+/// Compares keys as lists of unsigned bytes; a proper prefix is less.
 pub fn compare_keys(a: &[u8], b: &[u8]) -> Ordering
     ensures { result ≡ key_order a.now b.now }
 {
     a.cmp(b)
 }
 
-/// Records compare by split, then by number.
+/// Compares records by split, then by number.
 pub fn compare_records(a: RecordName, b: RecordName) -> Ordering
     ensures { result ≡ record_order a b }
 {
     a.cmp(&b)
 }
 
-/// Names compare by split, then by the record's number, then by place: this is the order of the input.
+/// Compares names by split, then record, then place: the order of the input.
 pub fn compare_names(x: Name, y: Name) -> Ordering
     ensures { result ≡ name_order x y }
 {

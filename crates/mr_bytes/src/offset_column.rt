@@ -1,4 +1,5 @@
-//! A list of places that takes little room: of those in one file the offsets are stored, and the rest with their files.
+//! A compact list of places. As long as all are in one file, it stores their offsets, four bytes
+//! each; from the first place in another file on, it stores eight bytes a place.
 ghost use Rattle.std.specs.Prelude.{◌≡◌, ◌+◌, ◌<◌, ◌^◌, ◌++◌, ◌∷◌, [], OnOk, OnErr, IsTrue, ◌↔◌};
 ghost use Rattle.std.specs.Prelude.{length, take, slice_index_or};
 ghost use Rattle.mr_bytes.specs.Places.{nowhere};
@@ -13,8 +14,6 @@ pub(crate) struct Place {
     pub offset: u32,
 }
 
-/// Places, in order. As long as all are in one file, their offsets there are stored, four bytes each; those behind have
-/// eight.
 #[derive(Drop)]
 pub(crate) struct OffsetColumn {
     file: u32,
@@ -36,7 +35,6 @@ impl Model for OffsetColumn {
 }
 
 impl OffsetColumn {
-    /// None. They take no memory.
     pub fn new(alloc: Global) -> OffsetColumn
         ensures { result ≡ [] }
     {
@@ -47,14 +45,12 @@ impl OffsetColumn {
         }
     }
 
-    /// How many there are.
     pub fn len(&self) -> usize
         ensures { result ≡ length self.now }
     {
         self.offsets.len() + self.others.len()
     }
 
-    /// Place `i`, from 0.
     pub fn get(&self, i: usize) -> Place
         requires { i < length self.now }
         ensures { result ≡ slice_index_or self.now i nowhere }
@@ -69,7 +65,6 @@ impl OffsetColumn {
         }
     }
 
-    /// One more, at the end. It fails only for want of memory, and then nothing has changed.
     pub fn push(&mut self, place: Place) -> Result<(), AllocError>
         requires { length self.old + 1 < 2 ^ 64 }
         ensures ok { OnOk result (self.new ≡ self.old ++ place ∷ []) }
@@ -84,7 +79,6 @@ impl OffsetColumn {
         Ok(())
     }
 
-    /// The first `count` alone.
     pub fn truncate(&mut self, count: usize)
         ensures { self.new ≡ take count self.old }
     {
@@ -96,7 +90,7 @@ impl OffsetColumn {
         }
     }
 
-    /// None any more. What was stored keeps its memory for later ones.
+    /// Empties the list, and keeps its memory for later places.
     pub fn clear(&mut self)
         ensures { self.new ≡ [] }
     {

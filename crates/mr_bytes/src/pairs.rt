@@ -24,15 +24,14 @@ impl Model for Pair {
     ghost view = { λ p. record { key = p.key.items; value = p.value; name = p.name } };
 }
 
-/// Pairs compare by key, then by name.
+/// Compares pairs by key, then by name.
 pub fn compare_pairs(a: &Pair, b: &Pair) -> Ordering
     ensures { result ≡ pair_order a.now b.now }
 {
     compare_keys(a.key.as_slice(), b.key.as_slice()).then(compare_names(a.name, b.name))
 }
 
-/// What sorted lists of pairs are, in any order: a list that rises is told by its elements alone, and the sorted list
-/// rises and has just the elements of the list.
+/// A sorted list rises and has exactly the list's elements, which determine a rising list.
 pub fn sorted_law()
     ensures one { RisingIsOne Triple }
     ensures rises { SortedRises Triple }

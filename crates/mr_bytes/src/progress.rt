@@ -1,27 +1,26 @@
-//! Who is told how far long work has come.
+//! Who watches how far long work is.
 
-/// What long work is at.
+/// A phase of long work.
 #[derive(Clone, Copy, PartialEq, Eq, Debug)]
 pub enum Phase {
-    /// Records, or map tasks, are mapped.
+    /// Mapping records, or map tasks.
     Mapping,
-    /// Groups, or reduce tasks, are reduced.
+    /// Reducing groups, or reduce tasks.
     Reducing,
-    /// A result is judged.
+    /// Judging a result.
     Judging,
 }
 
-/// Is told now and then how far long work has come, by several threads at once perhaps. It has no say in the work: no
-/// clause speaks of it.
+/// Receives reports of progress, perhaps from several threads at once. No clause mentions it.
 pub trait Progress: Sync {
-    /// So much of the phase is done, of so much in all: records, pairs, or tasks.
+    /// The phase has done `done` of `all` records, pairs or tasks.
     fn report(&self, phase: Phase, done: u64, all: u64);
 
     /// A worker is lost.
     fn worker_lost(&self);
 }
 
-/// Nobody looks on.
+/// Ignores all reports.
 pub struct Unwatched;
 
 impl Progress for Unwatched {
@@ -30,7 +29,6 @@ impl Progress for Unwatched {
     fn worker_lost(&self) {}
 }
 
-/// Who is told through a reference is who it refers to.
 impl<'a> Progress for &'a dyn Progress {
     fn report(&self, phase: Phase, done: u64, all: u64) {
         (**self).report(phase, done, all);
@@ -41,11 +39,10 @@ impl<'a> Progress for &'a dyn Progress {
     }
 }
 
-/// How much more must be done before it is told again: seldom enough that the work never waits for it, and often enough
-/// for a line at a terminal.
+/// The work between two reports: enough never to hold it up, little enough for a terminal.
 const STRIDE: u64 = 4096;
 
-/// Tells how far one phase has come, now and then.
+/// Reports the progress of one phase, one report a stride.
 #[derive(Drop)]
 pub struct Throttle {
     phase: Phase,
@@ -54,7 +51,7 @@ pub struct Throttle {
 }
 
 impl Throttle {
-    /// Of a phase that has so much to do in all. Nothing is told yet.
+    /// A phase with `all` to do. Reports nothing yet.
     pub fn new(phase: Phase, all: u64) -> Throttle {
         Throttle {
             phase,
@@ -63,7 +60,7 @@ impl Throttle {
         }
     }
 
-    /// So much is done. The watch is told at once the first time, and then where it is a stride more than was told last.
+    /// Reports at the first call, and then once `done` is a stride beyond the last report.
     #[inline]
     pub fn reach(&mut self, done: u64, watch: &dyn Progress) {
         if done < self.next {

@@ -1,5 +1,6 @@
-//! A list of values that takes little room where they are `One`, or places: the former are counted, of the latter four or
-//! eight bytes are stored, and the rest as it is.
+//! A compact list of values. It counts those `One` in front, and stores none of them. Places in the
+//! first 4 GiB of their files follow, four or eight bytes each. From the first value on that is
+//! neither, it stores values as they are.
 ghost use Rattle.std.specs.Prelude.{◌≡◌, ◌+◌, ◌-◌, ◌<◌, ◌^◌, ◌++◌, ◌∷◌, [], OnOk, OnErr, IsOk};
 ghost use Rattle.std.specs.Prelude.{IfSome, length, take, slice_index_or};
 ghost use Rattle.mr_bytes.specs.declared.Value.TheVariants.{One, At};
@@ -10,8 +11,7 @@ use crate::offset_column::{OffsetColumn, Place};
 use std::alloc::{AllocError, Global};
 use std::marker::Model;
 
-/// Values, in order. Those `One` in front are counted and not stored, so that a job that counts stores none. Behind them
-/// come places in the first 4 GiB of their files, and from the first that is neither, values as they are.
+/// Values, in order. A job that counts emits only `One`, so its values take no memory.
 #[derive(Drop)]
 pub struct ValueColumn {
     ones: usize,
@@ -35,7 +35,6 @@ impl Model for ValueColumn {
     } };
 }
 
-/// The place, where four bytes hold its offset.
 fn near(file: u32, offset: u64) -> Option<Place>
     ensures { IfSome result (λ place. at place ≡ At file offset) }
 {
@@ -46,7 +45,7 @@ fn near(file: u32, offset: u64) -> Option<Place>
 }
 
 impl ValueColumn {
-    /// No values. It takes no memory.
+    /// No values. Takes no memory.
     pub fn new(alloc: Global) -> ValueColumn
         ensures { result ≡ [] }
     {
@@ -84,8 +83,8 @@ impl ValueColumn {
         }
     }
 
-    /// One more value, at the end. It fails only for want of memory, and then nothing has changed; a `One` behind
-    /// nothing but `One`s takes none, and no call.
+    /// Appends a value. Fails only for want of memory, and then nothing has changed. A `One` after
+    /// nothing but `One`s takes neither memory nor a call.
     #[inline(always)]
     pub fn push(&mut self, value: Value) -> Result<(), AllocError>
         requires { length self.old + 1 < 2 ^ 64 }
@@ -100,7 +99,6 @@ impl ValueColumn {
         self.push_stored(value)
     }
 
-    /// The same of a value that may have to be stored.
     #[inline(never)]
     fn push_stored(&mut self, value: Value) -> Result<(), AllocError>
         requires { length self.old + 1 < 2 ^ 64 }
@@ -123,7 +121,7 @@ impl ValueColumn {
         Ok(())
     }
 
-    /// The first `count` values alone.
+    /// Keeps only the first `count` values.
     pub fn truncate(&mut self, count: usize)
         ensures { self.new ≡ take count self.old }
     {
@@ -142,7 +140,7 @@ impl ValueColumn {
         }
     }
 
-    /// No values any more. What was stored keeps its memory for later ones.
+    /// Empties the list, and keeps its memory for later values.
     pub fn clear(&mut self)
         ensures { self.new ≡ [] }
     {

@@ -7,11 +7,11 @@ ghost use Rattle.mr_bytes.specs.WordLaw.{WordsAreRuns, WordsRise};
 
 use crate::{Span, is_word_byte};
 
-/// The first place from `from` on that holds a word byte, or the end.
 fn skip_to_word(bytes: &[u8], from: usize) -> usize
     requires { from ≤ length bytes.now }
     ensures within { (from ≤ result) × (result ≤ length bytes.now) }
-    ensures same { word_spans_from from (drop from bytes.now) ≡ word_spans_from result (drop result bytes.now) }
+    ensures same { word_spans_from from (drop from bytes.now)
+        ≡ word_spans_from result (drop result bytes.now) }
     ensures stops { result < length bytes.now → IsTrue (is_word_byte (slice_index bytes.now result)) }
 {
     let mut at = from;
@@ -21,7 +21,6 @@ fn skip_to_word(bytes: &[u8], from: usize) -> usize
     at
 }
 
-/// The first place from `from` on that holds no word byte, or the end.
 fn skip_word(bytes: &[u8], from: usize) -> usize
     requires { from ≤ length bytes.now }
     ensures within { (from ≤ result) × (result ≤ length bytes.now) }
@@ -35,7 +34,7 @@ fn skip_word(bytes: &[u8], from: usize) -> usize
     at
 }
 
-/// The first word from `from` on, or `None` where no word byte is left. It takes no memory.
+/// The first word from `from` on, or `None` if no word byte is left. Takes no memory.
 pub fn next_word(bytes: &[u8], from: usize) -> Option<Span>
     requires start { from ≤ length bytes.now }
     requires fits { length bytes.now < 2 ^ 32 }

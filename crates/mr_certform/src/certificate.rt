@@ -1,4 +1,8 @@
-//! A certificate as flat lists: names, entries of each group, groups of each partition. Its looks take no memory.
+//! A certificate as flat lists. Reading it takes no memory.
+//!
+//!     group_counts  [ 2       1 ]        partition 0 has two groups, partition 1 has one
+//!     entry_counts  [ 3     1 2 ]        entries per group, over all partitions
+//!     names         [ n n n n n n ]      names of the entries, over all groups
 ghost use Rattle.std.specs.Prelude.{◌≡◌, ◌≤◌, ◌<◌, ◌^◌, ◌+◌, ◌++◌, ◌∷◌, [], OnOk};
 ghost use Rattle.std.specs.Prelude.{MatchOption, length};
 ghost use Rattle.mr_certform.specs.Flat.{told, told_first, nothing_told, total, chunks, AreCounted};
@@ -9,8 +13,8 @@ use mr_bytes::{Name, RecordName};
 use std::alloc::{AllocError, Global};
 use std::marker::Model;
 
-/// What stands in a certificate before its groups: the job's number and flags, its literal, the bytes of a split, the
-/// length of each file, the left-out records.
+/// What precedes the groups of a certificate: the job's number and flags, its literal, the bytes of
+/// a split, the length of each file, the left-out records.
 #[derive(Drop)]
 pub struct Header {
     pub job: u32,
@@ -21,8 +25,7 @@ pub struct Header {
     pub skips: Vec<RecordName>,
 }
 
-/// The groups of all partitions, flat: how many groups each partition has, how many entries each group has, and the
-/// names of all entries.
+/// The groups of all partitions, as flat lists.
 #[derive(Drop)]
 pub struct FlatGroups {
     pub group_counts: Vec<u32>,
@@ -30,8 +33,7 @@ pub struct FlatGroups {
     pub names: Vec<Name>,
 }
 
-/// A certificate's values one behind another, as its items tell them: the groups lie flat, as all names, with the
-/// number of groups of each partition and the number of entries of each group.
+/// The values of a certificate's items, in order.
 #[derive(Drop)]
 pub(crate) struct CertificateColumns {
     pub header: Header,
@@ -59,7 +61,6 @@ impl Model for CertificateColumns {
 }
 
 impl CertificateColumns {
-    /// Behind this header, with so many partitions and none of their groups.
     pub fn begin(alloc: Global, header: Header, parts: u32) -> CertificateColumns
         ensures { result ≡ told_first header parts }
     {
@@ -75,7 +76,6 @@ impl CertificateColumns {
         }
     }
 
-    /// Before any item.
     pub fn new(alloc: Global) -> CertificateColumns
         ensures { result ≡ nothing_told }
     {
@@ -90,7 +90,7 @@ impl CertificateColumns {
         CertificateColumns::begin(alloc, header, 0)
     }
 
-    /// Takes what an item tells.
+    /// Adds the value of an item.
     pub fn take(&mut self, item: Item) -> Result<(), AllocError>
         ensures { OnOk result (self.new ≡ told self.old item) }
     {
@@ -111,8 +111,7 @@ impl CertificateColumns {
     }
 }
 
-/// A certificate: the job with its flags and literal, the number of partitions, the bytes of a split, the length of
-/// each file, the left-out records, and for each partition its groups, each as the names of its entries.
+/// A certificate: its header, and for each partition its groups, each as the names of its entries.
 #[derive(Drop)]
 pub struct Certificate {
     pub(crate) flat: CertificateColumns,
@@ -130,7 +129,7 @@ impl Model for Certificate {
 }
 
 impl Certificate {
-    /// The certificate of these groups. It takes no memory.
+    /// The certificate of these groups. Takes no memory.
     pub fn of(header: Header, groups: FlatGroups) -> Certificate
         requires literal { length header.literal.items ≤ 4096 }
         requires files { length header.lengths.items ≤ 1024 }
@@ -219,7 +218,7 @@ impl Certificate {
         self.names().len() as u64
     }
 
-    /// The names of all entries, in their order.
+    /// The names of all entries, in order.
     pub fn names(&self) -> &[Name]
         ensures { result.now ≡ names_of self.now }
     {
@@ -238,7 +237,7 @@ impl Certificate {
     }
 }
 
-/// The groups of each partition that is still to be read, in order.
+/// The groups of each partition that is still unread, in order.
 #[derive(Drop)]
 pub struct PartitionIter<'a> {
     group_counts: &'a [u32],
@@ -261,7 +260,7 @@ impl<'a> Model for PartitionIter<'a> {
     } };
 }
 
-/// The groups of one partition that are still to be read, in order.
+/// The unread groups of one partition, in order.
 #[derive(Drop)]
 pub struct GroupIter<'a> {
     entry_counts: &'a [u32],
@@ -293,7 +292,6 @@ impl<'a> GroupIter<'a> {
     }
 }
 
-/// How many entries groups of these counts have, all together.
 fn sum_of(counts: &[u32], most: usize) -> usize
     requires { total counts.now ≤ most }
     ensures { result ≡ total counts.now }

@@ -1,4 +1,4 @@
-//! The item that stands at the front of bytes, at a place of the grammar. One look at a few bytes; no memory.
+//! Decodes the item at the front of bytes, in a state of the grammar. Reads a few bytes; no memory.
 ghost use Rattle.std.specs.Prelude.{◌≡◌, ◌≤◌, ◌-◌, ◌<◌, Some, None, MatchOption, IfSome, length};
 ghost use Rattle.std.specs.Prelude.{take, drop};
 ghost use Rattle.std.specs.Int.{w32, w64, from_be_bytes};
@@ -13,7 +13,6 @@ use crate::version::Version;
 use byteorder::{BigEndian, ByteOrder};
 use mr_bytes::{Name, RecordName};
 
-/// The number of the first four bytes.
 fn number_of_four(bytes: &[u8]) -> u32
     requires { 4 ≤ length bytes.now }
     ensures { result ≡ from_be_bytes w32 (take 4 bytes.now) }
@@ -21,7 +20,6 @@ fn number_of_four(bytes: &[u8]) -> u32
     BigEndian::read_u32(bytes)
 }
 
-/// The number of the first four bytes, and the bytes behind it.
 fn four(bytes: &[u8]) -> Option<(u32, &[u8])>
     ensures { MatchOption result (length bytes.now < 4)
         (λ r. (4 ≤ length bytes.now) × (r.0 ≡ from_be_bytes w32 (take 4 bytes.now))
@@ -34,7 +32,6 @@ fn four(bytes: &[u8]) -> Option<(u32, &[u8])>
     }
 }
 
-/// The number of the first eight bytes, and the bytes behind it.
 fn eight(bytes: &[u8]) -> Option<(u64, &[u8])>
     ensures { MatchOption result (length bytes.now < 8)
         (λ r. (8 ≤ length bytes.now) × (r.0 ≡ from_be_bytes w64 (take 8 bytes.now))
@@ -47,7 +44,6 @@ fn eight(bytes: &[u8]) -> Option<(u64, &[u8])>
     }
 }
 
-/// The name of the first twelve bytes, and the bytes behind it.
 #[inline(always)]
 fn twelve(bytes: &[u8]) -> Option<(Name, &[u8])>
     ensures { MatchOption result (length bytes.now < 12)
@@ -62,7 +58,7 @@ fn twelve(bytes: &[u8]) -> Option<(Name, &[u8])>
     Some((Name { split, rec, place }, &bytes[12..]))
 }
 
-/// The name of an entry behind the name before it, and the bytes behind it.
+/// The name of an entry after the name `before`, and the bytes after it.
 #[inline(always)]
 fn name_of(version: Version, before: Name, bytes: &[u8]) -> Option<(Name, &[u8])>
     ensures read { MatchOption result (entry_at version before bytes.now ≡ None)
@@ -76,7 +72,7 @@ fn name_of(version: Version, before: Name, bytes: &[u8]) -> Option<(Name, &[u8])
     }
 }
 
-/// The item that a number is at a place where one of four bytes stands, if it may stand there.
+/// The item of a four-byte number, in a state that expects one, if the grammar allows it.
 fn number_item(place: GrammarState, n: u32) -> Option<Item>
     ensures { result ≡ numbered place n }
 {
@@ -94,7 +90,7 @@ fn number_item(place: GrammarState, n: u32) -> Option<Item>
     }
 }
 
-/// The item that stands at the front of the bytes, and the bytes behind it.
+/// The item at the front of the bytes, and the bytes after it.
 pub fn read_item(version: Version, place: GrammarState, bytes: &[u8]) -> Option<(Item, &[u8])>
     ensures read { MatchOption result (standing version place bytes.now ≡ None)
         (λ r. standing version place bytes.now ≡ Some (record { item = r.0; rest = r.1.now })) }
@@ -135,8 +131,8 @@ pub fn read_item(version: Version, place: GrammarState, bytes: &[u8]) -> Option<
     }
 }
 
-/// The item that stands at the front of the bytes, the bytes behind it, and the place there; behind `End` the place is the
-/// same. Nearly all items are entries, so these come first and by themselves: a walk costs a few steps for each.
+/// The item at the front of the bytes, the bytes after it, and the state after it; `End` keeps the
+/// state. Nearly all items are entries, so they come first: a walk takes a few steps for each.
 #[inline(always)]
 pub(crate) fn step_of(
     version: Version,

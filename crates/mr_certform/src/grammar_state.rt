@@ -1,4 +1,7 @@
-//! The places of the grammar: what may stand where, and which place comes behind an item. A place is a few numbers.
+//! The states of the grammar: which item comes next, and which state follows it.
+//!
+//!     Magic Job Flags LiteralLength LiteralByte* Parts SplitSize Files FileLength* Skips Skip*
+//!     ( Groups ( Entries Entry* )* )*  End
 ghost use Rattle.std.specs.Prelude.{◌≡◌};
 ghost use Rattle.mr_certform.specs.Places.{behind as place_behind, literal_bytes, file_lengths};
 ghost use Rattle.mr_certform.specs.Places.{partitions, skips, groups as groups_from, entries};
@@ -6,8 +9,8 @@ ghost use Rattle.mr_certform.specs.Places.{partitions, skips, groups as groups_f
 use crate::item::Item;
 use mr_bytes::Name;
 
-/// Which item is awaited, and how many of its kind are still to come behind it; beside an entry also the partitions
-/// and groups behind its own, and the name before it in its group.
+/// The item expected next, and how many of its kind follow it. In a partition, also how many
+/// partitions and groups follow, and the name before in the group. A state is a few numbers.
 #[derive(Clone, Copy, Debug)]
 pub enum GrammarState {
     AtMagic,
@@ -52,7 +55,6 @@ pub enum GrammarState {
     Behind,
 }
 
-/// The place behind the literal's length, or behind a byte of it, with `n` bytes to come.
 fn literals_to_come(n: u32) -> GrammarState
     ensures { result ≡ literal_bytes n }
 {
@@ -63,7 +65,6 @@ fn literals_to_come(n: u32) -> GrammarState
     }
 }
 
-/// The place where `n` file lengths are to come.
 fn lengths_to_come(parts: u32, n: u32) -> GrammarState
     ensures { result ≡ file_lengths parts n }
 {
@@ -74,7 +75,6 @@ fn lengths_to_come(parts: u32, n: u32) -> GrammarState
     }
 }
 
-/// The place where `n` partitions are to come.
 fn parts_to_come(n: u32) -> GrammarState
     ensures { result ≡ partitions n }
 {
@@ -85,7 +85,6 @@ fn parts_to_come(n: u32) -> GrammarState
     }
 }
 
-/// The place where `n` left-out records are to come.
 fn skips_to_come(parts: u32, n: u32) -> GrammarState
     ensures { result ≡ skips parts n }
 {
@@ -96,7 +95,6 @@ fn skips_to_come(parts: u32, n: u32) -> GrammarState
     }
 }
 
-/// The place where `n` groups of this partition are to come.
 #[inline]
 pub(crate) fn groups_to_come(parts: u32, n: u32) -> GrammarState
     ensures { result ≡ groups_from parts n }
@@ -111,7 +109,6 @@ pub(crate) fn groups_to_come(parts: u32, n: u32) -> GrammarState
     }
 }
 
-/// The place where `n` entries of this group are to come.
 #[inline]
 pub(crate) fn entries_to_come(parts: u32, groups: u32, n: u32, before: Name) -> GrammarState
     ensures { result ≡ entries parts groups n before }
@@ -129,7 +126,7 @@ pub(crate) fn entries_to_come(parts: u32, groups: u32, n: u32, before: Name) -> 
 }
 
 impl GrammarState {
-    /// The place behind an item that stands here.
+    /// The state after this item.
     pub fn behind(self, item: Item) -> GrammarState
         ensures { result ≡ place_behind self item }
     {

@@ -1,4 +1,4 @@
-//! What the definitions of certificates mean: functions that do nothing when they run, whose clauses are the laws.
+//! What the definitions of certificates mean, as clauses of functions that do nothing.
 ghost use Rattle.std.specs.Prelude.{List};
 ghost use Rattle.mr_bytes.specs.declared.Name.{Name};
 ghost use Rattle.mr_certform.specs.Laws.{StandingIsSpelled, SpelledStands, SpellingsAreApart};
@@ -11,17 +11,17 @@ ghost use Rattle.mr_certform.specs.Value.{SpellsIn};
 use crate::version::VersionedCertificate;
 use crate::writing::{names_fit, numbers_fit, skips_fit};
 
-/// An item stands at the front of bytes exactly where they begin with its spelling, and the end where no byte is
-/// left. Before the end no item's spelling begins another's.
+/// An item is read at the front of bytes exactly if they begin with its encoding, and `End` exactly
+/// if no byte is left. No item's encoding begins another's, except at the end.
 pub fn item_law()
     ensures read { StandingIsSpelled }
     ensures spelled { SpelledStands }
     ensures apart { SpellingsAreApart }
 {}
 
-/// The items of bytes that spell a certificate are the certificate's; where the items of bytes end, the bytes spell a
-/// certificate; no two certificates have one spelling; the bytes are those of the certificate's parts, one behind
-/// another: its job, its input, its left-out records, and its groups; and their magic tells the version.
+/// Decoding the encoding of a certificate gives its items, and bytes whose items end encode a
+/// certificate. No two certificates have the same encoding. It is that of the certificate's parts
+/// in order: its job, its input, its left-out records, and its groups; its magic gives the version.
 pub fn certificate_law()
     ensures read { SpellingIsRead }
     ensures ended { EndedIsSpelled }
@@ -30,26 +30,25 @@ pub fn certificate_law()
     ensures version { VersionIsTold }
 {}
 
-/// The items of bytes are the longest list of items that stand in their order, one behind another, from the front; up to
-/// where they stop the bytes are theirs.
+/// The items of bytes are the longest list of items in order whose encoding the bytes begin with.
 pub fn items_law()
     ensures stand { ItemsStand }
     ensures longest { ItemsAreLongest }
 {}
 
-/// Cut by counts that add up to its length, a list gives pieces of just these lengths, which one behind another are
-/// the list again: names cut into groups, and groups cut into partitions.
+/// A list cut by counts that add up to its length gives pieces of these lengths, which joined are
+/// the list again: names cut into groups, groups cut into partitions.
 pub fn chunks_law()
     ensures names { CutByCounts Name }
     ensures groups { CutByCounts (List Name) }
 {}
 
-/// Bytes that spell a certificate as far as its partitions go spell it, in the same version, once it has all its partitions.
+/// Bytes that encode a certificate up to its last partition encode all of it, in the same version.
 pub fn pieces_law()
     ensures { SpelledSoFarIsSpelled }
 {}
 
-/// The bytes that a certificate is written as spell it. This does nothing when it runs: its loops have nothing to do.
+/// The bytes written for a certificate encode it. The loops do nothing at run time.
 pub fn text_law(spelled: &VersionedCertificate<'_>)
     ensures { SpellsIn spelled.now.version (versioned_bytes spelled.now) spelled.now.certificate }
 {

@@ -1,4 +1,4 @@
-//! The certificate of a result: its items, its walker, its value, its spelling.
+//! The certificate of a result: its items, its value, and how it is read and written.
 #![tactic(auto)]
 
 mod certificate;

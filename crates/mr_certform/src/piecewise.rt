@@ -1,5 +1,5 @@
-//! A certificate spelled piece by piece: what stands in front of its partitions, and then one partition behind another.
-//! No list of all names is made for it.
+//! Encodes a certificate piece by piece, its front and then its partitions, without a list of
+//! names.
 ghost use Rattle.std.specs.Prelude.{◌≡◌, ◌≤◌, ◌<◌, ◌^◌, ◌++◌, ◌∷◌, [], OnOk, IfOk, length};
 ghost use Rattle.std.specs.List.{AllByRecursion};
 ghost use Rattle.mr_certform.specs.Flat.{total, chunks};
@@ -14,8 +14,7 @@ use crate::writing::{
 use mr_bytes::Name;
 use std::alloc::{AllocError, Global};
 
-/// The bytes of what stands in front of the partitions of a certificate, of which there are so many, with room for so many
-/// bytes behind them.
+/// Encodes what precedes the `parts` partitions of a certificate, with room for `room` more bytes.
 pub fn write_header(
     alloc: Global,
     version: Version,
@@ -47,8 +46,8 @@ pub fn write_header(
     Ok(out)
 }
 
-/// How many bytes a partition of so many groups and names is spelled in; no more than can be counted.
-/// In version 2 about so many: most names have some 4 bytes.
+/// About how many bytes a partition with these numbers of groups and names takes, saturating. Exact
+/// in version 1; in version 2 most names take some 4 bytes.
 pub fn partition_size_hint(version: Version, groups: usize, names: usize) -> usize {
     let bytes_of_name = match version {
         Version::V1 => 12,
@@ -59,8 +58,8 @@ pub fn partition_size_hint(version: Version, groups: usize, names: usize) -> usi
         .saturating_add(4)
 }
 
-/// Appends the next partition of a certificate: how many entries each of its groups has, and the names of all of them, which
-/// the version can spell (`Version::can_spell`).
+/// Appends the next partition: `counts` says how many entries each group has, `names` has the names
+/// of all. The version must be able to encode them (`Version::can_spell`).
 pub fn write_partition(
     out: &mut Vec<u8>,
     version: Version,
@@ -72,7 +71,8 @@ pub fn write_partition(
     requires entries { total counts.now ≡ length names.now }
     requires can { CanSpell version (chunks counts.now names.now) }
     ensures { OnOk result ((c : Contents) → SpellsSoFar version out.old.items c
-        → SpellsSoFar version out.new.items (record c { groups = c.groups ++ chunks counts.now names.now ∷ [] })) }
+        → SpellsSoFar version out.new.items
+        (record c { groups = c.groups ++ chunks counts.now names.now ∷ [] })) }
 {
     counts_fit(counts);
     put_number(out, counts.len() as u32)?;

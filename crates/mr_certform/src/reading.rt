@@ -1,5 +1,4 @@
-//! Bytes read as a certificate: enter bytes, leaves the certificate that they spell, or where they stop being one.
-//! One pass; memory grows with what was read, never with what a count claims.
+//! Decodes bytes in one pass. Memory grows with what was read, never with what a count claims.
 ghost use Rattle.std.specs.Prelude.{◌≡◌, MatchResult, IfOk, IfErr, true};
 ghost use Rattle.mr_certform.specs.Spelling.{items_of, is_ended};
 ghost use Rattle.mr_certform.specs.Value.{Spells};
@@ -12,10 +11,10 @@ use crate::walker::Walker;
 use std::alloc::{AllocError, Global};
 use thiserror::Error;
 
-/// Why bytes are no certificate.
+/// Why bytes are not a certificate.
 #[derive(Clone, Copy, Debug, PartialEq, Eq, Drop, Error)]
 pub enum ReadFault {
-    /// At this place, in bytes from the front, no item of the grammar stands.
+    /// No item of the grammar is at this place, in bytes from the front.
     #[error("Malformed at {at}")]
     Malformed { at: u64 },
     #[error("OutOfMemory")]
@@ -42,7 +41,6 @@ impl From<AllocError> for ReadFault {
     }
 }
 
-/// All that the items of the bytes tell.
 fn told_values(alloc: Global, bytes: &[u8]) -> Result<CertificateColumns, ReadFault>
     ensures { MatchResult result
         (λ t. (is_ended (items_of bytes.now) ≡ true) × (t ≡ told_by nothing_told (items_of bytes.now)))
@@ -59,8 +57,7 @@ fn told_values(alloc: Global, bytes: &[u8]) -> Result<CertificateColumns, ReadFa
     }
 }
 
-/// The certificate that the bytes spell; otherwise the place after the last item that stands. Memory is taken only
-/// for what was read.
+/// The certificate that the bytes encode, or else the place after the last valid item.
 pub fn read(alloc: Global, bytes: &[u8]) -> Result<Certificate, ReadFault>
     ensures spelled { IfOk result (λ c. Spells bytes.now c) }
     ensures fault { IfErr result (λ e. IsReadFault bytes.now e) }

@@ -1,4 +1,12 @@
-//! A name in few bytes: its three numbers, told from the name before it in its group.
+//! A name in 3 to 15 bytes (version 2): its difference from the name before it in its group.
+//!
+//!     split    less  before.split
+//!     rec      less  before.rec,   if the split is the same
+//!     place    less  before.place, if split and record are the same
+//!
+//! Each of the three numbers is in base 128, its lowest digit first, with 128 added to every byte
+//! but the last. Its last byte is 0 only if it is the only one, so each number has one encoding. A
+//! sum past 32 bits is no name. The first name of a group follows the name 0, 0, 0.
 ghost use Rattle.std.specs.Prelude.{◌≡◌, ◌↔◌, ◌<◌, ◌≤◌, ◌+◌, ◌++◌, ◌∷◌, [], Some, None, IsTrue};
 ghost use Rattle.std.specs.Prelude.{MatchOption, IfSome, length};
 ghost use Rattle.mr_certform.specs.Short.{added, short, short_at, place_base, record_base};
@@ -9,7 +17,7 @@ ghost use Rattle.mr_certform.specs.Value.{NameFits};
 use mr_bytes::Name;
 use std::marker::Model;
 
-/// The number whose lowest byte is `first`, which isn't its last, and the bytes behind it.
+/// The number whose lowest digit is `first`, not its last, and the bytes after it.
 fn behind_first(first: u8, bytes: &[u8]) -> Option<(u64, &[u8])>
     requires { 128 ≤ first }
     ensures read { MatchOption result (with_lowest first (short_from 4 bytes.now) ≡ None)
@@ -35,11 +43,11 @@ fn behind_first(first: u8, bytes: &[u8]) -> Option<(u64, &[u8])>
     None
 }
 
-/// A number of more than one byte behind another, and the bytes behind it.
 fn long_of(base: u32, first: u8, bytes: &[u8]) -> Option<(u32, &[u8])>
     requires { 128 ≤ first }
     ensures read { MatchOption result (added base (with_lowest first (short_from 4 bytes.now)) ≡ None)
-        (λ r. added base (with_lowest first (short_from 4 bytes.now)) ≡ Some (record { number = r.0; rest = r.1.now })) }
+        (λ r. added base (with_lowest first (short_from 4 bytes.now))
+        ≡ Some (record { number = r.0; rest = r.1.now })) }
     ensures shorter { IfSome result (λ r. length r.1.now ≤ length bytes.now) }
 {
     let (more, rest) = behind_first(first, bytes)?;
@@ -51,7 +59,7 @@ fn long_of(base: u32, first: u8, bytes: &[u8]) -> Option<(u32, &[u8])>
     }
 }
 
-/// The number behind another, and the bytes behind it. Nearly all are of one byte, which one look finds.
+/// `base` plus the number at the front, and the bytes after it. Nearly all have one byte.
 #[inline]
 fn short_of(base: u32, bytes: &[u8]) -> Option<(u32, &[u8])>
     ensures read { MatchOption result (short_at base bytes.now ≡ None)
@@ -66,7 +74,6 @@ fn short_of(base: u32, bytes: &[u8]) -> Option<(u32, &[u8])>
     Some((number, rest))
 }
 
-/// What the record of a name is counted from, where this is its split.
 #[inline]
 fn base_of_record(before: Name, split: u32) -> u32
     ensures { result ≡ record_base before split }
@@ -74,7 +81,6 @@ fn base_of_record(before: Name, split: u32) -> u32
     if split == before.split { before.rec } else { 0 }
 }
 
-/// What the place of a name is counted from, where these are its split and its record.
 #[inline]
 fn base_of_place(before: Name, split: u32, rec: u32) -> u32
     ensures { result ≡ place_base before split rec }
@@ -86,7 +92,7 @@ fn base_of_place(before: Name, split: u32, rec: u32) -> u32
     }
 }
 
-/// The name that stands at the front of the bytes, behind the name before it in its group, and the bytes behind it.
+/// The name at the front of the bytes, after the name `before`, and the bytes after it.
 #[inline]
 pub(crate) fn short_name_of(before: Name, bytes: &[u8]) -> Option<(Name, &[u8])>
     ensures read { MatchOption result (short_name_at before bytes.now ≡ None)
@@ -99,7 +105,7 @@ pub(crate) fn short_name_of(before: Name, bytes: &[u8]) -> Option<(Name, &[u8])>
     Some((Name { split, rec, place }, rest))
 }
 
-/// Whether the name isn't less than the one before, in the order of the input.
+/// Whether the name is not less than the one before, in the order of the input.
 pub(crate) fn is_at_least(before: Name, name: Name) -> bool
     ensures { IsTrue result ↔ IsAtLeast before name }
 {
@@ -112,10 +118,9 @@ pub(crate) fn is_at_least(before: Name, name: Name) -> bool
     before.place <= name.place
 }
 
-/// How many bytes a name has at most.
 const SIZE: usize = 15;
 
-/// The bytes of a name, fifteen at most.
+/// The bytes of a name, at most fifteen.
 #[derive(Drop)]
 pub(crate) struct ShortName {
     bytes: [u8; SIZE],
@@ -133,7 +138,6 @@ impl Model for ShortName {
 }
 
 impl ShortName {
-    /// None.
     fn new() -> ShortName
         ensures { result ≡ [] }
     {
@@ -143,14 +147,12 @@ impl ShortName {
         }
     }
 
-    /// The bytes.
     pub fn bytes(&self) -> &[u8]
         ensures { result.now ≡ self.now }
     {
         &self.bytes[..self.filled]
     }
 
-    /// Appends a byte, for which there is room.
     fn push(&mut self, byte: u8)
         requires { length self.old < 15 }
         ensures { self.new ≡ self.old ++ byte ∷ [] }
@@ -159,7 +161,6 @@ impl ShortName {
         self.filled += 1;
     }
 
-    /// Appends a number, for which there is room.
     fn push_number(&mut self, n: u32)
         requires { length self.old ≤ 10 }
         ensures { self.new ≡ self.old ++ short n }
@@ -173,7 +174,6 @@ impl ShortName {
     }
 }
 
-/// The bytes of a name behind the name before it in its group; and its numbers are of their types.
 pub(crate) fn short_name(before: Name, name: Name) -> ShortName
     requires { IsAtLeast before name }
     ensures bytes { result ≡ short_name_bytes before name }

@@ -1,4 +1,4 @@
-//! A walk over the items of a reader's bytes, front to back. Its buffer is all the memory that it takes.
+//! Walks the items of a reader's bytes, front to back. Its buffer is all the memory that it takes.
 ghost use Rattle.std.specs.Prelude.{◌≡◌, ◌⊎◌, ℕ, ◌≤◌, ◌<◌, ◌+◌, ◌-◌, ◌^◌, List, Some, None, IfOk};
 ghost use Rattle.std.specs.Prelude.{OnOk, IfSome, MatchResult, true, length};
 ghost use Rattle.mr_store.specs.Devices.{Counts, FailsOnly};
@@ -17,13 +17,12 @@ use mr_store::{CountedRead, Device, ReadBuffer};
 use std::alloc::{AllocError, Global};
 use thiserror::Error;
 
-/// Why a walker over a reader gives no item.
+/// Why a walker over a reader returns no item.
 #[derive(Clone, Copy, Debug, PartialEq, Eq, Drop, Error)]
 pub enum StreamFault {
-    /// No item of the grammar stands at this place, in bytes from the front.
+    /// No item of the grammar is at this place, in bytes from the front.
     #[error("Malformed at {at}")]
     Malformed { at: u64 },
-    /// A read failed.
     #[error("Device")]
     Device,
 }
@@ -38,16 +37,15 @@ impl From<Device> for StreamFault {
     }
 }
 
-/// The most bytes that an item has.
+/// The most bytes of an item.
 const LONGEST: usize = 15;
 
-/// Walks the items of the bytes that a reader gives, from the front. It reads at most 65,536 bytes ahead, into a buffer
-/// that it takes at its start.
+/// Walks the items of the bytes that a reader gives. It reads at most 65,536 bytes ahead.
 #[derive(Drop)]
 pub struct StreamWalker<R: CountedRead + Drop> {
     reader: R,
     held: ReadBuffer,
-    /// That of the bytes, once their magic was told.
+    /// The version, once the magic was read.
     version: Version,
     place: GrammarState,
     passed: u64,
@@ -56,10 +54,11 @@ pub struct StreamWalker<R: CountedRead + Drop> {
 }
 
 impl<R: CountedRead + Drop> StreamWalker<R> {
-    /// At the front of the bytes that the reader gives. All its memory is taken here.
+    /// At the front of the reader's bytes. Takes all its memory here.
     pub fn new(alloc: Global, reader: R) -> Result<StreamWalker<R>, AllocError>
         ensures items { IfOk result (λ w. (is : List Read) (at : ℕ) → Gives (stream R.remaining w) is at
-            → (bytes : List ℕ) × MayCome (R.remaining reader) bytes × (is ≡ items_of bytes) × (at ≡ stop bytes)) }
+            → (bytes : List ℕ) × MayCome (R.remaining reader) bytes × (is ≡ items_of bytes)
+            × (at ≡ stop bytes)) }
         ensures place { IfOk result (λ w. w.passed ≡ 0) }
         ensures fault { IfOk result (λ w. w.fault ≡ None) }
         ensures reader { IfOk result (λ w. w.reader ≡ reader) }
@@ -76,7 +75,7 @@ impl<R: CountedRead + Drop> StreamWalker<R> {
         })
     }
 
-    /// How many bytes the items have that were told.
+    /// How many bytes the items returned so far have.
     pub fn place(&self) -> u64
         ensures { result ≡ self.now.passed }
     {
@@ -90,7 +89,6 @@ impl<R: CountedRead + Drop> StreamWalker<R> {
         &self.reader
     }
 
-    /// Reads until an item's bytes are held, or the reader is at its end.
     #[inline]
     fn fill(&mut self) -> Result<(), Device>
         ensures filled { OnOk result ((15 ≤ length self.new.held) ⊎ (self.new.exhausted ≡ true)) }
@@ -115,7 +113,7 @@ impl<R: CountedRead + Drop> StreamWalker<R> {
         Ok(())
     }
 
-    /// The version of the item that stands here: at the front the held bytes tell it.
+    /// The version of the item here: at the front, the held bytes give it.
     #[inline]
     fn version_here(&self) -> Version
         ensures { result ≡ version_at self.now.version self.now.place self.now.held }
@@ -126,7 +124,6 @@ impl<R: CountedRead + Drop> StreamWalker<R> {
         }
     }
 
-    /// The item that the held bytes begin with.
     #[inline]
     fn step(&mut self) -> Result<Item, StreamFault>
         requires filled { (15 ≤ length self.old.held) ⊎ (self.old.exhausted ≡ true) }
@@ -134,7 +131,8 @@ impl<R: CountedRead + Drop> StreamWalker<R> {
         ensures told { Told (stream R.remaining self.old) (stream R.remaining self.new) result }
         ensures device { result ≡ Err StreamFault.Device → ⊥ }
         ensures place { MatchResult result
-            (λ i. (self.new.place ≡ onward self.old.place i) × (self.new.passed ≡ self.old.passed + length (bytes_at self.new.version self.old.place i)))
+            (λ i. (self.new.place ≡ onward self.old.place i) × (self.new.passed
+            ≡ self.old.passed + length (bytes_at self.new.version self.old.place i)))
             (λ _. (self.new.place ≡ self.old.place) × (self.new.passed ≡ self.old.passed)) }
         ensures same { (self.new.reader ≡ self.old.reader) × (self.new.fault ≡ self.old.fault) }
     {
@@ -153,13 +151,13 @@ impl<R: CountedRead + Drop> StreamWalker<R> {
         }
     }
 
-    /// The next item, where no fault was told.
     #[inline]
     fn read_item(&mut self) -> Result<Item, StreamFault>
         requires few { self.old.passed ≤ 2 ^ 63 }
         ensures told { Told (stream R.remaining self.old) (stream R.remaining self.new) result }
         ensures place { MatchResult result
-            (λ i. (self.new.place ≡ onward self.old.place i) × (self.new.passed ≡ self.old.passed + length (bytes_at self.new.version self.old.place i)))
+            (λ i. (self.new.place ≡ onward self.old.place i) × (self.new.passed
+            ≡ self.old.passed + length (bytes_at self.new.version self.old.place i)))
             (λ _. (self.new.place ≡ self.old.place) × (self.new.passed ≡ self.old.passed)) }
         ensures fault { self.new.fault ≡ self.old.fault }
         ensures count { Counted (R.failed self.old.reader) (R.failed self.new.reader) result }
@@ -171,19 +169,22 @@ impl<R: CountedRead + Drop> StreamWalker<R> {
         self.step()
     }
 
-    /// The next of the items of the bytes that the reader gives, the last being `End`; asked again after `End` it gives
-    /// `End`. Malformed where no item of the grammar stands, Device where a read fails, an interrupted one too; and the
-    /// same answer from then on. It takes no memory. The items before have at most 2^63 bytes, as `place` tells.
+    /// The next item of the reader's bytes; after `End`, `End` again. `Malformed` if the grammar
+    /// allows no item here, `Device` if a read fails, an interrupted one too; a fault is repeated
+    /// from then on. Takes no memory. The items before must have at most 2^63 bytes (`place`).
     #[inline]
     pub fn next(&mut self) -> Result<Item, StreamFault>
         requires few { self.old.passed ≤ 2 ^ 63 }
-        ensures told { self.old.fault ≡ None → Told (stream R.remaining self.old) (stream R.remaining self.new) result }
+        ensures told { self.old.fault ≡ None
+            → Told (stream R.remaining self.old) (stream R.remaining self.new) result }
         ensures place { MatchResult result
-            (λ i. (self.new.place ≡ onward self.old.place i) × (self.new.passed ≡ self.old.passed + length (bytes_at self.new.version self.old.place i)))
+            (λ i. (self.new.place ≡ onward self.old.place i) × (self.new.passed
+            ≡ self.old.passed + length (bytes_at self.new.version self.old.place i)))
             (λ _. (self.new.place ≡ self.old.place) × (self.new.passed ≡ self.old.passed)) }
         ensures fault { MatchResult result (λ _. self.new.fault ≡ None) (λ e. self.new.fault ≡ Some e) }
         ensures again { IfSome self.old.fault (λ e. (result ≡ Err e) × (self.new ≡ self.old)) }
-        ensures count { self.old.fault ≡ None → Counted (R.failed self.old.reader) (R.failed self.new.reader) result }
+        ensures count { self.old.fault ≡ None
+            → Counted (R.failed self.old.reader) (R.failed self.new.reader) result }
         ensures fails { self.old.fault ≡ None → result ≡ Err StreamFault.Device
             → R.can_fail self.old.reader ⊎ (R.lacked self.new.reader ≡ true) }
         ensures later { R.can_fail self.new.reader → R.can_fail self.old.reader }

@@ -11,18 +11,17 @@ use crate::short::is_at_least;
 use mr_bytes::Name;
 use std::marker::Model;
 
-/// How the names of a certificate are spelled; all else is the same in both.
+/// How a certificate encodes names; all else is the same in both versions.
 #[derive(Clone, Copy, Debug, PartialEq, Eq)]
 pub enum Version {
     /// `MRCERT1`: each name in twelve bytes.
     V1,
-    /// `MRCERT2`: each name by what it differs in from the name before it in its group, in three to fifteen bytes. It spells
-    /// no name that is less than the one before it.
+    /// `MRCERT2`: each name as its difference from the one before it in its group, in three to
+    /// fifteen bytes. It can't encode a name that is less than the one before it.
     V2,
 }
 
 impl Version {
-    /// What a certificate in this version begins with.
     pub(crate) fn magic(self) -> [u8; 8]
         ensures { result ≡ magic self }
     {
@@ -32,8 +31,8 @@ impl Version {
         }
     }
 
-    /// Whether the version can spell the groups that these counts cut the names into, which are enough for them. Version 2
-    /// spells no name that is less than the one before it in its group.
+    /// Whether the version can encode the groups that `counts` cuts from the names. Version 2 can't
+    /// if a name is less than the one before it in its group.
     pub fn can_spell(self, counts: &[u32], names: &[Name]) -> bool
         requires { total counts.now ≤ length names.now }
         ensures { IsTrue result ↔ CanSpell self (chunks counts.now names.now) }
@@ -45,7 +44,7 @@ impl Version {
     }
 }
 
-/// The version of bytes, by their magic; version 1 where they begin with none.
+/// The version that the magic of the bytes gives; version 1 without a magic.
 pub(crate) fn version_of(bytes: &[u8]) -> Version
     ensures { result ≡ version_of bytes.now }
 {
@@ -60,7 +59,7 @@ pub(crate) fn version_of(bytes: &[u8]) -> Version
     }
 }
 
-/// A certificate in a version that can spell it.
+/// A certificate in a version that can encode it.
 #[derive(Drop)]
 pub struct VersionedCertificate<'a> {
     certificate: &'a Certificate,
@@ -79,14 +78,12 @@ impl<'a> Model for VersionedCertificate<'a> {
 }
 
 impl<'a> VersionedCertificate<'a> {
-    /// The version.
     pub fn version(&self) -> Version
         ensures { result ≡ self.now.version }
     {
         self.version
     }
 
-    /// The certificate's values.
     pub(crate) fn flat(&self) -> &'a CertificateColumns
         ensures whole { IsWhole result.now }
         ensures is { contents_of result.now ≡ self.now.certificate }
@@ -98,8 +95,7 @@ impl<'a> VersionedCertificate<'a> {
 }
 
 impl Certificate {
-    /// The certificate in this version, or none where the version can't spell it: version 2 spells none in which a name is
-    /// less than the one before it in its group.
+    /// The certificate in this version; `None` if that can't encode it (`Version::can_spell`).
     pub fn in_version(&self, version: Version) -> Option<VersionedCertificate<'_>>
         ensures { MatchOption result (AllByRecursion (CanSpell version) self.now.groups → ⊥)
             (λ s. s ≡ record { version = version; certificate = self.now }) }
@@ -114,7 +110,6 @@ impl Certificate {
     }
 }
 
-/// Whether in none of the groups of these counts a name is less than the one before it.
 fn never_fall(counts: &[u32], names: &[Name]) -> bool
     requires { total counts.now ≤ length names.now }
     ensures { IsTrue result ↔ CanSpell Version.V2 (chunks counts.now names.now) }
@@ -130,7 +125,6 @@ fn never_fall(counts: &[u32], names: &[Name]) -> bool
     true
 }
 
-/// Whether none of the names of a group is less than the one before it.
 fn never_falls(names: &[Name]) -> bool
     ensures { IsTrue result ↔ CanRow Version.V2 first_name names.now }
 {

@@ -1,4 +1,4 @@
-//! A walk over the items of bytes, front to back. It takes no memory, and each item costs a look at its own bytes.
+//! Walks the items of bytes, front to back. Takes no memory, and reads each item's bytes once.
 ghost use Rattle.std.specs.Prelude.{◌≡◌, ◌≤◌, ◌-◌, ◌+◌, ◌∷◌, [], Some, None, MatchResult, length};
 ghost use Rattle.std.specs.Prelude.{◌*◌, drop};
 ghost use Rattle.mr_certform.specs.Spelling.{items_from, items_of, stop, left_behind};
@@ -13,7 +13,6 @@ use crate::short::short_name_of;
 use crate::version::{Version, version_of};
 use mr_bytes::Name;
 
-/// The bytes behind so many entries.
 fn behind_row(bytes: &[u8], entries: u64) -> &[u8]
     requires { entries * 12 ≤ length bytes.now }
     ensures { result.now ≡ drop (entries * 12) bytes.now }
@@ -21,9 +20,8 @@ fn behind_row(bytes: &[u8], entries: u64) -> &[u8]
     &bytes[entries as usize * 12..]
 }
 
-/// How many entries of version 2 stand next, of which so many more are to come behind the first, the bytes behind them and
-/// the place there. Each is told from the one before it, so each is looked at; what is known of the place stays in a few
-/// numbers until the last of them.
+/// How many entries of version 2 come next, the bytes after them and the state there; `more` are
+/// expected after the first. Each depends on the one before, so each is decoded.
 fn behind_names(
     bytes: &[u8],
     parts: u32,
@@ -31,7 +29,8 @@ fn behind_names(
     more: u32,
     before: Name,
 ) -> (u64, &[u8], GrammarState)
-    ensures count { result.0 ≡ entries_ahead (items_from V2 (AtEntry parts groups more before) bytes.entry.now) }
+    ensures count { result.0
+        ≡ entries_ahead (items_from V2 (AtEntry parts groups more before) bytes.entry.now) }
     ensures items { items_from V2 (result.2) (result.1.now)
         ≡ behind_entries (items_from V2 (AtEntry parts groups more before) bytes.entry.now) }
     ensures shorter { length result.1.now ≤ length bytes.entry.now }
@@ -60,7 +59,7 @@ fn behind_names(
     (passed, rest, place)
 }
 
-/// Walks the items of a certificate's bytes, from the front. It takes no memory.
+/// Walks the items of a certificate's bytes, from the front. Takes no memory.
 #[derive(Clone, Copy)]
 pub struct Walker<'a> {
     version: Version,
@@ -86,8 +85,7 @@ impl<'a> Walker<'a> {
         }
     }
 
-    /// The next of the items, the last being `End`; asked again after `End` it gives `End`. Malformed where no item
-    /// of the grammar stands, and the same answer from then on.
+    /// The next item; after `End`, `End` again. `Malformed` once the grammar allows no item.
     #[inline]
     pub fn next(&mut self) -> Result<Item, Malformed>
         ensures item { MatchResult result
@@ -108,8 +106,8 @@ impl<'a> Walker<'a> {
         }
     }
 
-    /// Passes over the entries that stand next in their group: how many these are. It stands then where so many calls of
-    /// `next` would have left it. In version 1 no entry is looked at.
+    /// Skips the entries that come next in their group and returns their number; as many calls of
+    /// `next` would end in the same place. In version 1 it reads none of them.
     pub fn skip_entries(&mut self) -> u64
         ensures count { result ≡ entries_ahead (items_left self.old) }
         ensures items { items_left self.new ≡ behind_entries (items_left self.old) }

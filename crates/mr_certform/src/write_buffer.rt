@@ -1,7 +1,6 @@
-//! What takes bytes, one piece behind another: a list, or a writer behind a buffer.
+//! What accepts bytes piece by piece: a list, or a writer behind a buffer.
 //!
-//! The buffer gathers small pieces, and writes some 64 KiB at a time. It asks for no memory: its room
-//! is there from the start.
+//! The buffer collects small pieces, and writes some 64 KiB at a time. It allocates nothing.
 ghost use Rattle.std.specs.Prelude.{◌≡◌, ◌≤◌, ◌+◌, List, ℕ, [], ◌++◌, true, false, OnOk};
 ghost use Rattle.std.specs.Prelude.{MatchResult, length, take};
 ghost use Rattle.mr_certform.specs.Sinks.{Passes, list_joined, list_same};
@@ -11,19 +10,18 @@ use std::alloc::AllocError;
 use std::convert::Infallible;
 use std::marker::Model;
 
-/// What takes bytes. It may hold them, or hand them on.
+/// Accepts bytes. It may keep them, or pass them on.
 pub(crate) trait Sink {
-    /// Why it takes no more.
+    /// Why it accepts no more.
     type Fault;
 
-    // From the one to the other it took these bytes.
+    // It accepted these bytes between the first state and the second.
     ghost takes: { Self → Self → List ℕ → Type 0 };
 
-    /// Takes all the bytes.
     fn put(&mut self, bytes: &[u8]) -> Result<(), Self::Fault>
         ensures { OnOk result (takes self.old self.new bytes.now) };
 
-    // What took nothing is as before, and what took pieces one behind another took them together.
+    // No bytes leave it as it was; pieces accepted in turn were accepted together.
     ghost none: { (a : Self) → takes a a [] };
 
     ghost joined: { (a b c : Self) (xs ys : List ℕ) → takes a b xs → takes b c ys → takes a c (xs ++ ys) };
@@ -43,7 +41,6 @@ impl Sink for Vec<u8> {
     ghost joined = { λ a b c xs ys. list_joined a.items b.items c.items xs ys };
 }
 
-/// How many bytes are gathered.
 const SIZE: usize = 65_536;
 
 /// Some bytes, up to 64 KiB.
@@ -63,7 +60,6 @@ impl Model for Piece {
     ghost invariant = { λ p. p.filled ≤ 65536 };
 }
 
-/// Puts the bytes behind so many.
 fn place(room: &mut [u8], filled: usize, bytes: &[u8])
     requires { filled + length bytes.now ≤ length room.old }
     ensures { take (filled + length bytes.now) room.new ≡ take filled room.old ++ bytes.now }
@@ -74,7 +70,6 @@ fn place(room: &mut [u8], filled: usize, bytes: &[u8])
 }
 
 impl Piece {
-    /// None.
     pub fn new() -> Piece
         ensures { result ≡ [] }
     {
@@ -84,14 +79,13 @@ impl Piece {
         }
     }
 
-    /// The bytes.
     pub fn bytes(&self) -> &[u8]
         ensures { result.now ≡ self.now }
     {
         &self.bytes[..self.filled]
     }
 
-    /// Takes the bytes, where there is room for all of them.
+    /// Appends the bytes if there is room for all of them.
     pub fn push(&mut self, bytes: &[u8]) -> bool
         ensures fits { result ≡ true → self.new ≡ self.old ++ bytes.now }
         ensures full { result ≡ false → self.new ≡ self.old }
@@ -104,7 +98,6 @@ impl Piece {
         true
     }
 
-    /// Gives its room back.
     pub fn clear(&mut self)
         ensures { self.new ≡ [] }
     {
@@ -112,7 +105,7 @@ impl Piece {
     }
 }
 
-/// A writer behind a buffer. Once a call of the writer has failed, all that comes is dropped, and the end tells it.
+/// A writer behind a buffer. After a failed call it drops all bytes, and `finish` reports it.
 #[derive(Drop)]
 pub(crate) struct WriteBuffer<'a, W> {
     writer: &'a mut W,
@@ -120,7 +113,7 @@ pub(crate) struct WriteBuffer<'a, W> {
     failed: bool,
 }
 
-/// Writes all the bytes, where no call has failed before; whether one has now.
+/// Writes all the bytes unless a call failed before; returns whether a call has failed.
 fn send<W: CountedWrite>(writer: &mut W, failed: bool, bytes: &[u8]) -> bool
     ensures { Passes W.seen W.can_fail W.lacked writer.old writer.new failed result bytes.now [] }
 {
@@ -133,7 +126,6 @@ fn send<W: CountedWrite>(writer: &mut W, failed: bool, bytes: &[u8]) -> bool
 impl<'a, W: CountedWrite> WriteBuffer<'a, W> {
     ghost use Rattle.mr_certform.specs.Buffers.{Takes};
 
-    /// In front of this writer, with nothing held.
     pub fn new(writer: &'a mut W) -> WriteBuffer<'a, W>
         ensures same_reference { result.writer.ghost_name ≡ writer.entry.ghost_name }
         ensures writer { result.writer.now ≡ writer.old }
@@ -147,7 +139,6 @@ impl<'a, W: CountedWrite> WriteBuffer<'a, W> {
         }
     }
 
-    /// Writes what is held.
     fn hand_over(&mut self)
         ensures takes { Takes W.seen W.can_fail W.lacked self.old self.new [] }
         ensures empty { self.new.piece ≡ [] }
@@ -156,7 +147,7 @@ impl<'a, W: CountedWrite> WriteBuffer<'a, W> {
         self.piece.clear();
     }
 
-    /// Writes what is held, and tells whether a call has failed.
+    /// Writes what the buffer holds, and reports whether any call failed.
     pub fn finish(&mut self) -> Result<(), Device>
         ensures takes { Takes W.seen W.can_fail W.lacked self.old self.new [] }
         ensures ended { MatchResult result (λ _. (self.new.failed ≡ false) × (self.new.piece ≡ []))

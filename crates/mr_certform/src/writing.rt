@@ -1,4 +1,4 @@
-//! A certificate spelled, number by number, into whatever takes bytes: a list, or a writer behind a buffer.
+//! Encodes a certificate, number by number, into a list, or into a writer behind a buffer.
 ghost use Rattle.std.specs.Prelude.{◌≡◌, ◌↔◌, ◌≤◌, ◌<◌, ◌^◌, ◌++◌, [], false, OnOk, OnErr};
 ghost use Rattle.std.specs.Prelude.{IfOk, length, drop};
 ghost use Rattle.std.specs.List.{flat_map, AllByRecursion};
@@ -22,7 +22,6 @@ use mr_store::{CountedWrite, Device, Encode};
 use std::alloc::{AllocError, Global};
 use thiserror::Error;
 
-/// The twelve bytes of a name.
 fn spelled_name(name: Name) -> [u8; 12]
     ensures text { result ≡ name_bytes Version.V1 first_name name }
     ensures fits { NameFits name }
@@ -34,7 +33,6 @@ fn spelled_name(name: Name) -> [u8; 12]
     bytes
 }
 
-/// The eight bytes of a left-out record.
 fn spelled_skip(skip: RecordName) -> [u8; 8]
     ensures text { result ≡ skip_bytes skip }
     ensures fits { SkipFits skip }
@@ -61,7 +59,6 @@ fn put_long<O: Sink>(out: &mut O, n: u64) -> Result<(), O::Fault>
     out.put(&bytes)
 }
 
-/// The name of an entry behind the name before it.
 #[inline]
 fn put_name<O: Sink>(
     out: &mut O,
@@ -79,7 +76,6 @@ fn put_name<O: Sink>(
     }
 }
 
-/// The names of a group.
 fn put_names<O: Sink>(out: &mut O, version: Version, names: &[Name]) -> Result<(), O::Fault>
     requires { CanRow version first_name names.now }
     ensures { OnOk result (O.takes out.old out.new (names_bytes version first_name names.now)
@@ -97,7 +93,7 @@ fn put_names<O: Sink>(out: &mut O, version: Version, names: &[Name]) -> Result<(
     Ok(())
 }
 
-/// The groups of these counts, from the front of the names; the names behind them are given back.
+/// Writes the groups of these counts, from the front of the names; returns the names after them.
 pub(crate) fn put_groups<'a, O: Sink>(
     out: &mut O,
     version: Version,
@@ -146,7 +142,7 @@ fn put_parts<O: Sink>(
     Ok(())
 }
 
-/// The magic and the job, up to the bytes of a split.
+/// Writes the front, from the magic to the bytes of a split.
 pub(crate) fn put_job<O: Sink>(
     out: &mut O,
     version: Version,
@@ -164,10 +160,10 @@ pub(crate) fn put_job<O: Sink>(
     put_number(out, flat.header.split_size)
 }
 
-/// The number of files, then the length of each.
 pub(crate) fn put_input<O: Sink>(out: &mut O, lengths: &[u64]) -> Result<(), O::Fault>
     requires { length lengths.now < 2 ^ 32 }
-    ensures { OnOk result (O.takes out.old out.new (four (length lengths.now) ++ flat_map eight lengths.now)) }
+    ensures { OnOk result
+        (O.takes out.old out.new (four (length lengths.now) ++ flat_map eight lengths.now)) }
 {
     put_number(out, lengths.len() as u32)?;
     for length in lengths {
@@ -176,7 +172,6 @@ pub(crate) fn put_input<O: Sink>(out: &mut O, lengths: &[u64]) -> Result<(), O::
     Ok(())
 }
 
-/// The number of left-out records, then each of them.
 pub(crate) fn put_left_out<O: Sink>(out: &mut O, skips: &[RecordName]) -> Result<(), O::Fault>
     requires { length skips.now < 2 ^ 32 }
     ensures { OnOk result (O.takes out.old out.new (four (length skips.now)
@@ -189,7 +184,7 @@ pub(crate) fn put_left_out<O: Sink>(out: &mut O, skips: &[RecordName]) -> Result
     Ok(())
 }
 
-/// How many bytes the spelling has; no more than can be counted.
+/// How many bytes the values take in version 1, saturating.
 pub(crate) fn size_of(flat: &CertificateColumns) -> usize {
     let groups = &flat.groups;
     let counts = (groups.entry_counts.len()).saturating_add(groups.group_counts.len());
@@ -201,7 +196,6 @@ pub(crate) fn size_of(flat: &CertificateColumns) -> usize {
         .saturating_add(36)
 }
 
-/// The spelling of these values.
 pub(crate) fn put_values<O: Sink>(
     out: &mut O,
     version: Version,
@@ -209,7 +203,8 @@ pub(crate) fn put_values<O: Sink>(
 ) -> Result<(), O::Fault>
     requires whole { IsWhole flat.now }
     requires can { CanSpell version (chunks flat.now.entry_counts flat.now.names) }
-    ensures { OnOk result (O.takes out.old out.new (all_bytes version (contents_of flat.now)) × HasNames flat.now) }
+    ensures { OnOk result (O.takes out.old out.new (all_bytes version (contents_of flat.now))
+        × HasNames flat.now) }
 {
     put_job(out, version, flat)?;
     put_input(out, &flat.header.lengths)?;
@@ -241,7 +236,7 @@ fn lengths_fit(lengths: &[u64])
     let _ = lengths.len();
 }
 
-/// Each number fits the bytes of its type. This does nothing when it runs.
+/// Each number fits the bytes of its type. Does nothing at run time.
 pub(crate) fn numbers_fit(flat: &CertificateColumns)
     ensures { HasNumbers flat.now }
 {
@@ -285,12 +280,12 @@ pub(crate) fn skips_fit(skips: &[RecordName])
     }
 }
 
-/// Why a certificate isn't spelled.
+/// Why a certificate can't be encoded.
 #[derive(Clone, Copy, Debug, PartialEq, Eq, Drop, Error)]
 pub enum WriteFault {
     #[error("OutOfMemory")]
     OutOfMemory,
-    /// A name is less than the one before it in its group, which version 2 can't spell.
+    /// A name is less than the one before it in its group, which version 2 can't encode.
     #[error("NamesFall")]
     NamesFall,
 }
@@ -305,7 +300,7 @@ impl From<AllocError> for WriteFault {
     }
 }
 
-/// The bytes that spell the certificate in this version. In version 1 their list gets its whole room at
+/// The bytes that encode the certificate in this version. In version 1 their list is allocated at
 /// once; in version 2 it grows.
 pub fn write(
     alloc: Global,
@@ -330,7 +325,6 @@ pub fn write(
     Ok(out)
 }
 
-/// Writes all the bytes that spell these values, by a buffer that holds none.
 fn write_values<W: CountedWrite>(
     buffered: &mut WriteBuffer<'_, W>,
     version: Version,

@@ -1,5 +1,4 @@
-//! The crates as a program of one's own uses them: a job is run over bytes in memory (`mr_sequential`), and whoever is
-//! handed the result judges it (`mr_check`) before it is used.
+//! An example: `made` runs a job in memory, and `judged` judges the result before anyone uses it.
 #![tactic(auto)]
 
 ghost use Rattle.std.specs.Prelude.{◌≡◌, ℕ, ◌≤◌, ◌<◌, ◌^◌, ◌∷◌, [], false, IfOk, IsOk};
@@ -18,7 +17,7 @@ use mr_sequential::{RunFault, run};
 use std::alloc::{AllocError, Global};
 use thiserror::Error;
 
-/// Why there is no result, or none that may be used.
+/// Why there is no result, or none to be used.
 #[derive(Debug, Drop, Error)]
 pub enum Trouble {
     #[error("{0}")]
@@ -37,14 +36,14 @@ pub enum Trouble {
     Memory(#[from] AllocError),
 }
 
-/// What is handed from those who made a result to those who use it.
+/// What the makers of a result give to its users.
 #[derive(Drop)]
 pub struct Handed {
     pub outputs: Vec<Vec<u8>>,
     pub certificate: Vec<u8>,
 }
 
-/// What both sides agree on: words are counted, in two partitions, and no record is left out.
+/// The request of both sides: count words, in two partitions, and leave no record out.
 pub fn agreed() -> Result<Request, Trouble>
     ensures request { IfOk result (λ r. r
         ≡ record { job = WordCount false; by = By.Key; parts = 2; split = 67108864; skips = 0 }) }
@@ -53,7 +52,7 @@ pub fn agreed() -> Result<Request, Trouble>
     Ok(Request::new(Job::words(false), 2, 67_108_864, 0)?)
 }
 
-/// One text as the input of the request, which it fits.
+/// One text as the input of the request, if it fits.
 pub fn input_of(alloc: Global, request: &Request, text: &[u8]) -> Result<Input, Trouble>
     ensures input { IfOk result (λ input. input ≡ text.now ∷ []) }
     ensures fits { IfOk result (λ input. split_total request.now.split input ≤ 2 ^ 20) }
@@ -69,8 +68,7 @@ pub fn input_of(alloc: Global, request: &Request, text: &[u8]) -> Result<Input, 
     Ok(input)
 }
 
-/// Those who make it: the job is run, and its certificate spelled, in the version that is shorter. The outputs are those of the sequential execution
-/// without left-out records, and with the certificate they are a good result.
+/// Runs the job and writes its certificate in the shorter version, for the makers.
 pub fn made(alloc: Global, request: &Request, input: &Input) -> Result<Handed, Trouble>
     requires { split_total request.now.split input.now ≤ 2 ^ 20 }
     ensures texts { IfOk result (λ h. (p : ℕ) → p < request.now.parts
@@ -86,8 +84,7 @@ pub fn made(alloc: Global, request: &Request, input: &Input) -> Result<Handed, T
     })
 }
 
-/// Those who use it, and trust nobody who made it: where this says yes, the outputs are those of the sequential
-/// execution, whoever made them.
+/// Judges the result, for users who trust no maker. After `Yes`, it is what `sequential` says.
 pub fn judged(
     alloc: Global,
     request: &Request,

@@ -1,4 +1,4 @@
-//! The files that a job reads.
+//! The files that a job reads, and the limits of an input and of its splits.
 #![tactic(auto)]
 
 ghost use Rattle.std.specs.Prelude.{◌≡◌, ◌≤◌, ◌<◌, ◌^◌, ◌↔◌, IfOk, IsOk, length, IsTrue};
@@ -16,12 +16,11 @@ pub const MAX_SPLIT_SIZE: u32 = 0x400_0000;
 /// The most splits of an input.
 pub const MAX_SPLITS: usize = 0x10_0000;
 
-// The numbers that the clauses give.
 const _: () = prove!(MAX_FILES == 1024 && MAX_BYTES == 1_073_741_824);
 
 const _: () = prove!(MAX_SPLIT_SIZE == 67_108_864 && MAX_SPLITS == 1_048_576);
 
-/// Files, in order, each as its bytes.
+/// Files in order, each as its bytes.
 #[derive(Drop)]
 pub struct Input {
     files: Vec<Vec<u8>>,
@@ -41,18 +40,17 @@ impl Model for Input {
     } };
 }
 
-/// Why files are no input.
+/// Why files are not an input.
 #[derive(Clone, Copy, Debug, PartialEq, Eq, Drop, Error)]
 pub enum InputFault {
-    /// There are more than 1,024 files.
+    /// More than 1,024 files.
     #[error("TooManyFiles")]
     TooManyFiles,
-    /// The files have more than 1,073,741,824 bytes in all.
+    /// More than 1,073,741,824 bytes in all.
     #[error("TooLarge")]
     TooLarge,
 }
 
-/// Whether the files have at most `MAX_BYTES` bytes in all.
 fn is_small(files: &[Vec<u8>]) -> bool
     ensures { IsTrue result ↔ (total_size (contents files.now) ≤ 2 ^ 30) }
 {
@@ -67,10 +65,11 @@ fn is_small(files: &[Vec<u8>]) -> bool
 }
 
 impl Input {
-    /// The files handed in, whatever they hold. Too many files are told before too many bytes.
+    /// Takes the files, whatever bytes they hold. Of two faults it reports `TooManyFiles`.
     pub fn of(files: Vec<Vec<u8>>) -> Result<Input, InputFault>
         ensures files { IfOk result (λ r. r ≡ contents files.items) }
-        ensures succeeds { length files.items ≤ 1024 → total_size (contents files.items) ≤ 2 ^ 30 → IsOk result }
+        ensures succeeds { length files.items ≤ 1024 → total_size (contents files.items) ≤ 2 ^ 30
+            → IsOk result }
         ensures too_many { (result ≡ Err InputFault.TooManyFiles) ↔ (1024 < length files.items) }
         ensures too_large { (result ≡ Err InputFault.TooLarge)
             ↔ ((length files.items ≤ 1024) × (2 ^ 30 < total_size (contents files.items))) }
@@ -84,7 +83,6 @@ impl Input {
         Ok(Input { files })
     }
 
-    /// How many files there are.
     pub fn files(&self) -> usize
         ensures count { result ≡ length self.now }
         ensures few { result ≤ 1024 }
@@ -102,7 +100,6 @@ impl Input {
         &self.files[i]
     }
 
-    /// How many bytes file `i` has.
     pub fn len(&self, i: usize) -> usize
         requires { i < length self.now }
         ensures bytes { result ≡ length (nth_file self.now i) }
@@ -111,7 +108,7 @@ impl Input {
         self.file(i).len()
     }
 
-    /// How many splits of `size` bytes the files have.
+    /// How many splits of `size` bytes the files have. A split lies in one file, never in two.
     pub fn splits(&self, size: u32) -> usize
         requires { 0 < size }
         ensures { result ≡ split_total size self.now }

@@ -1,4 +1,4 @@
-//! What a job emits for a record.
+//! The pairs that a job emits for one record.
 ghost use Rattle.std.specs.Prelude.{◌≡◌, ◌↔◌, IsTrue, ℕ, ◌+◌, ◌≤◌, ◌<◌, ◌^◌, ◌++◌, [], ◌∷◌, All};
 ghost use Rattle.std.specs.Prelude.{OnOk, OnErr, if◌then◌else◌, is_ok, length, take, vec_len};
 ghost use Rattle.mr_jobs.specs.Emissions.{emissions, nth_emission};
@@ -12,15 +12,13 @@ use mr_bytes::Value;
 use std::alloc::{AllocError, Global};
 use std::marker::Model;
 
-/// Where a record begins: its file by number, from 0, and the place there of its first byte, or of its line feed where
-/// the record is empty.
+/// Where a record begins: its file, from 0, and the place there of its first byte, or line feed.
 #[derive(Clone, Copy, PartialEq, Eq, Debug)]
 pub struct RecordStart {
     pub file: u32,
     pub start: u32,
 }
 
-/// The part of the key bytes that is one emission's key, and the emission's value.
 #[derive(Clone, Copy)]
 struct Entry {
     start: usize,
@@ -28,10 +26,10 @@ struct Entry {
     value: Value,
 }
 
-/// Keys with their values, in the order in which they were emitted.
+/// Keys with their values, in the order in which a job emitted them.
 #[derive(Drop)]
 pub struct Emissions {
-    // The bytes of all keys, one key after another, so that a key takes no allocation of its own.
+    // The bytes of all keys, one key after another, so that no key is allocated by itself.
     keys: Vec<u8>,
     entries: Vec<Entry>,
 }
@@ -50,7 +48,7 @@ impl Model for Emissions {
 }
 
 impl Emissions {
-    /// No emissions. It takes no memory.
+    /// No emissions. Takes no memory.
     pub fn new(alloc: Global) -> Emissions
         ensures { result ≡ [] }
     {
@@ -67,7 +65,6 @@ impl Emissions {
         self.entries.len()
     }
 
-    /// Whether there are none.
     pub fn is_empty(&self) -> bool
         ensures { IsTrue result ↔ (self.now ≡ []) }
     {
@@ -83,7 +80,7 @@ impl Emissions {
         (&self.keys[entry.start..entry.end], entry.value)
     }
 
-    /// Forgets all emissions, and keeps the memory for the next ones.
+    /// Removes all emissions, and keeps the memory for the next ones.
     pub fn clear(&mut self)
         ensures { self.new ≡ [] }
     {
@@ -92,7 +89,6 @@ impl Emissions {
     }
 }
 
-/// Appends one emission, or leaves both lists as they were.
 fn push_one(
     keys: &mut Vec<u8>,
     entries: &mut Vec<Entry>,
@@ -113,7 +109,6 @@ fn push_one(
     Ok(())
 }
 
-/// Appends all that an emitter has left. Where it fails, what stood before still stands in front.
 fn push_all(
     mut emitter: Emitter<'_>,
     keys: &mut Vec<u8>,
@@ -132,8 +127,8 @@ fn push_all(
     Ok(())
 }
 
-/// Appends what the record `line` emits, of at most 1 GiB, which begins at `at`. It fails only for want of memory, and
-/// then leaves `out` as it was.
+/// Appends what the record `line` emits, which has at most 1 GiB and begins at `at`. Fails only for
+/// want of memory, and then leaves `out` as it was.
 pub fn map(
     alloc: Global,
     job: &Job,
@@ -158,9 +153,8 @@ pub fn map(
     done
 }
 
-/// What callers may rest on for every record: it has no more emissions than bytes, its keys are no longer than the
-/// record, one by one and together, a job that counts emits no other value than `One`, and all pairs have the value that
-/// `Job::value_at` tells.
+/// A record emits no more pairs than it has bytes; its keys, even together, are no longer than it;
+/// a job that counts emits only `One`; and all pairs of a record have the value `Job::value_at`.
 pub fn emission_law()
     ensures few { FewEmissions }
     ensures short { ShortKeys }

@@ -1,4 +1,4 @@
-//! The emissions of a record, one after another.
+//! The pairs of a record, one after another, without memory: each key is a part of a text.
 ghost use Rattle.std.specs.Prelude.{◌≡◌, ℕ, ◌≤◌, ◌<◌, ◌^◌, ◌⊎◌, [], ◌∷◌, false, if◌then◌else◌};
 ghost use Rattle.std.specs.Prelude.{IsTrue, OnOk, OnErr, MatchOption, IfSome, IfNone, length};
 ghost use Rattle.std.specs.Prelude.{vec_capacity};
@@ -13,7 +13,7 @@ use mr_lanes::{fold_into, next_word};
 use std::alloc::AllocError;
 use std::marker::Model;
 
-/// What a record has still to emit: its text as one key, or else the words of its text from a place on; each with the value.
+/// What a record has yet to emit: its text as one key, or the words of its text from a place on.
 #[derive(Drop)]
 pub struct Emitter<'a> {
     text: &'a [u8],
@@ -37,7 +37,7 @@ impl<'a> Model for Emitter<'a> {
 }
 
 impl<'a> Emitter<'a> {
-    /// The next key with its value, or `None` where nothing is left, and from then on.
+    /// The next key with its value, or `None` once nothing is left.
     pub fn next(&mut self) -> Option<(&'a [u8], Value)>
         ensures next { MatchOption result (self.old ≡ []) (λ e. self.old ≡ (e.0.now, e.1) ∷ self.new) }
         ensures ended { IfNone result (self.new ≡ []) }
@@ -57,7 +57,6 @@ impl<'a> Emitter<'a> {
     }
 }
 
-/// All words of a text, each with the value.
 fn all_words(text: &[u8], value: Value) -> Emitter<'_>
     requires { length text.now ≤ 2 ^ 30 }
     ensures { result ≡ words_from value text.entry.now 0 }
@@ -70,7 +69,6 @@ fn all_words(text: &[u8], value: Value) -> Emitter<'_>
     }
 }
 
-/// The words of the line by their exact bytes where `keep_case`, or else those of the buffer, each with the value.
 fn words_of<'a>(keep_case: bool, line: &'a [u8], buffer: &'a [u8], value: Value) -> Emitter<'a>
     requires line { length line.now ≤ 2 ^ 30 }
     requires buffer { keep_case ≡ false → length buffer.now ≤ 2 ^ 30 }
@@ -83,7 +81,6 @@ fn words_of<'a>(keep_case: bool, line: &'a [u8], buffer: &'a [u8], value: Value)
     }
 }
 
-/// No emission.
 pub(crate) fn nothing(text: &[u8]) -> Emitter<'_>
     requires { length text.now ≤ 2 ^ 30 }
     ensures { result ≡ [] }
@@ -96,7 +93,6 @@ pub(crate) fn nothing(text: &[u8]) -> Emitter<'_>
     }
 }
 
-/// One emission.
 pub(crate) fn one_pair(key: &[u8], value: Value) -> Emitter<'_>
     requires { length key.now ≤ 2 ^ 30 }
     ensures { result ≡ (key.entry.now, value) ∷ [] }
@@ -112,9 +108,9 @@ pub(crate) fn one_pair(key: &[u8], value: Value) -> Emitter<'_>
 ghost use Rattle.mr_jobs.specs.Emissions.{words_from};
 
 impl Job {
-    /// Makes the buffer as `emit` wants it for `line`: for folded words, the folded bytes of the line. Other jobs leave
-    /// it alone. It fails only for want of memory, where the buffer has less room than the line has bytes, and then the
-    /// buffer's bytes are as they were. One buffer serves any number of lines.
+    /// Fills the buffer for `emit` of `line`: with the folded line if the job folds words. Fails
+    /// only for want of memory, if the buffer has less room than the line has bytes, and then
+    /// leaves its bytes as they were. One buffer serves any number of lines.
     #[inline]
     pub fn fold_line(&self, line: &[u8], buffer: &mut Vec<u8>) -> Result<(), AllocError>
         ensures ready { OnOk result (IsReady self.now line.now buffer.new.items) }
@@ -131,8 +127,8 @@ impl Job {
         }
     }
 
-    /// What the record `line` emits, of at most 1 GiB, which begins at the place `start` of the file `file`: nothing is
-    /// copied and no memory is taken, since a key is a part of the line or of the buffer.
+    /// What the record `line` emits, which has at most 1 GiB and begins at place `start` of file
+    /// `file`. Copies nothing and takes no memory: a key is a part of the line or of the buffer.
     pub fn emit<'a>(&self, file: u32, start: u32, line: &'a [u8], buffer: &'a [u8]) -> Emitter<'a>
         requires small { length line.now ≤ 2 ^ 30 }
         requires ready { IsReady self.now line.now buffer.now }
@@ -172,20 +168,18 @@ impl Job {
 
 ghost use Rattle.mr_bytes.specs.Bytes.{folded};
 
-/// Makes the buffer the folded bytes of the line.
 fn fill_folded(line: &[u8], buffer: &mut Vec<u8>) -> Result<(), AllocError>
     ensures ok { OnOk result (buffer.new.items ≡ folded line.now) }
     ensures full { OnErr result (vec_capacity buffer.old < length line.now) }
     ensures err { OnErr result (buffer.new.items ≡ buffer.old.items) }
 {
     make_room(buffer, line.len())?;
-    // With that room nothing is refused.
+    // With that room, nothing below fails.
     buffer.clear();
     fold_into(line, buffer)?;
     Ok(())
 }
 
-/// Sees that the buffer has room for so many bytes; what it holds stays.
 fn make_room(buffer: &mut Vec<u8>, bytes: usize) -> Result<(), AllocError>
     ensures ok { OnOk result (bytes ≤ vec_capacity buffer.new) }
     ensures full { OnErr result (vec_capacity buffer.old < bytes) }

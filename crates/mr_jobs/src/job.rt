@@ -1,4 +1,4 @@
-//! What is done with each record.
+//! What a job does with each record.
 ghost use Rattle.std.specs.Prelude.{◌≡◌, ◌↔◌, ℕ, ◌≤◌, ◌<◌, IfOk, IsTrue, OnOk, IsOkUnless, length};
 ghost use Rattle.std.specs.Prelude.{[], Contains};
 ghost use Rattle.mr_jobs.specs.JobSpec.{WordCount, LinesWith, Resources, InvertedIndex, JobFits};
@@ -14,7 +14,6 @@ use thiserror::Error;
 /// The most bytes of a literal.
 pub const MAX_LITERAL: usize = 4096;
 
-// The number that the clauses give.
 const _: () = prove!(MAX_LITERAL == 4096);
 
 #[derive(Drop)]
@@ -25,7 +24,7 @@ pub(crate) enum Kind {
     Index { keep_case: bool },
 }
 
-/// What is done with each record: one of the four jobs of OSDI 2004, sections 2.1 and 2.3, that this library brings.
+/// One of the four jobs of this library, from OSDI 2004, sections 2.1 and 2.3.
 #[derive(Drop)]
 pub struct Job {
     pub(crate) kind: Kind,
@@ -45,26 +44,21 @@ impl Model for Job {
     ghost invariant = { λ j. JobFits (spec_of j.kind) };
 }
 
-/// Why a literal makes no job.
+/// Why a literal makes no job: it is empty, has over 4,096 bytes, or contains a line feed.
 #[derive(Clone, Copy, Debug, PartialEq, Eq, Drop, Error)]
 pub enum JobFault {
-    /// The literal has no bytes.
     #[error("EmptyLiteral")]
     EmptyLiteral,
-    /// The literal has more than 4,096 bytes.
     #[error("LongLiteral")]
     LongLiteral,
-    /// The literal holds a line feed, which no record holds.
     #[error("LineEndInLiteral")]
     LineEndInLiteral,
-    /// There was no memory for a copy of the literal.
     #[error("OutOfMemory")]
     OutOfMemory,
 }
 
 impl Job {
-    /// The count of each word, by its exact bytes where `keep_case`, and else by its bytes with the letters of ASCII
-    /// made lower case.
+    /// Counts each word: by its exact bytes if `keep_case`, and otherwise folded to lower case.
     pub fn words(keep_case: bool) -> Job
         ensures { result ≡ WordCount keep_case }
     {
@@ -73,8 +67,8 @@ impl Job {
         }
     }
 
-    /// The lines that hold `literal`, compared with the letters of ASCII made lower case where `fold`. A literal has 1
-    /// to 4,096 bytes and no line feed; of several faults the first of `JobFault` is told.
+    /// Finds the lines that contain `literal`, ASCII letters in lower case if `fold`. A literal has
+    /// 1 to 4,096 bytes and no line feed. Of several faults it reports the first of `JobFault`.
     pub fn grep(alloc: Global, literal: &[u8], fold: bool) -> Result<Job, JobFault>
         ensures ok { IfOk result (λ r. r ≡ LinesWith literal.now fold) }
         ensures fits { OnOk result (LiteralFits literal.now) }
@@ -101,14 +95,14 @@ impl Job {
         }
     }
 
-    /// The count of each resource that a log's lines request.
+    /// Counts each resource that the lines of a log request.
     pub fn url() -> Job
         ensures { result ≡ Resources }
     {
         Job { kind: Kind::Url }
     }
 
-    /// The files in which each word stands, the words taken as `words` takes them.
+    /// Lists the files that contain each word; words are those of `words`.
     pub fn index(keep_case: bool) -> Job
         ensures { result ≡ InvertedIndex keep_case }
     {
@@ -117,7 +111,7 @@ impl Job {
         }
     }
 
-    /// Whether reduce gives the number of a key's values, whatever the values are.
+    /// Whether reduce writes only the number of a key's values, whatever they are.
     pub fn counts(&self) -> bool
         ensures { result ≡ counts self.now }
     {
@@ -127,7 +121,7 @@ impl Job {
         }
     }
 
-    /// Whether reduce gives a line for each value that tells a place.
+    /// Whether reduce writes a line for each value that is a place.
     pub fn has_lines(&self) -> bool
         ensures { result ≡ has_lines self.now }
     {
@@ -137,7 +131,7 @@ impl Job {
         }
     }
 
-    /// The value of each pair that the job emits for a record which begins at the place `start` of the file `file`.
+    /// The value of each pair emitted for a record that begins at place `start` of file `file`.
     pub fn value_at(&self, file: u32, start: u32) -> Value
         ensures { result ≡ value_at self.now file start }
     {
@@ -150,7 +144,7 @@ impl Job {
         }
     }
 
-    /// The number by which a certificate tells the job: 1 words, 2 grep, 3 URL, 4 index.
+    /// The job's number in a certificate: 1 words, 2 grep, 3 URL, 4 index.
     pub fn number(&self) -> u32
         ensures { result ≡ job_number self.now }
     {
@@ -162,7 +156,6 @@ impl Job {
         }
     }
 
-    /// Whether its keys are resources, which have hosts.
     pub(crate) fn has_hosts(&self) -> bool
         ensures { IsTrue result ↔ (self.now ≡ Resources) }
     {
@@ -184,7 +177,7 @@ impl Job {
         }
     }
 
-    /// The bytes of the literal, at most 4,096; a job that looks for none has no bytes here.
+    /// The bytes of the literal, at most 4,096; none for a job without one.
     pub fn literal(&self) -> &[u8]
         ensures bytes { result.now ≡ job_literal self.now }
         ensures short { length result.now ≤ 4096 }

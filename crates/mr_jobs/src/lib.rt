@@ -1,4 +1,4 @@
-//! Jobs, and what they emit for a record.
+//! The four jobs: what each emits for a record, and a request to run one.
 #![tactic(auto)]
 
 mod emissions;

@@ -1,4 +1,10 @@
-//! Where a literal stands in a text, asked for one line after another.
+//! Answers for one line of a text after another whether it contains a literal.
+//!
+//!     text    ... from |  no match begins here  | clear ...      found: a match begins at `clear`
+//!
+//! What a search finds out about later bytes serves the next lines, so all lines in order cost one
+//! pass over the text. A search covers at least `reach` bytes: 4,096 after a match, doubled by each
+//! search without one, up to 65,536. So searches are few, and never go far past the line.
 ghost use Rattle.std.specs.Prelude.{◌≡◌, ◌≤◌, ◌<◌, ◌+◌, ◌⊎◌, IfSome, IsTrue, false, length};
 ghost use Rattle.std.specs.Prelude.{slice_range};
 ghost use Rattle.mr_jobs.specs.Hits.{AreSo, IsFirstPlace, Sought};
@@ -8,33 +14,28 @@ use memchr::memmem::Finder;
 use mr_lanes::find_folded;
 use std::marker::Model;
 
-/// How many bytes a search goes over at least: where the one before found the literal, and at most. In between each
-/// search that finds nothing doubles it. So no search goes far past the lines that are asked for, and few are made.
 const SHORT_REACH: usize = 4096;
 
 const LONG_REACH: usize = 65_536;
 
-/// What is known of the places of a literal in a text.
 #[derive(Clone, Copy)]
 pub(crate) struct Known {
-    /// It stands nowhere from here on and before `clear`.
+    /// No match begins from here to before `clear`.
     pub from: usize,
     pub clear: usize,
-    /// It stands at `clear`; else nothing is known of that place.
+    /// A match begins at `clear`; otherwise nothing is known of that place.
     pub found: bool,
-    /// How many bytes the next search goes over at least.
+    /// The least number of bytes that the next search covers.
     pub reach: usize,
 }
 
-/// A literal that is looked for in a text. What the search for one line tells of the bytes behind it serves the next
-/// lines, so that lines in their order take one pass over the text.
 #[derive(Drop)]
 pub(crate) struct LiteralSearch<'t, 'l> {
     text: &'t [u8],
     literal: &'l [u8],
     fold: bool,
     known: Known,
-    /// The search for exact bytes, from its first use on.
+    /// The search for exact bytes, made at its first use.
     finder: Option<Finder<'l>>,
 }
 
@@ -52,7 +53,6 @@ impl<'t, 'l> Model for LiteralSearch<'t, 'l> {
     } };
 }
 
-/// The least place at which the exact bytes of the literal stand.
 fn find_exactly<'l>(
     text: &[u8],
     literal: &'l [u8],
@@ -73,7 +73,6 @@ fn find_exactly<'l>(
     }
 }
 
-/// The least place at which the literal stands.
 fn find<'l>(
     text: &[u8],
     literal: &'l [u8],
@@ -92,7 +91,7 @@ fn find<'l>(
 }
 
 impl Known {
-    /// What is known of the places from `start` on: nothing, where what is known begins behind it or ends before it.
+    /// What is known from `start` on: nothing, if what is known begins later or ends earlier.
     fn from_line(self, start: usize) -> Known
         ensures so { (s : Sought) → AreSo s self → AreSo s result }
         ensures here { (result.from ≤ start) × (start ≤ result.clear) }
@@ -109,7 +108,7 @@ impl Known {
     }
 }
 
-/// Looks on for the literal until it is found, or known not to stand at `last` nor before.
+/// Searches on until there is a match, or none can begin at `last` or before.
 fn look_on<'l>(
     text: &[u8],
     literal: &'l [u8],
@@ -149,7 +148,6 @@ fn look_on<'l>(
 }
 
 impl<'t, 'l> LiteralSearch<'t, 'l> {
-    /// The places of `literal` in `text`, compared with the letters of ASCII made lower case where `fold`.
     pub(crate) fn new(text: &'t [u8], literal: &'l [u8], fold: bool) -> LiteralSearch<'t, 'l>
         ensures { result ≡ record { text = text.entry.now; literal = literal.entry.now; fold = fold } }
     {
@@ -167,15 +165,15 @@ impl<'t, 'l> LiteralSearch<'t, 'l> {
         }
     }
 
-    /// Whether the literal stands in the line from `start` to before `end`. Lines may come in any order; all lines of a
-    /// text, in their order, take time linear in its length.
+    /// Whether the line from `start` to before `end` contains the literal. Lines may come in any
+    /// order; all lines of a text in order take time linear in its length.
     pub(crate) fn hold(&mut self, start: usize, end: usize) -> bool
         requires order { start ≤ end }
         requires within { end ≤ length self.old.text }
         ensures same { self.new ≡ self.old }
         ensures line { result ≡ holds self.old.fold (slice_range self.old.text start end) self.old.literal }
     {
-        // The last place at which the literal would end with the line.
+        // The last place at which a match within the line begins.
         let Some(last) = end.checked_sub(self.literal.len()) else {
             return false;
         };

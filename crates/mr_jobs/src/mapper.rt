@@ -1,4 +1,4 @@
-//! What a job emits for the lines of files, one after another.
+//! Maps the lines of an input, one after another. It searches a literal per file, not per line.
 ghost use Rattle.std.specs.Prelude.{◌≡◌, ◌≤◌, ◌^◌, length};
 ghost use Rattle.mr_jobs.specs.Emissions.{emissions, IsReady};
 ghost use Rattle.mr_jobs.specs.Hits.{IsLine};
@@ -10,14 +10,13 @@ use mr_bytes::Value;
 use mr_input::Input;
 use std::marker::Model;
 
-/// A job that maps the lines of an input's files: a literal is looked for in the file, and not in each line anew.
+/// A job that maps the lines of an input's files.
 #[derive(Drop)]
 pub struct Mapper<'j, 'i> {
     job: &'j Job,
     input: &'i Input,
-    /// The file at hand, by its number, or the number of files: none is at hand.
+    /// The number of the current file, or the number of files if there is none yet.
     file: u32,
-    /// The places of the job's literal in that file.
     hits: LiteralSearch<'i, 'j>,
 }
 
@@ -31,12 +30,13 @@ impl<'j, 'i> Model for Mapper<'j, 'i> {
 
     ghost view = { λ m. record { job = m.job.now; files = m.input.now } };
 
-    ghost invariant = { λ m. (literal : List ℕ) (fold : Bool) → m.job.now ≡ LinesWith literal fold → m.file < length m.input.now
+    ghost invariant = { λ m. (literal : List ℕ) (fold : Bool) → m.job.now ≡ LinesWith literal fold
+        → m.file < length m.input.now
         → m.hits ≡ record { text = nth_file m.input.now m.file; literal = literal; fold = fold } };
 }
 
 impl Job {
-    /// This job over the lines of an input. It takes no memory.
+    /// This job over the lines of an input. Takes no memory.
     pub fn mapper<'j, 'i>(&'j self, input: &'i Input) -> Mapper<'j, 'i>
         ensures { result ≡ record { job = self.entry.now; files = input.entry.now } }
     {
@@ -50,16 +50,14 @@ impl Job {
 }
 
 impl<'j, 'i> Mapper<'j, 'i> {
-    /// The job.
     pub fn job(&self) -> &'j Job
         ensures { result.now ≡ self.now.job }
     {
         self.job
     }
 
-    /// What the line of at most 1 GiB emits that begins at the place `start` of the file of the number `file`: what
-    /// `Job::emit` tells of it. Lines may come in any order; all lines of the input, in their order, take time linear in
-    /// its length.
+    /// What `Job::emit` returns for the line, of at most 1 GiB, at place `start` of file `file`.
+    /// Lines may come in any order; all lines in order take time linear in the input's length.
     pub fn emit<'l>(
         &mut self,
         file: u32,

@@ -1,4 +1,4 @@
-//! A job with its numbers.
+//! A request: a job with the numbers of a run.
 ghost use Rattle.std.specs.Prelude.{◌≡◌, ◌↔◌, ℕ, ◌≤◌, ◌<◌, ◌^◌, ◌⊎◌, IfOk, IsOk, IsTrue};
 ghost use Rattle.mr_bytes.specs.declared.By.{By};
 ghost use Rattle.mr_input.specs.Files.{split_total};
@@ -13,14 +13,13 @@ use thiserror::Error;
 
 /// The most partitions.
 pub const MAX_PARTS: u32 = 1024;
-/// The most records that a request may let be left out.
+/// The most records that a request may let a run leave out.
 pub const MAX_SKIPS: u32 = 1000;
 
-// The numbers that the clauses give.
 const _: () = prove!(MAX_PARTS == 1024 && MAX_SKIPS == 1000);
 
-/// A job with what of a key chooses its partition, the number of partitions, the split size in bytes, and how many records may
-/// be left out.
+/// A job, the part of a key that chooses its partition, the number of partitions, the split size in
+/// bytes, and how many records may be left out.
 #[derive(Drop)]
 pub struct Request {
     job: Job,
@@ -48,26 +47,26 @@ impl Model for Request {
     } };
 }
 
-/// Why a job with these numbers is no request.
+/// Why a job with these numbers is not a request.
 #[derive(Clone, Copy, Debug, PartialEq, Eq, Drop, Error)]
 pub enum RequestFault {
-    /// There are no partitions, or more than 1,024.
+    /// No partitions, or more than 1,024.
     #[error("BadParts")]
     BadParts,
-    /// A split has no bytes, or more than 67,108,864.
+    /// A split of no bytes, or of more than 67,108,864.
     #[error("BadSplitSize")]
     BadSplitSize,
     /// More than 1,000 records may be left out.
     #[error("BadSkips")]
     BadSkips,
-    /// The host of a key is to choose its partition, and the keys of the job have none.
+    /// The host of a key was to choose its partition, but the job's keys have none.
     #[error("HostNeedsUrl")]
     HostNeedsUrl,
 }
 
 impl Request {
-    /// A job with `parts` partitions, chosen by the whole key, splits of `split` bytes, and at most `skips` records left out. Of
-    /// several faults the first of `RequestFault` is told.
+    /// A job with `parts` partitions, chosen by the whole key, splits of `split` bytes, and at most
+    /// `skips` records left out. Of several faults it reports the first of `RequestFault`.
     pub fn new(job: Job, parts: u32, split: u32, skips: u32) -> Result<Request, RequestFault>
         ensures value { IfOk result (λ r. r
             ≡ record { job = job; by = By.Key; parts = parts; split = split; skips = skips }) }
@@ -75,7 +74,8 @@ impl Request {
         ensures bad_parts { (result ≡ Err RequestFault.BadParts) ↔ ((parts ≡ 0) ⊎ (1024 < parts)) }
         ensures bad_split { (result ≡ Err RequestFault.BadSplitSize)
             ↔ (PartsFit parts × ((split ≡ 0) ⊎ (2 ^ 26 < split))) }
-        ensures bad_skips { (result ≡ Err RequestFault.BadSkips) ↔ (PartsFit parts × SplitFits split × (1000 < skips)) }
+        ensures bad_skips { (result ≡ Err RequestFault.BadSkips)
+            ↔ (PartsFit parts × SplitFits split × (1000 < skips)) }
     {
         if parts == 0 || MAX_PARTS < parts {
             return Err(RequestFault::BadParts);
@@ -95,7 +95,7 @@ impl Request {
         })
     }
 
-    /// The request with the host of a key for what chooses its partition. Its only fault is `HostNeedsUrl`.
+    /// The request, its partitions chosen by the host of a key. Its only fault is `HostNeedsUrl`.
     pub fn by_host(self) -> Result<Request, RequestFault>
         ensures value { IfOk result (λ r. r
             ≡ record { job = self.job; by = By.Host; parts = self.parts; split = self.split; skips = self.skips }) }
@@ -111,7 +111,7 @@ impl Request {
         })
     }
 
-    /// What is done with each record.
+    /// The job.
     pub fn job(&self) -> &Job
         ensures same { result.now ≡ self.now.job }
         ensures fits { JobFits self.now.job }
@@ -121,7 +121,7 @@ impl Request {
         &self.job
     }
 
-    /// What of a key chooses its partition.
+    /// The part of a key that chooses its partition.
     pub fn by(&self) -> By
         ensures same { result ≡ self.now.by }
         ensures fits { ByFits self.now.job self.now.by }
@@ -129,7 +129,7 @@ impl Request {
         self.by
     }
 
-    /// The request's flags in a certificate: those of its job, and 4 where the host of a key chooses its partition.
+    /// The request's flags in a certificate: those of its job, plus 4 for partitions by host.
     pub fn flags(&self) -> u32
         ensures { result ≡ flags_of self.now }
     {
@@ -148,7 +148,7 @@ impl Request {
         self.parts
     }
 
-    /// The bytes of a split, the last of a file aside.
+    /// The bytes of a split; the last split of a file may have fewer.
     pub fn split_size(&self) -> u32
         ensures same { result ≡ self.now.split }
         ensures within { (1 ≤ result) × (result ≤ 2 ^ 26) }

@@ -1,4 +1,4 @@
-//! Keys by number.
+//! Keys by number: the interner.
 ghost use Rattle.std.specs.Prelude.{◌≡◌, ℕ, ◌+◌, ◌<◌, ◌≤◌, ◌^◌, ◌++◌, ◌∷◌, ◌⊎◌, [], IfOk, IfSome};
 ghost use Rattle.std.specs.Prelude.{OnOk, OnErr, length};
 ghost use Rattle.mr_keys.specs.Front.{IsFront};
@@ -12,7 +12,7 @@ use crate::waiting::Waiting;
 use std::alloc::{AllocError, Global};
 use std::marker::Model;
 
-/// Keys by number. The list that a contract sees is that of the keys, each at its number; the keys take less than 4 GiB.
+/// Numbered keys, less than 4 GiB of them. In contracts: the list of the keys, each at its number.
 #[derive(Drop)]
 pub struct Keys {
     texts: Texts,
@@ -27,25 +27,22 @@ impl Model for Keys {
     ghost view = { λ k. k.texts };
 }
 
-/// How many slots there are at least: a block of keys takes half of them.
+/// The least number of slots: a block of keys takes half of them.
 const LEAST_SLOTS: usize = 2 * BLOCK;
 
-/// In a table of fewer slots keys are looked up one after another: what is looked for often stands near the processor,
-/// and to look ahead costs more than it gains.
+/// A smaller table fits the cache, so keys are looked up one by one: looking ahead costs more.
 const SEVERAL_SLOTS: usize = 1 << 18;
 
-/// A table of so many slots or more doesn't fit near the processor: to fill it anew is dear.
+/// A table of this size doesn't fit the cache, so filling it anew is expensive.
 const MANY_SLOTS: usize = 1 << 20;
 
-/// How many slots there are next: twice as many, and four times as many where there are many, so that those are filled anew
-/// seldom.
+/// The next number of slots: twice as many, or four times a large number, to refill those seldom.
 fn more_slots(count: usize) -> usize {
     let times = if count < MANY_SLOTS { 2 } else { 4 };
     count.saturating_mul(times).max(LEAST_SLOTS)
 }
 
-/// How many of so many slots may be taken: half of them; and three quarters of few, so that the table stays nearer to the
-/// processor. Of a table that doesn't fit there, longer looks cost more than its size does.
+/// How many of the slots may be taken: half, but three quarters of a small table, to stay in cache.
 #[inline(always)]
 fn most_keys(slots: usize) -> usize {
     if slots < SEVERAL_SLOTS {
@@ -56,7 +53,7 @@ fn most_keys(slots: usize) -> usize {
 }
 
 impl Keys {
-    /// No keys. It takes no memory.
+    /// No keys. Takes no memory.
     pub fn new(alloc: Global) -> Keys
         ensures { result ≡ [] }
     {
@@ -81,8 +78,8 @@ impl Keys {
         self.texts.get(number)
     }
 
-    /// A number of the key: the one that the table finds, else the next. It fails only for want of memory, and then no
-    /// key has come.
+    /// The key's number if the table finds it, else the next one. A failure, for want of memory,
+    /// adds no key.
     pub fn number_of(&mut self, alloc: Global, key: &[u8]) -> Result<u32, AllocError>
         requires few { length self.old < 2 ^ 32 }
         ensures is { IfOk result (λ n. IsKeyAt self.new n key.now) }
@@ -95,8 +92,8 @@ impl Keys {
         self.number_from(hash_of(front, key), front, key)
     }
 
-    /// Gives the waiting keys their numbers, in their order, each as `number_of` does; where that fails, for want of
-    /// memory alone, those that got none still wait. The slots where the table begins to look are read side by side.
+    /// Numbers the waiting keys in order, as `number_of` does. If memory fails, the rest still
+    /// wait. Reads the first slots of all keys side by side.
     pub fn number_all(
         &mut self,
         alloc: Global,
@@ -104,7 +101,8 @@ impl Keys {
         numbers: &mut Vec<u32>,
     ) -> Result<(), AllocError>
         requires few { length self.old + length waiting.old ≤ 2 ^ 32 }
-        ensures numbered { AreNumbered self.old self.new numbers.old.items numbers.new.items waiting.old waiting.new }
+        ensures numbered { AreNumbered self.old self.new
+            numbers.old.items numbers.new.items waiting.old waiting.new }
         ensures all { OnOk result (waiting.new ≡ []) }
     {
         let count = waiting.len();
@@ -124,8 +122,8 @@ impl Keys {
         Ok(())
     }
 
-    /// One more key behind those that wait: it waits too, or, where none waits and the table is small, gets its number at
-    /// once. Those before it may get theirs. Where that fails, for want of memory alone, the key doesn't wait.
+    /// Adds a key to those that wait, or numbers it at once if none waits and the table is small.
+    /// Keys before it may get numbers. On failure, for want of memory, it doesn't wait.
     #[inline(always)]
     pub fn enter(
         &mut self,
@@ -147,7 +145,7 @@ impl Keys {
         waiting.push(key)
     }
 
-    /// No keys any more. What they took stays for later ones.
+    /// Removes all keys, and keeps their memory.
     pub fn clear(&mut self)
         ensures { self.new ≡ [] }
     {
@@ -155,13 +153,11 @@ impl Keys {
         empty_all(&mut self.slots);
     }
 
-    /// Whether the table is so small that it stands near the processor.
     #[inline(always)]
     fn is_small(&self) -> bool {
         self.slots.len() < SEVERAL_SLOTS
     }
 
-    /// Gives the key its number, behind the others.
     #[inline(always)]
     fn number_now(
         &mut self,
@@ -170,7 +166,8 @@ impl Keys {
         numbers: &mut Vec<u32>,
     ) -> Result<(), AllocError>
         requires few { length self.old < 2 ^ 32 }
-        ensures ok { OnOk result (AreNumbered self.old self.new numbers.old.items numbers.new.items (key.now ∷ []) []) }
+        ensures ok { OnOk result
+            (AreNumbered self.old self.new numbers.old.items numbers.new.items (key.now ∷ []) []) }
         ensures keys { OnErr result (self.new ≡ self.old) }
         ensures numbers { OnErr result (numbers.new.items ≡ numbers.old.items) }
     {
@@ -180,7 +177,6 @@ impl Keys {
         Ok(())
     }
 
-    /// Gives the waiting keys their numbers where no more should wait, so that one more may.
     fn make_way(
         &mut self,
         alloc: Global,
@@ -188,7 +184,8 @@ impl Keys {
         numbers: &mut Vec<u32>,
     ) -> Result<(), AllocError>
         requires few { length self.old + length waiting.old ≤ 2 ^ 32 }
-        ensures numbered { AreNumbered self.old self.new numbers.old.items numbers.new.items waiting.old waiting.new }
+        ensures numbered { AreNumbered self.old self.new
+            numbers.old.items numbers.new.items waiting.old waiting.new }
         ensures way { OnOk result (length waiting.new < 64) }
     {
         if waiting.is_full() {
@@ -197,7 +194,7 @@ impl Keys {
         Ok(())
     }
 
-    /// Makes sure that no more slots are taken than may be when so many keys have come.
+    /// Grows the table if `count` more keys would fill it too far.
     #[inline(always)]
     fn make_room(&mut self, alloc: Global, count: usize) -> Result<(), AllocError>
         ensures { self.new ≡ self.old }
@@ -208,8 +205,8 @@ impl Keys {
         Ok(())
     }
 
-    /// The numbers of the waiting keys that stand where the table begins to look and are told without a look at their bytes.
-    /// Their entries lie far apart too, so they are read in a loop as short as this, side by side.
+    /// The numbers of the waiting keys found in their first slots without reading their bytes. The
+    /// loop is short, so that distant entries are read side by side.
     fn find_all(&self, waiting: &Waiting, hashes: &[u64; BLOCK], found: &mut [Option<u32>; BLOCK])
         ensures { AreFound self.now waiting.now found.new }
     {
@@ -221,7 +218,6 @@ impl Keys {
         }
     }
 
-    /// A number of the key: the one that was found, if one was, else the one that `number_from` gives.
     #[inline(always)]
     fn number_unless_found(
         &mut self,
@@ -244,7 +240,7 @@ impl Keys {
         }
     }
 
-    /// A number of the key, as `number_of` gives it, where room was made; the table is looked at from the hash on.
+    /// The number of the key, as `number_of` gives it, given room; looks from the hash on.
     #[inline(always)]
     fn number_from(&mut self, hash: u64, front: Front, key: &[u8]) -> Result<u32, AllocError>
         requires few { length self.old < 2 ^ 32 }
@@ -260,7 +256,7 @@ impl Keys {
         }
     }
 
-    /// Adds a key, of which the slot at this place tells from now on, where there is one.
+    /// Adds a key, and enters it in the slot at this place, if there is one.
     fn add(&mut self, at: usize, hash: u64, front: Front, key: &[u8]) -> Result<u32, AllocError>
         requires few { length self.old < 2 ^ 32 }
         requires front { IsFront front key.now }

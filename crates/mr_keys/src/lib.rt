@@ -1,13 +1,12 @@
-//! Keys by number: each key that a job emits gets a number, and one that comes again mostly gets the number that it has.
+//! Numbers keys: each new key gets the next number, and a repeated key mostly its old one.
 //!
-//! The keys stand in one buffer, in the order of their numbers, and so do their entries of 24 bytes: an entry has the first
-//! bytes of its key and the last, and where the key stands, so that a key of at most sixteen bytes is told by one look at its
-//! entry. A table of slots of four bytes tells which entries to look at: a slot has a number and some bits of its key's hash.
-//! Those that come often mostly came early, so their entries lie close together.
+//! One buffer holds the bytes of all keys by number, and a list their entries of 24 bytes: first
+//! and last bytes, and place. So one look at its entry identifies a key of at most sixteen bytes. A
+//! table of four-byte slots, each a number and some bits of a hash, says which entries to look at.
 //!
-//! A key that the table doesn't find gets a number of its own, even if it has one: then two numbers have one key, and the
-//! caller, who sorts the keys, sees that. So no list of keys, however they were made to collide, takes more than a few
-//! dozen looks at the table each; and nothing that is proved rests on the table's finding what it could find.
+//! A key that the table doesn't find gets a new number, even if it has one; the caller sorts keys,
+//! and sees that. So colliding keys cost at most a few dozen looks each, and no proof depends on
+//! the table.
 #![tactic(auto)]
 
 mod front;

@@ -9,17 +9,17 @@ use mr_bytes::Span;
 use std::alloc::{AllocError, Global};
 use std::marker::Model;
 
-/// A text of at most so many bytes is told by its front and its length.
+/// A front and a length determine texts of at most this many bytes.
 const MOST_TOLD: usize = 16;
 
-/// What is known of a text without a look at its bytes: its front, and where they stand.
+/// A text's front, and where its bytes are.
 #[derive(Clone, Copy)]
 pub(crate) struct Entry {
     pub front: Front,
     pub span: Span,
 }
 
-/// Texts one behind another: none takes an allocation of its own. They take less than 4 GiB.
+/// Texts in one buffer, less than 4 GiB.
 #[derive(Drop)]
 pub(crate) struct Texts {
     bytes: Vec<u8>,
@@ -38,7 +38,6 @@ impl Model for Texts {
     ghost invariant = { λ t. AllByRecursion (IsEntry t.bytes.items) t.entries.items };
 }
 
-/// Where a text stands that comes behind so many bytes. There is no memory for 4 GiB of texts.
 fn span_behind(bytes: usize, text: &[u8]) -> Result<Span, AllocError>
     ensures start { IfOk result (λ s. s.start ≡ bytes) }
     ensures end { IfOk result (λ s. s.end ≡ bytes + length text.now) }
@@ -54,8 +53,7 @@ fn span_behind(bytes: usize, text: &[u8]) -> Result<Span, AllocError>
     })
 }
 
-/// Whether an entry is that of a text with this front and this length. All of it is compared, whatever its first part tells:
-/// so what comes behind needn't wait for it.
+/// Whether an entry has this front and length. Compares all of it, so that no branch waits.
 #[inline(always)]
 fn is_told(entry: Entry, front: Front, length: usize) -> bool
     requires order { entry.span.start ≤ entry.span.end }
@@ -69,7 +67,6 @@ fn is_told(entry: Entry, front: Front, length: usize) -> bool
 }
 
 impl Texts {
-    /// No texts. It takes no memory.
     pub fn new(alloc: Global) -> Texts
         ensures { result ≡ [] }
     {
@@ -79,20 +76,17 @@ impl Texts {
         }
     }
 
-    /// How many texts there are.
     pub fn len(&self) -> usize
         ensures { result ≡ length self.now }
     {
         self.entries.len()
     }
 
-    /// How many bytes the texts take together.
     #[inline(always)]
     pub fn size(&self) -> usize {
         self.bytes.len()
     }
 
-    /// Text `i`, from 0.
     pub fn get(&self, i: usize) -> &[u8]
         requires { i < length self.now }
         ensures { result.now ≡ key_at self.now i }
@@ -101,7 +95,6 @@ impl Texts {
         &self.bytes[span.start as usize..span.end as usize]
     }
 
-    /// The front of text `i`.
     #[inline(always)]
     pub fn front(&self, i: usize) -> Front
         requires { i < length self.now }
@@ -110,7 +103,7 @@ impl Texts {
         self.entries[i].front
     }
 
-    /// Whether text `i` is there and is the key.
+    /// Whether text `i` exists and is the key.
     #[inline(always)]
     pub fn is_at(&self, i: usize, front: Front, key: &[u8]) -> bool
         requires front { IsFront front key.now }
@@ -122,7 +115,7 @@ impl Texts {
         key.len() <= MOST_TOLD || self.get(i) == key
     }
 
-    /// The number, where the text of this number is there and is the key, and that is told without a look at its bytes.
+    /// The number, if its text exists and is the key, as its entry alone shows.
     #[inline(always)]
     pub fn told_at(&self, number: u32, front: Front, key: &[u8]) -> Option<u32>
         requires front { IsFront front key.now }
@@ -139,7 +132,6 @@ impl Texts {
         }
     }
 
-    /// One more text, at the end. It fails only for want of memory, and then nothing has changed.
     pub fn push(&mut self, front: Front, text: &[u8]) -> Result<(), AllocError>
         requires front { IsFront front text.now }
         ensures ok { OnOk result (self.new ≡ self.old ++ text.now ∷ []) }
@@ -148,13 +140,12 @@ impl Texts {
         let span = span_behind(self.bytes.len(), text)?;
         self.bytes.reserve(text.len())?;
         self.entries.reserve(1)?;
-        // There is room for both, so nothing fails behind a change.
+        // There is room for both, so nothing fails after a change.
         self.bytes.extend_from_slice(text)?;
         self.entries.push_reserved(Entry { front, span });
         Ok(())
     }
 
-    /// No texts any more. What they took stays for later ones.
     pub fn clear(&mut self)
         ensures { self.new ≡ [] }
     {

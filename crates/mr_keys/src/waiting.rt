@@ -10,15 +10,15 @@ use crate::texts::Texts;
 use std::alloc::{AllocError, Global};
 use std::marker::Model;
 
-/// Keys of so many bytes don't wait for others: so the second copy of each takes little room, but where a key is long.
+/// No key waits after this many bytes, so the second copies take little memory.
 const MANY_BYTES: usize = 1 << 16;
 
-/// Keys that wait for their numbers, at most 64: so many are looked up together. The list that a contract sees is that
-/// of the keys, in their order.
+/// Keys that wait for their numbers, at most 64, to be looked up together. In contracts: their
+/// list.
 #[derive(Drop)]
 pub struct Waiting {
     texts: Texts,
-    /// How many of the texts wait no more.
+    /// How many of the texts no longer wait.
     from: usize,
 }
 
@@ -36,7 +36,7 @@ impl Model for Waiting {
 }
 
 impl Waiting {
-    /// No keys. It takes no memory.
+    /// No keys. Takes no memory.
     pub fn new(alloc: Global) -> Waiting
         ensures { result ≡ [] }
     {
@@ -55,7 +55,7 @@ impl Waiting {
         self.texts.len() - self.from
     }
 
-    /// Whether no more should wait: as many keys wait as are looked up together, or they take much memory.
+    /// Whether no more should wait: a block is full, or the keys take much memory.
     #[inline(always)]
     pub(crate) fn is_full(&self) -> bool
         ensures { IsFalse result → length self.now < 64 }
@@ -63,7 +63,7 @@ impl Waiting {
         BLOCK <= self.len() || MANY_BYTES <= self.texts.size()
     }
 
-    /// One more key, at the end. It fails only for want of memory, and then nothing has changed.
+    /// Appends a key. Fails only for want of memory, and then nothing has changed.
     #[inline(always)]
     pub fn push(&mut self, key: &[u8]) -> Result<(), AllocError>
         requires { length self.old < 64 }
@@ -73,7 +73,6 @@ impl Waiting {
         self.texts.push(front_of(key), key)
     }
 
-    /// The key that waits behind `i` others.
     #[inline(always)]
     pub(crate) fn get(&self, i: usize) -> &[u8]
         requires { i < length self.now }
@@ -83,7 +82,6 @@ impl Waiting {
         self.texts.get(self.from + i)
     }
 
-    /// The front of the key that waits behind `i` others.
     #[inline(always)]
     pub(crate) fn front(&self, i: usize) -> Front
         requires { i < length self.now }
@@ -93,7 +91,7 @@ impl Waiting {
         self.texts.front(self.from + i)
     }
 
-    /// The first key waits no more.
+    /// The first key no longer waits.
     #[inline(always)]
     pub(crate) fn pass(&mut self)
         requires { 0 < length self.old }
@@ -103,7 +101,7 @@ impl Waiting {
         self.from += 1;
     }
 
-    /// No key waits any more. What they took stays for later ones.
+    /// Removes all keys, and keeps their memory.
     pub(crate) fn clear(&mut self)
         ensures { self.new ≡ [] }
     {
@@ -111,7 +109,6 @@ impl Waiting {
         self.from = 0;
     }
 
-    /// The hashes of the keys.
     pub(crate) fn hash_all(&self, hashes: &mut [u64; BLOCK]) {
         for lane in 0..self.len() {
             hashes[lane] = hash_of(self.front(lane), self.get(lane));

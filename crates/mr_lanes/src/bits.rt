@@ -4,8 +4,7 @@ ghost use Rattle.mr_lanes.specs.Bits.{set_bits, Extends};
 
 use std::alloc::AllocError;
 
-/// Appends `base + i` for each set bit i, rising. It fails only for want of memory, and then some of them may have been
-/// appended.
+/// Appends `base + i` for each set bit i, rising. If memory fails, some may already be appended.
 #[inline(always)]
 pub(crate) fn push_places(places: &mut Vec<u32>, base: u32, bits: u64) -> Result<(), AllocError>
     requires { base + 64 < 2 ^ 32 }

@@ -1,4 +1,4 @@
-//! The classes of 64 bytes at once, a bit for each.
+//! Classifies 64 bytes at once, one bit per byte.
 ghost use Rattle.std.specs.Prelude.{◌≡◌, ℕ, ◌+◌, ◌<◌, ◌≤◌, ◌==◌, length, get_or, slice_index};
 ghost use Rattle.mr_bytes.specs.Bytes.{is_upper, is_word_byte};
 ghost use Rattle.mr_lanes.specs.Bits.{is_set};
@@ -6,7 +6,7 @@ ghost use Rattle.mr_lanes.specs.Bits.{is_set};
 use crate::Planes;
 use std::simd::prelude::*;
 
-/// The classes of 64 bytes. It takes no memory.
+/// The classes of 64 bytes. Takes no memory.
 pub fn planes(block: &[u8; 64]) -> Planes
     ensures lf { (i : ℕ) → i < 64 → is_set result.lf i ≡ (slice_index block.now i == 0x0A) }
     ensures word { (i : ℕ) → i < 64 → is_set result.word i ≡ is_word_byte (slice_index block.now i) }
@@ -20,7 +20,6 @@ pub fn planes(block: &[u8; 64]) -> Planes
     }
 }
 
-/// The lanes that are line feeds.
 #[inline(always)]
 pub(crate) fn line_feeds(lanes: u8x64) -> u64
     ensures { (i : ℕ) → i < 64 → is_set result i ≡ (get_or lanes i 0 == 0x0A) }
@@ -28,19 +27,17 @@ pub(crate) fn line_feeds(lanes: u8x64) -> u64
     lanes.simd_eq(u8x64::splat(b'\n')).to_bitmask()
 }
 
-/// The lanes that stand in words.
 #[inline(always)]
 pub(crate) fn word_bytes(lanes: u8x64) -> u64
     ensures { (i : ℕ) → i < 64 → is_set result i ≡ is_word_byte (get_or lanes i 0) }
 {
-    // A capital and its small letter differ in this bit alone.
+    // An ASCII letter's two cases differ in this bit alone.
     let small = lanes | u8x64::splat(0x20);
     ((small - u8x64::splat(b'a')).simd_lt(u8x64::splat(26))
         | (lanes - u8x64::splat(b'0')).simd_lt(u8x64::splat(10))
         | lanes.simd_ge(u8x64::splat(0x80))).to_bitmask()
 }
 
-/// The lanes that stand in words, of 16.
 #[inline(always)]
 pub(crate) fn few_word_bytes(lanes: u8x16) -> u64
     ensures { (i : ℕ) → i < 16 → is_set result i ≡ is_word_byte (get_or lanes i 0) }
@@ -51,7 +48,6 @@ pub(crate) fn few_word_bytes(lanes: u8x16) -> u64
         | lanes.simd_ge(u8x16::splat(0x80))).to_bitmask()
 }
 
-/// The lanes that are upper-case letters.
 #[inline(always)]
 pub(crate) fn upper_letters(lanes: u8x64) -> u64
     ensures { (i : ℕ) → i < 64 → is_set result i ≡ is_upper (get_or lanes i 0) }
@@ -61,7 +57,7 @@ pub(crate) fn upper_letters(lanes: u8x64) -> u64
         .to_bitmask()
 }
 
-/// The bytes from `at` on, fewer than 64, filled up with zeros, which are in no class. Nothing is read past the end.
+/// The bytes from `at` on, fewer than 64, padded with zeros, which no class contains.
 pub(crate) fn last_block(bytes: &[u8], at: usize) -> u8x64
     requires { (at ≤ length bytes.now) × (length bytes.now < at + 64) }
     ensures { (i : ℕ) → i < 64 → get_or result i 0 ≡ get_or bytes.now (at + i) 0 }

@@ -1,4 +1,4 @@
-//! Where two texts part.
+//! Where two texts differ first.
 ghost use Rattle.std.specs.Prelude.{◌≡◌, ℕ, ◌<◌, ◌==◌, not, get_or};
 ghost use Rattle.mr_lanes.specs.Bits.{is_set};
 ghost use Rattle.mr_lanes.specs.Difference.{first_difference};
@@ -6,8 +6,7 @@ ghost use Rattle.mr_lanes.specs.Laws.{NoDifferenceWhereEqual, AgreeUpToTheDiffer
 
 use std::simd::prelude::*;
 
-/// The first place at which the bytes differ or just one text has ended, and `None` where the texts are equal. It takes
-/// no memory.
+/// The first place where the texts differ or just one has ended, or `None`. Takes no memory.
 pub fn first_difference(a: &[u8], b: &[u8]) -> Option<usize>
     ensures { result ≡ first_difference a.now b.now }
 {
@@ -34,7 +33,6 @@ pub fn first_difference(a: &[u8], b: &[u8]) -> Option<usize>
     }
 }
 
-/// The lanes that differ.
 #[inline(always)]
 fn apart(a: u8x64, b: u8x64) -> u64
     ensures { (i : ℕ) → i < 64 → is_set result i ≡ not (get_or a i 0 == get_or b i 0) }
@@ -42,8 +40,7 @@ fn apart(a: u8x64, b: u8x64) -> u64
     a.simd_ne(b).to_bitmask()
 }
 
-/// What `first_difference` means: there is none just where the texts are equal, and else they agree before it and part
-/// there.
+/// `None` exactly for equal texts; otherwise they agree before the place and differ there.
 pub fn difference_law()
     ensures equal { NoDifferenceWhereEqual }
     ensures parts { AgreeUpToTheDifference }

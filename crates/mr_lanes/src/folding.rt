@@ -1,4 +1,4 @@
-//! Capitals of ASCII made small.
+//! Folds bytes: makes the upper-case letters of ASCII lower case.
 ghost use Rattle.std.specs.Prelude.{◌≡◌, ◌++◌, ◌+◌, ◌<◌, map, OnOk, OnErr, length, vec_capacity};
 ghost use Rattle.std.specs.Prelude.{vec_len};
 ghost use Rattle.mr_bytes.specs.Bytes.{fold_byte, folded};
@@ -7,8 +7,8 @@ use mr_bytes::fold_byte;
 use std::alloc::AllocError;
 use std::simd::prelude::*;
 
-/// Appends the bytes with upper-case letters of ASCII made lower case. It fails only for want of memory, where the list
-/// has no room for them, and then the list is as it was.
+/// Appends the folded bytes. Fails only for want of memory, if the list has no room for them, and
+/// then leaves the list as it was.
 pub fn fold_into(bytes: &[u8], text: &mut Vec<u8>) -> Result<(), AllocError>
     ensures all { OnOk result (text.new.items ≡ text.old.items ++ folded bytes.now) }
     ensures kept { OnErr result (text.new.items ≡ text.old.items) }
@@ -20,7 +20,6 @@ pub fn fold_into(bytes: &[u8], text: &mut Vec<u8>) -> Result<(), AllocError>
     Ok(())
 }
 
-/// Folds each byte where it stands.
 pub(crate) fn fold_lanes(bytes: &mut [u8])
     ensures { bytes.new ≡ folded bytes.old }
 {
@@ -37,7 +36,6 @@ pub(crate) fn fold_lanes(bytes: &mut [u8])
     }
 }
 
-/// Folds each lane.
 #[inline(always)]
 fn fold_block(lanes: u8x64) -> u8x64
     ensures { result ≡ map fold_byte lanes }

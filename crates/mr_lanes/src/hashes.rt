@@ -1,4 +1,4 @@
-//! The FNV-1a hash of 64 bits, and eight of them at once.
+//! The FNV-1a hash of 64 bits: for one key, or for eight at once, a lane each.
 ghost use Rattle.std.specs.Prelude.{◌≡◌, ℕ, ◌+◌, ◌<◌, ◌≤◌, length, slice_index, drop};
 ghost use Rattle.mr_lanes.specs.Hashes.{fnv, fnv_from, key_at, stir};
 
@@ -6,17 +6,17 @@ use std::simd::prelude::*;
 
 /// The hash of no bytes.
 const OFFSET: u64 = 0xcbf29ce484222325;
-/// What the hash is multiplied by for each byte.
+/// The factor per byte.
 const PRIME: u64 = 0x100000001b3;
 
-/// The FNV-1a hash of 64 bits. It takes no memory.
+/// The FNV-1a hash of 64 bits. Takes no memory.
 pub fn fnv(key: &[u8]) -> u64
     ensures { result ≡ fnv key.now }
 {
     fnv_on(OFFSET, key)
 }
 
-/// The hash of each of eight keys: together as far as all of them reach, and then one by one. It takes no memory.
+/// The hashes of eight keys: in lanes as far as all reach, then one by one. Takes no memory.
 pub fn hash8(keys: &[&[u8]; 8]) -> [u64; 8]
     ensures { (i : ℕ) → i < 8 → slice_index result i ≡ fnv (key_at keys.now i) }
 {
@@ -34,7 +34,6 @@ pub fn hash8(keys: &[&[u8]; 8]) -> [u64; 8]
     hashes
 }
 
-/// The hash of each lane with one more byte.
 #[inline(always)]
 fn stirred(lanes: u64x8, bytes: u64x8) -> u64x8
     ensures { (i : ℕ) → i < 8 → slice_index result i ≡ stir (slice_index lanes i) (slice_index bytes i) }
@@ -42,7 +41,6 @@ fn stirred(lanes: u64x8, bytes: u64x8) -> u64x8
     (lanes ^ bytes) * u64x8::splat(PRIME)
 }
 
-/// The length of the shortest key.
 fn shortest(keys: &[&[u8]; 8]) -> usize
     ensures { (i : ℕ) → i < 8 → result ≤ length (key_at keys.now i) }
 {
@@ -53,7 +51,6 @@ fn shortest(keys: &[&[u8]; 8]) -> usize
     least
 }
 
-/// The byte of each key at the place.
 #[inline(always)]
 fn bytes_at(keys: &[&[u8]; 8], at: usize) -> u64x8
     requires { (i : ℕ) → i < 8 → at < length (key_at keys.now i) }
@@ -71,7 +68,6 @@ fn bytes_at(keys: &[&[u8]; 8], at: usize) -> u64x8
     ])
 }
 
-/// The hash goes on over more bytes.
 fn fnv_on(hash: u64, bytes: &[u8]) -> u64
     ensures { result ≡ fnv_from hash bytes.now }
 {

@@ -1,13 +1,10 @@
-//! Kernels over bytes: line ends, words, folding, a search whatever the case, comparison and hashes.
+//! Kernels over bytes: line ends, words, folding, caseless search, comparison and hashes.
 //!
-//! Bytes are taken 64 at a time, a block. What a block holds is told by a word of 64 bits, bit i for byte i (`planes`),
-//! and loops go over set bits alone, the lowest first. The bytes behind the last whole block are copied in front of
-//! zeros and taken as a block too, since no class holds 0; comparing, folding and hashing go over them one by one.
-//! `next_word`, which is asked for one word of a short record, looks at 16 bytes. Nothing is read outside of what is
-//! lent, and each call answers as its plain definition does, at every length.
-//!
-//! The search compares only where the first and the last byte agree. Where it has compared more than eight bytes for
-//! each that it went over, it goes on by a search that is linear in both texts, so no text makes it quadratic.
+//! They read blocks of 64 bytes. A word of 64 bits describes a block, bit i for byte i (`planes`),
+//! and loops visit only set bits, the lowest first. The bytes after the last whole block are
+//! copied, padded with zeros, and read as a block too: no class contains 0. Comparing, folding and
+//! hashing finish one byte at a time. `next_word`, which serves short records, reads 16 bytes. No
+//! kernel reads outside of its arguments. Each returns what its plain definition says.
 #![tactic(auto)]
 
 mod bits;

@@ -10,8 +10,8 @@ use crate::blocks::{last_block, line_feeds};
 use std::alloc::AllocError;
 use std::simd::prelude::*;
 
-/// Appends the places of the line feeds, rising, of a text of at most 1 GiB. It fails only for want of memory, and then
-/// the list is as it was.
+/// Appends the places of the line feeds, rising, of a text of at most 1 GiB. Fails only for want of
+/// memory, and then leaves the list as it was.
 pub fn line_ends(bytes: &[u8], ends: &mut Vec<u32>) -> Result<(), AllocError>
     requires { length bytes.now ≤ 2 ^ 30 }
     ensures all { OnOk result (ends.new.items ≡ ends.old.items ++ line_ends bytes.now) }
@@ -20,9 +20,8 @@ pub fn line_ends(bytes: &[u8], ends: &mut Vec<u32>) -> Result<(), AllocError>
     line_ends_between(bytes, 0, bytes.len(), ends)
 }
 
-/// Appends the places of the line feeds, rising, that stand from `from` on and before `to`, in bytes from the text's
-/// front. A text that is cut into parts is so gone over once, a block at a time, and its places need no shift. It fails
-/// only for want of memory, and then the list is as it was.
+/// Appends the places in `bytes`, rising, of the line feeds from `from` to before `to`, so a text
+/// in parts is read once. Fails only for want of memory, and then leaves the list as it was.
 pub fn line_ends_between(
     bytes: &[u8],
     from: usize,
@@ -31,7 +30,8 @@ pub fn line_ends_between(
 ) -> Result<(), AllocError>
     requires range { (from ≤ to) × (to ≤ length bytes.now) }
     requires small { length bytes.now ≤ 2 ^ 30 }
-    ensures all { OnOk result (ends.new.items ≡ ends.old.items ++ line_ends_from from (slice_range bytes.now from to)) }
+    ensures all { OnOk result (ends.new.items
+        ≡ ends.old.items ++ line_ends_from from (slice_range bytes.now from to)) }
     ensures kept { OnErr result (ends.new.items ≡ ends.old.items) }
 {
     let before = ends.len();
@@ -42,7 +42,6 @@ pub fn line_ends_between(
     done
 }
 
-/// Appends those from `from` to the text's end, and may leave some of them behind where it fails.
 fn push_line_ends(bytes: &[u8], from: usize, ends: &mut Vec<u32>) -> Result<(), AllocError>
     requires from { from ≤ length bytes.now }
     requires small { length bytes.now ≤ 2 ^ 30 }
@@ -59,7 +58,7 @@ fn push_line_ends(bytes: &[u8], from: usize, ends: &mut Vec<u32>) -> Result<(), 
     Ok(())
 }
 
-/// What `line_ends` means: each place of a line feed and no other, in rising order.
+/// What `line_ends` means: the place of each line feed and no other, in rising order.
 pub fn line_end_law()
     ensures places { LineEndsAreLineFeeds }
     ensures rise { LineEndsRise }

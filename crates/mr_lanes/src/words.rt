@@ -1,4 +1,4 @@
-//! Where words stand.
+//! Where words are.
 ghost use Rattle.std.specs.Prelude.{◌≡◌, ℕ, ◌+◌, ◌^◌, ◌<◌, ◌≤◌, ◌++◌, ◌∷◌, [], drop, get_or};
 ghost use Rattle.std.specs.Prelude.{length, IfOk, OnOk, OnErr, MatchOption};
 ghost use Rattle.mr_bytes.specs.Bytes.{is_word_byte};
@@ -11,8 +11,8 @@ use mr_bytes::Span;
 use std::alloc::AllocError;
 use std::simd::prelude::*;
 
-/// Appends the words of a text of at most 1 GiB, in rising order. It fails only for want of memory, and then the list is
-/// as it was.
+/// Appends the words of a text of at most 1 GiB, in rising order. Fails only for want of memory,
+/// and then leaves the list as it was.
 pub fn word_spans(bytes: &[u8], spans: &mut Vec<Span>) -> Result<(), AllocError>
     requires { length bytes.now ≤ 2 ^ 30 }
     ensures all { OnOk result (spans.new.items ≡ spans.old.items ++ word_spans bytes.now) }
@@ -26,7 +26,6 @@ pub fn word_spans(bytes: &[u8], spans: &mut Vec<Span>) -> Result<(), AllocError>
     done
 }
 
-/// Appends them too, and may leave some of them behind where it fails.
 fn push_word_spans(bytes: &[u8], spans: &mut Vec<Span>) -> Result<(), AllocError>
     requires { length bytes.now ≤ 2 ^ 30 }
     ensures all { OnOk result (spans.new.items ≡ spans.old.items ++ word_spans bytes.now) }
@@ -49,9 +48,9 @@ fn push_word_spans(bytes: &[u8], spans: &mut Vec<Span>) -> Result<(), AllocError
     Ok(())
 }
 
-/// Appends the words that end in the block of 64 bytes from `base` on, and tells where the word begins that is open
-/// behind it. `from` tells the same of the block before, and `word` which bytes of the block stand in words. It reads no
-/// byte: `bytes` is for the contract alone.
+/// Appends the words that end in the block at `base`. Returns where the word begins that is still
+/// open at the block's end, or that end; `from` is the same for the block before. The set bits of
+/// `word` are the word bytes. `bytes` is only for the contract.
 #[inline(always)]
 fn push_words(
     bytes: &[u8],
@@ -82,15 +81,15 @@ fn push_words(
             end: base + ends.trailing_zeros(),
         })?;
         ends &= ends.wrapping_sub(1);
-        // Where no word begins any more, this is the next block's place.
+        // If no more word begins here, this is the next block's place.
         start = base + starts.trailing_zeros();
         starts &= starts.wrapping_sub(1);
     }
     Ok(start)
 }
 
-/// The first word from `from` on, or `None` where no word byte is left, as `mr_bytes::next_word` tells it. It takes no
-/// memory. A word that ends within the next 16 bytes, as most do, is found at one look.
+/// The first word from `from` on, or `None` if no word byte is left, as of `mr_bytes::next_word`.
+/// Takes no memory. One look finds a word that ends within 16 bytes, as most do.
 #[inline]
 pub fn next_word(bytes: &[u8], from: usize) -> Option<Span>
     requires start { from ≤ length bytes.now }

@@ -1,9 +1,7 @@
-//! The host of a key that is a resource, and the partition of a key or of its host.
+//! The partition of a key by itself, or by the host of the resource that it names.
 //!
-//!     http://Www.Example.org:80/a?b
-//!     scheme  host           end         ->  www.example.org
-//!
-//! The hash is stepped byte by byte, each folded as it is read, so that no host is copied and no memory is taken.
+//!     http:// Www.Example.org :80/a?b    ->    www.example.org
+//! The hash folds byte by byte, so no host is copied and no memory is taken.
 ghost use Rattle.std.specs.Prelude.{◌≡◌, ℕ, ◌<◌, ◌++◌, ◌∷◌, [], None, Some, MatchOption, codes};
 ghost use Rattle.std.specs.Prelude.{length};
 ghost use Rattle.mr_bytes.specs.Bytes.{folded};
@@ -16,7 +14,7 @@ ghost use Rattle.mr_partition.specs.Partition.{fnv};
 use crate::partition;
 use mr_bytes::{By, fold_byte};
 
-/// What stands behind this front, which has no upper-case letters, where the bytes begin with it in any case of ASCII.
+/// What follows `front`, given in lower case, if the bytes begin with it in any case.
 fn behind<'a>(front: &[u8], bytes: &'a [u8]) -> Option<&'a [u8]>
     ensures { MatchOption result (behind front.now bytes.entry.now ≡ None)
         (λ r. behind front.now bytes.entry.now ≡ Some r.now) }
@@ -36,14 +34,13 @@ fn behind<'a>(front: &[u8], bytes: &'a [u8]) -> Option<&'a [u8]>
     Some(rest)
 }
 
-/// Whether the host of a resource ends at this byte.
 fn ends_host(byte: u8) -> bool
     ensures { result ≡ ends_host byte }
 {
     byte == b'/' || byte == b':' || byte == b'?' || byte == b'#'
 }
 
-/// The host as it stands in a key; none where it names none.
+/// What follows `http://` or `https://`: the host and all after it. Nothing without such a scheme.
 fn host_bytes(key: &[u8]) -> &[u8]
     ensures { before_end result.now ≡ host_bytes key.entry.now }
 {
@@ -56,7 +53,6 @@ fn host_bytes(key: &[u8]) -> &[u8]
     }
 }
 
-/// The next byte of the host that the bytes begin with, and the bytes behind it.
 fn next_host_byte(bytes: &[u8]) -> Option<(u8, &[u8])>
     ensures next { MatchOption result (before_end bytes.entry.now ≡ [])
         (λ r. before_end bytes.entry.now ≡ r.0 ∷ before_end r.1.now) }
@@ -69,7 +65,6 @@ fn next_host_byte(bytes: &[u8]) -> Option<(u8, &[u8])>
     Some((*byte, more))
 }
 
-/// The hash of the host that the bytes begin with, without upper-case letters.
 fn host_hash(bytes: &[u8]) -> u64
     ensures { result ≡ fnv (folded (before_end bytes.now)) }
 {
@@ -82,7 +77,7 @@ fn host_hash(bytes: &[u8]) -> u64
     hash
 }
 
-/// The partition of a key among `parts`, from 0: by the key itself, or by its host. It takes no memory.
+/// The partition of a key among `parts`, from 0: by the whole key, or by its host. Takes no memory.
 pub fn partition_by(by: By, key: &[u8], parts: u32) -> u32
     requires { 0 < parts }
     ensures of { result ≡ partition_by by key.now parts }
@@ -94,7 +89,7 @@ pub fn partition_by(by: By, key: &[u8], parts: u32) -> u32
     }
 }
 
-/// Hosts of worked keys, and their partitions.
+/// Hosts of example keys, and their partitions.
 pub fn worked_hosts()
     ensures plain { host (codes "http://a/x") ≡ codes "a" }
     ensures case { host (codes "HTTPS://Www.Example.ORG:80/y") ≡ codes "www.example.org" }
@@ -114,8 +109,8 @@ pub fn worked_hosts()
     ensures second { partition_by By.Host (codes "/z") 2 ≡ 1 }
 {}
 
-/// What the host of a key is: the bytes behind a scheme, up to the first that ends a host, without upper-case letters; none
-/// where the key has no such scheme. By it too a key has one of the partitions.
+/// What the host of a key is: the folded bytes after its scheme up to the one that ends a host,
+/// and none without a scheme. The partition by host, too, is below `parts`.
 pub fn host_law()
     ensures parts { HostByParts }
     ensures one { OneHost }

@@ -1,8 +1,7 @@
-//! Pairs by the rank of their keys: what stands behind keys by number (`mr_keys`) where pairs are put together by key.
+//! Ranks keys, and orders pairs by the ranks of their keys.
 //!
-//! The keys are sorted by partition and then by key. Where a key has two numbers, its rows stand side by side then, and one
-//! of them is kept: so each key has one rank, the place of its row, and each pair the rank of its key. Pairs are put together
-//! by counting: how many there are of each rank, and where those of each rank begin.
+//! Keys are sorted by partition and then key. Of a key with two numbers (`mr_keys`) one row stays,
+//! so each key has one rank: its row's place. A counting sort then orders the pairs by rank.
 #![tactic(auto)]
 
 mod counting;

@@ -1,4 +1,4 @@
-//! The records of a file.
+//! The records of a file: its lines, found in one pass, with four bytes of memory a record.
 #![tactic(auto)]
 
 ghost use Rattle.std.specs.Prelude.{◌≡◌, ℕ, ◌+◌, ◌^◌, ◌≤◌, ◌<◌, ◌≢◌, length, List, IfOk};
@@ -13,12 +13,12 @@ use mr_lanes::line_ends;
 use std::alloc::{AllocError, Global};
 use std::marker::Model;
 
-/// The records of a file, in their order: the bytes before each line feed, and the bytes after the last one where
-/// there are any. A carriage return stays in its record.
+/// The records of a file, in order: the bytes before each line feed, and the bytes after the last
+/// line feed if there are any. A carriage return stays in its record.
 #[derive(Drop)]
 pub struct Records<'a> {
     bytes: &'a [u8],
-    // Where each record ends: its line feed, or the end of the file.
+    // The place of each record's line feed, or the file's end.
     ends: Vec<u32>,
 }
 
@@ -39,7 +39,7 @@ impl<'a> Model for Records<'a> {
 }
 
 impl<'a> Records<'a> {
-    /// Finds the records of a file of at most 1 GiB, which is not copied. It fails only for want of memory.
+    /// Finds the records of a file of at most 1 GiB, uncopied. Fails only for want of memory.
     pub fn of(alloc: Global, bytes: &'a [u8]) -> Result<Records<'a>, AllocError>
         requires { length bytes.now ≤ 2 ^ 30 }
         ensures { IfOk result (λ r. r ≡ records bytes.entry.now) }
@@ -65,7 +65,7 @@ impl<'a> Records<'a> {
         &self.bytes[self.start(i) as usize..self.ends[i] as usize]
     }
 
-    /// The place in the file of the first byte of record `i`, or of its line feed where the record is empty.
+    /// The place of the first byte of record `i`, or of its line feed if the record is empty.
     pub fn start(&self, i: usize) -> u32
         requires { i < length self.now }
         ensures place { result ≡ (nth_record self.now i).start }
@@ -75,9 +75,8 @@ impl<'a> Records<'a> {
     }
 }
 
-/// What `records` means. No record holds a line feed, and joined, each with the line feed behind it, they give the
-/// file back, the last with or without its line feed. They start one behind the other's line feed, each where a line
-/// begins and a byte stands; so there are no more of them than bytes.
+/// What `records` means. No record contains a line feed. Each with its line feed, if it has one,
+/// they give the file back. Each starts where a line begins and a byte is: records ≤ bytes.
 pub fn record_law()
     ensures clear { NoLineFeeds }
     ensures joined { GiveTheFileBack }
@@ -86,7 +85,6 @@ pub fn record_law()
     ensures few { FewRecords }
 {}
 
-/// Where the records end, in their order.
 fn record_ends(alloc: Global, bytes: &[u8]) -> Result<Vec<u32>, AllocError>
     requires { length bytes.now ≤ 2 ^ 30 }
     ensures rise { IfOk result (λ v. EndsRise bytes.now 0 v.items) }
@@ -102,7 +100,6 @@ fn record_ends(alloc: Global, bytes: &[u8]) -> Result<Vec<u32>, AllocError>
     Ok(ends)
 }
 
-/// Whether the file's end ends the last record, and no line feed does.
 fn is_open(bytes: &[u8]) -> bool
     ensures { result ≡ is_open bytes.now }
 {
@@ -112,7 +109,6 @@ fn is_open(bytes: &[u8]) -> bool
     }
 }
 
-/// The place of the first line feed from `from` on, or the end.
 fn line_end(bytes: &[u8], from: usize) -> usize
     requires { from ≤ length bytes.now }
     ensures within { (from ≤ result) × (result ≤ length bytes.now) }
@@ -125,8 +121,8 @@ fn line_end(bytes: &[u8], from: usize) -> usize
     }
 }
 
-/// Where the record that begins at `from` ends: at its line feed, or at the end of the file. The next one begins one
-/// place behind. None where no byte stands at `from`. It takes no memory, and files of any size.
+/// Where the record that begins at `from` ends: at its line feed, or at the end of a file of any
+/// size. The next record begins one place later. `None` past the last byte. Takes no memory.
 pub fn record_end(bytes: &[u8], from: usize) -> Option<usize>
     ensures { MatchOption result (IsBehindAll bytes.now from) (λ end. IsRecordOf bytes.now from end) }
 {

@@ -1,4 +1,4 @@
-//! What reduce makes of a key with its values: the text that goes into the output file of the key's partition.
+//! The text that reduce makes of a key and its values, for the output of the key's partition.
 #![tactic(auto)]
 
 ghost use Rattle.std.specs.Prelude.{◌≡◌, ◌+◌, ◌<◌, ◌≤◌, ◌++◌, OnOk, OnErr, false, length, take};
@@ -17,12 +17,12 @@ use mr_bytes::{Value, ValueColumn};
 use mr_jobs::Job;
 use std::alloc::AllocError;
 
-/// Appends the text of a key with the list of all its values, in the order of the input: for a job that counts, the
-/// key with the number of values; for lines with a literal, a line for each value that tells a place; for an index, the
-/// key with the files of those places. It fails only for want of memory, and then leaves `out` as it was.
+/// Appends the text of a key with all its values, in input order. A job that counts writes the key
+/// with the number of values, `grep` a line per value that is a place, an index the key with the
+/// files of those places. Fails only for want of memory, and then leaves `out` as it was.
 ///
-/// The files of an index take time linear in the values where these tell their files in order, as all values of a key do
-/// in the order of the input; and else for each file that is told a look at all values.
+/// An index takes time linear in the values if their files never fall, as in the order of the
+/// input. Otherwise it looks at all values for each file that it writes.
 pub fn group_text(
     job: &Job,
     key: &[u8],
@@ -31,7 +31,8 @@ pub fn group_text(
 ) -> Result<(), AllocError>
     ensures ok { OnOk result (out.new.items ≡ out.old.items ++ text_of job.now key.now values.now) }
     ensures err { OnErr result (out.new.items ≡ out.old.items) }
-    ensures full { OnErr result (vec_capacity out.old < vec_len out.old + length (text_of job.now key.now values.now)) }
+    ensures full { OnErr result (vec_capacity out.old
+        < vec_len out.old + length (text_of job.now key.now values.now)) }
 {
     if job.counts() {
         return append_total(key, values.len() as u64, out);
@@ -39,8 +40,8 @@ pub fn group_text(
     listed_text(job, key, Listed::Slice(values), out)
 }
 
-/// Appends the text of a key with the values of a column: what `group_text` appends for them. It fails only for want of
-/// memory, and then leaves `out` as it was.
+/// Appends what `group_text` appends, for the values of a column. Fails only for want of memory,
+/// and then leaves `out` as it was.
 pub fn append_text(
     job: &Job,
     key: &[u8],
@@ -49,7 +50,8 @@ pub fn append_text(
 ) -> Result<(), AllocError>
     ensures ok { OnOk result (out.new.items ≡ out.old.items ++ text_of job.now key.now values.now) }
     ensures err { OnErr result (out.new.items ≡ out.old.items) }
-    ensures full { OnErr result (vec_capacity out.old < vec_len out.old + length (text_of job.now key.now values.now)) }
+    ensures full { OnErr result (vec_capacity out.old
+        < vec_len out.old + length (text_of job.now key.now values.now)) }
 {
     if job.counts() {
         let total = values.len();
@@ -58,8 +60,6 @@ pub fn append_text(
     listed_text(job, key, Listed::Column(values), out)
 }
 
-/// Appends the text of a key with the values, of a job that doesn't count. It fails only for want of memory, and then
-/// leaves `out` as it was.
 fn listed_text(
     job: &Job,
     key: &[u8],
@@ -67,7 +67,8 @@ fn listed_text(
     out: &mut Vec<u8>,
 ) -> Result<(), AllocError>
     requires { counts job.now ≡ false }
-    ensures ok { OnOk result (out.new.items ≡ out.old.items ++ text_of job.now key.now (listed values.entry)) }
+    ensures ok { OnOk result (out.new.items
+        ≡ out.old.items ++ text_of job.now key.now (listed values.entry)) }
     ensures err { OnErr result (out.new.items ≡ out.old.items) }
     ensures full { OnErr result (vec_capacity out.old
         < vec_len out.old + length (text_of job.now key.now (listed values.entry))) }
@@ -84,8 +85,8 @@ fn listed_text(
     done
 }
 
-/// Appends the line of a key with a number: what `group_text` appends for a job that counts, where the number is that
-/// of the values. It fails only for want of memory, and then leaves `out` as it was.
+/// Appends the line of a key with a number: what `group_text` appends for a job that counts `total`
+/// values. Fails only for want of memory, and then leaves `out` as it was.
 pub fn append_total(key: &[u8], total: u64, out: &mut Vec<u8>) -> Result<(), AllocError>
     ensures ok { OnOk result (out.new.items ≡ out.old.items ++ total_line key.now total) }
     ensures err { OnErr result (out.new.items ≡ out.old.items) }
@@ -99,7 +100,6 @@ pub fn append_total(key: &[u8], total: u64, out: &mut Vec<u8>) -> Result<(), All
     done
 }
 
-/// Appends the line of a key with a number. Where it fails, what stood before still stands in front.
 fn put_total(key: &[u8], total: u64, out: &mut Vec<u8>) -> Result<(), AllocError>
     ensures kept { take (vec_len out.old) out.new.items ≡ out.old.items }
     ensures ok { OnOk result (out.new.items ≡ out.old.items ++ total_line key.now total) }
@@ -114,8 +114,7 @@ fn put_total(key: &[u8], total: u64, out: &mut Vec<u8>) -> Result<(), AllocError
     Ok(())
 }
 
-/// Appends the line of a key with a place, or nothing where the value tells none. Where it fails, what stood before
-/// still stands in front.
+/// Appends the line of a key with a place, or nothing if the value is no place.
 fn put_place(key: &[u8], value: Value, out: &mut Vec<u8>) -> Result<(), AllocError>
     ensures kept { take (vec_len out.old) out.new.items ≡ out.old.items }
     ensures ok { OnOk result (out.new.items ≡ out.old.items ++ place_line key.now value) }
@@ -135,10 +134,10 @@ fn put_place(key: &[u8], value: Value, out: &mut Vec<u8>) -> Result<(), AllocErr
     Ok(())
 }
 
-/// Appends the lines of a key with its places. Where it fails, what stood before still stands in front.
 fn put_places(key: &[u8], values: Listed<'_>, out: &mut Vec<u8>) -> Result<(), AllocError>
     ensures kept { take (vec_len out.old) out.new.items ≡ out.old.items }
-    ensures ok { OnOk result (out.new.items ≡ out.old.items ++ flat_map (place_line key.now) (listed values.entry)) }
+    ensures ok { OnOk result (out.new.items
+        ≡ out.old.items ++ flat_map (place_line key.now) (listed values.entry)) }
     ensures full { OnErr result (vec_capacity out.old
         < vec_len out.old + length (flat_map (place_line key.now) (listed values.entry))) }
 {
@@ -148,8 +147,8 @@ fn put_places(key: &[u8], values: Listed<'_>, out: &mut Vec<u8>) -> Result<(), A
     Ok(())
 }
 
-/// Where a job counts, the text of a group is that of the key with the number of its values, whatever they are: the
-/// number alone is enough for `append_total`. The files that an index tells rise, and are just those of the values.
+/// For a job that counts, the number of values alone determines the text, so `append_total` is
+/// enough. The files in an index rise, and are exactly those of the values.
 pub fn text_law()
     ensures number { CountersTellTheNumber }
     ensures rise { FilesRise }

@@ -1,4 +1,4 @@
-//! Scripts: what shall go wrong in a run, a directive a line.
+//! Scripts: what goes wrong in a run, one directive per line.
 #![tactic(auto)]
 
 mod line;

@@ -1,4 +1,4 @@
-//! One line of a script.
+//! Parses one line of a script: a keyword, then its numbers, separated by single spaces.
 ghost use Rattle.std.specs.Prelude.{◌≡◌, ◌≤◌, ◌↔◌, ℕ, IsTrue, Some, None, MatchOption, length};
 ghost use Rattle.std.specs.Str.Parse.{AllDigits, digits_value};
 ghost use Rattle.mr_script.specs.Lines.{SaysNothing, SpellsNumber};
@@ -9,7 +9,6 @@ ghost use Rattle.mr_script.specs.Meaning.{directive_of};
 use crate::script::Directive;
 use mr_bytes::cut;
 
-/// The first word of a line.
 #[derive(Clone, Copy)]
 enum Keyword {
     Lose,
@@ -21,14 +20,12 @@ enum Keyword {
     Damage,
 }
 
-/// Whether the line is empty or begins with `#`.
 pub(crate) fn says_nothing(line: &[u8]) -> bool
     ensures { IsTrue result ↔ SaysNothing line.now }
 {
     line.is_empty() || line[0] == b'#'
 }
 
-/// The number that at most ten decimal digits write.
 fn value_of(digits: &[u8]) -> Option<u64>
     requires { length digits.now ≤ 10 }
     ensures { MatchOption result (AllDigits 10 digits.now → ⊥)
@@ -48,7 +45,8 @@ fn value_of(digits: &[u8]) -> Option<u64>
 #[tactic(auto, using(crate::proofs::Numbers::number_short), unfolding(crate::specs::Meaning::number_of))]
 pub fn number_of(word: &[u8]) -> Option<u32>
     ensures meaning { result ≡ number_of word.now }
-    ensures spelled { MatchOption result ((n : ℕ) → ¬ SpellsNumber word.now n) (λ n. SpellsNumber word.now n) }
+    ensures spelled { MatchOption result ((n : ℕ) → ¬ SpellsNumber word.now n)
+        (λ n. SpellsNumber word.now n) }
 {
     if word.is_empty() || 10 < word.len() {
         return None;
@@ -57,7 +55,7 @@ pub fn number_of(word: &[u8]) -> Option<u32>
     u32::try_from(value).ok()
 }
 
-/// The number before the first space, and the bytes behind it.
+/// The number before the first space, and the bytes after that space.
 #[tactic(auto, unfolding(crate::specs::Meaning::number_and_rest))]
 fn number_and_rest(text: &[u8]) -> Option<(u32, &[u8])>
     ensures { MatchOption result (number_and_rest text.now ≡ None)
@@ -68,7 +66,6 @@ fn number_and_rest(text: &[u8]) -> Option<(u32, &[u8])>
     Some((number, rest))
 }
 
-/// Two numbers.
 #[tactic(auto, unfolding(crate::specs::Meaning::number_and_number))]
 fn number_and_number(text: &[u8]) -> Option<(u32, u32)>
     ensures { result ≡ number_and_number text.now }
@@ -78,7 +75,7 @@ fn number_and_number(text: &[u8]) -> Option<(u32, u32)>
     Some((first, second))
 }
 
-/// Two numbers with `after` between them.
+/// Two numbers with the word `after` between them.
 #[tactic(auto, unfolding(crate::specs::Meaning::number_after_number))]
 fn number_after_number(text: &[u8]) -> Option<(u32, u32)>
     ensures { result ≡ number_after_number text.now }
@@ -92,7 +89,6 @@ fn number_after_number(text: &[u8]) -> Option<(u32, u32)>
     Some((first, second))
 }
 
-/// Three numbers.
 #[tactic(auto, unfolding(crate::specs::Meaning::three_numbers))]
 fn three_numbers(text: &[u8]) -> Option<(u32, u32, u32)>
     ensures { result ≡ three_numbers text.now }
@@ -102,7 +98,6 @@ fn three_numbers(text: &[u8]) -> Option<(u32, u32, u32)>
     Some((first, second, third))
 }
 
-/// The keyword that the word is.
 #[tactic(auto, unfolding(crate::specs::Meaning::keyword_of))]
 fn keyword_of(word: &[u8]) -> Option<Keyword>
     ensures { result ≡ keyword_of word.now }
@@ -131,7 +126,6 @@ fn keyword_of(word: &[u8]) -> Option<Keyword>
     None
 }
 
-/// The directive that the line spells.
 #[tactic(auto, unfolding(crate::specs::Meaning::directive_of, crate::specs::Meaning::directive_with))]
 pub(crate) fn directive_of(line: &[u8]) -> Option<Directive>
     ensures { result ≡ directive_of line.now }

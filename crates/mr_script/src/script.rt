@@ -1,5 +1,5 @@
-//! A script read: bytes enter; the list of directives that its lines spell leaves, or the number of the first bad line.
-//! One pass; memory grows with the directives.
+//! Reads a script: from its bytes, in one pass, to the directives of its lines, or to the number of
+//! the first bad line. Memory grows with the directives.
 ghost use Rattle.std.specs.Prelude.{◌≡◌, ◌≢◌, ℕ, ◌+◌, ◌<◌, ◌≤◌, [], ◌∷◌, IfOk, IfErr, MatchOption};
 ghost use Rattle.std.specs.Prelude.{MatchResult, length, drop, slice_index};
 ghost use Rattle.mr_records.specs.Records.{Record, records_from};
@@ -13,15 +13,15 @@ use std::alloc::{AllocFailed, Global};
 use std::marker::Model;
 use thiserror::Error;
 
-/// One thing that shall go wrong in a run, with the numbers of its line in their order.
+/// One fault that a run injects, with the numbers of its line in order.
 #[derive(Clone, Copy, Debug, PartialEq, Eq)]
 pub enum Directive {
-    /// The worker is lost once it has made so many reports.
+    /// The worker is lost once it has made `after` reports.
     Lose {
         worker: u32,
         after: u32,
     },
-    /// The worker is taken for lost just before the report behind so many, and goes on all the same.
+    /// The worker is declared lost just before the report after its first `after`, and works on.
     Zombie {
         worker: u32,
         after: u32,
@@ -31,22 +31,22 @@ pub enum Directive {
         split: u32,
         rec: u32,
     },
-    /// The record fails in the first so many attempts that reach it.
+    /// The record fails in the first `attempts` attempts that reach it.
     Flaky {
         split: u32,
         rec: u32,
         attempts: u32,
     },
-    /// The worker keeps its first report back.
+    /// The worker holds its first report back.
     Hold {
         worker: u32,
     },
-    /// The byte at the place in the partition's output has its lowest bit changed.
+    /// Flips the lowest bit of byte `place` of the partition's output.
     Spoil {
         partition: u32,
         place: u32,
     },
-    /// In the first region of the partition that is put for the split, the byte at the place has its lowest bit changed.
+    /// Flips the lowest bit of byte `place` of the partition's first region stored for the split.
     Damage {
         split: u32,
         partition: u32,
@@ -54,7 +54,7 @@ pub enum Directive {
     },
 }
 
-/// What shall go wrong in a run: directives, in the order of their lines.
+/// The directives of a script, in the order of their lines.
 #[derive(Drop)]
 pub struct Script {
     directives: Vec<Directive>,
@@ -69,7 +69,7 @@ impl Model for Script {
     ghost view = { λ s. s.directives.items };
 }
 
-/// Why bytes are no script.
+/// Why bytes are not a script.
 #[derive(Clone, Copy, Debug, PartialEq, Eq, Drop, Error)]
 pub enum ScriptFault {
     /// The first line, from 1, that neither says nothing nor spells a directive.
@@ -89,17 +89,16 @@ impl<T: Drop> From<AllocFailed<T>> for ScriptFault {
     }
 }
 
-/// The line that begins at `from`, without its line feed, if a byte stands there.
 fn next_line(bytes: &[u8], from: usize) -> Option<&[u8]>
     ensures { MatchOption result (records_from from (drop from bytes.now) ≡ [])
         (λ l. (from + length l.now ≤ length bytes.now) × (from < length bytes.now)
-        × (records_from from (drop from bytes.now) ≡ record { start = from; bytes = l.now } ∷ records_from (from + length l.now + 1) (drop (from + length l.now + 1) bytes.now))) }
+        × (records_from from (drop from bytes.now) ≡ record { start = from; bytes = l.now }
+        ∷ records_from (from + length l.now + 1) (drop (from + length l.now + 1) bytes.now))) }
 {
     let end = record_end(bytes, from)?;
     Some(&bytes[from..end])
 }
 
-/// Adds the directive of the line, if it isn't one that says nothing. The line has this number.
 fn add_line(directives: &mut Vec<Directive>, line: &[u8], number: u64) -> Result<(), ScriptFault>
     ensures { MatchResult result (λ _. Adds line.now directives.old.items directives.new.items)
         (λ e. IsLineFault line.now number e) }
@@ -116,7 +115,6 @@ fn add_line(directives: &mut Vec<Directive>, line: &[u8], number: u64) -> Result
     }
 }
 
-/// The directives of all lines.
 fn directives_of(alloc: Global, bytes: &[u8]) -> Result<Vec<Directive>, ScriptFault>
     ensures { MatchResult result (λ v. SpellsScript bytes.now v.items) (λ e. IsScriptFault bytes.now e) }
 {
@@ -132,8 +130,8 @@ fn directives_of(alloc: Global, bytes: &[u8]) -> Result<Vec<Directive>, ScriptFa
 }
 
 impl Script {
-    /// The script that the bytes spell. A line that is empty or begins with `#` says nothing; each other line is a
-    /// directive, its words between single spaces, its numbers of 1 to 10 decimal digits, or it is bad.
+    /// Parses a script. A line that is empty or begins with `#` says nothing. Any other line must
+    /// be a directive, its words separated by single spaces, its numbers of 1 to 10 decimal digits.
     pub fn read(alloc: Global, bytes: &[u8]) -> Result<Script, ScriptFault>
         ensures spelled { IfOk result (λ s. SpellsScript bytes.now s) }
         ensures fault { IfErr result (λ e. IsScriptFault bytes.now e) }
@@ -150,15 +148,15 @@ impl Script {
     }
 }
 
-/// A line spells a directive exactly where its meaning is that directive, so at most one; and a line that says nothing
-/// spells none.
+/// A line spells a directive exactly if its meaning is that directive, so at most one; a line that
+/// says nothing spells none.
 pub fn line_law()
     ensures meaning { LinesByMeaning }
     ensures one { OneDirective }
     ensures apart { NothingIsNoDirective }
 {}
 
-/// Bytes spell at most one list of directives, and none where a line is bad.
+/// Bytes spell at most one list of directives, and none if a line is bad.
 pub fn script_law()
     ensures one { OneScript }
     ensures bad { NoScriptHasABadLine }

@@ -16,7 +16,7 @@ use std::alloc::{AllocError, Global};
 use std::marker::Model;
 use thiserror::Error;
 
-/// Pairs by rising name, up to a limit. Each distinct key is stored once, and looked up once a pair.
+/// Pairs by rising name, up to a limit. Each distinct key is stored once, with a look-up per pair.
 #[derive(Drop)]
 pub struct Buffer {
     pub(crate) pairs: Numbered,
@@ -40,24 +40,20 @@ impl Model for Buffer {
     } };
 }
 
-/// Why a pair was not taken; it is handed back.
+/// Why the buffer rejects a pair, which it returns.
 #[derive(Debug, Error, Drop)]
 pub enum PushFault {
-    /// The buffer holds as many pairs as it may.
     #[error("BufferFull")]
     BufferFull(Pair),
-    /// There is no memory for it.
     #[error("OutOfMemory")]
     OutOfMemory(Pair),
 }
 
-/// Why a pair was not taken whose key was lent.
+/// Why the buffer rejects a pair given by reference to its key.
 #[derive(Clone, Copy, Debug, PartialEq, Eq, Error, Drop)]
 pub enum PushKeyFault {
-    /// The buffer holds as many pairs as it may.
     #[error("BufferFull")]
     BufferFull,
-    /// There is no memory for it.
     #[error("OutOfMemory")]
     OutOfMemory,
 }
@@ -69,7 +65,7 @@ ghost use Rattle.mr_spill.specs.declared.buffer.PushKeyFault.{PushKeyFault};
 ghost use Rattle.mr_spill.specs.declared.buffer.PushKeyFault.TheVariants.{BufferFull, OutOfMemory};
 
 impl Buffer {
-    /// No pairs, and room for so many. It takes no memory.
+    /// An empty buffer for up to `limit` pairs. Takes no memory.
     pub fn new(alloc: Global, limit: usize) -> Buffer
         ensures { result ≡ record { limit = limit; pairs = [] } }
     {
@@ -86,7 +82,7 @@ impl Buffer {
         self.pairs.len()
     }
 
-    /// Takes a pair whose key is lent, its name past those of all before it. A refusal leaves the buffer as it was.
+    /// Appends a pair with a copied key; its name follows all before. A failure changes nothing.
     #[inline(always)]
     pub fn push_key(&mut self, key: &[u8], value: Value, name: Name) -> Result<(), PushKeyFault>
         requires { Rises name_order (names_of self.old.pairs ++ name ∷ []) }
@@ -105,10 +101,11 @@ impl Buffer {
         }
     }
 
-    /// Takes a pair, its name past those of all before it. A refusal hands it back, and leaves the buffer as it was.
+    /// Appends a pair; its name follows all before. A failure returns it, and changes nothing.
     pub fn push(&mut self, pair: Pair) -> Result<(), PushFault>
         requires { Rises name_order (names_of self.old.pairs ++ pair.name ∷ []) }
-        ensures ok { OnOk result (self.new ≡ record { limit = self.old.limit; pairs = self.old.pairs ++ pair ∷ [] }) }
+        ensures ok { OnOk result (self.new
+            ≡ record { limit = self.old.limit; pairs = self.old.pairs ++ pair ∷ [] }) }
         ensures err { OnErr result (self.new ≡ self.old) }
         ensures back { IfErr result (λ e. e
             ≡ (if length self.old.pairs == self.old.limit then Full pair else NoRoom pair)) }
@@ -121,8 +118,8 @@ impl Buffer {
         }
     }
 
-    /// A region for each partition, in order, of the pairs that it holds: by key, and then name. It holds none then.
-    /// It fails only for want of memory, and then leaves the buffer as it was.
+    /// Empties the buffer into a region per partition, in order, each sorted by key and then name.
+    /// Fails only for want of memory, and then leaves the buffer as it was.
     pub fn seal(
         &mut self,
         alloc: Global,
@@ -130,7 +127,8 @@ impl Buffer {
         by: By,
     ) -> Result<Vec<PairColumns>, AllocError>
         requires { 0 < parts }
-        ensures ok { IfOk result (λ v. v.items ≡ regions (λ k. partition_by by k parts) parts self.old.pairs) }
+        ensures ok { IfOk result
+            (λ v. v.items ≡ regions (λ k. partition_by by k parts) parts self.old.pairs) }
         ensures empty { OnOk result (self.new ≡ record { limit = self.old.limit; pairs = [] }) }
         ensures err { OnErr result (self.new ≡ self.old) }
     {

@@ -1,4 +1,4 @@
-//! A region walked pair by pair over its bytes. Nothing is copied, and nothing is believed that the bytes don't spell.
+//! Walks a region pair by pair over its bytes, checking what it reads. Copies nothing.
 ghost use Rattle.std.specs.Prelude.{◌≡◌, ◌↔◌, ◌<◌, [], List, Some, IsTrue, MatchOption, false};
 ghost use Rattle.std.specs.Prelude.{length};
 ghost use Rattle.mr_bytes.specs.Pairs.{Triple};
@@ -10,7 +10,7 @@ use mr_bytes::{Name, Value, compare_keys, compare_names};
 use std::cmp::Ordering;
 use std::marker::Model;
 
-/// The bytes of a region, and the split that they are told to be of. They may be anything.
+/// Any bytes, as the region of this split.
 #[derive(Drop)]
 pub struct RegionView<'a> {
     split: u32,
@@ -26,21 +26,19 @@ impl<'a> Model for RegionView<'a> {
 }
 
 impl<'a> RegionView<'a> {
-    /// Bytes, and the split that they are told to be of.
     pub fn of(bytes: &'a [u8], split: u32) -> RegionView<'a>
         ensures { result ≡ record { split = split; bytes = bytes.entry.now } }
     {
         RegionView { split, bytes }
     }
 
-    /// The split that the bytes are told to be of.
+    /// The split that the region claims to be of.
     pub fn split(&self) -> u32
         ensures { result ≡ self.now.split }
     {
         self.split
     }
 
-    /// The bytes.
     pub fn bytes(&self) -> &'a [u8]
         ensures { result.now ≡ self.now.bytes }
     {
@@ -48,13 +46,13 @@ impl<'a> RegionView<'a> {
     }
 }
 
-/// A pair of a region; its key lies in the region's bytes.
+/// A pair of a region; its key is a part of the region's bytes.
 #[derive(Clone, Copy, Drop)]
 pub struct RegionPair<'a> {
     pub key: &'a [u8],
     pub value: Value,
     pub name: Name,
-    /// It has the key of the pair before it, so it takes no look-up.
+    /// It has the key of the pair before it, so it needs no look-up.
     pub again: bool,
 }
 
@@ -67,7 +65,7 @@ pub struct RegionCursor<'a> {
     last: Option<RegionPair<'a>>,
 }
 
-/// Whether a pair has the key of the last one; `None` where it may not stand behind it.
+/// Whether a pair has the key of the last one; `None` if it may not follow it.
 fn turn_of(last: Option<RegionPair<'_>>, key: &[u8], name: Name) -> Option<bool>
     ensures { MatchOption result (IsBehind last.entry key.now name → ⊥)
         (λ again. IsBehind last.entry key.now name × (IsTrue again → IsKeyOf last.entry key.now)) }
@@ -85,7 +83,7 @@ fn turn_of(last: Option<RegionPair<'_>>, key: &[u8], name: Name) -> Option<bool>
     }
 }
 
-/// A walk over the bytes of a region of this split and partition; `None` where they don't begin as one.
+/// Opens a region of this split and partition; `None` if the bytes don't begin with its header.
 pub fn open_region<'a>(bytes: &'a [u8], split: u32, partition: u32) -> Option<RegionCursor<'a>>
     ensures { MatchOption result ((ts : List Triple) → SpellsRegion bytes.entry.now split partition ts → ⊥)
         (IsOpened bytes.entry.now split partition) }
@@ -102,21 +100,21 @@ pub fn open_region<'a>(bytes: &'a [u8], split: u32, partition: u32) -> Option<Re
 }
 
 impl<'a> RegionCursor<'a> {
-    /// How many pairs are still to come, as the header tells.
+    /// How many pairs are still to come, as the header says.
     pub fn left(&self) -> u32
         ensures { (ts : List Triple) → AreAhead self.now ts → result ≡ length ts }
     {
         self.left
     }
 
-    /// Whether no pair and no byte is left: else, where no next pair stands, the region is damaged.
+    /// Whether no pair and no byte is left. If not, and no next pair comes, the region is damaged.
     pub fn is_at_end(&self) -> bool
         ensures { IsTrue result ↔ AreAhead self.now [] }
     {
         self.left == 0 && self.rest.is_empty()
     }
 
-    /// The next pair; `None` where none stands that may come next, and then the walk is where it was.
+    /// The next pair; `None` if the bytes hold none that may come next, and then the cursor stays.
     pub fn next(&mut self) -> Option<RegionPair<'a>>
         ensures none { MatchOption result ((self.new ≡ self.old)
             × ((ts : List Triple) → AreAhead self.old ts → ts ≡ []))
@@ -157,7 +155,7 @@ impl<'a> RegionCursor<'a> {
     }
 }
 
-/// Whether bytes are a region of this split and partition, by a walk over all of it.
+/// Whether bytes are a region of this split and partition. Walks over all of it.
 pub fn is_region(bytes: &[u8], split: u32, partition: u32) -> bool
     ensures spelled { IsTrue result → (ts : List Triple) × SpellsRegion bytes.now split partition ts }
     ensures damaged { result ≡ false → (ts : List Triple) → SpellsRegion bytes.now split partition ts → ⊥ }

@@ -1,6 +1,6 @@
-//! Regions in files: each in a file of its own, under its worker and number; and who opens such a store in a directory.
+//! Regions in files, one file each, named by worker and number; and who opens such stores.
 //!
-//! No clause of std says what stands under a name. So what this file does is to be read: a region is written under the
+//! No clause of std says what a file contains. So read this code: a region is written under the
 //! name that is read later.
 ghost use Rattle.std.specs.Prelude.{◌≡◌, ◌<◌, false, vec_len, IfOk, OnErr, OnOk, ◌↔◌, ◌≤◌, None};
 ghost use Rattle.std.specs.Prelude.{IsErr, length};
@@ -17,20 +17,19 @@ use std::sync::Wait;
 use std::sync::atomic::{AtomicU64, Ordering};
 use thiserror::Error;
 
-/// Regions in the files of a directory that is there: `region-WW-NNNNNNNN`. A file that is there is written over, and none is
-/// removed. It takes no lock: a number is drawn from one word for each worker, and its file is nobody else's.
+/// Regions in files `region-WW-NNNNNNNN` of an existing directory. It overwrites files, and removes
+/// none. It takes no lock: each worker draws its numbers from one word, so no file is shared.
 #[derive(Drop)]
 pub struct DirStore<'a, R: Files> {
     rt: &'a R,
     alloc: Global,
     dir: String,
     next: Vec<AtomicU64>,
-    /// The file by whose lock the directory is this store's alone, as long as it is open.
+    /// While this file is open, its lock keeps the directory for this store.
     lock: Option<File>,
     ghost some: { 0 < vec_len next },
 }
 
-/// So many words that are 0.
 fn zeros(alloc: Global, workers: u32) -> Result<Vec<AtomicU64>, AllocError>
     ensures { IfOk result (λ v. vec_len v ≡ workers) }
 {
@@ -41,13 +40,13 @@ fn zeros(alloc: Global, workers: u32) -> Result<Vec<AtomicU64>, AllocError>
     Ok(words)
 }
 
-/// A call of a file that failed: whether it was refused memory.
+/// Whether a failed call of a file was refused memory.
 pub(crate) fn is_for_memory(error: &io::Error) -> bool {
     error.kind() == ErrorKind::OutOfMemory
 }
 
 impl<'a, R: Files> DirStore<'a, R> {
-    /// Regions in files of this directory, of so many workers. No file is opened.
+    /// A store for regions of `workers` workers in this directory. Opens no file.
     pub fn new(
         rt: &'a R,
         alloc: Global,
@@ -67,19 +66,17 @@ impl<'a, R: Files> DirStore<'a, R> {
         })
     }
 
-    /// The store with a file that it keeps open.
     pub(crate) fn keeping(mut self, lock: Option<File>) -> DirStore<'a, R> {
         self.lock = lock;
         self
     }
 
-    /// The word of the worker's next number; a worker of no number below the count shares one.
+    /// The word of the worker's next number; worker numbers past the count share words.
     fn word(&self, worker: u32) -> &AtomicU64 {
         let at = worker as usize % self.next.len();
         &self.next[at]
     }
 
-    /// The name of a region's file.
     fn name(&self, worker: u32, number: u64) -> Result<String, AllocError> {
         let dir = self.dir.as_str();
         format!(in self.alloc; "{dir}/region-{worker:02}-{number:08}")
@@ -101,7 +98,6 @@ impl<'a, R: Files> DirStore<'a, R> {
         }
     }
 
-    /// Appends what the file of a name has.
     fn read(&self, name: &str, into: &mut Vec<u8>) -> Result<(), GetFault>
         ensures ok { OnOk result (Grows into.old.items into.new.items) }
         ensures err { OnErr result (into.new.items ≡ into.old.items) }
@@ -141,7 +137,7 @@ impl<'a, R: Files + Sync> RegionStore for DirStore<'a, R> {
     }
 }
 
-/// A file that is open. Each call of it that fails is counted.
+/// An open file that counts its failed calls.
 #[derive(Drop)]
 pub(crate) struct Counted<F: Drop> {
     file: F,
@@ -254,23 +250,23 @@ impl From<AllocError> for ScratchFault {
     }
 }
 
-/// Who opens stores of regions in directories. What goes over it takes no files of the system, and so touches no other one.
+/// Opens stores of regions in directories. Code that is generic over it touches no other files.
 pub trait Scratch {
     type Store: RegionStore + Drop;
 
-    /// A store in the directory, for so many workers.
+    /// A store in the directory, for this number of workers.
     fn open(&self, alloc: Global, dir: &str, workers: u32) -> Result<Self::Store, ScratchFault>
         requires { 0 < workers };
 }
 
-/// The directories of the system. A file `regions.lock` in the directory is locked as long as a store is there. It stays
-/// behind, and its lock ends with the program, however that ends.
+/// Opens directories of the system. A store locks the file `regions.lock` in its directory. The
+/// file stays; the lock ends with the program, however that ends.
 #[derive(Drop)]
 pub struct DiskScratch<'a, R: Files> {
     rt: &'a R,
 }
 
-/// The file, locked. One of a system that has no locks goes without.
+/// Locks the file; a system without locks goes on without one.
 fn locked(file: File) -> Result<Option<File>, ScratchFault> {
     match file.try_lock() {
         Err(TryLockError::WouldBlock) => Err(ScratchFault::InUse),
@@ -283,7 +279,7 @@ impl<'a, R: Files<File = File>> DiskScratch<'a, R> {
         DiskScratch { rt }
     }
 
-    /// The directory's file, locked. Where it can't be made, no region can be put there either, and each put tells so.
+    /// The locked file of the directory. If it can't be created, each `put` fails and reports so.
     fn lock(&self, alloc: Global, dir: &str) -> Result<Option<File>, ScratchFault> {
         let name = format!(in alloc; "{dir}/regions.lock")?;
         match File::create(self.rt, name.as_str()) {
@@ -309,7 +305,7 @@ impl<'a, R: Files<File = File> + Sync> Scratch for DiskScratch<'a, R> {
     }
 }
 
-/// Stores in memory in place of directories.
+/// Opens stores in memory instead of directories.
 #[derive(Drop)]
 pub struct MemoryScratch<'a, R: Wait> {
     rt: &'a R,

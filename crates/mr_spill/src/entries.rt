@@ -6,7 +6,6 @@ use mr_bytes::{Name, Value, ValueColumn};
 use std::alloc::{AllocError, Global};
 use std::marker::Model;
 
-/// Values, each with its name, in the order in which they came.
 #[derive(Drop)]
 pub(crate) struct Entries {
     pub(crate) values: ValueColumn,
@@ -26,7 +25,6 @@ impl Model for Entries {
 }
 
 impl Entries {
-    /// No values. It takes no memory.
     pub fn new(alloc: Global) -> Entries
         ensures { result ≡ [] }
     {
@@ -36,7 +34,7 @@ impl Entries {
         }
     }
 
-    /// No values, and room for so many names. It fails only for want of memory.
+    /// No values, and room for `count` names.
     pub fn with_room(alloc: Global, count: usize) -> Result<Entries, AllocError>
         ensures { IfOk result (λ e. e ≡ []) }
     {
@@ -46,14 +44,13 @@ impl Entries {
         })
     }
 
-    /// Makes room for the names of so many more.
+    /// Makes room for `more` names.
     pub fn reserve(&mut self, more: usize) -> Result<(), AllocError>
         ensures { self.new ≡ self.old }
     {
         self.names.reserve(more)
     }
 
-    /// How many values there are.
     pub fn len(&self) -> usize
         ensures { result ≡ length self.now }
     {
@@ -68,7 +65,6 @@ impl Entries {
         (self.values.get(i), self.names[i])
     }
 
-    /// Value `i`, from 0.
     pub fn value(&self, i: usize) -> Value
         requires { i < length self.now }
         ensures { result ≡ (nth_entry self.now i).0 }
@@ -76,7 +72,7 @@ impl Entries {
         self.values.get(i)
     }
 
-    /// One more value, at the end. It fails only for want of memory, and then nothing has changed.
+    /// Appends a value. Fails only for want of memory, and then nothing has changed.
     #[inline(always)]
     pub fn push(&mut self, value: Value, name: Name) -> Result<(), AllocError>
         ensures ok { OnOk result (self.new ≡ self.old ++ (value, name) ∷ []) }
@@ -88,7 +84,7 @@ impl Entries {
         Ok(())
     }
 
-    /// No values any more. What they took stays for later ones.
+    /// Empties the lists, and keeps their memory.
     pub fn clear(&mut self)
         ensures { self.new ≡ [] }
     {

@@ -1,13 +1,12 @@
-//! What a map task does with the pairs that it emits: it collects them, and cuts them by partition into sorted regions
-//! (OSDI 2004, sections 3.1 and 4.2).
+//! Collects the pairs that a map task emits, and cuts them by partition into sorted regions (OSDI
+//! 2004, sections 3.1 and 4.2). A reduce task groups pairs of many regions by key (`KeyedPairs`).
 //!
-//! Pairs enter by rising name, in the order of the input. What leaves is a region for each partition, by key and then
-//! name, in which a key is stored once. Time: one look-up for each pair as it enters, of mostly one look at memory and at most a
-//! few dozen, and a sort of the distinct keys, n log n comparisons, most of them of two numbers; each pair is put at its place by
-//! counting. Memory: 16 bytes for each pair that waits and its value where it has one beside `One`, and the keys, each mostly
-//! once; while they are cut 16 bytes more for each pair, and the regions. A region can be spelled as bytes, and read from them.
-//!
-//! A reduce task takes pairs of many regions so too, and puts them together by key (`KeyedPairs`).
+//! Pairs enter by rising name: the order of the input. A region per partition leaves, sorted by key
+//! and then name, each key stored once. As bytes it has the key of each pair, and is read back so.
+//! - Time: a look-up per pair, mostly one memory access and at most a few dozen; a sort of the
+//!   distinct keys, n log n comparisons, mostly of two numbers; then a counting sort of the pairs.
+//! - Memory: 16 bytes per waiting pair, its value unless that is `One`, and the keys, most of them
+//!   once. While they are cut, 16 more bytes per pair, and the regions.
 #![tactic(auto)]
 
 mod buffer;

@@ -1,4 +1,4 @@
-//! Pairs whose keys are numbered.
+//! Pairs whose keys are numbers: each distinct key is stored once, a few perhaps more often.
 ghost use Rattle.std.specs.Prelude.{◌≡◌, ℕ, ◌-◌, ◌≤◌, ◌<◌, ◌^◌, ◌++◌, ◌∷◌, [], IfOk, IsTrue, OnOk};
 ghost use Rattle.std.specs.Prelude.{OnErr, length};
 ghost use Rattle.mr_keys.specs.Keys.{IsKeyAt, key_at};
@@ -13,8 +13,8 @@ use mr_keys::Keys;
 use std::alloc::{AllocError, Global};
 use std::marker::Model;
 
-/// Pairs with their names: the keys by number, and a pair is the number of its key with what it has beside it. Some keys may
-/// have more than one number. There is no memory for 4 Gi pairs.
+/// Pairs with their names: numbered keys, and per pair its key's number, its value and its name.
+/// More than 4 Gi pairs fail as want of memory.
 #[derive(Drop)]
 pub struct Numbered {
     alloc: Global,
@@ -40,7 +40,7 @@ impl Model for Numbered {
     } };
 }
 
-/// A number of a key, which is added where none is found. It fails only for want of memory, and then no key was added.
+/// A number of the key, new if none is found. Fails only for want of memory, and then adds no key.
 fn number_of(alloc: Global, keys: &mut Keys, key: &[u8]) -> Result<u32, AllocError>
     requires known { length keys.old < 2 ^ 32 }
     ensures known { length keys.new < 2 ^ 32 }
@@ -56,7 +56,7 @@ fn number_of(alloc: Global, keys: &mut Keys, key: &[u8]) -> Result<u32, AllocErr
 }
 
 impl Numbered {
-    /// No pairs. It takes no memory.
+    /// No pairs. Takes no memory.
     pub fn new(alloc: Global) -> Numbered
         ensures { result ≡ [] }
     {
@@ -68,7 +68,7 @@ impl Numbered {
         }
     }
 
-    /// Makes room for so many pairs more. Whether there is any or not, the pairs are those that were there.
+    /// Makes room for `more` pairs. The pairs stay the same, even on failure.
     pub fn reserve(&mut self, more: usize) -> Result<(), AllocError>
         ensures { self.new ≡ self.old }
     {
@@ -76,18 +76,18 @@ impl Numbered {
         self.entries.reserve(more)
     }
 
-    /// How many pairs there are.
     pub fn len(&self) -> usize
         ensures { result ≡ length self.now }
     {
         self.numbers.len()
     }
 
-    /// One more pair, at the end. It fails only for want of memory, and then the pairs are those that were there. Its
-    /// callers have the name in registers: a call would put it on the stack in pieces and wait for them.
+    /// Appends a pair. Fails only for want of memory, and then the pairs stay the same. Inlined:
+    /// callers have the name in registers, and a call would pass it over the stack in pieces.
     #[inline(always)]
     pub fn push(&mut self, key: &[u8], value: Value, name: Name) -> Result<(), AllocError>
-        ensures ok { OnOk result (self.new ≡ self.old ++ record { key = key.now; value = value; name = name } ∷ []) }
+        ensures ok { OnOk result (self.new
+            ≡ self.old ++ record { key = key.now; value = value; name = name } ∷ []) }
         ensures err { OnErr result (self.new ≡ self.old) }
     {
         if self.numbers.len() + 1 > u32::MAX as usize {
@@ -100,8 +100,7 @@ impl Numbered {
         Ok(())
     }
 
-    /// One more pair, at the end, under the key of the pair that stands there: it takes no look-up. It fails only for
-    /// want of memory, and then nothing has changed.
+    /// Appends a pair with the last pair's key, without a look-up. A failure changes nothing.
     #[inline(always)]
     fn push_again(&mut self, value: Value, name: Name) -> Result<(), AllocError>
         requires { 0 < length self.old }
@@ -119,7 +118,7 @@ impl Numbered {
         Ok(())
     }
 
-    /// No pairs any more. What the numbers and names took stays for later ones.
+    /// Removes all pairs, and keeps the memory of numbers and names.
     pub fn clear(&mut self)
         ensures { self.new ≡ [] }
     {
@@ -128,8 +127,7 @@ impl Numbered {
         self.entries.clear();
     }
 
-    /// Takes pair `i` of a column, from 0, where the pair that was taken last has the key of the one before it: a key that
-    /// follows itself takes no look-up.
+    /// Appends pair `i` of a column, after pair `i - 1`: a repeated key needs no look-up.
     fn take_next(&mut self, column: &PairColumns, i: usize) -> Result<(), AllocError>
         requires within { i < length column.now }
         requires last { 0 < i → (0 < length self.old)
@@ -144,8 +142,7 @@ impl Numbered {
         self.push(column.key(i), value, name)
     }
 
-    /// Takes a pair of a region, at the end: one that has the key of the pair before it takes no look-up. It fails only for
-    /// want of memory.
+    /// Appends a pair of a region; a repeated key needs no look-up. Fails only for want of memory.
     #[inline(always)]
     pub fn take(&mut self, pair: RegionPair<'_>) -> Result<(), AllocError>
         requires { IsTrue pair.again → EndsWithKey self.old pair.key.now }
@@ -158,7 +155,6 @@ impl Numbered {
         self.push(pair.key, pair.value, pair.name)
     }
 
-    /// Takes the pairs of a column, at the end.
     pub(crate) fn take_column(&mut self, column: &PairColumns) -> Result<(), AllocError>
         ensures { OnOk result (self.new ≡ self.old ++ column.now) }
     {

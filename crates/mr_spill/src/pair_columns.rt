@@ -1,4 +1,8 @@
 //! Pairs with their names, in flat columns.
+//!
+//!     keys    [ thecat ]                pairs pushed together under one key share its bytes
+//!     spans   [ 0-3 0-3 3-6 ]           the key of each pair
+//!     values  names                     one each per pair; the `One` in front are only counted
 ghost use Rattle.std.specs.Prelude.{◌≡◌, ◌↔◌, ◌+◌, ◌-◌, ◌++◌, ◌∷◌, [], ◌<◌, IfOk, IsTrue, OnOk};
 ghost use Rattle.std.specs.Prelude.{OnErr, length};
 ghost use Rattle.mr_spill.specs.Column.{names_of, nth_pair};
@@ -7,13 +11,10 @@ use mr_bytes::{Name, Span, Value, ValueColumn, is_same_span};
 use std::alloc::{AllocError, Global};
 use std::marker::Model;
 
-/// Pairs with their names, one behind another: the bytes of keys in one buffer, so that no key takes an allocation of
-/// its own, and pairs that came together under one key share its bytes; values of which those `One` in front are only
-/// counted. The keys take less than 4 GiB.
+/// Pairs with their names, in order. Their keys have less than 4 GiB, shared bytes counted once.
 #[derive(Drop)]
 pub struct PairColumns {
     keys: Vec<u8>,
-    /// Where the key of each pair stands.
     spans: Vec<Span>,
     values: ValueColumn,
     names: Vec<Name>,
@@ -36,7 +37,7 @@ impl Model for PairColumns {
     } };
 }
 
-/// Where a key stands that comes behind so many bytes. There is no memory for 4 GiB of keys.
+/// The span of a key appended to so many bytes. 4 GiB of keys fail as want of memory.
 fn span_behind(bytes: usize, key: &[u8]) -> Result<Span, AllocError>
     ensures start { IfOk result (λ s. s.start ≡ bytes) }
     ensures end { IfOk result (λ s. s.end ≡ bytes + length key.now) }
@@ -53,7 +54,7 @@ fn span_behind(bytes: usize, key: &[u8]) -> Result<Span, AllocError>
 }
 
 impl PairColumns {
-    /// No pairs. It takes no memory.
+    /// No pairs. Takes no memory.
     pub fn new(alloc: Global) -> PairColumns
         ensures { result ≡ [] }
     {
@@ -65,8 +66,7 @@ impl PairColumns {
         }
     }
 
-    /// No pairs, and room for so many whose keys have so many bytes together, what they share counted once. It fails only
-    /// for want of memory.
+    /// No pairs, and room for `count` with `bytes` of keys, shared bytes counted once.
     pub(crate) fn with_room(
         alloc: Global,
         count: usize,
@@ -82,7 +82,7 @@ impl PairColumns {
         })
     }
 
-    /// No pairs, and room for as many as two columns have. It fails only for want of memory.
+    /// No pairs, and room for those of two columns. Fails only for want of memory.
     pub fn with_room_for(
         alloc: Global,
         first: &PairColumns,
@@ -95,7 +95,6 @@ impl PairColumns {
         PairColumns::with_room(alloc, count, bytes)
     }
 
-    /// How many pairs there are.
     pub fn len(&self) -> usize
         ensures { result ≡ length self.now }
     {
@@ -111,7 +110,7 @@ impl PairColumns {
         &self.keys[span.start as usize..span.end as usize]
     }
 
-    /// Whether pairs `i` and `j`, from 0, have one key. It takes no look at a key that they share.
+    /// Whether pairs `i` and `j`, from 0, have the same key. It doesn't read a key that they share.
     pub fn is_same_key(&self, i: usize, j: usize) -> bool
         requires first { i < length self.now }
         requires second { j < length self.now }
@@ -136,14 +135,14 @@ impl PairColumns {
         self.names[i]
     }
 
-    /// The names of all pairs, in their order.
+    /// The names of all pairs, in order.
     pub fn names(&self) -> &[Name]
         ensures { result.now ≡ names_of self.now }
     {
         &self.names
     }
 
-    /// The names of all pairs, in their order; the rest is let go.
+    /// The names of all pairs, in order; the rest is freed.
     pub fn into_names(self) -> Vec<Name>
         ensures { result.items ≡ names_of self }
     {
@@ -151,9 +150,10 @@ impl PairColumns {
         names
     }
 
-    /// One more pair, at the end. It fails only for want of memory, and then nothing has changed.
+    /// Appends a pair. Fails only for want of memory, and then nothing has changed.
     pub fn push(&mut self, key: &[u8], value: Value, name: Name) -> Result<(), AllocError>
-        ensures ok { OnOk result (self.new ≡ self.old ++ record { key = key.now; value = value; name = name } ∷ []) }
+        ensures ok { OnOk result (self.new
+            ≡ self.old ++ record { key = key.now; value = value; name = name } ∷ []) }
         ensures err { OnErr result (self.new ≡ self.old) }
     {
         let span = span_behind(self.keys.len(), key)?;
@@ -161,15 +161,14 @@ impl PairColumns {
         self.spans.reserve(1)?;
         self.names.reserve(1)?;
         self.values.push(value)?;
-        // There is room for the rest, so nothing fails behind a change.
+        // There is room for the rest, so nothing fails after a change.
         self.keys.extend_from_slice(key)?;
         self.spans.push_reserved(span);
         self.names.push_reserved(name);
         Ok(())
     }
 
-    /// One more pair, at the end, under the key of the pair that stands there: they share its bytes. It fails only for
-    /// want of memory, and then nothing has changed.
+    /// Appends a pair that shares the last pair's key. A failure changes nothing.
     pub(crate) fn push_again(&mut self, value: Value, name: Name) -> Result<(), AllocError>
         requires { 0 < length self.old }
         ensures ok { OnOk result (self.new
@@ -180,13 +179,12 @@ impl PairColumns {
         self.spans.reserve(1)?;
         self.names.reserve(1)?;
         self.values.push(value)?;
-        // There is room for the rest, so nothing fails behind a change.
         self.spans.push_reserved(span);
         self.names.push_reserved(name);
         Ok(())
     }
 
-    /// No pairs any more. What they took stays for later ones.
+    /// Removes all pairs, and keeps the memory.
     pub fn clear(&mut self)
         ensures { self.new ≡ [] }
     {

@@ -1,4 +1,4 @@
-//! A region read from its bytes.
+//! Decodes a region. Each `take_` function returns what it decodes, and the bytes after it.
 ghost use Rattle.std.specs.Prelude.{◌≡◌, ◌↔◌, ℕ, ◌-◌, ◌<◌, ◌^◌, ◌++◌, List, IfErr, IfOk, IsTrue};
 ghost use Rattle.std.specs.Prelude.{MatchOption, length};
 ghost use Rattle.mr_bytes.specs.declared.Value.{Value as Carried};
@@ -20,10 +20,9 @@ use thiserror::Error;
 /// Why a region was not read.
 #[derive(Clone, Copy, Debug, PartialEq, Eq, Drop, Error)]
 pub enum RegionFault {
-    /// There is no memory for it.
     #[error("OutOfMemory")]
     OutOfMemory,
-    /// The bytes spell no region of this split and partition.
+    /// The bytes are not a region of this split and partition.
     #[error("RegionDamaged")]
     RegionDamaged,
 }
@@ -40,7 +39,7 @@ impl From<AllocError> for RegionFault {
     }
 }
 
-/// A pair that stands in front of bytes, and the bytes behind it.
+/// A pair at the front of bytes, and the bytes after it.
 #[derive(Drop)]
 pub(crate) struct Front<'a> {
     pub key: &'a [u8],
@@ -49,7 +48,6 @@ pub(crate) struct Front<'a> {
     pub rest: &'a [u8],
 }
 
-/// The number that the first four bytes spell, and the bytes behind them.
 fn take_number<'a>(bytes: &'a [u8]) -> Option<(u32, &'a [u8])>
     ensures { MatchOption result (length bytes.entry.now < 4)
         (λ r. (bytes.entry.now ≡ four (r.0) ++ r.1.now) × (r.0 < 2 ^ 32)) }
@@ -61,9 +59,9 @@ fn take_number<'a>(bytes: &'a [u8]) -> Option<(u32, &'a [u8])>
     Some((BigEndian::read_u32(front), rest))
 }
 
-/// The number that the first eight bytes spell, and the bytes behind them.
 fn take_long<'a>(bytes: &'a [u8]) -> Option<(u64, &'a [u8])>
-    ensures { MatchOption result (length bytes.entry.now < 8) (λ r. bytes.entry.now ≡ eight (r.0) ++ r.1.now) }
+    ensures { MatchOption result (length bytes.entry.now < 8)
+        (λ r. bytes.entry.now ≡ eight (r.0) ++ r.1.now) }
 {
     if bytes.len() < 8 {
         return None;
@@ -72,7 +70,6 @@ fn take_long<'a>(bytes: &'a [u8]) -> Option<(u64, &'a [u8])>
     Some((BigEndian::read_u64(front), rest))
 }
 
-/// The key of so many bytes, and the bytes behind it.
 fn take_key<'a>(bytes: &'a [u8], count: u32) -> Option<(&'a [u8], &'a [u8])>
     ensures { MatchOption result (length bytes.entry.now < count)
         (λ r. (bytes.entry.now ≡ r.0.now ++ r.1.now) × (length (r.0.now) ≡ count)) }
@@ -84,9 +81,9 @@ fn take_key<'a>(bytes: &'a [u8], count: u32) -> Option<(&'a [u8], &'a [u8])>
     Some(bytes.split_at(count))
 }
 
-/// The name in front, and the bytes behind it.
 fn take_name<'a>(bytes: &'a [u8]) -> Option<(Name, &'a [u8])>
-    ensures { MatchOption result (length bytes.entry.now < 12) (λ r. bytes.entry.now ≡ name_bytes (r.0) ++ r.1.now) }
+    ensures { MatchOption result (length bytes.entry.now < 12)
+        (λ r. bytes.entry.now ≡ name_bytes (r.0) ++ r.1.now) }
 {
     let (split, behind_split) = take_number(bytes)?;
     let (rec, behind_rec) = take_number(behind_split)?;
@@ -94,7 +91,6 @@ fn take_name<'a>(bytes: &'a [u8]) -> Option<(Name, &'a [u8])>
     Some((Name { split, rec, place }, rest))
 }
 
-/// The value in front, and the bytes behind it.
 fn take_value<'a>(bytes: &'a [u8]) -> Option<(Value, &'a [u8])>
     ensures { MatchOption result ((v : Carried) (rest : List ℕ) → bytes.entry.now ≡ value_bytes v ++ rest → ⊥)
         (λ r. bytes.entry.now ≡ value_bytes (r.0) ++ r.1.now) }
@@ -111,7 +107,6 @@ fn take_value<'a>(bytes: &'a [u8]) -> Option<(Value, &'a [u8])>
     Some((Value::At { file, offset }, rest))
 }
 
-/// The pair in front, and the bytes behind it.
 pub(crate) fn take_pair<'a>(bytes: &'a [u8]) -> Option<Front<'a>>
     ensures { MatchOption result ((t : Triple) (rest : List ℕ) → PairFits t
         → bytes.entry.now ≡ pair_bytes t ++ rest → ⊥)
@@ -131,7 +126,6 @@ pub(crate) fn take_pair<'a>(bytes: &'a [u8]) -> Option<Front<'a>>
     })
 }
 
-/// The bytes behind the magic ones.
 fn take_magic<'a>(bytes: &'a [u8]) -> Option<&'a [u8]>
     ensures { MatchOption result ((rest : List ℕ) → bytes.entry.now ≡ magic ++ rest → ⊥)
         (λ r. bytes.entry.now ≡ magic ++ r.now) }
@@ -139,7 +133,6 @@ fn take_magic<'a>(bytes: &'a [u8]) -> Option<&'a [u8]>
     bytes.strip_prefix(b"MRREGN1\n".as_slice())
 }
 
-/// The bytes behind this number.
 fn take_this<'a>(bytes: &'a [u8], number: u32) -> Option<&'a [u8]>
     ensures { MatchOption result ((rest : List ℕ) → bytes.entry.now ≡ four number ++ rest → ⊥)
         (λ r. bytes.entry.now ≡ four number ++ r.now) }
@@ -151,13 +144,14 @@ fn take_this<'a>(bytes: &'a [u8], number: u32) -> Option<&'a [u8]>
     Some(rest)
 }
 
-/// How many pairs the header tells, if it is that of this split and partition, and the bytes behind it.
+/// The pair count in a header of this split and partition, and the bytes after it.
 pub(crate) fn take_header<'a>(
     bytes: &'a [u8],
     split: u32,
     partition: u32,
 ) -> Option<(u32, &'a [u8])>
-    ensures { MatchOption result ((n : ℕ) (rest : List ℕ) → bytes.entry.now ≡ header split partition n ++ rest → ⊥)
+    ensures { MatchOption result ((n : ℕ) (rest : List ℕ)
+        → bytes.entry.now ≡ header split partition n ++ rest → ⊥)
         (λ r. (bytes.entry.now ≡ header split partition (r.0) ++ r.1.now) × (r.0 < 2 ^ 32)) }
 {
     let behind_magic = take_magic(bytes)?;
@@ -173,7 +167,7 @@ pub(crate) fn take_header<'a>(
     Some((count, rest))
 }
 
-/// Whether pair `i` stands before the one in front: by key, and then by name.
+/// Whether pair `i` is before the one in front: by key, and then by name.
 fn stands_before(pairs: &PairColumns, i: usize, front: &Front<'_>) -> bool
     requires { i < length pairs.now }
     ensures { IsTrue result ↔ (pair_order (nth_pair pairs.now i) (pair_of front.now) ≡ Less) }
@@ -185,7 +179,7 @@ fn stands_before(pairs: &PairColumns, i: usize, front: &Front<'_>) -> bool
     }
 }
 
-/// Whether the pair in front may stand behind these in a region of the split.
+/// Whether the pair in front may follow these in a region of the split.
 fn may_follow(pairs: &PairColumns, split: u32, front: &Front<'_>) -> bool
     requires { Rises pair_order pairs.now }
     ensures { IsTrue result ↔ MayFollow pairs.now split (pair_of front.now) }
@@ -197,7 +191,7 @@ fn may_follow(pairs: &PairColumns, split: u32, front: &Front<'_>) -> bool
     count == 0 || stands_before(pairs, count - 1, front)
 }
 
-/// Takes the pair in front behind those that were read, and gives the bytes behind it.
+/// Appends the pair in front, and returns the bytes after it.
 fn read_next<'a>(
     pairs: &mut PairColumns,
     bytes: &'a [u8],
@@ -219,7 +213,7 @@ fn read_next<'a>(
     Ok(front.rest)
 }
 
-/// So many pairs of a split, which rise, and nothing behind them. No room is made for pairs before their bytes are read.
+/// Reads `count` rising pairs and the end. Makes no room for pairs before it has read their bytes.
 fn read_pairs(
     alloc: Global,
     bytes: &[u8],
@@ -242,8 +236,8 @@ fn read_pairs(
     Ok(pairs)
 }
 
-/// The pairs that bytes spell as a region of this split and partition. Any other bytes are `RegionDamaged`: what
-/// `write_region` gives for them is their only spelling.
+/// The pairs of a region of this split and partition. Any bytes but those that `write_region` gives
+/// for them are `RegionDamaged`.
 pub fn read_region(
     alloc: Global,
     bytes: &[u8],

@@ -1,4 +1,6 @@
-//! Pairs cut by partition into sorted regions.
+//! Cuts pairs by partition into sorted regions. The rows of the distinct keys are sorted by
+//! partition and then key, so one pass over them makes the regions in order, each from its keys'
+//! lists.
 ghost use Rattle.std.specs.Prelude.{◌≡◌, ◌+◌, ◌<◌, ◌≤◌, ◌∷◌, ◌++◌, [], IfOk, OnOk, MatchOption};
 ghost use Rattle.std.specs.Prelude.{All, length, map, drop};
 ghost use Rattle.std.specs.List.{range_with_len};
@@ -16,7 +18,7 @@ use mr_bytes::By;
 use mr_ranks::{RankedPairs, Row, ranked};
 use std::alloc::{AllocError, Global};
 
-/// The row at this place, if it has this partition.
+/// The row at this place if it is of this partition.
 pub(crate) fn row_in<'a>(rows: &[Row<'a>], at: usize, part: u32) -> Option<Row<'a>>
     requires { at ≤ length rows.now }
     ensures { MatchOption result ((front part (drop at rows.now) ≡ [])
@@ -30,7 +32,7 @@ pub(crate) fn row_in<'a>(rows: &[Row<'a>], at: usize, part: u32) -> Option<Row<'
     }
 }
 
-/// Appends the pairs of a key, whose rank is told; they share its bytes. It fails only for want of memory.
+/// Appends the pairs of a key; they share its bytes.
 fn put_all(
     target: &mut PairColumns,
     key: &[u8],
@@ -53,7 +55,7 @@ fn put_all(
     Ok(())
 }
 
-/// How many pairs the rows of a partition have that begin at `from`, and how many bytes their keys.
+/// How many pairs the partition's rows from `from` on have, and how many bytes their keys.
 fn room_at(lists: &Lists, rows: &[Row<'_>], from: usize, part: u32) -> (usize, usize)
     requires inside { All (λ r. r.number < length lists.now) rows.now }
     requires from { from ≤ length rows.now }
@@ -69,7 +71,7 @@ fn room_at(lists: &Lists, rows: &[Row<'_>], from: usize, part: u32) -> (usize, u
     (count, bytes)
 }
 
-/// The region of a partition, whose rows begin at `from`, and the place behind them.
+/// The region of the partition whose rows begin at `from`, and the place after them.
 fn region_at(
     alloc: Global,
     lists: &Lists,
@@ -93,7 +95,6 @@ fn region_at(
     Ok((region, at))
 }
 
-/// The regions of all partitions, given what each key has and the rows of the keys in their order.
 fn regions_of(
     alloc: Global,
     lists: &Lists,
@@ -114,8 +115,7 @@ fn regions_of(
     Ok(regions)
 }
 
-/// The rows of the keys of pairs by partition, then by key, and what the pairs of each have. Keys are sorted once each. It fails
-/// only for want of memory.
+/// The sorted rows of the pairs' keys, and the entries of each. Sorts each distinct key once.
 pub(crate) fn rows_with_lists<'a>(
     alloc: Global,
     pairs: &'a Numbered,
@@ -131,8 +131,7 @@ pub(crate) fn rows_with_lists<'a>(
     Ok((rows, lists))
 }
 
-/// For each partition, in order, the pairs that belong to it, by key and then name. Under each key
-/// the names rise already. It fails only for want of memory.
+/// A region per partition, in order, of pairs whose names rise under each key.
 pub(crate) fn cut(
     alloc: Global,
     pairs: &Numbered,
@@ -147,7 +146,7 @@ pub(crate) fn cut(
     regions_of(alloc, &lists, rows.as_slice(), parts)
 }
 
-/// What regions are: they rise strictly by key and name, and a region has just the pairs of its partition.
+/// Regions rise strictly by key and name, and contain exactly the pairs of their partition.
 pub fn spill_law()
     ensures rise { RegionsRise }
     ensures have { RegionsHave }

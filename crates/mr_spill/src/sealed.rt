@@ -1,4 +1,4 @@
-//! The pairs of a run, cut by partition into sorted regions that are spelled at once.
+//! Cuts the pairs of a run by partition into sorted regions, and writes these as bytes at once.
 ghost use Rattle.std.specs.Prelude.{◌≡◌, ◌+◌, ◌<◌, ◌≤◌, ◌++◌, [], IfOk, OnOk, OnErr};
 ghost use Rattle.std.specs.Prelude.{All, length, map, drop, slice_index_or};
 ghost use Rattle.std.specs.List.{AllByRecursion, flat_map};
@@ -22,7 +22,7 @@ use mr_ranks::Row;
 use std::alloc::{AllocError, Global};
 use std::marker::Model;
 
-/// The regions of a run of a split, spelled: one for each partition.
+/// The regions of a run of a split as bytes, one per partition.
 #[derive(Drop)]
 pub struct SealedRun {
     split: u32,
@@ -39,7 +39,7 @@ impl Model for SealedRun {
 }
 
 impl SealedRun {
-    /// The split whose run it is.
+    /// The split of the run.
     pub fn split(&self) -> u32
         ensures { result ≡ self.now.split }
     {
@@ -70,7 +70,6 @@ impl SealedRun {
     }
 }
 
-/// Appends the pairs of a key, whose rank is told, as they are spelled. It fails only for want of memory.
 fn spell_under(
     out: &mut Vec<u8>,
     key: &[u8],
@@ -89,8 +88,7 @@ fn spell_under(
     Ok(())
 }
 
-/// Appends the pairs of the rows of a partition, which begin at `from`, as they are spelled: the
-/// place behind these rows.
+/// Writes the partition's rows from `from` on, and returns the place after them.
 fn spell_rows(
     out: &mut Vec<u8>,
     lists: &Lists,
@@ -102,8 +100,10 @@ fn spell_rows(
     requires from { from ≤ length rows.now }
     ensures text { OnOk result (out.new.items ≡ out.old.items
         ++ flat_map pair_bytes (row_pairs lists.now (front part (drop from rows.now)))) }
-    ensures fit { OnOk result (AllByRecursion PairFits (row_pairs lists.now (front part (drop from rows.now)))) }
-    ensures rest { IfOk result (λ at. (at ≤ length rows.now) × (drop at rows.now ≡ behind part (drop from rows.now))) }
+    ensures fit { OnOk result
+        (AllByRecursion PairFits (row_pairs lists.now (front part (drop from rows.now)))) }
+    ensures rest { IfOk result
+        (λ at. (at ≤ length rows.now) × (drop at rows.now ≡ behind part (drop from rows.now))) }
 {
     let mut at = from;
     while let Some(row) = row_in(rows, at, part) {
@@ -113,7 +113,6 @@ fn spell_rows(
     Ok(at)
 }
 
-/// How many bytes spell a value.
 fn value_size(value: Value) -> usize
     ensures { result ≡ length (value_bytes value) }
 {
@@ -123,7 +122,7 @@ fn value_size(value: Value) -> usize
     }
 }
 
-/// How many bytes the pairs of a key are spelled in, all values being of one kind; no more than can be counted.
+/// The bytes of a key's pairs if all values are of one kind, saturating.
 fn room_under(key: &[u8], lists: &Lists, number: usize) -> usize
     requires { number < length lists.now }
 {
@@ -136,8 +135,7 @@ fn room_under(key: &[u8], lists: &Lists, number: usize) -> usize
     count.saturating_mul(each)
 }
 
-/// How many pairs the rows of a partition have that begin at `from`, and in how many bytes they are spelled. There is no
-/// memory for 4 Gi pairs.
+/// How many pairs the partition's rows from `from` on have, and their bytes.
 fn size_at(
     lists: &Lists,
     rows: &[Row<'_>],
@@ -159,7 +157,6 @@ fn size_at(
     Ok((count, room))
 }
 
-/// So many pairs, and more. There is no memory for 4 Gi pairs.
 fn counted(count: u32, more: usize) -> Result<u32, AllocError>
     ensures { IfOk result (λ n. n ≡ count + more) }
 {
@@ -169,7 +166,7 @@ fn counted(count: u32, more: usize) -> Result<u32, AllocError>
     Ok(count + more as u32)
 }
 
-/// The region of a partition, whose rows begin at `from`, spelled, and the place behind them.
+/// The bytes of the partition's region, whose rows begin at `from`, and the place after them.
 fn text_at(
     alloc: Global,
     lists: &Lists,
@@ -192,7 +189,6 @@ fn text_at(
     Ok((bytes, next))
 }
 
-/// The regions of all partitions, spelled, given what each key has and the rows of the keys in their order.
 fn texts_of(
     alloc: Global,
     lists: &Lists,
@@ -216,8 +212,6 @@ fn texts_of(
     Ok(texts)
 }
 
-/// For each partition, in order, the pairs that belong to it, by key and then name, spelled as the region of a run of that
-/// split. Under each key the names rise already.
 fn cut_texts(
     alloc: Global,
     pairs: &Numbered,
@@ -236,8 +230,8 @@ fn cut_texts(
 }
 
 impl Buffer {
-    /// The same as bytes: the regions of a run of this split, of which all pairs are. It holds none then. It fails only for
-    /// want of memory, and then leaves the buffer as it was.
+    /// Like `seal`, with the regions as bytes; all pairs are of this split. Fails only for want of
+    /// memory, and then leaves the buffer as it was.
     pub fn seal_run(
         &mut self,
         alloc: Global,
@@ -247,7 +241,8 @@ impl Buffer {
     ) -> Result<SealedRun, AllocError>
         requires some { 0 < parts }
         requires own { AllByRecursion (λ t. t.name.split ≡ split) self.old.pairs }
-        ensures ok { IfOk result (λ r. SpellsRun r split parts (region (λ k. partition_by by k parts) self.old.pairs)) }
+        ensures ok { IfOk result
+            (λ r. SpellsRun r split parts (region (λ k. partition_by by k parts) self.old.pairs)) }
         ensures empty { OnOk result (self.new ≡ record { limit = self.old.limit; pairs = [] }) }
         ensures err { OnErr result (self.new ≡ self.old) }
     {

@@ -1,4 +1,7 @@
-//! A region spelled as bytes.
+//! Encodes a region as bytes. Numbers have four bytes, offsets eight, the highest byte first.
+//!
+//!     MRREGN1\n  split  partition  count,  and then for each pair
+//!     key length  key  split  record  place  and its value: 0, or 1 file offset
 ghost use Rattle.std.specs.Prelude.{◌≡◌, ℕ, ◌<◌, ◌^◌, ◌++◌, List, IfOk, OnOk, length};
 ghost use Rattle.std.specs.List.{AllByRecursion};
 ghost use Rattle.mr_bytes.specs.Lists.{Rises};
@@ -39,7 +42,6 @@ fn put_value(out: &mut Vec<u8>, value: Value) -> Result<(), AllocError>
     Ok(())
 }
 
-/// The header: the magic bytes, the split, the partition, and how many pairs there are.
 pub(crate) fn put_header(
     out: &mut Vec<u8>,
     split: u32,
@@ -63,15 +65,14 @@ fn put_name(out: &mut Vec<u8>, name: Name) -> Result<(), AllocError>
     Ok(())
 }
 
-/// The split and the record of a name, spelled. They are one number to the processor: what is put on its stack in two
-/// pieces and read as one it has to wait for.
+/// The split and the record of a name, as one number: two writes read back as one would stall.
 fn spelled_record(name: Name) -> [u8; 8]
     ensures { result ≡ four name.split ++ four name.rec }
 {
     (u64::from(name.split) * 4_294_967_296 + u64::from(name.rec)).to_be_bytes()
 }
 
-/// A pair. There is no memory for a key of 4 GiB.
+/// A pair. A key of 4 GiB fails as want of memory.
 pub(crate) fn put_pair(
     out: &mut Vec<u8>,
     key: &[u8],
@@ -93,7 +94,6 @@ pub(crate) fn put_pair(
     Ok(())
 }
 
-/// Pair `i` of a column, from 0.
 fn put_nth(out: &mut Vec<u8>, pairs: &PairColumns, i: usize) -> Result<(), AllocError>
     requires { i < length pairs.now }
     ensures text { OnOk result (out.new.items ≡ out.old.items ++ pair_bytes (nth_pair pairs.now i)) }
@@ -102,8 +102,7 @@ fn put_nth(out: &mut Vec<u8>, pairs: &PairColumns, i: usize) -> Result<(), Alloc
     put_pair(out, pairs.key(i), pairs.value(i), pairs.name(i))
 }
 
-/// The bytes of the region of a partition that a run of a split gave: what docs/FORMATS.md says of regions. It fails only
-/// for want of memory.
+/// The bytes of a region of a run of the split (docs/FORMATS.md). Fails only for want of memory.
 pub fn write_region(
     alloc: Global,
     pairs: &PairColumns,
@@ -126,7 +125,7 @@ pub fn write_region(
     Ok(out)
 }
 
-/// Regions spelled by hand, and pairs that have no spelling.
+/// Regions encoded by hand, and pairs that have no encoding.
 pub fn worked_regions()
     ensures region { WorkedRegion }
     ensures sizes { WorkedSizes }

@@ -1,4 +1,4 @@
-//! What a store of regions is, and the one that keeps them in memory.
+//! Stores of regions, and the one that keeps them in memory.
 ghost use Rattle.std.specs.Prelude.{◌≡◌, ◌≢◌, Bool, true, IfErr, OnErr, OnOk, ◌<◌, vec_len, IfOk};
 ghost use Rattle.mr_spill.specs.Stores.{Grows};
 ghost use Rattle.mr_spill.specs.declared.store.PutFault.{PutFault};
@@ -9,10 +9,9 @@ use std::alloc::{AllocError, Global};
 use std::sync::{Arc, Mutex, Wait};
 use thiserror::Error;
 
-/// Why a region was not kept.
+/// Why a region was not stored.
 #[derive(Clone, Copy, Debug, PartialEq, Eq, Drop, Error)]
 pub enum PutFault {
-    /// A device failed.
     #[error("Device")]
     Device,
     #[error("OutOfMemory")]
@@ -29,15 +28,14 @@ impl From<AllocError> for PutFault {
     }
 }
 
-/// Why a region was not given.
+/// Why a region was not returned.
 #[derive(Clone, Copy, Debug, PartialEq, Eq, Drop, Error)]
 pub enum GetFault {
-    /// A device failed.
     #[error("Device")]
     Device,
     #[error("OutOfMemory")]
     OutOfMemory,
-    /// The worker has put no region of this number.
+    /// The worker has stored no region of this number.
     #[error("NoRegion")]
     NoRegion,
 }
@@ -61,36 +59,35 @@ impl From<ReadFault> for GetFault {
     }
 }
 
-/// A store of regions, shared by workers in many threads. Each worker's regions are numbered from 0, as they are put. Of what
-/// `get` gives nothing is said: who reads it tests it.
+/// A store of regions that threads share. It numbers each worker's regions from 0, in the order of
+/// `put`. Nothing is promised of the bytes that `get` appends: the reader tests them.
 pub trait RegionStore: Sync {
-    // No device stands behind it.
+    // No device is involved.
     ghost steady: { Bool };
 
-    /// Whether no device stands behind it: then neither call answers `Device`. It is a function, since a clause can't read a
-    /// constant of a type with parameters.
+    /// Whether no device is involved, so that no call returns `Device`. A function, because a
+    /// clause can't read a constant of a type with parameters.
     fn is_steady() -> bool
         ensures { result ≡ steady };
 
-    /// Keeps the bytes of a region for the worker: its number.
+    /// Stores the bytes of a region for the worker, and returns its number.
     fn put(&self, worker: u32, bytes: &[u8]) -> Result<u64, PutFault>
         ensures steady { IfErr result (λ e. steady ≡ true → e ≢ PutFault.Device) };
 
-    /// Keeps a region that it is given for good, which a store in memory needs not copy.
+    /// Stores a region that it takes over, which a store in memory need not copy.
     fn put_owned(&self, worker: u32, bytes: Vec<u8>) -> Result<u64, PutFault>
         ensures steady { IfErr result (λ e. steady ≡ true → e ≢ PutFault.Device) }
     {
         self.put(worker, bytes.as_slice())
     }
 
-    /// Appends bytes: those that are kept for the worker under this number. After a refusal the list is as it was.
+    /// Appends the worker's region of this number. A failure leaves the list as it was.
     fn get(&self, worker: u32, number: u64, into: &mut Vec<u8>) -> Result<(), GetFault>
         ensures steady { IfErr result (λ e. steady ≡ true → e ≢ GetFault.Device) }
         ensures ok { OnOk result (Grows into.old.items into.new.items) }
         ensures err { OnErr result (into.new.items ≡ into.old.items) };
 }
 
-/// A store that is lent is one.
 impl<S: RegionStore> RegionStore for &S {
     ghost steady = { S.steady };
 
@@ -111,10 +108,10 @@ impl<S: RegionStore> RegionStore for &S {
     }
 }
 
-/// A worker's regions, by their numbers, under a lock of its own.
+/// A worker's regions by number, under a lock of their own.
 type Shelf = Mutex<Vec<Arc<Vec<u8>>>>;
 
-/// Regions in memory. Each worker has a lock, which is held for a look or a push, and never while bytes are copied.
+/// Regions in memory. It holds a worker's lock to look up or push, never while bytes are copied.
 #[derive(Drop)]
 pub struct MemoryStore<'a, R: Wait> {
     rt: &'a R,
@@ -123,7 +120,6 @@ pub struct MemoryStore<'a, R: Wait> {
     ghost some: { 0 < vec_len shelves },
 }
 
-/// So many shelves with no region.
 fn empty_shelves(alloc: Global, workers: u32) -> Result<Vec<Shelf>, AllocError>
     ensures { IfOk result (λ v. vec_len v ≡ workers) }
 {
@@ -135,7 +131,7 @@ fn empty_shelves(alloc: Global, workers: u32) -> Result<Vec<Shelf>, AllocError>
 }
 
 impl<'a, R: Wait> MemoryStore<'a, R> {
-    /// No regions, for so many workers.
+    /// No regions, for this number of workers.
     pub fn new(rt: &'a R, alloc: Global, workers: u32) -> Result<MemoryStore<'a, R>, AllocError>
         requires { 0 < workers }
     {
@@ -143,13 +139,12 @@ impl<'a, R: Wait> MemoryStore<'a, R> {
         Ok(MemoryStore { rt, alloc, shelves })
     }
 
-    /// The worker's shelf; a worker of no number below the count shares one.
+    /// The worker's shelf; worker numbers past the count share shelves.
     fn shelf(&self, worker: u32) -> &Shelf {
         let at = worker as usize % self.shelves.len();
         &self.shelves[at]
     }
 
-    /// The worker's region of this number, shared.
     fn shared(&self, worker: u32, number: u64) -> Result<Option<Arc<Vec<u8>>>, AllocError> {
         let regions = self.shelf(worker).lock(self.rt);
         match regions.get(number as usize) {

@@ -1,4 +1,4 @@
-//! Which records of a plan are kept, and those one after another.
+//! The records of a plan that are kept: all but those that a list leaves out.
 ghost use Rattle.std.specs.Prelude.{◌≡◌, ◌≢◌, ℕ, ◌+◌, ◌-◌, ◌≤◌, ◌<◌, ◌^◌, [], ◌∷◌, None, IfOk};
 ghost use Rattle.std.specs.Prelude.{IfNone, IfSome, IsOk, MatchOption, length};
 ghost use Rattle.mr_input.specs.Files.{split_total};
@@ -14,18 +14,16 @@ use std::alloc::{AllocError, Global};
 use std::cmp::Ordering;
 use std::marker::Model;
 
-/// Why a list of left-out records is no such list.
+/// Why a list of left-out records is not valid: there are too many, a name is not after the one
+/// before it, or there is no record of that name. Finding a fault takes no memory.
 #[derive(Clone, Copy, Debug, PartialEq, Eq, Drop)]
 pub enum SkipFault {
-    /// There are more than may be.
     TooMany,
-    /// A name is not past the one before it.
     Order,
-    /// There is no record of that name.
     NoSuchRecord,
 }
 
-/// A plan with a list of names that are left out: all its other records are kept.
+/// A plan without some records, given by name.
 #[derive(Drop)]
 pub struct KeptPlan<'a> {
     plan: &'a Plan<'a>,
@@ -45,7 +43,7 @@ impl<'a> Model for KeptPlan<'a> {
     ghost invariant = { λ k. k.left_out ≡ left_out_flags k.skips.now (records_of k.plan.now) };
 }
 
-/// The records that are kept, of some splits in a row, one after another.
+/// The kept records of consecutive splits, one after another.
 #[derive(Drop)]
 pub struct KeptRecords<'a> {
     kept: &'a KeptPlan<'a>,
@@ -72,8 +70,8 @@ impl<'a> Model for KeptRecords<'a> {
 }
 
 impl<'a> Plan<'a> {
-    /// This plan without the records that a list names. Names may stand in any order, more than once, and need not be
-    /// those of records. It fails only for want of memory, and takes none for an empty list.
+    /// This plan without the records that a list names. Names may be in any order, repeat, and need
+    /// not be those of records. Fails only for want of memory, and takes none for an empty list.
     pub fn without<'k>(
         &'k self,
         alloc: Global,
@@ -90,8 +88,7 @@ impl<'a> Plan<'a> {
         })
     }
 
-    /// The fault of a left-out record, given the one before it in the list: its order is tested before its existence.
-    /// It takes no memory.
+    /// The fault of `name` after `before` in a list: first its order, then whether it exists.
     pub fn name_fault(&self, before: Option<RecordName>, name: RecordName) -> Option<SkipFault>
         ensures first { result ≡ name_fault (records_of self.now) before name }
         ensures other { IfSome result (λ e. e ≢ SkipFault.TooMany) }
@@ -107,8 +104,7 @@ impl<'a> Plan<'a> {
         None
     }
 
-    /// The first fault of a list of left-out records of which there may be at most so many: how many there are is
-    /// tested first, then each of them in turn. It takes no memory.
+    /// The first fault of a list of at most `most` names: tests their number, then each in turn.
     pub fn list_fault(&self, most: u32, skips: &[RecordName]) -> Option<SkipFault>
         ensures { result ≡ list_fault (records_of self.now) most skips.now }
     {
@@ -118,7 +114,7 @@ impl<'a> Plan<'a> {
         self.first_fault(skips)
     }
 
-    /// The first fault of a list of left-out records, however many there are: never `TooMany`. It takes no memory.
+    /// The first fault of a list of any length, so never `TooMany`.
     pub fn first_fault(&self, skips: &[RecordName]) -> Option<SkipFault>
         ensures first { result ≡ first_fault (records_of self.now) None skips.now }
         ensures other { IfSome result (λ e. e ≢ SkipFault.TooMany) }
@@ -135,14 +131,12 @@ impl<'a> Plan<'a> {
 }
 
 impl<'a> KeptPlan<'a> {
-    /// The plan.
     pub fn plan(&self) -> &'a Plan<'a>
         ensures { result.now ≡ self.now.cut }
     {
         self.plan
     }
 
-    /// Whether the record of that name is left out.
     fn leaves_out(&self, name: RecordName) -> bool
         requires split { name.split < split_total self.now.cut.size self.now.cut.files }
         requires record { name.rec < length (of_split name.split (records_of self.now.cut)) }
@@ -170,14 +164,15 @@ impl<'a> KeptPlan<'a> {
         self.plan.locate(name.split, name.rec)
     }
 
-    /// The first kept record from that name on, of the splits before `end`.
+    /// The first kept record at or after `from`, in the splits before `end`.
     fn first_from(&self, from: RecordName, end: u32) -> Option<RecordName>
         requires order { from.split ≤ end }
         requires within { end ≤ split_total self.now.cut.size self.now.cut.files }
         requires here { from.rec ≤ length (of_split from.split (records_of self.now.cut)) }
         ensures first { MatchOption result (kept_from self.now from.split from.rec end ≡ [])
             (λ n. kept_from self.now from.split from.rec end
-            ≡ nth_named (of_split n.split (records_of self.now.cut)) n.rec ∷ kept_from self.now n.split (n.rec + 1) end) }
+            ≡ nth_named (of_split n.split (records_of self.now.cut)) n.rec
+            ∷ kept_from self.now n.split (n.rec + 1) end) }
         ensures place { IfSome result
             (λ n. (n.split < end) × (n.rec < length (of_split n.split (records_of self.now.cut)))) }
         ensures small { IfSome result (λ n. n.rec + 1 < 2 ^ 32) }
@@ -199,7 +194,7 @@ impl<'a> KeptPlan<'a> {
         None
     }
 
-    /// The kept records of the splits from `first` on and before `end`.
+    /// The kept records of the splits from `first` to before `end`.
     pub fn between(&self, first: u32, end: u32) -> KeptRecords<'_>
         requires order { first ≤ end }
         requires within { end ≤ split_total self.now.cut.size self.now.cut.files }
@@ -215,31 +210,31 @@ impl<'a> KeptPlan<'a> {
         }
     }
 
-    /// The kept records of one split.
     pub fn of_split(&self, s: u32) -> KeptRecords<'_>
         requires { s < split_total self.now.cut.size self.now.cut.files }
         ensures { result ≡ kept_records self.entry.now.skips (of_split s (records_of self.entry.now.cut)) }
     {
-        // A plan has far fewer splits than a u32 numbers.
+        // A plan has far fewer splits than a `u32` can count.
         let _few = self.plan.splits();
         self.between(s, s + 1)
     }
 
-    /// All records that are kept.
     pub fn records(&self) -> KeptRecords<'_>
         ensures { result ≡ kept_records self.entry.now.skips (records_of self.entry.now.cut) }
     {
-        // A plan's size is at least 1: that its splits have all records rests on that.
+        // The size is at least 1, so the splits have all records.
         let _size = self.plan.size();
         self.between(0, self.plan.splits())
     }
 }
 
 impl<'a> KeptRecords<'a> {
-    /// The next record, with its name, or `None` where none is left, and from then on. It takes no memory.
+    /// The next record with its name, or `None` once none is left. Takes no memory.
     pub fn next(&mut self) -> Option<(RecordName, RecordAt<'a>)>
         ensures next { MatchOption result (self.old ≡ [])
-            (λ r. self.old ≡ record { name = r.0; file = r.1.file; start = r.1.start; bytes = r.1.bytes.now } ∷ self.new) }
+            (λ r. self.old
+            ≡ record { name = r.0; file = r.1.file; start = r.1.start; bytes = r.1.bytes.now }
+            ∷ self.new) }
         ensures ended { IfNone result (self.new ≡ []) }
         ensures small { IfSome result (λ r. length r.1.bytes.now ≤ 2 ^ 30) }
     {

@@ -1,4 +1,4 @@
-//! Records that are left out, as flags.
+//! The left-out records of a plan: a flag per record of the input, or nothing if all are kept.
 ghost use Rattle.std.specs.Prelude.{◌≡◌, ℕ, ◌<◌, ◌||◌, Bool, false, length, [], IfOk, IsOk};
 ghost use Rattle.std.specs.Prelude.{slice_index_or};
 ghost use Rattle.mr_splits.specs.Named.{is_left_out};
@@ -9,7 +9,6 @@ use mr_bytes::RecordName;
 use std::alloc::{AllocError, Global};
 use std::marker::Model;
 
-/// For each record of a plan, by its number in the whole input, whether it is left out.
 #[derive(Drop)]
 pub struct LeftOutSet {
     count: usize,
@@ -28,7 +27,6 @@ impl Model for LeftOutSet {
 }
 
 impl LeftOutSet {
-    /// Whether the record of that number is left out.
     pub fn has(&self, number: usize) -> bool
         requires { number < length self.now }
         ensures { result ≡ slice_index_or self.now number false }
@@ -38,8 +36,7 @@ impl LeftOutSet {
 }
 
 impl<'a> Plan<'a> {
-    /// The records that a list of names leaves out. Names may stand in any order, more than once, and need not be those
-    /// of records. An empty list takes no memory.
+    /// The records that `skips` leaves out, as for `without`. An empty list takes no memory.
     pub fn left_out(&self, alloc: Global, skips: &[RecordName]) -> Result<LeftOutSet, AllocError>
         ensures ok { IfOk result (λ l. l ≡ left_out_flags skips.now (records_of self.now)) }
         ensures none { skips.now ≡ [] → IsOk result }
@@ -56,7 +53,6 @@ impl<'a> Plan<'a> {
         Ok(LeftOutSet { count, flags })
     }
 
-    /// Sets the flag of each record that the list names.
     fn mark(&self, skips: &[RecordName], flags: &mut [bool])
         requires count { length flags.old ≡ length (records_of self.now) }
         requires none { (i : ℕ) → slice_index_or flags.old i false ≡ false }
@@ -70,7 +66,9 @@ impl<'a> Plan<'a> {
     fn mark_one(&self, name: RecordName, flags: &mut [bool])
         requires { length flags.old ≡ length (records_of self.now) }
         ensures { (i : ℕ) → i < length (records_of self.now)
-            → slice_index_or flags.new i false ≡ (slice_index_or flags.old i false || has_record_name name (nth_named (records_of self.now) i)) }
+            → slice_index_or flags.new i false
+            ≡ (slice_index_or flags.old i false || has_record_name name
+            (nth_named (records_of self.now) i)) }
     {
         if self.has_record(name) {
             flags[self.record_index(name.split, name.rec)] = true;

@@ -15,8 +15,8 @@ pub use kept_records::{KeptPlan, KeptRecords, SkipFault};
 pub use left_out_set::LeftOutSet;
 pub use plan::{Plan, PlanFault, RecordAt, SplitPlace};
 
-/// The records of the splits, joined, are the records of the files, each told with its own file and in the split that
-/// has its start; they are numbered from 0 in each split, and their names rise.
+/// The records of the splits, joined, are those of the files, each with its file and in the split
+/// that contains its start. They are numbered from 0 in each split, and their names rise.
 pub fn splits_law()
     ensures joined { SplitsJoin }
     ensures records { NamedAreRecords }

@@ -1,4 +1,7 @@
-//! The plan of an input: its splits with their records.
+//! Cuts an input into splits. A record belongs to the split that contains its start.
+//!
+//!     the cat\nsa | t on\nthe m | at\n        a file in splits of 10 bytes
+//!     record 0, 1 | record 0    | no record
 ghost use Rattle.std.specs.Prelude.{◌≡◌, ◌↔◌, ℕ, ◌+◌, ◌^◌, ◌≤◌, ◌<◌, ◌⊎◌, length, IfOk, IsTrue};
 ghost use Rattle.std.specs.Option.{option_copied, option_map};
 ghost use Rattle.mr_bytes.specs.declared.RecordName.{RecordName};
@@ -23,7 +26,7 @@ pub struct SplitPlace {
     pub end: u32,
 }
 
-/// A record: the number of its file, its start there in bytes, and its bytes without the line feed.
+/// A record: its file's number, its start there in bytes, and its bytes without the line feed.
 #[derive(Clone, Copy)]
 pub struct RecordAt<'a> {
     pub file: u32,
@@ -31,22 +34,18 @@ pub struct RecordAt<'a> {
     pub bytes: &'a [u8],
 }
 
-/// Why an input has no plan.
+/// Why an input has no plan: a split size of 0 or over 64 MiB, or over 1,048,576 splits.
 #[derive(Clone, Copy, Debug, PartialEq, Eq, Drop, Error)]
 pub enum PlanFault {
-    /// The split size is 0, or more than 67,108,864 bytes.
     #[error("BadSplitSize")]
     BadSplitSize,
-    /// There are more than 1,048,576 splits.
     #[error("TooManySplits")]
     TooManySplits,
-    /// The machine refused memory.
     #[error("OutOfMemory")]
     OutOfMemory,
 }
 
-/// An input cut into splits, each with its records. A record belongs to the split that has its start, even where it
-/// ends in a later one.
+/// An input cut into splits, each with its records.
 #[derive(Drop)]
 pub struct Plan<'a> {
     input: &'a Input,
@@ -77,7 +76,7 @@ impl<'a> Model for Plan<'a> {
 }
 
 impl<'a> Plan<'a> {
-    /// Cuts an input into splits of `size` bytes. A bad size is told first, then too many splits.
+    /// Cuts an input into splits of `size` bytes. Of two faults it reports `BadSplitSize`.
     pub fn of(alloc: Global, input: &'a Input, size: u32) -> Result<Plan<'a>, PlanFault>
         ensures ok { IfOk result (λ r. r ≡ record { size = size; files = input.entry.now }) }
         ensures bad_size { (result ≡ Err PlanFault.BadSplitSize) ↔ ((size ≡ 0) ⊎ (67108864 < size)) }
@@ -96,7 +95,7 @@ impl<'a> Plan<'a> {
         }
     }
 
-    /// Cuts an input that fits into splits of `size` bytes: what `of` gives. It fails only for want of memory.
+    /// Like `of`, for a size and an input that fit. Fails only for want of memory.
     pub fn new_fitting(alloc: Global, input: &'a Input, size: u32) -> Result<Plan<'a>, AllocError>
         requires size { (0 < size) × (size ≤ 2 ^ 26) }
         requires few { split_total size input.now ≤ 2 ^ 20 }
@@ -106,14 +105,13 @@ impl<'a> Plan<'a> {
         Ok(Plan { input, size, table })
     }
 
-    /// The files.
     pub fn input(&self) -> &'a Input
         ensures { result.now ≡ self.now.files }
     {
         self.input
     }
 
-    /// How many bytes each split has at most.
+    /// The most bytes of a split.
     pub fn size(&self) -> u32
         ensures same { result ≡ self.now.size }
         ensures within { (1 ≤ result) × (result ≤ 2 ^ 26) }
@@ -121,7 +119,6 @@ impl<'a> Plan<'a> {
         self.size
     }
 
-    /// How many splits there are.
     pub fn splits(&self) -> u32
         ensures count { result ≡ split_total self.now.size self.now.files }
         ensures few { result ≤ 2 ^ 20 }
@@ -176,7 +173,7 @@ impl<'a> Plan<'a> {
         }
     }
 
-    /// The number in the whole input of record `r` of split `s`: all records are numbered from 0, in their order.
+    /// The number of record `r` of split `s` among all records of the input, from 0, in order.
     pub fn record_index(&self, s: u32, r: u32) -> usize
         requires split { s < split_total self.now.size self.now.files }
         requires record { r < length (of_split s (records_of self.now)) }
@@ -199,7 +196,7 @@ impl<'a> Plan<'a> {
         (name.split as usize) < self.table.rows.len() && name.rec < self.records_in(name.split)
     }
 
-    /// The bytes of record `r` of split `s`, or none where there is no such record.
+    /// The bytes of record `r` of split `s`, or `None` if there is no such record.
     pub fn record_of(&self, s: u32, r: u32) -> Option<&'a [u8]>
         ensures { option_copied result
             ≡ option_map (λ x. x.bytes) (record_named (records_of self.now) (record { split = s; rec = r })) }

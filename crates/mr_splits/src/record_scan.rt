@@ -1,4 +1,4 @@
-//! The records of a file, found a block at a time up to a place.
+//! Finds the records that start in a range of a file, 64 bytes at a time.
 ghost use Rattle.std.specs.Prelude.{◌≡◌, ℕ, ◌+◌, ◌++◌, ◌^◌, ◌≤◌, length, List, IfOk};
 ghost use Rattle.mr_splits.specs.Table.{Takes};
 
@@ -6,13 +6,10 @@ use mr_lanes::line_ends_between;
 use mr_records::record_end;
 use std::alloc::AllocError;
 
-/// Appends the ends of the records that start from `from` on and before `end`, and answers where the next record starts.
-/// All places are counted in bytes from the file's front.
-///
-/// All but the last of these records end at the line feeds before the place `end - 1`, which are found 64 bytes at a
-/// time: where lines are short, a search begun anew for each record costs more than going over its bytes. The last one
-/// has no line feed before `end - 1`, so its end, which may lie far behind `end`, is searched for from there. No byte is
-/// gone over twice.
+/// Appends the ends of the records that start from `from` to before `end`; returns where the next
+/// one starts. Places count from the file's front. All but the last of these records end at a line
+/// feed before `end - 1`; blocks find those, as a search per record costs more if lines are short.
+/// The last one's end, perhaps far after `end`, is searched from there. No byte is read twice.
 pub(crate) fn take_records(
     bytes: &[u8],
     from: usize,
@@ -35,7 +32,7 @@ pub(crate) fn take_records(
             ends.push(stop as u32)?;
             Ok(stop + 1)
         }
-        // A byte stands at `end - 1`.
+        // There is a byte at `end - 1`.
         None => unreachable!(),
     }
 }

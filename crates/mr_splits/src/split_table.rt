@@ -1,4 +1,4 @@
-//! The table of an input's splits and records.
+//! The table of an input's splits and records: four bytes a record, and a row a split.
 ghost use Rattle.std.specs.Prelude.{◌≡◌, ℕ, ◌+◌, ◌++◌, ◌^◌, ◌≤◌, ◌<◌, length, List, All, IfOk};
 ghost use Rattle.std.specs.Prelude.{OnOk, take};
 ghost use Rattle.mr_bytes.specs.declared.Span.{Span};
@@ -13,8 +13,7 @@ use mr_bytes::Span;
 use mr_input::Input;
 use std::alloc::{AllocError, Global};
 
-/// A split: its place, how many records it has, where the first of them starts in the file, and its number in the whole
-/// input.
+/// A split: its place, its record count, where the first starts, and that one's number overall.
 #[derive(Clone, Copy)]
 pub(crate) struct Row {
     pub place: SplitPlace,
@@ -23,7 +22,7 @@ pub(crate) struct Row {
     pub first: usize,
 }
 
-/// Where the records of all files end, each at its line feed or at the end of its file, and a row for each split.
+/// Where all records end, each at its line feed or its file's end, and a row per split.
 #[derive(Drop)]
 pub(crate) struct Table {
     pub ends: Vec<u32>,
@@ -31,8 +30,7 @@ pub(crate) struct Table {
 }
 
 impl Table {
-    /// The span of record `r` of a row, from 0. The first starts where the row says, each other one behind the end
-    /// before it.
+    /// The span of record `r` of a row: from `row.begin` if first, else after the end before it.
     pub(crate) fn span(&self, row: Row, r: u32) -> Span
         requires record { r < row.count }
         requires range { row.first + row.count ≤ length self.now.ends.items }
@@ -54,7 +52,6 @@ impl Table {
     }
 }
 
-/// Appends the records and the splits of file `i`.
 fn cut_file(input: &Input, i: usize, size: u32, table: &mut Table) -> Result<(), AllocError>
     requires size { (0 < size) × (size ≤ 2 ^ 26) }
     requires file { (i < length input.now) × (length input.now ≤ 1024) }
@@ -65,7 +62,8 @@ fn cut_file(input: &Input, i: usize, size: u32, table: &mut Table) -> Result<(),
     ensures stands { OnOk result (Stands size input.now table.new.ends.items table.new.rows.items) }
     ensures all { OnOk result (listed input.now table.new.ends.items 0 table.new.rows.items
         ≡ listed input.now table.old.ends.items 0 table.old.rows.items
-        ++ named_from size i (split_total size (take i input.now)) (split_total size (take i input.now)) 0 (records (nth_file input.now i))) }
+        ++ named_from size i (split_total size (take i input.now))
+        (split_total size (take i input.now)) 0 (records (nth_file input.now i))) }
 {
     let bytes = input.file(i);
     let mut start = 0;
@@ -90,12 +88,12 @@ fn cut_file(input: &Input, i: usize, size: u32, table: &mut Table) -> Result<(),
     Ok(())
 }
 
-/// Cuts all files into splits of `size` bytes.
 pub(crate) fn cut_files(alloc: Global, input: &Input, size: u32) -> Result<Table, AllocError>
     requires { (0 < size) × (size ≤ 2 ^ 26) }
     ensures rows { IfOk result (λ t. length t.rows.items ≡ split_total size input.now) }
     ensures stands { IfOk result (λ t. Stands size input.now t.ends.items t.rows.items) }
-    ensures all { IfOk result (λ t. listed input.now t.ends.items 0 t.rows.items ≡ named_records size input.now) }
+    ensures all { IfOk result
+        (λ t. listed input.now t.ends.items 0 t.rows.items ≡ named_records size input.now) }
 {
     let mut table = Table {
         ends: Vec::new(alloc),

@@ -1,4 +1,4 @@
-//! Readers and writers, each with a count of its failed calls.
+//! Readers and writers that count their failed calls.
 ghost use Rattle.std.specs.Prelude.{◌≡◌, ℕ, ◌≤◌, ◌<◌, ⊤, Bool, List, Option, None, IfOk, IfSome};
 ghost use Rattle.std.specs.Prelude.{MatchResult, length, take};
 ghost use Rattle.std.specs.Io.KnownBytes.{ReadConsumes};
@@ -12,22 +12,20 @@ use thiserror::Error;
 #[error("Device")]
 pub struct Device;
 
-/// A reader that counts its failed calls. An interrupted call is a failed one.
+/// A reader that counts its failed calls, in 64 bits. An interrupted call counts as failed.
 pub trait CountedRead {
-    // The bytes that reads will give from here on, where they are known: each is below 256.
+    // The bytes that reads will still return, if they are known, each below 256.
     ghost remaining: { Self → Option (List ℕ) } = { λ _. None };
 
-    // How many calls have failed; the count has 64 bits.
     ghost failed: { Self → ℕ };
 
-    // A call can fail, now or later, for another cause than want of memory.
+    // A call can fail, now or later, for another reason than memory.
     ghost can_fail: { Self → Type 0 } = { λ _. ⊤ };
 
-    // A call was refused memory.
     ghost lacked: { Self → Bool };
 
-    /// Reads some bytes into the front of the buffer and answers how many: none only at the end of the bytes, or
-    /// into an empty buffer. A failed call takes none of the bytes that are left.
+    /// Reads some bytes into the front of the buffer and returns how many: 0 only at the end of the
+    /// bytes, or for an empty buffer. A failed call consumes none of the bytes.
     fn read(&mut self, buffer: &mut [u8]) -> Result<usize, Device>
         ensures bound { IfOk result (λ n. n ≤ length buffer.new) }
         ensures bytes { ReadConsumes (remaining self.old) (remaining self.new) result buffer.new }
@@ -36,7 +34,6 @@ pub trait CountedRead {
         ensures fails { FailsOnly (can_fail self.old) (lacked self.new) result }
         ensures later { can_fail self.new → can_fail self.old };
 
-    /// How many calls have failed.
     fn failures(&self) -> u64
         ensures count { result ≡ failed self.now }
         ensures known { IfSome (remaining self.now) AreBytes };
@@ -46,35 +43,34 @@ pub trait CountedRead {
         ensures { result ≡ lacked self.now };
 }
 
-/// A writer that counts its failed calls. An interrupted call is a failed one, and so is a write of some bytes that
-/// takes none.
+/// A writer that counts its failed calls: interrupted ones too, and writes that accept no byte.
 pub trait CountedWrite {
-    // Its bytes, where they are known, and how many calls have failed.
+    // The bytes written, if they are known, and how many calls failed.
     ghost seen: { Self → Seen };
 
-    // A call can fail, now or later, for another cause than want of memory.
+    // A call can fail, now or later, for another reason than memory.
     ghost can_fail: { Self → Type 0 } = { λ _. ⊤ };
 
-    // A call was refused memory.
     ghost lacked: { Self → Bool };
 
-    /// Writes a beginning of the bytes and answers how many: some, where there are any. A failed call takes none.
+    /// Writes some of the bytes, from their front, and returns how many: 0 only if there are none.
+    /// A failed call writes none.
     fn write(&mut self, bytes: &[u8]) -> Result<usize, Device>
         ensures bound { IfOk result (λ n. n ≤ length bytes.now) }
         ensures some { IfOk result (λ n. 0 < length bytes.now → 0 < n) }
-        ensures takes { MatchResult result (λ n. seen self.new ≡ with_bytes (seen self.old) (take n bytes.now))
+        ensures takes { MatchResult result
+            (λ n. seen self.new ≡ with_bytes (seen self.old) (take n bytes.now))
             (λ _. seen self.new ≡ once_failed (seen self.old)) }
         ensures fails { FailsOnly (can_fail self.old) (lacked self.new) result }
         ensures later { can_fail self.new → can_fail self.old };
 
-    /// Hands on what was written. A failed call hands on nothing.
+    /// Flushes what was written. A failed call flushes nothing.
     fn flush(&mut self) -> Result<(), Device>
         ensures hands { MatchResult result (λ _. seen self.new ≡ flushed (seen self.old))
             (λ _. seen self.new ≡ once_failed (seen self.old)) }
         ensures fails { FailsOnly (can_fail self.old) (lacked self.new) result }
         ensures later { can_fail self.new → can_fail self.old };
 
-    /// How many calls have failed.
     fn failures(&self) -> u64
         ensures { result ≡ (seen self.now).failed };
 

@@ -1,4 +1,4 @@
-//! Readers and writers that count their failed calls, and how files are read and a result is written with them.
+//! Reads files and writes results, with readers and writers that count their failed calls.
 #![tactic(auto)]
 
 mod device;

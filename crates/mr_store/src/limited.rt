@@ -1,4 +1,4 @@
-//! A reader read to its end, onto a list, where its bytes have a limit.
+//! Reads a reader to its end, onto a list, up to a limit of bytes.
 ghost use Rattle.std.specs.Prelude.{◌≡◌, ◌↔◌, ◌⊎◌, ◌≤◌, ◌<◌, ◌+◌, ℕ, List, ◌++◌, IfOk, OnOk, OnErr};
 ghost use Rattle.std.specs.Prelude.{IfSome, true, length};
 ghost use Rattle.std.specs.Io.KnownBytes.{Consumes, IsAtEnd, ReadConsumes};
@@ -9,15 +9,14 @@ use crate::device::{CountedRead, Device};
 use std::alloc::AllocError;
 use thiserror::Error;
 
-/// Why a reader was not read to its end, where its bytes have a limit.
+/// Why a reader was not read to its end.
 #[derive(Clone, Copy, Debug, PartialEq, Eq, Drop, Error)]
 pub enum LimitedFault {
-    /// A read failed.
     #[error("Device")]
     Device,
     #[error("OutOfMemory")]
     OutOfMemory,
-    /// The reader gave a byte past the limit.
+    /// The reader returned a byte past the limit.
     #[error("TooLong")]
     TooLong,
 }
@@ -45,8 +44,7 @@ impl From<AllocError> for LimitedFault {
 /// The most bytes that one read asks for.
 const PIECE: usize = 65_536;
 
-/// How many bytes a read asks for where so many more may come: one more than those, which tells that there is one, and
-/// at most a piece.
+/// How many bytes the next read asks for if `left` may still come: one more, to notice an excess.
 fn asked(left: u64) -> usize
     ensures some { 0 < result }
     ensures within { result ≤ left + 1 }
@@ -59,7 +57,6 @@ fn asked(left: u64) -> usize
     }
 }
 
-/// Reads at most so many bytes into the front of the buffer.
 fn read_some<R: CountedRead>(
     reader: &mut R,
     buffer: &mut [u8],
@@ -78,8 +75,6 @@ fn read_some<R: CountedRead>(
     reader.read(front)
 }
 
-/// Appends what the reader gives, up to its end, its first byte past the limit, or a fault; behind a fault some of it is
-/// appended.
 fn read_limited_onto<R: CountedRead>(
     reader: &mut R,
     out: &mut Vec<u8>,
@@ -104,23 +99,26 @@ fn read_limited_onto<R: CountedRead>(
     }
 }
 
-/// Appends all bytes of the reader, up to its end, where they are at most so many. TooLong exactly where the reader gave a
-/// byte past the limit, and it is asked for none behind that one; Device exactly where a read failed in this call. After a
-/// refusal the list is as before; the reader has given what was read.
+/// Appends all bytes of the reader, at most `limit`, up to its end. Returns `TooLong` exactly if
+/// it gave a byte past the limit, and reads none after it; `Device` exactly if a read failed in
+/// this call. A failure leaves the list as before; the reader has passed what was read.
 pub fn read_limited<R: CountedRead>(
     reader: &mut R,
     out: &mut Vec<u8>,
     limit: u64,
 ) -> Result<(), LimitedFault>
-    ensures grew { OnOk result (Grew (R.remaining reader.old) (R.remaining reader.new) out.old.items out.new.items) }
-    ensures bytes { OnOk result (IfSome (R.remaining reader.old) (λ xs. out.new.items ≡ out.old.items ++ xs)) }
+    ensures grew { OnOk result
+        (Grew (R.remaining reader.old) (R.remaining reader.new) out.old.items out.new.items) }
+    ensures bytes { OnOk result (IfSome (R.remaining reader.old)
+        (λ xs. out.new.items ≡ out.old.items ++ xs)) }
     ensures end { OnOk result (IsAtEnd (R.remaining reader.new)) }
     ensures err { OnErr result (out.new.items ≡ out.old.items) }
     ensures within { OnOk result (length out.new.items ≤ length out.old.items + limit) }
     ensures consumes { (got : List ℕ)
         × Consumes (R.remaining reader.old) (R.remaining reader.new) got × (length got ≤ limit + 1)
         × ((result ≡ Err LimitedFault.TooLong) ↔ (limit < length got)) }
-    ensures device { (result ≡ Err LimitedFault.Device) ↔ (R.failed reader.new ≡ counted (R.failed reader.old)) }
+    ensures device { (result ≡ Err LimitedFault.Device)
+        ↔ (R.failed reader.new ≡ counted (R.failed reader.old)) }
     ensures count { (result ≡ Err LimitedFault.Device → ⊥) → R.failed reader.new ≡ R.failed reader.old }
     ensures fails { result ≡ Err LimitedFault.Device → R.can_fail reader.old ⊎ (R.lacked reader.new ≡ true) }
 {

@@ -1,4 +1,4 @@
-//! A reader over bytes in memory, for tests of what reads.
+//! A reader over bytes in memory, for tests of code that reads.
 ghost use Rattle.std.specs.Prelude.{◌≡◌, ◌≤◌, Option, Some, IsSome, IfSome, IfOk, IsErr, OnErr};
 ghost use Rattle.std.specs.Prelude.{length, take, drop, min, true, false};
 ghost use Rattle.std.specs.Io.KnownBytes.{ReadConsumes};
@@ -8,14 +8,13 @@ ghost use Rattle.mr_store.specs.Memory.{fails_now as does_fail, behind_call as w
 use crate::device::{CountedRead, Device};
 use std::marker::Model;
 
-/// Whether the call made now fails, where `failing` says at which of the calls to come one fails, from 1.
+/// Whether this call fails; `failing` counts from 1 which of the calls to come does.
 pub(crate) fn fails_now(failing: Option<u64>) -> bool
     ensures { result ≡ does_fail failing }
 {
     failing == Some(1)
 }
 
-/// The same, for the calls behind this one.
 pub(crate) fn behind_call(failing: Option<u64>) -> Option<u64>
     requires { IfSome failing (λ n. 1 ≤ n) }
     ensures behind { result ≡ what_is_behind failing }
@@ -27,7 +26,6 @@ pub(crate) fn behind_call(failing: Option<u64>) -> Option<u64>
     }
 }
 
-/// Puts as many of the bytes into the front of the buffer as it holds, and at most `most`.
 fn give(buffer: &mut [u8], bytes: &[u8], most: usize) -> usize
     ensures count { result ≡ min most (min (length buffer.old) (length bytes.now)) }
     ensures given { take result buffer.new ≡ take result bytes.now }
@@ -39,14 +37,13 @@ fn give(buffer: &mut [u8], bytes: &[u8], most: usize) -> usize
     count
 }
 
-/// Whether there are none; each is below 256.
 fn are_none(bytes: &[u8]) -> bool
     ensures { AreBytes bytes.now }
 {
     bytes.is_empty()
 }
 
-/// A reader over bytes in memory, which gives at most a set number of them a call, and can fail once.
+/// Gives at most a set number of bytes per call, and can fail once.
 #[derive(Drop)]
 pub struct MemoryReader {
     bytes: Vec<u8>,
@@ -72,7 +69,7 @@ impl Model for MemoryReader {
 }
 
 impl MemoryReader {
-    /// Gives these bytes, at most `most` a call, and fails at the call `failing`, counted from 1, where it is given.
+    /// Gives these bytes, at most `most` per call; call `failing`, from 1, fails if there is one.
     pub fn new(bytes: Vec<u8>, most: usize, failing: Option<u64>) -> MemoryReader
         requires some { 1 ≤ most }
         requires later { IfSome failing (λ n. 1 ≤ n) }
@@ -115,7 +112,8 @@ impl CountedRead for MemoryReader {
         ensures gives { does_fail self.old.failing ≡ false
             → result ≡ Ok (min self.old.most (min (length buffer.old) (length self.old.bytes))) }
         ensures fails_now { does_fail self.old.failing ≡ true → IsErr result }
-        ensures behind { (self.new.failing ≡ what_is_behind self.old.failing) × (self.new.most ≡ self.old.most) }
+        ensures behind { (self.new.failing ≡ what_is_behind self.old.failing)
+            × (self.new.most ≡ self.old.most) }
     {
         let _known = are_none(&self.bytes);
         let fails = fails_now(self.failing);

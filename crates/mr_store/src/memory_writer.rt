@@ -1,4 +1,4 @@
-//! A writer into memory, for tests of what writes.
+//! A writer into memory, for tests of code that writes.
 ghost use Rattle.std.specs.Prelude.{◌≡◌, ◌↔◌, ◌≤◌, ◌<◌, [], Option, IsSome, IfSome, IfOk, IsErr};
 ghost use Rattle.std.specs.Prelude.{MatchResult, length};
 ghost use Rattle.std.specs.Prelude.{take, min, true, false};
@@ -11,8 +11,7 @@ use crate::memory_reader::{behind_call, fails_now};
 use std::alloc::Global;
 use std::marker::Model;
 
-/// A writer into memory, which takes at most a set number of bytes a call, and can fail once. Where no memory is left
-/// for what it takes, the call fails too.
+/// Accepts at most a set number of bytes per call, and can fail once, or for want of memory.
 #[derive(Drop)]
 pub struct MemoryWriter {
     bytes: Vec<u8>,
@@ -46,8 +45,7 @@ impl Model for MemoryWriter {
 }
 
 impl MemoryWriter {
-    /// Holds nothing, takes at most `most` bytes a call, and fails at the call `failing`, a write or a flush, counted
-    /// from 1, where it is given.
+    /// Accepts at most `most` bytes per call. Call `failing`, a write or flush, from 1, fails.
     pub fn new(alloc: Global, most: usize, failing: Option<u64>) -> MemoryWriter
         requires some { 1 ≤ most }
         requires later { IfSome failing (λ n. 1 ≤ n) }
@@ -64,14 +62,14 @@ impl MemoryWriter {
         }
     }
 
-    /// The bytes that it holds.
+    /// The bytes written so far.
     pub fn bytes(&self) -> &[u8]
         ensures { result.now ≡ self.now.bytes }
     {
         self.bytes.as_slice()
     }
 
-    /// The bytes that it held at its last flush that didn't fail; none before.
+    /// The bytes written before its last successful flush; none without one.
     pub fn flushed(&self) -> &[u8]
         ensures { result.now ≡ self.now.handed_on }
     {
@@ -89,13 +87,15 @@ impl CountedWrite for MemoryWriter {
     fn write(&mut self, bytes: &[u8]) -> Result<usize, Device>
         ensures bound { IfOk result (λ n. n ≤ length bytes.now) }
         ensures some { IfOk result (λ n. 0 < length bytes.now → 0 < n) }
-        ensures takes { MatchResult result (λ n. seen_of self.new ≡ with_bytes (seen_of self.old) (take n bytes.now))
+        ensures takes { MatchResult result
+            (λ n. seen_of self.new ≡ with_bytes (seen_of self.old) (take n bytes.now))
             (λ _. seen_of self.new ≡ once_failed (seen_of self.old)) }
         ensures fails { FailsOnly (IsSome self.old.failing) self.new.lacked result }
         ensures later { IsSome self.new.failing → IsSome self.old.failing }
         ensures most { IfOk result (λ n. n ≡ min self.old.most (length bytes.now)) }
         ensures fails_now { does_fail self.old.failing ≡ true → IsErr result }
-        ensures behind { (self.new.failing ≡ what_is_behind self.old.failing) × (self.new.most ≡ self.old.most) }
+        ensures behind { (self.new.failing ≡ what_is_behind self.old.failing)
+            × (self.new.most ≡ self.old.most) }
     {
         let fails = fails_now(self.failing);
         self.failing = behind_call(self.failing);
@@ -119,7 +119,8 @@ impl CountedWrite for MemoryWriter {
         ensures fails { FailsOnly (IsSome self.old.failing) self.new.lacked result }
         ensures later { IsSome self.new.failing → IsSome self.old.failing }
         ensures fails_now { (does_fail self.old.failing ≡ true) ↔ IsErr result }
-        ensures behind { (self.new.failing ≡ what_is_behind self.old.failing) × (self.new.most ≡ self.old.most) }
+        ensures behind { (self.new.failing ≡ what_is_behind self.old.failing)
+            × (self.new.most ≡ self.old.most) }
     {
         let fails = fails_now(self.failing);
         self.failing = behind_call(self.failing);

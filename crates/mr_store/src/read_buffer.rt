@@ -1,10 +1,9 @@
-//! Bytes that were read from a reader and not passed yet, in a buffer of one size.
+//! Bytes that were read and not passed yet, in a buffer of fixed size.
 //!
-//!     buffer  [ passed | bytes | room ]        65,536 bytes, whose memory `new` takes
+//!     buffer  [ passed | bytes | room ]        65,536 bytes, all allocated by `new`
 //!                      from    to
 //!
-//! Cost: a read moves the bytes that are left to the front, and asks the reader for as many more as
-//! there is room for.
+//! Cost: a read moves the bytes that are left to the front, and then fills the room.
 ghost use Rattle.std.specs.Prelude.{◌≡◌, ℕ, ◌≤◌, ◌<◌, ◌+◌, ◌-◌, ◌++◌, [], List, IfOk, IfSome};
 ghost use Rattle.std.specs.Prelude.{MatchResult, length, take, drop};
 ghost use Rattle.std.specs.Io.KnownBytes.{Consumes, Keeps, IsAtEnd, ReadConsumes};
@@ -14,7 +13,6 @@ use crate::device::{CountedRead, Device};
 use std::alloc::{AllocError, Global};
 use std::marker::Model;
 
-/// How many bytes the buffer has room for.
 const SIZE: usize = 65_536;
 
 /// Bytes that were read and not passed yet, at most 65,536.
@@ -39,7 +37,6 @@ impl Model for ReadBuffer {
     } };
 }
 
-/// Moves the bytes between two places to the front, and reads some behind them.
 fn read_behind<R: CountedRead>(
     reader: &mut R,
     buffer: &mut [u8],
@@ -65,7 +62,7 @@ fn read_behind<R: CountedRead>(
 }
 
 impl ReadBuffer {
-    /// With no bytes. It takes all the memory that it ever has.
+    /// An empty buffer. It takes all the memory that it ever has.
     pub fn new(alloc: Global) -> Result<ReadBuffer, AllocError>
         ensures { IfOk result (λ b. b ≡ []) }
     {
@@ -77,7 +74,6 @@ impl ReadBuffer {
         })
     }
 
-    /// The bytes.
     #[inline]
     pub fn bytes(&self) -> &[u8]
         ensures { result.now ≡ self.now }
@@ -85,7 +81,7 @@ impl ReadBuffer {
         &self.buffer[self.from..self.to]
     }
 
-    /// Drops so many of them from the front.
+    /// Drops `count` bytes from the front.
     #[inline]
     pub fn pass(&mut self, count: usize)
         requires { count ≤ length self.old }
@@ -94,14 +90,13 @@ impl ReadBuffer {
         self.from += count;
     }
 
-    /// Drops all of them.
     pub fn clear(&mut self)
         ensures { self.new ≡ [] }
     {
         self.from = self.to;
     }
 
-    /// Reads some more behind them and returns how many: 0 only at the reader's end. A failed call
+    /// Appends more bytes from the reader and returns how many: 0 only at its end. A failed call
     /// leaves the bytes as they were.
     #[inline(never)]
     pub fn read_more<R: CountedRead>(&mut self, reader: &mut R) -> Result<usize, Device>

@@ -1,4 +1,4 @@
-//! A reader read to its end, onto a list.
+//! Reads a reader to its end, onto a list.
 ghost use Rattle.std.specs.Prelude.{◌≡◌, ◌↔◌, ◌⊎◌, ℕ, List, ◌++◌, OnOk, OnErr, IfSome, MatchResult};
 ghost use Rattle.std.specs.Prelude.{true, length};
 ghost use Rattle.std.specs.Io.KnownBytes.{Consumes, IsAtEnd};
@@ -12,7 +12,6 @@ use thiserror::Error;
 /// Why a reader was not read to its end.
 #[derive(Clone, Copy, Debug, PartialEq, Eq, Drop, Error)]
 pub enum ReadFault {
-    /// A read failed.
     #[error("Device")]
     Device,
     #[error("OutOfMemory")]
@@ -39,10 +38,8 @@ impl From<AllocError> for ReadFault {
     }
 }
 
-/// The most bytes that one read asks for.
 const PIECE: usize = 65_536;
 
-/// Appends what the reader gives, up to its end or to a fault; behind a fault some of it is appended.
 fn read_onto<R: CountedRead>(reader: &mut R, out: &mut Vec<u8>) -> Result<(), ReadFault>
     ensures onto { ReadOnto (R.remaining reader.old) (R.remaining reader.new)
         (R.failed reader.old) (R.failed reader.new) out.old.items out.new.items result }
@@ -58,11 +55,13 @@ fn read_onto<R: CountedRead>(reader: &mut R, out: &mut Vec<u8>) -> Result<(), Re
     }
 }
 
-/// Appends all bytes of the reader, up to its end. Device exactly where a read failed in this call. After a refusal
-/// the list is as before; the reader has given what was read.
+/// Appends all bytes of the reader, up to its end. Returns `Device` exactly if a read failed in
+/// this call. A failure leaves the list as before; the reader has passed what was read.
 pub fn read_all<R: CountedRead>(reader: &mut R, out: &mut Vec<u8>) -> Result<(), ReadFault>
-    ensures grew { OnOk result (Grew (R.remaining reader.old) (R.remaining reader.new) out.old.items out.new.items) }
-    ensures bytes { OnOk result (IfSome (R.remaining reader.old) (λ xs. out.new.items ≡ out.old.items ++ xs)) }
+    ensures grew { OnOk result
+        (Grew (R.remaining reader.old) (R.remaining reader.new) out.old.items out.new.items) }
+    ensures bytes { OnOk result (IfSome (R.remaining reader.old)
+        (λ xs. out.new.items ≡ out.old.items ++ xs)) }
     ensures end { OnOk result (IsAtEnd (R.remaining reader.new)) }
     ensures err { OnErr result (out.new.items ≡ out.old.items) }
     ensures consumes { (got : List ℕ) × Consumes (R.remaining reader.old) (R.remaining reader.new) got }

@@ -1,12 +1,12 @@
-//! Bytes written whole, and the files of a result, each with its own writer.
+//! Writes bytes whole, and the files of a result, each with its own writer.
 ghost use Rattle.std.specs.Prelude.{◌≡◌, ◌⊎◌, [], OnOk, OnErr, MatchResult, length};
 ghost use Rattle.mr_store.specs.Devices.{FailsOnly, TookAll, TookSome, AllTook, StoppedAt, texts};
 ghost use Rattle.mr_store.specs.Devices.{with_bytes};
 
 use crate::device::{CountedWrite, Device};
 
-/// Writes all the bytes and leaves it to the caller to flush; no call is made for none. Behind a refusal a beginning of
-/// them is written.
+/// Writes all the bytes; the caller flushes. Makes no call for no bytes. After a failure only a
+/// front part is written.
 pub fn write_all<W: CountedWrite>(writer: &mut W, bytes: &[u8]) -> Result<(), Device>
     ensures whole { OnOk result (W.seen writer.new ≡ with_bytes (W.seen writer.old) bytes.now) }
     ensures beginning { OnErr result (TookSome (W.seen writer.old) (W.seen writer.new) bytes.now) }
@@ -23,8 +23,8 @@ pub fn write_all<W: CountedWrite>(writer: &mut W, bytes: &[u8]) -> Result<(), De
     Ok(())
 }
 
-/// Writes all the bytes and hands them on; for none it is only flushed. Behind a refusal a beginning of them is
-/// written and nothing handed on.
+/// Writes all the bytes, and flushes, even for no bytes. After a failure only a front part is
+/// written, and not flushed.
 pub fn write_whole<W: CountedWrite>(writer: &mut W, bytes: &[u8]) -> Result<(), Device>
     ensures whole { OnOk result (TookAll (W.seen writer.old) (W.seen writer.new) bytes.now) }
     ensures beginning { OnErr result (TookSome (W.seen writer.old) (W.seen writer.new) bytes.now) }
@@ -34,7 +34,6 @@ pub fn write_whole<W: CountedWrite>(writer: &mut W, bytes: &[u8]) -> Result<(), 
     writer.flush()
 }
 
-/// Writes each part with its own writer, the parts in order.
 fn write_parts<W: CountedWrite>(writers: &mut [W], outputs: &[Vec<u8>]) -> Result<(), Device>
     requires { length writers.old ≡ length outputs.now }
     ensures { MatchResult result (λ _. AllTook W.seen writers.old writers.new (texts outputs.now))
@@ -47,9 +46,9 @@ fn write_parts<W: CountedWrite>(writers: &mut [W], outputs: &[Vec<u8>]) -> Resul
     Ok(())
 }
 
-/// Writes each part with its own writer, the parts in order, and the certificate last; each is flushed behind its
-/// bytes, and an empty one is only flushed. At Device the parts before one are written whole, a beginning of that one
-/// (a part or the certificate) is written, and nothing behind it; a call of its writer failed.
+/// Writes each part with its own writer, in order, and the certificate last; flushes each after its
+/// bytes, an empty one too. On `Device` the files before one are written whole, a front part of
+/// that one is written, and nothing after it; a call of its writer failed.
 pub fn write_result<W: CountedWrite>(
     writers: &mut [W],
     certificate_writer: &mut W,
@@ -61,7 +60,8 @@ pub fn write_result<W: CountedWrite>(
     ensures last { OnOk result
         (TookAll (W.seen certificate_writer.old) (W.seen certificate_writer.new) certificate.now) }
     ensures stopped { OnErr result
-        ((StoppedAt W.seen writers.old writers.new (texts outputs.now) × (certificate_writer.new ≡ certificate_writer.old))
+        ((StoppedAt W.seen writers.old writers.new (texts outputs.now)
+        × (certificate_writer.new ≡ certificate_writer.old))
         ⊎ (AllTook W.seen writers.old writers.new (texts outputs.now)
         × TookSome (W.seen certificate_writer.old) (W.seen certificate_writer.new) certificate.now)) }
 {
