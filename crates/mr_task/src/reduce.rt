@@ -28,7 +28,6 @@ const MAX_PAIRS: usize = 1_073_741_824;
 // The number in the definition.
 const _: () = prove!(MAX_PAIRS == 1073741824);
 
-/// The number of pairs in a region's header; `None` where the bytes don't begin as a region.
 fn count_in(region: &RegionView<'_>, partition: u32) -> Option<usize>
     ensures { MatchOption result ((ts : List Triple)
         → SpellsRegion region.now.bytes region.now.split partition ts → ⊥)
