@@ -89,8 +89,7 @@ impl<L: Ledger> Book<L> {
 
     /// The files and the certificate that the book's state names, for a done job of this request
     /// and input. Where each committed reduce output is its attempt's value and each accepted
-    /// failure names a record of its split, they are good, as are the files with any bytes that
-    /// spell the certificate.
+    /// failure names a record of its split, they are good, whichever bytes spell the certificate.
     pub fn assemble(
         &self,
         alloc: Global,

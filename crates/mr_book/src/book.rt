@@ -102,6 +102,7 @@ impl<L: Ledger> Book<L> {
         self.log.core().shape()
     }
 
+    /// The job's end, once it has ended.
     pub fn end(&self) -> Option<End>
         ensures { result ≡ self.now.state.end }
     {

@@ -216,8 +216,7 @@ fn judge_on<'a>(
     Ok(Some(judging.border()))
 }
 
-/// Judges a section from `began` on. Returns the border it reaches, or `None` at the partition's
-/// end.
+/// Judges a section from `began` on. Returns the border it reaches; `None` at a partition's end.
 fn judge_section<'a>(
     alloc: Global,
     facts: &Facts<'a>,

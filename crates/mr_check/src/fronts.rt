@@ -167,8 +167,7 @@ fn next_section<'a>(
     Ok(())
 }
 
-/// Keeps a section, where one begins: at a partition's front, or at a group after `SECTION`
-/// entries.
+/// Keeps a section, where one begins: at a front, or at a group after `SECTION` entries.
 fn keep_section<'a>(
     list: &[Front<'a>],
     sections: &mut Vec<Section<'a>>,

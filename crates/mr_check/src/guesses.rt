@@ -1,8 +1,7 @@
 //! Guesses the borders at which sections begin, from the outputs. A wrong guess only costs time: a
 //! section that was judged from another border than the one reached before it is judged again.
-//! Guesses are right where no section before has a fault: each entry gives a line where the job's
-//! texts have one for each value, and else each group does, and a line is its key, a tab, and more
-//! without a tab.
+//! Guesses are right where no section before has a fault: each entry gives a line if texts have one
+//! for each value, else each group does, and a line is a key, a tab, and more without a tab.
 ghost use Rattle.std.specs.Prelude.{◌≡◌, ◌≤◌, ◌<◌, ◌+◌, ◌^◌, IfSome, IsTrue, length};
 ghost use Rattle.mr_verdict.specs.Verdict.{start};
 ghost use Rattle.mr_judge.specs.Borders.{at_border};
@@ -56,8 +55,7 @@ impl<'a> Lines<'a> {
         }
     }
 
-    /// Passes `lines` lines from the front, or all: 64 bytes at a time while the last line ends
-    /// later.
+    /// Passes `lines` lines from the front, or all, by 64 bytes while the last line ends later.
     fn pass_to(&mut self, lines: u64) {
         while self.passed < lines {
             match self.feeds_ahead() {

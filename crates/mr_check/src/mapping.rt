@@ -91,8 +91,7 @@ impl<'a, W: Progress> WorkPieces for Dividing<'a, W> {
     }
 }
 
-/// The number of a split's pieces: up to four a thread, so that threads that are done early draw
-/// again.
+/// A split's number of pieces: up to four a thread, so that threads done early draw again.
 fn pieces_of(plan: &Plan<'_>, split: u32, threads: u32) -> u32
     requires split { split < split_total plan.now.size plan.now.files }
     requires threads { (0 < threads) × (threads ≤ 64) }

@@ -6,6 +6,7 @@ use mr_bytes::{Gate, Progress};
 use std::alloc::Global;
 use std::thread::Threads;
 
+/// How a result is judged.
 #[derive(Drop)]
 pub struct JudgeOptions<'a, G: Gate, W: Progress> {
     /// The number of threads that judge, 1 to 64.
@@ -21,6 +22,7 @@ pub struct JudgeOptions<'a, G: Gate, W: Progress> {
 }
 
 impl<'a, G: Gate, W: Progress> JudgeOptions<'a, G, W> {
+    /// Options for `threads` threads, 1 to 64.
     pub fn of(
         threads: u32,
         gate: &'a G,

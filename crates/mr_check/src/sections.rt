@@ -98,9 +98,8 @@ impl<'a, 'f, 'g, 'w, W: Progress> WorkPieces for Judging<'a, 'f, 'g, 'w, W> {
     }
 }
 
-/// The fault of partition `p`, from its sections' outcomes, as long as each section begins at the
-/// border reached before it. Where one doesn't, the partition is judged as a whole, and `watch`
-/// hears of it.
+/// The fault of partition `p`, from its sections' outcomes, if each section begins at the border
+/// reached before it. Otherwise the partition is judged as a whole, which is reported to `watch`.
 fn fault_of<W: Progress>(
     alloc: Global,
     facts: &Facts<'_>,

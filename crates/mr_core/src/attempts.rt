@@ -118,8 +118,7 @@ impl Attempts {
         self.items[at].note_fetch(map, output);
     }
 
-    /// Ends the live attempt. Its split gets the output, and the attempt's left-out records for
-    /// good.
+    /// Ends the live attempt. The split gets its output, and its left-out records for good.
     pub(crate) fn complete(&mut self, at: u32, splits: &mut Splits, split: u32, output: u64)
         requires { (x : Attempt) × (slice_get self.old.items at ≡ Some x) × (x.live ≡ true) }
         ensures ended { self.new ≡ record self.old {

@@ -145,6 +145,7 @@ impl Core {
         })
     }
 
+    /// The limits that it was opened with. Its shape is within the limits of a job.
     pub fn limits(&self) -> Limits
         ensures same { result ≡ self.now.shape.limits }
         ensures within { InLimits self.now.shape }
@@ -246,12 +247,14 @@ fn twice(reply: Reply) -> (Reply, Reply)
 }
 
 impl Core {
+    /// The job's sizes and limits.
     pub fn shape(&self) -> Shape
         ensures { result ≡ self.now.shape }
     {
         self.shape
     }
 
+    /// The job's end, once it has ended.
     pub fn end(&self) -> Option<End>
         ensures { result ≡ self.now.state.end }
     {

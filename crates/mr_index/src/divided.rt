@@ -147,8 +147,7 @@ impl<'a> DividedSplit<'a> {
         ensures { IfOk result (λ r. r
             ≡ triples_in self.now.split (triples_of self.now.job self.now.cut self.now.skips)) }
     {
-        // Files within the limits of an input emit few enough pairs and bytes of keys for the
-        // tables.
+        // An input's files emit few enough pairs and bytes of keys for the tables.
         let _files = self.plan.input().files();
         let sizes = Sizes::of(pieces.as_slice());
         let mut rest = pieces.into_iter();

@@ -190,6 +190,7 @@ impl EmissionIndex {
         EmissionIndex { parts, total }
     }
 
+    /// The number of pairs.
     pub fn total(&self) -> u64
         ensures { result ≡ length self.now }
     {

@@ -187,8 +187,7 @@ impl Tables {
         push_end(&mut self.ends, after)
     }
 
-    /// Appends what record `number` emits, and counts it. Earlier ones without an end emitted
-    /// nothing.
+    /// Appends what record `number` emits, and counts it. Skipped records emitted nothing.
     pub(crate) fn map_record(
         &mut self,
         mapper: &mut Mapper<'_, '_>,
@@ -252,8 +251,7 @@ impl Tables {
             + mapped_among kept.now.skips (of_split split (records_of kept.now.cut)))) }
     {
         let plan = kept.plan();
-        // This shows the plan's size to be at least 1, so that its records have numbers of their
-        // own.
+        // This shows the plan's size to be at least 1, so that records have distinct numbers.
         let _size = plan.size();
         let room = Room::of_split(plan, split);
         let mut mapper = job.mapper(plan.input());
@@ -287,7 +285,7 @@ pub(crate) fn map_split(
         × (mapped.new
         ≤ mapped.old + mapped_among kept.now.skips (of_split split (records_of kept.now.cut)))) }
 {
-    // Files within the limits of an input emit few enough pairs and bytes of keys for the tables.
+    // An input's files emit few enough pairs and bytes of keys for the tables.
     let _files = kept.plan().input().files();
     let mut tables = Tables::new(alloc);
     tables.map_all(kept, job, split, buffer, pace, mapped, watch)?;

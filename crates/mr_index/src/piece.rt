@@ -123,8 +123,7 @@ impl Tables {
         self.pairs.reserve_exactly(sizes.pairs, sizes.bytes)
     }
 
-    /// Appends the tables of the records from `from` on. Earlier ones without an end emitted
-    /// nothing.
+    /// Appends the tables of the records from `from` on. Skipped records emitted nothing.
     pub(crate) fn append(&mut self, from: usize, more: &Tables) -> Result<(), AllocError>
         requires sound { Sound self.old.pairs }
         requires more { Sound more.now.pairs }

@@ -102,7 +102,7 @@ pub fn read_block<I: ItemSource>(
     Ok(None)
 }
 
-/// Looks up all names among the items, in place of what the list had.
+/// Looks up all names among the items, and replaces the list.
 #[inline(never)]
 pub fn seek_all<'a>(
     basis: &Basis<'a>,
@@ -126,7 +126,7 @@ pub fn seek_all<'a>(
     Ok(())
 }
 
-/// The rows of all places, in place of what the list had. No byte of a key is read.
+/// The rows of all places, in place of those in the list. No byte of a key is read.
 #[inline(never)]
 pub fn fetch_all<'a>(sought: &[Sought<'a>], rows: &mut Vec<FoundItem<'a>>) -> Result<(), AllocError>
     ensures items { OnOk result (items_in rows.new.items ≡ items_sought sought.now) }

@@ -5,8 +5,7 @@ ghost use Rattle.mr_verdict.specs.Verdict.{start};
 ghost use Rattle.mr_judge.specs.Borders.{at_border};
 
 /// A border between two groups of a partition: the next partition; how many groups of this one are
-/// left, and how many came before; the last one's key; and where the next text begins in the
-/// output.
+/// left, and how many came before; the last key; and where the next text begins.
 #[derive(Clone, Copy)]
 pub struct Border<'a> {
     pub next: u64,

@@ -40,7 +40,7 @@ impl<'a> Basis<'a> {
         self.request.job()
     }
 
-    /// The text of a group, in place of what the buffer had.
+    /// The text of a group, in place of what is in `out`.
     pub fn text(
         &self,
         key: &[u8],

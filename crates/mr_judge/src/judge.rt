@@ -32,6 +32,7 @@ use mr_splits::Plan;
 use mr_verdict::{Case, ItemSource, JudgeError, No, Yes, expect_count, expect_header, read_skips};
 use std::alloc::{AllocError, Global};
 
+/// The plan of an input under a request that fits it.
 pub fn plan_of<'a>(
     alloc: Global,
     request: &Request,
@@ -243,11 +244,11 @@ pub fn check(
     judge_on_one_thread(alloc, &case, &Unwatched)
 }
 
-/// What `check` does, adding to the meter, whose counts are at most 2^63 before, what it looks up
-/// and maps: each entry and each record at most once; on a yes just once each pair, and each record
-/// that isn't left out. The clauses speak of the meter alone. That nothing is looked up or mapped
-/// uncounted rests on the code of the index. On a no they say only that counts didn't fall and
-/// stayed within bounds.
+/// What `check` does, adding what it looks up and maps to the meter, whose counts are at most 2^63
+/// before. It looks up each entry and maps each record at most once; on a yes, each pair and each
+/// record that isn't left out exactly once. The clauses speak only of the meter. That nothing is
+/// looked up or mapped uncounted rests on the code of the index. On a no they say only that counts
+/// didn't fall and stayed within bounds.
 pub fn check_metered(
     alloc: Global,
     request: &Request,

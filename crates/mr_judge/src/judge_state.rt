@@ -67,6 +67,7 @@ impl<'a> Model for JudgeState<'a> {
 }
 
 impl<'a> JudgeState<'a> {
+    /// Before the first partition.
     pub fn new(alloc: Global) -> JudgeState<'a>
         ensures { result ≡ start }
     {
@@ -110,6 +111,7 @@ impl<'a> JudgeState<'a> {
         }
     }
 
+    /// The number of entries so far.
     pub fn named(&self) -> u64
         ensures { result ≡ self.now.named }
     {

@@ -49,8 +49,7 @@ fn judge_rows<'a, O: Outputs>(
     Ok(false)
 }
 
-/// Buffers for a block of items that are read, looked up and judged together. Each block reuses
-/// them.
+/// Buffers for a block of items that are looked up and judged together. All blocks share them.
 #[derive(Drop)]
 pub struct Block<'a> {
     pub items: Vec<Item>,

@@ -25,8 +25,7 @@ pub(crate) struct ReaderOutputs<'a, R> {
     ghost within: { exhausted ≡ false → opened ≤ length readers.now },
 }
 
-/// Replaces the buffer's bytes by the next ones, and returns their number: 0 only at the reader's
-/// end.
+/// Replaces the buffer's bytes by the next ones. Returns their number: 0 only at the end.
 fn read_anew<R: CountedRead>(buffer: &mut ReadBuffer, reader: &mut R) -> Result<usize, Device>
     ensures read { MatchResult result
         (λ n. (length buffer.new ≡ n) × Consumes (R.remaining reader.old) (R.remaining reader.new) buffer.new

@@ -95,8 +95,7 @@ pub fn run(
     run_watched(alloc, request, input, skips, &Unwatched)
 }
 
-/// What `run` does. It reports now and then to `watch` how many records are mapped, and when the
-/// outputs begin and end.
+/// What `run` does. It reports mapped records, and the outputs' begin and end, to `watch`.
 pub fn run_watched(
     alloc: Global,
     request: &Request,
@@ -224,7 +223,7 @@ fn execute(
     Ok((texts, Certificate::of(header, groups)))
 }
 
-/// Entries of partitions with good groups are distinct, by names, keys and partitions alone, so
+/// Entries of partitions with good groups are distinct, already by names, keys and partitions, so
 /// there are no more of them than triples. Distinct entries that name triples, as many as there are
 /// triples, leave none out.
 pub fn entries_law()
@@ -233,8 +232,7 @@ pub fn entries_law()
     ensures all { NoneIsLeftOut }
 {}
 
-/// A good result is the sequential execution's, without the records that its certificate leaves
-/// out.
+/// A good result is the sequential execution's without the records that its certificate lists.
 pub fn good_law()
     ensures parts { GoodPartsAreSequential }
     ensures whole { GoodIsSequential }

@@ -38,8 +38,7 @@ fn add_total(texts: &mut Vec<Vec<u8>>, row: Row<'_>, total: u32) -> Result<(), A
     append_total(row.key, total as u64, text)
 }
 
-/// Appends a line for each name. A group may be all of the input, so there is no list of its
-/// values.
+/// Appends a line for each name. A group may be all of the input: it gets no list of values.
 fn add_lines(
     job: &Job,
     plan: &Plan<'_>,

@@ -1,6 +1,6 @@
 //! Map and reduce tasks with their values (OSDI 2004, section 3.1). A map task maps the records of
 //! a split and divides the pairs by partition. A reduce task merges a partition's pairs and writes
-//! each group's text. Results depend on the pairs alone, not on how they are cut into lists.
+//! each group's text. Results depend only on the pairs, not on how they are cut into lists.
 #![tactic(auto)]
 
 mod map;

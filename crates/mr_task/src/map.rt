@@ -155,6 +155,7 @@ impl<'a> MapTask<'a> {
         })
     }
 
+    /// Whether all records are mapped.
     pub fn is_done(&self) -> bool
         ensures { IsTrue result ↔ records_in self.now ≤ self.now.next }
     {

@@ -63,9 +63,8 @@ fn count_all(regions: &[RegionView<'_>], partition: u32) -> Result<usize, TaskFa
 }
 
 /// What a job makes of a partition's pairs, however they are cut into regions: for each key, in
-/// order, the text of all its values and the names of its pairs. `RegionDamaged` means that bytes
-/// are no region of this partition and their split, a name occurs twice, or there are over
-/// 1,073,741,824 pairs.
+/// order, the text of all its values and the names of its pairs. `RegionDamaged`: bytes are no
+/// region of this partition and split, a name occurs twice, or there are over 1,073,741,824 pairs.
 pub fn reduce_task(
     alloc: Global,
     job: &Job,

@@ -223,8 +223,8 @@ fn in_order<W: WorkPieces>(
 
 /// Does all pieces on `threads` threads, and returns the results in the order of the pieces, as one
 /// thread would. Each thread draws a piece, does it, and draws again until none is left. Where a
-/// thread can't be started, the calling thread does its share. Fails only for want of memory, be it
-/// in one thread alone.
+/// thread can't be started, the calling thread does its share. Fails only for want of memory, even
+/// in only one thread.
 ///
 /// A thread calls the gate before and after each piece, with its own number, from 0, and the
 /// piece's, counted from `first_piece`.

@@ -1,4 +1,4 @@
-//! Laws of the verdict, and worked verdicts. They are proofs alone and cost nothing at run time.
+//! Laws of the verdict, and worked verdicts. They are only proofs and cost nothing at run time.
 ghost use Rattle.mr_verdict.specs.FaultLaws.{EndedIsSpelled, FaultsAreTrue, ReadIsSpelled};
 ghost use Rattle.mr_verdict.specs.FaultLaws.{TellsOfBytes};
 ghost use Rattle.mr_verdict.specs.VerdictLaws.{YesIsGood, GoodIsYes, FaultByPlace};
@@ -14,7 +14,7 @@ pub fn yes_law()
 {}
 
 /// The verdict is the fault before the partitions, else that of the least partition that has one,
-/// else that after them. A partition's fault follows from its own items alone.
+/// else that after them. A partition's fault follows only from its own items.
 pub fn place_law()
     ensures { FaultByPlace }
 {}
@@ -26,7 +26,7 @@ pub fn locality_law()
     ensures compared { OnlyComparedMatters }
 {}
 
-/// A partition's fault depends on its own output alone, and there only on compared bytes.
+/// A partition's fault depends only on its own output, and there only on compared bytes.
 pub fn partition_law()
     ensures own { OtherOutputsDontMatter }
     ensures compared { BytesBehindDontMatter }

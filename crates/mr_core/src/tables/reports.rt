@@ -229,8 +229,7 @@ impl MasterState {
         self.splits.has_room(limit)
     }
 
-    /// Records a failure and ends its attempt. Where `adds` holds, the record is left out from now
-    /// on.
+    /// Records a failure and ends its attempt. Where `adds` holds, the record is left out.
     fn note_failure(
         &mut self,
         attempt: u32,
