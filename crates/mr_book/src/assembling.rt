@@ -1,4 +1,4 @@
-//! The result of a book whose job is done: the reduce outputs one behind another, and the groups of the certificate.
+//! Assembles the result of a done job: the reduce outputs, and the groups of the certificate.
 ghost use Rattle.std.specs.Prelude.{◌≡◌, ℕ, List, ◌<◌, ◌≤◌, ◌++◌, Some, IfOk, OnOk, length, map};
 ghost use Rattle.std.specs.Prelude.{slice_index_or, ◌∷◌, [], ◌^◌};
 ghost use Rattle.mr_input.specs.Files.{contents};
@@ -23,7 +23,6 @@ use std::alloc::{AllocError, Global};
 use std::marker::Model;
 use std::sync::ledger::Ledger;
 
-/// Appends the records of a split that have these numbers.
 fn push_records(
     records: &mut Vec<RecordName>,
     split: u32,
@@ -41,12 +40,12 @@ fn push_records(
 }
 
 impl<L: Ledger> Book<L> {
-    /// The records that the left-out sets of all splits have.
+    /// The left-out records of all splits.
     pub(crate) fn records_left_out(&self, alloc: Global) -> Result<Vec<RecordName>, AllocError>
         ensures { IfOk result (λ v. v.items ≡ records_from 0 (sets_of self.now.state)) }
     {
         let core = self.core();
-        // What the master was opened with is within the limits of a job: that it has all its splits rests on that.
+        // This shows that the shape is within a job's limits, so that all splits are there.
         let _limits = core.limits();
         let mut records = Vec::new(alloc);
         for split in 0..core.shape().maps {
@@ -63,8 +62,7 @@ impl<L: Ledger> Book<L> {
             (committed_values (reduced_under self.now.reduces) self.now.state) partition nothing }
     {
         let core = self.core();
-        // A job's tasks may have an attempt at least: that a done one has committed all rests on that; and that what is
-        // committed is stored, on what every book keeps.
+        // These show that a done job has committed all, and that what is committed is stored.
         let _limits = core.limits();
         let _shape = self.shape();
         let Some(number) = core.committed(partition) else {
@@ -79,7 +77,7 @@ impl<L: Ledger> Book<L> {
         ensures { IfOk result (λ g. g
             ≡ gathering_of (committed_values (reduced_under self.now.reduces) self.now.state)) }
     {
-        // As above: that there are as many commits as partitions rests on that.
+        // This shows that there are as many commits as partitions.
         let _limits = self.core().limits();
         let parts = self.shape().parts;
         let mut gathering = Gathering::new(alloc);
@@ -89,10 +87,9 @@ impl<L: Ledger> Book<L> {
         Ok(gathering)
     }
 
-    /// The files and the certificate of a job that is done, opened for this request and this input: those that the book's
-    /// state names. Where each committed reduce output is the value of its attempt, and each accepted failure named a
-    /// record of its split, they are good, and so are the files with any bytes that spell the certificate. It fails only
-    /// for want of memory.
+    /// The files and the certificate that the book's state names, for a done job of this request
+    /// and input. Where each committed reduce output is its attempt's value and each accepted
+    /// failure names a record of its split, they are good, whichever bytes spell the certificate.
     pub fn assemble(
         &self,
         alloc: Global,
@@ -105,14 +102,15 @@ impl<L: Ledger> Book<L> {
             ≡ assembled_outputs (reduced_under self.now.reduces) self.now.state) }
         ensures certificate { IfOk result (λ r. r.1 ≡ assembled_certificate request.now input.now
             (reduced_under self.now.reduces) self.now.state) }
-        ensures good { IsFaithful request.now input.now self.now.history self.now.state (reduced_under self.now.reduces)
+        ensures good { IsFaithful request.now input.now self.now.history self.now.state
+            (reduced_under self.now.reduces)
             → IfOk result (λ r. IsGood request.now input.now (contents r.0.items) r.1) }
         ensures result { IsFaithful request.now input.now self.now.history self.now.state
             (reduced_under self.now.reduces)
-            → IfOk result (λ r. (bytes : List ℕ) → Spells bytes r.1 → IsGoodResult request.now input.now (contents r.0.items) bytes) }
+            → IfOk result (λ r. (bytes : List ℕ) → Spells bytes r.1
+            → IsGoodResult request.now input.now (contents r.0.items) bytes) }
     {
-        // Book, input and request are within their limits, and the book keeps a run: that there is a certificate of them,
-        // and that it is good, rests on that.
+        // These show that all are within their limits, and that the book keeps a run.
         let _limits = self.core().limits();
         let _shape = self.shape();
         let _files = input.files();
@@ -124,7 +122,7 @@ impl<L: Ledger> Book<L> {
     }
 }
 
-/// The files of the partitions so far, and their groups, flat. Each byte and each name is copied once.
+/// The files of the partitions so far, and their groups, flat. Each byte and name is copied once.
 #[derive(Drop)]
 pub(crate) struct Gathering {
     pub outputs: Vec<Vec<u8>>,
@@ -150,7 +148,7 @@ impl Model for Gathering {
     } };
 }
 
-/// Appends a partition's groups, by how many entries each has and the names of all.
+/// Appends a partition's groups: the number of entries in each, and all names.
 fn append_groups(
     groups: &mut FlatGroups,
     counts: &[u32],
@@ -159,7 +157,8 @@ fn append_groups(
     requires { length counts.now < 2 ^ 32 }
     ensures groups { OnOk result (groups.new.group_counts.items
         ≡ groups.old.group_counts.items ++ length counts.now ∷ []) }
-    ensures entries { OnOk result (groups.new.entry_counts.items ≡ groups.old.entry_counts.items ++ counts.now) }
+    ensures entries { OnOk result (groups.new.entry_counts.items
+        ≡ groups.old.entry_counts.items ++ counts.now) }
     ensures names { OnOk result (groups.new.names.items ≡ groups.old.names.items ++ members.now) }
 {
     groups.group_counts.push(counts.len() as u32)?;
@@ -169,7 +168,6 @@ fn append_groups(
 }
 
 impl Gathering {
-    /// No partitions. It takes no memory.
     pub(crate) fn new(alloc: Global) -> Gathering
         ensures { result ≡ record { outputs = []; groups = [] } }
     {
@@ -183,7 +181,6 @@ impl Gathering {
         }
     }
 
-    /// One partition more.
     pub(crate) fn with(self, alloc: Global, output: &ReduceOutput) -> Result<Gathering, AllocError>
         ensures { IfOk result (λ g. g ≡ record {
           outputs = self.outputs ++ output.now.output ∷ [];

@@ -1,4 +1,4 @@
-//! The master's book, and what holds of every book and of the result that a state of the master names.
+//! The master's book, and laws of every book and of the result that a master's state names.
 ghost use Rattle.std.specs.Prelude.{◌≡◌, ◌+◌, [], Some, None, IfOk, IfErr, OnOk, OnErr, length};
 ghost use Rattle.std.specs.Prelude.{replicate, sum, vec_len, is_some, if◌then◌else◌, IsSome};
 ghost use Rattle.mr_core.specs.declared.event.Event.{Event};
@@ -28,7 +28,7 @@ use std::marker::Model;
 use std::sync::Arc;
 use std::sync::ledger::{Blank, Ledger};
 
-/// A book that is closed: its shape, its events with their replies, and the outputs that it accepted, by rising number.
+/// A closed book: its shape, its events with replies, and its accepted outputs, by rising number.
 #[derive(Drop)]
 pub struct History {
     pub shape: Shape,
@@ -37,9 +37,9 @@ pub struct History {
     pub reduces: Vec<Kept<ReduceOutput>>,
 }
 
-/// The master of a job with its whole history and the outputs that it accepted. Each call is one event of the master,
-/// and is counted by the seat that makes it. Workers in many threads share a book under one lock; `L` names the book,
-/// so that its seats are no other's.
+/// The master of a job, its whole history and its accepted outputs. Each call is one event of the
+/// master, and its seat counts it. Workers in many threads share a book under one lock. `L` names
+/// the book, so that its seats fit no other. A refusal of memory leaves book and seat as they were.
 #[derive(Drop)]
 pub struct Book<L: Ledger> {
     log: EventLog<L>,
@@ -71,7 +71,8 @@ impl<L: Ledger> Book<L> {
     ) -> Result<(Book<L>, Vec<Seat<L>>), AllocError>
         requires ledger { (blank.name ≡ L.name) × (blank.parts ≡ L.parts) }
         requires seats { blank.parts ≡ seats }
-        requires limits { InLimits (record { maps = maps; parts = parts; workers = workers; limits = limits }) }
+        requires limits { InLimits
+            (record { maps = maps; parts = parts; workers = workers; limits = limits }) }
         ensures book { IfOk result (λ r. r.0 ≡ record {
           shape = record { maps = maps; parts = parts; workers = workers; limits = limits };
           state = opening (record { maps = maps; parts = parts; workers = workers; limits = limits });
@@ -92,7 +93,7 @@ impl<L: Ledger> Book<L> {
         Ok((book, made))
     }
 
-    /// What the book was opened with. A look at a book brings what every book keeps.
+    /// The job's sizes and limits. A look at a book shows what every book keeps.
     pub fn shape(&self) -> Shape
         ensures shape { result ≡ self.now.shape }
         ensures kept { IsKept self.now }
@@ -108,14 +109,14 @@ impl<L: Ledger> Book<L> {
         self.log.core().end()
     }
 
-    /// Whether the task is complete. Splits and partitions are below their numbers.
+    /// Whether the task is complete; false where there is no such task.
     pub fn complete(&self, task: Task) -> bool
         ensures { result ≡ is_complete self.now.state task }
     {
         self.log.core().complete(task)
     }
 
-    /// How many of its events are no ask that was answered by Wait.
+    /// The number of its events, without asks that were answered by `Wait`.
     pub fn grown(&self) -> u64
         ensures { result ≡ grown self.now.history }
     {
@@ -129,7 +130,7 @@ impl<L: Ledger> Book<L> {
         self.log.has_damage()
     }
 
-    /// A worker asks for a task. Without memory book and seat stay as they were.
+    /// A worker asks for a task.
     pub fn ask(&mut self, seat: &mut Seat<L>, worker: u32) -> Result<Reply, AllocError>
         ensures call { IfOk result (λ r. Calls self.old (Event.Ask worker) r self.new) }
         ensures stored { StoresNothing self.old self.new }
@@ -139,8 +140,7 @@ impl<L: Ledger> Book<L> {
         self.hear(seat, Event::Ask(worker))
     }
 
-    /// A reduce attempt wants the output of a split, which is shared with it where it is there. Without memory book and
-    /// seat stay as they were.
+    /// A reduce attempt wants the output of a split, and gets a share of it where there is one.
     pub fn fetch(
         &mut self,
         seat: &mut Seat<L>,
@@ -159,16 +159,18 @@ impl<L: Ledger> Book<L> {
         Ok((reply, share))
     }
 
-    /// A map attempt is done. Its output is stored where it is accepted; its number is how many events came before.
-    /// Without memory it comes back, and book and seat stay as they were.
+    /// A map attempt is done. Its output's number is the number of events before. It is stored
+    /// where it is accepted, and comes back where memory is refused.
     pub fn map_done(
         &mut self,
         seat: &mut Seat<L>,
         attempt: u32,
         output: Stored,
     ) -> Result<Reply, AllocFailed<Stored>>
-        ensures call { IfOk result (λ r. Calls self.old (Event.MapDone attempt (length self.old.history)) r self.new) }
-        ensures maps { IfOk result (λ r. self.new.maps ≡ stored_by self.old.maps (length self.old.history) output r) }
+        ensures call { IfOk result
+            (λ r. Calls self.old (Event.MapDone attempt (length self.old.history)) r self.new) }
+        ensures maps { IfOk result
+            (λ r. self.new.maps ≡ stored_by self.old.maps (length self.old.history) output r) }
         ensures reduces { self.new.reduces ≡ self.old.reduces }
         ensures seat { OnOk result (seat.new ≡ seat.old + 1) }
         ensures err { IfErr result (λ e. (self.new ≡ self.old) × (seat.new ≡ seat.old) × (e.value ≡ output)) }
@@ -186,7 +188,7 @@ impl<L: Ledger> Book<L> {
         Ok(reply)
     }
 
-    /// A map attempt failed on a record of its split. Without memory book and seat stay as they were.
+    /// A map attempt failed on a record of its split.
     pub fn map_failed(
         &mut self,
         seat: &mut Seat<L>,
@@ -201,8 +203,8 @@ impl<L: Ledger> Book<L> {
         self.hear(seat, Event::MapFailed(attempt, number))
     }
 
-    /// A reduce attempt is done. Its output is stored where it is accepted; its number is how many events came before.
-    /// Without memory it comes back, and book and seat stay as they were.
+    /// A reduce attempt is done. Its output's number is the number of events before. It is stored
+    /// where it is accepted, and comes back where memory is refused.
     pub fn reduce_done(
         &mut self,
         seat: &mut Seat<L>,
@@ -230,7 +232,7 @@ impl<L: Ledger> Book<L> {
         Ok(reply)
     }
 
-    /// A worker is lost. Its outputs stay stored. Without memory book and seat stay as they were.
+    /// A worker is lost. Its outputs stay stored.
     pub fn lose(&mut self, seat: &mut Seat<L>, worker: u32) -> Result<Reply, AllocError>
         ensures call { IfOk result (λ r. Calls self.old (Event.Lose worker) r self.new) }
         ensures stored { StoresNothing self.old self.new }
@@ -240,8 +242,7 @@ impl<L: Ledger> Book<L> {
         self.hear(seat, Event::Lose(worker))
     }
 
-    /// A reduce attempt can't read what it fetched of a split. The output stays stored, though the split has it no more.
-    /// Without memory book and seat stay as they were.
+    /// A reduce attempt can't read what it fetched from a split. The output stays stored.
     pub fn damaged(
         &mut self,
         seat: &mut Seat<L>,
@@ -256,7 +257,7 @@ impl<L: Ledger> Book<L> {
         self.hear(seat, Event::Damaged(attempt, map))
     }
 
-    /// The whole history, with all seats that the book was opened with.
+    /// The whole history. It takes all seats that the book was opened with.
     pub fn close(self, seats: Vec<Seat<L>>) -> History
         requires { vec_len seats ≡ L.parts }
         ensures shape { result.shape ≡ self.shape }
@@ -283,7 +284,6 @@ impl<L: Ledger> Book<L> {
         }
     }
 
-    /// The master.
     pub(crate) fn core(&self) -> &Core
         ensures core { result.now ≡ record { shape = self.now.shape; state = self.now.state } }
         ensures run { IsRun result.now self.now.history }
@@ -299,7 +299,7 @@ impl<L: Ledger> Book<L> {
         self.reduces.at(number).output()
     }
 
-    /// An event that comes with no output.
+    /// Applies an event that comes with no output.
     fn hear(&mut self, seat: &mut Seat<L>, event: Event) -> Result<Reply, AllocError>
         requires { output_with event ≡ None }
         ensures call { IfOk result (λ r. Calls self.old event r self.new) }
@@ -311,7 +311,7 @@ impl<L: Ledger> Book<L> {
         self.log.enter(self.alloc, seat, event)
     }
 
-    /// The output of a split that is complete, shared once more.
+    /// A share of the output of a complete split.
     fn output(&self, map: u32) -> Result<Option<Arc<Stored>>, AllocError>
         ensures { IfOk result (λ share. Shares self.now.maps (output_of self.now.state map) share) }
     {
@@ -326,7 +326,6 @@ impl<L: Ledger> Book<L> {
     }
 }
 
-/// What is handed out with the reply: the share where it tells a region.
 fn handed(reply: &Reply, share: Option<Arc<Stored>>) -> Option<Arc<Stored>>
     ensures { result ≡ (if is_some (region_in reply.now) then share else None) }
 {
@@ -336,28 +335,28 @@ fn handed(reply: &Reply, share: Option<Arc<Stored>>) -> Option<Arc<Stored>>
     }
 }
 
-/// What is complete is stored: the output that a split has, and the one that is committed for a partition.
+/// What is complete is stored: the output of a split, and the committed one of a partition.
 pub fn what_is_complete_is_stored()
     ensures outputs { OutputsAreStored }
     ensures commits { CommitsAreStored }
 {}
 
-/// The reduce value over the map values of all splits is what the sequential execution has for the partition, and over
-/// their regions, however they are cut, it is the same.
+/// The reduce value over the map values of all splits is the sequential execution's for the
+/// partition, and so it is over their regions, however these are cut.
 pub fn values_law()
     ensures sequential { ValuesAreSequential }
     ensures cuts { CutsDontMatter }
 {}
 
-/// The value of a committed reduce attempt is that over the sets that are fixed for the splits, and no other.
+/// A committed reduce attempt has exactly one value: that over the fixed left-out sets.
 pub fn attempts_law()
     ensures one { AttemptsHaveOneValue }
     ensures some { CommittedHaveAValue }
 {}
 
-/// Once a job is done, the left-out set of each split is fixed. Over every run that ends done, where each committed reduce
-/// output is its attempt's value and each accepted failure names a record of its split, the assembled files are those of
-/// the sequential execution without the fixed sets, and with the assembled certificate they are good.
+/// Once a job is done, each split's left-out set is fixed. Where each committed reduce output is
+/// its attempt's value and each accepted failure names a record of its split, the assembled files
+/// are the sequential execution's without the fixed sets, and good with the assembled certificate.
 pub fn done_law()
     ensures fixed { DoneSetsAreFixed }
     ensures sequential { DoneIsSequential }
@@ -366,7 +365,7 @@ pub fn done_law()
     ensures result { DoneIsAGoodResult }
 {}
 
-/// A worked run that leaves out a record: its values, its end, its result; and the premises of the laws above hold of it.
+/// A worked run that leaves out a record. The premises of the laws above hold for it.
 pub fn worked_law()
     ensures region { WorkedRegion }
     ensures without { WorkedWithout }

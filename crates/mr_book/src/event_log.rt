@@ -1,4 +1,4 @@
-//! The master with its history: each event that it took, and what it answered.
+//! The master with its history: each event, and its reply.
 ghost use Rattle.std.specs.Prelude.{◌≡◌, ◌+◌, ◌≤◌, ◌∷◌, ◌++◌, [], length, replicate, sum, vec_len};
 ghost use Rattle.std.specs.Prelude.{IfOk, OnOk, OnErr};
 ghost use Rattle.mr_core.specs.declared.event.Reply.{Reply};
@@ -12,9 +12,9 @@ use std::marker::Model;
 use std::sync::ledger;
 use std::sync::ledger::{Blank, Ledger, Share};
 
-/// A master, and the events that it heard with its replies; `growth` is how many of these are no ask answered by Wait, and
-/// `damage` whether one tells that a region could not be read.
-/// `calls` is the ledger of all calls, of which each seat has a share; the share left beside the seats has no part.
+/// A master and its history. `growth` counts the events without asks that were answered by `Wait`;
+/// `damage` says whether a region could not be read. `calls` is the ledger of all calls, of which
+/// each seat has a share; `rest` has no part.
 #[derive(Drop)]
 pub(crate) struct EventLog<L: Ledger> {
     core: Core,
@@ -45,7 +45,6 @@ impl<L: Ledger> Model for EventLog<L> {
 }
 
 impl<L: Ledger> EventLog<L> {
-    /// A log with no events, and as many seats.
     pub(crate) fn open(
         alloc: Global,
         blank: Blank,
@@ -72,28 +71,24 @@ impl<L: Ledger> EventLog<L> {
         Ok((log, made))
     }
 
-    /// How many events it has.
     pub(crate) fn len(&self) -> u64
         ensures { result ≡ length self.now.history }
     {
         self.entries.len() as u64
     }
 
-    /// How many of its events are no ask answered by Wait.
     pub(crate) fn grown(&self) -> u64
         ensures { result ≡ grown self.now.history }
     {
         self.growth
     }
 
-    /// Whether some attempt could not read what it had fetched.
     pub(crate) fn has_damage(&self) -> bool
         ensures { result ≡ has_damage self.now.history }
     {
         self.damage
     }
 
-    /// The master.
     pub(crate) fn core(&self) -> &Core
         ensures core { result.now ≡ self.now.core }
         ensures run { IsRun self.now.core self.now.history }
@@ -110,7 +105,7 @@ impl<L: Ledger> EventLog<L> {
         self.entries.reserve(1)
     }
 
-    /// The master hears an event, which is appended with its reply. Without memory nothing changes.
+    /// Applies an event to the master, and appends it with its reply.
     pub(crate) fn enter(
         &mut self,
         alloc: Global,
@@ -134,7 +129,6 @@ impl<L: Ledger> EventLog<L> {
         Ok(reply)
     }
 
-    /// The whole history, with all seats.
     pub(crate) fn close(self, seats: Vec<Seat<L>>) -> (Shape, Vec<HistoryEntry>)
         requires { vec_len seats ≡ L.parts }
         ensures shape { result.0 ≡ self.core.shape }
@@ -156,21 +150,19 @@ impl<L: Ledger> EventLog<L> {
     }
 }
 
-/// Whether a worker asks and has to wait.
 fn is_wait(event: Event, reply: &Reply) -> bool
     ensures { result ≡ is_wait (event, reply.now) }
 {
     matches!((event, reply), (Event::Ask(_), Reply::Wait))
 }
 
-/// Whether a reduce attempt could not read what it had fetched.
 fn is_damage(event: Event) -> bool
     ensures { (reply : Reply) → result ≡ is_damage (event, reply) }
 {
     matches!(event, Event::Damaged(..))
 }
 
-/// An event with the reply that it was answered.
+/// An event with its reply.
 #[derive(Debug, Drop)]
 pub struct HistoryEntry {
     event: Event,
@@ -193,14 +185,12 @@ impl HistoryEntry {
         HistoryEntry { event, reply }
     }
 
-    /// What happened.
     pub fn event(&self) -> Event
         ensures { result ≡ self.now.0 }
     {
         self.event
     }
 
-    /// What was answered.
     pub fn reply(&self) -> &Reply
         ensures { result.now ≡ self.now.1 }
     {

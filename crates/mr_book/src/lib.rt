@@ -1,5 +1,5 @@
-//! The master's book: the master, its whole history, and the outputs that it accepted (OSDI 2004, section 3.2); and the
-//! result that a state of the master names, with laws of what it is worth.
+//! The master's book: the master, its whole history and the outputs that it accepted (OSDI 2004,
+//! section 3.2). A done job's result is assembled from it, and laws state what that is worth.
 #![tactic(auto)]
 
 mod assembling;

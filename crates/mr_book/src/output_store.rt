@@ -10,7 +10,7 @@ use std::alloc::{AllocError, Global};
 use std::marker::Model;
 use std::sync::Arc;
 
-/// An output, shared, under the number that it was given.
+/// A shared output with its number.
 #[derive(Drop)]
 pub struct Kept<T> {
     number: u64,
@@ -40,14 +40,12 @@ impl<T> Kept<T> {
         self.number
     }
 
-    /// The output.
     pub fn output(&self) -> &T
         ensures { result.now ≡ self.now.1 }
     {
         &self.output
     }
 
-    /// The output, shared once more.
     pub(crate) fn share(&self) -> Result<Arc<T>, AllocError>
         ensures { IfOk result (λ a. arc_value a ≡ self.now.1) }
     {
@@ -75,7 +73,6 @@ impl<T> Model for OutputStore<T> {
 }
 
 impl<T: Drop> OutputStore<T> {
-    /// No outputs; takes no memory.
     pub(crate) fn new(alloc: Global) -> OutputStore<T>
         ensures { result.outputs ≡ [] }
     {
@@ -92,7 +89,7 @@ impl<T: Drop> OutputStore<T> {
         self.outputs.reserve(1)
     }
 
-    /// Stores an output that was accepted, under a number past all others; drops one that was not.
+    /// Stores an accepted output under a number past all others. It drops one that wasn't accepted.
     pub(crate) fn store(&mut self, number: u64, output: Arc<T>, reply: &Reply)
         requires room { 1 ≤ self.old.room }
         requires rises { Rises nat_cmp (numbers self.old.outputs ++ number ∷ []) }
@@ -103,7 +100,7 @@ impl<T: Drop> OutputStore<T> {
         }
     }
 
-    /// The output of a number that is there: a binary search.
+    /// The output of a number that is there, by binary search.
     pub(crate) fn at(&self, number: u64) -> &Kept<T>
         requires { IsSome (stored_at self.now.outputs number) }
         ensures { stored_at self.now.outputs number ≡ Some (result.now.1) }

@@ -31,7 +31,6 @@ impl<L: Ledger> Seat<L> {
         Seat { calls: 0, share }
     }
 
-    /// How many calls were made with it.
     pub fn calls(&self) -> u64
         ensures { result ≡ self.now }
     {
@@ -57,7 +56,7 @@ impl<L: Ledger> Seat<L> {
     }
 }
 
-/// As many seats as the share has parts; it keeps none.
+/// A seat for each part of the share, which keeps none.
 pub(crate) fn seats_of<L: Ledger>(
     alloc: Global,
     rest: &mut Share<L>,
@@ -75,7 +74,7 @@ pub(crate) fn seats_of<L: Ledger>(
     Ok(seats)
 }
 
-/// All calls of the seats go into one share.
+/// Merges all seats' calls into one share.
 pub(crate) fn gather<L: Ledger>(rest: &mut Share<L>, mut seats: Vec<Seat<L>>)
     ensures parts { rest.new.parts ≡ rest.old.parts + vec_len seats }
     ensures amount { rest.new.amount ≡ rest.old.amount + sum seats.items }

@@ -1,4 +1,4 @@
-//! The result of a book whose job is done, spelled from the outputs that it stores.
+//! Spells the result of a done job from the outputs that its book stores.
 ghost use Rattle.std.specs.Prelude.{◌≡◌, ◌↔◌, ◌<◌, ◌≤◌, ◌^◌, Some, IfOk, IsTrue, length};
 ghost use Rattle.std.specs.List.{AllByRecursion};
 ghost use Rattle.mr_input.specs.Files.{contents};
@@ -24,7 +24,7 @@ impl<L: Ledger> Book<L> {
         ensures { IfOk result (λ v. contents v.items
             ≡ assembled_outputs (reduced_under self.now.reduces) self.now.state) }
     {
-        // That there are as many commits as partitions rests on that.
+        // This shows that there are as many commits as partitions.
         let _limits = self.core().limits();
         let parts = self.shape().parts;
         let mut texts = Vec::with_capacity(alloc, parts as usize)?;
@@ -35,10 +35,10 @@ impl<L: Ledger> Book<L> {
         Ok(texts)
     }
 
-    /// Whether the version can spell the names of all partitions.
     fn can_spell(&self, version: Version) -> bool
         requires { self.now.state.end ≡ Some End.Done }
-        ensures { IsTrue result ↔ AllByRecursion (CanSpell version) (committed_groups self.now.reduces self.now.state) }
+        ensures { IsTrue result
+            ↔ AllByRecursion (CanSpell version) (committed_groups self.now.reduces self.now.state) }
     {
         // As above.
         let _limits = self.core().limits();
@@ -52,8 +52,8 @@ impl<L: Ledger> Book<L> {
         true
     }
 
-    /// The version asked for, where it can spell the names of all partitions. They come from workers, so nothing is known of
-    /// their order: version 1, which spells any, takes its place elsewhere.
+    /// The version asked for, where it can spell all names; else version 1, which spells any. Names
+    /// come from workers, so nothing is known of their order.
     fn version_for(&self, asked: Version) -> Version
         requires { self.now.state.end ≡ Some End.Done }
         ensures can { AllByRecursion (CanSpell result) (committed_groups self.now.reduces self.now.state) }
@@ -67,7 +67,7 @@ impl<L: Ledger> Book<L> {
         }
     }
 
-    /// How many bytes the partitions are spelled in, in version 2 about so many; no more than can be counted.
+    /// The bytes that the partitions take: a guess in version 2, and no more than a `usize` counts.
     fn size_of_groups(&self, version: Version) -> usize
         requires { self.now.state.end ≡ Some End.Done }
     {
@@ -79,7 +79,7 @@ impl<L: Ledger> Book<L> {
         size
     }
 
-    /// The bytes of the certificate that begins so, in a version that can spell it.
+    /// The certificate's bytes, in a version that can spell it.
     fn spelled(
         &self,
         alloc: Global,
@@ -102,7 +102,6 @@ impl<L: Ledger> Book<L> {
           groups = committed_groups self.now.reduces self.now.state;
         })) }
     {
-        // As above.
         let _limits = self.core().limits();
         let parts = self.shape().parts;
         let room = self.size_of_groups(version);
@@ -114,9 +113,9 @@ impl<L: Ledger> Book<L> {
         Ok(out)
     }
 
-    /// The files of a job that is done, and the bytes of its certificate: what `assemble` gives, spelled in this version, or
-    /// in version 1 where this one can't spell it. They are a good result where `assemble` says that the files are good. Each
-    /// name is spelled from where it is stored, and no list of all names is made.
+    /// A done job's files and the bytes of its certificate: what `assemble` returns, and good where
+    /// that is, spelled in `version`, or in version 1 where `version` can't spell it. Each name is
+    /// spelled from where it is stored: no list of all names is made.
     pub fn assemble_bytes(
         &self,
         alloc: Global,
@@ -129,14 +128,16 @@ impl<L: Ledger> Book<L> {
         ensures outputs { IfOk result (λ r. contents r.0.items
             ≡ assembled_outputs (reduced_under self.now.reduces) self.now.state) }
         ensures certificate { IfOk result
-            (λ r. Spells r.1.items (assembled_certificate request.now input.now (reduced_under self.now.reduces) self.now.state)) }
+            (λ r. Spells r.1.items (assembled_certificate request.now input.now
+            (reduced_under self.now.reduces) self.now.state)) }
         ensures version { IfOk result
-            (λ r. SpellsWhereItCan version r.1.items (assembled_certificate request.now input.now (reduced_under self.now.reduces) self.now.state)) }
-        ensures good { IsFaithful request.now input.now self.now.history self.now.state (reduced_under self.now.reduces)
+            (λ r. SpellsWhereItCan version r.1.items (assembled_certificate request.now input.now
+            (reduced_under self.now.reduces) self.now.state)) }
+        ensures good { IsFaithful request.now input.now self.now.history self.now.state
+            (reduced_under self.now.reduces)
             → IfOk result (λ r. IsGoodResult request.now input.now (contents r.0.items) r.1.items) }
     {
-        // Book, input and request are within their limits, and the book keeps a run: that there is a certificate of them,
-        // and that it is good, rests on that.
+        // These show that all are within their limits, and that the book keeps a run.
         let _limits = self.core().limits();
         let _shape = self.shape();
         let _files = input.files();

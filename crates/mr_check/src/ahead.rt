@@ -1,4 +1,4 @@
-//! An input that is mapped ahead of the judgement of a result.
+//! Maps an input ahead of the judgement of a result.
 ghost use Rattle.std.specs.Prelude.{◌≡◌, ◌≤◌, ◌<◌, ◌^◌, [], IfOk};
 ghost use Rattle.mr_index.specs.Index.{triples_of};
 ghost use Rattle.mr_check.specs.Ahead.{IsMappedFor};
@@ -12,8 +12,7 @@ use std::alloc::{AllocError, Global};
 use std::marker::Model;
 use std::thread::Threads;
 
-/// What a job emits over an input, with no record left out, ready to be looked up by a judge: it may be made before the
-/// result is there.
+/// What a job emits over an input with no record left out. It may be made before the result.
 #[derive(Drop)]
 pub struct MappedInput<'a> {
     plan: &'a Plan<'a>,
@@ -32,14 +31,13 @@ impl<'a> Model for MappedInput<'a> {
 }
 
 impl<'a> MappedInput<'a> {
-    /// The plan of the input.
     pub(crate) fn plan(&self) -> &'a Plan<'a>
         ensures { result.now ≡ self.now.plan }
     {
         self.plan
     }
 
-    /// What is emitted, and in how many pieces of work it was mapped.
+    /// The pairs, and the number of pieces of work in which they were mapped.
     pub(crate) fn mapped(&self) -> &Mapped
         ensures index { result.now.index ≡ self.now.pairs }
         ensures few { result.now.pieces < 2 ^ 21 }
@@ -48,7 +46,7 @@ impl<'a> MappedInput<'a> {
     }
 }
 
-/// Maps the input of this plan, as `judge` does by these options.
+/// Maps the input of this plan, as `judge` does under these options.
 pub fn map_input<'a, R: Threads + Sync, G: Gate, W: Progress>(
     rt: &R,
     alloc: Global,

@@ -1,4 +1,4 @@
-//! A partition, or a section of one, that is judged by itself.
+//! Judges a partition, or a section of one, by itself.
 ghost use Rattle.std.specs.Prelude.{◌≡◌, ◌⊎◌, ◌<◌, ◌≤◌, ◌+◌, ◌-◌, ◌^◌, [], List, MatchResult, IfOk};
 ghost use Rattle.std.specs.Prelude.{OnOk, None, Some, true, false, length, drop};
 ghost use Rattle.std.specs.List.{AllByRecursion};
@@ -26,7 +26,6 @@ use mr_judge::{Block, Border, FoundItem, JudgeState, MemoryOutputs, read_block};
 use mr_verdict::{JudgeError, No, is_same_fault};
 use std::alloc::{AllocError, Global};
 
-/// Whether the item belongs to the partition that is open.
 #[inline]
 fn is_own(item: Item) -> bool
     ensures { result ≡ own item }
@@ -34,7 +33,7 @@ fn is_own(item: Item) -> bool
     !matches!(item, Item::Groups(_) | Item::End)
 }
 
-/// All tests of a row's item, over outputs at hand.
+/// Makes all tests of a row's item, over outputs at hand.
 fn step_at_hand<'a>(
     judging: &mut JudgeState<'a>,
     facts: &Facts<'a>,
@@ -43,7 +42,8 @@ fn step_at_hand<'a>(
 ) -> Result<(), No>
     requires room { HasRoom judging.old }
     requires found { IsFound facts.now.triples row.now }
-    requires left { Leaves judging.old facts.now.outputs outputs.old.rest.now (contents outputs.old.later.now) }
+    requires left { Leaves judging.old facts.now.outputs outputs.old.rest.now
+        (contents outputs.old.later.now) }
     requires place { outputs.old.passed ≡ judging.old.from }
     ensures tested { let s = subject facts.now in MatchResult result
         (λ _. (tests s judging.old row.now.item ≡ []) × (judging.new ≡ after s judging.old row.now.item))
@@ -59,7 +59,7 @@ fn step_at_hand<'a>(
     }
 }
 
-/// Judges the item that opens a partition, where one opens here.
+/// Judges the item that opens a partition. Returns whether one opens here.
 fn open_part<'a>(
     judging: &mut JudgeState<'a>,
     facts: &Facts<'a>,
@@ -67,7 +67,8 @@ fn open_part<'a>(
     walker: &mut Walker<'_>,
 ) -> Result<bool, No>
     requires room { Room judging.old (length (items_left walker.old)) (2 ^ 64 - 2) }
-    requires left { Leaves judging.old facts.now.outputs outputs.old.rest.now (contents outputs.old.later.now) }
+    requires left { Leaves judging.old facts.now.outputs outputs.old.rest.now
+        (contents outputs.old.later.now) }
     requires place { outputs.old.passed ≡ judging.old.from }
     ensures opened { Opened (subject facts.now) judging.old judging.new
         (items_left walker.old) (items_left walker.new) result }
@@ -88,7 +89,7 @@ fn open_part<'a>(
     Ok(true)
 }
 
-/// Judges rows in turn, up to the next partition: whether the open one ends among them, or its first fault.
+/// Judges rows up to the next partition. Returns whether the open one ends among them.
 #[inline(never)]
 fn judge_own<'a>(
     judging: &mut JudgeState<'a>,
@@ -98,7 +99,8 @@ fn judge_own<'a>(
 ) -> Result<bool, No>
     requires room { Room judging.old (length rows.now) (2 ^ 64 - 2) }
     requires found { AllByRecursion (IsFound facts.now.triples) rows.now }
-    requires left { Leaves judging.old facts.now.outputs outputs.old.rest.now (contents outputs.old.later.now) }
+    requires left { Leaves judging.old facts.now.outputs outputs.old.rest.now
+        (contents outputs.old.later.now) }
     requires place { outputs.old.passed ≡ judging.old.from }
     ensures judged { (js : List Read)
         → OwnJudged (subject facts.now) judging.old judging.new (items_in rows.now) js result }
@@ -116,11 +118,12 @@ fn judge_own<'a>(
     Ok(false)
 }
 
-/// Reads the items that come next over bytes, as `read_block` does; the place is told as the fault that it is, where no item stands at all.
+/// Reads the next items, as `read_block` does. Where there is none at all, the place is a fault.
 fn read_block_of(walker: &mut Walker<'_>, items: &mut Vec<Item>) -> Result<(), No>
     ensures items { MatchResult result
         (λ _. (items_left walker.old ≡ onto items.new.items (items_left walker.new))
-        × (entries_in (items_left walker.old) ≡ entries_in items.new.items + entries_in (items_left walker.new)))
+        × (entries_in (items_left walker.old)
+        ≡ entries_in items.new.items + entries_in (items_left walker.new)))
         (λ e. (e ≡ OutOfMemory) ⊎ ((items_left walker.old ≡ []) × (e ≡ Malformed (halt walker.old)))) }
     ensures some { OnOk result ((1 ≤ length items.new.items) × (length items.new.items ≤ 64)) }
     ensures stop { OnOk result (halt walker.new ≡ halt walker.old) }
@@ -139,9 +142,10 @@ fn read_block_of(walker: &mut Walker<'_>, items: &mut Vec<Item>) -> Result<(), N
     }
 }
 
-/// Reads the items that come next, as `read_block_of` does: whether there are any.
+/// Reads the next items. Returns whether there are any.
 fn read_more(walker: &mut Walker<'_>, items: &mut Vec<Item>) -> Result<bool, AllocError>
-    ensures some { IfOk result (λ b. b ≡ true → (items_left walker.old ≡ onto items.new.items (items_left walker.new))
+    ensures some { IfOk result
+        (λ b. b ≡ true → (items_left walker.old ≡ onto items.new.items (items_left walker.new))
         × (1 ≤ length items.new.items) × (length items.new.items ≤ 64)) }
     ensures none { IfOk result (λ b. b ≡ false → items_left walker.old ≡ []) }
 {
@@ -152,8 +156,8 @@ fn read_more(walker: &mut Walker<'_>, items: &mut Vec<Item>) -> Result<bool, All
     }
 }
 
-/// Judges so many items of the partition that is open, or what is left of it: whether it ends among them, or its first
-/// fault. Their names are looked up a block of them ahead of the tests.
+/// Judges the next `count` items of the open partition, or what is left of it. Returns whether it
+/// ends among them. Names are looked up a block ahead of the tests.
 fn judge_stretch<'a>(
     facts: &Facts<'a>,
     judging: &mut JudgeState<'a>,
@@ -163,9 +167,11 @@ fn judge_stretch<'a>(
     count: u64,
 ) -> Result<bool, No>
     requires room { Room judging.old (length (items_left walker.old)) (2 ^ 63 + 2 ^ 32) }
-    requires left { Leaves judging.old facts.now.outputs outputs.old.rest.now (contents outputs.old.later.now) }
+    requires left { Leaves judging.old facts.now.outputs outputs.old.rest.now
+        (contents outputs.old.later.now) }
     requires place { outputs.old.passed ≡ judging.old.from }
-    ensures { StretchJudged (subject facts.now) judging.old judging.new (piece (items_left walker.old)) count result }
+    ensures { StretchJudged (subject facts.now) judging.old judging.new
+        (piece (items_left walker.old)) count result }
 {
     let basis = facts.basis();
     let mut left = count;
@@ -173,7 +179,7 @@ fn judge_stretch<'a>(
         if !read_more(walker, &mut block.items)? {
             return Ok(true);
         }
-        // What a thread looks up is counted for nobody.
+        // Nobody counts the look-ups of a thread.
         let mut meter = Meter {
             lookups: 0,
             mapped: 0,
@@ -188,8 +194,6 @@ fn judge_stretch<'a>(
     Ok(false)
 }
 
-/// Judges so many items of the partition that is open, or what is left of it: the border that is reached, or none where
-/// the partition ends, or its first fault.
 fn judge_on<'a>(
     alloc: Global,
     facts: &Facts<'a>,
@@ -199,7 +203,8 @@ fn judge_on<'a>(
     count: u64,
 ) -> Result<Option<Border<'a>>, No>
     requires room { Room judging.old (length (items_left walker.old)) (2 ^ 63 + 2 ^ 32) }
-    requires left { Leaves judging.old facts.now.outputs outputs.old.rest.now (contents outputs.old.later.now) }
+    requires left { Leaves judging.old facts.now.outputs outputs.old.rest.now
+        (contents outputs.old.later.now) }
     requires place { outputs.old.passed ≡ judging.old.from }
     requires begins { GroupBegins (drop count (piece (items_left walker.old))) }
     ensures { SectionJudged (subject facts.now) judging.old (piece (items_left walker.old)) count result }
@@ -211,8 +216,7 @@ fn judge_on<'a>(
     Ok(Some(judging.border()))
 }
 
-/// Judges a section, from that border on and up to so many of its partition's items: the border that is reached behind
-/// them, or none where the partition ends, or its first fault.
+/// Judges a section from `began` on. Returns the border it reaches; `None` at a partition's end.
 fn judge_section<'a>(
     alloc: Global,
     facts: &Facts<'a>,
@@ -246,7 +250,7 @@ fn judge_section<'a>(
     )
 }
 
-/// What judging a section from that border comes to.
+/// The outcome of judging a section from a border.
 pub(crate) fn judged_from<'a>(
     alloc: Global,
     facts: &Facts<'a>,
@@ -280,7 +284,7 @@ pub(crate) fn judged_from<'a>(
     })
 }
 
-/// The fault of partition `p`, which begins here, if it has one. It is judged as a whole.
+/// The fault of partition `p`, which begins here. It is judged as a whole.
 pub(crate) fn fault_in(
     alloc: Global,
     facts: &Facts<'_>,
@@ -288,7 +292,8 @@ pub(crate) fn fault_in(
     front: &Front<'_>,
 ) -> Result<Option<No>, AllocError>
     requires { p < 2 ^ 32 }
-    ensures { IfOk result (λ o. o ≡ part_fault (subject facts.now) p (part_here (items_left front.now.walker))) }
+    ensures { IfOk result
+        (λ o. o ≡ part_fault (subject facts.now) p (part_here (items_left front.now.walker))) }
 {
     let whole = Section {
         part: p,
@@ -302,7 +307,7 @@ pub(crate) fn fault_in(
     match judged.outcome {
         Outcome::Fault(fault) => Ok(Some(fault)),
         Outcome::Ended => Ok(None),
-        // No item is left behind so many.
+        // No item is left after so many.
         Outcome::Reached(_) => Ok(None),
     }
 }

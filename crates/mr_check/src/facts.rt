@@ -1,4 +1,4 @@
-//! What the partitions are judged against.
+//! What the partitions are judged against: the case, and all emitted pairs.
 ghost use Rattle.std.specs.Prelude.{◌≡◌, ◌-◌, length, drop};
 ghost use Rattle.mr_input.specs.Files.{contents, nth_file};
 
@@ -7,7 +7,6 @@ use mr_judge::{Basis, MemoryOutputs};
 use mr_verdict::Case;
 use std::marker::Model;
 
-/// What the partitions are judged against: the case, and all that is emitted.
 #[derive(Drop)]
 pub(crate) struct Facts<'a> {
     pub case: &'a Case<'a>,
@@ -28,7 +27,6 @@ impl<'a> Model for Facts<'a> {
 }
 
 impl<'a> Facts<'a> {
-    /// What the groups are judged against.
     pub fn basis(&self) -> Basis<'a>
         ensures { result ≡ record { request = self.now.request; triples = self.now.triples } }
     {
@@ -38,7 +36,7 @@ impl<'a> Facts<'a> {
         }
     }
 
-    /// The output before that of partition `next`, of which so many bytes were passed, and those that are to come.
+    /// The output before that of partition `next`, after `from` of its bytes, and those after it.
     pub fn outputs_at(&self, next: u64, from: u64) -> MemoryOutputs<'a>
         ensures rest { result.rest.now ≡ drop from (nth_file self.now.outputs (next - 1)) }
         ensures later { contents result.later.now ≡ drop next self.now.outputs }
@@ -47,7 +45,6 @@ impl<'a> Facts<'a> {
         MemoryOutputs::at(self.case.outputs, next, from)
     }
 
-    /// How many pairs are emitted.
     pub fn emitted(&self) -> u64
         ensures { result ≡ length self.now.triples }
     {

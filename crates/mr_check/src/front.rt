@@ -4,7 +4,7 @@ ghost use Rattle.mr_certform.specs.Walking.{items_left};
 
 use mr_certform::Walker;
 
-/// A place in a certificate at which a partition begins, and which of all sections is its first.
+/// Where a partition begins, and which of all sections is its first.
 #[derive(Clone, Copy)]
 pub(crate) struct Front<'a> {
     pub walker: Walker<'a>,
@@ -12,8 +12,8 @@ pub(crate) struct Front<'a> {
     ghost few: { length (items_left walker) ≤ 2 ^ 63 },
 }
 
-/// A place in a certificate from which a partition is judged: its front, or where one of its groups begins. How many of
-/// the partition's items stand before it, of these how many groups and entries; and how many groups are said to come.
+/// Where a section begins: at its partition's front, or at a group. `at` items of the partition
+/// come before it, with `group` groups and `entries` entries; `groups` groups should follow.
 #[derive(Clone, Copy)]
 pub(crate) struct Section<'a> {
     pub part: u64,
@@ -25,8 +25,7 @@ pub(crate) struct Section<'a> {
     ghost few: { group + length (items_left walker) ≤ 2 ^ 63 },
 }
 
-/// Where each partition begins, and each of their sections, in the order of the items; how many entries there are, and
-/// where the items stop, unless they end.
+/// Where partitions and sections begin, in order, and where the items stop, unless they end.
 #[derive(Drop)]
 pub(crate) struct Fronts<'a> {
     pub list: Vec<Front<'a>>,

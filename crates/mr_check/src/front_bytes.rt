@@ -1,4 +1,4 @@
-//! What stands ahead of the partitions, over a certificate's bytes. There nothing fails but the items themselves.
+//! Reads what comes ahead of the partitions from bytes, where nothing fails but the items.
 ghost use Rattle.std.specs.Prelude.{◌≡◌, ◌⊎◌, [], OnOk, MatchResult, IsTrue};
 ghost use Rattle.mr_splits.specs.Cut.{records_of};
 ghost use Rattle.mr_certform.specs.Walking.{items_left, halt};
@@ -13,14 +13,14 @@ use mr_splits::Plan;
 use mr_verdict::{JudgeError, No, expect_count, expect_header, read_skips};
 use std::alloc::Global;
 
-/// The items that the request and the input fix come next.
 pub(crate) fn expect_header_of(
     walker: &mut Walker<'_>,
     request: &Request,
     input: &Input,
 ) -> Result<(), No>
     ensures met { MatchResult result
-        (λ _. header_met (halt walker.old) request.now input.now (items_left walker.old) ≡ Ok (items_left walker.new))
+        (λ _. header_met (halt walker.old) request.now input.now (items_left walker.old)
+        ≡ Ok (items_left walker.new))
         (λ e. header_met (halt walker.old) request.now input.now (items_left walker.old) ≡ Err e) }
     ensures stop { OnOk result (halt walker.new ≡ halt walker.old) }
 {
@@ -31,11 +31,11 @@ pub(crate) fn expect_header_of(
     }
 }
 
-/// How many records are left out comes next, which is at most so many.
 pub(crate) fn expect_count_of(walker: &mut Walker<'_>, most: u32) -> Result<u32, No>
     requires { IsTrue (awaits_skips (items_left walker.old)) }
     ensures counted { MatchResult result
-        (λ n. counted (halt walker.old) most (items_left walker.old) ≡ Ok (record { many = n; behind = items_left walker.new }))
+        (λ n. counted (halt walker.old) most (items_left walker.old)
+        ≡ Ok (record { many = n; behind = items_left walker.new }))
         (λ e. (e ≡ OutOfMemory) ⊎ (counted (halt walker.old) most (items_left walker.old) ≡ Err e)) }
     ensures stop { OnOk result (halt walker.new ≡ halt walker.old) }
 {
@@ -46,7 +46,6 @@ pub(crate) fn expect_count_of(walker: &mut Walker<'_>, most: u32) -> Result<u32,
     }
 }
 
-/// The left-out records, of which so many come next, each tested for its order before its existence.
 pub(crate) fn take_skips_of(
     alloc: Global,
     walker: &mut Walker<'_>,

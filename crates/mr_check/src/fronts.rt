@@ -1,4 +1,4 @@
-//! Where the partitions of a certificate begin, and their sections.
+//! Finds where the partitions of a certificate, and their sections, begin.
 ghost use Rattle.std.specs.Prelude.{◌≡◌, ◌<◌, ◌≤◌, ◌+◌, ◌-◌, ◌^◌, ◌++◌, ◌∷◌, [], ℕ, List, All};
 ghost use Rattle.std.specs.Prelude.{IfOk, OnOk, true, false, length};
 ghost use Rattle.mr_certform.specs.declared.item.Item.{Item as Read};
@@ -15,14 +15,13 @@ use crate::front::{Front, Fronts, Section};
 use mr_certform::{Item, Walker};
 use std::alloc::{AllocError, Global};
 
-/// How many entries a section has at least, but for the last one of a partition: so many that a thread which draws one
-/// works for some milliseconds, and so few that the threads end at about the same time.
+/// The fewest entries of a section, except a partition's last: enough for some milliseconds of a
+/// thread's work, and few enough that threads end at about the same time.
 const SECTION: u64 = 65_536;
 
-/// How many sections may begin behind the front of a partition.
+/// The most sections that begin after the front of a partition.
 const MOST_SECTIONS: usize = 1_048_576;
 
-/// Whether the item opens a partition.
 #[inline]
 pub(crate) fn is_opening(item: Item) -> bool
     ensures { result ≡ opens item }
@@ -30,7 +29,6 @@ pub(crate) fn is_opening(item: Item) -> bool
     matches!(item, Item::Groups(_))
 }
 
-/// Whether the item ends all.
 #[inline]
 pub(crate) fn is_end(item: Item) -> bool
     ensures { result ≡ closes item }
@@ -38,8 +36,8 @@ pub(crate) fn is_end(item: Item) -> bool
     matches!(item, Item::End)
 }
 
-/// How far the walk has come in the partition that is open: how many of its items were passed, of these how many groups
-/// and entries; how many groups it is said to have; and how many entries were passed since its last section began.
+/// The place of the walk in the open partition: the items, groups and entries passed, the number of
+/// groups that it should have, and the entries passed since its last section began.
 #[derive(Clone, Copy)]
 pub(crate) struct Reach {
     items: u64,
@@ -50,7 +48,6 @@ pub(crate) struct Reach {
 }
 
 impl Reach {
-    /// Before a partition of so many groups.
     fn before(groups: u32) -> Reach
         ensures { result ≡ record { items = 0; group = 0; entries = 0; groups = groups; fresh = 0 } }
     {
@@ -63,7 +60,6 @@ impl Reach {
         }
     }
 
-    /// So many entries were passed.
     fn skip_entries(&mut self, passed: u64)
         requires { (self.old.items + passed < 2 ^ 64) × (self.old.entries ≤ self.old.items)
             × (self.old.fresh ≤ self.old.items) }
@@ -75,7 +71,6 @@ impl Reach {
         self.fresh += passed;
     }
 
-    /// An item was passed that is no entry.
     fn pass(&mut self, item: Item)
         requires { (self.old.items + 1 < 2 ^ 64) × (self.old.group ≤ self.old.items) }
         ensures items { self.new.items ≡ self.old.items + 1 }
@@ -89,7 +84,6 @@ impl Reach {
     }
 }
 
-/// A place is kept, where a partition begins there.
 #[inline]
 fn keep_front<'a>(
     list: &mut Vec<Front<'a>>,
@@ -110,7 +104,6 @@ fn keep_front<'a>(
     Ok(())
 }
 
-/// The section that begins here, in the last of so many partitions.
 fn section_at<'a>(fronts: usize, walker: Walker<'a>, reach: &Reach) -> Section<'a>
     requires some { 1 ≤ fronts }
     requires few { reach.now.group + length (items_left walker) ≤ 2 ^ 63 }
@@ -128,7 +121,7 @@ fn section_at<'a>(fronts: usize, walker: Walker<'a>, reach: &Reach) -> Section<'
     }
 }
 
-/// The first section of a partition that has just been kept.
+/// Keeps the first section of the last partition.
 fn open_section<'a>(
     list: &[Front<'a>],
     sections: &mut Vec<Section<'a>>,
@@ -137,7 +130,8 @@ fn open_section<'a>(
     reach: &mut Reach,
 ) -> Result<(), AllocError>
     requires few { length (items_left walker) ≤ 2 ^ 63 }
-    requires opened { (1 ≤ length list.now) × (part_at list.now (length list.now - 1) ≡ part_here (items_left walker)) }
+    requires opened { (1 ≤ length list.now)
+        × (part_at list.now (length list.now - 1) ≡ part_here (items_left walker)) }
     ensures sections { OnOk result (All (IsSection list.now) sections.old.items
         → All (IsSection list.now) sections.new.items) }
     ensures walked { OnOk result ((n : _) (js : List Read)
@@ -150,7 +144,7 @@ fn open_section<'a>(
     Ok(())
 }
 
-/// A section behind the front of a partition, where a group begins.
+/// Keeps a section that begins with a group.
 fn next_section<'a>(
     list: &[Front<'a>],
     sections: &mut Vec<Section<'a>>,
@@ -173,8 +167,7 @@ fn next_section<'a>(
     Ok(())
 }
 
-/// A section is kept, where one begins: at the front of a partition, and where a group begins behind as many entries as
-/// a section has at least.
+/// Keeps a section, where one begins: at a front, or at a group after `SECTION` entries.
 fn keep_section<'a>(
     list: &[Front<'a>],
     sections: &mut Vec<Section<'a>>,
@@ -211,8 +204,7 @@ fn keep_section<'a>(
     }
 }
 
-/// Walks all items, once: where each partition begins, and each section of one; how many entries there are, and where the
-/// items stop. Entries are passed over a group at a time.
+/// Walks all items once, and passes the entries of a group at a time.
 pub(crate) fn fronts_of<'a>(alloc: Global, walker: &Walker<'a>) -> Result<Fronts<'a>, AllocError>
     requires few { length (items_left walker.now) ≤ 2 ^ 63 }
     ensures parts { IfOk result (λ f. parts_at f.list.items ≡ parts_in (items_left walker.now)) }

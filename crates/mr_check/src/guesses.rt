@@ -1,8 +1,7 @@
-//! Guesses at the borders at which sections begin, by the outputs that are judged. Nothing rests on them: a section that
-//! was judged from another border than the one that is reached before it is judged again. So they may be any, and cost
-//! time alone where they are wrong. They are right where no section before has a fault: each entry gives a line
-//! where the job's texts have one for each value, and else each group does, and a line is its key, a tab, and more without
-//! a tab.
+//! Guesses the borders at which sections begin, from the outputs. A wrong guess only costs time: a
+//! section that was judged from another border than the one reached before it is judged again.
+//! Guesses are right where no section before has a fault: each entry gives a line if texts have one
+//! for each value, else each group does, and a line is a key, a tab, and more without a tab.
 ghost use Rattle.std.specs.Prelude.{◌≡◌, ◌≤◌, ◌<◌, ◌+◌, ◌^◌, IfSome, IsTrue, length};
 ghost use Rattle.mr_verdict.specs.Verdict.{start};
 ghost use Rattle.mr_judge.specs.Borders.{at_border};
@@ -13,7 +12,7 @@ use mr_judge::Border;
 use std::alloc::{AllocError, Global};
 use std::simd::prelude::*;
 
-/// A walk over the lines of an output: behind how many bytes, and how many lines, it has come.
+/// A walk over the lines of an output: how many bytes and lines it has passed.
 #[derive(Drop)]
 struct Lines<'a> {
     output: &'a [u8],
@@ -23,7 +22,6 @@ struct Lines<'a> {
 }
 
 impl<'a> Lines<'a> {
-    /// Before the first line.
     fn new(output: &'a [u8]) -> Lines<'a> {
         Lines {
             output,
@@ -32,7 +30,7 @@ impl<'a> Lines<'a> {
         }
     }
 
-    /// How many line feeds the next 64 bytes have, where there are so many.
+    /// The number of line feeds in the next 64 bytes, where there are so many.
     fn feeds_ahead(&self) -> Option<u64>
         ensures { IfSome result (λ n. (self.now.place + 64 ≤ length self.now.output.now) × (n ≤ 64)) }
     {
@@ -41,7 +39,6 @@ impl<'a> Lines<'a> {
         Some(u64::from(feeds.to_bitmask().count_ones()))
     }
 
-    /// Goes on by a byte, where there is one.
     fn pass_byte(&mut self) -> bool
         ensures output { self.new.output.now ≡ self.old.output.now }
         ensures place { IsTrue result → self.new.place ≡ self.old.place + 1 }
@@ -58,7 +55,7 @@ impl<'a> Lines<'a> {
         }
     }
 
-    /// Goes on behind so many lines from the front, or to the end: by 64 bytes while the last of these lines ends behind them.
+    /// Passes `lines` lines from the front, or all, by 64 bytes while the last line ends later.
     fn pass_to(&mut self, lines: u64) {
         while self.passed < lines {
             match self.feeds_ahead() {
@@ -87,8 +84,7 @@ impl<'a> Lines<'a> {
     }
 }
 
-/// What is guessed of the border at which a section begins: where in the output the next text is to stand, and the key
-/// before.
+/// A guess of a border: where in the output the next text begins, and the key before it.
 #[derive(Clone, Copy)]
 pub(crate) struct Guess<'a> {
     pub from: u64,
@@ -96,7 +92,6 @@ pub(crate) struct Guess<'a> {
 }
 
 impl<'a> Guess<'a> {
-    /// At the front of a partition.
     pub fn at_front() -> Guess<'a> {
         Guess {
             from: 0,
@@ -104,7 +99,6 @@ impl<'a> Guess<'a> {
         }
     }
 
-    /// The border, as it is guessed.
     pub fn border(&self, section: &Section<'_>) -> Border<'a>
         requires few { section.now.part < 2 ^ 32 }
         ensures next { result.next ≤ 2 ^ 32 }
@@ -124,7 +118,7 @@ impl<'a> Guess<'a> {
     }
 }
 
-/// What is guessed of a section, by the lines before it of its partition's output, where there are as many.
+/// Guesses by the lines before a section in its partition's output, where there are as many.
 fn guess_at<'a>(lines: &mut Lines<'a>, section: &Section<'_>, has_lines: bool) -> Guess<'a> {
     if section.at == 0 {
         return Guess::at_front();
@@ -135,8 +129,8 @@ fn guess_at<'a>(lines: &mut Lines<'a>, section: &Section<'_>, has_lines: bool) -
         section.group
     };
     lines.pass_to(wanted);
-    // In an output that has fewer lines a look back for the key would take all of its last line, for each section anew,
-    // and a stranger may have made it long. Sections behind lines that are there have each a line of its own.
+    // Where lines are missing, the look back for the key would read all of the last line for each
+    // section anew, and a stranger may have made it long. Other sections have a line each.
     if lines.passed < wanted {
         return Guess::at_front();
     }
@@ -146,7 +140,6 @@ fn guess_at<'a>(lines: &mut Lines<'a>, section: &Section<'_>, has_lines: bool) -
     }
 }
 
-/// The output of partition `p`; past the last there is none.
 fn output_of(outputs: &[Vec<u8>], p: u64) -> &[u8] {
     match outputs.get(p as usize) {
         Some(output) => output.as_slice(),
@@ -154,8 +147,7 @@ fn output_of(outputs: &[Vec<u8>], p: u64) -> &[u8] {
     }
 }
 
-/// What is guessed of each section, of a job whose texts have a line for each value or of another. Each output is gone
-/// through once at most.
+/// A guess for each section. It reads each output at most once.
 pub(crate) fn guesses_of<'a>(
     alloc: Global,
     outputs: &'a [Vec<u8>],

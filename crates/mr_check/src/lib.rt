@@ -1,4 +1,4 @@
-//! The judge of a result: by one thread, as `mr_judge` has it, and by many; and what it answers, as `mr_verdict` says.
+//! The judge of a result: by one thread (`mr_judge`) and by many, with the verdict of `mr_verdict`.
 #![tactic(auto)]
 
 mod ahead;

@@ -1,4 +1,4 @@
-//! What a job emits over the splits of a plan, mapped by threads.
+//! Maps the splits of a plan by threads.
 ghost use Rattle.std.specs.Prelude.{◌≡◌, ◌<◌, ◌≤◌, ◌+◌, ◌*◌, ◌^◌, ℕ, [], IfOk, length};
 ghost use Rattle.std.specs.Prelude.{slice_index_or};
 ghost use Rattle.mr_input.specs.Files.{split_total};
@@ -16,7 +16,6 @@ use std::thread::Threads;
 /// The fewest bytes of a split for each of its pieces.
 const PIECE_BYTES: u32 = 65_536;
 
-/// A plan, a job, and the records that are left out.
 #[derive(Clone, Copy)]
 pub(crate) struct Source<'p, 'j> {
     pub plan: &'p Plan<'p>,
@@ -24,23 +23,23 @@ pub(crate) struct Source<'p, 'j> {
     pub skips: &'j [RecordName],
 }
 
-/// All that the job emits, and in how many pieces of work it was mapped.
+/// All emitted pairs, and the number of pieces of work in which they were mapped.
 #[derive(Drop)]
 pub(crate) struct Mapped {
     pub index: EmissionIndex,
     pub pieces: u32,
 }
 
-/// How threads share splits: so many are drawn whole, and each of the others in so many pieces.
+/// How threads share splits: `whole` ones are drawn whole, each of the others in `pieces` pieces.
 #[derive(Clone, Copy)]
 struct Shares {
     whole: u32,
     pieces: u32,
-    /// How many pieces of work there are in all.
+    /// The number of pieces of work in all.
     all: u64,
 }
 
-/// The first splits of a plan, to be mapped each by itself.
+/// The first splits of a plan, each a piece of work.
 #[derive(Drop)]
 struct Mapping<'a, W: Progress> {
     kept: &'a KeptPlan<'a>,
@@ -67,7 +66,6 @@ impl<'a, W: Progress> WorkPieces for Mapping<'a, W> {
     }
 }
 
-/// The pieces of a split, to be mapped each by itself.
 #[derive(Drop)]
 struct Dividing<'a, W: Progress> {
     divided: &'a DividedSplit<'a>,
@@ -93,7 +91,7 @@ impl<'a, W: Progress> WorkPieces for Dividing<'a, W> {
     }
 }
 
-/// In how many pieces a split is divided: up to four for each thread, so that those that are done early draw again.
+/// A split's number of pieces: up to four a thread, so that threads done early draw again.
 fn pieces_of(plan: &Plan<'_>, split: u32, threads: u32) -> u32
     requires split { split < split_total plan.now.size plan.now.files }
     requires threads { (0 < threads) × (threads ≤ 64) }
@@ -104,10 +102,10 @@ fn pieces_of(plan: &Plan<'_>, split: u32, threads: u32) -> u32
     (bytes / PIECE_BYTES).max(1).min(4 * threads)
 }
 
-/// How threads share the splits of a plan. Whole splits are drawn in rounds of as many as there are threads; those that
-/// are left for a last round, in which some threads had nothing to do, are divided. Of many splits the last round is a
-/// small part, and pieces are put together by one thread, in about a fifth of the time that mapping them takes one thread:
-/// where that would take longer than the round, all splits stay whole.
+/// Threads draw whole splits in rounds of one for each thread. Splits that are left for a last
+/// round, in which some threads would have nothing to do, are divided, unless splits are so many
+/// that this round is a small part. One thread joins the pieces, in about a fifth of the time that
+/// one thread takes to map them. Where that takes longer than the round, all splits stay whole.
 fn shares_of(plan: &Plan<'_>, threads: u32) -> Shares
     requires threads { (0 < threads) × (threads ≤ 64) }
     ensures whole { result.whole ≤ split_total plan.now.size plan.now.files }
@@ -137,7 +135,7 @@ fn shares_of(plan: &Plan<'_>, threads: u32) -> Shares
     }
 }
 
-/// The parts of the first splits, so many, each of them mapped by a thread that draws it.
+/// The parts of the first splits, each mapped by the thread that draws it.
 fn map_whole<R: Threads + Sync, G: Gate, W: Progress>(
     crew: &Crew<'_, R, G, W>,
     source: &Source<'_, '_>,
@@ -146,7 +144,8 @@ fn map_whole<R: Threads + Sync, G: Gate, W: Progress>(
     requires { shares.whole ≤ split_total source.now.plan.now.size source.now.plan.now.files }
     ensures len { IfOk result (λ v. length v.items ≡ shares.whole) }
     ensures each { IfOk result (λ v. (s : ℕ) → s < length v.items
-        → slice_index_or v.items s [] ≡ triples_in s (triples_of source.now.job.now source.now.plan.now source.now.skips.now)) }
+        → slice_index_or v.items s []
+        ≡ triples_in s (triples_of source.now.job.now source.now.plan.now source.now.skips.now)) }
 {
     if shares.whole == 0 {
         return Ok(Vec::new(crew.alloc));
@@ -169,7 +168,7 @@ fn map_whole<R: Threads + Sync, G: Gate, W: Progress>(
     )
 }
 
-/// The part of a split whose pieces are mapped by threads that draw them, and are numbered from `first_piece`.
+/// The part of a split whose pieces, numbered from `first_piece`, are mapped by threads.
 fn map_divided<R: Threads + Sync, G: Gate, W: Progress>(
     crew: &Crew<'_, R, G, W>,
     source: &Source<'_, '_>,
@@ -204,12 +203,13 @@ fn map_divided<R: Threads + Sync, G: Gate, W: Progress>(
     divided.join(mapped)
 }
 
-/// All that the job emits over a plan without its left-out records, the splits being mapped by threads.
+/// All that the job emits over a plan without its left-out records.
 pub(crate) fn index_of<R: Threads + Sync, G: Gate, W: Progress>(
     crew: &Crew<'_, R, G, W>,
     source: &Source<'_, '_>,
 ) -> Result<Mapped, AllocError>
-    ensures all { IfOk result (λ m. m.index ≡ triples_of source.now.job.now source.now.plan.now source.now.skips.now) }
+    ensures all { IfOk result
+        (λ m. m.index ≡ triples_of source.now.job.now source.now.plan.now source.now.skips.now) }
     ensures few { IfOk result (λ m. m.pieces < 2 ^ 21) }
 {
     // A plan's splits have at least one byte.

@@ -9,20 +9,20 @@ use std::thread::Threads;
 /// How a result is judged.
 #[derive(Drop)]
 pub struct JudgeOptions<'a, G: Gate, W: Progress> {
-    /// How many threads judge, 1 to 64.
+    /// The number of threads that judge, 1 to 64.
     pub threads: u32,
-    /// Each thread passes it round each piece of work.
+    /// Each thread calls it before and after each piece of work.
     pub gate: &'a G,
     /// Each thread reports each piece of work to it.
     pub progress: &'a W,
-    /// The input, where it was mapped before the result was there.
+    /// The input, where it was mapped ahead of the result.
     pub mapped: Option<&'a MappedInput<'a>>,
     pub ghost some: { 1 ≤ threads },
     pub ghost few: { threads ≤ 64 },
 }
 
 impl<'a, G: Gate, W: Progress> JudgeOptions<'a, G, W> {
-    /// By so many threads, from 1 to 64.
+    /// Options for `threads` threads, 1 to 64.
     pub fn of(
         threads: u32,
         gate: &'a G,

@@ -1,4 +1,4 @@
-//! The sections of all partitions, judged each by itself, and put together.
+//! Judges the sections of all partitions, each by itself, and puts the outcomes together.
 ghost use Rattle.std.specs.Prelude.{◌≡◌, ◌<◌, ◌≤◌, ◌+◌, ◌^◌, ℕ, List, All, IfOk, length, drop};
 ghost use Rattle.std.specs.Prelude.{slice_index_or};
 ghost use Rattle.mr_verdict.specs.VerdictLaws.{part_fault, least_fault};
@@ -21,7 +21,7 @@ use mr_verdict::No;
 use std::alloc::{AllocError, Global};
 use std::thread::Threads;
 
-/// How many items of its partition a section has: those before the next one, or all that are left.
+/// The number of a section's items: those before the next section, or all that are left.
 fn count_at(sections: &[Section<'_>], number: usize) -> u64
     requires { number < length sections.now }
     ensures some { 1 ≤ result }
@@ -41,7 +41,6 @@ fn count_at(sections: &[Section<'_>], number: usize) -> u64
     }
 }
 
-/// Judges one of the sections from the border that is guessed for it.
 fn judge_at<'a>(
     alloc: Global,
     facts: &Facts<'a>,
@@ -60,7 +59,6 @@ fn judge_at<'a>(
     judged_from(alloc, facts, section, count, guess.border(section))
 }
 
-/// All sections, to be judged each by itself.
 #[derive(Drop)]
 struct Judging<'a, 'f, 'g, 'w, W: Progress> {
     facts: &'a Facts<'a>,
@@ -77,7 +75,8 @@ impl<'a, 'f, 'g, 'w, W: Progress> WorkPieces for Judging<'a, 'f, 'g, 'w, W> {
 
     type Out = Judged<'a>;
 
-    ghost has = { λ j p. (p < length j.sections.now) × (All (IsSection j.fronts.now) j.sections.now) × (length j.fronts.now ≤ 2 ^ 32) };
+    ghost has = { λ j p. (p < length j.sections.now) × (All (IsSection j.fronts.now) j.sections.now)
+        × (length j.fronts.now ≤ 2 ^ 32) };
 
     ghost gives = { λ j p out. IsJudgedAt (subject j.facts.now) j.fronts.now j.sections.now p out };
 
@@ -99,8 +98,8 @@ impl<'a, 'f, 'g, 'w, W: Progress> WorkPieces for Judging<'a, 'f, 'g, 'w, W> {
     }
 }
 
-/// The fault of partition `p`, if it has one, by what its sections came to, one behind another, as long as each begins at
-/// the border that was reached before it. Where one doesn't, the partition is judged as a whole, and the watch is told.
+/// The fault of partition `p`, from its sections' outcomes, if each section begins at the border
+/// reached before it. Otherwise the partition is judged as a whole, which is reported to `watch`.
 fn fault_of<W: Progress>(
     alloc: Global,
     facts: &Facts<'_>,
@@ -142,7 +141,6 @@ fn fault_of<W: Progress>(
     fault_in(alloc, facts, p as u64, &fronts[p])
 }
 
-/// The fault of the least partition that has one, by what all sections came to.
 fn first_fault<W: Progress>(
     alloc: Global,
     facts: &Facts<'_>,
@@ -163,7 +161,7 @@ fn first_fault<W: Progress>(
     Ok(None)
 }
 
-/// The fault of the least partition that has one, the sections being judged by threads.
+/// The fault of the least partition that has one. Threads judge the sections.
 pub(crate) fn least_of<'x, 'f, R: Threads + Sync, G: Gate, W: Progress>(
     crew: &Crew<'_, R, G, W>,
     facts: &'x Facts<'x>,

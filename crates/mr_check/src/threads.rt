@@ -34,12 +34,12 @@ use mr_verdict::{Case, No, Yes};
 use std::alloc::{AllocError, Global};
 use std::thread::Threads;
 
-/// What is told behind the partitions: that the items stop short of their end, or that pairs are unnamed; or else how
-/// many entries there are.
+/// Tests what comes after the partitions: whether the items end, and whether all pairs have names.
 fn test_back(facts: &Facts<'_>, entries: u64, stop: Option<u64>) -> Result<u64, No>
     ensures { (at : _) (ended : _) → ends_at at stop ended
         → (let fault = back_fault (subject facts.now) at entries ended in
-        MatchResult result (λ n. (fault ≡ None) × (n ≡ entries)) (λ e. (e ≡ OutOfMemory) ⊎ (fault ≡ Some e))) }
+        MatchResult result (λ n. (fault ≡ None) × (n ≡ entries))
+        (λ e. (e ≡ OutOfMemory) ⊎ (fault ≡ Some e))) }
 {
     if let Some(at) = stop {
         return Err(No::Malformed { at });
@@ -48,10 +48,9 @@ fn test_back(facts: &Facts<'_>, entries: u64, stop: Option<u64>) -> Result<u64, 
     Ok(entries)
 }
 
-/// Judges all partitions against what was mapped, each section of one by a thread that draws it,
-/// and the certificate's end: how many entries there are, or the first fault. The items are walked
-/// once ahead of that, for where the partitions and their sections begin. The sections are numbered
-/// on from the pieces of the mapping.
+/// Judges all partitions, each section by the thread that draws it, and the certificate's end.
+/// Before that it walks all items once, to find where partitions and sections begin. Sections are
+/// numbered on from the pieces of the mapping. Returns the number of entries.
 fn check_parts<R: Threads + Sync, G: Gate, W: Progress>(
     crew: &Crew<'_, R, G, W>,
     case: &Case<'_>,
@@ -85,8 +84,8 @@ fn check_parts<R: Threads + Sync, G: Gate, W: Progress>(
     test_back(&facts, entries, stop)
 }
 
-/// Maps the splits, where they weren't mapped ahead with no record left out and none is, and judges
-/// the partitions, given the left-out records: how many pairs there are, or the first fault.
+/// Judges the partitions, given the left-out records. It maps the splits, unless they were mapped
+/// ahead and no record is left out.
 fn check_with<R: Threads + Sync, G: Gate, W: Progress>(
     crew: &Crew<'_, R, G, W>,
     case: &Case<'_>,
@@ -111,7 +110,7 @@ fn check_with<R: Threads + Sync, G: Gate, W: Progress>(
     check_parts(crew, case, &source, &mapped, walker)
 }
 
-/// Judges what stands behind the items of the request and of the input, whose plan is there.
+/// Judges what comes after the header, under a plan.
 fn check_planned<R: Threads + Sync, G: Gate, W: Progress>(
     crew: &Crew<'_, R, G, W>,
     case: &Case<'_>,
@@ -130,8 +129,7 @@ fn check_planned<R: Threads + Sync, G: Gate, W: Progress>(
     Ok(Yes { skips, pairs })
 }
 
-/// Judges what stands behind the items of the request and of the input. The plan is made here where
-/// the input wasn't mapped ahead.
+/// Judges what comes after the header. It makes the plan where the input wasn't mapped ahead.
 fn check_rest<R: Threads + Sync, G: Gate, W: Progress>(
     crew: &Crew<'_, R, G, W>,
     case: &Case<'_>,
@@ -149,16 +147,15 @@ fn check_rest<R: Threads + Sync, G: Gate, W: Progress>(
     check_planned(crew, case, &plan, walker)
 }
 
-/// Judges a case by threads, as `check` does by one. They draw the splits and map them; then they
-/// draw the partitions, and judge each by itself. Where there are few splits for the threads, the
+/// Judges a case by threads, as `check` does by one. The threads draw the splits and map them; then
+/// they draw the partitions and judge each by itself. Where splits are few for the threads, the
 /// last ones are drawn in pieces; a large partition is drawn in sections. An input that was mapped
 /// ahead is mapped anew only where the certificate leaves records out.
 ///
-/// Each thread passes the gate round each piece of work that it draws. Its number is the place of
-/// its seat, from 0. The pieces are numbered from 0: first those of the splits, in order, and
-/// behind them the partitions. A thread that draws a piece reports how many of its phase were drawn
-/// before it. All of them are reported where the sections of a partition don't fit together, and it
-/// is judged anew.
+/// Each thread calls the gate before and after each piece of work that it draws, with the number of
+/// its seat, from 0, and the piece's, from 0: first those of the splits, in order, then the
+/// sections. It reports how many of the phase's pieces were drawn before. All of them are reported
+/// where the sections of a partition don't fit together and it is judged anew.
 pub fn judge<R: Threads + Sync, G: Gate, W: Progress>(
     rt: &R,
     alloc: Global,
@@ -181,8 +178,8 @@ pub fn judge<R: Threads + Sync, G: Gate, W: Progress>(
     check_rest(&crew, case, &mut walker)
 }
 
-/// The same as `check`, by so many threads, from 1 to 64 (`judge`). What they answer is what one
-/// thread answers, memory aside. Where a thread can't be started, the calling one does its share.
+/// What `check` does, by `threads` threads, from 1 to 64 (`judge`). The answer is that of one
+/// thread, memory aside. Where a thread can't be started, the calling one does its share.
 pub fn check_threads<R: Threads + Sync>(
     rt: &R,
     alloc: Global,
@@ -211,8 +208,7 @@ pub fn check_threads<R: Threads + Sync>(
     judge(rt, alloc, &case, &options)
 }
 
-/// The same as `check_threads`, where each thread passes the gate round each piece of work that it
-/// draws (`judge`).
+/// What `check_threads` does, with the gate called around each piece of work (`judge`).
 pub fn check_gated<R: Threads + Sync, G: Gate>(
     rt: &R,
     alloc: Global,

@@ -1,5 +1,4 @@
-//! The attempts that a master has issued, with two indices: how many each task has had, and which one of each worker is
-//! live.
+//! The attempts of a job, with two indices: the count of each task, and each worker's live attempt.
 ghost use Rattle.std.specs.Prelude.{◌≡◌, ℕ, ◌<◌, ◌^◌, true, false, Some, [], ◌∷◌, ◌++◌, ◌&&◌, ◌==◌};
 ghost use Rattle.std.specs.Prelude.{map, length, slice_get, MatchOption, OnOk, OnErr, IfOk, ◌+◌};
 ghost use Rattle.std.specs.Prelude.{◌≤◌, replicate, Option, None};
@@ -15,9 +14,8 @@ use crate::splits::Splits;
 use std::alloc::{AllocError, Global};
 use std::marker::Model;
 
-/// All attempts, in the order in which they were issued. Beside them stand, for each task, how many attempts it has had,
-/// and for each worker its live attempt (a worker has one at most). So no question goes over all attempts, and each
-/// change is one step.
+/// All attempts, in the order of their issue. The indices answer each question, and follow each
+/// change, in one step, whatever the number of attempts. A worker has at most one live attempt.
 #[derive(Drop)]
 pub(crate) struct Attempts {
     items: Vec<Attempt>,
@@ -37,14 +35,14 @@ impl Model for Attempts {
 }
 
 impl Attempts {
-    /// No attempts yet, of as many tasks by as many workers.
     pub(crate) fn new(
         alloc: Global,
         maps: u32,
         parts: u32,
         workers: u32,
     ) -> Result<Attempts, AllocError>
-        ensures { IfOk result (λ a. a ≡ record { items = []; maps = maps; parts = parts; workers = workers }) }
+        ensures { IfOk result
+            (λ a. a ≡ record { items = []; maps = maps; parts = parts; workers = workers }) }
     {
         Ok(Attempts {
             items: Vec::new(alloc),
@@ -59,14 +57,12 @@ impl Attempts {
         self.items.as_slice()
     }
 
-    /// How many attempts of the task were issued, and how many of them are live.
     pub(crate) fn count(&self, task: Task) -> Count
         ensures { result ≡ counted self.now.items task }
     {
         self.counts.of(task)
     }
 
-    /// The worker's live attempt.
     pub(crate) fn current(&self, worker: usize) -> Option<u32>
         ensures current { MatchOption result
             (list_any (λ a. (a.worker == worker) && a.live) self.now.items ≡ false)
@@ -80,7 +76,6 @@ impl Attempts {
         self.current.of(worker)
     }
 
-    /// How many workers there are.
     pub(crate) fn workers(&self) -> usize
         ensures count { result ≡ self.now.workers }
         ensures all { (a : ℕ) (x : Attempt) → slice_get self.now.items a ≡ Some x
@@ -89,7 +84,6 @@ impl Attempts {
         self.current.len()
     }
 
-    /// The live attempt ends.
     pub(crate) fn end(&mut self, at: u32)
         requires { (x : Attempt) × (slice_get self.old.items at ≡ Some x) × (x.live ≡ true) }
         ensures ended { self.new ≡ record self.old {
@@ -107,7 +101,7 @@ impl Attempts {
         self.current.set(worker, None);
     }
 
-    /// The latest fetch that the attempt made of the split gave this output, where there is such an attempt.
+    /// Records that the attempt, if there is one, fetched this output of split `map`.
     pub(crate) fn note_fetch(&mut self, at: u32, map: u32, output: u64)
         ensures { self.new
             ≡ record self.old {
@@ -124,7 +118,7 @@ impl Attempts {
         self.items[at].note_fetch(map, output);
     }
 
-    /// The live attempt ends, and its split is complete with its output, without the records that it left out.
+    /// Ends the live attempt. The split gets its output, and its left-out records for good.
     pub(crate) fn complete(&mut self, at: u32, splits: &mut Splits, split: u32, output: u64)
         requires { (x : Attempt) × (slice_get self.old.items at ≡ Some x) × (x.live ≡ true) }
         ensures ended { self.new ≡ record self.old {
@@ -134,7 +128,8 @@ impl Attempts {
         ensures below { (x : Attempt) → slice_get self.old.items at ≡ Some x
             → IsBelow self.old.maps self.old.parts x.task }
         ensures splits { (x : Attempt) → slice_get self.old.items at ≡ Some x
-            → splits.new ≡ update_at (λ sp. record { skips = x.skips; fixed = true; output = Some (output, x.worker) }) split splits.old }
+            → splits.new ≡ update_at
+            (λ sp. record { skips = x.skips; fixed = true; output = Some (output, x.worker) }) split splits.old }
     {
         let attempt = &mut self.items[at as usize];
         let task = attempt.task();
@@ -144,7 +139,7 @@ impl Attempts {
         self.current.set(worker, None);
     }
 
-    /// The worker's live attempt ends, where it has one.
+    /// Ends the worker's live attempt, where it has one.
     pub(crate) fn lose(&mut self, worker: u32)
         ensures { self.new ≡ record self.old { items = map (left_by worker) self.old.items } }
     {
@@ -153,7 +148,7 @@ impl Attempts {
         }
     }
 
-    /// One attempt more, which is live.
+    /// Adds a live attempt.
     pub(crate) fn push(&mut self, attempt: Attempt) -> Result<(), AllocError>
         requires few { length self.old.items < 2 ^ 31 }
         requires live { attempt.live ≡ true }
@@ -180,7 +175,7 @@ pub(crate) struct Count {
     pub live: u32,
 }
 
-/// A count for each task: one look answers for a task, whatever the number of attempts.
+/// A count for each task.
 #[derive(Drop)]
 pub(crate) struct Counts {
     maps: Vec<Count>,
@@ -196,9 +191,9 @@ impl Model for Counts {
 }
 
 impl Counts {
-    /// No attempts of as many tasks.
     pub(crate) fn new(alloc: Global, maps: u32, parts: u32) -> Result<Counts, AllocError>
-        ensures { IfOk result (λ c. c ≡ record { maps = replicate maps no_count; parts = replicate parts no_count }) }
+        ensures { IfOk result
+            (λ c. c ≡ record { maps = replicate maps no_count; parts = replicate parts no_count }) }
     {
         let none = Count { issued: 0, live: 0 };
         Ok(Counts {
@@ -207,7 +202,7 @@ impl Counts {
         })
     }
 
-    /// The task's count; none where there is no such task.
+    /// The task's count; zero where there is no such task.
     pub(crate) fn of(&self, task: Task) -> Count
         ensures { result ≡ count_of self.now task }
     {
@@ -217,7 +212,6 @@ impl Counts {
         }
     }
 
-    /// An attempt of the task begins.
     pub(crate) fn begin(&mut self, task: Task)
         requires issued { (count_of self.old task).issued + 1 < 2 ^ 32 }
         requires live { (count_of self.old task).live + 1 < 2 ^ 32 }
@@ -229,7 +223,6 @@ impl Counts {
         }
     }
 
-    /// A live attempt of the task ends.
     pub(crate) fn end(&mut self, task: Task)
         requires { 1 ≤ (count_of self.old task).live }
         ensures { self.new ≡ change_count ended task self.old }
@@ -275,7 +268,7 @@ fn lower(counts: &mut [Count], at: u32)
     put(counts, at, lowered);
 }
 
-/// For each worker the number of its live attempt, where it has one.
+/// The number of each worker's live attempt.
 #[derive(Drop)]
 pub(crate) struct Current {
     items: Vec<Option<u32>>,

@@ -1,4 +1,4 @@
-//! The entries of a master's lists: its splits, the attempts that it has issued, and the outputs that are committed.
+//! The entries of a master's lists: splits, attempts, and committed outputs.
 ghost use Rattle.std.specs.Prelude.{◌≡◌, ℕ, Bool, true, false, Option, Some, None, List, [], ◌∷◌};
 ghost use Rattle.std.specs.Prelude.{◌==◌, ◌&&◌, map, is_some, is_none, nat_lt, length, slice_get};
 ghost use Rattle.std.specs.Prelude.{OnOk, OnErr, IfOk, replicate, ◌+◌};
@@ -12,8 +12,7 @@ use crate::splits::{Skips, Splits};
 use std::alloc::{AllocError, Global};
 use std::marker::Model;
 
-/// A split: the records left out of it so far, whether they are fixed, and the number of its output with the worker that
-/// has it.
+/// A split: its left-out records, whether they are fixed, and its output's number and worker.
 #[derive(Drop)]
 pub(crate) struct Split {
     pub skips: Skips,
@@ -21,7 +20,7 @@ pub(crate) struct Split {
     pub output: Option<(u64, u32)>,
 }
 
-/// For each split the output of the latest fetch.
+/// The output of the latest fetch from each split.
 #[derive(Drop)]
 pub(crate) struct Fetched {
     items: Vec<Option<u64>>,
@@ -35,7 +34,7 @@ impl Model for Fetched {
     ghost view = { λ f. f.items.items };
 }
 
-/// An execution of a task. What a map attempt leaves out is held twice, so that its split can take it over without memory.
+/// An execution of a task. Its split can take over `spare` without allocating.
 #[derive(Drop)]
 pub(crate) struct Attempt {
     worker: u32,
@@ -58,7 +57,6 @@ impl Model for Attempt {
 }
 
 impl Attempt {
-    /// A live attempt; `spare` is a copy of `skips`.
     pub(crate) fn of(
         worker: u32,
         task: Task,
@@ -67,7 +65,8 @@ impl Attempt {
         fetched: Fetched,
     ) -> Attempt
         requires { spare ≡ skips }
-        ensures { result ≡ record { worker = worker; task = task; skips = skips; fetched = fetched; live = true } }
+        ensures { result
+            ≡ record { worker = worker; task = task; skips = skips; fetched = fetched; live = true } }
     {
         Attempt {
             worker,
@@ -109,7 +108,7 @@ impl Attempt {
         self.fetched.items.as_slice()
     }
 
-    /// The output of the latest fetch of the split, where there was one.
+    /// The output of the latest fetch from the split.
     pub(crate) fn latest(&self, map: u32) -> Option<u64>
         ensures { result ≡ latest_in (slice_get self.now.fetched map) }
     {
@@ -119,14 +118,13 @@ impl Attempt {
         }
     }
 
-    /// The attempt ends.
     pub(crate) fn end(&mut self)
         ensures { self.new ≡ record self.old { live = false } }
     {
         self.live = false;
     }
 
-    /// The attempt ends, and the split is complete with its output, without the records that it left out.
+    /// Ends the attempt. The split gets the output, and the attempt's left-out records for good.
     pub(crate) fn give(&mut self, splits: &mut Splits, split: u32, output: u64)
         requires { self.old.live ≡ true }
         ensures ended { self.new ≡ record self.old { live = false } }
@@ -142,7 +140,6 @@ impl Attempt {
         self.live = false;
     }
 
-    /// The latest fetch of the split gave this output.
     pub(crate) fn note_fetch(&mut self, map: u32, output: u64)
         ensures { self.new ≡ record self.old { fetched = update_at (λ x. Some output) map self.old.fetched } }
     {
@@ -150,7 +147,7 @@ impl Attempt {
     }
 }
 
-/// Puts the value at the place, where there is such a place.
+/// Sets the item at `at`, where there is one.
 #[tactic(auto, using(crate::proofs::Updates::set_is_update, crate::proofs::Updates::update_past))]
 pub(crate) fn put<T: Copy>(items: &mut [T], at: u32, value: T)
     ensures { items.new ≡ update_at (λ x. value) at items.old }
@@ -161,7 +158,7 @@ pub(crate) fn put<T: Copy>(items: &mut [T], at: u32, value: T)
     }
 }
 
-/// Takes away the outputs that a worker has.
+/// Removes the outputs that a worker holds.
 #[tactic(auto, using(crate::proofs::Updates::map_one_more, crate::proofs::Updates::map_none_yet, crate::proofs::Updates::map_all))]
 pub(crate) fn leave_outputs(splits: &mut [Split], worker: u32)
     ensures { splits.new ≡ map (gone_with worker) splits.old }
@@ -171,7 +168,6 @@ pub(crate) fn leave_outputs(splits: &mut [Split], worker: u32)
     }
 }
 
-/// Takes away the split's output, where the worker has it.
 fn leave_output(split: &mut Split, worker: u32)
     ensures { split.new ≡ gone_with worker split.old }
 {
@@ -180,7 +176,6 @@ fn leave_output(split: &mut Split, worker: u32)
     }
 }
 
-/// Whether the worker has the output.
 fn is_held_by(output: Option<(u64, u32)>, worker: u32) -> bool
     ensures { result ≡ held_by worker output }
 {
@@ -190,21 +185,19 @@ fn is_held_by(output: Option<(u64, u32)>, worker: u32) -> bool
     }
 }
 
-/// How many splits have no output.
+/// The number of splits without output.
 pub(crate) fn count_missing(splits: &[Split]) -> usize
     ensures { result ≡ count_by (λ sp. is_none sp.output) splits.now }
 {
     splits.iter().filter(|split| split.output.is_none()).count()
 }
 
-/// Whether all are there.
 pub(crate) fn all_some(items: &[Option<u64>]) -> bool
     ensures { result ≡ list_all is_some items.now }
 {
     items.iter().all(|x| x.is_some())
 }
 
-/// Whether all are true.
 pub(crate) fn all_true(items: &[bool]) -> bool
     ensures { result ≡ list_all (λ x. x) items.now }
 {
@@ -226,7 +219,6 @@ pub(crate) fn has_room(splits: &[Split], limit: u32) -> bool
     room > 0
 }
 
-/// Adds a record to those left out of the split; without memory nothing changes.
 fn add_to_split(split: &mut Split, number: u32) -> Result<(), AllocError>
     ensures ok { OnOk result (split.new ≡ record split.old { skips = with_number number split.old.skips }) }
     ensures output { split.new.output ≡ split.old.output }
@@ -235,12 +227,13 @@ fn add_to_split(split: &mut Split, number: u32) -> Result<(), AllocError>
     split.skips.add(number)
 }
 
-/// Adds a record to those left out of the split at `at`; without memory nothing changes.
+/// Adds a record to those left out of the split at `at`, where there is one.
 #[tactic(auto, using(crate::proofs::Updates::update_is_set, crate::proofs::Updates::update_past, crate::proofs::Updates::set_same, crate::proofs::Missing::count_set))]
 pub(crate) fn leave_out(splits: &mut [Split], at: u32, number: u32) -> Result<(), AllocError>
     ensures ok { OnOk result (splits.new ≡ update_at
         (λ sp. record sp { skips = with_number number sp.skips }) at splits.old) }
-    ensures missing { count_by (λ sp. is_none sp.output) splits.new ≡ count_by (λ sp. is_none sp.output) splits.old }
+    ensures missing { count_by (λ sp. is_none sp.output) splits.new ≡ count_by
+        (λ sp. is_none sp.output) splits.old }
     ensures err { OnErr result (splits.new ≡ splits.old) }
 {
     let at = at as usize;
@@ -250,7 +243,6 @@ pub(crate) fn leave_out(splits: &mut [Split], at: u32, number: u32) -> Result<()
     add_to_split(&mut splits[at], number)
 }
 
-/// As many of the same as `count` says.
 pub(crate) fn copies<T: Copy>(alloc: Global, value: T, count: u32) -> Result<Vec<T>, AllocError>
     ensures { IfOk result (λ v. v.items ≡ replicate count value) }
 {
@@ -261,9 +253,9 @@ pub(crate) fn copies<T: Copy>(alloc: Global, value: T, count: u32) -> Result<Vec
     Ok(items)
 }
 
-/// As many splits as `count` says, with no output, and nothing left out.
 pub(crate) fn new_splits(alloc: Global, count: u32) -> Result<Vec<Split>, AllocError>
-    ensures { IfOk result (λ v. v.items ≡ replicate count (record { skips = []; fixed = false; output = None })) }
+    ensures { IfOk result
+        (λ v. v.items ≡ replicate count (record { skips = []; fixed = false; output = None })) }
 {
     let mut splits = Vec::new(alloc);
     for _i in 0..count {
@@ -283,7 +275,7 @@ fn new_split(alloc: Global) -> Split
 }
 
 impl Fetched {
-    /// Nothing is fetched, from as many splits; none takes no memory.
+    /// No fetches from `count` splits. For 0 it allocates nothing.
     pub(crate) fn none(alloc: Global, count: u32) -> Result<Fetched, AllocError>
         ensures { IfOk result (λ f. f ≡ replicate count None) }
     {
@@ -293,7 +285,7 @@ impl Fetched {
     }
 }
 
-/// For each partition its committed output, and how many have none: whether all are committed is one look.
+/// Each partition's committed output, and how many have none: `is_whole` takes one look.
 #[derive(Drop)]
 pub(crate) struct Outputs {
     items: Vec<Option<u64>>,
@@ -312,7 +304,6 @@ impl Model for Outputs {
 }
 
 impl Outputs {
-    /// As many partitions, with no output.
     #[tactic(auto, using(crate::proofs::Missing::none_yet))]
     pub(crate) fn new(alloc: Global, count: u32) -> Result<Outputs, AllocError>
         ensures { IfOk result (λ o. o ≡ replicate count None) }
@@ -337,7 +328,7 @@ impl Outputs {
         self.missing == 0
     }
 
-    /// The partition has this output, where there is such a partition.
+    /// Commits the partition's output, where there is such a partition.
     pub(crate) fn commit(&mut self, at: u32, output: u64)
         ensures { self.new ≡ update_at (λ x. Some output) at self.old }
     {
@@ -346,7 +337,7 @@ impl Outputs {
     }
 }
 
-/// Puts the output at the place, where there is one. Answers how many partitions more have an output.
+/// Sets the output at `at`, where there is one. Returns the number of partitions filled.
 fn fill(items: &mut [Option<u64>], at: u32, output: u64) -> u32
     ensures items { items.new ≡ update_at (λ x. Some output) at items.old }
     ensures count { count_by is_none items.new + result ≡ count_by is_none items.old }
@@ -356,7 +347,7 @@ fn fill(items: &mut [Option<u64>], at: u32, output: u64) -> u32
     filled
 }
 
-/// How many partitions more have an output, where the one at the place has.
+/// How many partitions an output at `at` would fill: 0 or 1.
 fn filled_at(items: &[Option<u64>], at: u32) -> u32
     ensures { result ≡ vacancy (slice_get items.now at) }
 {

@@ -1,16 +1,15 @@
-//! What happens to a master, and what it answers.
+//! The events of a master and its replies.
 use crate::splits::Skips;
 use thiserror::Error;
 
-/// The bounds of a job: `attempts` of one task (1 to 16), and records that may be left out in all (`skips`, at most
-/// 1,000).
+/// A job's limits: attempts of a task (1 to 16), and left-out records in all (at most 1,000).
 #[derive(Clone, Copy, Debug, PartialEq, Eq)]
 pub struct Limits {
     pub attempts: u32,
     pub skips: u32,
 }
 
-/// What a master was opened with: `maps` (splits) and `parts` (partitions) count its tasks.
+/// A job's sizes: `maps` (splits) and `parts` (partitions) count its tasks.
 #[derive(Clone, Copy, Debug, PartialEq, Eq)]
 pub struct Shape {
     pub maps: u32,
@@ -29,10 +28,10 @@ pub enum Task {
 /// Why a job failed.
 #[derive(Clone, Copy, Debug, PartialEq, Eq, Error)]
 pub enum JobFault {
-    /// A task has had all its attempts, and none of them completed it.
+    /// A task has used all its attempts, and none of them completed it.
     #[error("TooManyAttempts")]
     TooManyAttempts,
-    /// More records would have to be left out than may be.
+    /// More records would have to be left out than the limit allows.
     #[error("TooManySkips")]
     TooManySkips,
     /// Every worker is lost.
@@ -45,7 +44,7 @@ pub enum JobFault {
 pub enum End {
     /// Every partition is committed.
     Done,
-    /// The worker is lost, or has no such number.
+    /// The worker is lost, or there is no worker of this number.
     Dismissed,
     Failed(JobFault),
 }
@@ -57,22 +56,22 @@ pub enum Event {
     Ask(u32),
     /// This reduce attempt wants the output of this split's map task.
     Fetch(u32, u32),
-    /// This map attempt is done; its output has this number, which the caller gives.
+    /// This map attempt is done. Its output has this number, which the caller chooses.
     MapDone(u32, u64),
     /// This map attempt failed on this record of its split.
     MapFailed(u32, u32),
-    /// This reduce attempt is done; its output has this number, which the caller gives.
+    /// This reduce attempt is done. Its output has this number, which the caller chooses.
     ReduceDone(u32, u64),
     /// This worker is lost.
     Lose(u32),
-    /// This reduce attempt can't read what it fetched of this split's map task.
+    /// This reduce attempt can't read what it fetched from this split.
     Damaged(u32, u32),
 }
 
-/// What a master answers.
+/// What a master replies.
 #[derive(Debug, Drop)]
 pub enum Reply {
-    /// Execute the map task of the split, without the records listed, which rise.
+    /// Execute the map task of the split without the records in `skips`, which rise.
     Map {
         attempt: u32,
         split: u32,
@@ -83,7 +82,7 @@ pub enum Reply {
         attempt: u32,
         partition: u32,
     },
-    /// No task may be given now.
+    /// No task is ready for the worker.
     Wait,
     /// There is nothing more to do.
     Stop(End),
@@ -91,7 +90,7 @@ pub enum Reply {
     Region {
         output: u64,
     },
-    /// The split has no output any more; the attempt has ended.
+    /// The split has lost its output, and the attempt has ended.
     Gone,
     Accepted,
     Ignored,

@@ -1,6 +1,4 @@
-//! The master: one call for each event, and what is read off it between them.
-//!
-//! The laws at the end say what holds of each of its runs. Some runs are worked out by hand.
+//! The master: a call for each event, queries between events, and laws of every run.
 ghost use Rattle.std.specs.Prelude.{◌≡◌, OnOk, OnErr, IfOk, [], ◌<◌, ℕ, true, Some, None, List};
 ghost use Rattle.std.specs.Prelude.{◌∷◌, ◌++◌, ◌↔◌, is_some, slice_get};
 ghost use Rattle.mr_core.specs.declared.event.Event.{Event};
@@ -26,7 +24,7 @@ use crate::tables::MasterState;
 use std::alloc::{AllocError, Global};
 use std::marker::Model;
 
-/// The master of a job. Contracts see what it was opened with, and its state.
+/// The master of a job. Contracts see its shape and its state.
 #[derive(Drop)]
 pub struct Core {
     shape: Shape,
@@ -44,7 +42,7 @@ impl Model for Core {
 }
 
 impl Core {
-    /// A reduce attempt wants the output of a split. Takes no memory.
+    /// A reduce attempt wants the output of a split. It allocates nothing.
     pub fn fetch(&mut self, attempt: u32, map: u32) -> Reply
         ensures { IsStep self.old (Event.Fetch attempt map) result self.new }
     {
@@ -57,7 +55,7 @@ impl Core {
         reply
     }
 
-    /// A map attempt is done; its output has this number. Takes no memory.
+    /// A map attempt is done, and its output has this number. It allocates nothing.
     pub fn map_done(&mut self, attempt: u32, output: u64) -> Reply
         ensures { IsStep self.old (Event.MapDone attempt output) result self.new }
     {
@@ -70,7 +68,7 @@ impl Core {
         reply
     }
 
-    /// A reduce attempt is done; its output has this number. Takes no memory.
+    /// A reduce attempt is done, and its output has this number. It allocates nothing.
     pub fn reduce_done(&mut self, attempt: u32, output: u64) -> Reply
         ensures { IsStep self.old (Event.ReduceDone attempt output) result self.new }
     {
@@ -83,7 +81,7 @@ impl Core {
         reply
     }
 
-    /// A worker is lost. Takes no memory.
+    /// A worker is lost. It allocates nothing.
     pub fn lose(&mut self, worker: u32) -> Reply
         ensures { IsStep self.old (Event.Lose worker) result self.new }
     {
@@ -95,7 +93,7 @@ impl Core {
         reply
     }
 
-    /// A reduce attempt can't read what it fetched of a split. Takes no memory.
+    /// A reduce attempt can't read what it fetched from a split. It allocates nothing.
     pub fn damaged(&mut self, attempt: u32, map: u32) -> Reply
         ensures { IsStep self.old (Event.Damaged attempt map) result self.new }
     {
@@ -147,7 +145,7 @@ impl Core {
         })
     }
 
-    /// The bounds that it was opened with. What it was opened with is within the limits of a job.
+    /// The limits that it was opened with. Its shape is within the limits of a job.
     pub fn limits(&self) -> Limits
         ensures same { result ≡ self.now.shape.limits }
         ensures within { InLimits self.now.shape }
@@ -164,7 +162,7 @@ impl Core {
         Ok(reply)
     }
 
-    /// A worker asks for a task. Answers two equal replies.
+    /// Returns two equal replies.
     fn ask_twice(&mut self, alloc: Global, worker: u32) -> Result<(Reply, Reply), AllocError>
         ensures ok { IfOk result (λ r. IsStep self.old (Event.Ask worker) r.0 self.new) }
         ensures twice { IfOk result (λ r. r.0 ≡ r.1) }
@@ -173,25 +171,25 @@ impl Core {
         if let Some(end) = self.tables.end() {
             return Ok((Reply::Stop(end), Reply::Stop(end)));
         }
-        // the ends aren't tested: a task that is given has an attempt that goes on
+        // The ends need no test: the task that it gives has a live attempt.
         let (reply, again) = self.tables.ask(alloc, self.shape, worker)?;
         Ok((reply, again))
     }
 
-    /// One event. Without memory the master stays as it was; only `Ask` and `MapFailed` take memory.
+    /// Applies an event. Only `Ask` and `MapFailed` allocate; a refusal leaves all as it was.
     pub fn apply(&mut self, alloc: Global, event: Event) -> Result<Reply, AllocError>
         ensures ok { IfOk result (λ r. IsStep self.old event r self.new) }
         ensures run { IfOk result (λ r. GoesOn self.old event r self.new) }
         ensures memory { OnErr result (TakesMemory event) }
         ensures err { OnErr result (self.new ≡ self.old) }
     {
-        // shows the invariant: the shape is within the limits
+        // This shows the invariant: the shape is within the limits.
         let _ = &self.shape;
         let (reply, _again) = self.step(alloc, event)?;
         Ok(reply)
     }
 
-    /// One event, by its kind. Answers two equal replies.
+    /// Returns two equal replies.
     fn step(&mut self, alloc: Global, event: Event) -> Result<(Reply, Reply), AllocError>
         ensures ok { IfOk result (λ r. IsStep self.old event r.0 self.new) }
         ensures twice { IfOk result (λ r. r.0 ≡ r.1) }
@@ -209,7 +207,7 @@ impl Core {
         }
     }
 
-    /// One event, with the reply made twice: one to keep, and one to answer. Without memory the master stays as it was.
+    /// What `apply` does, with the reply made twice: one to keep, and one to return.
     pub fn apply_with_copy(
         &mut self,
         alloc: Global,
@@ -221,13 +219,13 @@ impl Core {
         ensures memory { OnErr result (TakesMemory event) }
         ensures err { OnErr result (self.new ≡ self.old) }
     {
-        // shows the invariant: the shape is within the limits
+        // This shows the invariant: the shape is within the limits.
         let _ = &self.shape;
         self.step(alloc, event)
     }
 }
 
-/// The reply, which holds no list, and the same once more.
+/// Copies a reply without a list.
 fn twice(reply: Reply) -> (Reply, Reply)
     requires { IsPlain reply }
     ensures reply { result.0 ≡ reply }
@@ -249,7 +247,7 @@ fn twice(reply: Reply) -> (Reply, Reply)
 }
 
 impl Core {
-    /// What the master was opened with.
+    /// The job's sizes and limits.
     pub fn shape(&self) -> Shape
         ensures { result ≡ self.now.shape }
     {
@@ -263,7 +261,7 @@ impl Core {
         self.tables.end()
     }
 
-    /// Whether the task is complete. Splits and partitions are below their numbers.
+    /// Whether the task is complete; false where there is no such task.
     pub fn complete(&self, task: Task) -> bool
         ensures { result ≡ is_complete self.now.state task }
     {
@@ -296,7 +294,6 @@ impl Core {
     }
 }
 
-/// The worked runs are runs.
 pub fn worked_runs()
     ensures repeated { is_some (replay (shape 1 1 2 8 0) repeated) ≡ true }
     ensures lost { is_some (replay (shape 1 1 2 8 0) lost_output) ≡ true }
@@ -309,16 +306,16 @@ pub fn worked_runs()
     ensures second { replay (shape 1 1 2 8 0) (lost_output ++ (Event.Ask 0, Reply.Map 3 0 []) ∷ []) ≡ None }
 {}
 
-/// All outputs ever accepted for a split were made under one left-out set, all sets together have no more
-/// records than they may, and no task has more attempts than it may.
+/// All outputs ever accepted for a split leave out the same records. The left-out records of all
+/// splits, and the attempts of each task, are within the limits.
 pub fn every_run()
     ensures one_set { OfEveryRun (λ sh h st. OneSet h st) }
     ensures skips { OfEveryRun (λ sh h st. FewAreLeftOut sh st) }
     ensures attempts { OfEveryRun (λ sh h st. FewAttempts sh st) }
 {}
 
-/// A committed output stays, and so does a left-out set that is fixed. While a job goes on, live attempts are of workers
-/// that aren't lost, and where none is live a task may be given to each of these.
+/// Committed outputs and fixed left-out sets stay. While a job goes on, workers of live attempts
+/// aren't lost, and where no attempt is live, each worker that isn't lost may get a task.
 pub fn goes_on()
     ensures stays { OfEveryJob (OfEveryLaterState CommitsStay) }
     ensures fixed { OfEveryRun (OfEveryLaterState FixedSetsStay) }
@@ -326,7 +323,7 @@ pub fn goes_on()
     ensures given { OfEveryJob (λ sh h st. SomeTaskMayBeGiven sh st) }
 {}
 
-/// The state after is one, a run goes on by a step, and runs are what the replay gives.
+/// A step has one next state, a run goes on by a step, and replays are runs.
 pub fn runs()
     ensures one { (sh : Shape) (st : State) (e : Event) (r : Reply) (a b : State)
         → Step sh st e r a → Step sh st e r b → a ≡ b }
@@ -337,27 +334,29 @@ pub fn runs()
         → (replay sh h ≡ Some st) ↔ Run sh (opening sh) h st }
 {}
 
-/// Before its completion was accepted, each committed reduce attempt fetched from each split an output that had been
-/// accepted for it before the fetch.
+/// A committed reduce attempt has fetched from each split, before its completion was accepted, an
+/// output that had been accepted for that split before the fetch.
 pub fn fetched()
     ensures { OfEveryRun CommittedHaveFetched }
 {}
 
-/// The records left out of a split rise, and each of them was reported by an accepted failure in it.
+/// The records left out of a split rise, and an accepted failure in the split reported each.
 pub fn left_out_sets()
     ensures rise { (sh : Shape) (h : List (Event × Reply)) (st : State)
         → Run sh (opening sh) h st → (s : ℕ) (sp : Split)
         → slice_get st.splits s ≡ Some sp → Rises nat_cmp sp.skips }
     ensures failed { (sh : Shape) (h : List (Event × Reply)) (st : State)
         → Run sh (opening sh) h st → (s r : ℕ) (sp : Split)
-        → slice_get st.splits s ≡ Some sp → Has sp.skips r → (a : ℕ) × Has h (Event.MapFailed a r, Reply.Accepted) × (k : List ℕ) × IsMapOf st a s k }
+        → slice_get st.splits s ≡ Some sp → Has sp.skips r
+        → (a : ℕ) × Has h (Event.MapFailed a r, Reply.Accepted) × (k : List ℕ) × IsMapOf st a s k }
 {}
 
-/// Each output that a split has, and each that is committed, was accepted for it.
+/// Each output of a split, and each committed one, was accepted for it.
 pub fn accepted_outputs()
     ensures splits { (sh : Shape) (h : List (Event × Reply)) (st : State)
         → Run sh (opening sh) h st → (s : ℕ) (sp : Split) (x w : ℕ)
         → slice_get st.splits s ≡ Some sp → sp.output ≡ Some (x, w) → IsOutputOf h st s x }
-    ensures parts { (sh : Shape) (h : List (Event × Reply)) (st : State) → Run sh (opening sh) h st → (p o : ℕ)
+    ensures parts { (sh : Shape) (h : List (Event × Reply)) (st : State)
+        → Run sh (opening sh) h st → (p o : ℕ)
         → slice_get st.committed p ≡ Some (Some o) → IsPartOf h st p o }
 {}

@@ -1,6 +1,4 @@
-//! The splits of a job. Of each: its output, the records that are left out of it, and those on which attempts have failed.
-//!
-//! A count of the splits without an output makes it one look whether all maps are complete.
+//! The splits of a job: the output of each, the records left out of it, and those that failed.
 ghost use Rattle.std.specs.Prelude.{◌≡◌, ◌+◌, if◌then◌else◌, is_none, List, [], None, false, Some};
 ghost use Rattle.std.specs.Prelude.{true, map, is_some, nat_lt, replicate, length, IfOk, OnOk};
 ghost use Rattle.std.specs.Prelude.{OnErr, ℕ, ◌==◌, ◌<◌, ◌≤◌, ◌≢◌, slice_index, ◌∷◌, ◌++◌};
@@ -14,7 +12,7 @@ use crate::entries::{Split, count_missing, has_room, leave_out, leave_outputs, n
 use std::alloc::{AllocError, Global};
 use std::marker::Model;
 
-/// The splits, and how many of them have no output: whether all maps are complete is one look.
+/// The splits, and how many have no output: `is_whole` takes one look.
 #[derive(Drop)]
 pub(crate) struct Splits {
     items: Vec<Split>,
@@ -34,9 +32,9 @@ impl Model for Splits {
 }
 
 impl Splits {
-    /// As many splits, with no output, and nothing left out.
     pub(crate) fn new(alloc: Global, count: u32) -> Result<Splits, AllocError>
-        ensures { IfOk result (λ s. s ≡ replicate count (record { skips = []; fixed = false; output = None })) }
+        ensures { IfOk result
+            (λ s. s ≡ replicate count (record { skips = []; fixed = false; output = None })) }
     {
         let items = new_splits(alloc, count)?;
         let missing = count_missing(items.as_slice());
@@ -57,7 +55,7 @@ impl Splits {
         self.missing == 0
     }
 
-    /// The split takes these records, which are left out from now on, for its own, and has this output of the worker.
+    /// Sets the split's output and worker. Its left-out records become `skips`, and are fixed.
     pub(crate) fn complete(&mut self, at: u32, skips: &mut Skips, output: u64, worker: u32)
         ensures { self.new ≡ update_at
             (λ sp. record {
@@ -71,7 +69,7 @@ impl Splits {
         self.missing -= filled;
     }
 
-    /// Adds a record to those left out of the split, where `adds` says so; without memory nothing changes.
+    /// Adds a record to those left out of the split, where `adds` says so.
     pub(crate) fn leave_out(&mut self, at: u32, number: u32, adds: bool) -> Result<(), AllocError>
         ensures noted { OnOk result (adds ≡ false → self.new ≡ self.old) }
         ensures added { OnOk result (adds ≡ true → self.new ≡ update_at
@@ -84,7 +82,7 @@ impl Splits {
         leave_out(self.items.as_mut_slice(), at, number)
     }
 
-    /// Takes away the outputs that a worker has: goes over all splits.
+    /// Removes the outputs that a worker holds. It visits all splits.
     pub(crate) fn leave(&mut self, worker: u32)
         ensures { self.new ≡ map (gone_with worker) self.old }
     {
@@ -92,7 +90,7 @@ impl Splits {
         self.missing = count_missing(self.items.as_slice());
     }
 
-    /// The split has no output any more, where it has the one of this number.
+    /// Removes the split's output, where it has this number.
     pub(crate) fn damage(&mut self, at: u32, output: u64)
         ensures { self.new ≡ update_at (without_output output) at self.old }
     {
@@ -108,7 +106,7 @@ impl Splits {
     }
 }
 
-/// Completes the split at the place, where there is one. Answers how many splits more have an output.
+/// Completes the split at `at`, where there is one. Returns 1 where it had no output.
 #[tactic(auto, using(crate::proofs::Missing::split_filled, crate::proofs::Updates::update_is_set, crate::proofs::Updates::update_past))]
 fn complete_at(splits: &mut [Split], at: u32, skips: &mut Skips, output: u64, worker: u32) -> usize
     ensures splits { splits.new ≡ update_at
@@ -128,7 +126,6 @@ fn complete_at(splits: &mut [Split], at: u32, skips: &mut Skips, output: u64, wo
     fix(&mut splits[at], skips, output, worker)
 }
 
-/// Completes the split. Answers 1 where it had no output.
 fn fix(split: &mut Split, skips: &mut Skips, output: u64, worker: u32) -> usize
     ensures split { split.new ≡ record { skips = skips.old; fixed = true; output = Some (output, worker) } }
     ensures count { result ≡ (if is_none split.old.output then 1 else 0) }
@@ -140,8 +137,7 @@ fn fix(split: &mut Split, skips: &mut Skips, output: u64, worker: u32) -> usize
     filled
 }
 
-/// Takes away the output of the split at the place, where it has the one of this number. Answers how many splits more have
-/// none.
+/// Removes the output at `at`, where it has this number. Returns the number of outputs removed.
 #[tactic(auto, using(crate::proofs::Missing::split_emptied, crate::proofs::Updates::update_is_set, crate::proofs::Updates::update_past))]
 fn empty_at(splits: &mut [Split], at: u32, output: u64) -> usize
     ensures splits { splits.new ≡ update_at (without_output output) at splits.old }
@@ -155,7 +151,6 @@ fn empty_at(splits: &mut [Split], at: u32, output: u64) -> usize
     empty(&mut splits[at], output)
 }
 
-/// Takes away the split's output, where it has the one of this number. Answers 1 where it had.
 fn empty(split: &mut Split, output: u64) -> usize
     ensures split { split.new ≡ without_output output split.old }
     ensures count { result ≡ (if is_numbered output split.old.output then 1 else 0) }
@@ -167,7 +162,6 @@ fn empty(split: &mut Split, output: u64) -> usize
     1
 }
 
-/// Whether it is the output of this number.
 fn is_numbered(output: Option<(u64, u32)>, number: u64) -> bool
     ensures { result ≡ is_numbered number output }
 {
@@ -192,7 +186,6 @@ impl Model for Skips {
 }
 
 impl Skips {
-    /// No numbers; takes no memory.
     pub(crate) fn none(alloc: Global) -> Skips
         ensures { result ≡ [] }
     {
@@ -201,7 +194,6 @@ impl Skips {
         }
     }
 
-    /// The same numbers once more.
     pub(crate) fn copy_of(alloc: Global, items: &[u32]) -> Result<Skips, AllocError>
         ensures { IfOk result (λ s. s ≡ items.now) }
     {
@@ -210,28 +202,25 @@ impl Skips {
         })
     }
 
-    /// The numbers, rising.
     pub fn as_slice(&self) -> &[u32]
         ensures { result.now ≡ self.now }
     {
         self.items.as_slice()
     }
 
-    /// Whether the number is one of them.
     pub(crate) fn has(&self, number: u32) -> bool
         ensures { result ≡ list_any (λ x. x == number) self.now }
     {
         self.items.as_slice().contains(&number)
     }
 
-    /// Whether these are the same numbers.
     pub(crate) fn is_same(&self, other: &Skips) -> bool
         ensures { result ≡ same_list self.now other.now }
     {
         self.items.as_slice() == other.items.as_slice()
     }
 
-    /// Adds the number at its place, where it isn't there yet; without memory nothing changes.
+    /// Adds the number at its place, unless it is there.
     pub(crate) fn add(&mut self, number: u32) -> Result<(), AllocError>
         ensures ok { OnOk result (self.new ≡ with_number number self.old) }
         ensures err { OnErr result (self.new ≡ self.old) }
@@ -262,7 +251,7 @@ fn place_of(items: &[u32], number: u32) -> usize
     items.len()
 }
 
-/// Numbers of records, in the order of their failures: at most one for each attempt of the split.
+/// Numbers of failed records, in order of failure: at most one for each attempt of the split.
 #[derive(Drop)]
 pub(crate) struct Failed {
     records: Vec<u32>,
@@ -291,7 +280,7 @@ impl Failed {
         self.records.as_slice().contains(&number)
     }
 
-    /// These records, and one more.
+    /// A copy with one record more.
     pub(crate) fn with(&self, number: u32) -> Result<Failed, AllocError>
         ensures { IfOk result (λ f. f ≡ self.now ++ number ∷ []) }
     {
@@ -301,7 +290,6 @@ impl Failed {
     }
 }
 
-/// As many lists with no records.
 pub(crate) fn none_failed(alloc: Global, count: u32) -> Result<Vec<Failed>, AllocError>
     ensures { IfOk result (λ v. v.items ≡ replicate count []) }
 {
@@ -312,7 +300,7 @@ pub(crate) fn none_failed(alloc: Global, count: u32) -> Result<Vec<Failed>, Allo
     Ok(lists)
 }
 
-/// The list at the place and one record more, where there is such a place.
+/// A copy of the list at `at` with one record more, where there is such a list.
 pub(crate) fn longer_list(
     lists: &[Failed],
     at: u32,
@@ -326,7 +314,6 @@ pub(crate) fn longer_list(
     }
 }
 
-/// Puts the longer list in the place of the shorter one.
 #[tactic(auto, using(crate::proofs::Updates::longer_set, crate::proofs::Updates::longer_none, crate::proofs::Updates::longer_past))]
 pub(crate) fn put_longer(lists: &mut [Failed], at: u32, number: u32, longer: Option<Failed>)
     requires { IsLonger longer (slice_get lists.old at) number }

@@ -1,4 +1,11 @@
 //! The master's state: its lists, and the ends of the job.
+//!
+//! An event takes a few steps, whatever the number of attempts and tasks: counts are kept beside
+//! the lists, and no search repeats. Below the cursors `next_map` and `next_part` no task is idle
+//! (incomplete and without a live attempt). An ask searches from there on. An attempt that ends
+//! without completing its task moves the cursor back to it. Before an event no task is stuck, so
+//! the ends are tested only for the task that the event touched. Only the loss of a worker visits
+//! all tasks, and resets both cursors.
 ghost use Rattle.std.specs.Prelude.{◌≡◌, ℕ, true, false, Option, Some, None, ◌==◌, ◌<◌, nat_lt};
 ghost use Rattle.std.specs.Prelude.{MatchOption, IfOk, slice_get};
 ghost use Rattle.std.specs.List.{list_any};
@@ -22,11 +29,6 @@ use std::marker::Model;
 mod asks;
 mod reports;
 
-/// A master's state. Each event costs a few steps, whatever the number of attempts and of tasks: counts stand beside the
-/// lists, and what was asked once isn't searched again. Below the two cursors no task is idle (not complete, with nobody
-/// at it): a worker that asks goes on from there, and an attempt that ends without completing its task moves the cursor
-/// back to it. A job is stuck in no task before an event, so that the ends are tested for the one task that it touched.
-/// Only the loss of a worker goes over all tasks, once, and lets both cursors begin anew.
 #[derive(Drop)]
 pub(crate) struct MasterState {
     lost: Vec<bool>,
@@ -57,7 +59,7 @@ impl MasterState {
         self.end
     }
 
-    /// Whether the worker is there and not lost.
+    /// Whether the worker exists and isn't lost.
     pub(crate) fn is_active(&self, worker: u32) -> bool
         ensures { result ≡ is_active self.now worker }
     {
@@ -67,7 +69,6 @@ impl MasterState {
         }
     }
 
-    /// Whether the task is complete.
     pub(crate) fn is_complete(&self, task: Task) -> bool
         ensures { result ≡ is_complete self.now task }
     {
@@ -83,35 +84,33 @@ impl MasterState {
         }
     }
 
-    /// How many attempts of the task were issued, and how many of them are live.
     fn count(&self, task: Task) -> Count
         ensures { result ≡ counted self.now.attempts task }
     {
         self.attempts.count(task)
     }
 
-    /// Whether the task has had fewer attempts than it may have.
+    /// Whether the task may have more attempts.
     fn has_few(&self, shape: Shape, task: Task) -> bool
         ensures { result ≡ nat_lt (issued self.now task) shape.limits.attempts }
     {
         self.count(task).issued < shape.limits.attempts
     }
 
-    /// Whether as many attempts of the task are live.
+    /// Whether exactly `number` attempts of the task are live.
     fn has_live(&self, task: Task, number: u32) -> bool
         ensures { result ≡ (live self.now task == number) }
     {
         self.count(task).live == number
     }
 
-    /// Whether every split has an output.
     fn maps_complete(&self) -> bool
         ensures { result ≡ maps_complete self.now }
     {
         self.splits.is_whole()
     }
 
-    /// Whether the task can't be finished any more.
+    /// Whether the task can't be completed any more.
     fn is_stuck(&self, shape: Shape, task: Task) -> bool
         ensures { result ≡ is_stuck shape self.now task }
     {
@@ -130,7 +129,6 @@ impl MasterState {
         }
     }
 
-    /// The task of the attempt of this number.
     pub(crate) fn task_at(&self, attempt: u32) -> Option<Task>
         ensures { result ≡ task_at self.now attempt }
     {
@@ -140,7 +138,6 @@ impl MasterState {
         }
     }
 
-    /// The output of a split.
     pub(crate) fn output(&self, map: u32) -> Option<u64>
         ensures { result ≡ output_of self.now map }
     {
@@ -150,7 +147,6 @@ impl MasterState {
         }
     }
 
-    /// The records left out of a split.
     pub(crate) fn set(&self, split: u32) -> &[u32]
         ensures { result.now ≡ set_of self.now split }
     {
@@ -160,7 +156,6 @@ impl MasterState {
         }
     }
 
-    /// The committed output of a partition.
     pub(crate) fn committed(&self, partition: u32) -> Option<u64>
         ensures { result ≡ committed_of self.now partition }
     {
@@ -170,7 +165,7 @@ impl MasterState {
         }
     }
 
-    /// Whether some task can't be finished any more: goes over all tasks.
+    /// Whether some task can't be completed any more. It visits all tasks.
     #[tactic(auto, using(crate::proofs::TaskSearch::none_more, crate::proofs::TaskSearch::none_of_all, crate::proofs::TaskSearch::one_map, crate::proofs::TaskSearch::one_part))]
     fn has_stuck(&self, shape: Shape) -> bool
         ensures { result ≡ list_any (is_stuck shape self.now) (tasks shape) }
@@ -188,7 +183,7 @@ impl MasterState {
         false
     }
 
-    /// The end that the job has reached: goes over all tasks.
+    /// The end that the job has reached. It visits all tasks.
     fn end_of(&self, shape: Shape) -> Option<End>
         ensures { result ≡ end_of shape self.now false }
     {
@@ -203,14 +198,14 @@ impl MasterState {
         }
     }
 
-    /// Tests the ends, after the loss of a worker: goes over all tasks.
+    /// Tests the ends after the loss of a worker. It visits all tasks.
     pub(crate) fn settle(&mut self, shape: Shape)
         ensures { self.new ≡ settled shape self.old false }
     {
         self.end = self.end_of(shape);
     }
 
-    /// Whether the task, which is the only one that may be, can't be finished any more.
+    /// Whether `task`, the only one that can be stuck, is.
     #[tactic(auto, using(crate::proofs::EndTests::stuck_here, crate::proofs::EndTests::stuck_nowhere))]
     fn is_stuck_at(&self, shape: Shape, task: Option<Task>) -> bool
         requires { IsTouched shape self.now task }
@@ -222,7 +217,7 @@ impl MasterState {
         }
     }
 
-    /// The end that the job has reached by an event that touched only this task.
+    /// The end after an event that touched only `task`.
     #[tactic(auto, using(crate::proofs::EndTests::end_left))]
     fn end_after(&self, shape: Shape, task: Option<Task>, over: bool) -> Option<End>
         requires { IsTouched shape self.now task }
@@ -239,7 +234,7 @@ impl MasterState {
         }
     }
 
-    /// Tests the ends, after an event that touched only this task.
+    /// Tests the ends after an event that touched only `task`.
     pub(crate) fn settle_at(&mut self, shape: Shape, task: Option<Task>, over: bool)
         requires { IsTouched shape self.old task }
         ensures { self.new ≡ settled shape self.old over }
@@ -247,7 +242,7 @@ impl MasterState {
         self.end = self.end_after(shape, task, over);
     }
 
-    /// Whether the task or the map task of this split, which are the only ones that may be, can't be finished any more.
+    /// Whether `task` or the map task of `map` is stuck. No other task can be.
     #[tactic(auto, using(crate::proofs::EndTests::stuck_at_both, crate::proofs::EndTests::stuck_at_first, crate::proofs::EndTests::stuck_at_second))]
     fn is_stuck_at_both(&self, shape: Shape, task: Option<Task>, map: u32) -> bool
         requires { IsTouchedBoth shape self.now task map }
@@ -256,7 +251,6 @@ impl MasterState {
         self.is_stuck_one(shape, task) || (map < shape.maps && self.is_stuck(shape, Task::Map(map)))
     }
 
-    /// Whether the task, where there is one, can't be finished any more.
     fn is_stuck_one(&self, shape: Shape, task: Option<Task>) -> bool
         ensures { result ≡ option_map_or (is_stuck shape self.now) task false }
     {
@@ -266,7 +260,7 @@ impl MasterState {
         }
     }
 
-    /// The end that the job has reached by an event that touched only this task and the map task of this split.
+    /// The end after an event that touched only `task` and the map task of `map`.
     #[tactic(auto, using(crate::proofs::EndTests::end_left))]
     fn end_after_both(&self, shape: Shape, task: Option<Task>, map: u32) -> Option<End>
         requires { IsTouchedBoth shape self.now task map }
@@ -281,7 +275,7 @@ impl MasterState {
         }
     }
 
-    /// Tests the ends, after an event that touched only this task and the map task of this split.
+    /// Tests the ends after an event that touched only `task` and the map task of `map`.
     pub(crate) fn settle_at_both(&mut self, shape: Shape, task: Option<Task>, map: u32)
         requires { IsTouchedBoth shape self.old task map }
         ensures { self.new ≡ settled shape self.old false }
@@ -289,7 +283,6 @@ impl MasterState {
         self.end = self.end_after_both(shape, task, map);
     }
 
-    /// The lists at the opening.
     pub(crate) fn new(alloc: Global, shape: Shape) -> Result<MasterState, AllocError>
         ensures { IfOk result (λ t. t ≡ opening shape) }
     {
@@ -309,7 +302,7 @@ impl MasterState {
     }
 }
 
-/// What stands of the tasks at the opening: the splits, the partitions' outputs, and the failures in each split.
+/// The splits, the outputs of partitions and the failures in each split, as a job begins.
 fn open_tasks(alloc: Global, shape: Shape) -> Result<(Splits, Outputs, Vec<Failed>), AllocError>
     ensures splits { IfOk result (λ r. r.0 ≡ (opening shape).splits) }
     ensures committed { IfOk result (λ r. r.1 ≡ (opening shape).committed) }

@@ -19,8 +19,8 @@ use mr_splits::{LeftOutSet, Plan, RecordAt};
 use std::alloc::{AllocError, Global};
 use std::marker::Model;
 
-/// A split of a plan, divided in pieces of about as many bytes each. Several threads may map them at once; what they give
-/// is put together to what the split gives.
+/// A split in pieces of about as many bytes each. Several threads may map them at once; `join`
+/// makes the split's part of them.
 #[derive(Drop)]
 pub struct DividedSplit<'a> {
     plan: &'a Plan<'a>,
@@ -28,7 +28,7 @@ pub struct DividedSplit<'a> {
     skips: &'a [RecordName],
     left_out: LeftOutSet,
     split: u32,
-    /// Before the record of which number each piece ends.
+    /// Each piece ends before the record of this number.
     ends: Vec<u32>,
 }
 
@@ -52,8 +52,7 @@ impl<'a> Model for DividedSplit<'a> {
     } };
 }
 
-/// The first of a split's records from `first` on and before `end` that starts at that place of its file or behind it, and
-/// `end` where none does.
+/// The first record from `first` up to before `end` that starts at `place` or later, or `end`.
 fn first_from(plan: &Plan<'_>, split: u32, first: u32, end: u32, place: u64) -> u32
     requires split { split < split_total plan.now.size plan.now.files }
     requires within { (first ≤ end) × (end ≤ length (of_split split (records_of plan.now))) }
@@ -72,7 +71,7 @@ fn first_from(plan: &Plan<'_>, split: u32, first: u32, end: u32, place: u64) -> 
     low
 }
 
-/// Where the pieces of a split end, so many, each of about as many bytes.
+/// Where the pieces of a split end, if each has about as many bytes.
 fn piece_ends(
     alloc: Global,
     plan: &Plan<'_>,
@@ -99,7 +98,6 @@ fn piece_ends(
     Ok(ends)
 }
 
-/// The item before item `i`, and 0 before the first.
 fn before(ends: &[u32], i: usize) -> u32
     requires { i ≤ length ends.now }
     ensures { result ≡ slice_index_or (0 ∷ ends.now) i 0 }
@@ -108,8 +106,7 @@ fn before(ends: &[u32], i: usize) -> u32
 }
 
 impl<'a> DividedSplit<'a> {
-    /// Divides a split of a plan in so many pieces, without the records that the list leaves out. Pieces may be empty. It
-    /// fails only for want of memory.
+    /// Divides a split in `count` pieces, some of them maybe empty, without the records of `skips`.
     pub fn of(
         alloc: Global,
         plan: &'a Plan<'a>,
@@ -134,7 +131,7 @@ impl<'a> DividedSplit<'a> {
         })
     }
 
-    /// What the kept records of one piece emit, from 0. It fails only for want of memory.
+    /// What the kept records of one piece emit. Pieces are numbered from 0.
     pub fn do_piece(&self, alloc: Global, number: u32) -> Result<Piece, AllocError>
         requires { number < length self.now.ends }
         ensures { IfOk result (λ p. p ≡ piece_at self.now number) }
@@ -143,15 +140,14 @@ impl<'a> DividedSplit<'a> {
         self.map_between(alloc, from, self.ends[number as usize])
     }
 
-    /// What all pieces together emit: the part of the split. The tables of the first piece grow by those of the others,
-    /// each of which is let go once it is appended; where there is one piece, nothing is copied. It fails only for want
-    /// of memory.
+    /// The part of the split, from all its pieces. The tables of the first one grow by those of the
+    /// others, each of which is dropped once it is appended. A single piece isn't copied.
     pub fn join(&self, pieces: Vec<Piece>) -> Result<Part, AllocError>
         requires { ArePieces self.now pieces.items }
         ensures { IfOk result (λ r. r
             ≡ triples_in self.now.split (triples_of self.now.job self.now.cut self.now.skips)) }
     {
-        // Files within the limits of an input emit few enough pairs, with few enough bytes of keys, for the tables.
+        // An input's files emit few enough pairs and bytes of keys for the tables.
         let _files = self.plan.input().files();
         let sizes = Sizes::of(pieces.as_slice());
         let mut rest = pieces.into_iter();
@@ -166,7 +162,6 @@ impl<'a> DividedSplit<'a> {
         Ok(Part::of_tables(self.split, tables))
     }
 
-    /// Whether the record of that number is left out.
     fn leaves_out(&self, number: u32) -> bool
         requires { number < length (records_divided self.now) }
         ensures { result ≡ is_left_out self.now.skips (nth_named (records_divided self.now) number).name }
@@ -185,7 +180,6 @@ impl<'a> DividedSplit<'a> {
         self.plan.locate(self.split, number)
     }
 
-    /// The room for the records from one number and before another.
     fn room(&self, from: u32, end: u32) -> Room
         requires { (from ≤ end) × (end ≤ length (records_divided self.now)) }
     {
@@ -205,7 +199,7 @@ impl<'a> DividedSplit<'a> {
         }
     }
 
-    /// Appends what the record of that number emits to the tables of the records from `from` on, if it is kept.
+    /// Appends what record `number`, if kept, emits to the tables of the records from `from` on.
     fn map_one(
         &self,
         tables: &mut Tables,
@@ -231,7 +225,7 @@ impl<'a> DividedSplit<'a> {
         if self.leaves_out(number) {
             return Ok(());
         }
-        // Files within the limits of an input emit few enough pairs, with few enough bytes of keys, for the tables.
+        // As in `join`.
         let _files = self.plan.input().files();
         let line = self.locate(number);
         let place = (number - from) as usize;
@@ -239,7 +233,6 @@ impl<'a> DividedSplit<'a> {
         Ok(())
     }
 
-    /// What the kept records from one number and before another emit.
     fn map_between(&self, alloc: Global, from: u32, end: u32) -> Result<Piece, AllocError>
         requires { (from ≤ end) × (end ≤ length (records_divided self.now)) }
         ensures { IfOk result (λ p. p ≡ piece_between self.now from end) }

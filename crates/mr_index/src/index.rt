@@ -16,14 +16,14 @@ use mr_splits::{KeptPlan, Plan};
 use std::alloc::{AllocError, Global};
 use std::marker::Model;
 
-/// How much work was done: names looked up, and records mapped.
+/// Counts work: names looked up, and records mapped.
 #[derive(Clone, Copy, PartialEq, Eq, Debug)]
 pub struct Meter {
     pub lookups: u64,
     pub mapped: u64,
 }
 
-/// All that a job emits over the records of a plan, without those that a list leaves out, by name: a part for each split.
+/// All that a job emits over a plan without its left-out records, by name: a part for each split.
 #[derive(Drop)]
 pub struct EmissionIndex {
     parts: Vec<Part>,
@@ -45,7 +45,6 @@ impl Model for EmissionIndex {
     } };
 }
 
-/// How many pairs the parts have together.
 fn count_pairs(parts: &[Part]) -> u64
     requires { length parts.now ≤ 2 ^ 20 }
     ensures { result ≡ length (joined parts.now) }
@@ -57,7 +56,7 @@ fn count_pairs(parts: &[Part]) -> u64
     total
 }
 
-/// The parts of all splits. Each kept record is counted as mapped; the watch is told the numbers of records.
+/// The parts of all splits. It reports the numbers of records to `watch`.
 fn map_splits(
     alloc: Global,
     kept: &KeptPlan<'_>,
@@ -67,12 +66,13 @@ fn map_splits(
 ) -> Result<Vec<Part>, AllocError>
     requires room { mapped.old + mapped_among kept.now.skips (records_of kept.now.cut) < 2 ^ 64 }
     ensures parts { IfOk result (λ r. AreParts job.now kept.now.cut kept.now.skips r.items) }
-    ensures counted { OnOk result (mapped.new ≡ mapped.old + mapped_among kept.now.skips (records_of kept.now.cut)) }
+    ensures counted { OnOk result (mapped.new
+        ≡ mapped.old + mapped_among kept.now.skips (records_of kept.now.cut)) }
     ensures err { OnErr result ((mapped.old ≤ mapped.new)
         × (mapped.new ≤ mapped.old + mapped_among kept.now.skips (records_of kept.now.cut))) }
 {
     let plan = kept.plan();
-    // A plan's size is at least 1: that its splits have all records rests on that.
+    // This shows the plan's size to be at least 1, so that its splits have all records.
     let _size = plan.size();
     let splits = plan.splits();
     let mut parts = Vec::with_capacity(alloc, splits as usize)?;
@@ -95,8 +95,8 @@ fn map_splits(
 }
 
 impl EmissionIndex {
-    /// Maps each record of the plan that the list doesn't leave out. Names in the list may stand in any order, more than
-    /// once, and need not be those of records. It fails only for want of memory; the meter then keeps what was counted.
+    /// Maps the plan's records without those in `skips`. Its names may be in any order, and
+    /// repeated or unknown. Fails only for want of memory; the meter then keeps what was counted.
     pub fn of(
         alloc: Global,
         plan: &Plan<'_>,
@@ -115,7 +115,7 @@ impl EmissionIndex {
         EmissionIndex::of_watched(alloc, plan, job, skips, meter, &Unwatched)
     }
 
-    /// The same as `of`, where somebody looks on: the watch is told now and then how many of the plan's records are done.
+    /// What `of` does. It reports to `watch` now and then how many of the plan's records are done.
     pub fn of_watched(
         alloc: Global,
         plan: &Plan<'_>,
@@ -137,8 +137,7 @@ impl EmissionIndex {
         Ok(EmissionIndex::join(parts))
     }
 
-    /// What the job emits over one split of the plan, without the records that the list leaves out. It fails only for want
-    /// of memory.
+    /// What the job emits over one split of the plan, without the records in `skips`.
     pub fn part(
         alloc: Global,
         plan: &Plan<'_>,
@@ -153,7 +152,7 @@ impl EmissionIndex {
         EmissionIndex::part_of(alloc, &kept, job, split)
     }
 
-    /// The same over one split of a plan whose left-out records are known already. Several threads may share the plan.
+    /// The same for a plan whose left-out records are known. Several threads may share the plan.
     pub fn part_of(
         alloc: Global,
         kept: &KeptPlan<'_>,
@@ -181,7 +180,7 @@ impl EmissionIndex {
         )
     }
 
-    /// The parts of all splits of a plan, in order, as one index. It takes no memory, and copies nothing.
+    /// Joins the parts of all splits of a plan, in order. It allocates nothing and copies nothing.
     pub fn join(parts: Vec<Part>) -> EmissionIndex
         requires { AreAllParts parts.items }
         ensures { (job : JobSpec) (cut : Cut) (skips : List NameOfRecord)
@@ -191,14 +190,14 @@ impl EmissionIndex {
         EmissionIndex { parts, total }
     }
 
-    /// How many pairs there are.
+    /// The number of pairs.
     pub fn total(&self) -> u64
         ensures { result ≡ length self.now }
     {
         self.total
     }
 
-    /// The pair of that name, or none where there is no such pair. Nothing of the pair is read, and no memory is taken.
+    /// The pair of this name, if there is one. It reads nothing of the pair and allocates nothing.
     pub fn find(&self, name: Name, meter: &mut Meter) -> Option<PairRef<'_>>
         requires { meter.old.lookups + 1 < 2 ^ 64 }
         ensures found { MatchOption result (named self.now name ≡ None)
@@ -210,7 +209,7 @@ impl EmissionIndex {
         self.look_up(name)
     }
 
-    /// The key and the value of the pair of that name, or none where there is no such pair. It takes no memory.
+    /// The key and the value of the pair of this name, if there is one. It allocates nothing.
     pub fn pair(&self, name: Name, meter: &mut Meter) -> Option<(&[u8], Value)>
         requires { meter.old.lookups + 1 < 2 ^ 64 }
         ensures found { MatchOption result (named self.now name ≡ None)

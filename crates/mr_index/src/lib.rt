@@ -1,4 +1,4 @@
-//! All that a job emits over an input, looked up by name.
+//! All pairs that a job emits over an input, looked up by name.
 #![tactic(auto)]
 
 mod divided;

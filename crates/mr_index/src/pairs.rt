@@ -1,4 +1,4 @@
-//! Keys with their values, in one buffer.
+//! Keys with their values, in order, in one buffer: no key takes an allocation of its own.
 ghost use Rattle.std.specs.Prelude.{◌≡◌, ℕ, ◌+◌, ◌≤◌, ◌<◌, ◌^◌, ◌++◌, [], ◌∷◌, All, IfOk, OnOk};
 ghost use Rattle.std.specs.Prelude.{MatchOption, length, slice_index, slice_index_or};
 ghost use Rattle.mr_bytes.specs.declared.Value.TheVariants.{One};
@@ -11,18 +11,16 @@ use mr_jobs::{Emitter, Mapper};
 use mr_splits::RecordAt;
 use std::alloc::{AllocError, Global};
 
-/// Keys with their values, in the order in which they came: no key takes an allocation of its own.
 #[derive(Drop)]
 pub(crate) struct Pairs {
     /// The bytes of all keys, one key after another.
     pub keys: Vec<u8>,
-    /// Where each key ends. Four bytes serve: an input has at most 1 GiB, and a record's keys are parts of it that
-    /// don't overlap.
+    /// Where each key ends. Four bytes are enough: an input has at most 1 GiB, and a record's keys
+    /// are parts of it that don't overlap.
     pub ends: Vec<u32>,
     pub values: ValueColumn,
 }
 
-/// Adds an end. It fails only for want of memory.
 pub(crate) fn push_end(ends: &mut Vec<u32>, end: usize) -> Result<(), AllocError>
     requires { end < 2 ^ 32 }
     ensures { OnOk result (ends.new.items ≡ ends.old.items ++ end ∷ []) }
@@ -31,7 +29,7 @@ pub(crate) fn push_end(ends: &mut Vec<u32>, end: usize) -> Result<(), AllocError
     Ok(())
 }
 
-/// Adds the same end until there are `count` of them; where there are as many, none. It fails only for want of memory.
+/// Appends `end` until there are `count` ends.
 pub(crate) fn fill(ends: &mut Vec<u32>, count: usize, end: usize) -> Result<(), AllocError>
     requires { end < 2 ^ 32 }
     ensures { OnOk result (ends.new.items ≡ filled count end ends.old.items) }
@@ -42,7 +40,6 @@ pub(crate) fn fill(ends: &mut Vec<u32>, count: usize, end: usize) -> Result<(), 
     Ok(())
 }
 
-/// Adds ends, each by so much further. It fails only for want of memory.
 pub(crate) fn push_shifted(ends: &mut Vec<u32>, more: &[u32], by: usize) -> Result<(), AllocError>
     requires { All (λ e. by + e < 2 ^ 32) more.now }
     ensures { OnOk result (ends.new.items ≡ ends.old.items ++ shifted by more.now) }
@@ -53,7 +50,6 @@ pub(crate) fn push_shifted(ends: &mut Vec<u32>, more: &[u32], by: usize) -> Resu
     Ok(())
 }
 
-/// Adds values, in their order. It fails only for want of memory.
 fn push_values(values: &mut ValueColumn, more: &ValueColumn) -> Result<(), AllocError>
     requires { length values.old + length more.now < 2 ^ 64 }
     ensures { OnOk result (values.new ≡ values.old ++ more.now) }
@@ -64,7 +60,6 @@ fn push_values(values: &mut ValueColumn, more: &ValueColumn) -> Result<(), Alloc
     Ok(())
 }
 
-/// Where item `i` starts, given where each ends.
 pub(crate) fn start_of(ends: &[u32], i: usize) -> usize
     requires { i ≤ length ends.now }
     ensures { result ≡ slice_index (0 ∷ ends.now) i }
@@ -73,7 +68,6 @@ pub(crate) fn start_of(ends: &[u32], i: usize) -> usize
 }
 
 impl Pairs {
-    /// No pairs. It takes no memory.
     pub(crate) fn new(alloc: Global) -> Pairs
         ensures none { pairs_seen result ≡ [] }
         ensures sound { Sound result }
@@ -85,8 +79,8 @@ impl Pairs {
         }
     }
 
-    /// Makes room for the keys of so many more bytes of a file: at most as many bytes of keys, and one key for each
-    /// eight. Room that is not used is not touched, and a list that has it need not move.
+    /// Makes room for the keys of `bytes` more bytes of a file: at most as many, and a key for each
+    /// eight. Room that isn't used isn't touched, and a list that has it need not move.
     pub(crate) fn reserve(&mut self, bytes: usize) -> Result<(), AllocError>
         requires sound { Sound self.old }
         ensures sound { OnOk result (Sound self.new) }
@@ -96,7 +90,7 @@ impl Pairs {
         self.ends.reserve(bytes / 8)
     }
 
-    /// Makes room for so many pairs in all, with so many bytes of keys, and no more than that.
+    /// Makes room for so many pairs and bytes of keys in all, and no more.
     pub(crate) fn reserve_exactly(&mut self, pairs: usize, bytes: usize) -> Result<(), AllocError>
         requires sound { Sound self.old }
         ensures sound { OnOk result (Sound self.new) }
@@ -108,7 +102,6 @@ impl Pairs {
             .reserve_exact(pairs.saturating_sub(self.ends.len()))
     }
 
-    /// Appends the pairs of others, in their order.
     pub(crate) fn append(&mut self, more: &Pairs) -> Result<(), AllocError>
         requires sound { Sound self.old }
         requires more { Sound more.now }
@@ -129,7 +122,6 @@ impl Pairs {
         self.ends.len()
     }
 
-    /// The key and the value of pair `i`, from 0.
     pub(crate) fn get(&self, i: usize) -> (&[u8], Value)
         requires sound { Sound self.now }
         requires within { i < length (pairs_seen self.now) }
@@ -164,7 +156,6 @@ impl Pairs {
         Ok(())
     }
 
-    /// Appends what a record emits.
     pub(crate) fn map(
         &mut self,
         mapper: &mut Mapper<'_, '_>,
@@ -174,7 +165,8 @@ impl Pairs {
         requires sound { Sound self.old }
         requires small { length line.bytes.now ≤ 2 ^ 30 }
         requires line { IsLine mapper.old.files line.file line.start line.bytes.now }
-        requires fits { Fits (pairs_seen self.old ++ emissions mapper.old.job line.file line.start line.bytes.now) }
+        requires fits { Fits (pairs_seen self.old
+            ++ emissions mapper.old.job line.file line.start line.bytes.now) }
         ensures same { mapper.new ≡ mapper.old }
         ensures sound { OnOk result (Sound self.new) }
         ensures pairs { OnOk result (pairs_seen self.new ≡ pairs_seen self.old

@@ -1,4 +1,5 @@
-//! What one split emits, looked up by the numbers of its records.
+//! What one split emits. Two looks find a pair: it is at `ends[rec - 1] + place`, if that is below
+//! `ends[rec]`, and its key and value are there in `pairs`.
 ghost use Rattle.std.specs.Prelude.{◌≡◌, ℕ, ◌+◌, ◌≤◌, ◌<◌, ◌^◌, ◌++◌, [], ◌∷◌, IfOk, OnOk, OnErr};
 ghost use Rattle.std.specs.Prelude.{MatchOption, Some, None, length};
 ghost use Rattle.std.specs.List.{flat_map};
@@ -21,11 +22,11 @@ use mr_splits::{KeptPlan, Plan, RecordAt};
 use std::alloc::{AllocError, Global};
 use std::marker::Model;
 
-/// What one split emits. It takes no memory of its own where nothing is emitted.
+/// What one split emits. Where it emits nothing, it allocates nothing.
 #[derive(Drop)]
 pub struct Part {
     split: u32,
-    /// Where each record's pairs end. Records behind the last that emits anything have no end.
+    /// Where each record's pairs end, up to the last record that emits any.
     ends: Vec<u32>,
     pairs: Pairs,
 }
@@ -47,7 +48,7 @@ impl Model for Part {
     } };
 }
 
-/// A pair that was found: the pairs of its part, and its place among them. Nothing of the pair is read yet.
+/// A pair that was found. Nothing of it is read yet.
 #[derive(Drop)]
 pub struct PairRef<'a> {
     pairs: &'a Pairs,
@@ -81,7 +82,6 @@ impl<'a> PairRef<'a> {
 }
 
 impl Part {
-    /// What the tables show of that split.
     pub(crate) fn of_tables(split: u32, tables: Tables) -> Part
         requires sound { Sound tables.pairs }
         requires rise { EndsRise 0 (length (pairs_seen tables.pairs)) tables.ends.items }
@@ -92,7 +92,6 @@ impl Part {
         Part { split, ends, pairs }
     }
 
-    /// How many pairs there are.
     pub(crate) fn len(&self) -> usize
         ensures count { result ≡ length self.now }
         ensures few { result < 2 ^ 32 }
@@ -100,7 +99,6 @@ impl Part {
         self.pairs.len()
     }
 
-    /// The pair of that name, or none where there is no such pair.
     pub(crate) fn find(&self, name: Name) -> Option<PairRef<'_>>
         ensures { MatchOption result (named self.now name ≡ None)
             (λ f. named self.now name ≡ Some (record { key = f.0; value = f.1; name = name })) }
@@ -121,7 +119,7 @@ impl Part {
     }
 }
 
-/// How much room the tables of some records are given at once: for the records, and for the bytes of keys.
+/// Room for some records in tables: for as many records, and for bytes of keys.
 #[derive(Clone, Copy)]
 pub(crate) struct Room {
     pub records: usize,
@@ -158,8 +156,8 @@ impl Tables {
         }
     }
 
-    /// Makes room behind the first pairs alone: a split that emits nothing takes none, and the lists of others need not
-    /// move.
+    /// Makes room after the first pairs only: a split that emits nothing takes none, and the lists
+    /// of others need not move.
     fn make_room(&mut self, before: usize, room: Room) -> Result<(), AllocError>
         requires sound { Sound self.old.pairs }
         ensures sound { OnOk result (Sound self.new.pairs) }
@@ -173,7 +171,7 @@ impl Tables {
         self.pairs.reserve(room.bytes)
     }
 
-    /// Ends the pairs of the record of that number, before which there were so many.
+    /// Ends the pairs of record `number`, before which there were `before` pairs.
     fn end_record(&mut self, number: usize, before: usize) -> Result<(), AllocError>
         requires sound { Sound self.old.pairs }
         requires few { (before < 2 ^ 32) × (length (pairs_seen self.old.pairs) < 2 ^ 32) }
@@ -189,7 +187,7 @@ impl Tables {
         push_end(&mut self.ends, after)
     }
 
-    /// Appends what the record of that number emits, and counts it. Those before it that have no end yet gave nothing.
+    /// Appends what record `number` emits, and counts it. Skipped records emitted nothing.
     pub(crate) fn map_record(
         &mut self,
         mapper: &mut Mapper<'_, '_>,
@@ -208,9 +206,11 @@ impl Tables {
         ensures same { mapper.new ≡ mapper.old }
         ensures sound { OnOk result (Sound self.new.pairs) }
         ensures pairs { OnOk result (pairs_seen self.new.pairs
-            ≡ pairs_seen self.old.pairs ++ emissions mapper.old.job line.entry.file line.entry.start line.entry.bytes.now) }
+            ≡ pairs_seen self.old.pairs
+            ++ emissions mapper.old.job line.entry.file line.entry.start line.entry.bytes.now) }
         ensures ends { OnOk result (self.new.ends.items
-            ≡ ended number (length (pairs_seen self.old.pairs)) (length (pairs_seen self.new.pairs)) self.old.ends.items) }
+            ≡ ended number (length (pairs_seen self.old.pairs))
+            (length (pairs_seen self.new.pairs)) self.old.ends.items) }
         ensures counted { OnOk result (mapped.new ≡ mapped.old + 1) }
         ensures err { OnErr result (mapped.new ≡ mapped.old) }
     {
@@ -222,7 +222,6 @@ impl Tables {
         Ok(())
     }
 
-    /// Appends what all kept records of the split emit, and counts them. The watch is told the numbers of records.
     fn map_all(
         &mut self,
         kept: &KeptPlan<'_>,
@@ -236,8 +235,10 @@ impl Tables {
         requires split { split < split_total kept.now.cut.size kept.now.cut.files }
         requires sound { Sound self.old.pairs }
         requires none { (pairs_seen self.old.pairs ≡ []) × (self.old.ends.items ≡ []) }
-        requires fits { Fits (flat_map (kept_pairs job.now kept.now.skips) (of_split split (records_of kept.now.cut))) }
-        requires room { mapped.old + mapped_among kept.now.skips (of_split split (records_of kept.now.cut)) < 2 ^ 64 }
+        requires fits { Fits (flat_map (kept_pairs job.now kept.now.skips)
+            (of_split split (records_of kept.now.cut))) }
+        requires room { mapped.old
+            + mapped_among kept.now.skips (of_split split (records_of kept.now.cut)) < 2 ^ 64 }
         ensures sound { OnOk result (Sound self.new.pairs) }
         ensures rise { OnOk result (EndsRise 0 (length (pairs_seen self.new.pairs)) self.new.ends.items) }
         ensures few { OnOk result (length (pairs_seen self.new.pairs) < 2 ^ 32) }
@@ -246,10 +247,11 @@ impl Tables {
         ensures counted { OnOk result (mapped.new
             ≡ mapped.old + mapped_among kept.now.skips (of_split split (records_of kept.now.cut))) }
         ensures err { OnErr result ((mapped.old ≤ mapped.new)
-            × (mapped.new ≤ mapped.old + mapped_among kept.now.skips (of_split split (records_of kept.now.cut)))) }
+            × (mapped.new ≤ mapped.old
+            + mapped_among kept.now.skips (of_split split (records_of kept.now.cut)))) }
     {
         let plan = kept.plan();
-        // A plan's size is at least 1: that its records have numbers of their own rests on that.
+        // This shows the plan's size to be at least 1, so that records have distinct numbers.
         let _size = plan.size();
         let room = Room::of_split(plan, split);
         let mut mapper = job.mapper(plan.input());
@@ -262,8 +264,7 @@ impl Tables {
     }
 }
 
-/// What the kept records of a split emit. Each is counted as mapped; the watch is told the numbers of records. The buffer
-/// is for folded records.
+/// What the kept records of a split emit. The buffer is for folded records.
 pub(crate) fn map_split(
     alloc: Global,
     kept: &KeptPlan<'_>,
@@ -275,14 +276,16 @@ pub(crate) fn map_split(
     watch: &dyn Progress,
 ) -> Result<Part, AllocError>
     requires split { split < split_total kept.now.cut.size kept.now.cut.files }
-    requires room { mapped.old + mapped_among kept.now.skips (of_split split (records_of kept.now.cut)) < 2 ^ 64 }
+    requires room { mapped.old
+        + mapped_among kept.now.skips (of_split split (records_of kept.now.cut)) < 2 ^ 64 }
     ensures part { IfOk result (λ r. r ≡ triples_in split (triples_of job.now kept.now.cut kept.now.skips)) }
     ensures counted { OnOk result (mapped.new
         ≡ mapped.old + mapped_among kept.now.skips (of_split split (records_of kept.now.cut))) }
     ensures err { OnErr result ((mapped.old ≤ mapped.new)
-        × (mapped.new ≤ mapped.old + mapped_among kept.now.skips (of_split split (records_of kept.now.cut)))) }
+        × (mapped.new
+        ≤ mapped.old + mapped_among kept.now.skips (of_split split (records_of kept.now.cut)))) }
 {
-    // Files within the limits of an input emit few enough pairs, with few enough bytes of keys, for the tables.
+    // An input's files emit few enough pairs and bytes of keys for the tables.
     let _files = kept.plan().input().files();
     let mut tables = Tables::new(alloc);
     tables.map_all(kept, job, split, buffer, pace, mapped, watch)?;

@@ -1,4 +1,4 @@
-//! What some of a split's records emit, as tables that can be put behind one another.
+//! What some of a split's records emit, as tables that can be appended to one another.
 ghost use Rattle.std.specs.Prelude.{◌≡◌, ℕ, ◌+◌, ◌≤◌, ◌<◌, ◌^◌, ◌++◌, IfOk, OnOk, length};
 ghost use Rattle.mr_index.specs.Pairs.{pairs_seen, EndsRise, Sound, Fits};
 ghost use Rattle.mr_index.specs.Building.{appended, Shows};
@@ -8,7 +8,7 @@ use crate::part::Tables;
 use std::alloc::AllocError;
 use std::marker::Model;
 
-/// What the kept records of a split emit that have the numbers from `from` on and before `end`.
+/// What the kept records of a split from number `from` up to before `end` emit.
 #[derive(Drop)]
 pub struct Piece {
     split: u32,
@@ -41,7 +41,7 @@ impl Model for Piece {
     } };
 }
 
-/// How much the tables of some pieces hold together: the records that have an end, pairs, and bytes of keys.
+/// The size of some pieces' tables: records that have an end, pairs, and bytes of keys.
 #[derive(Clone, Copy)]
 pub(crate) struct Sizes {
     records: usize,
@@ -73,7 +73,6 @@ impl Sizes {
 }
 
 impl Piece {
-    /// The tables show what those records emit.
     pub(crate) fn of_tables(split: u32, from: u32, end: u32, tables: Tables) -> Piece
         requires sound { Sound tables.pairs }
         requires rise { EndsRise 0 (length (pairs_seen tables.pairs)) tables.ends.items }
@@ -89,7 +88,6 @@ impl Piece {
         }
     }
 
-    /// The number of its first record.
     pub(crate) fn from(&self) -> usize
         ensures { result ≡ self.now.from }
     {
@@ -113,7 +111,7 @@ impl Piece {
 }
 
 impl Tables {
-    /// Makes room for so much in all, and no more than that.
+    /// Makes room for so much in all, and no more.
     pub(crate) fn reserve(&mut self, sizes: Sizes) -> Result<(), AllocError>
         requires sound { Sound self.old.pairs }
         ensures sound { OnOk result (Sound self.new.pairs) }
@@ -125,7 +123,7 @@ impl Tables {
         self.pairs.reserve_exactly(sizes.pairs, sizes.bytes)
     }
 
-    /// Appends the tables of the records from that number on. Those before it that have no end yet gave nothing.
+    /// Appends the tables of the records from `from` on. Skipped records emitted nothing.
     pub(crate) fn append(&mut self, from: usize, more: &Tables) -> Result<(), AllocError>
         requires sound { Sound self.old.pairs }
         requires more { Sound more.now.pairs }

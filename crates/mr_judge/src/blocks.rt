@@ -1,5 +1,5 @@
-//! Reading and looking up ahead of the tests, a block at a time. Each step is a loop of its own over the block, short and
-//! not inlined, in which no turn waits for the one before: so the waits for memory of many names overlap.
+//! Reads and looks up a block of items ahead of the tests. Each step is a short loop of its own,
+//! not inlined, in which no turn waits for the one before: so the waits for memory overlap.
 ghost use Rattle.std.specs.Prelude.{◌≡◌, ◌⊎◌, None, false, IfOk, ◌<◌, ◌≤◌, ◌+◌, ◌^◌, [], ◌∷◌, ◌++◌};
 ghost use Rattle.std.specs.Prelude.{OnOk, List, length};
 ghost use Rattle.std.specs.List.{AllByRecursion};
@@ -18,21 +18,20 @@ use std::alloc::AllocError;
 /// How many items are read and looked up ahead.
 pub const BLOCK: usize = 64;
 
-/// An item, and the place of what is emitted under its name where it is an entry.
+/// An item, and where its pair is if it is an entry.
 #[derive(Drop)]
 pub struct Sought<'a> {
     pub item: Item,
     pub place: Option<PairRef<'a>>,
 }
 
-/// An item, and what is emitted under its name where it is an entry.
+/// An item, and its pair's key and value if it is an entry.
 #[derive(Drop)]
 pub struct FoundItem<'a> {
     pub item: Item,
     pub found: Option<(&'a [u8], Value)>,
 }
 
-/// Looks up the item's name, where it is an entry.
 fn seek<'a>(basis: &Basis<'a>, item: Item, meter: &mut Meter) -> Sought<'a>
     requires { meter.old.lookups + entries_in (item ∷ []) < 2 ^ 64 }
     ensures item { result.item ≡ item }
@@ -47,7 +46,6 @@ fn seek<'a>(basis: &Basis<'a>, item: Item, meter: &mut Meter) -> Sought<'a>
     Sought { item, place }
 }
 
-/// The row of an item that was sought.
 fn row_of<'a>(sought: &Sought<'a>) -> FoundItem<'a>
     ensures item { result.item ≡ sought.now.item }
     ensures found { (ts : List Triple) → IsPlaced ts sought.now → IsFound ts result }
@@ -69,8 +67,8 @@ fn keep<T: Drop>(list: &mut Vec<T>, one: T) -> Result<(), AllocError>
     Ok(())
 }
 
-/// Reads the items that come next, in place of what the list held: as many as a block has, but none behind the end.
-/// Where no item stands behind them, it tells the place.
+/// Replaces the list by the next items: as many as a block has, but none after the end. Returns the
+/// place where no valid item comes next, if it gets there.
 #[inline(never)]
 pub fn read_block<I: ItemSource>(
     walker: &mut I,
@@ -104,7 +102,7 @@ pub fn read_block<I: ItemSource>(
     Ok(None)
 }
 
-/// Looks up all names among the items, in place of what the list held: where each stands.
+/// Looks up all names among the items, and replaces the list.
 #[inline(never)]
 pub fn seek_all<'a>(
     basis: &Basis<'a>,
@@ -128,7 +126,7 @@ pub fn seek_all<'a>(
     Ok(())
 }
 
-/// The rows of all that was sought, in place of what the list held. No byte of a key is read.
+/// The rows of all places, in place of those in the list. No byte of a key is read.
 #[inline(never)]
 pub fn fetch_all<'a>(sought: &[Sought<'a>], rows: &mut Vec<FoundItem<'a>>) -> Result<(), AllocError>
     ensures items { OnOk result (items_in rows.new.items ≡ items_sought sought.now) }
@@ -143,7 +141,6 @@ pub fn fetch_all<'a>(sought: &[Sought<'a>], rows: &mut Vec<FoundItem<'a>>) -> Re
     Ok(())
 }
 
-/// The first byte of a key, where one was found.
 fn first_byte(row: &FoundItem<'_>) -> u8 {
     match row.found {
         Some((key, _)) => match key.first() {
@@ -154,8 +151,8 @@ fn first_byte(row: &FoundItem<'_>) -> u8 {
     }
 }
 
-/// Reads the first byte of each key that was found, for nothing else than that the keys come from memory before they are
-/// compared; the list keeps the bytes, so that no compiler leaves out the reading.
+/// Reads each key's first byte, only so that keys come from memory before they are compared. The
+/// list keeps the bytes, so that no compiler removes the reading.
 #[inline(never)]
 pub fn touch(rows: &[FoundItem<'_>], touched: &mut Vec<u8>) -> Result<(), AllocError> {
     touched.clear();

@@ -4,9 +4,8 @@ ghost use Rattle.std.specs.Option.{option_map};
 ghost use Rattle.mr_verdict.specs.Verdict.{start};
 ghost use Rattle.mr_judge.specs.Borders.{at_border};
 
-/// A border between two groups of a partition: the number of the next partition; how many groups of this one are still
-/// to come, and how many stand before the border; the key of the last of these; and where in the output the next text is
-/// to stand.
+/// A border between two groups of a partition: the next partition; how many groups of this one are
+/// left, and how many came before; the last key; and where the next text begins.
 #[derive(Clone, Copy)]
 pub struct Border<'a> {
     pub next: u64,
@@ -16,7 +15,6 @@ pub struct Border<'a> {
     pub from: u64,
 }
 
-/// Whether the two keys are the same, or both missing.
 fn is_same_key(one: Option<&[u8]>, other: Option<&[u8]>) -> bool
     ensures { IsTrue result ↔ (option_map (λ r. r.now) one.entry ≡ option_map (λ r. r.now) other.entry) }
 {
@@ -28,7 +26,7 @@ fn is_same_key(one: Option<&[u8]>, other: Option<&[u8]>) -> bool
 }
 
 impl<'a> Border<'a> {
-    /// Before that partition.
+    /// The border before partition `next`.
     pub fn before(next: u64) -> Border<'a>
         ensures { at_border result ≡ record start { next = next } }
     {
@@ -41,7 +39,6 @@ impl<'a> Border<'a> {
         }
     }
 
-    /// Whether both are the same border.
     pub fn is_same(&self, other: &Border<'_>) -> bool
         ensures { IsTrue result ↔ (at_border self.now ≡ at_border other.now) }
     {

@@ -1,4 +1,4 @@
-//! What is compared with the outputs.
+//! Comparisons of the judge's tests.
 ghost use Rattle.std.specs.Prelude.{◌≡◌, nat_eq};
 ghost use Rattle.std.specs.List.{common_prefix_len};
 ghost use Rattle.std.specs.Ordering.{is_lt};
@@ -8,21 +8,19 @@ use mr_bytes::{Name, compare_keys, compare_names};
 use mr_lanes::first_difference;
 use std::cmp::Ordering;
 
-/// Whether the key is past the one before it.
 pub(crate) fn is_key_less(before: &[u8], key: &[u8]) -> bool
     ensures { result ≡ is_lt (key_order before.now key.now) }
 {
     matches!(compare_keys(before, key), Ordering::Less)
 }
 
-/// Whether the name is past the one before it.
 pub(crate) fn is_name_less(before: Name, name: Name) -> bool
     ensures { result ≡ is_lt (name_order before name) }
 {
     matches!(compare_names(before, name), Ordering::Less)
 }
 
-/// How many bytes in front are the same in both.
+/// The length of the common prefix.
 pub(crate) fn agreement(text: &[u8], output: &[u8]) -> u64
     ensures { result ≡ common_prefix_len nat_eq text.now output.now }
 {

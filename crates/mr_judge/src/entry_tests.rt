@@ -1,4 +1,4 @@
-//! The tests on entries and on outputs.
+//! The tests of entries and of outputs.
 ghost use Rattle.std.specs.Prelude.{◌≡◌, ◌+◌, [], MatchResult, OnOk, length, nat_le};
 ghost use Rattle.std.specs.Option.{option_map};
 ghost use Rattle.mr_sequential.specs.Rules.{rules_of};
@@ -12,7 +12,7 @@ use crate::outputs::Outputs;
 use mr_bytes::Name;
 use mr_verdict::{JudgeError, No};
 
-/// Whether a partition that has no more groups ends where its output does.
+/// Whether the output ends where its partition has no more groups.
 pub(crate) fn test_end<O: Outputs>(outputs: &mut O, p: u64, groups: u64) -> Result<(), JudgeError>
     requires begun { O.begun outputs.old }
     requires some { CanCome (O.gives outputs.old) }
@@ -31,11 +31,12 @@ pub(crate) fn test_end<O: Outputs>(outputs: &mut O, p: u64, groups: u64) -> Resu
     Ok(())
 }
 
-/// Whether the text stands in the output that is open, behind what was passed of it.
+/// Whether `text` comes next in the open output.
 pub(crate) fn test_text<O: Outputs>(outputs: &mut O, p: u64, text: &[u8]) -> Result<(), JudgeError>
     requires begun { O.begun outputs.old }
     requires some { CanCome (O.gives outputs.old) }
-    ensures told { TextTold (O.gives outputs.old) (O.gives outputs.new) p (O.place outputs.old) text.now result }
+    ensures told { TextTold (O.gives outputs.old) (O.gives outputs.new) p
+        (O.place outputs.old) text.now result }
     ensures some { CanCome (O.gives outputs.new) }
     ensures place { OnOk result (O.place outputs.new ≡ O.place outputs.old + length text.now) }
     ensures begun { O.begun outputs.new }
@@ -50,7 +51,7 @@ pub(crate) fn test_text<O: Outputs>(outputs: &mut O, p: u64, text: &[u8]) -> Res
     }))
 }
 
-/// The tests on a group's first entry.
+/// A first entry's tests: its key is of this partition, and past that of the group before.
 pub(crate) fn test_first(
     basis: &Basis<'_>,
     p: u64,
@@ -81,7 +82,7 @@ pub(crate) fn test_first(
     Ok(())
 }
 
-/// The tests on a later entry.
+/// A later entry's tests: its name is past the one before, and its key is the group's.
 pub(crate) fn test_later(
     p: u64,
     group: u64,
@@ -110,7 +111,7 @@ pub(crate) fn test_later(
     Ok(())
 }
 
-/// Whether no emitted pair is without a name.
+/// Whether every emitted pair has a name.
 pub fn test_named(emitted: u64, named: u64) -> Result<(), No>
     ensures { let fs = passes (nat_le emitted named)
         (No.Unnamed emitted named) in MatchResult result (λ _. fs ≡ []) (λ e. Answers fs e) }

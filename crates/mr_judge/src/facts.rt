@@ -12,7 +12,7 @@ use mr_reduce::append_text;
 use std::alloc::AllocError;
 use std::marker::Model;
 
-/// What the groups are judged against: all that is emitted, and the request.
+/// What the groups are judged against: all emitted pairs, and the request.
 #[derive(Drop)]
 pub struct Basis<'a> {
     pub request: &'a Request,
@@ -28,21 +28,19 @@ impl<'a> Model for Basis<'a> {
 }
 
 impl<'a> Basis<'a> {
-    /// The partition of a key.
     pub fn part(&self, key: &[u8]) -> u64
         ensures { result ≡ part self.now.request key.now }
     {
         u64::from(partition_by(self.request.by(), key, self.request.parts()))
     }
 
-    /// The job.
     pub fn job(&self) -> &'a Job
         ensures { result.now ≡ self.now.request.job }
     {
         self.request.job()
     }
 
-    /// The text of a group, in place of what the buffer held.
+    /// The text of a group, in place of what is in `out`.
     pub fn text(
         &self,
         key: &[u8],
@@ -55,7 +53,7 @@ impl<'a> Basis<'a> {
         append_text(self.request.job(), key, values, out)
     }
 
-    /// The pair of that name among all that is emitted, or none where there is no such pair.
+    /// The emitted pair of this name, if there is one. It counts as one look-up.
     pub fn find(&self, name: Name, meter: &mut Meter) -> Option<PairRef<'a>>
         requires { meter.old.lookups + 1 < 2 ^ 64 }
         ensures found { MatchOption result (named self.now.triples name ≡ None)
@@ -67,7 +65,7 @@ impl<'a> Basis<'a> {
         index.find(name, meter)
     }
 
-    /// How many pairs are emitted.
+    /// The number of emitted pairs.
     pub fn emitted(&self) -> u64
         ensures { result ≡ length self.now.triples }
     {

@@ -1,4 +1,4 @@
-//! The judge of a result that readers give.
+//! Judges a result through readers.
 ghost use Rattle.std.specs.Prelude.{◌≡◌, ◌⊎◌, ◌<◌, ◌≤◌, ◌^◌, ℕ, List, Err, IfOk, IfErr, IfSome};
 ghost use Rattle.std.specs.Prelude.{MatchOption, map, length, get_or};
 ghost use Rattle.mr_input.specs.Files.{split_total};
@@ -21,7 +21,6 @@ use mr_store::CountedRead;
 use mr_verdict::{JudgeError, No, Source, Yes};
 use std::alloc::{AllocError, Global};
 
-/// How many reads of each have failed.
 fn failures_of<R: CountedRead>(alloc: Global, readers: &[R]) -> Result<Vec<u64>, AllocError>
     ensures { IfOk result (λ v. v.items ≡ map R.failed readers.now) }
 {
@@ -32,7 +31,7 @@ fn failures_of<R: CountedRead>(alloc: Global, readers: &[R]) -> Result<Vec<u64>,
     Ok(failures)
 }
 
-/// The first of which a read has failed since these were counted.
+/// The first reader of which a read has failed since `before` was counted.
 fn first_failed<R: CountedRead>(readers: &[R], before: &[u64]) -> Option<u64>
     requires { length readers.now ≡ length before.now }
     ensures { MatchOption result (map R.failed readers.now ≡ before.now)
@@ -46,7 +45,6 @@ fn first_failed<R: CountedRead>(readers: &[R], before: &[u64]) -> Option<u64>
     None
 }
 
-/// Judges what the readers give: the verdict, or why there is none. All buffers are taken before the first read.
 fn judge_lent<R: CountedRead, C: CountedRead>(
     alloc: Global,
     request: &Request,
@@ -58,7 +56,8 @@ fn judge_lent<R: CountedRead, C: CountedRead>(
     requires fits { split_total request.now.split input.now ≤ 2 ^ 20 }
     requires parts { length outputs.old ≡ request.now.parts }
     requires known { IfSome (C.remaining certificate.old) AreBytes }
-    ensures { StopOfSome request.now input.now (map R.remaining outputs.old) (C.remaining certificate.old) result }
+    ensures { StopOfSome request.now input.now (map R.remaining outputs.old)
+        (C.remaining certificate.old) result }
 {
     let mut outputs = ReaderOutputs::new(alloc, outputs)?;
     let mut walker = StreamWalker::new(
@@ -82,8 +81,8 @@ fn judge_lent<R: CountedRead, C: CountedRead>(
     )
 }
 
-/// The fault, where no read has failed and no fault tells of one. Of an output or a certificate of 2^63 bytes or more
-/// nothing is said but that it is too long for the memory of a machine.
+/// The fault of a stop that no failed read caused. An output or a certificate of 2^63 bytes or more
+/// counts as too long for the machine's memory.
 fn fault_of(stop: JudgeError) -> No
     requires { TellsNoRead stop }
     ensures verdict { (o : RequestSpec) (files outs : List (List ℕ)) (bytes : List ℕ)
@@ -96,7 +95,6 @@ fn fault_of(stop: JudgeError) -> No
     }
 }
 
-/// The answer, where no read has failed and no fault tells of one.
 fn told(answer: Result<Yes, JudgeError>) -> Result<Yes, No>
     requires { IfErr answer TellsNoRead }
     ensures verdict { (o : RequestSpec) (files outs : List (List ℕ)) (bytes : List ℕ)
@@ -109,7 +107,7 @@ fn told(answer: Result<Yes, JudgeError>) -> Result<Yes, No>
     }
 }
 
-/// Judges what the readers give: the verdict, or which read failed, as the counts of the readers tell.
+/// The readers' counts of failures say whether a read failed, and which.
 fn judge_from<R: CountedRead, C: CountedRead>(
     alloc: Global,
     request: &Request,
@@ -139,13 +137,15 @@ fn judge_from<R: CountedRead, C: CountedRead>(
     }
 }
 
-/// Judges a result as `check` does, where readers give it: an output for each partition, in order, and the bytes of the
-/// certificate. The answer is the verdict over the bytes that they give: over bytes that they may give, where these
-/// aren't known before. `Device` is told just where a read failed in this call, and at once; an interrupted read is a
-/// failed one. The certificate and each output are read in pieces of at most 65,536 bytes, into buffers that are taken at
-/// the start. An output's reader is asked for nothing before those ahead of it were read to their ends; so where each
-/// opens what it reads at its first call and closes it at its end, one output at most is open. After a no it isn't said
-/// how far they were read.
+/// Judges a result as `check` does, through readers: one for each partition's output, in order, and
+/// one for the certificate. Returns the verdict over the bytes that they give; where these aren't
+/// known before, over bytes that they may give. `Device` comes exactly where a read failed in this
+/// call, and at once; an interrupted read is a failed one.
+///
+/// Each read takes at most 65,536 bytes, into buffers that are allocated at the start. An output's
+/// reader is asked only after those before it were read to their ends: where each opens its file at
+/// the first call and closes it at the end, at most one output is open. After a no it isn't
+/// specified how far they were read.
 pub fn check_from<R: CountedRead, C: CountedRead>(
     alloc: Global,
     request: &Request,
@@ -154,7 +154,8 @@ pub fn check_from<R: CountedRead, C: CountedRead>(
     certificate: &mut C,
 ) -> Result<Yes, No>
     requires { split_total request.now.split input.now ≤ 2 ^ 20 }
-    ensures judged { Judged request.now input.now (map R.remaining outputs.old) (C.remaining certificate.old) result }
+    ensures judged { Judged request.now input.now (map R.remaining outputs.old)
+        (C.remaining certificate.old) result }
     ensures headline { IfOk result (λ y. (outs : List (List ℕ)) (bytes : List ℕ)
         → Give (map R.remaining outputs.old) (C.remaining certificate.old) outs bytes
         → IsCertified request.now input.now outs bytes y.skips.items y.pairs) }
@@ -167,7 +168,7 @@ pub fn check_from<R: CountedRead, C: CountedRead>(
     judge_readers(alloc, request, input, outputs, certificate, &Unwatched)
 }
 
-/// Judges a result as `check_from` does, and reports the progress as `judge_on_one_thread` does.
+/// What `check_from` does. It reports its progress as `judge_on_one_thread` does.
 pub fn judge_readers<R: CountedRead, C: CountedRead>(
     alloc: Global,
     request: &Request,
@@ -177,7 +178,8 @@ pub fn judge_readers<R: CountedRead, C: CountedRead>(
     watch: &dyn Progress,
 ) -> Result<Yes, No>
     requires { split_total request.now.split input.now ≤ 2 ^ 20 }
-    ensures judged { Judged request.now input.now (map R.remaining outputs.old) (C.remaining certificate.old) result }
+    ensures judged { Judged request.now input.now (map R.remaining outputs.old)
+        (C.remaining certificate.old) result }
     ensures headline { IfOk result (λ y. (outs : List (List ℕ)) (bytes : List ℕ)
         → Give (map R.remaining outputs.old) (C.remaining certificate.old) outs bytes
         → IsCertified request.now input.now outs bytes y.skips.items y.pairs) }

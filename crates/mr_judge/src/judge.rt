@@ -44,7 +44,7 @@ pub fn plan_of<'a>(
     Plan::new_fitting(alloc, input, request.split_size())
 }
 
-/// Judges the partitions, given the left-out records: how many pairs there are, or the first fault.
+/// Judges the partitions, given the left-out records. Returns the number of pairs.
 fn check_with<I: ItemSource, O: Outputs>(
     alloc: Global,
     request: &Request,
@@ -82,7 +82,7 @@ fn check_with<I: ItemSource, O: Outputs>(
     check_parts(alloc, &basis, outputs, walker, meter, watch)
 }
 
-/// Judges what stands behind the items of the request and of the input.
+/// Judges what comes after the header.
 fn check_rest<I: ItemSource, O: Outputs>(
     alloc: Global,
     request: &Request,
@@ -96,7 +96,8 @@ fn check_rest<I: ItemSource, O: Outputs>(
     requires sound { I.sound walker.old }
     requires given { CanCome (I.gives walker.old) }
     requires few { I.most walker.old < 2 ^ 63 }
-    requires order { (is : List Read) (at : ℕ) → I.gives walker.old is at → InKind (AtSkips request.now.parts) is }
+    requires order { (is : List Read) (at : ℕ) → I.gives walker.old is at
+        → InKind (AtSkips request.now.parts) is }
     requires count { (meter.old.lookups ≤ 2 ^ 63) × (meter.old.mapped ≤ 2 ^ 63) }
     requires outputs { CanComeAhead (O.gives outputs.old) }
     requires ahead { Fits (O.gives outputs.old) start }
@@ -127,7 +128,7 @@ pub fn walk(certificate: &[u8]) -> Walker<'_>
     Walker::new(certificate)
 }
 
-/// Judges a result, whatever walks its items and holds its outputs, which are as many as the partitions.
+/// Judges a result over any source of items and any outputs, one for each partition.
 pub(crate) fn judge_all<I: ItemSource, O: Outputs>(
     alloc: Global,
     request: &Request,
@@ -159,8 +160,7 @@ pub(crate) fn judge_all<I: ItemSource, O: Outputs>(
     check_rest(alloc, request, input, outputs, walker, meter, watch)
 }
 
-/// Judges a case by one thread: the verdict, or want of memory. Adds to the meter what is looked up
-/// and mapped, and reports the progress now and then.
+/// Judges a case, and adds to the meter what it looks up and maps.
 fn judge_at_hand(
     alloc: Global,
     case: &Case<'_>,
@@ -197,8 +197,8 @@ fn judge_at_hand(
     }
 }
 
-/// Judges a case as `check` does, and reports the progress now and then: how many records are mapped,
-/// and behind them how many pairs are judged.
+/// Judges a case as `check` does. It reports now and then to `progress` how many records are
+/// mapped, and after that how many pairs are judged.
 pub fn judge_on_one_thread(
     alloc: Global,
     case: &Case<'_>,
@@ -215,11 +215,11 @@ pub fn judge_on_one_thread(
     judge_at_hand(alloc, case, meter, progress)
 }
 
-/// Judges a result of the request over the input: the outputs of the partitions with the bytes of the certificate. No
-/// worker is trusted. Where the answer is `Yes`, the outputs are byte for byte those of the sequential execution, with
-/// exactly the records left out that the certificate lists. It comes just where the result is good (`yes_law`); else
-/// the first fault is told. The splits of the input
-/// must fit (`Request::fits`). Nothing else is answered, but `OutOfMemory` where the machine refused memory.
+/// Judges a result of the request over the input: the partitions' outputs and the certificate's
+/// bytes. It trusts no worker. Returns `Yes` exactly where the result is good (`yes_law`): the
+/// outputs are byte for byte those of the sequential execution without the records that the
+/// certificate lists. Otherwise it returns the first fault, or `OutOfMemory`. The input's splits
+/// must fit (`Request::fits`).
 pub fn check(
     alloc: Global,
     request: &Request,
@@ -244,14 +244,11 @@ pub fn check(
     judge_on_one_thread(alloc, &case, &Unwatched)
 }
 
-/// The same as `check`, adding to the meter what is looked up and mapped; each of its counts is at most 2^63 before. Each
-/// entry of the certificate is looked up at most once, and each record mapped at most once; on a yes there is a look-up
-/// for each pair, and just the records that aren't left out are mapped.
-///
-/// The clauses speak of the numbers in the meter alone. They cannot say that nothing is looked up or mapped beside it:
-/// that each look-up and each mapped record is counted rests on the code of the index, which counts where it looks up
-/// and where it maps. And where the answer is a no, they say only that the counts did not fall and stayed within their
-/// bounds.
+/// What `check` does, adding what it looks up and maps to the meter, whose counts are at most 2^63
+/// before. It looks up each entry and maps each record at most once; on a yes, each pair and each
+/// record that isn't left out exactly once. The clauses speak only of the meter. That nothing is
+/// looked up or mapped uncounted rests on the code of the index. On a no they say only that counts
+/// didn't fall and stayed within bounds.
 pub fn check_metered(
     alloc: Global,
     request: &Request,
@@ -268,7 +265,8 @@ pub fn check_metered(
         (λ y. verdict_of request.now input.now (contents outputs.now) certificate.now ≡ Ok (accepted_of y)) }
     ensures no { IfErr result (λ e. (e ≡ OutOfMemory)
         ⊎ (verdict_of request.now input.now (contents outputs.now) certificate.now ≡ Err e)) }
-    ensures bounded { IsBounded (cut_by request.now input.now) (items_of certificate.now) meter.old meter.new }
+    ensures bounded { IsBounded (cut_by request.now input.now)
+        (items_of certificate.now) meter.old meter.new }
     ensures exact { IfOk result
         (λ y. IsExact (cut_by request.now input.now) y.skips.items y.pairs meter.old meter.new) }
 {

@@ -1,4 +1,4 @@
-//! How far the judge has come in the partitions, item by item.
+//! The state of the judge in the partitions, and its steps, item by item.
 ghost use Rattle.std.specs.Prelude.{◌≡◌, ◌<◌, ◌≤◌, ◌+◌, ◌-◌, ◌^◌, ◌++◌, ◌∷◌, [], MatchOption};
 ghost use Rattle.std.specs.Prelude.{MatchResult, OnOk, None, Some, true, length};
 ghost use Rattle.mr_sequential.specs.Good.{named};
@@ -26,10 +26,9 @@ use mr_verdict::{JudgeError, No};
 use std::alloc::{AllocError, Global};
 use std::marker::Model;
 
-/// How far the judge has come in the partitions: the next partition; of this one how many groups are still to come,
-/// and the group; of this group how many entries are still to come, and the entry; the key of the group before, and of
-/// this one; the name before; the values so far; where in the output the next text is to stand; how many entries there
-/// were; and a buffer for a line.
+/// `next` is the next partition. `groups` and `entries` are left of this partition and group;
+/// `group` and `entry` came before. `before` is the last name, `from` the place in the output where
+/// the next text begins, `named` the number of entries so far. `text` is a buffer for a line.
 #[derive(Drop)]
 pub struct JudgeState<'a> {
     next: u64,
@@ -75,7 +74,7 @@ impl<'a> JudgeState<'a> {
         JudgeState::at(alloc, &Border::before(0))
     }
 
-    /// At a border, with nothing told of what stands before it.
+    /// At a border, with nothing known of what comes before it.
     pub fn at(alloc: Global, border: &Border<'a>) -> JudgeState<'a>
         ensures { result ≡ at_border border.now }
     {
@@ -99,7 +98,7 @@ impl<'a> JudgeState<'a> {
         }
     }
 
-    /// The border that was reached, behind a group.
+    /// The border that was reached, after a group.
     pub fn border(&self) -> Border<'a>
         ensures { at_border result ≡ between self.now }
     {
@@ -112,14 +111,13 @@ impl<'a> JudgeState<'a> {
         }
     }
 
-    /// How many entries there were.
+    /// The number of entries so far.
     pub fn named(&self) -> u64
         ensures { result ≡ self.now.named }
     {
         self.named
     }
 
-    /// The next partition, of so many groups.
     fn begin_partition(&mut self, groups: u64)
         requires { HasRoom self.old }
         ensures { self.new ≡ record self.old {
@@ -138,7 +136,6 @@ impl<'a> JudgeState<'a> {
         self.from = 0;
     }
 
-    /// The next group, of so many entries.
     fn begin_group(&mut self, entries: u64)
         ensures { self.new ≡ record self.old { entries = entries; entry = 0 } }
     {
@@ -146,7 +143,6 @@ impl<'a> JudgeState<'a> {
         self.entry = 0;
     }
 
-    /// Behind a group, whose text ends at this place of the output.
     fn close_group(&mut self, from: u64)
         requires { self.old.group + 1 < 2 ^ 64 }
         ensures { self.new
@@ -158,7 +154,6 @@ impl<'a> JudgeState<'a> {
         self.from = from;
     }
 
-    /// A group's first entry.
     fn take_first(&mut self, name: Name, key: &'a [u8], value: Value) -> Result<(), AllocError>
         requires { HasRoom self.old }
         ensures { OnOk result (self.new
@@ -181,7 +176,6 @@ impl<'a> JudgeState<'a> {
         Ok(())
     }
 
-    /// A later entry of a group.
     fn take_later(&mut self, name: Name, value: Value) -> Result<(), AllocError>
         requires { HasRoom self.old }
         ensures { OnOk result (self.new
@@ -203,7 +197,7 @@ impl<'a> JudgeState<'a> {
 }
 
 impl<'a> JudgeState<'a> {
-    /// The end of a group that stands whole: its text, and the partition's end where it was the last.
+    /// Tests a whole group's text, and the end of its partition where it is the last.
     fn end_group<O: Outputs>(
         &mut self,
         basis: &Basis<'_>,
@@ -229,7 +223,6 @@ impl<'a> JudgeState<'a> {
         Ok(())
     }
 
-    /// A group's first entry is tested and taken.
     fn first_entry(
         &mut self,
         basis: &Basis<'_>,
@@ -241,7 +234,8 @@ impl<'a> JudgeState<'a> {
         requires { HasRoom self.old }
         ensures { let fs = first_tests
             (rules_of basis.now.request).part p self.old.group self.old.key_before key.entry.now in
-            MatchResult result (λ _. (fs ≡ []) × (self.new ≡ with_entry self.old (record { key = key.entry.now; value = value; name = name }) 0))
+            MatchResult result (λ _. (fs ≡ []) × (self.new
+            ≡ with_entry self.old (record { key = key.entry.now; value = value; name = name }) 0))
             (λ e. Answers fs e) }
     {
         test_first(basis, p, self.group, self.key_before, key)?;
@@ -249,7 +243,6 @@ impl<'a> JudgeState<'a> {
         Ok(())
     }
 
-    /// A later entry is tested and taken.
     fn later_entry(&mut self, p: u64, name: Name, key: &[u8], value: Value) -> Result<(), No>
         requires { HasRoom self.old }
         ensures { let fs = later_tests p self.old.group self.old.entry self.old.before name self.old.key key.now in
@@ -267,7 +260,6 @@ impl<'a> JudgeState<'a> {
         Ok(())
     }
 
-    /// The next entry is tested and taken.
     #[tactic(auto, using(crate::proofs::Faults::order_zero, crate::proofs::Faults::with_zero, crate::proofs::Faults::order_suc, crate::proofs::Faults::with_suc))]
     fn order_entry(
         &mut self,
@@ -278,9 +270,12 @@ impl<'a> JudgeState<'a> {
         value: Value,
     ) -> Result<(), No>
         requires { HasRoom self.old }
-        ensures { let fs = order_tests (rules_of basis.now.request).part p self.old name key.entry.now self.old.entry in
+        ensures { let fs = order_tests
+            (rules_of basis.now.request).part p self.old name key.entry.now self.old.entry in
             MatchResult result (λ _. (fs ≡ [])
-            × (self.new ≡ with_entry self.old (record { key = key.entry.now; value = value; name = name }) self.old.entry)) (λ e. Answers fs e) }
+            × (self.new ≡ with_entry self.old
+            (record { key = key.entry.now; value = value; name = name }) self.old.entry))
+            (λ e. Answers fs e) }
     {
         if self.entry == 0 {
             self.first_entry(basis, p, name, key, value)
@@ -289,7 +284,7 @@ impl<'a> JudgeState<'a> {
         }
     }
 
-    /// The group's end, where no entry is to come.
+    /// Ends the group where no entry is left.
     fn end_entry<O: Outputs>(
         &mut self,
         basis: &Basis<'_>,
@@ -316,7 +311,6 @@ impl<'a> JudgeState<'a> {
         }
     }
 
-    /// An entry of a pair that is emitted, with all its tests.
     fn found_entry<O: Outputs>(
         &mut self,
         basis: &Basis<'_>,
@@ -327,13 +321,15 @@ impl<'a> JudgeState<'a> {
         value: Value,
     ) -> Result<(), JudgeError>
         requires room { HasRoom self.old }
-        requires found { named basis.now.triples name ≡ Some (record { key = key.now; value = value; name = name }) }
+        requires found { named basis.now.triples name
+            ≡ Some (record { key = key.now; value = value; name = name }) }
         requires here { p ≡ self.old.next - 1 }
         requires begun { O.begun outputs.old }
         requires some { CanCome (O.gives outputs.old) }
         requires place { O.place outputs.old ≡ self.old.from }
         ensures tested { let t = named basis.now.triples name in
-            Tested (O.gives outputs.old) (O.gives outputs.new) self.old self.new (λ outs. entry_tests (subject_with basis.now outs) p self.old name t)
+            Tested (O.gives outputs.old) (O.gives outputs.new) self.old self.new
+            (λ outs. entry_tests (subject_with basis.now outs) p self.old name t)
             (λ outs. after_entry (subject_with basis.now outs) self.old t) result }
         ensures some { CanCome (O.gives outputs.new) }
         ensures place { OnOk result (O.place outputs.new ≡ self.new.from) }
@@ -344,7 +340,7 @@ impl<'a> JudgeState<'a> {
         self.end_entry(basis, outputs, p)
     }
 
-    /// An entry, with all its tests, given what is emitted under its name.
+    /// Tests an entry, given the emitted pair of its name.
     fn entry<O: Outputs>(
         &mut self,
         basis: &Basis<'_>,
@@ -361,7 +357,8 @@ impl<'a> JudgeState<'a> {
         requires some { CanCome (O.gives outputs.old) }
         requires place { O.place outputs.old ≡ self.old.from }
         ensures tested { let t = named basis.now.triples name in
-            Tested (O.gives outputs.old) (O.gives outputs.new) self.old self.new (λ outs. entry_tests (subject_with basis.now outs) p self.old name t)
+            Tested (O.gives outputs.old) (O.gives outputs.new) self.old self.new
+            (λ outs. entry_tests (subject_with basis.now outs) p self.old name t)
             (λ outs. after_entry (subject_with basis.now outs) self.old t) result }
         ensures some { CanCome (O.gives outputs.new) }
         ensures place { OnOk result (O.place outputs.new ≡ self.new.from) }
@@ -378,7 +375,7 @@ impl<'a> JudgeState<'a> {
         }
     }
 
-    /// The next partition begins, with so many groups, and its output is opened.
+    /// Begins the next partition, and opens its output.
     fn open_partition<O: Outputs>(&mut self, outputs: &mut O, groups: u64) -> Result<(), JudgeError>
         requires room { HasRoom self.old }
         requires some { CanCome (O.gives outputs.old) }
@@ -396,7 +393,7 @@ impl<'a> JudgeState<'a> {
         Ok(())
     }
 
-    /// All tests of a row's item, in their order.
+    /// Makes all tests of a row's item, in their order.
     pub fn step<O: Outputs>(
         &mut self,
         basis: &Basis<'_>,
@@ -409,7 +406,8 @@ impl<'a> JudgeState<'a> {
         requires some { CanCome (O.gives outputs.old) }
         requires place { O.place outputs.old ≡ self.old.from }
         ensures tested { Tested (O.gives outputs.old) (O.gives outputs.new) self.old self.new
-            (λ outs. tests (subject_with basis.now outs) self.old row.now.item) (λ outs. after (subject_with basis.now outs) self.old row.now.item) result }
+            (λ outs. tests (subject_with basis.now outs) self.old row.now.item)
+            (λ outs. after (subject_with basis.now outs) self.old row.now.item) result }
         ensures some { CanCome (O.gives outputs.new) }
         ensures place { OnOk result (O.place outputs.new ≡ self.new.from) }
         ensures begun { O.begun outputs.old → O.begun outputs.new }

@@ -1,7 +1,6 @@
-//! A reader that is lent.
+//! Reads through a borrowed reader, which its owner has again afterwards.
 use mr_store::{CountedRead, Device};
 
-/// A reader that is lent: it is read as the one behind it, which is its owner's again afterwards.
 #[derive(Drop)]
 pub(crate) struct ByRef<'a, R> {
     pub reader: &'a mut R,

@@ -1,5 +1,5 @@
-//! The judge of a result by one thread, over bytes at hand and over readers; and its steps, on which the judge by many
-//! threads stands.
+//! The judge of a result by one thread, over bytes at hand and over readers, with the steps that
+//! the judge by many threads shares.
 #![tactic(auto)]
 
 mod blocks;

@@ -1,5 +1,5 @@
-//! The text of a group, compared with the output as it is made: where a text has a line for each value, one line after
-//! another, so that no group makes a text of its own size, however many pairs it has.
+//! Compares the text of a group with the output as it is made: line by line where it has a line for
+//! each value, so that no group makes a text of its own size.
 ghost use Rattle.std.specs.Prelude.{◌≡◌, ◌+◌, ◌∷◌, [], OnOk, true, length};
 ghost use Rattle.mr_jobs.specs.JobSpec.{has_lines};
 ghost use Rattle.mr_reduce.specs.Text.{text_of};
@@ -14,7 +14,6 @@ use mr_reduce::group_text;
 use mr_verdict::JudgeError;
 use std::alloc::AllocError;
 
-/// The text of a key with one value, in place of what the buffer held.
 fn line_of(job: &Job, key: &[u8], value: Value, line: &mut Vec<u8>) -> Result<(), AllocError>
     ensures { OnOk result (line.new.items ≡ text_of job.now key.now (value ∷ [])) }
 {
@@ -22,7 +21,6 @@ fn line_of(job: &Job, key: &[u8], value: Value, line: &mut Vec<u8>) -> Result<()
     group_text(job, key, &[value], line)
 }
 
-/// Whether the lines of a key with these values stand next in the output that is open.
 fn test_lines<O: Outputs>(
     outputs: &mut O,
     p: u64,
@@ -49,7 +47,7 @@ fn test_lines<O: Outputs>(
     Ok(())
 }
 
-/// Whether the text of a group stands next in the output that is open. The buffer is for one line.
+/// Whether a group's text comes next in the open output. The buffer `line` is for one line.
 pub(crate) fn test_group<O: Outputs>(
     outputs: &mut O,
     basis: &Basis<'_>,

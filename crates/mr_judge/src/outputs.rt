@@ -1,4 +1,4 @@
-//! The outputs that are judged, one after another: at hand, or from readers.
+//! The outputs under judgement, one after another: at hand, or from readers.
 ghost use Rattle.std.specs.Prelude.{◌≡◌, ◌⊎◌, ◌≤◌, ◌<◌, ◌+◌, ◌-◌, ⊤, ◌^◌, ℕ, List, [], length};
 ghost use Rattle.std.specs.Prelude.{drop};
 ghost use Rattle.mr_input.specs.Files.{contents, nth_file};
@@ -29,15 +29,15 @@ impl From<OutputError> for JudgeError {
     }
 }
 
-/// Outputs that are opened in turn. Each is read from its front and no byte of it twice.
+/// Outputs that are opened in turn. Each is read from its front, and no byte twice.
 pub trait Outputs {
-    // This may be still to come of the open one, and these outputs behind it.
+    // This may still come of the open output, and then these outputs.
     ghost gives: { Self → List ℕ → List (List ℕ) → Type 0 };
 
-    // How many bytes of the open one were passed.
+    // How many bytes of the open output were passed.
     ghost place: { Self → ℕ };
 
-    // One is open.
+    // An output is open.
     ghost begun: { Self → Type 0 };
 
     // How many reads of each have failed.
@@ -46,7 +46,7 @@ pub trait Outputs {
     // Nothing can fail but the outputs themselves.
     ghost steady: { Type 0 };
 
-    /// Opens the next output; past the last they are empty.
+    /// Opens the next output. Past the last they are empty.
     fn open_next(&mut self)
         ensures opens { Opens (gives self.old) (gives self.new) }
         ensures place { place self.new ≡ 0 }
@@ -54,7 +54,7 @@ pub trait Outputs {
         ensures some { CanCome (gives self.old) → CanCome (gives self.new) }
         ensures failed { failed self.new ≡ failed self.old };
 
-    /// Whether the text stands next. What is the same in both is passed.
+    /// Whether the text comes next. It passes the common prefix.
     fn pass_text(&mut self, text: &[u8]) -> Result<bool, OutputError>
         requires begun { begun self.old }
         ensures compares { Compares (gives self.old) (gives self.new) (place self.old)
@@ -63,7 +63,7 @@ pub trait Outputs {
         ensures some { CanCome (gives self.old) → CanCome (gives self.new) }
         ensures lacks { Lacks steady (failed self.old) (failed self.new) result };
 
-    /// Whether nothing is left of the open one.
+    /// Whether nothing of the open output is left.
     fn is_passed(&mut self) -> Result<bool, OutputError>
         requires begun { begun self.old }
         ensures ends { Ends (gives self.old) (gives self.new) result }
@@ -72,12 +72,11 @@ pub trait Outputs {
         ensures some { CanCome (gives self.old) → CanCome (gives self.new) }
         ensures lacks { Lacks steady (failed self.old) (failed self.new) result };
 
-    /// How many bytes of the open one were passed.
     fn place(&self) -> u64
         ensures { result ≡ place self.now };
 }
 
-/// Outputs at hand: what is left of the open one, those behind it, and how many bytes were passed.
+/// Outputs at hand: what is left of the open one, and those after it.
 #[derive(Drop)]
 pub struct MemoryOutputs<'a> {
     pub rest: &'a [u8],
@@ -87,7 +86,6 @@ pub struct MemoryOutputs<'a> {
 }
 
 impl<'a> MemoryOutputs<'a> {
-    /// All of them are to come.
     pub fn new(outputs: &'a [Vec<u8>]) -> MemoryOutputs<'a>
         ensures rest { result.rest.now ≡ nth_file (contents outputs.entry.now) 0 }
         ensures later { result.later.now ≡ outputs.entry.now }
@@ -96,8 +94,7 @@ impl<'a> MemoryOutputs<'a> {
         MemoryOutputs::at(outputs, 0, 0)
     }
 
-    /// The output before that of partition `next` is open, and so many of its bytes were passed; those from `next` on are
-    /// to come.
+    /// The output before partition `next` is open, and `from` of its bytes were passed.
     pub fn at(outputs: &'a [Vec<u8>], next: u64, from: u64) -> MemoryOutputs<'a>
         ensures rest { result.rest.now ≡ drop from (nth_file (contents outputs.entry.now) (next - 1)) }
         ensures later { result.later.now ≡ drop next outputs.entry.now }
@@ -111,7 +108,6 @@ impl<'a> MemoryOutputs<'a> {
     }
 }
 
-/// The output of partition `p`; past the last there is none.
 fn output_of<'a>(outputs: &'a [Vec<u8>], p: u64) -> &'a [u8]
     ensures { result.now ≡ nth_file (contents outputs.entry.now) p }
 {
@@ -121,7 +117,6 @@ fn output_of<'a>(outputs: &'a [Vec<u8>], p: u64) -> &'a [u8]
     }
 }
 
-/// The outputs from partition `p` on.
 fn outputs_from<'a>(outputs: &'a [Vec<u8>], p: u64) -> &'a [Vec<u8>]
     ensures { result.now ≡ drop p outputs.entry.now }
 {
@@ -131,7 +126,6 @@ fn outputs_from<'a>(outputs: &'a [Vec<u8>], p: u64) -> &'a [Vec<u8>]
     }
 }
 
-/// What comes behind so many bytes.
 pub(crate) fn behind<'a>(bytes: &'a [u8], count: u64) -> &'a [u8]
     ensures { result.now ≡ drop count bytes.entry.now }
 {

@@ -1,4 +1,4 @@
-//! The partitions of a certificate, with the outputs.
+//! Judges the partitions of a certificate with the outputs.
 ghost use Rattle.std.specs.Prelude.{◌≡◌, ◌⊎◌, ◌<◌, ◌≤◌, ◌+◌, ◌-◌, ◌^◌, IfOk, OnOk, true, false};
 ghost use Rattle.std.specs.Prelude.{length};
 ghost use Rattle.std.specs.List.{AllByRecursion};
@@ -19,7 +19,7 @@ use mr_index::Meter;
 use mr_verdict::{ItemSource, JudgeError, No};
 use std::alloc::{AllocError, Global};
 
-/// Judges rows in turn: whether they end the certificate, or the first fault.
+/// Judges rows in turn. Returns whether they end the certificate.
 #[inline(never)]
 fn judge_rows<'a, O: Outputs>(
     judging: &mut JudgeState<'a>,
@@ -49,13 +49,11 @@ fn judge_rows<'a, O: Outputs>(
     Ok(false)
 }
 
-/// Items that are read, looked up and judged together, with what is found of them: buffers for a block, taken at once and
-/// used again for each.
+/// Buffers for a block of items that are looked up and judged together. All blocks share them.
 #[derive(Drop)]
 pub struct Block<'a> {
-    /// What was read.
     pub items: Vec<Item>,
-    /// The names among them, where they are looked for.
+    /// The places of the names among them.
     pub sought: Vec<Sought<'a>>,
     /// The items, each with the pair that was found.
     pub rows: Vec<FoundItem<'a>>,
@@ -74,7 +72,7 @@ impl<'a> Block<'a> {
         })
     }
 
-    /// Looks up the names among the items, for their rows.
+    /// Looks up the names among the items, and sets their rows.
     pub fn look_up(&mut self, basis: &Basis<'a>, meter: &mut Meter) -> Result<(), AllocError>
         requires { meter.old.lookups + entries_in self.old.items.items < 2 ^ 64 }
         ensures items { OnOk result (items_in self.new.rows.items ≡ self.old.items.items) }
@@ -91,8 +89,7 @@ impl<'a> Block<'a> {
     }
 }
 
-/// Judges all partitions from the first on, a block of items at a time, and the items' end: how many entries there are, or
-/// the first fault. How far it has come and the block's buffers are lent.
+/// Judges all partitions and the items' end, a block at a time. Returns the number of entries.
 fn judge_blocks<'a, I: ItemSource, O: Outputs>(
     basis: &Basis<'a>,
     outputs: &mut O,
@@ -112,7 +109,8 @@ fn judge_blocks<'a, I: ItemSource, O: Outputs>(
     requires fits { Fits (O.gives outputs.old) start }
     requires place { O.place outputs.old ≡ 0 }
     ensures judged { Through (O.gives outputs.old) start
-        (λ outs. Judges (I.gives walker.old) (subject_with basis.now outs) meter.old.lookups meter.new.lookups result) }
+        (λ outs. Judges (I.gives walker.old)
+        (subject_with basis.now outs) meter.old.lookups meter.new.lookups result) }
     ensures all { IfOk result (λ n. meter.new.lookups ≡ meter.old.lookups + n) }
     ensures mapped { meter.new.mapped ≡ meter.old.mapped }
     ensures stops { HaltsItems I.steady (I.failed walker.old) (I.failed walker.new) result }
@@ -132,8 +130,8 @@ fn judge_blocks<'a, I: ItemSource, O: Outputs>(
     }
 }
 
-/// Judges all partitions, and the items' end: how many entries there are, or the first fault. Each entry is looked up once
-/// at most, a block of them ahead of the tests. The watch is told how many entries are judged, of all pairs.
+/// Judges all partitions and the items' end. Returns the number of entries. It looks up each entry
+/// at most once, a block ahead of the tests, and reports to `watch` how many entries are judged.
 pub(crate) fn check_parts<I: ItemSource, O: Outputs>(
     alloc: Global,
     basis: &Basis<'_>,
@@ -151,7 +149,8 @@ pub(crate) fn check_parts<I: ItemSource, O: Outputs>(
     requires fits { Fits (O.gives outputs.old) start }
     requires place { O.place outputs.old ≡ 0 }
     ensures judged { Through (O.gives outputs.old) start
-        (λ outs. Judges (I.gives walker.old) (subject_with basis.now outs) meter.old.lookups meter.new.lookups result) }
+        (λ outs. Judges (I.gives walker.old)
+        (subject_with basis.now outs) meter.old.lookups meter.new.lookups result) }
     ensures all { IfOk result (λ n. meter.new.lookups ≡ meter.old.lookups + n) }
     ensures mapped { meter.new.mapped ≡ meter.old.mapped }
     ensures stops { HaltsItems I.steady (I.failed walker.old) (I.failed walker.new) result }

@@ -1,4 +1,4 @@
-//! Outputs that readers give, one behind another.
+//! Outputs from readers, one after another.
 ghost use Rattle.std.specs.Prelude.{◌≡◌, ◌⊎◌, ℕ, ◌≤◌, ◌<◌, ◌+◌, ◌-◌, ◌^◌, [], List, IfOk, OnOk};
 ghost use Rattle.std.specs.Prelude.{MatchResult, map, nat_eq, true, false, length, take};
 ghost use Rattle.std.specs.Prelude.{drop, ◌++◌};
@@ -13,8 +13,8 @@ use crate::outputs::{OutputError, Outputs, behind};
 use mr_store::{CountedRead, Device, ReadBuffer};
 use std::alloc::{AllocError, Global};
 
-/// Outputs that readers give. A reader is asked for nothing before those ahead of it were opened, and for nothing once it
-/// told its end; the bytes of all go through one buffer.
+/// Outputs from readers. A reader is asked only after those before it were opened, and never after
+/// its end. The bytes of all go through one buffer.
 #[derive(Drop)]
 pub(crate) struct ReaderOutputs<'a, R> {
     readers: &'a mut [R],
@@ -25,7 +25,7 @@ pub(crate) struct ReaderOutputs<'a, R> {
     ghost within: { exhausted ≡ false → opened ≤ length readers.now },
 }
 
-/// Reads some bytes in place of those that the buffer has, and returns how many: 0 only at the reader's end.
+/// Replaces the buffer's bytes by the next ones. Returns their number: 0 only at the end.
 fn read_anew<R: CountedRead>(buffer: &mut ReadBuffer, reader: &mut R) -> Result<usize, Device>
     ensures read { MatchResult result
         (λ n. (length buffer.new ≡ n) × Consumes (R.remaining reader.old) (R.remaining reader.new) buffer.new
@@ -37,7 +37,6 @@ fn read_anew<R: CountedRead>(buffer: &mut ReadBuffer, reader: &mut R) -> Result<
     buffer.read_more(reader)
 }
 
-/// Reads some bytes of the reader with this number, in place of those that were held.
 fn read_at<R: CountedRead>(
     piece: &mut ReadBuffer,
     readers: &mut [R],
@@ -47,15 +46,16 @@ fn read_at<R: CountedRead>(
     ensures length { length readers.new ≡ length readers.old }
     ensures read { let was = known_at (map R.remaining readers.old) number in
         let is = known_at (map R.remaining readers.new) number in MatchResult result
-        (λ n. (length piece.new ≡ n) × Consumes was is piece.new × (n ≡ 0 → IsAtEnd is)) (λ _. (piece.new ≡ []) × Keeps was is) }
-    ensures others { drop (number + 1) (map R.remaining readers.new) ≡ drop (number + 1) (map R.remaining readers.old) }
+        (λ n. (length piece.new ≡ n) × Consumes was is piece.new × (n ≡ 0 → IsAtEnd is))
+        (λ _. (piece.new ≡ []) × Keeps was is) }
+    ensures others { drop (number + 1) (map R.remaining readers.new)
+        ≡ drop (number + 1) (map R.remaining readers.old) }
     ensures count { MatchResult result (λ _. map R.failed readers.new ≡ map R.failed readers.old)
         (λ _. map R.failed readers.new ≡ counted_at number (map R.failed readers.old)) }
 {
     read_anew(piece, &mut readers[number])
 }
 
-/// Whether none of so many has this number.
 fn is_past(number: u64, count: u64) -> bool
     ensures past { result ≡ true → (count ≤ number) × (number < 2 ^ 64) }
     ensures among { result ≡ false → (number < count) × (number + 1 < 2 ^ 64) }
@@ -67,7 +67,7 @@ impl<'a, R: CountedRead> ReaderOutputs<'a, R> {
     ghost use Rattle.mr_judge.specs.Readers.{reading};
     ghost use Rattle.mr_judge.specs.Reading.{IsToCome};
 
-    /// All of them are to come. All the memory that it ever has is taken here.
+    /// No output is open yet. It allocates all memory that it ever uses.
     pub fn new(alloc: Global, readers: &'a mut [R]) -> Result<ReaderOutputs<'a, R>, AllocError>
         ensures opened { IfOk result (λ o. o.opened ≡ 0) }
         ensures readers { IfOk result (λ o. o.readers.now ≡ readers.old) }
@@ -83,14 +83,16 @@ impl<'a, R: CountedRead> ReaderOutputs<'a, R> {
         })
     }
 
-    /// Reads until some bytes of the open one are held, or its reader is at its end.
+    /// Reads until the buffer has bytes of the open output, or its reader is at its end.
     fn fill(&mut self) -> Result<(), OutputError>
         requires begun { 1 ≤ self.old.opened }
         ensures filled { OnOk result ((1 ≤ length self.new.piece) ⊎ (self.new.exhausted ≡ true)) }
         ensures come { (rest : List ℕ) (later : List (List ℕ))
-            → IsToCome (reading R.remaining self.new) rest later → IsToCome (reading R.remaining self.old) rest later }
+            → IsToCome (reading R.remaining self.new) rest later
+            → IsToCome (reading R.remaining self.old) rest later }
         ensures same { (self.new.opened ≡ self.old.opened) × (self.new.passed ≡ self.old.passed) }
-        ensures lacks { Lacks ⊥ (map R.failed self.old.readers.now) (map R.failed self.new.readers.now) result }
+        ensures lacks { Lacks ⊥ (map R.failed self.old.readers.now)
+            (map R.failed self.new.readers.now) result }
     {
         if self.exhausted || !self.piece.bytes().is_empty() {
             return Ok(());
@@ -105,19 +107,22 @@ impl<'a, R: CountedRead> ReaderOutputs<'a, R> {
         }
     }
 
-    /// Passes what stands of the text in front of the bytes that are held: how many bytes.
+    /// Passes the common prefix of the text and the buffer, and returns its length.
     fn pass_held(&mut self, text: &[u8]) -> Result<u64, OutputError>
         requires begun { 1 ≤ self.old.opened }
         requires filled { (1 ≤ length self.old.piece) ⊎ (self.old.exhausted ≡ true) }
         requires some { 1 ≤ length text.now }
         ensures within { IfOk result (λ n. n ≤ length text.now) }
         ensures come { IfOk result (λ n. (rest : List ℕ) (later : List (List ℕ))
-            → IsToCome (reading R.remaining self.new) rest later → IsToCome (reading R.remaining self.old) (take n text.now ++ rest) later) }
+            → IsToCome (reading R.remaining self.new) rest later
+            → IsToCome (reading R.remaining self.old) (take n text.now ++ rest) later) }
         ensures none { IfOk result (λ n. n ≡ 0 → (rest : List ℕ) (later : List (List ℕ))
-            → IsToCome (reading R.remaining self.new) rest later → common_prefix_len nat_eq text.now rest ≡ 0) }
+            → IsToCome (reading R.remaining self.new) rest later
+            → common_prefix_len nat_eq text.now rest ≡ 0) }
         ensures passed { IfOk result (λ n. self.new.passed ≡ self.old.passed + n) }
         ensures same { self.new.opened ≡ self.old.opened }
-        ensures lacks { Lacks ⊥ (map R.failed self.old.readers.now) (map R.failed self.new.readers.now) result }
+        ensures lacks { Lacks ⊥ (map R.failed self.old.readers.now)
+            (map R.failed self.new.readers.now) result }
     {
         if self.passed >= 1 << 63 {
             return Err(OutputError::TooLong);

@@ -12,9 +12,8 @@ use crate::merged::{Groups, MergeFault, merge};
 use mr_spill::{PairColumns, RegionFault, RegionView, read_region};
 use std::alloc::{AllocError, Global};
 
-/// Says whether work is still wanted. Where two workers do one task and one has finished it, the
-/// other need not (OSDI 2004, section 3.6). The answers decide whether there is a result, never
-/// what it is.
+/// Says whether work is still wanted. Where two workers do one task and one is done, the other need
+/// not end it (OSDI 2004, section 3.6). Answers never change what a result is.
 pub trait Cancellation {
     // Holds where the answer is always yes.
     ghost unending: { Type 0 };
@@ -137,8 +136,7 @@ fn followed<D: Cancellation>(
 }
 
 /// What `merge_regions` returns, or `None` once it is no longer wanted. It asks before each region,
-/// and before and after it groups pairs by key, but not while it merges regions that it reads
-/// whole.
+/// and before and after it groups pairs by key, but not while it merges whole regions.
 pub fn merge_regions_while<D: Cancellation>(
     alloc: Global,
     regions: &[RegionView<'_>],

@@ -1,5 +1,4 @@
-//! Takes the regions of one partition one after another. The bytes of a region can go once it is
-//! taken.
+//! Takes the regions of a partition one by one. The bytes of a region can go once it is taken.
 ghost use Rattle.std.specs.Prelude.{◌≡◌, ◌↔◌, ◌∷◌, ◌++◌, [], List};
 ghost use Rattle.std.specs.Prelude.{IfOk, IfSome, IsTrue, length, true};
 ghost use Rattle.mr_bytes.specs.Pairs.{Triple};
@@ -96,7 +95,7 @@ fn take_pair(
     Ok(true)
 }
 
-/// Takes the pairs of a region. Where it isn't taken, `all` may have some of them and is of no use.
+/// Takes the pairs of a region. Where it isn't taken, `all` has some of them and is of no use.
 fn take_whole(
     all: &mut Gathering,
     names: &mut RegionNames,
@@ -184,6 +183,7 @@ impl Follower {
         }
     }
 
+    /// The number of pairs taken.
     pub fn len(&self) -> usize
         ensures { result ≡ length self.now.all.pairs }
     {

@@ -36,6 +36,7 @@ impl Model for Groups {
 }
 
 impl Groups {
+    /// The number of groups.
     pub fn len(&self) -> usize
         ensures { result ≡ length self.now }
     {
@@ -129,9 +130,8 @@ pub fn merge(alloc: Global, regions: &[&PairColumns]) -> Result<Groups, MergeFau
     Ok(grouped_column(alloc, &pairs)?)
 }
 
-/// The keys of merged groups rise strictly. Where names differ, each group has exactly the pairs of
-/// its key, by rising name, and every pair is in a group. Pairs that differ only in order give the
-/// same groups.
+/// The keys of groups rise strictly. Where names differ, each group has exactly the pairs of its
+/// key, by rising name, and every pair is in a group. The order of pairs does not matter.
 pub fn merge_law()
     ensures rise { GroupsRise }
     ensures have { GroupsHave }

@@ -2,8 +2,8 @@
 use mr_keys::Keys;
 use std::marker::Model;
 
-/// The keys of emitted pairs: of each pair the number of its key, four bytes. Some keys may have more than one number. A
-/// pair's name and value aren't kept: they follow from its record (`names.rt`).
+/// The number of each pair's key, in four bytes. Some keys may have more than one number. A pair's
+/// name and value aren't stored: they follow from its record (`names.rt`).
 #[derive(Drop)]
 pub(crate) struct Gathered {
     pub(crate) keys: Keys,

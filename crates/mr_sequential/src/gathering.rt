@@ -1,4 +1,4 @@
-//! The keys of pairs as they are emitted, the last of which wait for their numbers.
+//! Collects the keys of pairs as they are emitted.
 ghost use Rattle.std.specs.Prelude.{◌≡◌, ◌<◌, ◌^◌, [], ◌∷◌, ◌++◌, length, IfOk, OnOk, OnErr};
 
 use crate::gathered::Gathered;
@@ -6,7 +6,7 @@ use mr_keys::{Keys, Waiting};
 use std::alloc::{AllocError, Global};
 use std::marker::Model;
 
-/// The keys of the pairs so far, as `Gathered` has them, but for the last few: those are looked up together.
+/// The keys of the pairs so far, as in `Gathered`. The last few wait, to be looked up together.
 #[derive(Drop)]
 pub(crate) struct Gathering {
     keys: Keys,
@@ -41,14 +41,12 @@ impl Gathering {
         }
     }
 
-    /// How many pairs there are.
     pub fn len(&self) -> u64
         ensures { result ≡ length self.now }
     {
         (self.numbers.len() + self.waiting.len()) as u64
     }
 
-    /// Adds the key of a pair at the end.
     pub fn push(&mut self, alloc: Global, key: &[u8]) -> Result<(), AllocError>
         requires { length self.old < 2 ^ 32 }
         ensures ok { OnOk result (self.new ≡ self.old ++ key.now ∷ []) }
@@ -59,7 +57,7 @@ impl Gathering {
         Ok(())
     }
 
-    /// The keys of all pairs, each with a number.
+    /// Numbers the keys that wait.
     pub fn finish(self, alloc: Global) -> Result<Gathered, AllocError>
         requires { length self < 2 ^ 32 }
         ensures { IfOk result (λ g. g ≡ self) }

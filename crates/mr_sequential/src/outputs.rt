@@ -1,4 +1,4 @@
-//! From gathered pairs to the outputs and the groups of a certificate.
+//! Makes outputs and the groups of a certificate from gathered pairs.
 ghost use Rattle.std.specs.Prelude.{◌≡◌, ℕ, ◌<◌, ◌^◌, All, IfOk, length, map};
 ghost use Rattle.std.specs.List.{range_with_len, zip};
 ghost use Rattle.mr_bytes.specs.Lists.{Has, Rises};
@@ -24,8 +24,7 @@ use mr_ranks::{RankedPairs, Row, ranked};
 use mr_splits::KeptPlan;
 use std::alloc::{AllocError, Global};
 
-/// The texts and the groups of all partitions, given the rank of each pair, the rows of the ranks in order, and how many pairs
-/// each kept record gave.
+/// The texts and groups of all partitions, from each pair's rank and each record's count.
 fn outputs_by_rank(
     alloc: Global,
     job: &Job,
@@ -46,19 +45,19 @@ fn outputs_by_rank(
     requires few { length numbers.items < 2 ^ 32 }
     ensures count { IfOk result (λ r. length r.0.items ≡ parts) }
     ensures texts { IfOk result (λ r. (p : ℕ) → p < parts → nth_file (contents r.0.items) p
-        ≡ row_texts (bucket_text job.now (zip numbers.items (map (value_under job.now (records_of kept.now.cut))
+        ≡ row_texts (bucket_text job.now
+        (zip numbers.items (map (value_under job.now (records_of kept.now.cut))
         (names_beside (kept_records kept.now.skips (records_of kept.now.cut)) counts.items)))) p 0 rows.now) }
     ensures groups { IfOk result (λ r. AreGrouped parts rows.now numbers.items
         (names_beside (kept_records kept.now.skips (records_of kept.now.cut)) counts.items) r.1.group_counts.items r.1.entry_counts.items r.1.names.items) }
 {
-    // The texts may take more memory than all this: what they don't need is let go before they are made.
+    // The texts may take more memory than all this: what they don't need goes first.
     let groups = grouped(alloc, kept, rows, numbers, counts, parts)?;
     let texts = texts_of(alloc, job, kept.plan(), rows, &groups, parts)?;
     Ok((texts, groups))
 }
 
-/// For each partition the texts of its groups, by rising key, and the groups of all partitions by their names, given the
-/// keys of the pairs of the kept records, and how many pairs each of these gave.
+/// Each partition's texts by rising key, and all groups, from the kept records' keys and counts.
 pub(crate) fn outputs(
     alloc: Global,
     job: &Job,
@@ -78,9 +77,12 @@ pub(crate) fn outputs(
         ≡ texts_in (λ k. partition_by by k parts) (text_of job.now)
         (valued job.now (records_of kept.now.cut) gathered (names_beside (kept_records kept.now.skips (records_of kept.now.cut)) counts.items)) p) }
     ensures parts { IfOk result (λ r. length r.1.group_counts.items ≡ parts) }
-    ensures counted { IfOk result (λ r. AreCounted r.1.group_counts.items r.1.entry_counts.items r.1.names.items) }
-    ensures groups { IfOk result (λ r. chunks r.1.group_counts.items (chunks r.1.entry_counts.items r.1.names.items)
-        ≡ map (groups_in (λ k. partition_by by k parts) gathered (names_beside (kept_records kept.now.skips (records_of kept.now.cut)) counts.items))
+    ensures counted { IfOk result
+        (λ r. AreCounted r.1.group_counts.items r.1.entry_counts.items r.1.names.items) }
+    ensures groups { IfOk result
+        (λ r. chunks r.1.group_counts.items (chunks r.1.entry_counts.items r.1.names.items)
+        ≡ map (groups_in (λ k. partition_by by k parts) gathered
+        (names_beside (kept_records kept.now.skips (records_of kept.now.cut)) counts.items))
         (range_with_len 0 parts)) }
 {
     let Gathered { keys, numbers } = gathered;

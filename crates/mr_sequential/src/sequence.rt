@@ -1,4 +1,4 @@
-//! A sequential execution, from a request and an input to the outputs; its refusals, and what a good result is worth.
+//! Executes a job from a request and an input to the outputs; its faults, and laws of good results.
 ghost use Rattle.std.specs.Prelude.{◌≡◌, ◌↔◌, ℕ, ◌≤◌, ◌<◌, ◌^◌, ◌⊎◌, IfOk, OnOk, IfErr, IfSome};
 ghost use Rattle.std.specs.Prelude.{◌≢◌, None, Some, length, map};
 ghost use Rattle.mr_certform.specs.Flat.{AreCounted, chunks};
@@ -51,7 +51,6 @@ impl From<AllocError> for RunFault {
     }
 }
 
-/// The first fault of a list of left-out records, each tested for its order before its existence.
 fn fault_of(plan: &Plan<'_>, skips: &[RecordName]) -> Option<RunFault>
     ensures first { result ≡ list_fault (records_of plan.now) None skips.now }
     ensures other { IfSome result (λ e. e ≢ RunFault.TooManySkips) }
@@ -64,7 +63,6 @@ fn fault_of(plan: &Plan<'_>, skips: &[RecordName]) -> Option<RunFault>
     }
 }
 
-/// The plan of an input under a request that fits it.
 fn plan_of<'a>(alloc: Global, request: &Request, input: &'a Input) -> Result<Plan<'a>, AllocError>
     requires { split_total request.now.split input.now ≤ 2 ^ 20 }
     ensures plan { IfOk result (λ r. r ≡ record { size = request.now.split; files = input.entry.now }) }
@@ -73,9 +71,10 @@ fn plan_of<'a>(alloc: Global, request: &Request, input: &'a Input) -> Result<Pla
     Plan::new_fitting(alloc, input, request.split_size())
 }
 
-/// Executes the request's job over the input, one record after another, without the records of `skips`: the output of
-/// each partition, and the certificate, which lists the names of each group's pairs. The splits of the input must fit (`Request::fits`). How many
-/// records are left out is tested first, then each of them in turn, its order before its existence.
+/// Executes the request's job over the input, record by record, without the records of `skips`.
+/// Returns each partition's output, and the certificate, which lists the names of each group's
+/// pairs. The input's splits must fit (`Request::fits`). The number of left-out records is tested
+/// first, then each of them in turn, its order before its existence.
 pub fn run(
     alloc: Global,
     request: &Request,
@@ -96,8 +95,7 @@ pub fn run(
     run_watched(alloc, request, input, skips, &Unwatched)
 }
 
-/// The same as `run`, where somebody looks on: the watch is told now and then how many records are mapped, and when
-/// the outputs are begun and done.
+/// What `run` does. It reports mapped records, and the outputs' begin and end, to `watch`.
 pub fn run_watched(
     alloc: Global,
     request: &Request,
@@ -126,7 +124,6 @@ pub fn run_watched(
     execute(alloc, request, &plan, skips, watch)
 }
 
-/// The bytes of each file.
 fn lengths_of(alloc: Global, input: &Input) -> Result<Vec<u64>, AllocError>
     ensures { IfOk result (λ v. v.items ≡ map length input.now) }
 {
@@ -137,8 +134,7 @@ fn lengths_of(alloc: Global, input: &Input) -> Result<Vec<u64>, AllocError>
     Ok(lengths)
 }
 
-/// What stands before the groups in a certificate of the request and the input that leaves out these records. It fails
-/// only for want of memory.
+/// The header of a certificate that leaves out these records. Fails only for want of memory.
 pub fn header_of(
     alloc: Global,
     request: &Request,
@@ -164,7 +160,6 @@ pub fn header_of(
     })
 }
 
-/// The outputs of a job over the kept records of a plan, and the groups of their certificate.
 fn outputs_of(
     alloc: Global,
     request: &Request,
@@ -177,8 +172,10 @@ fn outputs_of(
     ensures texts { IfOk result (λ r. (p : ℕ) → p < request.now.parts → nth_file (contents r.0.items) p
         ≡ sequential request.now kept.now.cut.files kept.now.skips p) }
     ensures parts { IfOk result (λ r. length r.1.group_counts.items ≡ request.now.parts) }
-    ensures counted { IfOk result (λ r. AreCounted r.1.group_counts.items r.1.entry_counts.items r.1.names.items) }
-    ensures groups { IfOk result (λ r. chunks r.1.group_counts.items (chunks r.1.entry_counts.items r.1.names.items)
+    ensures counted { IfOk result
+        (λ r. AreCounted r.1.group_counts.items r.1.entry_counts.items r.1.names.items) }
+    ensures groups { IfOk result
+        (λ r. chunks r.1.group_counts.items (chunks r.1.entry_counts.items r.1.names.items)
         ≡ (certificate_of request.now kept.now.cut.files kept.now.skips).groups) }
 {
     // Files within the limits of an input emit fewer pairs than a u32 numbers.
@@ -199,7 +196,6 @@ fn outputs_of(
     Ok(made)
 }
 
-/// Executes a job over a plan.
 fn execute(
     alloc: Global,
     request: &Request,
@@ -218,7 +214,7 @@ fn execute(
     ensures is_good { IfOk result (λ r. IsGood request.now plan.now.files (contents r.0.items) r.1) }
     ensures only { IfErr result (λ e. e ≡ RunFault.OutOfMemory) }
 {
-    // An input has few files, and a request few partitions, for a certificate.
+    // An input has few enough files, and a request few enough partitions, for a certificate.
     let _files = plan.input().files();
     let _parts = request.parts();
     let kept = plan.without(alloc, skips)?;
@@ -227,28 +223,29 @@ fn execute(
     Ok((texts, Certificate::of(header, groups)))
 }
 
-/// The entries of partitions whose groups are good are distinct, by names, keys and partitions alone, so there are no
-/// more of them than triples; and distinct entries that name triples, as many as there are triples, leave none out.
+/// Entries of partitions with good groups are distinct, already by names, keys and partitions, so
+/// there are no more of them than triples. Distinct entries that name triples, as many as there are
+/// triples, leave none out.
 pub fn entries_law()
     ensures distinct { EntriesAreDistinct }
     ensures no_more { NoMoreEntries }
     ensures all { NoneIsLeftOut }
 {}
 
-/// A good result is the sequential execution's, without the records that its certificate leaves out.
+/// A good result is the sequential execution's without the records that its certificate lists.
 pub fn good_law()
     ensures parts { GoodPartsAreSequential }
     ensures whole { GoodIsSequential }
 {}
 
-/// The sequential execution's own result is good, with the groups of its keys as the certificate.
+/// The sequential execution's own result is good: its groups are the certificate.
 pub fn certified_law()
     ensures good { SequentialIsGood }
     ensures worked_groups { WorkedGroups }
     ensures worked_output { WorkedOutput }
 {}
 
-/// Good results that leave out the same records have one certificate: that of the sequential execution.
+/// Good results that leave out the same records share the sequential execution's certificate.
 pub fn unique_law()
     ensures sequential { CertificateIsSequential }
     ensures one { CertificateIsUnique }

@@ -1,4 +1,4 @@
-//! The records of a plan that are not left out, and what a job emits for them.
+//! Collects the keys that a job emits for the records that are kept.
 ghost use Rattle.std.specs.Prelude.{◌≡◌, ◌+◌, ◌≤◌, ◌<◌, ◌^◌, ◌++◌, ◌∷◌, [], IfOk, OnOk, length};
 ghost use Rattle.std.specs.Prelude.{map};
 ghost use Rattle.std.specs.List.{flat_map};
@@ -16,7 +16,6 @@ use mr_jobs::{Job, Mapper};
 use mr_splits::{KeptPlan, RecordAt};
 use std::alloc::{AllocError, Global};
 
-/// Adds the keys that a job emits for a record.
 fn gather_record(
     alloc: Global,
     mapper: &mut Mapper<'_, '_>,
@@ -30,7 +29,8 @@ fn gather_record(
         + length (emissions mapper.old.job line.file line.start line.bytes.now) < 2 ^ 32 }
     ensures same { mapper.new ≡ mapper.old }
     ensures keys { OnOk result (gathering.new
-        ≡ gathering.old ++ map (λ e. e.0) (emissions mapper.old.job line.entry.file line.entry.start line.entry.bytes.now)) }
+        ≡ gathering.old ++ map (λ e. e.0)
+        (emissions mapper.old.job line.entry.file line.entry.start line.entry.bytes.now)) }
 {
     mapper.job().fold_line(line.bytes, buffer)?;
     let mut emitter = mapper.emit(line.file, line.start, line.bytes, buffer.as_slice());
@@ -40,22 +40,20 @@ fn gather_record(
     Ok(())
 }
 
-/// The keys of pairs in their order, and how many pairs each kept record gave: from the records and these counts follow
-/// the names of the pairs, and from the names their values.
+/// The keys of pairs, and each kept record's number of pairs. Records and counts give the names,
+/// and names give the values.
 #[derive(Drop)]
 pub(crate) struct Emitted {
     pub pairs: Gathered,
     pub counts: Vec<u32>,
 }
 
-/// The same, while they are emitted.
 #[derive(Drop)]
 struct Emitting {
     pairs: Gathering,
     counts: Vec<u32>,
 }
 
-/// Adds the keys that a job emits for a record, and how many these are.
 fn gather_one(
     alloc: Global,
     mapper: &mut Mapper<'_, '_>,
@@ -69,9 +67,11 @@ fn gather_one(
         + length (emissions mapper.old.job line.file line.start line.bytes.now) < 2 ^ 32 }
     ensures same { mapper.new ≡ mapper.old }
     ensures keys { OnOk result (emitting.new.pairs
-        ≡ emitting.old.pairs ++ map (λ e. e.0) (emissions mapper.old.job line.entry.file line.entry.start line.entry.bytes.now)) }
+        ≡ emitting.old.pairs ++ map (λ e. e.0)
+        (emissions mapper.old.job line.entry.file line.entry.start line.entry.bytes.now)) }
     ensures counts { OnOk result (emitting.new.counts.items
-        ≡ emitting.old.counts.items ++ length (emissions mapper.old.job line.entry.file line.entry.start line.entry.bytes.now) ∷ []) }
+        ≡ emitting.old.counts.items ++ length
+        (emissions mapper.old.job line.entry.file line.entry.start line.entry.bytes.now) ∷ []) }
 {
     let before = emitting.pairs.len();
     gather_record(alloc, mapper, line, buffer, &mut emitting.pairs)?;
@@ -80,7 +80,6 @@ fn gather_one(
     Ok(())
 }
 
-/// Adds the keys that a job emits for the kept records of a plan, in order, and how many pairs each of these gives.
 fn gather_all(
     alloc: Global,
     job: &Job,
@@ -110,8 +109,8 @@ fn gather_all(
     Ok(())
 }
 
-/// The keys that a job emits for the kept records of a plan, in order, and how many pairs each of these gives. The watch
-/// is told how many of the plan's records are done.
+/// The keys that a job emits for a plan's kept records, and each one's number of pairs. It reports
+/// to `watch` how many of the plan's records are done.
 pub(crate) fn gather(
     alloc: Global,
     job: &Job,

@@ -16,7 +16,6 @@ use mr_reduce::{append_text, append_total, group_text};
 use mr_splits::Plan;
 use std::alloc::{AllocError, Global};
 
-/// As many empty texts as there are partitions.
 fn empty_texts(alloc: Global, parts: u32) -> Result<Vec<Vec<u8>>, AllocError>
     ensures count { IfOk result (λ r. length r.items ≡ parts) }
     ensures empty { IfOk result (λ r. (p : ℕ) → nth_file (contents r.items) p ≡ []) }
@@ -28,19 +27,18 @@ fn empty_texts(alloc: Global, parts: u32) -> Result<Vec<Vec<u8>>, AllocError>
     Ok(texts)
 }
 
-/// Appends the line of a row with a number to the text of its partition.
 fn add_total(texts: &mut Vec<Vec<u8>>, row: Row<'_>, total: u32) -> Result<(), AllocError>
     requires { row.part < length texts.old.items }
     ensures count { length texts.new.items ≡ length texts.old.items }
     ensures ok { OnOk result (contents texts.new.items
-        ≡ slice_set (contents texts.old.items) row.entry.part (nth_file (contents texts.old.items) row.entry.part ++ total_line row.entry.key.now total)) }
+        ≡ slice_set (contents texts.old.items) row.entry.part (nth_file
+        (contents texts.old.items) row.entry.part ++ total_line row.entry.key.now total)) }
 {
     let text = &mut texts[row.part as usize];
     append_total(row.key, total as u64, text)
 }
 
-/// Appends the line of each pair of a key, of a job whose texts have a line for each, one name after another: a group may
-/// be all of the input, so there is no list of its values.
+/// Appends a line for each name. A group may be all of the input: it gets no list of values.
 fn add_lines(
     job: &Job,
     plan: &Plan<'_>,
@@ -61,8 +59,8 @@ fn add_lines(
     Ok(())
 }
 
-/// Makes the column a list of values that tells the files of the pairs of these names, of an index. Of pairs of one file
-/// that stand together it has one value, so it is no longer than the files are many, where names rise.
+/// Fills `told` with values that have the files of an index's pairs. Neighbours of one file share
+/// one value, so there are no more values than files where names rise.
 fn fill_files(
     job: &Job,
     plan: &Plan<'_>,
@@ -72,7 +70,8 @@ fn fill_files(
     requires counts { is_counter job.now ≡ false }
     requires lines { has_lines job.now ≡ false }
     requires named { All (IsOfRecord plan.now) names.now }
-    ensures { OnOk result (files_of told.new ≡ files_of (map (value_under job.now (records_of plan.now)) names.now)) }
+    ensures { OnOk result (files_of told.new
+        ≡ files_of (map (value_under job.now (records_of plan.now)) names.now)) }
 {
     told.clear();
     let mut last = None;
@@ -86,8 +85,6 @@ fn fill_files(
     Ok(())
 }
 
-/// Appends the text of a key of a job that doesn't count, with the values that the names of its pairs tell. The column is
-/// one for all keys.
 fn add_text(
     job: &Job,
     plan: &Plan<'_>,
@@ -108,7 +105,6 @@ fn add_text(
     append_text(job, key, told, text)
 }
 
-/// Appends the text of a row's pairs to the text of its partition.
 fn add_names(
     job: &Job,
     plan: &Plan<'_>,
@@ -122,14 +118,14 @@ fn add_names(
     requires part { row.part < length texts.old.items }
     ensures count { length texts.new.items ≡ length texts.old.items }
     ensures ok { OnOk result (contents texts.new.items
-        ≡ slice_set (contents texts.old.items) row.entry.part (nth_file (contents texts.old.items) row.entry.part
+        ≡ slice_set (contents texts.old.items) row.entry.part
+        (nth_file (contents texts.old.items) row.entry.part
         ++ text_of job.now row.entry.key.now (map (value_under job.now (records_of plan.now)) names.now))) }
 {
     let text = &mut texts[row.part as usize];
     add_text(job, plan, row.key, names, told, text)
 }
 
-/// Appends the texts of a job that counts, given how many values each rank has.
 fn count_texts(rows: &[Row<'_>], sizes: &[u32], texts: &mut Vec<Vec<u8>>) -> Result<(), AllocError>
     requires parts { All (λ r. r.part < length texts.old.items) rows.now }
     requires sizes { length sizes.now ≡ length rows.now }
@@ -143,8 +139,6 @@ fn count_texts(rows: &[Row<'_>], sizes: &[u32], texts: &mut Vec<Vec<u8>>) -> Res
     Ok(())
 }
 
-/// Appends the texts of a job that doesn't count, given the names of the rows' pairs, one row after another, and how many
-/// each row has.
 fn name_texts(
     job: &Job,
     plan: &Plan<'_>,
@@ -158,10 +152,12 @@ fn name_texts(
     requires parts { All (λ r. r.part < length texts.old.items) rows.now }
     requires counts { length counts.now ≡ length rows.now }
     requires within { row_start counts.now (length rows.now) ≤ length names.now }
-    requires named { (r : ℕ) → r < length rows.now → All (IsOfRecord plan.now) (row_names counts.now names.now r) }
+    requires named { (r : ℕ) → r < length rows.now
+        → All (IsOfRecord plan.now) (row_names counts.now names.now r) }
     ensures count { length texts.new.items ≡ length texts.old.items }
     ensures ok { OnOk result ((p : ℕ) → p < length texts.old.items → nth_file (contents texts.new.items) p
-        ≡ nth_file (contents texts.old.items) p ++ row_texts (names_text job.now (records_of plan.now) counts.now names.now) p 0 rows.now) }
+        ≡ nth_file (contents texts.old.items) p
+        ++ row_texts (names_text job.now (records_of plan.now) counts.now names.now) p 0 rows.now) }
 {
     let mut start = 0;
     for (rank, row) in rows.iter().enumerate() {
@@ -172,8 +168,7 @@ fn name_texts(
     Ok(())
 }
 
-/// Appends the texts of all rows, given their groups: a job that counts needs only how many pairs a row has, another the
-/// values of its pairs, which their names tell.
+/// A job that counts needs only the size of each row, another the values, which follow from names.
 fn fill_texts(
     job: &Job,
     plan: &Plan<'_>,
@@ -184,7 +179,8 @@ fn fill_texts(
 ) -> Result<(), AllocError>
     requires parts { All (λ r. r.part < length texts.old.items) rows.now }
     requires counts { length groups.now.entry_counts.items ≡ length rows.now }
-    requires within { row_start groups.now.entry_counts.items (length rows.now) ≤ length groups.now.names.items }
+    requires within { row_start groups.now.entry_counts.items (length rows.now)
+        ≤ length groups.now.names.items }
     requires named { (r : ℕ) → r < length rows.now → All (IsOfRecord plan.now)
         (row_names groups.now.entry_counts.items groups.now.names.items r) }
     ensures count { length texts.new.items ≡ length texts.old.items }
@@ -208,7 +204,6 @@ fn fill_texts(
     }
 }
 
-/// The texts of all partitions, given the rows in order and their groups.
 pub(crate) fn texts_of(
     alloc: Global,
     job: &Job,
@@ -219,12 +214,14 @@ pub(crate) fn texts_of(
 ) -> Result<Vec<Vec<u8>>, AllocError>
     requires parts { All (λ r. r.part < parts) rows.now }
     requires counts { length groups.now.entry_counts.items ≡ length rows.now }
-    requires within { row_start groups.now.entry_counts.items (length rows.now) ≤ length groups.now.names.items }
+    requires within { row_start groups.now.entry_counts.items (length rows.now)
+        ≤ length groups.now.names.items }
     requires named { (r : ℕ) → r < length rows.now → All (IsOfRecord plan.now)
         (row_names groups.now.entry_counts.items groups.now.names.items r) }
     ensures count { IfOk result (λ v. length v.items ≡ parts) }
     ensures texts { IfOk result (λ v. (p : ℕ) → p < parts → nth_file (contents v.items) p
-        ≡ row_texts (names_text job.now (records_of plan.now) groups.now.entry_counts.items groups.now.names.items) p 0 rows.now) }
+        ≡ row_texts (names_text job.now
+        (records_of plan.now) groups.now.entry_counts.items groups.now.names.items) p 0 rows.now) }
 {
     let mut texts = empty_texts(alloc, parts)?;
     let mut told = ValueColumn::new(alloc);

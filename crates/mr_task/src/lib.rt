@@ -1,8 +1,6 @@
-//! Map and reduce tasks with their values (OSDI 2004, section 3.1).
-//!
-//! A map task maps the records of a split and cuts what they emit by partition; a reduce task merges what the map
-//! tasks have for a partition, and tells each group's text. What a task gives is a function of the pairs that it is
-//! handed, however they are cut into lists.
+//! Map and reduce tasks with their values (OSDI 2004, section 3.1). A map task maps the records of
+//! a split and divides the pairs by partition. A reduce task merges a partition's pairs and writes
+//! each group's text. Results depend only on the pairs, not on how they are cut into lists.
 #![tactic(auto)]
 
 mod map;

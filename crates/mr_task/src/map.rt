@@ -1,4 +1,4 @@
-//! Map tasks.
+//! Map tasks: a split's records in, sorted regions out, at once or piece by piece.
 ghost use Rattle.std.specs.Prelude.{◌≡◌, ◌↔◌, ◌+◌, ◌≤◌, ◌<◌, [], IfOk, IsTrue, OnOk};
 ghost use Rattle.std.specs.List.Sorted.{IsNonDecreasing};
 ghost use Rattle.mr_input.specs.Files.{split_total};
@@ -18,25 +18,22 @@ use mr_splits::Plan;
 use std::alloc::{AllocError, Global};
 use std::marker::Model;
 
-/// How many pairs a run of a map task has at most: few enough that their keys stay near the processor, so many that a key
-/// stands in few runs.
+/// Few enough pairs that their keys stay in caches; so many that a key occurs in few runs.
 const RUN_PAIRS: usize = 65_536;
 
-/// How many pairs a run has at most where partitions are many: a region for each comes of it, and each is a file where regions
-/// lie in files.
+/// For many partitions: each run has a region, and possibly a file, for each of them.
 const MANY_PAIRS: usize = 1_048_576;
 
-/// How many pairs a run has at most, by how many partitions there are: 1,024 a region, if keys are spread evenly, within these.
+/// The most pairs in a run: 1,024 a region where keys are spread evenly, within these limits.
 fn run_pairs(parts: u32) -> usize
     ensures { 1 ≤ result }
 {
     (parts as usize * 1_024).clamp(RUN_PAIRS, MANY_PAIRS)
 }
 
-/// What a job emits for the records of a split, without those whose numbers are listed, as sorted regions by partition,
-/// spelled as bytes: a region for each run. A run has at most 65,536 pairs, or 1,024 for each partition where that is more, up
-/// to 1,048,576. Numbers may stand in any order, more than once, and need not be those of
-/// records. It fails only for want of memory.
+/// A split's pairs without those of the records in `skips`, as sorted regions spelled as bytes: one
+/// for each run and partition. A run has at most 65,536 pairs, or 1,024 a partition where that is
+/// more, up to 1,048,576. `skips` may be in any order, and have repeated or unknown numbers.
 pub fn map_task(
     alloc: Global,
     plan: &Plan<'_>,
@@ -54,8 +51,7 @@ pub fn map_task(
     map_task_with(alloc, plan, job, parts, split, skips, run_pairs(parts), by)
 }
 
-/// What `map_task` gives, where a run ends as soon as it has `limit` pairs: each run that has any gives one region to
-/// each partition. It fails only for want of memory.
+/// What `map_task` returns, where a run ends as soon as it has `limit` pairs.
 pub fn map_task_with(
     alloc: Global,
     plan: &Plan<'_>,
@@ -85,8 +81,8 @@ pub fn map_task_with(
     Ok(output)
 }
 
-/// A map task of a split that is taken piece by piece: each piece is what the job emits for some records, as `map_task` gives
-/// it for all. The buffer of pairs is the same for all pieces.
+/// A map task that works piece by piece: a piece is what `map_task` returns, for some of the
+/// records. All pieces share one buffer of pairs.
 #[derive(Drop)]
 pub struct MapTask<'a> {
     records: SplitRecords<'a>,
@@ -94,7 +90,7 @@ pub struct MapTask<'a> {
     runs: Runs,
 }
 
-/// The records of a plan and what a job emits for them, without those whose numbers are listed, in rising order.
+/// A plan's records and the job for them. `left_out` rises.
 #[derive(Drop)]
 struct SplitRecords<'a> {
     plan: &'a Plan<'a>,
@@ -134,7 +130,7 @@ impl<'a> Model for MapTask<'a> {
 }
 
 impl<'a> MapTask<'a> {
-    /// The task of a split, without the records whose numbers are listed, in any order. No record is mapped yet.
+    /// The task of a split without the records in `skips`, in any order. No record is mapped yet.
     pub fn new(
         alloc: Global,
         plan: &'a Plan<'a>,
@@ -166,8 +162,9 @@ impl<'a> MapTask<'a> {
         self.next >= self.records.plan.records_in(self.runs.split)
     }
 
-    /// The next piece, and the task behind it. A piece ends with the split, where a run is nearly full, or where no more
-    /// is wanted, but has a record where one is left. It mostly has one run: more where a record gives more than fits.
+    /// The next piece, and the task after it. A piece ends with the split, where a run is nearly
+    /// full, or where no more is wanted, but has a record where one is left. It mostly has one run,
+    /// and more where a record emits more than fits.
     pub fn next_piece<D: Cancellation>(
         self,
         demand: &D,
@@ -196,8 +193,8 @@ impl<'a> MapTask<'a> {
     }
 }
 
-/// Takes what a job emits for the records of the runs' split from number `from` on: at least so many, if there are, and
-/// then until a run is nearly full, or no more is wanted. It returns the number of the record behind the last.
+/// Maps the records from number `from` on: `least` of them, where there are so many, and more until
+/// a run is nearly full or no more is wanted. Returns the number of the next record.
 fn take_records<D: Cancellation>(
     records: &SplitRecords<'_>,
     from: u32,
@@ -223,7 +220,7 @@ fn take_records<D: Cancellation>(
     let plan = records.plan;
     let left_out = records.left_out.as_slice();
     let split = runs.split;
-    // A plan's size is at least 1: that names rise rests on that.
+    // This shows the plan's size to be at least 1, by which names rise.
     let _size = plan.size();
     let mut folded = Vec::new(runs.alloc);
     let mut mapper = records.job.mapper(plan.input());

@@ -1,4 +1,4 @@
-//! What tasks give.
+//! The outputs of tasks.
 ghost use Rattle.std.specs.Prelude.{◌≡◌, ◌<◌, ◌^◌, ◌≤◌, ◌++◌, ◌∷◌, [], All, IfOk, MatchOption};
 ghost use Rattle.std.specs.Prelude.{OnOk, length, map};
 ghost use Rattle.std.specs.List.{AllByRecursion, flat_map};
@@ -17,7 +17,7 @@ use mr_spill::{RegionView, SealedRun};
 use std::alloc::{AllocError, Global};
 use std::marker::Model;
 
-/// What a map task gives: the runs of its pairs, each sealed into a region for each partition.
+/// A map task's output: the runs of its pairs, each with a region for each partition.
 #[derive(Drop)]
 pub struct MapOutput {
     parts: u32,
@@ -37,7 +37,7 @@ impl Model for MapOutput {
 }
 
 impl MapOutput {
-    /// No runs, of so many partitions. It takes no memory.
+    /// No runs of `parts` partitions. It allocates nothing.
     pub fn new(alloc: Global, parts: u32) -> MapOutput
         ensures { result ≡ record { parts = parts; runs = [] } }
     {
@@ -47,30 +47,28 @@ impl MapOutput {
         }
     }
 
-    /// Appends a run.
     pub(crate) fn push(&mut self, run: SealedRun) -> Result<(), AllocError>
         requires each { length run.regions ≡ self.old.parts }
-        ensures { OnOk result (self.new ≡ record { parts = self.old.parts; runs = self.old.runs ++ run ∷ [] }) }
+        ensures { OnOk result (self.new
+            ≡ record { parts = self.old.parts; runs = self.old.runs ++ run ∷ [] }) }
     {
         self.runs.push(run)?;
         Ok(())
     }
 
-    /// How many partitions there are.
     pub fn parts(&self) -> u32
         ensures { result ≡ self.now.parts }
     {
         self.parts
     }
 
-    /// How many runs there are.
     pub fn runs(&self) -> usize
         ensures { result ≡ length self.now.runs }
     {
         self.runs.len()
     }
 
-    /// The region that run `i` has for partition `p`, both from 0.
+    /// The region of run `i` for partition `p`, both from 0.
     pub fn region(&self, p: u32, i: usize) -> RegionView<'_>
         requires partition { p < self.now.parts }
         requires run { i < length self.now.runs }
@@ -79,7 +77,7 @@ impl MapOutput {
         self.runs[i].region(p)
     }
 
-    /// The regions that all runs have for partition `p`, from 0, run by run.
+    /// The regions of all runs for partition `p`, from 0, run by run.
     pub fn regions(&self, alloc: Global, p: u32) -> Result<Vec<RegionView<'_>>, AllocError>
         requires { p < self.now.parts }
         ensures { IfOk result (λ v. v.items ≡ regions_at p self.now.runs) }
@@ -91,7 +89,7 @@ impl MapOutput {
         Ok(regions)
     }
 
-    /// The runs, moved, not copied.
+    /// The runs, moved and not copied.
     pub fn into_runs(self) -> Vec<SealedRun>
         ensures runs { result.items ≡ self.runs }
         ensures parts { AllByRecursion (λ r. length r.regions ≡ self.parts) result.items }
@@ -101,8 +99,8 @@ impl MapOutput {
     }
 }
 
-/// What a reduce task gives: the text of its partition, and the names of each group's pairs, one group behind another.
-/// No group is empty, and the number of groups, as that of the names of each, fits a u32.
+/// A reduce task's output: its partition's text, and the names of each group's pairs. No group is
+/// empty. A u32 counts the groups, and the names in each.
 #[derive(Drop)]
 pub struct ReduceOutput {
     text: Vec<u8>,
@@ -127,7 +125,6 @@ impl Model for ReduceOutput {
     } };
 }
 
-/// Puts the values of a group into the column, in place of what it had.
 fn put_values(groups: &Groups, g: usize, values: &mut ValueColumn) -> Result<(), AllocError>
     requires { g < length groups.now }
     ensures { OnOk result (values.new ≡ map (λ t. t.value) (nth_group groups.now g).pairs) }
@@ -139,7 +136,7 @@ fn put_values(groups: &Groups, g: usize, values: &mut ValueColumn) -> Result<(),
     Ok(())
 }
 
-/// Appends the text of a group. Where that takes more than how many values there are, they are put into the column.
+/// Appends a group's text. Only a job that doesn't count reads the values, through `values`.
 fn put_text(
     job: &Job,
     groups: &Groups,
@@ -148,7 +145,8 @@ fn put_text(
     text: &mut Vec<u8>,
 ) -> Result<(), AllocError>
     requires { g < length groups.now }
-    ensures { OnOk result (text.new.items ≡ text.old.items ++ group_text (text_of job.now) (nth_group groups.now g)) }
+    ensures { OnOk result (text.new.items
+        ≡ text.old.items ++ group_text (text_of job.now) (nth_group groups.now g)) }
 {
     let key = groups.key(g);
     if job.counts() {
@@ -158,7 +156,6 @@ fn put_text(
     append_text(job, key, values, text)
 }
 
-/// The texts of all groups, one behind another. The column of values is one for all.
 fn texts(alloc: Global, job: &Job, groups: &Groups) -> Result<Vec<u8>, AllocError>
     ensures { IfOk result (λ v. v.items ≡ flat_map (group_text (text_of job.now)) groups.now) }
 {
@@ -170,7 +167,6 @@ fn texts(alloc: Global, job: &Job, groups: &Groups) -> Result<Vec<u8>, AllocErro
     Ok(text)
 }
 
-/// How many pairs each group has: at least one.
 fn pair_counts(alloc: Global, groups: &Groups) -> Result<Vec<u32>, AllocError>
     requires { All (λ g. length g.pairs < 2 ^ 32) groups.now }
     ensures counts { IfOk result (λ v. v.items ≡ map (λ g. length g.pairs) groups.now) }
@@ -183,7 +179,6 @@ fn pair_counts(alloc: Global, groups: &Groups) -> Result<Vec<u32>, AllocError>
     Ok(counts)
 }
 
-/// The byte with its lowest bit changed.
 fn flipped_bit(byte: u8) -> u8
     ensures { result ≡ with_other_bit byte }
 {
@@ -191,7 +186,7 @@ fn flipped_bit(byte: u8) -> u8
 }
 
 impl ReduceOutput {
-    /// No groups. It takes no memory.
+    /// No groups. It allocates nothing.
     pub fn new(alloc: Global) -> ReduceOutput
         ensures { result ≡ record { output = []; groups = [] } }
     {
@@ -202,7 +197,7 @@ impl ReduceOutput {
         }
     }
 
-    /// What a job makes of groups: the text of each, and the names of its pairs. The names are moved, not copied.
+    /// What a job makes of groups: the text and the names of each. Names are moved, not copied.
     pub(crate) fn of(alloc: Global, job: &Job, groups: Groups) -> Result<ReduceOutput, AllocError>
         requires few { All (λ g. length g.pairs < 2 ^ 32) groups }
         requires count { length groups < 2 ^ 32 }
@@ -218,14 +213,13 @@ impl ReduceOutput {
         })
     }
 
-    /// The text of the partition.
     pub fn text(&self) -> &[u8]
         ensures { result.now ≡ self.now.output }
     {
         &self.text
     }
 
-    /// Changes the lowest bit of the byte at this place of the text; nothing where no byte stands there.
+    /// Flips the lowest bit of the text's byte at `place`, where there is one.
     pub fn flip(&mut self, place: u32)
         ensures { self.new ≡ record self.old { output = flipped place self.old.output } }
     {
@@ -235,7 +229,7 @@ impl ReduceOutput {
         }
     }
 
-    /// How many names each group has, and the names of all groups, one behind another.
+    /// The number of names in each group, and the names of all groups, one group after another.
     pub fn flat_groups(&self) -> (&[u32], &[Name])
         ensures groups { chunks result.0.now result.1.now ≡ self.now.groups }
         ensures some_entry { AllByRecursion (λ n. 1 ≤ n) result.0.now }
@@ -255,7 +249,7 @@ impl ReduceOutput {
         }
     }
 
-    /// The text, how many names each group has, and the names of all groups, one behind another.
+    /// The text, the number of names in each group, and the names of all groups in order.
     pub fn into_parts(self) -> (Vec<u8>, Vec<u32>, Vec<Name>)
         ensures text { result.0.items ≡ self.output }
         ensures groups { chunks result.1.items result.2.items ≡ self.groups }
@@ -271,7 +265,7 @@ impl ReduceOutput {
     }
 }
 
-/// The names of groups that are still to come.
+/// Iterates over the names of groups.
 #[derive(Drop)]
 pub struct GroupNames<'a> {
     counts: &'a [u32],
@@ -291,9 +285,10 @@ impl<'a> Model for GroupNames<'a> {
 }
 
 impl<'a> GroupNames<'a> {
-    /// The names of the next group, or `None` where none is left, and from then on.
+    /// The names of the next group, or `None` at the end and from then on.
     pub fn next(&mut self) -> Option<&'a [Name]>
-        ensures { MatchOption result ((self.old ≡ []) × (self.new ≡ [])) (λ names. self.old ≡ names.now ∷ self.new) }
+        ensures { MatchOption result ((self.old ≡ []) × (self.new ≡ []))
+            (λ names. self.old ≡ names.now ∷ self.new) }
     {
         let (count, later) = self.counts.split_first()?;
         let (names, rest) = self.names.split_at(*count as usize);

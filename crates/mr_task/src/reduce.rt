@@ -1,4 +1,4 @@
-//! Reduce tasks with their refusals; what the values of tasks are, and worked rows of both kinds of task.
+//! Reduce tasks and their faults, and laws of the values of both kinds of task.
 ghost use Rattle.std.specs.Prelude.{◌≡◌, ◌≤◌, ◌<◌, List, IfErr, IfOk, IfSome, MatchOption, length};
 ghost use Rattle.std.specs.Prelude.{◌↔◌, false, [], ◌∷◌};
 ghost use Rattle.mr_bytes.specs.Pairs.{Triple};
@@ -25,13 +25,14 @@ use thiserror::Error;
 /// The most pairs that a reduce task takes: an input within its limits emits no more.
 const MAX_PAIRS: usize = 1_073_741_824;
 
-// The number that the definition gives.
+// The number in the definition.
 const _: () = prove!(MAX_PAIRS == 1073741824);
 
-/// How many pairs a region of the partition has by its header; `None` where the bytes don't begin as one.
 fn count_in(region: &RegionView<'_>, partition: u32) -> Option<usize>
-    ensures { MatchOption result ((ts : List Triple) → SpellsRegion region.now.bytes region.now.split partition ts → ⊥)
-        (λ n. (ts : List Triple) → SpellsRegion region.now.bytes region.now.split partition ts → n ≡ length ts) }
+    ensures { MatchOption result ((ts : List Triple)
+        → SpellsRegion region.now.bytes region.now.split partition ts → ⊥)
+        (λ n. (ts : List Triple) → SpellsRegion region.now.bytes region.now.split partition ts
+        → n ≡ length ts) }
 {
     let Some(cursor) = open_region(region.bytes(), region.split(), partition) else {
         return None;
@@ -39,14 +40,14 @@ fn count_in(region: &RegionView<'_>, partition: u32) -> Option<usize>
     Some(cursor.left() as usize)
 }
 
-/// How many pairs the regions have together. More than a reduce task takes are refused, and so are bytes that don't begin
-/// as regions of the partition.
+/// Counts all pairs. Refuses more than `MAX_PAIRS`, and bytes that don't begin as a region.
 fn count_all(regions: &[RegionView<'_>], partition: u32) -> Result<usize, TaskFault>
     ensures count { IfOk result (λ n. (values : List (List Triple))
         → AreSpelled partition regions.now values → n ≡ length (joined values)) }
     ensures few { IfOk result (λ n. n ≤ 1073741824) }
     ensures many { IfErr result (λ e. (e ≡ RegionDamaged)
-        × ((values : List (List Triple)) → AreSpelled partition regions.now values → 1073741824 < length (joined values))) }
+        × ((values : List (List Triple)) → AreSpelled partition regions.now values
+        → 1073741824 < length (joined values))) }
 {
     let mut total = 0;
     for region in regions {
@@ -61,10 +62,9 @@ fn count_all(regions: &[RegionView<'_>], partition: u32) -> Result<usize, TaskFa
     Ok(total)
 }
 
-/// What a job makes of the pairs that the map tasks have for a partition, in whatever regions they are: for each key, in
-/// order, the text of the list of all its values, and the names of its pairs. Bytes that are no region of the partition and
-/// of the split that they are told to be of, regions in which a name stands twice, and such that have more than
-/// 1,073,741,824 pairs together, are `RegionDamaged`.
+/// What a job makes of a partition's pairs, however they are cut into regions: for each key, in
+/// order, the text of all its values and the names of its pairs. `RegionDamaged`: bytes are no
+/// region of this partition and split, a name occurs twice, or there are over 1,073,741,824 pairs.
 pub fn reduce_task(
     alloc: Global,
     job: &Job,
@@ -80,8 +80,7 @@ pub fn reduce_task(
     }
 }
 
-/// What `reduce_task` gives, and `None` where it was no longer wanted before it was there: `merge_regions_while` tells when
-/// it is asked.
+/// What `reduce_task` returns, or `None` once it is no longer wanted: see `merge_regions_while`.
 pub fn reduce_task_while<D: Cancellation>(
     alloc: Global,
     job: &Job,
@@ -93,7 +92,7 @@ pub fn reduce_task_while<D: Cancellation>(
         (λ o. MatchOption o (D.unending → ⊥) (IsReduced (text_of job.now) partition regions.now)) }
     ensures damaged { IfErr result (λ e. e ≡ RegionDamaged → CanMerge partition regions.now → ⊥) }
 {
-    // The pairs are so few that a u32 counts those of each group, and the groups.
+    // So few pairs that a u32 counts those of each group, and the groups.
     count_all(regions, partition)?;
     let Some(groups) = merge_regions_while(alloc, regions, partition, demand)? else {
         return Ok(None);
@@ -101,8 +100,8 @@ pub fn reduce_task_while<D: Cancellation>(
     Ok(Some(ReduceOutput::of(alloc, job, groups)?))
 }
 
-/// What `reduce_task` gives of the regions that came one behind another; `None` where one of them was not taken, or where they
-/// have too many pairs: then `reduce_task` tells why.
+/// What `reduce_task` returns for the regions that a `Follower` took. `None` where it didn't take
+/// each of them, or has too many pairs: `reduce_task` over all regions then finds the fault.
 pub fn reduce_followed(
     alloc: Global,
     job: &Job,
@@ -129,7 +128,7 @@ pub enum TaskFault {
     /// The machine refused memory.
     #[error("OutOfMemory")]
     OutOfMemory,
-    /// A region is not in order, a name stands twice, or there are more than 1,073,741,824 pairs.
+    /// A region is damaged, a name occurs twice, or there are more than 1,073,741,824 pairs.
     #[error("RegionDamaged")]
     RegionDamaged,
 }
@@ -159,20 +158,19 @@ impl From<MergeFault> for TaskFault {
     }
 }
 
-/// What a map task has for a partition rises strictly by key and name, and is just the pairs that its split emits there
-/// without those of the left-out records.
+/// A map task's pairs of a partition rise strictly by key and name. They are exactly those that its
+/// split emits there, without those of the left-out records.
 pub fn map_values_law()
     ensures rise { MapValuesRise }
     ensures have { MapValuesHave }
 {}
 
-/// Pieces of a split, one behind another from its first record to its last, give what the split emits.
+/// Pieces of a split, joined from its first record to its last, are what the split emits.
 pub fn pieces_law()
     ensures join { PiecesJoin }
     ensures all { PiecesAreAll }
 {}
 
-/// The values of both tasks on worked rows.
 pub fn worked_tasks()
     ensures mapped { map_value only_partition emitted_letters 0 [] 0 ≡ letters }
     ensures left_out { map_value only_partition emitted_letters 0 (0 ∷ []) 0 ≡ [] }
@@ -182,7 +180,8 @@ pub fn worked_tasks()
     ensures two_runs { IsCutOf only_partition 1 emitted_letters ((first_run ∷ second_run ∷ []) ∷ []) }
     ensures not_cut { IsCutOf only_partition 1 emitted_letters ((first_run ∷ []) ∷ []) → ⊥ }
     ensures reduced { reduce_value (text_of (WordCount false)) (letters ∷ []) ≡ letters_reduced }
-    ensures reduced_runs { reduce_value (text_of (WordCount false)) (first_run ∷ second_run ∷ []) ≡ letters_reduced }
+    ensures reduced_runs { reduce_value (text_of (WordCount false)) (first_run ∷ second_run ∷ [])
+        ≡ letters_reduced }
     ensures nothing { reduce_value (text_of (WordCount false)) [] ≡ record { output = []; groups = [] } }
     ensures twice { AreSound (letters ∷ letters ∷ []) → ⊥ }
 {}

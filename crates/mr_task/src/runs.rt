@@ -1,5 +1,4 @@
-//! The pairs of a map task, taken run by run: a buffer is sealed where it is full, and goes on empty. Before that the
-//! records that the task leaves out are looked up.
+//! Collects a map task's pairs: a full buffer is sealed as a run and reused for the next.
 ghost use Rattle.std.specs.Prelude.{◌≡◌, ℕ, IfOk, ◌≤◌, ◌<◌, ◌^◌, ◌++◌, ◌∷◌, [], List, OnOk, length};
 ghost use Rattle.std.specs.List.Sorted.{IsNonDecreasing};
 ghost use Rattle.mr_task.specs.Values.{has_number};
@@ -20,7 +19,6 @@ use mr_spill::{Buffer, PushKeyFault};
 use mr_splits::RecordAt;
 use std::alloc::{AllocError, Global};
 
-/// The numbers, in rising order.
 pub(crate) fn in_order(alloc: Global, numbers: &[u32]) -> Result<Vec<u32>, AllocError>
     ensures rise { IfOk result (λ v. IsNonDecreasing v.items) }
     ensures same { IfOk result (λ v. (n : ℕ) → has_number v.items n ≡ has_number numbers.now n) }
@@ -30,7 +28,6 @@ pub(crate) fn in_order(alloc: Global, numbers: &[u32]) -> Result<Vec<u32>, Alloc
     Ok(rising)
 }
 
-/// Whether rising numbers have this one.
 pub(crate) fn has(rising: &[u32], number: u32) -> bool
     requires { IsNonDecreasing rising.now }
     ensures { result ≡ has_number rising.now number }
@@ -38,7 +35,7 @@ pub(crate) fn has(rising: &[u32], number: u32) -> bool
     rising.binary_search(&number).is_ok()
 }
 
-/// What a map task of a split has so far: the sealed runs, and the pairs of the run that it fills.
+/// A map task's sealed runs, and the pairs of the run that it fills.
 #[derive(Drop)]
 pub(crate) struct Runs {
     pub alloc: Global,
@@ -50,7 +47,6 @@ pub(crate) struct Runs {
 }
 
 impl Runs {
-    /// No pairs yet.
     pub fn new(alloc: Global, split: u32, by: By, parts: u32, limit: usize) -> Runs
         ensures split { result.split ≡ split }
         ensures by { result.by ≡ by }
@@ -68,12 +64,12 @@ impl Runs {
         }
     }
 
-    /// Whether a run has ended, or is as good as full: 15 of 16 pairs that it may have.
+    /// Whether a run has ended, or 15 of the 16 parts of one are full.
     pub fn has_run(&self) -> bool {
         self.sealed.runs() > 0 || self.buffer.len() >= self.limit - self.limit / 16
     }
 
-    /// Ends the run: the pairs in the buffer become a region for each partition.
+    /// Ends the run: its pairs become a region for each partition.
     fn seal(&mut self) -> Result<(), AllocError>
         requires some { 0 < self.old.sealed.parts }
         requires own { AreOf self.old.split self.old.buffer.pairs }
@@ -87,7 +83,6 @@ impl Runs {
         self.sealed.push(run)
     }
 
-    /// Ends the run, where it has any pairs.
     fn seal_rest(&mut self) -> Result<(), AllocError>
         requires some { 0 < self.old.sealed.parts }
         requires own { AreOf self.old.split self.old.buffer.pairs }
@@ -102,7 +97,7 @@ impl Runs {
         self.seal()
     }
 
-    /// Takes a pair, its name past those of all before it. Where the buffer is full, a run ends first.
+    /// Takes a pair whose name is past all before it. A full buffer is sealed first.
     fn push(&mut self, key: &[u8], value: Value, name: Name) -> Result<(), AllocError>
         requires some { 0 < self.old.sealed.parts }
         requires own { AreOf self.old.split self.old.buffer.pairs }
@@ -128,7 +123,7 @@ impl Runs {
         }
     }
 
-    /// Takes what a job emits for a record, each pair with its name: all past those before.
+    /// Takes what a job emits for a record, each pair with its name.
     pub fn take_record(
         &mut self,
         mapper: &mut Mapper<'_, '_>,
@@ -164,7 +159,7 @@ impl Runs {
         Ok(())
     }
 
-    /// All runs, the last of which ends here where it has any pairs; and none yet, to go on with.
+    /// All runs, the rest as the last of them, and an empty `Runs` with the same buffer.
     pub fn finish(mut self) -> Result<(MapOutput, Runs), AllocError>
         requires some { 0 < self.sealed.parts }
         requires own { AreOf self.split self.buffer.pairs }

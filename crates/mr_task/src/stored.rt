@@ -1,18 +1,18 @@
-//! What a book keeps of a map task's output: where its regions lie.
+//! Where the regions of a map task's output are stored.
 ghost use Rattle.std.specs.Prelude.{◌≡◌, ◌/◌, ◌<◌, [], ◌∷◌, ◌++◌, OnOk, OnErr, length};
 ghost use Rattle.mr_task.specs.Laid.{place_at, runs_of};
 
 use std::alloc::{AllocError, Global};
 use std::marker::Model;
 
-/// Where a region lies: which worker put it, and under which number.
+/// The place of a region: which worker stored it, and under which number.
 #[derive(Clone, Copy, Debug, PartialEq, Eq)]
 pub struct Place {
     pub worker: u32,
     pub number: u64,
 }
 
-/// Where the regions of a map task's output lie: run by run one for each partition, all put by one worker.
+/// The places of a map task's regions, which one worker stored: run by run, one a partition.
 #[derive(Debug, Drop)]
 pub struct Stored {
     parts: u32,
@@ -32,7 +32,7 @@ impl Model for Stored {
 }
 
 impl Stored {
-    /// No regions, of so many partitions. It takes no memory.
+    /// No regions of `parts` partitions. It allocates nothing.
     pub fn new(alloc: Global, parts: u32, worker: u32) -> Stored
         requires { 0 < parts }
         ensures { result ≡ record { parts = parts; worker = worker; numbers = [] } }
@@ -44,7 +44,7 @@ impl Stored {
         }
     }
 
-    /// Appends the number of the next region: those of a run follow one another by partition.
+    /// Appends the number of the next region. Those of a run follow one another by partition.
     pub fn push(&mut self, number: u64) -> Result<(), AllocError>
         ensures ok { OnOk result
             (self.new ≡ record { parts = self.old.parts; worker = self.old.worker; numbers = self.old.numbers ++ number ∷ [] }) }
@@ -54,21 +54,20 @@ impl Stored {
         Ok(())
     }
 
-    /// How many partitions there are.
     pub fn parts(&self) -> u32
         ensures { result ≡ self.now.parts }
     {
         self.parts
     }
 
-    /// How many runs have a region for each partition.
+    /// How many runs have a region for every partition.
     pub fn runs(&self) -> usize
         ensures { result ≡ runs_of self.now }
     {
         self.numbers.len() / self.parts as usize
     }
 
-    /// Where the region lies that run `i` has for partition `p`, both from 0.
+    /// The place of run `i`'s region for partition `p`, both from 0.
     pub fn place(&self, p: u32, i: usize) -> Place
         requires partition { p < self.now.parts }
         requires run { i < runs_of self.now }

@@ -1,4 +1,4 @@
-//! Work that is cut in pieces, all of which are drawn by threads.
+//! Shares pieces of work among threads, which draw them.
 ghost use Rattle.std.specs.Prelude.{ℕ, IfOk, ◌≡◌, ◌^◌, ◌<◌, ◌≤◌, ◌+◌, [], ◌∷◌, ◌++◌, None, OnOk};
 ghost use Rattle.std.specs.Prelude.{All, length, replicate, slice_index_or, slice_set, Some};
 ghost use Rattle.std.specs.Prelude.{vec_len};
@@ -12,47 +12,43 @@ use std::alloc::{AllocError, Global};
 use std::thread;
 use std::thread::Threads;
 
-/// Work that is cut in pieces, which have the numbers from 0 on. Several threads do them at once.
+/// Work in pieces, numbered from 0, which several threads do at once.
 pub trait WorkPieces: Sync {
     type Out: Send + Drop;
 
-    /// Which pieces there are.
+    /// The pieces that there are.
     ghost has: { Self → ℕ → Type 0 };
 
-    /// What a piece may give.
+    /// What a piece may return.
     ghost gives: { Self → ℕ → Self.Out → Type 0 };
 
-    /// Does one piece.
-    ///
-    /// # Errors
-    /// `AllocError` where memory is refused.
+    /// Does one piece. Fails only for want of memory.
     fn do_piece(&self, alloc: Global, number: u32) -> Result<Self::Out, AllocError>
         requires { has self.now number }
         ensures { IfOk result (gives self.now number) };
 }
 
-/// What a piece gave.
 #[derive(Drop)]
 pub(crate) struct Found<X> {
     pub piece: u32,
     pub out: X,
 }
 
-/// What a thread begins with: its number, which is the place of its seat among all, and the seat.
+/// A thread's number, which is the place of its seat among all, and its seat.
 #[derive(Drop)]
 pub(crate) struct Job {
     pub worker: u32,
     pub seat: TicketSeat,
 }
 
-/// What a thread hands back: its seat, and what the pieces gave that it drew.
+/// A thread's seat after its work, and the results of the pieces that it drew.
 #[derive(Drop)]
 pub(crate) struct Done<X> {
     pub seat: TicketSeat,
     pub found: Vec<Found<X>>,
 }
 
-/// Does one piece, between the gate's two calls.
+/// Does one piece between the gate's two calls.
 fn gated<W: WorkPieces, G: Gate>(
     alloc: Global,
     all: &W,
@@ -93,7 +89,7 @@ fn work<W: WorkPieces, G: Gate>(
     Ok(Done { seat, found })
 }
 
-/// Each seat with its place among all; the last comes first.
+/// Each seat with its place among all, the last one first.
 fn jobs_of(
     alloc: Global,
     tickets: &Tickets,
@@ -112,7 +108,6 @@ fn jobs_of(
     Ok(jobs)
 }
 
-/// One thread's seat and results go to the others.
 fn take_in<X: Drop>(
     seats: &mut Vec<TicketSeat>,
     found: &mut Vec<Found<X>>,
@@ -130,7 +125,7 @@ fn take_in<X: Drop>(
     Ok(())
 }
 
-/// The results of all threads, in some order: each piece has one.
+/// The results of all threads, in some order: one for each piece.
 fn gather<W: WorkPieces>(
     alloc: Global,
     all: &W,
@@ -152,7 +147,6 @@ fn gather<W: WorkPieces>(
     Ok(found)
 }
 
-/// A slot for each piece.
 fn empty_slots<X: Drop>(alloc: Global, count: u32) -> Result<Vec<Option<X>>, AllocError>
     ensures { IfOk result (λ v. v.items ≡ replicate count None) }
 {
@@ -163,7 +157,6 @@ fn empty_slots<X: Drop>(alloc: Global, count: u32) -> Result<Vec<Option<X>>, All
     Ok(slots)
 }
 
-/// A result goes to its slot.
 fn put<X: Drop>(slots: &mut [Option<X>], at: usize, out: X)
     requires { at < length slots.old }
     ensures { slots.new ≡ slice_set slots.old at (Some out) }
@@ -171,7 +164,7 @@ fn put<X: Drop>(slots: &mut [Option<X>], at: usize, out: X)
     slots[at] = Some(out);
 }
 
-/// Each result goes to its slot, which stands as far from the end as its piece from the start.
+/// Puts each result into its slot. Slots are in falling order of pieces.
 fn fill<W: WorkPieces>(
     all: &W,
     count: u32,
@@ -190,7 +183,7 @@ fn fill<W: WorkPieces>(
     }
 }
 
-/// What lies in the slots, the last slot first.
+/// The results in the slots, the last slot first.
 fn take_all<W: WorkPieces>(
     alloc: Global,
     all: &W,
@@ -200,7 +193,8 @@ fn take_all<W: WorkPieces>(
     requires len { vec_len slots ≡ count }
     requires slots { AllSlots (W.gives all.now) [] count slots.items }
     ensures len { IfOk result (λ v. vec_len v ≡ count) }
-    ensures each { IfOk result (λ v. (p : ℕ) (d : _) → p < count → W.gives all.now p (slice_index_or v.items p d)) }
+    ensures each { IfOk result
+        (λ v. (p : ℕ) (d : _) → p < count → W.gives all.now p (slice_index_or v.items p d)) }
 {
     let mut outs = Vec::new(alloc);
     while let Some(slot) = slots.pop() {
@@ -210,7 +204,6 @@ fn take_all<W: WorkPieces>(
     Ok(outs)
 }
 
-/// The results of all pieces, each of which has one, in the order of the pieces.
 fn in_order<W: WorkPieces>(
     alloc: Global,
     all: &W,
@@ -220,22 +213,21 @@ fn in_order<W: WorkPieces>(
     requires once { (h : ℕ → ℕ) → weigh h (numbers_of found.items) ≡ below h count }
     requires given { AllGiven (W.gives all.now) found.items }
     ensures len { IfOk result (λ v. vec_len v ≡ count) }
-    ensures each { IfOk result (λ v. (p : ℕ) (d : _) → p < count → W.gives all.now p (slice_index_or v.items p d)) }
+    ensures each { IfOk result
+        (λ v. (p : ℕ) (d : _) → p < count → W.gives all.now p (slice_index_or v.items p d)) }
 {
     let mut slots = empty_slots(alloc, count)?;
     fill(all, count, slots.as_mut_slice(), found);
     take_all(alloc, all, count, slots)
 }
 
-/// Does all pieces by that many threads, at least one, and gives their results in the order of the pieces, as one thread
-/// would. Each thread draws a piece, does it, and draws again until none is left. Where a thread can't be started, the
-/// calling thread does its share.
+/// Does all pieces on `threads` threads, and returns the results in the order of the pieces, as one
+/// thread would. Each thread draws a piece, does it, and draws again until none is left. Where a
+/// thread can't be started, the calling thread does its share. Fails only for want of memory, even
+/// in only one thread.
 ///
-/// A thread passes the gate round each piece. The gate is told the thread's number, from 0, and the piece's, counted
-/// from `first_piece`.
-///
-/// # Errors
-/// `AllocError` where memory is refused, be it in one thread alone.
+/// A thread calls the gate before and after each piece, with its own number, from 0, and the
+/// piece's, counted from `first_piece`.
 pub fn draw_all<W: WorkPieces, G: Gate, R: Threads + Sync>(
     rt: &R,
     alloc: Global,
@@ -249,7 +241,8 @@ pub fn draw_all<W: WorkPieces, G: Gate, R: Threads + Sync>(
     requires room { first_piece + count < 2 ^ 32 }
     requires all { (p : ℕ) → p < count → W.has all.now p }
     ensures len { IfOk result (λ v. vec_len v ≡ count) }
-    ensures each { IfOk result (λ v. (p : ℕ) (d : _) → p < count → W.gives all.now p (slice_index_or v.items p d)) }
+    ensures each { IfOk result
+        (λ v. (p : ℕ) (d : _) → p < count → W.gives all.now p (slice_index_or v.items p d)) }
 {
     let (tickets, seats) = Tickets::open(alloc, count, threads)?;
     let shared = &tickets;

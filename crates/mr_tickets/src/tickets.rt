@@ -1,7 +1,5 @@
-//! Numbers, and the seats that draw them.
-//!
-//! The rule of the word that numbers are drawn from comes first. No value of its types but `Limits` is made when a program
-//! runs: they say what each seat knows.
+//! Numbers, and the seats that draw them. First comes the rule of the atomic word. Of its types
+//! only `Limits` has values at run time: the others say what each seat knows.
 ghost use Rattle.std.specs.Prelude.{◌≡◌, ◌<◌, ℕ, [], ◌∷◌, ◌++◌, true, false, IfOk, IfSome, IfNone};
 ghost use Rattle.std.specs.Prelude.{All, length, replicate, vec_len, if◌then◌else◌};
 ghost use Rattle.mr_tickets.specs.Drawn.{below, weigh, total, kept, past};
@@ -12,7 +10,7 @@ use std::alloc::{AllocError, Global};
 use std::collections::LinkedList;
 use std::marker::Model;
 
-/// What a seat knows: its parts of the right to know the whole, and all numbers that its steps returned.
+/// A seat's parts of the right to know the whole, and all numbers that its steps returned.
 pub struct Hand {
     pub parts: u64,
     pub drawn: LinkedList<u64>,
@@ -46,7 +44,7 @@ impl Play<(), Hand> for Draw {
     ghost then = { Draws };
 }
 
-/// One part goes to a new seat.
+/// Gives one part to a new seat.
 pub struct Part;
 
 impl Split<Hand> for Part {
@@ -59,7 +57,7 @@ impl Split<Hand> for Part {
     ghost right = { λ v. hand 1 [] };
 }
 
-/// Two seats are put together.
+/// Joins two seats.
 pub struct Both;
 
 impl Join<Hand> for Both {
@@ -72,7 +70,7 @@ impl Join<Hand> for Both {
     ghost spent = { hand 0 [] };
 }
 
-/// The numbers below a limit, to be drawn by any number of threads at once.
+/// The numbers below a limit, for any number of threads to draw at once.
 #[derive(Drop)]
 pub struct Tickets {
     limit: u32,
@@ -88,10 +86,11 @@ impl Model for Tickets {
     ghost view = { λ t. record { table = t.table.shared.table_id; limit = t.limit; seats = t.table.shared.key.seats } };
 
     ghost invariant = { λ t. (t.table.shared.table_id.words ≡ 1) × (t.table.shared.table_id.slots ≡ 0) × (t.table.shared.key.limit ≡ t.limit)
-        × (t.table.shared.key.limit < 2 ^ 32) × (0 < t.table.shared.key.seats) × (t.table.shared.key.seats < 2 ^ 32) };
+        × (t.table.shared.key.limit < 2 ^ 32) × (0 < t.table.shared.key.seats)
+        × (t.table.shared.key.seats < 2 ^ 32) };
 }
 
-/// Who draws numbers of one `Tickets`. It knows which it drew, and whether it was told that none is left.
+/// Draws numbers of one `Tickets`. It knows which it drew, and whether it got `None`.
 #[derive(Drop)]
 pub struct TicketSeat {
     limit: u32,
@@ -112,7 +111,6 @@ impl Model for TicketSeat {
 }
 
 impl TicketSeat {
-    /// A seat that has drawn nothing.
     fn of(limit: u32, seat: Seat<(), Hand>) -> TicketSeat
         requires { (seat.me.1 ≡ []) × (seat.me.0.parts ≡ 1) × (seat.me.0.drawn ≡ []) }
         ensures { result ≡ record { table = seat.table_id; limit = limit; drawn = []; told = false } }
@@ -124,7 +122,7 @@ impl TicketSeat {
         }
     }
 
-    /// The seat at the word, which knows the numbers past the limit too.
+    /// The seat at the word, which also knows the numbers past the limit.
     fn into_seat(self) -> Seat<(), Hand>
         ensures table { result.table_id ≡ self.table }
         ensures one { (result.me.1 ≡ []) × (result.me.0.parts ≡ 1) }
@@ -141,10 +139,7 @@ impl TicketSeat {
 }
 
 impl Tickets {
-    /// The numbers below the limit, and seats for those who draw, at least one.
-    ///
-    /// # Errors
-    /// `AllocError` where memory is refused.
+    /// The numbers below `limit`, and seats that draw them. Fails only for want of memory.
     pub fn open(
         alloc: Global,
         limit: u32,
@@ -169,8 +164,8 @@ impl Tickets {
         Ok((Tickets { limit, table }, made))
     }
 
-    /// The next number, or `None` once all are drawn: a single step of the word. A seat that was told `None` is told so
-    /// from then on, with no step. The seat must be one of these tickets'.
+    /// The next number, or `None` once all are drawn, by a single step of the word. A seat that got
+    /// `None` gets it from then on, without a step. The seat must be one of these tickets'.
     pub fn draw(&self, seat: &mut TicketSeat) -> Option<u32>
         requires { IsSeatOf self.now seat.old }
         ensures some { IfSome result (λ n. (n < self.now.limit) × (seat.old.told ≡ false)
@@ -181,7 +176,7 @@ impl Tickets {
         if seat.told {
             return None;
         }
-        // No seat makes more than one step past the limit: a word of 64 bits has room.
+        // No seat makes more than one step past the limit, so a word of 64 bits has room.
         let found = self.table.shared.fetch_add::<Draw>(&mut seat.seat, 0, 1);
         if found < self.limit as u64 {
             Some(found as u32)
@@ -191,8 +186,8 @@ impl Tickets {
         }
     }
 
-    /// Takes all seats back. Where each was told `None`, the numbers below the limit were drawn, each once, however they
-    /// are weighed.
+    /// Takes all seats back. Where each got `None`, the numbers below the limit were drawn, each
+    /// once: under any weights their sums agree.
     pub fn close(self, mut seats: Vec<TicketSeat>)
         requires mine { All (IsSeatOf self) seats.items }
         requires all { vec_len seats ≡ self.seats }

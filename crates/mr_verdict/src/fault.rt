@@ -5,7 +5,7 @@ use mr_certform::Malformed;
 use std::alloc::AllocError;
 use thiserror::Error;
 
-/// What a read failed of.
+/// What a failed read was reading.
 #[derive(Clone, Copy, Debug, PartialEq, Eq, Drop)]
 pub enum Source {
     Certificate,
@@ -13,22 +13,21 @@ pub enum Source {
     Output(u64),
 }
 
-/// Why a result is not good: the first of the judge's tests that fails. Partitions, groups, entries and left-out
-/// records are numbered from 0, places are in bytes from the front.
+/// The first of the judge's tests that fails. Numbers count from 0, places are in bytes.
 #[derive(Clone, Copy, Debug, PartialEq, Eq, Drop, Error)]
 pub enum No {
-    /// There are not as many outputs as the request has partitions.
+    /// The number of outputs differs from the number of partitions in the request.
     #[error("OutputCount")]
     OutputCount,
-    /// No item of a certificate stands at this place of its bytes.
+    /// The certificate has no valid item at this place of its bytes.
     #[error("Malformed at {at}")]
     Malformed {
         at: u64,
     },
-    /// The certificate is of another job, or of other partitions or splits.
+    /// The certificate is for another job, or for other partitions or splits.
     #[error("OtherJob")]
     OtherJob,
-    /// The certificate is of another input.
+    /// The certificate is for another input.
     #[error("OtherInput")]
     OtherInput,
     /// A left-out record is not past the one before it.
@@ -81,22 +80,22 @@ pub enum No {
         group: u64,
         entry: u64,
     },
-    /// The output has another byte at this place than its groups' texts, or ends there, or goes on.
+    /// At this place the output has another byte than its groups' texts, or ends, or goes on.
     #[error("OutputDiffers partition {partition} at {at}")]
     OutputDiffers {
         partition: u64,
         at: u64,
     },
-    /// Fewer entries are named than pairs are emitted.
+    /// The entries name fewer pairs than are emitted.
     #[error("Unnamed emitted {emitted} named {named}")]
     Unnamed {
         emitted: u64,
         named: u64,
     },
-    /// The machine refused memory; nothing is said of the result.
+    /// The machine refused memory. This says nothing of the result.
     #[error("OutOfMemory")]
     OutOfMemory,
-    /// A read failed; nothing is said of the result. Told by `check_from` alone.
+    /// A read failed. This says nothing of the result. Only judging over readers reports it.
     #[error("Device")]
     Device(Source),
 }
@@ -121,7 +120,6 @@ impl From<AllocError> for No {
     }
 }
 
-/// Whether the faults are one.
 pub fn is_same_fault(a: No, b: No) -> bool
     ensures { IsTrue result ↔ (a ≡ b) }
 {

@@ -1,4 +1,4 @@
-//! The items that the request and the input fix.
+//! Tests a certificate's header: the items that the request and the input fix.
 ghost use Rattle.std.specs.Prelude.{◌≡◌, ◌<◌, ◌≤◌, ◌∷◌, [], OnOk, length, map};
 ghost use Rattle.mr_certform.specs.declared.item.Item.TheVariants.{LiteralByte, FileLength};
 ghost use Rattle.mr_verdict.specs.Verdict.{item_eq, job_wanted, input_wanted};
@@ -11,7 +11,6 @@ use mr_certform::Item;
 use mr_input::Input;
 use mr_jobs::Request;
 
-/// Whether an item that stands is the wanted one.
 fn is_wanted(item: Item, wanted: Item) -> bool
     ensures { result ≡ item_eq item wanted }
 {
@@ -29,7 +28,7 @@ fn is_wanted(item: Item, wanted: Item) -> bool
     }
 }
 
-/// The next item is the wanted one, or else the certificate has this fault.
+/// Takes the next item, which must be `wanted`: another one is the fault `fault`.
 fn expect<I: ItemSource>(items: &mut I, wanted: Item, fault: No) -> Result<(), JudgeError>
     requires sound { I.sound items.old }
     ensures sound { OnOk result (I.sound items.new) }
@@ -45,7 +44,6 @@ fn expect<I: ItemSource>(items: &mut I, wanted: Item, fault: No) -> Result<(), J
     Ok(())
 }
 
-/// The next items are the wanted ones, or else the certificate has this fault.
 fn expect_all<I: ItemSource>(items: &mut I, wanted: &[Item], fault: No) -> Result<(), JudgeError>
     requires sound { I.sound items.old }
     ensures sound { OnOk result (I.sound items.new) }
@@ -59,11 +57,11 @@ fn expect_all<I: ItemSource>(items: &mut I, wanted: &[Item], fault: No) -> Resul
     Ok(())
 }
 
-/// The bytes of the job's literal come next.
 fn expect_literal<I: ItemSource>(items: &mut I, literal: &[u8]) -> Result<(), JudgeError>
     requires sound { I.sound items.old }
     ensures sound { OnOk result (I.sound items.new) }
-    ensures met { Met (I.gives items.old) (I.gives items.new) (map LiteralByte literal.now) No.OtherJob result }
+    ensures met { Met (I.gives items.old) (I.gives items.new)
+        (map LiteralByte literal.now) No.OtherJob result }
     ensures fewer { OnOk result (I.most items.new ≤ I.most items.old) }
     ensures stops { Stops I.steady (I.failed items.old) (I.failed items.new) result }
 {
@@ -73,7 +71,6 @@ fn expect_literal<I: ItemSource>(items: &mut I, literal: &[u8]) -> Result<(), Ju
     Ok(())
 }
 
-/// The length of each file comes next.
 fn expect_lengths<I: ItemSource>(items: &mut I, input: &Input) -> Result<(), JudgeError>
     requires sound { I.sound items.old }
     requires given { CanCome (I.gives items.old) }
@@ -90,7 +87,6 @@ fn expect_lengths<I: ItemSource>(items: &mut I, input: &Input) -> Result<(), Jud
     Ok(())
 }
 
-/// The items that the request fixes come next.
 fn expect_job<I: ItemSource>(items: &mut I, request: &Request) -> Result<(), JudgeError>
     requires sound { I.sound items.old }
     ensures sound { OnOk result (I.sound items.new) }
@@ -115,7 +111,6 @@ fn expect_job<I: ItemSource>(items: &mut I, request: &Request) -> Result<(), Jud
     expect_all(items, &back, No::OtherJob)
 }
 
-/// The items that the input fixes come next.
 fn expect_input<I: ItemSource>(items: &mut I, input: &Input) -> Result<(), JudgeError>
     requires sound { I.sound items.old }
     ensures given { OnOk result (CanCome (I.gives items.new)) }
@@ -128,7 +123,7 @@ fn expect_input<I: ItemSource>(items: &mut I, input: &Input) -> Result<(), Judge
     expect_lengths(items, input)
 }
 
-/// The items that the request and the input fix come next.
+/// Reads the header: a wrong item is `OtherJob` up to the split size, and `OtherInput` after it.
 pub fn expect_header<I: ItemSource>(
     items: &mut I,
     request: &Request,
@@ -137,7 +132,8 @@ pub fn expect_header<I: ItemSource>(
     requires sound { I.sound items.old }
     ensures given { OnOk result (CanCome (I.gives items.new)) }
     ensures sound { OnOk result (I.sound items.new) }
-    ensures met { Behind (I.gives items.old) (I.gives items.new) (λ at. header_met at request.now input.now) result }
+    ensures met { Behind (I.gives items.old) (I.gives items.new)
+        (λ at. header_met at request.now input.now) result }
     ensures fewer { OnOk result (I.most items.new < I.most items.old) }
     ensures stops { Stops I.steady (I.failed items.old) (I.failed items.new) result }
 {

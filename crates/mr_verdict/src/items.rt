@@ -1,4 +1,4 @@
-//! What walks the items of a certificate: over its bytes, or over a reader.
+//! Sources of a certificate's items: its bytes, or a reader.
 ghost use Rattle.std.specs.Prelude.{◌≡◌, ◌⊎◌, ◌≤◌, ◌<◌, ◌+◌, ◌-◌, ⊤, ◌^◌, ℕ, List, None, IfOk};
 ghost use Rattle.std.specs.Prelude.{length};
 ghost use Rattle.mr_certform.specs.declared.item.Item.{Item as Read};
@@ -12,7 +12,7 @@ use mr_certform::{Item, StreamFault, StreamWalker, Walker};
 use mr_store::CountedRead;
 use std::alloc::AllocError;
 
-/// Why no item is given.
+/// Why there is no item.
 #[derive(Clone, Copy, Debug, PartialEq, Eq, Drop)]
 pub enum ItemError {
     Malformed { at: u64 },
@@ -21,7 +21,7 @@ pub enum ItemError {
     TooLong,
 }
 
-/// Why the judge goes no further: a fault, or that the items can't be had.
+/// Why the judge stops: a fault of the result, or items or outputs that it can't read.
 #[derive(Clone, Copy, Debug, PartialEq, Eq, Drop)]
 pub enum JudgeError {
     Fault(No),
@@ -68,24 +68,22 @@ impl From<AllocError> for JudgeError {
     }
 }
 
-/// What walks items.
 pub trait ItemSource {
-    // These items may be still to come, and then the place behind the last of them.
+    // These items may still come, and this is the place after the last of them.
     ghost gives: { Self → List Read → ℕ → Type 0 };
 
     // How many items may still come.
     ghost most: { Self → ℕ };
 
-    // No fault was told.
+    // No fault was returned.
     ghost sound: { Self → Type 0 };
 
     // How many reads have failed.
     ghost failed: { Self → ℕ };
 
-    // An item is refused for no other cause than that none stands.
+    // A malformed item is the only cause of an error.
     ghost steady: { Type 0 };
 
-    /// The next of the items.
     fn next_item(&mut self) -> Result<Item, ItemError>
         requires sound { sound self.old }
         ensures sound { IfOk result (λ _. sound self.new) }

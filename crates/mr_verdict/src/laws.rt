@@ -1,4 +1,4 @@
-//! Laws about the verdict, and worked verdicts: definitions alone, which cost nothing.
+//! Laws of the verdict, and worked verdicts. They are only proofs and cost nothing at run time.
 ghost use Rattle.mr_verdict.specs.FaultLaws.{EndedIsSpelled, FaultsAreTrue, ReadIsSpelled};
 ghost use Rattle.mr_verdict.specs.FaultLaws.{TellsOfBytes};
 ghost use Rattle.mr_verdict.specs.VerdictLaws.{YesIsGood, GoodIsYes, FaultByPlace};
@@ -7,35 +7,34 @@ ghost use Rattle.mr_verdict.specs.VerdictLaws.{OnlyComparedMatters};
 ghost use Rattle.mr_verdict.specs.VerdictRows.{WorkedPlaces, WorkedVerdicts};
 ghost use Rattle.mr_verdict.specs.VerdictLaws.{OtherOutputsDontMatter, BytesBehindDontMatter};
 
-/// The verdict is yes exactly where the result is good, and it tells the left-out records and how many pairs there are.
+/// Yes exactly where the result is good, with the left-out records and the number of pairs.
 pub fn yes_law()
     ensures good { YesIsGood }
     ensures yes { GoodIsYes }
 {}
 
-/// The verdict is the fault of what stands before the partitions, else that of the least partition that has one, else
-/// that of what stands behind them. A partition's fault comes of its own items alone.
+/// The verdict is the fault before the partitions, else that of the least partition that has one,
+/// else that after them. A partition's fault follows only from its own items.
 pub fn place_law()
     ensures { FaultByPlace }
 {}
 
-/// No later item bears on a fault, and no later byte of an output. Outputs of which as much is the same as was compared
-/// get the same verdict.
+/// Later items and later bytes of outputs don't change a fault: only compared bytes matter.
 pub fn locality_law()
     ensures items { LaterItemsDontMatter }
     ensures outputs { LaterOutputsDontMatter }
     ensures compared { OnlyComparedMatters }
 {}
 
-/// A partition's fault comes of its own output alone, and of that of no more than was compared.
+/// A partition's fault depends only on its own output, and there only on compared bytes.
 pub fn partition_law()
     ensures own { OtherOutputsDontMatter }
     ensures compared { BytesBehindDontMatter }
 {}
 
-/// What each fault means: it is true of the certificate that was read, as far as its items stand, in the partition, the
-/// group and the entry that it names. Of bytes that spell a certificate what was read is that certificate. Want of memory
-/// and a failed read are never the verdict over bytes.
+/// A fault is true of the certificate that was read, as far as its items are valid, at the
+/// partition, group and entry that it names. Bytes that spell a certificate are read as that
+/// certificate. Want of memory and failed reads are never the verdict over bytes.
 pub fn fault_law()
     ensures faults { FaultsAreTrue }
     ensures bytes { TellsOfBytes }
@@ -43,7 +42,6 @@ pub fn fault_law()
     ensures ended { EndedIsSpelled }
 {}
 
-/// Worked verdicts.
 pub fn worked_rows()
     ensures { WorkedVerdicts }
 {}

@@ -1,6 +1,5 @@
-//! What a judge must answer: the verdict over bytes, the faults that it tells, what a yes is worth,
-//! and laws of these; and its tests of a certificate's header and of the left-out records, over
-//! whatever gives the items.
+//! What a judge must return: the verdict over bytes, its faults, what a yes is worth, and laws of
+//! these. It also tests a certificate's header and its left-out records, over any source of items.
 #![tactic(auto)]
 
 mod case;

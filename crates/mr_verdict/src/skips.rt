@@ -1,4 +1,4 @@
-//! The left-out records that a certificate lists.
+//! Tests the left-out records that a certificate lists.
 ghost use Rattle.std.specs.Prelude.{◌≡◌, ◌≤◌, ◌<◌, ◌++◌, ◌∷◌, [], OnOk};
 ghost use Rattle.mr_splits.specs.Cut.{records_of};
 ghost use Rattle.mr_verdict.specs.Steps.{awaits_skips, counted, skip_fault, skips_in_front, listed};
@@ -11,7 +11,7 @@ use mr_certform::Item;
 use mr_splits::{Plan, SkipFault};
 use std::alloc::{AllocError, Global};
 
-/// How many records are left out comes next, which is at most so many.
+/// Reads the number of left-out records: `TooManySkips` where it is over `most`.
 pub fn expect_count<I: ItemSource>(items: &mut I, most: u32) -> Result<u32, JudgeError>
     requires sound { I.sound items.old }
     requires awaits { Each (I.gives items.old) awaits_skips }
@@ -33,7 +33,6 @@ pub fn expect_count<I: ItemSource>(items: &mut I, most: u32) -> Result<u32, Judg
     Ok(listed)
 }
 
-/// The left-out record that comes next.
 fn next_skip<I: ItemSource>(items: &mut I) -> Result<RecordName, JudgeError>
     requires sound { I.sound items.old }
     requires skip { Each (I.gives items.old) skip_next }
@@ -49,7 +48,6 @@ fn next_skip<I: ItemSource>(items: &mut I) -> Result<RecordName, JudgeError>
     Ok(name)
 }
 
-/// The fault of a left-out record, given the one before it and its number.
 fn fault_of(plan: &Plan<'_>, before: Option<RecordName>, name: RecordName, skip: u64) -> Option<No>
     ensures { result ≡ skip_fault (records_of plan.now) before name skip }
 {
@@ -59,7 +57,6 @@ fn fault_of(plan: &Plan<'_>, before: Option<RecordName>, name: RecordName, skip:
     }
 }
 
-/// Keeps one more left-out record.
 fn keep(skips: &mut Vec<RecordName>, name: RecordName) -> Result<(), AllocError>
     ensures { OnOk result (skips.new.items ≡ skips.old.items ++ name ∷ []) }
 {
@@ -67,7 +64,7 @@ fn keep(skips: &mut Vec<RecordName>, name: RecordName) -> Result<(), AllocError>
     Ok(())
 }
 
-/// The left-out records, of which so many come next, each tested for its order before its existence.
+/// Reads `many` left-out records, and tests the order of each before its existence.
 pub fn read_skips<I: ItemSource>(
     alloc: Global,
     items: &mut I,
@@ -79,7 +76,8 @@ pub fn read_skips<I: ItemSource>(
     requires front { Each (I.gives items.old) (skips_in_front many) }
     ensures sound { OnOk result (I.sound items.new) }
     ensures given { OnOk result (CanCome (I.gives items.new)) }
-    ensures listed { Answered (I.gives items.old) (I.gives items.new) (λ v is. record { skips = v.items; behind = is })
+    ensures listed { Answered (I.gives items.old) (I.gives items.new)
+        (λ v is. record { skips = v.items; behind = is })
         (λ at. listed (records_of plan.now) at many []) result }
     ensures fewer { OnOk result (I.most items.new ≤ I.most items.old) }
     ensures stops { Stops I.steady (I.failed items.old) (I.failed items.new) result }

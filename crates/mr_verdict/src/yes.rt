@@ -1,8 +1,8 @@
-//! What the judge tells where a result is good.
+//! What the judge returns for a good result.
 
 use mr_bytes::RecordName;
 
-/// What a good result comes to: the left-out records, rising, and how many pairs were emitted.
+/// The left-out records, rising, and the number of emitted pairs.
 #[derive(Debug, PartialEq, Eq, Drop)]
 pub struct Yes {
     pub skips: Vec<RecordName>,

@@ -1,4 +1,4 @@
-//! A worker asks for a task: what may be given to it, and its issue.
+//! Gives tasks to workers that ask: idle ones first, then a second execution of one in progress.
 ghost use Rattle.std.specs.Prelude.{◌≡◌, ℕ, ◌<◌, ◌≤◌, ◌^◌, true, false, Option, Some, None, List, [], ◌∷◌, ◌++◌, ◌==◌, ◌&&◌, length, replicate, slice_get, MatchOption, OnOk, OnErr, IfOk};
 ghost use Rattle.std.specs.List.{list_any};
 ghost use Rattle.mr_core.specs.declared.event.Shape.{Shape};
@@ -15,14 +15,14 @@ use crate::splits::Skips;
 use std::alloc::{AllocError, Global};
 
 impl MasterState {
-    /// Whether the task isn't complete, and nobody works at it.
+    /// Whether the task is incomplete and has no live attempt.
     fn is_idle(&self, task: Task) -> bool
         ensures { result ≡ is_idle self.now task }
     {
         !self.is_complete(task) && self.has_live(task, 0)
     }
 
-    /// The first idle map task from here on, or the number of all.
+    /// The first idle map task from `from` on, or `maps`.
     fn idle_map_from(&self, from: u32, maps: u32) -> u32
         ensures passed { (s : ℕ) → from ≤ s → s < result → is_idle self.now (Task.Map s) ≡ false }
         ensures there { result < maps → is_idle self.now (Task.Map result) ≡ true }
@@ -35,7 +35,7 @@ impl MasterState {
         maps
     }
 
-    /// The first idle reduce task from here on, or the number of all.
+    /// The first idle reduce task from `from` on, or `parts`.
     fn idle_part_from(&self, from: u32, parts: u32) -> u32
         ensures passed { (p : ℕ) → from ≤ p → p < result → is_idle self.now (Task.Reduce p) ≡ false }
         ensures there { result < parts → is_idle self.now (Task.Reduce result) ≡ true }
@@ -48,7 +48,7 @@ impl MasterState {
         parts
     }
 
-    /// The first idle map task, or the number of all: goes on from the cursor, which moves to it.
+    /// The first idle map task, or `maps`. It searches from the cursor, and moves it there.
     fn next_map(&mut self, maps: u32) -> u32
         ensures same { self.new ≡ self.old }
         ensures passed { (s : ℕ) → s < result → is_idle self.old (Task.Map s) ≡ false }
@@ -59,7 +59,7 @@ impl MasterState {
         next
     }
 
-    /// The first idle reduce task, or the number of all: goes on from the cursor, which moves to it.
+    /// The first idle reduce task, or `parts`. It searches from the cursor, and moves it there.
     fn next_part(&mut self, parts: u32) -> u32
         ensures same { self.new ≡ self.old }
         ensures passed { (p : ℕ) → p < result → is_idle self.old (Task.Reduce p) ≡ false }
@@ -70,12 +70,13 @@ impl MasterState {
         next
     }
 
-    /// An idle task that may be executed.
+    /// An idle task that is ready.
     #[tactic(auto, using(crate::proofs::IdleTasks::newly_map, crate::proofs::IdleTasks::newly_part, crate::proofs::IdleTasks::none_waiting, crate::proofs::IdleTasks::none_at_all))]
     fn find_newly(&mut self, shape: Shape) -> Option<Task>
         requires { IsGoing shape self.old }
         ensures same { self.new ≡ self.old }
-        ensures found { MatchOption result (list_any (may_newly shape self.old) (tasks shape) ≡ false) (λ t. (may_newly shape self.old t ≡ true) × (is_task shape t ≡ true)) }
+        ensures found { MatchOption result (list_any (may_newly shape self.old) (tasks shape)
+            ≡ false) (λ t. (may_newly shape self.old t ≡ true) × (is_task shape t ≡ true)) }
     {
         let split = self.next_map(shape.maps);
         if split < shape.maps {
@@ -92,7 +93,7 @@ impl MasterState {
         }
     }
 
-    /// Whether the task waits for no map.
+    /// Whether the task needs no map output that is missing.
     fn is_ready(&self, task: Task) -> bool
         ensures { result ≡ is_ready self.now task }
     {
@@ -102,7 +103,7 @@ impl MasterState {
         }
     }
 
-    /// Whether the task may be executed once more beside its only live attempt.
+    /// Whether the task may have a second live attempt beside its only one.
     #[tactic(auto, using(crate::proofs::BackupTasks::lone_yes, crate::proofs::BackupTasks::lone_no))]
     fn is_lone(&self, shape: Shape, task: Task) -> bool
         ensures { result ≡ is_lone shape self.now task }
@@ -121,8 +122,10 @@ impl MasterState {
 
     /// The task of the worker's live attempt.
     fn current_task(&self, worker: usize) -> Option<Task>
-        ensures there { (t : Task) → result ≡ Some t → (a : ℕ) × (x : Attempt) × (slice_get self.now.attempts a ≡ Some x) × (x.task ≡ t) }
-        ensures only { (a : ℕ) (x : Attempt) → slice_get self.now.attempts a ≡ Some x → x.live ≡ true → x.worker ≡ worker → result ≡ Some x.task }
+        ensures there { (t : Task) → result ≡ Some t
+            → (a : ℕ) × (x : Attempt) × (slice_get self.now.attempts a ≡ Some x) × (x.task ≡ t) }
+        ensures only { (a : ℕ) (x : Attempt) → slice_get self.now.attempts a ≡ Some x
+            → x.live ≡ true → x.worker ≡ worker → result ≡ Some x.task }
     {
         match self.attempts.current(worker) {
             Some(attempt) => self.task_at(attempt),
@@ -130,10 +133,11 @@ impl MasterState {
         }
     }
 
-    /// A task that another worker executes alone: one of those that workers execute now.
+    /// A task that may have a second attempt: one of those that workers execute now.
     fn find_lone(&self, shape: Shape) -> Option<Task>
         requires { IsGoing shape self.now }
-        ensures { MatchOption result (list_any (is_lone shape self.now) (tasks shape) ≡ false) (λ t. (is_lone shape self.now t ≡ true) × (is_task shape t ≡ true)) }
+        ensures { MatchOption result (list_any (is_lone shape self.now) (tasks shape) ≡ false)
+            (λ t. (is_lone shape self.now t ≡ true) × (is_task shape t ≡ true)) }
     {
         for worker in 0..self.attempts.workers() {
             if let Some(task) = self.current_task(worker) {
@@ -145,18 +149,18 @@ impl MasterState {
         None
     }
 
-    /// Whether the worker has a live attempt.
     fn is_busy(&self, worker: u32) -> bool
         ensures { result ≡ has_live self.now worker }
     {
         self.attempts.current(worker as usize).is_some()
     }
 
-    /// A task that may be given to the worker.
+    /// A task that the worker may get.
     fn task_for(&mut self, shape: Shape, worker: u32) -> Option<Task>
         requires { IsGoing shape self.old }
         ensures same { self.new ≡ self.old }
-        ensures found { MatchOption result (list_any (may_give shape self.old worker) (tasks shape) ≡ false) (λ t. may_give shape self.old worker t ≡ true) }
+        ensures found { MatchOption result (list_any (may_give shape self.old worker) (tasks shape)
+            ≡ false) (λ t. may_give shape self.old worker t ≡ true) }
     {
         if self.is_busy(worker) {
             return None;
@@ -167,7 +171,6 @@ impl MasterState {
         self.find_lone(shape)
     }
 
-    /// How many attempts were issued.
     fn issued(&self) -> u32
         requires { length self.now.attempts < 2 ^ 31 }
         ensures { result ≡ length self.now.attempts }
@@ -175,7 +178,7 @@ impl MasterState {
         self.attempts.as_slice().len() as u32
     }
 
-    /// Issues an attempt of a map task. Answers two equal replies.
+    /// Issues an attempt of a map task. Returns two equal replies.
     fn issue_map(
         &mut self,
         alloc: Global,
@@ -209,7 +212,7 @@ impl MasterState {
         ))
     }
 
-    /// The records left out of a split.
+    /// A copy of the records left out of a split.
     fn set_of(&self, alloc: Global, split: u32) -> Result<Skips, AllocError>
         ensures { IfOk result (λ k. (sp : Split) → slice_get self.now.splits split ≡ Some sp → k ≡ sp.skips) }
     {
@@ -219,21 +222,21 @@ impl MasterState {
         }
     }
 
-    /// One attempt more.
     fn push(&mut self, attempt: Attempt) -> Result<(), AllocError>
         requires few { length self.old.attempts < 2 ^ 31 }
         requires live { attempt.live ≡ true }
         requires free { has_live self.old attempt.worker ≡ false }
         requires worker { attempt.worker < length self.old.lost }
         requires task { IsBelow (length self.old.splits) (length self.old.committed) attempt.task }
-        ensures ok { OnOk result (self.new ≡ record self.old { attempts = self.old.attempts ++ attempt ∷ [] }) }
+        ensures ok { OnOk result (self.new
+            ≡ record self.old { attempts = self.old.attempts ++ attempt ∷ [] }) }
         ensures err { OnErr result (self.new ≡ self.old) }
     {
         self.attempts.push(attempt)?;
         Ok(())
     }
 
-    /// Issues an attempt of a reduce task. Answers two equal replies.
+    /// Issues an attempt of a reduce task. Returns two equal replies.
     fn issue_reduce(
         &mut self,
         alloc: Global,
@@ -257,7 +260,7 @@ impl MasterState {
         ))
     }
 
-    /// A worker asks for a task. Answers two equal replies.
+    /// A worker asks for a task. Returns two equal replies.
     #[tactic(auto, using(crate::proofs::Asks::asked_lost, crate::proofs::Asks::asked_active, crate::proofs::Asks::given_wait))]
     pub(crate) fn ask(
         &mut self,
@@ -281,9 +284,9 @@ impl MasterState {
     }
 }
 
-/// A live attempt of a map task that leaves out these records.
 fn map_attempt(alloc: Global, worker: u32, split: u32, skips: &Skips) -> Result<Attempt, AllocError>
-    ensures { IfOk result (λ a. a ≡ record { worker = worker; task = Task.Map split; skips = skips.now; fetched = []; live = true }) }
+    ensures { IfOk result
+        (λ a. a ≡ record { worker = worker; task = Task.Map split; skips = skips.now; fetched = []; live = true }) }
 {
     let own = Skips::copy_of(alloc, skips.as_slice())?;
     let spare = Skips::copy_of(alloc, skips.as_slice())?;
@@ -291,14 +294,14 @@ fn map_attempt(alloc: Global, worker: u32, split: u32, skips: &Skips) -> Result<
     Ok(Attempt::of(worker, Task::Map(split), own, spare, fetched))
 }
 
-/// A live attempt of a reduce task.
 fn reduce_attempt(
     alloc: Global,
     shape: Shape,
     worker: u32,
     partition: u32,
 ) -> Result<Attempt, AllocError>
-    ensures { IfOk result (λ a. a ≡ record { worker = worker; task = Task.Reduce partition; skips = []; fetched = replicate shape.maps None; live = true }) }
+    ensures { IfOk result
+        (λ a. a ≡ record { worker = worker; task = Task.Reduce partition; skips = []; fetched = replicate shape.maps None; live = true }) }
 {
     let fetched = Fetched::none(alloc, shape.maps)?;
     Ok(Attempt::of(

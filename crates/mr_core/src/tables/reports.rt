@@ -1,4 +1,4 @@
-//! The events but `Ask`: each has one reply.
+//! Handles all events but `Ask`.
 ghost use Rattle.std.specs.Prelude.{◌≡◌, ℕ, ◌≤◌, ◌<◌, true, false, Some, None, ◌&&◌, nat_lt, MatchOption, OnOk, OnErr, IfOk, slice_get, is_some, length};
 ghost use Rattle.std.specs.List.{list_all};
 ghost use Rattle.mr_core.specs.declared.event.Shape.{Shape};
@@ -15,15 +15,16 @@ use crate::splits::{longer_list, put_longer};
 use std::alloc::AllocError;
 
 impl MasterState {
-    /// The output of a split, with the worker that has it; None where there is no such split.
+    /// The output of a split, with its worker; `None` where there is no such split.
     fn split_output(&self, map: u32) -> Option<Option<(u64, u32)>>
-        ensures { MatchOption result (slice_get self.now.splits map ≡ None) (λ o. (sp : Split) × (slice_get self.now.splits map ≡ Some sp) × (sp.output ≡ o)) }
+        ensures { MatchOption result (slice_get self.now.splits map ≡ None)
+            (λ o. (sp : Split) × (slice_get self.now.splits map ≡ Some sp) × (sp.output ≡ o)) }
     {
         let split = self.splits.as_slice().get(map as usize)?;
         Some(split.output)
     }
 
-    /// The live attempt, which is one of the task, ends: the cursors move back to the task.
+    /// Ends the live attempt, and moves the cursor back to its task.
     fn finish(&mut self, attempt: u32, task: Task)
         requires { IsLive self.old attempt task }
         ensures { self.new ≡ finish attempt self.old }
@@ -39,7 +40,7 @@ impl MasterState {
         self.attempts.note_fetch(attempt, map, output);
     }
 
-    /// The live attempt of the partition ends, and its output is committed.
+    /// Ends the live attempt of the partition, and commits its output.
     fn commit(&mut self, attempt: u32, partition: u32, output: u64)
         requires { IsLive self.old attempt (Task.Reduce partition) }
         ensures { self.new ≡ commit partition output (finish attempt self.old) }
@@ -69,9 +70,10 @@ impl MasterState {
         Reply::Region { output }
     }
 
-    /// Whether the attempt has fetched the output of every split.
+    /// Whether the attempt has fetched from every split.
     fn has_all(&self, attempt: u32) -> bool
-        ensures { (at : Attempt) → live_attempt self.now attempt ≡ Some at → result ≡ list_all is_some at.fetched }
+        ensures { (at : Attempt) → live_attempt self.now attempt ≡ Some at
+            → result ≡ list_all is_some at.fetched }
     {
         match self.attempts.as_slice().get(attempt as usize) {
             Some(attempt) => all_some(attempt.fetched()),
@@ -81,7 +83,8 @@ impl MasterState {
 
     /// A reduce attempt is done.
     pub(crate) fn reduce_done(&mut self, attempt: u32, output: u64) -> Reply
-        ensures { (sh : Shape) → outcome sh self.old (Event.ReduceDone attempt output) ≡ replies result self.new }
+        ensures { (sh : Shape)
+            → outcome sh self.old (Event.ReduceDone attempt output) ≡ replies result self.new }
     {
         let Some(task) = self.live_task(attempt) else {
             return Reply::Ignored;
@@ -98,9 +101,10 @@ impl MasterState {
         Reply::Accepted
     }
 
-    /// Whether the split takes an output under what the attempt leaves out.
+    /// Whether the split has no output, and accepts one without the attempt's left-out records.
     fn takes(&self, attempt: u32, split: u32) -> bool
-        ensures { (at : Attempt) → live_attempt self.now attempt ≡ Some at → result ≡ takes at.skips (slice_get self.now.splits split) }
+        ensures { (at : Attempt) → live_attempt self.now attempt ≡ Some at
+            → result ≡ takes at.skips (slice_get self.now.splits split) }
     {
         let Some(attempt) = self.attempts.as_slice().get(attempt as usize) else {
             return false;
@@ -112,10 +116,10 @@ impl MasterState {
         }
     }
 
-    /// The split is complete, with what a live attempt gave.
     fn complete(&mut self, attempt: u32, split: u32, output: u64)
         requires { IsLive self.old attempt (Task.Map split) }
-        ensures { (at : Attempt) → live_attempt self.old attempt ≡ Some at → self.new ≡ complete split at.skips output at.worker (finish attempt self.old) }
+        ensures { (at : Attempt) → live_attempt self.old attempt ≡ Some at
+            → self.new ≡ complete split at.skips output at.worker (finish attempt self.old) }
     {
         self.attempts
             .complete(attempt, &mut self.splits, split, output);
@@ -123,7 +127,8 @@ impl MasterState {
 
     /// A map attempt is done.
     pub(crate) fn map_done(&mut self, attempt: u32, output: u64) -> Reply
-        ensures { (sh : Shape) → outcome sh self.old (Event.MapDone attempt output) ≡ replies result self.new }
+        ensures { (sh : Shape)
+            → outcome sh self.old (Event.MapDone attempt output) ≡ replies result self.new }
     {
         let Some(task) = self.live_task(attempt) else {
             return Reply::Ignored;
@@ -149,7 +154,6 @@ impl MasterState {
         self.next_part = 0;
     }
 
-    /// A worker is lost.
     pub(crate) fn lose(&mut self, worker: u32) -> Reply
         ensures { (sh : Shape) → outcome sh self.old (Event.Lose worker) ≡ replies result self.new }
     {
@@ -160,9 +164,10 @@ impl MasterState {
         Reply::Accepted
     }
 
-    /// The output of the latest fetch that the attempt made of the split.
+    /// The output of the attempt's latest fetch from the split.
     fn latest(&self, attempt: u32, map: u32) -> Option<u64>
-        ensures { (at : Attempt) → live_attempt self.now attempt ≡ Some at → result ≡ latest_in (slice_get at.fetched map) }
+        ensures { (at : Attempt) → live_attempt self.now attempt ≡ Some at
+            → result ≡ latest_in (slice_get at.fetched map) }
     {
         match self.attempts.as_slice().get(attempt as usize) {
             Some(attempt) => attempt.latest(map),
@@ -170,7 +175,7 @@ impl MasterState {
         }
     }
 
-    /// The split has no output any more, where it has the one of this number: the cursor moves back to it.
+    /// Removes the split's output, where it has this number, and moves the cursor back.
     fn empty(&mut self, map: u32, output: u64)
         ensures { self.new ≡ damage map output self.old }
     {
@@ -178,7 +183,7 @@ impl MasterState {
         self.splits.damage(map, output);
     }
 
-    /// A reduce attempt can't read what it fetched of a split.
+    /// A reduce attempt can't read what it fetched from a split.
     pub(crate) fn damaged(&mut self, attempt: u32, map: u32) -> Reply
         ensures { (sh : Shape) → outcome sh self.old (Event.Damaged attempt map) ≡ replies result self.new }
     {
@@ -197,7 +202,6 @@ impl MasterState {
         Reply::Accepted
     }
 
-    /// Whether an attempt of the split has failed on the record.
     fn has_failed(&self, split: u32, number: u32) -> bool
         ensures { result ≡ failed_before self.now split number }
     {
@@ -207,9 +211,10 @@ impl MasterState {
         }
     }
 
-    /// Whether the record of the split has failed before, and may yet be left out.
+    /// Whether the record failed before, and may yet be left out.
     fn may_leave_out(&self, split: u32, number: u32) -> bool
-        ensures { result ≡ (failed_before self.now split number && may_leave_out number (slice_get self.now.splits split)) }
+        ensures { result ≡ (failed_before self.now split number && may_leave_out number
+            (slice_get self.now.splits split)) }
     {
         let before = self.has_failed(split, number);
         match self.splits.as_slice().get(split as usize) {
@@ -218,14 +223,13 @@ impl MasterState {
         }
     }
 
-    /// Whether one record more may be left out.
     fn has_room(&self, limit: u32) -> bool
         ensures { result ≡ nat_lt (left_out self.now) limit }
     {
         self.splits.has_room(limit)
     }
 
-    /// A failure of an attempt on a record of its split, which is left out from now on where `adds` says so.
+    /// Records a failure and ends its attempt. Where `adds` holds, the record is left out.
     fn note_failure(
         &mut self,
         attempt: u32,
@@ -234,8 +238,10 @@ impl MasterState {
         adds: bool,
     ) -> Result<(), AllocError>
         requires { IsLive self.old attempt (Task.Map split) }
-        ensures noted { OnOk result (adds ≡ false → self.new ≡ note_failure split number (finish attempt self.old)) }
-        ensures added { OnOk result (adds ≡ true → self.new ≡ leave_out split number (note_failure split number (finish attempt self.old))) }
+        ensures noted { OnOk result (adds ≡ false
+            → self.new ≡ note_failure split number (finish attempt self.old)) }
+        ensures added { OnOk result (adds ≡ true → self.new
+            ≡ leave_out split number (note_failure split number (finish attempt self.old))) }
         ensures err { OnErr result (self.new ≡ self.old) }
     {
         let longer = longer_list(self.failures.as_slice(), split, number)?;
@@ -246,7 +252,7 @@ impl MasterState {
         Ok(())
     }
 
-    /// A map attempt failed on a record of its split. With the reply: whether one record too many was to be left out.
+    /// The flag of the reply says that one record too many would be left out.
     #[tactic(auto, using(crate::proofs::Outcomes::failed_noted, crate::proofs::Outcomes::failed_over, crate::proofs::Outcomes::failed_left_out, crate::proofs::Outcomes::failed_dead, crate::proofs::Outcomes::failed_of_reduce))]
     pub(crate) fn map_failed(
         &mut self,
@@ -254,7 +260,8 @@ impl MasterState {
         attempt: u32,
         number: u32,
     ) -> Result<(Reply, bool), AllocError>
-        ensures ok { IfOk result (λ r. outcome shape self.old (Event.MapFailed attempt number) ≡ record { reply = r.0; state = self.new; over = r.1 }) }
+        ensures ok { IfOk result (λ r. outcome shape self.old (Event.MapFailed attempt number)
+            ≡ record { reply = r.0; state = self.new; over = r.1 }) }
         ensures err { OnErr result (self.new ≡ self.old) }
     {
         let Some(task) = self.live_task(attempt) else {
@@ -270,7 +277,7 @@ impl MasterState {
     }
 }
 
-/// The cursor of the map tasks, not past the task.
+/// The cursor of the map tasks, moved back to the task where it is past it.
 fn map_cursor(next: u32, task: Task) -> u32
     ensures back { result ≤ next }
     ensures here { (s : ℕ) → task ≡ Task.Map s → result ≤ s }
@@ -281,7 +288,7 @@ fn map_cursor(next: u32, task: Task) -> u32
     }
 }
 
-/// The cursor of the reduce tasks, not past the task.
+/// The cursor of the reduce tasks, moved back to the task where it is past it.
 fn part_cursor(next: u32, task: Task) -> u32
     ensures back { result ≤ next }
     ensures here { (p : ℕ) → task ≡ Task.Reduce p → result ≤ p }
