@@ -18,9 +18,8 @@ ghost use Rattle.mr_book.specs.AssembledLaws.{CutsDontMatter, DoneIsAGoodResult,
 ghost use Rattle.mr_book.specs.AssembledLaws.{DoneIsGood, DoneIsSequential, DoneSetsAreFixed};
 ghost use Rattle.mr_book.specs.AssembledLaws.{ValuesAreSequential};
 
-use crate::event_log::{EventLog, HistoryEntry};
+use crate::event_log::{EventLog, HistoryEntry, Seat};
 use crate::output_store::{Kept, OutputStore};
-use crate::seat::Seat;
 use mr_core::{Core, End, Event, Limits, Reply, Shape, Task};
 use mr_task::{ReduceOutput, Stored};
 use std::alloc::{AllocError, AllocFailed, Global};

@@ -6,12 +6,10 @@ mod assembling;
 mod book;
 mod event_log;
 mod output_store;
-mod seat;
 mod spelling;
 
 pub use book::{
     Book, History, attempts_law, done_law, values_law, what_is_complete_is_stored, worked_law,
 };
-pub use event_log::HistoryEntry;
+pub use event_log::{HistoryEntry, Seat};
 pub use output_store::Kept;
-pub use seat::Seat;

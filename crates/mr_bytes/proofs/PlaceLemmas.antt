@@ -2,7 +2,7 @@
 use Rattle.std.proofs.Common.{◌≡◌, ℕ, zero, suc, ◌+◌, ◌-◌, ◌<◌, ◌≤◌, List, [], ◌∷◌, ◌++◌, length, take, refl, ap, sym, ◌∙◌, arith}
 use Rattle.std.proofs.lemmas.List.{take-append-le, append-nil, length-map}
 use Rattle.std.proofs.Math.Seq.{take-append-add}
-use Rattle.mr_bytes.specs.declared.offset_column.Place.{Place}
+use Rattle.mr_bytes.specs.declared.columns.Place.{Place}
 use Rattle.mr_bytes.specs.Places.{in_file}
 
 abbrev place : ℕ → ℕ → Place

@@ -4,7 +4,7 @@ use Rattle.std.proofs.lemmas.List.{take-append-le, take-replicate, append-nil, l
 use Rattle.std.proofs.Math.Seq.{take-append-add}
 use Rattle.mr_bytes.specs.declared.Value.{Value}
 use Rattle.mr_bytes.specs.declared.Value.TheVariants.{One, At}
-use Rattle.mr_bytes.specs.declared.offset_column.Place.{Place}
+use Rattle.mr_bytes.specs.declared.columns.Place.{Place}
 use Rattle.mr_bytes.specs.Values.{column, at, AreOnes, BeginsOtherwise}
 
 -- a list that doesn't begin with One, behind so many of them: where all are One it is empty

@@ -1,6 +1,6 @@
 -- Places in a list of which those of the first file are stored as offsets, and the others with their files.
 use Rattle.std.specs.Prelude.{ℕ, List, map}
-use Rattle.mr_bytes.specs.declared.offset_column.Place.{Place}
+use Rattle.mr_bytes.specs.declared.columns.Place.{Place}
 
 -- places in one file, by their offsets
 abbrev pub in_file : ℕ → List ℕ → List Place

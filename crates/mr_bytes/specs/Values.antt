@@ -3,7 +3,7 @@
 use Rattle.std.specs.Prelude.{◌≡◌, ℕ, List, [], ◌∷◌, ◌++◌, map, replicate, length}
 use Rattle.mr_bytes.specs.declared.Value.{Value}
 use Rattle.mr_bytes.specs.declared.Value.TheVariants.{One, At}
-use Rattle.mr_bytes.specs.declared.offset_column.Place.{Place}
+use Rattle.mr_bytes.specs.declared.columns.Place.{Place}
 
 -- the value that tells a place
 abbrev pub at : Place → Value

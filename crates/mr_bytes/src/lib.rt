@@ -6,27 +6,19 @@ ghost use Rattle.mr_bytes.specs.Bytes.{is_upper, is_word_byte, fold_byte, folded
 
 use std::alloc::{AllocError, Global};
 
-mod cutting;
-mod gate;
+mod columns;
+mod hooks;
 mod names;
-mod offset_column;
-mod pairs;
-mod progress;
-mod same;
-mod value_column;
 mod words;
 
-pub use cutting::cut;
-pub use gate::{Gate, OpenGate};
-pub use names::{compare_keys, compare_names, compare_records, order_law};
-pub use pairs::{Pair, compare_pairs, sorted_law};
-pub use progress::{Phase, Progress, Throttle, Unwatched};
-pub use same::{
-    clone_of_name, clone_of_record, clone_of_span, clone_of_value, is_same_name, is_same_record,
-    is_same_span, is_same_value,
+pub use columns::ValueColumn;
+pub use hooks::{Gate, OpenGate, Phase, Progress, Throttle, Unwatched};
+pub use names::{
+    Pair, clone_of_name, clone_of_record, clone_of_span, clone_of_value, compare_keys,
+    compare_names, compare_pairs, compare_records, is_same_name, is_same_record, is_same_span,
+    is_same_value, order_law, sorted_law,
 };
-pub use value_column::ValueColumn;
-pub use words::{next_word, word_law};
+pub use words::{cut, next_word, word_law};
 
 /// A part of a text, from the byte at `start` to before the byte at `end`.
 #[derive(Clone, Copy, PartialEq, Eq, Debug)]

@@ -1,11 +1,14 @@
-//! Words, found one after another.
+//! Words, found one after another, and bytes cut in two at a mark.
 ghost use Rattle.std.specs.Prelude.{◌≡◌, ℕ, ◌+◌, ◌^◌, ◌≤◌, ◌<◌, length, drop, take, List, [], ◌∷◌};
-ghost use Rattle.std.specs.Prelude.{◌++◌, MatchOption, IfSome, slice_index, IsTrue, false};
+ghost use Rattle.std.specs.Prelude.{◌++◌, MatchOption, IfSome, slice_index, IsTrue, false, None};
+ghost use Rattle.std.specs.Prelude.{Some};
 ghost use Rattle.mr_bytes.specs.Bytes.{is_word_byte};
 ghost use Rattle.mr_bytes.specs.Words.{word_spans_from};
 ghost use Rattle.mr_bytes.specs.WordLaw.{WordsAreRuns, WordsRise};
+ghost use Rattle.mr_bytes.specs.Cut.{Lacks, cut};
 
 use crate::{Span, is_word_byte};
+use memchr::memchr;
 
 fn skip_to_word(bytes: &[u8], from: usize) -> usize
     requires { from ≤ length bytes.now }
@@ -58,3 +61,16 @@ pub fn word_law()
     ensures runs { WordsAreRuns }
     ensures rise { WordsRise }
 {}
+
+/// The bytes before the first `mark`, and those after it; `None` without one. Takes no memory.
+pub fn cut(bytes: &[u8], mark: u8) -> Option<(&[u8], &[u8])>
+    ensures parts { MatchOption result (Lacks mark bytes.now)
+        (λ r. (bytes.now ≡ r.0.now ++ mark ∷ r.1.now) × Lacks mark r.0.now) }
+    ensures value { MatchOption result (cut mark bytes.now ≡ None)
+        (λ r. cut mark bytes.now ≡ Some (r.0.now, r.1.now)) }
+{
+    match memchr(mark, bytes) {
+        Some(at) => Some((&bytes[..at], &bytes[at + 1..])),
+        None => None,
+    }
+}

@@ -4,8 +4,8 @@ use Rattle.std.proofs.lemmas.List.{length-take, length-drop}
 use Rattle.std.specs.List.{AllByRecursion, flat_map}
 use Rattle.mr_bytes.specs.declared.Name.{Name}
 use Rattle.mr_bytes.specs.declared.RecordName.{RecordName}
-use Rattle.mr_certform.specs.declared.item.Item.{Item}
-use Rattle.mr_certform.specs.declared.item.Item.TheVariants.{LiteralByte, Parts, SplitSize, FileLength, Skip, Entry, End}
+use Rattle.mr_certform.specs.declared.grammar_state.Item.{Item}
+use Rattle.mr_certform.specs.declared.grammar_state.Item.TheVariants.{LiteralByte, Parts, SplitSize, FileLength, Skip, Entry, End}
 use Rattle.mr_certform.specs.declared.grammar_state.GrammarState.TheVariants.{AtParts, AtSkips}
 use Rattle.mr_certform.specs.Places.{first_name, literal_bytes, file_lengths, partitions, skips, groups, entries}
 use Rattle.mr_certform.specs.Spelling.{u32, u64, magic, name_bytes, skip_bytes, bytes_from}

@@ -4,8 +4,8 @@ use Rattle.std.specs.List.{AllByRecursion}
 use Rattle.mr_bytes.specs.declared.Name.{Name}
 use Rattle.mr_bytes.specs.declared.RecordName.{RecordName}
 use Rattle.mr_certform.specs.declared.certificate.Header.{Header}
-use Rattle.mr_certform.specs.declared.item.Item.{Item}
-use Rattle.mr_certform.specs.declared.item.Item.TheVariants.{Job, Flags, LiteralByte, Parts, SplitSize, FileLength, Skip, Groups, Entries, Entry}
+use Rattle.mr_certform.specs.declared.grammar_state.Item.{Item}
+use Rattle.mr_certform.specs.declared.grammar_state.Item.TheVariants.{Job, Flags, LiteralByte, Parts, SplitSize, FileLength, Skip, Groups, Entries, Entry}
 use Rattle.mr_certform.specs.Value.{Contents, NameFits, SkipFits}
 
 -- the groups as counts: of each partition its groups, of each group its entries; and all names

@@ -1,7 +1,7 @@
 -- Of no public promise: the items that are a number of four bytes.
 use Rattle.std.specs.Prelude.{ℕ, ◌&&◌, Option, Some, None, nat_le, if◌then◌else◌}
-use Rattle.mr_certform.specs.declared.item.Item.{Item}
-use Rattle.mr_certform.specs.declared.item.Item.TheVariants.{Job, Flags, LiteralLength, Parts, SplitSize, Files, Skips, Groups, Entries}
+use Rattle.mr_certform.specs.declared.grammar_state.Item.{Item}
+use Rattle.mr_certform.specs.declared.grammar_state.Item.TheVariants.{Job, Flags, LiteralLength, Parts, SplitSize, Files, Skips, Groups, Entries}
 use Rattle.mr_certform.specs.declared.grammar_state.GrammarState.{GrammarState}
 use Rattle.mr_certform.specs.declared.grammar_state.GrammarState.TheVariants.{AtJob, AtFlags, AtLiteralLength, AtParts, AtSplitSize, AtFiles, AtSkips, AtGroups, AtEntries}
 

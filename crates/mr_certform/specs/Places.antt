@@ -1,8 +1,8 @@
 -- Where an item may stand, and what is awaited behind it.
 use Rattle.std.specs.Prelude.{ℕ, zero, suc}
 use Rattle.mr_bytes.specs.declared.Name.{Name}
-use Rattle.mr_certform.specs.declared.item.Item.{Item}
-use Rattle.mr_certform.specs.declared.item.Item.TheVariants.{LiteralLength, Parts, Files, Skips, Groups, Entries, Entry, End}
+use Rattle.mr_certform.specs.declared.grammar_state.Item.{Item}
+use Rattle.mr_certform.specs.declared.grammar_state.Item.TheVariants.{LiteralLength, Parts, Files, Skips, Groups, Entries, Entry, End}
 use Rattle.mr_certform.specs.declared.grammar_state.GrammarState.{GrammarState}
 use Rattle.mr_certform.specs.declared.grammar_state.GrammarState.TheVariants.{AtMagic, AtJob, AtFlags, AtLiteralLength, AtLiteralByte, AtParts, AtSplitSize, AtFiles, AtFileLength, AtSkips, AtSkip, AtGroups, AtEntries, AtEntry, AtEnd, Behind}
 

@@ -1,6 +1,6 @@
 -- What a walker has before it.
 use Rattle.std.specs.Prelude.{ℕ, ◌+◌, ◌-◌, List, length}
-use Rattle.mr_certform.specs.declared.item.Item.{Item}
+use Rattle.mr_certform.specs.declared.grammar_state.Item.{Item}
 use Rattle.mr_certform.specs.declared.walker.Walker.{Walker}
 use Rattle.mr_certform.specs.Spelling.{items_from, bytes_from}
 

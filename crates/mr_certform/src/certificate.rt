@@ -8,7 +8,7 @@ ghost use Rattle.std.specs.Prelude.{MatchOption, length};
 ghost use Rattle.mr_certform.specs.Flat.{told, told_first, nothing_told, total, chunks, AreCounted};
 ghost use Rattle.mr_certform.specs.Value.{names_of};
 
-use crate::item::Item;
+use crate::grammar_state::Item;
 use mr_bytes::{Name, RecordName};
 use std::alloc::{AllocError, Global};
 use std::marker::Model;

@@ -6,8 +6,7 @@ ghost use Rattle.mr_certform.specs.Numbers.{numbered};
 ghost use Rattle.mr_certform.specs.Places.{onward};
 ghost use Rattle.mr_certform.specs.Spelling.{standing, entry_at, name_at};
 
-use crate::grammar_state::{GrammarState, entries_to_come};
-use crate::item::Item;
+use crate::grammar_state::{GrammarState, Item, entries_to_come};
 use crate::short::short_name_of;
 use crate::version::Version;
 use byteorder::{BigEndian, ByteOrder};

@@ -4,7 +4,6 @@
 mod certificate;
 mod front;
 mod grammar_state;
-mod item;
 mod laws;
 mod piecewise;
 mod reading;
@@ -16,8 +15,7 @@ mod write_buffer;
 mod writing;
 
 pub use crate::certificate::{Certificate, FlatGroups, GroupIter, Header, PartitionIter};
-pub use crate::grammar_state::GrammarState;
-pub use crate::item::{Item, Malformed};
+pub use crate::grammar_state::{GrammarState, Item, Malformed};
 pub use crate::laws::{certificate_law, chunks_law, item_law, items_law, pieces_law, text_law};
 pub use crate::piecewise::{partition_size_hint, write_header, write_partition};
 pub use crate::reading::{ReadFault, read};

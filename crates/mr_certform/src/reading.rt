@@ -6,7 +6,7 @@ ghost use Rattle.mr_certform.specs.Flat.{told_by, nothing_told};
 ghost use Rattle.mr_certform.specs.Reading.{IsReadFault, IsHalted};
 
 use crate::certificate::{Certificate, CertificateColumns};
-use crate::item::{Item, Malformed};
+use crate::grammar_state::{Item, Malformed};
 use crate::walker::Walker;
 use std::alloc::{AllocError, Global};
 use thiserror::Error;

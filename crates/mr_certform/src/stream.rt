@@ -2,7 +2,7 @@
 ghost use Rattle.std.specs.Prelude.{◌≡◌, ◌⊎◌, ℕ, ◌≤◌, ◌<◌, ◌+◌, ◌-◌, ◌^◌, List, Some, None, IfOk};
 ghost use Rattle.std.specs.Prelude.{OnOk, IfSome, MatchResult, true, length};
 ghost use Rattle.mr_store.specs.Devices.{Counts, FailsOnly};
-ghost use Rattle.mr_certform.specs.declared.item.Item.{Item as Read};
+ghost use Rattle.mr_certform.specs.declared.grammar_state.Item.{Item as Read};
 ghost use Rattle.mr_certform.specs.declared.grammar_state.GrammarState.TheVariants.{AtMagic};
 ghost use Rattle.mr_certform.specs.Places.{onward};
 ghost use Rattle.mr_certform.specs.Spelling.{items_of, stop, bytes_at};
@@ -10,8 +10,7 @@ ghost use Rattle.mr_certform.specs.Streaming.{stream, MayCome, IsToCome, version
 ghost use Rattle.mr_certform.specs.Streaming.{Counted};
 
 use crate::front::step_of;
-use crate::grammar_state::GrammarState;
-use crate::item::Item;
+use crate::grammar_state::{GrammarState, Item};
 use crate::version::{Version, version_of};
 use mr_store::{CountedRead, Device, ReadBuffer};
 use std::alloc::{AllocError, Global};

@@ -7,8 +7,7 @@ ghost use Rattle.mr_certform.specs.declared.version.Version.TheVariants.{V2};
 ghost use Rattle.mr_certform.specs.Rows.{entries_ahead, behind_entries, items_size};
 
 use crate::front::step_of;
-use crate::grammar_state::{GrammarState, groups_to_come};
-use crate::item::{Item, Malformed};
+use crate::grammar_state::{GrammarState, Item, Malformed, groups_to_come};
 use crate::short::short_name_of;
 use crate::version::{Version, version_of};
 use mr_bytes::Name;

@@ -1,8 +1,8 @@
 -- Partitions that are found one by one.
 use Rattle.std.proofs.Common.{◌≡◌, ℕ, zero, suc, ◌+◌, ◌<◌, ◌≤◌, true, false, Option, List, [], ◌∷◌, ◌++◌, length, refl, ap, sym, ◌∙◌, arith, append_assoc, append-nil, get_or, drop, Some, None, Bool}
 use Rattle.std.proofs.lemmas.Bool.{false≢true}
-use Rattle.mr_certform.specs.declared.item.Item.{Item}
-use Rattle.mr_certform.specs.declared.item.Item.TheVariants.{Groups, Entries, Entry, End}
+use Rattle.mr_certform.specs.declared.grammar_state.Item.{Item}
+use Rattle.mr_certform.specs.declared.grammar_state.Item.TheVariants.{Groups, Entries, Entry, End}
 use Rattle.mr_certform.specs.declared.grammar_state.GrammarState.{GrammarState}
 use Rattle.mr_certform.specs.declared.grammar_state.GrammarState.TheVariants.{AtGroups, AtEntries, AtEntry, AtEnd, Behind}
 use Rattle.mr_certform.specs.Places.{partitions, groups, entries, first_name}
@@ -12,7 +12,7 @@ use Rattle.mr_certform.specs.Spelling.{is_ended, left_behind}
 use Rattle.mr_certform.specs.Walking.{items_left}
 use Rattle.mr_certform.specs.Rows.{entries_ahead, behind_entries}
 use Rattle.mr_check.specs.declared.front.Front.{Front}
-use Rattle.mr_verdict.specs.declared.fault.No.TheVariants.{Malformed, Unnamed}
+use Rattle.mr_verdict.specs.declared.answers.No.TheVariants.{Malformed, Unnamed}
 use Rattle.std.specs.Prelude.{nat_le}
 use Rattle.mr_verdict.specs.Verdict.{Subject, passes, start, part_faults, first, entries_in}
 use Rattle.mr_verdict.specs.VerdictLaws.{told, piece, or_else, part_fault, least_fault, back_fault, parts_in}

@@ -2,10 +2,10 @@
 use Rattle.std.proofs.Common.{◌≡◌, ℕ, ◌+◌, ◌<◌, Bool, true, Ok, List, [], ◌∷◌, length, drop, get_or, refl, ap, sym, subst, ◌∙◌, arith}
 use Rattle.std.proofs.lemmas.List.{drop_more, drop_all, drop-drop}
 use Rattle.std.proofs.lemmas.Bool.{false≢true}
-use Rattle.mr_certform.specs.declared.item.Item.{Item}
-use Rattle.mr_certform.specs.declared.item.Item.TheVariants.{Groups, End}
+use Rattle.mr_certform.specs.declared.grammar_state.Item.{Item}
+use Rattle.mr_certform.specs.declared.grammar_state.Item.TheVariants.{Groups, End}
 use Rattle.mr_certform.specs.Spelling.{left_behind}
-use Rattle.mr_judge.specs.declared.blocks.FoundItem.{FoundItem}
+use Rattle.mr_judge.specs.declared.border.FoundItem.{FoundItem}
 use Rattle.mr_verdict.specs.Verdict.{Reached, Subject, tests, after, first}
 use Rattle.mr_verdict.specs.VerdictLaws.{told, piece}
 use Rattle.mr_verdict.specs.Steps.{HasRoom, Room}

@@ -4,16 +4,16 @@ use Rattle.std.proofs.lemmas.Bool.{false≢true}
 use Rattle.std.proofs.lemmas.List.{drop_all, drop-drop, length-take-le}
 use Rattle.std.proofs.lemmas.List.Elements.{All-weaker}
 use Rattle.std.specs.Prelude.{All}
-use Rattle.mr_certform.specs.declared.item.Item.{Item}
-use Rattle.mr_certform.specs.declared.item.Item.TheVariants.{Groups, Entries, Entry, End}
+use Rattle.mr_certform.specs.declared.grammar_state.Item.{Item}
+use Rattle.mr_certform.specs.declared.grammar_state.Item.TheVariants.{Groups, Entries, Entry, End}
 use Rattle.mr_certform.specs.declared.walker.Walker.{Walker}
 use Rattle.mr_certform.specs.Walking.{items_left}
 use Rattle.mr_certform.specs.Rows.{entries_ahead, behind_entries}
-use Rattle.mr_judge.specs.declared.blocks.FoundItem.{FoundItem}
+use Rattle.mr_judge.specs.declared.border.FoundItem.{FoundItem}
 use Rattle.mr_judge.specs.declared.border.Border.{Border}
 use Rattle.mr_judge.specs.Borders.{at_border}
 use Rattle.mr_judge.proofs.Faults.{told_is}
-use Rattle.mr_verdict.specs.declared.fault.No.{No}
+use Rattle.mr_verdict.specs.declared.answers.No.{No}
 use Rattle.mr_verdict.specs.Verdict.{Reached, Subject, first}
 use Rattle.mr_verdict.specs.VerdictLaws.{told, piece, or_else, part_fault, least_fault}
 use Rattle.mr_judge.specs.Blocks.{onto, items_in}
@@ -21,8 +21,8 @@ use Rattle.mr_verdict.specs.Steps.{opens, Room}
 use Rattle.mr_check.specs.declared.front.Front.{Front}
 use Rattle.mr_check.specs.declared.front.Section.{Section}
 use Rattle.mr_check.specs.declared.fronts.Reach.{Reach}
-use Rattle.mr_check.specs.declared.section.Outcome.{Outcome}
-use Rattle.mr_check.specs.declared.section.Judged.{Judged}
+use Rattle.mr_check.specs.declared.sections.Outcome.{Outcome}
+use Rattle.mr_check.specs.declared.sections.Judged.{Judged}
 use Rattle.mr_check.specs.Fronts.{closes, part_here, part_at, parts_at, OwnGoesOn}
 use Rattle.mr_check.specs.Sections.{part_from, rest_at, GroupBegins, IsSection, IsOpened, HasWalked, SectionJudged, OutcomeTold, IsJudged, AreJudged}
 use Rattle.mr_check.proofs.FrontLemmas.{part_stays, part_last, least_more}

@@ -1,9 +1,9 @@
 -- Of no public promise: the partitions one by one, each by a walker at its front.
 use Rattle.std.specs.Prelude.{◌≡◌, ℕ, zero, suc, ◌+◌, Bool, true, false, Option, None, Result, Ok, Err, List, [], ◌∷◌, length, drop, Some}
-use Rattle.mr_certform.specs.declared.item.Item.{Item}
-use Rattle.mr_certform.specs.declared.item.Item.TheVariants.{Groups, End}
+use Rattle.mr_certform.specs.declared.grammar_state.Item.{Item}
+use Rattle.mr_certform.specs.declared.grammar_state.Item.TheVariants.{Groups, End}
 use Rattle.mr_certform.specs.Walking.{items_left}
-use Rattle.mr_verdict.specs.declared.fault.No.{No}
+use Rattle.mr_verdict.specs.declared.answers.No.{No}
 use Rattle.mr_check.specs.declared.front.Front.{Front}
 use Rattle.mr_verdict.specs.Verdict.{Reached, Subject, first}
 use Rattle.mr_verdict.specs.VerdictLaws.{told, piece}

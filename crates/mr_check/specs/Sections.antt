@@ -1,10 +1,10 @@
 -- Of no public promise: the sections of a partition, which are judged each by itself, from the border that it is guessed to begin at.
 use Rattle.std.specs.Prelude.{◌≡◌, ◌≤◌, ◌<◌, ◌+◌, ◌-◌, ◌^◌, ◌++◌, ℕ, zero, suc, Option, Some, None, Result, Ok, Err, Bool, List, [], ◌∷◌, length, drop, true, false, slice_index_or}
-use Rattle.mr_certform.specs.declared.item.Item.{Item}
-use Rattle.mr_certform.specs.declared.item.Item.TheVariants.{Entries}
+use Rattle.mr_certform.specs.declared.grammar_state.Item.{Item}
+use Rattle.mr_certform.specs.declared.grammar_state.Item.TheVariants.{Entries}
 use Rattle.mr_certform.specs.Walking.{items_left}
 use Rattle.mr_certform.specs.declared.walker.Walker.{Walker}
-use Rattle.mr_verdict.specs.declared.fault.No.{No}
+use Rattle.mr_verdict.specs.declared.answers.No.{No}
 use Rattle.mr_verdict.specs.Verdict.{Reached, Subject, first}
 use Rattle.mr_verdict.specs.VerdictLaws.{told, piece}
 use Rattle.mr_judge.specs.declared.border.Border.{Border}
@@ -13,9 +13,9 @@ use Rattle.mr_judge.specs.Borders.{at_border}
 use Rattle.mr_check.specs.declared.front.Front.{Front}
 use Rattle.mr_check.specs.declared.front.Section.{Section}
 use Rattle.mr_check.specs.declared.fronts.Reach.{Reach}
-use Rattle.mr_check.specs.declared.section.Outcome.{Outcome}
-use Rattle.mr_check.specs.declared.section.Outcome.TheVariants.{Fault, Ended, Reached as Behind}
-use Rattle.mr_check.specs.declared.section.Judged.{Judged}
+use Rattle.mr_check.specs.declared.sections.Outcome.{Outcome}
+use Rattle.mr_check.specs.declared.sections.Outcome.TheVariants.{Fault, Ended, Reached as Behind}
+use Rattle.mr_check.specs.declared.sections.Judged.{Judged}
 use Rattle.mr_check.specs.Fronts.{part_here, part_at}
 
 -- the items of a partition from here on, of which so many stand before

@@ -6,8 +6,8 @@ use Rattle.mr_splits.specs.Cut.{Cut}
 use Rattle.mr_certform.specs.declared.walker.Walker.{Walker}
 use Rattle.mr_certform.specs.Walking.{items_left, halt}
 use Rattle.mr_verdict.specs.declared.case.Case.{Case}
-use Rattle.mr_verdict.specs.declared.fault.No.{No}
-use Rattle.mr_verdict.specs.declared.yes.Yes.{Yes}
+use Rattle.mr_verdict.specs.declared.answers.No.{No}
+use Rattle.mr_verdict.specs.declared.answers.Yes.{Yes}
 use Rattle.mr_verdict.specs.Headline.{accepted_of}
 use Rattle.mr_verdict.specs.Verdict.{WalkCase, Subject, start, subject_of, part_faults, count_faults, accepted_by, first, entries_in}
 use Rattle.mr_verdict.specs.Steps.{Answers, case_at}

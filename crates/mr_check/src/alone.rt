@@ -2,9 +2,9 @@
 ghost use Rattle.std.specs.Prelude.{◌≡◌, ◌⊎◌, ◌<◌, ◌≤◌, ◌+◌, ◌-◌, ◌^◌, [], List, MatchResult, IfOk};
 ghost use Rattle.std.specs.Prelude.{OnOk, None, Some, true, false, length, drop};
 ghost use Rattle.std.specs.List.{AllByRecursion};
-ghost use Rattle.mr_certform.specs.declared.item.Item.{Item as Read};
+ghost use Rattle.mr_certform.specs.declared.grammar_state.Item.{Item as Read};
 ghost use Rattle.mr_certform.specs.Walking.{items_left, halt};
-ghost use Rattle.mr_verdict.specs.declared.fault.No.TheVariants.{Malformed, OutOfMemory};
+ghost use Rattle.mr_verdict.specs.declared.answers.No.TheVariants.{Malformed, OutOfMemory};
 ghost use Rattle.mr_input.specs.Files.{contents};
 ghost use Rattle.mr_verdict.specs.Verdict.{entries_in, tests, after};
 ghost use Rattle.mr_verdict.specs.VerdictLaws.{part_fault, piece};
@@ -16,10 +16,9 @@ ghost use Rattle.mr_check.specs.Fronts.{is_own as own, part_here, OwnJudged, Ope
 ghost use Rattle.mr_check.specs.Sections.{part_from, GroupBegins, StretchJudged, SectionJudged};
 ghost use Rattle.mr_check.specs.Sections.{IsJudged};
 
-use crate::facts::Facts;
 use crate::front::{Front, Section};
 use crate::fronts::is_opening;
-use crate::section::{Judged, Outcome};
+use crate::sections::{Facts, Judged, Outcome};
 use mr_certform::{Item, Walker};
 use mr_index::Meter;
 use mr_judge::{Block, Border, FoundItem, JudgeState, MemoryOutputs, read_block};

@@ -2,7 +2,7 @@
 ghost use Rattle.std.specs.Prelude.{◌≡◌, ◌⊎◌, [], OnOk, MatchResult, IsTrue};
 ghost use Rattle.mr_splits.specs.Cut.{records_of};
 ghost use Rattle.mr_certform.specs.Walking.{items_left, halt};
-ghost use Rattle.mr_verdict.specs.declared.fault.No.TheVariants.{OutOfMemory};
+ghost use Rattle.mr_verdict.specs.declared.answers.No.TheVariants.{OutOfMemory};
 ghost use Rattle.mr_verdict.specs.Steps.{header_met, awaits_skips, counted, skips_in_front, listed};
 
 use mr_bytes::RecordName;

@@ -1,8 +1,8 @@
 //! Finds where the partitions of a certificate, and their sections, begin.
 ghost use Rattle.std.specs.Prelude.{◌≡◌, ◌<◌, ◌≤◌, ◌+◌, ◌-◌, ◌^◌, ◌++◌, ◌∷◌, [], ℕ, List, All};
 ghost use Rattle.std.specs.Prelude.{IfOk, OnOk, true, false, length};
-ghost use Rattle.mr_certform.specs.declared.item.Item.{Item as Read};
-ghost use Rattle.mr_certform.specs.declared.item.Item.TheVariants.{Groups, Entries};
+ghost use Rattle.mr_certform.specs.declared.grammar_state.Item.{Item as Read};
+ghost use Rattle.mr_certform.specs.declared.grammar_state.Item.TheVariants.{Groups, Entries};
 ghost use Rattle.mr_certform.specs.Spelling.{is_ended};
 ghost use Rattle.mr_certform.specs.Walking.{items_left, halt};
 ghost use Rattle.mr_verdict.specs.Verdict.{entries_in};

@@ -1,24 +1,21 @@
 //! The judge of a result: by one thread (`mr_judge`) and by many, with the verdict of `mr_verdict`.
 #![tactic(auto)]
 
-mod ahead;
 mod alone;
-mod facts;
 mod front;
 mod front_bytes;
 mod fronts;
 mod guesses;
 mod mapping;
 mod options;
-mod section;
 mod sections;
 mod threads;
 
-pub use ahead::{MappedInput, map_input};
 pub use mr_judge::{check, check_from, check_metered, judge_on_one_thread, judge_readers};
 pub use mr_verdict::{
     Case, No, Source, Yes, fault_law, is_same_fault, locality_law, partition_law, place_law,
     worked_places, worked_rows, yes_law,
 };
 pub use options::JudgeOptions;
+pub use sections::{MappedInput, map_input};
 pub use threads::{check_gated, check_threads, judge};

@@ -1,7 +1,7 @@
 //! How a result is judged by threads.
 ghost use Rattle.std.specs.Prelude.{◌≡◌, ◌≤◌};
 
-use crate::ahead::MappedInput;
+use crate::sections::MappedInput;
 use mr_bytes::{Gate, Progress};
 use std::alloc::Global;
 use std::thread::Threads;

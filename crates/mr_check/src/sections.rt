@@ -1,24 +1,31 @@
-//! Judges the sections of all partitions, each by itself, and puts the outcomes together.
+//! Judges the sections of all partitions, each by itself, against the case and all emitted pairs, and
+//! puts the outcomes together. The input is mapped ahead of them.
 ghost use Rattle.std.specs.Prelude.{◌≡◌, ◌<◌, ◌≤◌, ◌+◌, ◌^◌, ℕ, List, All, IfOk, length, drop};
-ghost use Rattle.std.specs.Prelude.{slice_index_or};
+ghost use Rattle.std.specs.Prelude.{slice_index_or, ◌-◌, []};
 ghost use Rattle.mr_verdict.specs.VerdictLaws.{part_fault, least_fault};
 ghost use Rattle.mr_verdict.specs.Steps.{subject};
 ghost use Rattle.mr_check.specs.declared.front.Front.{Front as Begun};
 ghost use Rattle.mr_check.specs.declared.front.Section.{Section as Begins};
 ghost use Rattle.mr_check.specs.Fronts.{part_at, parts_at};
 ghost use Rattle.mr_check.specs.Sections.{rest_at, GroupBegins, IsSection, IsJudgedAt, AreJudged};
+ghost use Rattle.mr_input.specs.Files.{contents, nth_file};
+ghost use Rattle.mr_index.specs.Index.{triples_of};
+ghost use Rattle.mr_check.specs.Ahead.{IsMappedFor};
 
 use crate::alone::{fault_in, judged_from};
-use crate::facts::Facts;
 use crate::front::{Front, Section};
 use crate::guesses::{Guess, guesses_of};
-use crate::options::Crew;
-use crate::section::{Judged, Outcome};
+use crate::mapping::{Mapped, Source, index_of};
+use crate::options::{Crew, JudgeOptions};
 use mr_bytes::{Gate, Phase, Progress};
-use mr_judge::Border;
+use mr_index::EmissionIndex;
+use mr_jobs::Request;
+use mr_judge::{Basis, Border, MemoryOutputs};
+use mr_splits::Plan;
 use mr_tickets::{WorkPieces, draw_all};
-use mr_verdict::No;
+use mr_verdict::{Case, No};
 use std::alloc::{AllocError, Global};
+use std::marker::Model;
 use std::thread::Threads;
 
 /// The number of a section's items: those before the next section, or all that are left.
@@ -198,4 +205,124 @@ pub(crate) fn least_of<'x, 'f, R: Threads + Sync, G: Gate, W: Progress>(
         first_piece,
     )?;
     first_fault(crew.alloc, facts, fronts, sections, &judged, watch)
+}
+
+#[derive(Clone, Copy)]
+pub(crate) enum Outcome<'a> {
+    /// A test failed.
+    Fault(No),
+    /// No test failed, and the partition ends.
+    Ended,
+    /// No test failed, and this border was reached after the section.
+    Reached(Border<'a>),
+}
+
+/// A section that was judged from the guessed border `began`, for `count` items.
+#[derive(Clone, Copy)]
+pub(crate) struct Judged<'a> {
+    pub began: Border<'a>,
+    pub count: u64,
+    pub outcome: Outcome<'a>,
+}
+
+#[derive(Drop)]
+pub(crate) struct Facts<'a> {
+    pub case: &'a Case<'a>,
+    pub index: &'a EmissionIndex,
+}
+
+impl<'a> Model for Facts<'a> {
+    ghost use Rattle.mr_input.specs.Files.{contents};
+    ghost use Rattle.mr_verdict.specs.Steps.{Known};
+
+    ghost Value = { Known };
+
+    ghost view = { λ f. record {
+      request = f.case.now.request.now;
+      triples = f.index.now;
+      outputs = contents f.case.now.outputs.now;
+    } };
+}
+
+impl<'a> Facts<'a> {
+    pub fn basis(&self) -> Basis<'a>
+        ensures { result ≡ record { request = self.now.request; triples = self.now.triples } }
+    {
+        Basis {
+            request: self.case.request,
+            index: self.index,
+        }
+    }
+
+    /// The output before that of partition `next`, after `from` of its bytes, and those after it.
+    pub fn outputs_at(&self, next: u64, from: u64) -> MemoryOutputs<'a>
+        ensures rest { result.rest.now ≡ drop from (nth_file self.now.outputs (next - 1)) }
+        ensures later { contents result.later.now ≡ drop next self.now.outputs }
+        ensures passed { result.passed ≡ from }
+    {
+        MemoryOutputs::at(self.case.outputs, next, from)
+    }
+
+    pub fn emitted(&self) -> u64
+        ensures { result ≡ length self.now.triples }
+    {
+        self.index.total()
+    }
+}
+
+/// What a job emits over an input with no record left out. It may be made before the result.
+#[derive(Drop)]
+pub struct MappedInput<'a> {
+    plan: &'a Plan<'a>,
+    mapped: Mapped,
+}
+
+impl<'a> Model for MappedInput<'a> {
+    ghost use Rattle.std.specs.Prelude.{◌<◌, ◌^◌};
+    ghost use Rattle.mr_check.specs.Ahead.{MappedAhead};
+
+    ghost Value = { MappedAhead };
+
+    ghost view = { λ m. record { plan = m.plan.now; pairs = m.mapped.index } };
+
+    ghost invariant = { λ m. m.mapped.pieces < 2 ^ 21 };
+}
+
+impl<'a> MappedInput<'a> {
+    pub(crate) fn plan(&self) -> &'a Plan<'a>
+        ensures { result.now ≡ self.now.plan }
+    {
+        self.plan
+    }
+
+    /// The pairs, and the number of pieces of work in which they were mapped.
+    pub(crate) fn mapped(&self) -> &Mapped
+        ensures index { result.now.index ≡ self.now.pairs }
+        ensures few { result.now.pieces < 2 ^ 21 }
+    {
+        &self.mapped
+    }
+}
+
+/// Maps the input of this plan, as `judge` does under these options.
+pub fn map_input<'a, R: Threads + Sync, G: Gate, W: Progress>(
+    rt: &R,
+    alloc: Global,
+    request: &Request,
+    plan: &'a Plan<'a>,
+    options: &JudgeOptions<'_, G, W>,
+) -> Result<MappedInput<'a>, AllocError>
+    requires same { plan.now.size ≡ request.now.split }
+    ensures { IfOk result (IsMappedFor request.now plan.entry.now.files) }
+{
+    let crew = Crew { rt, alloc, options };
+    let mapped = index_of(
+        &crew,
+        &Source {
+            plan,
+            job: request.job(),
+            skips: &[],
+        },
+    )?;
+    Ok(MappedInput { plan, mapped })
 }

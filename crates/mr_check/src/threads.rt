@@ -6,7 +6,7 @@ ghost use Rattle.mr_certform.specs.declared.grammar_state.GrammarState.TheVarian
 ghost use Rattle.mr_certform.specs.Grammar.{InOrder};
 ghost use Rattle.mr_certform.specs.Places.{partitions};
 ghost use Rattle.mr_certform.specs.Walking.{items_left};
-ghost use Rattle.mr_verdict.specs.declared.fault.No.TheVariants.{OutOfMemory};
+ghost use Rattle.mr_verdict.specs.declared.answers.No.TheVariants.{OutOfMemory};
 ghost use Rattle.mr_verdict.specs.Verdict.{verdict_of};
 ghost use Rattle.mr_verdict.specs.VerdictLaws.{back_fault};
 ghost use Rattle.mr_verdict.specs.Cases.{IsWorth, verdict_on};
@@ -17,13 +17,12 @@ ghost use Rattle.mr_check.specs.Ahead.{IsMappedForCase};
 ghost use Rattle.mr_check.specs.Fronts.{ends_at};
 ghost use Rattle.mr_check.specs.Threads.{PartsJudged, RestJudged, cut_for, subject_before};
 
-use crate::facts::Facts;
 use crate::front::Fronts;
 use crate::front_bytes::{expect_count_of, expect_header_of, take_skips_of};
 use crate::fronts::fronts_of;
 use crate::mapping::{Mapped, Source, index_of};
 use crate::options::{Crew, JudgeOptions};
-use crate::sections::least_of;
+use crate::sections::{Facts, least_of};
 use mr_bytes::{Gate, OpenGate, Progress, RecordName, Unwatched};
 use mr_certform::Walker;
 use mr_input::Input;

@@ -1,5 +1,5 @@
 //! How a certificate differs from the request, if the judge reports another job or input.
-use crate::cures::run_cure;
+use crate::hints::run_cure;
 use mr_args::{Options, Subcommand, request_of};
 use mr_certform::{Item, Walker};
 use mr_files::{Inspect, PathKind, Store, certificate_name, read_file};

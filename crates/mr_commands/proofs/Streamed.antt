@@ -3,10 +3,10 @@ use Rattle.std.proofs.Common.{◌≡◌, ◌⊎◌, ℕ, Option, Some, None, Lis
 use Rattle.std.specs.Prelude.{Result, Ok, Err}
 use Rattle.mr_jobs.specs.JobSpec.{RequestSpec}
 use Rattle.mr_certform.specs.Streaming.{Agrees as MayBe}
-use Rattle.mr_verdict.specs.declared.fault.No.{No}
-use Rattle.mr_verdict.specs.declared.fault.No.TheVariants.{Device, OutOfMemory}
-use Rattle.mr_verdict.specs.declared.fault.Source.{Source}
-use Rattle.mr_verdict.specs.declared.yes.Yes.{Yes}
+use Rattle.mr_verdict.specs.declared.answers.No.{No}
+use Rattle.mr_verdict.specs.declared.answers.No.TheVariants.{Device, OutOfMemory}
+use Rattle.mr_verdict.specs.declared.answers.Source.{Source}
+use Rattle.mr_verdict.specs.declared.answers.Yes.{Yes}
 use Rattle.mr_judge.specs.From.{AgreeAll, IsVerdictFrom, Judged}
 use Rattle.mr_verdict.specs.Verdict.{verdict_of}
 use Rattle.mr_files.specs.Holding.{Agrees, AllAgree, Holding, Stored}

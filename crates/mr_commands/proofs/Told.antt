@@ -2,8 +2,8 @@
 use Rattle.std.proofs.Common.{◌≡◌, ℕ, List, [], ◌∷◌, Option, None, Some, Result, Ok, Err, refl, ap, sym, subst, inl, inr, arith}
 use Rattle.std.specs.Prelude.{IfSome, option_map, string_bytes}
 use Rattle.mr_jobs.specs.JobSpec.{RequestSpec}
-use Rattle.mr_verdict.specs.declared.fault.No.{No}
-use Rattle.mr_verdict.specs.declared.yes.Yes.{Yes}
+use Rattle.mr_verdict.specs.declared.answers.No.{No}
+use Rattle.mr_verdict.specs.declared.answers.Yes.{Yes}
 use Rattle.mr_shards.specs.Verdict.{Told, spelling}
 use Rattle.mr_files.specs.Holding.{Begins, ChangesAmong, ChangesOnly, Faulty, Stored}
 use Rattle.mr_files.specs.Identities.{AreApart, Known}

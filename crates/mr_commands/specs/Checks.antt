@@ -2,7 +2,7 @@
 use Rattle.std.specs.Prelude.{◌≡◌, ◌⊎◌, ℕ, ◌∷◌, ◌++◌, ◌<◌, ◌≤◌, IsSome, IfSome, Ok, Err, List, [], length, slice_index_or, Contains, ⊤, string_bytes}
 use Rattle.mr_bytes.specs.declared.RecordName.{RecordName}
 use Rattle.mr_jobs.specs.JobSpec.{RequestSpec}
-use Rattle.mr_verdict.specs.declared.fault.No.{No}
+use Rattle.mr_verdict.specs.declared.answers.No.{No}
 use Rattle.mr_verdict.specs.Headline.{IsCertified}
 use Rattle.mr_verdict.specs.Verdict.{verdict_of}
 use Rattle.mr_files.specs.Holding.{Faulty, Holding, Stored}

@@ -2,9 +2,9 @@
 use Rattle.std.specs.Prelude.{◌≡◌, ◌≢◌, ◌⊎◌, ℕ, List, Option, None, IfSome, Result, Ok, Err, option_map, string_bytes}
 use Rattle.mr_input.specs.Files.{contents}
 use Rattle.mr_jobs.specs.JobSpec.{RequestSpec}
-use Rattle.mr_verdict.specs.declared.fault.No.{No}
-use Rattle.mr_verdict.specs.declared.fault.No.TheVariants.{OutOfMemory}
-use Rattle.mr_verdict.specs.declared.yes.Yes.{Yes}
+use Rattle.mr_verdict.specs.declared.answers.No.{No}
+use Rattle.mr_verdict.specs.declared.answers.No.TheVariants.{OutOfMemory}
+use Rattle.mr_verdict.specs.declared.answers.Yes.{Yes}
 use Rattle.mr_verdict.specs.Verdict.{verdict_of}
 use Rattle.mr_shards.specs.Verdict.{spelling}
 use Rattle.mr_files.specs.Holding.{Faulty, Holding, Stored}
@@ -23,7 +23,7 @@ use Rattle.mr_commands.specs.YesLines.{yes_text}
 use Rattle.mr_commands.specs.declared.check_job.CheckJob.{CheckJob}
 use Rattle.mr_commands.specs.declared.check_job.Judgement.{Judgement}
 use Rattle.mr_commands.specs.declared.check_job.ResultBytes.{ResultBytes}
-use Rattle.mr_commands.specs.declared.said.CommandOutput.{CommandOutput}
+use Rattle.mr_commands.specs.declared.texts.CommandOutput.{CommandOutput}
 
 -- what an answer says of a result
 abbrev pub IsAnswer : RequestSpec → List (List ℕ) → List (List ℕ) → List ℕ → Result Yes No → Type 0

@@ -8,7 +8,7 @@ use Rattle.mr_script.specs.Scripts.{IsScriptFault, SpellsScript}
 use Rattle.mr_core.specs.declared.event.JobFault.{JobFault}
 use Rattle.mr_core.specs.declared.event.Shape.{Shape}
 use Rattle.mr_book.specs.declared.book.History.{History}
-use Rattle.mr_verdict.specs.declared.fault.No.{No}
+use Rattle.mr_verdict.specs.declared.answers.No.{No}
 use Rattle.mr_pool.specs.Outcomes.{IsCertifiedRun, IsRunFault, run_shape}
 use Rattle.mr_pool.specs.declared.running.Certified.{Certified as Kept}
 use Rattle.mr_pool.specs.declared.running.RunFault.TheVariants as fault

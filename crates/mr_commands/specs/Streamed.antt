@@ -1,11 +1,11 @@
 -- What readers of a result's files give, and what is told where a read of one fails.
 use Rattle.std.specs.Prelude.{◌≡◌, ◌<◌, ℕ, List, Option, Result, length, get_or, ⊤, string_bytes}
 use Rattle.mr_jobs.specs.JobSpec.{RequestSpec}
-use Rattle.mr_verdict.specs.declared.fault.No.{No}
-use Rattle.mr_verdict.specs.declared.fault.No.TheVariants.{Device}
-use Rattle.mr_verdict.specs.declared.fault.Source.{Source}
-use Rattle.mr_verdict.specs.declared.fault.Source.TheVariants.{Certificate, Output}
-use Rattle.mr_verdict.specs.declared.yes.Yes.{Yes}
+use Rattle.mr_verdict.specs.declared.answers.No.{No}
+use Rattle.mr_verdict.specs.declared.answers.No.TheVariants.{Device}
+use Rattle.mr_verdict.specs.declared.answers.Source.{Source}
+use Rattle.mr_verdict.specs.declared.answers.Source.TheVariants.{Certificate, Output}
+use Rattle.mr_verdict.specs.declared.answers.Yes.{Yes}
 use Rattle.mr_files.specs.Holding.{Agrees, AllAgree}
 use Rattle.mr_commands.specs.Judgements.{IsAnswer}
 use Rattle.mr_args.specs.declared.fault.Fault.{Fault}

@@ -7,11 +7,10 @@ ghost use Rattle.std.specs.Prelude.{◌≡◌, ◌⊎◌, Err, IfErr, IfOk, Ok};
 ghost use Rattle.mr_input.specs.Files.{split_total};
 ghost use Rattle.mr_verdict.specs.Cases.{IsWorth, verdict_on};
 ghost use Rattle.mr_verdict.specs.Headline.{accepted_of};
-ghost use Rattle.mr_verdict.specs.declared.fault.No.{No};
+ghost use Rattle.mr_verdict.specs.declared.answers.No.{No};
 
-use crate::judging::input_notes;
-use crate::said::{CommandOutput, say};
-use crate::streaming::judge_as_read;
+use crate::judging::{input_notes, judge_as_read};
+use crate::texts::{CommandOutput, say};
 use mr_args::{CheckOptions, Fault};
 use mr_bytes::{OpenGate, Progress};
 use mr_check::{Case, JudgeOptions, No, Yes, judge, judge_on_one_thread};

@@ -21,7 +21,7 @@ use crate::input::input_of;
 use crate::judging::check;
 use crate::merging::merge;
 use crate::running::run as run_by_workers;
-use crate::said::{CommandOutput, done_line};
+use crate::texts::{CommandOutput, done_line};
 use mr_args::{Fault, Options, SeqOptions, Subcommand, request_of, skips_of};
 use mr_bytes::{Progress, RecordName};
 use mr_certform::{Certificate, Version, VersionedCertificate, text_law};

@@ -1,28 +1,36 @@
-//! `check`: tests the options, has the result judged, and keeps the verdict of a yes.
+//! `check`: tests the options, has the result judged, held or while its files are read, and keeps the
+//! verdict of a yes.
 ghost use Rattle.std.specs.Prelude.{◌≡◌, ℕ, [], ◌∷◌, ◌++◌, ◌<◌, IfErr, IfOk, IfSome, MatchOption};
 ghost use Rattle.std.specs.Prelude.{OnOk, Contains, map, option_map, slice_index_or, length};
-ghost use Rattle.std.specs.Prelude.{string_bytes};
+ghost use Rattle.std.specs.Prelude.{string_bytes, List, MatchResult, get_or};
 ghost use Rattle.mr_shards.specs.Truth.{note_for as note_of, notes_for};
 ghost use Rattle.mr_files.specs.Holding.{ChangesAmong};
 ghost use Rattle.mr_files.specs.Identities.{AreApart};
 ghost use Rattle.mr_commands.specs.Checks.{AreGoodThreads, IsCheckRefusal, IsFirstLineEnd};
 ghost use Rattle.mr_commands.specs.Checks.{IsNameRefusal, IsOptionRefusal};
 ghost use Rattle.mr_commands.specs.Inputs.{IsInput, IsInputRefusal};
-ghost use Rattle.mr_commands.specs.Judgements.{Judges};
+ghost use Rattle.mr_commands.specs.Judgements.{Judges, AnswersResult, files_judged};
 ghost use Rattle.mr_commands.specs.Named.{AreClear, input_names, read_by_check, verdict_file};
 ghost use Rattle.mr_commands.specs.Named.{written_by_check};
 ghost use Rattle.mr_commands.specs.Verdicts.{IsCheckUnanswered, IsKeptUnder, IsTextRefused};
 ghost use Rattle.mr_commands.specs.Verdicts.{KeepsVerdict, names_kept};
+ghost use Rattle.mr_files.specs.Refusals.{IsUnreadAmong, TellsOf};
+ghost use Rattle.mr_commands.specs.Streamed.{DidFail, GivesAnswer, TellsOther, TellsRead};
 
 use crate::check_job::{CheckJob, Judgement};
 use crate::input::{input_of, name_given};
-use crate::said::CommandOutput;
+use crate::texts::CommandOutput;
 use mr_args::{CheckOptions, Fault, request_of};
 use mr_bytes::Progress;
-use mr_files::{FileFault, Store, names_of_result, write_file};
+use mr_check::{No, Source, Yes, judge_readers};
+use mr_files::{
+    FileFault, NamedReader, ReadCause, ResultReaders, Store, names_of_result, result_readers,
+    write_file,
+};
 use mr_input::Input;
 use mr_jobs::Request;
 use mr_shards::{FileNote, note_for};
+use mr_store::CountedRead;
 use std::alloc::{AllocError, Global};
 use std::thread::Threads;
 
@@ -186,4 +194,62 @@ pub fn check<S: Store, R: Threads + Sync>(
     let Judgement { said, verdict } = judge_asked(rt, store, alloc, asked, watch)?;
     keep(store, alloc, asked.verdict, verdict)?;
     Ok(said)
+}
+
+/// The judge's fault, or that of the file whose read failed.
+fn trace_fault<R: CountedRead + Drop, C: ReadCause>(
+    alloc: Global,
+    parts: &[NamedReader<R, C>],
+    certificate: &NamedReader<R, C>,
+    no: No,
+) -> Result<No, FileFault>
+    requires failed { DidFail (map (λ r. r.failed) parts.now) certificate.now.failed no }
+    ensures { MatchResult result (λ e. TellsOther no e) (λ f. TellsOf C.cause f) }
+{
+    match no {
+        No::Device(Source::Certificate) => Err(certificate.fault(alloc)),
+        No::Device(Source::Output(partition)) => Err(parts[partition as usize].fault(alloc)),
+        _ => Ok(no),
+    }
+}
+
+/// Judges what the readers give; none has failed yet. If a read fails, the fault is its file's.
+fn judge_files<R: CountedRead + Drop, C: ReadCause>(
+    job: &CheckJob<'_>,
+    alloc: Global,
+    parts: &mut [NamedReader<R, C>],
+    certificate: &mut NamedReader<R, C>,
+    watch: &dyn Progress,
+) -> Result<Result<Yes, No>, FileFault>
+    requires parts { (p : ℕ) → get_or (map (λ r. r.failed) parts.old) p 0 ≡ 0 }
+    requires certificate { certificate.old.failed ≡ 0 }
+    ensures answer { IfOk result (GivesAnswer job.now.request.now job.now.input.now
+        (map (λ r. R.remaining r.reader) parts.old) (R.remaining certificate.old.reader)) }
+    ensures refused { IfErr result (TellsOf C.cause) }
+{
+    match judge_readers(alloc, job.request, job.input, parts, certificate, watch) {
+        Ok(yes) => Ok(Ok(yes)),
+        Err(no) => Ok(Err(trace_fault(alloc, parts, certificate, no)?)),
+    }
+}
+
+/// Judges a result while it reads it: the certificate and one part at a time, in pieces.
+pub(crate) fn judge_as_read<S: Store, C: ReadCause>(
+    job: &CheckJob<'_>,
+    store: &S,
+    alloc: Global,
+    watch: &dyn Progress,
+) -> Result<Result<Yes, No>, Fault>
+    requires cause { (n : List ℕ)
+        → IsUnreadAmong (S.unreadable store.now) (files_judged job.now) n → C.cause n }
+    ensures answer { IfOk result (AnswersResult (S.holds store.now) job.now) }
+    ensures refused { IfErr result (TellsRead C.cause) }
+{
+    let options = &job.asked.options;
+    let ResultReaders {
+        mut parts,
+        mut certificate,
+    } = result_readers::<S, C>(store, alloc, options.out, options.parts as usize)?;
+    let parts = parts.as_mut_slice();
+    Ok(judge_files(job, alloc, parts, &mut certificate, watch)?)
 }

@@ -3,17 +3,14 @@
 
 mod check_job;
 mod commands;
-mod history;
 mod input;
 mod judging;
 mod merging;
 mod running;
-mod said;
-mod streaming;
+mod texts;
 
 pub use crate::commands::{execute, seq};
-pub use crate::history::history_text;
 pub use crate::judging::check;
 pub use crate::merging::merge;
 pub use crate::running::{RunOutcome, run};
-pub use crate::said::{CommandOutput, no_line};
+pub use crate::texts::{CommandOutput, history_text, no_line};

@@ -5,7 +5,7 @@ ghost use Rattle.mr_shard_files.specs.Merging.{ChangesResult};
 ghost use Rattle.mr_commands.specs.Merges.{AnswersMerge, IsMergeUnanswered};
 ghost use Rattle.mr_commands.specs.Merges.{merged_line as line_of_merged};
 
-use crate::said::CommandOutput;
+use crate::texts::CommandOutput;
 use itoa::Buffer;
 use mr_args::{Fault, MergeOptions};
 use mr_files::Store;

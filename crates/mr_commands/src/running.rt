@@ -17,9 +17,8 @@ ghost use Rattle.mr_commands.specs.HistoryLines.{history_text};
 ghost use Rattle.mr_commands.specs.Runs.{names_left, read_by_run, written_by_run};
 ghost use Rattle.mr_script.specs.Scripts.{SpellsScript};
 
-use crate::history::history_text;
 use crate::input::{input_of, name_given};
-use crate::said::{CommandOutput, certified_line, failed_line, fault_text};
+use crate::texts::{CommandOutput, certified_line, failed_line, fault_text, history_text};
 use mr_args::{Fault, RunOptions, request_of};
 use mr_book::History;
 use mr_bytes::{OpenGate, Progress};

@@ -2,12 +2,12 @@
 use Rattle.std.proofs.Common.{◌≡◌, ℕ, zero, suc, ◌+◌, ◌<◌, ◌≤◌, true, None, Ok, List, [], ◌∷◌, ◌++◌, length, drop, get_or, refl, ap, sym, subst, ◌∙◌, inl, inr, arith, append_assoc}
 use Rattle.std.proofs.lemmas.List.{drop_more, drop_all}
 use Rattle.std.specs.List.{AllByRecursion}
-use Rattle.mr_certform.specs.declared.item.Item.{Item}
-use Rattle.mr_certform.specs.declared.item.Item.TheVariants.{Magic, Entry, End}
+use Rattle.mr_certform.specs.declared.grammar_state.Item.{Item}
+use Rattle.mr_certform.specs.declared.grammar_state.Item.TheVariants.{Magic, Entry, End}
 use Rattle.mr_certform.specs.Spelling.{left_behind}
-use Rattle.mr_judge.specs.declared.blocks.FoundItem.{FoundItem}
-use Rattle.mr_judge.specs.declared.blocks.Sought.{Sought}
-use Rattle.mr_verdict.specs.declared.fault.No.{No}
+use Rattle.mr_judge.specs.declared.border.FoundItem.{FoundItem}
+use Rattle.mr_judge.specs.declared.border.Sought.{Sought}
+use Rattle.mr_verdict.specs.declared.answers.No.{No}
 use Rattle.mr_verdict.specs.Verdict.{Reached, Subject, tests, after, part_faults, first, entries_in}
 use Rattle.mr_verdict.specs.Steps.{Answers, HasRoom, Room}
 use Rattle.mr_judge.specs.Blocks.{onto, has_end, items_in, items_sought, GoesOn}

@@ -1,8 +1,8 @@
 -- The judge's loop over blocks, whatever walks the items and holds the outputs.
 use Rattle.std.proofs.Common.{◌≡◌, ℕ, ◌+◌, ◌≤◌, true, false, Some, List, sym, subst, arith}
 use Rattle.std.specs.Prelude.{Ok, Err}
-use Rattle.mr_certform.specs.declared.item.Item.{Item}
-use Rattle.mr_verdict.specs.declared.fault.No.TheVariants.{Malformed}
+use Rattle.mr_certform.specs.declared.grammar_state.Item.{Item}
+use Rattle.mr_verdict.specs.declared.answers.No.TheVariants.{Malformed}
 use Rattle.mr_verdict.specs.declared.items.JudgeError.{JudgeError}
 use Rattle.mr_verdict.specs.declared.items.JudgeError.TheVariants.{Fault, Device, TooLong, Output, LongOutput}
 use Rattle.mr_verdict.specs.Verdict.{Reached, start, entries_in}

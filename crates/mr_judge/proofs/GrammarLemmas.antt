@@ -4,16 +4,16 @@ use Rattle.std.specs.Prelude.{Ok, Err, Result, Option, Some, None, nat_le}
 use Rattle.std.proofs.lemmas.Bool.{false≢true, eqb-true}
 use Rattle.mr_bytes.specs.declared.Name.{Name}
 use Rattle.mr_jobs.specs.JobSpec.{RequestSpec, job_literal}
-use Rattle.mr_certform.specs.declared.item.Item.{Item}
-use Rattle.mr_certform.specs.declared.item.Item.TheVariants.{Magic, Job, Flags, LiteralLength, LiteralByte, Parts, SplitSize, Files, FileLength, Skips, Skip, Groups, Entries, Entry, End}
+use Rattle.mr_certform.specs.declared.grammar_state.Item.{Item}
+use Rattle.mr_certform.specs.declared.grammar_state.Item.TheVariants.{Magic, Job, Flags, LiteralLength, LiteralByte, Parts, SplitSize, Files, FileLength, Skips, Skip, Groups, Entries, Entry, End}
 use Rattle.mr_certform.specs.declared.grammar_state.GrammarState.{GrammarState}
 use Rattle.mr_certform.specs.declared.grammar_state.GrammarState.TheVariants.{AtMagic, AtParts, AtFiles, AtSkips, AtGroups, AtEntries, AtEntry, AtEnd, Behind}
 use Rattle.mr_certform.specs.Places.{behind, literal_bytes, file_lengths, partitions, skips, groups, entries, first_name}
 use Rattle.mr_judge.specs.Kinds.{IsOfKind}
-use Rattle.mr_verdict.specs.declared.fault.No.{No}
+use Rattle.mr_verdict.specs.declared.answers.No.{No}
 use Rattle.mr_verdict.specs.Verdict.{item_eq, job_wanted, input_wanted, last_of}
 use Rattle.mr_verdict.specs.Steps.{met, no_skip, skips_in_front, awaits_skips, Counted, counted, listed, unless, skip_fault, Listed}
-use Rattle.mr_verdict.specs.declared.fault.No.TheVariants.{TooManySkips}
+use Rattle.mr_verdict.specs.declared.answers.No.TheVariants.{TooManySkips}
 use Rattle.mr_bytes.specs.declared.RecordName.{RecordName}
 use Rattle.mr_splits.specs.Named.{NamedRecord}
 

@@ -5,11 +5,11 @@ use Rattle.std.specs.Global.{Global}
 use Rattle.std.proofs.lemmas.List.{length-map}
 use Rattle.mr_jobs.specs.JobSpec.{RequestSpec}
 use Rattle.mr_input.specs.Files.{contents}
-use Rattle.mr_certform.specs.declared.item.Item.{Item}
+use Rattle.mr_certform.specs.declared.grammar_state.Item.{Item}
 use Rattle.mr_certform.specs.Spelling.{items_of, stop}
-use Rattle.mr_verdict.specs.declared.yes.Yes.{Yes}
-use Rattle.mr_verdict.specs.declared.fault.No.{No}
-use Rattle.mr_verdict.specs.declared.fault.No.TheVariants.{OutOfMemory}
+use Rattle.mr_verdict.specs.declared.answers.Yes.{Yes}
+use Rattle.mr_verdict.specs.declared.answers.No.{No}
+use Rattle.mr_verdict.specs.declared.answers.No.TheVariants.{OutOfMemory}
 use Rattle.mr_verdict.specs.Verdict.{count_faults, accepted_by, verdict_of, first}
 use Rattle.mr_verdict.specs.Steps.{Answers, header_met, case_at}
 use Rattle.mr_judge.proofs.VerdictLemmas.{accepted, verdict_fault, verdict_ok}

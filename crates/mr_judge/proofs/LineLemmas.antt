@@ -9,8 +9,8 @@ use Rattle.mr_bytes.specs.declared.Value.{Value}
 use Rattle.mr_bytes.specs.declared.Value.TheVariants.{One}
 use Rattle.mr_jobs.specs.JobSpec.{JobSpec, WordCount, LinesWith, Resources, InvertedIndex, has_lines}
 use Rattle.mr_reduce.specs.Text.{place_line, text_of}
-use Rattle.mr_verdict.specs.declared.fault.No.{No}
-use Rattle.mr_verdict.specs.declared.fault.No.TheVariants.{OutputDiffers}
+use Rattle.mr_verdict.specs.declared.answers.No.{No}
+use Rattle.mr_verdict.specs.declared.answers.No.TheVariants.{OutputDiffers}
 use Rattle.mr_verdict.specs.declared.items.JudgeError.{JudgeError}
 use Rattle.mr_verdict.specs.declared.items.JudgeError.TheVariants.{Fault, Device, TooLong, Output, LongOutput}
 use Rattle.mr_verdict.specs.Verdict.{first, passes}

@@ -3,8 +3,8 @@ use Rattle.std.proofs.Common.{◌≡◌, ℕ, ◌+◌, List, [], ◌∷◌, ◌+
 use Rattle.std.specs.Prelude.{Ok}
 use Rattle.mr_jobs.specs.JobSpec.{RequestSpec}
 use Rattle.mr_splits.specs.Named.{NamedRecord}
-use Rattle.mr_certform.specs.declared.item.Item.{Item}
-use Rattle.mr_certform.specs.declared.item.Item.TheVariants.{Skip, Entry}
+use Rattle.mr_certform.specs.declared.grammar_state.Item.{Item}
+use Rattle.mr_certform.specs.declared.grammar_state.Item.TheVariants.{Skip, Entry}
 use Rattle.mr_verdict.specs.Verdict.{Accepted, accepted_by, entries_in}
 use Rattle.mr_verdict.specs.Steps.{header_met, Counted, counted, Listed, listed}
 use Rattle.mr_judge.proofs.VerdictLemmas.{counted_is, listed_accepted, header_accepted}

@@ -1,12 +1,12 @@
 -- The partitions item by item: the faults that are left, and the counters.
 use Rattle.std.proofs.Common.{◌≡◌, ℕ, zero, suc, ◌+◌, ◌-◌, ◌<◌, ◌≤◌, Option, Some, None, List, [], ◌∷◌, ◌++◌, length, refl, ap, sym, ◌∙◌, inl, inr, ◌⊎◌, arith, length-append}
 use Rattle.mr_bytes.specs.declared.Name.{Name}
-use Rattle.mr_certform.specs.declared.item.Item.{Item}
-use Rattle.mr_certform.specs.declared.item.Item.TheVariants.{Groups, Entries, Entry, End}
+use Rattle.mr_certform.specs.declared.grammar_state.Item.{Item}
+use Rattle.mr_certform.specs.declared.grammar_state.Item.TheVariants.{Groups, Entries, Entry, End}
 use Rattle.mr_certform.specs.Spelling.{left_behind}
 use Rattle.mr_bytes.specs.Pairs.{Triple}
 use Rattle.mr_sequential.specs.Good.{named}
-use Rattle.mr_verdict.specs.declared.fault.No.{No}
+use Rattle.mr_verdict.specs.declared.answers.No.{No}
 use Rattle.mr_verdict.specs.Verdict.{Reached, Subject, with_entry, behind_group, entry_tests, after_entry, tests, after, part_faults, first, entries_in}
 use Rattle.mr_verdict.specs.Steps.{Answers, HasRoom, Room}
 use Rattle.mr_judge.proofs.Faults.{first_more, told_left, told_is}

@@ -4,8 +4,8 @@ use Rattle.std.specs.Prelude.{Result, Ok, Err}
 use Rattle.mr_bytes.specs.declared.RecordName.{RecordName}
 use Rattle.mr_jobs.specs.JobSpec.{RequestSpec}
 use Rattle.mr_splits.specs.Cut.{Cut, records_of}
-use Rattle.mr_certform.specs.declared.item.Item.{Item}
-use Rattle.mr_certform.specs.declared.item.Item.TheVariants.{Groups, End}
+use Rattle.mr_certform.specs.declared.grammar_state.Item.{Item}
+use Rattle.mr_certform.specs.declared.grammar_state.Item.TheVariants.{Groups, End}
 use Rattle.mr_certform.specs.declared.grammar_state.GrammarState.TheVariants.{AtMagic, AtSkips}
 use Rattle.mr_certform.specs.declared.walker.Walker.{Walker}
 use Rattle.mr_certform.specs.Grammar.{AreBytes}
@@ -13,8 +13,8 @@ use Rattle.mr_certform.specs.Places.{partitions}
 use Rattle.mr_certform.specs.Walking.{items_left, halt}
 use Rattle.mr_judge.specs.Kinds.{InKind}
 use Rattle.mr_certform.specs.Spelling.{items_of, stop}
-use Rattle.mr_verdict.specs.declared.yes.Yes.{Yes}
-use Rattle.mr_verdict.specs.declared.fault.No.TheVariants.{OtherJob, OtherInput, OutOfMemory}
+use Rattle.mr_verdict.specs.declared.answers.Yes.{Yes}
+use Rattle.mr_verdict.specs.declared.answers.No.TheVariants.{OtherJob, OtherInput, OutOfMemory}
 use Rattle.mr_verdict.specs.declared.items.JudgeError.{JudgeError}
 use Rattle.mr_verdict.specs.declared.items.JudgeError.TheVariants.{Fault, Device, TooLong, Output, LongOutput}
 use Rattle.mr_verdict.specs.Verdict.{start, subject_of, part_faults, count_faults, accepted_by, entries_in, first}

@@ -2,9 +2,9 @@
 use Rattle.std.proofs.Common.{◌≡◌, ℕ, ◌+◌, ◌<◌, true, false, List, ◌∷◌, length, drop, get_or, sym, subst}
 use Rattle.std.specs.Prelude.{Ok, Err}
 use Rattle.std.proofs.lemmas.List.{drop_more}
-use Rattle.mr_certform.specs.declared.item.Item.{Item}
-use Rattle.mr_certform.specs.declared.item.Item.TheVariants.{End}
-use Rattle.mr_judge.specs.declared.blocks.FoundItem.{FoundItem}
+use Rattle.mr_certform.specs.declared.grammar_state.Item.{Item}
+use Rattle.mr_certform.specs.declared.grammar_state.Item.TheVariants.{End}
+use Rattle.mr_judge.specs.declared.border.FoundItem.{FoundItem}
 use Rattle.mr_verdict.specs.declared.items.JudgeError.{JudgeError}
 use Rattle.mr_verdict.specs.declared.items.JudgeError.TheVariants.{Fault, Device, TooLong, Output, LongOutput}
 use Rattle.mr_verdict.specs.Verdict.{Reached, tests, after}

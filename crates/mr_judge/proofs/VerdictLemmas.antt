@@ -7,15 +7,15 @@ use Rattle.mr_bytes.specs.declared.RecordName.{RecordName}
 use Rattle.mr_jobs.specs.JobSpec.{JobSpec, RequestSpec}
 use Rattle.mr_splits.specs.Named.{NamedRecord, named_records}
 use Rattle.mr_splits.specs.Cut.{Cut, is_record, records_of}
-use Rattle.mr_certform.specs.declared.item.Item.{Item}
-use Rattle.mr_certform.specs.declared.item.Item.TheVariants.{Skips, Skip, Entry}
+use Rattle.mr_certform.specs.declared.grammar_state.Item.{Item}
+use Rattle.mr_certform.specs.declared.grammar_state.Item.TheVariants.{Skips, Skip, Entry}
 use Rattle.mr_certform.specs.Spelling.{items_of, stop}
 use Rattle.mr_bytes.specs.Pairs.{Triple}
 use Rattle.mr_sequential.specs.Emitted.{record_triples}
 use Rattle.mr_splits.specs.Kept.{is_past}
 use Rattle.mr_index.specs.Index.{triples_of}
-use Rattle.mr_verdict.specs.declared.fault.No.{No}
-use Rattle.mr_verdict.specs.declared.fault.No.TheVariants.{OtherJob, OtherInput, OutputCount, SkipOrder, NoSuchRecord, TooManySkips}
+use Rattle.mr_verdict.specs.declared.answers.No.{No}
+use Rattle.mr_verdict.specs.declared.answers.No.TheVariants.{OtherJob, OtherInput, OutputCount, SkipOrder, NoSuchRecord, TooManySkips}
 use Rattle.mr_verdict.specs.Verdict.{WalkCase, Accepted, item_eq, last_of, start, subject_of, part_faults, skip_faults, count_faults, wanted_faults, accepted_by, told_by, passes, job_wanted, input_wanted, verdict_of, first, entries_in}
 use Rattle.mr_verdict.specs.Steps.{Counted, subject, met, met_behind, header_met, counted, skip_fault, unless, Listed, listed, no_skip, skips_in_front, awaits_skips, case_at}
 

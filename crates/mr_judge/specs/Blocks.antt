@@ -1,15 +1,15 @@
 -- Of no public promise: what is read and looked up ahead of the tests.
 use Rattle.std.specs.Prelude.{◌≡◌, ℕ, ◌+◌, ◌≤◌, Bool, true, false, Option, Some, None, MatchOption, Result, Ok, Err, List, [], ◌∷◌, length}
 use Rattle.mr_bytes.specs.declared.Name.{Name}
-use Rattle.mr_certform.specs.declared.item.Item.{Item}
-use Rattle.mr_certform.specs.declared.item.Item.TheVariants.{Entry, End}
+use Rattle.mr_certform.specs.declared.grammar_state.Item.{Item}
+use Rattle.mr_certform.specs.declared.grammar_state.Item.TheVariants.{Entry, End}
 use Rattle.mr_bytes.specs.Pairs.{Triple}
 use Rattle.mr_sequential.specs.Good.{named}
-use Rattle.mr_verdict.specs.declared.fault.No.{No}
-use Rattle.mr_judge.specs.declared.blocks.Sought.{Sought}
-use Rattle.mr_judge.specs.declared.blocks.FoundItem.{FoundItem}
+use Rattle.mr_verdict.specs.declared.answers.No.{No}
+use Rattle.mr_judge.specs.declared.border.Sought.{Sought}
+use Rattle.mr_judge.specs.declared.border.FoundItem.{FoundItem}
 use Rattle.mr_verdict.specs.Verdict.{Reached, Subject, start, part_faults, first, entries_in}
-use Rattle.mr_verdict.specs.declared.fault.No.TheVariants.{OutOfMemory}
+use Rattle.mr_verdict.specs.declared.answers.No.TheVariants.{OutOfMemory}
 use Rattle.mr_verdict.specs.declared.items.JudgeError.{JudgeError}
 use Rattle.mr_verdict.specs.declared.items.JudgeError.TheVariants.{Fault}
 use Rattle.mr_verdict.specs.Items.{Coming, CanCome}

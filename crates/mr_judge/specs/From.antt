@@ -3,10 +3,10 @@ use Rattle.std.specs.Prelude.{◌≡◌, ◌⊎◌, ℕ, ◌<◌, List, [], ◌�
 use Rattle.mr_jobs.specs.JobSpec.{RequestSpec}
 use Rattle.mr_certform.specs.Grammar.{AreBytes}
 use Rattle.mr_certform.specs.Streaming.{Agrees}
-use Rattle.mr_verdict.specs.declared.fault.No.{No}
-use Rattle.mr_verdict.specs.declared.fault.No.TheVariants.{OutOfMemory, Device}
-use Rattle.mr_verdict.specs.declared.fault.Source.TheVariants.{Certificate, Output}
-use Rattle.mr_verdict.specs.declared.yes.Yes.{Yes}
+use Rattle.mr_verdict.specs.declared.answers.No.{No}
+use Rattle.mr_verdict.specs.declared.answers.No.TheVariants.{OutOfMemory, Device}
+use Rattle.mr_verdict.specs.declared.answers.Source.TheVariants.{Certificate, Output}
+use Rattle.mr_verdict.specs.declared.answers.Yes.{Yes}
 use Rattle.mr_verdict.specs.Verdict.{verdict_of}
 use Rattle.mr_verdict.specs.Headline.{IsCertified, accepted_of}
 

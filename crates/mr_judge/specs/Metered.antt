@@ -3,7 +3,7 @@ use Rattle.std.specs.Prelude.{◌≡◌, ℕ, ◌+◌, ◌≤◌, List, length}
 use Rattle.mr_bytes.specs.declared.RecordName.{RecordName}
 use Rattle.mr_jobs.specs.JobSpec.{RequestSpec}
 use Rattle.mr_splits.specs.Cut.{Cut, records_of}
-use Rattle.mr_certform.specs.declared.item.Item.{Item}
+use Rattle.mr_certform.specs.declared.grammar_state.Item.{Item}
 use Rattle.mr_index.specs.declared.index.Meter.{Meter}
 use Rattle.mr_index.specs.Index.{mapped_among}
 use Rattle.mr_verdict.specs.Verdict.{entries_in}

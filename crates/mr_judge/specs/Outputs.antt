@@ -3,10 +3,10 @@ use Rattle.std.specs.Prelude.{◌≡◌, ◌⊎◌, None, ℕ, zero, suc, ◌+�
 use Rattle.std.specs.List.{common_prefix_len}
 use Rattle.mr_store.specs.Devices.{counted}
 use Rattle.mr_input.specs.Files.{nth_file}
-use Rattle.mr_certform.specs.declared.item.Item.{Item}
-use Rattle.mr_certform.specs.declared.item.Item.TheVariants.{Groups, End}
-use Rattle.mr_verdict.specs.declared.fault.No.{No}
-use Rattle.mr_verdict.specs.declared.fault.No.TheVariants.{OutputDiffers, OutOfMemory}
+use Rattle.mr_certform.specs.declared.grammar_state.Item.{Item}
+use Rattle.mr_certform.specs.declared.grammar_state.Item.TheVariants.{Groups, End}
+use Rattle.mr_verdict.specs.declared.answers.No.{No}
+use Rattle.mr_verdict.specs.declared.answers.No.TheVariants.{OutputDiffers, OutOfMemory}
 use Rattle.mr_verdict.specs.declared.items.JudgeError.{JudgeError}
 use Rattle.mr_verdict.specs.declared.items.JudgeError.TheVariants.{Fault, Device as NoItem, TooLong as LongItems, Output, LongOutput}
 use Rattle.mr_judge.specs.declared.outputs.OutputError.{OutputError}
@@ -16,7 +16,7 @@ use Rattle.mr_certform.specs.Grammar.{AreBytes}
 use Rattle.mr_certform.specs.Spelling.{items_of, stop}
 use Rattle.mr_verdict.specs.Verdict.{Reached, Accepted, passes, count_faults, accepted_by, entries_in, first, verdict_of}
 use Rattle.mr_verdict.specs.Steps.{Answers, Ground, subject_with, case_at}
-use Rattle.mr_verdict.specs.declared.yes.Yes.{Yes}
+use Rattle.mr_verdict.specs.declared.answers.Yes.{Yes}
 use Rattle.mr_verdict.specs.Headline.{accepted_of}
 use Rattle.mr_verdict.specs.Items.{Coming}
 use Rattle.mr_judge.specs.Blocks.{Judged}

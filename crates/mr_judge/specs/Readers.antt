@@ -1,10 +1,10 @@
 -- Of no public promise: how far outputs are read, and what judging them says.
 use Rattle.std.specs.Prelude.{ℕ, List, map, Option, Result}
 use Rattle.mr_jobs.specs.JobSpec.{RequestSpec}
-use Rattle.mr_verdict.specs.declared.fault.No.TheVariants.{Device as AtRead}
+use Rattle.mr_verdict.specs.declared.answers.No.TheVariants.{Device as AtRead}
 use Rattle.mr_verdict.specs.declared.items.JudgeError.{JudgeError}
 use Rattle.mr_verdict.specs.declared.items.JudgeError.TheVariants.{Fault}
-use Rattle.mr_verdict.specs.declared.yes.Yes.{Yes}
+use Rattle.mr_verdict.specs.declared.answers.Yes.{Yes}
 use Rattle.mr_judge.specs.declared.readers.ReaderOutputs.{ReaderOutputs}
 use Rattle.mr_judge.specs.From.{MayGive}
 use Rattle.mr_judge.specs.Outputs.{IsVerdict}

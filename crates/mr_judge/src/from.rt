@@ -10,8 +10,7 @@ ghost use Rattle.mr_judge.specs.From.{Give, Judged, VerdictOfSome, IsVerdictFrom
 ghost use Rattle.mr_judge.specs.Readers.{StopOfSome, TellsNoRead};
 
 use crate::judge::judge_all;
-use crate::lent::ByRef;
-use crate::readers::ReaderOutputs;
+use crate::readers::{ByRef, ReaderOutputs};
 use mr_bytes::{Progress, Unwatched};
 use mr_certform::StreamWalker;
 use mr_index::Meter;

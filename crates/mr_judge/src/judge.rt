@@ -2,13 +2,13 @@
 ghost use Rattle.std.specs.Prelude.{◌≡◌, ◌⊎◌, ℕ, List, ◌<◌, ◌≤◌, ◌+◌, ◌^◌, IfOk, IfErr, length};
 ghost use Rattle.mr_input.specs.Files.{contents, split_total};
 ghost use Rattle.mr_splits.specs.Cut.{records_of};
-ghost use Rattle.mr_certform.specs.declared.item.Item.{Item as Read};
+ghost use Rattle.mr_certform.specs.declared.grammar_state.Item.{Item as Read};
 ghost use Rattle.mr_certform.specs.declared.grammar_state.GrammarState.TheVariants.{AtMagic};
 ghost use Rattle.mr_certform.specs.declared.grammar_state.GrammarState.TheVariants.{AtSkips};
 ghost use Rattle.mr_certform.specs.Grammar.{AreBytes};
 ghost use Rattle.mr_certform.specs.Walking.{items_left, halt};
 ghost use Rattle.mr_certform.specs.Spelling.{items_of, stop};
-ghost use Rattle.mr_verdict.specs.declared.fault.No.TheVariants.{OutOfMemory};
+ghost use Rattle.mr_verdict.specs.declared.answers.No.TheVariants.{OutOfMemory};
 ghost use Rattle.mr_verdict.specs.Verdict.{start, subject_of, verdict_of};
 ghost use Rattle.mr_verdict.specs.Cases.{IsVerdictOn, IsWorth, verdict_on};
 ghost use Rattle.mr_verdict.specs.Headline.{IsCertified, accepted_of};
@@ -20,7 +20,7 @@ ghost use Rattle.mr_verdict.specs.Items.{CanCome, Each};
 ghost use Rattle.mr_judge.specs.Outputs.{CanCome as CanComeAhead, Fits, Through, RestJudged};
 ghost use Rattle.mr_judge.specs.Outputs.{AllJudged, HaltsItems, HaltsOutputs, begins};
 
-use crate::facts::Basis;
+use crate::entry_tests::Basis;
 use crate::outputs::{MemoryOutputs, Outputs};
 use crate::parts::check_parts;
 use mr_bytes::{Progress, RecordName, Unwatched};

@@ -4,7 +4,7 @@ ghost use Rattle.std.specs.Prelude.{MatchResult, OnOk, None, Some, true, length}
 ghost use Rattle.mr_sequential.specs.Good.{named};
 ghost use Rattle.mr_input.specs.Files.{nth_file};
 ghost use Rattle.mr_sequential.specs.Rules.{rules_of};
-ghost use Rattle.mr_certform.specs.declared.item.Item.TheVariants.{Entry};
+ghost use Rattle.mr_certform.specs.declared.grammar_state.Item.TheVariants.{Entry};
 ghost use Rattle.mr_verdict.specs.Verdict.{start, first_tests, later_tests, order_tests};
 ghost use Rattle.mr_verdict.specs.Verdict.{with_entry, group_tests, behind_group, entry_tests};
 ghost use Rattle.mr_verdict.specs.Verdict.{after_entry};
@@ -14,10 +14,8 @@ ghost use Rattle.mr_judge.specs.Blocks.{IsFound};
 ghost use Rattle.mr_judge.specs.Borders.{at_border, between};
 ghost use Rattle.mr_judge.specs.Outputs.{CanCome, Tested, Halts};
 
-use crate::blocks::FoundItem;
-use crate::border::Border;
-use crate::entry_tests::{test_end, test_first, test_later, test_named};
-use crate::facts::Basis;
+use crate::border::{Border, FoundItem};
+use crate::entry_tests::{Basis, test_end, test_first, test_later, test_named};
 use crate::lines::test_group;
 use crate::outputs::Outputs;
 use mr_bytes::{Name, Value, ValueColumn};

@@ -2,24 +2,18 @@
 //! the judge by many threads shares.
 #![tactic(auto)]
 
-mod blocks;
 mod border;
-mod comparing;
 mod entry_tests;
-mod facts;
 mod from;
 mod judge;
 mod judge_state;
-mod lent;
 mod lines;
 mod outputs;
 mod parts;
 mod readers;
 
-pub use blocks::{FoundItem, Sought, read_block};
-pub use border::Border;
-pub use entry_tests::test_named;
-pub use facts::Basis;
+pub use border::{Border, FoundItem, Sought, read_block};
+pub use entry_tests::{Basis, test_named};
 pub use from::{check_from, judge_readers};
 pub use judge::{check, check_metered, judge_on_one_thread, plan_of, walk};
 pub use judge_state::JudgeState;

@@ -5,8 +5,7 @@ ghost use Rattle.mr_jobs.specs.JobSpec.{has_lines};
 ghost use Rattle.mr_reduce.specs.Text.{text_of};
 ghost use Rattle.mr_judge.specs.Outputs.{CanCome, TextTold, Halts};
 
-use crate::entry_tests::test_text;
-use crate::facts::Basis;
+use crate::entry_tests::{Basis, test_text};
 use crate::outputs::Outputs;
 use mr_bytes::{Value, ValueColumn};
 use mr_jobs::Job;

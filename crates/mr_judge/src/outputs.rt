@@ -4,7 +4,7 @@ ghost use Rattle.std.specs.Prelude.{drop};
 ghost use Rattle.mr_input.specs.Files.{contents, nth_file};
 ghost use Rattle.mr_judge.specs.Outputs.{CanCome, Opens, Compares, Ends, Lacks};
 
-use crate::comparing::agreement;
+use crate::entry_tests::agreement;
 use mr_verdict::JudgeError;
 
 /// Why an output can't be compared.

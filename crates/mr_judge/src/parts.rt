@@ -9,8 +9,8 @@ ghost use Rattle.mr_verdict.specs.Items.{CanCome, Each};
 ghost use Rattle.mr_judge.specs.Outputs.{CanCome as CanComeAhead, Fits, Through, RowsJudged, Halts};
 ghost use Rattle.mr_judge.specs.Outputs.{HaltsItems, HaltsOutputs, begins};
 
-use crate::blocks::{BLOCK, FoundItem, Sought, fetch_all, read_block, seek_all, touch};
-use crate::facts::Basis;
+use crate::border::{BLOCK, FoundItem, Sought, fetch_all, read_block, seek_all, touch};
+use crate::entry_tests::Basis;
 use crate::judge_state::JudgeState;
 use crate::outputs::Outputs;
 use mr_bytes::{Phase, Progress, Throttle};

@@ -1,14 +1,14 @@
-//! Outputs from readers, one after another.
+//! Outputs from readers, one after another, each read through a borrow that ends with it.
 ghost use Rattle.std.specs.Prelude.{◌≡◌, ◌⊎◌, ℕ, ◌≤◌, ◌<◌, ◌+◌, ◌-◌, ◌^◌, [], List, IfOk, OnOk};
-ghost use Rattle.std.specs.Prelude.{MatchResult, map, nat_eq, true, false, length, take};
-ghost use Rattle.std.specs.Prelude.{drop, ◌++◌};
+ghost use Rattle.std.specs.Prelude.{MatchResult, map, nat_eq, true, false, length, take, drop};
+ghost use Rattle.std.specs.Prelude.{◌++◌};
 ghost use Rattle.std.specs.List.{common_prefix_len};
 ghost use Rattle.std.specs.Io.KnownBytes.{Consumes, Keeps, IsAtEnd};
 ghost use Rattle.mr_judge.specs.Outputs.{Lacks, counted_at};
 ghost use Rattle.mr_store.specs.Devices.{Counts};
 ghost use Rattle.mr_judge.specs.Reading.{known_at};
 
-use crate::comparing::agreement;
+use crate::entry_tests::agreement;
 use crate::outputs::{OutputError, Outputs, behind};
 use mr_store::{CountedRead, Device, ReadBuffer};
 use std::alloc::{AllocError, Global};
@@ -175,5 +175,32 @@ impl<'a, R: CountedRead> Outputs for ReaderOutputs<'a, R> {
 
     fn place(&self) -> u64 {
         self.passed
+    }
+}
+
+#[derive(Drop)]
+pub(crate) struct ByRef<'a, R> {
+    pub reader: &'a mut R,
+}
+
+impl<'a, R: CountedRead> CountedRead for ByRef<'a, R> {
+    ghost remaining = { λ l. R.remaining l.reader.now };
+
+    ghost failed = { λ l. R.failed l.reader.now };
+
+    ghost can_fail = { λ l. R.can_fail l.reader.now };
+
+    ghost lacked = { λ l. R.lacked l.reader.now };
+
+    fn read(&mut self, buffer: &mut [u8]) -> Result<usize, Device> {
+        self.reader.read(buffer)
+    }
+
+    fn failures(&self) -> u64 {
+        self.reader.failures()
+    }
+
+    fn is_out_of_memory(&self) -> bool {
+        self.reader.is_out_of_memory()
     }
 }

@@ -1,9 +1,11 @@
-//! Classifies 64 bytes at once, one bit per byte.
-ghost use Rattle.std.specs.Prelude.{◌≡◌, ℕ, ◌+◌, ◌<◌, ◌≤◌, ◌==◌, length, get_or, slice_index};
+//! Classifies 64 bytes at once, one bit per byte, and lists the places of set bits.
+ghost use Rattle.std.specs.Prelude.{◌≡◌, ℕ, ◌+◌, ◌<◌, ◌≤◌, ◌==◌, length, get_or, slice_index, ◌^◌};
+ghost use Rattle.std.specs.Prelude.{◌++◌, OnOk, OnErr};
 ghost use Rattle.mr_bytes.specs.Bytes.{is_upper, is_word_byte};
-ghost use Rattle.mr_lanes.specs.Bits.{is_set};
+ghost use Rattle.mr_lanes.specs.Bits.{is_set, set_bits, Extends};
 
 use crate::Planes;
+use std::alloc::AllocError;
 use std::simd::prelude::*;
 
 /// The classes of 64 bytes. Takes no memory.
@@ -69,4 +71,30 @@ pub(crate) fn last_block(bytes: &[u8], at: usize) -> u8x64
         i += 1;
     }
     u8x64::from_array(last)
+}
+
+/// The classes of the bytes of a block. Bit i is about byte i.
+#[derive(Clone, Copy, PartialEq, Eq, Debug)]
+pub struct Planes {
+    /// The line feeds.
+    pub lf: u64,
+    /// The bytes that words contain.
+    pub word: u64,
+    /// The upper-case letters of ASCII.
+    pub upper: u64,
+}
+
+/// Appends `base + i` for each set bit i, rising. If memory fails, some may already be appended.
+#[inline(always)]
+pub(crate) fn push_places(places: &mut Vec<u32>, base: u32, bits: u64) -> Result<(), AllocError>
+    requires { base + 64 < 2 ^ 32 }
+    ensures all { OnOk result (places.new.items ≡ places.old.items ++ set_bits 64 base bits) }
+    ensures kept { Extends places.old.items places.new.items }
+{
+    let mut rest = bits;
+    while rest != 0 {
+        places.push(base + rest.trailing_zeros())?;
+        rest &= rest - 1;
+    }
+    Ok(())
 }

@@ -7,9 +7,7 @@
 //! kernel reads outside of its arguments. Each returns what its plain definition says.
 #![tactic(auto)]
 
-mod bits;
 mod blocks;
-mod classes;
 mod difference;
 mod folding;
 mod hashes;
@@ -17,8 +15,7 @@ mod lines;
 mod search;
 mod words;
 
-pub use blocks::planes;
-pub use classes::Planes;
+pub use blocks::{Planes, planes};
 pub use difference::{difference_law, first_difference};
 pub use folding::fold_into;
 pub use hashes::{fnv, hash8};

@@ -5,8 +5,7 @@ ghost use Rattle.mr_lanes.specs.Bits.{Extends};
 ghost use Rattle.mr_lanes.specs.Lines.{line_ends, line_ends_from};
 ghost use Rattle.mr_lanes.specs.Laws.{LineEndsAreLineFeeds, LineEndsRise};
 
-use crate::bits::push_places;
-use crate::blocks::{last_block, line_feeds};
+use crate::blocks::{last_block, line_feeds, push_places};
 use std::alloc::AllocError;
 use std::simd::prelude::*;
 

@@ -10,8 +10,8 @@ use Rattle.mr_certform.proofs.Certificates.{one_certificate}
 use Rattle.mr_sequential.specs.Good.{IsGoodResult}
 use Rattle.mr_sequential.proofs.VersionLaws.{good_can}
 use Rattle.mr_book.specs.Assembling.{SpellsWhereItCan}
-use Rattle.mr_verdict.specs.declared.fault.No.{No}
-use Rattle.mr_verdict.specs.declared.yes.Yes.{Yes}
+use Rattle.mr_verdict.specs.declared.answers.No.{No}
+use Rattle.mr_verdict.specs.declared.answers.Yes.{Yes}
 use Rattle.mr_verdict.specs.Headline.{accepted_of}
 use Rattle.mr_verdict.specs.Verdict.{verdict_of}
 use Rattle.mr_verdict.proofs.VerdictYes.{yes_is_good}

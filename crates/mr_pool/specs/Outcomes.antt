@@ -18,8 +18,8 @@ use Rattle.mr_book.specs.Calls.{has_damage}
 use Rattle.mr_book.specs.Faithful.{IsOpenedFor}
 use Rattle.mr_book.specs.declared.book.History.{History}
 use Rattle.mr_sequential.specs.Good.{IsGoodResult}
-use Rattle.mr_verdict.specs.declared.fault.No.{No}
-use Rattle.mr_verdict.specs.declared.fault.No.TheVariants.{OtherJob}
+use Rattle.mr_verdict.specs.declared.answers.No.{No}
+use Rattle.mr_verdict.specs.declared.answers.No.TheVariants.{OtherJob}
 use Rattle.mr_verdict.specs.Headline.{IsCertified}
 use Rattle.mr_verdict.specs.Verdict.{verdict_of}
 use Rattle.mr_pool.specs.Accounts.{accounts}

@@ -4,7 +4,6 @@
 
 mod book_calls;
 mod fault_plan;
-mod progress;
 mod run_spec;
 mod running;
 mod worker;

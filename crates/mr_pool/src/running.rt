@@ -10,7 +10,7 @@ ghost use Rattle.mr_book.specs.Faithful.{IsOpenedFor};
 ghost use Rattle.mr_book.specs.Assembling.{SpellsWhereItCan, reduced_under};
 ghost use Rattle.mr_certform.specs.Value.{Spells};
 ghost use Rattle.mr_check.specs.Ahead.{IsMappedFor};
-ghost use Rattle.mr_verdict.specs.declared.fault.No.{No};
+ghost use Rattle.mr_verdict.specs.declared.answers.No.{No};
 ghost use Rattle.mr_sequential.specs.Good.{IsGoodResult};
 ghost use Rattle.mr_verdict.specs.Headline.{IsCertified, accepted_of};
 ghost use Rattle.mr_verdict.specs.Verdict.{verdict_of};
@@ -18,9 +18,8 @@ ghost use Rattle.mr_pool.specs.Outcomes.{IsCertifiedRun, IsDoneRun, IsInVersion,
 ghost use Rattle.mr_pool.specs.Outcomes.{IsRunnable, run_shape};
 
 use crate::fault_plan::{FaultPlan, accounts_for};
-use crate::progress::{JudgesProgress, RunProgress};
 use crate::run_spec::RunSpec;
-use crate::workers::{Shared, TaskFlags, run_workers};
+use crate::workers::{JudgesProgress, RunProgress, Shared, TaskFlags, run_workers};
 use mr_book::{Book, History, Seat};
 use mr_bytes::{Gate, OpenGate, Phase, Progress, RecordName, Unwatched};
 use mr_certform::Version;

@@ -11,7 +11,6 @@ mod distribute;
 mod gathered;
 mod gathering;
 mod groups;
-mod names;
 mod outputs;
 mod sequence;
 mod source;

@@ -2,9 +2,9 @@
 use Rattle.std.proofs.Common.{◌≡◌, ◌<◌, ◌+◌, ◌^◌, ℕ, List, [], ◌∷◌, inl, inr, length, length-append, refl, arith}
 use Rattle.std.proofs.lemmas.List.Sums.{sum_by-cons}
 use Rattle.mr_jobs.specs.JobSpec.{JobSpec}
-use Rattle.mr_shards.specs.declared.merge.MergeFault.{MergeFault}
-use Rattle.mr_shards.specs.declared.merge.MergeFault.TheVariants as merge
-use Rattle.mr_shards.specs.declared.merge.ShardText.{ShardText}
+use Rattle.mr_shards.specs.declared.merger.MergeFault.{MergeFault}
+use Rattle.mr_shards.specs.declared.merger.MergeFault.TheVariants as merge
+use Rattle.mr_shards.specs.declared.merger.ShardText.{ShardText}
 use Rattle.mr_shards.specs.Refused.{Blames, HasFarLine, files_in}
 use Rattle.mr_shards.specs.Joined.{inputs_of}
 use Rattle.mr_shards.specs.Verdict.{Told}

@@ -8,7 +8,7 @@ use Rattle.std.proofs.Math.Seq.{get_or-append_seam}
 use Rattle.mr_input.specs.Files.{nth_file}
 use Rattle.mr_files.specs.Holding.{Holding, Stored}
 use Rattle.mr_jobs.specs.JobSpec.{JobSpec}
-use Rattle.mr_shards.specs.declared.merge.ShardText.{ShardText}
+use Rattle.mr_shards.specs.declared.merger.ShardText.{ShardText}
 use Rattle.mr_shards.specs.Refused.{IsRest}
 use Rattle.mr_shards.specs.Joined.{AreOutputsAt, IsMergedAt}
 use Rattle.mr_shards.specs.Verdict.{Told}

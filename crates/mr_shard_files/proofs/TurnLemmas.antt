@@ -5,7 +5,7 @@ use Rattle.std.proofs.lemmas.Result.{IfErr-at_err}
 use Rattle.std.specs.Prelude.{Err, IfErr, Option, Result}
 use Rattle.mr_jobs.specs.JobSpec.{JobSpec}
 use Rattle.mr_shards.specs.declared.window.Window.{Window}
-use Rattle.mr_shards.specs.declared.merge.MergeFault.{MergeFault}
+use Rattle.mr_shards.specs.declared.merger.MergeFault.{MergeFault}
 use Rattle.mr_shards.specs.Refused.{Blames}
 use Rattle.mr_shards.specs.Pieces.{AreFresh, AreWindows, AreWithin, IsAfter, IsMerged, IsWindow, Reading, Standing, are_last, outputs_of, taken_on, text_taken}
 use Rattle.mr_shards.specs.Verdict.{Told}

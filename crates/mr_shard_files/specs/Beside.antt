@@ -6,7 +6,7 @@ use Rattle.mr_files.specs.Folders.{IsFolderOf}
 use Rattle.mr_files.specs.Holding.{Holding, Stored}
 use Rattle.mr_files.specs.Names.{name_of_part}
 use Rattle.mr_jobs.specs.JobSpec.{JobSpec}
-use Rattle.mr_shards.specs.declared.merge.ShardText.{ShardText}
+use Rattle.mr_shards.specs.declared.merger.ShardText.{ShardText}
 use Rattle.mr_shards.specs.Merged.{merged_parts, texts}
 use Rattle.mr_shards.specs.Outputs.{IsOutputOfAll, parts_in}
 use Rattle.mr_shards.specs.Refused.{IsRest}

@@ -6,8 +6,8 @@ use Rattle.mr_files.specs.Holding.{Begins, ChangesAmong, Faulty, Holding, Stored
 use Rattle.mr_files.specs.Identities.{Known}
 use Rattle.mr_files.specs.Names.{merged_names, name_of_part, name_of_verdict, part_names}
 use Rattle.mr_jobs.specs.JobSpec.{JobSpec, RequestSpec}
-use Rattle.mr_shards.specs.declared.merge.MergeFault.TheVariants as merge
-use Rattle.mr_shards.specs.declared.merge.ShardText.{ShardText}
+use Rattle.mr_shards.specs.declared.merger.MergeFault.TheVariants as merge
+use Rattle.mr_shards.specs.declared.merger.ShardText.{ShardText}
 use Rattle.mr_shards.specs.Refused.{Blames, HasFarLine}
 use Rattle.mr_shards.specs.declared.joining.JoinFault.TheVariants as join
 use Rattle.mr_shards.specs.Joined.{IsJoinFault, IsJoined, IsRepeated, inputs_of, verdict_at}

@@ -5,7 +5,7 @@ use Rattle.mr_files.specs.Holding.{Agrees}
 use Rattle.mr_store.specs.Devices.{Seen}
 use Rattle.mr_shard_files.specs.declared.fault.ShardFault.{ShardFault}
 use Rattle.mr_shard_files.specs.declared.fault.ShardFault.TheVariants.{CannotWrite, OutOfMemory}
-use Rattle.mr_shard_files.specs.declared.made.Made.{Made}
+use Rattle.mr_shard_files.specs.declared.partition.Made.{Made}
 
 -- just these bytes were written
 pub record HasWritten {W : Type 0} (seen : W → Seen) (bytes : List ℕ) (made : Made W) : Type 0 where

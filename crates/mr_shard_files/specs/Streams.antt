@@ -8,8 +8,8 @@ use Rattle.mr_files.specs.Folders.{IsFolderOf}
 use Rattle.mr_files.specs.Holding.{Agrees, Faulty, Stored}
 use Rattle.mr_files.specs.Names.{name_of_part}
 use Rattle.mr_jobs.specs.JobSpec.{JobSpec}
-use Rattle.mr_shards.specs.declared.merge.MergeFault.{MergeFault}
-use Rattle.mr_shards.specs.declared.merge.MergeFault.TheVariants as merge
+use Rattle.mr_shards.specs.declared.merger.MergeFault.{MergeFault}
+use Rattle.mr_shards.specs.declared.merger.MergeFault.TheVariants as merge
 use Rattle.mr_shards.specs.declared.window.Window.{Window}
 use Rattle.mr_shards.specs.Pieces.{Adds, AreWindows, AreWithin, IsAfter, IsMerged, Reading, Standing, outputs_of}
 use Rattle.mr_shards.specs.Refused.{Blames}

@@ -2,8 +2,8 @@
 use Rattle.std.specs.Prelude.{ℕ}
 use Rattle.mr_files.specs.declared.store.FileFault.{FileFault}
 use Rattle.mr_files.specs.declared.store.FileFault.TheVariants as file
-use Rattle.mr_shards.specs.declared.merge.MergeFault.{MergeFault}
-use Rattle.mr_shards.specs.declared.merge.MergeFault.TheVariants as merge
+use Rattle.mr_shards.specs.declared.merger.MergeFault.{MergeFault}
+use Rattle.mr_shards.specs.declared.merger.MergeFault.TheVariants as merge
 use Rattle.mr_shards.specs.declared.verdict.VerdictFault.{VerdictFault}
 use Rattle.mr_shards.specs.declared.verdict.VerdictFault.TheVariants as text
 use Rattle.mr_shards.specs.declared.joining.JoinFault.{JoinFault}

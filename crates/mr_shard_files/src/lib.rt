@@ -3,9 +3,7 @@
 
 mod fault;
 mod listing;
-mod made;
 mod merging;
-mod opening;
 mod partition;
 mod sharing;
 mod stream;
@@ -14,5 +12,5 @@ mod tails;
 mod turns;
 
 pub use crate::fault::ShardFault;
-pub use crate::made::part_notes;
 pub use crate::merging::merge_shards;
+pub use crate::partition::part_notes;

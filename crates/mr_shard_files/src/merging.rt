@@ -1,8 +1,8 @@
-//! Merges shards: reads and joins the verdicts, checks the list of inputs and the files' names,
-//! merges each partition, and writes the verdict of the whole.
+//! Merges shards: reads and joins the verdicts, checks the list of inputs and the files' names, opens
+//! the parts, merges each partition, and writes the verdict of the whole.
 ghost use Rattle.std.specs.Prelude.{◌≡◌, ◌<◌, ◌^◌, IfErr, IfOk, OnOk, length, map, option_map};
 ghost use Rattle.mr_files.specs.Holding.{Holding};
-ghost use Rattle.mr_shards.specs.Joined.{AreOnce, verdict_at};
+ghost use Rattle.mr_shards.specs.Joined.{AreOnce, verdict_at, inputs_of};
 ghost use Rattle.mr_shards.specs.Truth.{Asks};
 ghost use Rattle.mr_shards.specs.Verdict.{spelling};
 ghost use Rattle.mr_shard_files.specs.Merging.{AreCounted, ChangesResult, IsJoinedOnce, IsMerged};
@@ -12,16 +12,20 @@ ghost use Rattle.mr_shard_files.specs.Listing.{IsListed};
 ghost use Rattle.mr_shard_files.specs.Sharing.{AreUnshared};
 ghost use Rattle.mr_shard_files.specs.Faults.{IsFirstFault, IsInputsFault, IsJoinedFault};
 ghost use Rattle.mr_shard_files.specs.Faults.{IsMergingFault, IsMiscounted, IsShardRefusal};
-ghost use Rattle.mr_shard_files.specs.Faults.{IsUnmeant};
+ghost use Rattle.mr_shard_files.specs.Faults.{IsUnmeant, AreUnopened, IsTextsFault, IsUnopened};
+ghost use Rattle.mr_shard_files.specs.Streams.{AreOpened, AreRows, IsOpened};
+ghost use Rattle.mr_shard_files.specs.Streams.{length_told as length_of};
 
 use crate::fault::ShardFault;
 use crate::listing::{expect_listed, read_verdicts};
 use crate::partition::partitions_written;
 use crate::sharing::{expect_apart, expect_unshared, put_told};
-use mr_files::Store;
+use crate::stream::{Part, fault_of};
+use mr_files::{Store, folder_of, part_name};
 use mr_jobs::Request;
 use mr_shards::{FileNote, Verdict, first_repeat, join_verdicts, request_of};
-use std::alloc::Global;
+use mr_store::ReadFault;
+use std::alloc::{AllocError, Global};
 use std::thread::Threads;
 
 /// The first verdict's request, of a job whose outputs can be merged.
@@ -200,4 +204,97 @@ pub fn merge_shards<S: Store, T: Threads>(
 {
     let verdicts = read_verdicts(store, alloc, names)?;
     merged_of(rt, store, alloc, names, inputs, verdicts.as_slice(), out)
+}
+
+/// The output's length in the verdict; 0 if it lists no such output.
+fn length_told(verdict: &Verdict, partition: usize) -> u64
+    ensures { result ≡ length_of partition verdict.now }
+{
+    match verdict.outputs.get(partition) {
+        Some(note) => note.length,
+        None => 0,
+    }
+}
+
+fn open_part<S: Store>(
+    store: &S,
+    alloc: Global,
+    name: &str,
+    verdict: &Verdict,
+    partition: usize,
+) -> Result<Part<S::Reader>, ShardFault>
+    ensures ok { IfOk result
+        (IsOpened (S.holds store.now)
+        (S.unreadable store.now) S.Reader.remaining S.Reader.can_fail partition name.now verdict.now) }
+    ensures err { IfErr result (IsUnopened (S.unreadable store.now) partition name.now) }
+{
+    let file = part_name(alloc, folder_of(name), partition)?;
+    match store.reader(alloc, file.as_str()) {
+        Ok(reader) => {
+            let told = length_told(verdict, partition);
+            Ok(Part::new(alloc, file, reader, told))
+        }
+        Err(ReadFault::OutOfMemory) => Err(ShardFault::OutOfMemory),
+        Err(ReadFault::Device) => Err(fault_of(alloc, file.as_str(), false)),
+    }
+}
+
+fn open_parts<S: Store>(
+    store: &S,
+    alloc: Global,
+    names: &[&str],
+    verdicts: &[Verdict],
+    partition: usize,
+) -> Result<Vec<Part<S::Reader>>, ShardFault>
+    requires { length names.now ≡ length verdicts.now }
+    ensures ok { IfOk result (λ qs. AreOpened (S.holds store.now)
+        (S.unreadable store.now) S.Reader.remaining S.Reader.can_fail
+        partition (map (λ s. s.now) names.now) verdicts.now qs.items) }
+    ensures err { IfErr result (IsTextsFault (S.holds store.now)
+        (S.unreadable store.now) partition (map (λ s. s.now) names.now) verdicts.now) }
+{
+    let mut parts = Vec::new(alloc);
+    for shard in 0..names.len() {
+        let part = open_part(store, alloc, names[shard], &verdicts[shard], partition)?;
+        parts.push(part).map_err(AllocError::from)?;
+    }
+    Ok(parts)
+}
+
+/// The shards' parts for each partition. It reads none yet; the store decides which are open.
+pub(crate) fn open_all<S: Store>(
+    store: &S,
+    alloc: Global,
+    names: &[&str],
+    verdicts: &[Verdict],
+    count: usize,
+) -> Result<Vec<Vec<Part<S::Reader>>>, ShardFault>
+    requires { length names.now ≡ length verdicts.now }
+    ensures count { IfOk result (λ rows. length rows.items ≡ count) }
+    ensures ok { IfOk result (λ rows. AreRows (S.holds store.now)
+        (S.unreadable store.now) S.Reader.remaining S.Reader.can_fail
+        (map (λ s. s.now) names.now) verdicts.now 0 rows.items) }
+    ensures err { IfErr result (AreUnopened (S.holds store.now) (S.unreadable store.now) count
+        (map (λ s. s.now) names.now) verdicts.now) }
+{
+    let mut rows = Vec::new(alloc);
+    for partition in 0..count {
+        let parts = open_parts(store, alloc, names, verdicts, partition)?;
+        rows.push(parts).map_err(AllocError::from)?;
+    }
+    Ok(rows)
+}
+
+/// How many files each shard has. All together fit in 32 bits.
+pub(crate) fn file_counts(alloc: Global, verdicts: &[Verdict]) -> Result<Vec<u32>, AllocError>
+    requires { length (inputs_of verdicts.now) < 2 ^ 32 }
+    ensures { IfOk result (λ fs. fs.items ≡ map (λ v. length v.inputs) verdicts.now) }
+{
+    let mut counts = Vec::new(alloc);
+    for shard in 0..verdicts.len() {
+        let verdict = &verdicts[shard];
+        let files = verdict.inputs.len() as u32;
+        counts.push(files).map_err(AllocError::from)?;
+    }
+    Ok(counts)
 }

@@ -11,7 +11,7 @@ ghost use Rattle.mr_shard_files.specs.declared.fault.ShardFault.TheVariants.{Out
 ghost use Rattle.mr_shard_files.specs.Made.{HasWritten, TellsUnwritten};
 
 use crate::fault::{ShardFault, of_merge};
-use crate::made::Made;
+use crate::partition::Made;
 use crate::stream::Part;
 use crate::streams::{are_done, fill_all, pass_all, settle_all, share_of, windows_of};
 use crate::tails::{all_taken, keep_all, middle_of, tails_of, taken_of_both};

@@ -10,7 +10,7 @@ use Rattle.mr_input.specs.Files.{split_count, split_total}
 use Rattle.mr_jobs.specs.JobSpec.{RequestSpec}
 use Rattle.mr_sequential.specs.Emitted.{emitted}
 use Rattle.mr_sequential.specs.Sequential.{sequential}
-use Rattle.mr_shards.specs.declared.merge.ShardText.{ShardText}
+use Rattle.mr_shards.specs.declared.merger.ShardText.{ShardText}
 use Rattle.mr_shards.specs.Outputs.{AreOutputsOf, IsJudged}
 use Rattle.mr_shards.specs.Shards.{Shard, SkipsExist, files_of, moved_name, skips_of}
 use Rattle.mr_shards.proofs.EmittedLaws.{emitted-append, emitted-none, moved_triple}

@@ -17,7 +17,7 @@ use Rattle.mr_shards.specs.declared.cursor.Cursor.{Cursor}
 use Rattle.mr_shards.specs.declared.line.Line.{Line}
 use Rattle.mr_shards.specs.declared.line.Tally.{Tally}
 use Rattle.mr_shards.specs.declared.line.Tally.TheVariants.{Total, Place}
-use Rattle.mr_shards.specs.declared.merge.ShardText.{ShardText}
+use Rattle.mr_shards.specs.declared.merger.ShardText.{ShardText}
 use Rattle.mr_shards.specs.Merged.{Group, group_text, texts, joined, with_group, merged, merged_parts, moved_group}
 use Rattle.mr_shards.specs.Lines.{groups_in, group_in, NoneFalls}
 use Rattle.mr_shards.specs.Refused.{AreRead, IsRest}

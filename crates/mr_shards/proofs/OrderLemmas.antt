@@ -3,7 +3,7 @@ use Rattle.std.proofs.Common.{◌≡◌, ◌+◌, ◌<◌, ◌≤◌, ◌++◌, 
 use Rattle.std.proofs.lemmas.List.{length_push, take-append-le, take_all}
 use Rattle.mr_jobs.specs.JobSpec.{JobSpec}
 use Rattle.std.specs.Prelude.{Option}
-use Rattle.mr_shards.specs.declared.merge.MergeFault.{MergeFault}
+use Rattle.mr_shards.specs.declared.merger.MergeFault.{MergeFault}
 use Rattle.mr_shards.specs.declared.window.Held.{Held}
 use Rattle.mr_shards.specs.declared.window.Window.{Window}
 use Rattle.mr_shards.specs.Pieces.{AreBlamed, AreLines, AreTaken, AreWindows, AreWithin, Bound, EndsLine, Reading, outputs_of, pieces_of}

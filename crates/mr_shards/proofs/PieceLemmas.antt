@@ -10,8 +10,8 @@ use Rattle.mr_shards.specs.Outputs.{parts_in}
 use Rattle.mr_shards.specs.Refused.{IsRest}
 use Rattle.mr_shards.specs.Pieces.{AreBlamed, ArePut, AreWithin, all_read_on, output_with, pieces_of, read_on, told}
 use Rattle.mr_jobs.specs.JobSpec.{JobSpec}
-use Rattle.mr_shards.specs.declared.merge.MergeFault.TheVariants.{OutOfMemory}
-use Rattle.mr_shards.specs.declared.merge.ShardText.{ShardText}
+use Rattle.mr_shards.specs.declared.merger.MergeFault.TheVariants.{OutOfMemory}
+use Rattle.mr_shards.specs.declared.merger.ShardText.{ShardText}
 
 pub within-at : (cs : List ℕ) (ws : List Window) (i d : ℕ) (e : Window) → AreWithin cs ws → i < length cs → get_or cs i d ≤ length (get_or ws i e).bytes.now
 within-at [] [] i d e h l = absurd (omega (arith, l))

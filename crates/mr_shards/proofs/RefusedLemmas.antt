@@ -9,12 +9,12 @@ use Rattle.mr_bytes.specs.declared.Value.TheVariants.{One}
 use Rattle.mr_jobs.specs.JobSpec.{JobSpec, WordCount, LinesWith, Resources, InvertedIndex}
 use Rattle.mr_bytes.specs.Cut.{Lacks}
 use Rattle.mr_shards.specs.declared.cursor.Cursor.{Cursor}
-use Rattle.mr_shards.specs.declared.merge.MergeFault.{MergeFault}
-use Rattle.mr_shards.specs.declared.merge.MergeFault.TheVariants.{BadLine, TotalTooLarge, TooManyFiles, OutOfMemory}
+use Rattle.mr_shards.specs.declared.merger.MergeFault.{MergeFault}
+use Rattle.mr_shards.specs.declared.merger.MergeFault.TheVariants.{BadLine, TotalTooLarge, TooManyFiles, OutOfMemory}
 use Rattle.mr_shards.specs.declared.line.Line.{Line}
 use Rattle.mr_shards.specs.declared.line.Tally.{Tally}
 use Rattle.mr_shards.specs.declared.line.Tally.TheVariants.{Total, Place}
-use Rattle.mr_shards.specs.declared.merge.ShardText.{ShardText}
+use Rattle.mr_shards.specs.declared.merger.ShardText.{ShardText}
 use Rattle.mr_shards.specs.Merged.{Group, group_text, texts}
 use Rattle.std.proofs.Math.Nat.{mod-add-mod}
 use Rattle.mr_sequential.proofs.SourceLemmas.{flat_map-append}

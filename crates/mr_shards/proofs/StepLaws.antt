@@ -4,7 +4,7 @@ use Rattle.std.specs.Prelude.{option_map, IfOk, OnErr}
 use Rattle.std.proofs.lemmas.List.{append-nil, drop_all}
 use Rattle.std.specs.List.{AllByRecursion}
 use Rattle.mr_jobs.specs.JobSpec.{JobSpec}
-use Rattle.mr_shards.specs.declared.merge.MergeFault.{MergeFault}
+use Rattle.mr_shards.specs.declared.merger.MergeFault.{MergeFault}
 use Rattle.mr_shards.specs.declared.window.Held.{Held}
 use Rattle.mr_shards.specs.declared.window.Window.{Window}
 use Rattle.mr_shards.specs.Merged.{Group, merged, merged_parts, moved_group, texts}

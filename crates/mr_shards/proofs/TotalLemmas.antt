@@ -6,7 +6,7 @@ use Rattle.mr_jobs.specs.JobSpec.{JobSpec}
 use Rattle.mr_sequential.proofs.KeyLaws.{bytes_eq-same}
 use Rattle.mr_shards.specs.declared.cursor.Cursor.{Cursor}
 use Rattle.mr_shards.specs.declared.line.Line.{Line}
-use Rattle.mr_shards.specs.declared.merge.ShardText.{ShardText}
+use Rattle.mr_shards.specs.declared.merger.ShardText.{ShardText}
 use Rattle.mr_shards.specs.Merged.{Group, joined, moved_group, moved_value}
 use Rattle.mr_shards.specs.Lines.{groups_in}
 use Rattle.mr_shards.specs.Views.{group_of}

@@ -17,7 +17,7 @@ use Rattle.mr_sequential.specs.Sequential.{keys_of, triples_with, values_of}
 use Rattle.mr_sequential.proofs.KeyLaws.{bytes_eq-same, keys_rise}
 use Rattle.mr_bytes.proofs.ListLaws.{all_from_Has, Has-map_from}
 use Rattle.mr_sequential.proofs.SourceLemmas.{flat_map-append}
-use Rattle.mr_shards.specs.declared.merge.ShardText.{ShardText}
+use Rattle.mr_shards.specs.declared.merger.ShardText.{ShardText}
 use Rattle.mr_shards.specs.Merged.{Group, group_for, group_text, texts, with_group, merged, Part, merged_parts, moved_group}
 use Rattle.mr_shards.specs.Lines.{CanMerge, HasLine, groups_in}
 use Rattle.mr_shards.specs.Refused.{IsRest}

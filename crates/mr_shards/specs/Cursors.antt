@@ -10,7 +10,7 @@ use Rattle.mr_shards.specs.declared.cursor.Cursor.{Cursor}
 use Rattle.mr_shards.specs.declared.line.Line.{Line}
 use Rattle.mr_shards.specs.Merged.{Group, group_text, moved_group, joined, with_group}
 use Rattle.mr_shards.specs.Lines.{groups_in}
-use Rattle.mr_shards.specs.declared.merge.MergeFault.{MergeFault}
+use Rattle.mr_shards.specs.declared.merger.MergeFault.{MergeFault}
 use Rattle.mr_shards.specs.Refused.{BlamesOnly, IsReadOf, IsRestOf, last_key}
 use Rattle.mr_shards.specs.Views.{group_of, IsFor, IsPlace, IsSameKind}
 

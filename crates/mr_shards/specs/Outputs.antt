@@ -5,7 +5,7 @@ use Rattle.mr_jobs.specs.JobSpec.{JobSpec, RequestSpec}
 use Rattle.mr_sequential.specs.Emitted.{emitted}
 use Rattle.mr_sequential.specs.Sequential.{sequential}
 use Rattle.mr_shards.specs.declared.cursor.Cursor.{Cursor}
-use Rattle.mr_shards.specs.declared.merge.ShardText.{ShardText}
+use Rattle.mr_shards.specs.declared.merger.ShardText.{ShardText}
 use Rattle.mr_shards.specs.Merged.{Group, Part, moved_group}
 use Rattle.mr_shards.specs.Lines.{groups_in, NoneFalls}
 use Rattle.mr_shards.specs.Cursors.{IsHeadFor, left}

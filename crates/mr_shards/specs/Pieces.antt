@@ -4,9 +4,9 @@ use Rattle.std.specs.List.{AllByRecursion}
 use Rattle.std.specs.Ordering.{is_lt, match_ordering}
 use Rattle.mr_bytes.specs.Order.{key_order}
 use Rattle.mr_jobs.specs.JobSpec.{JobSpec, counts}
-use Rattle.mr_shards.specs.declared.merge.MergeFault.{MergeFault}
-use Rattle.mr_shards.specs.declared.merge.MergeFault.TheVariants.{BadLine, TotalTooLarge, TooManyFiles, OutOfMemory}
-use Rattle.mr_shards.specs.declared.merge.ShardText.{ShardText}
+use Rattle.mr_shards.specs.declared.merger.MergeFault.{MergeFault}
+use Rattle.mr_shards.specs.declared.merger.MergeFault.TheVariants.{BadLine, TotalTooLarge, TooManyFiles, OutOfMemory}
+use Rattle.mr_shards.specs.declared.merger.ShardText.{ShardText}
 use Rattle.mr_shards.specs.declared.window.Held.{Held}
 use Rattle.mr_shards.specs.declared.window.Window.{Window}
 use Rattle.mr_shards.specs.Merged.{Group, Part, merged_parts, texts}

@@ -11,7 +11,7 @@ ghost use Rattle.mr_shards.specs.Cursors.{IsFound, IsFronted, IsHeadFor, left, l
 ghost use Rattle.mr_shards.specs.Refused.{BlamesOnly, IsReadOf, IsRestOf, MayFollow, last_key};
 
 use crate::line::{Line, first_line, moved};
-use crate::merge::MergeFault;
+use crate::merger::MergeFault;
 use mr_bytes::compare_keys;
 use mr_jobs::Job;
 use std::cmp::Ordering;

@@ -6,13 +6,11 @@
 mod cursor;
 mod joining;
 mod line;
-mod merge;
 mod merger;
 mod piece;
 mod reading;
 mod verdict;
 mod window;
-mod writing;
 
 ghost use Rattle.mr_shards.specs.Judged.{GoodIsJudged};
 ghost use Rattle.mr_shards.specs.Lines.{OneReading};
@@ -21,14 +19,13 @@ ghost use Rattle.mr_shards.specs.Laws.{OneText};
 
 pub use joining::{JoinFault, first_repeat, join_verdicts, joined_law};
 pub use line::number_of;
-pub use merge::{MergeFault, ShardText, merge_parts};
-pub use merger::Merger;
+pub use merger::{MergeFault, Merger, ShardText, merge_parts};
 pub use reading::read_verdict;
 pub use verdict::{
     FileNote, Verdict, VerdictFault, asks, is_note_of, note_for, request_of, verdict_for,
+    write_verdict,
 };
 pub use window::Window;
-pub use writing::write_verdict;
 
 /// The merged text is the output of the sequential execution over all files, without the records
 /// that the shards leave out; if these rise and exist in each shard, they do in the whole.

@@ -11,7 +11,7 @@ ghost use Rattle.mr_shards.specs.Refused.{IsFarPlace, IsLineOf, Overflows};
 ghost use Rattle.mr_shards.specs.Views.{BeginsWithLine, Combines, IsFor, IsSameKind, IsTold};
 ghost use Rattle.mr_shards.specs.Views.{group_of, values_of};
 
-use crate::merge::MergeFault;
+use crate::merger::MergeFault;
 use itoa::Buffer;
 use memchr::{memchr, memrchr};
 use mr_bytes::Value;

@@ -10,7 +10,7 @@ ghost use Rattle.mr_shards.specs.Places.{shown};
 ghost use Rattle.mr_shards.specs.Refused.{Blames};
 
 use crate::line::cut_last;
-use crate::merge::{MergeFault, ShardText, merge_parts};
+use crate::merger::{MergeFault, ShardText, merge_parts};
 use crate::window::{Held, Place, Window, bytes_to, in_next, line_count, place_of};
 use mr_jobs::Job;
 use std::alloc::{AllocError, Global};

@@ -11,8 +11,7 @@ ghost use Rattle.mr_shards.specs.Reading.{Finds};
 ghost use Rattle.mr_shards.specs.Verdict.{Note, Told, name_told, note_told, spelling};
 
 use crate::line::number_of;
-use crate::verdict::{FileNote, Verdict, VerdictFault};
-use crate::writing::write_verdict;
+use crate::verdict::{FileNote, Verdict, VerdictFault, write_verdict};
 use hex::decode_to_slice;
 use mr_bytes::{RecordName, cut};
 use mr_lanes::first_difference;

@@ -2,17 +2,14 @@
 #![tactic(auto)]
 
 mod kept_records;
-mod left_out_set;
 mod plan;
-mod record_scan;
 mod split_table;
 
 ghost use Rattle.mr_splits.specs.Belongs.{RecordsAreByFile, RecordsBelong};
 ghost use Rattle.mr_splits.specs.Laws.{NamedAreRecords, NamesOfRecordsRise, NumbersCount};
 ghost use Rattle.mr_splits.specs.Laws.{SplitsJoin};
 
-pub use kept_records::{KeptPlan, KeptRecords, SkipFault};
-pub use left_out_set::LeftOutSet;
+pub use kept_records::{KeptPlan, KeptRecords, LeftOutSet, SkipFault};
 pub use plan::{Plan, PlanFault, RecordAt, SplitPlace};
 
 /// The records of the splits, joined, are those of the files, each with its file and in the split

@@ -6,7 +6,6 @@ mod encode;
 mod limited;
 mod memory_reader;
 mod memory_writer;
-mod read_buffer;
 mod reading;
 mod writing;
 
@@ -15,6 +14,5 @@ pub use crate::encode::{Bytes, Encode, write_encoded};
 pub use crate::limited::{LimitedFault, read_limited};
 pub use crate::memory_reader::MemoryReader;
 pub use crate::memory_writer::MemoryWriter;
-pub use crate::read_buffer::ReadBuffer;
-pub use crate::reading::{ReadFault, read_all};
+pub use crate::reading::{ReadBuffer, ReadFault, read_all};
 pub use crate::writing::{write_all, write_result, write_whole};

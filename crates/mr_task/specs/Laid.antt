@@ -1,6 +1,6 @@
 -- Where the regions of a map task's output lie.
 use Rattle.std.specs.Prelude.{ℕ, ◌+◌, ◌*◌, ◌/◌, List, length, slice_index_or}
-use Rattle.mr_task.specs.declared.stored.Place.{Place}
+use Rattle.mr_task.specs.declared.output.Place.{Place}
 
 -- how many partitions there are, who put the regions, and their numbers: run by run, and in a run by partition
 pub record Laid : Type 0 where

@@ -7,13 +7,11 @@ mod map;
 mod output;
 mod reduce;
 mod runs;
-mod stored;
 
 pub use map::{MapTask, map_task, map_task_with};
 pub use mr_merge::{Came, Cancellation, Follower, NeverCancelled};
-pub use output::{GroupNames, MapOutput, ReduceOutput};
+pub use output::{GroupNames, MapOutput, Place, ReduceOutput, Stored};
 pub use reduce::{
     TaskFault, map_values_law, pieces_law, reduce_followed, reduce_task, reduce_task_while,
     worked_tasks,
 };
-pub use stored::{Place, Stored};

@@ -12,8 +12,8 @@ use Rattle.std.specs.declared.cmp.Ordering.TheVariants.{Less}
 use Rattle.mr_bytes.specs.declared.Name.{Name}
 use Rattle.mr_bytes.specs.Order.{key_order, name_order}
 use Rattle.mr_input.specs.Files.{nth_file}
-use Rattle.mr_certform.specs.declared.item.Item.{Item}
-use Rattle.mr_certform.specs.declared.item.Item.TheVariants.{Groups, Entries, Entry, End}
+use Rattle.mr_certform.specs.declared.grammar_state.Item.{Item}
+use Rattle.mr_certform.specs.declared.grammar_state.Item.TheVariants.{Groups, Entries, Entry, End}
 use Rattle.mr_certform.specs.declared.grammar_state.GrammarState.{GrammarState}
 use Rattle.mr_certform.specs.declared.grammar_state.GrammarState.TheVariants.{AtGroups, AtEntries, AtEntry, AtEnd}
 use Rattle.mr_certform.specs.Grammar.{MayStand, InOrder}
@@ -22,8 +22,8 @@ use Rattle.mr_bytes.specs.Pairs.{Triple}
 use Rattle.mr_sequential.specs.Good.{named, key_under, values_under, text_under}
 use Rattle.mr_sequential.proofs.KeyLaws.{bytes_eq-same}
 use Rattle.mr_sequential.proofs.NamedLaws.{named-Has}
-use Rattle.mr_verdict.specs.declared.fault.No.{No}
-use Rattle.mr_verdict.specs.declared.fault.No.TheVariants as Fault
+use Rattle.mr_verdict.specs.declared.answers.No.{No}
+use Rattle.mr_verdict.specs.declared.answers.No.TheVariants as Fault
 use Rattle.mr_verdict.specs.Verdict.{Reached, Subject, first, passes, start, after, text_tests, end_tests, is_key_past, first_tests, later_tests, order_tests, with_entry, entry_tests, group_tests, behind_group, after_entry}
 use Rattle.mr_verdict.specs.VerdictLaws.{told, piece}
 use Rattle.mr_verdict.specs.FaultLaws.{GroupRead, PartRead, names_in, groups_in, part_read, whole, name_in, triple_in, KeysFall, IsWrongIn}

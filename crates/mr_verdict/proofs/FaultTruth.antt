@@ -8,8 +8,8 @@ use Rattle.mr_bytes.specs.Order.{record_order}
 use Rattle.mr_jobs.specs.JobSpec.{job_literal}
 use Rattle.mr_splits.specs.Named.{named_records}
 use Rattle.mr_splits.specs.Cut.{is_record}
-use Rattle.mr_certform.specs.declared.item.Item.{Item}
-use Rattle.mr_certform.specs.declared.item.Item.TheVariants.{LiteralByte, FileLength, Parts, SplitSize, Skips, Skip, Groups, End}
+use Rattle.mr_certform.specs.declared.grammar_state.Item.{Item}
+use Rattle.mr_certform.specs.declared.grammar_state.Item.TheVariants.{LiteralByte, FileLength, Parts, SplitSize, Skips, Skip, Groups, End}
 use Rattle.mr_certform.specs.declared.grammar_state.GrammarState.{GrammarState}
 use Rattle.mr_certform.specs.declared.grammar_state.GrammarState.TheVariants.{AtMagic, AtParts, AtSkips, AtGroups}
 use Rattle.mr_certform.specs.Grammar.{MayStand, InOrder}
@@ -17,8 +17,8 @@ use Rattle.mr_certform.specs.Places as Places
 use Rattle.mr_certform.specs.Spelling.{items_of, is_ended}
 use Rattle.mr_certform.proofs.Walks.{read_front}
 use Rattle.mr_splits.specs.Kept.{is_past}
-use Rattle.mr_verdict.specs.declared.fault.No.{No}
-use Rattle.mr_verdict.specs.declared.fault.No.TheVariants as Fault
+use Rattle.mr_verdict.specs.declared.answers.No.{No}
+use Rattle.mr_verdict.specs.declared.answers.No.TheVariants as Fault
 use Rattle.mr_verdict.specs.Verdict.{WalkCase, Subject, passes, start, first, subject_of, last_of, item_eq, job_wanted, input_wanted, wanted_faults, entries_in, case_of}
 use Rattle.mr_verdict.specs.VerdictLaws.{told, or_else, fault_of, skips_in, piece, parts_in, front_skips, front_count, front_faults, part_fault, least_fault, back_fault}
 use Rattle.mr_verdict.specs.FaultLaws.{part_read, parts_read, IsWrongIn, Depart, SkipsFall, IsNoRecord, IsTrueOf, FaultsAreTrue, TellsOfBytes}

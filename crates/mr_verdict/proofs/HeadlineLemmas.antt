@@ -9,8 +9,8 @@ use Rattle.mr_sequential.specs.Rules.{rules_of}
 use Rattle.mr_sequential.specs.Laws.{IsInKeyOrder}
 use Rattle.mr_sequential.proofs.GoodLaws.{good_is_sequential}
 use Rattle.mr_sequential.proofs.KeyLaws.{outputs_are_in_key_order}
-use Rattle.mr_verdict.specs.declared.fault.No.{No}
-use Rattle.mr_verdict.specs.declared.yes.Yes.{Yes}
+use Rattle.mr_verdict.specs.declared.answers.No.{No}
+use Rattle.mr_verdict.specs.declared.answers.Yes.{Yes}
 use Rattle.mr_verdict.specs.Headline.{IsCertified}
 use Rattle.mr_verdict.specs.Verdict.{Accepted, verdict_of}
 use Rattle.mr_verdict.proofs.VerdictYes.{yes_is_good}

@@ -1,8 +1,8 @@
 -- Every item but the end takes a byte at least, in either version.
 use Rattle.std.proofs.Common.{◌≡◌, ◌≤◌, length, refl, arith}
 use Rattle.mr_bytes.specs.declared.Name.{Name}
-use Rattle.mr_certform.specs.declared.item.Item.{Item}
-use Rattle.mr_certform.specs.declared.item.Item.TheVariants.{Magic, Job, Flags, LiteralLength, LiteralByte, Parts, SplitSize, Files, FileLength, Skips, Skip, Groups, Entries, Entry, End}
+use Rattle.mr_certform.specs.declared.grammar_state.Item.{Item}
+use Rattle.mr_certform.specs.declared.grammar_state.Item.TheVariants.{Magic, Job, Flags, LiteralLength, LiteralByte, Parts, SplitSize, Files, FileLength, Skips, Skip, Groups, Entries, Entry, End}
 use Rattle.mr_certform.specs.declared.grammar_state.GrammarState.{GrammarState}
 use Rattle.mr_certform.specs.declared.version.Version.{Version}
 use Rattle.mr_certform.specs.declared.version.Version.TheVariants.{V1, V2}

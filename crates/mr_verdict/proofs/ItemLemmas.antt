@@ -1,8 +1,8 @@
 -- Items that are walked, whatever walks them.
 use Rattle.std.proofs.Common.{◌≡◌, ℕ, List, [], ◌∷◌, ◌++◌, sym, ◌∙◌, refl, ap, subst}
 use Rattle.std.specs.Prelude.{Result, Ok, Err}
-use Rattle.mr_certform.specs.declared.item.Item.{Item}
-use Rattle.mr_verdict.specs.declared.fault.No.{No}
+use Rattle.mr_certform.specs.declared.grammar_state.Item.{Item}
+use Rattle.mr_verdict.specs.declared.answers.No.{No}
 use Rattle.mr_verdict.specs.declared.items.JudgeError.{JudgeError}
 use Rattle.mr_verdict.specs.declared.items.JudgeError.TheVariants.{Fault, Device, TooLong, Output, LongOutput}
 use Rattle.mr_certform.specs.declared.walker.Walker.{Walker}

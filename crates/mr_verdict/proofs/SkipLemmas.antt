@@ -4,11 +4,11 @@ use Rattle.std.specs.Prelude.{Err}
 use Rattle.std.proofs.lemmas.Bool.{false≢true}
 use Rattle.mr_bytes.specs.declared.RecordName.{RecordName}
 use Rattle.mr_splits.specs.Named.{NamedRecord}
-use Rattle.mr_certform.specs.declared.item.Item.{Item}
-use Rattle.mr_certform.specs.declared.item.Item.TheVariants.{Skip}
-use Rattle.mr_verdict.specs.declared.fault.No.{No}
+use Rattle.mr_certform.specs.declared.grammar_state.Item.{Item}
+use Rattle.mr_certform.specs.declared.grammar_state.Item.TheVariants.{Skip}
+use Rattle.mr_verdict.specs.declared.answers.No.{No}
 use Rattle.mr_verdict.specs.Verdict.{last_of}
-use Rattle.mr_verdict.specs.declared.fault.No.TheVariants.{Malformed}
+use Rattle.mr_verdict.specs.declared.answers.No.TheVariants.{Malformed}
 use Rattle.mr_verdict.specs.Steps.{skip_fault, unless, listed, skips_in_front}
 use Rattle.mr_verdict.specs.Items.{skip_next}
 

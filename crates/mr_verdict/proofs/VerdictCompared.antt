@@ -4,8 +4,8 @@ use Rattle.std.proofs.lemmas.Bool.{leb-true, leb-false, lt-leb}
 use Rattle.std.proofs.lemmas.List.{drop-take, take-take, take_all, length-take-le, length-take, take-append-drop}
 use Rattle.std.proofs.Math.Seq.{take-append_seam}
 use Rattle.std.specs.List.{common_prefix_len}
-use Rattle.mr_verdict.specs.declared.fault.No.{No}
-use Rattle.mr_verdict.specs.declared.fault.No.TheVariants as Fault
+use Rattle.mr_verdict.specs.declared.answers.No.{No}
+use Rattle.mr_verdict.specs.declared.answers.No.TheVariants as Fault
 use Rattle.mr_verdict.specs.Verdict.{passes, text_tests, end_tests, first}
 use Rattle.mr_verdict.proofs.VerdictTests.{passed, text_stands, text_passes}
 

@@ -12,13 +12,13 @@ use Rattle.mr_bytes.specs.declared.Value.{Value}
 use Rattle.mr_bytes.specs.Lists.{Rises}
 use Rattle.mr_bytes.specs.Order.{name_order}
 use Rattle.mr_input.specs.Files.{nth_file}
-use Rattle.mr_certform.specs.declared.item.Item.TheVariants.{Entry}
+use Rattle.mr_certform.specs.declared.grammar_state.Item.TheVariants.{Entry}
 use Rattle.mr_certform.specs.Value.{group_items}
 use Rattle.mr_sequential.proofs.KeyLaws.{bytes_eq-is, bytes_eq-same}
 use Rattle.mr_bytes.specs.Pairs.{Triple}
 use Rattle.mr_sequential.specs.Good.{named, key_under, key_of, values_under, text_under, IsGoodGroup}
-use Rattle.mr_verdict.specs.declared.fault.No.{No}
-use Rattle.mr_verdict.specs.declared.fault.No.TheVariants.{EntryOrder, KeyDiffers, WrongPartition, KeyOrder}
+use Rattle.mr_verdict.specs.declared.answers.No.{No}
+use Rattle.mr_verdict.specs.declared.answers.No.TheVariants.{EntryOrder, KeyDiffers, WrongPartition, KeyOrder}
 use Rattle.mr_verdict.specs.Verdict.{Reached, Subject, tests, after, passes, text_tests, end_tests, is_key_past, first_tests, later_tests, order_tests, with_entry, entry_tests, group_tests, behind_group, after_entry}
 use Rattle.mr_verdict.specs.VerdictLaws.{told, behind}
 use Rattle.mr_sequential.proofs.EntryLaws.{names_total}

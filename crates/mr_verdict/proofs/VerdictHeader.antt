@@ -9,16 +9,16 @@ use Rattle.mr_bytes.specs.Lists.{Has}
 use Rattle.mr_jobs.specs.JobSpec.{RequestSpec, flags_of, job_literal, job_number}
 use Rattle.mr_splits.specs.Named.{NamedRecord, named_records}
 use Rattle.mr_splits.specs.Cut.{is_record}
-use Rattle.mr_certform.specs.declared.item.Item.{Item}
-use Rattle.mr_certform.specs.declared.item.Item.TheVariants.{Magic, Job, Flags, LiteralLength, LiteralByte, Parts, SplitSize, Files, FileLength, Skips, Skip, Entry, End}
+use Rattle.mr_certform.specs.declared.grammar_state.Item.{Item}
+use Rattle.mr_certform.specs.declared.grammar_state.Item.TheVariants.{Magic, Job, Flags, LiteralLength, LiteralByte, Parts, SplitSize, Files, FileLength, Skips, Skip, Entry, End}
 use Rattle.mr_certform.specs.Value.{Contents, job_items, input_items, skip_items, group_items, part_items}
 use Rattle.mr_sequential.specs.declared.sequence.RunFault.{RunFault}
 use Rattle.mr_sequential.specs.declared.sequence.RunFault.TheVariants.{NoSuchRecord, SkipOrder}
 use Rattle.mr_sequential.specs.Good.{entries_of}
 use Rattle.mr_splits.specs.Kept.{is_past}
 use Rattle.mr_sequential.specs.Skips.{list_fault}
-use Rattle.mr_verdict.specs.declared.fault.No.{No}
-use Rattle.mr_verdict.specs.declared.fault.No.TheVariants as Fault
+use Rattle.mr_verdict.specs.declared.answers.No.{No}
+use Rattle.mr_verdict.specs.declared.answers.No.TheVariants as Fault
 use Rattle.mr_verdict.specs.Verdict.{WalkCase, Reached, Subject, tests, after, passes, start, part_faults, subject_of, last_of, skip_faults, count_faults, item_eq, job_wanted, input_wanted, wanted_faults, Accepted, accepted_by, told_by}
 use Rattle.mr_verdict.proofs.VerdictTests.{none_left, none_right, none_both, passed, passes-true}
 

@@ -6,13 +6,13 @@ use Rattle.std.specs.Str.{bytes_eq}
 use Rattle.mr_bytes.specs.declared.Name.{Name}
 use Rattle.mr_bytes.specs.Order.{name_order}
 use Rattle.mr_input.specs.Files.{nth_file}
-use Rattle.mr_certform.specs.declared.item.Item.{Item}
-use Rattle.mr_certform.specs.declared.item.Item.TheVariants.{Groups, Entries, Entry, End}
+use Rattle.mr_certform.specs.declared.grammar_state.Item.{Item}
+use Rattle.mr_certform.specs.declared.grammar_state.Item.TheVariants.{Groups, Entries, Entry, End}
 use Rattle.mr_certform.specs.Spelling.{items_of, is_ended, stop}
 use Rattle.mr_bytes.specs.Pairs.{Triple}
 use Rattle.mr_sequential.specs.Good.{named}
-use Rattle.mr_verdict.specs.declared.fault.No.{No}
-use Rattle.mr_verdict.specs.declared.fault.No.TheVariants as Fault
+use Rattle.mr_verdict.specs.declared.answers.No.{No}
+use Rattle.mr_verdict.specs.declared.answers.No.TheVariants as Fault
 use Rattle.mr_verdict.specs.Verdict.{Accepted, Reached, Subject, passes, start, tests, after, text_tests, end_tests, is_key_past, order_tests, with_entry, entry_tests, group_tests, subject_of, case_of, verdict_of, first, entries_in}
 use Rattle.mr_verdict.specs.VerdictLaws.{told, or_else, fault_of, skips_in, piece, parts_in, front_faults, part_fault, least_fault, back_fault, before_fault, SameBy, SameFor, SameTo, SameInPart, SameFrom, SameUnless, partition_named, LaterOutputsDontMatter}
 use Rattle.mr_verdict.proofs.VerdictOutputs.{next_entry, only_compared_matters}

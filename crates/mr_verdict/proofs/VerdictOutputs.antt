@@ -3,8 +3,8 @@ use Rattle.std.proofs.Common.{◌≡◌, ℕ, zero, suc, ◌+◌, ◌-◌, ◌�
 use Rattle.std.specs.List.{common_prefix_len}
 use Rattle.mr_bytes.specs.declared.Name.{Name}
 use Rattle.mr_input.specs.Files.{nth_file}
-use Rattle.mr_certform.specs.declared.item.Item.{Item}
-use Rattle.mr_certform.specs.declared.item.Item.TheVariants.{Skips, Skip, Groups, Entries, Entry, End}
+use Rattle.mr_certform.specs.declared.grammar_state.Item.{Item}
+use Rattle.mr_certform.specs.declared.grammar_state.Item.TheVariants.{Skips, Skip, Groups, Entries, Entry, End}
 use Rattle.mr_certform.specs.Spelling.{items_of, is_ended, stop}
 use Rattle.mr_splits.specs.Kept.{is_past}
 use Rattle.mr_bytes.specs.declared.RecordName.{RecordName}
@@ -12,8 +12,8 @@ use Rattle.mr_splits.specs.Named.{named_records}
 use Rattle.mr_splits.specs.Cut.{is_record}
 use Rattle.mr_bytes.specs.Pairs.{Triple}
 use Rattle.mr_sequential.specs.Good.{named}
-use Rattle.mr_verdict.specs.declared.fault.No.{No}
-use Rattle.mr_verdict.specs.declared.fault.No.TheVariants as Fault
+use Rattle.mr_verdict.specs.declared.answers.No.{No}
+use Rattle.mr_verdict.specs.declared.answers.No.TheVariants as Fault
 use Rattle.mr_verdict.specs.Verdict.{WalkCase, Reached, Subject, Accepted, passes, start, tests, after, last_of, item_eq, job_wanted, input_wanted, wanted_faults, faults, told_by, accepted_by, case_of, subject_of, verdict_of, text_tests, end_tests, order_tests, with_entry, entry_tests, group_tests, behind_group, after_entry, first, entries_in}
 use Rattle.mr_verdict.specs.VerdictLaws.{told, piece, part_fault, before_fault, last_before, SameBy, SameFor, fault_of, or_else, skips_in, parts_in, front_skips, front_count, front_faults, least_fault, back_fault, SameInPart, SameFrom, SameUnless, OtherOutputsDontMatter, BytesBehindDontMatter, OnlyComparedMatters}
 use Rattle.mr_verdict.proofs.VerdictPlace.{fault_by_place}

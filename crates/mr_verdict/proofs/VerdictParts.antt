@@ -8,12 +8,12 @@ use Rattle.mr_bytes.specs.declared.Name.{Name}
 use Rattle.mr_bytes.specs.Lists.{Rises}
 use Rattle.mr_bytes.specs.Order.{key_order}
 use Rattle.mr_input.specs.Files.{nth_file}
-use Rattle.mr_certform.specs.declared.item.Item.{Item}
-use Rattle.mr_certform.specs.declared.item.Item.TheVariants.{Entry, End}
+use Rattle.mr_certform.specs.declared.grammar_state.Item.{Item}
+use Rattle.mr_certform.specs.declared.grammar_state.Item.TheVariants.{Entry, End}
 use Rattle.mr_certform.specs.Value.{group_items, part_items}
 use Rattle.mr_sequential.specs.Good.{key_of, text_under, IsGoodGroup, IsGoodPart, entries_of}
 use Rattle.mr_sequential.proofs.EntryLaws.{EachFrom}
-use Rattle.mr_verdict.specs.declared.fault.No.{No}
+use Rattle.mr_verdict.specs.declared.answers.No.{No}
 use Rattle.mr_verdict.specs.Verdict.{Reached, Subject, tests, after, text_tests, end_tests, is_key_past, part_faults}
 use Rattle.mr_verdict.specs.VerdictLaws.{told, behind}
 use Rattle.mr_verdict.proofs.VerdictGroups.{IsBehind, text_told, group_good, group_told}

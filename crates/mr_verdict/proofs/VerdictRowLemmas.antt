@@ -11,7 +11,7 @@ use Rattle.mr_partition.specs.Partition.{fnv_from}
 use Rattle.mr_records.specs.Records.{lengthen, records_from}
 use Rattle.mr_sequential.specs.Emitted.{placed_from}
 use Rattle.mr_splits.specs.Named.{named_from, named_files}
-use Rattle.mr_verdict.specs.declared.fault.No.{No}
+use Rattle.mr_verdict.specs.declared.answers.No.{No}
 use Rattle.mr_verdict.specs.Verdict.{verdict_of}
 use Rattle.mr_verdict.specs.VerdictRows.{words, a_b_a, a_b_aa, line, a2_b1, name, certificate_in, certificate, of_groups, good_bytes, short_front, short_back, short_bytes, says, of_a, last_name, says_without, word, b1_d1, of_third, first_record}
 

@@ -7,9 +7,9 @@ use Rattle.std.specs.List.{common_prefix_len}
 use Rattle.std.specs.Ordering.{is_lt}
 use Rattle.std.specs.declared.cmp.Ordering.{Ordering}
 use Rattle.std.specs.declared.cmp.Ordering.TheVariants.{Less, Equal, Greater}
-use Rattle.mr_certform.specs.declared.item.Item.{Item}
-use Rattle.mr_verdict.specs.declared.fault.No.{No}
-use Rattle.mr_verdict.specs.declared.fault.No.TheVariants.{OutputDiffers}
+use Rattle.mr_certform.specs.declared.grammar_state.Item.{Item}
+use Rattle.mr_verdict.specs.declared.answers.No.{No}
+use Rattle.mr_verdict.specs.declared.answers.No.TheVariants.{OutputDiffers}
 use Rattle.mr_verdict.specs.Verdict.{Reached, Subject, tests, after, passes, text_tests, end_tests}
 use Rattle.mr_verdict.specs.VerdictLaws.{told, behind}
 

@@ -13,7 +13,7 @@ use Rattle.mr_sequential.specs.Emitted.{emitted}
 use Rattle.mr_sequential.specs.Rules.{rules_of}
 use Rattle.mr_sequential.specs.Laws.{IsInKeyOrder}
 use Rattle.mr_sequential.specs.Sequential.{sequential}
-use Rattle.mr_verdict.specs.declared.yes.Yes.{Yes}
+use Rattle.mr_verdict.specs.declared.answers.Yes.{Yes}
 use Rattle.mr_verdict.specs.Verdict.{Accepted}
 
 -- what a yes says

@@ -1,11 +1,11 @@
 -- Of no public promise: items that are walked, whatever walks them, and what an answer says of them.
 use Rattle.std.specs.Prelude.{◌≡◌, ◌⊎◌, ℕ, Bool, true, false, List, [], ◌∷◌, Result, Ok, Err}
 use Rattle.mr_bytes.specs.declared.RecordName.{RecordName}
-use Rattle.mr_certform.specs.declared.item.Item.{Item}
-use Rattle.mr_certform.specs.declared.item.Item.TheVariants.{Skip, End}
-use Rattle.mr_verdict.specs.declared.fault.No.{No}
+use Rattle.mr_certform.specs.declared.grammar_state.Item.{Item}
+use Rattle.mr_certform.specs.declared.grammar_state.Item.TheVariants.{Skip, End}
+use Rattle.mr_verdict.specs.declared.answers.No.{No}
 use Rattle.mr_verdict.specs.declared.items.JudgeError.{JudgeError}
-use Rattle.mr_verdict.specs.declared.fault.No.TheVariants.{Malformed as malformed, OutOfMemory}
+use Rattle.mr_verdict.specs.declared.answers.No.TheVariants.{Malformed as malformed, OutOfMemory}
 use Rattle.mr_verdict.specs.declared.items.JudgeError.TheVariants.{Fault, Device as NoDevice, TooLong as TooMany, Output, LongOutput}
 use Rattle.mr_store.specs.Devices.{counted}
 use Rattle.mr_verdict.specs.Steps.{met}

@@ -5,13 +5,13 @@ use Rattle.mr_bytes.specs.declared.RecordName.{RecordName}
 use Rattle.mr_jobs.specs.JobSpec.{RequestSpec}
 use Rattle.mr_splits.specs.Named.{NamedRecord}
 use Rattle.mr_splits.specs.Cut.{is_record}
-use Rattle.mr_certform.specs.declared.item.Item.{Item}
-use Rattle.mr_certform.specs.declared.item.Item.TheVariants.{Skips, Skip, Groups}
+use Rattle.mr_certform.specs.declared.grammar_state.Item.{Item}
+use Rattle.mr_certform.specs.declared.grammar_state.Item.TheVariants.{Skips, Skip, Groups}
 use Rattle.mr_bytes.specs.Pairs.{Triple}
 use Rattle.mr_sequential.specs.Rules.{rules_of}
 use Rattle.mr_splits.specs.Kept.{is_past}
-use Rattle.mr_verdict.specs.declared.fault.No.{No}
-use Rattle.mr_verdict.specs.declared.fault.No.TheVariants.{OtherJob, OtherInput, Malformed, SkipOrder, NoSuchRecord, TooManySkips, OutOfMemory}
+use Rattle.mr_verdict.specs.declared.answers.No.{No}
+use Rattle.mr_verdict.specs.declared.answers.No.TheVariants.{OtherJob, OtherInput, Malformed, SkipOrder, NoSuchRecord, TooManySkips, OutOfMemory}
 use Rattle.mr_verdict.specs.Verdict.{first, WalkCase, Reached, Subject, item_eq, last_of, job_wanted, input_wanted}
 
 -- an answer for these faults: the first of them, or want of memory

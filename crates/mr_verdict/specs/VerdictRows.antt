@@ -7,7 +7,7 @@ use Rattle.mr_jobs.specs.JobSpec.{RequestSpec, WordCount}
 use Rattle.mr_certform.specs.declared.version.Version.{Version}
 use Rattle.mr_certform.specs.declared.version.Version.TheVariants.{V1, V2}
 use Rattle.mr_certform.specs.Value.{spelling}
-use Rattle.mr_verdict.specs.declared.fault.No.{No}
+use Rattle.mr_verdict.specs.declared.answers.No.{No}
 use Rattle.mr_verdict.specs.Verdict.{Accepted, verdict_of}
 
 -- count words, folded: so many partitions, splits of 64 bytes, at most so many records left out

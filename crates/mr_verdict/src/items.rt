@@ -1,13 +1,13 @@
 //! Sources of a certificate's items: its bytes, or a reader.
 ghost use Rattle.std.specs.Prelude.{◌≡◌, ◌⊎◌, ◌≤◌, ◌<◌, ◌+◌, ◌-◌, ⊤, ◌^◌, ℕ, List, None, IfOk};
 ghost use Rattle.std.specs.Prelude.{length};
-ghost use Rattle.mr_certform.specs.declared.item.Item.{Item as Read};
-ghost use Rattle.mr_certform.specs.declared.item.Item.TheVariants.{End};
+ghost use Rattle.mr_certform.specs.declared.grammar_state.Item.{Item as Read};
+ghost use Rattle.mr_certform.specs.declared.grammar_state.Item.TheVariants.{End};
 ghost use Rattle.mr_certform.specs.Walking.{items_left, halt};
 ghost use Rattle.mr_certform.specs.Streaming.{stream, Gives};
 ghost use Rattle.mr_verdict.specs.Items.{CanCome, Took, Halts};
 
-use crate::fault::No;
+use crate::answers::No;
 use mr_certform::{Item, StreamFault, StreamWalker, Walker};
 use mr_store::CountedRead;
 use std::alloc::AllocError;
@@ -58,7 +58,7 @@ impl From<No> for JudgeError {
 }
 
 impl From<AllocError> for JudgeError {
-    ghost use Rattle.mr_verdict.specs.declared.fault.No.TheVariants.{OutOfMemory as no_memory};
+    ghost use Rattle.mr_verdict.specs.declared.answers.No.TheVariants.{OutOfMemory as no_memory};
     ghost use Rattle.mr_verdict.specs.declared.items.JudgeError.TheVariants.{Fault as at_fault};
 
     ghost from_gives = { λ _ s. s ≡ at_fault no_memory };

@@ -1,11 +1,11 @@
 use Rattle.std.proofs.Common.{◌≡◌, ◌∙◌, List, [], drop, refl, ap, sym, arith}
-use Rattle.mr_certform.specs.declared.item.Item.{Item}
+use Rattle.mr_certform.specs.declared.grammar_state.Item.{Item}
 use Rattle.mr_certform.specs.Walking.{items_left}
 use Rattle.mr_verdict.specs.Verdict.{start, first}
 use Rattle.mr_verdict.specs.VerdictLaws.{told as faults_told}
 use Rattle.mr_verdict.specs.Steps.{subject}
 use Rattle.mr_judge.specs.Borders.{at_border}
-use Rattle.mr_check.specs.declared.section.Outcome.TheVariants.{Fault, Ended, Reached as Behind}
+use Rattle.mr_check.specs.declared.sections.Outcome.TheVariants.{Fault, Ended, Reached as Behind}
 use Rattle.mr_check.specs.Fronts.{part_here}
 use Rattle.mr_check.specs.Sections.{OutcomeTold}
 use Rattle.mr_check.proofs.SectionLemmas.{cut_behind, here_few, outcome_as}

@@ -1,5 +1,5 @@
 use Rattle.std.proofs.Common.{◌∙◌, false, Ok, Bool, List, drop, ap, sym, subst}
-use Rattle.mr_certform.specs.declared.item.Item.{Item}
+use Rattle.mr_certform.specs.declared.grammar_state.Item.{Item}
 use Rattle.mr_certform.specs.Walking.{items_left}
 use Rattle.mr_verdict.specs.Verdict.{first}
 use Rattle.mr_verdict.specs.VerdictLaws.{told, piece}

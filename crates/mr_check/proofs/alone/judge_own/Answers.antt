@@ -1,7 +1,7 @@
 use Rattle.std.proofs.Common.{◌≡◌, ◌+◌, List, length, drop, get_or, sym, subst, arith, ◌∙◌}
 use Rattle.std.proofs.lemmas.List.{drop_more}
 use Rattle.std.specs.List.{AllByRecursion}
-use Rattle.mr_judge.specs.declared.blocks.FoundItem.{FoundItem}
+use Rattle.mr_judge.specs.declared.border.FoundItem.{FoundItem}
 use Rattle.mr_verdict.specs.Verdict.{Reached}
 use Rattle.mr_verdict.specs.Steps.{subject}
 use Rattle.mr_judge.specs.Blocks.{items_in, IsFound}

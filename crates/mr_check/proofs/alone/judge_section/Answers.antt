@@ -1,5 +1,5 @@
 use Rattle.std.proofs.Common.{◌≡◌, ◌+◌, ◌∙◌, ◌≤◌, List, drop, length, ap, sym, subst, arith}
-use Rattle.mr_certform.specs.declared.item.Item.{Item}
+use Rattle.mr_certform.specs.declared.grammar_state.Item.{Item}
 use Rattle.mr_certform.specs.Walking.{items_left}
 use Rattle.mr_verdict.specs.Verdict.{Reached}
 use Rattle.mr_verdict.specs.VerdictLaws.{piece}

@@ -1,10 +1,10 @@
 use Rattle.std.proofs.Common.{◌≡◌, ◌+◌, ◌≤◌, ◌^◌, true, false, Ok, List, length, take, drop, arith, refl, ap, sym, ◌∙◌}
 use Rattle.std.proofs.lemmas.Result.{err_from_is_err_and}
-use Rattle.mr_certform.specs.declared.item.Item.{Item}
+use Rattle.mr_certform.specs.declared.grammar_state.Item.{Item}
 use Rattle.mr_certform.specs.Walking.{items_left}
 use Rattle.mr_verdict.specs.Verdict.{first}
 use Rattle.mr_verdict.specs.VerdictLaws.{told, piece}
-use Rattle.mr_verdict.specs.declared.fault.No.{No}
+use Rattle.mr_verdict.specs.declared.answers.No.{No}
 use Rattle.mr_verdict.specs.Steps.{subject, Answers}
 use Rattle.mr_judge.proofs.Faults.{told_is}
 use Rattle.mr_judge.specs.Blocks.{items_in, onto}

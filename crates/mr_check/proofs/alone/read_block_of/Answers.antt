@@ -1,9 +1,9 @@
 use Rattle.std.proofs.Common.{◌≡◌, ℕ, ◌+◌, Option, Ok, List, [], ◌∷◌, length, refl, ap, sym, ◌∙◌, inr, subst, arith}
 use Rattle.std.proofs.lemmas.Bool.{eqb-true}
-use Rattle.mr_certform.specs.declared.item.Item.{Item}
+use Rattle.mr_certform.specs.declared.grammar_state.Item.{Item}
 use Rattle.mr_certform.specs.declared.walker.Walker.{Walker}
 use Rattle.mr_certform.specs.Walking.{items_left, halt}
-use Rattle.mr_verdict.specs.declared.fault.No.TheVariants.{Malformed}
+use Rattle.mr_verdict.specs.declared.answers.No.TheVariants.{Malformed}
 use Rattle.mr_verdict.specs.Verdict.{entries_in}
 use Rattle.mr_judge.specs.Blocks.{onto, Read}
 use Rattle.mr_verdict.proofs.ItemLemmas.{over}

@@ -1,6 +1,6 @@
 use Rattle.std.proofs.Common.{◌∷◌, ◌++◌, [], refl, arith}
 use Rattle.std.proofs.lemmas.List.Elements.{All-push, All-same}
-use Rattle.mr_certform.specs.declared.item.Item.TheVariants.{Entries}
+use Rattle.mr_certform.specs.declared.grammar_state.Item.TheVariants.{Entries}
 use Rattle.mr_certform.specs.Walking.{items_left}
 use Rattle.mr_check.specs.declared.front.Section.{Section}
 use Rattle.mr_check.specs.Sections.{IsSection}

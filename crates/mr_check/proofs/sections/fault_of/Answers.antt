@@ -1,14 +1,14 @@
 use Rattle.std.proofs.Common.{◌≡◌, ◌∙◌, List, drop, refl, ap, sym, subst}
 use Rattle.std.specs.Prelude.{IfOk, Option}
-use Rattle.mr_certform.specs.declared.item.Item.{Item}
+use Rattle.mr_certform.specs.declared.grammar_state.Item.{Item}
 use Rattle.mr_certform.specs.Walking.{items_left}
-use Rattle.mr_verdict.specs.declared.fault.No.{No}
+use Rattle.mr_verdict.specs.declared.answers.No.{No}
 use Rattle.mr_verdict.specs.Verdict.{first}
 use Rattle.mr_verdict.specs.VerdictLaws.{told, part_fault}
 use Rattle.mr_verdict.specs.Steps.{subject}
 use Rattle.mr_judge.specs.Borders.{at_border}
 use Rattle.mr_check.specs.declared.front.Front.{Front}
-use Rattle.mr_check.specs.declared.section.Outcome.TheVariants.{Fault, Ended, Reached as Behind}
+use Rattle.mr_check.specs.declared.sections.Outcome.TheVariants.{Fault, Ended, Reached as Behind}
 use Rattle.mr_check.specs.Fronts.{part_here, part_at}
 use Rattle.mr_check.proofs.FrontLemmas.{part_is}
 use Rattle.mr_check.proofs.SectionLemmas.{told_at}

@@ -1,5 +1,5 @@
 use Rattle.std.proofs.Common.{◌≡◌, ◌≤◌, ◌∙◌, List, drop, length, get_or, ap, sym, subst, arith}
-use Rattle.mr_certform.specs.declared.item.Item.{Item}
+use Rattle.mr_certform.specs.declared.grammar_state.Item.{Item}
 use Rattle.mr_certform.specs.Walking.{items_left}
 use Rattle.mr_check.specs.declared.front.Section.{Section}
 use Rattle.mr_check.specs.Sections.{part_from, rest_at, GroupBegins, IsSection}

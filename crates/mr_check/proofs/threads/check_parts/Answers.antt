@@ -2,7 +2,7 @@ use Rattle.std.proofs.Common.{◌≡◌, None, Some, List, length, ap, sym, ◌�
 use Rattle.std.specs.Prelude.{All, Err}
 use Rattle.mr_input.specs.Files.{contents}
 use Rattle.mr_splits.specs.Cut.{Cut}
-use Rattle.mr_certform.specs.declared.item.Item.{Item}
+use Rattle.mr_certform.specs.declared.grammar_state.Item.{Item}
 use Rattle.mr_certform.specs.Spelling.{is_ended}
 use Rattle.mr_certform.specs.Walking.{items_left, halt}
 use Rattle.mr_verdict.specs.Verdict.{Subject, start, part_faults, entries_in}

@@ -4,7 +4,7 @@ use Rattle.mr_bytes.specs.declared.RecordName.{RecordName}
 use Rattle.mr_input.specs.Files.{contents}
 use Rattle.mr_splits.specs.Cut.{records_of}
 use Rattle.mr_certform.specs.Walking.{items_left, halt}
-use Rattle.mr_verdict.specs.declared.fault.No.{No}
+use Rattle.mr_verdict.specs.declared.answers.No.{No}
 use Rattle.mr_verdict.specs.Verdict.{WalkCase, start, subject_of, part_faults, count_faults, first}
 use Rattle.mr_verdict.specs.Steps.{Listed, case_at}
 use Rattle.mr_judge.proofs.Faults.{told_is}

@@ -4,19 +4,19 @@ use Rattle.std.specs.Global.{Global}
 use Rattle.std.proofs.lemmas.List.{length-map}
 use Rattle.std.proofs.lemmas.Result.{err_from_is_err_and}
 use Rattle.mr_input.specs.Files.{contents}
-use Rattle.mr_certform.specs.declared.item.Item.{Item}
+use Rattle.mr_certform.specs.declared.grammar_state.Item.{Item}
 use Rattle.mr_certform.specs.declared.grammar_state.GrammarState.TheVariants.{AtMagic}
 use Rattle.mr_certform.specs.Grammar.{InOrder}
 use Rattle.mr_certform.specs.Spelling.{items_of, stop}
 use Rattle.mr_certform.specs.Walking.{items_left, halt}
 use Rattle.mr_certform.proofs.Walks.{read_front}
-use Rattle.mr_verdict.specs.declared.fault.No.{No}
-use Rattle.mr_verdict.specs.declared.fault.No.TheVariants.{OtherJob, OtherInput}
+use Rattle.mr_verdict.specs.declared.answers.No.{No}
+use Rattle.mr_verdict.specs.declared.answers.No.TheVariants.{OtherJob, OtherInput}
 use Rattle.mr_judge.proofs.GrammarLemmas.{skips_place}
 use Rattle.mr_judge.proofs.KindLemmas.{in_order}
 use Rattle.mr_judge.proofs.JudgeLemmas.{as_many, header_is, rest_verdict}
 use Rattle.mr_judge.proofs.VerdictLemmas.{header_ok, header_few, verdict_count, verdict_header}
-use Rattle.mr_verdict.specs.declared.yes.Yes.{Yes}
+use Rattle.mr_verdict.specs.declared.answers.Yes.{Yes}
 use Rattle.mr_verdict.proofs.HeadlineLemmas.{certified}
 use Rattle.mr_check.proofs.threads.judge.Goals as goal
 

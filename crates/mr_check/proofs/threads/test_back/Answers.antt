@@ -1,7 +1,7 @@
 use Rattle.std.proofs.Common.{ap, sym, ◌∙◌, inr, refl, nat_le}
 use Rattle.std.proofs.lemmas.Result.{err_from_is_err_and}
-use Rattle.mr_verdict.specs.declared.fault.No.{No}
-use Rattle.mr_verdict.specs.declared.fault.No.TheVariants.{Unnamed}
+use Rattle.mr_verdict.specs.declared.answers.No.{No}
+use Rattle.mr_verdict.specs.declared.answers.No.TheVariants.{Unnamed}
 use Rattle.mr_verdict.specs.Verdict.{passes, first}
 use Rattle.mr_verdict.specs.VerdictLaws.{back_fault}
 use Rattle.mr_verdict.specs.Steps.{subject}

@@ -1,6 +1,6 @@
 use Rattle.std.proofs.Common.{◌≡◌, ℕ, List, map, sym, subst, ◌∙◌, arith}
 use Rattle.std.proofs.lemmas.Result.{err_from_is_err_and}
-use Rattle.mr_verdict.specs.declared.fault.Source.TheVariants.{Certificate, Output}
+use Rattle.mr_verdict.specs.declared.answers.Source.TheVariants.{Certificate, Output}
 use Rattle.mr_judge.specs.From.{IsDevice}
 use Rattle.mr_judge.proofs.FromLemmas.{no_memory, no_read, other_count, no_read_told, verdict_told}
 use Rattle.mr_judge.proofs.from.judge_from.Goals as goal

@@ -6,7 +6,7 @@ use Rattle.mr_certform.proofs.Streams.{some_given}
 use Rattle.mr_verdict.specs.Items.{Coming}
 use Rattle.mr_judge.specs.Readers.{reading}
 use Rattle.mr_judge.specs.Reading.{Reading}
-use Rattle.mr_judge.specs.declared.lent.ByRef.{ByRef}
+use Rattle.mr_judge.specs.declared.readers.ByRef.{ByRef}
 use Rattle.mr_judge.proofs.FromLemmas.{no_room, judged_some, kinds_front}
 use Rattle.mr_judge.proofs.ReadingLemmas.{some_to_come}
 use Rattle.mr_judge.proofs.from.judge_lent.Goals as goal

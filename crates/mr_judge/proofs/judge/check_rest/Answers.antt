@@ -3,7 +3,7 @@ use Rattle.std.specs.Prelude.{Ok, Err}
 use Rattle.std.proofs.lemmas.Result.{err_from_is_err_and}
 use Rattle.mr_splits.specs.Cut.{Cut}
 use Rattle.mr_bytes.specs.declared.RecordName.{RecordName}
-use Rattle.mr_verdict.specs.declared.fault.No.TheVariants.{OutOfMemory}
+use Rattle.mr_verdict.specs.declared.answers.No.TheVariants.{OutOfMemory}
 use Rattle.mr_verdict.specs.declared.items.JudgeError.TheVariants.{Fault}
 use Rattle.mr_verdict.specs.Verdict.{start, subject_of}
 use Rattle.mr_verdict.specs.Steps.{case_at}

@@ -3,7 +3,7 @@ use Rattle.std.specs.Prelude.{Err}
 use Rattle.std.proofs.lemmas.Result.{err_from_is_err_and}
 use Rattle.mr_splits.specs.Cut.{records_of}
 use Rattle.mr_index.proofs.WorkLemmas.{mapped-few}
-use Rattle.mr_verdict.specs.declared.fault.No.TheVariants.{OutOfMemory}
+use Rattle.mr_verdict.specs.declared.answers.No.TheVariants.{OutOfMemory}
 use Rattle.mr_verdict.specs.declared.items.JudgeError.TheVariants.{Fault}
 use Rattle.mr_verdict.specs.Verdict.{Subject, start, subject_of}
 use Rattle.mr_verdict.specs.Steps.{subject_with, case_at}

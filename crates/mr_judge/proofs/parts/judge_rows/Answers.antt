@@ -2,7 +2,7 @@ use Rattle.std.proofs.Common.{◌≡◌, ◌+◌, List, length, drop, inl, inr, 
 use Rattle.std.proofs.lemmas.Result.{err_from_is_err_and}
 use Rattle.std.proofs.lemmas.List.{drop_more}
 use Rattle.std.specs.List.{AllByRecursion}
-use Rattle.mr_judge.specs.declared.blocks.FoundItem.{FoundItem}
+use Rattle.mr_judge.specs.declared.border.FoundItem.{FoundItem}
 use Rattle.mr_verdict.specs.Steps.{subject_with}
 use Rattle.mr_judge.specs.Blocks.{items_in, IsFound}
 use Rattle.mr_judge.proofs.BlockLemmas.{blank, items_long, stands_next, room_here}

@@ -3,7 +3,7 @@ use Rattle.std.specs.Prelude.{Ok, Err, IfErr, IfOk, OnOk}
 use Rattle.std.proofs.lemmas.Bool.{false≢true}
 use Rattle.mr_input.specs.Files.{contents}
 use Rattle.mr_sequential.specs.Good.{IsGoodResult}
-use Rattle.mr_verdict.specs.declared.fault.No.TheVariants.{OutOfMemory}
+use Rattle.mr_verdict.specs.declared.answers.No.TheVariants.{OutOfMemory}
 use Rattle.mr_verdict.specs.Headline.{IsCertified, accepted_of}
 use Rattle.mr_verdict.specs.Verdict.{verdict_of}
 use Rattle.mr_pool.specs.Outcomes.{IsInVersion}

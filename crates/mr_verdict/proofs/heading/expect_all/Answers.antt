@@ -1,7 +1,7 @@
 use Rattle.std.proofs.Common.{Err, ◌+◌, drop, get_or, arith, ◌∙◌}
 use Rattle.std.proofs.lemmas.List.{drop_more}
 use Rattle.std.proofs.lemmas.Result.{err_from_is_err_and}
-use Rattle.mr_certform.specs.declared.item.Item.TheVariants.{Magic}
+use Rattle.mr_certform.specs.declared.grammar_state.Item.TheVariants.{Magic}
 use Rattle.mr_verdict.proofs.ItemLemmas.{leads_on, leads_not, stops_on}
 use Rattle.mr_verdict.proofs.heading.expect_all.Goals as goal
 

@@ -1,7 +1,7 @@
 use Rattle.std.proofs.Common.{List, [], ◌∷◌, ℕ, length, map, subst}
-use Rattle.mr_certform.specs.declared.item.Item.{Item}
-use Rattle.mr_certform.specs.declared.item.Item.TheVariants.{Files, FileLength}
-use Rattle.mr_verdict.specs.declared.fault.No.TheVariants.{OtherInput}
+use Rattle.mr_certform.specs.declared.grammar_state.Item.{Item}
+use Rattle.mr_certform.specs.declared.grammar_state.Item.TheVariants.{Files, FileLength}
+use Rattle.mr_verdict.specs.declared.answers.No.TheVariants.{OtherInput}
 use Rattle.mr_verdict.proofs.ItemLemmas.{Came, met_behind_came}
 use Rattle.mr_verdict.proofs.heading.expect_input.Goals as goal
 

@@ -1,8 +1,8 @@
 use Rattle.std.proofs.Common.{List, [], ◌∷◌, ◌++◌, length, map, sym, subst}
 use Rattle.std.proofs.lemmas.Result.{err_from_is_err_and}
-use Rattle.mr_certform.specs.declared.item.Item.{Item}
-use Rattle.mr_certform.specs.declared.item.Item.TheVariants.{Magic, Job, Flags, LiteralByte, LiteralLength, Parts, SplitSize}
-use Rattle.mr_verdict.specs.declared.fault.No.TheVariants.{OtherJob}
+use Rattle.mr_certform.specs.declared.grammar_state.Item.{Item}
+use Rattle.mr_certform.specs.declared.grammar_state.Item.TheVariants.{Magic, Job, Flags, LiteralByte, LiteralLength, Parts, SplitSize}
+use Rattle.mr_verdict.specs.declared.answers.No.TheVariants.{OtherJob}
 use Rattle.mr_verdict.specs.Items.{Met}
 use Rattle.mr_verdict.proofs.MetLemmas.{job_is}
 use Rattle.mr_verdict.proofs.ItemLemmas.{Failed, failed_front, failed_later, met_behind_came}

@@ -1,9 +1,9 @@
 use Rattle.std.proofs.Common.{◌≡◌, ℕ, ◌+◌, ◌<◌, ◌∷◌, [], List, drop, length, map, ap, sym, arith, ◌∙◌}
 use Rattle.std.proofs.lemmas.List.{drop_more}
 use Rattle.std.proofs.lemmas.Result.{err_from_is_err_and}
-use Rattle.mr_certform.specs.declared.item.Item.{Item}
-use Rattle.mr_certform.specs.declared.item.Item.TheVariants.{FileLength}
-use Rattle.mr_verdict.specs.declared.fault.No.TheVariants.{OtherInput}
+use Rattle.mr_certform.specs.declared.grammar_state.Item.{Item}
+use Rattle.mr_certform.specs.declared.grammar_state.Item.TheVariants.{FileLength}
+use Rattle.mr_verdict.specs.declared.answers.No.TheVariants.{OtherInput}
 use Rattle.mr_verdict.proofs.ItemLemmas.{leads_not}
 use Rattle.mr_verdict.proofs.heading.expect_lengths.Goals as goal
 

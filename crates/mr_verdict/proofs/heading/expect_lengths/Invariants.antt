@@ -1,6 +1,6 @@
 use Rattle.std.proofs.Common.{◌≡◌, ℕ, List, drop, length, map, ◌≤◌}
-use Rattle.mr_certform.specs.declared.item.Item.TheVariants.{FileLength}
-use Rattle.mr_verdict.specs.declared.fault.No.TheVariants.{OtherInput}
+use Rattle.mr_certform.specs.declared.grammar_state.Item.TheVariants.{FileLength}
+use Rattle.mr_verdict.specs.declared.answers.No.TheVariants.{OtherInput}
 use Rattle.mr_verdict.specs.Items.{Leads, CanCome}
 use Rattle.mr_verdict.proofs.heading.expect_lengths.Given as goal
 

@@ -1,8 +1,8 @@
 use Rattle.std.proofs.Common.{Err, ◌+◌, drop, get_or, map, ap, arith, ◌∙◌}
 use Rattle.std.proofs.lemmas.List.{drop_more}
 use Rattle.std.proofs.lemmas.Result.{err_from_is_err_and}
-use Rattle.mr_certform.specs.declared.item.Item.TheVariants.{LiteralByte}
-use Rattle.mr_verdict.specs.declared.fault.No.TheVariants.{OtherJob}
+use Rattle.mr_certform.specs.declared.grammar_state.Item.TheVariants.{LiteralByte}
+use Rattle.mr_verdict.specs.declared.answers.No.TheVariants.{OtherJob}
 use Rattle.mr_verdict.proofs.ItemLemmas.{leads_on, leads_not, stops_on}
 use Rattle.mr_verdict.proofs.heading.expect_literal.Goals as goal
 

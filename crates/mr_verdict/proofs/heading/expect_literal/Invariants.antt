@@ -1,6 +1,6 @@
 use Rattle.std.proofs.Common.{◌≡◌, drop, map, ◌≤◌}
-use Rattle.mr_certform.specs.declared.item.Item.TheVariants.{LiteralByte}
-use Rattle.mr_verdict.specs.declared.fault.No.TheVariants.{OtherJob}
+use Rattle.mr_certform.specs.declared.grammar_state.Item.TheVariants.{LiteralByte}
+use Rattle.mr_verdict.specs.declared.answers.No.TheVariants.{OtherJob}
 use Rattle.mr_verdict.specs.Items.{Leads}
 use Rattle.mr_verdict.proofs.heading.expect_literal.Given as goal
 

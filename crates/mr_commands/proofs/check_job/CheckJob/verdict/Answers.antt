@@ -4,9 +4,9 @@ use Rattle.mr_input.specs.Files.{contents}
 use Rattle.mr_jobs.specs.JobSpec.{RequestSpec}
 use Rattle.mr_verdict.specs.Headline.{IsCertified, accepted_of}
 use Rattle.mr_verdict.specs.Verdict.{verdict_of}
-use Rattle.mr_verdict.specs.declared.fault.No.{No}
-use Rattle.mr_verdict.specs.declared.fault.No.TheVariants.{OutOfMemory}
-use Rattle.mr_verdict.specs.declared.yes.Yes.{Yes}
+use Rattle.mr_verdict.specs.declared.answers.No.{No}
+use Rattle.mr_verdict.specs.declared.answers.No.TheVariants.{OutOfMemory}
+use Rattle.mr_verdict.specs.declared.answers.Yes.{Yes}
 use Rattle.mr_commands.specs.Judgements.{IsAnswer}
 use Rattle.mr_commands.proofs.check_job.CheckJob.verdict.Goals as goal
 

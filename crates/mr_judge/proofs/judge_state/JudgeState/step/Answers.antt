@@ -1,7 +1,7 @@
 use Rattle.std.proofs.Common.{◌≡◌, ◌-◌, ap, sym, ◌∙◌}
 use Rattle.mr_input.specs.Files.{nth_file}
 use Rattle.mr_sequential.specs.Good.{named}
-use Rattle.mr_certform.specs.declared.item.Item.TheVariants.{Groups, Entry}
+use Rattle.mr_certform.specs.declared.grammar_state.Item.TheVariants.{Groups, Entry}
 use Rattle.mr_verdict.specs.Verdict.{Reached, tests, after, end_tests, entry_tests, after_entry}
 use Rattle.mr_verdict.specs.Steps.{subject_with}
 use Rattle.mr_judge.proofs.OutputLemmas.{tested_as, opened_at}

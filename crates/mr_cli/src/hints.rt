@@ -1,0 +1,277 @@
+//! What a person at a terminal sees beside the program's own lines, and what helps against a fault:
+//! the option and its limit, or the system's reason. It changes neither the work, nor the answer, nor
+//! the exit status: those come from `answer` and `finish`.
+
+use crate::differences::verdict_hint;
+use crate::failure::{Failure, escape};
+use crate::options::{command, subcommand_of};
+use crate::program::{answer, finish};
+use crate::progress::{ProgressLine, notes};
+use mr_args::{Fault, Subcommand};
+use mr_bytes::Progress;
+use mr_commands::CommandOutput;
+use mr_files::{Inspect, Store};
+use mr_input::InputFault;
+use mr_jobs::{JobFault, RequestFault};
+use mr_sequential::RunFault;
+use mr_shard_files::ShardFault;
+use mr_spill::Scratch;
+use std::alloc::{AllocError, Global};
+use std::io::Write;
+use std::sync::Wait;
+use std::thread::Threads;
+use std::time::Clock;
+
+/// Parses the words once more; none if they can't be parsed.
+fn asked_by<'a>(alloc: Global, words: &'a [String]) -> Option<Subcommand<'a>> {
+    let matches = command(alloc).ok()?.try_get_matches_from(words).ok()?;
+    subcommand_of(alloc, &matches).ok()?
+}
+
+/// Shows a text and a line end. It omits a text for which there is no memory.
+fn show<E: Write>(alloc: Global, err: &mut E, text: &[u8], lines: bool) {
+    if let Ok(bytes) = escape(alloc, text, lines) {
+        let _ = err.write_all(bytes.as_slice());
+        let _ = err.write_all(b"\n");
+    }
+}
+
+fn show_notes<F: Inspect, E: Write>(files: &F, alloc: Global, asked: &Subcommand<'_>, err: &mut E) {
+    if let Ok(lines) = notes(files, alloc, asked) {
+        for line in lines.as_slice() {
+            show(alloc, err, line.as_bytes(), false);
+        }
+    }
+}
+
+/// The hint for an answer, without a line end; empty if there is none.
+fn hint_of<F: Store + Inspect>(
+    files: &F,
+    alloc: Global,
+    asked: &Option<Subcommand<'_>>,
+    answered: &Result<CommandOutput, Failure>,
+) -> Result<String, AllocError> {
+    match (answered, asked) {
+        (Ok(said), Some(asked)) => verdict_hint(files, alloc, asked, said.text.as_str()),
+        (Err(Failure::Command(fault)), _) => fault_hint(files, alloc, fault),
+        (Err(Failure::NotUtf8), _) => String::from_str(alloc, NOT_UTF8),
+        _ => Ok(String::new(alloc)),
+    }
+}
+
+/// If the answer may contain a word of the command line: whether it has several lines.
+fn tells_words(answered: &Result<CommandOutput, Failure>) -> Option<bool> {
+    match answered {
+        Err(Failure::Line(_)) => Some(true),
+        Err(Failure::Command(Fault::CannotRead(_) | Fault::CannotWrite(_) | Fault::SameFile(_))) =>
+            Some(false),
+        _ => None,
+    }
+}
+
+/// Like `finish`, with the control bytes of words escaped.
+fn finish_shown<O: Write, E: Write>(
+    alloc: Global,
+    answered: Result<CommandOutput, Failure>,
+    out: &mut O,
+    err: &mut E,
+) -> u8 {
+    let Some(lines) = tells_words(&answered) else {
+        return finish(answered, out, err);
+    };
+    let mut told = Vec::new(alloc);
+    let status = finish(answered, out, &mut told);
+    if let Some((_, text)) = told.split_last() {
+        show(alloc, err, text, lines);
+    }
+    status
+}
+
+/// Prints an answer and its hint.
+fn tell<F: Store + Inspect, O: Write, E: Write>(
+    files: &F,
+    alloc: Global,
+    asked: &Option<Subcommand<'_>>,
+    answered: Result<CommandOutput, Failure>,
+    out: &mut O,
+    err: &mut E,
+) -> u8 {
+    let hint = hint_of(files, alloc, asked, &answered);
+    let status = finish_shown(alloc, answered, out, err);
+    if let Ok(hint) = hint
+        && !hint.is_empty()
+    {
+        let _ = err.write_all(b"hint: ");
+        show(alloc, err, hint.as_bytes(), false);
+    }
+    status
+}
+
+/// Answers the words, of which the first is the program's name, with notes before, a line of
+/// progress meanwhile and a hint after. Returns the exit status.
+pub fn run_at_terminal<
+    F: Store + Inspect,
+    D: Scratch,
+    R: Threads + Wait + Sync,
+    C: Clock,
+    O: Write,
+    E: Write,
+>(
+    rt: &R,
+    scratch: &D,
+    files: &mut F,
+    alloc: Global,
+    words: Result<Vec<String>, Failure>,
+    out: &mut O,
+    err: &mut E,
+    watch: &dyn Progress,
+    progress: &ProgressLine<C>,
+) -> u8 {
+    let words = match words {
+        Ok(words) => words,
+        Err(failure) => return tell(files, alloc, &None, Err(failure), out, err),
+    };
+    let asked = asked_by(alloc, words.as_slice());
+    if let Some(asked) = &asked {
+        show_notes(files, alloc, asked, err);
+    }
+    let answered = answer(rt, scratch, files, alloc, words.as_slice(), watch);
+    progress.wipe();
+    tell(files, alloc, &asked, answered, out, err)
+}
+
+pub const NOT_UTF8: &str =
+    "literals and names of files are UTF-8: give the file another name, or a link";
+
+const MEMORY: &str =
+    "of words seq and check take 4 to 5 times the input, run 10 to 16, and 7 to 9 with --scratch: close other programs, or cut the input into several runs";
+
+fn job_cure(fault: &JobFault) -> &'static str {
+    match fault {
+        JobFault::EmptyLiteral => "grep needs --literal TEXT, of 1 to 4096 bytes",
+        JobFault::LongLiteral => "--literal is 1 to 4096 bytes",
+        JobFault::LineEndInLiteral =>
+            "--literal holds no line feed, since lines are looked at one by one",
+        JobFault::OutOfMemory => MEMORY,
+    }
+}
+
+fn request_cure(fault: &RequestFault) -> &'static str {
+    match fault {
+        RequestFault::BadParts => "--parts is 1 to 1024",
+        RequestFault::BadSplitSize => "--split is 1 to 67108864",
+        RequestFault::BadSkips => "--max-skips is 0 to 1000",
+        RequestFault::HostNeedsUrl => "--by-host belongs to url",
+    }
+}
+
+fn input_cure(fault: &InputFault) -> &'static str {
+    match fault {
+        InputFault::TooManyFiles =>
+            "at most 1024 files: join some with cat, or cut the input into several runs",
+        InputFault::TooLarge =>
+            "at most 1 GiB (1073741824 bytes) in all files: cut the input into several runs",
+    }
+}
+
+fn list_cure(fault: &RunFault) -> &'static str {
+    match fault {
+        RunFault::NoSuchRecord =>
+            "--skips names a record that isn't there: splits, and records in each split, count from 0",
+        RunFault::SkipOrder => "--skips rises, by split and then by record, and names none twice",
+        RunFault::TooManySkips =>
+            "--skips names more records than --max-skips K allows; K is 0 where it isn't given",
+        RunFault::OutOfMemory => MEMORY,
+    }
+}
+
+/// Empty if only smaller inputs would help.
+fn shards_cure(fault: &ShardFault) -> &'static str {
+    match fault {
+        ShardFault::NoShards => "name the verdict of each shard",
+        ShardFault::BadVerdict { .. } =>
+            "this isn't a verdict as check --verdict writes it: judge the shard again",
+        ShardFault::NoRequest =>
+            "the first verdict asks for nothing that is merged: where it is of an index, run that over all files",
+        ShardFault::OtherRequest { .. } =>
+            "all shards have the options of the first: run this one again with those, and judge it",
+        ShardFault::OtherOutputs { .. } =>
+            "the verdict doesn't tell of one part for each partition: judge the shard again",
+        ShardFault::RepeatedInput { .. } =>
+            "name each verdict once; where two shards have a file of one name, give one another name and judge its shard again",
+        ShardFault::OtherInputs { .. } =>
+            "the verdicts tell of other inputs than --inputs lists, by a name, by bytes or by their order",
+        ShardFault::OtherPart { .. } =>
+            "this part isn't the one that was judged: judge the shard again",
+        ShardFault::BadLine { .. } =>
+            "the part isn't as the job writes it: run the shard again, and judge it",
+        ShardFault::SameFolder { .. } =>
+            "--out is the folder of that shard, whose parts are read while the result is written: name another",
+        ShardFault::LongVerdict { .. } => "a verdict has at most 1 GiB",
+        ShardFault::LongList => "the list of inputs has at most 1 GiB",
+        ShardFault::TooManySplits { .. } =>
+            "splits of all shards are numbered in 32 bits: run the shards with a greater --split",
+        ShardFault::TooManyFiles | ShardFault::FileTooFar { .. } =>
+            "files of all shards are numbered in 32 bits: merge fewer shards",
+        ShardFault::TooManyPairs | ShardFault::TotalTooLarge { .. } => "",
+        ShardFault::CannotRead(_) | ShardFault::CannotWrite(_) | ShardFault::SameFile(_) => "",
+        ShardFault::OutOfMemory => MEMORY,
+    }
+}
+
+/// What helps against a command's fault; empty for a file, for which the system has its reason.
+fn remedy(fault: &Fault) -> &'static str {
+    match fault {
+        Fault::OtherJobsOption =>
+            "--keep-case belongs to words and index, --literal and --fold to grep, --by-host to url",
+        Fault::Job(fault) => job_cure(fault),
+        Fault::Request(fault) => request_cure(fault),
+        Fault::BadSkipList => "--skips is SPLIT:RECORD,SPLIT:RECORD, as in 0:1,0:7",
+        Fault::Input(fault) => input_cure(fault),
+        Fault::TooManySplits =>
+            "at most 1048576 splits: a greater --split, up to 67108864, makes fewer",
+        Fault::Run(fault) => list_cure(fault),
+        Fault::BadWorkers => "--workers is 1 to 64",
+        Fault::BadAttempts => "--attempts is 1 to 16",
+        Fault::BadThreads => "--threads is 1 to 64",
+        Fault::LineEndInName { .. } =>
+            "--verdict tells each name in one line: give the file another name, or a link",
+        Fault::Script(_) =>
+            "a line is `lose W after N`, `zombie W after N`, `bad S R`, `flaky S R N`, `hold W`, `spoil P B` or `damage S P B`",
+        Fault::ScratchInUse =>
+            "another run keeps its regions in the directory of --scratch: name another, one for each run",
+        Fault::Shards(fault) => shards_cure(fault),
+        Fault::SameFile(_) =>
+            "this file is read, or written under another name, and would be lost: give another name",
+        Fault::CannotRead(_) | Fault::CannotWrite(_) => "",
+        Fault::OutOfMemory => MEMORY,
+    }
+}
+
+/// The hint for a fault, without a line end; empty if there is none.
+pub fn fault_hint<L: Inspect>(
+    look: &L,
+    alloc: Global,
+    fault: &Fault,
+) -> Result<String, AllocError> {
+    match (fault, look.last_error()) {
+        (Fault::CannotRead(_) | Fault::CannotWrite(_), Some(reason)) => format!(in alloc;
+            "{reason}"
+        ),
+        _ => String::from_str(alloc, remedy(fault)),
+    }
+}
+
+/// What helps if a run is not certified, with its regions in files or not; empty if nothing does.
+pub(crate) fn run_cure(said: &str, in_files: bool) -> &'static str {
+    match said {
+        "failed: NoWorkers\n" if in_files =>
+            "a worker that can't keep a region is lost: see that the directory of --scratch is there, may be written to, and has room",
+        "failed: TooManySkips\n" =>
+            "more records fail than --max-skips K lets be left out; K is 0 where it isn't given",
+        "failed: TooManyAttempts\n" =>
+            "a task has had --attempts A attempts, 8 where it isn't given, and none completed it",
+        "failed: NoWorkers\n" => "the script loses every worker: --workers W makes more of them",
+        _ => "",
+    }
+}

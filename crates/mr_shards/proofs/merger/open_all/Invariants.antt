@@ -1,0 +1,17 @@
+use Rattle.std.proofs.Common.{◌≡◌, ◌++◌, take, drop, map}
+use Rattle.std.specs.List.{AllByRecursion}
+use Rattle.mr_shards.specs.Cursors.{IsHeadFor, left}
+use Rattle.std.proofs.Common.{length}
+use Rattle.mr_shards.specs.Refused.{AreRead, files_in}
+use Rattle.mr_shards.specs.Outputs.{AreOpened, moved_parts, parts_in}
+use Rattle.mr_shards.proofs.merger.open_all.Given as goal
+
+abbrev pub invariant-loop-shard : goal.invariant-loop-shard
+invariant-loop-shard l = record {
+  kinds : AllByRecursion (IsHeadFor l.job) l.cursors.items;
+  opened : AreOpened l.job l.cursors.items (take l.shard l.outputs);
+  counted : length l.cursors.items ≡ l.shard;
+  read : AreRead l.job l.cursors.items l.outputs;
+  behind : l.before ≡ files_in (take l.shard l.outputs);
+  lefts : map (left l.job) l.cursors.items ++ moved_parts l.before (parts_in l.job (drop l.shard l.outputs)) ≡ moved_parts 0 (parts_in l.job l.outputs);
+}

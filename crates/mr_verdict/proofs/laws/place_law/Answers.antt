@@ -1,5 +1,0 @@
-use Rattle.mr_verdict.proofs.VerdictPlace.{fault_by_place}
-use Rattle.mr_verdict.proofs.laws.place_law.Goals as goal
-
-pub returns : goal.returns
-returns c = fault_by_place
