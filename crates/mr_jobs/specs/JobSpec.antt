@@ -2,6 +2,9 @@
 use Rattle.std.specs.Prelude.{◌≡◌, ℕ, ◌+◌, ◌<◌, ◌≤◌, ◌^◌, Bool, true, false, not, if◌then◌else◌, List, [], Contains, length}
 use Rattle.mr_bytes.specs.declared.By.{By}
 use Rattle.mr_bytes.specs.declared.By.TheVariants.{Key, Host}
+use Rattle.mr_jobs.specs.declared.job.GroupText.{GroupText}
+use Rattle.mr_jobs.specs.declared.job.GroupText.TheVariants.{Count, Lines, Files}
+use Rattle.mr_jobs.specs.declared.job.JobRow.{JobRow}
 
 pub data JobSpec : Type 0 where
   -- count words, by their exact bytes where the flag is true, and else by their folded bytes
@@ -22,19 +25,41 @@ pub record RequestSpec : Type 0 where
   pub split : ℕ
   pub skips : ℕ
 
+-- the table of jobs: the number and the flags by which a certificate names a job, and what an output holds for a key; flag 1 keeps
+-- the case of words, flag 2 folds the case of lines
+abbrev pub row_of : JobSpec → JobRow
+row_of (WordCount keep_case) = record { number = 1; flags = if keep_case then 1 else 0; text = Count }
+row_of (LinesWith literal fold) = record { number = 2; flags = if fold then 2 else 0; text = Lines }
+row_of Resources = record { number = 3; flags = 0; text = Count }
+row_of (InvertedIndex keep_case) = record { number = 4; flags = if keep_case then 1 else 0; text = Files }
+
+abbrev pub job_number : JobSpec → ℕ
+job_number job = (row_of job).number
+
+abbrev pub job_flags : JobSpec → ℕ
+job_flags job = (row_of job).flags
+
+-- what an output holds for a key
+abbrev pub group_text_of : JobSpec → GroupText
+group_text_of job = (row_of job).text
+
+abbrev pub is_count : GroupText → Bool
+is_count Count = true
+is_count Lines = false
+is_count Files = false
+
+abbrev pub is_lines : GroupText → Bool
+is_lines Count = false
+is_lines Lines = true
+is_lines Files = false
+
 -- the text of a group depends on the number of its values alone
 abbrev pub counts : JobSpec → Bool
-counts (WordCount keep_case) = true
-counts (LinesWith literal fold) = false
-counts Resources = true
-counts (InvertedIndex keep_case) = false
+counts job = is_count (group_text_of job)
 
 -- the text of a group has a line for each value
 abbrev pub has_lines : JobSpec → Bool
-has_lines (WordCount keep_case) = false
-has_lines (LinesWith literal fold) = true
-has_lines Resources = false
-has_lines (InvertedIndex keep_case) = false
+has_lines job = is_lines (group_text_of job)
 
 -- words are compared folded
 abbrev pub folds_words : JobSpec → Bool
@@ -49,20 +74,6 @@ PartsFit parts = (1 ≤ parts) × (parts ≤ 1024)
 
 abbrev pub SplitFits : ℕ → Type 0
 SplitFits split = (1 ≤ split) × (split ≤ 2 ^ 26)
-
--- how a certificate writes a job: its number
-abbrev pub job_number : JobSpec → ℕ
-job_number (WordCount keep_case) = 1
-job_number (LinesWith literal fold) = 2
-job_number Resources = 3
-job_number (InvertedIndex keep_case) = 4
-
--- its flags: 1 keeps the case of words, 2 folds the case of lines
-abbrev pub job_flags : JobSpec → ℕ
-job_flags (WordCount keep_case) = if keep_case then 1 else 0
-job_flags (LinesWith literal fold) = if fold then 2 else 0
-job_flags Resources = 0
-job_flags (InvertedIndex keep_case) = if keep_case then 1 else 0
 
 -- 4 where the host of a key chooses its partition
 abbrev pub by_flag : By → ℕ

@@ -2,7 +2,7 @@
 ghost use Rattle.std.specs.Prelude.{◌≡◌, ◌↔◌, ℕ, ◌≤◌, ◌<◌, IfOk, IsTrue, OnOk, IsOkUnless, length};
 ghost use Rattle.std.specs.Prelude.{[], Contains};
 ghost use Rattle.mr_jobs.specs.JobSpec.{WordCount, LinesWith, Resources, InvertedIndex, JobFits};
-ghost use Rattle.mr_jobs.specs.JobSpec.{LiteralFits, counts, has_lines, job_number, job_flags};
+ghost use Rattle.mr_jobs.specs.JobSpec.{LiteralFits, counts, has_lines, job_number, row_of};
 ghost use Rattle.mr_jobs.specs.JobSpec.{job_literal};
 ghost use Rattle.mr_jobs.specs.Emissions.{value_at};
 
@@ -15,6 +15,27 @@ use thiserror::Error;
 pub const MAX_LITERAL: usize = 4096;
 
 const _: () = prove!(MAX_LITERAL == 4096);
+
+/// What an output holds for a key with its values.
+#[derive(Clone, Copy)]
+pub enum GroupText {
+    /// A line of the key and the number of its values.
+    Count,
+    /// A line of the key and a place, for each value that is one.
+    Lines,
+    /// A line of the key and the files of its values.
+    Files,
+}
+
+/// A job's row in the table of jobs.
+#[derive(Clone, Copy)]
+pub struct JobRow {
+    /// The job's number in a certificate.
+    pub number: u32,
+    /// Its flags there: 1 keeps the case of words, 2 folds the case of lines.
+    pub flags: u32,
+    pub text: GroupText,
+}
 
 #[derive(Drop)]
 pub(crate) enum Kind {
@@ -111,24 +132,44 @@ impl Job {
         }
     }
 
-    /// Whether reduce writes only the number of a key's values, whatever they are.
-    pub fn counts(&self) -> bool
-        ensures { result ≡ counts self.now }
+    /// The job's row in the table of jobs.
+    #[inline]
+    pub fn row(&self) -> JobRow
+        ensures row { result ≡ row_of self.now }
+        ensures small { result.flags ≤ 2 }
     {
-        match &self.kind {
-            Kind::Words { .. } | Kind::Url => true,
-            Kind::Grep { .. } | Kind::Index { .. } => false,
+        let (number, flags, text) = match &self.kind {
+            Kind::Words { keep_case } => (1, if *keep_case { 1 } else { 0 }, GroupText::Count),
+            Kind::Grep { literal: _, fold } => (2, if *fold { 2 } else { 0 }, GroupText::Lines),
+            Kind::Url => (3, 0, GroupText::Count),
+            Kind::Index { keep_case } => (4, if *keep_case { 1 } else { 0 }, GroupText::Files),
+        };
+        JobRow {
+            number,
+            flags,
+            text,
         }
     }
 
-    /// Whether reduce writes a line for each value that is a place.
+    /// The job's number in a certificate.
+    pub fn number(&self) -> u32
+        ensures { result ≡ job_number self.now }
+    {
+        self.row().number
+    }
+
+    /// Whether an output holds only the number of a key's values, whatever they are.
+    pub fn counts(&self) -> bool
+        ensures { result ≡ counts self.now }
+    {
+        matches!(self.row().text, GroupText::Count)
+    }
+
+    /// Whether an output holds a line for each value that is a place.
     pub fn has_lines(&self) -> bool
         ensures { result ≡ has_lines self.now }
     {
-        match &self.kind {
-            Kind::Grep { .. } => true,
-            Kind::Words { .. } | Kind::Url | Kind::Index { .. } => false,
-        }
+        matches!(self.row().text, GroupText::Lines)
     }
 
     /// The value of each pair emitted for a record that begins at place `start` of file `file`.
@@ -144,37 +185,10 @@ impl Job {
         }
     }
 
-    /// The job's number in a certificate: 1 words, 2 grep, 3 URL, 4 index.
-    pub fn number(&self) -> u32
-        ensures { result ≡ job_number self.now }
-    {
-        match &self.kind {
-            Kind::Words { .. } => 1,
-            Kind::Grep { .. } => 2,
-            Kind::Url => 3,
-            Kind::Index { .. } => 4,
-        }
-    }
-
     pub(crate) fn has_hosts(&self) -> bool
         ensures { IsTrue result ↔ (self.now ≡ Resources) }
     {
-        match &self.kind {
-            Kind::Url => true,
-            Kind::Words { .. } | Kind::Grep { .. } | Kind::Index { .. } => false,
-        }
-    }
-
-    /// The job's flags in a certificate: 1 keeps the case of words, 2 folds the case of lines.
-    pub(crate) fn flags(&self) -> u32
-        ensures of { result ≡ job_flags self.now }
-        ensures small { result ≤ 2 }
-    {
-        match &self.kind {
-            Kind::Words { keep_case } | Kind::Index { keep_case } => if *keep_case { 1 } else { 0 },
-            Kind::Grep { literal: _, fold } => if *fold { 2 } else { 0 },
-            Kind::Url => 0,
-        }
+        matches!(self.kind, Kind::Url)
     }
 
     /// The bytes of the literal, at most 4,096; none for a job without one.

@@ -12,7 +12,7 @@ mod url;
 
 pub use emissions::{Emissions, RecordStart, emission_law, map};
 pub use emitter::Emitter;
-pub use job::{Job, JobFault, MAX_LITERAL};
+pub use job::{GroupText, Job, JobFault, JobRow, MAX_LITERAL};
 pub use literal::literal_law;
 pub use mapper::Mapper;
 pub use request::{MAX_PARTS, MAX_SKIPS, Request, RequestFault};

@@ -137,7 +137,7 @@ impl Request {
             By::Key => 0,
             By::Host => 4,
         };
-        self.job.flags() + by
+        self.job.row().flags + by
     }
 
     /// The number of partitions.

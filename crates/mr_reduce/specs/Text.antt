@@ -5,7 +5,9 @@ use Rattle.std.specs.Ordering.{nat_cmp}
 use Rattle.mr_bytes.specs.Lists.{sorted}
 use Rattle.mr_bytes.specs.declared.Value.{Value}
 use Rattle.mr_bytes.specs.declared.Value.TheVariants.{One, At}
-use Rattle.mr_jobs.specs.JobSpec.{JobSpec, WordCount, LinesWith, Resources, InvertedIndex}
+use Rattle.mr_jobs.specs.declared.job.GroupText.{GroupText}
+use Rattle.mr_jobs.specs.declared.job.GroupText.TheVariants.{Count, Lines, Files}
+use Rattle.mr_jobs.specs.JobSpec.{JobSpec, group_text_of}
 
 -- the key, a tab, a number, and a line feed
 abbrev pub total_line : List ℕ → ℕ → List ℕ
@@ -34,9 +36,12 @@ comma_separated (n ∷ ns) = decimal n ++ flat_map (λ m. 44 ∷ decimal m) ns
 abbrev pub files_line : List ℕ → List ℕ → List ℕ
 files_line key files = key ++ 9 ∷ (comma_separated files ++ 10 ∷ [])
 
+-- the text of a key with its values
+abbrev pub text_for : GroupText → List ℕ → List Value → List ℕ
+text_for Count key values = total_line key (length values)
+text_for Lines key values = flat_map (place_line key) values
+text_for Files key values = files_line key (files_of values)
+
 -- the text that a job gives for a key with its values
 abbrev pub text_of : JobSpec → List ℕ → List Value → List ℕ
-text_of (WordCount keep_case) key values = total_line key (length values)
-text_of (LinesWith literal fold) key values = flat_map (place_line key) values
-text_of Resources key values = total_line key (length values)
-text_of (InvertedIndex keep_case) key values = files_line key (files_of values)
+text_of job key values = text_for (group_text_of job) key values

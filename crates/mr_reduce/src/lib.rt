@@ -1,20 +1,19 @@
 //! The text that reduce makes of a key and its values, for the output of the key's partition.
 #![tactic(auto)]
 
-ghost use Rattle.std.specs.Prelude.{◌≡◌, ◌+◌, ◌<◌, ◌≤◌, ◌++◌, OnOk, OnErr, false, length, take};
+ghost use Rattle.std.specs.Prelude.{◌≡◌, ◌+◌, ◌<◌, ◌≤◌, ◌++◌, OnOk, OnErr, length, take};
 ghost use Rattle.std.specs.Prelude.{vec_capacity, vec_len};
 ghost use Rattle.std.specs.List.{flat_map};
 ghost use Rattle.mr_reduce.specs.Files.{listed};
 ghost use Rattle.mr_reduce.specs.Text.{text_of, total_line, place_line};
 ghost use Rattle.mr_reduce.specs.Laws.{CountersTellTheNumber, FilesAreTold, FilesRise};
-ghost use Rattle.mr_jobs.specs.JobSpec.{counts};
 
 mod files;
 
 use crate::files::{Listed, put_files};
 use itoa::Buffer;
 use mr_bytes::{Value, ValueColumn};
-use mr_jobs::Job;
+use mr_jobs::{GroupText, Job};
 use std::alloc::AllocError;
 
 /// Appends the text of a key with all its values, in input order. A job that counts writes the key
@@ -34,10 +33,7 @@ pub fn group_text(
     ensures full { OnErr result (vec_capacity out.old
         < vec_len out.old + length (text_of job.now key.now values.now)) }
 {
-    if job.counts() {
-        return append_total(key, values.len() as u64, out);
-    }
-    listed_text(job, key, Listed::Slice(values), out)
+    append_listed(job, key, Listed::Slice(values), out)
 }
 
 /// Appends what `group_text` appends, for the values of a column. Fails only for want of memory,
@@ -53,20 +49,15 @@ pub fn append_text(
     ensures full { OnErr result (vec_capacity out.old
         < vec_len out.old + length (text_of job.now key.now values.now)) }
 {
-    if job.counts() {
-        let total = values.len();
-        return append_total(key, total as u64, out);
-    }
-    listed_text(job, key, Listed::Column(values), out)
+    append_listed(job, key, Listed::Column(values), out)
 }
 
-fn listed_text(
+fn append_listed(
     job: &Job,
     key: &[u8],
     values: Listed<'_>,
     out: &mut Vec<u8>,
 ) -> Result<(), AllocError>
-    requires { counts job.now ≡ false }
     ensures ok { OnOk result (out.new.items
         ≡ out.old.items ++ text_of job.now key.now (listed values.entry)) }
     ensures err { OnErr result (out.new.items ≡ out.old.items) }
@@ -74,10 +65,10 @@ fn listed_text(
         < vec_len out.old + length (text_of job.now key.now (listed values.entry))) }
 {
     let before = out.len();
-    let done = if job.has_lines() {
-        put_places(key, values, out)
-    } else {
-        put_files(key, values, out)
+    let done = match job.row().text {
+        GroupText::Count => put_total(key, values.len() as u64, out),
+        GroupText::Lines => put_places(key, values, out),
+        GroupText::Files => put_files(key, values, out),
     };
     if done.is_err() {
         out.truncate(before);
