@@ -4,7 +4,6 @@ ghost use Rattle.std.specs.Prelude.{◌++◌, OnOk, OnErr};
 ghost use Rattle.mr_bytes.specs.Bytes.{is_upper, is_word_byte};
 ghost use Rattle.mr_lanes.specs.Bits.{is_set, set_bits, Extends};
 
-use crate::Planes;
 use std::alloc::AllocError;
 use std::simd::prelude::*;
 
