@@ -4,6 +4,7 @@ ghost use Rattle.std.specs.Prelude.{◌++◌, OnOk, OnErr};
 ghost use Rattle.mr_bytes.specs.Bytes.{is_upper, is_word_byte};
 ghost use Rattle.mr_lanes.specs.Bits.{is_set, set_bits, Extends};
 
+use crate::Planes;
 use std::alloc::AllocError;
 use std::simd::prelude::*;
 
@@ -70,17 +71,6 @@ pub(crate) fn last_block(bytes: &[u8], at: usize) -> u8x64
         i += 1;
     }
     u8x64::from_array(last)
-}
-
-/// The classes of the bytes of a block. Bit i is about byte i.
-#[derive(Clone, Copy, PartialEq, Eq, Debug)]
-pub struct Planes {
-    /// The line feeds.
-    pub lf: u64,
-    /// The bytes that words contain.
-    pub word: u64,
-    /// The upper-case letters of ASCII.
-    pub upper: u64,
 }
 
 /// Appends `base + i` for each set bit i, rising. If memory fails, some may already be appended.

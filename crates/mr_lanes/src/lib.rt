@@ -8,6 +8,7 @@
 #![tactic(auto)]
 
 mod blocks;
+mod classes;
 mod difference;
 mod folding;
 mod hashes;
@@ -15,7 +16,8 @@ mod lines;
 mod search;
 mod words;
 
-pub use blocks::{Planes, planes};
+pub use blocks::planes;
+pub use classes::Planes;
 pub use difference::{difference_law, first_difference};
 pub use folding::fold_into;
 pub use hashes::{fnv, hash8};
