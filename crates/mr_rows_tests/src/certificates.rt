@@ -2,13 +2,14 @@
 //! are malformed, and by the items that the walk over them gives. With no bytes those of an example are told, which is
 //! built, and the text of a fault. With more words, how many bytes a reader gives a call and which call of it fails, if one
 //! does, the items are told that the walk over that reader gives.
-ghost use Rattle.std.specs.Prelude.{◌≡◌, ◌≤◌, [], length, OnOk};
+ghost use Rattle.std.specs.Prelude.{◌≤◌, ◌<◌, ◌^◌, [], ◌∷◌, length};
+ghost use Rattle.mr_certform.specs.Flat.{AreCounted};
 
 use crate::streaming;
 use crate::telling::Teller;
 use mr_bytes::Name;
 use mr_certform::{
-    Builder, Certificate, GroupIter, Header, Item, ReadFault, Version, VersionedCertificate,
+    Certificate, FlatGroups, GroupIter, Header, Item, ReadFault, Version, VersionedCertificate,
     Walker, WriteFault, read, write,
 };
 use mr_store::{MemoryWriter, write_encoded};
@@ -26,10 +27,16 @@ fn name(place: u32) -> Name {
     }
 }
 
-/// The certificate of words in files of these lengths before its first partition, splits of 64 bytes.
-pub fn begun(alloc: Global, lengths: Vec<u64>) -> Builder
+/// The certificate of words in files of these lengths, splits of 64 bytes, one partition with these groups.
+pub fn of_words(
+    alloc: Global,
+    lengths: Vec<u64>,
+    entry_counts: &[u32],
+    names: &[Name],
+) -> Result<Certificate, AllocError>
     requires files { length lengths.items ≤ 1024 }
-    ensures nothing { (result.begun ≡ []) × (result.ended.groups ≡ []) }
+    requires groups { length entry_counts.now < 2 ^ 32 }
+    requires counted { AreCounted (length entry_counts.now ∷ []) entry_counts.now names.now }
 {
     let header = Header {
         job: 1,
@@ -39,25 +46,18 @@ pub fn begun(alloc: Global, lengths: Vec<u64>) -> Builder
         lengths,
         skips: Vec::new(alloc),
     };
-    Builder::begin(alloc, header)
-}
-
-/// One partition, of the words of `a b a`.
-fn push_words(builder: &mut Builder) -> Result<(), AllocError>
-    requires nothing { (builder.old.begun ≡ []) × (builder.old.ended.groups ≡ []) }
-    ensures one { OnOk result ((builder.new.begun ≡ []) × (1 ≤ length builder.new.ended.groups)) }
-{
-    builder.push_group(&[name(0), name(2)])?;
-    builder.push_group(&[name(1)])?;
-    builder.end_partition()
+    let groups = FlatGroups {
+        group_counts: Vec::from_slice(alloc, &[entry_counts.len() as u32])?,
+        entry_counts: Vec::from_slice(alloc, entry_counts)?,
+        names: Vec::from_slice(alloc, names)?,
+    };
+    Ok(Certificate::of(header, groups))
 }
 
 /// The certificate of the words of `a b a` and a line end, one partition, splits of 64 bytes.
 fn example(alloc: Global) -> Result<Certificate, AllocError> {
     let lengths = Vec::from_slice(alloc, &[6])?;
-    let mut builder = begun(alloc, lengths);
-    push_words(&mut builder)?;
-    Ok(builder.finish())
+    of_words(alloc, lengths, &[2, 1], &[name(0), name(2), name(1)])
 }
 
 /// Tells one step of the walk, and whether another item may stand behind.

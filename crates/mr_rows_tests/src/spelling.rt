@@ -1,7 +1,7 @@
 //! A certificate of one group of names, spelled onto a writer. The words behind the first are how many names there are, how
 //! many bytes the writer takes a call, which call of it fails (0 for none), and the version. Standard input is what should
 //! be written.
-use crate::certificates::begun;
+use crate::certificates::of_words;
 use crate::inputs::numbers_of;
 use crate::stores::writer;
 use crate::telling::Teller;
@@ -28,10 +28,8 @@ fn certificate(alloc: Global, names: &[Name]) -> Result<Option<Certificate>, All
     if names.is_empty() || names.len() > 1_000_000 {
         return Ok(None);
     }
-    let mut builder = begun(alloc, Vec::new(alloc));
-    builder.push_group(names)?;
-    builder.end_partition()?;
-    Ok(Some(builder.finish()))
+    let count = names.len() as u32;
+    of_words(alloc, Vec::new(alloc), &[count], names).map(Some)
 }
 
 /// How many bytes are written, whether they begin those that should be, how many are handed on, and how many calls failed.
