@@ -171,17 +171,8 @@ pub(crate) fn leave_outputs(splits: &mut [Split], worker: u32)
 fn leave_output(split: &mut Split, worker: u32)
     ensures { split.new ≡ gone_with worker split.old }
 {
-    if is_held_by(split.output, worker) {
+    if matches!(split.output, Some((_, holder)) if holder == worker) {
         split.output = None;
-    }
-}
-
-fn is_held_by(output: Option<(u64, u32)>, worker: u32) -> bool
-    ensures { result ≡ held_by worker output }
-{
-    match output {
-        Some((_, holder)) => holder == worker,
-        None => false,
     }
 }
 
@@ -352,16 +343,7 @@ fn filled_at(items: &[Option<u64>], at: u32) -> u32
     ensures { result ≡ vacancy (slice_get items.now at) }
 {
     match items.get(at as usize) {
-        Some(output) => vacancy_of(*output),
-        None => 0,
-    }
-}
-
-fn vacancy_of(output: Option<u64>) -> u32
-    ensures { result ≡ vacancy (Some output) }
-{
-    match output {
-        Some(_) => 0,
-        None => 1,
+        Some(None) => 1,
+        Some(Some(_)) | None => 0,
     }
 }

@@ -141,10 +141,9 @@ impl MasterState {
     pub(crate) fn output(&self, map: u32) -> Option<u64>
         ensures { result ≡ output_of self.now map }
     {
-        match self.splits.as_slice().get(map as usize) {
-            Some(split) => first_of(split.output),
-            None => None,
-        }
+        let split = self.splits.as_slice().get(map as usize)?;
+        let (number, _) = split.output?;
+        Some(number)
     }
 
     pub(crate) fn set(&self, split: u32) -> &[u32]
@@ -312,13 +311,4 @@ fn open_tasks(alloc: Global, shape: Shape) -> Result<(Splits, Outputs, Vec<Faile
     let committed = Outputs::new(alloc, shape.parts)?;
     let failures = none_failed(alloc, shape.maps)?;
     Ok((splits, committed, failures))
-}
-
-fn first_of(output: Option<(u64, u32)>) -> Option<u64>
-    ensures { result ≡ number_of output }
-{
-    match output {
-        Some((number, _)) => Some(number),
-        None => None,
-    }
 }
