@@ -19,7 +19,7 @@ ghost use Rattle.mr_shard_files.specs.Streams.{length_told as length_of};
 use crate::fault::ShardFault;
 use crate::listing::{expect_listed, read_verdicts};
 use crate::partition::partitions_written;
-use crate::sharing::{expect_apart, expect_unshared, put_told};
+use crate::sharing::{expect_apart, expect_unshared, save_verdict};
 use crate::stream::{Part, fault_of};
 use mr_files::{Store, folder_of, part_name};
 use mr_jobs::Request;
@@ -76,11 +76,7 @@ fn expect_once(alloc: Global, inputs: &[FileNote]) -> Result<(), ShardFault>
     }
 }
 
-fn joined_once(
-    alloc: Global,
-    request: &Request,
-    verdicts: &[Verdict],
-) -> Result<Verdict, ShardFault>
+fn join_once(alloc: Global, request: &Request, verdicts: &[Verdict]) -> Result<Verdict, ShardFault>
     ensures ok { IfOk result (IsJoinedOnce request.now verdicts.now) }
     ensures err { IfErr result (IsJoinedFault request.now verdicts.now) }
 {
@@ -90,89 +86,87 @@ fn joined_once(
     Ok(joined)
 }
 
-fn noted(verdict: Verdict, outputs: Vec<FileNote>) -> Verdict
+fn add_notes(verdict: Verdict, outputs: Vec<FileNote>) -> Verdict
     ensures { result ≡ with_notes verdict outputs.items }
 {
     Verdict { outputs, ..verdict }
+}
+
+/// The names that a merge gets: of the verdicts, of a list of their inputs, and of the result's
+/// folder.
+#[derive(Clone, Copy)]
+pub(crate) struct MergePlan<'a> {
+    pub names: &'a [&'a str],
+    pub list: Option<&'a str>,
+    pub out: &'a str,
 }
 
 /// Checks the list of inputs if there is one, then the folders, then the names of files.
 fn expect_meant<S: Store>(
     store: &S,
     alloc: Global,
-    names: &[&str],
-    list: Option<&str>,
+    plan: &MergePlan<'_>,
     inputs: &[FileNote],
-    out: &str,
     parts: u32,
 ) -> Result<(), ShardFault>
     ensures listed { OnOk result (IsListed (S.holds store.now)
-        (option_map (λ n. n.now) list.entry) inputs.now) }
-    ensures apart { OnOk result (AreApart (map (λ s. s.now) names.now) out.now) }
+        (option_map (λ n. n.now) plan.now.list) inputs.now) }
+    ensures apart { OnOk result (AreApart (map (λ s. s.now) plan.now.names.now) plan.now.out.now) }
     ensures unshared { OnOk result (AreUnshared (S.known_as store.now)
-        (map (λ s. s.now) names.now) (option_map (λ n. n.now) list.entry) out.now parts) }
+        (map (λ s. s.now) plan.now.names.now) (option_map (λ n. n.now) plan.now.list)
+        plan.now.out.now parts) }
     ensures err { IfErr result (IsUnmeant (S.holds store.now) (S.unreadable store.now)
-        (S.alike store.now) (S.known_as store.now) (map (λ s. s.now) names.now)
-        (option_map (λ n. n.now) list.entry) out.now parts inputs.now) }
+        (S.alike store.now) (S.known_as store.now) (map (λ s. s.now) plan.now.names.now)
+        (option_map (λ n. n.now) plan.now.list) plan.now.out.now parts inputs.now) }
 {
-    expect_listed(store, alloc, list, inputs)?;
-    expect_apart(store, names, out)?;
-    expect_unshared(store, alloc, names, list, out, parts)
+    expect_listed(store, alloc, plan.list, inputs)?;
+    expect_apart(store, plan.names, plan.out)?;
+    expect_unshared(store, alloc, plan, parts)
 }
 
-fn prepared<S: Store>(
+fn prepare<S: Store>(
     store: &S,
     alloc: Global,
-    names: &[&str],
-    inputs: Option<&str>,
+    plan: &MergePlan<'_>,
     verdicts: &[Verdict],
-    out: &str,
 ) -> Result<(Request, Verdict), ShardFault>
     ensures ok { IfOk result (λ r. IsReady (S.holds store.now) (S.known_as store.now)
-        (map (λ s. s.now) names.now) (option_map (λ n. n.now) inputs.entry)
-        out.now verdicts.now r.0 r.1) }
+        (map (λ s. s.now) plan.now.names.now) (option_map (λ n. n.now) plan.now.list)
+        plan.now.out.now verdicts.now r.0 r.1) }
     ensures err { IfErr result (IsMergingFault (S.holds store.now) (S.unreadable store.now)
-        (S.alike store.now) (S.known_as store.now) (map (λ s. s.now) names.now)
-        (option_map (λ n. n.now) inputs.entry) out.now verdicts.now) }
+        (S.alike store.now) (S.known_as store.now) (map (λ s. s.now) plan.now.names.now)
+        (option_map (λ n. n.now) plan.now.list) plan.now.out.now verdicts.now) }
 {
     let request = first_request(alloc, verdicts)?;
-    let joined = joined_once(alloc, &request, verdicts)?;
+    let joined = join_once(alloc, &request, verdicts)?;
     let parts = request.parts();
-    expect_meant(
-        store,
-        alloc,
-        names,
-        inputs,
-        joined.inputs.as_slice(),
-        out,
-        parts,
-    )?;
+    expect_meant(store, alloc, plan, joined.inputs.as_slice(), parts)?;
     Ok((request, joined))
 }
 
-fn merged_of<S: Store, T: Threads>(
+fn merge_verdicts<S: Store, T: Threads>(
     rt: &T,
     store: &mut S,
     alloc: Global,
-    names: &[&str],
-    inputs: Option<&str>,
+    plan: &MergePlan<'_>,
     verdicts: &[Verdict],
-    out: &str,
 ) -> Result<Verdict, ShardFault>
-    requires { Holding (S.holds store.old) (map (λ s. s.now) names.now) (map spelling verdicts.now) }
+    requires { Holding (S.holds store.old) (map (λ s. s.now) plan.now.names.now)
+        (map spelling verdicts.now) }
     ensures ok { IfOk result (IsMerged (S.holds store.old) (S.holds store.new)
-        (S.known_as store.old) (map (λ s. s.now) names.now)
-        (option_map (λ n. n.now) inputs.entry) out.now) }
-    ensures others { ChangesResult (S.holds store.old) (S.holds store.new) out.now }
+        (S.known_as store.old) (map (λ s. s.now) plan.now.names.now)
+        (option_map (λ n. n.now) plan.now.list) plan.now.out.now) }
+    ensures others { ChangesResult (S.holds store.old) (S.holds store.new) plan.now.out.now }
     ensures refused { IfErr result (IsShardRefusal (S.holds store.old) (S.holds store.new)
         (S.unreadable store.old) (S.unwritable store.old)
-        (S.alike store.old) (S.known_as store.old) (map (λ s. s.now) names.now)
-        (option_map (λ n. n.now) inputs.entry) out.now) }
+        (S.alike store.old) (S.known_as store.old) (map (λ s. s.now) plan.now.names.now)
+        (option_map (λ n. n.now) plan.now.list) plan.now.out.now) }
 {
-    let (request, joined) = prepared(store, alloc, names, inputs, verdicts, out)?;
+    let MergePlan { names, out, .. } = *plan;
+    let (request, joined) = prepare(store, alloc, plan, verdicts)?;
     let notes = partitions_written(rt, store, alloc, &request, names, verdicts, out)?;
-    let merged = noted(joined, notes);
-    put_told(store, alloc, out, &merged)?;
+    let merged = add_notes(joined, notes);
+    save_verdict(store, alloc, out, &merged)?;
     Ok(merged)
 }
 
@@ -202,12 +196,14 @@ pub fn merge_shards<S: Store, T: Threads>(
         (S.alike store.old) (S.known_as store.old) (map (λ s. s.now) names.now)
         (option_map (λ n. n.now) inputs.entry) out.now) }
 {
+    let list = inputs;
+    let plan = MergePlan { names, list, out };
     let verdicts = read_verdicts(store, alloc, names)?;
-    merged_of(rt, store, alloc, names, inputs, verdicts.as_slice(), out)
+    merge_verdicts(rt, store, alloc, &plan, verdicts.as_slice())
 }
 
 /// The output's length in the verdict; 0 if it lists no such output.
-fn length_told(verdict: &Verdict, partition: usize) -> u64
+fn length_in(verdict: &Verdict, partition: usize) -> u64
     ensures { result ≡ length_of partition verdict.now }
 {
     match verdict.outputs.get(partition) {
@@ -231,8 +227,8 @@ fn open_part<S: Store>(
     let file = part_name(alloc, folder_of(name), partition)?;
     match store.reader(alloc, file.as_str()) {
         Ok(reader) => {
-            let told = length_told(verdict, partition);
-            Ok(Part::new(alloc, file, reader, told))
+            let length = length_in(verdict, partition);
+            Ok(Part::new(alloc, file, reader, length))
         }
         Err(ReadFault::OutOfMemory) => Err(ShardFault::OutOfMemory),
         Err(ReadFault::Device) => Err(fault_of(alloc, file.as_str(), false)),

@@ -11,6 +11,7 @@ ghost use Rattle.mr_shards.specs.Verdict.{spelling};
 ghost use Rattle.mr_shard_files.specs.Made.{TellsUnwritten};
 
 use crate::fault::ShardFault;
+use crate::merging::MergePlan;
 use mr_files::{Store, add_names, first_shared, folder_of, part_name, verdict_name, write_file};
 use mr_shards::{Verdict, write_verdict};
 use std::alloc::{AllocError, Global};
@@ -56,7 +57,7 @@ fn names_beside(alloc: Global, names: &[&str], parts: usize) -> Result<Vec<Strin
 }
 
 /// Adds the names of the verdicts and of the list, if there is one.
-fn add_told(
+fn add_given(
     alloc: Global,
     all: &mut Vec<String>,
     names: &[&str],
@@ -82,7 +83,7 @@ fn names_read(
         (option_map (λ n. n.now) list.entry) parts (map string_bytes read.items)) }
 {
     let mut read = names_beside(alloc, names, parts)?;
-    add_told(alloc, &mut read, names, list)?;
+    add_given(alloc, &mut read, names, list)?;
     Ok(read)
 }
 
@@ -101,18 +102,18 @@ fn names_written(alloc: Global, out: &str, parts: usize) -> Result<Vec<String>, 
 pub(crate) fn expect_unshared<S: Store>(
     store: &S,
     alloc: Global,
-    names: &[&str],
-    list: Option<&str>,
-    out: &str,
+    plan: &MergePlan<'_>,
     parts: u32,
 ) -> Result<(), ShardFault>
     ensures ok { OnOk result (AreUnshared (S.known_as store.now)
-        (map (λ s. s.now) names.now) (option_map (λ n. n.now) list.entry) out.now parts) }
+        (map (λ s. s.now) plan.now.names.now) (option_map (λ n. n.now) plan.now.list)
+        plan.now.out.now parts) }
     ensures err { IfErr result (IsShared (S.known_as store.now)
-        (map (λ s. s.now) names.now) (option_map (λ n. n.now) list.entry) out.now parts) }
+        (map (λ s. s.now) plan.now.names.now) (option_map (λ n. n.now) plan.now.list)
+        plan.now.out.now parts) }
 {
-    let read = names_read(alloc, names, list, parts as usize)?;
-    let written = names_written(alloc, out, parts as usize)?;
+    let read = names_read(alloc, plan.names, plan.list, parts as usize)?;
+    let written = names_written(alloc, plan.out, parts as usize)?;
     match first_shared(store, alloc, read.as_slice(), written.as_slice())? {
         Some(name) => Err(ShardFault::SameFile(name)),
         None => Ok(()),
@@ -138,7 +139,7 @@ pub(crate) fn put_verdict<S: Store>(
     Ok(())
 }
 
-pub(crate) fn put_told<S: Store>(
+pub(crate) fn save_verdict<S: Store>(
     store: &mut S,
     alloc: Global,
     dir: &str,

@@ -137,35 +137,45 @@ fn add_notes(alloc: Global, notes: &mut Vec<FileNote>, more: &[FileNote]) -> Res
     Ok(())
 }
 
-/// Joins the verdict to those before it, which have `splits` splits; returns the splits of all.
+/// The verdicts joined so far, and the number of their splits.
+#[derive(Drop)]
+struct Joined {
+    verdict: Verdict,
+    splits: u64,
+}
+
+/// Joins a shard's verdict to those before it.
 fn add_verdict(
     alloc: Global,
     request: &Request,
-    joined: &mut Verdict,
+    joined: &mut Joined,
     shard: usize,
     verdict: &Verdict,
-    splits: u64,
-) -> Result<u64, JoinFault>
-    ensures ok { IfOk result (Follows request.now joined.old joined.new verdict.now splits) }
-    ensures err { IfErr result (IsShardFault request.now joined.old verdict.now shard splits) }
+) -> Result<(), JoinFault>
+    ensures ok { OnOk result (Follows request.now joined.old.verdict joined.new.verdict verdict.now
+        joined.old.splits joined.new.splits) }
+    ensures err { IfErr result
+        (IsShardFault request.now joined.old.verdict verdict.now shard joined.old.splits) }
 {
     if !asks(verdict, request) {
         return Err(JoinFault::OtherRequest { shard });
     }
-    let Some(behind) = splits_behind(verdict.inputs.as_slice(), request.split_size(), splits) else {
+    let (inputs, left_out) = (verdict.inputs.as_slice(), verdict.left_out.as_slice());
+    let Some(splits) = splits_behind(inputs, request.split_size(), joined.splits) else {
         return Err(JoinFault::TooManySplits { shard });
     };
-    let Some(pairs) = joined.pairs.checked_add(verdict.pairs) else {
+    let Some(pairs) = joined.verdict.pairs.checked_add(verdict.pairs) else {
         return Err(JoinFault::TooManyPairs);
     };
-    match add_names(&mut joined.left_out, verdict.left_out.as_slice(), splits) {
+    match add_names(&mut joined.verdict.left_out, left_out, joined.splits) {
         Ok(()) => {}
         Err(Unmoved::TooFar) => return Err(JoinFault::TooManySplits { shard }),
         Err(Unmoved::OutOfMemory) => return Err(JoinFault::OutOfMemory),
     }
-    add_notes(alloc, &mut joined.inputs, verdict.inputs.as_slice())?;
-    joined.pairs = pairs;
-    Ok(behind)
+    add_notes(alloc, &mut joined.verdict.inputs, inputs)?;
+    joined.verdict.pairs = pairs;
+    joined.splits = splits;
+    Ok(())
 }
 
 /// Joins the shards' verdicts in order: appends inputs, moves split numbers of left-out records by
@@ -179,12 +189,12 @@ pub fn join_verdicts(
     ensures err { IfErr result (IsJoinFault request.now verdicts.now) }
 {
     let (inputs, outputs) = (Vec::new(alloc), Vec::new(alloc));
-    let mut joined = verdict_for(alloc, request, inputs, outputs, &[], 0)?;
-    let mut splits = 0u64;
+    let verdict = verdict_for(alloc, request, inputs, outputs, &[], 0)?;
+    let mut joined = Joined { verdict, splits: 0 };
     for (shard, verdict) in verdicts.iter().enumerate() {
-        splits = add_verdict(alloc, request, &mut joined, shard, verdict, splits)?;
+        add_verdict(alloc, request, &mut joined, shard, verdict)?;
     }
-    Ok(joined)
+    Ok(joined.verdict)
 }
 
 /// Adds a name to those seen; returns whether it is new.

@@ -1,7 +1,7 @@
 use Rattle.std.proofs.Common.{◌∙◌, List, OnOk, ℕ, subst}
 use Rattle.mr_files.specs.Holding.{Begins}
 use Rattle.mr_files.specs.Names.{name_of_verdict}
-use Rattle.mr_shard_files.proofs.sharing.put_told.Goals as goal
+use Rattle.mr_shard_files.proofs.sharing.save_verdict.Goals as goal
 
 pub returns-clause-whole : goal.returns-clause-whole
 returns-clause-whole g c =

@@ -1,0 +1,72 @@
+use Rattle.std.proofs.Common.{◌≡◌, ◌∙◌, ap, inl, inr, length, map, option_map, refl, subst, sym}
+use Rattle.std.proofs.lemmas.List.{length-map}
+use Rattle.std.proofs.lemmas.Result.{err_from_is_err_and}
+use Rattle.mr_files.specs.Holding.{Begins}
+use Rattle.mr_files.specs.Names.{name_of_verdict}
+use Rattle.mr_shards.specs.Verdict.{spelling}
+use Rattle.mr_shard_files.proofs.PartLemmas.{held_count}
+use Rattle.mr_shard_files.proofs.ResultLemmas.{among_again, named, parts_change, unnamed}
+use Rattle.mr_shard_files.proofs.merging.merge_verdicts.Goals as goal
+
+pub partitions_written-requires-clause-count : goal.partitions_written-requires-clause-count
+partitions_written-requires-clause-count g c =
+    let names = c.args.plan.now.names.now in
+    sym (length-map names (λ s. s.now)) ∙ held_count (g.S.Store.holds c.args.store.now) (map (λ s. s.now) names) (map spelling c.args.verdicts.now) c.requires ∙ length-map c.args.verdicts.now spelling
+
+pub returns-in_err-notes-clause-others : goal.returns-in_err-notes-clause-others
+returns-in_err-notes-clause-others g c =
+    let holds = g.S.Store.holds in
+    parts_change (holds c.args.store.now) (holds c.partitions_written.new.store) (g.S.Store.unreadable c.args.store.now) (g.S.Store.unwritable c.args.store.now) c.in_ok-request.request (map (λ s. s.now) c.args.plan.now.names.now)
+    c.args.verdicts.now c.args.plan.now.out.now c.in_err-notes.field-0.0 c.in_err-notes.ensures.err
+
+pub returns-in_err-notes-clause-refused : goal.returns-in_err-notes-clause-refused
+returns-in_err-notes-clause-refused g c =
+    let p = err_from_is_err_and c.from_residual-in_err-notes.result c.from_residual-in_err-notes.ensures.1 in
+    let k = c.in_ok-request.ensures.ok in
+    rw p.1 (rw p.2 (inr (record {
+      verdicts = c.args.verdicts.now;
+      request = c.in_ok-request.request;
+      joined = c.in_ok-request.joined;
+      held = c.requires;
+      ready = k;
+      why = inl c.in_err-notes.ensures.err;
+    })))
+
+pub returns-in_err-save_verdict-clause-others : goal.returns-in_err-save_verdict-clause-others
+returns-in_err-save_verdict-clause-others g c =
+    let holds = g.S.Store.holds in
+    let parts = c.in_ok-request.request.parts in
+    (parts, among_again (holds c.args.store.now) (holds c.partitions_written.new.store) (holds c.save_verdict.new.store) c.args.plan.now.out.now parts c.in_ok-notes.ensures.ok.others c.in_err-save_verdict.ensures.others)
+
+pub returns-clause-others : goal.returns-clause-others
+returns-clause-others g c =
+    let holds = g.S.Store.holds in
+    let parts = c.in_ok-request.request.parts in
+    (parts, among_again (holds c.args.store.now) (holds c.partitions_written.new.store) (holds c.save_verdict.new.store) c.args.plan.now.out.now parts c.in_ok-notes.ensures.ok.others c.in_ok-save_verdict.ensures.others)
+
+pub returns-in_err-save_verdict-clause-refused : goal.returns-in_err-save_verdict-clause-refused
+returns-in_err-save_verdict-clause-refused g c =
+    let p = err_from_is_err_and c.from_residual-in_err-save_verdict.result c.from_residual-in_err-save_verdict.ensures.1 in
+    let holds = g.S.Store.holds in
+    let names = map (λ s. s.now) c.args.plan.now.names.now in
+    let list = option_map (λ n. n.now) c.args.plan.now.list in
+    let vs = c.args.verdicts.now in
+    let dir = c.args.plan.now.out.now in
+    let same : length names ≡ length vs = held_count (holds c.args.store.now) names (map spelling vs) c.requires ∙ length-map vs spelling in
+    let mid = holds c.partitions_written.new.store in
+    let new = holds c.save_verdict.new.store in
+    rw p.1 (rw p.2 (inr (unnamed (holds c.args.store.now) mid new (g.S.Store.known_as c.args.store.now) names list dir vs vs c.in_ok-request.request c.in_ok-request.joined c.in_ok-notes.notes.items (g.S.Store.unreadable c.args.store.now) (g.S.Store.unwritable c.args.store.now) (g.S.Store.unwritable c.partitions_written.new.store) c.in_err-save_verdict.field-0.0
+    refl c.requires same c.in_ok-request.ensures.ok c.in_ok-notes.ensures.ok c.in_err-save_verdict.ensures.others (subst (λ v. Begins mid new (name_of_verdict dir) (spelling v)) c.add_notes-merged.ensures c.in_err-save_verdict.ensures.begins) c.in_ok-notes.ensures.still c.in_err-save_verdict.ensures.err)))
+
+pub returns-clause-ok : goal.returns-clause-ok
+returns-clause-ok g c =
+    let holds = g.S.Store.holds in
+    let names = map (λ s. s.now) c.args.plan.now.names.now in
+    let list = option_map (λ n. n.now) c.args.plan.now.list in
+    let vs = c.args.verdicts.now in
+    let dir = c.args.plan.now.out.now in
+    let same : length names ≡ length vs = held_count (holds c.args.store.now) names (map spelling vs) c.requires ∙ length-map vs spelling in
+    let mid = holds c.partitions_written.new.store in
+    let new = holds c.save_verdict.new.store in
+    rw c.add_notes-merged.ensures (named (holds c.args.store.now) mid new (g.S.Store.known_as c.args.store.now) names list dir vs vs c.in_ok-request.request c.in_ok-request.joined c.in_ok-notes.notes.items (spelling c.add_notes-merged.result)
+    refl (ap spelling c.add_notes-merged.ensures) c.requires same c.in_ok-request.ensures.ok c.in_ok-notes.ensures.ok c.in_ok-save_verdict.ensures.others c.in_ok-save_verdict.ensures.whole)
