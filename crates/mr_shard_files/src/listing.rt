@@ -176,8 +176,7 @@ pub(crate) fn read_verdicts<S: Store>(
     alloc: Global,
     names: &[&str],
 ) -> Result<Vec<Verdict>, ShardFault>
-    ensures ok { IfOk result
-        (λ vs. Holding (S.holds store.now) (map (λ s. s.now) names.now) (map spelling vs.items)) }
+    ensures ok { IfOk result (λ vs. Holding (S.holds store.now) (map (λ s. s.now) names.now) (map spelling vs.items)) }
     ensures err { IfErr result
         (IsUngathered (S.holds store.now) (S.unreadable store.now) (map (λ s. s.now) names.now)) }
 {

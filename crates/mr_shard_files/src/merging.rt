@@ -109,8 +109,7 @@ fn expect_meant<S: Store>(
     inputs: &[FileNote],
     parts: u32,
 ) -> Result<(), ShardFault>
-    ensures listed { OnOk result (IsListed (S.holds store.now)
-        (option_map (λ n. n.now) plan.now.list) inputs.now) }
+    ensures listed { OnOk result (IsListed (S.holds store.now) (option_map (λ n. n.now) plan.now.list) inputs.now) }
     ensures apart { OnOk result (AreApart (map (λ s. s.now) plan.now.names.now) plan.now.out.now) }
     ensures unshared { OnOk result (AreUnshared (S.known_as store.now)
         (map (λ s. s.now) plan.now.names.now) (option_map (λ n. n.now) plan.now.list)
@@ -151,8 +150,7 @@ fn merge_verdicts<S: Store, T: Threads>(
     plan: &MergePlan<'_>,
     verdicts: &[Verdict],
 ) -> Result<Verdict, ShardFault>
-    requires { Holding (S.holds store.old) (map (λ s. s.now) plan.now.names.now)
-        (map spelling verdicts.now) }
+    requires { Holding (S.holds store.old) (map (λ s. s.now) plan.now.names.now) (map spelling verdicts.now) }
     ensures ok { IfOk result (IsMerged (S.holds store.old) (S.holds store.new)
         (S.known_as store.old) (map (λ s. s.now) plan.now.names.now)
         (option_map (λ n. n.now) plan.now.list) plan.now.out.now) }

@@ -191,8 +191,7 @@ impl<W: CountedWrite + Drop> Made<W> {
     pub fn put(&mut self, alloc: Global, piece: &[u8]) -> Result<(), ShardFault>
         ensures ok { OnOk result ((bytes : List ℕ) → HasWritten W.seen bytes self.old
             → HasWritten W.seen (bytes ++ piece.now) self.new) }
-        ensures err { IfErr result
-            (TellsUnwritten (W.can_fail self.old.writer) (string_bytes self.old.name)) }
+        ensures err { IfErr result (TellsUnwritten (W.can_fail self.old.writer) (string_bytes self.old.name)) }
         ensures later { W.can_fail self.new.writer → W.can_fail self.old.writer }
         ensures name { self.new.name ≡ self.old.name }
     {
@@ -210,12 +209,10 @@ impl<W: CountedWrite + Drop> Made<W> {
     }
 
     pub fn flush(&mut self, alloc: Global) -> Result<(), ShardFault>
-        ensures handed { OnOk result ((W.seen self.new.writer).handed_on
-            ≡ (W.seen self.new.writer).contents) }
+        ensures handed { OnOk result ((W.seen self.new.writer).handed_on ≡ (W.seen self.new.writer).contents) }
         ensures ok { OnOk result ((bytes : List ℕ) → HasWritten W.seen bytes self.old
             → HasWritten W.seen bytes self.new) }
-        ensures err { IfErr result
-            (TellsUnwritten (W.can_fail self.old.writer) (string_bytes self.old.name)) }
+        ensures err { IfErr result (TellsUnwritten (W.can_fail self.old.writer) (string_bytes self.old.name)) }
         ensures name { self.new.name ≡ self.old.name }
     {
         if self.writer.flush().is_err() {
@@ -248,8 +245,7 @@ fn part_note(alloc: Global, partition: usize, output: &[u8]) -> Result<FileNote,
 
 /// The notes of outputs, under the names of parts.
 pub fn part_notes(alloc: Global, outputs: &[Vec<u8>]) -> Result<Vec<FileNote>, AllocError>
-    ensures { IfOk result
-        (λ ns. ns.items ≡ notes_for (part_files (length outputs.now)) (contents outputs.now)) }
+    ensures { IfOk result (λ ns. ns.items ≡ notes_for (part_files (length outputs.now)) (contents outputs.now)) }
 {
     let mut notes = Vec::new(alloc);
     for partition in 0..outputs.len() {

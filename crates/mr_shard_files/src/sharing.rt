@@ -146,8 +146,7 @@ pub(crate) fn save_verdict<S: Store>(
     verdict: &Verdict,
 ) -> Result<(), ShardFault>
     ensures whole { OnOk result (S.holds store.new (name_of_verdict dir.now) (spelling verdict.now)) }
-    ensures begins { Begins (S.holds store.old) (S.holds store.new) (name_of_verdict dir.now)
-        (spelling verdict.now) }
+    ensures begins { Begins (S.holds store.old) (S.holds store.new) (name_of_verdict dir.now) (spelling verdict.now) }
     ensures others { ChangesOnly (S.holds store.old) (S.holds store.new) (name_of_verdict dir.now) }
     ensures still { (n : List ℕ) → S.unwritable store.new n → S.unwritable store.old n }
     ensures err { IfErr result (TellsUnwritten (S.unwritable store.old (name_of_verdict dir.now))

@@ -286,8 +286,7 @@ impl<R: CountedRead + Drop> Part<R> {
 
     /// Reads to the end, with at most one piece in memory, and none afterwards.
     pub fn finish(&mut self, alloc: Global) -> Result<(), ShardFault>
-        ensures moves { OnOk result ((passed : List ℕ)
-            × Moves R.remaining R.can_fail passed self.old self.new) }
+        ensures moves { OnOk result ((passed : List ℕ) × Moves R.remaining R.can_fail passed self.old self.new) }
         ensures done { OnOk result (no_more self.new ≡ true) }
         ensures err { IfErr result (TellsUnread (R.can_fail self.old.reader) (string_bytes self.old.name)) }
     {

@@ -17,8 +17,7 @@ pub(crate) fn fill_all<R: CountedRead + Drop>(
     parts: &mut [Part<R>],
     size: usize,
 ) -> Result<(), ShardFault>
-    ensures ok { OnOk result (AllAre
-        (λ _ o n. Moves R.remaining R.can_fail [] o n) parts.old parts.old parts.new) }
+    ensures ok { OnOk result (AllAre (λ _ o n. Moves R.remaining R.can_fail [] o n) parts.old parts.old parts.new) }
     ensures err { IfErr result
         (λ e. OneIs (λ _ q. TellsUnread (R.can_fail q.reader) (string_bytes q.name) e) parts.old) }
 {
@@ -80,8 +79,7 @@ pub(crate) fn windows_of<'a, R: CountedRead + Drop>(
 
 pub(crate) fn pass_all<R: CountedRead + Drop>(parts: &mut [Part<R>], cuts: &[usize])
     requires { AreHeld cuts.now parts.old }
-    ensures { AllAre
-        (λ c o n. Moves R.remaining R.can_fail (take c o.held) o n) cuts.now parts.old parts.new }
+    ensures { AllAre (λ c o n. Moves R.remaining R.can_fail (take c o.held) o n) cuts.now parts.old parts.new }
 {
     for shard in 0..parts.len() {
         let part = &mut parts[shard];
@@ -125,8 +123,7 @@ pub(crate) fn settle_all<R: CountedRead + Drop>(
     partition: usize,
 ) -> Result<(), ShardFault>
     requires { length parts.old ≡ length verdicts.now }
-    ensures ok { OnOk result
-        (AllAre (IsSettled R.remaining R.can_fail partition) verdicts.now parts.old parts.new) }
+    ensures ok { OnOk result (AllAre (IsSettled R.remaining R.can_fail partition) verdicts.now parts.old parts.new) }
     ensures err { IfErr result (AreUnsettled R.remaining R.can_fail partition verdicts.now parts.old) }
 {
     for shard in 0..parts.len() {

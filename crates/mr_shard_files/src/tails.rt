@@ -38,8 +38,7 @@ pub(crate) fn tails_of<'a, R: CountedRead + Drop>(
     parts: &'a [Part<R>],
 ) -> Result<Vec<Tail<'a>>, AllocError>
     ensures tails { IfOk result (λ ts. AreTailsOf parts.entry.now ts.items) }
-    ensures next { IfOk result
-        (λ ts. (hs : List Digested) → AreTaken ts.items hs → AreNext parts.entry.now hs) }
+    ensures next { IfOk result (λ ts. (hs : List Digested) → AreTaken ts.items hs → AreNext parts.entry.now hs) }
 {
     let mut tails = Vec::new(alloc);
     for shard in 0..parts.len() {

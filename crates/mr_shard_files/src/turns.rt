@@ -84,8 +84,7 @@ fn stepped<R: CountedRead + Drop>(
 ) -> Result<Turn, MergeFault>
     requires { length parts.now ≡ length merger.held }
     ensures shards { IfOk result (λ s. length s.merger.held ≡ length merger.held) }
-    ensures ok { IfOk result
-        (λ s. StepsOver job.now parts.now s.cuts.items merger s.merger text.items s.text.items) }
+    ensures ok { IfOk result (λ s. StepsOver job.now parts.now s.cuts.items merger s.merger text.items s.text.items) }
     ensures err { IfErr result (IsBlamedOver job.now parts.now merger) }
 {
     let (mut merger, mut text) = (merger, text);
@@ -225,10 +224,8 @@ fn turned<R: CountedRead + Drop, W: CountedWrite + Drop, T: Threads>(
 ) -> Result<Turn, Stop>
     requires { length parts.old ≡ length last.merger.held }
     ensures shards { IfOk result (λ s. length s.merger.held ≡ length last.merger.held) }
-    ensures read { OnOk result (AllAre
-        (λ _ o n. Moves R.remaining R.can_fail [] o n) parts.old parts.old parts.new) }
-    ensures ok { IfOk result
-        (λ s. StepsOver job.now parts.new s.cuts.items last.merger s.merger [] s.text.items) }
+    ensures read { OnOk result (AllAre (λ _ o n. Moves R.remaining R.can_fail [] o n) parts.old parts.old parts.new) }
+    ensures ok { IfOk result (λ s. StepsOver job.now parts.new s.cuts.items last.merger s.merger [] s.text.items) }
     ensures written { IfOk result (λ s. (bytes : List ℕ) → HasWritten W.seen bytes made.old
         → HasWritten W.seen (bytes ++ s.text.items) made.new) }
     ensures err { IfErr result (IsTurnFault R.remaining R.can_fail

@@ -60,8 +60,7 @@ pub(crate) fn advanced<'a>(
     ensures kind { IfOk result (IsHeadFor job.now) }
     ensures order { IfOk result (λ n. IfSome n.head (λ l. DoesNotFall cursor.entry.head l)) }
     ensures behind { IfOk result (λ n. IsRestOf job.now n → IsRestOf job.now cursor.entry) }
-    ensures read { IfOk result
-        (λ n. (text : List ℕ) → IsReadOf job.now text cursor.entry → IsReadOf job.now text n) }
+    ensures read { IfOk result (λ n. (text : List ℕ) → IsReadOf job.now text cursor.entry → IsReadOf job.now text n) }
     ensures err { IfErr result (BlamesOnly job.now shard cursor.entry.before
         (last_key cursor.entry.head) cursor.entry.rest.now cursor.entry.lines) }
 {

@@ -154,8 +154,7 @@ fn add_verdict(
 ) -> Result<(), JoinFault>
     ensures ok { OnOk result (Follows request.now joined.old.verdict joined.new.verdict verdict.now
         joined.old.splits joined.new.splits) }
-    ensures err { IfErr result
-        (IsShardFault request.now joined.old.verdict verdict.now shard joined.old.splits) }
+    ensures err { IfErr result (IsShardFault request.now joined.old.verdict verdict.now shard joined.old.splits) }
 {
     if !asks(verdict, request) {
         return Err(JoinFault::OtherRequest { shard });
@@ -199,10 +198,8 @@ pub fn join_verdicts(
 
 /// Adds a name to those seen; returns whether it is new.
 fn see<'a>(seen: &mut BTreeSet<&'a [u8]>, name: &'a [u8]) -> Result<bool, AllocError>
-    ensures fresh { IfOk result
-        (λ added. added ≡ true → Has (map (λ k. k.now) seen.old.keys) name.entry.now → ⊥) }
-    ensures again { IfOk result
-        (λ added. added ≡ false → Has (map (λ k. k.now) seen.old.keys) name.entry.now) }
+    ensures fresh { IfOk result (λ added. added ≡ true → Has (map (λ k. k.now) seen.old.keys) name.entry.now → ⊥) }
+    ensures again { IfOk result (λ added. added ≡ false → Has (map (λ k. k.now) seen.old.keys) name.entry.now) }
     ensures kept { OnOk result ((n : List ℕ) → Has (map (λ k. k.now) seen.new.keys) n
         ↔ (Has (map (λ k. k.now) seen.old.keys) n ⊎ (name.entry.now ≡ n))) }
 {

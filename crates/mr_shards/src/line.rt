@@ -60,8 +60,7 @@ pub(crate) fn cut_last(text: &[u8], mark: u8) -> Option<(&[u8], &[u8])>
 /// None if the byte is no digit, or if the number may be too large.
 #[inline(always)]
 fn with_digit(value: u64, digit: u8) -> Option<u64>
-    ensures { IfSome result
-        (λ n. (48 ≤ digit) × (digit ≤ 57) × (n + 48 ≡ value * 10 + digit) × (n < 2 ^ 64)) }
+    ensures { IfSome result (λ n. (48 ≤ digit) × (digit ≤ 57) × (n + 48 ≡ value * 10 + digit) × (n < 2 ^ 64)) }
 {
     if value > 1_000_000_000_000_000_000 || digit < b'0' || digit > b'9' {
         None
@@ -92,8 +91,7 @@ fn read_number(digits: &[u8]) -> Option<u64>
 
 /// Parses the digits and compares them with the number's own text.
 fn checked_number(digits: &[u8]) -> Option<u64>
-    ensures { MatchOption result ((n : ℕ) → n < 2 ^ 64 → digits.now ≡ decimal n → ⊥)
-        (λ n. digits.now ≡ decimal n) }
+    ensures { MatchOption result ((n : ℕ) → n < 2 ^ 64 → digits.now ≡ decimal n → ⊥) (λ n. digits.now ≡ decimal n) }
 {
     let Ok(text) = str::from_utf8(digits) else {
         return None;
@@ -111,8 +109,7 @@ fn checked_number(digits: &[u8]) -> Option<u64>
 
 /// Parses a number as outputs write it: without leading zeros, below 2^64.
 pub fn number_of(digits: &[u8]) -> Option<u64>
-    ensures { MatchOption result ((n : ℕ) → n < 2 ^ 64 → digits.now ≡ decimal n → ⊥)
-        (λ n. digits.now ≡ decimal n) }
+    ensures { MatchOption result ((n : ℕ) → n < 2 ^ 64 → digits.now ≡ decimal n → ⊥) (λ n. digits.now ≡ decimal n) }
 {
     match read_number(digits) {
         Some(value) => Some(value),
@@ -144,8 +141,7 @@ fn place_of(told: &[u8]) -> Option<(u32, u64)>
 
 /// What follows the key. It refuses a line of an index, which names several files.
 fn tally_of(job: &Job, told: &[u8]) -> Option<Tally>
-    ensures { MatchOption result ((t : Tally) → IsTold job.now t told.now → ⊥)
-        (λ t. IsTold job.now t told.now) }
+    ensures { MatchOption result ((t : Tally) → IsTold job.now t told.now → ⊥) (λ t. IsTold job.now t told.now) }
 {
     if job.counts() {
         match number_of(told) {
@@ -164,8 +160,7 @@ fn tally_of(job: &Job, told: &[u8]) -> Option<Tally>
 
 /// The first line of a text, and the rest.
 pub(crate) fn first_line<'a>(job: &Job, text: &'a [u8]) -> Option<(Line<'a>, &'a [u8])>
-    ensures read { IfSome result
-        (λ r. groups_in job.now text.entry.now ≡ group_of r.0 ∷ groups_in job.now r.1.now) }
+    ensures read { IfSome result (λ r. groups_in job.now text.entry.now ≡ group_of r.0 ∷ groups_in job.now r.1.now) }
     ensures kind { IfSome result (λ r. IsFor job.now r.0.tally) }
     ensures front { IfSome result (λ r. HasFront r.0) }
     ensures line { IfSome result (λ r. IsLineOf job.now (group_of r.0)) }
@@ -218,8 +213,7 @@ pub(crate) fn combined<'a>(
     second: Line<'a>,
 ) -> Result<Option<Line<'a>>, MergeFault>
     ensures ok { IfOk result (Combines first.entry second.entry) }
-    ensures err { IfErr result
-        (λ e. (e ≡ MergeFault.TotalTooLarge) × Overflows (Some first.entry) second.entry) }
+    ensures err { IfErr result (λ e. (e ≡ MergeFault.TotalTooLarge) × Overflows (Some first.entry) second.entry) }
 {
     let (Tally::Total(a), Tally::Total(b)) = (first.tally, second.tally) else {
         return Ok(None);

@@ -373,8 +373,7 @@ pub fn merge_parts(
     outputs: &[ShardText<'_>],
 ) -> Result<Vec<u8>, MergeFault>
     ensures stands { IfOk result (λ _. AllByRecursion (λ o. IsRest job.now None o.text.now) outputs.now) }
-    ensures merged { IfOk result
-        (λ out. out.items ≡ texts job.now (merged_parts (parts_in job.now outputs.now))) }
+    ensures merged { IfOk result (λ out. out.items ≡ texts job.now (merged_parts (parts_in job.now outputs.now))) }
     ensures whole { IfOk result (λ out. IsOutputOfAll job.now outputs.now out.items) }
     ensures err { IfErr result (Blames job.now outputs.now) }
 {

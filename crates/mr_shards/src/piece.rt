@@ -212,8 +212,7 @@ pub(crate) fn merge_pieces(
     requires shards { length held.now ≡ length windows.now }
     requires count { length cuts.now ≡ length windows.now }
     requires within { AreWithin cuts.now windows.now }
-    ensures ok { OnOk result
-        (ArePut job.now (pieces_of held.now windows.now cuts.now) out.old.items out.new.items) }
+    ensures ok { OnOk result (ArePut job.now (pieces_of held.now windows.now cuts.now) out.old.items out.new.items) }
     ensures err { IfErr result (AreBlamed job.now held.now (pieces_of held.now windows.now cuts.now)) }
     ensures kept { OnErr result (out.new.items ≡ out.old.items) }
 {

@@ -30,8 +30,7 @@ fn behind<'a>(line: &'a [u8], word: &[u8]) -> Option<&'a [u8]>
 
 /// What follows the word in its first line; empty if no line has the word.
 fn first_told<'a>(text: &'a [u8], word: &[u8]) -> &'a [u8]
-    ensures { (t : List ℕ) (ts : List (List ℕ))
-        → told_under word.now (lines text.entry.now) ≡ t ∷ ts → result.now ≡ t }
+    ensures { (t : List ℕ) (ts : List (List ℕ)) → told_under word.now (lines text.entry.now) ≡ t ∷ ts → result.now ≡ t }
 {
     let mut rest = text;
     while let Some((line, more)) = cut(rest, b'\n') {
@@ -102,8 +101,7 @@ fn add_note(
     line: &[u8],
     word: &[u8],
 ) -> Result<(), AllocError>
-    ensures { OnOk result
-        (Adds note_told NoteFits (told_of word.now line.now) notes.old.items notes.new.items) }
+    ensures { OnOk result (Adds note_told NoteFits (told_of word.now line.now) notes.old.items notes.new.items) }
 {
     let Some(told) = behind(line, word) else {
         return Ok(());
@@ -138,8 +136,7 @@ fn add_name(names: &mut Vec<RecordName>, line: &[u8]) -> Result<(), AllocError>
 }
 
 fn names_under(alloc: Global, text: &[u8]) -> Result<Vec<RecordName>, AllocError>
-    ensures { IfOk result
-        (λ v. Finds name_told NameFits (told_under (codes "without") (lines text.now)) v.items) }
+    ensures { IfOk result (λ v. Finds name_told NameFits (told_under (codes "without") (lines text.now)) v.items) }
 {
     let mut names = Vec::new(alloc);
     let mut rest = text;
