@@ -41,8 +41,7 @@ fn step_at_hand<'a>(
 ) -> Result<(), No>
     requires room { HasRoom judging.old }
     requires found { IsFound facts.now.triples row.now }
-    requires left { Leaves judging.old facts.now.outputs outputs.old.rest.now
-        (contents outputs.old.later.now) }
+    requires left { Leaves judging.old facts.now.outputs outputs.old.rest.now (contents outputs.old.later.now) }
     requires place { outputs.old.passed ≡ judging.old.from }
     ensures tested { let s = subject facts.now in MatchResult result
         (λ _. (tests s judging.old row.now.item ≡ []) × (judging.new ≡ after s judging.old row.now.item))
@@ -66,8 +65,7 @@ fn open_part<'a>(
     walker: &mut Walker<'_>,
 ) -> Result<bool, No>
     requires room { Room judging.old (length (items_left walker.old)) (2 ^ 64 - 2) }
-    requires left { Leaves judging.old facts.now.outputs outputs.old.rest.now
-        (contents outputs.old.later.now) }
+    requires left { Leaves judging.old facts.now.outputs outputs.old.rest.now (contents outputs.old.later.now) }
     requires place { outputs.old.passed ≡ judging.old.from }
     ensures opened { Opened (subject facts.now) judging.old judging.new
         (items_left walker.old) (items_left walker.new) result }
@@ -98,8 +96,7 @@ fn judge_own<'a>(
 ) -> Result<bool, No>
     requires room { Room judging.old (length rows.now) (2 ^ 64 - 2) }
     requires found { AllByRecursion (IsFound facts.now.triples) rows.now }
-    requires left { Leaves judging.old facts.now.outputs outputs.old.rest.now
-        (contents outputs.old.later.now) }
+    requires left { Leaves judging.old facts.now.outputs outputs.old.rest.now (contents outputs.old.later.now) }
     requires place { outputs.old.passed ≡ judging.old.from }
     ensures judged { (js : List Read)
         → OwnJudged (subject facts.now) judging.old judging.new (items_in rows.now) js result }
@@ -166,11 +163,9 @@ fn judge_stretch<'a>(
     count: u64,
 ) -> Result<bool, No>
     requires room { Room judging.old (length (items_left walker.old)) (2 ^ 63 + 2 ^ 32) }
-    requires left { Leaves judging.old facts.now.outputs outputs.old.rest.now
-        (contents outputs.old.later.now) }
+    requires left { Leaves judging.old facts.now.outputs outputs.old.rest.now (contents outputs.old.later.now) }
     requires place { outputs.old.passed ≡ judging.old.from }
-    ensures { StretchJudged (subject facts.now) judging.old judging.new
-        (piece (items_left walker.old)) count result }
+    ensures { StretchJudged (subject facts.now) judging.old judging.new (piece (items_left walker.old)) count result }
 {
     let basis = facts.basis();
     let mut left = count;
@@ -202,8 +197,7 @@ fn judge_on<'a>(
     count: u64,
 ) -> Result<Option<Border<'a>>, No>
     requires room { Room judging.old (length (items_left walker.old)) (2 ^ 63 + 2 ^ 32) }
-    requires left { Leaves judging.old facts.now.outputs outputs.old.rest.now
-        (contents outputs.old.later.now) }
+    requires left { Leaves judging.old facts.now.outputs outputs.old.rest.now (contents outputs.old.later.now) }
     requires place { outputs.old.passed ≡ judging.old.from }
     requires begins { GroupBegins (drop count (piece (items_left walker.old))) }
     ensures { SectionJudged (subject facts.now) judging.old (piece (items_left walker.old)) count result }
@@ -291,8 +285,7 @@ pub(crate) fn fault_in(
     front: &Front<'_>,
 ) -> Result<Option<No>, AllocError>
     requires { p < 2 ^ 32 }
-    ensures { IfOk result
-        (λ o. o ≡ part_fault (subject facts.now) p (part_here (items_left front.now.walker))) }
+    ensures { IfOk result (λ o. o ≡ part_fault (subject facts.now) p (part_here (items_left front.now.walker))) }
 {
     let whole = Section {
         part: p,

@@ -130,8 +130,7 @@ fn open_section<'a>(
     reach: &mut Reach,
 ) -> Result<(), AllocError>
     requires few { length (items_left walker) ≤ 2 ^ 63 }
-    requires opened { (1 ≤ length list.now)
-        × (part_at list.now (length list.now - 1) ≡ part_here (items_left walker)) }
+    requires opened { (1 ≤ length list.now) × (part_at list.now (length list.now - 1) ≡ part_here (items_left walker)) }
     ensures sections { OnOk result (All (IsSection list.now) sections.old.items
         → All (IsSection list.now) sections.new.items) }
     ensures walked { OnOk result ((n : _) (js : List Read)

@@ -160,11 +160,8 @@ fn map_whole<R: Threads + Sync, G: Gate, W: Progress>(
     draw_all(
         crew.rt,
         crew.alloc,
-        shares.whole,
-        crew.options.threads,
         &mapping,
-        crew.options.gate,
-        0,
+        &crew.drawing(shares.whole, 0),
     )
 }
 
@@ -191,15 +188,8 @@ fn map_divided<R: Threads + Sync, G: Gate, W: Progress>(
         all,
         watch: crew.options.progress,
     };
-    let mapped = draw_all(
-        crew.rt,
-        crew.alloc,
-        pieces,
-        crew.options.threads,
-        &dividing,
-        crew.options.gate,
-        first_piece,
-    )?;
+    let drawing = crew.drawing(pieces, first_piece);
+    let mapped = draw_all(crew.rt, crew.alloc, &dividing, &drawing)?;
     divided.join(mapped)
 }
 
@@ -208,8 +198,7 @@ pub(crate) fn index_of<R: Threads + Sync, G: Gate, W: Progress>(
     crew: &Crew<'_, R, G, W>,
     source: &Source<'_, '_>,
 ) -> Result<Mapped, AllocError>
-    ensures all { IfOk result
-        (λ m. m.index ≡ triples_of source.now.job.now source.now.plan.now source.now.skips.now) }
+    ensures all { IfOk result (λ m. m.index ≡ triples_of source.now.job.now source.now.plan.now source.now.skips.now) }
     ensures few { IfOk result (λ m. m.pieces < 2 ^ 21) }
 {
     // A plan's splits have at least one byte.

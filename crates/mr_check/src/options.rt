@@ -1,8 +1,9 @@
 //! How a result is judged by threads.
-ghost use Rattle.std.specs.Prelude.{◌≡◌, ◌≤◌};
+ghost use Rattle.std.specs.Prelude.{◌≡◌, ◌≤◌, ◌<◌, ◌+◌, ◌^◌};
 
 use crate::sections::MappedInput;
 use mr_bytes::{Gate, Progress};
+use mr_tickets::Drawing;
 use std::alloc::Global;
 use std::thread::Threads;
 
@@ -47,4 +48,19 @@ pub(crate) struct Crew<'a, R: Threads + Sync, G: Gate, W: Progress> {
     pub rt: &'a R,
     pub alloc: Global,
     pub options: &'a JudgeOptions<'a, G, W>,
+}
+
+impl<'a, R: Threads + Sync, G: Gate, W: Progress> Crew<'a, R, G, W> {
+    /// How the threads draw `count` pieces, which the gate numbers from `first`.
+    pub fn drawing(&self, count: u32, first: u32) -> Drawing<'a, G>
+        requires { first + count < 2 ^ 32 }
+        ensures { result.count ≡ count }
+    {
+        Drawing {
+            count,
+            threads: self.options.threads,
+            first,
+            gate: self.options.gate,
+        }
+    }
 }

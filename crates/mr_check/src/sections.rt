@@ -195,15 +195,8 @@ pub(crate) fn least_of<'x, 'f, R: Threads + Sync, G: Gate, W: Progress>(
         guesses: &guesses,
         watch,
     };
-    let judged = draw_all(
-        crew.rt,
-        crew.alloc,
-        sections.len() as u32,
-        crew.options.threads,
-        &judging,
-        crew.options.gate,
-        first_piece,
-    )?;
+    let drawing = crew.drawing(sections.len() as u32, first_piece);
+    let judged = draw_all(crew.rt, crew.alloc, &judging, &drawing)?;
     first_fault(crew.alloc, facts, fronts, sections, &judged, watch)
 }
 

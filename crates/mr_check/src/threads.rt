@@ -59,13 +59,11 @@ fn check_parts<R: Threads + Sync, G: Gate, W: Progress>(
 ) -> Result<u64, No>
     requires job { source.now.job.now ≡ case.now.request.now.job }
     requires plan { source.now.plan.now ≡ cut_for case.now }
-    requires index { mapped.now.index
-        ≡ triples_of source.now.job.now source.now.plan.now source.now.skips.now }
+    requires index { mapped.now.index ≡ triples_of source.now.job.now source.now.plan.now source.now.skips.now }
     requires pieces { mapped.now.pieces < 2 ^ 21 }
     requires few { length (items_left walker.now) < 2 ^ 63 }
     requires order { InOrder (partitions case.now.request.now.parts) (items_left walker.now) }
-    ensures { PartsJudged (subject_before case.now source.now.skips.now walker.now)
-        walker.now result }
+    ensures { PartsJudged (subject_before case.now source.now.skips.now walker.now) walker.now result }
 {
     // A request has few parts.
     let _parts = case.request.parts();

@@ -28,6 +28,21 @@ pub trait WorkPieces: Sync {
         ensures { IfOk result (gives self.now number) };
 }
 
+/// How threads draw the pieces of some work.
+#[derive(Drop)]
+pub struct Drawing<'g, G: Gate> {
+    /// The number of pieces.
+    pub count: u32,
+    /// The number of threads.
+    pub threads: u32,
+    /// The gate's number for the first piece.
+    pub first: u32,
+    /// Each thread calls it before and after each piece.
+    pub gate: &'g G,
+    pub ghost some: { 0 < threads },
+    pub ghost room: { first + count < 2 ^ 32 },
+}
+
 #[derive(Drop)]
 pub(crate) struct Found<X> {
     pub piece: u32,
@@ -48,43 +63,27 @@ pub(crate) struct Done<X> {
     pub found: Vec<Found<X>>,
 }
 
-/// Does one piece between the gate's two calls.
-fn gated<W: WorkPieces, G: Gate>(
-    alloc: Global,
-    all: &W,
-    gate: &G,
-    worker: u32,
-    told: u32,
-    piece: u32,
-) -> Result<W::Out, AllocError>
-    requires { W.has all.now piece }
-    ensures { IfOk result (W.gives all.now piece) }
-{
-    gate.enter(worker, told);
-    let out = all.do_piece(alloc, piece);
-    gate.leave(worker, told);
-    out
-}
-
-/// Draws pieces until none is left, and does them.
+/// Draws pieces until none is left, and does each between the gate's two calls.
 fn work<W: WorkPieces, G: Gate>(
     alloc: Global,
     tickets: &Tickets,
     job: Job,
     all: &W,
-    gate: &G,
-    first_piece: u32,
+    drawing: &Drawing<'_, G>,
 ) -> Result<Done<W::Out>, AllocError>
     requires fresh { IsFresh tickets.now job }
-    requires room { first_piece + tickets.now.limit < 2 ^ 32 }
+    requires limit { tickets.now.limit ≡ drawing.now.count }
     requires all { (p : ℕ) → p < tickets.now.limit → W.has all.now p }
     ensures { IfOk result (IsDone (W.gives all.now) tickets.now) }
 {
     let Job { worker, mut seat } = job;
     let mut found = Vec::new(alloc);
     while let Some(piece) = tickets.draw(&mut seat) {
-        let out = gated(alloc, all, gate, worker, first_piece + piece, piece)?;
-        found.push(Found { piece, out })?;
+        let number = drawing.first + piece;
+        drawing.gate.enter(worker, number);
+        let out = all.do_piece(alloc, piece);
+        drawing.gate.leave(worker, number);
+        found.push(Found { piece, out: out? })?;
     }
     Ok(Done { seat, found })
 }
@@ -193,8 +192,7 @@ fn take_all<W: WorkPieces>(
     requires len { vec_len slots ≡ count }
     requires slots { AllSlots (W.gives all.now) [] count slots.items }
     ensures len { IfOk result (λ v. vec_len v ≡ count) }
-    ensures each { IfOk result
-        (λ v. (p : ℕ) (d : _) → p < count → W.gives all.now p (slice_index_or v.items p d)) }
+    ensures each { IfOk result (λ v. (p : ℕ) (d : _) → p < count → W.gives all.now p (slice_index_or v.items p d)) }
 {
     let mut outs = Vec::new(alloc);
     while let Some(slot) = slots.pop() {
@@ -213,38 +211,32 @@ fn in_order<W: WorkPieces>(
     requires once { (h : ℕ → ℕ) → weigh h (numbers_of found.items) ≡ below h count }
     requires given { AllGiven (W.gives all.now) found.items }
     ensures len { IfOk result (λ v. vec_len v ≡ count) }
-    ensures each { IfOk result
-        (λ v. (p : ℕ) (d : _) → p < count → W.gives all.now p (slice_index_or v.items p d)) }
+    ensures each { IfOk result (λ v. (p : ℕ) (d : _) → p < count → W.gives all.now p (slice_index_or v.items p d)) }
 {
     let mut slots = empty_slots(alloc, count)?;
     fill(all, count, slots.as_mut_slice(), found);
     take_all(alloc, all, count, slots)
 }
 
-/// Does all pieces on `threads` threads, and returns the results in the order of the pieces, as one
-/// thread would. Each thread draws a piece, does it, and draws again until none is left. Where a
-/// thread can't be started, the calling thread does its share. Fails only for want of memory, even
-/// in only one thread.
+/// Does all pieces on `drawing.threads` threads, and returns the results in the order of the pieces,
+/// as one thread would. Each thread draws a piece, does it, and draws again until none is left.
+/// Where a thread can't be started, the calling thread does its share. Fails only for want of
+/// memory, even in only one thread.
 ///
 /// A thread calls the gate before and after each piece, with its own number, from 0, and the
-/// piece's, counted from `first_piece`.
+/// piece's, counted from `drawing.first`.
 pub fn draw_all<W: WorkPieces, G: Gate, R: Threads + Sync>(
     rt: &R,
     alloc: Global,
-    count: u32,
-    threads: u32,
     all: &W,
-    gate: &G,
-    first_piece: u32,
+    drawing: &Drawing<'_, G>,
 ) -> Result<Vec<W::Out>, AllocError>
-    requires threads { 0 < threads }
-    requires room { first_piece + count < 2 ^ 32 }
-    requires all { (p : ℕ) → p < count → W.has all.now p }
-    ensures len { IfOk result (λ v. vec_len v ≡ count) }
-    ensures each { IfOk result
-        (λ v. (p : ℕ) (d : _) → p < count → W.gives all.now p (slice_index_or v.items p d)) }
+    requires { (p : ℕ) → p < drawing.now.count → W.has all.now p }
+    ensures len { IfOk result (λ v. vec_len v ≡ drawing.now.count) }
+    ensures each { IfOk result (λ v. (p : ℕ) (d : _) → p < drawing.now.count
+        → W.gives all.now p (slice_index_or v.items p d)) }
 {
-    let (tickets, seats) = Tickets::open(alloc, count, threads)?;
+    let (tickets, seats) = Tickets::open(alloc, drawing.count, drawing.threads)?;
     let shared = &tickets;
     let jobs = jobs_of(alloc, shared, seats)?;
     let dones = thread::map_vec(
@@ -252,11 +244,11 @@ pub fn draw_all<W: WorkPieces, G: Gate, R: Threads + Sync>(
         jobs,
         &|job: Job| -> Result<Done<W::Out>, AllocError>
             requires { IsFresh shared.now job
-                × (first_piece + shared.now.limit < 2 ^ 32)
+                × (shared.now.limit ≡ drawing.now.count)
                 × ((p : ℕ) → p < shared.now.limit → W.has all.now p) }
             ensures { IfOk result (IsDone (W.gives all.entry.now) shared.entry.now) }
-        { work(alloc, shared, job, all, gate, first_piece) },
+        { work(alloc, shared, job, all, drawing) },
     )?;
     let found = gather(alloc, all, tickets, dones)?;
-    in_order(alloc, all, count, found)
+    in_order(alloc, all, drawing.count, found)
 }

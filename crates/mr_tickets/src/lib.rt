@@ -10,5 +10,5 @@
 mod drawing;
 mod tickets;
 
-pub use drawing::{WorkPieces, draw_all};
+pub use drawing::{Drawing, WorkPieces, draw_all};
 pub use tickets::{TicketSeat, Tickets};
