@@ -9,7 +9,7 @@ use crate::program::{answer, finish};
 use crate::progress::{ProgressLine, notes};
 use mr_args::{Fault, Subcommand};
 use mr_bytes::Progress;
-use mr_commands::CommandOutput;
+use mr_commands::{CommandOutput, Machine};
 use mr_files::{Inspect, Store};
 use mr_input::InputFault;
 use mr_jobs::{JobFault, RequestFault};
@@ -21,6 +21,14 @@ use std::io::Write;
 use std::sync::Wait;
 use std::thread::Threads;
 use std::time::Clock;
+
+/// Standard output, standard error at a terminal, and its line of progress.
+#[derive(Drop)]
+pub struct Terminal<'a, C: Clock, O: Write, E: Write> {
+    pub out: &'a mut O,
+    pub err: &'a mut E,
+    pub progress: &'a ProgressLine<C>,
+}
 
 /// Parses the words once more; none if they can't be parsed.
 fn asked_by<'a>(alloc: Global, words: &'a [String]) -> Option<Subcommand<'a>> {
@@ -60,7 +68,7 @@ fn hint_of<F: Store + Inspect>(
 }
 
 /// If the answer may contain a word of the command line: whether it has several lines.
-fn tells_words(answered: &Result<CommandOutput, Failure>) -> Option<bool> {
+fn may_show_words(answered: &Result<CommandOutput, Failure>) -> Option<bool> {
     match answered {
         Err(Failure::Line(_)) => Some(true),
         Err(Failure::Command(Fault::CannotRead(_) | Fault::CannotWrite(_) | Fault::SameFile(_))) =>
@@ -76,26 +84,26 @@ fn finish_shown<O: Write, E: Write>(
     out: &mut O,
     err: &mut E,
 ) -> u8 {
-    let Some(lines) = tells_words(&answered) else {
+    let Some(lines) = may_show_words(&answered) else {
         return finish(answered, out, err);
     };
-    let mut told = Vec::new(alloc);
-    let status = finish(answered, out, &mut told);
-    if let Some((_, text)) = told.split_last() {
+    let mut text = Vec::new(alloc);
+    let status = finish(answered, out, &mut text);
+    if let Some((_, text)) = text.split_last() {
         show(alloc, err, text, lines);
     }
     status
 }
 
 /// Prints an answer and its hint.
-fn tell<F: Store + Inspect, O: Write, E: Write>(
+fn print_answer<F: Store + Inspect, C: Clock, O: Write, E: Write>(
     files: &F,
     alloc: Global,
     asked: &Option<Subcommand<'_>>,
     answered: Result<CommandOutput, Failure>,
-    out: &mut O,
-    err: &mut E,
+    terminal: Terminal<'_, C, O, E>,
 ) -> u8 {
+    let Terminal { out, err, .. } = terminal;
     let hint = hint_of(files, alloc, asked, &answered);
     let status = finish_shown(alloc, answered, out, err);
     if let Ok(hint) = hint
@@ -117,27 +125,24 @@ pub fn run_at_terminal<
     O: Write,
     E: Write,
 >(
-    rt: &R,
-    scratch: &D,
+    machine: &Machine<'_, D, R>,
     files: &mut F,
-    alloc: Global,
     words: Result<Vec<String>, Failure>,
-    out: &mut O,
-    err: &mut E,
+    terminal: Terminal<'_, C, O, E>,
     watch: &dyn Progress,
-    progress: &ProgressLine<C>,
 ) -> u8 {
+    let alloc = machine.alloc;
     let words = match words {
         Ok(words) => words,
-        Err(failure) => return tell(files, alloc, &None, Err(failure), out, err),
+        Err(failure) => return print_answer(files, alloc, &None, Err(failure), terminal),
     };
     let asked = asked_by(alloc, words.as_slice());
     if let Some(asked) = &asked {
-        show_notes(files, alloc, asked, err);
+        show_notes(files, alloc, asked, terminal.err);
     }
-    let answered = answer(rt, scratch, files, alloc, words.as_slice(), watch);
-    progress.wipe();
-    tell(files, alloc, &asked, answered, out, err)
+    let answered = answer(machine, files, words.as_slice(), watch);
+    terminal.progress.wipe();
+    print_answer(files, alloc, &asked, answered, terminal)
 }
 
 pub const NOT_UTF8: &str =

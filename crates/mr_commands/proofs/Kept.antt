@@ -4,9 +4,7 @@ use Rattle.std.proofs.lemmas.List.{length-map}
 use Rattle.std.specs.Prelude.{IfSome, length, string_bytes}
 use Rattle.mr_input.specs.Files.{contents}
 use Rattle.mr_jobs.specs.JobSpec.{RequestSpec}
-use Rattle.mr_certform.specs.declared.version.Version.{Version}
 use Rattle.mr_script.specs.declared.script.Directive.{Directive}
-use Rattle.mr_core.specs.declared.event.Shape.{Shape}
 use Rattle.mr_files.specs.Refusals.{IsOneUnwritten, IsUnwritten, IsUnwrittenAt, IsWriteRefusal}
 use Rattle.mr_files.specs.Holding.{Begins, ChangesAmong, Differs, Faulty, Holding, Stored}
 use Rattle.mr_files.specs.Identities.{AreApart, Known}
@@ -52,16 +50,6 @@ module _ (holds : Stored) (unreadable : Faulty) (alike : List ℕ → List ℕ �
     scripted = s;
     ends = subst (λ (v : RequestSpec). EndsOver (scratch_name o) v files script (run_shape v files o.workers o.attempts) o.version ran) r h;
   }
-
--- the same ending, where each part of what was run is given by an equation
-pub ends_as : (dir : Option (List ℕ)) {r1 r2 : RequestSpec} {f1 f2 : List (List ℕ)} {s1 s2 : List Directive} {h1 h2 : Shape} {v1 v2 : Version} (ran : RunOutcome)
-    → r1 ≡ r2 → f1 ≡ f2 → s1 ≡ s2 → h1 ≡ h2 → v1 ≡ v2 → EndsOver dir r1 f1 s1 h1 v1 ran → EndsOver dir r2 f2 s2 h2 v2 ran
-ends_as dir {r1} {r2} {f1} {f2} {s1} {s2} {h1} {h2} {v1} {v2} ran r f s h v ends =
-    subst (λ (x : RequestSpec). EndsOver dir x f2 s2 h2 v2 ran) r
-    (subst (λ (x : List (List ℕ)). EndsOver dir r1 x s2 h2 v2 ran) f
-    (subst (λ (x : List Directive). EndsOver dir r1 f1 x h2 v2 ran) s
-    (subst (λ (x : Shape). EndsOver dir r1 f1 s1 x v2 ran) h
-    (subst (λ (x : Version). EndsOver dir r1 f1 s1 h1 x ran) v ends))))
 
 -- a file that can't be written, of one name or of several
 pub one_unwritten : (unwritable : List ℕ → Type 0) (name : List ℕ) (e : FileFault) → IsUnwritten unwritable name e → IsOneUnwritten unwritable (name ∷ []) e

@@ -17,10 +17,10 @@ ghost use Rattle.mr_files.specs.Names.{result_names};
 ghost use Rattle.mr_commands.specs.Inputs.{IsInput, IsInputRefusal};
 ghost use Rattle.mr_commands.specs.Named.{input_names};
 
-use crate::input::input_of;
+use crate::input::{FileNames, input_of};
 use crate::judging::check;
 use crate::merging::merge;
-use crate::running::run as run_by_workers;
+use crate::running::{Machine, run as run_by_workers};
 use crate::texts::{CommandOutput, done_line};
 use mr_args::{Fault, Options, SeqOptions, Subcommand, request_of, skips_of};
 use mr_bytes::{Progress, RecordName};
@@ -44,7 +44,7 @@ struct Work {
 }
 
 /// Runs the request. It makes the line before a file is written, so nothing fails after the last.
-fn worked(
+fn run_request(
     alloc: Global,
     request: &Request,
     input: Input,
@@ -90,12 +90,12 @@ fn input_apart<S: Store>(
     let besides = Vec::new(alloc);
     let written = names_of_result(alloc, options.out, options.parts as usize)?;
     let names = options.files.as_slice();
-    input_of(store, alloc, request, names, besides, written.as_slice())
+    input_of(store, alloc, request, names, FileNames { besides, written })
 }
 
 /// Tests the request, the skip list, the files, that none is written, their fit; then works. It
 /// writes nothing.
-fn worked_out<S: Store>(
+fn test_and_work<S: Store>(
     store: &S,
     alloc: Global,
     asked: &SeqOptions<'_>,
@@ -111,7 +111,7 @@ fn worked_out<S: Store>(
     let request = request_of(alloc, &asked.options)?;
     let skips = skips_of(alloc, asked.skips)?;
     let input = input_apart(store, alloc, &request, &asked.options)?;
-    worked(alloc, &request, input, skips.as_slice(), watch)
+    run_request(alloc, &request, input, skips.as_slice(), watch)
 }
 
 fn spelled_in(certificate: &Certificate, version: Version) -> VersionedCertificate<'_>
@@ -140,7 +140,7 @@ pub fn seq<S: Store>(
         (S.unreadable store.old) (S.unwritable store.old)
         (S.known_as store.old) asked.now e) }
 {
-    let work = worked_out(store, alloc, asked, watch)?;
+    let work = test_and_work(store, alloc, asked, watch)?;
     let spelled = spelled_in(&work.certificate, asked.version);
     text_law(&spelled);
     write_files(
@@ -158,10 +158,8 @@ pub fn seq<S: Store>(
 
 /// Executes one command. `watch` gets the progress of long work.
 pub fn execute<S: Store, C: Scratch, R: Threads + Wait + Sync>(
-    rt: &R,
-    scratch: &C,
+    machine: &Machine<'_, C, R>,
     store: &mut S,
-    alloc: Global,
     asked: &Subcommand<'_>,
     watch: &dyn Progress,
 ) -> Result<CommandOutput, Fault>
@@ -172,10 +170,11 @@ pub fn execute<S: Store, C: Scratch, R: Threads + Wait + Sync>(
         (S.unreadable store.old) (S.unwritable store.old)
         (S.alike store.old) (S.known_as store.old) asked.now e) }
 {
+    let (rt, alloc) = (machine.rt, machine.alloc);
     match asked {
         Subcommand::Check(asked) => check(rt, store, alloc, asked, watch),
         Subcommand::Seq(asked) => seq(store, alloc, asked, watch),
-        Subcommand::Run(asked) => run_by_workers(rt, scratch, store, alloc, asked, watch),
+        Subcommand::Run(asked) => run_by_workers(machine, store, asked, watch),
         Subcommand::Merge(asked) => merge(rt, store, alloc, asked),
     }
 }

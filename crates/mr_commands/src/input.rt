@@ -2,7 +2,7 @@
 ghost use Rattle.std.specs.Prelude.{◌≡◌, ◌++◌, ◌<◌, ◌≤◌, map, IfOk, IfErr, OnOk, option_map};
 ghost use Rattle.std.specs.Prelude.{string_bytes};
 ghost use Rattle.mr_files.specs.Identities.{AreApart};
-ghost use Rattle.mr_commands.specs.Inputs.{AreRead, IsClash, IsInput, IsInputRefusal};
+ghost use Rattle.mr_commands.specs.Inputs.{AreRead, IsInput, IsInputRefusal};
 ghost use Rattle.mr_commands.specs.Inputs.{IsUnreadInput};
 ghost use Rattle.mr_commands.specs.Named.{named};
 
@@ -12,9 +12,16 @@ use mr_input::{Input, InputFault, MAX_BYTES};
 use mr_jobs::Request;
 use std::alloc::{AllocError, Global};
 
+/// The names that a command reads besides its input, and those that it writes.
+#[derive(Drop)]
+pub struct FileNames {
+    pub besides: Vec<String>,
+    pub written: Vec<String>,
+}
+
 /// Reads the files in order, within the limits of an input. It reads at most one byte past the
 /// limit of bytes, which it reports before a later file; then it tests the number of files.
-fn input_read<S: Store>(store: &S, alloc: Global, names: &[&str]) -> Result<Input, Fault>
+fn read_input<S: Store>(store: &S, alloc: Global, names: &[&str]) -> Result<Input, Fault>
     ensures read { IfOk result (λ input. AreRead (S.holds store.now) (map (λ s. s.now) names.now) input) }
     ensures refused { IfErr result (λ e. IsUnreadInput (S.holds store.now)
         (S.unreadable store.now) (map (λ s. s.now) names.now) e) }
@@ -40,28 +47,6 @@ pub fn name_given(alloc: Global, name: Option<&str>) -> Result<Vec<String>, Allo
     Ok(names)
 }
 
-/// Refuses a written file that the command also reads, or writes before.
-fn expect_apart<S: Store>(
-    store: &S,
-    alloc: Global,
-    names: &[&str],
-    besides: Vec<String>,
-    written: &[String],
-) -> Result<(), Fault>
-    ensures apart { OnOk result (AreApart (S.known_as store.now) (map string_bytes besides.items
-        ++ map (λ s. s.now) names.now) (map string_bytes written.now)) }
-    ensures refused { IfErr result
-        (λ e. IsClash (S.known_as store.now) (map string_bytes besides.items ++ map
-        (λ s. s.now) names.now) (map string_bytes written.now) e) }
-{
-    let mut read = besides;
-    add_names(alloc, &mut read, names)?;
-    match first_shared(store, alloc, read.as_slice(), written)? {
-        Some(name) => Err(Fault::SameFile(name)),
-        None => Ok(()),
-    }
-}
-
 /// Reads the files of a request and tests their limits; then that no written file is one of them,
 /// is read besides, or is written twice; then that they fit the request.
 pub fn input_of<S: Store>(
@@ -69,20 +54,24 @@ pub fn input_of<S: Store>(
     alloc: Global,
     request: &Request,
     names: &[&str],
-    besides: Vec<String>,
-    written: &[String],
+    files: FileNames,
 ) -> Result<Input, Fault>
     ensures input { IfOk result (λ input. IsInput (S.holds store.now)
         (map (λ s. s.now) names.now) request.now.split input) }
-    ensures apart { OnOk result (AreApart (S.known_as store.now) (map string_bytes besides.items
-        ++ map (λ s. s.now) names.now) (map string_bytes written.now)) }
+    ensures apart { OnOk result (AreApart (S.known_as store.now)
+        (map string_bytes files.besides.items ++ map (λ s. s.now) names.now)
+        (map string_bytes files.written.items)) }
     ensures refused { IfErr result (λ e. IsInputRefusal (S.holds store.now)
         (S.unreadable store.now) (S.known_as store.now) (map (λ s. s.now) names.now)
-        (map string_bytes besides.items ++ map
-        (λ s. s.now) names.now) (map string_bytes written.now) request.now.split e) }
+        (map string_bytes files.besides.items ++ map (λ s. s.now) names.now)
+        (map string_bytes files.written.items) request.now.split e) }
 {
-    let input = input_read(store, alloc, names)?;
-    expect_apart(store, alloc, names, besides, written)?;
+    let input = read_input(store, alloc, names)?;
+    let mut read = files.besides;
+    add_names(alloc, &mut read, names)?;
+    if let Some(name) = first_shared(store, alloc, read.as_slice(), files.written.as_slice())? {
+        return Err(Fault::SameFile(name));
+    }
     if !request.fits(&input) {
         return Err(Fault::TooManySplits);
     }

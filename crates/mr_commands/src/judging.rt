@@ -18,7 +18,7 @@ ghost use Rattle.mr_files.specs.Refusals.{IsUnreadAmong, TellsOf};
 ghost use Rattle.mr_commands.specs.Streamed.{DidFail, GivesAnswer, TellsOther, TellsRead};
 
 use crate::check_job::{CheckJob, Judgement};
-use crate::input::{input_of, name_given};
+use crate::input::{FileNames, input_of, name_given};
 use crate::texts::CommandOutput;
 use mr_args::{CheckOptions, Fault, request_of};
 use mr_bytes::Progress;
@@ -123,7 +123,7 @@ fn input_apart<S: Store>(
     let besides = names_of_result(alloc, options.out, options.parts as usize)?;
     let written = name_given(alloc, asked.verdict)?;
     let names = options.files.as_slice();
-    input_of(store, alloc, request, names, besides, written.as_slice())
+    input_of(store, alloc, request, names, FileNames { besides, written })
 }
 
 /// Tests the request, the number of threads and the names for a verdict, then reads the input, then

@@ -12,5 +12,5 @@ mod texts;
 pub use crate::commands::{execute, seq};
 pub use crate::judging::check;
 pub use crate::merging::merge;
-pub use crate::running::{RunOutcome, run};
+pub use crate::running::{Machine, RunOutcome, run};
 pub use crate::texts::{CommandOutput, history_text, no_line};

@@ -17,7 +17,7 @@ ghost use Rattle.mr_commands.specs.HistoryLines.{history_text};
 ghost use Rattle.mr_commands.specs.Runs.{names_left, read_by_run, written_by_run};
 ghost use Rattle.mr_script.specs.Scripts.{SpellsScript};
 
-use crate::input::{input_of, name_given};
+use crate::input::{FileNames, input_of, name_given};
 use crate::texts::{CommandOutput, certified_line, failed_line, fault_text, history_text};
 use mr_args::{Fault, RunOptions, request_of};
 use mr_book::History;
@@ -29,7 +29,7 @@ use mr_files::{
 };
 use mr_input::Input;
 use mr_jobs::Request;
-use mr_pool::{Certified, RunFault, RunSpec, run_watched};
+use mr_pool::{Certified, Environment, RunFault, RunSpec, run_watched, shape_of};
 use mr_script::Script;
 use mr_spill::{MemoryStore, RegionStore, Scratch, ScratchFault};
 use mr_store::Bytes;
@@ -44,6 +44,14 @@ const MAX_ATTEMPTS: u32 = 16;
 
 // The clauses have these numbers.
 const _: () = prove!(MAX_WORKERS == 64 && MAX_ATTEMPTS == 16);
+
+/// What commands run on: threads, directories for regions, memory.
+#[derive(Drop)]
+pub struct Machine<'a, C: Scratch, R: Threads + Wait + Sync> {
+    pub rt: &'a R,
+    pub scratch: &'a C,
+    pub alloc: Global,
+}
 
 /// How a run ended.
 #[derive(Drop)]
@@ -91,7 +99,7 @@ fn script_of<S: Store>(store: &S, alloc: Global, name: Option<&str>) -> Result<S
     }
 }
 
-fn ended_over<S: RegionStore + Drop, R: Threads + Wait + Sync>(
+fn run_over<S: RegionStore + Drop, R: Threads + Wait + Sync>(
     rt: &R,
     alloc: Global,
     spec: RunSpec<'_>,
@@ -104,7 +112,8 @@ fn ended_over<S: RegionStore + Drop, R: Threads + Wait + Sync>(
         spec.entry.shape spec.entry.version ran) }
     ensures memory { IfErr result (λ e. e ≡ Fault.OutOfMemory) }
 {
-    match run_watched(rt, alloc, spec, &OpenGate, store, watch) {
+    let (gate, watch) = (&OpenGate, &watch);
+    match run_watched(rt, alloc, spec, Environment { gate, store, watch }) {
         Ok(certified) => Ok(RunOutcome::Certified(certified)),
         Err(RunFault::Failed(fault, history)) => Ok(RunOutcome::Failed(fault, history)),
         Err(RunFault::Uncertified(no, history)) => Ok(RunOutcome::Uncertified(no, history)),
@@ -141,7 +150,7 @@ fn input_apart<S: Store>(
     let besides = name_given(alloc, asked.script)?;
     let written = names_written(alloc, asked)?;
     let names = asked.options.files.as_slice();
-    input_of(store, alloc, request, names, besides, written.as_slice())
+    input_of(store, alloc, request, names, FileNames { besides, written })
 }
 
 /// Whether the last part of a name may be one of a region or of their lock.
@@ -205,11 +214,9 @@ fn expect_scratch_apart<S: Store>(
 }
 
 /// Runs a job, with regions in the directory's files, or in memory without one.
-fn ended<C: Scratch, R: Threads + Wait + Sync>(
-    rt: &R,
-    scratch: &C,
+fn run_job<C: Scratch, R: Threads + Wait + Sync>(
+    machine: &Machine<'_, C, R>,
     dir: Option<&str>,
-    alloc: Global,
     spec: RunSpec<'_>,
     watch: &dyn Progress,
 ) -> Result<RunOutcome, Fault>
@@ -219,16 +226,16 @@ fn ended<C: Scratch, R: Threads + Wait + Sync>(
         spec.entry.script.now spec.entry.shape spec.entry.version ran) }
     ensures refused { IfErr result (λ e. IsScratchRefusal (option_map (λ d. d.now) dir.entry) e) }
 {
-    let workers = spec.shape.workers;
+    let (rt, alloc, workers) = (machine.rt, machine.alloc, spec.shape.workers);
     match dir {
         None => {
             let Ok(store) = MemoryStore::new(rt, alloc, workers) else {
                 return Err(Fault::OutOfMemory);
             };
-            ended_over(rt, alloc, spec, store, watch)
+            run_over(rt, alloc, spec, store, watch)
         }
-        Some(dir) => match scratch.open(alloc, dir, workers) {
-            Ok(store) => ended_over(rt, alloc, spec, store, watch),
+        Some(dir) => match machine.scratch.open(alloc, dir, workers) {
+            Ok(store) => run_over(rt, alloc, spec, store, watch),
             Err(ScratchFault::InUse) => Err(Fault::ScratchInUse),
             Err(ScratchFault::OutOfMemory) => Err(Fault::OutOfMemory),
         },
@@ -238,11 +245,9 @@ fn ended<C: Scratch, R: Threads + Wait + Sync>(
 /// Tests, in this order: the request, the numbers, the script, the files, that none of these is
 /// written, their fit, that none is a region's, that no other run uses the directory. Then runs;
 /// writes nothing.
-fn executed<S: Store, C: Scratch, R: Threads + Wait + Sync>(
-    rt: &R,
-    scratch: &C,
+fn test_and_run<S: Store, C: Scratch, R: Threads + Wait + Sync>(
+    machine: &Machine<'_, C, R>,
     store: &S,
-    alloc: Global,
     asked: &RunOptions<'_>,
     watch: &dyn Progress,
 ) -> Result<RunOutcome, Fault>
@@ -250,17 +255,23 @@ fn executed<S: Store, C: Scratch, R: Threads + Wait + Sync>(
     ensures refused { IfErr result (λ e. IsStartRefusal (S.holds store.now)
         (S.unreadable store.now) (S.alike store.now) (S.known_as store.now) asked.now e) }
 {
+    let alloc = machine.alloc;
     let request = request_of(alloc, &asked.options)?;
     expect_crew(asked)?;
     let script = script_of(store, alloc, asked.script)?;
     let input = input_apart(store, alloc, &request, asked)?;
     expect_scratch_apart(store, alloc, asked)?;
-    let (workers, attempts) = (asked.workers, asked.attempts);
-    let spec = RunSpec::of(&request, &input, &script, workers, attempts, asked.version);
-    ended(rt, scratch, asked.scratch, alloc, spec, watch)
+    let spec = RunSpec {
+        request: &request,
+        input: &input,
+        script: &script,
+        shape: shape_of(&request, &input, asked.workers, asked.attempts),
+        version: asked.version,
+    };
+    run_job(machine, asked.scratch, spec, watch)
 }
 
-fn said_of(alloc: Global, ran: &RunOutcome) -> Result<CommandOutput, AllocError>
+fn output_of(alloc: Global, ran: &RunOutcome) -> Result<CommandOutput, AllocError>
     ensures { IfOk result (λ said. TellsRan ran.now (string_bytes said.text) said.status) }
 {
     match ran {
@@ -358,10 +369,8 @@ fn keep_result<S: Store, R: Threads>(
 /// Runs a job by workers, then writes the history, if it has a name, and the result, if it is
 /// certified. The history comes first, so that a result is whole whatever the history's name.
 pub fn run<S: Store, C: Scratch, R: Threads + Wait + Sync>(
-    rt: &R,
-    scratch: &C,
+    machine: &Machine<'_, C, R>,
     store: &mut S,
-    alloc: Global,
     asked: &RunOptions<'_>,
     watch: &dyn Progress,
 ) -> Result<CommandOutput, Fault>
@@ -372,8 +381,9 @@ pub fn run<S: Store, C: Scratch, R: Threads + Wait + Sync>(
         (λ e. IsRunUnanswered (S.holds store.old) (S.holds store.new) (S.unreadable store.old)
         (S.unwritable store.old) (S.alike store.old) (S.known_as store.old) asked.now e) }
 {
-    let ran = executed(rt, scratch, store, alloc, asked, watch)?;
-    let said = said_of(alloc, &ran)?;
+    let (rt, alloc) = (machine.rt, machine.alloc);
+    let ran = test_and_run(machine, store, asked, watch)?;
+    let said = output_of(alloc, &ran)?;
     keep_history(store, alloc, asked.history, history_of(&ran))?;
     keep_result(rt, store, alloc, asked.options.out, ran)?;
     Ok(said)

@@ -9,5 +9,5 @@ mod running;
 mod worker;
 mod workers;
 
-pub use run_spec::RunSpec;
-pub use running::{Certified, RunFault, run, run_watched};
+pub use run_spec::{RunSpec, shape_of};
+pub use running::{Certified, Environment, RunFault, run, run_watched};

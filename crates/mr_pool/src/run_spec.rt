@@ -1,4 +1,4 @@
-//! The specification of a run.
+//! The specification of a run, and the shape that its numbers give.
 ghost use Rattle.std.specs.Prelude.{◌≡◌, ◌≤◌, ◌^◌};
 ghost use Rattle.mr_input.specs.Files.{split_total};
 ghost use Rattle.mr_pool.specs.Outcomes.{IsRunnable, run_shape};
@@ -20,41 +20,22 @@ pub struct RunSpec<'a> {
     pub version: Version,
 }
 
-impl<'a> RunSpec<'a> {
-    /// A run with 1 to 64 workers and 1 to 16 attempts for each task. The input's splits must fit
-    /// (`Request::fits`).
-    pub fn of(
-        request: &'a Request,
-        input: &'a Input,
-        script: &'a Script,
-        workers: u32,
-        attempts: u32,
-        version: Version,
-    ) -> RunSpec<'a>
-        requires fits { split_total request.now.split input.now ≤ 2 ^ 20 }
-        requires workers { (1 ≤ workers) × (workers ≤ 64) }
-        requires attempts { (1 ≤ attempts) × (attempts ≤ 16) }
-        ensures request { result.request.now ≡ request.entry.now }
-        ensures input { result.input.now ≡ input.entry.now }
-        ensures script { result.script.now ≡ script.entry.now }
-        ensures shape { result.shape ≡ run_shape request.entry.now input.entry.now workers attempts }
-        ensures version { result.version ≡ version }
-        ensures runnable { IsRunnable result.request.now result.input.now result.shape }
-    {
-        RunSpec {
-            request,
-            input,
-            script,
-            shape: Shape {
-                maps: input.splits(request.split_size()) as u32,
-                parts: request.parts(),
-                workers,
-                limits: Limits {
-                    attempts,
-                    skips: request.max_skips(),
-                },
-            },
-            version,
-        }
+/// The shape of a run with 1 to 64 workers and 1 to 16 attempts for each task. The input's splits
+/// must fit (`Request::fits`).
+pub fn shape_of(request: &Request, input: &Input, workers: u32, attempts: u32) -> Shape
+    requires fits { split_total request.now.split input.now ≤ 2 ^ 20 }
+    requires workers { (1 ≤ workers) × (workers ≤ 64) }
+    requires attempts { (1 ≤ attempts) × (attempts ≤ 16) }
+    ensures shape { result ≡ run_shape request.now input.now workers attempts }
+    ensures runnable { IsRunnable request.now input.now result }
+{
+    Shape {
+        maps: input.splits(request.split_size()) as u32,
+        parts: request.parts(),
+        workers,
+        limits: Limits {
+            attempts,
+            skips: request.max_skips(),
+        },
     }
 }

@@ -1,7 +1,7 @@
 //! A run: workers do the job, one thread assembles the result while others map the input for the
 //! judge, then the judge checks the result.
 ghost use Rattle.std.specs.Prelude.{◌≡◌, ◌↔◌, ◌⊎◌, Err, ◌≤◌, ◌<◌, ◌^◌, Some, Ok, IfOk, OnOk, IfErr};
-ghost use Rattle.std.specs.Prelude.{IsTrue, vec_len};
+ghost use Rattle.std.specs.Prelude.{Bool, IsTrue, vec_len};
 ghost use Rattle.mr_pool.specs.Endings.{ending_of};
 ghost use Rattle.mr_input.specs.Files.{contents, split_total};
 ghost use Rattle.mr_core.specs.declared.event.End.{End as Ended};
@@ -18,7 +18,7 @@ ghost use Rattle.mr_pool.specs.Outcomes.{IsCertifiedRun, IsDoneRun, IsInVersion,
 ghost use Rattle.mr_pool.specs.Outcomes.{IsRunnable, run_shape};
 
 use crate::fault_plan::{FaultPlan, accounts_for};
-use crate::run_spec::RunSpec;
+use crate::run_spec::{RunSpec, shape_of};
 use crate::workers::{JudgesProgress, RunProgress, Shared, TaskFlags, run_workers};
 use mr_book::{Book, History, Seat};
 use mr_bytes::{Gate, OpenGate, Phase, Progress, RecordName, Unwatched};
@@ -119,7 +119,6 @@ fn is_opened(shape: Shape, opened: Shape) -> bool
 /// Turns the judge's verdict on a finished job into the run's result.
 fn answer(
     spec: RunSpec<'_>,
-    steady: bool,
     outputs: Vec<Vec<u8>>,
     certificate: Vec<u8>,
     judged: Result<Yes, No>,
@@ -138,8 +137,8 @@ fn answer(
         ⊎ (verdict_of spec.request.now spec.input.now (contents outputs.items) certificate.items ≡ Err e)) }
     ensures certified { IfOk result
         (IsCertifiedRun spec.entry.request.now spec.entry.input.now history.shape spec.entry.version) }
-    ensures fault { IfErr result
-        (IsRunFault spec.entry.request.now spec.entry.input.now spec.entry.script.now steady history.shape) }
+    ensures fault { IfErr result (λ e. (steady : Bool) → IsRunFault spec.entry.request.now
+        spec.entry.input.now spec.entry.script.now steady history.shape e) }
 {
     match judged {
         Ok(yes) => Ok(Certified {
@@ -156,6 +155,14 @@ fn answer(
             Err(RunFault::Uncertified(no, history))
         }
     }
+}
+
+/// What the workers of a run meet: a gate around each attempt, the store of regions, an observer.
+#[derive(Drop)]
+pub struct Environment<'a, G: Gate, S: RegionStore + Drop, W: Progress> {
+    pub gate: &'a G,
+    pub store: S,
+    pub watch: &'a W,
 }
 
 /// Assembles and judges the result of a run, with as many threads as workers.
@@ -283,14 +290,7 @@ impl<'a, W: Progress, R: Threads + Sync> RunJudge<'a, W, R> {
         let (outputs, certificate, mapped) = self.assemble_and_map(&book)?;
         let judged = self.judge(&mapped, outputs.as_slice(), certificate.as_slice());
         let history = book.close(seats);
-        answer(
-            self.spec,
-            self.steady,
-            outputs,
-            certificate,
-            judged,
-            history,
-        )
+        answer(self.spec, outputs, certificate, judged, history)
     }
 
     /// The result of a run whose book has closed.
@@ -335,9 +335,7 @@ fn run_in<
     alloc: Global,
     blank: Blank,
     spec: RunSpec<'_>,
-    gate: &G,
-    store: S,
-    watch: &W,
+    around: Environment<'_, G, S, W>,
 ) -> Result<Certified, RunFault>
     requires ledger { (blank.name ≡ L.name) × (blank.parts ≡ L.parts) }
     requires parts { blank.parts ≡ spec.shape.workers }
@@ -354,6 +352,7 @@ fn run_in<
         workers,
         limits,
     } = spec.shape;
+    let Environment { gate, store, watch } = around;
     let plan = Plan::new_fitting(alloc, spec.input, spec.request.split_size())?;
     let (book, seats) = Book::<L>::open(
         alloc,
@@ -414,19 +413,24 @@ pub fn run<G: Gate, S: RegionStore + Drop, R: Threads + Wait + Sync>(
     ensures fault { IfErr result (IsRunFault request.now input.now script.now S.steady
         (run_shape request.now input.now workers attempts)) }
 {
-    let spec = RunSpec::of(request, input, script, workers, attempts, version);
-    run_watched(rt, alloc, spec, gate, store, &Unwatched)
+    let spec = RunSpec {
+        request,
+        input,
+        script,
+        shape: shape_of(request, input, workers, attempts),
+        version,
+    };
+    let watch = &Unwatched;
+    run_watched(rt, alloc, spec, Environment { gate, store, watch })
 }
 
 /// Runs a job like `run` and reports to `watch`: the accepted outputs of map and of reduce tasks,
 /// each lost worker, and the judge's work. Several threads report at once, and wait for each call.
-pub fn run_watched<G: Gate, S: RegionStore + Drop, R: Threads + Wait + Sync>(
+pub fn run_watched<G: Gate, S: RegionStore + Drop, W: Progress, R: Threads + Wait + Sync>(
     rt: &R,
     alloc: Global,
     spec: RunSpec<'_>,
-    gate: &G,
-    store: S,
-    watch: &dyn Progress,
+    around: Environment<'_, G, S, W>,
 ) -> Result<Certified, RunFault>
     requires runnable { IsRunnable spec.request.now spec.input.now spec.shape }
     ensures certified { IfOk result
@@ -436,5 +440,5 @@ pub fn run_watched<G: Gate, S: RegionStore + Drop, R: Threads + Wait + Sync>(
         spec.entry.shape) }
 {
     let blank = Blank::new(spec.shape.workers as u64);
-    run_in::<Brand, G, S, &dyn Progress, R>(rt, alloc, blank, spec, gate, store, &watch)
+    run_in::<Brand, G, S, W, R>(rt, alloc, blank, spec, around)
 }

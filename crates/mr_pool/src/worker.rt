@@ -59,7 +59,7 @@ enum ReduceResult {
     Damaged(u32),
 }
 
-fn lent<'g>(
+fn region_views<'g>(
     alloc: Global,
     fetched: &'g [FetchedRegion],
 ) -> Result<Vec<RegionView<'g>>, AllocError> {
@@ -81,7 +81,7 @@ fn most_pairs(input: &Input) -> usize {
 
 /// A guess of all pairs from those of the first split: 1/16 more than as many from each split, and
 /// at most what the input can have, since shorter files may follow a long one.
-fn guessed(first: usize, plan: &Plan<'_>) -> usize {
+fn guess_pairs(first: usize, plan: &Plan<'_>) -> usize {
     first
         .saturating_add(first / 16)
         .saturating_mul(plan.splits() as usize)
@@ -226,29 +226,29 @@ impl<'s, L: Ledger, G: Gate, W: Progress, S: RegionStore, R: Wait> Worker<'s, L,
         Ok(true)
     }
 
-    /// Passes a split's regions of a partition to the follower, one after another in one buffer;
+    /// Passes a split's regions of a partition to the follower, one after another in `region`;
     /// false if one can't be read or isn't theirs.
     fn follow(
         &self,
         stored: &Stored,
-        split: u32,
         partition: u32,
-        buffer: &mut Vec<u8>,
+        region: &mut FetchedRegion,
         follower: &mut Follower,
     ) -> Result<bool, AllocError> {
         if partition >= stored.parts() {
             return Ok(false);
         }
         for run in 0..stored.runs() {
-            buffer.clear();
-            if !self.read_region(stored.place(partition, run), buffer)? {
+            region.bytes.clear();
+            if !self.read_region(stored.place(partition, run), &mut region.bytes)? {
                 return Ok(false);
             }
+            let (bytes, split) = (region.bytes.as_slice(), region.split);
             if follower.is_whole() {
-                if let Came::Damaged = follower.take(&RegionView::of(buffer.as_slice(), split))? {
+                if let Came::Damaged = follower.take(&RegionView::of(bytes, split))? {
                     return Ok(false);
                 }
-            } else if !is_region(buffer.as_slice(), split, partition) {
+            } else if !is_region(bytes, split, partition) {
                 return Ok(false);
             }
         }
@@ -270,7 +270,7 @@ impl<'s, L: Ledger, G: Gate, W: Progress, S: RegionStore, R: Wait> Worker<'s, L,
             }
             split = split.saturating_add(1);
         }
-        let regions = lent(shared.alloc, fetched.as_slice())?;
+        let regions = region_views(shared.alloc, fetched.as_slice())?;
         match reduce_task(
             shared.alloc,
             shared.request.job(),
@@ -293,7 +293,8 @@ impl<'s, L: Ledger, G: Gate, W: Progress, S: RegionStore, R: Wait> Worker<'s, L,
         let shared = self.shared;
         let demand = shared.completed.demand(Task::Reduce(partition));
         let mut follower = Follower::new(shared.alloc, partition);
-        let mut buffer = Vec::new(shared.alloc);
+        let (split, bytes) = (0, Vec::new(shared.alloc));
+        let mut region = FetchedRegion { split, bytes };
         let mut outputs = Vec::new(shared.alloc);
         for split in 0..shared.plan.splits() {
             if !demand.is_wanted() {
@@ -302,12 +303,13 @@ impl<'s, L: Ledger, G: Gate, W: Progress, S: RegionStore, R: Wait> Worker<'s, L,
             let Some(stored) = self.fetch(attempt, split)? else {
                 return Ok(ReduceResult::Gone);
             };
-            if !self.follow(&stored, split, partition, &mut buffer, &mut follower)? {
+            region.split = split;
+            if !self.follow(&stored, partition, &mut region, &mut follower)? {
                 return Ok(ReduceResult::Damaged(split));
             }
             outputs.push(stored)?;
             if split == 0 {
-                follower.reserve(guessed(follower.len(), shared.plan))?;
+                follower.reserve(guess_pairs(follower.len(), shared.plan))?;
             }
         }
         match reduce_followed(shared.alloc, shared.request.job(), follower)? {

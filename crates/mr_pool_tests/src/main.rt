@@ -18,7 +18,7 @@ mod telling;
 use asked::Order;
 use judging::PhasesHeld;
 use mr_bytes::{Gate, OpenGate};
-use mr_pool::{Certified, RunFault, RunSpec, run, run_watched};
+use mr_pool::{Certified, Environment, RunFault, RunSpec, run, run_watched, shape_of};
 use mr_spill::{DiskScratch, MemoryStore, RegionStore, Scratch};
 use onlookers::{Holding, Tally};
 use std::alloc::Global;
@@ -48,8 +48,14 @@ fn done_over<G: Gate, S: RegionStore + Drop, R: Threads + Wait + Sync>(
     }
     Some(match watch {
         Some(watch) => {
-            let spec = RunSpec::of(request, input, script, workers, attempts, version);
-            run_watched(rt, alloc, spec, gate, store, watch)
+            let spec = RunSpec {
+                request,
+                input,
+                script,
+                shape: shape_of(request, input, workers, attempts),
+                version,
+            };
+            run_watched(rt, alloc, spec, Environment { gate, store, watch })
         }
         None => run(
             rt, alloc, request, input, script, workers, attempts, gate, store, version,

@@ -1,7 +1,5 @@
-use Rattle.std.proofs.Common.{◌≡◌, ◌∙◌, [], ◌++◌, ℕ, List, map, ap, subst, string_bytes}
-use Rattle.std.specs.Prelude.{OnOk}
+use Rattle.std.proofs.Common.{◌≡◌, [], map, ap, string_bytes}
 use Rattle.std.proofs.lemmas.Result.{IfErr-weaker, IfOk-weaker}
-use Rattle.mr_files.specs.Identities.{AreApart}
 use Rattle.mr_files.specs.Names.{result_names}
 use Rattle.mr_commands.specs.Inputs.{IsInput, IsInputRefusal}
 use Rattle.mr_commands.specs.Named.{input_names}
@@ -23,7 +21,7 @@ returns-clause-apart g c =
     let o = c.args.options.now in
     let names : map (λ s. s.now) c.as_slice-names.result.now ≡ input_names o = ap (map (λ s. s.now)) c.as_slice-names.ensures.value in
     let none : map string_bytes c.new-besides.result.items ≡ [] = ap (map string_bytes) c.new-besides.ensures.items in
-    let written : map string_bytes c.as_slice.result.now ≡ result_names o.out.now o.parts = ap (map string_bytes) c.as_slice.ensures.value ∙ c.in_ok-written.ensures in
+    let written : map string_bytes c.in_ok-written.written.items ≡ result_names o.out.now o.parts = c.in_ok-written.ensures in
     apart_of known c.input_of.result _ (input_names o) _ [] _ (result_names o.out.now o.parts) names none written c.input_of.ensures.apart
 
 pub returns-clause-refused : goal.returns-clause-refused
@@ -35,6 +33,6 @@ returns-clause-refused g c =
     let size = c.args.request.now.split in
     let names : map (λ s. s.now) c.as_slice-names.result.now ≡ input_names o = ap (map (λ s. s.now)) c.as_slice-names.ensures.value in
     let none : map string_bytes c.new-besides.result.items ≡ [] = ap (map string_bytes) c.new-besides.ensures.items in
-    let written : map string_bytes c.as_slice.result.now ≡ result_names o.out.now o.parts = ap (map string_bytes) c.as_slice.ensures.value ∙ c.in_ok-written.ensures in
+    let written : map string_bytes c.in_ok-written.written.items ≡ result_names o.out.now o.parts = c.in_ok-written.ensures in
     IfErr-weaker c.input_of.result _ (λ e. IsInputRefusal holds unreadable known (input_names o) (input_names o) (result_names o.out.now o.parts) size e)
     (λ e h. refused_of holds unreadable known _ (input_names o) _ [] _ (result_names o.out.now o.parts) size e names none written h) c.input_of.ensures.refused

@@ -1,4 +1,4 @@
-use Rattle.std.proofs.Common.{◌≡◌, ◌∙◌, map, ap, string_bytes}
+use Rattle.std.proofs.Common.{◌≡◌, map, ap, string_bytes}
 use Rattle.std.proofs.lemmas.Result.{IfErr-weaker}
 use Rattle.mr_files.specs.Names.{result_names}
 use Rattle.mr_commands.specs.Inputs.{IsInputRefusal}
@@ -15,6 +15,6 @@ returns-clause-refused g c =
     let o = asked.options in
     let size = c.args.request.now.split in
     let names : map (λ s. s.now) c.as_slice-names.result.now ≡ input_names o = ap (map (λ s. s.now)) c.as_slice-names.ensures.value in
-    let written : map string_bytes c.as_slice.result.now ≡ written_by_check asked = ap (map string_bytes) c.as_slice.ensures.value ∙ c.in_ok-written.ensures in
+    let written : map string_bytes c.in_ok-written.written.items ≡ written_by_check asked = c.in_ok-written.ensures in
     IfErr-weaker c.input_of.result _ (λ e. IsInputRefusal holds unreadable known (input_names o) (read_by_check asked) (written_by_check asked) size e)
     (λ e h. refused_of holds unreadable known _ (input_names o) _ (result_names o.out.now o.parts) _ (written_by_check asked) size e names c.in_ok-besides.ensures written h) c.input_of.ensures.refused

@@ -29,7 +29,7 @@ returns-else-is_same_fault-clause-fault c =
     let told = subst
     (λ j. IfErr j (λ e. (e ≡ OutOfMemory) ⊎ (verdict_of c.args.spec.request.now c.args.spec.input.now (contents c.args.outputs.items) c.args.certificate.items ≡ Err e)))
     c.in-Err.is c.requires.no in
-    inl (record {
+    λ steady. inl (record {
       outputs = contents c.args.outputs.items;
       bytes = c.args.certificate.items;
       done = c.requires.done;

@@ -1,12 +1,13 @@
-use Rattle.std.proofs.Common.{ap, sym, ◌∙◌, subst}
+use Rattle.std.proofs.Common.{Bool, ap, sym, ◌∙◌, subst}
 use Rattle.std.specs.Prelude.{OnOk}
+use Rattle.std.proofs.lemmas.Result.{IfErr-weaker}
 use Rattle.mr_input.specs.Files.{contents}
 use Rattle.mr_certform.specs.Value.{Spells}
 use Rattle.mr_core.specs.declared.event.Shape.{Shape}
 use Rattle.mr_sequential.specs.Good.{IsGoodResult}
 use Rattle.mr_book.specs.Assembled.{assembled_certificate, assembled_outputs}
 use Rattle.mr_book.specs.Assembling.{reduced_under}
-use Rattle.mr_pool.specs.Outcomes.{IsHistory}
+use Rattle.mr_pool.specs.Outcomes.{IsHistory, IsRunFault}
 use Rattle.mr_pool.proofs.Closed.{is_history}
 use Rattle.mr_pool.proofs.Versions.{good_in_version}
 use Rattle.mr_pool.proofs.running.RunJudge.assemble_and_judge.Goals as goal
@@ -40,3 +41,10 @@ answer-requires-clause-version g c =
     c.judge-judged.ensures.good) in
     good_in_version c.args.self.now.spec.version request files (contents c.in_ok-outputs.outputs.items) c.in_ok-outputs.certificate.items
     (assembled_certificate request files (reduced_under b.reduces) b.state) judged made.certificate made.version good
+
+pub returns-clause-fault : goal.returns-clause-fault
+returns-clause-fault g c =
+    let spec = c.args.self.now.spec in
+    IfErr-weaker c.answer.result (λ e. (steady : Bool) → IsRunFault spec.request.now spec.input.now spec.script.now steady c.close-history.result.shape e)
+    (IsRunFault spec.request.now spec.input.now spec.script.now c.args.self.now.steady c.args.book.shape)
+    (λ e h. subst (λ (shape : Shape). IsRunFault spec.request.now spec.input.now spec.script.now c.args.self.now.steady shape e) c.close-history.ensures.shape (h c.args.self.now.steady)) c.answer.ensures.fault

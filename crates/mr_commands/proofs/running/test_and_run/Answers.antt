@@ -1,9 +1,10 @@
-use Rattle.std.proofs.Common.{inl, inr, map, ap}
+use Rattle.std.proofs.Common.{inl, inr, subst}
 use Rattle.std.proofs.lemmas.Result.{err_from_is_err_and, IfErr-weaker, IfOk-weaker}
+use Rattle.mr_core.specs.declared.event.Shape.{Shape}
 use Rattle.mr_commands.specs.Runs.{AreGood, EndsOver, IsScratchRefusal, IsStartRefusal, Runs, scratch_name}
 use Rattle.mr_commands.proofs.JudgingRefused.{asked}
-use Rattle.mr_commands.proofs.Kept.{ends_as, script_stage, input_stage, scratch_stage, runs}
-use Rattle.mr_commands.proofs.running.executed.Goals as goal
+use Rattle.mr_commands.proofs.Kept.{script_stage, input_stage, scratch_stage, runs}
+use Rattle.mr_commands.proofs.running.test_and_run.Goals as goal
 
 pub returns-in_err-script-clause-refused : goal.returns-in_err-script-clause-refused
 returns-in_err-script-clause-refused g c =
@@ -36,15 +37,13 @@ returns-clause-runs g c =
     let request = c.in_ok-request.request in
     let files = c.in_ok-input.input in
     let script = c.in_ok-script.script in
-    let spec = c.of-spec.result in
-    let is = c.of-spec.ensures in
-    IfOk-weaker c.ended.result
-    (λ ran. EndsOver (scratch_name o) spec.request.now spec.input.now spec.script.now spec.shape spec.version ran)
+    IfOk-weaker c.run_job.result
+    (λ ran. EndsOver (scratch_name o) request files script c.shape_of.result o.version ran)
     (λ ran. Runs holds known o ran)
     (λ ran h. runs holds (g.S.Store.unreadable c.args.store.now) (g.S.Store.alike c.args.store.now) known o script files request ran
     c.in_ok-request.ensures.request c.in_ok-script.ensures.script c.in_ok-input.ensures.input c.in_ok-input.ensures.apart
-    (ends_as (scratch_name o) ran is.request is.input is.script is.shape is.version h))
-    c.ended.ensures.ends
+    (subst (λ (shape : Shape). EndsOver (scratch_name o) request files script shape o.version ran) c.shape_of.ensures.shape h))
+    c.run_job.ensures.ends
 
 pub returns-in_err-expect_scratch_apart-clause-refused : goal.returns-in_err-expect_scratch_apart-clause-refused
 returns-in_err-expect_scratch_apart-clause-refused g c =
@@ -71,7 +70,7 @@ returns-clause-refused g c =
       workers = c.in_ok-expect_crew.ensures.workers;
       attempts = c.in_ok-expect_crew.ensures.attempts;
     } in
-    IfErr-weaker c.ended.result (λ e. IsScratchRefusal (scratch_name o) e) (λ e. IsStartRefusal holds unreadable alike known o e)
+    IfErr-weaker c.run_job.result (λ e. IsScratchRefusal (scratch_name o) e) (λ e. IsStartRefusal holds unreadable alike known o e)
     (λ e h. scratch_stage holds unreadable alike known o c.in_ok-script.script c.in_ok-input.input c.in_ok-request.request e
     c.in_ok-request.ensures.request good c.in_ok-script.ensures.script c.in_ok-input.ensures.input c.in_ok-input.ensures.apart (inr h))
-    c.ended.ensures.refused
+    c.run_job.ensures.refused

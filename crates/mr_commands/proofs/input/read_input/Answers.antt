@@ -3,7 +3,7 @@ use Rattle.std.proofs.lemmas.List.{length-map}
 use Rattle.mr_input.specs.Files.{contents, total_size}
 use Rattle.mr_files.specs.Holding.{Holding}
 use Rattle.mr_commands.proofs.JudgingInputs.{few_read, holding_lengths, input_fault}
-use Rattle.mr_commands.proofs.input.input_read.Goals as goal
+use Rattle.mr_commands.proofs.input.read_input.Goals as goal
 
 pub returns-in-Err-clause-refused : goal.returns-in-Err-clause-refused
 returns-in-Err-clause-refused g c =
