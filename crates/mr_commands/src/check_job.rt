@@ -96,8 +96,7 @@ impl<'a> CheckJob<'a> {
         most: u64,
     ) -> Result<Option<ResultBytes>, Fault>
         ensures held { IfOk result (λ r. IfSome r (IsHeld (S.holds store.now) self.now)) }
-        ensures longer { IfOk result
-            (λ r. r ≡ None → IsOneLonger (S.holds store.now) (files_judged self.now) most) }
+        ensures longer { IfOk result (λ r. r ≡ None → IsOneLonger (S.holds store.now) (files_judged self.now) most) }
         ensures refused { IfErr result (IsUnreadResult (S.unreadable store.now) self.now) }
     {
         let options = &self.asked.options;

@@ -55,8 +55,7 @@ fn run_request(
     ensures result { IfOk result
         (λ w. (version : Version) (bytes : List ℕ) → SpellsIn version bytes w.certificate
         → IsSequentialResult version request.now input skips.now (contents w.outputs.items) bytes) }
-    ensures can { IfOk result
-        (λ w. (version : Version) → AllByRecursion (CanSpell version) w.certificate.groups) }
+    ensures can { IfOk result (λ w. (version : Version) → AllByRecursion (CanSpell version) w.certificate.groups) }
     ensures line { IfOk result (λ w. string_bytes w.line ≡ done_line request.now.parts
         (length (emitted request.now.job request.now.split input skips.now)) (length skips.now)) }
     ensures refused { IfErr result (λ e. IsRunRefusal request.now input skips.now e) }

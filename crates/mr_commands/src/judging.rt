@@ -240,8 +240,7 @@ pub(crate) fn judge_as_read<S: Store, C: ReadCause>(
     alloc: Global,
     watch: &dyn Progress,
 ) -> Result<Result<Yes, No>, Fault>
-    requires cause { (n : List ℕ)
-        → IsUnreadAmong (S.unreadable store.now) (files_judged job.now) n → C.cause n }
+    requires cause { (n : List ℕ) → IsUnreadAmong (S.unreadable store.now) (files_judged job.now) n → C.cause n }
     ensures answer { IfOk result (AnswersResult (S.holds store.now) job.now) }
     ensures refused { IfErr result (TellsRead C.cause) }
 {

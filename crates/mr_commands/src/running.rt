@@ -141,8 +141,7 @@ fn input_apart<S: Store>(
 ) -> Result<Input, Fault>
     ensures input { IfOk result (λ input. IsInput (S.holds store.now)
         (input_names asked.now.options) request.now.split input) }
-    ensures apart { OnOk result
-        (AreApart (S.known_as store.now) (read_by_run asked.now) (written_by_run asked.now)) }
+    ensures apart { OnOk result (AreApart (S.known_as store.now) (read_by_run asked.now) (written_by_run asked.now)) }
     ensures refused { IfErr result (λ e. IsInputRefusal (S.holds store.now)
         (S.unreadable store.now) (S.known_as store.now) (input_names asked.now.options)
         (read_by_run asked.now) (written_by_run asked.now) request.now.split e) }
@@ -174,8 +173,7 @@ fn expect_no_region<S: Store>(
     dir: &str,
     names: &[String],
 ) -> Result<(), Fault>
-    ensures { IfErr result
-        (λ e. IsScratchClash (S.alike store.now) (map string_bytes names.now) (Some dir.now) e) }
+    ensures { IfErr result (λ e. IsScratchClash (S.alike store.now) (map string_bytes names.now) (Some dir.now) e) }
 {
     for name in names {
         if is_region_file(store, dir, name.as_str()) {
@@ -187,8 +185,7 @@ fn expect_no_region<S: Store>(
 
 /// The names of all files that a run reads, then of those that it may write besides regions.
 fn names_of_run(alloc: Global, asked: &RunOptions<'_>) -> Result<Vec<String>, AllocError>
-    ensures { IfOk result
-        (λ v. map string_bytes v.items ≡ read_by_run asked.now ++ written_by_run asked.now) }
+    ensures { IfOk result (λ v. map string_bytes v.items ≡ read_by_run asked.now ++ written_by_run asked.now) }
 {
     let mut names = name_given(alloc, asked.script)?;
     add_names(alloc, &mut names, asked.options.files.as_slice())?;
@@ -307,10 +304,8 @@ fn keep_history<S: Store>(
     name: Option<&str>,
     history: &History,
 ) -> Result<(), FileFault>
-    ensures kept { OnOk result (IsHistoryKept (S.holds store.new)
-        (option_map (λ n. n.now) name.entry) history.now) }
-    ensures others { ChangesAmong (S.holds store.old) (S.holds store.new)
-        (named (option_map (λ n. n.now) name.entry)) }
+    ensures kept { OnOk result (IsHistoryKept (S.holds store.new) (option_map (λ n. n.now) name.entry) history.now) }
+    ensures others { ChangesAmong (S.holds store.old) (S.holds store.new) (named (option_map (λ n. n.now) name.entry)) }
     ensures begins { IfSome (option_map (λ n. n.now) name.entry)
         (λ own. Begins (S.holds store.old) (S.holds store.new) own (history_text history.now)) }
     ensures refused { IfErr result (λ e. IsOneUnwritten (S.unwritable store.old)

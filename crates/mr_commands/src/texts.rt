@@ -121,8 +121,7 @@ fn numbers_text(
     between: &str,
     second: u64,
 ) -> Result<String, AllocError>
-    ensures { IfOk result (λ text. string_bytes text
-        ≡ told.now ++ (decimal first ++ (between.now ++ decimal second))) }
+    ensures { IfOk result (λ text. string_bytes text ≡ told.now ++ (decimal first ++ (between.now ++ decimal second))) }
 {
     format!(in alloc; "{told}{first}{between}{second}")
 }
@@ -240,8 +239,7 @@ fn add_end(text: &mut String, end: End) -> Result<(), AllocError>
 }
 
 fn add_map(text: &mut String, attempt: u32, split: u32, skips: &Skips) -> Result<(), AllocError>
-    ensures { OnOk result (string_bytes text.new
-        ≡ string_bytes text.old ++ map_text attempt split skips.now) }
+    ensures { OnOk result (string_bytes text.new ≡ string_bytes text.old ++ map_text attempt split skips.now) }
 {
     write!(text, "map attempt {attempt} split {split}")?;
     add_without(text, skips.as_slice())

@@ -196,8 +196,7 @@ impl<'a, W: Progress, R: Threads + Sync> RunJudge<'a, W, R> {
         ensures version { IfOk result (λ r. SpellsWhereItCan self.now.spec.version r.1.items
             (assembled_certificate self.now.spec.request.now self.now.spec.input.now
             (reduced_under book.now.reduces) book.now.state)) }
-        ensures mapped { IfOk result
-            (λ r. IsMappedFor self.now.spec.request.now self.now.spec.input.now (r.2)) }
+        ensures mapped { IfOk result (λ r. IsMappedFor self.now.spec.request.now self.now.spec.input.now (r.2)) }
     {
         let RunSpec {
             request,
