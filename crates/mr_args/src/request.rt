@@ -138,8 +138,7 @@ pub fn request_of(alloc: Global, options: &Options<'_>) -> Result<Request, Fault
 
 /// Splits the text at the first `mark`.
 fn cut(text: &[u8], mark: u8) -> Option<(&[u8], &[u8])>
-    ensures { MatchOption result (Lacks text.now mark)
-        (λ r. (text.now ≡ r.0.now ++ mark ∷ r.1.now) × Lacks r.0.now mark) }
+    ensures { MatchOption result (Lacks text.now mark) (λ r. (text.now ≡ r.0.now ++ mark ∷ r.1.now) × Lacks r.0.now mark) }
 {
     for (at, byte) in text.iter().enumerate() {
         if *byte == mark {
@@ -160,8 +159,7 @@ fn name_of(text: &[u8]) -> Option<RecordName>
 }
 
 fn add_name(names: &mut Vec<RecordName>, text: &[u8]) -> Result<(), Fault>
-    ensures ok { OnOk result ((n : RecordName) × SpellsName text.now n
-        × (names.new.items ≡ names.old.items ++ n ∷ [])) }
+    ensures ok { OnOk result ((n : RecordName) × SpellsName text.now n × (names.new.items ≡ names.old.items ++ n ∷ [])) }
     ensures bad { IfErr result (λ e. (e ≡ Fault.OutOfMemory)
         ⊎ ((e ≡ Fault.BadSkipList) × ((n : RecordName) → ¬ SpellsName text.now n))) }
 {

@@ -3,7 +3,7 @@
 //! first thread that reports draws it again; it is wiped before any other output. No clause speaks of
 //! it, and it doesn't influence the work.
 
-use mr_args::{Options, RunOptions, Subcommand};
+use mr_args::{Options, Subcommand};
 use mr_bytes::{Phase, Progress};
 use mr_files::{Inspect, PathKind, certificate_name, part_name, verdict_name};
 use std::alloc::{AllocError, Global};
@@ -131,112 +131,92 @@ impl<C: Clock + Sync> Progress for ProgressLine<C> {
 
 const MOST_PARTS: usize = 1024;
 
-fn stands<L: Inspect>(look: &L, name: &str) -> bool {
-    match look.path_kind(name) {
-        PathKind::Nothing => false,
-        _ => true,
+/// Notes before the work, and where they come from.
+#[derive(Drop)]
+struct Notes<'a, L: Inspect> {
+    look: &'a L,
+    alloc: Global,
+    lines: Vec<String>,
+}
+
+impl<'a, L: Inspect> Notes<'a, L> {
+    fn push(&mut self, line: String) -> Result<(), AllocError> {
+        self.lines.push(line).map_err(AllocError::from)
     }
-}
 
-fn note_directory<L: Inspect>(
-    look: &L,
-    alloc: Global,
-    dir: &str,
-    lines: &mut Vec<String>,
-) -> Result<(), AllocError> {
-    let line = match look.path_kind(dir) {
-        PathKind::Directory => return Ok(()),
-        PathKind::Nothing => format!(in alloc; "note: there is no directory {dir}: make it first")?,
-        _ => format!(in alloc; "note: {dir} is no directory")?,
-    };
-    lines.push(line).map_err(AllocError::from)
-}
-
-/// If the directory has a result, by its first part or by the file that is written last.
-fn note_result<L: Inspect>(
-    look: &L,
-    alloc: Global,
-    dir: &str,
-    last: &str,
-    lines: &mut Vec<String>,
-) -> Result<(), AllocError> {
-    let part = part_name(alloc, dir, 0)?;
-    if stands(look, last) || stands(look, part.as_str()) {
-        let line = format!(in alloc;
-            "note: {dir} has a result already, which will be written over"
-        )?;
-        lines.push(line).map_err(AllocError::from)?;
+    fn is_there(&self, name: &str) -> bool {
+        !matches!(self.look.path_kind(name), PathKind::Nothing)
     }
-    Ok(())
-}
 
-/// The first part in the directory from number `parts` on.
-fn first_other<L: Inspect>(
-    look: &L,
-    alloc: Global,
-    dir: &str,
-    parts: usize,
-) -> Result<Option<usize>, AllocError> {
-    for part in parts..MOST_PARTS {
-        let name = part_name(alloc, dir, part)?;
-        if stands(look, name.as_str()) {
-            return Ok(Some(part));
+    fn note_directory(&mut self, dir: &str) -> Result<(), AllocError> {
+        let alloc = self.alloc;
+        let line = match self.look.path_kind(dir) {
+            PathKind::Directory => return Ok(()),
+            PathKind::Nothing => format!(in alloc;
+                "note: there is no directory {dir}: make it first"
+            )?,
+            _ => format!(in alloc; "note: {dir} is no directory")?,
+        };
+        self.push(line)
+    }
+
+    /// If the directory has a result, by its first part or by the file that is written last.
+    fn note_result(&mut self, dir: &str, last: &str) -> Result<(), AllocError> {
+        let alloc = self.alloc;
+        let part = part_name(alloc, dir, 0)?;
+        if self.is_there(last) || self.is_there(part.as_str()) {
+            let line = format!(in alloc;
+                "note: {dir} has a result already, which will be written over"
+            )?;
+            self.push(line)?;
+        }
+        Ok(())
+    }
+
+    /// The first part in the directory from number `parts` on.
+    fn note_others(&mut self, dir: &str, parts: usize) -> Result<(), AllocError> {
+        let alloc = self.alloc;
+        for part in parts..MOST_PARTS {
+            let name = part_name(alloc, dir, part)?;
+            if self.is_there(name.as_str()) {
+                let line = format!(in alloc;
+                    "note: {dir} has part-{part:05} too, which is none of this result (--parts {parts}) and stays"
+                )?;
+                return self.push(line);
+            }
+        }
+        Ok(())
+    }
+
+    fn note_made(&mut self, options: &Options<'_>) -> Result<(), AllocError> {
+        let certificate = certificate_name(self.alloc, options.out)?;
+        self.note_directory(options.out)?;
+        self.note_result(options.out, certificate.as_str())?;
+        self.note_others(options.out, options.parts as usize)
+    }
+
+    fn note_all(&mut self, asked: &Subcommand<'_>) -> Result<(), AllocError> {
+        match asked {
+            Subcommand::Seq(asked) => self.note_made(&asked.options),
+            Subcommand::Run(asked) => {
+                self.note_made(&asked.options)?;
+                match asked.scratch {
+                    Some(dir) => self.note_directory(dir),
+                    None => Ok(()),
+                }
+            }
+            Subcommand::Check(asked) => {
+                let Options { out, parts, .. } = &asked.options;
+                self.note_others(out, *parts as usize)
+            }
+            // Only the verdicts say how many parts a merge writes, so others can't be noted.
+            Subcommand::Merge(asked) => {
+                let verdict = verdict_name(self.alloc, asked.out)?;
+                self.note_directory(asked.out)?;
+                self.note_result(asked.out, verdict.as_str())
+            }
         }
     }
-    Ok(None)
-}
-
-fn note_others<L: Inspect>(
-    look: &L,
-    alloc: Global,
-    dir: &str,
-    parts: usize,
-    lines: &mut Vec<String>,
-) -> Result<(), AllocError> {
-    if let Some(part) = first_other(look, alloc, dir, parts)? {
-        let line = format!(in alloc;
-            "note: {dir} has part-{part:05} too, which is none of this result (--parts {parts}) and stays"
-        )?;
-        lines.push(line).map_err(AllocError::from)?;
-    }
-    Ok(())
-}
-
-fn seq_notes<L: Inspect>(
-    look: &L,
-    alloc: Global,
-    options: &Options<'_>,
-    lines: &mut Vec<String>,
-) -> Result<(), AllocError> {
-    let certificate = certificate_name(alloc, options.out)?;
-    note_directory(look, alloc, options.out, lines)?;
-    note_result(look, alloc, options.out, certificate.as_str(), lines)?;
-    note_others(look, alloc, options.out, options.parts as usize, lines)
-}
-
-fn run_notes<L: Inspect>(
-    look: &L,
-    alloc: Global,
-    asked: &RunOptions<'_>,
-    lines: &mut Vec<String>,
-) -> Result<(), AllocError> {
-    seq_notes(look, alloc, &asked.options, lines)?;
-    match asked.scratch {
-        Some(dir) => note_directory(look, alloc, dir, lines),
-        None => Ok(()),
-    }
-}
-
-/// Only the verdicts say how many parts a merge writes, so it can't note other parts.
-fn merge_notes<L: Inspect>(
-    look: &L,
-    alloc: Global,
-    dir: &str,
-    lines: &mut Vec<String>,
-) -> Result<(), AllocError> {
-    let verdict = verdict_name(alloc, dir)?;
-    note_directory(look, alloc, dir, lines)?;
-    note_result(look, alloc, dir, verdict.as_str(), lines)
 }
 
 /// Whether there can be so many parts. If not, the command will fail.
@@ -256,18 +236,10 @@ pub fn notes<L: Inspect>(
     alloc: Global,
     asked: &Subcommand<'_>,
 ) -> Result<Vec<String>, AllocError> {
-    let mut lines = Vec::new(alloc);
-    if !asks_for_parts(asked) {
-        return Ok(lines);
+    let lines = Vec::new(alloc);
+    let mut notes = Notes { look, alloc, lines };
+    if asks_for_parts(asked) {
+        notes.note_all(asked)?;
     }
-    match asked {
-        Subcommand::Seq(asked) => seq_notes(look, alloc, &asked.options, &mut lines)?,
-        Subcommand::Run(asked) => run_notes(look, alloc, asked, &mut lines)?,
-        Subcommand::Check(asked) => {
-            let Options { out, parts, .. } = &asked.options;
-            note_others(look, alloc, out, *parts as usize, &mut lines)?
-        }
-        Subcommand::Merge(asked) => merge_notes(look, alloc, asked.out, &mut lines)?,
-    }
-    Ok(lines)
+    Ok(notes.lines)
 }

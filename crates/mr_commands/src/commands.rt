@@ -78,8 +78,7 @@ fn input_apart<S: Store>(
     request: &Request,
     options: &Options<'_>,
 ) -> Result<Input, Fault>
-    ensures input { IfOk result
-        (λ input. IsInput (S.holds store.now) (input_names options.now) request.now.split input) }
+    ensures input { IfOk result (λ input. IsInput (S.holds store.now) (input_names options.now) request.now.split input) }
     ensures apart { OnOk result (AreApart (S.known_as store.now) (input_names options.now)
         (result_names options.now.out.now options.now.parts)) }
     ensures refused { IfErr result (λ e. IsInputRefusal (S.holds store.now)

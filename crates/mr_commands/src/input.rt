@@ -56,8 +56,7 @@ pub fn input_of<S: Store>(
     names: &[&str],
     files: FileNames,
 ) -> Result<Input, Fault>
-    ensures input { IfOk result (λ input. IsInput (S.holds store.now)
-        (map (λ s. s.now) names.now) request.now.split input) }
+    ensures input { IfOk result (λ input. IsInput (S.holds store.now) (map (λ s. s.now) names.now) request.now.split input) }
     ensures apart { OnOk result (AreApart (S.known_as store.now)
         (map string_bytes files.besides.items ++ map (λ s. s.now) names.now)
         (map string_bytes files.written.items)) }

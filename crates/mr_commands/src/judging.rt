@@ -113,8 +113,7 @@ fn input_apart<S: Store>(
 ) -> Result<Input, Fault>
     ensures input { IfOk result (λ input. IsInput (S.holds store.now)
         (input_names asked.now.options) request.now.split input) }
-    ensures apart { OnOk result
-        (AreApart (S.known_as store.now) (read_by_check asked.now) (written_by_check asked.now)) }
+    ensures apart { OnOk result (AreApart (S.known_as store.now) (read_by_check asked.now) (written_by_check asked.now)) }
     ensures refused { IfErr result (λ e. IsInputRefusal (S.holds store.now)
         (S.unreadable store.now) (S.known_as store.now) (input_names asked.now.options)
         (read_by_check asked.now) (written_by_check asked.now) request.now.split e) }

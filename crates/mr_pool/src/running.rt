@@ -130,8 +130,7 @@ fn answer(
         (contents outputs.items) certificate.items y.skips.items y.pairs) }
     requires yes { IfOk judged (λ y. verdict_of spec.request.now spec.input.now
         (contents outputs.items) certificate.items ≡ Ok (accepted_of y)) }
-    requires good { OnOk judged
-        (IsGoodResult spec.request.now spec.input.now (contents outputs.items) certificate.items) }
+    requires good { OnOk judged (IsGoodResult spec.request.now spec.input.now (contents outputs.items) certificate.items) }
     requires version { OnOk judged (IsInVersion spec.version certificate.items) }
     requires no { IfErr judged (λ e. (e ≡ No.OutOfMemory)
         ⊎ (verdict_of spec.request.now spec.input.now (contents outputs.items) certificate.items ≡ Err e)) }
