@@ -111,8 +111,7 @@ fn input_apart<S: Store>(
     request: &Request,
     asked: &CheckOptions<'_>,
 ) -> Result<Input, Fault>
-    ensures input { IfOk result (λ input. IsInput (S.holds store.now)
-        (input_names asked.now.options) request.now.split input) }
+    ensures input { IfOk result (λ input. IsInput (S.holds store.now) (input_names asked.now.options) request.now.split input) }
     ensures apart { OnOk result (AreApart (S.known_as store.now) (read_by_check asked.now) (written_by_check asked.now)) }
     ensures refused { IfErr result (λ e. IsInputRefusal (S.holds store.now)
         (S.unreadable store.now) (S.known_as store.now) (input_names asked.now.options)
@@ -135,8 +134,7 @@ fn judge_asked<S: Store, R: Threads + Sync>(
     watch: &dyn Progress,
 ) -> Result<Judgement, Fault>
     ensures judges { IfOk result (Judges (S.holds store.now) (S.known_as store.now) asked.now) }
-    ensures refused { IfErr result (IsCheckRefusal (S.holds store.now) (S.unreadable store.now)
-        (S.known_as store.now) asked.now) }
+    ensures refused { IfErr result (IsCheckRefusal (S.holds store.now) (S.unreadable store.now) (S.known_as store.now) asked.now) }
 {
     let request = request_of(alloc, &asked.options)?;
     expect_options(asked)?;

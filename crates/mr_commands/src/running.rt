@@ -139,8 +139,7 @@ fn input_apart<S: Store>(
     request: &Request,
     asked: &RunOptions<'_>,
 ) -> Result<Input, Fault>
-    ensures input { IfOk result (λ input. IsInput (S.holds store.now)
-        (input_names asked.now.options) request.now.split input) }
+    ensures input { IfOk result (λ input. IsInput (S.holds store.now) (input_names asked.now.options) request.now.split input) }
     ensures apart { OnOk result (AreApart (S.known_as store.now) (read_by_run asked.now) (written_by_run asked.now)) }
     ensures refused { IfErr result (λ e. IsInputRefusal (S.holds store.now)
         (S.unreadable store.now) (S.known_as store.now) (input_names asked.now.options)
@@ -308,8 +307,7 @@ fn keep_history<S: Store>(
     ensures others { ChangesAmong (S.holds store.old) (S.holds store.new) (named (option_map (λ n. n.now) name.entry)) }
     ensures begins { IfSome (option_map (λ n. n.now) name.entry)
         (λ own. Begins (S.holds store.old) (S.holds store.new) own (history_text history.now)) }
-    ensures refused { IfErr result (λ e. IsOneUnwritten (S.unwritable store.old)
-        (named (option_map (λ n. n.now) name.entry)) e) }
+    ensures refused { IfErr result (λ e. IsOneUnwritten (S.unwritable store.old) (named (option_map (λ n. n.now) name.entry)) e) }
     ensures still { (n : List ℕ) → S.unwritable store.new n → S.unwritable store.old n }
 {
     let Some(name) = name else {

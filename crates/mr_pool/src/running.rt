@@ -124,8 +124,7 @@ fn answer(
     judged: Result<Yes, No>,
     history: History,
 ) -> Result<Certified, RunFault>
-    requires done { IsDoneRun spec.request.now spec.input.now history.shape history
-        (contents outputs.items) certificate.items }
+    requires done { IsDoneRun spec.request.now spec.input.now history.shape history (contents outputs.items) certificate.items }
     requires headline { IfOk judged (λ y. IsCertified spec.request.now spec.input.now
         (contents outputs.items) certificate.items y.skips.items y.pairs) }
     requires yes { IfOk judged (λ y. verdict_of spec.request.now spec.input.now
@@ -134,8 +133,7 @@ fn answer(
     requires version { OnOk judged (IsInVersion spec.version certificate.items) }
     requires no { IfErr judged (λ e. (e ≡ No.OutOfMemory)
         ⊎ (verdict_of spec.request.now spec.input.now (contents outputs.items) certificate.items ≡ Err e)) }
-    ensures certified { IfOk result
-        (IsCertifiedRun spec.entry.request.now spec.entry.input.now history.shape spec.entry.version) }
+    ensures certified { IfOk result (IsCertifiedRun spec.entry.request.now spec.entry.input.now history.shape spec.entry.version) }
     ensures fault { IfErr result (λ e. (steady : Bool) → IsRunFault spec.entry.request.now
         spec.entry.input.now spec.entry.script.now steady history.shape e) }
 {
@@ -182,8 +180,7 @@ impl<'a, W: Progress, R: Threads + Sync> RunJudge<'a, W, R> {
         &self,
         book: &Book<L>,
     ) -> Result<(Vec<Vec<u8>>, Vec<u8>, MappedInput<'a>), AllocError>
-        requires plan { self.now.plan.now
-            ≡ record { size = self.now.spec.request.now.split; files = self.now.spec.input.now } }
+        requires plan { self.now.plan.now ≡ record { size = self.now.spec.request.now.split; files = self.now.spec.input.now } }
         requires runnable { IsRunnable self.now.spec.request.now self.now.spec.input.now self.now.spec.shape }
         requires ends { book.now.state.end ≡ Some Ended.Done }
         requires opened { IsOpenedFor self.now.spec.request.now self.now.spec.input.now book.now.shape }
@@ -271,8 +268,7 @@ impl<'a, W: Progress, R: Threads + Sync> RunJudge<'a, W, R> {
         book: Book<L>,
         seats: Vec<Seat<L>>,
     ) -> Result<Certified, RunFault>
-        requires plan { self.now.plan.now
-            ≡ record { size = self.now.spec.request.now.split; files = self.now.spec.input.now } }
+        requires plan { self.now.plan.now ≡ record { size = self.now.spec.request.now.split; files = self.now.spec.input.now } }
         requires runnable { IsRunnable self.now.spec.request.now self.now.spec.input.now self.now.spec.shape }
         requires ends { book.state.end ≡ Some Ended.Done }
         requires opened { IsOpenedFor self.now.spec.request.now self.now.spec.input.now book.shape }
@@ -293,8 +289,7 @@ impl<'a, W: Progress, R: Threads + Sync> RunJudge<'a, W, R> {
 
     /// The result of a run whose book has closed.
     fn conclude<L: Ledger>(&self, book: Book<L>, seats: Vec<Seat<L>>) -> Result<Certified, RunFault>
-        requires plan { self.now.plan.now
-            ≡ record { size = self.now.spec.request.now.split; files = self.now.spec.input.now } }
+        requires plan { self.now.plan.now ≡ record { size = self.now.spec.request.now.split; files = self.now.spec.input.now } }
         requires runnable { IsRunnable self.now.spec.request.now self.now.spec.input.now self.now.spec.shape }
         requires seats { vec_len seats ≡ L.parts }
         ensures certified { IfOk result
