@@ -119,7 +119,6 @@ fn add_others(text: &mut String, front: &Front, request: &Request) -> Result<(),
     add_where(text, front.split != request.split_size(), "--split")
 }
 
-/// Those options, and all options of the certificate.
 fn job_difference(alloc: Global, front: &Front, request: &Request) -> Result<String, AllocError> {
     let mut text = String::from_str(alloc, "the certificate has other")?;
     add_others(&mut text, front, request)?;
@@ -149,15 +148,6 @@ fn input_difference<L: Inspect>(
     Ok(String::new(alloc))
 }
 
-/// The front of the directory's certificate, as far as it can be read.
-fn front_in<S: Store>(store: &S, alloc: Global, dir: &str) -> Result<Front, AllocError> {
-    let name = certificate_name(alloc, dir)?;
-    match read_file(store, alloc, name.as_str()) {
-        Ok(bytes) => front_of(alloc, bytes.as_slice()),
-        Err(_) => Ok(Front::new(alloc)),
-    }
-}
-
 fn check_hint<S: Store + Inspect>(
     store: &S,
     alloc: Global,
@@ -168,7 +158,11 @@ fn check_hint<S: Store + Inspect>(
     if !is_other_job && said != "no: OtherInput\n" {
         return Ok(String::new(alloc));
     }
-    let front = front_in(store, alloc, options.out)?;
+    let name = certificate_name(alloc, options.out)?;
+    let Ok(bytes) = read_file(store, alloc, name.as_str()) else {
+        return Ok(String::new(alloc));
+    };
+    let front = front_of(alloc, bytes.as_slice())?;
     if !front.is_whole {
         return Ok(String::new(alloc));
     }

@@ -44,29 +44,6 @@ fn show<E: Write>(alloc: Global, err: &mut E, text: &[u8], lines: bool) {
     }
 }
 
-fn show_notes<F: Inspect, E: Write>(files: &F, alloc: Global, asked: &Subcommand<'_>, err: &mut E) {
-    if let Ok(lines) = notes(files, alloc, asked) {
-        for line in lines.as_slice() {
-            show(alloc, err, line.as_bytes(), false);
-        }
-    }
-}
-
-/// The hint for an answer, without a line end; empty if there is none.
-fn hint_of<F: Store + Inspect>(
-    files: &F,
-    alloc: Global,
-    asked: &Option<Subcommand<'_>>,
-    answered: &Result<CommandOutput, Failure>,
-) -> Result<String, AllocError> {
-    match (answered, asked) {
-        (Ok(said), Some(asked)) => verdict_hint(files, alloc, asked, said.text.as_str()),
-        (Err(Failure::Command(fault)), _) => fault_hint(files, alloc, fault),
-        (Err(Failure::NotUtf8), _) => String::from_str(alloc, NOT_UTF8),
-        _ => Ok(String::new(alloc)),
-    }
-}
-
 /// If the answer may contain a word of the command line: whether it has several lines.
 fn may_show_words(answered: &Result<CommandOutput, Failure>) -> Option<bool> {
     match answered {
@@ -104,7 +81,12 @@ fn print_answer<F: Store + Inspect, C: Clock, O: Write, E: Write>(
     terminal: Terminal<'_, C, O, E>,
 ) -> u8 {
     let Terminal { out, err, .. } = terminal;
-    let hint = hint_of(files, alloc, asked, &answered);
+    let hint = match (&answered, asked) {
+        (Ok(said), Some(asked)) => verdict_hint(files, alloc, asked, said.text.as_str()),
+        (Err(Failure::Command(fault)), _) => fault_hint(files, alloc, fault),
+        (Err(Failure::NotUtf8), _) => String::from_str(alloc, NOT_UTF8),
+        _ => Ok(String::new(alloc)),
+    };
     let status = finish_shown(alloc, answered, out, err);
     if let Ok(hint) = hint
         && !hint.is_empty()
@@ -137,8 +119,12 @@ pub fn run_at_terminal<
         Err(failure) => return print_answer(files, alloc, &None, Err(failure), terminal),
     };
     let asked = asked_by(alloc, words.as_slice());
-    if let Some(asked) = &asked {
-        show_notes(files, alloc, asked, terminal.err);
+    if let Some(asked) = &asked
+        && let Ok(lines) = notes(files, alloc, asked)
+    {
+        for line in lines.as_slice() {
+            show(alloc, terminal.err, line.as_bytes(), false);
+        }
     }
     let answered = answer(machine, files, words.as_slice(), watch);
     terminal.progress.wipe();

@@ -1,7 +1,6 @@
-//! Notes before the work: a missing directory, an earlier result there, parts of another result. Then
-//! a line of progress: the phase, the share done, lost workers. At most a few times a second, the
-//! first thread that reports draws it again; it is wiped before any other output. No clause speaks of
-//! it, and it doesn't influence the work.
+//! Notes before the work, on directories and earlier results. Then a line of progress: the phase, the
+//! share done, lost workers. The first thread that reports draws it, at most a few times a second; it
+//! is wiped before any other output. No clause speaks of it, and it doesn't influence the work.
 
 use mr_args::{Options, Subcommand};
 use mr_bytes::{Phase, Progress};
@@ -50,11 +49,7 @@ fn word(phase: Phase) -> &'static str {
 
 /// How many hundredths are done.
 fn share(done: u64, all: u64) -> u64 {
-    if all == 0 {
-        0
-    } else {
-        done.min(all).saturating_mul(100) / all
-    }
+    done.min(all).saturating_mul(100) / all.max(1)
 }
 
 fn line(alloc: Global, phase: Phase, share: u64, lost: u64) -> Result<String, AllocError> {
@@ -95,13 +90,6 @@ impl<C: Clock> ProgressLine<C> {
                 .is_ok()
     }
 
-    /// Whether the judge begins now while the line shows another phase: it will work for long.
-    fn begins_to_judge(&self, phase: Phase) -> bool {
-        phase == Phase::Judging
-            && !self.judging.swap(true, Ordering::SeqCst)
-            && self.stands.load(Ordering::SeqCst)
-    }
-
     /// Wipes the line, if the terminal shows it.
     pub fn wipe(&self) {
         if self.stands.swap(false, Ordering::SeqCst) {
@@ -113,7 +101,11 @@ impl<C: Clock> ProgressLine<C> {
 
 impl<C: Clock + Sync> Progress for ProgressLine<C> {
     fn report(&self, phase: Phase, done: u64, all: u64) {
-        if !self.begins_to_judge(phase) && !self.is_due() {
+        // The judge begins while the line shows another phase: it will work for long.
+        let begins = phase == Phase::Judging
+            && !self.judging.swap(true, Ordering::SeqCst)
+            && self.stands.load(Ordering::SeqCst);
+        if !begins && !self.is_due() {
             return;
         }
         let lost = self.lost.load(Ordering::SeqCst);
