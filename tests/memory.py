@@ -6,6 +6,9 @@ import subprocess
 from harness import read_result as result_of, write_result
 from rows import plain
 
+# Kibibytes of memory with which a run of 62,000 pairs by one worker ends, if it takes no 15 MB beside.
+ROOM_WITHOUT_BITS = 40_000
+
 
 def little_memory(harness):
     """With ever more memory the program says that it is out of memory and writes nothing, or does the whole work; and
@@ -132,4 +135,18 @@ def result_without_end(harness):
             harness.check(f"check {' '.join(more)} of a {name} that is {change.__name__}", got == (1, b"no: %s\n" % no.encode(), b"", False), repr(got)[:300])
 
 
-GROUPS = {"a result without end": result_without_end, "an input without end": input_without_end, "little memory": little_memory, "little memory of a run": little_memory_of_a_run, "little memory of threads": little_memory_of_threads}
+def names_without_room_for_bits(harness):
+    """Names of a region that differ are told apart by sorting them where there is no memory for a bit each: here a line of
+    2,000 words before 60,000 of one, whose bits would take 15 MB."""
+    data = b" ".join(b"w%d" % i for i in range(2000)) + b"\n" + b"a\n" * 60_000
+    outputs, pairs, certificate = plain("words", [data], 1)
+    where = harness.directory({"input": data})
+    limit = lambda: resource.setrlimit(resource.RLIMIT_AS, (ROOM_WITHOUT_BITS * 1024, ROOM_WITHOUT_BITS * 1024))
+    words = ["run", "--job", "words", "--workers", "1", "--parts", "1", "--out", ".", "input"]
+    ran = subprocess.run([harness.program, *words], cwd=where, capture_output=True, preexec_fn=limit, timeout=120)
+    got = (ran.returncode, ran.stdout, ran.stderr, *result_of(where))
+    done = (0, b"certified: 1 files, %d pairs, 0 left out\n" % pairs, b"", outputs, certificate)
+    harness.check("a run without room for the bits of names", got == done, repr(got)[:300])
+
+
+GROUPS = {"names without room for bits": names_without_room_for_bits, "a result without end": result_without_end, "an input without end": input_without_end, "little memory": little_memory, "little memory of a run": little_memory_of_a_run, "little memory of threads": little_memory_of_threads}

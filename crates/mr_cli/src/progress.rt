@@ -1,4 +1,4 @@
-//! Notes before the work, on directories and earlier results. Then a line of progress: the phase, the
+//! NoteList before the work, on directories and earlier results. Then a line of progress: the phase, the
 //! share done, lost workers. The first thread that reports draws it, at most a few times a second; it
 //! is wiped before any other output. No clause speaks of it, and it doesn't influence the work.
 
@@ -123,15 +123,15 @@ impl<C: Clock + Sync> Progress for ProgressLine<C> {
 
 const MOST_PARTS: usize = 1024;
 
-/// Notes before the work, and where they come from.
+/// NoteList before the work, and where they come from.
 #[derive(Drop)]
-struct Notes<'a, L: Inspect> {
+struct NoteList<'a, L: Inspect> {
     look: &'a L,
     alloc: Global,
     lines: Vec<String>,
 }
 
-impl<'a, L: Inspect> Notes<'a, L> {
+impl<'a, L: Inspect> NoteList<'a, L> {
     fn push(&mut self, line: String) -> Result<(), AllocError> {
         self.lines.push(line).map_err(AllocError::from)
     }
@@ -229,7 +229,7 @@ pub fn notes<L: Inspect>(
     asked: &Subcommand<'_>,
 ) -> Result<Vec<String>, AllocError> {
     let lines = Vec::new(alloc);
-    let mut notes = Notes { look, alloc, lines };
+    let mut notes = NoteList { look, alloc, lines };
     if asks_for_parts(asked) {
         notes.note_all(asked)?;
     }
