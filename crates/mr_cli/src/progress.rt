@@ -1,4 +1,4 @@
-//! NoteList before the work, on directories and earlier results. Then a line of progress: the phase, the
+//! Notes before the work, on directories and earlier results. Then a line of progress: the phase, the
 //! share done, lost workers. The first thread that reports draws it, at most a few times a second; it
 //! is wiped before any other output. No clause speaks of it, and it doesn't influence the work.
 
@@ -123,7 +123,7 @@ impl<C: Clock + Sync> Progress for ProgressLine<C> {
 
 const MOST_PARTS: usize = 1024;
 
-/// NoteList before the work, and where they come from.
+/// Notes before the work, and where they come from.
 #[derive(Drop)]
 struct NoteList<'a, L: Inspect> {
     look: &'a L,
