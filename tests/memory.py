@@ -7,7 +7,7 @@ from harness import read_result as result_of, write_result
 from rows import plain
 
 # Kibibytes of memory with which a run of 62,000 pairs by one worker ends, if it takes no 15 MB beside.
-ROOM_WITHOUT_BITS = 40_000
+ROOM_WITHOUT_BITS = 16_000
 
 
 def little_memory(harness):
