@@ -22,7 +22,7 @@ use crate::input::{FileNames, input_of, name_given};
 use crate::texts::CommandOutput;
 use mr_args::{CheckOptions, Fault, request_of};
 use mr_bytes::Progress;
-use mr_check::{No, Source, Yes, judge_readers};
+use mr_check::{Computation, No, Source, Yes, judge_readers};
 use mr_files::{
     FileFault, NamedReader, ReadCause, ResultReaders, Store, names_of_result, result_readers,
     write_file,
@@ -224,7 +224,11 @@ fn judge_files<R: CountedRead + Drop, C: ReadCause>(
         (map (λ r. R.remaining r.reader) parts.old) (R.remaining certificate.old.reader)) }
     ensures refused { IfErr result (TellsOf C.cause) }
 {
-    match judge_readers(alloc, job.request, job.input, parts, certificate, watch) {
+    let computation = Computation {
+        request: job.request,
+        input: job.input,
+    };
+    match judge_readers(alloc, &computation, parts, certificate, watch) {
         Ok(yes) => Ok(Ok(yes)),
         Err(no) => Ok(Err(trace_fault(alloc, parts, certificate, no)?)),
     }

@@ -112,28 +112,29 @@ impl EmissionIndex {
             × (meter.new.mapped ≤ meter.old.mapped + mapped_among skips.now (records_of plan.entry.now))) }
         ensures lookups { meter.new.lookups ≡ meter.old.lookups }
     {
-        EmissionIndex::of_watched(alloc, plan, job, skips, meter, &Unwatched)
+        let kept = plan.without(alloc, skips)?;
+        EmissionIndex::of_kept(alloc, &kept, job, meter, &Unwatched)
     }
 
-    /// What `of` does. It reports to `watch` now and then how many of the plan's records are done.
-    pub fn of_watched(
+    /// What `of` does, for a plan whose left-out records are known. It reports to `watch` now and
+    /// then how many of the plan's records are done.
+    pub fn of_kept(
         alloc: Global,
-        plan: &Plan<'_>,
+        kept: &KeptPlan<'_>,
         job: &Job,
-        skips: &[RecordName],
         meter: &mut Meter,
         watch: &dyn Progress,
     ) -> Result<EmissionIndex, AllocError>
-        requires { meter.old.mapped + mapped_among skips.now (records_of plan.now) < 2 ^ 64 }
-        ensures ok { IfOk result (λ i. i ≡ triples_of job.now plan.entry.now skips.now) }
+        requires { meter.old.mapped + mapped_among kept.now.skips (records_of kept.now.cut) < 2 ^ 64 }
+        ensures ok { IfOk result (λ i. i ≡ triples_of job.now kept.now.cut kept.now.skips) }
         ensures counted { OnOk result (meter.new.mapped
-            ≡ meter.old.mapped + mapped_among skips.now (records_of plan.entry.now)) }
+            ≡ meter.old.mapped + mapped_among kept.now.skips (records_of kept.now.cut)) }
         ensures err { OnErr result ((meter.old.mapped ≤ meter.new.mapped)
-            × (meter.new.mapped ≤ meter.old.mapped + mapped_among skips.now (records_of plan.entry.now))) }
+            × (meter.new.mapped
+            ≤ meter.old.mapped + mapped_among kept.now.skips (records_of kept.now.cut))) }
         ensures lookups { meter.new.lookups ≡ meter.old.lookups }
     {
-        let kept = plan.without(alloc, skips)?;
-        let parts = map_splits(alloc, &kept, job, &mut meter.mapped, watch)?;
+        let parts = map_splits(alloc, kept, job, &mut meter.mapped, watch)?;
         Ok(EmissionIndex::join(parts))
     }
 

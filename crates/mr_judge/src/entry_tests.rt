@@ -94,28 +94,41 @@ pub(crate) fn test_first(
     Ok(())
 }
 
+/// Where an entry is: its partition, how many groups come before in it, and how many entries in
+/// its group.
+#[derive(Clone, Copy)]
+pub(crate) struct EntryPlace {
+    pub partition: u64,
+    pub group: u64,
+    pub entry: u64,
+}
+
 /// A later entry's tests: its name is past the one before, and its key is the group's.
 pub(crate) fn test_later(
-    p: u64,
-    group: u64,
-    entry: u64,
+    place: EntryPlace,
     before: Name,
     name: Name,
     group_key: &[u8],
     key: &[u8],
 ) -> Result<(), No>
-    ensures { let fs = later_tests p group entry before name group_key.now key.now in MatchResult result (λ _. fs ≡ []) (λ e. Answers fs e) }
+    ensures { let fs = later_tests place.partition place.group place.entry
+        before name group_key.now key.now in MatchResult result (λ _. fs ≡ []) (λ e. Answers fs e) }
 {
+    let EntryPlace {
+        partition,
+        group,
+        entry,
+    } = place;
     if !is_name_less(before, name) {
         return Err(No::EntryOrder {
-            partition: p,
+            partition,
             group,
             entry,
         });
     }
     if key != group_key {
         return Err(No::KeyDiffers {
-            partition: p,
+            partition,
             group,
             entry,
         });

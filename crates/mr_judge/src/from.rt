@@ -10,14 +10,14 @@ ghost use Rattle.mr_judge.specs.From.{Give, Judged, VerdictOfSome, IsVerdictFrom
 ghost use Rattle.mr_judge.specs.Readers.{StopOfSome, TellsNoRead};
 
 use crate::judge::judge_all;
+use crate::parts::Work;
 use crate::readers::{ByRef, ReaderOutputs};
 use mr_bytes::{Progress, Unwatched};
 use mr_certform::StreamWalker;
-use mr_index::Meter;
 use mr_input::Input;
 use mr_jobs::Request;
 use mr_store::CountedRead;
-use mr_verdict::{JudgeError, No, Source, Yes};
+use mr_verdict::{Computation, JudgeError, No, Source, Yes};
 use std::alloc::{AllocError, Global};
 
 fn failures_of<R: CountedRead>(alloc: Global, readers: &[R]) -> Result<Vec<u64>, AllocError>
@@ -46,16 +46,14 @@ fn first_failed<R: CountedRead>(readers: &[R], before: &[u64]) -> Option<u64>
 
 fn judge_lent<R: CountedRead, C: CountedRead>(
     alloc: Global,
-    request: &Request,
-    input: &Input,
+    computation: &Computation<'_>,
     outputs: &mut [R],
     certificate: &mut C,
-    watch: &dyn Progress,
+    progress: &dyn Progress,
 ) -> Result<Yes, JudgeError>
-    requires fits { split_total request.now.split input.now ≤ 2 ^ 20 }
-    requires parts { length outputs.old ≡ request.now.parts }
+    requires parts { length outputs.old ≡ computation.now.request.now.parts }
     requires known { IfSome (C.remaining certificate.old) AreBytes }
-    ensures { StopOfSome request.now input.now (map R.remaining outputs.old)
+    ensures { StopOfSome computation.now.request.now computation.now.input.now (map R.remaining outputs.old)
         (C.remaining certificate.old) result }
 {
     let mut outputs = ReaderOutputs::new(alloc, outputs)?;
@@ -65,18 +63,12 @@ fn judge_lent<R: CountedRead, C: CountedRead>(
             reader: certificate,
         },
     )?;
-    let meter = &mut Meter {
-        lookups: 0,
-        mapped: 0,
-    };
     judge_all(
-        alloc,
-        request,
-        input,
+        computation.request,
+        computation.input,
         &mut outputs,
         &mut walker,
-        meter,
-        watch,
+        &mut Work::new(alloc, progress),
     )
 }
 
@@ -94,7 +86,7 @@ fn fault_of(stop: JudgeError) -> No
     }
 }
 
-fn told(answer: Result<Yes, JudgeError>) -> Result<Yes, No>
+fn answer_of(answer: Result<Yes, JudgeError>) -> Result<Yes, No>
     requires { IfErr answer TellsNoRead }
     ensures verdict { (o : RequestSpec) (files outs : List (List ℕ)) (bytes : List ℕ)
         → IsVerdict o files outs bytes answer → IsVerdictFrom o files outs bytes result }
@@ -109,30 +101,28 @@ fn told(answer: Result<Yes, JudgeError>) -> Result<Yes, No>
 /// The readers' counts of failures say whether a read failed, and which.
 fn judge_from<R: CountedRead, C: CountedRead>(
     alloc: Global,
-    request: &Request,
-    input: &Input,
+    computation: &Computation<'_>,
     outputs: &mut [R],
     certificate: &mut C,
-    watch: &dyn Progress,
+    progress: &dyn Progress,
 ) -> Result<Yes, No>
-    requires fits { split_total request.now.split input.now ≤ 2 ^ 20 }
-    ensures judged { VerdictOfSome request.now input.now (map R.remaining outputs.old)
+    ensures judged { VerdictOfSome computation.now.request.now computation.now.input.now (map R.remaining outputs.old)
         (C.remaining certificate.old) result }
     ensures device { IsDevice (map R.failed outputs.old) (map R.failed outputs.new)
         (C.failed certificate.old) (C.failed certificate.new) result }
 {
     let certificate_failures = certificate.failures();
-    if outputs.len() != request.parts() as usize {
+    if outputs.len() != computation.request.parts() as usize {
         return Err(No::OutputCount);
     }
     let failures = failures_of(alloc, outputs)?;
-    let answer = judge_lent(alloc, request, input, outputs, certificate, watch);
+    let answer = judge_lent(alloc, computation, outputs, certificate, progress);
     if certificate.failures() != certificate_failures {
         return Err(No::Device(Source::Certificate));
     }
     match first_failed(outputs, &failures) {
         Some(partition) => Err(No::Device(Source::Output(partition))),
-        None => told(answer),
+        None => answer_of(answer),
     }
 }
 
@@ -164,31 +154,30 @@ pub fn check_from<R: CountedRead, C: CountedRead>(
     ensures device { IsDevice (map R.failed outputs.old) (map R.failed outputs.new)
         (C.failed certificate.old) (C.failed certificate.new) result }
 {
-    judge_readers(alloc, request, input, outputs, certificate, &Unwatched)
+    let computation = Computation { request, input };
+    judge_readers(alloc, &computation, outputs, certificate, &Unwatched)
 }
 
 /// What `check_from` does. It reports its progress as `judge_on_one_thread` does.
 pub fn judge_readers<R: CountedRead, C: CountedRead>(
     alloc: Global,
-    request: &Request,
-    input: &Input,
+    computation: &Computation<'_>,
     outputs: &mut [R],
     certificate: &mut C,
-    watch: &dyn Progress,
+    progress: &dyn Progress,
 ) -> Result<Yes, No>
-    requires { split_total request.now.split input.now ≤ 2 ^ 20 }
-    ensures judged { Judged request.now input.now (map R.remaining outputs.old)
+    ensures judged { Judged computation.now.request.now computation.now.input.now (map R.remaining outputs.old)
         (C.remaining certificate.old) result }
     ensures headline { IfOk result (λ y. (outs : List (List ℕ)) (bytes : List ℕ)
         → Give (map R.remaining outputs.old) (C.remaining certificate.old) outs bytes
-        → IsCertified request.now input.now outs bytes y.skips.items y.pairs) }
+        → IsCertified computation.now.request.now computation.now.input.now outs bytes y.skips.items y.pairs) }
     ensures verdict { (outs : List (List ℕ)) (bytes : List ℕ)
         → Give (map R.remaining outputs.old) (C.remaining certificate.old) outs bytes
-        → IsVerdictFrom request.now input.now outs bytes result }
+        → IsVerdictFrom computation.now.request.now computation.now.input.now outs bytes result }
     ensures device { IsDevice (map R.failed outputs.old) (map R.failed outputs.new)
         (C.failed certificate.old) (C.failed certificate.new) result }
 {
     // A request's splits have at least one byte.
-    let _size = request.split_size();
-    judge_from(alloc, request, input, outputs, certificate, watch)
+    let _size = computation.request.split_size();
+    judge_from(alloc, computation, outputs, certificate, progress)
 }

@@ -22,13 +22,13 @@ ghost use Rattle.mr_judge.specs.Outputs.{AllJudged, HaltsItems, HaltsOutputs, be
 
 use crate::entry_tests::Basis;
 use crate::outputs::{MemoryOutputs, Outputs};
-use crate::parts::check_parts;
-use mr_bytes::{Progress, RecordName, Unwatched};
+use crate::parts::{Work, check_parts};
+use mr_bytes::{Progress, Unwatched};
 use mr_certform::Walker;
 use mr_index::{EmissionIndex, Meter};
 use mr_input::Input;
 use mr_jobs::Request;
-use mr_splits::Plan;
+use mr_splits::{KeptPlan, Plan};
 use mr_verdict::{Case, ItemSource, JudgeError, No, Yes, expect_count, expect_header, read_skips};
 use std::alloc::{AllocError, Global};
 
@@ -46,51 +46,50 @@ pub fn plan_of<'a>(
 
 /// Judges the partitions, given the left-out records. Returns the number of pairs.
 fn check_with<I: ItemSource, O: Outputs>(
-    alloc: Global,
     request: &Request,
-    plan: &Plan<'_>,
+    kept: &KeptPlan<'_>,
     outputs: &mut O,
-    skips: &[RecordName],
     walker: &mut I,
-    meter: &mut Meter,
-    watch: &dyn Progress,
+    work: &mut Work<'_>,
 ) -> Result<u64, JudgeError>
-    requires same { plan.now.size ≡ request.now.split }
+    requires same { kept.now.cut.size ≡ request.now.split }
     requires sound { I.sound walker.old }
     requires given { CanCome (I.gives walker.old) }
     requires few { I.most walker.old < 2 ^ 63 }
     requires begins { Each (I.gives walker.old) begins }
-    requires count { (meter.old.lookups ≤ 2 ^ 63) × (meter.old.mapped ≤ 2 ^ 63) }
+    requires count { (work.old.meter.lookups ≤ 2 ^ 63) × (work.old.meter.mapped ≤ 2 ^ 63) }
     requires outputs { CanComeAhead (O.gives outputs.old) }
     requires fits { Fits (O.gives outputs.old) start }
     requires place { O.place outputs.old ≡ 0 }
     ensures judged { Through (O.gives outputs.old) start (λ outs. Judges (I.gives walker.old)
-        (subject_of (case_at request.now plan.now.files outs 0) skips.now) meter.old.lookups meter.new.lookups result) }
-    ensures mapped { (meter.old.mapped ≤ meter.new.mapped)
-        × (meter.new.mapped ≤ meter.old.mapped + length (records_of plan.now)) }
-    ensures exact { IfOk result (λ n. IsExact plan.now skips.now n meter.old meter.new) }
+        (subject_of (case_at request.now kept.now.cut.files outs 0) kept.now.skips)
+        work.old.meter.lookups work.new.meter.lookups result) }
+    ensures mapped { (work.old.meter.mapped ≤ work.new.meter.mapped)
+        × (work.new.meter.mapped ≤ work.old.meter.mapped + length (records_of kept.now.cut)) }
+    ensures exact { IfOk result
+        (λ n. IsExact kept.now.cut kept.now.skips n work.old.meter work.new.meter) }
     ensures stops { HaltsItems I.steady (I.failed walker.old) (I.failed walker.new) result }
     ensures halts { HaltsOutputs O.steady (O.failed outputs.old) (O.failed outputs.new) result }
 {
     // A plan has far fewer records than a u64 counts.
+    let plan = kept.plan();
     let _few = plan.count();
-    let index = EmissionIndex::of_watched(alloc, plan, request.job(), skips, meter, watch)?;
+    let job = request.job();
+    let index = EmissionIndex::of_kept(work.alloc, kept, job, &mut work.meter, work.progress)?;
     let basis = Basis {
         request,
         index: &index,
     };
-    check_parts(alloc, &basis, outputs, walker, meter, watch)
+    check_parts(&basis, outputs, walker, work)
 }
 
 /// Judges what comes after the header.
 fn check_rest<I: ItemSource, O: Outputs>(
-    alloc: Global,
     request: &Request,
     input: &Input,
     outputs: &mut O,
     walker: &mut I,
-    meter: &mut Meter,
-    watch: &dyn Progress,
+    work: &mut Work<'_>,
 ) -> Result<Yes, JudgeError>
     requires fits { split_total request.now.split input.now ≤ 2 ^ 20 }
     requires sound { I.sound walker.old }
@@ -98,23 +97,24 @@ fn check_rest<I: ItemSource, O: Outputs>(
     requires few { I.most walker.old < 2 ^ 63 }
     requires order { (is : List Read) (at : ℕ) → I.gives walker.old is at
         → InKind (AtSkips request.now.parts) is }
-    requires count { (meter.old.lookups ≤ 2 ^ 63) × (meter.old.mapped ≤ 2 ^ 63) }
+    requires count { (work.old.meter.lookups ≤ 2 ^ 63) × (work.old.meter.mapped ≤ 2 ^ 63) }
     requires outputs { CanComeAhead (O.gives outputs.old) }
     requires ahead { Fits (O.gives outputs.old) start }
     requires place { O.place outputs.old ≡ 0 }
     ensures judged { Through (O.gives outputs.old) start
-        (RestJudged (I.gives walker.old) request.now input.now meter.old.lookups meter.new.lookups result) }
-    ensures mapped { (meter.old.mapped ≤ meter.new.mapped)
-        × (meter.new.mapped ≤ meter.old.mapped + length (records_of (cut_by request.now input.now))) }
+        (RestJudged (I.gives walker.old) request.now input.now work.old.meter.lookups work.new.meter.lookups result) }
+    ensures mapped { (work.old.meter.mapped ≤ work.new.meter.mapped)
+        × (work.new.meter.mapped ≤ work.old.meter.mapped + length (records_of (cut_by request.now input.now))) }
     ensures exact { IfOk result
-        (λ y. IsExact (cut_by request.now input.now) y.skips.items y.pairs meter.old meter.new) }
+        (λ y. IsExact (cut_by request.now input.now) y.skips.items y.pairs work.old.meter work.new.meter) }
     ensures stops { HaltsItems I.steady (I.failed walker.old) (I.failed walker.new) result }
     ensures halts { HaltsOutputs O.steady (O.failed outputs.old) (O.failed outputs.new) result }
 {
     let listed = expect_count(walker, request.max_skips())?;
-    let plan = plan_of(alloc, request, input)?;
-    let skips = read_skips(alloc, walker, &plan, listed)?;
-    let pairs = check_with(alloc, request, &plan, outputs, &skips, walker, meter, watch)?;
+    let plan = plan_of(work.alloc, request, input)?;
+    let skips = read_skips(work.alloc, walker, &plan, listed)?;
+    let kept = plan.without(work.alloc, &skips)?;
+    let pairs = check_with(request, &kept, outputs, walker, work)?;
     Ok(Yes { skips, pairs })
 }
 
@@ -130,50 +130,43 @@ pub fn walk(certificate: &[u8]) -> Walker<'_>
 
 /// Judges a result over any source of items and any outputs, one for each partition.
 pub(crate) fn judge_all<I: ItemSource, O: Outputs>(
-    alloc: Global,
     request: &Request,
     input: &Input,
     outputs: &mut O,
     walker: &mut I,
-    meter: &mut Meter,
-    watch: &dyn Progress,
+    work: &mut Work<'_>,
 ) -> Result<Yes, JudgeError>
     requires fits { split_total request.now.split input.now ≤ 2 ^ 20 }
     requires sound { I.sound walker.old }
     requires given { CanCome (I.gives walker.old) }
     requires few { I.most walker.old ≤ 2 ^ 63 }
     requires front { (is : List Read) (at : ℕ) → I.gives walker.old is at → InKind AtMagic is }
-    requires count { (meter.old.lookups ≤ 2 ^ 63) × (meter.old.mapped ≤ 2 ^ 63) }
+    requires count { (work.old.meter.lookups ≤ 2 ^ 63) × (work.old.meter.mapped ≤ 2 ^ 63) }
     requires outputs { CanComeAhead (O.gives outputs.old) }
     requires ahead { Fits (O.gives outputs.old) start }
     requires place { O.place outputs.old ≡ 0 }
     ensures judged { Through (O.gives outputs.old) start
-        (AllJudged (I.gives walker.old) request.now input.now meter.old.lookups meter.new.lookups result) }
-    ensures mapped { (meter.old.mapped ≤ meter.new.mapped)
-        × (meter.new.mapped ≤ meter.old.mapped + length (records_of (cut_by request.now input.now))) }
+        (AllJudged (I.gives walker.old) request.now input.now work.old.meter.lookups work.new.meter.lookups result) }
+    ensures mapped { (work.old.meter.mapped ≤ work.new.meter.mapped)
+        × (work.new.meter.mapped ≤ work.old.meter.mapped + length (records_of (cut_by request.now input.now))) }
     ensures exact { IfOk result
-        (λ y. IsExact (cut_by request.now input.now) y.skips.items y.pairs meter.old meter.new) }
+        (λ y. IsExact (cut_by request.now input.now) y.skips.items y.pairs work.old.meter work.new.meter) }
     ensures stops { HaltsItems I.steady (I.failed walker.old) (I.failed walker.new) result }
     ensures halts { HaltsOutputs O.steady (O.failed outputs.old) (O.failed outputs.new) result }
 {
     expect_header(walker, request, input)?;
-    check_rest(alloc, request, input, outputs, walker, meter, watch)
+    check_rest(request, input, outputs, walker, work)
 }
 
 /// Judges a case, and adds to the meter what it looks up and maps.
-fn judge_at_hand(
-    alloc: Global,
-    case: &Case<'_>,
-    meter: &mut Meter,
-    progress: &dyn Progress,
-) -> Result<Yes, No>
-    requires count { (meter.old.lookups ≤ 2 ^ 63) × (meter.old.mapped ≤ 2 ^ 63) }
+fn judge_at_hand(case: &Case<'_>, work: &mut Work<'_>) -> Result<Yes, No>
+    requires count { (work.old.meter.lookups ≤ 2 ^ 63) × (work.old.meter.mapped ≤ 2 ^ 63) }
     ensures headline { IfOk result (IsWorth case.now) }
     ensures verdict { IsVerdictOn case.now result }
     ensures bounded { IsBounded (cut_by case.now.request.now case.now.input.now)
-        (items_of case.now.certificate.now) meter.old meter.new }
+        (items_of case.now.certificate.now) work.old.meter work.new.meter }
     ensures exact { IfOk result (λ y. IsExact (cut_by case.now.request.now case.now.input.now)
-        y.skips.items y.pairs meter.old meter.new) }
+        y.skips.items y.pairs work.old.meter work.new.meter) }
 {
     // A request's splits have at least one byte.
     let _size = case.request.split_size();
@@ -183,13 +176,11 @@ fn judge_at_hand(
     let mut walker = walk(case.certificate);
     let mut outputs = MemoryOutputs::new(case.outputs);
     match judge_all(
-        alloc,
         case.request,
         case.input,
         &mut outputs,
         &mut walker,
-        meter,
-        progress,
+        work,
     ) {
         Ok(yes) => Ok(yes),
         Err(JudgeError::Fault(fault)) => Err(fault),
@@ -208,11 +199,7 @@ pub fn judge_on_one_thread(
     ensures yes { IfOk result (λ y. verdict_on case.now ≡ Ok (accepted_of y)) }
     ensures no { IfErr result (λ e. (e ≡ OutOfMemory) ⊎ (verdict_on case.now ≡ Err e)) }
 {
-    let meter = &mut Meter {
-        lookups: 0,
-        mapped: 0,
-    };
-    judge_at_hand(alloc, case, meter, progress)
+    judge_at_hand(case, &mut Work::new(alloc, progress))
 }
 
 /// Judges a result of the request over the input: the partitions' outputs and the certificate's
@@ -276,5 +263,12 @@ pub fn check_metered(
         outputs,
         certificate,
     };
-    judge_at_hand(alloc, &case, meter, &Unwatched)
+    let mut work = Work {
+        alloc,
+        meter: *meter,
+        progress: &Unwatched,
+    };
+    let answer = judge_at_hand(&case, &mut work);
+    *meter = work.meter;
+    answer
 }

@@ -15,7 +15,7 @@ ghost use Rattle.mr_judge.specs.Borders.{at_border, between};
 ghost use Rattle.mr_judge.specs.Outputs.{CanCome, Tested, Halts};
 
 use crate::border::{Border, FoundItem};
-use crate::entry_tests::{Basis, test_end, test_first, test_later, test_named};
+use crate::entry_tests::{Basis, EntryPlace, test_end, test_first, test_later, test_named};
 use crate::lines::test_group;
 use crate::outputs::Outputs;
 use mr_bytes::{Name, Value, ValueColumn};
@@ -114,6 +114,27 @@ impl<'a> JudgeState<'a> {
         ensures { result ≡ self.now.named }
     {
         self.named
+    }
+
+    fn partition(&self) -> u64
+        ensures { result ≡ self.now.next - 1 }
+    {
+        self.next.saturating_sub(1)
+    }
+
+    /// The place of the next entry.
+    fn place(&self) -> EntryPlace
+        ensures { result ≡ record {
+          partition = self.now.next - 1;
+          group = self.now.group;
+          entry = self.now.entry;
+        } }
+    {
+        EntryPlace {
+            partition: self.partition(),
+            group: self.group,
+            entry: self.entry,
+        }
     }
 
     fn begin_partition(&mut self, groups: u64)
@@ -224,26 +245,26 @@ impl<'a> JudgeState<'a> {
     fn first_entry(
         &mut self,
         basis: &Basis<'_>,
-        p: u64,
         name: Name,
         key: &'a [u8],
         value: Value,
     ) -> Result<(), No>
         requires { HasRoom self.old }
-        ensures { let fs = first_tests
-            (rules_of basis.now.request).part p self.old.group self.old.key_before key.entry.now in
+        ensures { let fs = first_tests (rules_of basis.now.request).part
+            (self.old.next - 1) self.old.group self.old.key_before key.entry.now in
             MatchResult result (λ _. (fs ≡ []) × (self.new
             ≡ with_entry self.old (record { key = key.entry.now; value = value; name = name }) 0))
             (λ e. Answers fs e) }
     {
-        test_first(basis, p, self.group, self.key_before, key)?;
+        test_first(basis, self.partition(), self.group, self.key_before, key)?;
         self.take_first(name, key, value)?;
         Ok(())
     }
 
-    fn later_entry(&mut self, p: u64, name: Name, key: &[u8], value: Value) -> Result<(), No>
+    fn later_entry(&mut self, name: Name, key: &[u8], value: Value) -> Result<(), No>
         requires { HasRoom self.old }
-        ensures { let fs = later_tests p self.old.group self.old.entry self.old.before name self.old.key key.now in
+        ensures { let fs = later_tests (self.old.next - 1) self.old.group self.old.entry
+            self.old.before name self.old.key key.now in
             MatchResult result (λ _. (fs ≡ []) × (self.new
             ≡ record self.old {
               entry = self.old.entry + 1;
@@ -253,7 +274,7 @@ impl<'a> JudgeState<'a> {
               named = self.old.named + 1;
             })) (λ e. Answers fs e) }
     {
-        test_later(p, self.group, self.entry, self.before, name, self.key, key)?;
+        test_later(self.place(), self.before, name, self.key, key)?;
         self.take_later(name, value)?;
         Ok(())
     }
@@ -262,23 +283,22 @@ impl<'a> JudgeState<'a> {
     fn order_entry(
         &mut self,
         basis: &Basis<'_>,
-        p: u64,
         name: Name,
         key: &'a [u8],
         value: Value,
     ) -> Result<(), No>
         requires { HasRoom self.old }
-        ensures { let fs = order_tests
-            (rules_of basis.now.request).part p self.old name key.entry.now self.old.entry in
+        ensures { let fs = order_tests (rules_of basis.now.request).part
+            (self.old.next - 1) self.old name key.entry.now self.old.entry in
             MatchResult result (λ _. (fs ≡ [])
             × (self.new ≡ with_entry self.old
             (record { key = key.entry.now; value = value; name = name }) self.old.entry))
             (λ e. Answers fs e) }
     {
         if self.entry == 0 {
-            self.first_entry(basis, p, name, key, value)
+            self.first_entry(basis, name, key, value)
         } else {
-            self.later_entry(p, name, key, value)
+            self.later_entry(name, key, value)
         }
     }
 
@@ -313,28 +333,27 @@ impl<'a> JudgeState<'a> {
         &mut self,
         basis: &Basis<'_>,
         outputs: &mut O,
-        p: u64,
         name: Name,
-        key: &'a [u8],
-        value: Value,
+        found: (&'a [u8], Value),
     ) -> Result<(), JudgeError>
         requires room { HasRoom self.old }
         requires found { named basis.now.triples name
-            ≡ Some (record { key = key.now; value = value; name = name }) }
-        requires here { p ≡ self.old.next - 1 }
+            ≡ Some (record { key = found.0.now; value = found.1; name = name }) }
         requires begun { O.begun outputs.old }
         requires some { CanCome (O.gives outputs.old) }
         requires place { O.place outputs.old ≡ self.old.from }
         ensures tested { let t = named basis.now.triples name in
             Tested (O.gives outputs.old) (O.gives outputs.new) self.old self.new
-            (λ outs. entry_tests (subject_with basis.now outs) p self.old name t)
+            (λ outs. entry_tests (subject_with basis.now outs) (self.old.next - 1) self.old name t)
             (λ outs. after_entry (subject_with basis.now outs) self.old t) result }
         ensures some { CanCome (O.gives outputs.new) }
         ensures place { OnOk result (O.place outputs.new ≡ self.new.from) }
         ensures begun { O.begun outputs.new }
         ensures halts { Halts O.steady (O.failed outputs.old) (O.failed outputs.new) result }
     {
-        self.order_entry(basis, p, name, key, value)?;
+        let p = self.partition();
+        let (key, value) = found;
+        self.order_entry(basis, name, key, value)?;
         self.end_entry(basis, outputs, p)
     }
 
@@ -343,20 +362,18 @@ impl<'a> JudgeState<'a> {
         &mut self,
         basis: &Basis<'_>,
         outputs: &mut O,
-        p: u64,
         name: Name,
         found: Option<(&'a [u8], Value)>,
     ) -> Result<(), JudgeError>
         requires room { HasRoom self.old }
         requires found { let t = named basis.now.triples name in MatchOption found (t ≡ None)
             (λ p. t ≡ Some (record { key = p.0.now; value = p.1; name = name })) }
-        requires here { p ≡ self.old.next - 1 }
         requires begun { O.begun outputs.old }
         requires some { CanCome (O.gives outputs.old) }
         requires place { O.place outputs.old ≡ self.old.from }
         ensures tested { let t = named basis.now.triples name in
             Tested (O.gives outputs.old) (O.gives outputs.new) self.old self.new
-            (λ outs. entry_tests (subject_with basis.now outs) p self.old name t)
+            (λ outs. entry_tests (subject_with basis.now outs) (self.old.next - 1) self.old name t)
             (λ outs. after_entry (subject_with basis.now outs) self.old t) result }
         ensures some { CanCome (O.gives outputs.new) }
         ensures place { OnOk result (O.place outputs.new ≡ self.new.from) }
@@ -365,11 +382,11 @@ impl<'a> JudgeState<'a> {
     {
         match found {
             None => Err(JudgeError::Fault(No::NoSuchPair {
-                partition: p,
+                partition: self.partition(),
                 group: self.group,
                 entry: self.entry,
             })),
-            Some((key, value)) => self.found_entry(basis, outputs, p, name, key, value),
+            Some(pair) => self.found_entry(basis, outputs, name, pair),
         }
     }
 
@@ -418,10 +435,7 @@ impl<'a> JudgeState<'a> {
                 self.begin_group(u64::from(entries));
                 Ok(())
             }
-            Item::Entry(name) => {
-                let p = self.next.saturating_sub(1);
-                self.entry(basis, outputs, p, name, row.found)
-            }
+            Item::Entry(name) => self.entry(basis, outputs, name, row.found),
             Item::End => Ok(test_named(basis.emitted(), self.named)?),
             _ => Ok(()),
         }

@@ -89,13 +89,36 @@ impl<'a> Block<'a> {
     }
 }
 
+/// What a judgement works with: memory, its counts of what it looks up and maps, and who hears of
+/// its progress.
+#[derive(Drop)]
+pub(crate) struct Work<'w> {
+    pub alloc: Global,
+    pub meter: Meter,
+    pub progress: &'w dyn Progress,
+}
+
+impl<'w> Work<'w> {
+    pub(crate) fn new(alloc: Global, progress: &'w dyn Progress) -> Work<'w>
+        ensures { (result.meter.lookups ≡ 0) × (result.meter.mapped ≡ 0) }
+    {
+        Work {
+            alloc,
+            meter: Meter {
+                lookups: 0,
+                mapped: 0,
+            },
+            progress,
+        }
+    }
+}
+
 /// Judges all partitions and the items' end, a block at a time. Returns the number of entries.
 fn judge_blocks<'a, I: ItemSource, O: Outputs>(
     basis: &Basis<'a>,
     outputs: &mut O,
     walker: &mut I,
-    meter: &mut Meter,
-    watch: &dyn Progress,
+    work: &mut Work<'_>,
     judging: &mut JudgeState<'a>,
     block: &mut Block<'a>,
 ) -> Result<u64, JudgeError>
@@ -104,23 +127,23 @@ fn judge_blocks<'a, I: ItemSource, O: Outputs>(
     requires some { CanCome (I.gives walker.old) }
     requires few { I.most walker.old < 2 ^ 63 }
     requires begins { Each (I.gives walker.old) begins }
-    requires count { meter.old.lookups ≤ 2 ^ 63 }
+    requires count { work.old.meter.lookups ≤ 2 ^ 63 }
     requires outputs { CanComeAhead (O.gives outputs.old) }
     requires fits { Fits (O.gives outputs.old) start }
     requires place { O.place outputs.old ≡ 0 }
     ensures judged { Through (O.gives outputs.old) start
         (λ outs. Judges (I.gives walker.old)
-        (subject_with basis.now outs) meter.old.lookups meter.new.lookups result) }
-    ensures all { IfOk result (λ n. meter.new.lookups ≡ meter.old.lookups + n) }
-    ensures mapped { meter.new.mapped ≡ meter.old.mapped }
+        (subject_with basis.now outs) work.old.meter.lookups work.new.meter.lookups result) }
+    ensures all { IfOk result (λ n. work.new.meter.lookups ≡ work.old.meter.lookups + n) }
+    ensures mapped { work.new.meter.mapped ≡ work.old.meter.mapped }
     ensures stops { HaltsItems I.steady (I.failed walker.old) (I.failed walker.new) result }
     ensures halts { HaltsOutputs O.steady (O.failed outputs.old) (O.failed outputs.new) result }
 {
     let mut pace = Throttle::new(Phase::Judging, basis.emitted());
     loop {
-        pace.reach(judging.named(), watch);
+        pace.reach(judging.named(), work.progress);
         let stopped = read_block(walker, &mut block.items)?;
-        block.look_up(basis, meter)?;
+        block.look_up(basis, &mut work.meter)?;
         if judge_rows(judging, basis, outputs, &block.rows)? {
             return Ok(judging.named());
         }
@@ -131,39 +154,36 @@ fn judge_blocks<'a, I: ItemSource, O: Outputs>(
 }
 
 /// Judges all partitions and the items' end. Returns the number of entries. It looks up each entry
-/// at most once, a block ahead of the tests, and reports to `watch` how many entries are judged.
+/// at most once, a block ahead of the tests, and reports how many entries are judged.
 pub(crate) fn check_parts<I: ItemSource, O: Outputs>(
-    alloc: Global,
     basis: &Basis<'_>,
     outputs: &mut O,
     walker: &mut I,
-    meter: &mut Meter,
-    watch: &dyn Progress,
+    work: &mut Work<'_>,
 ) -> Result<u64, JudgeError>
     requires sound { I.sound walker.old }
     requires some { CanCome (I.gives walker.old) }
     requires few { I.most walker.old < 2 ^ 63 }
     requires begins { Each (I.gives walker.old) begins }
-    requires count { meter.old.lookups ≤ 2 ^ 63 }
+    requires count { work.old.meter.lookups ≤ 2 ^ 63 }
     requires outputs { CanComeAhead (O.gives outputs.old) }
     requires fits { Fits (O.gives outputs.old) start }
     requires place { O.place outputs.old ≡ 0 }
     ensures judged { Through (O.gives outputs.old) start
         (λ outs. Judges (I.gives walker.old)
-        (subject_with basis.now outs) meter.old.lookups meter.new.lookups result) }
-    ensures all { IfOk result (λ n. meter.new.lookups ≡ meter.old.lookups + n) }
-    ensures mapped { meter.new.mapped ≡ meter.old.mapped }
+        (subject_with basis.now outs) work.old.meter.lookups work.new.meter.lookups result) }
+    ensures all { IfOk result (λ n. work.new.meter.lookups ≡ work.old.meter.lookups + n) }
+    ensures mapped { work.new.meter.mapped ≡ work.old.meter.mapped }
     ensures stops { HaltsItems I.steady (I.failed walker.old) (I.failed walker.new) result }
     ensures halts { HaltsOutputs O.steady (O.failed outputs.old) (O.failed outputs.new) result }
 {
-    let mut judging = JudgeState::new(alloc);
-    let mut block = Block::new(alloc)?;
+    let mut judging = JudgeState::new(work.alloc);
+    let mut block = Block::new(work.alloc)?;
     judge_blocks(
         basis,
         outputs,
         walker,
-        meter,
-        watch,
+        work,
         &mut judging,
         &mut block,
     )

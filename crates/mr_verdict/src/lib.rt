@@ -11,6 +11,6 @@ pub use answers::{
     No, Source, Yes, fault_law, is_same_fault, locality_law, partition_law, place_law,
     worked_places, worked_rows, yes_law,
 };
-pub use case::Case;
+pub use case::{Case, Computation};
 pub use heading::{expect_count, expect_header, read_skips};
 pub use items::{ItemError, ItemSource, JudgeError};

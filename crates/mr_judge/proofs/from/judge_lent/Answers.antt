@@ -25,16 +25,16 @@ judge_all-requires-clause-outputs g c = some_to_come (reading g.R.CountedRead.re
 pub returns-in_err-outputs : goal.returns-in_err-outputs
 returns-in_err-outputs g c =
     let p = err_from_is_err_and c.from_residual.result c.from_residual.ensures.1 in
-    no_room c.args.request.now c.args.input.now (map g.R.CountedRead.remaining c.args.outputs.now) (g.C.CountedRead.remaining c.args.certificate.now) c.from_residual.result p.0 c.requires.known p.1 p.2
+    no_room c.args.computation.now.request.now c.args.computation.now.input.now (map g.R.CountedRead.remaining c.args.outputs.now) (g.C.CountedRead.remaining c.args.certificate.now) c.from_residual.result p.0 c.requires.known p.1 p.2
 
 pub returns-in_err-walker : goal.returns-in_err-walker
 returns-in_err-walker g c =
     let p = err_from_is_err_and c.from_residual-in_err-walker.result c.from_residual-in_err-walker.ensures.1 in
-    no_room c.args.request.now c.args.input.now (map g.R.CountedRead.remaining c.args.outputs.now) (g.C.CountedRead.remaining c.args.certificate.now) c.from_residual-in_err-walker.result p.0 c.requires.known p.1 p.2
+    no_room c.args.computation.now.request.now c.args.computation.now.input.now (map g.R.CountedRead.remaining c.args.outputs.now) (g.C.CountedRead.remaining c.args.certificate.now) c.from_residual-in_err-walker.result p.0 c.requires.known p.1 p.2
 
 pub returns : goal.returns
 returns g c =
     let r : Reading = reading g.R.CountedRead.remaining c.in_ok-outputs.outputs in
     let gives : Coming = Gives (stream (λ (l : ByRef g.row.C.Denot). g.C.CountedRead.remaining l.reader.now) c.in_ok-walker.walker) in
-    judged_some g.R.CountedRead.remaining c.args.outputs.now r (g.C.CountedRead.remaining c.args.certificate.now) gives c.args.request.now c.args.input.now 0 c.judge_all.new.meter.lookups c.judge_all.result
+    judged_some g.R.CountedRead.remaining c.args.outputs.now r (g.C.CountedRead.remaining c.args.certificate.now) gives c.args.computation.now.request.now c.args.computation.now.input.now c.new.result.meter.lookups c.judge_all.new.work.meter.lookups c.judge_all.result
     c.in_ok-outputs.ensures.opened (ap (λ xs. map g.R.CountedRead.remaining xs) c.in_ok-outputs.ensures.readers) c.requires.parts c.requires.known c.in_ok-walker.ensures.items c.judge_all.ensures.judged

@@ -1,7 +1,8 @@
-use Rattle.std.proofs.Common.{ℕ, List, ap, subst}
+use Rattle.std.proofs.Common.{◌≡◌, ℕ, List, ap, ◌∙◌, subst}
 use Rattle.std.specs.Prelude.{Ok, Err}
 use Rattle.std.proofs.lemmas.Result.{err_from_is_err_and}
 use Rattle.mr_splits.specs.Cut.{Cut}
+use Rattle.mr_splits.specs.Kept.{Choice}
 use Rattle.mr_bytes.specs.declared.RecordName.{RecordName}
 use Rattle.mr_verdict.specs.declared.answers.No.TheVariants.{OutOfMemory}
 use Rattle.mr_verdict.specs.declared.items.JudgeError.TheVariants.{Fault}
@@ -36,7 +37,7 @@ pub returns-in_err-listed-clause-judged : goal.returns-in_err-listed-clause-judg
 returns-in_err-listed-clause-judged g c =
     let gives = g.I.ItemSource.gives in
     let ahead = g.O.Outputs.gives c.args.outputs.now in
-    let n = c.args.meter.now.lookups in
+    let n = c.args.work.now.meter.lookups in
     let e = c.in_err-listed.field-0.0 in
     let p = err_from_is_err_and c.from_residual.result c.from_residual.ensures.1 in
     rw (p.1, p.2) (through_all ahead start (RestJudged (gives c.args.walker.now) c.args.request.now c.args.input.now n n (Err e)) c.requires.outputs
@@ -46,7 +47,7 @@ pub returns-in_err-plan-clause-judged : goal.returns-in_err-plan-clause-judged
 returns-in_err-plan-clause-judged g c =
     let gives = g.I.ItemSource.gives in
     let ahead = g.O.Outputs.gives c.args.outputs.now in
-    let n = c.args.meter.now.lookups in
+    let n = c.args.work.now.meter.lookups in
     let p = err_from_is_err_and c.from_residual-in_err-plan.result c.from_residual-in_err-plan.ensures.1 in
     rw (p.1, p.2) (through_all ahead start (RestJudged (gives c.args.walker.now) c.args.request.now c.args.input.now n n (Err (Fault OutOfMemory))) c.requires.outputs
     (λ outs. no_room (gives c.args.walker.now) c.args.request.now c.args.input.now outs n c.requires.given))
@@ -55,11 +56,20 @@ pub returns-in_err-skips-clause-judged : goal.returns-in_err-skips-clause-judged
 returns-in_err-skips-clause-judged g c =
     let gives = g.I.ItemSource.gives in
     let ahead = g.O.Outputs.gives c.args.outputs.now in
-    let n = c.args.meter.now.lookups in
+    let n = c.args.work.now.meter.lookups in
     let e = c.in_err-skips.field-0.0 in
     let p = err_from_is_err_and c.from_residual-in_err-skips.result c.from_residual-in_err-skips.ensures.1 in
     rw (p.1, p.2) (through_all ahead start (RestJudged (gives c.args.walker.now) c.args.request.now c.args.input.now n n (Err e)) c.requires.outputs
     (λ outs. skips_judged (gives c.args.walker.now) (gives c.expect_count.new.items) (gives c.read_skips.new.items) c.args.request.now c.args.input.now outs c.max_skips.result c.in_ok-listed.listed n c.in_ok-plan.plan e c.max_skips.ensures.same c.in_ok-plan.ensures.plan c.in_ok-listed.ensures.given c.in_ok-listed.ensures.counted c.in_err-skips.ensures.listed))
+
+pub returns-in_err-kept-clause-judged : goal.returns-in_err-kept-clause-judged
+returns-in_err-kept-clause-judged g c =
+    let gives = g.I.ItemSource.gives in
+    let ahead = g.O.Outputs.gives c.args.outputs.now in
+    let n = c.args.work.now.meter.lookups in
+    let p = err_from_is_err_and c.from_residual-in_err-kept.result c.from_residual-in_err-kept.ensures.1 in
+    rw (p.1, p.2) (through_all ahead start (RestJudged (gives c.args.walker.now) c.args.request.now c.args.input.now n n (Err (Fault OutOfMemory))) c.requires.outputs
+    (λ outs. no_room (gives c.args.walker.now) c.args.request.now c.args.input.now outs n c.requires.given))
 
 pub returns-in_err-pairs-clause-judged : goal.returns-in_err-pairs-clause-judged
 returns-in_err-pairs-clause-judged g c =
@@ -67,18 +77,20 @@ returns-in_err-pairs-clause-judged g c =
     let old = gives c.args.walker.now in
     let next = gives c.read_skips.new.items in
     let ahead = g.O.Outputs.gives c.args.outputs.now in
-    let n = c.args.meter.now.lookups in
-    let m = c.check_with.new.meter.lookups in
+    let n = c.args.work.now.meter.lookups in
+    let m = c.check_with.new.work.meter.lookups in
     let o = c.args.request.now in
     let files = c.args.input.now in
-    let others : List (List ℕ) = c.in_ok-plan.plan.files in
+    let others : List (List ℕ) = c.in_ok-kept.kept.cut.files in
+    let same : others ≡ files = ap (λ (k : Choice). k.cut.files) c.in_ok-kept.ensures.ok ∙ ap (λ (k : Cut). k.files) c.in_ok-plan.ensures.plan in
     let skips : List RecordName = c.in_ok-skips.skips.items in
+    let left : c.in_ok-kept.kept.skips ≡ skips = ap (λ (k : Choice). k.skips) c.in_ok-kept.ensures.ok ∙ c.deref.ensures.value in
     let e = c.in_err-pairs.field-0.0 in
     let p = err_from_is_err_and c.from_residual-in_err-pairs.result c.from_residual-in_err-pairs.ensures.1 in
     let back = listing old (gives c.expect_count.new.items) next c.in_ok-plan.plan c.max_skips.result c.in_ok-listed.listed skips c.in_ok-listed.ensures.counted c.in_ok-skips.ensures.listed in
-    rw (p.1, p.2) (through_as ahead start (λ outs. Judges next (subject_of (case_at o others outs 0) c.deref.result.now) n m (Err e)) (RestJudged old o files n m (Err e)) c.in_err-pairs.ensures.judged
-    (λ outs j. pairs_fault old next o files others outs c.max_skips.result c.in_ok-listed.listed n m c.in_ok-plan.plan skips e c.max_skips.ensures.same c.in_ok-plan.ensures.plan (ap (λ (k : Cut). k.files) c.in_ok-plan.ensures.plan) c.requires.order back
-    (subst (λ (ss : List RecordName). Judges next (subject_of (case_at o others outs 0) ss) n m (Err e)) c.deref.ensures.value j)))
+    rw (p.1, p.2) (through_as ahead start (λ outs. Judges next (subject_of (case_at o others outs 0) c.in_ok-kept.kept.skips) n m (Err e)) (RestJudged old o files n m (Err e)) c.in_err-pairs.ensures.judged
+    (λ outs j. pairs_fault old next o files others outs c.max_skips.result c.in_ok-listed.listed n m c.in_ok-plan.plan skips e c.max_skips.ensures.same c.in_ok-plan.ensures.plan same c.requires.order back
+    (subst (λ (ss : List RecordName). Judges next (subject_of (case_at o others outs 0) ss) n m (Err e)) left j)))
 
 pub returns-clause-judged : goal.returns-clause-judged
 returns-clause-judged g c =
@@ -86,13 +98,15 @@ returns-clause-judged g c =
     let old = gives c.args.walker.now in
     let next = gives c.read_skips.new.items in
     let ahead = g.O.Outputs.gives c.args.outputs.now in
-    let n = c.args.meter.now.lookups in
-    let m = c.check_with.new.meter.lookups in
+    let n = c.args.work.now.meter.lookups in
+    let m = c.check_with.new.work.meter.lookups in
     let o = c.args.request.now in
     let files = c.args.input.now in
-    let others : List (List ℕ) = c.in_ok-plan.plan.files in
+    let others : List (List ℕ) = c.in_ok-kept.kept.cut.files in
+    let same : others ≡ files = ap (λ (k : Choice). k.cut.files) c.in_ok-kept.ensures.ok ∙ ap (λ (k : Cut). k.files) c.in_ok-plan.ensures.plan in
     let skips : List RecordName = c.in_ok-skips.skips.items in
+    let left : c.in_ok-kept.kept.skips ≡ skips = ap (λ (k : Choice). k.skips) c.in_ok-kept.ensures.ok ∙ c.deref.ensures.value in
     let back = listing old (gives c.expect_count.new.items) next c.in_ok-plan.plan c.max_skips.result c.in_ok-listed.listed skips c.in_ok-listed.ensures.counted c.in_ok-skips.ensures.listed in
-    through_as ahead start (λ outs. Judges next (subject_of (case_at o others outs 0) c.deref.result.now) n m (Ok c.in_ok-pairs.pairs)) (RestJudged old o files n m (Ok (record { skips = c.in_ok-skips.skips; pairs = c.in_ok-pairs.pairs }))) c.in_ok-pairs.ensures.judged
-    (λ outs j. pairs_fine old next o files others outs c.max_skips.result c.in_ok-listed.listed n m c.in_ok-plan.plan (record { skips = c.in_ok-skips.skips; pairs = c.in_ok-pairs.pairs }) c.max_skips.ensures.same c.in_ok-plan.ensures.plan (ap (λ (k : Cut). k.files) c.in_ok-plan.ensures.plan) c.requires.order back
-    (subst (λ (ss : List RecordName). Judges next (subject_of (case_at o others outs 0) ss) n m (Ok c.in_ok-pairs.pairs)) c.deref.ensures.value j))
+    through_as ahead start (λ outs. Judges next (subject_of (case_at o others outs 0) c.in_ok-kept.kept.skips) n m (Ok c.in_ok-pairs.pairs)) (RestJudged old o files n m (Ok (record { skips = c.in_ok-skips.skips; pairs = c.in_ok-pairs.pairs }))) c.in_ok-pairs.ensures.judged
+    (λ outs j. pairs_fine old next o files others outs c.max_skips.result c.in_ok-listed.listed n m c.in_ok-plan.plan (record { skips = c.in_ok-skips.skips; pairs = c.in_ok-pairs.pairs }) c.max_skips.ensures.same c.in_ok-plan.ensures.plan same c.requires.order back
+    (subst (λ (ss : List RecordName). Judges next (subject_of (case_at o others outs 0) ss) n m (Ok c.in_ok-pairs.pairs)) left j))

@@ -9,7 +9,7 @@ use Rattle.mr_judge.proofs.judge.judge_all.Goals as goal
 pub returns-in_err-expect_header-clause-judged : goal.returns-in_err-expect_header-clause-judged
 returns-in_err-expect_header-clause-judged g c =
     let old = g.I.ItemSource.gives c.args.walker.now in
-    let n = c.args.meter.now.lookups in
+    let n = c.args.work.now.meter.lookups in
     let e = c.in_err-expect_header.field-0.0 in
     let p = err_from_is_err_and c.from_residual.result c.from_residual.ensures.1 in
     rw (p.1, p.2) (through_all (g.O.Outputs.gives c.args.outputs.now) start (AllJudged old c.args.request.now c.args.input.now n n (Err e)) c.requires.outputs
@@ -25,7 +25,7 @@ returns-clause-judged g c =
     let gives = g.I.ItemSource.gives in
     let old = gives c.args.walker.now in
     let mid = gives c.expect_header.new.items in
-    let n = c.args.meter.now.lookups in
-    let m = c.check_rest.new.meter.lookups in
+    let n = c.args.work.now.meter.lookups in
+    let m = c.check_rest.new.work.meter.lookups in
     through_as (g.O.Outputs.gives c.args.outputs.now) start (RestJudged mid c.args.request.now c.args.input.now n m c.check_rest.result) (AllJudged old c.args.request.now c.args.input.now n m c.check_rest.result) c.check_rest.ensures.judged
     (λ outs j. all_judged old mid c.args.request.now c.args.input.now outs n m c.check_rest.result c.in_ok-expect_header.ensures.met j)

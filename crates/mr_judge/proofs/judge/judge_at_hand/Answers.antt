@@ -27,7 +27,7 @@ judge_all-requires-clause-ahead g c =
 
 pub returns-in-Ok-clause-verdict : goal.returns-in-Ok-clause-verdict
 returns-in-Ok-clause-verdict g c =
-    (judged_at_hand c.args.case.now.request.now c.args.case.now.input.now (contents c.args.case.now.outputs.now) (contents c.new-outputs.result.later.now) c.new-outputs.result.rest.now c.args.case.now.certificate.now c.walk-walker.result c.args.meter.now.lookups c.judge_all.new.meter.lookups (Ok c.in-Ok.yes) c.walk-walker.ensures.bytes c.walk-walker.ensures.items c.walk-walker.ensures.stop c.new-outputs.ensures.rest (ap contents c.new-outputs.ensures.later) (as_many c.args.case.now.outputs.now c.parts.result c.args.case.now.request.now.parts c.if-case-parts.false c.parts.ensures.same) c.in-Ok.ensures.judged).0
+    (judged_at_hand c.args.case.now.request.now c.args.case.now.input.now (contents c.args.case.now.outputs.now) (contents c.new-outputs.result.later.now) c.new-outputs.result.rest.now c.args.case.now.certificate.now c.walk-walker.result c.args.work.now.meter.lookups c.judge_all.new.work.meter.lookups (Ok c.in-Ok.yes) c.walk-walker.ensures.bytes c.walk-walker.ensures.items c.walk-walker.ensures.stop c.new-outputs.ensures.rest (ap contents c.new-outputs.ensures.later) (as_many c.args.case.now.outputs.now c.parts.result c.args.case.now.request.now.parts c.if-case-parts.false c.parts.ensures.same) c.in-Ok.ensures.judged).0
 
 pub returns-in-Ok-clause-headline : goal.returns-in-Ok-clause-headline
 returns-in-Ok-clause-headline g c =
@@ -38,15 +38,15 @@ returns-in-Ok-clause-headline g c =
 
 pub returns-in-Ok-clause-bounded : goal.returns-in-Ok-clause-bounded
 returns-in-Ok-clause-bounded g c =
-    let told = judged_at_hand c.args.case.now.request.now c.args.case.now.input.now (contents c.args.case.now.outputs.now) (contents c.new-outputs.result.later.now) c.new-outputs.result.rest.now c.args.case.now.certificate.now c.walk-walker.result c.args.meter.now.lookups c.judge_all.new.meter.lookups (Ok c.in-Ok.yes) c.walk-walker.ensures.bytes c.walk-walker.ensures.items c.walk-walker.ensures.stop c.new-outputs.ensures.rest (ap contents c.new-outputs.ensures.later) (as_many c.args.case.now.outputs.now c.parts.result c.args.case.now.request.now.parts c.if-case-parts.false c.parts.ensures.same) c.in-Ok.ensures.judged in
+    let told = judged_at_hand c.args.case.now.request.now c.args.case.now.input.now (contents c.args.case.now.outputs.now) (contents c.new-outputs.result.later.now) c.new-outputs.result.rest.now c.args.case.now.certificate.now c.walk-walker.result c.args.work.now.meter.lookups c.judge_all.new.work.meter.lookups (Ok c.in-Ok.yes) c.walk-walker.ensures.bytes c.walk-walker.ensures.items c.walk-walker.ensures.stop c.new-outputs.ensures.rest (ap contents c.new-outputs.ensures.later) (as_many c.args.case.now.outputs.now c.parts.result c.args.case.now.request.now.parts c.if-case-parts.false c.parts.ensures.same) c.in-Ok.ensures.judged in
     record { lookups = told.1; mapped = c.in-Ok.ensures.mapped }
 
 pub returns-in-Err-Fault-clause-verdict : goal.returns-in-Err-Fault-clause-verdict
 returns-in-Err-Fault-clause-verdict g c =
-    let told = judged_at_hand c.args.case.now.request.now c.args.case.now.input.now (contents c.args.case.now.outputs.now) (contents c.new-outputs.result.later.now) c.new-outputs.result.rest.now c.args.case.now.certificate.now c.walk-walker.result c.args.meter.now.lookups c.judge_all.new.meter.lookups (Err c.in-Err-Fault.field-0) c.walk-walker.ensures.bytes c.walk-walker.ensures.items c.walk-walker.ensures.stop c.new-outputs.ensures.rest (ap contents c.new-outputs.ensures.later) (as_many c.args.case.now.outputs.now c.parts.result c.args.case.now.request.now.parts c.if-case-parts.false c.parts.ensures.same) c.in-Err-Fault.ensures.judged in
+    let told = judged_at_hand c.args.case.now.request.now c.args.case.now.input.now (contents c.args.case.now.outputs.now) (contents c.new-outputs.result.later.now) c.new-outputs.result.rest.now c.args.case.now.certificate.now c.walk-walker.result c.args.work.now.meter.lookups c.judge_all.new.work.meter.lookups (Err c.in-Err-Fault.field-0) c.walk-walker.ensures.bytes c.walk-walker.ensures.items c.walk-walker.ensures.stop c.new-outputs.ensures.rest (ap contents c.new-outputs.ensures.later) (as_many c.args.case.now.outputs.now c.parts.result c.args.case.now.request.now.parts c.if-case-parts.false c.parts.ensures.same) c.in-Err-Fault.ensures.judged in
     subst (λ (e : JudgeError). IsVerdict c.args.case.now.request.now c.args.case.now.input.now (contents c.args.case.now.outputs.now) c.args.case.now.certificate.now (Err e)) c.in-Err-Fault.field-0-is told.0
 
 pub returns-in-Err-Fault-clause-bounded : goal.returns-in-Err-Fault-clause-bounded
 returns-in-Err-Fault-clause-bounded g c =
-    let told = judged_at_hand c.args.case.now.request.now c.args.case.now.input.now (contents c.args.case.now.outputs.now) (contents c.new-outputs.result.later.now) c.new-outputs.result.rest.now c.args.case.now.certificate.now c.walk-walker.result c.args.meter.now.lookups c.judge_all.new.meter.lookups (Err c.in-Err-Fault.field-0) c.walk-walker.ensures.bytes c.walk-walker.ensures.items c.walk-walker.ensures.stop c.new-outputs.ensures.rest (ap contents c.new-outputs.ensures.later) (as_many c.args.case.now.outputs.now c.parts.result c.args.case.now.request.now.parts c.if-case-parts.false c.parts.ensures.same) c.in-Err-Fault.ensures.judged in
+    let told = judged_at_hand c.args.case.now.request.now c.args.case.now.input.now (contents c.args.case.now.outputs.now) (contents c.new-outputs.result.later.now) c.new-outputs.result.rest.now c.args.case.now.certificate.now c.walk-walker.result c.args.work.now.meter.lookups c.judge_all.new.work.meter.lookups (Err c.in-Err-Fault.field-0) c.walk-walker.ensures.bytes c.walk-walker.ensures.items c.walk-walker.ensures.stop c.new-outputs.ensures.rest (ap contents c.new-outputs.ensures.later) (as_many c.args.case.now.outputs.now c.parts.result c.args.case.now.request.now.parts c.if-case-parts.false c.parts.ensures.same) c.in-Err-Fault.ensures.judged in
     record { lookups = told.1; mapped = c.in-Err-Fault.ensures.mapped }

@@ -7,7 +7,7 @@ use Rattle.mr_judge.proofs.parts.judge_blocks.Given as goal
 
 abbrev pub invariant-loop-stopped : goal.invariant-loop-stopped
 invariant-loop-stopped g l = record {
-  going : Going (g.O.Outputs.gives l.initial.outputs) (g.O.Outputs.gives l.outputs) (g.I.ItemSource.gives l.initial.walker) (g.I.ItemSource.gives l.walker) l.basis l.judging l.initial.meter.lookups l.meter.lookups;
+  going : Going (g.O.Outputs.gives l.initial.outputs) (g.O.Outputs.gives l.outputs) (g.I.ItemSource.gives l.initial.walker) (g.I.ItemSource.gives l.walker) l.basis l.judging l.initial.work.meter.lookups l.work.meter.lookups;
   given : CanCome (g.I.ItemSource.gives l.walker);
   some : CanComeAhead (g.O.Outputs.gives l.outputs);
   place : g.O.Outputs.place l.outputs ≡ l.judging.from;
@@ -16,8 +16,8 @@ invariant-loop-stopped g l = record {
   count : g.I.ItemSource.failed l.walker ≡ g.I.ItemSource.failed l.initial.walker;
   failed : g.O.Outputs.failed l.outputs ≡ g.O.Outputs.failed l.initial.outputs;
   room : Room l.judging (g.I.ItemSource.most l.walker) (g.I.ItemSource.most l.initial.walker);
-  looked : l.meter.lookups ≡ l.initial.meter.lookups + l.judging.named;
-  mapped : l.meter.mapped ≡ l.initial.meter.mapped;
+  looked : l.work.meter.lookups ≡ l.initial.work.meter.lookups + l.judging.named;
+  mapped : l.work.meter.mapped ≡ l.initial.work.meter.mapped;
 }
 
 abbrev pub decreases-loop-stopped : goal.decreases-loop-stopped

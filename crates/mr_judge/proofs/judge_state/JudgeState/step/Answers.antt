@@ -2,7 +2,7 @@ use Rattle.std.proofs.Common.{◌≡◌, ◌-◌, ap, sym, ◌∙◌}
 use Rattle.mr_input.specs.Files.{nth_file}
 use Rattle.mr_sequential.specs.Good.{named}
 use Rattle.mr_certform.specs.declared.grammar_state.Item.TheVariants.{Groups, Entry}
-use Rattle.mr_verdict.specs.Verdict.{Reached, tests, after, end_tests, entry_tests, after_entry}
+use Rattle.mr_verdict.specs.Verdict.{tests, after, end_tests, entry_tests, after_entry}
 use Rattle.mr_verdict.specs.Steps.{subject_with}
 use Rattle.mr_judge.proofs.OutputLemmas.{tested_as, opened_at}
 use Rattle.mr_judge.proofs.judge_state.JudgeState.step.Goals as goal
@@ -21,5 +21,4 @@ returns-in-Entry-clause-tested g c =
     let st = c.args.self.now in
     let b = c.args.basis.now in
     let item : Entry c.in-Entry.name ≡ c.args.row.now.item = sym c.in-Entry.is in
-    let p : c.saturating_sub-p.result ≡ st.next - 1 = c.saturating_sub-p.ensures ∙ ap (λ (w : Reached). w.next - 1) c.self.view_is in
-    tested_as (gives c.args.outputs.now) (gives c.entry.new.outputs) st c.entry.new.self (λ outs. entry_tests (subject_with b outs) c.saturating_sub-p.result st c.in-Entry.name (named b.triples c.in-Entry.name)) (λ outs. tests (subject_with b outs) st c.args.row.now.item) (λ outs. after_entry (subject_with b outs) st (named b.triples c.in-Entry.name)) (λ outs. after (subject_with b outs) st c.args.row.now.item) c.entry.result (λ outs. ap (λ n. entry_tests (subject_with b outs) n st c.in-Entry.name (named b.triples c.in-Entry.name)) p ∙ ap (tests (subject_with b outs) st) item) (λ outs. ap (after (subject_with b outs) st) item) c.entry.ensures.tested
+    tested_as (gives c.args.outputs.now) (gives c.entry.new.outputs) st c.entry.new.self (λ outs. entry_tests (subject_with b outs) (st.next - 1) st c.in-Entry.name (named b.triples c.in-Entry.name)) (λ outs. tests (subject_with b outs) st c.args.row.now.item) (λ outs. after_entry (subject_with b outs) st (named b.triples c.in-Entry.name)) (λ outs. after (subject_with b outs) st c.args.row.now.item) c.entry.result (λ outs. ap (tests (subject_with b outs) st) item) (λ outs. ap (after (subject_with b outs) st) item) c.entry.ensures.tested
