@@ -8,8 +8,8 @@
 //! A read asks for at most 64 KiB. Its buffer is on the stack; only a `ReadBuffer` allocates one,
 //! once. Writes are not buffered here: a value of many small pieces brings its own buffer, as a
 //! certificate does. Writing allocates nothing, so it can't stop half-way for want of memory of its
-//! own. No failed call is repeated. After a failure a list is as it was, and a file has only a front
-//! part of its bytes, not flushed.
+//! own. No failed call is repeated. After a failure a list is as it was, and a file has only a
+//! front part of its bytes, not flushed.
 #![tactic(auto)]
 
 mod device;
