@@ -6,8 +6,8 @@
 //! The version goes beside the state of a walk, and not into it: no item and no state has a
 //! version, so what judges items judges both. A certificate has one encoding in version 1, and at
 //! most one in version 2. `Certificate::in_version` finds out whether it has one. The names of a
-//! good result rise, so it has both. Counts keep four bytes in both, so a walk finds the groups of
-//! version 1 unread.
+//! good result rise, so it has both. Counts keep four bytes in both: there is one for each group,
+//! not for each pair.
 //! Source: docs/FORMATS.md, "The certificate".
 ghost use Rattle.std.specs.Prelude.{◌≡◌, ◌≤◌, ◌↔◌, IsTrue, MatchOption, length};
 ghost use Rattle.std.specs.List.{AllByRecursion};
