@@ -18,7 +18,7 @@ use mr_files::{LimitFault, Store, read_result_within};
 use mr_input::Input;
 use mr_jobs::Request;
 use mr_shard_files::part_notes;
-use mr_shards::{verdict_for, write_verdict};
+use mr_shards::{Verdict, verdict_for, write_verdict};
 use std::alloc::{AllocError, Global};
 use std::marker::Brand;
 use std::thread::Threads;
@@ -156,9 +156,14 @@ impl<'a> CheckJob<'a> {
             return Ok(None);
         };
         let inputs = input_notes(alloc, self.asked.options.files.as_slice(), self.input)?;
-        let parts = part_notes(alloc, outputs)?;
+        let outputs = part_notes(alloc, outputs)?;
         let left_out = yes.skips.as_slice();
-        let verdict = verdict_for(alloc, self.request, inputs, parts, left_out, yes.pairs)?;
+        let verdict = verdict_for(alloc, self.request, left_out, yes.pairs)?;
+        let verdict = Verdict {
+            inputs,
+            outputs,
+            ..verdict
+        };
         Ok(Some(write_verdict(alloc, &verdict)?))
     }
 

@@ -110,45 +110,6 @@ impl Known {
     }
 }
 
-/// Searches on until there is a match, or none can begin at `last` or before.
-fn look_on<'l>(
-    text: &[u8],
-    literal: &'l [u8],
-    fold: bool,
-    known: Known,
-    last: usize,
-    finder: &mut Option<Finder<'l>>,
-) -> Known
-    requires last { last + length literal.now ≤ length text.now }
-    requires so { AreSo (record { text = text.now; literal = literal.now; fold = fold }) known }
-    requires finder { IfSome finder.old (λ f. f ≡ literal.now) }
-    ensures finder { IfSome finder.new (λ f. f ≡ literal.now) }
-    ensures so { AreSo (record { text = text.now; literal = literal.now; fold = fold }) result }
-    ensures rises { (result.from ≡ known.from) × (known.clear ≤ result.clear) }
-    ensures settled { IsTrue result.found ⊎ (last < result.clear) }
-{
-    if known.found || last < known.clear {
-        return known;
-    }
-    let goal = (last + literal.len())
-        .max(known.clear.saturating_add(known.reach))
-        .min(text.len());
-    match find(&text[known.clear..goal], literal, fold, finder) {
-        Some(skipped) => Known {
-            from: known.from,
-            clear: known.clear + skipped,
-            found: true,
-            reach: SHORT_REACH,
-        },
-        None => Known {
-            from: known.from,
-            clear: goal + 1 - literal.len(),
-            found: false,
-            reach: known.reach.saturating_mul(2).min(LONG_REACH),
-        },
-    }
-}
-
 impl<'t, 'l> LiteralSearch<'t, 'l> {
     pub(crate) fn new(text: &'t [u8], literal: &'l [u8], fold: bool) -> LiteralSearch<'t, 'l>
         ensures { result ≡ record { text = text.entry.now; literal = literal.entry.now; fold = fold } }
@@ -164,6 +125,39 @@ impl<'t, 'l> LiteralSearch<'t, 'l> {
                 reach: SHORT_REACH,
             },
             finder: None,
+        }
+    }
+
+    /// Searches on until there is a match, or none can begin at `last` or before.
+    fn look_on(&mut self, known: Known, last: usize) -> Known
+        requires last { last + length self.old.literal ≤ length self.old.text }
+        requires so { AreSo self.old known }
+        ensures same { self.new ≡ self.old }
+        ensures so { AreSo self.old result }
+        ensures rises { (result.from ≡ known.from) × (known.clear ≤ result.clear) }
+        ensures settled { IsTrue result.found ⊎ (last < result.clear) }
+    {
+        if known.found || last < known.clear {
+            return known;
+        }
+        let literal = self.literal;
+        let goal = (last + literal.len())
+            .max(known.clear.saturating_add(known.reach))
+            .min(self.text.len());
+        let searched = &self.text[known.clear..goal];
+        let Some(skipped) = find(searched, literal, self.fold, &mut self.finder) else {
+            return Known {
+                from: known.from,
+                clear: goal + 1 - literal.len(),
+                found: false,
+                reach: known.reach.saturating_mul(2).min(LONG_REACH),
+            };
+        };
+        Known {
+            from: known.from,
+            clear: known.clear + skipped,
+            found: true,
+            reach: SHORT_REACH,
         }
     }
 
@@ -183,14 +177,7 @@ impl<'t, 'l> LiteralSearch<'t, 'l> {
             return false;
         }
         let known = self.known.from_line(start);
-        self.known = look_on(
-            self.text,
-            self.literal,
-            self.fold,
-            known,
-            last,
-            &mut self.finder,
-        );
+        self.known = self.look_on(known, last);
         self.known.clear <= last
     }
 }

@@ -197,8 +197,7 @@ pub fn join_verdicts(
     ensures ok { IfOk result (IsJoined request.now verdicts.now) }
     ensures err { IfErr result (IsJoinFault request.now verdicts.now) }
 {
-    let (inputs, outputs) = (Vec::new(alloc), Vec::new(alloc));
-    let verdict = verdict_for(alloc, request, inputs, outputs, &[], 0)?;
+    let verdict = verdict_for(alloc, request, &[], 0)?;
     let mut joined = Joined { verdict, splits: 0 };
     for (shard, verdict) in verdicts.iter().enumerate() {
         add_verdict(alloc, request, &mut joined, shard, verdict)?;

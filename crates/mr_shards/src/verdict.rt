@@ -188,15 +188,14 @@ pub fn is_note_of(note: &FileNote, bytes: &[u8]) -> bool
     digest.as_slice() == note.digest.as_slice()
 }
 
+/// The verdict for a request, without notes of files.
 pub fn verdict_for(
     alloc: Global,
     request: &Request,
-    inputs: Vec<FileNote>,
-    outputs: Vec<FileNote>,
     left_out: &[RecordName],
     pairs: u64,
 ) -> Result<Verdict, AllocError>
-    ensures { IfOk result (λ v. v ≡ verdict_for request.now inputs.items outputs.items left_out.now pairs) }
+    ensures { IfOk result (λ v. v ≡ verdict_for request.now [] [] left_out.now pairs) }
 {
     let job = request.job();
     Ok(Verdict {
@@ -205,8 +204,8 @@ pub fn verdict_for(
         literal: Vec::from_slice(alloc, job.literal())?,
         parts: request.parts(),
         split: request.split_size(),
-        inputs,
-        outputs,
+        inputs: Vec::new(alloc),
+        outputs: Vec::new(alloc),
         left_out: Vec::from_slice(alloc, left_out)?,
         pairs,
     })

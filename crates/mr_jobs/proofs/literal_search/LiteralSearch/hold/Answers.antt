@@ -1,6 +1,6 @@
-use Rattle.std.proofs.Common.{arith, sym, ap, subst, length}
+use Rattle.std.proofs.Common.{arith, sym, ap, length}
 use Rattle.mr_jobs.specs.declared.literal_search.Known.{Known}
-use Rattle.mr_jobs.specs.Hits.{Sought, AreSo}
+use Rattle.mr_jobs.specs.Hits.{Sought}
 use Rattle.mr_jobs.proofs.HitLemmas.{line-holds, line-short}
 use Rattle.mr_jobs.proofs.literal_search.LiteralSearch.hold.Goals as goal
 
@@ -21,5 +21,5 @@ returns-clause-line c =
     let sought : Sought = c.args.self.now in
     let known : Known = c.look_on-self-inside.result in
     let size = ap (λ (s : Sought). length s.literal) c.self.view_is in
-    line-holds sought known c.args.start c.args.end c.in-Some.last (subst (λ (s : Sought). AreSo s known) c.self.view_is c.look_on-self-inside.ensures.so)
+    line-holds sought known c.args.start c.args.end c.in-Some.last c.look_on-self-inside.ensures.so
     (omega arith) (omega arith) (omega arith) (omega arith) (omega (arith, size)) c.look_on-self-inside.ensures.settled
