@@ -1,4 +1,14 @@
 //! Assembles the result of a done job: the reduce outputs, and the groups of the certificate.
+//!
+//!     partition            0   1   2
+//!     committed            12  7   9           numbers, from the master's state
+//!     outputs              text, counts and names of each, from the store
+//!     files                part-00000 ...      the texts
+//!     certificate          the header with the left-out records; counts and names, flat
+//!
+//! `assemble` gives the certificate as a value; `spelling.rt` gives its bytes, without a list of
+//! all names. The result is good where each committed output is its attempt's value (`IsFaithful`).
+//! Cost: each byte and name is copied once.
 ghost use Rattle.std.specs.Prelude.{◌≡◌, ℕ, List, ◌<◌, ◌≤◌, ◌++◌, Some, IfOk, OnOk, length, map};
 ghost use Rattle.std.specs.Prelude.{slice_index_or, ◌∷◌, [], ◌^◌};
 ghost use Rattle.mr_input.specs.Files.{contents};

@@ -1,4 +1,15 @@
 //! The master's book, and laws of every book and of the result that a master's state names.
+//!
+//!     ask, map_failed, lose, damaged     a step of the master
+//!     fetch                              and a share of the output, where there is one
+//!     map_done, reduce_done              and the output is stored, where it is accepted
+//!
+//! An output is shared (`Arc`) and never copied. A call takes its memory, for the event, the output
+//! or the share, before the master steps, so a refusal changes nothing.
+//! Invariant: each accepted output is stored, under the number of events before its own. A lost one
+//! stays stored, since an attempt may still hold it.
+//! Cost: a step of the master, and a binary search for a fetch. The laws speak of the state and of
+//! reduce outputs by number, and of no region or merge.
 ghost use Rattle.std.specs.Prelude.{◌≡◌, ◌+◌, [], Some, None, IfOk, IfErr, OnOk, OnErr, length};
 ghost use Rattle.std.specs.Prelude.{replicate, sum, vec_len, is_some, if◌then◌else◌, IsSome};
 ghost use Rattle.mr_core.specs.declared.event.Event.{Event};

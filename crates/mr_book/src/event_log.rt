@@ -1,4 +1,15 @@
-//! The master with its history: each event, and its reply. Workers reach a book through their seats.
+//! The master with its history: each event, and its reply. Workers reach a book through their
+//! seats.
+//!
+//!     seat 0    3 calls  \
+//!     seat 1    2 calls   >   ledger: 5 calls   =   5 entries of the history
+//!     seat 2    0 calls  /
+//!
+//! Invariant: the history is a run of the master, and the ledger's total is its length. `close`
+//! takes all seats, so it shows that the history has as many events as the seats made calls,
+//! whoever held them. The ledger takes no room at run time. A waiting worker looks at `grown` to
+//! see news.
+//! Cost: an entry and two equal replies a call; one reply is kept, and one returned.
 ghost use Rattle.std.specs.Prelude.{◌≡◌, ◌+◌, ◌≤◌, ◌∷◌, ◌++◌, [], length, replicate, sum, vec_len};
 ghost use Rattle.std.specs.Prelude.{IfOk, OnOk, OnErr, ◌^◌, ◌<◌, ℕ};
 ghost use Rattle.mr_core.specs.declared.event.Reply.{Reply};

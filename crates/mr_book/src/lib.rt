@@ -1,5 +1,12 @@
-//! The master's book: the master, its whole history and the outputs that it accepted (OSDI 2004,
-//! section 3.2). A done job's result is assembled from it, and laws state what that is worth.
+//! The master's book: the master, its whole history and the outputs that it accepted.
+//!
+//!     workers, each with a seat  ->  Book [ EventLog: master, history | OutputStore x 2 ]
+//!     a done book                ->  assemble, assemble_bytes  ->  files, certificate
+//!     a book and all its seats   ->  close                     ->  History
+//!
+//! Workers in many threads share one book under a lock. Which outputs make the result follows from
+//! the master's state alone. Laws state what that result is worth where workers did their tasks.
+//! Source: OSDI 2004, sections 3.2 and 3.3.
 #![tactic(auto)]
 
 mod assembling;

@@ -1,4 +1,12 @@
-//! Outputs under their numbers.
+//! Accepted outputs under their numbers: a store of those of map tasks, another of reduce tasks.
+//!
+//!     number    [ 3    7    12  ]      how many events the history had before
+//!     output    [ Arc  Arc  Arc ]
+//!
+//! Invariant: numbers rise, since a new one is past all others. So a store only appends, and finds
+//! an output by binary search. Nothing leaves it. `reserve` comes first, so that `store` can't
+//! fail.
+//! Cost: a number and a pointer beside each output, which is not copied.
 ghost use Rattle.std.specs.Prelude.{◌≡◌, ℕ, ◌≤◌, ◌∷◌, ◌++◌, [], IfOk, OnOk, IsSome, Some};
 ghost use Rattle.std.specs.Arc.{arc_value};
 ghost use Rattle.std.specs.Ordering.{nat_cmp};

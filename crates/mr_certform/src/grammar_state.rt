@@ -1,8 +1,15 @@
-//! The items of a certificate, one per row of its table, and the states of their grammar: which item
-//! comes next, and which state follows it.
+//! The items of a certificate, one per row of its table, and the grammar of their order as a
+//! machine: in a state one kind of item may come next, and that item decides the state after it.
 //!
-//!     Magic Job Flags LiteralLength LiteralByte* Parts SplitSize Files FileLength* Skips Skip*
-//!     ( Groups ( Entries Entry* )* )*  End
+//!     AtMagic  AtJob  AtFlags  AtLiteralLength(n)  n AtLiteralByte  AtParts(p)  AtSplitSize
+//!     AtFiles(n)  n AtFileLength  AtSkips(n)  n AtSkip
+//!     p times  AtGroups(g)     g times  AtEntries(e)     e times  AtEntry
+//!     AtEnd
+//!
+//! A count that is read becomes the state's number of items to come: 0 goes on to what follows. So
+//! a nested loop is three numbers in a state, and needs no stack. A state also has the name before
+//! in the group, from which version 2 decodes the next one.
+//! Cost: a step per item; a state is a few numbers.
 ghost use Rattle.std.specs.Prelude.{◌≡◌};
 ghost use Rattle.mr_certform.specs.Places.{behind as place_behind, literal_bytes, file_lengths};
 ghost use Rattle.mr_certform.specs.Places.{partitions, skips, groups as groups_from, entries};

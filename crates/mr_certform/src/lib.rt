@@ -1,4 +1,15 @@
-//! The certificate of a result: its items, its value, and how it is read and written.
+//! The certificate of a result: it names, for each group of each partition, the pairs that made it.
+//!
+//!     bytes         -> Walker         -> items, one by one     (front.rt decodes, by a state)
+//!     a reader      -> StreamWalker   -> items, one by one
+//!     bytes         -> read           -> Certificate           (flat lists)
+//!     Certificate   -> write, Encode  -> a list of bytes, or a writer
+//!     a header, then partitions       -> write_header, write_partition -> a list of bytes
+//!
+//! Only the magic and the encoding of names depend on the version, so items and states have none.
+//! Cost: a walk takes no memory but a reader's buffer; a `Certificate` takes 12 bytes a name and 4
+//! a group.
+//! Source: docs/FORMATS.md, "The certificate".
 #![tactic(auto)]
 
 mod certificate;

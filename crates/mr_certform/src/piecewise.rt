@@ -1,5 +1,13 @@
-//! Encodes a certificate piece by piece, its front and then its partitions, without a list of
-//! names.
+//! Encodes a certificate piece by piece: its front, then each partition, onto one list of bytes.
+//!
+//!     write_header                 [ magic ... left-out records ]
+//!     write_partition, each time   [ groups [ entries name* ]* ]
+//!
+//! A run's certificate is encoded so, from where its reduce tasks left their names: each name is
+//! copied once, and there is no list of all names.
+//! Invariant: the bytes so far encode the header and the partitions so far (`SpellsSoFar`). After
+//! the last partition they are the whole certificate (`pieces_law`).
+//! Cost: linear in the bytes, which are all the memory. How much room is reserved is a hint.
 ghost use Rattle.std.specs.Prelude.{◌≡◌, ◌≤◌, ◌<◌, ◌^◌, ◌++◌, ◌∷◌, [], OnOk, IfOk, length};
 ghost use Rattle.std.specs.List.{AllByRecursion};
 ghost use Rattle.mr_certform.specs.Flat.{total, chunks};

@@ -4,9 +4,11 @@
 //!     rec      less  before.rec,   if the split is the same
 //!     place    less  before.place, if split and record are the same
 //!
-//! Each of the three numbers is in base 128, its lowest digit first, with 128 added to every byte
-//! but the last. Its last byte is 0 only if it is the only one, so each number has one encoding. A
-//! sum past 32 bits is no name. The first name of a group follows the name 0, 0, 0.
+//! Pairs of one key are mostly near each other, so most of the numbers take one byte. Each number
+//! is in base 128 (LEB128), its lowest digit first, with 128 added to every byte but the last. Its
+//! last byte is 0 only if it is the only one, so each number has one encoding. A sum past 32 bits
+//! is no name. The first name of a group follows the name 0, 0, 0.
+//! Source: docs/FORMATS.md, "The certificate".
 ghost use Rattle.std.specs.Prelude.{◌≡◌, ◌↔◌, ◌<◌, ◌≤◌, ◌+◌, ◌++◌, ◌∷◌, [], Some, None, IsTrue};
 ghost use Rattle.std.specs.Prelude.{MatchOption, IfSome, length};
 ghost use Rattle.mr_certform.specs.Short.{added, short, short_at, place_base, record_base};

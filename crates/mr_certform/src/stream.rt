@@ -1,4 +1,14 @@
-//! Walks the items of a reader's bytes, front to back. Its buffer is all the memory that it takes.
+//! Walks the items of a reader's bytes, front to back, through a buffer.
+//!
+//!     reader  ->  [ held | room ]       64 KiB; held: bytes that are read and not passed
+//!
+//! Before it decodes an item it holds 15 bytes, as many as the longest item has, or all that are
+//! left. So it decodes each item as from the whole bytes, and no item is cut by the end of a read.
+//! What a reader will give may be unknown. So a step's clause (`Told`) goes backwards: whatever
+//! items may come after the step came before it too, behind the item that it returned. For known
+//! bytes that names the items.
+//! Cost: reads each byte once, and moves at most 14 bytes before a read. The buffer is all its
+//! memory.
 ghost use Rattle.std.specs.Prelude.{◌≡◌, ◌⊎◌, ℕ, ◌≤◌, ◌<◌, ◌+◌, ◌-◌, ◌^◌, List, Some, None, IfOk};
 ghost use Rattle.std.specs.Prelude.{OnOk, IfSome, MatchResult, true, length};
 ghost use Rattle.mr_store.specs.Devices.{Counts, FailsOnly};

@@ -1,4 +1,14 @@
-//! The versions of a certificate.
+//! The versions of a certificate, which differ in the magic and in how they encode a name.
+//!
+//!     V1   twelve bytes                       any names
+//!     V2   3 to 15 bytes (`short.rt`)         no name less than the one before it in its group
+//!
+//! The version goes beside the state of a walk, and not into it: no item and no state has a
+//! version, so what judges items judges both. A certificate has one encoding in version 1, and at
+//! most one in version 2. `Certificate::in_version` finds out whether it has one. The names of a
+//! good result rise, so it has both. Counts keep four bytes in both: there is one for each group,
+//! not for each pair.
+//! Source: docs/FORMATS.md, "The certificate".
 ghost use Rattle.std.specs.Prelude.{◌≡◌, ◌≤◌, ◌↔◌, IsTrue, MatchOption, length};
 ghost use Rattle.std.specs.List.{AllByRecursion};
 ghost use Rattle.mr_certform.specs.Flat.{total, chunks, contents_of, IsWhole};

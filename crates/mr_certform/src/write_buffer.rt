@@ -1,6 +1,12 @@
 //! What accepts bytes piece by piece: a list, or a writer behind a buffer.
 //!
-//! The buffer collects small pieces, and writes some 64 KiB at a time. It allocates nothing.
+//!     put, put, put ...  ->  piece [ filled | room ]  ->  write_all, when the next does not fit
+//!
+//! The buffer collects small pieces, and writes some 64 KiB at a time. After a call fails it drops
+//! all bytes, and `finish` reports the failure. So the code that puts numbers can't fail at a
+//! writer, and the same code encodes onto a list. `std::io::BufWriter` would allocate, and its
+//! writer can't report whether memory was lacking.
+//! Cost: each byte is copied once. The buffer is on the stack; it allocates nothing.
 ghost use Rattle.std.specs.Prelude.{◌≡◌, ◌≤◌, ◌+◌, List, ℕ, [], ◌++◌, true, false, OnOk};
 ghost use Rattle.std.specs.Prelude.{MatchResult, length, take};
 ghost use Rattle.mr_certform.specs.Sinks.{Passes, list_joined, list_same};

@@ -1,4 +1,11 @@
-//! The attempts of a job, with two indices: the count of each task, and each worker's live attempt.
+//! The attempts of a job, with two indices.
+//!
+//!     items      [ a0 a1 a2 a3 ]           all attempts in the order of issue, live or ended
+//!     counts     task    ->  how many were issued, and how many of these are live
+//!     current    worker  ->  its live attempt; it has at most one
+//!
+//! Invariant: the indices are what a search of `items` would find (`IsIndexed`).
+//! Cost: each question and each change takes one step, whatever the number of attempts.
 ghost use Rattle.std.specs.Prelude.{◌≡◌, ℕ, ◌<◌, ◌^◌, true, false, Some, [], ◌∷◌, ◌++◌, ◌&&◌, ◌==◌};
 ghost use Rattle.std.specs.Prelude.{map, length, slice_get, MatchOption, OnOk, OnErr, IfOk, ◌+◌};
 ghost use Rattle.std.specs.Prelude.{◌≤◌, replicate, Option, None};
@@ -14,8 +21,7 @@ use crate::splits::Splits;
 use std::alloc::{AllocError, Global};
 use std::marker::Model;
 
-/// All attempts, in the order of their issue. The indices answer each question, and follow each
-/// change, in one step, whatever the number of attempts. A worker has at most one live attempt.
+/// All attempts, in the order of their issue.
 #[derive(Drop)]
 pub(crate) struct Attempts {
     items: Vec<Attempt>,

@@ -1,4 +1,9 @@
 //! The entries of a master's lists: splits, attempts, and committed outputs.
+//!
+//! A reduce attempt has an entry for each split: the output that it fetched there last. A map
+//! attempt has none. A map attempt holds its left-out records twice: one list stays with the
+//! attempt, and the split takes over the other when it accepts the output, so acceptance allocates
+//! nothing. `Outputs` counts what is missing, so whether all partitions are committed is one look.
 ghost use Rattle.std.specs.Prelude.{◌≡◌, ℕ, Bool, true, false, Option, Some, None, List, [], ◌∷◌};
 ghost use Rattle.std.specs.Prelude.{◌==◌, ◌&&◌, map, is_some, is_none, nat_lt, length, slice_get};
 ghost use Rattle.std.specs.Prelude.{OnOk, OnErr, IfOk, replicate, ◌+◌};

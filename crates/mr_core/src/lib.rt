@@ -1,4 +1,12 @@
-//! The master of a job, as a pure machine: events in, replies out.
+//! The master of a job, as a pure machine: events in, replies out. No thread, clock or file.
+//!
+//!     event     Ask | Fetch MapDone MapFailed ReduceDone Damaged | Lose
+//!     reply     Map Reduce Wait Stop | Region Gone | Accepted Ignored
+//!
+//! State, event and reply decide the next state, so a run is the replay of its history. Each row of
+//! the master's table is in `tables/asks.rt` or `tables/reports.rt`.
+//! Source: OSDI 2004, sections 3.2 (the master's data), 3.3 (faults), 3.6 (backup tasks), 4.6
+//! (skipping bad records).
 #![tactic(auto)]
 
 mod attempts;

@@ -1,4 +1,15 @@
 //! The master: a call for each event, queries between events, and laws of every run.
+//!
+//!     event  ->  after the end: Stop for an ask, Ignored for the rest
+//!            ->  before it: a row of the tables, then a test of the ends  ->  reply
+//!
+//! Of several ends the first holds: every partition is committed; every worker is lost; one record
+//! too many would be left out; a task is stuck. A worker learns of it by its next ask. Only `ask`
+//! and `map_failed` allocate, and a refusal leaves all as it was. So no completion is lost for want
+//! of memory. `apply_with_copy` makes both replies before the state changes, for the same reason: a
+//! copy made afterwards could fail.
+//! Cost: a few steps an event, but for a lost worker (`tables.rt`).
+//! Source: OSDI 2004, sections 3.2, 3.3, 3.6 and 4.6.
 ghost use Rattle.std.specs.Prelude.{◌≡◌, OnOk, OnErr, IfOk, [], ◌<◌, ℕ, true, Some, None, List};
 ghost use Rattle.std.specs.Prelude.{◌∷◌, ◌++◌, ◌↔◌, is_some, slice_get};
 ghost use Rattle.mr_core.specs.declared.event.Event.{Event};

@@ -1,11 +1,15 @@
-//! The master's state: its lists, and the ends of the job.
+//! The master's tables, and the ends of the job.
 //!
-//! An event takes a few steps, whatever the number of attempts and tasks: counts are kept beside
-//! the lists, and no search repeats. Below the cursors `next_map` and `next_part` no task is idle
-//! (incomplete and without a live attempt). An ask searches from there on. An attempt that ends
-//! without completing its task moves the cursor back to it. Before an event no task is stuck, so
-//! the ends are tested only for the task that the event touched. Only the loss of a worker visits
-//! all tasks, and resets both cursors.
+//!     lost       [ worker ]     a flag           attempts   in the order of issue (`attempts.rt`)
+//!     splits     [ split ]      left-out records, whether they are fixed, output and its worker
+//!     committed  [ partition ]  an output        failures   [ split ]  the records that failed
+//!     next_map, next_part       no task below is idle: incomplete and without a live attempt
+//!
+//! Cost: a few steps an event, whatever the number of attempts and tasks. An ask searches on from a
+//! cursor; an attempt that ends without completing its task moves the cursor back to it. A task
+//! that is incomplete, without a live attempt and out of attempts is stuck. No task is so before an
+//! event, so the ends are tested for the tasks that the event touched. Only the loss of a worker
+//! visits all tasks, and resets both cursors.
 ghost use Rattle.std.specs.Prelude.{◌≡◌, ℕ, true, false, Option, Some, None, ◌==◌, ◌<◌, nat_lt};
 ghost use Rattle.std.specs.Prelude.{MatchOption, IfOk, slice_get};
 ghost use Rattle.std.specs.List.{list_any};

@@ -1,6 +1,16 @@
 //! The system's files. std's contracts don't say what bytes a name holds, so check by reading: the
 //! code opens the file of the given name, once, and reads or writes that file. It also keeps the
-//! number of the system's last error, for hints. Add nothing else.
+//! number of the system's last error, for hints: a second try could make or empty the file. Add
+//! nothing else.
+//!
+//!     reader    Unopened  - first read ->            Open  - its end ->   Ended, and closed
+//!     writer    Unopened  - first write or flush ->  Open  - flush ->     Closed
+//!     either    a failed call  ->  Closed: each later call fails
+//!
+//! So who reads or writes files in turn has one open at a time, and a flush alone makes an empty
+//! file. A call that is interrupted has failed. Who opens a pipe, a socket or a device takes bytes
+//! from who opens it next, so `try_open` opens none: a part may be a pipe, and its first read
+//! reports a fault.
 ghost use Rattle.std.specs.Prelude.{◌≡◌, ◌≤◌, ◌<◌, ⊤, None, IfOk, length};
 
 use crate::names::{Inspect, PathKind};
@@ -178,7 +188,7 @@ impl<'a, R: Files> DiskFiles<'a, R> {
     }
 }
 
-/// A pipe, a socket or a device: whoever opens it takes bytes from the one who opens it next.
+/// Whether it is a pipe, a socket or a device.
 fn is_stream<R: Files>(rt: &R, name: &str) -> bool {
     match fs::metadata(rt, name) {
         Ok(seen) => !seen.is_file() && !seen.is_dir(),

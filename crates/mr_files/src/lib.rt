@@ -1,4 +1,13 @@
 //! Files by name, behind a trait whose contract says what bytes a name holds.
+//!
+//!     Store    MemoryFiles     clauses name the bytes
+//!              DiskFiles       clauses know nothing of bytes: people read `disk.rt` for that
+//!     read     read_file, read_file_within, read_files_within, read_result_within, result_readers
+//!     write    write_file, write_files
+//!
+//! All code above is proved for every store, and can't find out which it has. Reading changes no
+//! file, and writing no other than the named one. No call removes, renames or lists files, so parts
+//! of an earlier run with more partitions stay.
 #![tactic(auto)]
 
 mod disk;

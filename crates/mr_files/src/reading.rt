@@ -1,4 +1,12 @@
 //! Reads files in order, also with a limit on their bytes.
+//!
+//!     read_files_within      one limit for all: files after the one that passes it stay closed
+//!     read_result_within     a limit for each: tries to open all, and then reads them in order
+//!
+//! A limit reads one byte past itself at most, so a file without an end is refused. A result's
+//! files are all tried first, so a missing one is reported before an unreadable one. A fault names
+//! the first file that can't be read; want of memory is a fault of its own.
+//! Cost: the bytes that are read, all held.
 ghost use Rattle.std.specs.Prelude.{IfOk, IfErr, ◌≡◌, ◌≤◌, ◌∷◌, [], ◌++◌, map, length};
 ghost use Rattle.mr_files.specs.Names.{name_of_part, result_names, name_of_certificate, part_names};
 ghost use Rattle.mr_files.specs.Refusals.{IsUnread, IsOneUnread, IsFault, IsOneUnreadWithin};

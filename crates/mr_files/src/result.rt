@@ -1,4 +1,14 @@
 //! Readers of a result's files that keep the files' names.
+//!
+//!     parts         [ name, reader, failures ]  for each, in order
+//!     certificate   [ name, reader, failures ]
+//!
+//! A judge that reads reports only that some read failed. Whoever made the readers then finds the
+//! one with failures, and its name and cause (`fault`). What follows from a failed read
+//! (`ReadCause`) is part of the reader's type, so no code between needs a clause about it. All
+//! files are tried before any is read. A disk's reader opens at its first read and closes at its
+//! end, so a judge that reads the parts in turn has one part and the certificate open.
+//! Cost: a name and a count for each file; no bytes are held.
 ghost use Rattle.std.specs.Prelude.{◌≡◌, ⊤, ℕ, List, string_bytes, IfOk, IfErr, map, get_or};
 ghost use Rattle.mr_files.specs.Refusals.{TellsOf, IsOneUnread, IsUnread, IsUnreadAmong};
 ghost use Rattle.mr_files.specs.Holding.{Agrees, AllAgree, Holding};

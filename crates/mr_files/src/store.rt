@@ -1,4 +1,10 @@
 //! A store of files: by name, each with a counted reader or writer.
+//!
+//!     reader, read ...                     opened at the first read at the latest
+//!     writer, write ..., flush, close      created or emptied at the first call at the latest
+//!
+//! A write that fails leaves a front part of the bytes, or what was there before, and every other
+//! file as it was. After `close` the file holds what was written, if all of that was flushed.
 ghost use Rattle.std.specs.Prelude.{◌≡◌, ◌≢◌, ◌⊎◌, ℕ, Option, Some, List, [], OnOk, IfOk, false};
 ghost use Rattle.std.specs.Prelude.{true, option_map, string_bytes};
 ghost use Rattle.mr_files.specs.Holding.{Agrees, ChangesOnly, Shrinks};

@@ -1,4 +1,11 @@
 //! Writes a result. Also makes and counts the calls of open files, of any kind.
+//!
+//!     part-00000  part-00001  ...  certificate      each: writer, all bytes, flush, close
+//!
+//! One file is open at a time, and the certificate is the last. The first fault ends the writing:
+//! the files before are whole, that one has a front part of its bytes or is as it was, and those
+//! after it are as they were. A fault names its file, unless memory was lacking.
+//! Cost: the certificate may be encoded while it is written, so its bytes need not be in memory.
 ghost use Rattle.std.specs.Prelude.{◌≡◌, ◌↔◌, ◌≤◌, ◌<◌, IfOk, IsErr, length, ◌∷◌, [], ◌++◌, ℕ};
 ghost use Rattle.std.specs.Prelude.{List, OnOk, IfErr, string_bytes};
 ghost use Rattle.std.specs.Io.KnownBytes.{ReadConsumes, WriteAppends};

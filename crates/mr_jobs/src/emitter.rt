@@ -1,4 +1,14 @@
-//! The pairs of a record, one after another, without memory: each key is a part of a text.
+//! The pairs of a record, one after another.
+//!
+//!     job            keys are parts of                pairs
+//!     words, index   the line, or its folded copy     one for each word
+//!     grep           the line                         one if it contains the literal, or none
+//!     url            the line                         one if it requests a resource, or none
+//!
+//! All pairs of a record have the same value, so an `Emitter` holds a text, a place and a value.
+//! Invariant: the pairs to come are those of the text from the place on.
+//! Cost: linear in the line. No memory but the caller's buffer for a folded line.
+//! Source: docs/FORMATS.md, "Jobs"; OSDI 2004, sections 2.1 and 2.3.
 ghost use Rattle.std.specs.Prelude.{◌≡◌, ℕ, ◌≤◌, ◌<◌, ◌^◌, ◌⊎◌, [], ◌∷◌, false, if◌then◌else◌};
 ghost use Rattle.std.specs.Prelude.{IsTrue, OnOk, OnErr, MatchOption, IfSome, IfNone, length};
 ghost use Rattle.std.specs.Prelude.{vec_capacity};

@@ -4,7 +4,9 @@
 //!
 //! What a search finds out about later bytes serves the next lines, so all lines in order cost one
 //! pass over the text. A search covers at least `reach` bytes: 4,096 after a match, doubled by each
-//! search without one, up to 65,536. So searches are few, and never go far past the line.
+//! search without one, up to 65,536. So searches are few, and never go far past the line. A line
+//! outside of what is known, in any order, starts a new search.
+//! That a literal contains no line feed is not needed: a match that runs past a line is not in it.
 ghost use Rattle.std.specs.Prelude.{◌≡◌, ◌≤◌, ◌<◌, ◌+◌, ◌⊎◌, IfSome, IsTrue, false, length};
 ghost use Rattle.std.specs.Prelude.{slice_range};
 ghost use Rattle.mr_jobs.specs.Hits.{AreSo, IsFirstPlace, Sought};

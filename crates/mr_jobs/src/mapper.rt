@@ -1,4 +1,12 @@
 //! Maps the lines of an input, one after another. It searches a literal per file, not per line.
+//!
+//!     (file, start, line)  ->  Mapper  ->  Emitter: what `Job::emit` gives for the line
+//!
+//! Most lines lack the literal, and one search over a file finds the few that have it. The mapper
+//! keeps what the search knows of the current file (`literal_search.rt`), and begins anew at each
+//! other file. Jobs without a literal read each line on its own.
+//! Invariant: the search is about the text of file `file`, once there is such a file.
+//! Cost: a few numbers; takes no memory.
 ghost use Rattle.std.specs.Prelude.{◌≡◌, ◌≤◌, ◌^◌, length};
 ghost use Rattle.mr_jobs.specs.Emissions.{emissions, IsReady};
 ghost use Rattle.mr_jobs.specs.Hits.{IsLine};

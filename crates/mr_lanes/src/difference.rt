@@ -1,4 +1,7 @@
 //! Where two texts differ first.
+//!
+//! Compares 64 bytes at once: the lowest set bit of the first block that differs is the place. The
+//! rest goes byte by byte. Cost: linear in the shorter text, up to the place; no memory.
 ghost use Rattle.std.specs.Prelude.{◌≡◌, ℕ, ◌<◌, ◌==◌, not, get_or};
 ghost use Rattle.mr_lanes.specs.Bits.{is_set};
 ghost use Rattle.mr_lanes.specs.Difference.{first_difference};

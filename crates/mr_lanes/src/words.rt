@@ -1,4 +1,13 @@
-//! Where words are.
+//! Where words are: all words of a text, or the next one.
+//!
+//!     bytes    i t _ i s _ _ o|k ...       one bit a byte, the lowest first
+//!     word     1 1 0 1 1 0 0 1             the byte is a word byte
+//!     starts   1 0 0 1 0 0 0 1             it is one, and the byte before is not
+//!     ends     0 0 1 0 0 1 0 0             it is none, and the byte before is one
+//!
+//! One number goes from block to block: where the word begins that is open at the block's end, or
+//! that end if none is open. The zeros behind the text close the last word.
+//! Cost: a step per word and per block. `next_word` takes no memory and suits short records.
 ghost use Rattle.std.specs.Prelude.{◌≡◌, ℕ, ◌+◌, ◌^◌, ◌<◌, ◌≤◌, ◌++◌, ◌∷◌, [], drop, get_or};
 ghost use Rattle.std.specs.Prelude.{length, IfOk, OnOk, OnErr, MatchOption};
 ghost use Rattle.mr_bytes.specs.Bytes.{is_word_byte};

@@ -1,4 +1,14 @@
 //! What a script orders: lost workers, failing records, spoiled outputs, and when.
+//!
+//!     lines      sorted once: by trigger; worker, split or partition; report, record or place
+//!     reached    by line: attempts that reached a flaky record, regions put of a damaged partition
+//!
+//! An attempt looks at the lines of its own split or partition alone, each once. `accounts_for`
+//! decides which failure of a job is expected: `NoWorkers` if the script loses all workers or the
+//! store is unsteady; `TooManySkips` if it has failing records; `TooManyAttempts` if it has these
+//! or loses a worker, if a region was damaged, or if the store is unsteady.
+//! Cost: a sort of the lines, then a binary search a look-up.
+//! Source: docs/FORMATS.md, "Scripts".
 ghost use Rattle.std.specs.Prelude.{◌≡◌};
 ghost use Rattle.std.specs.List.{list_all, list_any, range_with_len};
 ghost use Rattle.mr_pool.specs.Accounts.{accounts, fails_record, is_worker_lost, loses_some};

@@ -1,5 +1,15 @@
-//! A run: workers do the job, one thread assembles the result while others map the input for the
-//! judge, then the judge checks the result.
+//! A run: workers do the job, then its result is assembled and judged.
+//!
+//!     run_workers  ->  done      ->  one thread assembles files and certificate;
+//!                                    others map the input for the judge       ->  judge
+//!                  ->  failed    ->  Failed, where script, damage or store accounts for the fault
+//!                  ->  neither   ->  Uncertified
+//!
+//! Only one thread can copy and encode, so the others map meanwhile: by the judge's own code and
+//! from the input alone (`IsMappedFor`). They leave out no record. For a certificate that leaves
+//! some out the judge maps again, and both maps are held. The region store goes with the workers,
+//! so regions and what the judge holds are never there together. After the threads the book's shape
+//! and end are compared: a lock's type does not say what it holds.
 ghost use Rattle.std.specs.Prelude.{◌≡◌, ◌↔◌, ◌⊎◌, Err, ◌≤◌, ◌<◌, ◌^◌, Some, Ok, IfOk, OnOk, IfErr};
 ghost use Rattle.std.specs.Prelude.{Bool, IsTrue, vec_len};
 ghost use Rattle.mr_pool.specs.Endings.{ending_of};

@@ -1,4 +1,15 @@
 //! A worker: it asks for a task, does it, reports, and asks again.
+//!
+//!     map       records -> a piece, mostly one run -> a region a partition -> store; next piece
+//!     reduce    split by split: fetch -> its regions, one by one in a buffer -> Follower -> output
+//!
+//! So a worker holds one run, or one region, at a time, whatever the size of a split. Stored
+//! regions have numbers, which the report of a map task carries and a fetch returns. Where names of
+//! regions do not follow one another, all are read again and merged whole. Bytes that are no region
+//! of this split and partition are damage: the worker reports it, and the map task is done again. A
+//! worker whose store fails is lost, as one whose machine fails.
+//! Cost: as the tasks; a lock for each ask, fetch and report.
+//! Source: OSDI 2004, sections 3.1 and 3.3.
 ghost use Rattle.std.specs.Prelude.{◌<◌};
 ghost use Rattle.mr_input.specs.Files.{split_total};
 

@@ -1,5 +1,15 @@
-//! Runs the workers, each in a thread of its own, over what they share, and reports the progress of
-//! the run and of its judge to an observer.
+//! Runs the workers, each in a thread of its own, over what they share (`Shared`).
+//!
+//!     book, news, stopped        one lock; waiting workers sleep on `news`
+//!     plan, request, orders      read by all
+//!     completed                  a flag for each task, read without the lock
+//!     store, progress            regions; counts of accepted outputs, without the lock
+//!
+//! A flag is set by an accepted report. Who does the same task looks at it now and then, and leaves
+//! off. That ends backups early, at the end of the map phase and of the job. Where a thread can't
+//! be made, the calling thread works in its place; a worker that has not begun holds no attempt, so
+//! nobody waits for it. The observer is called outside the lock.
+//! Source: OSDI 2004, section 3.6.
 ghost use Rattle.std.specs.Prelude.{◌≡◌, ◌<◌, ◌^◌, IfOk, vec_len};
 
 use crate::fault_plan::FaultPlan;

@@ -1,4 +1,15 @@
 //! Where a merge is in the shards' outputs, and which line comes next: a scan over the shards.
+//!
+//!     shard 0    head  cat 2 | rest
+//!     shard 1    head  ant 5 | rest       next: `ant` of shard 1, then of shard 2
+//!     shard 2    head  ant 1 | rest
+//!
+//! The next line has the least key, and of equal keys the first shard's. Each head has the first
+//! eight bytes of its key as a number: where two numbers differ, they decide without a look at
+//! keys.
+//! Invariant: the keys of a shard's totals rise, and those of places do not fall. Where they do
+//! not, the line is a `BadLine`, numbered from 0.
+//! Cost: a look at each shard's head a line. Many shards are better merged in groups first.
 ghost use Rattle.std.specs.Prelude.{◌≡◌, ℕ, List, IfOk, IfSome, IsTrue, MatchOption, Some, map};
 ghost use Rattle.std.specs.Prelude.{None, ◌↔◌, IfErr};
 ghost use Rattle.mr_shards.specs.Lines.{groups_in};

@@ -1,4 +1,14 @@
 //! Joins the verdicts of shards to that of the whole.
+//!
+//!     shard 0    inputs a b      3 splits    without 1:7         10 pairs
+//!     shard 1    inputs c        2 splits    without 0:2          4 pairs
+//!     whole      inputs a b c    5 splits    without 1:7 3:2     14 pairs
+//!
+//! A file's splits follow from its length, so no file is read. A shard is compared with the
+//! request, then its splits are counted, then its pairs, and then its records are moved: the first
+//! that fails is the fault. Two inputs of one name are found by a set (`first_repeat`).
+//! Cost: one pass over the verdicts; copies of their notes.
+//! Source: docs/FORMATS.md, "Shards that are merged".
 ghost use Rattle.std.specs.Prelude.{◌≡◌, ◌↔◌, ◌⊎◌, ℕ, ◌+◌, ◌<◌, ◌≤◌, ◌^◌, ◌++◌, List, [], ◌∷◌};
 ghost use Rattle.std.specs.Prelude.{true, false, IfErr, IfOk, IfSome, MatchOption, OnOk, map};
 ghost use Rattle.std.specs.List.{AllByRecursion};

@@ -1,5 +1,13 @@
 //! Reads a verdict: finds each value by the word of its line, and accepts the text only if it is
-//! the text of the verdict so found. Cost: a fixed number of passes over the text.
+//! the text of the verdict so found.
+//!
+//!     text  ->  values by word  ->  Verdict  ->  write_verdict  ->  the same text?
+//!
+//! Finding checks nothing: a value that is missing or malformed becomes another, such as 0, and
+//! then the two texts differ. So one comparison replaces a grammar, and no rule of the text is
+//! written twice. A refusal reports the first line in which the texts differ.
+//! Cost: a fixed number of passes over the text, and the memory of its values and of a second text.
+//! Source: docs/FORMATS.md, "The verdict".
 ghost use Rattle.std.specs.Prelude.{◌≡◌, ◌⊎◌, ℕ, ◌<◌, ◌^◌, List, [], ◌∷◌, ◌++◌, IfErr, IfOk};
 ghost use Rattle.std.specs.Prelude.{IsTrue, MatchOption, None, Some, OnOk, codes, decimal, map};
 ghost use Rattle.std.specs.List.{AllByRecursion};

@@ -1,5 +1,16 @@
-//! A verdict as a value: its request and the notes of its files.
-//! Writes a verdict.
+//! A verdict: what a judge accepted, as a value and as a text for others to read.
+//!
+//!     verdict 1                      input SHA-256 LENGTH NAME      one for each file
+//!     job, flags, literal            output SHA-256 LENGTH NAME     one for each part
+//!     partitions, split              without SPLIT RECORD           one for each left-out record
+//!                                    emitted PAIRS
+//!
+//! It names the job by number, flags and literal, as a certificate does. It names the records that
+//! are left out, and not how many a request allows. A name goes to the end of its line, so it has
+//! no line feed, and each verdict has one text. `request_of` makes the request, if its outputs can
+//! be merged.
+//! Cost: linear in the text; a note reads the bytes of its file once.
+//! Source: docs/FORMATS.md, "The verdict".
 ghost use Rattle.std.specs.Prelude.{◌≡◌, ◌↔◌, IfOk, IfSome, IsTrue, MatchOption, ℕ, [], ◌∷◌, ◌++◌};
 ghost use Rattle.std.specs.Prelude.{OnOk, decimal};
 ghost use Rattle.mr_bytes.specs.declared.By.{By};

@@ -1,4 +1,15 @@
-//! Readers and writers that count their failed calls.
+//! Readers and writers that may fail at any call, and count the calls that failed.
+//!
+//!     call     succeeded                               failed
+//!     read     some bytes, and 0 only at the end       consumes nothing
+//!     write    at least one byte of those given        writes nothing
+//!     flush    all that was written is flushed         flushes nothing
+//!
+//! The count has 64 bits and wraps, so that a device keeps it in a word. Code that passes a reader
+//! on compares the counts before and after, and so sees that a read failed. A device also reports
+//! whether memory was lacking, since that is no fault of a file. Bytes may be unknown, as those of
+//! a file on disk are: then the clauses about bytes say nothing. A writer shows what it flushed
+//! beside what it holds, so a clause can refuse a result that is not flushed.
 ghost use Rattle.std.specs.Prelude.{◌≡◌, ℕ, ◌≤◌, ◌<◌, ⊤, Bool, List, Option, None, IfOk, IfSome};
 ghost use Rattle.std.specs.Prelude.{MatchResult, length, take};
 ghost use Rattle.std.specs.Io.KnownBytes.{ReadConsumes};

@@ -1,4 +1,15 @@
-//! Reads files and writes results, with readers and writers that count their failed calls.
+//! Reads files and writes results, over readers and writers that may fail at any call.
+//!
+//!     CountedRead   -> read_all, read_limited          -> a list of all bytes
+//!                   -> ReadBuffer                      -> a window of the bytes to come
+//!     CountedWrite  <- write_all, write_result         <- bytes in memory
+//!                   <- write_encoded                   <- an `Encode` value, piece by piece
+//!
+//! A read asks for at most 64 KiB. Its buffer is on the stack; only a `ReadBuffer` allocates one,
+//! once. Writes are not buffered here: a value of many small pieces brings its own buffer, as a
+//! certificate does. Writing allocates nothing, so it can't stop half-way for want of memory of its
+//! own. No failed call is repeated. After a failure a list is as it was, and a file has only a
+//! front part of its bytes, not flushed.
 #![tactic(auto)]
 
 mod device;

@@ -1,4 +1,13 @@
 //! Shares pieces of work among threads, which draw them.
+//!
+//!     thread 0    0  3  5 ...       draws a number, does that piece, and draws again
+//!     thread 1    1 ........        a long piece holds up only its own thread
+//!     thread 2    2  4  6 ...
+//!     found       (piece, result) of all threads, in any order
+//!     slots       [ r0 r1 r2 ... ]  a result for each piece, and then a list in their order
+//!
+//! Invariant: each piece is drawn once (`Tickets::close`), so each slot is filled, and once.
+//! Cost: one atomic step a piece, and one more a thread; a result and a slot for each piece.
 ghost use Rattle.std.specs.Prelude.{ℕ, IfOk, ◌≡◌, ◌^◌, ◌<◌, ◌≤◌, ◌+◌, [], ◌∷◌, ◌++◌, None, OnOk};
 ghost use Rattle.std.specs.Prelude.{All, length, replicate, slice_index_or, slice_set, Some};
 ghost use Rattle.std.specs.Prelude.{vec_len};

@@ -1,4 +1,14 @@
-//! Numbers, and the seats that draw them. First comes the rule of the atomic word. Of its types
+//! Numbers below a limit, and the seats that draw them from one atomic word.
+//!
+//!     word      5              the next number; a draw is one `fetch_add` of 1
+//!     seat 0    0  2  3        the numbers that it drew: known to contracts, not stored
+//!     seat 1    1  4
+//!
+//! Invariant: the seats together drew the numbers below the word, each once. It is said by weights:
+//! whatever a number weighs, the sums agree. A seat that got `None` makes no step any more, so the
+//! word passes the limit by at most one a seat. A lock would let one slow thread hold up the
+//! others.
+//! Cost: one step a draw, which waits for nobody. First comes the rule of the word. Of its types
 //! only `Limits` has values at run time: the others say what each seat knows.
 ghost use Rattle.std.specs.Prelude.{◌≡◌, ◌<◌, ℕ, [], ◌∷◌, ◌++◌, true, false, IfOk, IfSome, IfNone};
 ghost use Rattle.std.specs.Prelude.{All, length, replicate, vec_len, if◌then◌else◌};

@@ -1,4 +1,16 @@
 //! Gives tasks to workers that ask: idle ones first, then a second execution of one in progress.
+//!
+//!     the worker is lost, or unknown                     Stop, dismissed
+//!     it has a live attempt                              Wait
+//!     a map task is idle                                 Map, with its split's left-out records
+//!     a reduce task is idle, no map output is missing    Reduce
+//!     a task has one live attempt and may have more      Map or Reduce, as a backup
+//!     else                                               Wait
+//!
+//! The first row that holds decides. A backup of a reduce task needs all map outputs, too. Where a
+//! row allows several tasks, any is right; of idle ones it gives the first.
+//! Cost: a search from a cursor; for a backup one step a worker. Replies are made twice.
+//! Source: OSDI 2004, sections 3.1 and 3.6.
 ghost use Rattle.std.specs.Prelude.{◌≡◌, ℕ, ◌<◌, ◌≤◌, ◌^◌, true, false, Option, Some, None, List, [], ◌∷◌, ◌++◌, ◌==◌, ◌&&◌, length, replicate, slice_get, MatchOption, OnOk, OnErr, IfOk};
 ghost use Rattle.std.specs.List.{list_any};
 ghost use Rattle.mr_core.specs.declared.event.Shape.{Shape};

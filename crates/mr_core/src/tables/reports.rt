@@ -1,4 +1,17 @@
-//! Handles all events but `Ask`.
+//! Handles all events but `Ask`. One on an attempt that is not live, or of the other kind, is
+//! ignored.
+//!
+//!     Fetch        a complete split: Region, and the fetch is noted; else Gone, the attempt ends
+//!     MapDone      the split lacks an output, and its set is not fixed or is that of the attempt:
+//!                  Accepted, and the split has the output and the set; else Ignored
+//!     MapFailed    Accepted; a record that failed before is left out, unless the set is fixed
+//!     ReduceDone   not committed, and each split fetched: Accepted, and committed; else Ignored
+//!     Damaged      Accepted, and the split's output is gone if it is the one fetched last
+//!     Lose         Accepted; the worker's attempt ends, and its map outputs are gone (`leave`)
+//!
+//! All but a good Fetch end the attempt. A task whose output is gone is idle again: the cursors
+//! move back, and the next asks give it. What a lost worker committed stays.
+//! Source: OSDI 2004, sections 3.3 and 4.6.
 ghost use Rattle.std.specs.Prelude.{◌≡◌, ℕ, ◌≤◌, ◌<◌, true, false, Some, None, ◌&&◌, nat_lt, MatchOption, OnOk, OnErr, IfOk, slice_get, is_some, length};
 ghost use Rattle.std.specs.List.{list_all};
 ghost use Rattle.mr_core.specs.declared.event.Shape.{Shape};
