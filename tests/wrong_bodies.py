@@ -7,6 +7,7 @@ stand beside, and are tried by a check of the function that they change and of t
     python3 tests/wrong_bodies.py [CRATE ..]              all of these crates (of all crates: hours)
     python3 tests/wrong_bodies.py --each-test [CRATE ..]  those with a line `only: FUNCTION`, as each ./test does
     python3 tests/wrong_bodies.py --compile [CRATE ..]    that each of both folders compiles, by the front end alone
+    python3 tests/wrong_bodies.py --list [CRATE ..]       prints the names of both folders, which say what the bugs are
 
 It stands on the libraries that the gate left, or builds them, and first sees that the functions are proved as they are.
 A body that such a check lets pass is tried by a check of its whole crate. Those of a crate that change different lines
@@ -298,12 +299,16 @@ def main():
     parser.add_argument("crates", nargs="*", metavar="CRATE", help="the crates whose wrong bodies are tried")
     parser.add_argument("--each-test", action="store_true", help="try those with a line only: alone")
     parser.add_argument("--compile", action="store_true", help="see that all compile, and try none")
+    parser.add_argument("--list", action="store_true", help="print all names, and try none")
     asked = parser.parse_args()
     found = {}
     for edit in edits():
-        is_meant = asked.compile or (edit.folder == "wrong-bodies" and (edit.only or not asked.each_test))
+        is_meant = asked.compile or asked.list or (edit.folder == "wrong-bodies" and (edit.only or not asked.each_test))
         if is_meant and (edit.crate in asked.crates or not asked.crates):
             found.setdefault(edit.crate, []).append(edit)
+    if asked.list:
+        print("\n".join(str(edit) for of_crate in found.values() for edit in of_crate))
+        return 0
     passed, failed = print_each(compiled, found, FRONT, None) if asked.compile else print_each(tried, found, LARGEST, "refused")
     print(f"{passed} passed, {failed} failed")
     return 1 if failed else 0

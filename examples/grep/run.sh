@@ -1,3 +1,4 @@
+. "$(dirname "$0")/../play.sh"
 # Finds the lines that hold a literal, in either case, and tells the file and the place of each.
 printf 'The cat saw the dog.\nThe dog saw nothing.\n' > lines.txt
 mkdir found

@@ -1,3 +1,4 @@
+. "$(dirname "$0")/../play.sh"
 # Counts the resources that a proxy's log requests, those of one host in one output file.
 printf 'h - - [t] "GET http://a/x HTTP/1.0" 200 17\n' > proxy.log
 printf 'h - - [t] "GET /z HTTP/1.0" 200 99\n' >> proxy.log

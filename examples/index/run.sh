@@ -1,3 +1,4 @@
+. "$(dirname "$0")/../play.sh"
 # Tells the files of each word, by their numbers in the order of the line, and judges the result.
 printf 'The cat saw the dog.\n' > first.txt
 printf 'The dog saw nothing.\n' > second.txt

@@ -1,3 +1,4 @@
+. "$(dirname "$0")/../play.sh"
 # Leaves the second line out, by its name: record 1 of split 0. The judge tells what a result leaves out.
 printf 'The cat saw the dog.\nThe dog saw nothing.\n' > pages.txt
 mkdir without

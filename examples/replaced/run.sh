@@ -1,3 +1,4 @@
+. "$(dirname "$0")/../play.sh"
 # Replaces a result: a fresh directory, a run, a judgement, and only behind a yes the move.
 printf 'The dog saw the cat.\n' > today.txt
 mkdir fresh

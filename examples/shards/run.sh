@@ -1,3 +1,4 @@
+. "$(dirname "$0")/../play.sh"
 printf 'The cat saw the dog.\n' > a.txt
 printf 'The dog saw nothing.\n' > b.txt
 mkdir first second both

@@ -1,3 +1,4 @@
+. "$(dirname "$0")/../play.sh"
 # Somebody changes one byte of a result; the judge tells where.
 printf 'The cat saw the dog.\nThe dog saw nothing.\n' > story.txt
 mkdir spoiled

@@ -1,3 +1,4 @@
+. "$(dirname "$0")/../play.sh"
 # Counts words into two partitions, and judges the result.
 printf 'The cat saw the dog.\nThe dog saw nothing.\n' > book.txt
 mkdir counts

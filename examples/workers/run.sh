@@ -1,3 +1,4 @@
+. "$(dirname "$0")/../play.sh"
 # Three splits for four workers, one of which is lost behind its first report: the result is certified all the same, and
 # the judge says yes to it. Where a worker's output is spoiled, nothing is written. What map tasks give may lie in files.
 printf 'The cat saw the dog.\nThe dog saw nothing.\n' > night.txt
