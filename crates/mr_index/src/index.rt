@@ -112,29 +112,28 @@ impl EmissionIndex {
             × (meter.new.mapped ≤ meter.old.mapped + mapped_among skips.now (records_of plan.entry.now))) }
         ensures lookups { meter.new.lookups ≡ meter.old.lookups }
     {
-        let kept = plan.without(alloc, skips)?;
-        EmissionIndex::of_kept(alloc, &kept, job, meter, &Unwatched)
+        EmissionIndex::of_watched(alloc, plan, job, skips, meter, &Unwatched)
     }
 
-    /// What `of` does, for a plan whose left-out records are known. It reports to `watch` now and
-    /// then how many of the plan's records are done.
-    pub fn of_kept(
+    /// What `of` does. It reports to `watch` now and then how many of the plan's records are done.
+    pub fn of_watched(
         alloc: Global,
-        kept: &KeptPlan<'_>,
+        plan: &Plan<'_>,
         job: &Job,
+        skips: &[RecordName],
         meter: &mut Meter,
         watch: &dyn Progress,
     ) -> Result<EmissionIndex, AllocError>
-        requires { meter.old.mapped + mapped_among kept.now.skips (records_of kept.now.cut) < 2 ^ 64 }
-        ensures ok { IfOk result (λ i. i ≡ triples_of job.now kept.now.cut kept.now.skips) }
+        requires { meter.old.mapped + mapped_among skips.now (records_of plan.now) < 2 ^ 64 }
+        ensures ok { IfOk result (λ i. i ≡ triples_of job.now plan.entry.now skips.now) }
         ensures counted { OnOk result (meter.new.mapped
-            ≡ meter.old.mapped + mapped_among kept.now.skips (records_of kept.now.cut)) }
+            ≡ meter.old.mapped + mapped_among skips.now (records_of plan.entry.now)) }
         ensures err { OnErr result ((meter.old.mapped ≤ meter.new.mapped)
-            × (meter.new.mapped
-            ≤ meter.old.mapped + mapped_among kept.now.skips (records_of kept.now.cut))) }
+            × (meter.new.mapped ≤ meter.old.mapped + mapped_among skips.now (records_of plan.entry.now))) }
         ensures lookups { meter.new.lookups ≡ meter.old.lookups }
     {
-        let parts = map_splits(alloc, kept, job, &mut meter.mapped, watch)?;
+        let kept = plan.without(alloc, skips)?;
+        let parts = map_splits(alloc, &kept, job, &mut meter.mapped, watch)?;
         Ok(EmissionIndex::join(parts))
     }
 

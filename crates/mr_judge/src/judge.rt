@@ -75,7 +75,7 @@ fn check_with<I: ItemSource, O: Outputs>(
     let plan = kept.plan();
     let _few = plan.count();
     let job = request.job();
-    let index = EmissionIndex::of_kept(work.alloc, kept, job, &mut work.meter, work.progress)?;
+    let index = EmissionIndex::of_watched(work.alloc, kept, job, &mut work.meter, work.progress)?;
     let basis = Basis {
         request,
         index: &index,
