@@ -34,28 +34,28 @@ status_of (Shards fault) = status_of_shards fault
 status_of fault = 2
 
 -- want of memory is told as itself, wherever it was met
-abbrev pub TellsJob : JobFault → Fault → Type 0
-TellsJob job.OutOfMemory told = told ≡ OutOfMemory
-TellsJob fault told = told ≡ Job fault
+abbrev pub ReportsJob : JobFault → Fault → Type 0
+ReportsJob job.OutOfMemory told = told ≡ OutOfMemory
+ReportsJob fault told = told ≡ Job fault
 
-abbrev pub TellsRun : RunFault → Fault → Type 0
-TellsRun run.OutOfMemory told = told ≡ OutOfMemory
-TellsRun fault told = told ≡ Run fault
+abbrev pub ReportsRun : RunFault → Fault → Type 0
+ReportsRun run.OutOfMemory told = told ≡ OutOfMemory
+ReportsRun fault told = told ≡ Run fault
 
-abbrev pub TellsScript : ScriptFault → Fault → Type 0
-TellsScript script.OutOfMemory told = told ≡ OutOfMemory
-TellsScript fault told = told ≡ Script fault
+abbrev pub ReportsScript : ScriptFault → Fault → Type 0
+ReportsScript script.OutOfMemory told = told ≡ OutOfMemory
+ReportsScript fault told = told ≡ Script fault
 
 -- a file that can't be read or written too, and one that would be written over
-abbrev pub TellsShards : ShardFault → Fault → Type 0
-TellsShards (shards.CannotRead name) told = told ≡ CannotRead name
-TellsShards (shards.CannotWrite name) told = told ≡ CannotWrite name
-TellsShards (shards.SameFile name) told = told ≡ SameFile name
-TellsShards shards.OutOfMemory told = told ≡ OutOfMemory
-TellsShards fault told = told ≡ Shards fault
+abbrev pub ReportsShards : ShardFault → Fault → Type 0
+ReportsShards (shards.CannotRead name) told = told ≡ CannotRead name
+ReportsShards (shards.CannotWrite name) told = told ≡ CannotWrite name
+ReportsShards (shards.SameFile name) told = told ≡ SameFile name
+ReportsShards shards.OutOfMemory told = told ≡ OutOfMemory
+ReportsShards fault told = told ≡ Shards fault
 
 -- a fault of files is told as itself
-abbrev pub TellsFile : FileFault → Fault → Type 0
-TellsFile (file.CannotRead name) told = told ≡ CannotRead name
-TellsFile (file.CannotWrite name) told = told ≡ CannotWrite name
-TellsFile file.OutOfMemory told = told ≡ OutOfMemory
+abbrev pub ReportsFile : FileFault → Fault → Type 0
+ReportsFile (file.CannotRead name) told = told ≡ CannotRead name
+ReportsFile (file.CannotWrite name) told = told ≡ CannotWrite name
+ReportsFile file.OutOfMemory told = told ≡ OutOfMemory

@@ -53,9 +53,9 @@ impl From<AllocError> for Fault {
 }
 
 impl From<JobFault> for Fault {
-    ghost use Rattle.mr_args.specs.Statuses.{TellsJob};
+    ghost use Rattle.mr_args.specs.Statuses.{ReportsJob};
 
-    ghost from_gives = { λ e f. TellsJob e f };
+    ghost from_gives = { λ e f. ReportsJob e f };
 
     fn from(fault: JobFault) -> Fault {
         match fault {
@@ -66,9 +66,9 @@ impl From<JobFault> for Fault {
 }
 
 impl From<RunFault> for Fault {
-    ghost use Rattle.mr_args.specs.Statuses.{TellsRun};
+    ghost use Rattle.mr_args.specs.Statuses.{ReportsRun};
 
-    ghost from_gives = { λ e f. TellsRun e f };
+    ghost from_gives = { λ e f. ReportsRun e f };
 
     fn from(fault: RunFault) -> Fault {
         match fault {
@@ -79,9 +79,9 @@ impl From<RunFault> for Fault {
 }
 
 impl From<ScriptFault> for Fault {
-    ghost use Rattle.mr_args.specs.Statuses.{TellsScript};
+    ghost use Rattle.mr_args.specs.Statuses.{ReportsScript};
 
-    ghost from_gives = { λ e f. TellsScript e f };
+    ghost from_gives = { λ e f. ReportsScript e f };
 
     fn from(fault: ScriptFault) -> Fault {
         match fault {
@@ -92,9 +92,9 @@ impl From<ScriptFault> for Fault {
 }
 
 impl From<FileFault> for Fault {
-    ghost use Rattle.mr_args.specs.Statuses.{TellsFile};
+    ghost use Rattle.mr_args.specs.Statuses.{ReportsFile};
 
-    ghost from_gives = { λ e f. TellsFile e f };
+    ghost from_gives = { λ e f. ReportsFile e f };
 
     fn from(fault: FileFault) -> Fault {
         match fault {
@@ -106,9 +106,9 @@ impl From<FileFault> for Fault {
 }
 
 impl From<ShardFault> for Fault {
-    ghost use Rattle.mr_args.specs.Statuses.{TellsShards};
+    ghost use Rattle.mr_args.specs.Statuses.{ReportsShards};
 
-    ghost from_gives = { λ e f. TellsShards e f };
+    ghost from_gives = { λ e f. ReportsShards e f };
 
     fn from(fault: ShardFault) -> Fault {
         match fault {

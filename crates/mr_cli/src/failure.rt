@@ -2,7 +2,7 @@
 //! so that the name of a file can't steer a terminal.
 ghost use Rattle.std.specs.Prelude.{◌≡◌, ◌↔◌, IsTrue, ◌<◌, ◌++◌, IfOk, OnOk};
 ghost use Rattle.std.specs.IoError.{error_kind};
-ghost use Rattle.mr_cli.specs.Statuses.{IsHelp, IsStatus, TellsWords};
+ghost use Rattle.mr_cli.specs.Statuses.{IsHelp, IsStatus, ReportsWords};
 ghost use Rattle.mr_cli.specs.Shown.{byte_shown, hex_digit as digit_of, is_obeyed as obeys};
 ghost use Rattle.mr_cli.specs.Shown.{number_shown, text_shown};
 
@@ -33,9 +33,9 @@ impl From<AllocError> for Failure {
 }
 
 impl From<clap::Error> for Failure {
-    ghost use Rattle.mr_cli.specs.Statuses.{TellsLine};
+    ghost use Rattle.mr_cli.specs.Statuses.{ReportsLine};
 
-    ghost from_gives = { λ e f. TellsLine e f };
+    ghost from_gives = { λ e f. ReportsLine e f };
 
     fn from(error: clap::Error) -> Failure {
         match error.kind() {
@@ -58,7 +58,7 @@ impl From<Fault> for Failure {
 impl Failure {
     /// Why the command line's words can't be read.
     pub fn of_words(error: io::Error) -> Failure
-        ensures { TellsWords (error_kind error) result }
+        ensures { ReportsWords (error_kind error) result }
     {
         match error.kind() {
             ErrorKind::OutOfMemory => Failure::Command(Fault::OutOfMemory),

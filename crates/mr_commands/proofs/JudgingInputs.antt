@@ -14,7 +14,7 @@ use Rattle.mr_files.specs.declared.store.FileFault.TheVariants as file
 use Rattle.mr_files.specs.declared.reading.LimitFault.TheVariants.{File}
 use Rattle.mr_args.specs.declared.fault.Fault.{Fault}
 use Rattle.mr_args.specs.declared.fault.Fault.TheVariants.{SameFile, TooManySplits, OutOfMemory}
-use Rattle.mr_args.specs.Statuses.{TellsFile}
+use Rattle.mr_args.specs.Statuses.{ReportsFile}
 use Rattle.mr_commands.specs.Inputs.{AreRead, IsClash, IsInputFault, IsInputRefusal, IsUnreadInput}
 
 pub holding_lengths : (holds : Stored) (ns bs : List (List ℕ)) → Holding holds ns bs → length ns ≡ length bs
@@ -33,7 +33,7 @@ input_fault holds names files TooManyFiles held small many large =
 input_fault holds names files TooLarge held small many large = absurd (omega (arith, small, (large refl).1))
 
 -- a file that can't be read
-pub unread_file : (holds : Stored) (unreadable : Faulty) (names : List (List ℕ)) (e : FileFault) (f : Fault) → IsReadRefusalWithin holds unreadable names (2 ^ 30) (File e) → TellsFile e f → IsUnreadInput holds unreadable names f
+pub unread_file : (holds : Stored) (unreadable : Faulty) (names : List (List ℕ)) (e : FileFault) (f : Fault) → IsReadRefusalWithin holds unreadable names (2 ^ 30) (File e) → ReportsFile e f → IsUnreadInput holds unreadable names f
 unread_file holds unreadable names (file.CannotRead name) f h t = rw t h
 unread_file holds unreadable names (file.CannotWrite name) f h t = absurd h
 unread_file holds unreadable names file.OutOfMemory f h t = rw t tt

@@ -15,7 +15,7 @@ use Rattle.mr_files.specs.Identities.{AreApart, Known}
 use Rattle.mr_commands.specs.Checks.{AreGood, IsOptionRefusal, IsResultRefusal, IsCheckRefusal}
 use Rattle.mr_commands.specs.Inputs.{IsAsked, IsInput, IsInputRefusal, IsStopped}
 use Rattle.mr_commands.specs.Named.{input_names, read_by_check, written_by_check}
-use Rattle.mr_args.specs.Statuses.{TellsFile}
+use Rattle.mr_args.specs.Statuses.{ReportsFile}
 
 pub asked : {A : Type 0} (o : Options) (r : A) → ((◌≡◌ {A = Result A Fault} (Ok r) (Err OtherJobsOption)) ↔ AsksForOtherJob o) → WithinLimits (request_asked o) → IsAsked o
 asked o r other within = record { own = λ a. cc (other.1 a); within = within }
@@ -35,7 +35,7 @@ pub result_stage : (holds : Stored) (unreadable : Faulty) (known : Known) (asked
 result_stage holds unreadable known asked files request f r a i apart h =
     inr (inr (inr (a, (files, subst (λ (s : ℕ). IsInput holds (input_names asked.options) s files) (ap (λ (v : RequestSpec). v.split) r) i), apart, h)))
 
-pub stopped_as : (old new : List ℕ → List ℕ → Type 0) (unwritable : List ℕ → Type 0) (names texts : List (List ℕ)) (e : FileFault) (f : Fault) → IsWriteRefusal old new unwritable names texts e → TellsFile e f → IsStopped old new unwritable names texts f
+pub stopped_as : (old new : List ℕ → List ℕ → Type 0) (unwritable : List ℕ → Type 0) (names texts : List (List ℕ)) (e : FileFault) (f : Fault) → IsWriteRefusal old new unwritable names texts e → ReportsFile e f → IsStopped old new unwritable names texts f
 stopped_as old new unwritable names texts (file.CannotRead name) f h t = absurd h
 stopped_as old new unwritable names texts (file.CannotWrite name) f h t = rw t h
 stopped_as old new unwritable names texts file.OutOfMemory f h t = rw t tt

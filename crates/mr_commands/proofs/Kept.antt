@@ -21,7 +21,7 @@ use Rattle.mr_commands.specs.HistoryLines.{history_text}
 use Rattle.mr_args.specs.Asked.{request_asked}
 use Rattle.mr_commands.specs.Inputs.{IsInput, IsInputRefusal}
 use Rattle.mr_commands.specs.Named.{input_names, named}
-use Rattle.mr_args.specs.Statuses.{TellsFile}
+use Rattle.mr_args.specs.Statuses.{ReportsFile}
 use Rattle.mr_commands.specs.Runs.{AreGood, BeginsHistory, EndsOver, IsHistoryKept, IsResultKept, IsResultRefused, IsResultStopped, IsScratchClash, IsScratchRefusal, IsScript, IsScriptRefusal, IsStartRefusal, IsStoppedAt, IsUnkept, KeepsHistory, KeepsResult, Runs, history_name, history_of, names_left, read_by_run, scratch_name, script_name, written_by_run}
 
 module _ (holds : Stored) (unreadable : Faulty) (alike : List ℕ → List ℕ → Type 0) (known : Known) (o : RunOptions) where
@@ -132,19 +132,19 @@ module _ (old mid new : Stored) (known : Known) (o : RunOptions) where
   }
 
   stopped_as : (was is : List ℕ → Type 0) (c : Certified) (e : FileFault) (f : Fault) → ((n : List ℕ) → is n → was n) → Runs old known o (RunOutcome.Certified c) → ChangesAmong old mid (named (history_name o)) → IsHistoryKept mid (history_name o) c.history
-      → IsWriteRefusal mid new is (result_names o.options.out.now o.options.parts) (contents c.outputs.items ++ c.certificate.items ∷ []) e → TellsFile e f → IsResultStopped old new was o c f
+      → IsWriteRefusal mid new is (result_names o.options.out.now o.options.parts) (contents c.outputs.items ++ c.certificate.items ∷ []) e → ReportsFile e f → IsResultStopped old new was o c f
   stopped_as was is c (file.CannotRead told) f still r p k h t = absurd h
   stopped_as was is c (file.CannotWrite told) f still r p k h t = rw t (stopped_at was is c (string_bytes told) still r p k h)
   stopped_as was is c file.OutOfMemory f still r p k h t = rw t tt
 
   pub unkept_result : (was is : List ℕ → Type 0) (ran : RunOutcome) (e : FileFault) (f : Fault) → ((n : List ℕ) → is n → was n) → Runs old known o ran
       → ChangesAmong old mid (named (history_name o)) → IsHistoryKept mid (history_name o) (history_of ran)
-      → IsResultRefused mid new is o.options.out.now ran e → TellsFile e f → IsUnkept old new was o ran f
+      → IsResultRefused mid new is o.options.out.now ran e → ReportsFile e f → IsUnkept old new was o ran f
   unkept_result was is (RunOutcome.Certified c) e f still r p k h t = inr (stopped_as was is c e f still r p k (subst (λ (n : ℕ). IsWriteRefusal mid new is (result_names o.options.out.now n) (contents c.outputs.items ++ c.certificate.items ∷ []) e) (count_is c r) h) t)
   unkept_result was is (RunOutcome.Failed x y) e f still r p k h t = absurd h
   unkept_result was is (RunOutcome.Uncertified v y) e f still r p k h t = absurd h
 
-  pub unkept_history : (was : List ℕ → Type 0) (ran : RunOutcome) (e : FileFault) (f : Fault) → BeginsHistory old new o ran → IsOneUnwritten was (named (history_name o)) e → TellsFile e f → IsUnkept old new was o ran f
+  pub unkept_history : (was : List ℕ → Type 0) (ran : RunOutcome) (e : FileFault) (f : Fault) → BeginsHistory old new o ran → IsOneUnwritten was (named (history_name o)) e → ReportsFile e f → IsUnkept old new was o ran f
   unkept_history was (RunOutcome.Certified c) e f p h t = inl (p, (e, t, h))
   unkept_history was (RunOutcome.Failed x y) e f p h t = (p, (e, t, h))
   unkept_history was (RunOutcome.Uncertified v y) e f p h t = (p, (e, t, h))

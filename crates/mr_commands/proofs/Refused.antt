@@ -23,7 +23,7 @@ use Rattle.mr_commands.specs.Answers.{AnswersSeq, IsRunRefusal, IsWorkRefusal, I
 use Rattle.mr_commands.proofs.JudgingRefused.{stopped_as}
 use Rattle.mr_commands.specs.Inputs.{IsAsked, IsInput, IsInputRefusal}
 use Rattle.mr_commands.specs.Named.{input_names}
-use Rattle.mr_args.specs.Statuses.{TellsFile}
+use Rattle.mr_args.specs.Statuses.{ReportsFile}
 use Rattle.mr_bytes.specs.declared.RecordName.{RecordName}
 use Rattle.mr_args.specs.SkipList.{SpellsNames}
 
@@ -69,7 +69,7 @@ all_parts old known o outputs given bytes line work same = ap length same ∙ (s
 -- the result was not all written
 pub stopped_stage : (old new : Stored) (unreadable unwritable : Faulty) (known : Known) (o : SeqOptions) (outputs given : List (Vec ℕ Global)) (bytes line : List ℕ) (e : FileFault) (f : Fault)
     → WorksOut old known o (contents outputs) bytes line → given ≡ outputs
-    → IsWriteRefusal old new unwritable (result_names o.options.out.now (length given)) (contents given ++ bytes ∷ []) e → TellsFile e f → IsSeqRefusal old new unreadable unwritable known o f
+    → IsWriteRefusal old new unwritable (result_names o.options.out.now (length given)) (contents given ++ bytes ∷ []) e → ReportsFile e f → IsSeqRefusal old new unreadable unwritable known o f
 stopped_stage old new unreadable unwritable known o outputs given bytes line e f work same h t =
     let all : length given ≡ o.options.parts = all_parts old known o outputs given bytes line work same in
     let texts : contents given ++ bytes ∷ [] ≡ contents outputs ++ bytes ∷ [] = ap (λ (v : List (Vec ℕ Global)). contents v ++ bytes ∷ []) same in

@@ -11,13 +11,13 @@ use Rattle.mr_judge.specs.From.{AgreeAll, IsVerdictFrom, Judged}
 use Rattle.mr_verdict.specs.Verdict.{verdict_of}
 use Rattle.mr_files.specs.Holding.{Agrees, AllAgree, Holding, Stored}
 use Rattle.mr_files.specs.Names.{name_of_certificate, part_names}
-use Rattle.mr_files.specs.Refusals.{IsOneUnread, IsUnreadAmong, TellsOf}
+use Rattle.mr_files.specs.Refusals.{IsOneUnread, IsUnreadAmong, ReportsCause}
 use Rattle.mr_files.specs.declared.store.FileFault.{FileFault}
 use Rattle.mr_files.specs.declared.store.FileFault.TheVariants as file
 use Rattle.mr_args.specs.declared.fault.Fault.{Fault}
-use Rattle.mr_args.specs.Statuses.{TellsFile}
+use Rattle.mr_args.specs.Statuses.{ReportsFile}
 use Rattle.mr_commands.specs.Judgements.{AnswersResult}
-use Rattle.mr_commands.specs.Streamed.{GivesAnswer, TellsOther, TellsRead}
+use Rattle.mr_commands.specs.Streamed.{GivesAnswer, ReportsOther, ReportsRead}
 use Rattle.mr_commands.specs.declared.check_job.CheckJob.{CheckJob}
 
 -- two words for what readers may give
@@ -41,7 +41,7 @@ module _ (request : RequestSpec) (files : List (List ℕ)) (parts : List (Option
   pub yes_given : (y : Yes) → Judged request files parts certificate (Ok y) → GivesAnswer request files parts certificate (Ok y)
   yes_given y j = (j.outs, j.bytes, agree_all parts j.outs j.given.outputs_agree, agree_one certificate j.bytes j.given.certificate_agrees, record { verdict = j.verdict; certified = j.headline })
 
-  pub no_given : (e told : No) → Judged request files parts certificate (Err e) → TellsOther e told → GivesAnswer request files parts certificate (Err told)
+  pub no_given : (e told : No) → Judged request files parts certificate (Err e) → ReportsOther e told → GivesAnswer request files parts certificate (Err told)
   no_given e told j t = (
     j.outs,
     j.bytes,
@@ -59,12 +59,12 @@ answered holds job readers parts certificate answer same held held_last (outs, b
     (outs, bytes, (held outs (subst (λ (v : List (Option (List ℕ))). AllAgree v outs) same agree), held_last bytes agrees), a)
 
 -- a file that can't be read is one of which the cause is known
-pub unread_told : (unreadable : List ℕ → Type 0) (names : List (List ℕ)) (cause : List ℕ → Type 0) (e : FileFault) → ((n : List ℕ) → IsUnreadAmong unreadable names n → cause n) → IsOneUnread unreadable names e → TellsOf cause e
+pub unread_told : (unreadable : List ℕ → Type 0) (names : List (List ℕ)) (cause : List ℕ → Type 0) (e : FileFault) → ((n : List ℕ) → IsUnreadAmong unreadable names n → cause n) → IsOneUnread unreadable names e → ReportsCause cause e
 unread_told unreadable names cause (file.CannotRead name) known h = known _ h
 unread_told unreadable names cause (file.CannotWrite name) known h = absurd h
 unread_told unreadable names cause file.OutOfMemory known h = tt
 
-pub read_told : (cause : List ℕ → Type 0) (e : FileFault) (f : Fault) → TellsOf cause e → TellsFile e f → TellsRead cause f
+pub read_told : (cause : List ℕ → Type 0) (e : FileFault) (f : Fault) → ReportsCause cause e → ReportsFile e f → ReportsRead cause f
 read_told cause (file.CannotRead name) f h t = rw t h
 read_told cause (file.CannotWrite name) f h t = absurd h
 read_told cause file.OutOfMemory f h t = rw t tt

@@ -16,7 +16,7 @@ use Rattle.mr_args.specs.Asked.{request_asked}
 use Rattle.mr_commands.specs.Checks.{AnswersCheck, IsYes}
 use Rattle.mr_commands.specs.Inputs.{IsInput, IsStopped}
 use Rattle.mr_commands.specs.Named.{AreClear, input_names, named, read_by_check, verdict_file, written_by_check}
-use Rattle.mr_args.specs.Statuses.{TellsFile}
+use Rattle.mr_args.specs.Statuses.{ReportsFile}
 use Rattle.mr_commands.specs.Checks.{IsJudged}
 use Rattle.mr_commands.specs.YesLines.{yes_text}
 use Rattle.mr_commands.specs.Judgements.{IsAnswer, IsJudgement, IsResult, IsSaid, Judges, JudgesResult, text_kept}
@@ -85,7 +85,7 @@ stands new (Some name) None P v p e k = absurd (cc e)
 stands new (Some name) (Some text) P v p e k = (v, p, subst (new name) (same text (spelling v) e) k)
 
 stopped : (old new : List ℕ → List ℕ → Type 0) (unwritable : List ℕ → Type 0) (given kept : Option (List ℕ)) (v : Told) (e : FileFault) (f : Fault)
-    → kept ≡ option_map (λ name. spelling v) given → IsTextRefused old new unwritable given kept e → TellsFile e f
+    → kept ≡ option_map (λ name. spelling v) given → IsTextRefused old new unwritable given kept e → ReportsFile e f
     → (name : List ℕ) × (given ≡ Some name) × IsStopped old new unwritable (name ∷ []) (spelling v ∷ []) f
 stopped old new unwritable None kept v e f t h tells = absurd h
 stopped old new unwritable (Some name) None v e f t h tells = absurd h
@@ -151,11 +151,11 @@ module _ (old : Stored) (known : Known) (asked : CheckOptions) (j : Judgement) (
     keeps = keeps_as judged.judgement.answer judged.judgement.right judged.judgement.said judged.judgement.kept
 
     unkept_as : (unreadable unwritable : Faulty) (e : FileFault) (f : Fault) (answer : Result Yes No) → IsAnswer request judged.files judged.outputs judged.bytes answer → IsSaid answer j.said
-        → kept ≡ text_kept request asked judged.files judged.outputs answer → IsTextRefused old new unwritable (verdict_file asked) kept e → TellsFile e f → IsCheckUnanswered old new unreadable unwritable known asked f
+        → kept ≡ text_kept request asked judged.files judged.outputs answer → IsTextRefused old new unwritable (verdict_file asked) kept e → ReportsFile e f → IsCheckUnanswered old new unreadable unwritable known asked f
     unkept_as unreadable unwritable e f (Ok y) yes_is (zero_is, said) text_is h tells =
         let s = stopped old new unwritable (verdict_file asked) kept (about y) e f text_is h tells in
         inr (text, s.0, about y, says 0 (inl (refl, y.skips.items, y.pairs, said, yes_is)), judged.apart, s.1, yes_verdict y (subst (λ (o : Option (List ℕ)). IfSome o (λ name. AreClear asked.options)) s.1 judged.clear) said yes_is, s.2)
     unkept_as unreadable unwritable e f (Err fault) right said none h tells = absurd (none_refused old new unwritable (verdict_file asked) kept e none h)
 
-    pub unkept : (unreadable unwritable : Faulty) (e : FileFault) (f : Fault) → IsTextRefused old new unwritable (verdict_file asked) kept e → TellsFile e f → IsCheckUnanswered old new unreadable unwritable known asked f
+    pub unkept : (unreadable unwritable : Faulty) (e : FileFault) (f : Fault) → IsTextRefused old new unwritable (verdict_file asked) kept e → ReportsFile e f → IsCheckUnanswered old new unreadable unwritable known asked f
     unkept unreadable unwritable e f = unkept_as unreadable unwritable e f judged.judgement.answer judged.judgement.right judged.judgement.said judged.judgement.kept

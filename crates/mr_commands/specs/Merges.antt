@@ -8,7 +8,7 @@ use Rattle.mr_shard_files.specs.Merging.{IsMerged}
 use Rattle.mr_shard_files.specs.declared.fault.ShardFault.{ShardFault}
 use Rattle.mr_args.specs.declared.request.MergeOptions.{MergeOptions}
 use Rattle.mr_args.specs.declared.fault.Fault.{Fault}
-use Rattle.mr_args.specs.Statuses.{TellsShards}
+use Rattle.mr_args.specs.Statuses.{ReportsShards}
 
 -- what is said of merged shards
 abbrev pub merged_line : ℕ → ℕ → ℕ → List ℕ
@@ -33,4 +33,4 @@ pub record AnswersMerge (old new : Stored) (known : Known) (o : MergeOptions) (t
 -- why `merge` doesn't answer, as the merge of these shards tells it, and what stands then
 abbrev pub IsMergeUnanswered : Stored → Stored → Faulty → Faulty → (List ℕ → List ℕ → Type 0) → Known → MergeOptions → Fault → Type 0
 IsMergeUnanswered old new unreadable unwritable alike known o fault =
-    (e : ShardFault) × TellsShards e fault × IsShardRefusal old new unreadable unwritable alike known (verdict_names o) (list_name o) o.out.now e
+    (e : ShardFault) × ReportsShards e fault × IsShardRefusal old new unreadable unwritable alike known (verdict_names o) (list_name o) o.out.now e

@@ -26,7 +26,7 @@ use Rattle.mr_commands.specs.declared.running.RunOutcome.TheVariants.{Certified,
 use Rattle.mr_args.specs.Asked.{IsRequestRefusal, request_asked}
 use Rattle.mr_commands.specs.Inputs.{IsAsked, IsInput, IsInputRefusal}
 use Rattle.mr_commands.specs.Named.{input_names, named}
-use Rattle.mr_args.specs.Statuses.{TellsFile}
+use Rattle.mr_args.specs.Statuses.{ReportsFile}
 use Rattle.mr_commands.specs.HistoryLines.{fault_name, history_text}
 use Rattle.mr_commands.specs.NoLines.{fault_text}
 
@@ -43,10 +43,10 @@ abbrev pub uncertified_line : No → List ℕ
 uncertified_line verdict = codes "uncertified: " ++ (fault_text verdict ++ codes "\n")
 
 -- 0 says that the result is certified, 1 that the job failed or that the result is refused
-abbrev pub TellsRan : RunOutcome → List ℕ → ℕ → Type 0
-TellsRan (Certified c) text status = (status ≡ 0) × (text ≡ certified_line (vec_len c.outputs) c.pairs (vec_len c.skips))
-TellsRan (Failed f h) text status = (status ≡ 1) × (text ≡ failed_line f)
-TellsRan (Uncertified verdict h) text status = (status ≡ 1) × (text ≡ uncertified_line verdict)
+abbrev pub ReportsRan : RunOutcome → List ℕ → ℕ → Type 0
+ReportsRan (Certified c) text status = (status ≡ 0) × (text ≡ certified_line (vec_len c.outputs) c.pairs (vec_len c.skips))
+ReportsRan (Failed f h) text status = (status ≡ 1) × (text ≡ failed_line f)
+ReportsRan (Uncertified verdict h) text status = (status ≡ 1) × (text ≡ uncertified_line verdict)
 
 -- ---- what is run
 
@@ -134,7 +134,7 @@ IsResultRefused old new unwritable out ran fault = ⊥
 pub record AnswersRun (old new : Stored) (known : Known) (o : RunOptions) (text : List ℕ) (status : ℕ) : Type 0 where
   pub ran : RunOutcome
   pub runs : Runs old known o ran
-  pub told : TellsRan ran text status
+  pub told : ReportsRan ran text status
   pub result : KeepsResult old new o ran
   pub history : KeepsHistory new o ran
 
@@ -206,8 +206,8 @@ IsStartRefusal holds unreadable alike known o fault = IsRequestRefusal o.options
     × (IsScratchClash alike (read_by_run o ++ written_by_run o) (scratch_name o) fault ⊎ IsScratchRefusal (scratch_name o) fault))
 
 -- one of these can't be written, and is told
-abbrev pub TellsUnwritten : Faulty → List (List ℕ) → Fault → Type 0
-TellsUnwritten unwritable names told = (e : FileFault) × TellsFile e told × IsOneUnwritten unwritable names e
+abbrev pub ReportsUnwritten : Faulty → List (List ℕ) → Fault → Type 0
+ReportsUnwritten unwritable names told = (e : FileFault) × ReportsFile e told × IsOneUnwritten unwritable names e
 
 -- a file of the result can't be written, behind the history: those before it stand whole, under it stands what stood
 -- there or a beginning of its text, the history stands unless it has the name of one of these, and all else stands as
@@ -238,9 +238,9 @@ BeginsHistory old new o ran = ChangesAmong old new (named (history_name o)) × I
 
 -- the history could not be written, and nothing else was; or a file of a certified result could not
 abbrev pub IsUnkept : Stored → Stored → Faulty → RunOptions → RunOutcome → Fault → Type 0
-IsUnkept old new unwritable o (Certified c) fault = (BeginsHistory old new o (Certified c) × TellsUnwritten unwritable (named (history_name o)) fault)
+IsUnkept old new unwritable o (Certified c) fault = (BeginsHistory old new o (Certified c) × ReportsUnwritten unwritable (named (history_name o)) fault)
     ⊎ IsResultStopped old new unwritable o c fault
-IsUnkept old new unwritable o ran fault = BeginsHistory old new o ran × TellsUnwritten unwritable (named (history_name o)) fault
+IsUnkept old new unwritable o ran fault = BeginsHistory old new o ran × ReportsUnwritten unwritable (named (history_name o)) fault
 
 -- why nothing is told: there is no run, and nothing was written; or not all that it leaves could be written
 abbrev pub IsRunUnanswered : Stored → Stored → Faulty → Faulty → (List ℕ → List ℕ → Type 0) → Known → RunOptions → Fault → Type 0

@@ -18,8 +18,8 @@ DidFail parts certificate (Device (Output p)) = (p < length parts) × (get_or pa
 DidFail parts certificate e = ⊤
 
 -- the same fault, which tells of no read
-abbrev pub TellsOther : No → No → Type 0
-TellsOther was e = (e ≡ was) × ((s : Source) → was ≡ Device s → ⊥)
+abbrev pub ReportsOther : No → No → Type 0
+ReportsOther was e = (e ≡ was) × ((s : Source) → was ≡ Device s → ⊥)
 
 -- an answer on a result that readers give
 abbrev pub GivesAnswer : RequestSpec → List (List ℕ) → List (Option (List ℕ)) → Option (List ℕ) → Result Yes No → Type 0
@@ -27,7 +27,7 @@ GivesAnswer request files parts certificate answer =
     (outputs : List (List ℕ)) × (bytes : List ℕ) × AllAgree parts outputs × Agrees certificate bytes × IsAnswer request files outputs bytes answer
 
 -- a file is told that can't be read, of which this is known, or want of memory
-abbrev pub TellsRead : (List ℕ → Type 0) → Fault → Type 0
-TellsRead cause (CannotRead name) = cause (string_bytes name)
-TellsRead cause no_memory = ⊤
-TellsRead cause fault = ⊥
+abbrev pub ReportsRead : (List ℕ → Type 0) → Fault → Type 0
+ReportsRead cause (CannotRead name) = cause (string_bytes name)
+ReportsRead cause no_memory = ⊤
+ReportsRead cause fault = ⊥

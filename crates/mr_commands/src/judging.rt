@@ -14,8 +14,8 @@ ghost use Rattle.mr_commands.specs.Named.{AreClear, input_names, read_by_check, 
 ghost use Rattle.mr_commands.specs.Named.{written_by_check};
 ghost use Rattle.mr_commands.specs.Verdicts.{IsCheckUnanswered, IsKeptUnder, IsTextRefused};
 ghost use Rattle.mr_commands.specs.Verdicts.{KeepsVerdict, names_kept};
-ghost use Rattle.mr_files.specs.Refusals.{IsUnreadAmong, TellsOf};
-ghost use Rattle.mr_commands.specs.Streamed.{DidFail, GivesAnswer, TellsOther, TellsRead};
+ghost use Rattle.mr_files.specs.Refusals.{IsUnreadAmong, ReportsCause};
+ghost use Rattle.mr_commands.specs.Streamed.{DidFail, GivesAnswer, ReportsOther, ReportsRead};
 
 use crate::check_job::{CheckJob, Judgement};
 use crate::input::{FileNames, input_of, name_given};
@@ -201,7 +201,7 @@ fn trace_fault<R: CountedRead + Drop, C: ReadCause>(
     no: No,
 ) -> Result<No, FileFault>
     requires failed { DidFail (map (λ r. r.failed) parts.now) certificate.now.failed no }
-    ensures { MatchResult result (λ e. TellsOther no e) (λ f. TellsOf C.cause f) }
+    ensures { MatchResult result (λ e. ReportsOther no e) (λ f. ReportsCause C.cause f) }
 {
     match no {
         No::Device(Source::Certificate) => Err(certificate.fault(alloc)),
@@ -222,7 +222,7 @@ fn judge_files<R: CountedRead + Drop, C: ReadCause>(
     requires certificate { certificate.old.failed ≡ 0 }
     ensures answer { IfOk result (GivesAnswer job.now.request.now job.now.input.now
         (map (λ r. R.remaining r.reader) parts.old) (R.remaining certificate.old.reader)) }
-    ensures refused { IfErr result (TellsOf C.cause) }
+    ensures refused { IfErr result (ReportsCause C.cause) }
 {
     let computation = Computation {
         request: job.request,
@@ -243,7 +243,7 @@ pub(crate) fn judge_as_read<S: Store, C: ReadCause>(
 ) -> Result<Result<Yes, No>, Fault>
     requires cause { (n : List ℕ) → IsUnreadAmong (S.unreadable store.now) (files_judged job.now) n → C.cause n }
     ensures answer { IfOk result (AnswersResult (S.holds store.now) job.now) }
-    ensures refused { IfErr result (TellsRead C.cause) }
+    ensures refused { IfErr result (ReportsRead C.cause) }
 {
     let options = &job.asked.options;
     let ResultReaders {

@@ -10,7 +10,7 @@ ghost use Rattle.mr_commands.specs.Runs.{IsBadScript, IsCrewRefusal, IsEnding, I
 ghost use Rattle.mr_commands.specs.Runs.{IsResultKept, IsResultRefused, IsScratchClash};
 ghost use Rattle.mr_commands.specs.Runs.{IsScratchRefusal, StandsIn, scratch_name};
 ghost use Rattle.mr_commands.specs.Runs.{IsStartRefusal, IsRunUnanswered, IsScript};
-ghost use Rattle.mr_commands.specs.Runs.{IsScriptRefusal, Runs, TellsRan, history_of as history_in};
+ghost use Rattle.mr_commands.specs.Runs.{IsScriptRefusal, Runs, ReportsRan, history_of as history_in};
 ghost use Rattle.mr_commands.specs.Inputs.{IsInput, IsInputRefusal};
 ghost use Rattle.mr_commands.specs.Named.{input_names, named};
 ghost use Rattle.mr_commands.specs.HistoryLines.{history_text};
@@ -268,7 +268,7 @@ fn test_and_run<S: Store, C: Scratch, R: Threads + Wait + Sync>(
 }
 
 fn output_of(alloc: Global, ran: &RunOutcome) -> Result<CommandOutput, AllocError>
-    ensures { IfOk result (λ said. TellsRan ran.now (string_bytes said.text) said.status) }
+    ensures { IfOk result (λ said. ReportsRan ran.now (string_bytes said.text) said.status) }
 {
     match ran {
         RunOutcome::Certified(done) => {

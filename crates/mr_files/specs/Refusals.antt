@@ -22,10 +22,10 @@ IsUnread unreadable name (CannotWrite told) = ⊥
 IsUnread unreadable name OutOfMemory = ⊤
 
 -- a fault of reading that names a file of which this is known, or want of memory
-abbrev pub TellsOf : (List ℕ → Type 0) → FileFault → Type 0
-TellsOf cause (CannotRead told) = cause (string_bytes told)
-TellsOf cause (CannotWrite told) = ⊥
-TellsOf cause OutOfMemory = ⊤
+abbrev pub ReportsCause : (List ℕ → Type 0) → FileFault → Type 0
+ReportsCause cause (CannotRead told) = cause (string_bytes told)
+ReportsCause cause (CannotWrite told) = ⊥
+ReportsCause cause OutOfMemory = ⊤
 
 -- the file can't be read, or has more bytes than that
 abbrev pub IsUnreadWithin : Stored → Faulty → List ℕ → ℕ → LimitFault → Type 0

@@ -10,7 +10,7 @@
 //! end, so a judge that reads the parts in turn has one part and the certificate open.
 //! Cost: a name and a count for each file; no bytes are held.
 ghost use Rattle.std.specs.Prelude.{◌≡◌, ⊤, ℕ, List, string_bytes, IfOk, IfErr, map, get_or};
-ghost use Rattle.mr_files.specs.Refusals.{TellsOf, IsOneUnread, IsUnread, IsUnreadAmong};
+ghost use Rattle.mr_files.specs.Refusals.{ReportsCause, IsOneUnread, IsUnread, IsUnreadAmong};
 ghost use Rattle.mr_files.specs.Holding.{Agrees, AllAgree, Holding};
 ghost use Rattle.mr_files.specs.Names.{part_names, name_of_part, name_of_certificate, result_names};
 
@@ -74,7 +74,7 @@ impl<R: CountedRead + Drop, C: ReadCause> NamedReader<R, C> {
     /// Why a read failed.
     pub fn fault(&self, alloc: Global) -> FileFault
         requires { self.now.failed ≡ 0 → ⊥ }
-        ensures { TellsOf C.cause result }
+        ensures { ReportsCause C.cause result }
     {
         if self.lacked_memory {
             return FileFault::OutOfMemory;

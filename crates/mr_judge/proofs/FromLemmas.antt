@@ -23,7 +23,7 @@ use Rattle.mr_verdict.specs.Verdict.{start}
 use Rattle.mr_judge.specs.Outputs.{Leaves, Through, AllJudged, IsVerdict}
 use Rattle.mr_judge.specs.From.{Give, AgreeAll, MayGive, IsVerdictFrom, VerdictOfSome, Judged, IsDevice}
 use Rattle.mr_judge.specs.Reading.{Reading, IsLeft, IsToCome}
-use Rattle.mr_judge.specs.Readers.{StopOfSome, TellsNoRead}
+use Rattle.mr_judge.specs.Readers.{StopOfSome, ReportsNoRead}
 use Rattle.mr_verdict.proofs.FaultTruth.{tells_of_bytes}
 use Rattle.mr_verdict.proofs.HeadlineLemmas.{certified}
 use Rattle.mr_judge.proofs.KindLemmas.{kinds_of}
@@ -111,7 +111,7 @@ judged_some f xs r known gives request files n m answer z k parts are front (res
     (later, (b.0, (record { outputs_agree = agree; certificate_agrees = come_agrees known b.0 b.1; are_bytes = bytes }, j.1.1.1.0 b.0 (record { bytes_are = bytes; items_are = b.2; stop_is = b.3 }) count)))
 
 -- no fault of bytes tells of a read
-no_read_in : (request : RequestSpec) (files outs : List (List ℕ)) (bytes : List ℕ) (stop : JudgeError) → AreBytes bytes → IsVerdict request files outs bytes (Err stop) → TellsNoRead stop
+no_read_in : (request : RequestSpec) (files outs : List (List ℕ)) (bytes : List ℕ) (stop : JudgeError) → AreBytes bytes → IsVerdict request files outs bytes (Err stop) → ReportsNoRead stop
 no_read_in request files outs bytes (Fault (AtRead s)) are (inl e) = absurd (cc e)
 no_read_in request files outs bytes (Fault (AtRead s)) are (inr e) = absurd ((tells_of_bytes request files outs bytes are).1 s e)
 no_read_in request files outs bytes (Fault e) are h = tt
@@ -120,7 +120,7 @@ no_read_in request files outs bytes TooLong are h = tt
 no_read_in request files outs bytes (Output p) are h = tt
 no_read_in request files outs bytes LongOutput are h = tt
 
-pub no_read_told : (request : RequestSpec) (files : List (List ℕ)) (given : List (Option (List ℕ))) (known : Option (List ℕ)) (answer : Result Yes JudgeError) → StopOfSome request files given known answer → IfErr answer TellsNoRead
+pub no_read_told : (request : RequestSpec) (files : List (List ℕ)) (given : List (Option (List ℕ))) (known : Option (List ℕ)) (answer : Result Yes JudgeError) → StopOfSome request files given known answer → IfErr answer ReportsNoRead
 no_read_told request files given known (Ok y) h = tt
 no_read_told request files given known (Err stop) (outs, (bytes, (m, v))) = no_read_in request files outs bytes stop m.are_bytes v
 
@@ -130,7 +130,7 @@ pub fault_told : (request : RequestSpec) (files outs : List (List ℕ)) (bytes :
 fault_told request files outs bytes (AtRead s) h = tt
 fault_told request files outs bytes e h = h
 
-pub fault_device : (outs : List ℕ) (cert : ℕ) (e : No) → TellsNoRead (Fault e) → IsDevice outs outs cert cert (Err e)
+pub fault_device : (outs : List ℕ) (cert : ℕ) (e : No) → ReportsNoRead (Fault e) → IsDevice outs outs cert cert (Err e)
 fault_device outs cert (AtRead s) h = absurd h
 fault_device outs cert e h = (refl, refl)
 

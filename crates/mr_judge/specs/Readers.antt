@@ -19,6 +19,6 @@ StopOfSome request files outputs certificate answer =
     (outs : List (List ℕ)) × ((bytes : List ℕ) × (MayGive outputs certificate outs bytes × IsVerdict request files outs bytes answer))
 
 -- it is no fault that tells of a read
-abbrev pub TellsNoRead : JudgeError → Type 0
-TellsNoRead (Fault (AtRead s)) = ⊥
-TellsNoRead stop = Unit {0}
+abbrev pub ReportsNoRead : JudgeError → Type 0
+ReportsNoRead (Fault (AtRead s)) = ⊥
+ReportsNoRead stop = Unit {0}

@@ -7,7 +7,7 @@ ghost use Rattle.mr_certform.specs.Grammar.{AreBytes};
 ghost use Rattle.mr_verdict.specs.Headline.{IsCertified};
 ghost use Rattle.mr_judge.specs.Outputs.{IsVerdict};
 ghost use Rattle.mr_judge.specs.From.{Give, Judged, VerdictOfSome, IsVerdictFrom, IsDevice};
-ghost use Rattle.mr_judge.specs.Readers.{StopOfSome, TellsNoRead};
+ghost use Rattle.mr_judge.specs.Readers.{StopOfSome, ReportsNoRead};
 
 use crate::judge::judge_all;
 use crate::parts::Work;
@@ -75,7 +75,7 @@ fn judge_lent<R: CountedRead, C: CountedRead>(
 /// The fault of a stop that no failed read caused. An output or a certificate of 2^63 bytes or more
 /// counts as too long for the machine's memory.
 fn fault_of(stop: JudgeError) -> No
-    requires { TellsNoRead stop }
+    requires { ReportsNoRead stop }
     ensures verdict { (o : RequestSpec) (files outs : List (List ℕ)) (bytes : List ℕ)
         → IsVerdict o files outs bytes (Err stop) → IsVerdictFrom o files outs bytes (Err result) }
     ensures device { (outs : List ℕ) (cert : ℕ) → IsDevice outs outs cert cert (Err result) }
@@ -87,7 +87,7 @@ fn fault_of(stop: JudgeError) -> No
 }
 
 fn answer_of(answer: Result<Yes, JudgeError>) -> Result<Yes, No>
-    requires { IfErr answer TellsNoRead }
+    requires { IfErr answer ReportsNoRead }
     ensures verdict { (o : RequestSpec) (files outs : List (List ℕ)) (bytes : List ℕ)
         → IsVerdict o files outs bytes answer → IsVerdictFrom o files outs bytes result }
     ensures device { (outs : List ℕ) (cert : ℕ) → IsDevice outs outs cert cert result }

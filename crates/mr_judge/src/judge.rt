@@ -102,11 +102,13 @@ fn check_rest<I: ItemSource, O: Outputs>(
     requires ahead { Fits (O.gives outputs.old) start }
     requires place { O.place outputs.old ≡ 0 }
     ensures judged { Through (O.gives outputs.old) start
-        (RestJudged (I.gives walker.old) request.now input.now work.old.meter.lookups work.new.meter.lookups result) }
+        (RestJudged (I.gives walker.old) request.now input.now
+        work.old.meter.lookups work.new.meter.lookups result) }
     ensures mapped { (work.old.meter.mapped ≤ work.new.meter.mapped)
-        × (work.new.meter.mapped ≤ work.old.meter.mapped + length (records_of (cut_by request.now input.now))) }
-    ensures exact { IfOk result
-        (λ y. IsExact (cut_by request.now input.now) y.skips.items y.pairs work.old.meter work.new.meter) }
+        × (work.new.meter.mapped
+        ≤ work.old.meter.mapped + length (records_of (cut_by request.now input.now))) }
+    ensures exact { IfOk result (λ y. IsExact (cut_by request.now input.now)
+        y.skips.items y.pairs work.old.meter work.new.meter) }
     ensures stops { HaltsItems I.steady (I.failed walker.old) (I.failed walker.new) result }
     ensures halts { HaltsOutputs O.steady (O.failed outputs.old) (O.failed outputs.new) result }
 {
@@ -146,11 +148,13 @@ pub(crate) fn judge_all<I: ItemSource, O: Outputs>(
     requires ahead { Fits (O.gives outputs.old) start }
     requires place { O.place outputs.old ≡ 0 }
     ensures judged { Through (O.gives outputs.old) start
-        (AllJudged (I.gives walker.old) request.now input.now work.old.meter.lookups work.new.meter.lookups result) }
+        (AllJudged (I.gives walker.old) request.now input.now
+        work.old.meter.lookups work.new.meter.lookups result) }
     ensures mapped { (work.old.meter.mapped ≤ work.new.meter.mapped)
-        × (work.new.meter.mapped ≤ work.old.meter.mapped + length (records_of (cut_by request.now input.now))) }
-    ensures exact { IfOk result
-        (λ y. IsExact (cut_by request.now input.now) y.skips.items y.pairs work.old.meter work.new.meter) }
+        × (work.new.meter.mapped
+        ≤ work.old.meter.mapped + length (records_of (cut_by request.now input.now))) }
+    ensures exact { IfOk result (λ y. IsExact (cut_by request.now input.now)
+        y.skips.items y.pairs work.old.meter work.new.meter) }
     ensures stops { HaltsItems I.steady (I.failed walker.old) (I.failed walker.new) result }
     ensures halts { HaltsOutputs O.steady (O.failed outputs.old) (O.failed outputs.new) result }
 {

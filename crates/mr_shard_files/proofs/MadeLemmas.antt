@@ -4,19 +4,19 @@ use Rattle.std.specs.Prelude.{Err, IfErr, IfOk, Ok, OnOk, Result}
 use Rattle.std.proofs.lemmas.Result.{IfErr-weaker}
 use Rattle.mr_shard_files.specs.declared.fault.ShardFault.{ShardFault}
 use Rattle.mr_shard_files.specs.declared.fault.ShardFault.TheVariants.{CannotWrite, OutOfMemory}
-use Rattle.mr_shard_files.specs.Made.{TellsUnwritten}
+use Rattle.mr_shard_files.specs.Made.{ReportsUnwritten}
 
 -- a part can't be written for what was known of it before
-pub unwritten_back : (P Q : Type 0) (m n : List ℕ) (e : ShardFault) → (P → Q) → m ≡ n → TellsUnwritten P m e → TellsUnwritten Q n e
+pub unwritten_back : (P Q : Type 0) (m n : List ℕ) (e : ShardFault) → (P → Q) → m ≡ n → ReportsUnwritten P m e → ReportsUnwritten Q n e
 unwritten_back P Q m n (CannotWrite told) f s h = (f h.0, h.1 ∙ s)
 unwritten_back P Q m n OutOfMemory f s h = tt
 unwritten_back P Q m n e f s h = absurd h
 
 -- so with any answer, which something else may have refused
-pub refused_back : {T : Type 0} (other : ShardFault → Type 0) (P Q : Type 0) (m n : List ℕ) (r : Result T ShardFault) → (P → Q) → m ≡ n → IfErr r (λ e. other e ⊎ TellsUnwritten P m e) → IfErr r (λ e. other e ⊎ TellsUnwritten Q n e)
-refused_back {T} other P Q m n r f s h = IfErr-weaker r (λ e. other e ⊎ TellsUnwritten P m e) (λ e. other e ⊎ TellsUnwritten Q n e) by h
+pub refused_back : {T : Type 0} (other : ShardFault → Type 0) (P Q : Type 0) (m n : List ℕ) (r : Result T ShardFault) → (P → Q) → m ≡ n → IfErr r (λ e. other e ⊎ ReportsUnwritten P m e) → IfErr r (λ e. other e ⊎ ReportsUnwritten Q n e)
+refused_back {T} other P Q m n r f s h = IfErr-weaker r (λ e. other e ⊎ ReportsUnwritten P m e) (λ e. other e ⊎ ReportsUnwritten Q n e) by h
   where
-    by : (e : ShardFault) → other e ⊎ TellsUnwritten P m e → other e ⊎ TellsUnwritten Q n e
+    by : (e : ShardFault) → other e ⊎ ReportsUnwritten P m e → other e ⊎ ReportsUnwritten Q n e
     by e (inl k) = inl k
     by e (inr k) = inr (unwritten_back P Q m n e f s k)
 

@@ -12,7 +12,7 @@ use Rattle.mr_shard_files.specs.declared.fault.ShardFault.{ShardFault}
 use Rattle.mr_shard_files.specs.Beside.{ArePartitions}
 use Rattle.mr_shard_files.specs.Faults.{IsCutShort, IsPartitionFault, IsPartsFault, IsUnfinished}
 use Rattle.mr_shard_files.specs.Sharing.{AreUnshared}
-use Rattle.mr_shard_files.specs.Made.{TellsUnwritten}
+use Rattle.mr_shard_files.specs.Made.{ReportsUnwritten}
 use Rattle.mr_shard_files.proofs.MadeLemmas.{unwritten_back}
 use Rattle.mr_shard_files.specs.Merging.{ArePartsWritten, ChangesResult, IsMerged, IsReady, with_outputs}
 use Rattle.mr_shard_files.proofs.TruthLemmas.{merging_ready}
@@ -92,7 +92,7 @@ parts_change old new unreadable unwritable request names vs dir e (inr (inr h)) 
 -- the first partitions were written, and the next one is not
 pub cut_short : (old mid new : Stored) (unreadable first later : Faulty) (request : RequestSpec) (names : List (List ℕ)) (vs : List Told) (dir : List ℕ) (texts : List (List ℕ)) (n : ℕ) (e : ShardFault) → length texts ≡ n → n < request.parts → n < 2 ^ 64
     → ArePartitions old request.job names vs texts → Holding mid (part_names dir n) texts → mid (name_of_verdict dir) [] → ChangesAmong old mid (merged_names dir n) → ((m : List ℕ) → later m → first m) → ChangesOnly mid new (name_of_part dir n)
-    → IsPartitionFault old unreadable request.job names vs n e ⊎ TellsUnwritten (later (name_of_part dir n)) (name_of_part dir n) e → IsCutShort old new unreadable first request names vs dir e
+    → IsPartitionFault old unreadable request.job names vs n e ⊎ ReportsUnwritten (later (name_of_part dir n)) (name_of_part dir n) e → IsCutShort old new unreadable first request names vs dir e
 cut_short old mid new unreadable first later request names vs dir texts n e count less fits merged whole emptied others still only why = record {
   texts = texts;
   few = subst (λ k. k < request.parts) (sym count) less;
@@ -100,10 +100,10 @@ cut_short old mid new unreadable first later request names vs dir texts n e coun
   whole = subst (λ k. Holding new (part_names dir k) texts) (sym count) (whole_kept old mid new dir n texts fits only whole);
   emptied = empty_kept old mid new dir n only emptied;
   others = subst (λ k. ChangesAmong old new (merged_names dir (k + 1))) (sym count) (among_part old mid new dir n others only);
-  why = subst (λ k. IsPartitionFault old unreadable request.job names vs k e ⊎ TellsUnwritten (first (name_of_part dir k)) (name_of_part dir k) e) (sym count) (by why);
+  why = subst (λ k. IsPartitionFault old unreadable request.job names vs k e ⊎ ReportsUnwritten (first (name_of_part dir k)) (name_of_part dir k) e) (sym count) (by why);
 }
   where
-    by : IsPartitionFault old unreadable request.job names vs n e ⊎ TellsUnwritten (later (name_of_part dir n)) (name_of_part dir n) e → IsPartitionFault old unreadable request.job names vs n e ⊎ TellsUnwritten (first (name_of_part dir n)) (name_of_part dir n) e
+    by : IsPartitionFault old unreadable request.job names vs n e ⊎ ReportsUnwritten (later (name_of_part dir n)) (name_of_part dir n) e → IsPartitionFault old unreadable request.job names vs n e ⊎ ReportsUnwritten (first (name_of_part dir n)) (name_of_part dir n) e
     by (inl h) = inl h
     by (inr h) = inr (unwritten_back (later (name_of_part dir n)) (first (name_of_part dir n)) (name_of_part dir n) (name_of_part dir n) e (still (name_of_part dir n)) refl h)
 
@@ -126,7 +126,7 @@ module _ (old mid new : Stored) (known : Known) (names : List (List ℕ)) (list 
   -- it is not
   pub unnamed : (unreadable first later : Faulty) (e : ShardFault) → was ≡ vs → Holding old names (map spelling vs) → length names ≡ length was → IsReady old known names list dir was r m
       → ArePartsWritten old mid r names was dir notes → ChangesOnly mid new (name_of_verdict dir) → Begins mid new (name_of_verdict dir) (spelling (with_outputs m notes)) → ((n : List ℕ) → later n → first n)
-      → TellsUnwritten (later (name_of_verdict dir)) (name_of_verdict dir) e → IsUnfinished old new unreadable first known names list dir e
+      → ReportsUnwritten (later (name_of_verdict dir)) (name_of_verdict dir) e → IsUnfinished old new unreadable first known names list dir e
   unnamed unreadable first later e v held same k w only begins still tells = record {
     verdicts = was;
     request = r;

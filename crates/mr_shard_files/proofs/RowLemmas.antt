@@ -12,7 +12,7 @@ use Rattle.mr_shards.specs.declared.merger.ShardText.{ShardText}
 use Rattle.mr_shards.specs.Refused.{IsRest}
 use Rattle.mr_shards.specs.Joined.{AreOutputsAt, IsMergedAt}
 use Rattle.mr_shards.specs.Verdict.{Told}
-use Rattle.mr_shard_files.specs.Beside.{AreOutputs, IsPartition, StandsBeside, Tells, TellsOf}
+use Rattle.mr_shard_files.specs.Beside.{AreOutputs, IsPartition, StandsBeside, Tells, ReportsCause}
 use Rattle.mr_shard_files.specs.Merging.{AreParts, ArePartsOf}
 use Rattle.mr_shard_files.proofs.ListLemmas.{each_more}
 
@@ -29,11 +29,11 @@ no_parts (v ∷ vs) = [] ∷ no_parts vs
 
 module _ (holds : Stored) (job : JobSpec) where
   part_more : (n : ℕ) (name : List ℕ) (v : Told) (ps : List (List ℕ)) (t : List ℕ) → AreParts holds job n name v ps
-      → StandsBeside holds n name t → TellsOf n v t → IsRest job None t → AreParts holds job (n + 1) name v (ps ++ t ∷ [])
+      → StandsBeside holds n name t → ReportsCause n v t → IsRest job None t → AreParts holds job (n + 1) name v (ps ++ t ∷ [])
   part_more n name v ps t a s k l = record {
     count_is = (let e = length-append ps (t ∷ []) in omega (arith, e, a.count_is));
     stand = each_more (λ p text. StandsBeside holds p name text) ps t n a.count_is a.stand s;
-    told = each_more (λ p text. TellsOf p v text) ps t n a.count_is a.told k;
+    told = each_more (λ p text. ReportsCause p v text) ps t n a.count_is a.told k;
     lines = each_more (λ p text. IsRest job None text) ps t n a.count_is a.lines l;
   }
 

@@ -12,9 +12,9 @@ use Rattle.mr_shards.specs.Verdict.{Told}
 use Rattle.mr_shard_files.specs.declared.fault.ShardFault.{ShardFault}
 use Rattle.mr_shard_files.specs.declared.fault.ShardFault.TheVariants.{CannotRead, OtherPart, OutOfMemory}
 use Rattle.mr_shard_files.specs.declared.stream.Part.{Part}
-use Rattle.mr_shard_files.specs.Beside.{AreOutputs, IsPartition, StandsBeside, Tells, TellsOf}
+use Rattle.mr_shard_files.specs.Beside.{AreOutputs, IsPartition, StandsBeside, Tells, ReportsCause}
 use Rattle.mr_shard_files.specs.Faults.{AreTold, IsPartAt, IsPartFault, IsPartitionFault, IsUnopened, name_at}
-use Rattle.mr_shard_files.specs.Streams.{AllAre, AllMayBe, AreJoined, AreOpened, AreUnsettled, CountsDown, Ends, HasRead, IsOpened, IsOther, IsRefused, IsSettled, IsStream, MayBe, Moves, OneIs, TellsUnread, is_done, length_told}
+use Rattle.mr_shard_files.specs.Streams.{AllAre, AllMayBe, AreJoined, AreOpened, AreUnsettled, CountsDown, Ends, HasRead, IsOpened, IsOther, IsRefused, IsSettled, IsStream, MayBe, Moves, OneIs, ReportsUnread, is_done, length_told}
 use Rattle.mr_files.proofs.Lists.{names_more}
 use Rattle.mr_shard_files.proofs.FaultLemmas.{blamed}
 use Rattle.mr_shard_files.proofs.TurnLemmas.{all_none, nothings}
@@ -56,7 +56,7 @@ either (inr b) f g = g b
 
 module _ {R : Type 0} (remaining : R → Option (List ℕ)) (can_fail : R → Type 0) where
   pub ends : (p : ℕ) (v : Told) (b : Bool) (old new : Part R) → ((passed : List ℕ) × Moves remaining can_fail passed old new) → is_done new ≡ true
-      → ((bytes : List ℕ) → HasRead (length_told p v) new bytes → IsTrue b ↔ TellsOf p v bytes) → Ends remaining can_fail p v b old new
+      → ((bytes : List ℕ) → HasRead (length_told p v) new bytes → IsTrue b ↔ ReportsCause p v bytes) → Ends remaining can_fail p v b old new
   ends p v true old new m done f = record { passed = m.0; moves = m.1; done = done; told = λ bytes h. (f bytes h).0 refl }
   ends p v false old new m done f = record { new = new; passed = m.0; moves = m.1; done = done; other = λ bytes h t. let no_one : false ≡ true = (f bytes h).1 t in cc }
 
@@ -68,7 +68,7 @@ module _ {R : Type 0} (remaining : R → Option (List ℕ)) (can_fail : R → Ty
   is_settled p v true old new n e = e
   is_settled p v false old new n e = absurd (cc)
 
-  pub unsettled_unread : (p : ℕ) (vs : List Told) (qs : List (Part R)) (e : ShardFault) → OneIs (λ _ q. TellsUnread (can_fail q.reader) (string_bytes q.name) e) qs → AreUnsettled remaining can_fail p vs qs e
+  pub unsettled_unread : (p : ℕ) (vs : List Told) (qs : List (Part R)) (e : ShardFault) → OneIs (λ _ q. ReportsUnread (can_fail q.reader) (string_bytes q.name) e) qs → AreUnsettled remaining can_fail p vs qs e
   unsettled_unread p vs qs (OtherPart shard partition) (i, d, less, t) = absurd t
   unsettled_unread p vs qs e h = h
 
@@ -144,7 +144,7 @@ module _ {R : Type 0} (remaining : R → Option (List ℕ)) (can_fail : R → Ty
     pub record Whole (n : List ℕ) (v : Told) (x : List ℕ) (q : Part R) : Type 0 where
       pub text : List ℕ
       pub stands : StandsBeside holds p n text
-      pub told : TellsOf p v text
+      pub told : ReportsCause p v text
       pub reading : Reading
       pub text_is : reading.output.text.now ≡ text
       pub may : MayBe (length v.inputs) x q reading
@@ -162,7 +162,7 @@ module _ {R : Type 0} (remaining : R → Option (List ℕ)) (can_fail : R → Ty
         record {
           text = text;
           stands = (s.folder, s.is_folder, s.stands got agrees);
-          told = subst (TellsOf p v) same tells;
+          told = subst (ReportsCause p v) same tells;
           reading = record { output = output_with (length v.inputs) text; taken = length x };
           text_is = refl;
           may = record { files_are = refl; taken_is = refl; more = got; text_is = refl; none_more = k.moves.still };
@@ -203,7 +203,7 @@ module _ {R : Type 0} (remaining : R → Option (List ℕ)) (can_fail : R → Ty
 
     -- ---- a part that is another, or can't be read
 
-    other_part : (n : List ℕ) (v : Told) (x : List ℕ) (q : Part R) → Stream n v x q → IsOther remaining can_fail p v q → (text : List ℕ) × StandsBeside holds p n text × (TellsOf p v text → ⊥)
+    other_part : (n : List ℕ) (v : Told) (x : List ℕ) (q : Part R) → Stream n v x q → IsOther remaining can_fail p v q → (text : List ℕ) × StandsBeside holds p n text × (ReportsCause p v text → ⊥)
     other_part n v x q s k =
         let got = k.moves.got in
         let rest = left_known (remaining k.new.reader) in
@@ -214,14 +214,14 @@ module _ {R : Type 0} (remaining : R → Option (List ℕ)) (can_fail : R → Ty
           text,
           (s.folder, s.is_folder, s.stands (got ++ rest) (agrees_read (remaining q.reader) (remaining k.new.reader) got k.moves.consumes)),
           λ t.
-              let t' = subst (TellsOf p v) (sym same) t in
+              let t' = subst (ReportsCause p v) (sym same) t in
               either (one_set k.new.ended k.new.longer k.done)
-              (λ e. k.other read has (subst (TellsOf p v) (ap (λ r. read ++ r) (left_at_end (remaining k.new.reader) (k.moves.at_end s.at_end e)) ∙ append-nil read) t'))
+              (λ e. k.other read has (subst (ReportsCause p v) (ap (λ r. read ++ r) (left_at_end (remaining k.new.reader) (k.moves.at_end s.at_end e)) ∙ append-nil read) t'))
               (λ l. let past = passed_told (length_told p v) k.new.left (length read) k.new.longer has.1 l in let count = length-append read rest in omega (arith, past, t'.1.0, count)),
         )
 
     -- why a part can't be read is why it stands so in the store
-    unread_part : (n : List ℕ) (v : Told) (x : List ℕ) (q : Part R) (i : ℕ) (e : ShardFault) → Stream n v x q → TellsUnread (can_fail q.reader) (string_bytes q.name) e → IsPartFault holds unreadable p i n v e
+    unread_part : (n : List ℕ) (v : Told) (x : List ℕ) (q : Part R) (i : ℕ) (e : ShardFault) → Stream n v x q → ReportsUnread (can_fail q.reader) (string_bytes q.name) e → IsPartFault holds unreadable p i n v e
     unread_part n v x q i (CannotRead told) s t = (s.folder, s.is_folder, t.1 ∙ s.named, subst unreadable (sym (t.1 ∙ s.named)) (s.fails t.0))
     unread_part n v x q i OutOfMemory s t = tt
     unread_part n v x q i e s t = absurd t
@@ -234,13 +234,13 @@ module _ {R : Type 0} (remaining : R → Option (List ℕ)) (can_fail : R → Ty
         record { at = i; read = before.0; within = here.0; stand = before.1; told = before.2; why = f here.1 }
 
     -- where a part can't be read, nothing is said of what those before hold
-    told_unread : (vs : List Told) (ts : List (List ℕ)) (P : Type 0) (n : List ℕ) (e : ShardFault) → TellsUnread P n e → AreTold p vs ts e
+    told_unread : (vs : List Told) (ts : List (List ℕ)) (P : Type 0) (n : List ℕ) (e : ShardFault) → ReportsUnread P n e → AreTold p vs ts e
     told_unread vs ts P n (CannotRead told) t = tt
     told_unread vs ts P n OutOfMemory t = tt
     told_unread vs ts P n e t = absurd t
 
     unread_at : (ns : List (List ℕ)) (vs : List Told) (xs : List (List ℕ)) (qs : List (Part R)) (e : ShardFault) → AreStreams ns vs xs qs
-        → OneIs (λ _ q. TellsUnread (can_fail q.reader) (string_bytes q.name) e) qs → IsPartAt holds unreadable p ns vs e
+        → OneIs (λ _ q. ReportsUnread (can_fail q.reader) (string_bytes q.name) e) qs → IsPartAt holds unreadable p ns vs e
     unread_at ns vs xs qs e h (i, d, less, t) =
         let before = first_stand ns vs xs qs i h in
         part_at ns vs xs qs i d e h less (before.0, before.1, told_unread (take i vs) before.0 (can_fail (get_or qs i d).reader) (string_bytes (get_or qs i d).name) e t)

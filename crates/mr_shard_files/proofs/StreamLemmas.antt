@@ -9,7 +9,7 @@ use Rattle.mr_shard_files.specs.declared.stream.Part.{Part}
 use Rattle.std.specs.Io.KnownBytes.{Consumes, IsAtEnd}
 use Rattle.sha2.specs.Hashers.{Holds256}
 use Rattle.sha2.specs.declared.Sha256.{Sha256}
-use Rattle.mr_shard_files.specs.Streams.{CountsDown, Digests, HasMore, HasRead, IsDigested, Moves, TellsUnread, all_done, is_done}
+use Rattle.mr_shard_files.specs.Streams.{CountsDown, Digests, HasMore, HasRead, IsDigested, Moves, ReportsUnread, all_done, is_done}
 
 drop_none : (n : ℕ) → drop {A = ℕ} n [] ≡ []
 drop_none zero = refl
@@ -28,7 +28,7 @@ drop_more (x ∷ xs) ys zero le = refl
 drop_more (x ∷ xs) ys (suc n) le = drop_more xs ys n (omega (arith, le))
 
 -- a part can't be read for what was known of it before
-pub unread_back : (e : ShardFault) (P Q : Type 0) (m n : List ℕ) → (P → Q) → m ≡ n → TellsUnread P m e → TellsUnread Q n e
+pub unread_back : (e : ShardFault) (P Q : Type 0) (m n : List ℕ) → (P → Q) → m ≡ n → ReportsUnread P m e → ReportsUnread Q n e
 unread_back (CannotRead told) P Q m n f s h = (f h.0, h.1 ∙ s)
 unread_back OutOfMemory P Q m n f s h = tt
 unread_back e P Q m n f s h = absurd h

@@ -15,7 +15,7 @@ use Rattle.mr_shard_files.specs.declared.turns.Beside.{Beside}
 use Rattle.mr_shard_files.specs.declared.turns.Turn.{Turn}
 use Rattle.mr_shard_files.specs.declared.turns.Stop.{Stop}
 use Rattle.mr_shard_files.specs.declared.turns.Stop.TheVariants as stop
-use Rattle.mr_shard_files.specs.Streams.{AllAre, AllMayBe, AreBlamed, AreHeld, AreUnsettled, AreWindowsOf, IsBlamedOver, IsNotBeside, IsRefused, IsStopped, IsStoppedAt, IsTurnFault, MayBe, Moves, OneIs, StepsOver, TellsUnread, all_done, is_done}
+use Rattle.mr_shard_files.specs.Streams.{AllAre, AllMayBe, AreBlamed, AreHeld, AreUnsettled, AreWindowsOf, IsBlamedOver, IsNotBeside, IsRefused, IsStopped, IsStoppedAt, IsTurnFault, MayBe, Moves, OneIs, StepsOver, ReportsUnread, all_done, is_done}
 use Rattle.mr_shard_files.specs.declared.fault.ShardFault.{ShardFault}
 use Rattle.mr_shard_files.proofs.StreamLemmas.{moves_none, moves_on, unread_back}
 
@@ -243,7 +243,7 @@ module _ {R : Type 0} (remaining : R → Option (List ℕ)) (can_fail : R → Ty
       (omega (arith, rest.0), rest.1)
 
   pub one_back : (xs : List (List ℕ)) (bs os : List (Part R)) (e : ShardFault) → AllAre (Moves remaining can_fail) xs bs os
-      → OneIs (λ _ q. TellsUnread (can_fail q.reader) (string_bytes q.name) e) os → OneIs (λ _ q. TellsUnread (can_fail q.reader) (string_bytes q.name) e) bs
+      → OneIs (λ _ q. ReportsUnread (can_fail q.reader) (string_bytes q.name) e) os → OneIs (λ _ q. ReportsUnread (can_fail q.reader) (string_bytes q.name) e) bs
   one_back xs bs os e h (i, d, less, t) =
       let m = moves_at xs bs os i d h less in
       (i, d, m.0, unread_back e (can_fail (get_or os i d).reader) (can_fail (get_or bs i d).reader) (string_bytes (get_or os i d).name) (string_bytes (get_or bs i d).name) m.1.later (ap string_bytes m.1.name) t)

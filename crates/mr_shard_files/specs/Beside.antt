@@ -21,13 +21,13 @@ abbrev pub no_note : Note
 no_note = record { name = []; length = 0; digest = [] }
 
 -- the verdict tells of these bytes as that output: their length and their digest
-abbrev pub TellsOf : ℕ → Told → List ℕ → Type 0
-TellsOf p v text = (p < length v.outputs) × IsNoteOf (slice_index_or v.outputs p no_note) text
+abbrev pub ReportsCause : ℕ → Told → List ℕ → Type 0
+ReportsCause p v text = (p < length v.outputs) × IsNoteOf (slice_index_or v.outputs p no_note) text
 
 -- each verdict of its own
 abbrev pub Tells : ℕ → List Told → List (List ℕ) → Type 0
 Tells p [] [] = Unit {0}
-Tells p (v ∷ vs) (t ∷ ts) = TellsOf p v t × Tells p vs ts
+Tells p (v ∷ vs) (t ∷ ts) = ReportsCause p v t × Tells p vs ts
 Tells p _ _ = ⊥
 
 -- the texts, each with the number of its shard's files

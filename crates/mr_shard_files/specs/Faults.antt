@@ -17,9 +17,9 @@ use Rattle.mr_shards.specs.Verdict.{Note, Told, spelling}
 use Rattle.mr_shard_files.specs.declared.fault.ShardFault.{ShardFault}
 use Rattle.mr_shard_files.specs.declared.fault.ShardFault.TheVariants.{BadLine, BadVerdict, CannotRead, FileTooFar, LongList, LongVerdict, NoRequest, NoShards, OtherInputs, OtherOutputs, OtherPart, OtherRequest, OutOfMemory, RepeatedInput, TooManyFiles, TooManyPairs, TooManySplits, TotalTooLarge}
 use Rattle.mr_shard_files.specs.Apart.{AreApart, IsSameFolder}
-use Rattle.mr_shard_files.specs.Beside.{AreOutputs, ArePartitions, StandsBeside, Tells, TellsOf}
+use Rattle.mr_shard_files.specs.Beside.{AreOutputs, ArePartitions, StandsBeside, Tells, ReportsCause}
 use Rattle.mr_shard_files.specs.Listing.{DifferIn, IsListed, listing}
-use Rattle.mr_shard_files.specs.Made.{TellsUnwritten}
+use Rattle.mr_shard_files.specs.Made.{ReportsUnwritten}
 use Rattle.mr_shard_files.specs.Sharing.{IsShared}
 use Rattle.mr_shard_files.specs.Merging.{AreCounted, IsJoinedOnce, IsMerging, IsReady}
 
@@ -64,7 +64,7 @@ IsPartUnread unreadable p name told = (folder : List ℕ) × IsFolderOf name fol
 
 -- a part stands there that is not the one that the verdict tells of
 abbrev pub IsOtherPart : Stored → ℕ → List ℕ → Told → Type 0
-IsOtherPart holds p name v = (text : List ℕ) × StandsBeside holds p name text × (TellsOf p v text → ⊥)
+IsOtherPart holds p name v = (text : List ℕ) × StandsBeside holds p name text × (ReportsCause p v text → ⊥)
 
 -- the part of that shard is not read
 abbrev pub IsPartFault : Stored → Faulty → ℕ → ℕ → List ℕ → Told → ShardFault → Type 0
@@ -202,7 +202,7 @@ IsUnbegun old new unreadable request names vs fault = ChangesAmong old new [] ×
 -- the verdict that stood in the folder is not emptied: it stands there as before, or empty; and nothing else changed
 abbrev pub IsUnemptied : Stored → Stored → Faulty → List ℕ → ShardFault → Type 0
 IsUnemptied old new unwritable dir fault = ChangesAmong old new (name_of_verdict dir ∷ [])
-    × Begins old new (name_of_verdict dir) [] × TellsUnwritten (unwritable (name_of_verdict dir)) (name_of_verdict dir) fault
+    × Begins old new (name_of_verdict dir) [] × ReportsUnwritten (unwritable (name_of_verdict dir)) (name_of_verdict dir) fault
 
 -- the first partitions are merged, and their parts stand whole; the next one is not merged, or not written; the verdict is
 -- empty, and all else stands as before
@@ -214,7 +214,7 @@ pub record IsCutShort (old new : Stored) (unreadable unwritable : Faulty) (reque
   pub emptied : new (name_of_verdict dir) []
   pub others : ChangesAmong old new (merged_names dir (length texts + 1))
   pub why : IsPartitionFault old unreadable request.job names vs (length texts) fault
-      ⊎ TellsUnwritten (unwritable (name_of_part dir (length texts))) (name_of_part dir (length texts)) fault
+      ⊎ ReportsUnwritten (unwritable (name_of_part dir (length texts))) (name_of_part dir (length texts)) fault
 
 -- why the parts of the result are not all written
 abbrev pub IsPartsFault : Stored → Stored → Faulty → Faulty → RequestSpec → List (List ℕ) → List Told → List ℕ → ShardFault → Type 0
@@ -230,7 +230,7 @@ pub record IsUnnamed (old new : Stored) (unwritable : Faulty) (names : List (Lis
   pub whole : Holding new (part_names dir (length texts)) texts
   pub begins : Begins old new (name_of_verdict dir) (spelling joined)
   pub others : ChangesAmong old new (merged_names dir (length texts))
-  pub why : TellsUnwritten (unwritable (name_of_verdict dir)) (name_of_verdict dir) fault
+  pub why : ReportsUnwritten (unwritable (name_of_verdict dir)) (name_of_verdict dir) fault
 
 -- nothing changed, as the verdicts are not all read, or are not of shards that can be merged
 abbrev pub IsUnmerged : Stored → Stored → Faulty → (List ℕ → List ℕ → Type 0) → Known → List (List ℕ) → Option (List ℕ) → List ℕ → ShardFault → Type 0

@@ -14,7 +14,7 @@ pub record HasWritten {W : Type 0} (seen : W → Seen) (bytes : List ℕ) (made 
   pub count : made.length ≡ length bytes
 
 -- a file of that name can't be written, which happens only so, or memory is wanting
-abbrev pub TellsUnwritten : Type 0 → List ℕ → ShardFault → Type 0
-TellsUnwritten can_fail name (CannotWrite told) = can_fail × (string_bytes told ≡ name)
-TellsUnwritten can_fail name OutOfMemory = ⊤
-TellsUnwritten can_fail name fault = ⊥
+abbrev pub ReportsUnwritten : Type 0 → List ℕ → ShardFault → Type 0
+ReportsUnwritten can_fail name (CannotWrite told) = can_fail × (string_bytes told ≡ name)
+ReportsUnwritten can_fail name OutOfMemory = ⊤
+ReportsUnwritten can_fail name fault = ⊥

@@ -12,7 +12,7 @@ use Rattle.mr_shards.specs.Truth.{Asks, IsTrueOf, notes_for}
 use Rattle.mr_shards.specs.Verdict.{Note, Told, spelling}
 use Rattle.mr_shard_files.specs.Apart.{AreApart}
 use Rattle.mr_shard_files.specs.Sharing.{AreUnshared}
-use Rattle.mr_shard_files.specs.Beside.{ArePartitions, StandsBeside, TellsOf}
+use Rattle.mr_shard_files.specs.Beside.{ArePartitions, StandsBeside, ReportsCause}
 use Rattle.mr_shard_files.specs.Listing.{IsListed}
 
 -- the verdict with these notes of its outputs
@@ -33,7 +33,7 @@ with_outputs v outputs = record {
 pub record AreParts (holds : Stored) (job : JobSpec) (count : ℕ) (name : List ℕ) (v : Told) (parts : List (List ℕ)) : Type 0 where
   pub count_is : length parts ≡ count
   pub stand : (p : ℕ) → p < count → StandsBeside holds p name (nth_file parts p)
-  pub told : (p : ℕ) → p < count → TellsOf p v (nth_file parts p)
+  pub told : (p : ℕ) → p < count → ReportsCause p v (nth_file parts p)
   pub lines : (p : ℕ) → p < count → IsRest job None (nth_file parts p)
 
 -- those of each shard

@@ -15,7 +15,7 @@ use Rattle.mr_shards.specs.Pieces.{Adds, AreWindows, AreWithin, IsAfter, IsMerge
 use Rattle.mr_shards.specs.Refused.{Blames}
 use Rattle.mr_shards.specs.Joined.{verdict_at}
 use Rattle.mr_shards.specs.Verdict.{Told}
-use Rattle.mr_shard_files.specs.Beside.{TellsOf, no_note}
+use Rattle.mr_shard_files.specs.Beside.{ReportsCause, no_note}
 use Rattle.mr_shard_files.specs.Told.{told_of_merge}
 use Rattle.mr_shard_files.specs.declared.fault.ShardFault.{ShardFault}
 use Rattle.mr_shard_files.specs.declared.fault.ShardFault.TheVariants.{CannotRead, OtherPart, OutOfMemory}
@@ -82,10 +82,10 @@ pub record Moves {R : Type 0} (remaining : R → Option (List ℕ)) (can_fail : 
   pub later : can_fail new.reader → can_fail old.reader
 
 -- a file of that name can't be read, which happens only so, or memory is wanting
-abbrev pub TellsUnread : Type 0 → List ℕ → ShardFault → Type 0
-TellsUnread can_fail name (CannotRead told) = can_fail × (string_bytes told ≡ name)
-TellsUnread can_fail name OutOfMemory = ⊤
-TellsUnread can_fail name fault = ⊥
+abbrev pub ReportsUnread : Type 0 → List ℕ → ShardFault → Type 0
+ReportsUnread can_fail name (CannotRead told) = can_fail × (string_bytes told ≡ name)
+ReportsUnread can_fail name OutOfMemory = ⊤
+ReportsUnread can_fail name fault = ⊥
 
 -- how many bytes the verdict tells of that output
 abbrev pub length_told : ℕ → Told → ℕ
@@ -110,7 +110,7 @@ pub record IsSettled {R : Type 0} (remaining : R → Option (List ℕ)) (can_fai
   pub passed : List ℕ
   pub moves : Moves remaining can_fail passed old new
   pub done : is_done new ≡ true
-  pub told : (bytes : List ℕ) → HasRead (length_told p v) new bytes → TellsOf p v bytes
+  pub told : (bytes : List ℕ) → HasRead (length_told p v) new bytes → ReportsCause p v bytes
 
 -- it was read as far as it goes, and is another
 pub record IsOther {R : Type 0} (remaining : R → Option (List ℕ)) (can_fail : R → Type 0) (p : ℕ) (v : Told) (old : Part R) : Type 0 where
@@ -118,7 +118,7 @@ pub record IsOther {R : Type 0} (remaining : R → Option (List ℕ)) (can_fail 
   pub passed : List ℕ
   pub moves : Moves remaining can_fail passed old new
   pub done : is_done new ≡ true
-  pub other : (bytes : List ℕ) → HasRead (length_told p v) new bytes → TellsOf p v bytes → ⊥
+  pub other : (bytes : List ℕ) → HasRead (length_told p v) new bytes → ReportsCause p v bytes → ⊥
 
 -- ---- the parts of all shards
 
@@ -214,7 +214,7 @@ Ends remaining can_fail p v false old new = IsOther remaining can_fail p v old
 abbrev pub AreUnsettled : {R : Type 0} → (R → Option (List ℕ)) → (R → Type 0) → ℕ → List Told → List (Part R) → ShardFault → Type 0
 AreUnsettled {R} remaining can_fail p vs qs (OtherPart shard partition) = (partition ≡ p) × OneIs (λ i q. (shard ≡ i) × IsOther remaining can_fail p (verdict_at vs i) q) qs
     × ((ends : List (Part R)) × AllAre (IsSettled remaining can_fail p) (take shard vs) (take shard qs) ends)
-AreUnsettled remaining can_fail p vs qs fault = OneIs (λ _ q. TellsUnread (can_fail q.reader) (string_bytes q.name) fault) qs
+AreUnsettled remaining can_fail p vs qs fault = OneIs (λ _ q. ReportsUnread (can_fail q.reader) (string_bytes q.name) fault) qs
 
 -- ---- a turn
 
@@ -238,7 +238,7 @@ IsStoppedAt job parts m (stop.Merge fault) = IsBlamedOver job parts m fault
 -- there is no next turn: a part can't be read, or what was merged is not written, or windows on the parts are not stepped over
 abbrev pub IsTurnFault : {R : Type 0} → (R → Option (List ℕ)) → (R → Type 0) → (ShardFault → Type 0) → JobSpec → List (Part R) → List (Part R) → Standing → Stop → Type 0
 IsTurnFault remaining can_fail unwritten job old new m (stop.Part fault) =
-    (fault ≡ OutOfMemory) ⊎ (OneIs (λ _ q. TellsUnread (can_fail q.reader) (string_bytes q.name) fault) old ⊎ unwritten fault)
+    (fault ≡ OutOfMemory) ⊎ (OneIs (λ _ q. ReportsUnread (can_fail q.reader) (string_bytes q.name) fault) old ⊎ unwritten fault)
 IsTurnFault remaining can_fail unwritten job old new m (stop.Merge fault) = AllAre (λ _ o n. Moves remaining can_fail [] o n) old old new × IsBlamedOver job new m fault
 
 -- a turn is not had beside digests: it was not merged, or memory is wanting
@@ -257,7 +257,7 @@ pub record AreAllBeside (first : Result (Vec Sha256 Global) AllocError) (beside 
 -- parts are not merged as they are read, or what they are merged to is not written
 abbrev pub IsStopped : {R : Type 0} → (R → Option (List ℕ)) → (R → Type 0) → (ShardFault → Type 0) → JobSpec → List ℕ → List (Part R) → List (Part R) → Stop → Type 0
 IsStopped remaining can_fail unwritten job files old new (stop.Part fault) =
-    (fault ≡ OutOfMemory) ⊎ (OneIs (λ _ q. TellsUnread (can_fail q.reader) (string_bytes q.name) fault) old ⊎ unwritten fault)
+    (fault ≡ OutOfMemory) ⊎ (OneIs (λ _ q. ReportsUnread (can_fail q.reader) (string_bytes q.name) fault) old ⊎ unwritten fault)
 IsStopped remaining can_fail unwritten job files old new (stop.Merge fault) = AreBlamed remaining can_fail job files old new fault
 
 -- the parts were merged to the text, and each is the one that its verdict tells of
@@ -285,5 +285,5 @@ pub record IsOneUnsettled {R : Type 0} (remaining : R → Option (List ℕ)) (ca
 
 -- why parts are not joined
 abbrev pub IsRefused : {R : Type 0} → (R → Option (List ℕ)) → (R → Type 0) → JobSpec → List ℕ → ℕ → List Told → List (Part R) → ShardFault → Type 0
-IsRefused remaining can_fail job files p vs old fault = (fault ≡ OutOfMemory) ⊎ (OneIs (λ _ q. TellsUnread (can_fail q.reader) (string_bytes q.name) fault) old
+IsRefused remaining can_fail job files p vs old fault = (fault ≡ OutOfMemory) ⊎ (OneIs (λ _ q. ReportsUnread (can_fail q.reader) (string_bytes q.name) fault) old
     ⊎ (IsOneUnsettled remaining can_fail p vs old fault ⊎ AreUnjoined remaining can_fail job files p vs old fault))

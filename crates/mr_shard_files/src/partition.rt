@@ -8,7 +8,7 @@ ghost use Rattle.mr_files.specs.Names.{part_files};
 ghost use Rattle.mr_shards.specs.Joined.{inputs_of};
 ghost use Rattle.mr_shards.specs.Truth.{note_for, note_for as note_telling, notes_for};
 ghost use Rattle.mr_shard_files.specs.Faults.{IsPartsFault};
-ghost use Rattle.mr_shard_files.specs.Made.{HasWritten, TellsUnwritten};
+ghost use Rattle.mr_shard_files.specs.Made.{HasWritten, ReportsUnwritten};
 ghost use Rattle.mr_shard_files.specs.Merging.{ArePartsWritten};
 ghost use Rattle.mr_shard_files.specs.Streams.{AreJoined, IsRefused};
 ghost use Rattle.mr_input.specs.Files.{contents};
@@ -39,7 +39,7 @@ fn begin_part<S: Store>(
         → S.unwritable store.old (name_of_part dir.now partition)) }
     ensures others { ChangesOnly (S.holds store.old) (S.holds store.new) (name_of_part dir.now partition) }
     ensures still { (n : List ℕ) → S.unwritable store.new n → S.unwritable store.old n }
-    ensures err { IfErr result (TellsUnwritten (S.unwritable store.old
+    ensures err { IfErr result (ReportsUnwritten (S.unwritable store.old
         (name_of_part dir.now partition)) (name_of_part dir.now partition)) }
 {
     let name = part_name(alloc, dir, partition)?;
@@ -70,7 +70,7 @@ fn part_filled<R: CountedRead + Drop, W: CountedWrite + Drop, T: Threads>(
     ensures handed { OnOk result ((W.seen made.new.writer).handed_on ≡ (W.seen made.new.writer).contents) }
     ensures err { IfErr result
         (λ e. IsRefused R.remaining R.can_fail job.now files.now partition verdicts.now parts.old e
-        ⊎ TellsUnwritten (W.can_fail made.old.writer) (string_bytes made.old.name) e) }
+        ⊎ ReportsUnwritten (W.can_fail made.old.writer) (string_bytes made.old.name) e) }
     ensures name { made.new.name ≡ made.old.name }
 {
     joined(rt, alloc, job, files, parts, verdicts, partition, made)?;
@@ -103,7 +103,7 @@ fn part_written<S: Store, T: Threads>(
     ensures err { IfErr result
         (λ e. IsRefused S.Reader.remaining S.Reader.can_fail
         job.now files.now partition verdicts.now parts.old e
-        ⊎ TellsUnwritten (S.unwritable store.old (name_of_part dir.now partition))
+        ⊎ ReportsUnwritten (S.unwritable store.old (name_of_part dir.now partition))
         (name_of_part dir.now partition) e) }
 {
     let mut made = begin_part(store, alloc, dir, partition)?;
@@ -162,7 +162,7 @@ pub(crate) struct Made<W: CountedWrite + Drop> {
 
 /// The fault of a failed write.
 pub(crate) fn unwritten(alloc: Global, name: &str, lacked_memory: bool) -> ShardFault
-    ensures { TellsUnwritten (lacked_memory ≡ false) name.now result }
+    ensures { ReportsUnwritten (lacked_memory ≡ false) name.now result }
 {
     if lacked_memory {
         return ShardFault::OutOfMemory;
@@ -191,7 +191,7 @@ impl<W: CountedWrite + Drop> Made<W> {
     pub fn put(&mut self, alloc: Global, piece: &[u8]) -> Result<(), ShardFault>
         ensures ok { OnOk result ((bytes : List ℕ) → HasWritten W.seen bytes self.old
             → HasWritten W.seen (bytes ++ piece.now) self.new) }
-        ensures err { IfErr result (TellsUnwritten (W.can_fail self.old.writer) (string_bytes self.old.name)) }
+        ensures err { IfErr result (ReportsUnwritten (W.can_fail self.old.writer) (string_bytes self.old.name)) }
         ensures later { W.can_fail self.new.writer → W.can_fail self.old.writer }
         ensures name { self.new.name ≡ self.old.name }
     {
@@ -212,7 +212,7 @@ impl<W: CountedWrite + Drop> Made<W> {
         ensures handed { OnOk result ((W.seen self.new.writer).handed_on ≡ (W.seen self.new.writer).contents) }
         ensures ok { OnOk result ((bytes : List ℕ) → HasWritten W.seen bytes self.old
             → HasWritten W.seen bytes self.new) }
-        ensures err { IfErr result (TellsUnwritten (W.can_fail self.old.writer) (string_bytes self.old.name)) }
+        ensures err { IfErr result (ReportsUnwritten (W.can_fail self.old.writer) (string_bytes self.old.name)) }
         ensures name { self.new.name ≡ self.old.name }
     {
         if self.writer.flush().is_err() {

@@ -8,7 +8,7 @@ ghost use Rattle.mr_shard_files.specs.Sharing.{AreBeside, AreRead, AreUnshared, 
 ghost use Rattle.mr_shard_files.specs.Sharing.{names_with};
 ghost use Rattle.mr_files.specs.Holding.{Begins, ChangesOnly};
 ghost use Rattle.mr_shards.specs.Verdict.{spelling};
-ghost use Rattle.mr_shard_files.specs.Made.{TellsUnwritten};
+ghost use Rattle.mr_shard_files.specs.Made.{ReportsUnwritten};
 
 use crate::fault::ShardFault;
 use crate::merging::MergePlan;
@@ -131,7 +131,7 @@ pub(crate) fn put_verdict<S: Store>(
     ensures begins { Begins (S.holds store.old) (S.holds store.new) (name_of_verdict dir.now) text.now }
     ensures others { ChangesOnly (S.holds store.old) (S.holds store.new) (name_of_verdict dir.now) }
     ensures still { (n : List ℕ) → S.unwritable store.new n → S.unwritable store.old n }
-    ensures err { IfErr result (TellsUnwritten (S.unwritable store.old (name_of_verdict dir.now))
+    ensures err { IfErr result (ReportsUnwritten (S.unwritable store.old (name_of_verdict dir.now))
         (name_of_verdict dir.now)) }
 {
     let name = verdict_name(alloc, dir)?;
@@ -149,7 +149,7 @@ pub(crate) fn save_verdict<S: Store>(
     ensures begins { Begins (S.holds store.old) (S.holds store.new) (name_of_verdict dir.now) (spelling verdict.now) }
     ensures others { ChangesOnly (S.holds store.old) (S.holds store.new) (name_of_verdict dir.now) }
     ensures still { (n : List ℕ) → S.unwritable store.new n → S.unwritable store.old n }
-    ensures err { IfErr result (TellsUnwritten (S.unwritable store.old (name_of_verdict dir.now))
+    ensures err { IfErr result (ReportsUnwritten (S.unwritable store.old (name_of_verdict dir.now))
         (name_of_verdict dir.now)) }
 {
     let text = write_verdict(alloc, verdict)?;

@@ -9,7 +9,7 @@ ghost use Rattle.std.specs.Prelude.{◌<◌, IfErr, IfOk, IsTrue, true, false, t
 ghost use Rattle.std.specs.Io.KnownBytes.{Consumes, IsAtEnd};
 ghost use Rattle.sha2.specs.Sha256.{sha256};
 ghost use Rattle.mr_shard_files.specs.Streams.{CountsDown, HasMore, HasRead, IsDigested, Moves};
-ghost use Rattle.mr_shard_files.specs.Streams.{TellsUnread, is_done as no_more, unread};
+ghost use Rattle.mr_shard_files.specs.Streams.{ReportsUnread, is_done as no_more, unread};
 
 use crate::fault::ShardFault;
 use memchr::memchr;
@@ -115,7 +115,7 @@ fn ends_in(bytes: &[u8], from: usize) -> u8 {
 
 /// The fault of a failed read.
 pub(crate) fn fault_of(alloc: Global, name: &str, lacked_memory: bool) -> ShardFault
-    ensures { TellsUnread (lacked_memory ≡ false) name.now result }
+    ensures { ReportsUnread (lacked_memory ≡ false) name.now result }
 {
     if lacked_memory {
         return ShardFault::OutOfMemory;
@@ -204,7 +204,7 @@ impl<R: CountedRead + Drop> Part<R> {
         requires { no_more self.old ≡ false }
         ensures moves { OnOk result (Moves R.remaining R.can_fail [] self.old self.new) }
         ensures falls { OnOk result (unread self.new < unread self.old) }
-        ensures err { IfErr result (TellsUnread (R.can_fail self.old.reader) (string_bytes self.old.name)) }
+        ensures err { IfErr result (ReportsUnread (R.can_fail self.old.reader) (string_bytes self.old.name)) }
     {
         let mut buffer = [0u8; PIECE];
         let Ok(count) = self.reader.read(&mut buffer) else {
@@ -223,7 +223,7 @@ impl<R: CountedRead + Drop> Part<R> {
     /// looks at each byte once.
     pub fn fill(&mut self, alloc: Global, size: usize) -> Result<(), ShardFault>
         ensures moves { OnOk result (Moves R.remaining R.can_fail [] self.old self.new) }
-        ensures err { IfErr result (TellsUnread (R.can_fail self.old.reader) (string_bytes self.old.name)) }
+        ensures err { IfErr result (ReportsUnread (R.can_fail self.old.reader) (string_bytes self.old.name)) }
     {
         let mut ends = ends_in(self.bytes(), 0);
         while (self.bytes().len() < size || ends < 2) && !self.is_done() {
@@ -288,7 +288,7 @@ impl<R: CountedRead + Drop> Part<R> {
     pub fn finish(&mut self, alloc: Global) -> Result<(), ShardFault>
         ensures moves { OnOk result ((passed : List ℕ) × Moves R.remaining R.can_fail passed self.old self.new) }
         ensures done { OnOk result (no_more self.new ≡ true) }
-        ensures err { IfErr result (TellsUnread (R.can_fail self.old.reader) (string_bytes self.old.name)) }
+        ensures err { IfErr result (ReportsUnread (R.can_fail self.old.reader) (string_bytes self.old.name)) }
     {
         while !self.is_done() {
             self.let_go(alloc);

@@ -2,9 +2,9 @@
 ghost use Rattle.std.specs.Prelude.{◌≡◌, ◌↔◌, ℕ, [], ◌∷◌, ◌++◌, List, IfErr, IfOk, IsTrue, OnOk};
 ghost use Rattle.std.specs.Prelude.{length, string_bytes, take};
 ghost use Rattle.mr_shard_files.specs.Streams.{AllAre, AreHeld, AreUnsettled, AreWindowsOf, Ends};
-ghost use Rattle.mr_shard_files.specs.Streams.{HasRead, IsSettled, Moves, OneIs, TellsUnread};
+ghost use Rattle.mr_shard_files.specs.Streams.{HasRead, IsSettled, Moves, OneIs, ReportsUnread};
 ghost use Rattle.mr_shard_files.specs.Streams.{all_done, length_told};
-ghost use Rattle.mr_shard_files.specs.Beside.{TellsOf};
+ghost use Rattle.mr_shard_files.specs.Beside.{ReportsCause};
 
 use crate::fault::ShardFault;
 use crate::stream::Part;
@@ -19,7 +19,7 @@ pub(crate) fn fill_all<R: CountedRead + Drop>(
 ) -> Result<(), ShardFault>
     ensures ok { OnOk result (AllAre (λ _ o n. Moves R.remaining R.can_fail [] o n) parts.old parts.old parts.new) }
     ensures err { IfErr result
-        (λ e. OneIs (λ _ q. TellsUnread (R.can_fail q.reader) (string_bytes q.name) e) parts.old) }
+        (λ e. OneIs (λ _ q. ReportsUnread (R.can_fail q.reader) (string_bytes q.name) e) parts.old) }
 {
     for shard in 0..parts.len() {
         let part = &mut parts[shard];
@@ -94,7 +94,7 @@ fn has_note<R: CountedRead + Drop>(
     partition: usize,
 ) -> Result<bool, AllocError>
     ensures { IfOk result (λ b. (bytes : List ℕ) → HasRead (length_told partition verdict.now) part.now bytes
-        → IsTrue b ↔ TellsOf partition verdict.now bytes) }
+        → IsTrue b ↔ ReportsCause partition verdict.now bytes) }
 {
     match verdict.outputs.get(partition) {
         Some(note) => part.has_digest(&note.digest),
@@ -109,7 +109,7 @@ fn settle<R: CountedRead + Drop>(
     partition: usize,
 ) -> Result<bool, ShardFault>
     ensures ends { IfOk result (λ b. Ends R.remaining R.can_fail partition verdict.now b part.old part.new) }
-    ensures err { IfErr result (TellsUnread (R.can_fail part.old.reader) (string_bytes part.old.name)) }
+    ensures err { IfErr result (ReportsUnread (R.can_fail part.old.reader) (string_bytes part.old.name)) }
 {
     part.finish(alloc)?;
     Ok(has_note(part, verdict, partition)?)

@@ -8,7 +8,7 @@ ghost use Rattle.mr_shard_files.specs.Streams.{AllAre, AreAllBeside, IsNotBeside
 ghost use Rattle.mr_shard_files.specs.Streams.{Moves, StepsOver};
 ghost use Rattle.mr_shard_files.specs.declared.turns.Stop.TheVariants.{Part as told_part};
 ghost use Rattle.mr_shard_files.specs.declared.fault.ShardFault.TheVariants.{OutOfMemory as told_memory};
-ghost use Rattle.mr_shard_files.specs.Made.{HasWritten, TellsUnwritten};
+ghost use Rattle.mr_shard_files.specs.Made.{HasWritten, ReportsUnwritten};
 
 use crate::fault::{ShardFault, of_merge};
 use crate::partition::Made;
@@ -229,7 +229,7 @@ fn turned<R: CountedRead + Drop, W: CountedWrite + Drop, T: Threads>(
     ensures written { IfOk result (λ s. (bytes : List ℕ) → HasWritten W.seen bytes made.old
         → HasWritten W.seen (bytes ++ s.text.items) made.new) }
     ensures err { IfErr result (IsTurnFault R.remaining R.can_fail
-        (TellsUnwritten (W.can_fail made.old.writer) (string_bytes made.old.name))
+        (ReportsUnwritten (W.can_fail made.old.writer) (string_bytes made.old.name))
         job.now parts.old parts.new last.merger) }
     ensures later { W.can_fail made.new.writer → W.can_fail made.old.writer }
     ensures name { made.new.name ≡ made.old.name }
@@ -262,7 +262,7 @@ pub(crate) fn merged_in_turns<R: CountedRead + Drop, W: CountedWrite + Drop, T: 
         × AreMergedTo R.remaining R.can_fail job.now files.now parts.old parts.new text
         × HasWritten W.seen text made.new) }
     ensures err { IfErr result (λ e. IsStopped R.remaining R.can_fail
-        (TellsUnwritten (W.can_fail made.old.writer) (string_bytes made.old.name))
+        (ReportsUnwritten (W.can_fail made.old.writer) (string_bytes made.old.name))
         job.now files.now parts.old parts.new e) }
     ensures later { W.can_fail made.new.writer → W.can_fail made.old.writer }
     ensures name { made.new.name ≡ made.old.name }
@@ -306,7 +306,7 @@ pub(crate) fn joined<R: CountedRead + Drop, W: CountedWrite + Drop, T: Threads>(
         × HasWritten W.seen text made.new) }
     ensures err { IfErr result
         (λ e. IsRefused R.remaining R.can_fail job.now files.now partition verdicts.now parts.old e
-        ⊎ TellsUnwritten (W.can_fail made.old.writer) (string_bytes made.old.name) e) }
+        ⊎ ReportsUnwritten (W.can_fail made.old.writer) (string_bytes made.old.name) e) }
     ensures later { W.can_fail made.new.writer → W.can_fail made.old.writer }
     ensures name { made.new.name ≡ made.old.name }
 {

@@ -20,7 +20,7 @@ use Rattle.mr_shards.specs.Merged.{group_text, moved_value}
 use Rattle.std.proofs.Common.{not}
 use Rattle.mr_sequential.proofs.KeyLaws.{bytes_eq-is}
 use Rattle.std.specs.Str.{bytes_eq}
-use Rattle.mr_shards.specs.Views.{BeginsWithLine, IsTold, IsFor, IsSameKind, values_of}
+use Rattle.mr_shards.specs.Views.{BeginsWithLine, IsParsed, IsFor, IsSameKind, values_of}
 use Rattle.mr_shards.specs.declared.line.Tally.{Tally}
 use Rattle.mr_shards.specs.declared.line.Tally.TheVariants.{Total, Place}
 use Rattle.mr_shards.proofs.ReadingLemmas.{total-read, place-read, total-first, place-first, value-of, decimal-lacks, Lacks-append, before-first, after-first, after-last}
@@ -86,7 +86,7 @@ told-places : (literal : List ℕ) (fold : Bool) (key : List ℕ) (file offset :
 told-places literal fold key file offset = sym (append-nil (place_line key (At file offset)))
 
 -- its text
-pub cut-text : (job : JobSpec) (t : Tally) (text line key told rest : List ℕ) → IsCut text line key told rest → IsTold job t told
+pub cut-text : (job : JobSpec) (t : Tally) (text line key told rest : List ℕ) → IsCut text line key told rest → IsParsed job t told
     → text ≡ group_text job (record { key = key; values = values_of t }) ++ rest
 cut-text (WordCount keep_case) (Total n) text line key told rest h is =
     cut-whole text line key told rest (decimal n) h is.0 ∙ sym (total-first key n rest) ∙ ap (λ l. l ++ rest) (sym (total_told (WordCount keep_case) key n refl))
@@ -100,7 +100,7 @@ cut-text Resources (Place file offset) text line key told rest h is = absurd is
 cut-text (InvertedIndex keep_case) t text line key told rest h is = absurd is
 
 -- and what it is read as
-pub cut-read : (job : JobSpec) (t : Tally) (text line key told rest : List ℕ) → IsCut text line key told rest → IsTold job t told
+pub cut-read : (job : JobSpec) (t : Tally) (text line key told rest : List ℕ) → IsCut text line key told rest → IsParsed job t told
     → groups_in job text ≡ record { key = key; values = values_of t } ∷ groups_in job rest
 cut-read (WordCount keep_case) (Total n) text line key told rest h is =
     ap (groups_in (WordCount keep_case)) (cut-whole text line key told rest (decimal n) h is.0 ∙ sym (total-first key n rest))
@@ -118,7 +118,7 @@ cut-read Resources (Total n) text line key told rest h is =
 cut-read Resources (Place file offset) text line key told rest h is = absurd is
 cut-read (InvertedIndex keep_case) t text line key told rest h is = absurd is
 
-pub told-for : (job : JobSpec) (t : Tally) (told : List ℕ) → IsTold job t told → IsFor job t
+pub told-for : (job : JobSpec) (t : Tally) (told : List ℕ) → IsParsed job t told → IsFor job t
 told-for (WordCount keep_case) (Total n) told h = tt
 told-for (WordCount keep_case) (Place file offset) told h = h
 told-for (LinesWith literal fold) (Total n) told h = h
@@ -187,7 +187,7 @@ Lacks-there b (x ∷ xs) ys h = Lacks-there b xs ys h.1
 pub there : (b : ℕ) (text xs ys : List ℕ) → text ≡ xs ++ b ∷ ys → Lacks b text → ⊥
 there b text xs ys e h = Lacks-there b xs ys (subst (Lacks b) e h)
 
-told-lacks : (job : JobSpec) (t : Tally) (told : List ℕ) (b : ℕ) → (IsInRange 48 57 b → ⊥) → b ≢ 58 → IsTold job t told → Lacks b told
+told-lacks : (job : JobSpec) (t : Tally) (told : List ℕ) (b : ℕ) → (IsInRange 48 57 b → ⊥) → b ≢ 58 → IsParsed job t told → Lacks b told
 told-lacks (WordCount keep_case) (Total n) told b digit colon is = subst (Lacks b) (sym is.0) (decimal-lacks b n digit is.1)
 told-lacks (WordCount keep_case) (Place file offset) told b digit colon is = absurd is
 told-lacks (LinesWith literal fold) (Total n) told b digit colon is = absurd is
@@ -211,6 +211,6 @@ begun-told job text line rest key told h e clear last whole =
     sym (after-last 9 key told whole) ∙ ap (after_last 9) (sym last ∙ begun-same job text line rest h e clear)
     ∙ after-last 9 h.key h.told (told-lacks job h.tally h.told 9 (λ r. omega (arith, r.0)) (λ e'. omega (arith, e')) h.tells)
 
-pub begun : (job : JobSpec) (t : Tally) (key told : List ℕ) → Lacks 10 key → IsTold job t told → Lacks 10 (key ++ 9 ∷ told)
+pub begun : (job : JobSpec) (t : Tally) (key told : List ℕ) → Lacks 10 key → IsParsed job t told → Lacks 10 (key ++ 9 ∷ told)
 begun job t key told clear is =
     Lacks-append 10 key (9 ∷ told) clear (λ e. omega (arith, e), told-lacks job t told 10 (λ r. omega (arith, r.0)) (λ e. omega (arith, e)) is)

@@ -19,13 +19,13 @@ use Rattle.mr_shards.specs.Merged.{Group, group_text, texts}
 use Rattle.std.proofs.Math.Nat.{mod-add-mod}
 use Rattle.mr_sequential.proofs.SourceLemmas.{flat_map-append}
 use Rattle.mr_shards.specs.Lines.{HasLine, groups_in, group_in}
-use Rattle.mr_shards.specs.Views.{BeginsWithLine, IsTold, group_of, values_of}
+use Rattle.mr_shards.specs.Views.{BeginsWithLine, IsParsed, group_of, values_of}
 use Rattle.mr_shards.specs.Cursors.{ReadsOn}
 use Rattle.mr_shards.specs.Refused.{AreRead, Blames, BlamesOnly, InTurn, IsBadLine, IsFarLine, IsFarPlace, IsLineOf, IsReadAt, IsReadOf, IsReadTo, IsRest, MayFollow, NoLineFollows, Overflows, TakesNot, files_in, last_key, last_of, text_at, total_of}
 use Rattle.mr_shards.proofs.LineLemmas.{IsCut, begun, cut-read, cut-text}
 use Rattle.mr_shards.proofs.ReadingLemmas.{lines-none}
 
-has-line : (job : JobSpec) (g : Group) (t : Tally) (told : List ℕ) → Lacks 10 g.key → IsTold job t told → g.values ≡ values_of t → HasLine job g
+has-line : (job : JobSpec) (g : Group) (t : Tally) (told : List ℕ) → Lacks 10 g.key → IsParsed job t told → g.values ≡ values_of t → HasLine job g
 has-line (WordCount keep_case) g (Total n) told clear is e =
     let l : length g.values ≡ n = ap length e ∙ length-replicate n One in
     (clear, omega (arith, l, is.1), e ∙ ap (λ k. replicate k One) (sym l))

@@ -16,7 +16,7 @@ use Rattle.mr_shards.specs.declared.line.Tally.TheVariants.{Total, Place}
 use Rattle.mr_shards.specs.declared.merger.ShardText.{ShardText}
 use Rattle.mr_shards.specs.Merged.{Group, group_text, texts}
 use Rattle.mr_shards.specs.Lines.{groups_in}
-use Rattle.mr_shards.specs.Views.{IsTold, values_of}
+use Rattle.mr_shards.specs.Views.{IsParsed, values_of}
 
 -- a key may stand behind the last one: behind that of a total it is greater, behind that of a place not less
 abbrev pub MayFollow : JobSpec → Option (List ℕ) → List ℕ → Type 0
@@ -28,7 +28,7 @@ pub record IsLineOf (job : JobSpec) (g : Group) : Type 0 where
   pub tally : Tally
   pub told : List ℕ
   pub clear : Lacks 10 g.key
-  pub tells : IsTold job tally told
+  pub tells : IsParsed job tally told
   pub values : g.values ≡ values_of tally
 
 abbrev pub InTurn : JobSpec → Option (List ℕ) → List Group → Type 0

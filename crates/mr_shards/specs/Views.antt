@@ -23,14 +23,14 @@ told_text (Total n) = decimal n
 told_text (Place file offset) = decimal file ++ 58 ∷ decimal offset
 
 -- the job's lines tell so
-abbrev pub IsTold : JobSpec → Tally → List ℕ → Type 0
-IsTold (WordCount keep_case) (Total n) told = (told ≡ decimal n) × (n < 2 ^ 64)
-IsTold (WordCount keep_case) (Place file offset) told = ⊥
-IsTold (LinesWith literal fold) (Total n) told = ⊥
-IsTold (LinesWith literal fold) (Place file offset) told = (told ≡ decimal file ++ 58 ∷ decimal offset) × (file < 2 ^ 32) × (offset < 2 ^ 64)
-IsTold Resources (Total n) told = (told ≡ decimal n) × (n < 2 ^ 64)
-IsTold Resources (Place file offset) told = ⊥
-IsTold (InvertedIndex keep_case) tally told = ⊥
+abbrev pub IsParsed : JobSpec → Tally → List ℕ → Type 0
+IsParsed (WordCount keep_case) (Total n) told = (told ≡ decimal n) × (n < 2 ^ 64)
+IsParsed (WordCount keep_case) (Place file offset) told = ⊥
+IsParsed (LinesWith literal fold) (Total n) told = ⊥
+IsParsed (LinesWith literal fold) (Place file offset) told = (told ≡ decimal file ++ 58 ∷ decimal offset) × (file < 2 ^ 32) × (offset < 2 ^ 64)
+IsParsed Resources (Total n) told = (told ≡ decimal n) × (n < 2 ^ 64)
+IsParsed Resources (Place file offset) told = ⊥
+IsParsed (InvertedIndex keep_case) tally told = ⊥
 
 -- the text begins with a line of the job
 pub record BeginsWithLine (job : JobSpec) (text : List ℕ) : Type 0 where
@@ -40,7 +40,7 @@ pub record BeginsWithLine (job : JobSpec) (text : List ℕ) : Type 0 where
   pub tally : Tally
   pub text_is : text ≡ (key ++ 9 ∷ told) ++ 10 ∷ rest
   pub clear : Lacks 10 key
-  pub tells : IsTold job tally told
+  pub tells : IsParsed job tally told
 
 -- the job's lines tell such
 abbrev pub IsFor : JobSpec → Tally → Type 0

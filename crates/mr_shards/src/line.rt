@@ -8,7 +8,7 @@ ghost use Rattle.mr_shards.specs.Merged.{group_text, moved_group, moved_value};
 ghost use Rattle.mr_shards.specs.declared.line.Tally.{Tally};
 ghost use Rattle.mr_shards.specs.Cursors.{HasFront};
 ghost use Rattle.mr_shards.specs.Refused.{IsFarPlace, IsLineOf, Overflows};
-ghost use Rattle.mr_shards.specs.Views.{BeginsWithLine, Combines, IsFor, IsSameKind, IsTold};
+ghost use Rattle.mr_shards.specs.Views.{BeginsWithLine, Combines, IsFor, IsSameKind, IsParsed};
 ghost use Rattle.mr_shards.specs.Views.{group_of, values_of};
 
 use crate::merger::MergeFault;
@@ -141,7 +141,7 @@ fn place_of(told: &[u8]) -> Option<(u32, u64)>
 
 /// What follows the key. It refuses a line of an index, which names several files.
 fn tally_of(job: &Job, told: &[u8]) -> Option<Tally>
-    ensures { MatchOption result ((t : Tally) → IsTold job.now t told.now → ⊥) (λ t. IsTold job.now t told.now) }
+    ensures { MatchOption result ((t : Tally) → IsParsed job.now t told.now → ⊥) (λ t. IsParsed job.now t told.now) }
 {
     if job.counts() {
         match number_of(told) {

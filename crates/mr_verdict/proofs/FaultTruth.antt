@@ -21,7 +21,7 @@ use Rattle.mr_verdict.specs.declared.answers.No.{No}
 use Rattle.mr_verdict.specs.declared.answers.No.TheVariants as Fault
 use Rattle.mr_verdict.specs.Verdict.{WalkCase, Subject, passes, start, first, subject_of, last_of, item_eq, job_wanted, input_wanted, wanted_faults, entries_in, case_of}
 use Rattle.mr_verdict.specs.VerdictLaws.{told, or_else, fault_of, skips_in, piece, parts_in, front_skips, front_count, front_faults, part_fault, least_fault, back_fault}
-use Rattle.mr_verdict.specs.FaultLaws.{part_read, parts_read, IsWrongIn, Depart, SkipsFall, IsNoRecord, IsTrueOf, FaultsAreTrue, TellsOfBytes}
+use Rattle.mr_verdict.specs.FaultLaws.{part_read, parts_read, IsWrongIn, Depart, SkipsFall, IsNoRecord, IsTrueOf, FaultsAreTrue, IsAboutBytes}
 use Rattle.mr_verdict.proofs.FaultPart.{Tells, either, failed, untold, get-seam, not_less, part_wrong}
 use Rattle.mr_verdict.proofs.VerdictHeader.{AreEqual, eq_is, equal_job, equal_input}
 use Rattle.mr_verdict.proofs.VerdictPlace.{fault_by_place}
@@ -310,6 +310,6 @@ faults_are_true request files outputs bytes fault are_bytes e =
       ]
     ]
 
-pub tells_of_bytes : TellsOfBytes
+pub tells_of_bytes : IsAboutBytes
 tells_of_bytes request files outputs bytes are =
     (λ e. (faults_are_true request files outputs bytes Fault.OutOfMemory are e).wrong, λ s e. (faults_are_true request files outputs bytes (Fault.Device s) are e).wrong)

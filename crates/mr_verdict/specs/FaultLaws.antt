@@ -227,6 +227,6 @@ FaultsAreTrue = (request : RequestSpec) (files outputs : List (List ℕ)) (bytes
     → verdict_of request files outputs bytes ≡ Err fault → IsTrueOf (case_of request files outputs bytes) (items_of bytes) fault
 
 -- no verdict tells want of memory, and none a failed read: these aren't of the bytes
-abbrev pub TellsOfBytes : Type 0
-TellsOfBytes = (request : RequestSpec) (files outputs : List (List ℕ)) (bytes : List ℕ) → AreBytes bytes
+abbrev pub IsAboutBytes : Type 0
+IsAboutBytes = (request : RequestSpec) (files outputs : List (List ℕ)) (bytes : List ℕ) → AreBytes bytes
     → (verdict_of request files outputs bytes ≡ Err OutOfMemory → ⊥) × ((s : Source) → verdict_of request files outputs bytes ≡ Err (Device s) → ⊥)

@@ -2,7 +2,7 @@
 //! verdict and worked verdicts are only proofs, and cost nothing at run time.
 ghost use Rattle.std.specs.Prelude.{◌≡◌, ◌↔◌, IsTrue};
 ghost use Rattle.mr_verdict.specs.FaultLaws.{EndedIsSpelled, FaultsAreTrue, ReadIsSpelled};
-ghost use Rattle.mr_verdict.specs.FaultLaws.{TellsOfBytes};
+ghost use Rattle.mr_verdict.specs.FaultLaws.{IsAboutBytes};
 ghost use Rattle.mr_verdict.specs.VerdictLaws.{YesIsGood, GoodIsYes, FaultByPlace};
 ghost use Rattle.mr_verdict.specs.VerdictLaws.{LaterItemsDontMatter, LaterOutputsDontMatter};
 ghost use Rattle.mr_verdict.specs.VerdictLaws.{OnlyComparedMatters, OtherOutputsDontMatter};
@@ -172,7 +172,7 @@ pub fn partition_law()
 /// certificate. Want of memory and failed reads are never the verdict over bytes.
 pub fn fault_law()
     ensures faults { FaultsAreTrue }
-    ensures bytes { TellsOfBytes }
+    ensures bytes { IsAboutBytes }
     ensures read { ReadIsSpelled }
     ensures ended { EndedIsSpelled }
 {}

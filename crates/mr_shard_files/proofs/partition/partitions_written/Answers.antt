@@ -7,7 +7,7 @@ use Rattle.mr_shards.specs.Truth.{notes_for}
 use Rattle.mr_shards.specs.Verdict.{Note, Told}
 use Rattle.mr_shard_files.specs.Beside.{IsPartition}
 use Rattle.mr_shard_files.specs.Faults.{IsPartitionFault}
-use Rattle.mr_shard_files.specs.Made.{TellsUnwritten}
+use Rattle.mr_shard_files.specs.Made.{ReportsUnwritten}
 use Rattle.mr_files.proofs.Written.{either}
 use Rattle.mr_shard_files.specs.declared.fault.ShardFault.TheVariants.{OutOfMemory}
 use Rattle.mr_shard_files.proofs.NoteLemmas.{notes_next, notes_none}
@@ -90,7 +90,7 @@ returns-in_err-note-clause-err g c =
     let fits : i < 2 ^ 64 = omega arith in
     let only = c.in_err-note.ensures.others in
     let less : i < c.args.request.now.parts = omega (arith, c.loop-partition-test.true, c.parts-count.ensures.same) in
-    let told = TellsUnwritten (g.S.Store.unwritable c.loop-partition.store (name_of_part dir i)) (name_of_part dir i) e in
+    let told = ReportsUnwritten (g.S.Store.unwritable c.loop-partition.store (name_of_part dir i)) (name_of_part dir i) e in
     rw p.1 (rw p.2 (inr (inr (cut_short holds mid new unreadable (g.S.Store.unwritable c.args.store.now) (g.S.Store.unwritable c.loop-partition.store) c.args.request.now names vs dir held.texts i e held.count less fits held.merged held.whole held.emptied held.others held.still only
     (either {B = told} {D = told} (λ r. subst (λ (j : JobSpec). IsPartitionFault holds unreadable j names vs i e) c.job-job.ensures.same
     (partition_refused remaining can_fail holds unreadable i c.job-job.result.now names vs c.as_mut_slice-parts.result.now c.as_slice-files.result.now e c.requires.few files opened r)) (λ u. u) c.in_err-note.ensures.err)))))

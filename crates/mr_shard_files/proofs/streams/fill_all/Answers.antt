@@ -1,7 +1,7 @@
 use Rattle.std.proofs.Common.{◌≡◌, ◌+◌, [], suc, length, subst, string_bytes, arith, refl}
 use Rattle.std.proofs.lemmas.Result.{err_from_is_err_and}
 use Rattle.std.proofs.Math.ListN.{set}
-use Rattle.mr_shard_files.specs.Streams.{Moves, TellsUnread}
+use Rattle.mr_shard_files.specs.Streams.{Moves, ReportsUnread}
 use Rattle.mr_shard_files.proofs.AllLemmas.{KeptTo, kept_all, kept_more, kept_same}
 use Rattle.mr_shard_files.proofs.streams.fill_all.Goals as goal
 
@@ -13,7 +13,7 @@ returns-in_err-fill-clause-err g c =
     let can_fail = g.R.CountedRead.can_fail in
     let os = c.args.parts.now in
     let same = kept_same (λ _ o n. Moves g.R.CountedRead.remaining can_fail [] o n) i os os c.loop-shard.parts d c.loop-shard.invariant in
-    rw p.1 (rw p.2 (i, d, c.loop-shard-test.true, subst (λ q. TellsUnread (can_fail q.reader) (string_bytes q.name) c.in_err-fill.field-0.0) same c.in_err-fill.ensures.err))
+    rw p.1 (rw p.2 (i, d, c.loop-shard-test.true, subst (λ q. ReportsUnread (can_fail q.reader) (string_bytes q.name) c.in_err-fill.field-0.0) same c.in_err-fill.ensures.err))
 
 pub loop-shard-preserved : goal.loop-shard-preserved
 loop-shard-preserved g c =

@@ -3,7 +3,7 @@ use Rattle.std.proofs.lemmas.List.{get_or_default}
 use Rattle.std.proofs.lemmas.Result.{err_from_is_err_and}
 use Rattle.std.proofs.Math.ListN.{set}
 use Rattle.mr_shards.specs.Joined.{no_verdict, verdict_at}
-use Rattle.mr_shard_files.specs.Streams.{IsOther, IsSettled, TellsUnread}
+use Rattle.mr_shard_files.specs.Streams.{IsOther, IsSettled, ReportsUnread}
 use Rattle.mr_shard_files.proofs.AllLemmas.{KeptTo, kept_all, kept_first, kept_more, kept_same}
 use Rattle.mr_shard_files.proofs.SettleLemmas.{is_other, is_settled, unsettled_unread}
 use Rattle.mr_shard_files.proofs.streams.settle_all.Goals as goal
@@ -16,7 +16,7 @@ returns-in_err-settle-clause-err g c =
     let remaining = g.R.CountedRead.remaining in
     let can_fail = g.R.CountedRead.can_fail in
     let same = kept_same (IsSettled remaining can_fail c.args.partition) i c.args.verdicts.now c.args.parts.now c.loop-shard.parts d c.loop-shard.invariant in
-    let tells = subst (λ q. TellsUnread (can_fail q.reader) (string_bytes q.name) c.in_err-settle.field-0.0) same c.in_err-settle.ensures.err in
+    let tells = subst (λ q. ReportsUnread (can_fail q.reader) (string_bytes q.name) c.in_err-settle.field-0.0) same c.in_err-settle.ensures.err in
     rw p.1 (rw p.2 (unsettled_unread remaining can_fail c.args.partition c.args.verdicts.now c.args.parts.now c.in_err-settle.field-0.0 (i, d, c.loop-shard-test.true, tells)))
 
 pub returns-then-not-branch-clause-err : goal.returns-then-not-branch-clause-err

@@ -1,6 +1,6 @@
 use Rattle.std.proofs.Common.{inl, inr, string_bytes, subst}
 use Rattle.std.proofs.lemmas.Result.{IfErr-weaker, err_from_is_err_and, on_ok_weaker}
-use Rattle.mr_shard_files.specs.Made.{TellsUnwritten}
+use Rattle.mr_shard_files.specs.Made.{ReportsUnwritten}
 use Rattle.mr_shard_files.specs.Streams.{AreBlamed, AreUnsettled, IsStopped}
 use Rattle.mr_shard_files.proofs.TurnLemmas.{refused_one, refused_turns}
 use Rattle.mr_shard_files.proofs.turns.joined.Goals as goal
@@ -9,7 +9,7 @@ pub returns-in_err-settle_all-in-Err-Merge : goal.returns-in_err-settle_all-in-E
 returns-in_err-settle_all-in-Err-Merge g c =
     let p = err_from_is_err_and c.from_residual.result c.from_residual.ensures.1 in
     let blamed : AreBlamed g.R.CountedRead.remaining g.R.CountedRead.can_fail c.args.job.now c.args.files.now c.args.parts.now c.merged_in_turns.new.parts c.in-Err-Merge.fault =
-    subst (IsStopped g.R.CountedRead.remaining g.R.CountedRead.can_fail (TellsUnwritten (g.W.CountedWrite.can_fail c.args.made.now.writer) (string_bytes c.args.made.now.name)) c.args.job.now c.args.files.now c.args.parts.now c.merged_in_turns.new.parts) c.in-Err-Merge.field-0-is c.in-Err-Merge.ensures.err in
+    subst (IsStopped g.R.CountedRead.remaining g.R.CountedRead.can_fail (ReportsUnwritten (g.W.CountedWrite.can_fail c.args.made.now.writer) (string_bytes c.args.made.now.name)) c.args.job.now c.args.files.now c.args.parts.now c.merged_in_turns.new.parts) c.in-Err-Merge.field-0-is c.in-Err-Merge.ensures.err in
     rw p.1 (rw p.2 (record {
       ok = tt;
       err = inl (refused_one g.R.CountedRead.remaining g.R.CountedRead.can_fail c.args.job.now c.args.files.now c.args.partition c.args.verdicts.now blamed.passed c.args.parts.now c.merged_in_turns.new.parts
@@ -32,8 +32,8 @@ returns-in-Ok-clause-err g c =
 
 pub returns-in-Err-Part-clause-err : goal.returns-in-Err-Part-clause-err
 returns-in-Err-Part-clause-err g c =
-    refused_turns g.R.CountedRead.remaining g.R.CountedRead.can_fail c.args.job.now c.args.files.now c.args.partition c.args.verdicts.now (TellsUnwritten (g.W.CountedWrite.can_fail c.args.made.now.writer) (string_bytes c.args.made.now.name))
-    c.args.parts.now c.merged_in_turns.new.parts c.in-Err-Part.fault (subst (IsStopped g.R.CountedRead.remaining g.R.CountedRead.can_fail (TellsUnwritten (g.W.CountedWrite.can_fail c.args.made.now.writer) (string_bytes c.args.made.now.name)) c.args.job.now c.args.files.now c.args.parts.now c.merged_in_turns.new.parts) c.in-Err-Part.field-0-is c.in-Err-Part.ensures.err)
+    refused_turns g.R.CountedRead.remaining g.R.CountedRead.can_fail c.args.job.now c.args.files.now c.args.partition c.args.verdicts.now (ReportsUnwritten (g.W.CountedWrite.can_fail c.args.made.now.writer) (string_bytes c.args.made.now.name))
+    c.args.parts.now c.merged_in_turns.new.parts c.in-Err-Part.fault (subst (IsStopped g.R.CountedRead.remaining g.R.CountedRead.can_fail (ReportsUnwritten (g.W.CountedWrite.can_fail c.args.made.now.writer) (string_bytes c.args.made.now.name)) c.args.job.now c.args.files.now c.args.parts.now c.merged_in_turns.new.parts) c.in-Err-Part.field-0-is c.in-Err-Part.ensures.err)
 
 pub returns-in_ok-settle_all-in-Err-Merge : goal.returns-in_ok-settle_all-in-Err-Merge
 returns-in_ok-settle_all-in-Err-Merge g c = record {
@@ -43,7 +43,7 @@ returns-in_ok-settle_all-in-Err-Merge g c = record {
     new = c.settle_all-in-Err-Merge.new.parts;
     cause = c.in-Err-Merge.fault;
     told = c.of_merge.ensures;
-    merged = subst (IsStopped g.R.CountedRead.remaining g.R.CountedRead.can_fail (TellsUnwritten (g.W.CountedWrite.can_fail c.args.made.now.writer) (string_bytes c.args.made.now.name)) c.args.job.now c.args.files.now c.args.parts.now c.merged_in_turns.new.parts) c.in-Err-Merge.field-0-is c.in-Err-Merge.ensures.err;
+    merged = subst (IsStopped g.R.CountedRead.remaining g.R.CountedRead.can_fail (ReportsUnwritten (g.W.CountedWrite.can_fail c.args.made.now.writer) (string_bytes c.args.made.now.name)) c.args.job.now c.args.files.now c.args.parts.now c.merged_in_turns.new.parts) c.in-Err-Merge.field-0-is c.in-Err-Merge.ensures.err;
     settled = c.in_ok-settle_all-in-Err-Merge.ensures.ok;
   }))));
   later = c.merged_in_turns.ensures.later;

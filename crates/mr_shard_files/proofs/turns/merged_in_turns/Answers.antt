@@ -2,7 +2,7 @@ use Rattle.std.proofs.Common.{◌≡◌, ◌∙◌, ◌++◌, [], ap, refl, leng
 use Rattle.std.proofs.lemmas.List.{length-map}
 use Rattle.std.proofs.lemmas.Result.{err_from_is_err_and}
 use Rattle.mr_shards.specs.Pieces.{fresh, fresh_all}
-use Rattle.mr_shard_files.specs.Made.{TellsUnwritten}
+use Rattle.mr_shard_files.specs.Made.{ReportsUnwritten}
 use Rattle.mr_shard_files.specs.Streams.{AllAre, AreHeld, Moves}
 use Rattle.mr_shard_files.proofs.AllLemmas.{all_length}
 use Rattle.mr_shard_files.proofs.MadeLemmas.{unwritten_back}
@@ -36,7 +36,7 @@ returns-in_err-turn-clause-err g c =
     let name = string_bytes c.args.made.now.name in
     let named = string_bytes c.loop.made.name in
     let held = c.loop.invariant in
-    rw p.1 (rw p.2 (stopped_turn g.R.CountedRead.remaining g.R.CountedRead.can_fail (TellsUnwritten now named) (TellsUnwritten first name) c.args.job.now c.args.files.now held.passed c.args.parts.now c.loop.parts
+    rw p.1 (rw p.2 (stopped_turn g.R.CountedRead.remaining g.R.CountedRead.can_fail (ReportsUnwritten now named) (ReportsUnwritten first name) c.args.job.now c.args.files.now held.passed c.args.parts.now c.loop.parts
     c.loop.turn.merger held.written c.turned.new.parts c.in_err-turn.field-0.0 (λ f. unwritten_back now first named name f held.later (ap string_bytes held.named)) held.moved held.stands c.in_err-turn.ensures.err))
 
 pub returns-then-are_done-clause-ok : goal.returns-then-are_done-clause-ok

@@ -1,6 +1,6 @@
 use Rattle.std.proofs.Common.{◌++◌, ◌∙◌, List, [], ℕ, inl, inr, refl, string_bytes, subst}
 use Rattle.std.proofs.lemmas.Result.{err_from_is_err_and}
-use Rattle.mr_shard_files.specs.Made.{HasWritten, TellsUnwritten}
+use Rattle.mr_shard_files.specs.Made.{HasWritten, ReportsUnwritten}
 use Rattle.mr_shard_files.specs.Streams.{AllAre, IsDigested, Moves, StepsOver}
 use Rattle.mr_shard_files.proofs.AllLemmas.{all_length}
 use Rattle.mr_shard_files.proofs.TailLemmas.{digested_moves, fills_on, steps_digested}
@@ -19,7 +19,7 @@ stepped_beside-requires g c =
 pub returns-in_err-turn-clause-err : goal.returns-in_err-turn-clause-err
 returns-in_err-turn-clause-err g c =
     let p = err_from_is_err_and c.from_residual-in_err-turn.result c.from_residual-in_err-turn.ensures.1 in
-    rw p.1 (rw p.2 (stopped_step g.R.CountedRead.remaining g.R.CountedRead.can_fail (TellsUnwritten (g.W.CountedWrite.can_fail c.args.made.now.writer) (string_bytes c.args.made.now.name))
+    rw p.1 (rw p.2 (stopped_step g.R.CountedRead.remaining g.R.CountedRead.can_fail (ReportsUnwritten (g.W.CountedWrite.can_fail c.args.made.now.writer) (string_bytes c.args.made.now.name))
     c.args.job.now c.args.parts.now c.args.last.merger c.fill_all.new.parts c.in_err-turn.field-0.0 c.in_ok-fill_all.ensures.ok c.in_err-turn.ensures.err))
 
 pub returns-in_err-keep_all-clause-err : goal.returns-in_err-keep_all-clause-err
