@@ -1,5 +1,5 @@
 //! Judges a result against an input. It reads the result whole, then one thread or several judge
-//! it. It judges two kinds of results while it reads them (`streaming`), so that none of their
+//! it. It judges two kinds of results while it reads them (`judging.rt`), so that none of their
 //! files is in memory: those that one thread judges with no verdict to write, and those with a file
 //! longer than a good result's.
 ghost use Rattle.std.specs.Prelude.{◌≤◌, ◌^◌};

@@ -1,5 +1,4 @@
 //! Merges the outputs that shards have for one partition while they are read.
-//! Merges the outputs that the shards have for one partition.
 //!
 //!     shard 0  a 2 | c 1 |
 //!     shard 1  a 3 | b 1 |    ->    a 5 | b 1 | c 1 |
