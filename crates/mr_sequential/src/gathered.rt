@@ -3,7 +3,7 @@ use mr_keys::Keys;
 use std::marker::Model;
 
 /// The number of each pair's key, in four bytes. Some keys may have more than one number. A pair's
-/// name and value aren't stored: they follow from its record (`names.rt`).
+/// name and value aren't stored: they follow from its record (`groups.rt`).
 #[derive(Drop)]
 pub(crate) struct Gathered {
     pub(crate) keys: Keys,
