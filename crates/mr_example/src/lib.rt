@@ -1,4 +1,4 @@
-//! An example: `made` runs a job in memory, and `judged` judges the result before anyone uses it.
+//! An example: `execute` runs a job in memory, and `judge` judges the result before anyone uses it.
 #![tactic(auto)]
 
 ghost use Rattle.std.specs.Prelude.{◌≡◌, ℕ, ◌≤◌, ◌<◌, ◌^◌, ◌∷◌, [], false, IfOk, IsOk};
@@ -19,7 +19,7 @@ use thiserror::Error;
 
 /// Why there is no result, or none to be used.
 #[derive(Debug, Drop, Error)]
-pub enum Trouble {
+pub enum ExampleFault {
     #[error("{0}")]
     Request(#[from] RequestFault),
     #[error("{0}")]
@@ -29,22 +29,22 @@ pub enum Trouble {
     #[error("{0}")]
     Run(#[from] RunFault),
     #[error("{0}")]
-    Spelled(#[from] WriteFault),
+    Certificate(#[from] WriteFault),
     #[error("{0}")]
-    Judged(#[from] No),
+    Verdict(#[from] No),
     #[error("out of memory")]
     Memory(#[from] AllocError),
 }
 
-/// What the makers of a result give to its users.
+/// A result as its makers give it to its users.
 #[derive(Drop)]
-pub struct Handed {
+pub struct JobResult {
     pub outputs: Vec<Vec<u8>>,
     pub certificate: Vec<u8>,
 }
 
 /// The request of both sides: count words, in two partitions, and leave no record out.
-pub fn agreed() -> Result<Request, Trouble>
+pub fn word_count_request() -> Result<Request, ExampleFault>
     ensures request { IfOk result (λ r. r
         ≡ record { job = WordCount false; by = By.Key; parts = 2; split = 67108864; skips = 0 }) }
     ensures some { IsOk result }
@@ -53,7 +53,7 @@ pub fn agreed() -> Result<Request, Trouble>
 }
 
 /// One text as the input of the request, if it fits.
-pub fn input_of(alloc: Global, request: &Request, text: &[u8]) -> Result<Input, Trouble>
+pub fn input_of(alloc: Global, request: &Request, text: &[u8]) -> Result<Input, ExampleFault>
     ensures input { IfOk result (λ input. input ≡ text.now ∷ []) }
     ensures fits { IfOk result (λ input. split_total request.now.split input ≤ 2 ^ 20) }
 {
@@ -63,13 +63,13 @@ pub fn input_of(alloc: Global, request: &Request, text: &[u8]) -> Result<Input, 
         .map_err(AllocError::from)?;
     let input = Input::of(files)?;
     if !request.fits(&input) {
-        return Err(Trouble::TooManySplits);
+        return Err(ExampleFault::TooManySplits);
     }
     Ok(input)
 }
 
 /// Runs the job and writes its certificate in the shorter version, for the makers.
-pub fn made(alloc: Global, request: &Request, input: &Input) -> Result<Handed, Trouble>
+pub fn execute(alloc: Global, request: &Request, input: &Input) -> Result<JobResult, ExampleFault>
     requires { split_total request.now.split input.now ≤ 2 ^ 20 }
     ensures texts { IfOk result (λ h. (p : ℕ) → p < request.now.parts
         → nth_file (contents h.outputs.items) p ≡ sequential request.now input.now [] p) }
@@ -78,28 +78,28 @@ pub fn made(alloc: Global, request: &Request, input: &Input) -> Result<Handed, T
 {
     let (outputs, certificate) = run(alloc, request, input, &[])?;
     let certificate = write(alloc, &certificate, Version::V2)?;
-    Ok(Handed {
+    Ok(JobResult {
         outputs,
         certificate,
     })
 }
 
-/// Judges the result, for users who trust no maker. After `Yes`, it is what `sequential` says.
-pub fn judged(
+/// Judges the result, for users who trust no maker. After `Yes` it is the sequential execution's.
+pub fn judge(
     alloc: Global,
     request: &Request,
     input: &Input,
-    handed: &Handed,
-) -> Result<Yes, Trouble>
+    answer: &JobResult,
+) -> Result<Yes, ExampleFault>
     requires { split_total request.now.split input.now ≤ 2 ^ 20 }
     ensures { IfOk result (λ yes. IsCertified request.now input.now
-        (contents handed.now.outputs.items) handed.now.certificate.items
+        (contents answer.now.outputs.items) answer.now.certificate.items
         yes.skips.items yes.pairs) }
 {
-    let Handed {
+    let JobResult {
         outputs,
         certificate,
-    } = handed;
+    } = answer;
     Ok(check(
         alloc,
         request,

@@ -6,7 +6,7 @@ use crate::given::{Given, list_of, with_text};
 use mr_bytes::{Phase, Progress};
 use mr_certform::{Version, write};
 use mr_check::{Case, No, judge_on_one_thread};
-use mr_example::{Handed, Trouble, agreed, judged, made};
+use mr_example::{ExampleFault, JobResult, execute, judge, word_count_request};
 use mr_sequential::run_watched;
 use std::alloc::{AllocError, Global};
 use std::sync::atomic::{AtomicU64, Ordering};
@@ -41,47 +41,47 @@ impl Progress for Counting {
     fn worker_lost(&self) {}
 }
 
-/// The book, and what is agreed on it.
-fn book(alloc: Global) -> Result<Given, Trouble>
+/// The book, and the request.
+fn book(alloc: Global) -> Result<Given, ExampleFault>
     ensures { IfOk result (λ g. split_total g.request.split g.input ≤ 2 ^ 20) }
 {
-    with_text(alloc, agreed()?, BOOK)
+    with_text(alloc, word_count_request()?, BOOK)
 }
 
 /// The book is counted while somebody looks on.
-fn counted(alloc: Global, given: &Given, watch: &Counting) -> Result<Handed, Trouble>
+fn counted(alloc: Global, given: &Given, watch: &Counting) -> Result<JobResult, ExampleFault>
     requires { split_total given.now.request.split given.now.input ≤ 2 ^ 20 }
 {
     let (outputs, certificate) = run_watched(alloc, &given.request, &given.input, &[], watch)?;
     let certificate = write(alloc, &certificate, Version::V1)?;
-    Ok(Handed {
+    Ok(JobResult {
         outputs,
         certificate,
     })
 }
 
 /// The book is counted and judged while somebody looks on: how many pairs the judge says yes to.
-fn watched(alloc: Global, given: &Given, watch: &Counting) -> Result<u64, Trouble>
+fn watched(alloc: Global, given: &Given, watch: &Counting) -> Result<u64, ExampleFault>
     requires { split_total given.now.request.split given.now.input ≤ 2 ^ 20 }
 {
-    let handed = counted(alloc, given, watch)?;
+    let answer = counted(alloc, given, watch)?;
     let case = Case {
         request: &given.request,
         input: &given.input,
-        outputs: &handed.outputs,
-        certificate: &handed.certificate,
+        outputs: &answer.outputs,
+        certificate: &answer.certificate,
     };
     let yes = judge_on_one_thread(alloc, &case, watch)?;
     Ok(yes.pairs)
 }
 
 /// How many pairs the judge says yes to, or why it says no.
-fn verdict(alloc: Global, given: &Given, handed: &Handed) -> Result<u64, No>
+fn verdict(alloc: Global, given: &Given, answer: &JobResult) -> Result<u64, No>
     requires { split_total given.now.request.split given.now.input ≤ 2 ^ 20 }
 {
-    match judged(alloc, &given.request, &given.input, handed) {
+    match judge(alloc, &given.request, &given.input, answer) {
         Ok(yes) => Ok(yes.pairs),
-        Err(Trouble::Judged(no)) => Err(no),
+        Err(ExampleFault::Verdict(no)) => Err(no),
         Err(_) => Err(No::OutOfMemory),
     }
 }
@@ -94,8 +94,8 @@ fn are_counted(outputs: &[Vec<u8>]) -> bool {
 }
 
 /// The outputs of the book, with one byte changed.
-fn change(alloc: Global, handed: &mut Handed) -> Result<(), AllocError> {
-    handed.outputs = list_of(
+fn change(alloc: Global, answer: &mut JobResult) -> Result<(), AllocError> {
+    answer.outputs = list_of(
         alloc,
         &[b"nothing\t1\nsaw\t2\nthe\t3\n", b"cat\t2\ndog\t2\n"],
     )?;
@@ -103,23 +103,23 @@ fn change(alloc: Global, handed: &mut Handed) -> Result<(), AllocError> {
 }
 
 /// The verdict on the result of the book as it was made, where its outputs are those wanted.
-fn verdict_as_made(alloc: Global, given: &Given) -> Result<Option<Result<u64, No>>, Trouble>
+fn verdict_as_made(alloc: Global, given: &Given) -> Result<Option<Result<u64, No>>, ExampleFault>
     requires { split_total given.now.request.split given.now.input ≤ 2 ^ 20 }
 {
-    let handed = made(alloc, &given.request, &given.input)?;
-    if !are_counted(&handed.outputs) {
+    let answer = execute(alloc, &given.request, &given.input)?;
+    if !are_counted(&answer.outputs) {
         return Ok(None);
     }
-    Ok(Some(verdict(alloc, given, &handed)))
+    Ok(Some(verdict(alloc, given, &answer)))
 }
 
 /// The verdict on the result of the book with one byte changed.
-fn verdict_changed(alloc: Global, given: &Given) -> Result<Result<u64, No>, Trouble>
+fn verdict_changed(alloc: Global, given: &Given) -> Result<Result<u64, No>, ExampleFault>
     requires { split_total given.now.request.split given.now.input ≤ 2 ^ 20 }
 {
-    let mut handed = made(alloc, &given.request, &given.input)?;
-    change(alloc, &mut handed)?;
-    Ok(verdict(alloc, given, &handed))
+    let mut answer = execute(alloc, &given.request, &given.input)?;
+    change(alloc, &mut answer)?;
+    Ok(verdict(alloc, given, &answer))
 }
 
 #[test]
@@ -141,7 +141,7 @@ fn a_changed_byte_is_told(rt: HostRuntime) -> Result<(), Fail> {
 }
 
 /// How many pairs the judge says yes to, how often it was told how far it is, and how often too far.
-fn watched_book(alloc: Global) -> Result<(u64, u64, u64), Trouble> {
+fn watched_book(alloc: Global) -> Result<(u64, u64, u64), ExampleFault> {
     let given = book(alloc)?;
     let watch = Counting::new();
     let pairs = watched(alloc, &given, &watch)?;

@@ -2,7 +2,7 @@
 ghost use Rattle.std.specs.Prelude.{◌≤◌, ◌^◌, IfOk};
 ghost use Rattle.mr_input.specs.Files.{split_total};
 
-use mr_example::{Trouble, input_of};
+use mr_example::{ExampleFault, input_of};
 use mr_input::Input;
 use mr_jobs::{Job, Request};
 use std::alloc::{AllocError, Global};
@@ -26,7 +26,7 @@ pub struct Given {
 }
 
 /// This request, and one text as its input.
-pub fn with_text(alloc: Global, request: Request, text: &[u8]) -> Result<Given, Trouble>
+pub fn with_text(alloc: Global, request: Request, text: &[u8]) -> Result<Given, ExampleFault>
     ensures { IfOk result (λ g. split_total g.request.split g.input ≤ 2 ^ 20) }
 {
     let input = input_of(alloc, &request, text)?;
@@ -34,7 +34,7 @@ pub fn with_text(alloc: Global, request: Request, text: &[u8]) -> Result<Given, 
 }
 
 /// The words of `a b a` and a line end, in this many partitions and splits of 64 bytes.
-pub fn few_words(alloc: Global, parts: u32) -> Result<Given, Trouble>
+pub fn few_words(alloc: Global, parts: u32) -> Result<Given, ExampleFault>
     ensures { IfOk result (λ g. split_total g.request.split g.input ≤ 2 ^ 20) }
 {
     with_text(
