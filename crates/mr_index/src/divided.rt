@@ -11,10 +11,10 @@ ghost use Rattle.mr_index.specs.Building.{Shows};
 ghost use Rattle.mr_index.specs.Pieces.{Divides, ArePieces, records_divided, piece_between};
 ghost use Rattle.mr_index.specs.Pieces.{piece_at};
 
-use crate::part::{Part, Room, Tables};
+use crate::part::{Mapping, Part, Room, Tables};
 use crate::piece::{Piece, Sizes};
-use mr_bytes::RecordName;
-use mr_jobs::{Job, Mapper};
+use mr_bytes::{RecordName, Unwatched};
+use mr_jobs::Job;
 use mr_splits::{LeftOutSet, Plan, RecordAt};
 use std::alloc::{AllocError, Global};
 use std::marker::Model;
@@ -203,24 +203,22 @@ impl<'a> DividedSplit<'a> {
     fn map_one(
         &self,
         tables: &mut Tables,
-        mapper: &mut Mapper<'_, '_>,
         from: u32,
         number: u32,
-        room: Room,
-        buffer: &mut Vec<u8>,
-        mapped: &mut u64,
+        mapping: &mut Mapping<'_>,
     ) -> Result<(), AllocError>
-        requires mapper { mapper.old ≡ record { job = self.now.job; files = self.now.cut.files } }
+        requires source { mapping.old.mapper
+            ≡ record { job = self.now.job; files = self.now.cut.files } }
         requires within { (from ≤ number) × (number < length (records_divided self.now)) }
         requires sound { Sound tables.old.pairs }
         requires shows { Shows (piece_between self.now from number) tables.old.ends.items
             (pairs_seen tables.old.pairs) }
-        requires few { mapped.old ≤ number }
-        ensures same { mapper.new ≡ mapper.old }
+        requires few { mapping.old.mapped ≤ number }
+        ensures same { mapping.new.mapper ≡ mapping.old.mapper }
         ensures sound { OnOk result (Sound tables.new.pairs) }
         ensures shows { OnOk result (Shows (piece_between self.now from (number
             + 1)) tables.new.ends.items (pairs_seen tables.new.pairs)) }
-        ensures few { OnOk result (mapped.new ≤ number + 1) }
+        ensures few { OnOk result (mapping.new.mapped ≤ number + 1) }
     {
         if self.leaves_out(number) {
             return Ok(());
@@ -228,30 +226,17 @@ impl<'a> DividedSplit<'a> {
         // As in `join`.
         let _files = self.plan.input().files();
         let line = self.locate(number);
-        let place = (number - from) as usize;
-        tables.map_record(mapper, place, line, room, buffer, mapped)?;
-        Ok(())
+        tables.map_record((number - from) as usize, line, mapping)
     }
 
     fn map_between(&self, alloc: Global, from: u32, end: u32) -> Result<Piece, AllocError>
         requires { (from ≤ end) × (end ≤ length (records_divided self.now)) }
         ensures { IfOk result (λ p. p ≡ piece_between self.now from end) }
     {
-        let room = self.room(from, end);
-        let mut mapper = self.job.mapper(self.plan.input());
-        let mut buffer = Vec::new(alloc);
-        let mut mapped = 0;
-        let mut tables = Tables::new(alloc);
+        let mut mapping = Mapping::new(alloc, self.plan, self.job, &Unwatched);
+        let mut tables = Tables::new(alloc, self.room(from, end));
         for number in from..end {
-            self.map_one(
-                &mut tables,
-                &mut mapper,
-                from,
-                number,
-                room,
-                &mut buffer,
-                &mut mapped,
-            )?;
+            self.map_one(&mut tables, from, number, &mut mapping)?;
         }
         Ok(Piece::of_tables(self.split, from, end, tables))
     }

@@ -9,8 +9,8 @@ ghost use Rattle.mr_sequential.specs.Good.{named};
 ghost use Rattle.mr_index.specs.Index.{triples_of, triples_in, mapped_among, AreParts, AreAllParts};
 ghost use Rattle.mr_index.specs.Building.{joined};
 
-use crate::part::{PairRef, Part, map_split};
-use mr_bytes::{Name, Phase, Progress, RecordName, Throttle, Unwatched, Value};
+use crate::part::{Mapping, PairRef, Part, map_split};
+use mr_bytes::{Name, Progress, RecordName, Unwatched, Value};
 use mr_jobs::Job;
 use mr_splits::{KeptPlan, Plan};
 use std::alloc::{AllocError, Global};
@@ -56,40 +56,30 @@ fn count_pairs(parts: &[Part]) -> u64
     total
 }
 
-/// The parts of all splits. It reports the numbers of records to `watch`.
+/// The parts of all splits.
 fn map_splits(
     alloc: Global,
     kept: &KeptPlan<'_>,
-    job: &Job,
-    mapped: &mut u64,
-    watch: &dyn Progress,
+    mapping: &mut Mapping<'_>,
 ) -> Result<Vec<Part>, AllocError>
-    requires room { mapped.old + mapped_among kept.now.skips (records_of kept.now.cut) < 2 ^ 64 }
-    ensures parts { IfOk result (λ r. AreParts job.now kept.now.cut kept.now.skips r.items) }
-    ensures counted { OnOk result (mapped.new
-        ≡ mapped.old + mapped_among kept.now.skips (records_of kept.now.cut)) }
-    ensures err { OnErr result ((mapped.old ≤ mapped.new)
-        × (mapped.new ≤ mapped.old + mapped_among kept.now.skips (records_of kept.now.cut))) }
+    requires files { mapping.old.mapper.files ≡ kept.now.cut.files }
+    requires room { mapping.old.mapped
+        + mapped_among kept.now.skips (records_of kept.now.cut) < 2 ^ 64 }
+    ensures parts { IfOk result (λ r.
+        AreParts mapping.old.mapper.job kept.now.cut kept.now.skips r.items) }
+    ensures counted { OnOk result (mapping.new.mapped ≡ mapping.old.mapped
+        + mapped_among kept.now.skips (records_of kept.now.cut)) }
+    ensures err { OnErr result ((mapping.old.mapped ≤ mapping.new.mapped)
+        × (mapping.new.mapped ≤ mapping.old.mapped
+        + mapped_among kept.now.skips (records_of kept.now.cut))) }
 {
     let plan = kept.plan();
     // This shows the plan's size to be at least 1, so that its splits have all records.
     let _size = plan.size();
     let splits = plan.splits();
     let mut parts = Vec::with_capacity(alloc, splits as usize)?;
-    let mut buffer = Vec::new(alloc);
-    let mut pace = Throttle::new(Phase::Mapping, plan.count() as u64);
     for split in 0..splits {
-        let part = map_split(
-            alloc,
-            kept,
-            job,
-            split,
-            &mut buffer,
-            &mut pace,
-            mapped,
-            watch,
-        )?;
-        parts.push(part)?;
+        parts.push(map_split(alloc, kept, split, mapping)?)?;
     }
     Ok(parts)
 }
@@ -112,29 +102,31 @@ impl EmissionIndex {
             × (meter.new.mapped ≤ meter.old.mapped + mapped_among skips.now (records_of plan.entry.now))) }
         ensures lookups { meter.new.lookups ≡ meter.old.lookups }
     {
-        EmissionIndex::of_watched(alloc, plan, job, skips, meter, &Unwatched)
+        let kept = plan.without(alloc, skips)?;
+        EmissionIndex::of_watched(alloc, &kept, job, meter, &Unwatched)
     }
 
-    /// What `of` does. It reports to `watch` now and then how many of the plan's records are done.
+    /// The same for a plan whose left-out records are known. It reports to `watch` now and then how
+    /// many of the plan's records are done.
     pub fn of_watched(
         alloc: Global,
-        plan: &Plan<'_>,
+        kept: &KeptPlan<'_>,
         job: &Job,
-        skips: &[RecordName],
         meter: &mut Meter,
         watch: &dyn Progress,
     ) -> Result<EmissionIndex, AllocError>
-        requires { meter.old.mapped + mapped_among skips.now (records_of plan.now) < 2 ^ 64 }
-        ensures ok { IfOk result (λ i. i ≡ triples_of job.now plan.entry.now skips.now) }
+        requires { meter.old.mapped + mapped_among kept.now.skips (records_of kept.now.cut) < 2 ^ 64 }
+        ensures ok { IfOk result (λ i. i ≡ triples_of job.now kept.now.cut kept.now.skips) }
         ensures counted { OnOk result (meter.new.mapped
-            ≡ meter.old.mapped + mapped_among skips.now (records_of plan.entry.now)) }
-        ensures err { OnErr result ((meter.old.mapped ≤ meter.new.mapped)
-            × (meter.new.mapped ≤ meter.old.mapped + mapped_among skips.now (records_of plan.entry.now))) }
+            ≡ meter.old.mapped + mapped_among kept.now.skips (records_of kept.now.cut)) }
+        ensures err { OnErr result ((meter.old.mapped ≤ meter.new.mapped) × (meter.new.mapped
+            ≤ meter.old.mapped + mapped_among kept.now.skips (records_of kept.now.cut))) }
         ensures lookups { meter.new.lookups ≡ meter.old.lookups }
     {
-        let kept = plan.without(alloc, skips)?;
-        let parts = map_splits(alloc, &kept, job, &mut meter.mapped, watch)?;
-        Ok(EmissionIndex::join(parts))
+        let mut mapping = Mapping::new(alloc, kept.plan(), job, watch);
+        let parts = map_splits(alloc, kept, &mut mapping);
+        meter.mapped += mapping.mapped;
+        Ok(EmissionIndex::join(parts?))
     }
 
     /// What the job emits over one split of the plan, without the records in `skips`.
@@ -165,19 +157,8 @@ impl EmissionIndex {
         let plan = kept.plan();
         // A split has far fewer records than a u64 counts.
         let _few = plan.records_in(split);
-        let mut buffer = Vec::new(alloc);
-        let mut pace = Throttle::new(Phase::Mapping, plan.count() as u64);
-        let mut mapped = 0u64;
-        map_split(
-            alloc,
-            kept,
-            job,
-            split,
-            &mut buffer,
-            &mut pace,
-            &mut mapped,
-            &Unwatched,
-        )
+        let mut mapping = Mapping::new(alloc, plan, job, &Unwatched);
+        map_split(alloc, kept, split, &mut mapping)
     }
 
     /// Joins the parts of all splits of a plan, in order. It allocates nothing and copies nothing.

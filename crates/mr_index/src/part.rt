@@ -16,7 +16,7 @@ ghost use Rattle.mr_index.specs.Pairs.{pairs_seen, EndsRise, Sound, Fits};
 ghost use Rattle.mr_index.specs.Building.{numbered, ended};
 
 use crate::pairs::{Pairs, fill, push_end, start_of};
-use mr_bytes::{Name, Progress, Throttle, Value};
+use mr_bytes::{Name, Phase, Progress, Throttle, Value};
 use mr_jobs::{Job, Mapper};
 use mr_splits::{KeptPlan, Plan, RecordAt};
 use std::alloc::{AllocError, Global};
@@ -88,7 +88,7 @@ impl Part {
         requires few { length (pairs_seen tables.pairs) < 2 ^ 32 }
         ensures { result ≡ numbered split 0 0 tables.ends.items (pairs_seen tables.pairs) }
     {
-        let Tables { ends, pairs } = tables;
+        let Tables { ends, pairs, .. } = tables;
         Part { split, ends, pairs }
     }
 
@@ -138,27 +138,61 @@ impl Room {
     }
 }
 
+/// What maps one record after another: a job with its input, and how many records it mapped.
+#[derive(Drop)]
+pub(crate) struct Mapping<'a> {
+    pub mapper: Mapper<'a, 'a>,
+    pub mapped: u64,
+    /// For folded records.
+    buffer: Vec<u8>,
+    pace: Throttle,
+    watch: &'a dyn Progress,
+}
+
+impl<'a> Mapping<'a> {
+    pub(crate) fn new(
+        alloc: Global,
+        plan: &Plan<'a>,
+        job: &'a Job,
+        watch: &'a dyn Progress,
+    ) -> Mapping<'a>
+        ensures source { result.mapper ≡ record { job = job.entry.now; files = plan.now.files } }
+        ensures none { result.mapped ≡ 0 }
+    {
+        Mapping {
+            mapper: job.mapper(plan.input()),
+            mapped: 0,
+            buffer: Vec::new(alloc),
+            pace: Throttle::new(Phase::Mapping, plan.count() as u64),
+            watch,
+        }
+    }
+}
+
 /// The tables of a part, or of a piece of one, as they grow.
 #[derive(Drop)]
 pub(crate) struct Tables {
     pub ends: Vec<u32>,
     pub pairs: Pairs,
+    /// What the first pairs make room for.
+    room: Room,
 }
 
 impl Tables {
-    pub(crate) fn new(alloc: Global) -> Tables
+    pub(crate) fn new(alloc: Global, room: Room) -> Tables
         ensures sound { Sound result.pairs }
         ensures none { (pairs_seen result.pairs ≡ []) × (result.ends.items ≡ []) }
     {
         Tables {
             ends: Vec::new(alloc),
             pairs: Pairs::new(alloc),
+            room,
         }
     }
 
     /// Makes room after the first pairs only: a split that emits nothing takes none, and the lists
     /// of others need not move.
-    fn make_room(&mut self, before: usize, room: Room) -> Result<(), AllocError>
+    fn make_room(&mut self, before: usize) -> Result<(), AllocError>
         requires sound { Sound self.old.pairs }
         ensures sound { OnOk result (Sound self.new.pairs) }
         ensures pairs { OnOk result (pairs_seen self.new.pairs ≡ pairs_seen self.old.pairs) }
@@ -167,8 +201,8 @@ impl Tables {
         if 0 < before || self.pairs.len() == 0 {
             return Ok(());
         }
-        self.ends.reserve(room.records)?;
-        self.pairs.reserve(room.bytes)
+        self.ends.reserve(self.room.records)?;
+        self.pairs.reserve(self.room.bytes)
     }
 
     /// Ends the pairs of record `number`, before which there were `before` pairs.
@@ -190,104 +224,67 @@ impl Tables {
     /// Appends what record `number` emits, and counts it. Skipped records emitted nothing.
     pub(crate) fn map_record(
         &mut self,
-        mapper: &mut Mapper<'_, '_>,
         number: usize,
         line: RecordAt<'_>,
-        room: Room,
-        buffer: &mut Vec<u8>,
-        mapped: &mut u64,
+        mapping: &mut Mapping<'_>,
     ) -> Result<(), AllocError>
         requires sound { Sound self.old.pairs }
         requires small { length line.bytes.now ≤ 2 ^ 30 }
-        requires line { IsLine mapper.old.files line.file line.start line.bytes.now }
+        requires line { IsLine mapping.old.mapper.files line.file line.start line.bytes.now }
         requires fits { Fits (pairs_seen self.old.pairs
-            ++ emissions mapper.old.job line.file line.start line.bytes.now) }
-        requires room { mapped.old + 1 < 2 ^ 64 }
-        ensures same { mapper.new ≡ mapper.old }
+            ++ emissions mapping.old.mapper.job line.file line.start line.bytes.now) }
+        requires room { mapping.old.mapped + 1 < 2 ^ 64 }
+        ensures same { mapping.new.mapper ≡ mapping.old.mapper }
         ensures sound { OnOk result (Sound self.new.pairs) }
-        ensures pairs { OnOk result (pairs_seen self.new.pairs
-            ≡ pairs_seen self.old.pairs
-            ++ emissions mapper.old.job line.entry.file line.entry.start line.entry.bytes.now) }
+        ensures pairs { OnOk result (pairs_seen self.new.pairs ≡ pairs_seen self.old.pairs
+            ++ emissions mapping.old.mapper.job line.entry.file line.entry.start line.entry.bytes.now) }
         ensures ends { OnOk result (self.new.ends.items
             ≡ ended number (length (pairs_seen self.old.pairs))
             (length (pairs_seen self.new.pairs)) self.old.ends.items) }
-        ensures counted { OnOk result (mapped.new ≡ mapped.old + 1) }
-        ensures err { OnErr result (mapped.new ≡ mapped.old) }
+        ensures counted { OnOk result (mapping.new.mapped ≡ mapping.old.mapped + 1) }
+        ensures err { OnErr result (mapping.new.mapped ≡ mapping.old.mapped) }
     {
         let before = self.pairs.len();
-        self.pairs.map(mapper, line, buffer)?;
-        self.make_room(before, room)?;
+        self.pairs
+            .map(&mut mapping.mapper, line, &mut mapping.buffer)?;
+        self.make_room(before)?;
         self.end_record(number, before)?;
-        *mapped += 1;
-        Ok(())
-    }
-
-    fn map_all(
-        &mut self,
-        kept: &KeptPlan<'_>,
-        job: &Job,
-        split: u32,
-        buffer: &mut Vec<u8>,
-        pace: &mut Throttle,
-        mapped: &mut u64,
-        watch: &dyn Progress,
-    ) -> Result<(), AllocError>
-        requires split { split < split_total kept.now.cut.size kept.now.cut.files }
-        requires sound { Sound self.old.pairs }
-        requires none { (pairs_seen self.old.pairs ≡ []) × (self.old.ends.items ≡ []) }
-        requires fits { Fits (flat_map (kept_pairs job.now kept.now.skips)
-            (of_split split (records_of kept.now.cut))) }
-        requires room { mapped.old
-            + mapped_among kept.now.skips (of_split split (records_of kept.now.cut)) < 2 ^ 64 }
-        ensures sound { OnOk result (Sound self.new.pairs) }
-        ensures rise { OnOk result (EndsRise 0 (length (pairs_seen self.new.pairs)) self.new.ends.items) }
-        ensures few { OnOk result (length (pairs_seen self.new.pairs) < 2 ^ 32) }
-        ensures shows { OnOk result (numbered split 0 0 self.new.ends.items (pairs_seen self.new.pairs)
-            ≡ flat_map (record_triples job.now kept.now.skips) (of_split split (records_of kept.now.cut))) }
-        ensures counted { OnOk result (mapped.new
-            ≡ mapped.old + mapped_among kept.now.skips (of_split split (records_of kept.now.cut))) }
-        ensures err { OnErr result ((mapped.old ≤ mapped.new)
-            × (mapped.new ≤ mapped.old
-            + mapped_among kept.now.skips (of_split split (records_of kept.now.cut)))) }
-    {
-        let plan = kept.plan();
-        // This shows the plan's size to be at least 1, so that records have distinct numbers.
-        let _size = plan.size();
-        let room = Room::of_split(plan, split);
-        let mut mapper = job.mapper(plan.input());
-        let mut left = kept.of_split(split);
-        while let Some((name, line)) = left.next() {
-            pace.reach(plan.record_index(split, name.rec) as u64, watch);
-            self.map_record(&mut mapper, name.rec as usize, line, room, buffer, mapped)?;
-        }
+        mapping.mapped += 1;
         Ok(())
     }
 }
 
-/// What the kept records of a split emit. The buffer is for folded records.
+/// What the kept records of a split emit.
 pub(crate) fn map_split(
     alloc: Global,
     kept: &KeptPlan<'_>,
-    job: &Job,
     split: u32,
-    buffer: &mut Vec<u8>,
-    pace: &mut Throttle,
-    mapped: &mut u64,
-    watch: &dyn Progress,
+    mapping: &mut Mapping<'_>,
 ) -> Result<Part, AllocError>
     requires split { split < split_total kept.now.cut.size kept.now.cut.files }
-    requires room { mapped.old
+    requires files { mapping.old.mapper.files ≡ kept.now.cut.files }
+    requires room { mapping.old.mapped
         + mapped_among kept.now.skips (of_split split (records_of kept.now.cut)) < 2 ^ 64 }
-    ensures part { IfOk result (λ r. r ≡ triples_in split (triples_of job.now kept.now.cut kept.now.skips)) }
-    ensures counted { OnOk result (mapped.new
-        ≡ mapped.old + mapped_among kept.now.skips (of_split split (records_of kept.now.cut))) }
-    ensures err { OnErr result ((mapped.old ≤ mapped.new)
-        × (mapped.new
-        ≤ mapped.old + mapped_among kept.now.skips (of_split split (records_of kept.now.cut)))) }
+    ensures same { mapping.new.mapper ≡ mapping.old.mapper }
+    ensures part { IfOk result (λ r.
+        r ≡ triples_in split (triples_of mapping.old.mapper.job kept.now.cut kept.now.skips)) }
+    ensures counted { OnOk result (mapping.new.mapped ≡ mapping.old.mapped
+        + mapped_among kept.now.skips (of_split split (records_of kept.now.cut))) }
+    ensures err { OnErr result ((mapping.old.mapped ≤ mapping.new.mapped)
+        × (mapping.new.mapped ≤ mapping.old.mapped
+        + mapped_among kept.now.skips (of_split split (records_of kept.now.cut)))) }
 {
+    let plan = kept.plan();
+    // This shows the plan's size to be at least 1, so that records have distinct numbers.
+    let _size = plan.size();
     // An input's files emit few enough pairs and bytes of keys for the tables.
-    let _files = kept.plan().input().files();
-    let mut tables = Tables::new(alloc);
-    tables.map_all(kept, job, split, buffer, pace, mapped, watch)?;
+    let _files = plan.input().files();
+    let mut tables = Tables::new(alloc, Room::of_split(plan, split));
+    let mut left = kept.of_split(split);
+    while let Some((name, line)) = left.next() {
+        let index = plan.record_index(split, name.rec) as u64;
+        mapping.pace.reach(index, mapping.watch);
+        tables.map_record(name.rec as usize, line, mapping)?;
+    }
     Ok(Part::of_tables(split, tables))
 }

@@ -63,7 +63,7 @@ impl Sizes {
     }
 
     fn add(&mut self, piece: &Piece) {
-        let Tables { ends, pairs } = &piece.tables;
+        let Tables { ends, pairs, .. } = &piece.tables;
         if !ends.is_empty() {
             self.records = (piece.from as usize).saturating_add(ends.len());
         }

@@ -25,20 +25,18 @@ fn moved_on(at: (usize, usize), cuts: &[usize]) -> (usize, usize) {
     }
 }
 
-// Merges what the windows hold, and tells how many bytes of each text are taken then.
+// Merges what the windows hold: how many bytes are taken of each text.
 fn step(
     alloc: Global,
     job: &Job,
     merger: &mut Merger,
     windows: &[Window<'_>],
     out: &mut Vec<u8>,
-    at: (usize, usize),
-) -> Result<(usize, usize), MergeFault>
+) -> Result<Vec<usize>, MergeFault>
     requires { length windows.now ≡ length merger.old.held }
     ensures { length merger.new.held ≡ length merger.old.held }
 {
-    let cuts = merger.step(alloc, job, windows, out)?;
-    Ok(moved_on(at, &cuts))
+    merger.step(alloc, job, windows, out)
 }
 
 // Two texts, and what comes of them in windows of each width from there on, which grow by their width where nothing is
@@ -69,7 +67,8 @@ fn in_windows(
             window_at(row.first, at.0, wide),
             window_at(row.second, at.1, wide),
         ];
-        let next = step(alloc, job, &mut merger, &windows, out, at)?;
+        let cuts = step(alloc, job, &mut merger, &windows, out)?;
+        let next = moved_on(at, &cuts);
         if windows[0].is_last && windows[1].is_last {
             return Ok(());
         }

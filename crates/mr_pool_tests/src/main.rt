@@ -28,14 +28,26 @@ use std::thread::Threads;
 use std::{env, io};
 use telling::Teller;
 
+/// Whom a run calls meanwhile: a gate around each attempt, and who looks on, if anybody does.
+#[derive(Drop)]
+struct Callbacks<'a, G: Gate> {
+    gate: &'a G,
+    watch: Option<&'a Tally>,
+}
+
+/// Calls nobody.
+const UNCALLED: Callbacks<'static, OpenGate> = Callbacks {
+    gate: &OpenGate,
+    watch: None,
+};
+
 /// Runs the job over a store, where its numbers are within the limits.
 fn done_over<G: Gate, S: RegionStore + Drop, R: Threads + Wait + Sync>(
     rt: &R,
     alloc: Global,
     order: &Order,
-    gate: &G,
     store: S,
-    watch: Option<&Tally>,
+    callbacks: Callbacks<'_, G>,
 ) -> Option<Result<Certified, RunFault>> {
     let request = &order.request;
     let input = &order.input;
@@ -46,6 +58,7 @@ fn done_over<G: Gate, S: RegionStore + Drop, R: Threads + Wait + Sync>(
     if !request.fits(input) || workers < 1 || 64 < workers || attempts < 1 || 16 < attempts {
         return None;
     }
+    let Callbacks { gate, watch } = callbacks;
     Some(match watch {
         Some(watch) => {
             let spec = RunSpec {
@@ -68,14 +81,13 @@ fn done<G: Gate, R: Threads + Wait + Sync>(
     rt: &R,
     alloc: Global,
     order: &Order,
-    gate: &G,
-    watch: Option<&Tally>,
+    callbacks: Callbacks<'_, G>,
 ) -> Option<Result<Certified, RunFault>> {
     if order.workers < 1 {
         return None;
     }
     match MemoryStore::new(rt, alloc, order.workers) {
-        Ok(store) => done_over(rt, alloc, order, gate, store, watch),
+        Ok(store) => done_over(rt, alloc, order, store, callbacks),
         Err(_) => Some(Err(RunFault::OutOfMemory)),
     }
 }
@@ -92,24 +104,22 @@ fn done_in<C: Scratch, R: Threads + Wait + Sync>(
         return None;
     }
     match scratch.open(alloc, folder, order.workers) {
-        Ok(store) => done_over(rt, alloc, order, &OpenGate, store, None),
+        Ok(store) => done_over(rt, alloc, order, store, UNCALLED),
         Err(_) => Some(Err(RunFault::OutOfMemory)),
     }
 }
 
 // Each mode has a function of its own: what a function holds at once is what its proof costs.
 
-/// Runs the job, and tells what it answers, with its events where they are asked for.
-fn told<G: Gate, R: Threads + Wait + Sync>(
+/// Runs the job and shows the answer, with its events if these are asked for.
+fn run_plainly<R: Threads + Wait + Sync>(
     threads: &R,
     out: &Teller,
     alloc: Global,
     order: &Order,
-    gate: &G,
-    watch: Option<&Tally>,
     has_events: bool,
 ) {
-    telling::answer(out, &done(threads, alloc, order, gate, watch), has_events);
+    telling::answer(out, &done(threads, alloc, order, UNCALLED), has_events);
 }
 
 /// A run whose regions lie in files of the folder.
@@ -127,14 +137,22 @@ fn scratched<R: Threads + Wait + Sync>(
 /// A run whose first attempt is held, and whether a second one went on meanwhile.
 fn held<R: Threads + Wait + Sync>(threads: &R, out: &Teller, alloc: Global, order: &Order) {
     let gate = Holding::new();
-    told(threads, out, alloc, order, &gate, None, false);
+    let callbacks = Callbacks {
+        gate: &gate,
+        watch: None,
+    };
+    telling::answer(out, &done(threads, alloc, order, callbacks), false);
     out.named("gate", &gate.says());
 }
 
 /// A run, and what who looks on is told.
 fn watched<R: Threads + Wait + Sync>(threads: &R, out: &Teller, alloc: Global, order: &Order) {
     let watch = Tally::new();
-    told(threads, out, alloc, order, &OpenGate, Some(&watch), false);
+    let callbacks = Callbacks {
+        gate: &OpenGate,
+        watch: Some(&watch),
+    };
+    telling::answer(out, &done(threads, alloc, order, callbacks), false);
     watch.show(out);
 }
 
@@ -156,7 +174,7 @@ fn show_judged<R: Threads + Wait + Sync>(
 
 /// A run, and what threads say of its result.
 fn judged<R: Threads + Wait + Sync>(threads: &R, out: &Teller, alloc: Global, order: &Order) {
-    let done = done(threads, alloc, order, &OpenGate, None);
+    let done = done(threads, alloc, order, UNCALLED);
     show_judged(threads, out, alloc, order, &done);
 }
 
@@ -175,15 +193,7 @@ fn answer<R: Threads + Wait + Sync>(
         "tickets" => judging::show_draws(out, alloc),
         "scratch" => scratched(threads, out, alloc, order, "."),
         "nowhere" => scratched(threads, out, alloc, order, "no/such/folder"),
-        _ => told(
-            threads,
-            out,
-            alloc,
-            order,
-            &OpenGate,
-            None,
-            mode == "history",
-        ),
+        _ => run_plainly(threads, out, alloc, order, mode == "history"),
     }
 }
 

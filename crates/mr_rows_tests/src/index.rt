@@ -58,34 +58,32 @@ impl Progress for Counting {
 /// The index over a plan, built while somebody looks on.
 fn watched_index(
     alloc: Global,
-    plan: &Plan<'_>,
+    kept: &KeptPlan<'_>,
     job: &Job,
-    skips: &[RecordName],
     meter: &mut Meter,
     watch: &Counting,
 ) -> Result<EmissionIndex, AllocError>
     requires { meter.old.mapped ≤ 2 ^ 63 }
 {
     // A plan has far fewer records than a u64 counts.
-    let _few = plan.count();
-    EmissionIndex::of_watched(alloc, plan, job, skips, meter, watch)
+    let _few = kept.plan().count();
+    EmissionIndex::of_watched(alloc, kept, job, meter, watch)
 }
 
 /// The part of a split: from the list of left-out records where its number is even, and else from the plan without them.
 fn part_of(
     alloc: Global,
-    plan: &Plan<'_>,
     kept: &KeptPlan<'_>,
     job: &Job,
     skips: &[RecordName],
     split: u32,
 ) -> Result<Part, AllocError>
-    requires split { split < split_total plan.now.size plan.now.files }
-    requires kept { kept.now ≡ record { cut = plan.now; skips = skips.now } }
-    ensures { IfOk result (λ r. r ≡ triples_in split (triples_of job.now plan.now skips.now)) }
+    requires split { split < split_total kept.now.cut.size kept.now.cut.files }
+    requires kept { kept.now.skips ≡ skips.now }
+    ensures { IfOk result (λ r. r ≡ triples_in split (triples_of job.now kept.now.cut skips.now)) }
 {
     if split % 2 == 0 {
-        EmissionIndex::part(alloc, plan, job, skips, split)
+        EmissionIndex::part(alloc, kept.plan(), job, skips, split)
     } else {
         EmissionIndex::part_of(alloc, kept, job, split)
     }
@@ -94,20 +92,20 @@ fn part_of(
 /// The parts of a plan's splits, each mapped apart.
 fn parts_of(
     alloc: Global,
-    plan: &Plan<'_>,
     kept: &KeptPlan<'_>,
     job: &Job,
     skips: &[RecordName],
 ) -> Result<Vec<Part>, AllocError>
-    requires kept { kept.now ≡ record { cut = plan.now; skips = skips.now } }
-    ensures { IfOk result (λ r. AreParts job.now plan.now skips.now r.items) }
+    requires kept { kept.now.skips ≡ skips.now }
+    ensures { IfOk result (λ r. AreParts job.now kept.now.cut skips.now r.items) }
 {
+    let plan = kept.plan();
     // A plan's size is at least 1.
     let _size = plan.size();
     let splits = plan.splits();
     let mut parts = Vec::new(alloc);
     for split in 0..splits {
-        parts.push(part_of(alloc, plan, kept, job, skips, split)?)?;
+        parts.push(part_of(alloc, kept, job, skips, split)?)?;
     }
     Ok(parts)
 }
@@ -120,7 +118,7 @@ fn joined(
     skips: &[RecordName],
 ) -> Result<EmissionIndex, AllocError> {
     let kept = plan.without(alloc, skips)?;
-    let parts = parts_of(alloc, plan, &kept, job, skips)?;
+    let parts = parts_of(alloc, &kept, job, skips)?;
     Ok(EmissionIndex::join(parts))
 }
 
@@ -160,25 +158,7 @@ fn show_work(teller: &Teller, index: &EmissionIndex, meter: Meter, watch: &Count
     teller.named(" past ", &watch.past.load(Ordering::SeqCst));
 }
 
-/// The index, made in that way: all at once, while somebody looks on, or split by split.
-fn index_by(
-    alloc: Global,
-    plan: &Plan<'_>,
-    job: &Job,
-    skips: &[RecordName],
-    way: u32,
-    meter: &mut Meter,
-    watch: &Counting,
-) -> Result<EmissionIndex, AllocError>
-    requires { meter.old.mapped ≤ 2 ^ 63 }
-{
-    match way {
-        0 => index_of(alloc, plan, job, skips, meter),
-        1 => watched_index(alloc, plan, job, skips, meter, watch),
-        _ => joined(alloc, plan, job, skips),
-    }
-}
-
+/// Shows the index, made in that way: all at once, while somebody looks on, or split by split.
 fn work(
     teller: &Teller,
     plan: &Plan<'_>,
@@ -186,12 +166,20 @@ fn work(
     skips: &[RecordName],
     way: u32,
 ) -> Result<(), AllocError> {
+    let alloc = teller.alloc();
     let mut meter = UNUSED;
     let watch = Counting {
         told: AtomicU64::new(0),
         past: AtomicU64::new(0),
     };
-    let index = index_by(teller.alloc(), plan, job, skips, way, &mut meter, &watch)?;
+    let index = match way {
+        0 => index_of(alloc, plan, job, skips, &mut meter)?,
+        1 => {
+            let kept = plan.without(alloc, skips)?;
+            watched_index(alloc, &kept, job, &mut meter, &watch)?
+        }
+        _ => joined(alloc, plan, job, skips)?,
+    };
     show_work(teller, &index, meter, &watch);
     show_index(teller, &index);
     Ok(())

@@ -5,8 +5,6 @@
 //! those of all partitions run by run; and for each partition a line its text, how many names each group has, all names,
 //! the groups one by one, and the first three again. Where nobody says how many pairs a run has, what comes of a region
 //! twice and of one without its first byte is told too.
-ghost use Rattle.std.specs.Prelude.{◌<◌, ◌≤◌};
-ghost use Rattle.mr_input.specs.Files.{split_total};
 
 use crate::inputs::{input, numbers_of};
 use crate::regions::numbers_of as numbers_in;
@@ -41,46 +39,29 @@ fn by_of(number: u32) -> By {
     if number == 3 { By::Host } else { By::Key }
 }
 
-/// What the map task of a split gives, by its own limit where there is no other.
-fn map_split(
-    alloc: Global,
-    plan: &Plan<'_>,
-    job: &Job,
-    parts: u32,
-    split: u32,
-    skips: &[u32],
-    limit: usize,
-    by: By,
-) -> Result<MapOutput, AllocError>
-    requires parts { 1 ≤ parts }
-    requires split { split < split_total plan.now.size plan.now.files }
-{
-    if limit < 1 {
-        map_task(alloc, plan, job, parts, split, skips, by)
-    } else {
-        map_task_with(alloc, plan, job, parts, split, skips, limit, by)
-    }
-}
-
-/// Adds what the map task of each split gives.
+/// What the map task of each split gives, by its own limit where there is no other.
 fn map_splits(
     alloc: Global,
     plan: &Plan<'_>,
     job: &Job,
     numbers: [u32; 4],
     skips: &[u32],
-    outputs: &mut Vec<MapOutput>,
-) -> Result<(), AllocError> {
+) -> Result<Vec<MapOutput>, AllocError> {
     let [number, parts, _, limit] = numbers;
+    let mut outputs = Vec::new(alloc);
     if parts < 1 {
-        return Ok(());
+        return Ok(outputs);
     }
     let by = by_of(number);
     for split in 0..plan.splits() {
-        let output = map_split(alloc, plan, job, parts, split, skips, limit as usize, by)?;
+        let output = if limit < 1 {
+            map_task(alloc, plan, job, parts, split, skips, by)?
+        } else {
+            map_task_with(alloc, plan, job, parts, split, skips, limit as usize, by)?
+        };
         outputs.push(output)?;
     }
-    Ok(())
+    Ok(outputs)
 }
 
 /// The regions of a partition, those of one split behind those of another.
@@ -202,8 +183,7 @@ fn work(
     numbers: [u32; 4],
     skips: &[u32],
 ) -> Result<(), AllocError> {
-    let mut outputs = Vec::new(teller.alloc());
-    map_splits(teller.alloc(), plan, job, numbers, skips, &mut outputs)?;
+    let outputs = map_splits(teller.alloc(), plan, job, numbers, skips)?;
     show_tasks(teller, job, numbers, &outputs)
 }
 

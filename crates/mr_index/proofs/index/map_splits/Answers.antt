@@ -20,7 +20,7 @@ loop-split-init g c =
       within = omega arith;
       many = none;
       each = λ s h. absurd (omega (arith, h, none));
-      counted = ap (λ (n : ℕ). c.args.mapped.now + n) (mapped-first skips v c.splits-splits.result some total);
+      counted = ap (λ (n : ℕ). c.args.mapping.now.mapped + n) (mapped-first skips v c.splits-splits.result some total);
       more = omega arith;
     }
 
@@ -37,7 +37,7 @@ returns-in_err-part-clause-err g c =
     let inv = c.loop-split.invariant in
     let err = c.in_err-part.ensures.err in
     on_err c.from_residual-in_err-part.result
-    ((c.args.mapped.now ≤ c.map_split.new.mapped) × (c.map_split.new.mapped ≤ c.args.mapped.now + mapped_among c.args.kept.now.skips rs))
+    ((c.args.mapping.now.mapped ≤ c.map_split.new.mapping.mapped) × (c.map_split.new.mapping.mapped ≤ c.args.mapping.now.mapped + mapped_among c.args.kept.now.skips rs))
     (omega (arith, err.0, inv.more), omega (arith, err.1, step, inv.counted))
 
 pub returns-in_err-push-clause-err : goal.returns-in_err-push-clause-err
@@ -47,14 +47,14 @@ returns-in_err-push-clause-err g c =
     let inv = c.loop-split.invariant in
     let counted = c.in_ok-part.ensures.counted in
     on_err c.from_residual-in_err-push.result
-    ((c.args.mapped.now ≤ c.map_split.new.mapped) × (c.map_split.new.mapped ≤ c.args.mapped.now + mapped_among c.args.kept.now.skips rs))
+    ((c.args.mapping.now.mapped ≤ c.map_split.new.mapping.mapped) × (c.map_split.new.mapping.mapped ≤ c.args.mapping.now.mapped + mapped_among c.args.kept.now.skips rs))
     (omega (arith, counted, inv.more), omega (arith, counted, step, inv.counted))
 
 pub loop-split-preserved : goal.loop-split-preserved
 loop-split-preserved g c =
     let v : Cut = c.args.kept.now.cut in
     let skips : List RecordName = c.args.kept.now.skips in
-    let ts : List Triple = triples_of c.args.job.now v skips in
+    let ts : List Triple = triples_of c.args.mapping.now.mapper.job v skips in
     let parts : List (List Triple) = c.loop-split.parts.items in
     let inv = c.loop-split.invariant in
     let step = mapped-step skips c.loop-split.split c.splits-splits.result (records_of v) c.loop-split-test.true in
@@ -62,8 +62,8 @@ loop-split-preserved g c =
     let grown = c.in_ok-push.ensures.items in
     record {
       within = omega (arith, c.loop-split-test.true);
-      many = omega (arith, ap length grown, length_push parts c.in_ok-part.part, inv.many);
-      each = each-push ts parts c.push.new.self.items c.in_ok-part.part grown
+      many = omega (arith, ap length grown, length_push parts c.in_ok-push-arg.part, inv.many);
+      each = each-push ts parts c.push.new.self.items c.in_ok-push-arg.part grown
           (c.in_ok-part.ensures.part ∙ ap (λ (s : ℕ). triples_in s ts) (sym inv.many)) inv.each;
       counted = omega (arith, counted, step, inv.counted);
       more = omega (arith, counted, inv.more);

@@ -6,5 +6,5 @@ abbrev pub invariant-loop-split : goal.invariant-loop-split
 invariant-loop-split l = record {
   within : l.split ≤ l.splits;
   many : length l.parts.items ≡ l.split;
-  each : (s : ℕ) → s < length l.parts.items → slice_index_or l.parts.items s [] ≡ triples_in s (triples_of l.job l.plan l.skips);
+  each : (s : ℕ) → s < length l.parts.items → slice_index_or l.parts.items s [] ≡ triples_in s (triples_of l.job l.kept.cut l.skips);
 }

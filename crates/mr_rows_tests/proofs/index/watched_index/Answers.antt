@@ -1,5 +1,5 @@
-use Rattle.std.proofs.Common.{arith}
-use Rattle.mr_splits.specs.Cut.{records_of}
+use Rattle.std.proofs.Common.{arith, ap, length}
+use Rattle.mr_splits.specs.Cut.{Cut, records_of}
 use Rattle.mr_index.proofs.WorkLemmas.{mapped-few}
 use Rattle.mr_rows_tests.proofs.index.watched_index.Goals as goal
 
@@ -10,5 +10,6 @@ of_watched-requires c =
       c.requires,
       c.count-few.ensures.count,
       c.count-few.ensures.few,
-      mapped-few c.args.skips.now (records_of c.args.plan.now),
+      ap (λ (w : Cut). length (records_of w)) c.plan.ensures,
+      mapped-few c.args.kept.now.skips (records_of c.args.kept.now.cut),
     )

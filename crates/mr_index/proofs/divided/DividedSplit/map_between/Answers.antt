@@ -1,4 +1,4 @@
-use Rattle.std.proofs.Common.{List, ℕ, arith, ap, ◌∙◌}
+use Rattle.std.proofs.Common.{arith, ap, ◌∙◌}
 use Rattle.mr_index.specs.Pairs.{pairs_seen}
 use Rattle.mr_index.specs.Pieces.{Division}
 use Rattle.mr_index.proofs.PieceLemmas.{shows-none}
@@ -10,9 +10,8 @@ loop-number-init c =
     record {
       order = omega arith;
       within = c.requires.0;
-      mapper = c.mapper-mapper.ensures ∙ ap (λ (fs : List (List ℕ)). record { job = c.self.inside.job.now; files = fs }) c.input.ensures
-          ∙ ap (λ (d : Division). record { job = d.job; files = d.cut.files }) c.self.view_is;
+      mapper = c.new-mapping.ensures.source ∙ ap (λ (d : Division). record { job = d.job; files = d.cut.files }) c.self.view_is;
       sound = c.new-tables.ensures.sound;
       shows = shows-none c.args.self.now c.args.from tables.ends.items (pairs_seen tables.pairs) c.new-tables.ensures.none.1 c.new-tables.ensures.none.0;
-      few = omega arith;
+      few = omega (arith, c.new-mapping.ensures.none);
     }

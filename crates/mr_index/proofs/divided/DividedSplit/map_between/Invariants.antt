@@ -8,8 +8,8 @@ abbrev pub invariant-loop-number : goal.invariant-loop-number
 invariant-loop-number l = record {
   order : l.from ≤ l.number;
   within : l.number ≤ l.end;
-  mapper : l.mapper ≡ record { job = l.self.job; files = l.self.cut.files };
+  mapper : l.mapping.mapper ≡ record { job = l.self.job; files = l.self.cut.files };
   sound : Sound l.tables.pairs;
   shows : Shows (piece_between l.self l.from l.number) l.tables.ends.items (pairs_seen l.tables.pairs);
-  few : l.mapped ≤ l.number;
+  few : l.mapping.mapped ≤ l.number;
 }

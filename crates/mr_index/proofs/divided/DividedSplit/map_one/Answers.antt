@@ -22,7 +22,7 @@ map_record-requires-clause-fits c =
     let pairs : List Emission = pairs_seen tables.pairs in
     let fits = divided-fits d c.input.result.now (c.input.ensures ∙ ap (λ (e : Division). e.cut.files) c.self.view_is)
     (omega (arith, c.files-files.ensures.count, c.files-files.ensures.few)) c.files-files.ensures.small in
-    subst (λ (m : Source). Fits (pairs ++ emissions m.job line.file line.start line.bytes.now)) (sym c.requires.mapper)
+    subst (λ (m : Source). Fits (pairs ++ emissions m.job line.file line.start line.bytes.now)) (sym c.requires.source)
     (subst (λ (r : NamedRecord). Fits (pairs ++ record_pairs d.job r)) c.locate-line.ensures.record
     (next-fits d c.args.from c.args.number tables.ends.items pairs c.requires.within.0 c.requires.within.1
     (sym c.leaves_out.ensures ∙ c.if-leaves_out.false) c.requires.shows fits))
@@ -38,6 +38,6 @@ returns-clause-shows c =
     shows-next d c.args.from c.args.number tables.ends.items after.ends.items pairs (pairs_seen after.pairs) c.requires.within.0 c.requires.within.1
     (sym c.leaves_out.ensures ∙ c.if-leaves_out.false) (ap (λ (r : NamedRecord). r.name) own) c.requires.shows
     (c.in_ok-map_record.ensures.pairs
-    ∙ ap (λ (m : Source). pairs ++ emissions m.job line.file line.start line.bytes.now) c.requires.mapper
+    ∙ ap (λ (m : Source). pairs ++ emissions m.job line.file line.start line.bytes.now) c.requires.source
     ∙ ap (λ (r : NamedRecord). pairs ++ record_pairs d.job r) (sym own))
     c.in_ok-map_record.ensures.ends
