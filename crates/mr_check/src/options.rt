@@ -54,7 +54,10 @@ impl<'a, R: Threads + Sync, G: Gate, W: Progress> Crew<'a, R, G, W> {
     /// How the threads draw `count` pieces, which the gate numbers from `first`.
     pub fn drawing(&self, count: u32, first: u32) -> Drawing<'a, G>
         requires { first + count < 2 ^ 32 }
-        ensures { result.count ≡ count }
+        ensures count { result.count ≡ count }
+        ensures threads { result.threads ≡ self.now.options.now.threads }
+        ensures first { result.first ≡ first }
+        ensures gate { result.gate ≡ self.now.options.now.gate }
     {
         Drawing {
             count,

@@ -13,9 +13,8 @@ use Rattle.mr_files.specs.declared.store.FileFault.{FileFault}
 use Rattle.mr_files.specs.declared.store.FileFault.TheVariants as file
 use Rattle.mr_files.specs.declared.reading.LimitFault.TheVariants.{File}
 use Rattle.mr_args.specs.declared.fault.Fault.{Fault}
-use Rattle.mr_args.specs.declared.fault.Fault.TheVariants.{SameFile, TooManySplits, OutOfMemory}
 use Rattle.mr_args.specs.Statuses.{ReportsFile}
-use Rattle.mr_commands.specs.Inputs.{AreRead, IsClash, IsInputFault, IsInputRefusal, IsUnreadInput}
+use Rattle.mr_commands.specs.Inputs.{IsInputFault, IsInputRefusal, IsUnreadInput}
 
 pub holding_lengths : (holds : Stored) (ns bs : List (List ℕ)) → Holding holds ns bs → length ns ≡ length bs
 holding_lengths holds [] [] h = refl
@@ -37,17 +36,6 @@ pub unread_file : (holds : Stored) (unreadable : Faulty) (names : List (List ℕ
 unread_file holds unreadable names (file.CannotRead name) f h t = rw t h
 unread_file holds unreadable names (file.CannotWrite name) f h t = absurd h
 unread_file holds unreadable names file.OutOfMemory f h t = rw t tt
-
--- what each test refuses
-pub unread_refused : (holds : Stored) (unreadable : Faulty) (known : Known) (names read written : List (List ℕ)) (size : ℕ) (f : Fault) → IsUnreadInput holds unreadable names f → IsInputRefusal holds unreadable known names read written size f
-unread_refused holds unreadable known names read written size (SameFile name) h = absurd h
-unread_refused holds unreadable known names read written size TooManySplits h = absurd h
-unread_refused holds unreadable known names read written size f h = h
-
-pub clash_refused : (holds : Stored) (unreadable : Faulty) (known : Known) (names read written files : List (List ℕ)) (size : ℕ) (f : Fault) → AreRead holds names files → IsClash known read written f → IsInputRefusal holds unreadable known names read written size f
-clash_refused holds unreadable known names read written files size (SameFile name) r h = (files, r, h)
-clash_refused holds unreadable known names read written files size OutOfMemory r h = tt
-clash_refused holds unreadable known names read written files size f r h = absurd h
 
 split : (n m : ℕ) → (n ≤ m) ⊎ (m < n)
 split n m = grind arith

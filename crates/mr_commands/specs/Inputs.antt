@@ -35,12 +35,6 @@ IsUnreadInput holds unreadable names (Input fault) = IsInputFault holds names fa
 IsUnreadInput holds unreadable names OutOfMemory = ⊤
 IsUnreadInput holds unreadable names fault = ⊥
 
--- the first file that would be written and is read too, or written before
-abbrev pub IsClash : Known → List (List ℕ) → List (List ℕ) → Fault → Type 0
-IsClash known read written (SameFile name) = IsFirstShared known read written (string_bytes name)
-IsClash known read written OutOfMemory = ⊤
-IsClash known read written fault = ⊥
-
 -- why there is no input: what can't be read, and the limits; then a file that is written and is one of those that are read,
 -- or is written twice; then the fit
 abbrev pub IsInputRefusal : Stored → Faulty → Known → List (List ℕ) → List (List ℕ) → List (List ℕ) → ℕ → Fault → Type 0
