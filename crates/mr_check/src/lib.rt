@@ -13,8 +13,8 @@ mod threads;
 
 pub use mr_judge::{check, check_from, check_metered, judge_on_one_thread, judge_readers};
 pub use mr_verdict::{
-    Case, Computation, No, Source, Yes, fault_law, is_same_fault, locality_law, partition_law, place_law,
-    worked_places, worked_rows, yes_law,
+    Case, Computation, No, Source, Yes, fault_law, is_same_fault, locality_law, partition_law,
+    place_law, worked_places, worked_rows, yes_law,
 };
 pub use options::JudgeOptions;
 pub use sections::{MappedInput, map_input};

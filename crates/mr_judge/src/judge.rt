@@ -179,13 +179,7 @@ fn judge_at_hand(case: &Case<'_>, work: &mut Work<'_>) -> Result<Yes, No>
     }
     let mut walker = walk(case.certificate);
     let mut outputs = MemoryOutputs::new(case.outputs);
-    match judge_all(
-        case.request,
-        case.input,
-        &mut outputs,
-        &mut walker,
-        work,
-    ) {
+    match judge_all(case.request, case.input, &mut outputs, &mut walker, work) {
         Ok(yes) => Ok(yes),
         Err(JudgeError::Fault(fault)) => Err(fault),
         Err(_) => unreachable!(),

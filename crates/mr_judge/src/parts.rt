@@ -179,12 +179,5 @@ pub(crate) fn check_parts<I: ItemSource, O: Outputs>(
 {
     let mut judging = JudgeState::new(work.alloc);
     let mut block = Block::new(work.alloc)?;
-    judge_blocks(
-        basis,
-        outputs,
-        walker,
-        work,
-        &mut judging,
-        &mut block,
-    )
+    judge_blocks(basis, outputs, walker, work, &mut judging, &mut block)
 }

@@ -117,5 +117,5 @@ returns-clause-part g c =
     let rs : List NamedRecord = records_of c.args.kept.now.cut in
     c.of_tables.ensures
     ∙ mapped-all job skips c.args.split (of_split c.args.split rs) c.loop-name.tables.ends.items
-        (pairs_seen c.loop-name.tables.pairs) c.loop-name.left c.loop-name.invariant.mapped c.in_default.ensures.next
+    (pairs_seen c.loop-name.tables.pairs) c.loop-name.left c.loop-name.invariant.mapped c.in_default.ensures.next
     ∙ sym (in-split job skips c.args.split rs)
