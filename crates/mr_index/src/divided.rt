@@ -13,7 +13,7 @@ ghost use Rattle.mr_index.specs.Pieces.{piece_at};
 
 use crate::part::{Mapping, Part, Room, Tables};
 use crate::piece::{Piece, Sizes};
-use mr_bytes::{RecordName, Unwatched};
+use mr_bytes::RecordName;
 use mr_jobs::Job;
 use mr_splits::{LeftOutSet, Plan, RecordAt};
 use std::alloc::{AllocError, Global};
@@ -233,7 +233,7 @@ impl<'a> DividedSplit<'a> {
         requires { (from ≤ end) × (end ≤ length (records_divided self.now)) }
         ensures { IfOk result (λ p. p ≡ piece_between self.now from end) }
     {
-        let mut mapping = Mapping::new(alloc, self.plan, self.job, &Unwatched);
+        let mut mapping = Mapping::new(alloc, self.plan, self.job);
         let mut tables = Tables::new(alloc, self.room(from, end));
         for number in from..end {
             self.map_one(&mut tables, from, number, &mut mapping)?;

@@ -61,6 +61,7 @@ fn map_splits(
     alloc: Global,
     kept: &KeptPlan<'_>,
     mapping: &mut Mapping<'_>,
+    watch: &dyn Progress,
 ) -> Result<Vec<Part>, AllocError>
     requires files { mapping.old.mapper.files ≡ kept.now.cut.files }
     requires room { mapping.old.mapped
@@ -79,7 +80,7 @@ fn map_splits(
     let splits = plan.splits();
     let mut parts = Vec::with_capacity(alloc, splits as usize)?;
     for split in 0..splits {
-        parts.push(map_split(alloc, kept, split, mapping)?)?;
+        parts.push(map_split(alloc, kept, split, mapping, watch)?)?;
     }
     Ok(parts)
 }
@@ -123,8 +124,8 @@ impl EmissionIndex {
             ≤ meter.old.mapped + mapped_among kept.now.skips (records_of kept.now.cut))) }
         ensures lookups { meter.new.lookups ≡ meter.old.lookups }
     {
-        let mut mapping = Mapping::new(alloc, kept.plan(), job, watch);
-        let parts = map_splits(alloc, kept, &mut mapping);
+        let mut mapping = Mapping::new(alloc, kept.plan(), job);
+        let parts = map_splits(alloc, kept, &mut mapping, watch);
         meter.mapped += mapping.mapped;
         Ok(EmissionIndex::join(parts?))
     }
@@ -157,8 +158,8 @@ impl EmissionIndex {
         let plan = kept.plan();
         // A split has far fewer records than a u64 counts.
         let _few = plan.records_in(split);
-        let mut mapping = Mapping::new(alloc, plan, job, &Unwatched);
-        map_split(alloc, kept, split, &mut mapping)
+        let mut mapping = Mapping::new(alloc, plan, job);
+        map_split(alloc, kept, split, &mut mapping, &Unwatched)
     }
 
     /// Joins the parts of all splits of a plan, in order. It allocates nothing and copies nothing.

@@ -146,16 +146,10 @@ pub(crate) struct Mapping<'a> {
     /// For folded records.
     buffer: Vec<u8>,
     pace: Throttle,
-    watch: &'a dyn Progress,
 }
 
 impl<'a> Mapping<'a> {
-    pub(crate) fn new(
-        alloc: Global,
-        plan: &Plan<'a>,
-        job: &'a Job,
-        watch: &'a dyn Progress,
-    ) -> Mapping<'a>
+    pub(crate) fn new(alloc: Global, plan: &Plan<'a>, job: &'a Job) -> Mapping<'a>
         ensures source { result.mapper ≡ record { job = job.entry.now; files = plan.now.files } }
         ensures none { result.mapped ≡ 0 }
     {
@@ -164,7 +158,6 @@ impl<'a> Mapping<'a> {
             mapped: 0,
             buffer: Vec::new(alloc),
             pace: Throttle::new(Phase::Mapping, plan.count() as u64),
-            watch,
         }
     }
 }
@@ -260,6 +253,7 @@ pub(crate) fn map_split(
     kept: &KeptPlan<'_>,
     split: u32,
     mapping: &mut Mapping<'_>,
+    watch: &dyn Progress,
 ) -> Result<Part, AllocError>
     requires split { split < split_total kept.now.cut.size kept.now.cut.files }
     requires files { mapping.old.mapper.files ≡ kept.now.cut.files }
@@ -283,7 +277,7 @@ pub(crate) fn map_split(
     let mut left = kept.of_split(split);
     while let Some((name, line)) = left.next() {
         let index = plan.record_index(split, name.rec) as u64;
-        mapping.pace.reach(index, mapping.watch);
+        mapping.pace.reach(index, watch);
         tables.map_record(name.rec as usize, line, mapping)?;
     }
     Ok(Part::of_tables(split, tables))

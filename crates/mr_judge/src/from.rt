@@ -64,11 +64,11 @@ fn judge_lent<R: CountedRead, C: CountedRead>(
         },
     )?;
     judge_all(
-        computation.request,
-        computation.input,
+        computation,
         &mut outputs,
         &mut walker,
-        &mut Work::new(alloc, progress),
+        &mut Work::new(alloc),
+        progress,
     )
 }
 

@@ -28,8 +28,10 @@ use mr_certform::Walker;
 use mr_index::{EmissionIndex, Meter};
 use mr_input::Input;
 use mr_jobs::Request;
-use mr_splits::{KeptPlan, Plan};
-use mr_verdict::{Case, ItemSource, JudgeError, No, Yes, expect_count, expect_header, read_skips};
+use mr_splits::Plan;
+use mr_verdict::{
+    Case, Computation, ItemSource, JudgeError, No, Yes, expect_count, expect_header, read_skips,
+};
 use std::alloc::{AllocError, Global};
 
 /// The plan of an input under a request that fits it.
@@ -44,79 +46,50 @@ pub fn plan_of<'a>(
     Plan::new_fitting(alloc, input, request.split_size())
 }
 
-/// Judges the partitions, given the left-out records. Returns the number of pairs.
-fn check_with<I: ItemSource, O: Outputs>(
-    request: &Request,
-    kept: &KeptPlan<'_>,
-    outputs: &mut O,
-    walker: &mut I,
-    work: &mut Work<'_>,
-) -> Result<u64, JudgeError>
-    requires same { kept.now.cut.size ≡ request.now.split }
-    requires sound { I.sound walker.old }
-    requires given { CanCome (I.gives walker.old) }
-    requires few { I.most walker.old < 2 ^ 63 }
-    requires begins { Each (I.gives walker.old) begins }
-    requires count { (work.old.meter.lookups ≤ 2 ^ 63) × (work.old.meter.mapped ≤ 2 ^ 63) }
-    requires outputs { CanComeAhead (O.gives outputs.old) }
-    requires fits { Fits (O.gives outputs.old) start }
-    requires place { O.place outputs.old ≡ 0 }
-    ensures judged { Through (O.gives outputs.old) start (λ outs. Judges (I.gives walker.old)
-        (subject_of (case_at request.now kept.now.cut.files outs 0) kept.now.skips)
-        work.old.meter.lookups work.new.meter.lookups result) }
-    ensures mapped { (work.old.meter.mapped ≤ work.new.meter.mapped)
-        × (work.new.meter.mapped ≤ work.old.meter.mapped + length (records_of kept.now.cut)) }
-    ensures exact { IfOk result
-        (λ n. IsExact kept.now.cut kept.now.skips n work.old.meter work.new.meter) }
-    ensures stops { HaltsItems I.steady (I.failed walker.old) (I.failed walker.new) result }
-    ensures halts { HaltsOutputs O.steady (O.failed outputs.old) (O.failed outputs.new) result }
-{
-    // A plan has far fewer records than a u64 counts.
-    let plan = kept.plan();
-    let _few = plan.count();
-    let job = request.job();
-    let index = EmissionIndex::of_watched(work.alloc, kept, job, &mut work.meter, work.progress)?;
-    let basis = Basis {
-        request,
-        index: &index,
-    };
-    check_parts(&basis, outputs, walker, work)
-}
-
 /// Judges what comes after the header.
 fn check_rest<I: ItemSource, O: Outputs>(
-    request: &Request,
-    input: &Input,
+    computation: &Computation<'_>,
     outputs: &mut O,
     walker: &mut I,
-    work: &mut Work<'_>,
+    work: &mut Work,
+    watch: &dyn Progress,
 ) -> Result<Yes, JudgeError>
-    requires fits { split_total request.now.split input.now ≤ 2 ^ 20 }
     requires sound { I.sound walker.old }
     requires given { CanCome (I.gives walker.old) }
     requires few { I.most walker.old < 2 ^ 63 }
     requires order { (is : List Read) (at : ℕ) → I.gives walker.old is at
-        → InKind (AtSkips request.now.parts) is }
+        → InKind (AtSkips computation.now.request.now.parts) is }
     requires count { (work.old.meter.lookups ≤ 2 ^ 63) × (work.old.meter.mapped ≤ 2 ^ 63) }
     requires outputs { CanComeAhead (O.gives outputs.old) }
     requires ahead { Fits (O.gives outputs.old) start }
     requires place { O.place outputs.old ≡ 0 }
     ensures judged { Through (O.gives outputs.old) start
-        (RestJudged (I.gives walker.old) request.now input.now
+        (RestJudged (I.gives walker.old) computation.now.request.now computation.now.input.now
         work.old.meter.lookups work.new.meter.lookups result) }
     ensures mapped { (work.old.meter.mapped ≤ work.new.meter.mapped)
         × (work.new.meter.mapped
-        ≤ work.old.meter.mapped + length (records_of (cut_by request.now input.now))) }
-    ensures exact { IfOk result (λ y. IsExact (cut_by request.now input.now)
+        ≤ work.old.meter.mapped + length
+        (records_of (cut_by computation.now.request.now computation.now.input.now))) }
+    ensures exact { IfOk result (λ y. IsExact
+        (cut_by computation.now.request.now computation.now.input.now)
         y.skips.items y.pairs work.old.meter work.new.meter) }
     ensures stops { HaltsItems I.steady (I.failed walker.old) (I.failed walker.new) result }
     ensures halts { HaltsOutputs O.steady (O.failed outputs.old) (O.failed outputs.new) result }
 {
+    let request = computation.request;
     let listed = expect_count(walker, request.max_skips())?;
-    let plan = plan_of(work.alloc, request, input)?;
+    let plan = plan_of(work.alloc, request, computation.input)?;
     let skips = read_skips(work.alloc, walker, &plan, listed)?;
     let kept = plan.without(work.alloc, &skips)?;
-    let pairs = check_with(request, &kept, outputs, walker, work)?;
+    // A plan has far fewer records than a u64 counts.
+    let _few = plan.count();
+    let meter = &mut work.meter;
+    let index = EmissionIndex::of_watched(work.alloc, &kept, request.job(), meter, watch)?;
+    let basis = Basis {
+        request,
+        index: &index,
+    };
+    let pairs = check_parts(&basis, outputs, walker, work, watch)?;
     Ok(Yes { skips, pairs })
 }
 
@@ -132,13 +105,12 @@ pub fn walk(certificate: &[u8]) -> Walker<'_>
 
 /// Judges a result over any source of items and any outputs, one for each partition.
 pub(crate) fn judge_all<I: ItemSource, O: Outputs>(
-    request: &Request,
-    input: &Input,
+    computation: &Computation<'_>,
     outputs: &mut O,
     walker: &mut I,
-    work: &mut Work<'_>,
+    work: &mut Work,
+    watch: &dyn Progress,
 ) -> Result<Yes, JudgeError>
-    requires fits { split_total request.now.split input.now ≤ 2 ^ 20 }
     requires sound { I.sound walker.old }
     requires given { CanCome (I.gives walker.old) }
     requires few { I.most walker.old ≤ 2 ^ 63 }
@@ -148,22 +120,24 @@ pub(crate) fn judge_all<I: ItemSource, O: Outputs>(
     requires ahead { Fits (O.gives outputs.old) start }
     requires place { O.place outputs.old ≡ 0 }
     ensures judged { Through (O.gives outputs.old) start
-        (AllJudged (I.gives walker.old) request.now input.now
+        (AllJudged (I.gives walker.old) computation.now.request.now computation.now.input.now
         work.old.meter.lookups work.new.meter.lookups result) }
     ensures mapped { (work.old.meter.mapped ≤ work.new.meter.mapped)
         × (work.new.meter.mapped
-        ≤ work.old.meter.mapped + length (records_of (cut_by request.now input.now))) }
-    ensures exact { IfOk result (λ y. IsExact (cut_by request.now input.now)
+        ≤ work.old.meter.mapped + length
+        (records_of (cut_by computation.now.request.now computation.now.input.now))) }
+    ensures exact { IfOk result (λ y. IsExact
+        (cut_by computation.now.request.now computation.now.input.now)
         y.skips.items y.pairs work.old.meter work.new.meter) }
     ensures stops { HaltsItems I.steady (I.failed walker.old) (I.failed walker.new) result }
     ensures halts { HaltsOutputs O.steady (O.failed outputs.old) (O.failed outputs.new) result }
 {
-    expect_header(walker, request, input)?;
-    check_rest(request, input, outputs, walker, work)
+    expect_header(walker, computation.request, computation.input)?;
+    check_rest(computation, outputs, walker, work, watch)
 }
 
 /// Judges a case, and adds to the meter what it looks up and maps.
-fn judge_at_hand(case: &Case<'_>, work: &mut Work<'_>) -> Result<Yes, No>
+fn judge_at_hand(case: &Case<'_>, work: &mut Work, progress: &dyn Progress) -> Result<Yes, No>
     requires count { (work.old.meter.lookups ≤ 2 ^ 63) × (work.old.meter.mapped ≤ 2 ^ 63) }
     ensures headline { IfOk result (IsWorth case.now) }
     ensures verdict { IsVerdictOn case.now result }
@@ -179,7 +153,11 @@ fn judge_at_hand(case: &Case<'_>, work: &mut Work<'_>) -> Result<Yes, No>
     }
     let mut walker = walk(case.certificate);
     let mut outputs = MemoryOutputs::new(case.outputs);
-    match judge_all(case.request, case.input, &mut outputs, &mut walker, work) {
+    let computation = Computation {
+        request: case.request,
+        input: case.input,
+    };
+    match judge_all(&computation, &mut outputs, &mut walker, work, progress) {
         Ok(yes) => Ok(yes),
         Err(JudgeError::Fault(fault)) => Err(fault),
         Err(_) => unreachable!(),
@@ -197,7 +175,7 @@ pub fn judge_on_one_thread(
     ensures yes { IfOk result (λ y. verdict_on case.now ≡ Ok (accepted_of y)) }
     ensures no { IfErr result (λ e. (e ≡ OutOfMemory) ⊎ (verdict_on case.now ≡ Err e)) }
 {
-    judge_at_hand(case, &mut Work::new(alloc, progress))
+    judge_at_hand(case, &mut Work::new(alloc), progress)
 }
 
 /// Judges a result of the request over the input: the partitions' outputs and the certificate's
@@ -264,9 +242,8 @@ pub fn check_metered(
     let mut work = Work {
         alloc,
         meter: *meter,
-        progress: &Unwatched,
     };
-    let answer = judge_at_hand(&case, &mut work);
+    let answer = judge_at_hand(&case, &mut work, &Unwatched);
     *meter = work.meter;
     answer
 }

@@ -89,17 +89,15 @@ impl<'a> Block<'a> {
     }
 }
 
-/// What a judgement works with: memory, its counts of what it looks up and maps, and who hears of
-/// its progress.
+/// What a judgement works with: memory, and its counts of what it looks up and maps.
 #[derive(Drop)]
-pub(crate) struct Work<'w> {
+pub(crate) struct Work {
     pub alloc: Global,
     pub meter: Meter,
-    pub progress: &'w dyn Progress,
 }
 
-impl<'w> Work<'w> {
-    pub(crate) fn new(alloc: Global, progress: &'w dyn Progress) -> Work<'w>
+impl Work {
+    pub(crate) fn new(alloc: Global) -> Work
         ensures { (result.meter.lookups ≡ 0) × (result.meter.mapped ≡ 0) }
     {
         Work {
@@ -108,7 +106,6 @@ impl<'w> Work<'w> {
                 lookups: 0,
                 mapped: 0,
             },
-            progress,
         }
     }
 }
@@ -118,7 +115,8 @@ fn judge_blocks<'a, I: ItemSource, O: Outputs>(
     basis: &Basis<'a>,
     outputs: &mut O,
     walker: &mut I,
-    work: &mut Work<'_>,
+    work: &mut Work,
+    watch: &dyn Progress,
     judging: &mut JudgeState<'a>,
     block: &mut Block<'a>,
 ) -> Result<u64, JudgeError>
@@ -141,7 +139,7 @@ fn judge_blocks<'a, I: ItemSource, O: Outputs>(
 {
     let mut pace = Throttle::new(Phase::Judging, basis.emitted());
     loop {
-        pace.reach(judging.named(), work.progress);
+        pace.reach(judging.named(), watch);
         let stopped = read_block(walker, &mut block.items)?;
         block.look_up(basis, &mut work.meter)?;
         if judge_rows(judging, basis, outputs, &block.rows)? {
@@ -154,12 +152,13 @@ fn judge_blocks<'a, I: ItemSource, O: Outputs>(
 }
 
 /// Judges all partitions and the items' end. Returns the number of entries. It looks up each entry
-/// at most once, a block ahead of the tests, and reports how many entries are judged.
+/// at most once, a block ahead of the tests, and reports to `watch` how many entries are judged.
 pub(crate) fn check_parts<I: ItemSource, O: Outputs>(
     basis: &Basis<'_>,
     outputs: &mut O,
     walker: &mut I,
-    work: &mut Work<'_>,
+    work: &mut Work,
+    watch: &dyn Progress,
 ) -> Result<u64, JudgeError>
     requires sound { I.sound walker.old }
     requires some { CanCome (I.gives walker.old) }
@@ -179,5 +178,13 @@ pub(crate) fn check_parts<I: ItemSource, O: Outputs>(
 {
     let mut judging = JudgeState::new(work.alloc);
     let mut block = Block::new(work.alloc)?;
-    judge_blocks(basis, outputs, walker, work, &mut judging, &mut block)
+    judge_blocks(
+        basis,
+        outputs,
+        walker,
+        work,
+        watch,
+        &mut judging,
+        &mut block,
+    )
 }
